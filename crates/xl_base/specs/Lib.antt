@@ -1,0 +1,6 @@
+pub mod Handles
+pub mod Lists
+pub mod Memory
+pub mod Outside
+pub mod Results
+pub mod Stable

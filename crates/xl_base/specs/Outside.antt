@@ -1,0 +1,48 @@
+-- What the outside gives and takes, where it tells it, and what its counts of faults say.
+use Rattle.std.specs.Prelude.{◌≡◌, ℕ, ◌-◌, ◌^◌, ◌<◌, ◌≤◌, List, [], ◌++◌, length, take, Option, Some, None}
+use Rattle.xl_base.specs.declared.source.ReadOutcome.{ReadOutcome}
+use Rattle.xl_base.specs.declared.source.ReadOutcome.TheVariants.{Got, End, Failed}
+use Rattle.xl_base.specs.declared.sink.WriteOutcome.{WriteOutcome}
+use Rattle.xl_base.specs.declared.sink.WriteOutcome.TheVariants as write
+
+-- A count of faults rose: it is greater than before, or stands at its last value.
+abbrev pub Rose : ℕ → ℕ → Type 0
+Rose before now = now < 2 ^ 64 - 1 → before < now
+
+-- These bytes were taken from the front of what was left, where that is told.
+abbrev pub Took : Option (List ℕ) → List ℕ → Option (List ℕ) → Type 0
+Took None bytes new = Unit {0}
+Took (Some left) bytes None = ⊥
+Took (Some left) bytes (Some rest) = left ≡ bytes ++ rest
+
+-- Nothing is left, where that is told.
+abbrev pub Ended : Option (List ℕ) → Type 0
+Ended None = Unit {0}
+Ended (Some left) = left ≡ []
+
+-- What one read says of the buffer after it and of what was left before and after it.
+abbrev pub Reads : ReadOutcome → List ℕ → Option (List ℕ) → Option (List ℕ) → Type 0
+Reads (Got n) buffer old new = (0 < n) × (n ≤ length buffer) × Took old (take n buffer) new
+Reads End buffer old new = Ended old × (new ≡ old)
+Reads Failed buffer old new = new ≡ old
+
+-- These bytes were added to what was written, where that is told.
+abbrev pub Added : Option (List ℕ) → List ℕ → Option (List ℕ) → Type 0
+Added None bytes new = Unit {0}
+Added (Some held) bytes None = ⊥
+Added (Some held) bytes (Some now) = now ≡ held ++ bytes
+
+-- A list is the front of another.
+abbrev pub IsPrefix : List ℕ → List ℕ → Type 0
+IsPrefix front whole = (length front ≤ length whole) × (take (length front) whole ≡ front)
+
+-- A beginning of these bytes, perhaps nothing, was added to what was written, where that is told.
+abbrev pub Began : Option (List ℕ) → List ℕ → Option (List ℕ) → Type 0
+Began None bytes new = Unit {0}
+Began (Some held) bytes None = ⊥
+Began (Some held) bytes (Some now) = IsPrefix held now × IsPrefix now (held ++ bytes)
+
+-- What one write says of what was written before and after it.
+abbrev pub Writes : WriteOutcome → List ℕ → Option (List ℕ) → Option (List ℕ) → Type 0
+Writes write.Wrote bytes old new = Added old bytes new
+Writes write.Failed bytes old new = Began old bytes new

@@ -1,0 +1,21 @@
+//! What every layer of the lock state server shares: the events and outs of a run as plain data, the journal that
+//! keeps them, names and record, file handles, and the outside as traits.
+#![tactic(auto)]
+
+mod event;
+mod handle;
+mod journal;
+mod name;
+mod sequence;
+mod sink;
+mod source;
+mod stable;
+
+pub use event::{Dest, Event, Kind, Moment, Out};
+pub use handle::{file_of, handle_of};
+pub use journal::{Entry, Exports, Head, Journal};
+pub use name::{Owner, Party, Protocol};
+pub use sequence::Sequence;
+pub use sink::{MemorySink, Sink, WriteOutcome};
+pub use source::{MemorySource, ReadOutcome, Source};
+pub use stable::{Record, RecordNameError, Recorded};
