@@ -6,8 +6,8 @@ mod frame;
 mod front_nlm;
 mod house;
 mod machine;
-mod run;
+mod top;
 mod transcript;
 
 pub use capture::{Capture, CaptureError};
-pub use run::{Done, Job, Usage, parse};
+pub use top::{Done, Job, Usage, parse, run};

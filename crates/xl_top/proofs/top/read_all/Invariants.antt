@@ -1,7 +1,7 @@
 use Rattle.std.proofs.Common.{◌≡◌, ◌+◌, ◌-◌, ◌≤◌, length}
 use Rattle.xl_base.specs.Outside.{Took}
 use Rattle.xl_top.specs.Capture.{most_bytes}
-use Rattle.xl_top.proofs.run.read_all.Given as goal
+use Rattle.xl_top.proofs.top.read_all.Given as goal
 
 abbrev pub invariant-reads : goal.invariant-reads
 invariant-reads g l = let left = g.I.Source.left in let faults = g.I.Source.faults in record {

@@ -2,7 +2,7 @@ use Rattle.std.proofs.Common.{◌≡◌, ◌++◌, None}
 use Rattle.std.specs.Vec.Iter.{into_iter_items}
 use Rattle.xl_top.specs.House.{replay, entries_of}
 use Rattle.xl_top.specs.Machine.{begin}
-use Rattle.xl_top.proofs.run.step_all.Given as goal
+use Rattle.xl_top.proofs.top.step_all.Given as goal
 
 abbrev pub invariant-loop-event : goal.invariant-loop-event
 invariant-loop-event l = record {

@@ -5,7 +5,7 @@ use Rattle.xl_top.specs.House.{most_entries}
 use Rattle.xl_top.specs.Job.{capped, IsReplayed, IsBegun, IsCutAt}
 use Rattle.xl_top.specs.declared.capture.Capture.{Capture}
 use Rattle.xl_top.proofs.ReadLaws.{read_whole}
-use Rattle.xl_top.proofs.run.run.Goals as goal
+use Rattle.xl_top.proofs.top.run.Goals as goal
 
 pub returns-clause-replayed : goal.returns-clause-replayed
 returns-clause-replayed g c = λ all told status.

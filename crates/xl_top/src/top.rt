@@ -13,8 +13,8 @@ use crate::house::House;
 use crate::transcript::transcript;
 use std::alloc::{AllocError, AllocFailed, Global};
 use xl_base::{
-    Entry, Event, Exports, Halt, Head, Journal, Moment, ReadOutcome, Record, Sequence, Sink, Source,
-    WriteOutcome,
+    Entry, Event, Exports, Halt, Head, Journal, Moment, ReadOutcome, Record, Sequence, Sink,
+    Source, WriteOutcome,
 };
 
 /// What the program's words ask for.
@@ -218,7 +218,11 @@ fn replay<O: Sink>(alloc: Global, capture: Capture, out: &mut O) -> Done
     let (journal, ended) = step_capture(alloc, capture);
     let status = match ended {
         Err(Halt::NoMemory) => 6,
-        Err(Halt::JournalFull(_)) => match write_transcript(alloc, journal.entries.as_slice(), out) {
+        Err(Halt::JournalFull(_)) => match write_transcript(
+            alloc,
+            journal.entries.as_slice(),
+            out,
+        ) {
             Written::All | Written::Failed => 7,
             Written::NoMemory => 6,
         },
@@ -261,12 +265,7 @@ fn replay_text<O: Sink>(alloc: Global, text: &[u8], out: &mut O) -> Done
 
 /// Does what the words ask for, from the input to the output.
 #[tactic(auto, using(crate::proofs::ReadLaws::read_whole, crate::proofs::ReadLaws::read_ended))]
-pub fn run<I: Source, O: Sink>(
-    alloc: Global,
-    words: &[String],
-    input: &mut I,
-    out: &mut O,
-) -> Done
+pub fn run<I: Source, O: Sink>(alloc: Global, words: &[String], input: &mut I, out: &mut O) -> Done
     ensures known { is_status result.status ≡ true }
 
     // The words ask for no job just at 1. At 2 the source failed, at 3 the sink did.
