@@ -11,3 +11,6 @@ mod transcript;
 
 pub use capture::{Capture, CaptureError};
 pub use top::{Done, Job, Usage, parse, run};
+
+#[cfg(test)]
+mod tests;
