@@ -1,0 +1,6 @@
+pub mod HouseLaws
+pub mod JobLaws
+pub mod LineLaws
+pub mod OrderLaws
+pub mod ReadLaws
+pub mod WriteLaws
