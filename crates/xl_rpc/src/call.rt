@@ -5,7 +5,7 @@ ghost use Rattle.xl_base.specs.Results.{Gives};
 ghost use Rattle.xl_rpc.specs.Calls.{HeadItem, HeadFits, shown_auth, shown_head, auth, call, auth_at, call_at};
 
 use crate::fault::RpcBad;
-use crate::out::XdrOut;
+use crate::writer::XdrOut;
 use crate::xdr::Xdr;
 use std::alloc::AllocError;
 

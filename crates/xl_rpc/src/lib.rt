@@ -4,15 +4,15 @@
 mod call;
 mod fault;
 mod law;
-mod out;
 mod reply;
+mod writer;
 mod xdr;
 
 pub use call::{Auth, Call, CallHead, read_call, write_call};
 pub use fault::RpcBad;
 pub use law::{one_call_spelling, one_reply_spelling, spellings_are_read};
-pub use out::XdrOut;
 pub use reply::{Reply, Verdict, read_reply, write_reply};
+pub use writer::XdrOut;
 pub use xdr::Xdr;
 
 #[cfg(test)]

@@ -7,7 +7,7 @@ ghost use Rattle.xl_rpc.specs.Xdr.{unsigned};
 ghost use Rattle.xl_rpc.specs.Replies.{VerdictFits, is_denied, stat, detail, denied, accepted, told, reply_stat, reply, accepted_with, denied_with, accepted_at, denied_at, verdict_at, reply_at};
 
 use crate::fault::RpcBad;
-use crate::out::XdrOut;
+use crate::writer::XdrOut;
 use crate::xdr::Xdr;
 use std::alloc::AllocError;
 
