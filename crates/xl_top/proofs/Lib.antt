@@ -1,3 +1,4 @@
+pub mod ClaimLaws
 pub mod HouseLaws
 pub mod JobLaws
 pub mod LineLaws

@@ -1,4 +1,5 @@
 pub mod Capture
+pub mod Claims
 pub mod Frame
 pub mod FrontNlm
 pub mod House
