@@ -1,3 +1,4 @@
+pub mod CodecLaws
 pub mod Members
 pub mod MemoryLaws
 pub mod StableLaws

@@ -1,3 +1,4 @@
+pub mod Codec
 pub mod Handles
 pub mod Lists
 pub mod Memory

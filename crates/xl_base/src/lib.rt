@@ -3,6 +3,7 @@
 #![tactic(auto)]
 
 mod event;
+mod halt;
 mod handle;
 mod journal;
 mod name;
@@ -12,6 +13,7 @@ mod source;
 mod stable;
 
 pub use event::{Dest, Event, Kind, Moment, Out};
+pub use halt::Halt;
 pub use handle::{file_of, handle_of};
 pub use journal::{Entry, Exports, Head, Journal};
 pub use name::{Owner, Party, Protocol};
@@ -19,3 +21,6 @@ pub use sequence::Sequence;
 pub use sink::{MemorySink, Sink, WriteOutcome};
 pub use source::{MemorySource, ReadOutcome, Source};
 pub use stable::{Record, RecordNameError, Recorded};
+
+#[cfg(test)]
+mod tests;

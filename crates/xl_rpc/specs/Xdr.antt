@@ -1,0 +1,58 @@
+-- XDR (RFC 4506): the spelling of each item, and its reading with the first fault met.
+use Rattle.std.specs.Prelude.{ℕ, ℤ, ◌+◌, ◌-◌, ◌%◌, ◌==◌, Bool, List, ◌++◌, length, take, drop, replicate, Result, nat_lt, nat_le, if◌then◌else◌}
+use Rattle.std.specs.Int.{w32, w64, cast_signed, cast_unsigned}
+use Rattle.std.specs.List.{list_all}
+use Rattle.xl_base.specs.Codec.{big_endian, as_at, guard_at, tagged_at, big_endian_at, fixed_at}
+use Rattle.xl_rpc.specs.declared.fault.RpcBad.{RpcBad}
+use Rattle.xl_rpc.specs.declared.fault.RpcBad.TheVariants as bad
+
+-- ---- spelling
+
+-- an unsigned integer (4.2), an unsigned hyper integer (4.5), an integer (4.1), a bool (4.4)
+abbrev pub unsigned : ℕ → List ℕ
+unsigned n = big_endian w32 n
+
+abbrev pub hyper : ℕ → List ℕ
+hyper n = big_endian w64 n
+
+abbrev pub signed : ℤ → List ℕ
+signed z = unsigned (cast_unsigned w32 z)
+
+abbrev pub boolean : Bool → List ℕ
+boolean b = unsigned (if b then 1 else 0)
+
+-- how many zero bytes fill n bytes to whole units of four (3)
+unfoldable pub pad : ℕ → ℕ
+pad n = (4 - n % 4) % 4
+
+-- opaque data of a fixed length (4.9), and of a variable one (4.10)
+unfoldable pub fixed : List ℕ → List ℕ
+fixed bytes = bytes ++ replicate (pad (length bytes)) 0
+
+unfoldable pub opaque : List ℕ → List ℕ
+opaque bytes = unsigned (length bytes) ++ fixed bytes
+
+-- ---- reading
+
+unfoldable pub unsigned_at : List ℕ → Result (ℕ × List ℕ) RpcBad
+unsigned_at bytes = big_endian_at bad.Short w32 bytes
+
+unfoldable pub hyper_at : List ℕ → Result (ℕ × List ℕ) RpcBad
+hyper_at bytes = big_endian_at bad.Short w64 bytes
+
+unfoldable pub signed_at : List ℕ → Result (ℤ × List ℕ) RpcBad
+signed_at bytes = as_at (cast_signed w32) unsigned_at bytes
+
+unfoldable pub boolean_at : List ℕ → Result (Bool × List ℕ) RpcBad
+boolean_at bytes = as_at (λ n. n == 1) (guard_at (λ n. nat_lt n 2) bad.Bool unsigned_at) bytes
+
+-- whole units of which the first n bytes are data and the others zero
+abbrev pub is_padded : ℕ → List ℕ → Bool
+is_padded n units = list_all (λ b. b == 0) (drop n units)
+
+unfoldable pub opaque_fixed_at : ℕ → List ℕ → Result (List ℕ × List ℕ) RpcBad
+opaque_fixed_at n bytes = as_at (take n) (guard_at (is_padded n) bad.Pad (fixed_at bad.Short (n + pad n))) bytes
+
+-- opaque data of at most so many bytes
+unfoldable pub opaque_at : ℕ → List ℕ → Result (List ℕ × List ℕ) RpcBad
+opaque_at most bytes = tagged_at (guard_at (λ n. nat_le n most) bad.TooLong unsigned_at) opaque_fixed_at bytes

@@ -1,0 +1,31 @@
+//! Laws of the spellings and readings, as contracts of functions that do nothing.
+ghost use Rattle.std.specs.Prelude.{◌≡◌, ℕ, ◌<◌, ◌≤◌, ◌^◌, List, ◌++◌, length};
+ghost use Rattle.std.specs.Int.{w32};
+ghost use Rattle.std.specs.Int.RustNames.{FitsSigned};
+ghost use Rattle.xl_base.specs.Codec.{IsCodec};
+ghost use Rattle.xl_rpc.specs.declared.reply.Verdict.{Verdict};
+ghost use Rattle.xl_rpc.specs.Xdr.{unsigned, hyper, signed, boolean, fixed, opaque, unsigned_at, hyper_at, signed_at, boolean_at, opaque_fixed_at, opaque_at};
+ghost use Rattle.xl_rpc.specs.Calls.{HeadItem, HeadFits, call, call_at};
+ghost use Rattle.xl_rpc.specs.Replies.{VerdictFits, reply, reply_at};
+
+/// What is read of an item is spelled so, and what is spelled so is read again, whatever follows (RFC 4506, RFC 5531).
+pub fn spellings_are_read()
+    ensures unsigned_integer { IsCodec unsigned_at unsigned (λ n. n < 2 ^ 32) }
+    ensures hyper_integer { IsCodec hyper_at hyper (λ n. n < 2 ^ 64) }
+    ensures signed_integer { IsCodec signed_at signed (FitsSigned w32) }
+    ensures flag { IsCodec boolean_at boolean (λ _. Unit {0}) }
+    ensures fixed_opaque { (n : ℕ) → IsCodec (opaque_fixed_at n) fixed (λ bytes. length bytes ≡ n) }
+    ensures variable_opaque { (most : ℕ) → most < 2 ^ 32 → IsCodec (opaque_at most) opaque (λ bytes. length bytes ≤ most) }
+    ensures calls { IsCodec call_at call HeadFits }
+    ensures replies { IsCodec reply_at (λ r. reply r.0 r.1) (λ r. (r.0 < 2 ^ 32) × VerdictFits r.1) }
+{}
+
+/// No head of a call is a proper beginning of another one's spelling.
+pub fn one_call_spelling()
+    ensures { (a b : HeadItem) (x y : List ℕ) → HeadFits a → HeadFits b → call a ++ x ≡ call b ++ y → (a ≡ b) × (x ≡ y) }
+{}
+
+/// No reply up to its results is a proper beginning of another one's spelling.
+pub fn one_reply_spelling()
+    ensures { (m n : ℕ) (v w : Verdict) (x y : List ℕ) → m < 2 ^ 32 → VerdictFits v → n < 2 ^ 32 → VerdictFits w → reply m v ++ x ≡ reply n w ++ y → (m ≡ n) × (v ≡ w) × (x ≡ y) }
+{}

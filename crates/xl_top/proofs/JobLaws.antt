@@ -1,0 +1,32 @@
+-- A journal is its head and its entries.
+use Rattle.std.proofs.Common.{◌≡◌, ℕ, ◌<◌, List, [], length, take, Result, Ok, Err, refl, sym, subst, ap, ◌∙◌, arith}
+use Rattle.xl_base.specs.declared.journal.Entry.{Entry}
+use Rattle.xl_base.specs.declared.journal.Head.{Head}
+use Rattle.xl_base.specs.declared.journal.Journal.{Journal}
+use Rattle.xl_top.specs.Job.{head_of, journal_of, no_journal, BeginsAs, IsReplayed, IsBegun, IsCutAt}
+use Rattle.xl_top.specs.House.{entries_of, most_entries}
+use Rattle.xl_top.specs.Machine.{begin}
+use Rattle.xl_top.specs.declared.capture.Capture.{Capture}
+
+abbrev journal_with : Head → List Entry → Journal
+journal_with head entries = record { head = head; entries = entries }
+
+pub same_journal : (c : Capture) (journal : Journal) → journal.head ≡ head_of c → journal.entries ≡ entries_of (begin (head_of c)) c.events → journal ≡ journal_of c
+same_journal c journal head entries = ap (λ (h : Head). journal_with h journal.entries) head ∙ ap (journal_with (head_of c)) entries
+
+pub begins : (c : Capture) (journal : Journal) → journal.head ≡ head_of c → take (length journal.entries) (entries_of (begin (head_of c)) c.events) ≡ journal.entries → BeginsAs c journal
+begins c journal head entries = record { entries = entries; head = λ some. head }
+
+pub replayed_as : (r : Result Capture ℕ) (c : Capture) (journal : Journal) → r ≡ Ok c → journal ≡ journal_of c → IsReplayed r journal
+replayed_as r c journal e same = subst (λ s. IsReplayed s journal) (sym e) same
+
+pub begun_as : (r : Result Capture ℕ) (c : Capture) (journal : Journal) → r ≡ Ok c → BeginsAs c journal → IsBegun r journal
+begun_as r c journal e begun = subst (λ s. IsBegun s journal) (sym e) begun
+
+pub cut_as : (r : Result Capture ℕ) (c : Capture) (journal : Journal) → r ≡ Ok c → IsCutAt most_entries (Ok c) journal → IsCutAt most_entries r journal
+cut_as r c journal e cut = subst (λ s. IsCutAt most_entries s journal) (sym e) cut
+
+-- a journal without entries begins as any
+pub bad_as : (r : Result Capture ℕ) → IsBegun r no_journal
+bad_as (Ok c) = record { entries = refl; head = λ some. absurd (omega (arith, some)) }
+bad_as (Err line) = refl

@@ -1,0 +1,74 @@
+-- What the program's words ask for, and what its ending says.
+use Rattle.std.specs.Prelude.{◌≡◌, ℕ, ◌+◌, ◌<◌, Bool, ◌==◌, ◌||◌, if◌then◌else◌, List, [], ◌∷◌, length, take, codes, bytes_eq, Option, Some, None, Result, Ok, Err, IfSome}
+use Rattle.xl_base.specs.declared.journal.Head.{Head}
+use Rattle.xl_base.specs.declared.journal.Journal.{Journal}
+use Rattle.xl_top.specs.Capture.{most_bytes, no_lines, captured}
+use Rattle.xl_top.specs.House.{entries_of}
+use Rattle.xl_top.specs.Machine.{begin}
+use Rattle.xl_top.specs.declared.capture.Capture.{Capture}
+use Rattle.xl_top.specs.declared.top.Job.{Job}
+use Rattle.xl_top.specs.declared.top.Job.TheVariants.{Replay}
+
+-- what the words ask for, the program's name first
+abbrev pub job : List (List ℕ) → Option Job
+job (name ∷ word ∷ []) = if bytes_eq word (codes "replay") then Some Replay else None
+job words = None
+
+-- the statuses that an ending has
+abbrev pub is_status : ℕ → Bool
+is_status n = n == 0 || n == 1 || n == 2 || n == 3 || n == 4 || n == 6 || n == 7
+
+-- the statuses of a replay: done, a failed sink, no memory, a full journal
+abbrev pub is_stepped : ℕ → Bool
+is_stepped n = n == 0 || n == 3 || n == 6 || n == 7
+
+-- those of a text that was read to its end: a bad line besides
+abbrev pub is_read : ℕ → Bool
+is_read n = n == 4 || is_stepped n
+
+-- the statuses at which nothing was stepped or written: no job, a failed source, a bad line
+abbrev pub is_idle : ℕ → Bool
+is_idle n = n == 1 || n == 2 || n == 4
+
+-- what is read of an input: at most one byte past the most of a capture
+abbrev pub capped : List ℕ → List ℕ
+capped input = take (most_bytes + 1) input
+
+-- what a run begins from: these files, the default times in milliseconds, and the empty record
+abbrev pub head_with : List (List ℕ) → Head
+head_with files = record {
+  exports = record { files = files; addresses = []; lease = 90000; grace = 90000; break_time = 35000 };
+  start = record { 0 = 0 };
+  «record» = record { epoch = 0; names = [] };
+}
+
+-- what a capture's run begins from
+abbrev pub head_of : Capture → Head
+head_of c = head_with c.files
+
+-- the journal that a capture's events make
+abbrev pub journal_of : Capture → Journal
+journal_of c = record { head = head_of c; entries = entries_of (begin (head_of c)) c.events }
+
+-- the journal of a run that stepped nothing
+abbrev pub no_journal : Journal
+no_journal = record { head = head_of no_lines; entries = [] }
+
+-- the journal is the one of the capture that was read
+abbrev pub IsReplayed : Result Capture ℕ → Journal → Type 0
+IsReplayed (Ok c) journal = journal ≡ journal_of c
+IsReplayed (Err line) journal = ⊥
+
+-- the journal is a beginning of that one; where nothing was stepped its head may be that of an empty capture
+pub record BeginsAs (c : Capture) (journal : Journal) : Type 0 where
+  pub entries : take (length journal.entries) (journal_of c).entries ≡ journal.entries
+  pub head : 0 < length journal.entries → journal.head ≡ head_of c
+
+abbrev pub IsBegun : Result Capture ℕ → Journal → Type 0
+IsBegun (Ok c) journal = BeginsAs c journal
+IsBegun (Err line) journal = journal.entries ≡ []
+
+-- an event of the capture met a full journal
+abbrev pub IsCutAt : ℕ → Result Capture ℕ → Journal → Type 0
+IsCutAt most (Ok c) journal = (length journal.entries ≡ most) × (most < length c.events) × BeginsAs c journal
+IsCutAt most (Err line) journal = ⊥

@@ -1,0 +1,16 @@
+//! The program's top call.
+#![tactic(auto)]
+
+mod capture;
+mod frame;
+mod front_nlm;
+mod house;
+mod machine;
+mod top;
+mod transcript;
+
+pub use capture::{Capture, CaptureError};
+pub use top::{Done, Job, Usage, parse, run};
+
+#[cfg(test)]
+mod tests;
