@@ -43,7 +43,6 @@ pub(crate) fn last_byte(spans: &[Span]) -> Option<u64>
 }
 
 /// The mode in which the byte is locked.
-#[tactic(auto, using(crate::proofs::Search::mode_found))]
 pub(crate) fn mode_of(spans: &[Span], byte: u64) -> Option<Mode>
     requires { IsCanonical spans.now }
     ensures { result ≡ mode_at spans.now byte }

@@ -141,6 +141,7 @@ fn touched_places(spans: &[Span], first: u64, last: u64) -> (usize, usize)
 {
     let start = ending_before(spans, first.saturating_sub(1));
     let end = beginning_by(spans, last.saturating_add(1));
+    // The read shows that no span reaches byte 2^64, so that none lies past a range that ends there.
     let _ = last_byte(spans);
     (start, end)
 }

@@ -61,6 +61,7 @@ impl Spans {
         ensures canonical { IsCanonical result.now }
         ensures below { EndsBelow (2 ^ 64) result.now }
     {
+        // The read shows that no span reaches byte 2^64.
         let _ = last_byte(&self.items);
         &self.items
     }
