@@ -151,8 +151,8 @@ pairwise_two (c ∷ cs) a b all h k apart =
 
 -- an ask that nothing held stands against: a lock whose claim is compatible with each of the others, or an unlock
 abbrev pub IsFree : ℕ → Owner → Party → ℕ → ℕ → Option Bool → List Claim → Type 0
-IsFree file owner party first last None cs = Unit {0}
-IsFree file owner party first last (Some exclusive) cs = AllByRecursion (λ c. compat (asked_claim file owner party first last exclusive) c ≡ true) (others_of file owner cs)
+IsFree file owner asker first last None cs = Unit {0}
+IsFree file owner asker first last (Some exclusive) cs = AllByRecursion (λ c. compat (asked_claim file owner asker first last exclusive) c ≡ true) (others_of file owner cs)
 
 abbrev mode_asked : Option Bool → Option Mode
 mode_asked None = None
@@ -164,11 +164,11 @@ is_of-true file owner c h =
     (eqb-true c.file file parts.0, same_owners-true c.owner owner parts.1)
 
 -- a byte of a new span agrees with another's claim: it was asked for, or the owner had it
-new_agrees : (file : ℕ) (owner : Owner) (party : Party) (first last : ℕ) (asked : Option Bool) (cs : List Claim) (c : Claim) (x : ℕ) (m : Mode)
-    → first ≤ last → last < 2 ^ 64 → posix owner ≡ true → IsHeld cs → IsFree file owner party first last asked cs → IsIn c (others_of file owner cs) → file ≡ c.file
+new_agrees : (file : ℕ) (owner : Owner) (party asker : Party) (first last : ℕ) (asked : Option Bool) (cs : List Claim) (c : Claim) (x : ℕ) (m : Mode)
+    → first ≤ last → last < 2 ^ 64 → posix owner ≡ true → IsHeld cs → IsFree file owner asker first last asked cs → IsIn c (others_of file owner cs) → file ≡ c.file
     → mode_at (relocked (spans_of file owner cs) first last (mode_asked asked)) x ≡ Some m → locks_agree owner (Some (is_exclusive m)) c.owner (lock_on c x) ≡ true
 unfolding others_of
-new_agrees file owner party first last asked cs c x m ends top own held free there one e =
+new_agrees file owner party asker first last asked cs c x m ends top own held free there one e =
     elim (cases_Bool (within first last x)) [
       | inl inside ↦ asked_agrees asked free inside (rw inside at modes)
       | inr outside ↦ held_agrees (locked_by file owner cs x m (rw outside at modes))
@@ -195,10 +195,10 @@ new_agrees file owner party first last asked cs c x m ends top own held free the
     subst (λ (o : Owner). locks_agree o (Some (is_exclusive m)) c.owner (lock_on c x) ≡ true) names.1
       (subst (λ (l : Option Bool). locks_agree found.0.owner l c.owner (lock_on c x) ≡ true) found.3 agrees)
 
-  asked_agrees : (a : Option Bool) → IsFree file owner party first last a cs → within first last x ≡ true → mode_asked a ≡ Some m → locks_agree owner (Some (is_exclusive m)) c.owner (lock_on c x) ≡ true
+  asked_agrees : (a : Option Bool) → IsFree file owner asker first last a cs → within first last x ≡ true → mode_asked a ≡ Some m → locks_agree owner (Some (is_exclusive m)) c.owner (lock_on c x) ≡ true
   asked_agrees None f inside is = absurd cc
   asked_agrees (Some exclusive) f inside is =
-    let ask = asked_claim file owner party first last exclusive in
+    let ask = asked_claim file owner asker first last exclusive in
     let fits = all_in (λ (d : Claim). compat ask d ≡ true) c (others_of file owner cs) f there in
     let agrees : locks_agree owner (lock_on ask x) c.owner (lock_on c x) ≡ true = agree_from ask c ((ends, top), own) range one fits x in
     let locked : locks_agree owner (Some exclusive) c.owner (lock_on c x) ≡ true = rw inside at agrees in
@@ -206,14 +206,14 @@ new_agrees file owner party first last asked cs c x m ends top own held free the
     subst (λ (b : Bool). locks_agree owner (Some b) c.owner (lock_on c x) ≡ true) same locked
 
 -- a new span stands beside each claim of others
-new_fits : (file : ℕ) (owner : Owner) (party : Party) (first last : ℕ) (asked : Option Bool) (cs : List Claim) (s : Span) (c : Claim)
-    → first ≤ last → last < 2 ^ 64 → posix owner ≡ true → IsHeld cs → IsFree file owner party first last asked cs
+new_fits : (file : ℕ) (owner : Owner) (party asker : Party) (first last : ℕ) (asked : Option Bool) (cs : List Claim) (s : Span) (c : Claim)
+    → first ≤ last → last < 2 ^ 64 → posix owner ≡ true → IsHeld cs → IsFree file owner asker first last asked cs
     → IsIn s (relocked (spans_of file owner cs) first last (mode_asked asked)) → IsRange (range_claim file owner party s) → IsIn c (others_of file owner cs) → IsRange c → compat (range_claim file owner party s) c ≡ true
-new_fits file owner party first last asked cs s c ends top own held free new real there range =
+new_fits file owner party asker first last asked cs s c ends top own held free new real there range =
     let spans = relocked (spans_of file owner cs) first last (mode_asked asked) in
     let canonical = relocked_canonical (spans_of file owner cs) first last (mode_asked asked) ends (held.canonical file owner) in
     fits_from (range_claim file owner party s) c real range (λ one x. elim (cases_Bool (within s.first s.last x)) [
-      | inl inside ↦ rw inside (new_agrees file owner party first last asked cs c x s.mode ends top own held free there one (mode_of_span s spans x canonical new inside))
+      | inl inside ↦ rw inside (new_agrees file owner party asker first last asked cs c x s.mode ends top own held free there one (mode_of_span s spans x canonical new inside))
       | inr outside ↦ rw outside refl
     ])
 
@@ -326,15 +326,15 @@ spans_below file owner (c ∷ cs) ranges =
       | inr other ↦ rw other (spans_below file owner cs ranges.1)
     ]
 
-pub keeps_held : (file : ℕ) (owner : Owner) (party : Party) (first last : ℕ) (asked : Option Bool) (cs : List Claim)
-    → first ≤ last → last < 2 ^ 64 → posix owner ≡ true → IsFree file owner party first last asked cs → IsHeld cs → IsHeld (relocked_in file owner party first last (mode_asked asked) cs)
+pub keeps_held : (file : ℕ) (owner : Owner) (party asker : Party) (first last : ℕ) (asked : Option Bool) (cs : List Claim)
+    → first ≤ last → last < 2 ^ 64 → posix owner ≡ true → IsFree file owner asker first last asked cs → IsHeld cs → IsHeld (relocked_in file owner party first last (mode_asked asked) cs)
 unfolding relocked_in others_of
-keeps_held file owner party first last asked cs ends top own free held = record {
+keeps_held file owner party asker first last asked cs ends top own free held = record {
   ranges = all_append IsRange others new old_ranges ranges;
   compatible = pairwise_append compat others new (pairwise_filter compat (λ c. not (is_of file owner c)) cs held.compatible) (new_pairwise file owner party spans canonical ranges)
     (λ c n h k. let from = in_map_from (range_claim file owner party) n spans k in
       compat-sym c n ∙ subst (λ d. compat d c ≡ true) from.2
-        (new_fits file owner party first last asked cs from.0 c ends top own held free from.1 (subst IsRange (sym from.2) (all_in IsRange n new ranges k)) h (all_in IsRange c others old_ranges h)));
+        (new_fits file owner party asker first last asked cs from.0 c ends top own held free from.1 (subst IsRange (sym from.2) (all_in IsRange n new ranges k)) h (all_in IsRange c others old_ranges h)));
   canonical = λ at who. elim (cases_Bool ((eqb at file) && (same_owners who owner))) [
     | inl same ↦
       let parts = and_parts (eqb at file) (same_owners who owner) same in

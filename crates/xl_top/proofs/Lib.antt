@@ -2,7 +2,9 @@ pub mod ClaimLaws
 pub mod HouseLaws
 pub mod JobLaws
 pub mod LineLaws
+pub mod NameLaws
 pub mod OrderLaws
 pub mod ReadLaws
 pub mod ReplyLaws
+pub mod SortLaws
 pub mod WriteLaws

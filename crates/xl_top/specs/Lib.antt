@@ -1,3 +1,4 @@
+pub mod Aims
 pub mod Capture
 pub mod Claims
 pub mod Frame
@@ -5,4 +6,6 @@ pub mod FrontNlm
 pub mod House
 pub mod Job
 pub mod Machine
+pub mod Short
+pub mod Texts
 pub mod Transcript

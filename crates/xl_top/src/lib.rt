@@ -2,11 +2,13 @@
 #![tactic(auto)]
 
 mod capture;
+mod claims;
 mod frame;
 mod front_nlm;
 mod house;
 mod machine;
 mod top;
+mod texts;
 mod transcript;
 
 pub use capture::{Capture, CaptureError};

@@ -1,7 +1,0 @@
-use Rattle.std.proofs.Common.{◌≡◌, ◌++◌, drop}
-use Rattle.std.specs.String.{string_bytes}
-use Rattle.xl_top.specs.Transcript.{entry_lines, transcript}
-use Rattle.xl_top.proofs.transcript.transcript.Given as goal
-
-abbrev pub invariant-loop-place : goal.invariant-loop-place
-invariant-loop-place l = string_bytes l.text ++ entry_lines l.place (drop l.place l.entries) ≡ transcript l.entries
