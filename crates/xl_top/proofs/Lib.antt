@@ -3,4 +3,5 @@ pub mod JobLaws
 pub mod LineLaws
 pub mod OrderLaws
 pub mod ReadLaws
+pub mod ReplyLaws
 pub mod WriteLaws

@@ -72,12 +72,14 @@ left_each : (opened ended : List ℕ) (number : ℕ) (cs : List Connection) → 
 unfolding without
 left_each opened ended number cs each =
     all_from (Stands opened (number ∷ ended)) (filter (λ c. not (eqb c.number number)) cs) (λ c h.
-      let from = in_filter_from (λ (d : Connection). not (eqb d.number number)) c cs h in
-      let stands = all_in (Stands opened ended) c cs each from.0 in
-      (stands.0, λ e. elim e [
+    let from = in_filter_from (λ (d : Connection). not (eqb d.number number)) c cs h in
+    let stands = all_in (Stands opened ended) c cs each from.0 in (
+      stands.0,
+      λ e. elim e [
         | inl same ↦ true≢false (sym (eq-eqb c.number number (sym same)) ∙ not-true (eqb c.number number) from.1)
         | inr t ↦ stands.1 t
-      ]))
+      ],
+    ))
 
 kept_each : (opened ended : List ℕ) (number : ℕ) (cs : List Connection) → AllByRecursion (Stands opened ended) cs → AllByRecursion (Stands opened ended) (without cs number)
 unfolding without
@@ -121,10 +123,11 @@ orderly opened ended s (e ∷ es) below fits legal =
     let next = (step e.stores s e.event).next in
     let place : next.place ≡ s.place + 1 = next_place e.stores s e.event in
     let opened' = opened_after opened s.place e.event in
-    let ended' = ended_after opened ended s.place e.event in
-    (subst (λ (outs : List Out). AllByRecursion (λ o. IsTimely opened ended' o.dest) outs) (sym legal.0.1) (timely e.stores opened ended s e.event fits),
-    subst (λ p. IsOrderly opened' ended' p es) place
-      (orderly opened' ended' next es (subst (λ p. AllByRecursion (λ m. m < p) opened') (sym place) (below_after opened s.place e.event below)) (fits_after e.stores opened ended s e.event below fits) legal.1))
+    let ended' = ended_after opened ended s.place e.event in (
+      subst (λ (outs : List Out). AllByRecursion (λ o. IsTimely opened ended' o.dest) outs) (sym legal.0.1) (timely e.stores opened ended s e.event fits),
+      subst (λ p. IsOrderly opened' ended' p es) place
+          (orderly opened' ended' next es (subst (λ p. AllByRecursion (λ m. m < p) opened') (sym place) (below_after opened s.place e.event below)) (fits_after e.stores opened ended s e.event below fits) legal.1),
+    )
 
 -- a legal journal from a first start is orderly
 pub legal_orderly : (head : Head) (es : List Entry) → IsLegal (begin head) es → IsOrderly [] [] 0 es

@@ -31,11 +31,11 @@ read_whole left new all v told took most ended =
     let taken : Took (Some all) v new = subst (λ (l : Option (List ℕ)). Took l v new) told took in
     elim (cases_lt most_bytes (length v)) [
       | inr few ↦
-        let same = none_left new all v taken (ended few) in
-        ap captured (ap capped (sym same) ∙ take_all (most_bytes + 1) v (omega (arith, few)))
+          let same = none_left new all v taken (ended few) in
+          ap captured (ap capped (sym same) ∙ take_all (most_bytes + 1) v (omega (arith, few)))
       | inl past ↦
-        let full : most_bytes + 1 ≡ length v = omega (arith, past, most) in
-        ap captured (ap (λ (n : ℕ). take n all) full ∙ front_of new all v taken)
+          let full : most_bytes + 1 ≡ length v = omega (arith, past, most) in
+          ap captured (ap (λ (n : ℕ). take n all) full ∙ front_of new all v taken)
     ]
 
 step_refused : (b : Bool) (o : Option Capture) (f : Capture → Result Capture ℕ) (n : ℕ) (d : Capture) → ((c : Capture) → f c ≡ Ok d → ⊥) → cond b (Err n) (option_map_or f o (Err n)) ≡ Ok d → ⊥
@@ -63,6 +63,6 @@ read_ended text d e =
     elim (cases_lt most_bytes (length text)) [
       | inr few ↦ few
       | inl past ↦
-        let some : is_last (lines_of text) ≡ false = is_last_line text ∙ ne_eqb (length text) 0 (λ none. absurd (omega (arith, none, past))) in
-        absurd (past_refused no_lines 0 (lines_of text) d some (rw (lt-ltb most_bytes (length text) past) at e))
+          let some : is_last (lines_of text) ≡ false = is_last_line text ∙ ne_eqb (length text) 0 (λ none. absurd (omega (arith, none, past))) in
+          absurd (past_refused no_lines 0 (lines_of text) d some (rw (lt-ltb most_bytes (length text) past) at e))
     ]

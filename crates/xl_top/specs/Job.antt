@@ -6,8 +6,8 @@ use Rattle.xl_top.specs.Capture.{most_bytes, no_lines, captured}
 use Rattle.xl_top.specs.House.{entries_of}
 use Rattle.xl_top.specs.Machine.{begin}
 use Rattle.xl_top.specs.declared.capture.Capture.{Capture}
-use Rattle.xl_top.specs.declared.run.Job.{Job}
-use Rattle.xl_top.specs.declared.run.Job.TheVariants.{Replay}
+use Rattle.xl_top.specs.declared.top.Job.{Job}
+use Rattle.xl_top.specs.declared.top.Job.TheVariants.{Replay}
 
 -- what the words ask for, the program's name first
 abbrev pub job : List (List ℕ) → Option Job

@@ -30,9 +30,9 @@ impl Model for House {
     ghost view = { λ h. record { head = h.head; entries = h.entries; halt = h.halt } };
 
     ghost invariant = { λ h. record {
-        stands : h.halt ≡ None → (state_of h.head.exports h.machine ≡ replay (begin h.head) h.entries) × (h.machine.place ≡ length h.entries);
-        few : length h.entries ≤ 1048576;
-        legal : IsLegal (begin h.head) h.entries;
+      stands : h.halt ≡ None → (state_of h.head.exports h.machine ≡ replay (begin h.head) h.entries) × (h.machine.place ≡ length h.entries);
+      few : length h.entries ≤ 1048576;
+      legal : IsLegal (begin h.head) h.entries;
     } };
 }
 

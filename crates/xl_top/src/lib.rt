@@ -6,8 +6,11 @@ mod frame;
 mod front_nlm;
 mod house;
 mod machine;
-mod run;
+mod top;
 mod transcript;
 
 pub use capture::{Capture, CaptureError};
-pub use run::{Done, Job, Usage, parse};
+pub use top::{Done, Job, Usage, parse, run};
+
+#[cfg(test)]
+mod tests;

@@ -3,8 +3,7 @@ ghost use Rattle.std.specs.Prelude.{◌≡◌, ℕ, ◌+◌, ◌<◌, ◌^◌, [
 ghost use Rattle.xl_top.specs.declared.machine.Machine.{Machine};
 ghost use Rattle.xl_top.specs.Machine.{State, with_connection, without, kind_of, answers, step, state_of};
 
-use crate::frame;
-use crate::front_nlm;
+use crate::{frame, front_nlm};
 use std::alloc::{AllocError, Global};
 use xl_base::{Dest, Event, Exports, Kind, Out, Sequence};
 
@@ -31,7 +30,10 @@ fn open(connections: &mut Vec<Connection>, place: u64, kind: Kind) -> Result<(),
     ensures { OnOk result (connections.new.items ≡ with_connection connections.old.items place kind) }
 {
     if connections.len() < MOST_CONNECTIONS {
-        connections.push(Connection { number: place, kind })?;
+        connections.push(Connection {
+            number: place,
+            kind,
+        })?;
     }
     Ok(())
 }

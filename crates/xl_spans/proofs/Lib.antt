@@ -1,0 +1,9 @@
+pub mod Bytes
+pub mod Chains
+pub mod SameBytes
+pub mod InPlace
+pub mod Places
+pub mod Search
+pub mod Conflicts
+pub mod Untouched
+pub mod Forward

@@ -1,0 +1,16 @@
+//! The byte ranges that one owner has locked in one file: maximal runs of one mode, found by bisection and changed in
+//! place.
+#![tactic(auto)]
+
+mod bisect;
+pub mod laws;
+pub mod plain;
+mod relock;
+mod span;
+mod spans;
+
+pub use span::{Mode, Span};
+pub use spans::Spans;
+
+#[cfg(test)]
+mod tests;
