@@ -1,5 +1,5 @@
 -- The arguments of each call: their spelling, and their reading (XNFS C702, chapter 14).
-use Rattle.std.specs.Prelude.{ℕ, ℤ, ◌+◌, ◌==◌, ◌&&◌, ◌||◌, Bool, List, [], ◌++◌, Result, nat_lt, nat_le, if◌then◌else◌}
+use Rattle.std.specs.Prelude.{◌≡◌, ℕ, ℤ, ◌+◌, ◌==◌, ◌&&◌, ◌||◌, Bool, List, [], ◌++◌, Result, nat_lt, nat_le, if◌then◌else◌}
 use Rattle.xl_base.specs.Codec.{pair_at, as_at, guard_at, if_at, nothing_at, never_at}
 use Rattle.xl_rpc.specs.declared.fault.RpcBad.{RpcBad}
 use Rattle.xl_rpc.specs.declared.fault.RpcBad.TheVariants as bad
@@ -107,6 +107,30 @@ CallFits (Share a) = ShareArgsFits a
 CallFits (Unshare a) = ShareArgsFits a
 CallFits (NmLock a) = LockArgsFits a
 CallFits (FreeAll n) = NotifyFits n
+
+-- a call of this procedure that has a spelling
+abbrev pub IsCallOf : ℕ → CallItem → Type 0
+IsCallOf proc c = (procedure_of c ≡ proc) × CallFits c
+
+-- ---- what a writer asks for: names and netobjs within their bound
+
+abbrev pub IsShortLock : LockItem → Type 0
+IsShortLock l = TextFits l.caller_name × TextFits l.fh × TextFits l.oh
+
+abbrev pub IsShortShare : ShareArgsItem → Type 0
+IsShortShare a = TextFits a.cookie × TextFits a.caller_name × TextFits a.fh × TextFits a.oh
+
+abbrev pub IsShortCall : CallItem → Type 0
+IsShortCall Null = Unit {0}
+IsShortCall (Test a) = TextFits a.cookie × IsShortLock a.lock
+IsShortCall (Lock a) = TextFits a.cookie × IsShortLock a.lock
+IsShortCall (Cancel a) = TextFits a.cookie × IsShortLock a.lock
+IsShortCall (Unlock a) = TextFits a.cookie × IsShortLock a.lock
+IsShortCall (Granted a) = TextFits a.cookie × IsShortLock a.lock
+IsShortCall (Share a) = IsShortShare a
+IsShortCall (Unshare a) = IsShortShare a
+IsShortCall (NmLock a) = TextFits a.cookie × IsShortLock a.lock
+IsShortCall (FreeAll n) = TextFits n.name
 
 -- ---- reading
 

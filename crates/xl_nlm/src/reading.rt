@@ -14,7 +14,7 @@ const MAX_TEXT_BYTES: u32 = 1024;
 
 /// A name or a netobj.
 #[tactic(auto, unfolding(crate::specs::Arguments::text_at))]
-fn read_text<'a>(xdr: &mut Xdr<'a>) -> Result<&'a [u8], RpcBad>
+pub(crate) fn read_text<'a>(xdr: &mut Xdr<'a>) -> Result<&'a [u8], RpcBad>
     ensures { Advances (λ s. s.now) result xdr.old.rest.now xdr.new.rest.now (text_at xdr.old.rest.now) }
 {
     xdr.opaque(MAX_TEXT_BYTES)
@@ -179,6 +179,13 @@ fn read_arguments<'a>(proc: u32, args: &mut Xdr<'a>) -> Result<NlmCall<'a>, RpcB
         procedure::FREE_ALL => Ok(NlmCall::FreeAll(read_notify(args)?)),
         _ => Err(RpcBad::Value),
     }
+}
+
+/// Whether the arguments and the results of a procedure are known here: NULL to GRANTED, and SHARE to FREE_ALL.
+pub fn is_known(proc: u32) -> bool
+    ensures { result ≡ is_known proc }
+{
+    proc <= procedure::GRANTED || (procedure::SHARE <= proc && proc <= procedure::FREE_ALL)
 }
 
 /// The arguments of a procedure whose arguments are known, read from the front; what stands behind them is left. A
