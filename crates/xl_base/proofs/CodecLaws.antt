@@ -8,7 +8,7 @@ use Rattle.std.proofs.lemmas.Bool.Decides.{nat_tests}
 use Rattle.std.proofs.lemmas.List.{take_at, drop_at, take-append-drop, length-append, length-take, get_or-drop, get_or-take, get_or_past, append-nil}
 use Rattle.std.proofs.lemmas.Nat.{be_bytes_2, be_bytes_4, be_bytes_8, le_bytes_2, le_bytes_4, le_bytes_8, from_be_bytes-to_be_bytes_2, from_be_bytes-to_be_bytes_4, from_be_bytes-to_be_bytes_8, from_le_bytes-to_le_bytes_2, from_le_bytes-to_le_bytes_4, from_le_bytes-to_le_bytes_8}
 use Rattle.xl_base.specs.Results.{Gives}
-use Rattle.xl_base.specs.Codec.{big_endian, little_endian, ◌>>=◌, pair_at, as_at, guard_at, exactly_at, tagged_at, if_at, nothing_at, never_at, fixed_at, big_endian_at, little_endian_at, items_at, list_at, with_front, IsBytes, Takes, IsCodec, Advances}
+use Rattle.xl_base.specs.Codec.{big_endian, little_endian, ◌>>=◌, pair_at, as_at, guard_at, exactly_at, tagged_at, if_at, choose_at, nothing_at, never_at, fixed_at, big_endian_at, little_endian_at, items_at, list_at, with_front, IsBytes, Takes, IsCodec, Advances}
 
 -- ---- bytes
 
@@ -181,6 +181,18 @@ if_codec {A} {E} {this} {other} {spell} Fits tag n f g =
             again = λ v rest fit. rw fails (there.again v rest fit);
           })
     ]
+
+pub choose_codec : {A E : Type 0} {this other : List ℕ → Result (A × List ℕ) E} {spell : A → List ℕ} {Fit : A → Type 0} (test : Bool)
+    → (test ≡ true → IsCodec this spell Fit) → (test ≡ false → IsCodec other spell Fit)
+    → IsCodec (choose_at test this other) spell Fit
+choose_codec true f g = record {
+  takes = λ bytes x is e. (f refl).takes bytes x is e;
+  again = λ v rest fit. (f refl).again v rest fit;
+}
+choose_codec false f g = record {
+  takes = λ bytes x is e. (g refl).takes bytes x is e;
+  again = λ v rest fit. (g refl).again v rest fit;
+}
 
 -- the same codec by another name of its spelling and of what fits
 pub same_codec : {A E : Type 0} {at : List ℕ → Result (A × List ℕ) E} {spell : A → List ℕ} {Fit : A → Type 0} (spelled : A → List ℕ) (Fits : A → Type 0)

@@ -44,6 +44,10 @@ tagged_at number at bytes = number bytes >>= λ tag. at tag.0 tag.1
 abbrev pub if_at : {A E : Type 0} → ℕ → ℕ → (List ℕ → Result (A × List ℕ) E) → (List ℕ → Result (A × List ℕ) E) → List ℕ → Result (A × List ℕ) E
 if_at tag n this other bytes = if tag == n then this bytes else other bytes
 
+-- one thing where the test holds, and another where it doesn't
+abbrev pub choose_at : {A E : Type 0} → Bool → (List ℕ → Result (A × List ℕ) E) → (List ℕ → Result (A × List ℕ) E) → List ℕ → Result (A × List ℕ) E
+choose_at test this other bytes = if test then this bytes else other bytes
+
 -- nothing at all, and what is never there
 abbrev pub nothing_at : {E : Type 0} → List ℕ → Result (Unit {0} × List ℕ) E
 nothing_at bytes = Ok (tt, bytes)

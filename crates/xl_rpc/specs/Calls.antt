@@ -5,7 +5,7 @@ use Rattle.xl_rpc.specs.declared.call.Auth.{Auth}
 use Rattle.xl_rpc.specs.declared.call.CallHead.{CallHead}
 use Rattle.xl_rpc.specs.declared.fault.RpcBad.{RpcBad}
 use Rattle.xl_rpc.specs.declared.fault.RpcBad.TheVariants as bad
-use Rattle.xl_rpc.specs.Xdr.{unsigned, opaque, unsigned_at, opaque_at}
+use Rattle.xl_rpc.specs.Xdr.{unsigned, opaque, UnsignedFits, OpaqueFits, unsigned_at, opaque_at}
 
 -- a credential or verifier, and a call's head, without where they lie in memory
 pub record AuthItem : Type 0 where
@@ -31,14 +31,14 @@ unfoldable pub auth : AuthItem → List ℕ
 auth a = unsigned a.flavor ++ opaque a.body
 
 abbrev pub AuthFits : AuthItem → Type 0
-AuthFits a = (a.flavor < 2 ^ 32) × (length a.body ≤ 400)
+AuthFits a = UnsignedFits a.flavor × OpaqueFits 400 a.body
 
 -- the message type of a call is 0, the version of the protocol 2
 unfoldable pub call : HeadItem → List ℕ
 call h = unsigned h.xid ++ (unsigned 0 ++ (unsigned 2 ++ (unsigned h.prog ++ (unsigned h.vers ++ (unsigned h.proc ++ (auth h.cred ++ auth h.verf))))))
 
 abbrev pub HeadFits : HeadItem → Type 0
-HeadFits h = (h.xid < 2 ^ 32) × ((h.prog < 2 ^ 32) × ((h.vers < 2 ^ 32) × ((h.proc < 2 ^ 32) × (AuthFits h.cred × AuthFits h.verf))))
+HeadFits h = UnsignedFits h.xid × (UnsignedFits h.prog × (UnsignedFits h.vers × (UnsignedFits h.proc × (AuthFits h.cred × AuthFits h.verf))))
 
 -- ---- reading
 

@@ -5,7 +5,7 @@ use Rattle.xl_rpc.specs.declared.fault.RpcBad.{RpcBad}
 use Rattle.xl_rpc.specs.declared.fault.RpcBad.TheVariants as bad
 use Rattle.xl_rpc.specs.declared.reply.Verdict.{Verdict}
 use Rattle.xl_rpc.specs.declared.reply.Verdict.TheVariants.{Success, ProgUnavail, ProgMismatch, ProcUnavail, GarbageArgs, SystemErr, RpcMismatch, AuthError}
-use Rattle.xl_rpc.specs.Xdr.{unsigned, unsigned_at}
+use Rattle.xl_rpc.specs.Xdr.{unsigned, UnsignedFits, unsigned_at}
 
 -- ---- spelling
 
@@ -54,9 +54,9 @@ reply xid v = unsigned xid ++ (unsigned 1 ++ (unsigned (reply_stat v) ++ told v)
 
 -- the numbers of a verdict are unsigned integers
 abbrev pub VerdictFits : Verdict → Type 0
-VerdictFits (ProgMismatch low high) = (low < 2 ^ 32) × (high < 2 ^ 32)
-VerdictFits (RpcMismatch low high) = (low < 2 ^ 32) × (high < 2 ^ 32)
-VerdictFits (AuthError why) = why < 2 ^ 32
+VerdictFits (ProgMismatch low high) = UnsignedFits low × UnsignedFits high
+VerdictFits (RpcMismatch low high) = UnsignedFits low × UnsignedFits high
+VerdictFits (AuthError why) = UnsignedFits why
 VerdictFits _ = Unit {0}
 
 -- ---- reading

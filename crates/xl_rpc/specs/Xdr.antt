@@ -1,6 +1,7 @@
 -- XDR (RFC 4506): the spelling of each item, and its reading with the first fault met.
-use Rattle.std.specs.Prelude.{ℕ, ℤ, ◌+◌, ◌-◌, ◌%◌, ◌==◌, Bool, List, ◌++◌, length, take, drop, replicate, Result, nat_lt, nat_le, if◌then◌else◌}
+use Rattle.std.specs.Prelude.{ℕ, ℤ, ◌+◌, ◌-◌, ◌%◌, ◌^◌, ◌<◌, ◌≤◌, ◌==◌, Bool, List, ◌++◌, length, take, drop, replicate, Result, nat_lt, nat_le, if◌then◌else◌}
 use Rattle.std.specs.Int.{w32, w64, cast_signed, cast_unsigned}
+use Rattle.std.specs.Int.RustNames.{FitsSigned}
 use Rattle.std.specs.List.{list_all}
 use Rattle.xl_base.specs.Codec.{big_endian, as_at, guard_at, tagged_at, big_endian_at, fixed_at}
 use Rattle.xl_rpc.specs.declared.fault.RpcBad.{RpcBad}
@@ -31,6 +32,25 @@ fixed bytes = bytes ++ replicate (pad (length bytes)) 0
 
 unfoldable pub opaque : List ℕ → List ℕ
 opaque bytes = unsigned (length bytes) ++ fixed bytes
+
+-- ---- what has a spelling
+
+abbrev pub UnsignedFits : ℕ → Type 0
+UnsignedFits n = n < 2 ^ 32
+
+abbrev pub HyperFits : ℕ → Type 0
+HyperFits n = n < 2 ^ 64
+
+abbrev pub SignedFits : ℤ → Type 0
+SignedFits z = FitsSigned w32 z
+
+-- each bool has one
+abbrev pub BooleanFits : Bool → Type 0
+BooleanFits b = Unit {0}
+
+-- opaque data of at most so many bytes
+abbrev pub OpaqueFits : ℕ → List ℕ → Type 0
+OpaqueFits most bytes = length bytes ≤ most
 
 -- ---- reading
 

@@ -4,20 +4,20 @@ ghost use Rattle.std.specs.Int.{w32};
 ghost use Rattle.std.specs.Int.RustNames.{FitsSigned};
 ghost use Rattle.xl_base.specs.Codec.{IsCodec};
 ghost use Rattle.xl_rpc.specs.declared.reply.Verdict.{Verdict};
-ghost use Rattle.xl_rpc.specs.Xdr.{unsigned, hyper, signed, boolean, fixed, opaque, unsigned_at, hyper_at, signed_at, boolean_at, opaque_fixed_at, opaque_at};
+ghost use Rattle.xl_rpc.specs.Xdr.{unsigned, hyper, signed, boolean, fixed, opaque, UnsignedFits, HyperFits, SignedFits, BooleanFits, OpaqueFits, unsigned_at, hyper_at, signed_at, boolean_at, opaque_fixed_at, opaque_at};
 ghost use Rattle.xl_rpc.specs.Calls.{HeadItem, HeadFits, call, call_at};
 ghost use Rattle.xl_rpc.specs.Replies.{VerdictFits, reply, reply_at};
 
 /// What is read of an item is spelled so, and what is spelled so is read again, whatever follows (RFC 4506, RFC 5531).
 pub fn spellings_are_read()
-    ensures unsigned_integer { IsCodec unsigned_at unsigned (λ n. n < 2 ^ 32) }
-    ensures hyper_integer { IsCodec hyper_at hyper (λ n. n < 2 ^ 64) }
-    ensures signed_integer { IsCodec signed_at signed (FitsSigned w32) }
-    ensures flag { IsCodec boolean_at boolean (λ _. Unit {0}) }
+    ensures unsigned_integer { IsCodec unsigned_at unsigned UnsignedFits }
+    ensures hyper_integer { IsCodec hyper_at hyper HyperFits }
+    ensures signed_integer { IsCodec signed_at signed SignedFits }
+    ensures flag { IsCodec boolean_at boolean BooleanFits }
     ensures fixed_opaque { (n : ℕ) → IsCodec (opaque_fixed_at n) fixed (λ bytes. length bytes ≡ n) }
-    ensures variable_opaque { (most : ℕ) → most < 2 ^ 32 → IsCodec (opaque_at most) opaque (λ bytes. length bytes ≤ most) }
+    ensures variable_opaque { (most : ℕ) → most < 2 ^ 32 → IsCodec (opaque_at most) opaque (OpaqueFits most) }
     ensures calls { IsCodec call_at call HeadFits }
-    ensures replies { IsCodec reply_at (λ r. reply r.0 r.1) (λ r. (r.0 < 2 ^ 32) × VerdictFits r.1) }
+    ensures replies { IsCodec reply_at (λ r. reply r.0 r.1) (λ r. UnsignedFits r.0 × VerdictFits r.1) }
 {}
 
 /// No head of a call is a proper beginning of another one's spelling.
@@ -27,5 +27,5 @@ pub fn one_call_spelling()
 
 /// No reply up to its results is a proper beginning of another one's spelling.
 pub fn one_reply_spelling()
-    ensures { (m n : ℕ) (v w : Verdict) (x y : List ℕ) → m < 2 ^ 32 → VerdictFits v → n < 2 ^ 32 → VerdictFits w → reply m v ++ x ≡ reply n w ++ y → (m ≡ n) × (v ≡ w) × (x ≡ y) }
+    ensures { (m n : ℕ) (v w : Verdict) (x y : List ℕ) → UnsignedFits m → VerdictFits v → UnsignedFits n → VerdictFits w → reply m v ++ x ≡ reply n w ++ y → (m ≡ n) × (v ≡ w) × (x ≡ y) }
 {}

@@ -3,7 +3,7 @@ ghost use Rattle.std.specs.Prelude.{◌≡◌, ℕ, ◌<◌, ◌^◌, List, ◌+
 ghost use Rattle.xl_base.specs.Codec.{Advances};
 ghost use Rattle.xl_base.specs.Results.{Gives};
 ghost use Rattle.xl_rpc.specs.declared.reply.Verdict.{Verdict};
-ghost use Rattle.xl_rpc.specs.Xdr.{unsigned};
+ghost use Rattle.xl_rpc.specs.Xdr.{unsigned, UnsignedFits};
 ghost use Rattle.xl_rpc.specs.Replies.{VerdictFits, is_denied, stat, detail, denied, accepted, told, reply_stat, reply, accepted_with, denied_with, accepted_at, denied_at, verdict_at, reply_at};
 
 use crate::fault::RpcBad;
@@ -153,9 +153,9 @@ fn read_all(bytes: &[u8]) -> Result<Reply<'_>, RpcBad>
 /// verifier of an accepted reply is not AUTH_NONE, TooLong where that verifier has bytes.
 pub fn read_reply(bytes: &[u8]) -> Result<Reply<'_>, RpcBad>
     // What is read is spelled so.
-    ensures found { IfOk result (λ r. (bytes.now ≡ reply r.xid r.verdict ++ r.body.rest.now) × ((r.xid < 2 ^ 32) × VerdictFits r.verdict)) }
+    ensures found { IfOk result (λ r. (bytes.now ≡ reply r.xid r.verdict ++ r.body.rest.now) × (UnsignedFits r.xid × VerdictFits r.verdict)) }
     // What is spelled so is read, whatever follows.
-    ensures only { (xid : ℕ) (v : Verdict) (rest : List ℕ) → xid < 2 ^ 32 → VerdictFits v → bytes.now ≡ reply xid v ++ rest → Gives {Y = (ℕ × Verdict) × List ℕ} (λ r. ((r.xid, r.verdict), r.body.rest.now)) result (Ok ((xid, v), rest)) }
+    ensures only { (xid : ℕ) (v : Verdict) (rest : List ℕ) → UnsignedFits xid → VerdictFits v → bytes.now ≡ reply xid v ++ rest → Gives {Y = (ℕ × Verdict) × List ℕ} (λ r. ((r.xid, r.verdict), r.body.rest.now)) result (Ok ((xid, v), rest)) }
     // Which fault it is.
     ensures exact { Gives (λ r. ((r.xid, r.verdict), r.body.rest.now)) result (reply_at bytes.now) }
 {

@@ -1,7 +1,7 @@
 //! A reader of XDR items (RFC 4506).
 ghost use Rattle.std.specs.Prelude.{◌≡◌, ◌+◌, ◌%◌, ◌<◌, ◌==◌, length, drop};
 ghost use Rattle.std.specs.List.{list_all};
-ghost use Rattle.xl_base.specs.Codec.{Advances};
+ghost use Rattle.xl_base.specs.Codec.{Advances, IsBytes};
 ghost use Rattle.xl_base.specs.Results.{Gives};
 ghost use Rattle.xl_rpc.specs.Xdr.{unsigned_at, hyper_at, signed_at, boolean_at, opaque_fixed_at, opaque_at, pad};
 
@@ -11,6 +11,7 @@ use crate::fault::RpcBad;
 #[derive(Clone, Copy, Debug)]
 pub struct Xdr<'a> {
     rest: &'a [u8],
+    pub ghost bytes: { IsBytes rest.now },
 }
 
 impl<'a> Xdr<'a> {
@@ -33,7 +34,7 @@ impl<'a> Xdr<'a> {
         ensures { Advances (λ n. n) result self.old.rest.now self.new.rest.now (unsigned_at self.old.rest.now) }
     {
         let (number, rest) = u32_of(self.rest)?;
-        self.rest = rest;
+        *self = Xdr::new(rest);
         Ok(number)
     }
 
@@ -42,7 +43,7 @@ impl<'a> Xdr<'a> {
         ensures { Advances (λ n. n) result self.old.rest.now self.new.rest.now (hyper_at self.old.rest.now) }
     {
         let (number, rest) = u64_of(self.rest)?;
-        self.rest = rest;
+        *self = Xdr::new(rest);
         Ok(number)
     }
 
@@ -51,7 +52,7 @@ impl<'a> Xdr<'a> {
         ensures { Advances (λ z. z) result self.old.rest.now self.new.rest.now (signed_at self.old.rest.now) }
     {
         let (number, rest) = i32_of(self.rest)?;
-        self.rest = rest;
+        *self = Xdr::new(rest);
         Ok(number)
     }
 
@@ -61,7 +62,7 @@ impl<'a> Xdr<'a> {
         ensures { Advances (λ b. b) result self.old.rest.now self.new.rest.now (boolean_at self.old.rest.now) }
     {
         let (flag, rest) = boolean_of(self.rest)?;
-        self.rest = rest;
+        *self = Xdr::new(rest);
         Ok(flag)
     }
 
@@ -71,7 +72,7 @@ impl<'a> Xdr<'a> {
         ensures { Advances (λ s. s.now) result self.old.rest.now self.new.rest.now (opaque_at max self.old.rest.now) }
     {
         let (bytes, rest) = opaque_of(max, self.rest)?;
-        self.rest = rest;
+        *self = Xdr::new(rest);
         Ok(bytes)
     }
 
@@ -81,7 +82,7 @@ impl<'a> Xdr<'a> {
         ensures { Advances (λ s. s.now) result self.old.rest.now self.new.rest.now (opaque_fixed_at n self.old.rest.now) }
     {
         let (bytes, rest) = fixed_of(n, self.rest)?;
-        self.rest = rest;
+        *self = Xdr::new(rest);
         Ok(bytes)
     }
 }

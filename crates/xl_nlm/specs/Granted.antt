@@ -1,0 +1,18 @@
+-- The call GRANTED, which the server makes to the client whose waiting lock is granted.
+use Rattle.std.specs.Prelude.{ℕ, Bool, List, [], ◌++◌}
+use Rattle.std.specs.Int.{w64}
+use Rattle.xl_base.specs.Codec.{big_endian}
+use Rattle.xl_rpc.specs.Calls.{AuthItem, HeadItem, call}
+use Rattle.xl_nlm.specs.Items.{LockItem}
+use Rattle.xl_nlm.specs.Arguments.{test_args}
+
+-- AUTH_NONE without a body
+abbrev pub no_auth : AuthItem
+no_auth = record { flavor = 0; body = [] }
+
+abbrev pub granted_head : ℕ → HeadItem
+granted_head number = record { xid = number; prog = 100021; vers = 4; proc = 5; cred = no_auth; verf = no_auth }
+
+-- the cookie is the call's number in eight bytes
+abbrev pub granted_record : ℕ → Bool → LockItem → List ℕ
+granted_record number exclusive lock = call (granted_head number) ++ test_args (record { cookie = big_endian w64 number; exclusive = exclusive; lock = lock })

@@ -1,0 +1,4 @@
+pub mod Arguments
+pub mod Granted
+pub mod Items
+pub mod Replies
