@@ -1,5 +1,5 @@
 //! The names that are kept, and their numbers.
-ghost use Rattle.std.specs.Prelude.{◌≡◌, ℕ, ◌<◌, ◌≤◌, ◌++◌, ◌∷◌, [], true, false, List, length, ◌↔◌, Some, None, is_some, slice_get, IsOk, IfOk, IfSome, OnOk, OnErr, IsTrue};
+ghost use Rattle.std.specs.Prelude.{◌≡◌, ℕ, ◌<◌, ◌≤◌, ◌++◌, ◌∷◌, [], true, false, List, length, ◌↔◌, Some, None, is_some, slice_get, IsOk, IfOk, IfErr, IfSome, OnOk, OnErr, IsTrue};
 ghost use Rattle.xl_names.specs.declared.names.NameErr.TheVariants.{NoMemory};
 
 use crate::name::Name;
@@ -90,8 +90,7 @@ impl Names {
     pub fn find(&self, name: &Name) -> Option<u32>
         ensures { result ≡ number_of name.now self.now }
     {
-        let number = self.set.get_index_of(name)?;
-        Some(number as u32)
+        number_in(&self.set, name)
     }
 
     /// The name that has this number.
@@ -120,29 +119,71 @@ impl Names {
         ensures full { (n : ℕ) → (result ≡ Err (NameErr.Full n)) ↔ ((n ≡ most_names) × (length self.old ≡ most_names) × (is_kept name.now self.old ≡ false)) }
         ensures err { OnErr result (self.new ≡ self.old) }
     {
-        if let Some(number) = self.find(name) {
-            return Ok(number);
-        }
         let alloc = self.alloc;
-        add(&mut self.set, alloc, name)
+        enter(&mut self.set, alloc, name)
     }
 }
 
-ghost use Rattle.xl_names.specs.Names.{place_of, is_kept, most_names};
+ghost use Rattle.xl_names.specs.Names.{number_of, place_of, is_kept, entered, AreDistinct, most_names};
+
+/// The number of the name among these, or None where it isn't one of them.
+fn number_in(set: &IndexSet<Name>, name: &Name) -> Option<u32>
+    requires { length set.now.keys ≤ most_names }
+    ensures value { result ≡ number_of name.now set.now.keys }
+    ensures kept { IfSome result (λ id. (is_kept name.now set.now.keys ≡ true) × (place_of name.now set.now.keys ≡ id)) }
+    ensures new { result ≡ None → is_kept name.now set.now.keys ≡ false }
+{
+    let number = set.get_index_of(name)?;
+    Some(number as u32)
+}
+
+/// The number of the name, which comes behind those before it where it is new.
+fn enter(set: &mut IndexSet<Name>, alloc: Global, name: &Name) -> Result<u32, NameErr>
+    requires distinct { AreDistinct set.old.keys }
+    requires most { length set.old.keys ≤ most_names }
+    ensures names { OnOk result (set.new.keys ≡ entered name.now set.old.keys) }
+    ensures number { IfOk result (λ id. id ≡ place_of name.now set.old.keys) }
+    ensures known { IsTrue (is_kept name.now set.old.keys) → IsOk result }
+    ensures full { (n : ℕ) → (result ≡ Err (NameErr.Full n)) ↔ ((n ≡ most_names) × (length set.old.keys ≡ most_names) × (is_kept name.now set.old.keys ≡ false)) }
+    ensures err { OnErr result (set.new.keys ≡ set.old.keys) }
+    ensures distinct { AreDistinct set.new.keys }
+    ensures most { length set.new.keys ≤ most_names }
+{
+    match number_in(set, name) {
+        Some(number) => Ok(number),
+        None => add(set, alloc, name),
+    }
+}
+
 
 /// Puts a new name behind those before it.
 fn add(set: &mut IndexSet<Name>, alloc: Global, name: &Name) -> Result<u32, NameErr>
+    requires distinct { AreDistinct set.old.keys }
     requires new { is_kept name.now set.old.keys ≡ false }
     requires most { length set.old.keys ≤ most_names }
     ensures names { OnOk result (set.new.keys ≡ set.old.keys ++ name.now ∷ []) }
     ensures number { IfOk result (λ id. id ≡ length set.old.keys) }
-    ensures room { OnOk result (length set.old.keys < most_names) }
+    ensures distinct { AreDistinct set.new.keys }
+    ensures most { length set.new.keys ≤ most_names }
     ensures full { (n : ℕ) → (result ≡ Err (NameErr.Full n)) ↔ ((n ≡ most_names) × (length set.old.keys ≡ most_names)) }
     ensures err { OnErr result (set.new.keys ≡ set.old.keys) }
 {
     if set.len() >= MOST_NAMES as usize {
         return Err(NameErr::Full(MOST_NAMES));
     }
-    let (number, _) = set.insert_full(name.copy(alloc)?)?;
+    insert_new(set, name.copy(alloc)?)
+}
+
+fn insert_new(set: &mut IndexSet<Name>, name: Name) -> Result<u32, NameErr>
+    requires distinct { AreDistinct set.old.keys }
+    requires new { is_kept name set.old.keys ≡ false }
+    requires most { length set.old.keys < most_names }
+    ensures names { OnOk result (set.new.keys ≡ set.old.keys ++ name ∷ []) }
+    ensures number { IfOk result (λ id. id ≡ length set.old.keys) }
+    ensures distinct { AreDistinct set.new.keys }
+    ensures full { IfErr result (λ e. e ≡ NoMemory) }
+    ensures err { OnErr result (set.new.keys ≡ set.old.keys) }
+{
+    let (number, _) = set.insert_full(name)?;
     Ok(number as u32)
 }
