@@ -47,7 +47,10 @@ impl Name {
             Name::NlmRange(caller, svid, oh) => {
                 Name::NlmRange(copied(alloc, caller)?, *svid, copied(alloc, oh)?)
             }
-            Name::NlmShare(caller, oh) => Name::NlmShare(copied(alloc, caller)?, copied(alloc, oh)?),
+            Name::NlmShare(caller, oh) => Name::NlmShare(
+                copied(alloc, caller)?,
+                copied(alloc, oh)?,
+            ),
             Name::NlmParty(caller) => Name::NlmParty(copied(alloc, caller)?),
             Name::NfsRange(client, owner) => {
                 Name::NfsRange(copied(alloc, client)?, copied(alloc, owner)?)

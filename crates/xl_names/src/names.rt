@@ -155,7 +155,6 @@ fn enter(set: &mut IndexSet<Name>, alloc: Global, name: &Name) -> Result<u32, Na
     }
 }
 
-
 /// Puts a new name behind those before it.
 fn add(set: &mut IndexSet<Name>, alloc: Global, name: &Name) -> Result<u32, NameErr>
     requires distinct { AreDistinct set.old.keys }

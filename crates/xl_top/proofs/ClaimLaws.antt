@@ -48,8 +48,8 @@ by_what : (w : What) (rest : List Span) (x : ℕ) (m : Mode) → mode_at (cons_o
 by_what (Range (Bytes first last) exclusive) rest x m e =
     elim (cases_Bool (within first last x)) [
       | inl inside ↦
-        let same : mode_of exclusive ≡ m = same_some (mode_of exclusive) m (rw inside at e) in
-        inl (rw inside (ap (λ (b : Bool). some_flag b) (sym (exclusive_mode exclusive) ∙ ap is_exclusive same)))
+          let same : mode_of exclusive ≡ m = same_some (mode_of exclusive) m (rw inside at e) in
+          inl (rw inside (ap (λ (b : Bool). some_flag b) (sym (exclusive_mode exclusive) ∙ ap is_exclusive same)))
       | inr outside ↦ inr (rw outside at e)
     ]
 by_what (Range (Empty offset) exclusive) rest x m e = inr e
@@ -70,9 +70,9 @@ locked_by file owner [] x m e = absurd cc
 locked_by file owner (c ∷ cs) x m e =
     elim (cases_Bool (is_of file owner c)) [
       | inl own ↦ elim (by_what c.what (spans_of file owner cs) x m (rw own at e)) [
-          | inl locks ↦ (c, inl refl, own, locks)
-          | inr rest ↦ later file owner c cs x m (locked_by file owner cs x m rest)
-        ]
+        | inl locks ↦ (c, inl refl, own, locks)
+        | inr rest ↦ later file owner c cs x m (locked_by file owner cs x m rest)
+      ]
       | inr other ↦ later file owner c cs x m (locked_by file owner cs x m (rw other at e))
     ]
 
@@ -96,10 +96,10 @@ mode_of_span s (t ∷ ts) x canonical h inside =
     elim h [
       | inl e ↦ rw e (rw inside refl)
       | inr more ↦
-        let parts = and_parts (leb s.first x) (leb x s.last) inside in
-        let past : t.last + 1 ≤ s.first = chain_in (t.last + 1) s ts (canonical_rest t ts canonical) more in
-        let far : leb x t.last ≡ false = lt-leb x t.last (omega (arith, past, leb-true s.first x parts.0)) in
-        rw (and_right (leb t.first x) (leb x t.last) far) (mode_of_span s ts x canonical.2 more inside)
+          let parts = and_parts (leb s.first x) (leb x s.last) inside in
+          let past : t.last + 1 ≤ s.first = chain_in (t.last + 1) s ts (canonical_rest t ts canonical) more in
+          let far : leb x t.last ≡ false = lt-leb x t.last (omega (arith, past, leb-true s.first x parts.0)) in
+          rw (and_right (leb t.first x) (leb x t.last) far) (mode_of_span s ts x canonical.2 more inside)
     ]
 
 -- ---- two claims of ranges, by their bytes
@@ -125,10 +125,10 @@ unfolding compat
 fits_from a b range other agrees =
     elim (cases_Bool (eqb a.file b.file)) [
       | inl one ↦
-        let p = is_range_what a.what range.0 in
-        let q = is_range_what b.what other.0 in
-        let same = eqb-true a.file b.file one in
-        (compat_bytes a b p.0 q.0 p.1 q.1 p.2 q.2 same range.1).1 (agrees same)
+          let p = is_range_what a.what range.0 in
+          let q = is_range_what b.what other.0 in
+          let same = eqb-true a.file b.file one in
+          (compat_bytes a b p.0 q.0 p.1 q.1 p.2 q.2 same range.1).1 (agrees same)
       | inr two ↦ or_left (not (eqb a.file b.file)) (fit_by a b a.what b.what) (not_from_false (eqb a.file b.file) two)
     ]
 
@@ -138,13 +138,13 @@ pairwise_two [] a b all h k apart = absurd h
 pairwise_two (c ∷ cs) a b all h k apart =
     elim h [
       | inl e ↦ elim k [
-          | inl f ↦ absurd (apart (sym e ∙ f))
-          | inr more ↦ subst (λ d. compat d b ≡ true) e (all_in (λ d. compat c d ≡ true) b cs all.0 more)
-        ]
+        | inl f ↦ absurd (apart (sym e ∙ f))
+        | inr more ↦ subst (λ d. compat d b ≡ true) e (all_in (λ d. compat c d ≡ true) b cs all.0 more)
+      ]
       | inr here ↦ elim k [
-          | inl f ↦ compat-sym a b ∙ subst (λ d. compat d a ≡ true) f (all_in (λ d. compat c d ≡ true) a cs all.0 here)
-          | inr more ↦ pairwise_two cs a b all.1 here more apart
-        ]
+        | inl f ↦ compat-sym a b ∙ subst (λ d. compat d a ≡ true) f (all_in (λ d. compat c d ≡ true) a cs all.0 here)
+        | inr more ↦ pairwise_two cs a b all.1 here more apart
+      ]
     ]
 
 -- ---- the relock
@@ -174,36 +174,36 @@ new_agrees file owner party asker first last asked cs c x m ends top own held fr
       | inr outside ↦ held_agrees (locked_by file owner cs x m (rw outside at modes))
     ]
   where
-  from : IsIn c cs × (not (is_of file owner c) ≡ true)
-  from = in_filter_from (λ (d : Claim). not (is_of file owner d)) c cs there
+    from : IsIn c cs × (not (is_of file owner c) ≡ true)
+    from = in_filter_from (λ (d : Claim). not (is_of file owner d)) c cs there
 
-  other : is_of file owner c ≡ false
-  other = not-true (is_of file owner c) from.1
+    other : is_of file owner c ≡ false
+    other = not-true (is_of file owner c) from.1
 
-  range : IsRange c
-  range = all_in IsRange c cs held.ranges from.0
+    range : IsRange c
+    range = all_in IsRange c cs held.ranges from.0
 
-  modes : (cond (within first last x) (mode_asked asked) (mode_at (spans_of file owner cs) x)) ≡ Some m
-  modes = sym (relocked_mode (spans_of file owner cs) first last (mode_asked asked) x ends (canonical_ranges (spans_of file owner cs) (held.canonical file owner))) ∙ e
+    modes : (cond (within first last x) (mode_asked asked) (mode_at (spans_of file owner cs) x)) ≡ Some m
+    modes = sym (relocked_mode (spans_of file owner cs) first last (mode_asked asked) x ends (canonical_ranges (spans_of file owner cs) (held.canonical file owner))) ∙ e
 
-  held_agrees : Locks file owner cs x m → locks_agree owner (Some (is_exclusive m)) c.owner (lock_on c x) ≡ true
-  held_agrees found =
-    let names = is_of-true file owner found.0 found.2 in
-    let apart : found.0 ≡ c → ⊥ = λ same. both_ways (is_of file owner c) other (ap (is_of file owner) (sym same) ∙ found.2) in
-    let fits = pairwise_two cs found.0 c held.compatible found.1 from.0 apart in
-    let agrees = agree_from found.0 c (all_in IsRange found.0 cs held.ranges found.1) range (names.0 ∙ one) fits x in
-    subst (λ (o : Owner). locks_agree o (Some (is_exclusive m)) c.owner (lock_on c x) ≡ true) names.1
-      (subst (λ (l : Option Bool). locks_agree found.0.owner l c.owner (lock_on c x) ≡ true) found.3 agrees)
+    held_agrees : Locks file owner cs x m → locks_agree owner (Some (is_exclusive m)) c.owner (lock_on c x) ≡ true
+    held_agrees found =
+        let names = is_of-true file owner found.0 found.2 in
+        let apart : found.0 ≡ c → ⊥ = λ same. both_ways (is_of file owner c) other (ap (is_of file owner) (sym same) ∙ found.2) in
+        let fits = pairwise_two cs found.0 c held.compatible found.1 from.0 apart in
+        let agrees = agree_from found.0 c (all_in IsRange found.0 cs held.ranges found.1) range (names.0 ∙ one) fits x in
+        subst (λ (o : Owner). locks_agree o (Some (is_exclusive m)) c.owner (lock_on c x) ≡ true) names.1
+        (subst (λ (l : Option Bool). locks_agree found.0.owner l c.owner (lock_on c x) ≡ true) found.3 agrees)
 
-  asked_agrees : (a : Option Bool) → IsFree file owner asker first last a cs → within first last x ≡ true → mode_asked a ≡ Some m → locks_agree owner (Some (is_exclusive m)) c.owner (lock_on c x) ≡ true
-  asked_agrees None f inside is = absurd cc
-  asked_agrees (Some exclusive) f inside is =
-    let ask = asked_claim file owner asker first last exclusive in
-    let fits = all_in (λ (d : Claim). compat ask d ≡ true) c (others_of file owner cs) f there in
-    let agrees : locks_agree owner (lock_on ask x) c.owner (lock_on c x) ≡ true = agree_from ask c ((ends, top), own) range one fits x in
-    let locked : locks_agree owner (Some exclusive) c.owner (lock_on c x) ≡ true = rw inside at agrees in
-    let same : exclusive ≡ is_exclusive m = sym (exclusive_mode exclusive) ∙ ap is_exclusive (same_some (mode_of exclusive) m is) in
-    subst (λ (b : Bool). locks_agree owner (Some b) c.owner (lock_on c x) ≡ true) same locked
+    asked_agrees : (a : Option Bool) → IsFree file owner asker first last a cs → within first last x ≡ true → mode_asked a ≡ Some m → locks_agree owner (Some (is_exclusive m)) c.owner (lock_on c x) ≡ true
+    asked_agrees None f inside is = absurd cc
+    asked_agrees (Some exclusive) f inside is =
+        let ask = asked_claim file owner asker first last exclusive in
+        let fits = all_in (λ (d : Claim). compat ask d ≡ true) c (others_of file owner cs) f there in
+        let agrees : locks_agree owner (lock_on ask x) c.owner (lock_on c x) ≡ true = agree_from ask c ((ends, top), own) range one fits x in
+        let locked : locks_agree owner (Some exclusive) c.owner (lock_on c x) ≡ true = rw inside at agrees in
+        let same : exclusive ≡ is_exclusive m = sym (exclusive_mode exclusive) ∙ ap is_exclusive (same_some (mode_of exclusive) m is) in
+        subst (λ (b : Bool). locks_agree owner (Some b) c.owner (lock_on c x) ≡ true) same locked
 
 -- a new span stands beside each claim of others
 new_fits : (file : ℕ) (owner : Owner) (party asker : Party) (first last : ℕ) (asked : Option Bool) (cs : List Claim) (s : Span) (c : Claim)
@@ -222,9 +222,9 @@ apart_fit : (file : ℕ) (owner : Owner) (party : Party) (s t : Span) → IsRang
 apart_fit file owner party s t real other apart =
     fits_from (range_claim file owner party s) (range_claim file owner party t) real other (λ one x. elim (cases_Bool (within s.first s.last x)) [
       | inl inside ↦
-        let parts = and_parts (leb s.first x) (leb x s.last) inside in
-        let before : leb t.first x ≡ false = lt-leb t.first x (omega (arith, apart, leb-true x s.last parts.1)) in
-        rw (inside, and_left (leb t.first x) (leb x t.last) before) refl
+          let parts = and_parts (leb s.first x) (leb x s.last) inside in
+          let before : leb t.first x ≡ false = lt-leb t.first x (omega (arith, apart, leb-true x s.last parts.1)) in
+          rw (inside, and_left (leb t.first x) (leb x t.last) before) refl
       | inr outside ↦ rw outside refl
     ])
 
@@ -235,15 +235,16 @@ new_ranges file owner party (s ∷ ss) own real below = (((real.0, below.0), own
 
 new_pairwise : (file : ℕ) (owner : Owner) (party : Party) (ss : List Span) → IsCanonical ss → AllByRecursion IsRange (map (range_claim file owner party) ss) → Pairwise compat (map (range_claim file owner party) ss)
 new_pairwise file owner party [] canonical real = tt
-new_pairwise file owner party (s ∷ ss) canonical real =
-    (all_from (λ c. compat (range_claim file owner party s) c ≡ true) (map (range_claim file owner party) ss) (λ c h. fit c (in_map_from (range_claim file owner party) c ss h) (all_in IsRange c (map (range_claim file owner party) ss) real.1 h)),
-    new_pairwise file owner party ss canonical.2 real.1)
+new_pairwise file owner party (s ∷ ss) canonical real = (
+  all_from (λ c. compat (range_claim file owner party s) c ≡ true) (map (range_claim file owner party) ss) (λ c h. fit c (in_map_from (range_claim file owner party) c ss h) (all_in IsRange c (map (range_claim file owner party) ss) real.1 h)),
+  new_pairwise file owner party ss canonical.2 real.1,
+)
   where
-  fit : (c : Claim) → (t : Span) × IsIn t ss × (range_claim file owner party t ≡ c) → IsRange c → compat (range_claim file owner party s) c ≡ true
-  fit c found range =
-    let after : s.last + 1 ≤ found.0.first = chain_in (s.last + 1) found.0 ss (canonical_rest s ss canonical) found.1 in
-    subst (λ d. compat (range_claim file owner party s) d ≡ true) found.2
-      (apart_fit file owner party s found.0 real.0 (subst IsRange (sym found.2) range) (omega (arith, after)))
+    fit : (c : Claim) → (t : Span) × IsIn t ss × (range_claim file owner party t ≡ c) → IsRange c → compat (range_claim file owner party s) c ≡ true
+    fit c found range =
+        let after : s.last + 1 ≤ found.0.first = chain_in (s.last + 1) found.0 ss (canonical_rest s ss canonical) found.1 in
+        subst (λ d. compat (range_claim file owner party s) d ≡ true) found.2
+        (apart_fit file owner party s found.0 real.0 (subst IsRange (sym found.2) range) (omega (arith, after)))
 
 -- ---- the spans of each owner afterwards
 
@@ -281,8 +282,8 @@ spans_of-other file owner at who [] apart = refl
 spans_of-other file owner at who (c ∷ cs) apart =
     elim (cases_Bool (is_of file owner c)) [
       | inl own ↦
-        let not_there : is_of at who c ≡ false = false_from_ne_true (is_of at who c) (λ yes. both_ways (is_of file owner c) (apart c yes) own) in
-        rw (own, not_there) (spans_of-other file owner at who cs apart)
+          let not_there : is_of at who c ≡ false = false_from_ne_true (is_of at who c) (λ yes. both_ways (is_of file owner c) (apart c yes) own) in
+          rw (own, not_there) (spans_of-other file owner at who cs apart)
       | inr other ↦ rw other (ap (cons_option (span_in at who c)) (spans_of-other file owner at who cs apart))
     ]
 
@@ -300,11 +301,11 @@ unfolding relocked_in
 spans_of-untouched file owner party first last mode cs at who apart =
     let new = relocked (spans_of file owner cs) first last mode in
     let never : (c : Claim) → is_of at who c ≡ true → is_of file owner c ≡ false = λ c there.
-      false_from_ne_true (is_of file owner c) (λ own. let p = is_of-true file owner c own in let q = is_of-true at who c there in apart (sym q.0 ∙ p.0, sym q.1 ∙ p.1)) in
+    false_from_ne_true (is_of file owner c) (λ own. let p = is_of-true file owner c own in let q = is_of-true at who c there in apart (sym q.0 ∙ p.0, sym q.1 ∙ p.1)) in
     let none : spans_of at who (map (range_claim file owner party) new) ≡ [] = spans_of-none at who (map (range_claim file owner party) new)
-      (all_from (λ c. is_of at who c ≡ false) (map (range_claim file owner party) new) (λ c h.
-        let from = in_map_from (range_claim file owner party) c new h in
-        false_from_ne_true (is_of at who c) (λ there. both_ways (is_of file owner c) (never c there) (subst (λ d. is_of file owner d ≡ true) from.2 (is_of-self file owner party from.0))))) in
+    (all_from (λ c. is_of at who c ≡ false) (map (range_claim file owner party) new) (λ c h.
+    let from = in_map_from (range_claim file owner party) c new h in
+    false_from_ne_true (is_of at who c) (λ there. both_ways (is_of file owner c) (never c there) (subst (λ d. is_of file owner d ≡ true) from.2 (is_of-self file owner party from.0))))) in
     spans_of-append at who (others_of file owner cs) (map (range_claim file owner party) new)
     ∙ rw none (append-nil (spans_of at who (others_of file owner cs))) ∙ spans_of-other file owner at who cs never
 
@@ -332,34 +333,34 @@ unfolding relocked_in others_of
 keeps_held file owner party asker first last asked cs ends top own free held = record {
   ranges = all_append IsRange others new old_ranges ranges;
   compatible = pairwise_append compat others new (pairwise_filter compat (λ c. not (is_of file owner c)) cs held.compatible) (new_pairwise file owner party spans canonical ranges)
-    (λ c n h k. let from = in_map_from (range_claim file owner party) n spans k in
+      (λ c n h k. let from = in_map_from (range_claim file owner party) n spans k in
       compat-sym c n ∙ subst (λ d. compat d c ≡ true) from.2
-        (new_fits file owner party asker first last asked cs from.0 c ends top own held free from.1 (subst IsRange (sym from.2) (all_in IsRange n new ranges k)) h (all_in IsRange c others old_ranges h)));
+      (new_fits file owner party asker first last asked cs from.0 c ends top own held free from.1 (subst IsRange (sym from.2) (all_in IsRange n new ranges k)) h (all_in IsRange c others old_ranges h)));
   canonical = λ at who. elim (cases_Bool ((eqb at file) && (same_owners who owner))) [
     | inl same ↦
-      let parts = and_parts (eqb at file) (same_owners who owner) same in
-      rw (eqb-true at file parts.0, same_owners-true who owner parts.1) (subst IsCanonical (sym (spans_of-relocked file owner party first last (mode_asked asked) cs)) canonical)
+        let parts = and_parts (eqb at file) (same_owners who owner) same in
+        rw (eqb-true at file parts.0, same_owners-true who owner parts.1) (subst IsCanonical (sym (spans_of-relocked file owner party first last (mode_asked asked) cs)) canonical)
     | inr apart ↦
-      subst IsCanonical (sym (spans_of-untouched file owner party first last (mode_asked asked) cs at who (λ e. both_ways ((eqb at file) && (same_owners who owner)) apart (and_from (eqb at file) (same_owners who owner) (eq-eqb at file e.0) (subst (λ o. same_owners o owner ≡ true) (sym e.1) (same_owners-self owner))))))
+        subst IsCanonical (sym (spans_of-untouched file owner party first last (mode_asked asked) cs at who (λ e. both_ways ((eqb at file) && (same_owners who owner)) apart (and_from (eqb at file) (same_owners who owner) (eq-eqb at file e.0) (subst (λ o. same_owners o owner ≡ true) (sym e.1) (same_owners-self owner))))))
         (held.canonical at who)
   ];
 }
   where
-  spans : List Span
-  spans = relocked (spans_of file owner cs) first last (mode_asked asked)
+    spans : List Span
+    spans = relocked (spans_of file owner cs) first last (mode_asked asked)
 
-  others : List Claim
-  others = filter (λ c. not (is_of file owner c)) cs
+    others : List Claim
+    others = filter (λ c. not (is_of file owner c)) cs
 
-  new : List Claim
-  new = map (range_claim file owner party) (relocked (spans_of file owner cs) first last (mode_asked asked))
+    new : List Claim
+    new = map (range_claim file owner party) (relocked (spans_of file owner cs) first last (mode_asked asked))
 
-  canonical : IsCanonical (relocked (spans_of file owner cs) first last (mode_asked asked))
-  canonical = relocked_canonical (spans_of file owner cs) first last (mode_asked asked) ends (held.canonical file owner)
+    canonical : IsCanonical (relocked (spans_of file owner cs) first last (mode_asked asked))
+    canonical = relocked_canonical (spans_of file owner cs) first last (mode_asked asked) ends (held.canonical file owner)
 
-  ranges : AllByRecursion IsRange (map (range_claim file owner party) (relocked (spans_of file owner cs) first last (mode_asked asked)))
-  ranges = new_ranges file owner party (relocked (spans_of file owner cs) first last (mode_asked asked)) own (canonical_ranges (relocked (spans_of file owner cs) first last (mode_asked asked)) (relocked_canonical (spans_of file owner cs) first last (mode_asked asked) ends (held.canonical file owner)))
-    (relocked_below (2 ^ 64) (spans_of file owner cs) first last (mode_asked asked) top (spans_below file owner cs held.ranges))
+    ranges : AllByRecursion IsRange (map (range_claim file owner party) (relocked (spans_of file owner cs) first last (mode_asked asked)))
+    ranges = new_ranges file owner party (relocked (spans_of file owner cs) first last (mode_asked asked)) own (canonical_ranges (relocked (spans_of file owner cs) first last (mode_asked asked)) (relocked_canonical (spans_of file owner cs) first last (mode_asked asked) ends (held.canonical file owner)))
+        (relocked_below (2 ^ 64) (spans_of file owner cs) first last (mode_asked asked) top (spans_below file owner cs held.ranges))
 
-  old_ranges : AllByRecursion IsRange (filter (λ c. not (is_of file owner c)) cs)
-  old_ranges = all_from IsRange (filter (λ c. not (is_of file owner c)) cs) (λ c h. all_in IsRange c cs held.ranges (in_filter_from (λ (d : Claim). not (is_of file owner d)) c cs h).0)
+    old_ranges : AllByRecursion IsRange (filter (λ c. not (is_of file owner c)) cs)
+    old_ranges = all_from IsRange (filter (λ c. not (is_of file owner c)) cs) (λ c h. all_in IsRange c cs held.ranges (in_filter_from (λ (d : Claim). not (is_of file owner d)) c cs h).0)

@@ -7,4 +7,5 @@ pub mod OrderLaws
 pub mod ReadLaws
 pub mod ReplyLaws
 pub mod SortLaws
+pub mod StandLaws
 pub mod WriteLaws

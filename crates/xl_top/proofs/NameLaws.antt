@@ -24,4 +24,10 @@ pub place_known : (name : Name) (names : List Name) (number : ℕ) → number_of
 place_known name names number e = found (ltb (place_of name names) (length names)) (place_of name names) number e
 
 pub place_unknown : (name : Name) (names : List Name) → number_of name names ≡ None → length names ≡ place_of name names
-place_unknown name names e = ?
+place_unknown name names e =
+    let le = ltb-false _ _ (missed (ltb (place_of name names) (length names)) (place_of name names) e) in
+    omega (arith, le, place_within name names)
+
+-- a short name more
+pub short_entered : (name : Name) (names new : List Name) → new ≡ entered name names → AreShort names → IsShort name → AreShort new
+short_entered name names new e short one = ?

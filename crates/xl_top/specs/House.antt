@@ -1,5 +1,5 @@
 -- Journals: what entries a list of events makes, which journals are legal, and the state that a journal leads to.
-use Rattle.std.specs.Prelude.{◌≡◌, ℕ, ◌+◌, nat_lt, if◌then◌else◌, List, [], ◌∷◌, ◌++◌, Option}
+use Rattle.std.specs.Prelude.{◌≡◌, ℕ, ◌+◌, nat_lt, if◌then◌else◌, Bool, true, false, List, [], ◌∷◌, ◌++◌, length, Option, Some}
 use Rattle.std.specs.List.{AllByRecursion}
 use Rattle.xl_base.specs.Lists.{IsIn}
 use Rattle.xl_base.specs.declared.event.Dest.{Dest}
@@ -7,9 +7,12 @@ use Rattle.xl_base.specs.declared.event.Dest.TheVariants.{Conn, Back}
 use Rattle.xl_base.specs.declared.event.Event.{Event}
 use Rattle.xl_base.specs.declared.event.Event.TheVariants as event
 use Rattle.xl_base.specs.declared.halt.Halt.{Halt}
+use Rattle.xl_base.specs.declared.halt.Halt.TheVariants.{NoMemory}
 use Rattle.xl_base.specs.declared.journal.Entry.{Entry}
 use Rattle.xl_base.specs.declared.journal.Head.{Head}
+use Rattle.xl_top.specs.Claims.{IsHeld}
 use Rattle.xl_top.specs.Machine.{State, begin, step}
+use Rattle.xl_top.specs.Short.{AreShort}
 
 -- a house as its callers see it: what it began from, its entries, and the halt that it stopped with
 pub record Housed : Type 0 where
@@ -65,3 +68,15 @@ IsOrderly opened ended place [] = Unit {0}
 IsOrderly opened ended place (e ∷ es) =
     AllByRecursion (λ o. IsTimely opened (ended_after opened ended place e.event) o.dest) e.outs
     × IsOrderly (opened_after opened place e.event) (ended_after opened ended place e.event) (place + 1) es
+
+-- a house that found no memory in a step is spent: its state counts for nothing
+abbrev pub is_spoiled : Option Halt → Bool
+is_spoiled (Some NoMemory) = true
+is_spoiled _ = false
+
+-- the state is the one that the entries lead to, at its place, and what is held keeps what it has to
+pub record Stands (start : State) (es : List Entry) (s : State) : Type 0 where
+  pub replayed : s ≡ replay start es
+  pub place : s.place ≡ length es
+  pub held : IsHeld s.held.claims
+  pub short : AreShort s.held.names

@@ -3,7 +3,8 @@ use Rattle.std.specs.Prelude.{◌≡◌, ℕ, ◌+◌, ◌<◌, Bool, ◌==◌, 
 use Rattle.xl_base.specs.declared.journal.Head.{Head}
 use Rattle.xl_base.specs.declared.journal.Journal.{Journal}
 use Rattle.xl_top.specs.Capture.{most_bytes, no_lines, captured}
-use Rattle.xl_top.specs.House.{entries_of}
+use Rattle.xl_top.specs.House.{entries_of, replay}
+use Rattle.xl_top.specs.Transcript.{transcript}
 use Rattle.xl_top.specs.Machine.{begin}
 use Rattle.xl_top.specs.declared.capture.Capture.{Capture}
 use Rattle.xl_top.specs.declared.top.Job.{Job}
@@ -72,3 +73,7 @@ IsBegun (Err line) journal = journal.entries ≡ []
 abbrev pub IsCutAt : ℕ → Result Capture ℕ → Journal → Type 0
 IsCutAt most (Ok c) journal = (length journal.entries ≡ most) × (most < length c.events) × BeginsAs c journal
 IsCutAt most (Err line) journal = ⊥
+
+-- the transcript of a whole journal: its outs, and what is held after it
+abbrev pub whole_transcript : Journal → List ℕ
+whole_transcript journal = transcript journal.entries (replay (begin journal.head) journal.entries).held

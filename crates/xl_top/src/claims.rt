@@ -4,7 +4,8 @@ ghost use Rattle.std.specs.List.{filter_map, list_any};
 ghost use Rattle.std.specs.Ordering.{nat_cmp, is_lt};
 ghost use Rattle.std.specs.Cmp.Lexicographic.{slice_cmp};
 ghost use Rattle.xl_names.specs.Names.{place_of, entered, most_names};
-ghost use Rattle.xl_top.specs.Claims.{mode_of, is_exclusive, is_of, span_in, spans_of, others_of, range_claim, relocked_in, asked_claim, is_blocker, blockers_of, claim_of, lock, locked, unlocked, held_of, range_key, range_before, lesser, least_blocker};
+ghost use Rattle.xl_top.specs.Claims.{mode_of, is_exclusive, is_of, span_in, spans_of, others_of, range_claim, relocked_in, asked_claim, is_blocker, blockers_of, claim_of, lock, locked, unlocked, held_of, nothing_held, range_key, range_before, lesser, least_blocker};
+ghost use Rattle.xl_top.specs.Short.{IsShort, AreShort};
 ghost use Rattle.xl_top.specs.Texts.{owner_text};
 
 use crate::texts::owner_text;
@@ -45,6 +46,18 @@ pub enum Locked {
 pub struct Claims {
     pub names: Names,
     pub claims: Vec<Claim>,
+}
+
+impl Claims {
+    /// Nothing is held. It takes no memory.
+    pub fn new(alloc: Global) -> Claims
+        ensures { held_of result ≡ nothing_held }
+    {
+        Claims {
+            names: Names::new(alloc),
+            claims: Vec::new(alloc),
+        }
+    }
 }
 
 fn mode_of(exclusive: bool) -> Mode
@@ -190,8 +203,10 @@ fn claim_of(names: &Names, ask: &RangeAsk, exclusive: bool) -> Claim
 }
 
 /// The number of a name, which is kept from then on.
+#[tactic(auto, using(crate::proofs::NameLaws::short_entered))]
 fn enter(names: &mut Names, name: &Name) -> Result<u32, AllocError>
     requires { length names.old < most_names }
+    ensures short { AreShort names.old → IsShort name.now → AreShort names.new }
     ensures names { OnOk result (names.new ≡ entered name.now names.old) }
     ensures number { IfOk result (λ n. n ≡ place_of name.now names.old) }
     ensures most { length names.new ≤ length names.old + 1 }
@@ -210,7 +225,8 @@ pub fn lock(
     ask: &RangeAsk,
     exclusive: bool,
 ) -> Result<Locked, AllocError>
-    ensures { IfOk result (λ answer. lock ask.now exclusive (held_of held.old) ≡ (answer, held_of held.new)) }
+    ensures short { AreShort held.old.names → IsShort ask.now.owner → IsShort ask.now.party → AreShort held.new.names }
+    ensures lock { IfOk result (λ answer. lock ask.now exclusive (held_of held.old) ≡ (answer, held_of held.new)) }
 {
     let claim = claim_of(&held.names, ask, exclusive);
     if is_blocked(&claim, &held.claims) {
@@ -223,19 +239,32 @@ pub fn lock(
     let party = Party::Name(Protocol::Nlm, enter(&mut held.names, &ask.party)?);
     let mode = Some(mode_of(exclusive));
     let bytes = (ask.first, ask.last);
-    relock(alloc, &mut held.claims, (ask.file, owner, party), bytes, mode)?;
+    relock(
+        alloc,
+        &mut held.claims,
+        (ask.file, owner, party),
+        bytes,
+        mode,
+    )?;
     Ok(Locked::Granted)
 }
 
 /// Unlocks the range.
 #[tactic(auto, unfolding(crate::specs::Claims::unlocked))]
 pub fn unlock(alloc: Global, held: &mut Claims, ask: &RangeAsk) -> Result<(), AllocError>
-    ensures { OnOk result (held_of held.new ≡ unlocked ask.now (held_of held.old)) }
+    ensures names { held.new.names ≡ held.old.names }
+    ensures unlock { OnOk result (held_of held.new ≡ unlocked ask.now (held_of held.old)) }
 {
     let owner = Owner::Name(Protocol::Nlm, place_of(&held.names, &ask.owner));
     let party = Party::Name(Protocol::Nlm, place_of(&held.names, &ask.party));
     let bytes = (ask.first, ask.last);
-    relock(alloc, &mut held.claims, (ask.file, owner, party), bytes, None)
+    relock(
+        alloc,
+        &mut held.claims,
+        (ask.file, owner, party),
+        bytes,
+        None,
+    )
 }
 
 /// The bytes of a claimed range, and 0 where it is exclusive.
@@ -243,7 +272,11 @@ fn range_key(claim: &Claim) -> (u64, u64, u8)
     ensures { (result.0, result.1, result.2) ≡ range_key claim.now.what }
 {
     match claim.what {
-        What::Range(Extent::Bytes(first, last), exclusive) => (first, last, if exclusive { 0 } else { 1 }),
+        What::Range(Extent::Bytes(first, last), exclusive) => (
+            first,
+            last,
+            if exclusive { 0 } else { 1 },
+        ),
         _ => (0, 0, 0),
     }
 }

@@ -1,5 +1,5 @@
 //! What a record of ONC RPC is answered: the Network Lock Manager, program 100021 version 4 (XNFS C702), is served.
-ghost use Rattle.std.specs.Prelude.{◌≡◌, ◌≤◌, ◌<◌, ◌^◌, [], ◌++◌, length, Some, None, OnOk, IfOk, IfErr, IfSome, option_map};
+ghost use Rattle.std.specs.Prelude.{◌≡◌, ◌+◌, ◌≤◌, true, ◌<◌, ◌^◌, [], ◌++◌, length, Some, None, OnOk, IfOk, IfErr, IfSome, option_map};
 ghost use Rattle.xl_base.specs.Results.{GivesUnless};
 ghost use Rattle.xl_nlm.specs.Arguments.{arguments_at, CallFits, LockFits, TestArgsFits, LockArgsFits, UnlockArgsFits};
 ghost use Rattle.xl_nlm.specs.Items.{shown_lock, shown_test_args, shown_lock_args, shown_unlock_args, shown_call, shown_holder, shown_test_res, shown_res};
@@ -9,7 +9,7 @@ ghost use Rattle.xl_rpc.specs.Replies.{reply};
 ghost use Rattle.std.specs.List.{AllByRecursion};
 ghost use Rattle.xl_top.specs.Claims.{held_of, IsRange, IsRangeBy};
 ghost use Rattle.xl_top.specs.FrontNlm.{exported, last_of, length_of, aimed, owner_parts, holder_of, tested, status_of, answered, lock_done, unlock_done, served, with_results, is_served, replied_by, replied, told};
-ghost use Rattle.xl_top.specs.Short.{AreShort};
+ghost use Rattle.xl_top.specs.Short.{IsShort, AreShort};
 ghost use Rattle.xl_top.specs.declared.front_nlm.AimError.TheVariants.{NoMemory};
 
 use crate::claims::{Claims, Locked, RangeAsk, least_blocker, lock, unlock};
@@ -86,6 +86,7 @@ ghost use Rattle.xl_top.specs.Aims.{refusal};
 fn aimed(alloc: Global, count: usize, lock: &Lock) -> Result<RangeAsk, AimError>
     ensures value { GivesUnless refusal (λ a. a) result (aimed count (shown_lock lock.now)) }
     ensures ends { IfOk result (λ a. a.first ≤ a.last) }
+    ensures short { length lock.now.oh.now ≤ 1024 → IfOk result (λ a. IsShort a.owner × IsShort a.party) }
 {
     let Some(file) = exported(count, lock.fh) else {
         return Err(AimError::Refused(NlmStatus::StaleFh));
@@ -193,7 +194,8 @@ fn lock_done(
     held: &mut Claims,
     args: &LockArgs,
 ) -> Result<NlmStatus, AllocError>
-    ensures { IfOk result (λ stat. lock_done count (held_of held.old) (shown_lock_args args.now) ≡ (answered args.now.cookie.now stat, held_of held.new)) }
+    ensures short { length args.now.lock.oh.now ≤ 1024 → AreShort held.old.names → AreShort held.new.names }
+    ensures done { IfOk result (λ stat. lock_done count (held_of held.old) (shown_lock_args args.now) ≡ (answered args.now.cookie.now stat, held_of held.new)) }
 {
     let ask = match aimed(alloc, count, &args.lock) {
         Ok(ask) => ask,
@@ -214,7 +216,8 @@ fn unlock_done(
     held: &mut Claims,
     args: &UnlockArgs,
 ) -> Result<NlmStatus, AllocError>
-    ensures { IfOk result (λ stat. unlock_done count (held_of held.old) (shown_unlock_args args.now) ≡ (answered args.now.cookie.now stat, held_of held.new)) }
+    ensures names { held.new.names ≡ held.old.names }
+    ensures done { IfOk result (λ stat. unlock_done count (held_of held.old) (shown_unlock_args args.now) ≡ (answered args.now.cookie.now stat, held_of held.new)) }
 {
     let ask = match aimed(alloc, count, &args.lock) {
         Ok(ask) => ask,
@@ -228,7 +231,8 @@ fn unlock_done(
 /// The results that name a cookie and a status.
 fn put_res(out: &mut XdrOut, cookie: &[u8], stat: NlmStatus) -> Result<(), AllocError>
     requires { length cookie.now ≤ 1024 }
-    ensures { OnOk result (out.new ≡ out.old ++ res (answered cookie.now stat)) }
+    ensures little { OnOk result (length out.new ≤ length out.old + 4096) }
+    ensures res { OnOk result (out.new ≡ out.old ++ res (answered cookie.now stat)) }
 {
     write_result(out, &NlmReply::Res(Res { cookie, stat }))
 }
@@ -247,6 +251,8 @@ fn serve(
     requires short { AreShort held.old.names }
     ensures results { OnOk result (out.new ≡ out.old ++ results (served count (held_of held.old) (shown_call call.now)).0) }
     ensures held { OnOk result (held_of held.new ≡ (served count (held_of held.old) (shown_call call.now)).1) }
+    ensures short { OnOk result (AreShort held.new.names) }
+    ensures little { OnOk result (length out.new ≤ length out.old + 4096) }
 {
     match call {
         NlmCall::Test(args) => {
@@ -269,7 +275,8 @@ fn serve(
 /// A reply without results.
 #[tactic(auto, using(crate::proofs::ReplyLaws::reply_short))]
 fn reply(alloc: Global, xid: u32, verdict: Verdict) -> Result<Vec<u8>, AllocError>
-    ensures { IfOk result (λ v. v.items ≡ reply xid verdict) }
+    ensures reply { IfOk result (λ v. v.items ≡ reply xid verdict) }
+    ensures little { IfOk result (λ v. length v.items ≤ 65536) }
 {
     let mut out = XdrOut::new(alloc);
     write_reply(&mut out, xid, verdict)?;
@@ -287,7 +294,9 @@ fn results_reply(
     requires fits { CallFits (shown_call call.now) }
     requires real { AllByRecursion IsRange held.old.claims.items }
     requires short { AreShort held.old.names }
-    ensures { IfOk result (λ v. with_results xid (served count (held_of held.old) (shown_call call.now)) ≡ (v.items, held_of held.new)) }
+    ensures short { OnOk result (AreShort held.new.names) }
+    ensures little { IfOk result (λ v. length v.items ≤ 65536) }
+    ensures done { IfOk result (λ v. with_results xid (served count (held_of held.old) (shown_call call.now)) ≡ (v.items, held_of held.new)) }
 {
     let mut out = XdrOut::new(alloc);
     write_reply(&mut out, xid, Verdict::Success)?;
@@ -305,7 +314,9 @@ fn replied_to(
     requires known { is_served call.now.head.proc ≡ true }
     requires real { AllByRecursion IsRange held.old.claims.items }
     requires short { AreShort held.old.names }
-    ensures { IfOk result (λ v. replied_by count (held_of held.old) call.now.head.xid (arguments_at call.now.head.proc call.now.args.rest.now) ≡ (v.items, held_of held.new)) }
+    ensures short { OnOk result (AreShort held.new.names) }
+    ensures little { IfOk result (λ v. length v.items ≤ 65536) }
+    ensures done { IfOk result (λ v. replied_by count (held_of held.old) call.now.head.xid (arguments_at call.now.head.proc call.now.args.rest.now) ≡ (v.items, held_of held.new)) }
 {
     let xid = call.head.xid;
     let mut args = call.args;
@@ -334,7 +345,9 @@ fn replied(
 ) -> Result<Vec<u8>, AllocError>
     requires real { AllByRecursion IsRange held.old.claims.items }
     requires short { AreShort held.old.names }
-    ensures { IfOk result (λ v. replied count (held_of held.old) (shown_head call.now.head) call.now.args.rest.now ≡ (v.items, held_of held.new)) }
+    ensures short { OnOk result (AreShort held.new.names) }
+    ensures little { IfOk result (λ v. length v.items ≤ 65536) }
+    ensures done { IfOk result (λ v. replied count (held_of held.old) (shown_head call.now.head) call.now.args.rest.now ≡ (v.items, held_of held.new)) }
 {
     let xid = call.head.xid;
     if call.head.prog != NLM_PROGRAM {
@@ -358,7 +371,9 @@ pub fn told(
 ) -> Result<Option<Vec<u8>>, AllocError>
     requires real { AllByRecursion IsRange held.old.claims.items }
     requires short { AreShort held.old.names }
-    ensures { IfOk result (λ r. told count (held_of held.old) bytes.now ≡ (option_map (λ v. v.items) r, held_of held.new)) }
+    ensures short { OnOk result (AreShort held.new.names) }
+    ensures little { IfOk result (λ r. IfSome r (λ v. length v.items ≤ 65536)) }
+    ensures told { IfOk result (λ r. told count (held_of held.old) bytes.now ≡ (option_map (λ v. v.items) r, held_of held.new)) }
 {
     match read_call(bytes) {
         Ok(call) => Ok(Some(replied(alloc, count, held, &call)?)),

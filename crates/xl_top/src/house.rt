@@ -1,10 +1,13 @@
 //! The house: the machine with its journal.
-ghost use Rattle.std.specs.Prelude.{◌≡◌, ℕ, ◌+◌, ◌<◌, ◌≤◌, ◌^◌, [], ◌∷◌, ◌++◌, length, Some, None, OnOk, OnErr, IfOk, IfErr, IfSome, ◌↔◌};
+ghost use Rattle.std.specs.Prelude.{◌≡◌, ℕ, ◌+◌, ◌<◌, ◌≤◌, ◌^◌, [], ◌∷◌, ◌++◌, length, false, Ok, Err, Some, None, OnOk, OnErr, IfOk, IfErr, IfSome, ◌↔◌};
 ghost use Rattle.xl_top.specs.Machine.{State, begin, step, state_of};
-ghost use Rattle.xl_top.specs.House.{Housed, replay, IsLegal, IsOrderly, entry};
+ghost use Rattle.xl_top.specs.Claims.{IsHeld, held_of};
+ghost use Rattle.xl_top.specs.House.{Housed, Stands, is_spoiled, replay, IsLegal, IsOrderly, entry};
+ghost use Rattle.xl_top.specs.Short.{AreShort};
 
+use crate::claims::Claims;
 use crate::machine::{Machine, act};
-use std::alloc::{AllocError, Global};
+use std::alloc::Global;
 use std::marker::Model;
 use xl_base::{Entry, Event, Exports, Halt, Head, Journal, Sequence};
 
@@ -12,7 +15,7 @@ use xl_base::{Entry, Event, Exports, Halt, Head, Journal, Sequence};
 pub const MOST_ENTRIES: usize = 1048576;
 
 /// The machine with its journal. Each step is one entry; a step that finds no memory halts the house.
-#[derive(Drop, Debug)]
+#[derive(Drop)]
 pub struct House {
     head: Head,
     entries: Sequence<Entry>,
@@ -21,9 +24,9 @@ pub struct House {
 }
 
 impl Model for House {
-    ghost use Rattle.std.specs.Prelude.{◌≡◌, ◌≤◌, length, None};
+    ghost use Rattle.std.specs.Prelude.{◌≡◌, ◌≤◌, length, false};
     ghost use Rattle.xl_top.specs.Machine.{begin, state_of};
-    ghost use Rattle.xl_top.specs.House.{Housed, replay, IsLegal};
+    ghost use Rattle.xl_top.specs.House.{Housed, Stands, is_spoiled, IsLegal};
 
     ghost Value = { Housed };
 
@@ -36,7 +39,7 @@ impl Model for House {
     } };
 }
 
-/// Acts on one event and enters it.
+/// Acts on one event and enters it. A full journal leaves all as it was.
 fn act_and_enter(
     alloc: Global,
     exports: &Exports,
@@ -46,12 +49,16 @@ fn act_and_enter(
 ) -> Result<(), Halt>
     requires place { machine.old.place ≡ length entries.old }
     requires few { length entries.old ≤ 1048576 }
+    requires held { IsHeld (held_of machine.old.held).claims }
+    requires short { AreShort machine.old.held.names }
     ensures place { OnOk result (machine.new.place ≡ length entries.new) }
     ensures few { length entries.new ≤ 1048576 }
-    ensures ok { OnOk result ((entries.new ≡ entries.old ++ entry 0 (state_of exports.now machine.old) event ∷ [])
-        × (state_of exports.now machine.new ≡ (step 0 (state_of exports.now machine.old) event).next)) }
+    ensures short { OnOk result (AreShort machine.new.held.names) }
+    ensures entered { OnOk result (entries.new ≡ entries.old ++ entry 0 (state_of exports.now machine.old) event ∷ []) }
+    ensures next { OnOk result (state_of exports.now machine.new ≡ (step 0 (state_of exports.now machine.old) event).next) }
     ensures err { OnErr result (entries.new ≡ entries.old) }
     ensures full { (count : ℕ) → (result ≡ Err (Halt.JournalFull count)) ↔ ((count ≡ length entries.old) × (length entries.old ≡ 1048576)) }
+    ensures kept { (count : ℕ) → result ≡ Err (Halt.JournalFull count) → machine.new ≡ machine.old }
 {
     if entries.len() == MOST_ENTRIES {
         return Err(Halt::JournalFull(entries.len() as u64));
@@ -81,12 +88,13 @@ impl House {
             machine: Machine {
                 place: 0,
                 connections: Vec::new(alloc),
+                held: Claims::new(alloc),
             },
             halt: None,
         }
     }
 
-    #[tactic(auto, using(crate::proofs::HouseLaws::replay_entry, crate::proofs::HouseLaws::legal_entry))]
+    #[tactic(auto, using(crate::proofs::HouseLaws::replay_entry, crate::proofs::HouseLaws::legal_entry, crate::proofs::StandLaws::stands_next))]
     /// One event, entered with what it did. After an error the journal is as it was, and each later step answers
     /// the same error.
     pub fn step(&mut self, alloc: Global, event: Event) -> Result<(), Halt>
@@ -114,19 +122,26 @@ impl House {
     }
 
     #[tactic(auto, using(crate::proofs::OrderLaws::legal_orderly))]
-    /// The journal. It is legal: each entry has the outs that the machine's step gives at its place. No out to a
-    /// connection stands before its opening or after its end.
-    pub fn end(self) -> Journal
-        ensures journal { (result.head ≡ self.head) × (result.entries ≡ self.entries) }
-        ensures legal { IsLegal (begin result.head) result.entries }
-        ensures orderly { IsOrderly [] [] 0 result.entries }
+    /// The journal, and what is held after it. The journal is legal: each entry has the outs that the machine's step
+    /// gives at its place. No out to a connection stands before its opening or after its end. Of a house that found no
+    /// memory in a step what is held is spent.
+    pub fn end(self) -> (Journal, Claims)
+        ensures journal { (result.0.head ≡ self.head) × (result.0.entries ≡ self.entries) }
+        ensures held { is_spoiled self.halt ≡ false → held_of result.1 ≡ (replay (begin self.head) self.entries).held }
+        ensures legal { IsLegal (begin result.0.head) result.0.entries }
+        ensures orderly { IsOrderly [] [] 0 result.0.entries }
     {
         let House {
             head,
             entries,
-            machine: _,
+            machine,
             halt: _,
         } = self;
-        Journal { head, entries }
+        let Machine {
+            place: _,
+            connections: _,
+            held,
+        } = machine;
+        (Journal { head, entries }, held)
     }
 }

@@ -7,8 +7,8 @@ mod frame;
 mod front_nlm;
 mod house;
 mod machine;
-mod top;
 mod texts;
+mod top;
 mod transcript;
 
 pub use capture::{Capture, CaptureError};

@@ -1,8 +1,12 @@
 //! The machine: what one event does to the state, and what it sends.
-ghost use Rattle.std.specs.Prelude.{◌≡◌, ℕ, ◌+◌, ◌<◌, ◌^◌, [], ◌∷◌, ◌++◌, length, filter, not, ◌==◌, OnOk, IfOk, IfSome};
-ghost use Rattle.xl_top.specs.declared.machine.Machine.{Machine};
-ghost use Rattle.xl_top.specs.Machine.{State, with_connection, without, kind_of, answers, step, state_of};
+ghost use Rattle.std.specs.Prelude.{◌≡◌, ℕ, ◌+◌, ◌<◌, ◌≤◌, ◌^◌, length, map, option_map, OnOk, IfOk, IfSome};
+ghost use Rattle.std.specs.List.{AllByRecursion};
+ghost use Rattle.std.specs.Option.{option_to_list};
+ghost use Rattle.xl_top.specs.Claims.{IsRange, held_of};
+ghost use Rattle.xl_top.specs.Machine.{with_connection, without, kind_of, sent, onward, heard, step, state_of};
+ghost use Rattle.xl_top.specs.Short.{AreShort};
 
+use crate::claims::Claims;
 use crate::{frame, front_nlm};
 use std::alloc::{AllocError, Global};
 use xl_base::{Dest, Event, Exports, Kind, Out, Sequence};
@@ -18,10 +22,11 @@ pub struct Connection {
 }
 
 /// What the machine keeps between two events.
-#[derive(Drop, Debug)]
+#[derive(Drop)]
 pub struct Machine {
     pub place: u64,
     pub connections: Vec<Connection>,
+    pub held: Claims,
 }
 
 /// Opens a connection where there is room.
@@ -57,28 +62,46 @@ fn kind_of(connections: &[Connection], number: u64) -> Option<Kind>
         .map(|c| c.kind)
 }
 
-/// What a message from a connection sends back.
-#[tactic(auto, unfolding(crate::specs::Machine::answers))]
-fn answers(
+/// A reply on its way to the connection, if there is one.
+fn outs_of(alloc: Global, number: u64, reply: Option<Vec<u8>>) -> Result<Sequence<Out>, AllocError>
+    requires { IfSome reply (λ v. length v.items ≤ 65536) }
+    ensures { IfOk result (λ outs. outs ≡ map (sent number) (option_to_list (option_map (λ v. v.items) reply))) }
+{
+    let mut outs = Sequence::new(alloc);
+    if let Some(reply) = reply {
+        let bytes = Sequence::from_vec(frame::framed(alloc, &reply)?);
+        outs.push(Out {
+            dest: Dest::Conn(number),
+            to: Sequence::new(alloc),
+            bytes,
+        })?;
+    }
+    Ok(outs)
+}
+
+/// What a message from a connection does and sends back.
+#[tactic(auto, unfolding(crate::specs::Machine::heard))]
+fn hear(
     alloc: Global,
-    kind: Option<Kind>,
+    exports: &Exports,
+    machine: &mut Machine,
     number: u64,
     bytes: &[u8],
 ) -> Result<Sequence<Out>, AllocError>
-    ensures { IfOk result (λ outs. outs ≡ answers kind number bytes.now) }
+    requires real { AllByRecursion IsRange machine.old.held.claims.items }
+    requires short { AreShort machine.old.held.names }
+    ensures place { OnOk result (machine.new.place ≡ machine.old.place) }
+    ensures short { OnOk result (AreShort machine.new.held.names) }
+    ensures heard { IfOk result (λ outs. heard (state_of exports.now machine.old) (kind_of machine.old.connections.items number) number bytes.now ≡ record { next = onward (state_of exports.now machine.old) machine.new.connections.items (held_of machine.new.held); made = 0; outs = outs }) }
 {
-    let mut outs = Sequence::new(alloc);
-    if let Some(Kind::Rpc) = kind {
-        if let Some(reply) = front_nlm::reply_to(alloc, bytes)? {
-            let bytes = Sequence::from_vec(frame::framed(alloc, &reply)?);
-            outs.push(Out {
-                dest: Dest::Conn(number),
-                to: Sequence::new(alloc),
-                bytes,
-            })?;
+    match kind_of(&machine.connections, number) {
+        Some(Kind::Rpc) => {
+            let count = exports.files.len();
+            let reply = front_nlm::told(alloc, count, &mut machine.held, bytes)?;
+            outs_of(alloc, number, reply)
         }
+        Some(Kind::Smb) | None => Ok(Sequence::new(alloc)),
     }
-    Ok(outs)
 }
 
 /// One event: changes the machine, and gives what it sends.
@@ -89,21 +112,27 @@ pub fn act(
     machine: &mut Machine,
     event: &Event,
 ) -> Result<Sequence<Out>, AllocError>
-    requires { machine.old.place < 2 ^ 63 }
+    requires place { machine.old.place < 2 ^ 63 }
+    requires real { AllByRecursion IsRange machine.old.held.claims.items }
+    requires short { AreShort machine.old.held.names }
     ensures place { OnOk result (machine.new.place ≡ machine.old.place + 1) }
+    ensures short { OnOk result (AreShort machine.new.held.names) }
     ensures step { IfOk result (λ outs. (n : ℕ) → step n (state_of exports.now machine.old) event.now ≡ record { next = state_of exports.now machine.new; made = 0; outs = outs }) }
 {
     let place = machine.place;
-    machine.place += 1;
+    let mut outs = Sequence::new(alloc);
     match event {
         Event::Open(kind) => open(&mut machine.connections, place, *kind)?,
         Event::Message(number, bytes) => {
-            let kind = kind_of(&machine.connections, *number);
-            return answers(alloc, kind, *number, bytes.as_slice());
+            outs = hear(alloc, exports, machine, *number, bytes.as_slice())?;
         }
         Event::End(number) => end(&mut machine.connections, *number),
         Event::Called(_, _) | Event::Tick(_) => {}
-        Event::Restart => machine.connections.clear(),
+        Event::Restart => {
+            machine.connections.clear();
+            machine.held = Claims::new(alloc);
+        }
     }
-    Ok(Sequence::new(alloc))
+    machine.place = place + 1;
+    Ok(outs)
 }

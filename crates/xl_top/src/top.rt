@@ -5,10 +5,12 @@ ghost use Rattle.xl_base.specs.Outside.{Rose, Took, Ended, Added, Began};
 ghost use Rattle.xl_top.specs.Capture.{captured, most_bytes};
 ghost use Rattle.xl_top.specs.House.{Housed, replay, IsLegal, IsOrderly, entries_of, most_entries};
 ghost use Rattle.xl_top.specs.Machine.{begin};
-ghost use Rattle.xl_top.specs.Job.{job, is_status, is_stepped, is_read, is_idle, capped, head_with, head_of, journal_of, no_journal, IsReplayed, IsBegun, BeginsAs, IsCutAt};
+ghost use Rattle.xl_top.specs.Job.{job, is_status, is_stepped, is_read, is_idle, capped, head_with, head_of, journal_of, no_journal, IsReplayed, IsBegun, BeginsAs, IsCutAt, whole_transcript};
+ghost use Rattle.xl_top.specs.Claims.{held_of};
 ghost use Rattle.xl_top.specs.Transcript.{transcript};
 
 use crate::capture::{Capture, CaptureError, MOST_BYTES, read_capture};
+use crate::claims::Claims;
 use crate::house::House;
 use crate::transcript::transcript;
 use std::alloc::{AllocError, AllocFailed, Global};
@@ -140,15 +142,20 @@ enum Written {
 
 /// Writes the transcript of the entries.
 #[tactic(auto, using(crate::proofs::WriteLaws::began_none, crate::proofs::WriteLaws::began_all))]
-fn write_transcript<O: Sink>(alloc: Global, entries: &[Entry], out: &mut O) -> Written
-    ensures all { result ≡ Written.All → Added (O.held out.old) (transcript entries.now) (O.held out.new) }
-    ensures began { Began (O.held out.old) (transcript entries.now) (O.held out.new) }
+fn write_transcript<O: Sink>(
+    alloc: Global,
+    entries: &[Entry],
+    held: &Claims,
+    out: &mut O,
+) -> Written
+    ensures all { result ≡ Written.All → Added (O.held out.old) (transcript entries.now (held_of held.now)) (O.held out.new) }
+    ensures began { Began (O.held out.old) (transcript entries.now (held_of held.now)) (O.held out.new) }
     ensures failed { result ≡ Written.Failed → Rose (O.faults out.old) (O.faults out.new) }
 {
-    let Ok(text) = transcript(alloc, entries) else {
+    let Ok(text) = transcript(alloc, entries, held) else {
         return Written::NoMemory;
     };
-    match out.write(text.as_bytes()) {
+    match out.write(&text) {
         WriteOutcome::Wrote => Written::All,
         WriteOutcome::Failed => Written::Failed,
     }
@@ -188,17 +195,19 @@ fn idle(alloc: Global, status: u8, line: u64) -> Done
 
 #[tactic(auto, using(crate::proofs::JobLaws::same_journal, crate::proofs::JobLaws::begins))]
 /// Steps the events of a capture on a house of its own. The answer says how the last step ended.
-fn step_capture(alloc: Global, capture: Capture) -> (Journal, Result<(), Halt>)
-    ensures ok { OnOk result.1 (result.0 ≡ journal_of capture) }
+fn step_capture(alloc: Global, capture: Capture) -> (Journal, Claims, Result<(), Halt>)
+    ensures held { result.2 ≢ Err Halt.NoMemory → held_of result.1 ≡ (replay (begin result.0.head) result.0.entries).held }
+    ensures ok { OnOk result.2 (result.0 ≡ journal_of capture) }
     ensures begun { BeginsAs capture result.0 }
-    ensures full { (count : ℕ) → result.1 ≡ Err (Halt.JournalFull count) → IsCutAt most_entries (Ok capture) result.0 }
+    ensures full { (count : ℕ) → result.2 ≡ Err (Halt.JournalFull count) → IsCutAt most_entries (Ok capture) result.0 }
     ensures legal { IsLegal (begin result.0.head) result.0.entries }
     ensures orderly { IsOrderly [] [] 0 result.0.entries }
 {
     let Capture { files, events } = capture;
     let mut house = House::start(alloc, head_with(alloc, files));
     let ended = step_all(alloc, &mut house, events.into_vec());
-    (house.end(), ended)
+    let (journal, held) = house.end();
+    (journal, held, ended)
 }
 
 /// Replays a capture, and writes its transcript.
@@ -209,24 +218,25 @@ fn replay<O: Sink>(alloc: Global, capture: Capture, out: &mut O) -> Done
     ensures unwritten { result.status ≡ 3 → result.journal ≡ journal_of capture }
     ensures begun { BeginsAs capture result.journal }
     ensures full { result.status ≡ 7 → IsCutAt most_entries (Ok capture) result.journal }
-    ensures written { result.status ≡ 0 → Added (O.held out.old) (transcript result.journal.entries) (O.held out.new) }
-    ensures began { Began (O.held out.old) (transcript result.journal.entries) (O.held out.new) }
+    ensures written { result.status ≡ 0 → Added (O.held out.old) (whole_transcript result.journal) (O.held out.new) }
+    ensures began { Began (O.held out.old) (whole_transcript result.journal) (O.held out.new) }
     ensures failed { result.status ≡ 3 → Rose (O.faults out.old) (O.faults out.new) }
     ensures legal { IsLegal (begin result.journal.head) result.journal.entries }
     ensures orderly { IsOrderly [] [] 0 result.journal.entries }
 {
-    let (journal, ended) = step_capture(alloc, capture);
+    let (journal, held, ended) = step_capture(alloc, capture);
     let status = match ended {
         Err(Halt::NoMemory) => 6,
         Err(Halt::JournalFull(_)) => match write_transcript(
             alloc,
             journal.entries.as_slice(),
+            &held,
             out,
         ) {
             Written::All | Written::Failed => 7,
             Written::NoMemory => 6,
         },
-        Ok(()) => match write_transcript(alloc, journal.entries.as_slice(), out) {
+        Ok(()) => match write_transcript(alloc, journal.entries.as_slice(), &held, out) {
             Written::All => 0,
             Written::Failed => 3,
             Written::NoMemory => 6,
@@ -249,8 +259,8 @@ fn replay_text<O: Sink>(alloc: Global, text: &[u8], out: &mut O) -> Done
     ensures bad { result.status ≡ 4 → captured text.now ≡ Err result.line }
     ensures line { result.status ≢ 4 → result.line ≡ 0 }
     ensures begun { result.status ≡ 6 → IsBegun (captured text.now) result.journal }
-    ensures written { result.status ≡ 0 → Added (O.held out.old) (transcript result.journal.entries) (O.held out.new) }
-    ensures began { Began (O.held out.old) (transcript result.journal.entries) (O.held out.new) }
+    ensures written { result.status ≡ 0 → Added (O.held out.old) (whole_transcript result.journal) (O.held out.new) }
+    ensures began { Began (O.held out.old) (whole_transcript result.journal) (O.held out.new) }
     ensures failed { result.status ≡ 3 → Rose (O.faults out.old) (O.faults out.new) }
     ensures idle { result.status ≡ 4 → (result.journal ≡ no_journal) × (O.held out.new ≡ O.held out.old) × (O.faults out.new ≡ O.faults out.old) }
     ensures legal { IsLegal (begin result.journal.head) result.journal.entries }
@@ -283,8 +293,8 @@ pub fn run<I: Source, O: Sink>(alloc: Global, words: &[String], input: &mut I, o
 
     // What was written: all of the transcript at 0, a beginning at 3, 6 and 7, nothing at 1, 2 and 4.
     ensures ended { result.status ≡ 0 → Ended (I.left input.new) }
-    ensures written { result.status ≡ 0 → Added (O.held out.old) (transcript result.journal.entries) (O.held out.new) }
-    ensures began { Began (O.held out.old) (transcript result.journal.entries) (O.held out.new) }
+    ensures written { result.status ≡ 0 → Added (O.held out.old) (whole_transcript result.journal) (O.held out.new) }
+    ensures began { Began (O.held out.old) (whole_transcript result.journal) (O.held out.new) }
     ensures idle { is_idle result.status ≡ true → (result.journal ≡ no_journal) × (O.held out.new ≡ O.held out.old) × (O.faults out.new ≡ O.faults out.old) }
 
     // The journal is the machine's, and nothing is sent to a connection before its opening or after its end.

@@ -142,7 +142,7 @@ fn row_before(a: &Row, b: &Row) -> bool
 /// How many rows in order stand before the row.
 fn place(row: &Row, rows: &[Row]) -> usize
     ensures within { result ≤ length rows.now }
-    ensures { placed row_before row.now rows.now ≡ insert rows.now result row.now }
+    ensures place { placed row_before row.now rows.now ≡ insert rows.now result row.now }
 {
     let mut at = 0;
     'rows: while at < rows.len() && row_before(&rows[at], row) {
@@ -200,11 +200,7 @@ fn put_rows(alloc: Global, bytes: &mut Vec<u8>, rows: &[Row]) -> Result<(), Allo
 /// The transcript of a journal's entries: a line for each out, in order, and then a line for each range that is held
 /// after them, in the order of the file, the owner's text and the bytes.
 #[tactic(auto, unfolding(crate::specs::Transcript::claim_lines))]
-pub fn transcript(
-    alloc: Global,
-    entries: &[Entry],
-    held: &Claims,
-) -> Result<Vec<u8>, AllocError>
+pub fn transcript(alloc: Global, entries: &[Entry], held: &Claims) -> Result<Vec<u8>, AllocError>
     ensures { IfOk result (λ text. text.items ≡ transcript entries.now (held_of held.now)) }
 {
     let mut text = String::new(alloc);
