@@ -1,17 +1,25 @@
 -- Journals with one entry more.
 use Rattle.std.proofs.Math.Seq.{take-append_seam}
-use Rattle.std.proofs.Common.{◌≡◌, ℕ, suc, ◌+◌, ◌<◌, arith, length-append, List, [], ◌∷◌, ◌++◌, length, take, refl, sym, ap, ◌∙◌, append_assoc}
+use Rattle.std.proofs.Common.{◌≡◌, ℕ, suc, ◌+◌, ◌<◌, arith, length-append, List, [], ◌∷◌, ◌++◌, Option, Some, None, length, take, refl, sym, ap, ◌∙◌, append_assoc}
 use Rattle.xl_base.specs.declared.event.Event.{Event}
 use Rattle.xl_base.specs.declared.event.Event.TheVariants.{Open, Message, End, Called, Tick, Restart}
+use Rattle.xl_base.specs.declared.event.Kind.{Kind}
+use Rattle.xl_base.specs.declared.event.Kind.TheVariants.{Rpc, Smb}
 use Rattle.xl_base.specs.declared.journal.Entry.{Entry}
-use Rattle.xl_top.specs.Machine.{State, step}
+use Rattle.xl_top.specs.Machine.{State, step, heard, kind_of}
 use Rattle.xl_top.specs.House.{replay, IsStep, IsLegal, entry, entries_of}
+
+none_heard : (s : State) (kind : Option Kind) (number : ℕ) (bytes : List ℕ) → (heard s kind number bytes).made ≡ 0
+unfolding heard
+none_heard s None number bytes = refl
+none_heard s (Some Rpc) number bytes = refl
+none_heard s (Some Smb) number bytes = refl
 
 -- nothing is stored
 pub none_made : (n : ℕ) (s : State) (event : Event) → (step n s event).made ≡ 0
 unfolding step
 none_made n s (Open kind) = refl
-none_made n s (Message number bytes) = refl
+none_made n s (Message number bytes) = none_heard s (kind_of s.connections number) number bytes
 none_made n s (End number) = refl
 none_made n s (Called call reply) = refl
 none_made n s (Tick moment) = refl

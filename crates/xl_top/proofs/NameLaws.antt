@@ -1,9 +1,10 @@
 -- The number of a name.
-use Rattle.std.proofs.Common.{◌≡◌, ℕ, ◌≤◌, Bool, true, false, cond, ltb, List, length, Option, Some, None, refl, arith}
+use Rattle.std.proofs.Common.{◌≡◌, ℕ, ◌≤◌, Bool, true, false, cond, ltb, List, length, [], ◌∷◌, ◌++◌, Option, Some, None, refl, sym, subst, arith}
 use Rattle.std.specs.Prelude.{position}
 use Rattle.std.specs.List.{position_or_len}
 use Rattle.std.proofs.lemmas.Bool.{ltb-false}
-use Rattle.xl_names.specs.Names.{number_of, place_of, same_name}
+use Rattle.xl_names.specs.Names.{number_of, place_of, same_name, entered, is_kept}
+use Rattle.xl_top.specs.Short.{IsShort, AreShort}
 use Rattle.xl_names.specs.declared.name.Name.{Name}
 
 abbrev some : ℕ → Option ℕ
@@ -28,6 +29,14 @@ place_unknown name names e =
     let le = ltb-false _ _ (missed (ltb (place_of name names) (length names)) (place_of name names) e) in
     omega (arith, le, place_within name names)
 
+short_push : (names : List Name) (name : Name) → AreShort names → IsShort name → AreShort (names ++ name ∷ [])
+short_push [] name short one = (one, tt)
+short_push (n ∷ ns) name short one = (short.0, short_push ns name short.1 one)
+
+short_cond : (b : Bool) (names : List Name) (name : Name) → AreShort names → IsShort name → AreShort (cond b names (names ++ name ∷ []))
+short_cond true names name short one = short
+short_cond false names name short one = short_push names name short one
+
 -- a short name more
 pub short_entered : (name : Name) (names new : List Name) → new ≡ entered name names → AreShort names → IsShort name → AreShort new
-short_entered name names new e short one = ?
+short_entered name names new e short one = subst AreShort (sym e) (short_cond (is_kept name names) names name short one)

@@ -13,8 +13,8 @@ use Rattle.xl_base.specs.declared.event.Kind.TheVariants.{Rpc, Smb}
 use Rattle.xl_base.specs.declared.event.Out.{Out}
 use Rattle.xl_base.specs.declared.journal.Entry.{Entry}
 use Rattle.xl_base.specs.declared.journal.Head.{Head}
-use Rattle.xl_top.specs.FrontNlm.{reply_to}
-use Rattle.xl_top.specs.Machine.{State, begin, step, with_connection, without, kind_of, answers, sent, most_connections}
+use Rattle.xl_top.specs.FrontNlm.{told}
+use Rattle.xl_top.specs.Machine.{State, begin, step, with_connection, without, kind_of, heard, sent, most_connections}
 use Rattle.xl_top.specs.House.{IsLegal, IsOrderly, IsTimely, opened_after, ended_after}
 use Rattle.xl_top.specs.declared.machine.Connection.{Connection}
 
@@ -40,16 +40,22 @@ replies_timely : (opened ended : List ℕ) (number : ℕ) (replies : List (List 
 replies_timely opened ended number [] stands = tt
 replies_timely opened ended number (r ∷ rs) stands = (stands, replies_timely opened ended number rs stands)
 
-answers_timely : (opened ended : List ℕ) (cs : List Connection) (number : ℕ) (bytes : List ℕ) (kind : Option Kind) → kind_of cs number ≡ kind → AllByRecursion (Stands opened ended) cs → AllByRecursion (λ o. IsTimely opened ended o.dest) (answers kind number bytes)
-unfolding answers
-answers_timely opened ended cs number bytes None e each = tt
-answers_timely opened ended cs number bytes (Some Smb) e each = tt
-answers_timely opened ended cs number bytes (Some Rpc) e each = replies_timely opened ended number (option_to_list (reply_to bytes)) (found opened ended cs number Rpc each e)
+heard_timely : (opened ended : List ℕ) (s : State) (number : ℕ) (bytes : List ℕ) (kind : Option Kind) → kind_of s.connections number ≡ kind → AllByRecursion (Stands opened ended) s.connections → AllByRecursion (λ o. IsTimely opened ended o.dest) (heard s kind number bytes).outs
+unfolding heard
+heard_timely opened ended s number bytes None e each = tt
+heard_timely opened ended s number bytes (Some Smb) e each = tt
+heard_timely opened ended s number bytes (Some Rpc) e each = replies_timely opened ended number (option_to_list (told (length s.exports.files) s.held bytes).0) (found opened ended s.connections number Rpc each e)
+
+heard_keeps : (s : State) (number : ℕ) (bytes : List ℕ) (kind : Option Kind) → ((heard s kind number bytes).next.connections ≡ s.connections) × ((heard s kind number bytes).next.place ≡ s.place + 1)
+unfolding heard
+heard_keeps s number bytes None = (refl, refl)
+heard_keeps s number bytes (Some Smb) = (refl, refl)
+heard_keeps s number bytes (Some Rpc) = (refl, refl)
 
 timely : (n : ℕ) (opened ended : List ℕ) (s : State) (e : Event) → Fits opened ended s → AllByRecursion (λ o. IsTimely opened (ended_after opened ended s.place e) o.dest) (step n s e).outs
 unfolding step ended_after
 timely n opened ended s (Open kind) fits = tt
-timely n opened ended s (Message number bytes) fits = answers_timely opened ended s.connections number bytes (kind_of s.connections number) refl fits.each
+timely n opened ended s (Message number bytes) fits = heard_timely opened ended s number bytes (kind_of s.connections number) refl fits.each
 timely n opened ended s (End number) fits = tt
 timely n opened ended s (Called call reply) fits = tt
 timely n opened ended s (Tick moment) fits = tt
@@ -89,7 +95,12 @@ kept_each opened ended number cs each =
 fits_after : (n : ℕ) (opened ended : List ℕ) (s : State) (e : Event) → AllByRecursion (λ m. m < s.place) opened → Fits opened ended s → Fits (opened_after opened s.place e) (ended_after opened ended s.place e) (step n s e).next
 unfolding step opened_after ended_after
 fits_after n opened ended s (Open kind) below fits = record { each = opened_each opened ended s.place kind s.connections fits.each fits.past; past = later s.place ended fits.past }
-fits_after n opened ended s (Message number bytes) below fits = record { each = fits.each; past = later s.place ended fits.past }
+fits_after n opened ended s (Message number bytes) below fits =
+    let kept = heard_keeps s number bytes (kind_of s.connections number) in
+    record {
+      each = subst (λ (cs : List Connection). AllByRecursion (Stands opened ended) cs) (sym kept.0) fits.each;
+      past = subst (λ (p : ℕ). AllByRecursion (λ m. m < p) ended) (sym kept.1) (later s.place ended fits.past);
+    }
 fits_after n opened ended s (End number) below fits =
     elim (cases_lt number s.place) [
       | inl lt ↦ rw (lt-ltb number s.place lt) (record { each = left_each opened ended number s.connections fits.each; past = (omega (arith, lt), later s.place ended fits.past) })
@@ -108,10 +119,10 @@ below_after opened place (Called call reply) below = later place opened below
 below_after opened place (Tick moment) below = later place opened below
 below_after opened place Restart below = later place opened below
 
-next_place : (n : ℕ) (s : State) (e : Event) → (step n s e).next.place ≡ s.place + 1
+pub next_place : (n : ℕ) (s : State) (e : Event) → (step n s e).next.place ≡ s.place + 1
 unfolding step
 next_place n s (Open kind) = refl
-next_place n s (Message number bytes) = refl
+next_place n s (Message number bytes) = (heard_keeps s number bytes (kind_of s.connections number)).1
 next_place n s (End number) = refl
 next_place n s (Called call reply) = refl
 next_place n s (Tick moment) = refl

@@ -80,3 +80,8 @@ pub record Stands (start : State) (es : List Entry) (s : State) : Type 0 where
   pub place : s.place ≡ length es
   pub held : IsHeld s.held.claims
   pub short : AreShort s.held.names
+
+-- whenever the machine is free, before the first entry and after each, what is held keeps what it has to
+abbrev pub AlwaysHeld : State → List Entry → Type 0
+AlwaysHeld s [] = IsHeld s.held.claims × Unit {0}
+AlwaysHeld s (e ∷ es) = IsHeld s.held.claims × AlwaysHeld (step e.stores s e.event).next es

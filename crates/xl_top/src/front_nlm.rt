@@ -33,11 +33,9 @@ const RPC_VERSION: u32 = 2;
 fn exported(count: usize, fh: &[u8]) -> Option<u32>
     ensures { result ≡ exported count fh.now }
 {
-    let file = file_of(fh)?;
-    if 1 <= file && file as usize <= count {
-        Some(file)
-    } else {
-        None
+    match file_of(fh) {
+        Some(file) if file != 0 && file as usize <= count => Some(file),
+        _ => None,
     }
 }
 
