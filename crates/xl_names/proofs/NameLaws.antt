@@ -1,18 +1,18 @@
 -- A name has one number.
-use Rattle.std.proofs.Common.{◌≡◌, ℕ, ◌+◌, ◌<◌, ◌≤◌, zero, suc, Bool, true, false, not, cond, if◌then◌else◌, ltb, eqb, ◌&&◌, ◌||◌, ◌↔◌, List, [], ◌∷◌, ◌++◌, length, slice_get, position, Option, Some, None, refl, sym, ap, subst, ◌∙◌, inl, inr, arith}
+use Rattle.std.proofs.Common.{◌≡◌, ℕ, ◌+◌, zero, suc, Bool, true, false, cond, if◌then◌else◌, ltb, ◌&&◌, ◌↔◌, List, [], ◌∷◌, ◌++◌, length, slice_get, Some, None, refl, sym, ap, ◌∙◌, inl, inr, arith}
 use Rattle.std.proofs.Math.Numerals.{one-add}
 use Rattle.std.specs.Prelude.{bytes_eq}
 use Rattle.std.specs.List.{list_any, position_or_len}
 use Rattle.std.specs.Ordering.{int_eq}
 use Rattle.std.specs.Cmp.Lexicographic.{bytes_decides}
-use Rattle.std.proofs.lemmas.Bool.{cases_Bool, and_parts, and_from, or_parts, or_from, or_cases, or_left, or_right, false_from_ne_true, false≢true, true≢false, lt-ltb, le-ltb, ltb-true, ltb-false}
+use Rattle.std.proofs.lemmas.Bool.{cases_Bool, and_parts, and_from, or_parts, or_from, or_left, or_right, false_from_ne_true, false≢true, true≢false, lt-ltb}
 use Rattle.std.proofs.lemmas.Bool.Decides.{Decides-int_eq, nat_tests}
 use Rattle.std.proofs.lemmas.List.Folds.{list_any-append}
 use Rattle.std.proofs.lemmas.Option.{same_Some}
 use Rattle.xl_names.specs.declared.name.Name.{Name}
 use Rattle.xl_names.specs.declared.name.Name.TheVariants.{NlmRange, NlmShare, NlmParty, NfsRange, NfsShare, NfsParty, SmbLease}
 use Rattle.xl_names.specs.contracts.name.NamePartialEq.TheImpl.{eq-value}
-use Rattle.xl_names.specs.Names.{same_name, number_of, is_kept, entered, place_of, AreDistinct, most_names}
+use Rattle.xl_names.specs.Names.{same_name, number_of, is_kept, entered, place_of, AreDistinct}
 
 bytes_are : (a b : List ℕ) → bytes_eq a b ≡ true → a ≡ b
 bytes_are a b h = (bytes_decides a b).0 h
@@ -178,7 +178,7 @@ distinct_entered ns name ok =
     ]
 
 -- the test of the derived comparison is the definition
-eq_is : (a b : Name) → (eq-value).it a b ≡ same_name a b
+pub eq_is : (a b : Name) → (eq-value).it a b ≡ same_name a b
 eq_is (NlmRange a n b) (NlmRange c m d) = refl
 eq_is (NlmShare a b) (NlmShare c d) = refl
 eq_is (NlmParty a) (NlmParty b) = refl
@@ -198,3 +198,15 @@ added new ns name fresh is =
 
 pub added_place : (k : ℕ) (ns : List Name) (name : Name) → is_kept name ns ≡ false → k ≡ position_or_len ((eq-value).it name) ns → k ≡ length ns
 added_place k ns name fresh is = is ∙ ap (λ p. position_or_len p ns) (eq_tests name) ∙ place_new name ns fresh
+
+pub same_is_equal : (a b : Name) → (same_name a b ≡ true) ↔ (a ≡ b)
+same_is_equal a b = (same_name_is a b, λ e. here a b e)
+
+pub number_place : (ns : List Name) (name : Name) (i : ℕ) → AreDistinct ns → (number_of name ns ≡ Some i) ↔ (slice_get ns i ≡ Some name)
+number_place ns name i ok = (name_at ns name i, number_at ns name i ok)
+
+-- a new name's number
+pub number_pushed : (new ns : List Name) (name : Name) (k : ℕ) → is_kept name ns ≡ false → new ≡ ns ++ name ∷ [] → k ≡ length ns → number_of name new ≡ Some k
+number_pushed new ns name k fresh is at =
+    let push = push_new ns name fresh in
+    ap (number_of name) is ∙ number_is name (ns ++ name ∷ []) ∙ rw push.0 (ap Some (push.1 ∙ sym at))

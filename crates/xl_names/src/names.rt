@@ -115,6 +115,7 @@ impl Names {
     pub fn intern(&mut self, name: &Name) -> Result<u32, NameErr>
         ensures names { OnOk result (self.new ≡ entered name.now self.old) }
         ensures number { IfOk result (λ id. id ≡ place_of name.now self.old) }
+        ensures found { IfOk result (λ id. number_of name.now self.new ≡ Some id) }
         ensures known { IsTrue (is_kept name.now self.old) → IsOk result }
         ensures full { (n : ℕ) → (result ≡ Err (NameErr.Full n)) ↔ ((n ≡ most_names) × (length self.old ≡ most_names) × (is_kept name.now self.old ≡ false)) }
         ensures err { OnErr result (self.new ≡ self.old) }
@@ -143,6 +144,7 @@ fn enter(set: &mut IndexSet<Name>, alloc: Global, name: &Name) -> Result<u32, Na
     requires most { length set.old.keys ≤ most_names }
     ensures names { OnOk result (set.new.keys ≡ entered name.now set.old.keys) }
     ensures number { IfOk result (λ id. id ≡ place_of name.now set.old.keys) }
+    ensures found { IfOk result (λ id. number_of name.now set.new.keys ≡ Some id) }
     ensures known { IsTrue (is_kept name.now set.old.keys) → IsOk result }
     ensures full { (n : ℕ) → (result ≡ Err (NameErr.Full n)) ↔ ((n ≡ most_names) × (length set.old.keys ≡ most_names) × (is_kept name.now set.old.keys ≡ false)) }
     ensures err { OnErr result (set.new.keys ≡ set.old.keys) }
@@ -162,6 +164,7 @@ fn add(set: &mut IndexSet<Name>, alloc: Global, name: &Name) -> Result<u32, Name
     requires most { length set.old.keys ≤ most_names }
     ensures names { OnOk result (set.new.keys ≡ set.old.keys ++ name.now ∷ []) }
     ensures number { IfOk result (λ id. id ≡ length set.old.keys) }
+    ensures found { IfOk result (λ id. number_of name.now set.new.keys ≡ Some id) }
     ensures distinct { AreDistinct set.new.keys }
     ensures most { length set.new.keys ≤ most_names }
     ensures full { (n : ℕ) → (result ≡ Err (NameErr.Full n)) ↔ ((n ≡ most_names) × (length set.old.keys ≡ most_names)) }
@@ -179,6 +182,7 @@ fn insert_new(set: &mut IndexSet<Name>, name: Name) -> Result<u32, NameErr>
     requires most { length set.old.keys < most_names }
     ensures names { OnOk result (set.new.keys ≡ set.old.keys ++ name ∷ []) }
     ensures number { IfOk result (λ id. id ≡ length set.old.keys) }
+    ensures found { IfOk result (λ id. number_of name set.new.keys ≡ Some id) }
     ensures distinct { AreDistinct set.new.keys }
     ensures full { IfErr result (λ e. e ≡ NoMemory) }
     ensures err { OnErr result (set.new.keys ≡ set.old.keys) }

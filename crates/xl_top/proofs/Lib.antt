@@ -6,6 +6,7 @@ pub mod NameLaws
 pub mod OrderLaws
 pub mod ReadLaws
 pub mod ReplyLaws
+pub mod ServeLaws
 pub mod SortLaws
 pub mod StandLaws
 pub mod WriteLaws

@@ -1,33 +1,15 @@
 -- The number of a name.
-use Rattle.std.proofs.Common.{◌≡◌, ℕ, ◌≤◌, Bool, true, false, cond, ltb, List, length, [], ◌∷◌, ◌++◌, Option, Some, None, refl, sym, subst, arith}
-use Rattle.std.specs.Prelude.{position}
-use Rattle.std.specs.List.{position_or_len}
-use Rattle.std.proofs.lemmas.Bool.{ltb-false}
-use Rattle.xl_names.specs.Names.{number_of, place_of, same_name, entered, is_kept}
+use Rattle.std.proofs.Common.{◌≡◌, ℕ, Bool, true, false, cond, List, length, [], ◌∷◌, ◌++◌, Option, Some, None, sym, subst}
+use Rattle.xl_names.proofs.NameLaws.{kept_from_number, new_from_none, place_new}
+use Rattle.xl_names.specs.Names.{number_of, place_of, entered, is_kept}
 use Rattle.xl_top.specs.Short.{IsShort, AreShort}
 use Rattle.xl_names.specs.declared.name.Name.{Name}
 
-abbrev some : ℕ → Option ℕ
-some n = Some n
-
-same_some : (m n : ℕ) → some m ≡ some n → m ≡ n
-same_some m n e = cc
-
-found : (b : Bool) (m n : ℕ) → cond b (some m) None ≡ Some n → n ≡ m
-found true m n e = same_some n m (cc)
-found false m n e = absurd cc
-
-missed : (b : Bool) (m : ℕ) → cond b (some m) None ≡ None → b ≡ false
-missed true m e = absurd cc
-missed false m e = refl
-
 pub place_known : (name : Name) (names : List Name) (number : ℕ) → number_of name names ≡ Some number → number ≡ place_of name names
-place_known name names number e = found (ltb (place_of name names) (length names)) (place_of name names) number e
+place_known name names number e = sym (kept_from_number name names number e).1
 
 pub place_unknown : (name : Name) (names : List Name) → number_of name names ≡ None → length names ≡ place_of name names
-place_unknown name names e =
-    let le = ltb-false _ _ (missed (ltb (place_of name names) (length names)) (place_of name names) e) in
-    omega (arith, le, place_within name names)
+place_unknown name names e = sym (place_new name names (new_from_none name names e))
 
 short_push : (names : List Name) (name : Name) → AreShort names → IsShort name → AreShort (names ++ name ∷ [])
 short_push [] name short one = (one, tt)

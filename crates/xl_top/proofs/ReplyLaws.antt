@@ -1,7 +1,14 @@
--- A reply without results fits a record.
-use Rattle.std.proofs.Common.{◌≡◌, ℕ, ◌+◌, ◌≤◌, List, [], ◌++◌, length, refl, arith}
-use Rattle.std.proofs.lemmas.List.{length-append}
+-- Replies and results fit a record.
+use Rattle.std.proofs.Common.{◌≡◌, ℕ, ◌+◌, ◌-◌, ◌%◌, ◌<◌, ◌≤◌, List, [], ◌++◌, length, replicate, Option, Some, None, refl, arith}
+use Rattle.std.proofs.Math.Nat.{mod-lt}
+use Rattle.std.proofs.lemmas.List.{length-append, length-replicate}
+use Rattle.std.specs.Int.{w32, w64, cast_unsigned}
+use Rattle.std.specs.Prelude.{IfSome, if◌then◌else◌}
 use Rattle.xl_base.specs.Codec.{big_endian}
+use Rattle.xl_nlm.specs.Arguments.{TextFits}
+use Rattle.xl_nlm.specs.Items.{HolderItem, TestResItem, ResItem, ShareResItem, ReplyItem, Void, TestAnswer, Answer, ShareAnswer}
+use Rattle.xl_nlm.specs.Replies.{holder, holder_part, test_res, res, share_res, results, status_number, IsShortReply}
+use Rattle.xl_rpc.specs.Xdr.{hyper, pad, fixed, opaque}
 use Rattle.xl_rpc.specs.Replies.{reply, told, detail, stat, reply_stat}
 use Rattle.xl_rpc.specs.Xdr.{unsigned}
 use Rattle.xl_rpc.specs.declared.reply.Verdict.{Verdict}
@@ -34,3 +41,57 @@ told_short (AuthError why) = omega (arith, two 1 why)
 pub reply_short : (xid : ℕ) (v : Verdict) → length (reply xid v) ≤ 65536
 unfolding reply
 reply_short xid v = omega (arith, longer xid (unsigned 1 ++ (unsigned (reply_stat v) ++ told v)) 28 (longer 1 (unsigned (reply_stat v) ++ told v) 24 (longer (reply_stat v) (told v) 20 (told_short v))))
+
+-- ---- results
+
+length-hyper : (n : ℕ) → length (hyper n) ≡ 8
+unfolding big_endian
+length-hyper n = refl
+
+pad_short : (n : ℕ) → pad n < 4
+unfolding pad
+pad_short n = mod-lt (4 - n % 4) (omega arith)
+
+opaque_short : (bytes : List ℕ) → TextFits bytes → length (opaque bytes) ≤ 1031
+unfolding opaque fixed
+opaque_short bytes le =
+    let fill = length-append bytes (replicate (pad (length bytes)) 0) in
+    let zeros = length-replicate {A = ℕ} (pad (length bytes)) 0 in
+    longer (length bytes) (bytes ++ replicate (pad (length bytes)) 0) 1027 (omega (arith, fill, zeros, pad_short (length bytes), le))
+
+res_short : (r : ResItem) → TextFits r.cookie → length (res r) ≤ 4096
+unfolding res
+res_short r le = omega (arith, length-append (opaque r.cookie) (unsigned (status_number r.stat)), opaque_short r.cookie le, length-unsigned (status_number r.stat))
+
+share_res_short : (r : ShareResItem) → TextFits r.cookie → length (share_res r) ≤ 4096
+unfolding share_res
+share_res_short r le =
+    let rest = length-append (unsigned (status_number r.stat)) (unsigned (cast_unsigned w32 r.sequence)) in
+    let all = length-append (opaque r.cookie) (unsigned (status_number r.stat) ++ unsigned (cast_unsigned w32 r.sequence)) in
+    omega (arith, all, rest, opaque_short r.cookie le, length-unsigned (status_number r.stat), length-unsigned (cast_unsigned w32 r.sequence))
+
+holder_short : (h : HolderItem) → TextFits h.oh → length (holder h) ≤ 1055
+unfolding holder
+holder_short h le =
+    let bytes = hyper h.l_offset ++ hyper h.l_len in
+    let two = length-append (hyper h.l_offset) (hyper h.l_len) in
+    let oh = length-append (opaque h.oh) bytes in
+    let rest : length (opaque h.oh ++ bytes) ≤ 1047 = omega (arith, two, oh, length-hyper h.l_offset, length-hyper h.l_len, opaque_short h.oh le) in
+    longer (if h.exclusive then 1 else 0) (unsigned (cast_unsigned w32 h.svid) ++ (opaque h.oh ++ bytes)) 1051 (longer (cast_unsigned w32 h.svid) (opaque h.oh ++ bytes) 1047 rest)
+
+part_short : (h : Option HolderItem) → IfSome h (λ h. TextFits h.oh) → length (holder_part h) ≤ 1055
+part_short None le = omega arith
+part_short (Some h) le = holder_short h le
+
+test_res_short : (r : TestResItem) → TextFits r.cookie → IfSome r.holder (λ h. TextFits h.oh) → length (test_res r) ≤ 4096
+unfolding test_res
+test_res_short r le oh =
+    let part = holder_part r.holder in
+    let rest = longer (status_number r.stat) part 1055 (part_short r.holder oh) in
+    omega (arith, length-append (opaque r.cookie) (unsigned (status_number r.stat) ++ part), opaque_short r.cookie le, rest)
+
+pub results_short : (r : ReplyItem) → IsShortReply r → length (results r) ≤ 4096
+results_short Void short = omega arith
+results_short (TestAnswer r) short = test_res_short r short.0 short.1.1
+results_short (Answer r) short = res_short r short
+results_short (ShareAnswer r) short = share_res_short r short

@@ -7,5 +7,4 @@ pub mod House
 pub mod Job
 pub mod Machine
 pub mod Short
-pub mod Texts
 pub mod Transcript

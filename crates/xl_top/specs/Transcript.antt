@@ -16,7 +16,7 @@ use Rattle.xl_matrix.specs.declared.claim.What.{What}
 use Rattle.xl_matrix.specs.declared.claim.What.TheVariants.{Range}
 use Rattle.xl_names.specs.declared.name.Name.{Name}
 use Rattle.xl_top.specs.Claims.{Held}
-use Rattle.xl_top.specs.Texts.{hex_word, owner_text}
+use Rattle.xl_names.specs.Texts.{hex_word, owner_text}
 use Rattle.xl_top.specs.declared.transcript.Row.{Row}
 
 -- where an out goes

@@ -6,7 +6,7 @@ ghost use Rattle.std.specs.Cmp.Lexicographic.{slice_cmp};
 ghost use Rattle.xl_names.specs.Names.{place_of, entered, most_names};
 ghost use Rattle.xl_top.specs.Claims.{mode_of, is_exclusive, is_of, span_in, spans_of, others_of, range_claim, relocked_in, asked_claim, is_blocker, blockers_of, claim_of, lock, locked, unlocked, held_of, nothing_held, range_key, range_before, lesser, least_blocker};
 ghost use Rattle.xl_top.specs.Short.{IsShort, AreShort};
-ghost use Rattle.xl_top.specs.Texts.{owner_text};
+ghost use Rattle.xl_names.specs.Texts.{owner_text};
 
 use crate::texts::owner_text;
 use std::alloc::{AllocError, Global};

@@ -2,12 +2,11 @@
 ghost use Rattle.std.specs.Prelude.{◌≡◌, ◌+◌, ◌≤◌, true, ◌<◌, ◌^◌, [], ◌++◌, length, Some, None, OnOk, IfOk, IfErr, IfSome, option_map};
 ghost use Rattle.xl_base.specs.Results.{GivesUnless};
 ghost use Rattle.xl_nlm.specs.Arguments.{arguments_at, CallFits, LockFits, TestArgsFits, LockArgsFits, UnlockArgsFits};
-ghost use Rattle.xl_nlm.specs.Items.{shown_lock, shown_test_args, shown_lock_args, shown_unlock_args, shown_call, shown_holder, shown_test_res, shown_res};
-ghost use Rattle.xl_nlm.specs.Replies.{results, res};
+ghost use Rattle.xl_nlm.specs.Items.{shown_lock, shown_test_args, shown_lock_args, shown_unlock_args, shown_call, shown_holder, shown_test_res, shown_res, shown_reply, TestAnswer};
+ghost use Rattle.xl_nlm.specs.Replies.{results, IsShortReply};
 ghost use Rattle.xl_rpc.specs.Calls.{shown_head};
 ghost use Rattle.xl_rpc.specs.Replies.{reply};
-ghost use Rattle.std.specs.List.{AllByRecursion};
-ghost use Rattle.xl_top.specs.Claims.{held_of, IsRange, IsRangeBy};
+ghost use Rattle.xl_top.specs.Claims.{held_of};
 ghost use Rattle.xl_top.specs.FrontNlm.{exported, last_of, length_of, aimed, owner_parts, holder_of, tested, status_of, answered, lock_done, unlock_done, served, with_results, is_served, replied_by, replied, told};
 ghost use Rattle.xl_top.specs.Short.{IsShort, AreShort};
 ghost use Rattle.xl_top.specs.declared.front_nlm.AimError.TheVariants.{NoMemory};
@@ -52,13 +51,12 @@ fn last_of(offset: u64, len: u64) -> Option<u64>
 
 /// The length by which a range is told.
 fn length_of(first: u64, last: u64) -> u64
-    requires { first ≤ last }
     ensures { result ≡ length_of first last }
 {
     if last == u64::MAX {
         0
     } else {
-        last - first + 1
+        (last + 1).saturating_sub(first)
     }
 }
 
@@ -106,7 +104,6 @@ fn aimed(alloc: Global, count: usize, lock: &Lock) -> Result<RangeAsk, AimError>
 
 /// A held range as TEST tells it.
 fn holder_of<'a>(names: &'a Names, claim: &Claim) -> Holder<'a>
-    requires real { IsRangeBy claim.now.what }
     ensures { shown_holder result ≡ holder_of names.now claim.now }
 {
     let (first, last, exclusive) = match claim.what {
@@ -137,15 +134,17 @@ fn owner_parts(names: &Names, owner: Owner) -> (i32, &[u8])
 }
 
 /// TEST.
-#[tactic(auto, unfolding(crate::specs::FrontNlm::tested))]
+#[tactic(auto, unfolding(crate::specs::FrontNlm::tested), using(crate::proofs::ServeLaws::tested_short))]
 fn tested<'a>(
     alloc: Global,
     count: usize,
     held: &'a Claims,
     args: &TestArgs<'a>,
 ) -> Result<TestRes<'a>, AllocError>
-    requires real { AllByRecursion IsRange held.now.claims.items }
-    ensures { IfOk result (λ r. shown_test_res r ≡ tested count (held_of held.now) (shown_test_args args.now)) }
+    requires fits { length args.now.cookie.now ≤ 1024 }
+    requires short { AreShort held.now.names }
+    ensures short { IfOk result (λ r. IsShortReply (TestAnswer (shown_test_res r))) }
+    ensures value { IfOk result (λ r. shown_test_res r ≡ tested count (held_of held.now) (shown_test_args args.now)) }
 {
     let cookie = args.cookie;
     let ask = match aimed(alloc, count, &args.lock) {
@@ -226,13 +225,14 @@ fn unlock_done(
     Ok(NlmStatus::Granted)
 }
 
-/// The results that name a cookie and a status.
-fn put_res(out: &mut XdrOut, cookie: &[u8], stat: NlmStatus) -> Result<(), AllocError>
-    requires { length cookie.now ≤ 1024 }
+/// Writes the results of a call; they are short.
+#[tactic(auto, using(crate::proofs::ReplyLaws::results_short))]
+fn put(out: &mut XdrOut, reply: &NlmReply) -> Result<(), AllocError>
+    requires { IsShortReply (shown_reply reply.now) }
+    ensures results { OnOk result (out.new ≡ out.old ++ results (shown_reply reply.now)) }
     ensures little { OnOk result (length out.new ≤ length out.old + 4096) }
-    ensures res { OnOk result (out.new ≡ out.old ++ res (answered cookie.now stat)) }
 {
-    write_result(out, &NlmReply::Res(Res { cookie, stat }))
+    write_result(out, reply)
 }
 
 /// Does what a call asks, and writes its results.
@@ -245,7 +245,6 @@ fn serve(
     out: &mut XdrOut,
 ) -> Result<(), AllocError>
     requires fits { CallFits (shown_call call.now) }
-    requires real { AllByRecursion IsRange held.old.claims.items }
     requires short { AreShort held.old.names }
     ensures results { OnOk result (out.new ≡ out.old ++ results (served count (held_of held.old) (shown_call call.now)).0) }
     ensures held { OnOk result (held_of held.new ≡ (served count (held_of held.old) (shown_call call.now)).1) }
@@ -255,15 +254,27 @@ fn serve(
     match call {
         NlmCall::Test(args) => {
             let result = tested(alloc, count, held, args)?;
-            write_result(out, &NlmReply::Test(result))?;
+            put(out, &NlmReply::Test(result))?;
         }
         NlmCall::Lock(args) => {
             let stat = lock_done(alloc, count, held, args)?;
-            put_res(out, args.cookie, stat)?;
+            put(
+                out,
+                &NlmReply::Res(Res {
+                    cookie: args.cookie,
+                    stat,
+                }),
+            )?;
         }
         NlmCall::Unlock(args) => {
             let stat = unlock_done(alloc, count, held, args)?;
-            put_res(out, args.cookie, stat)?;
+            put(
+                out,
+                &NlmReply::Res(Res {
+                    cookie: args.cookie,
+                    stat,
+                }),
+            )?;
         }
         _ => {}
     }
@@ -290,7 +301,6 @@ fn results_reply(
     call: &NlmCall,
 ) -> Result<Vec<u8>, AllocError>
     requires fits { CallFits (shown_call call.now) }
-    requires real { AllByRecursion IsRange held.old.claims.items }
     requires short { AreShort held.old.names }
     ensures short { OnOk result (AreShort held.new.names) }
     ensures little { IfOk result (λ v. length v.items ≤ 65536) }
@@ -310,7 +320,6 @@ fn replied_to(
     call: &Call,
 ) -> Result<Vec<u8>, AllocError>
     requires known { is_served call.now.head.proc ≡ true }
-    requires real { AllByRecursion IsRange held.old.claims.items }
     requires short { AreShort held.old.names }
     ensures short { OnOk result (AreShort held.new.names) }
     ensures little { IfOk result (λ v. length v.items ≤ 65536) }
@@ -341,7 +350,6 @@ fn replied(
     held: &mut Claims,
     call: &Call,
 ) -> Result<Vec<u8>, AllocError>
-    requires real { AllByRecursion IsRange held.old.claims.items }
     requires short { AreShort held.old.names }
     ensures short { OnOk result (AreShort held.new.names) }
     ensures little { IfOk result (λ v. length v.items ≤ 65536) }
@@ -367,7 +375,6 @@ pub fn told(
     held: &mut Claims,
     bytes: &[u8],
 ) -> Result<Option<Vec<u8>>, AllocError>
-    requires real { AllByRecursion IsRange held.old.claims.items }
     requires short { AreShort held.old.names }
     ensures short { OnOk result (AreShort held.new.names) }
     ensures little { IfOk result (λ r. IfSome r (λ v. length v.items ≤ 65536)) }

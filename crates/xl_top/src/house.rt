@@ -1,7 +1,7 @@
 //! The house: the machine with its journal.
 ghost use Rattle.std.specs.Prelude.{◌≡◌, ℕ, ◌+◌, ◌<◌, ◌≤◌, ◌^◌, [], ◌∷◌, ◌++◌, length, false, Ok, Err, Some, None, OnOk, OnErr, IfOk, IfErr, IfSome, ◌↔◌};
 ghost use Rattle.xl_top.specs.Machine.{State, begin, step, state_of};
-ghost use Rattle.xl_top.specs.Claims.{IsHeld, held_of};
+ghost use Rattle.xl_top.specs.Claims.{held_of};
 ghost use Rattle.xl_top.specs.House.{Housed, Stands, is_spoiled, replay, IsLegal, IsOrderly, entry};
 ghost use Rattle.xl_top.specs.Short.{AreShort};
 
@@ -49,7 +49,6 @@ fn act_and_enter(
 ) -> Result<(), Halt>
     requires place { machine.old.place ≡ length entries.old }
     requires few { length entries.old ≤ 1048576 }
-    requires held { IsHeld (held_of machine.old.held).claims }
     requires short { AreShort machine.old.held.names }
     ensures place { OnOk result (machine.new.place ≡ length entries.new) }
     ensures few { length entries.new ≤ 1048576 }

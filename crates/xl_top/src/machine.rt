@@ -1,8 +1,7 @@
 //! The machine: what one event does to the state, and what it sends.
 ghost use Rattle.std.specs.Prelude.{◌≡◌, ℕ, ◌+◌, ◌<◌, ◌≤◌, ◌^◌, length, map, option_map, OnOk, IfOk, IfSome};
-ghost use Rattle.std.specs.List.{AllByRecursion};
 ghost use Rattle.std.specs.Option.{option_to_list};
-ghost use Rattle.xl_top.specs.Claims.{IsRange, held_of};
+ghost use Rattle.xl_top.specs.Claims.{held_of};
 ghost use Rattle.xl_top.specs.Machine.{with_connection, without, kind_of, sent, onward, heard, step, state_of};
 ghost use Rattle.xl_top.specs.Short.{AreShort};
 
@@ -88,7 +87,6 @@ fn hear(
     number: u64,
     bytes: &[u8],
 ) -> Result<Sequence<Out>, AllocError>
-    requires real { AllByRecursion IsRange machine.old.held.claims.items }
     requires short { AreShort machine.old.held.names }
     ensures place { OnOk result (machine.new.place ≡ machine.old.place) }
     ensures short { OnOk result (AreShort machine.new.held.names) }
@@ -113,7 +111,6 @@ pub fn act(
     event: &Event,
 ) -> Result<Sequence<Out>, AllocError>
     requires place { machine.old.place < 2 ^ 63 }
-    requires real { AllByRecursion IsRange machine.old.held.claims.items }
     requires short { AreShort machine.old.held.names }
     ensures place { OnOk result (machine.new.place ≡ machine.old.place + 1) }
     ensures short { OnOk result (AreShort machine.new.held.names) }

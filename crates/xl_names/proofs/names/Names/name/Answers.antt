@@ -1,5 +1,3 @@
-use Rattle.std.proofs.Common.{◌≡◌, Some}
-use Rattle.xl_names.specs.Names.{number_of}
 use Rattle.xl_names.proofs.NameLaws.{number_at}
 use Rattle.xl_names.proofs.names.Names.name.Goals as goal
 
