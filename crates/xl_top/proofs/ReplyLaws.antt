@@ -1,5 +1,5 @@
 -- Replies and results fit a record.
-use Rattle.std.proofs.Common.{◌≡◌, ℕ, ◌+◌, ◌-◌, ◌%◌, ◌<◌, ◌≤◌, List, [], ◌++◌, length, replicate, Option, Some, None, refl, arith}
+use Rattle.std.proofs.Common.{◌≡◌, ℕ, ◌+◌, ◌-◌, ◌%◌, ◌<◌, ◌≤◌, List, [], ◌++◌, length, replicate, Option, Some, None, refl, ap, arith}
 use Rattle.std.proofs.Math.Nat.{mod-lt}
 use Rattle.std.proofs.lemmas.List.{length-append, length-replicate}
 use Rattle.std.specs.Int.{w32, w64, cast_unsigned}
@@ -38,9 +38,12 @@ told_short SystemErr = accepted_short 5 [] (omega arith)
 told_short (RpcMismatch low high) = omega (arith, longer 0 (unsigned low ++ unsigned high) 8 (two low high))
 told_short (AuthError why) = omega (arith, two 1 why)
 
-pub reply_short : (xid : ℕ) (v : Verdict) → length (reply xid v) ≤ 65536
+reply_little : (xid : ℕ) (v : Verdict) → length (reply xid v) ≤ 32
 unfolding reply
-reply_short xid v = omega (arith, longer xid (unsigned 1 ++ (unsigned (reply_stat v) ++ told v)) 28 (longer 1 (unsigned (reply_stat v) ++ told v) 24 (longer (reply_stat v) (told v) 20 (told_short v))))
+reply_little xid v = omega (arith, longer xid (unsigned 1 ++ (unsigned (reply_stat v) ++ told v)) 28 (longer 1 (unsigned (reply_stat v) ++ told v) 24 (longer (reply_stat v) (told v) 20 (told_short v))))
+
+pub reply_short : (xid : ℕ) (v : Verdict) → length (reply xid v) ≤ 65536
+reply_short xid v = omega (arith, reply_little xid v)
 
 -- ---- results
 
@@ -90,8 +93,15 @@ test_res_short r le oh =
     let rest = longer (status_number r.stat) part 1055 (part_short r.holder oh) in
     omega (arith, length-append (opaque r.cookie) (unsigned (status_number r.stat) ++ part), opaque_short r.cookie le, rest)
 
-pub results_short : (r : ReplyItem) → IsShortReply r → length (results r) ≤ 4096
+results_short : (r : ReplyItem) → IsShortReply r → length (results r) ≤ 4096
 results_short Void short = omega arith
-results_short (TestAnswer r) short = test_res_short r short.0 short.1.1
+results_short (TestAnswer r) short = test_res_short r short.0 short.2
 results_short (Answer r) short = res_short r short
 results_short (ShareAnswer r) short = share_res_short r short
+
+pub written_short : (old new : List ℕ) (r : ReplyItem) → new ≡ old ++ results r → IsShortReply r → length new ≤ length old + 4096
+written_short old new r e short = omega (arith, ap length e, length-append old (results r), results_short r short)
+
+-- a reply with short results fits a record
+pub results_fit : (start old new : List ℕ) (xid : ℕ) (v : Verdict) → start ≡ [] → old ≡ start ++ reply xid v → length new ≤ length old + 4096 → length new ≤ 65536
+results_fit start old new xid v none e le = omega (arith, ap length none, ap length e, length-append start (reply xid v), reply_little xid v, le)

@@ -1,5 +1,5 @@
 -- What is served has short results.
-use Rattle.std.proofs.Common.{◌≡◌, ℕ, ℤ, ◌≤◌, zero, suc, Bool, true, false, List, [], ◌∷◌, length, slice_get, Option, Some, None, Result, Ok, Err, refl, arith}
+use Rattle.std.proofs.Common.{◌≡◌, ℕ, ℤ, ◌≤◌, zero, suc, Bool, true, false, List, [], ◌∷◌, length, slice_get, Option, Some, None, Result, Ok, Err, refl, sym, subst, arith}
 use Rattle.xl_base.specs.declared.name.Owner.{Owner}
 use Rattle.xl_base.specs.declared.name.Owner.TheVariants as owners
 use Rattle.xl_matrix.specs.declared.claim.Claim.{Claim}
@@ -8,7 +8,7 @@ use Rattle.xl_matrix.specs.declared.claim.What.{What}
 use Rattle.xl_matrix.specs.declared.claim.What.TheVariants.{Share, Range, Cache}
 use Rattle.xl_names.specs.declared.name.Name.{Name}
 use Rattle.xl_names.specs.declared.name.Name.TheVariants.{NlmRange, NlmShare, NlmParty, NfsRange, NfsShare, NfsParty, SmbLease}
-use Rattle.xl_nlm.specs.Items.{LockItem, TestArgsItem, TestAnswer}
+use Rattle.xl_nlm.specs.Items.{LockItem, TestArgsItem, TestResItem, TestAnswer}
 use Rattle.xl_nlm.specs.Replies.{IsShortReply}
 use Rattle.xl_nlm.specs.declared.item.NlmStatus.{NlmStatus}
 use Rattle.xl_top.specs.Claims.{Held, claim_of, least_blocker}
@@ -55,6 +55,9 @@ in_short : (held : Held) (a : TestArgsItem) (file : Option ℕ) → length a.coo
 in_short held a None le short = (le, refl, tt)
 in_short held a (Some file) le short = at_short held a file (last_of a.lock.l_offset a.lock.l_len) le short
 
-pub tested_short : (count : ℕ) (held : Held) (a : TestArgsItem) → length a.cookie ≤ 1024 → AreShort held.names → IsShortReply (TestAnswer (tested count held a))
+tested_short : (count : ℕ) (held : Held) (a : TestArgsItem) → length a.cookie ≤ 1024 → AreShort held.names → IsShortReply (TestAnswer (tested count held a))
 unfolding tested aimed
 tested_short count held a le short = in_short held a (exported count a.lock.fh) le short
+
+pub test_short : (count : ℕ) (held : Held) (a : TestArgsItem) (r : TestResItem) → r ≡ tested count held a → length a.cookie ≤ 1024 → AreShort held.names → IsShortReply (TestAnswer r)
+test_short count held a r e le short = subst (λ (r : TestResItem). IsShortReply (TestAnswer r)) (sym e) (tested_short count held a le short)

@@ -16,16 +16,17 @@ use Rattle.xl_nlm.specs.declared.item.NlmStatus.{NlmStatus}
 use Rattle.xl_rpc.specs.Calls.{HeadItem, call_at}
 use Rattle.xl_rpc.specs.declared.fault.RpcBad.{RpcBad}
 use Rattle.xl_rpc.specs.declared.fault.RpcBad.TheVariants as bad
-use Rattle.xl_top.specs.Claims.{Held, IsHeld, is_of, is_blocker, claim_of, owner_of, party_of, others_of, spans_of, lock, locked, unlocked, has_room}
+use Rattle.xl_top.specs.Claims.{Held, IsHeld, nothing_held, is_of, is_blocker, claim_of, owner_of, party_of, others_of, spans_of, lock, locked, unlocked, has_room}
 use Rattle.xl_top.specs.FrontNlm.{nlm_program, nlm_version, is_served, ask_of, exported, last_of, aimed, aimed_at, aimed_in, locked_by, lock_done, unlocked_by, unlock_done, served, replied_by, replied, told_by, told}
 use Rattle.xl_top.specs.Machine.{State, begin, step, kind_of, heard}
-use Rattle.xl_top.specs.House.{replay, entry, Stands, AlwaysHeld}
+use Rattle.xl_top.specs.House.{replay, entry, IsLegal, Stands, AlwaysHeld}
 use Rattle.xl_top.specs.Short.{AreShort}
+use Rattle.xl_top.specs.declared.machine.Connection.{Connection}
 use Rattle.xl_top.specs.declared.claims.RangeAsk.{RangeAsk}
 use Rattle.xl_names.specs.Names.{entered}
 use Rattle.xl_base.specs.declared.journal.Head.{Head}
 use Rattle.xl_top.proofs.ClaimLaws.{keeps_held}
-use Rattle.xl_top.proofs.HouseLaws.{replay_entry}
+use Rattle.xl_top.proofs.HouseLaws.{replay_entry, legal_entry}
 use Rattle.xl_top.proofs.OrderLaws.{next_place}
 
 -- ---- asks name real ranges
@@ -191,8 +192,17 @@ begun_held head es = held_always (begin head) es nothing_keeps
 
 -- ---- the house stands for the replay of its entries
 
-pub begun_stands : (head : Head) → Stands (begin head) [] (begin head)
+begun_stands : (head : Head) → Stands (begin head) [] (begin head)
 begun_stands head = record { replayed = refl; place = refl; held = nothing_keeps; short = tt }
+
+pub start_stands : (head : Head) (es : List Entry) (connections : List Connection) (held : Held) → es ≡ [] → connections ≡ [] → held ≡ nothing_held → Stands (begin head) es (record { exports = head.exports; place = 0; connections = connections; held = held })
+start_stands head es connections held none closed free =
+    subst (λ (x : List Entry). Stands (begin head) x (record { exports = head.exports; place = 0; connections = connections; held = held })) (sym none)
+    (subst (λ (x : List Connection). Stands (begin head) [] (record { exports = head.exports; place = 0; connections = x; held = held })) (sym closed)
+    (subst (λ (x : Held). Stands (begin head) [] (record { exports = head.exports; place = 0; connections = []; held = x })) (sym free) (begun_stands head)))
+
+pub legal_next : (start : State) (es : List Entry) (old : State) (event : Event) → Stands start es old → IsLegal start es → IsLegal start (es ++ entry 0 old event ∷ [])
+legal_next start es old event stands legal = subst (λ (s : State). IsLegal start (es ++ entry 0 s event ∷ [])) (sym stands.replayed) (legal_entry start es event legal)
 
 pub stands_next : (start : State) (es : List Entry) (old new : State) (event : Event) → Stands start es old → new ≡ (step 0 old event).next → AreShort new.held.names → Stands start (es ++ entry 0 old event ∷ []) new
 stands_next start es old new event stands e short = record {

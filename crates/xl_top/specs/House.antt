@@ -10,7 +10,8 @@ use Rattle.xl_base.specs.declared.halt.Halt.{Halt}
 use Rattle.xl_base.specs.declared.halt.Halt.TheVariants.{NoMemory}
 use Rattle.xl_base.specs.declared.journal.Entry.{Entry}
 use Rattle.xl_base.specs.declared.journal.Head.{Head}
-use Rattle.xl_top.specs.Claims.{IsHeld}
+use Rattle.xl_base.specs.declared.journal.Journal.{Journal}
+use Rattle.xl_top.specs.Claims.{Held, IsHeld}
 use Rattle.xl_top.specs.Machine.{State, begin, step}
 use Rattle.xl_top.specs.Short.{AreShort}
 
@@ -73,6 +74,10 @@ IsOrderly opened ended place (e ∷ es) =
 abbrev pub is_spoiled : Option Halt → Bool
 is_spoiled (Some NoMemory) = true
 is_spoiled _ = false
+
+-- this is what is held after a journal
+abbrev pub IsHeldBy : Journal → Held → Type 0
+IsHeldBy journal held = held ≡ (replay (begin journal.head) journal.entries).held
 
 -- the state is the one that the entries lead to, at its place, and what is held keeps what it has to
 pub record Stands (start : State) (es : List Entry) (s : State) : Type 0 where

@@ -77,6 +77,17 @@ impl From<AllocError> for AimError {
 
 ghost use Rattle.xl_top.specs.Aims.{refusal};
 
+/// Writes the results of a call; they are short.
+#[tactic(auto, using(crate::proofs::ReplyLaws::written_short))]
+fn put(out: &mut XdrOut, reply: &NlmReply) -> Result<(), AllocError>
+    requires { IsShortReply (shown_reply reply.now) }
+    ensures results { OnOk result (out.new ≡ out.old ++ results (shown_reply reply.now)) }
+    ensures little { OnOk result (length out.new ≤ length out.old + 4096) }
+{
+    write_result(out, reply)?;
+    Ok(())
+}
+
 /// The range that a lock names.
 #[tactic(auto, unfolding(crate::specs::FrontNlm::aimed))]
 fn aimed(alloc: Global, count: usize, lock: &Lock) -> Result<RangeAsk, AimError>
@@ -134,17 +145,14 @@ fn owner_parts(names: &Names, owner: Owner) -> (i32, &[u8])
 }
 
 /// TEST.
-#[tactic(auto, unfolding(crate::specs::FrontNlm::tested), using(crate::proofs::ServeLaws::tested_short))]
+#[tactic(auto, unfolding(crate::specs::FrontNlm::tested))]
 fn tested<'a>(
     alloc: Global,
     count: usize,
     held: &'a Claims,
     args: &TestArgs<'a>,
 ) -> Result<TestRes<'a>, AllocError>
-    requires fits { length args.now.cookie.now ≤ 1024 }
-    requires short { AreShort held.now.names }
-    ensures short { IfOk result (λ r. IsShortReply (TestAnswer (shown_test_res r))) }
-    ensures value { IfOk result (λ r. shown_test_res r ≡ tested count (held_of held.now) (shown_test_args args.now)) }
+    ensures { IfOk result (λ r. shown_test_res r ≡ tested count (held_of held.now) (shown_test_args args.now)) }
 {
     let cookie = args.cookie;
     let ask = match aimed(alloc, count, &args.lock) {
@@ -170,6 +178,23 @@ fn tested<'a>(
             holder: Some(holder_of(&held.names, &claim)),
         },
     })
+}
+
+/// TEST, with its results written.
+fn put_tested(
+    alloc: Global,
+    count: usize,
+    held: &Claims,
+    args: &TestArgs,
+    out: &mut XdrOut,
+) -> Result<(), AllocError>
+    requires fits { length args.now.cookie.now ≤ 1024 }
+    requires short { AreShort held.now.names }
+    ensures results { OnOk result (out.new ≡ out.old ++ results (TestAnswer (tested count (held_of held.now) (shown_test_args args.now)))) }
+    ensures little { OnOk result (length out.new ≤ length out.old + 4096) }
+{
+    let result = tested(alloc, count, held, args)?;
+    put(out, &NlmReply::Test(result))
 }
 
 /// How a lock that ended so is told.
@@ -225,16 +250,6 @@ fn unlock_done(
     Ok(NlmStatus::Granted)
 }
 
-/// Writes the results of a call; they are short.
-#[tactic(auto, using(crate::proofs::ReplyLaws::results_short))]
-fn put(out: &mut XdrOut, reply: &NlmReply) -> Result<(), AllocError>
-    requires { IsShortReply (shown_reply reply.now) }
-    ensures results { OnOk result (out.new ≡ out.old ++ results (shown_reply reply.now)) }
-    ensures little { OnOk result (length out.new ≤ length out.old + 4096) }
-{
-    write_result(out, reply)
-}
-
 /// Does what a call asks, and writes its results.
 #[tactic(auto, unfolding(crate::specs::FrontNlm::served))]
 fn serve(
@@ -253,8 +268,7 @@ fn serve(
 {
     match call {
         NlmCall::Test(args) => {
-            let result = tested(alloc, count, held, args)?;
-            put(out, &NlmReply::Test(result))?;
+            put_tested(alloc, count, held, args, out)?;
         }
         NlmCall::Lock(args) => {
             let stat = lock_done(alloc, count, held, args)?;

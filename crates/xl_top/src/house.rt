@@ -2,7 +2,7 @@
 ghost use Rattle.std.specs.Prelude.{◌≡◌, ℕ, ◌+◌, ◌<◌, ◌≤◌, ◌^◌, [], ◌∷◌, ◌++◌, length, false, Ok, Err, Some, None, OnOk, OnErr, IfOk, IfErr, IfSome, ◌↔◌};
 ghost use Rattle.xl_top.specs.Machine.{State, begin, step, state_of};
 ghost use Rattle.xl_top.specs.Claims.{held_of};
-ghost use Rattle.xl_top.specs.House.{Housed, Stands, is_spoiled, replay, IsLegal, IsOrderly, entry};
+ghost use Rattle.xl_top.specs.House.{Housed, Stands, is_spoiled, IsHeldBy, replay, IsLegal, IsOrderly, entry};
 ghost use Rattle.xl_top.specs.Short.{AreShort};
 
 use crate::claims::Claims;
@@ -33,7 +33,7 @@ impl Model for House {
     ghost view = { λ h. record { head = h.head; entries = h.entries; halt = h.halt } };
 
     ghost invariant = { λ h. record {
-      stands : h.halt ≡ None → (state_of h.head.exports h.machine ≡ replay (begin h.head) h.entries) × (h.machine.place ≡ length h.entries);
+      stands : is_spoiled h.halt ≡ false → Stands (begin h.head) h.entries (state_of h.head.exports h.machine);
       few : length h.entries ≤ 1048576;
       legal : IsLegal (begin h.head) h.entries;
     } };
@@ -102,8 +102,9 @@ impl House {
         ensures stays { IfSome self.old.halt (λ halt. result ≡ Err halt) }
         ensures full { (count : ℕ) → self.old.halt ≡ None → (result ≡ Err (Halt.JournalFull count)) ↔ ((count ≡ length self.old.entries) × (length self.old.entries ≡ 1048576)) }
     {
-        if let Some(halt) = self.halt {
-            return Err(halt);
+        match self.halt {
+            Some(halt) => return Err(halt),
+            None => {}
         }
         match act_and_enter(
             alloc,
@@ -126,7 +127,7 @@ impl House {
     /// memory in a step what is held is spent.
     pub fn end(self) -> (Journal, Claims)
         ensures journal { (result.0.head ≡ self.head) × (result.0.entries ≡ self.entries) }
-        ensures held { is_spoiled self.halt ≡ false → held_of result.1 ≡ (replay (begin self.head) self.entries).held }
+        ensures held { is_spoiled self.halt ≡ false → IsHeldBy result.0 (held_of result.1) }
         ensures legal { IsLegal (begin result.0.head) result.0.entries }
         ensures orderly { IsOrderly [] [] 0 result.0.entries }
     {

@@ -3,7 +3,7 @@ ghost use Rattle.std.specs.Prelude.{◌≡◌, ◌≢◌, ℕ, ◌+◌, ◌<◌,
 ghost use Rattle.std.specs.Result.{result_ok};
 ghost use Rattle.xl_base.specs.Outside.{Rose, Took, Ended, Added, Began};
 ghost use Rattle.xl_top.specs.Capture.{captured, most_bytes};
-ghost use Rattle.xl_top.specs.House.{Housed, replay, IsLegal, IsOrderly, entries_of, most_entries};
+ghost use Rattle.xl_top.specs.House.{Housed, AlwaysHeld, IsHeldBy, is_spoiled, replay, IsLegal, IsOrderly, entries_of, most_entries};
 ghost use Rattle.xl_top.specs.Machine.{begin};
 ghost use Rattle.xl_top.specs.Job.{job, is_status, is_stepped, is_read, is_idle, capped, head_with, head_of, journal_of, no_journal, IsReplayed, IsBegun, BeginsAs, IsCutAt, whole_transcript};
 ghost use Rattle.xl_top.specs.Claims.{held_of};
@@ -123,6 +123,8 @@ fn step_all(alloc: Global, house: &mut House, events: Vec<Event>) -> Result<(), 
     ensures ok { OnOk result (house.new.entries ≡ house.old.entries ++ entries_of (replay (begin house.old.head) house.old.entries) events.items) }
     ensures err { OnErr result (take (length house.new.entries) (house.old.entries ++ entries_of (replay (begin house.old.head) house.old.entries) events.items) ≡ house.new.entries) }
     ensures full { (count : ℕ) → result ≡ Err (Halt.JournalFull count) → (length house.new.entries ≡ most_entries) × (most_entries < length house.old.entries + length events.items) }
+    ensures unspoiled { OnOk result (is_spoiled house.new.halt ≡ false) }
+    ensures unspoiled_full { (count : ℕ) → result ≡ Err (Halt.JournalFull count) → is_spoiled house.new.halt ≡ false }
 {
     for event in events {
         if let Err(halt) = house.step(alloc, event) {
@@ -161,6 +163,16 @@ fn write_transcript<O: Sink>(
     }
 }
 
+/// Writes the transcript of a journal, where this is what is held after it.
+fn write_whole<O: Sink>(alloc: Global, journal: &Journal, held: &Claims, out: &mut O) -> Written
+    requires held { IsHeldBy journal.now (held_of held.now) }
+    ensures all { result ≡ Written.All → Added (O.held out.old) (whole_transcript journal.now) (O.held out.new) }
+    ensures began { Began (O.held out.old) (whole_transcript journal.now) (O.held out.new) }
+    ensures failed { result ≡ Written.Failed → Rose (O.faults out.old) (O.faults out.new) }
+{
+    write_transcript(alloc, journal.entries.as_slice(), held, out)
+}
+
 /// What a run of these files begins from.
 fn head_with(alloc: Global, files: Sequence<Sequence<u8>>) -> Head
     ensures { result ≡ head_with files }
@@ -196,7 +208,8 @@ fn idle(alloc: Global, status: u8, line: u64) -> Done
 #[tactic(auto, using(crate::proofs::JobLaws::same_journal, crate::proofs::JobLaws::begins))]
 /// Steps the events of a capture on a house of its own. The answer says how the last step ended.
 fn step_capture(alloc: Global, capture: Capture) -> (Journal, Claims, Result<(), Halt>)
-    ensures held { result.2 ≢ Err Halt.NoMemory → held_of result.1 ≡ (replay (begin result.0.head) result.0.entries).held }
+    ensures held { OnOk result.2 (IsHeldBy result.0 (held_of result.1)) }
+    ensures held_full { (count : ℕ) → result.2 ≡ Err (Halt.JournalFull count) → IsHeldBy result.0 (held_of result.1) }
     ensures ok { OnOk result.2 (result.0 ≡ journal_of capture) }
     ensures begun { BeginsAs capture result.0 }
     ensures full { (count : ℕ) → result.2 ≡ Err (Halt.JournalFull count) → IsCutAt most_entries (Ok capture) result.0 }
@@ -227,16 +240,11 @@ fn replay<O: Sink>(alloc: Global, capture: Capture, out: &mut O) -> Done
     let (journal, held, ended) = step_capture(alloc, capture);
     let status = match ended {
         Err(Halt::NoMemory) => 6,
-        Err(Halt::JournalFull(_)) => match write_transcript(
-            alloc,
-            journal.entries.as_slice(),
-            &held,
-            out,
-        ) {
+        Err(Halt::JournalFull(_)) => match write_whole(alloc, &journal, &held, out) {
             Written::All | Written::Failed => 7,
             Written::NoMemory => 6,
         },
-        Ok(()) => match write_transcript(alloc, journal.entries.as_slice(), &held, out) {
+        Ok(()) => match write_whole(alloc, &journal, &held, out) {
             Written::All => 0,
             Written::Failed => 3,
             Written::NoMemory => 6,
@@ -274,7 +282,7 @@ fn replay_text<O: Sink>(alloc: Global, text: &[u8], out: &mut O) -> Done
 }
 
 /// Does what the words ask for, from the input to the output.
-#[tactic(auto, using(crate::proofs::ReadLaws::read_whole, crate::proofs::ReadLaws::read_ended))]
+#[tactic(auto, using(crate::proofs::ReadLaws::read_whole, crate::proofs::ReadLaws::read_ended, crate::proofs::StandLaws::begun_held))]
 pub fn run<I: Source, O: Sink>(alloc: Global, words: &[String], input: &mut I, out: &mut O) -> Done
     ensures known { is_status result.status ≡ true }
 
@@ -300,6 +308,9 @@ pub fn run<I: Source, O: Sink>(alloc: Global, words: &[String], input: &mut I, o
     // The journal is the machine's, and nothing is sent to a connection before its opening or after its end.
     ensures legal { IsLegal (begin result.journal.head) result.journal.entries }
     ensures orderly { IsOrderly [] [] 0 result.journal.entries }
+
+    // At every free moment the claims are pairwise compatible, and each owner's ranges sorted maximal runs.
+    ensures free { AlwaysHeld (begin result.journal.head) result.journal.entries }
 {
     if parse(words).is_err() {
         return idle(alloc, 1, 0);
