@@ -91,7 +91,7 @@ same_within (Some Shared) = refl
 same_within (Some Exclusive) = refl
 
 kept_within : (old new : Option Mode) → old ≡ new → is_within old new ≡ false → ⊥
-kept_within old new e weaker = true≢false (sym (same_within old) ∙ rw e at weaker)
+kept_within old new e weaker = true≢false (sym (same_within new) ∙ rw e at weaker)
 
 unchanged : (asked : Asked) (held : Held) → IsChange asked held held
 unchanged asked held = record {
