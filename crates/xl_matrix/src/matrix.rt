@@ -31,7 +31,7 @@ pub fn has_handle(kind: CacheKind) -> bool
 }
 
 /// Whether a cache of this kind stands against a share of another party, with this access and deny. R and RH stand
-/// against none; a read delegation against one that may write or denies reading (RFC 7530 10.4.1); a kind that may
+/// against none; a read delegation against one that may write or denies reading (RFC 7530 10.4); a kind that may
 /// write against each share but one that has no access and denies nothing.
 pub fn guards(kind: CacheKind, access: Rwd, deny: Rwd) -> bool
     ensures { result ≡ guarding kind access deny }

@@ -15,9 +15,9 @@ pub enum Name {
     NlmShare(Sequence<u8>, Sequence<u8>),
     /// An NLM client by its caller name.
     NlmParty(Sequence<u8>),
-    /// The owner of NFSv4 byte ranges: client id string and lock owner (RFC 7530 9.1.2, 9.1.5).
+    /// The owner of NFSv4 byte ranges: client id string and lock owner (RFC 7530 9.1.1, 9.1.5).
     NfsRange(Sequence<u8>, Sequence<u8>),
-    /// The owner of NFSv4 shares: client id string and open owner (RFC 7530 9.1.2, 9.1.5).
+    /// The owner of NFSv4 shares: client id string and open owner (RFC 7530 9.1.1, 16.16).
     NfsShare(Sequence<u8>, Sequence<u8>),
     /// An NFSv4 client by its client id string (RFC 7530 9.1.1).
     NfsParty(Sequence<u8>),

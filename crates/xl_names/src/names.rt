@@ -176,6 +176,7 @@ fn add(set: &mut IndexSet<Name>, alloc: Global, name: &Name) -> Result<u32, Name
     insert_new(set, name.copy(alloc)?)
 }
 
+/// Puts a new name, for which there is room, behind those before it.
 fn insert_new(set: &mut IndexSet<Name>, name: Name) -> Result<u32, NameErr>
     requires distinct { AreDistinct set.old.keys }
     requires new { is_kept name set.old.keys ≡ false }

@@ -1,4 +1,4 @@
-//! The texts of owners and parties.
+//! The texts of owners and parties. Where memory runs out, a text to which one was to be added may hold a beginning of it.
 ghost use Rattle.std.specs.Prelude.{◌≡◌, ◌++◌, codes, OnOk, IfOk, string_bytes};
 ghost use Rattle.std.specs.Fmt.{decimal, signed_decimal};
 ghost use Rattle.xl_names.specs.Texts.{hex_word, tagged, tagged_two, name_text, open_text, owner_text, party_text, HoldsOwner, HoldsParty};

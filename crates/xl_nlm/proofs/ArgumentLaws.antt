@@ -9,7 +9,7 @@ use Rattle.xl_rpc.specs.Xdr.{unsigned}
 use Rattle.xl_rpc.proofs.XdrLaws.{unsigned_codec, hyper_codec, signed_codec, boolean_codec, opaque_codec}
 use Rattle.xl_nlm.specs.declared.item.Rights.{Rights}
 use Rattle.xl_nlm.specs.Items.{CallItem, Null, Test, Lock, Cancel, Unlock, Granted, Share, Unshare, NmLock, FreeAll, TestArgsItem, LockArgsItem, CancelArgsItem, UnlockArgsItem, ShareArgsItem, NotifyItem}
-use Rattle.xl_nlm.specs.Arguments.{IsCallOf, TextFits, LockFits, TestArgsFits, LockArgsFits, CancelArgsFits, UnlockArgsFits, RightsFits, ShareArgsFits, NotifyFits, CallFits, lock, test_args, lock_args, cancel_args, unlock_args, rights_number, rights, share_args, notify, procedure_of, arguments, made_lock, made_test_args, made_lock_args, made_cancel_args, made_unlock_args, made_rights, made_share_args, made_notify, text_at, lock_at, test_args_at, lock_args_at, cancel_args_at, unlock_args_at, rights_at, share_args_at, notify_at, arguments_at}
+use Rattle.xl_nlm.specs.Arguments.{IsCallOf, TextFits, LockFits, TestArgsFits, LockArgsFits, CancelArgsFits, UnlockArgsFits, RightsFits, ShareArgsFits, NotifyFits, lock, test_args, lock_args, cancel_args, unlock_args, rights_number, rights, share_args, notify, arguments, made_lock, made_test_args, made_lock_args, made_cancel_args, made_unlock_args, made_rights, made_share_args, made_notify, text_at, lock_at, test_args_at, lock_args_at, cancel_args_at, unlock_args_at, rights_at, share_args_at, notify_at, arguments_at}
 use Rattle.xl_rpc.specs.Xdr.{opaque}
 
 pub text_codec : IsCodec text_at opaque TextFits

@@ -1,5 +1,5 @@
 -- The results of each procedure are a codec.
-use Rattle.std.proofs.Common.{◌≡◌, ℕ, zero, suc, ◌^◌, ◌<◌, ◌==◌, ◌||◌, Bool, true, false, ltb, Option, Some, None, refl, sym, ap, ◌∙◌, arith}
+use Rattle.std.proofs.Common.{◌≡◌, ℕ, zero, suc, ◌^◌, ◌<◌, ◌==◌, Bool, true, false, ltb, Option, Some, None, refl, sym, ap, arith}
 use Rattle.std.specs.Prelude.{is_some, IfSome}
 use Rattle.std.proofs.lemmas.Bool.{ltb-true}
 use Rattle.std.proofs.lemmas.Bool.Decides.{nat_tests}
@@ -11,7 +11,7 @@ use Rattle.xl_rpc.proofs.XdrLaws.{unsigned_codec, hyper_codec, signed_codec, boo
 use Rattle.xl_nlm.specs.declared.item.NlmStatus.{NlmStatus}
 use Rattle.xl_nlm.specs.declared.item.NlmStatus.TheVariants as stats
 use Rattle.xl_nlm.specs.Items.{HolderItem, TestResItem, ResItem, ShareResItem, ReplyItem, Void, TestAnswer, Answer, ShareAnswer}
-use Rattle.xl_nlm.specs.Replies.{status_number, status, StatusFits, holder, HolderFits, is_denied, holder_part, HolderFitsAt, test_res, TestResFits, res, ResFits, share_res, ShareResFits, results, ReplyFits, gives_void, gives_res, gives_share_res, IsReplyTo, made_status, made_holder, made_test_res, made_res, made_share_res, status_at, holder_at, holder_part_at, test_res_at, res_at, share_res_at, results_at}
+use Rattle.xl_nlm.specs.Replies.{status_number, status, StatusFits, holder, HolderFits, is_denied, holder_part, HolderFitsAt, test_res, TestResFits, res, ResFits, share_res, ShareResFits, results, gives_void, gives_res, gives_share_res, IsReplyTo, made_status, made_holder, made_test_res, made_res, made_share_res, status_at, holder_at, holder_part_at, test_res_at, res_at, share_res_at, results_at}
 use Rattle.xl_nlm.proofs.ArgumentLaws.{text_codec}
 
 number_of_status : (n : ℕ) → n < 10 → status_number (made_status n) ≡ n

@@ -15,17 +15,6 @@ fn words(alloc: Global, numbers: &[u32]) -> Result<Vec<u8>, AllocError> {
 // Caller `a`, handle `XLK1` and 1, owner empty, svid 7, offset 0, length 10.
 const RANGE: [u32; 11] = [1, 0x6100_0000, 8, 0x584c_4b31, 1, 0, 7, 0, 0, 0, 10];
 
-fn range<'a>(fh: &'a [u8]) -> Lock<'a> {
-    Lock {
-        caller_name: b"a",
-        fh,
-        oh: &[],
-        svid: 7,
-        l_offset: 0,
-        l_len: 10,
-    }
-}
-
 const HANDLE: [u8; 8] = *b"XLK1\0\0\0\x01";
 
 #[test]
@@ -38,7 +27,14 @@ fn a_lock_call_both_ways(rt: HostRuntime) -> Result<(), Fail> {
         cookie: &[],
         block: false,
         exclusive: true,
-        lock: range(&HANDLE),
+        lock: Lock {
+            caller_name: b"a",
+            fh: &HANDLE,
+            oh: &[],
+            svid: 7,
+            l_offset: 0,
+            l_len: 10,
+        },
         reclaim: false,
         state: 3,
     });

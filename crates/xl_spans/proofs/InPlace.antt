@@ -3,10 +3,10 @@ use Rattle.std.proofs.Common.{◌≡◌, ℕ, ◌+◌, ◌-◌, ◌<◌, ◌≤�
 use Rattle.std.proofs.Math.Numerals.{one-add}
 use Rattle.std.proofs.Math.Nat.{suc-sub-suc, sub-zero}
 use Rattle.std.specs.List.{AllByRecursion, filter_map, cons_option, prefix_len, slice_get, slice_range}
-use Rattle.std.specs.Option.{option_to_list, option_and_then, IfSome}
-use Rattle.std.proofs.lemmas.Bool.{cases_Bool, cases_lt, lt-ltb, le-ltb, ltb-true, leb-true, leb-false, le-leb, ne_eqb, and_left, false_from_ne_true}
+use Rattle.std.specs.Option.{option_to_list}
+use Rattle.std.proofs.lemmas.Bool.{cases_Bool, cases_lt, lt-ltb, le-ltb, leb-true, leb-false, le-leb, ne_eqb, and_left, false_from_ne_true}
 use Rattle.std.proofs.lemmas.Bool.Decides.{nat_tests}
-use Rattle.std.proofs.lemmas.List.{append-nil, length-append, append_assoc, take-append-drop, drop-take}
+use Rattle.std.proofs.lemmas.List.{append-nil, append_assoc, take-append-drop, drop-take}
 use Rattle.std.proofs.lemmas.List.Elements.{filter_map-append}
 use Rattle.std.proofs.lemmas.Option.{same_Some}
 use Rattle.xl_base.proofs.Members.{all_append, all_weaker}
@@ -129,10 +129,6 @@ relocked_back xs ys f l mode h c far =
     let loose = all_append Loose before (middle ++ past) (all_loose_far f (l + 2) before ys (omega (arith, h)) (before_ends f xs) far) (all_append Loose middle past (all_loose_far (l + 1) (l + 2) middle ys (omega arith) (asked_ends f l mode) far) (past_loose l xs ys c)) in
     ap runs (ap (λ bs. bs ++ (middle ++ filter_map (part_past l) (xs ++ ys))) none ∙ ap (λ ps. before ++ (middle ++ ps)) all ∙ parted)
     ∙ runs_append (before ++ (middle ++ past)) ys (canonical_end xs ys c) loose
-
--- where bisection parts the spans
-ends_before_all : (b : ℕ) (s : Span) (ss : List Span) → b ≤ s.last → prefix_len (ends_before b) (s ∷ ss) ≡ 0
-ends_before_all b s ss h = rw (le-ltb s.last b h) refl
 
 -- the spans that begin past byte t are a chain from there on
 pub chain_rest : (t lo : ℕ) (ss : List Span) → IsChain lo ss → IsChain (t + 1) (drop (prefix_len (begins_by t) ss) ss)
@@ -292,33 +288,6 @@ listed_runs left right m grown after before whole first second =
     second (option_to_list after)
     ∙ ap (joined_behind left) (first ∙ ap (joined m) (sym (runs_one right)))
     ∙ sym (runs_behind left (m ∷ option_to_list right))
-
-at_most_one : (o : Option Span) → length (option_to_list o) ≤ 1
-at_most_one None = omega arith
-at_most_one (Some s) = omega arith
-
--- at most two spans come up: a lock inside one span makes three of it
-pub pieces_fit : (f l : ℕ) (middle : Option Span) (ss : List Span) → length (listed (left_part f ss) middle (right_part l ss)) ≤ 2 + length ss
-pieces_fit f l middle [] = omega (arith, at_most_one middle, length-append (option_to_list middle) [])
-pieces_fit f l middle (s ∷ ss) =
-    let left = option_to_list (left_part f (s ∷ ss)) in
-    let right = option_to_list (right_part l (s ∷ ss)) in
-    omega (arith, at_most_one (left_part f (s ∷ ss)), at_most_one middle, at_most_one (right_part l (s ∷ ss)), length-append left (option_to_list middle ++ right), length-append (option_to_list middle) right)
-
-apart_at : (f l : ℕ) (low high : Option Span) → f ≤ l → IfSome (option_and_then (part_before f) low) (λ a. IfSome (option_and_then (part_past l) high) (λ b. joins a b ≡ false))
-apart_at f l None high h = tt
-apart_at f l (Some s) None h = elim (cases_Bool (ltb s.first f)) [ inl e ↦ rw e tt | inr e ↦ rw e tt ]
-apart_at f l (Some s) (Some t) h =
-    elim (cases_Bool (ltb s.first f)) [
-      | inl e ↦
-          let begins = ltb-true s.first f e in
-          rw e (elim (cases_Bool (ltb l t.last)) [ inl k ↦ rw k (and_left (eqb (min s.last (f - 1) + 1) (max t.first (l + 1))) (same_mode s.mode t.mode) (ne_eqb (min s.last (f - 1) + 1) (max t.first (l + 1)) (λ same. omega (arith, same, begins, h)))) | inr k ↦ rw k tt ])
-      | inr e ↦ rw e tt
-    ]
-
--- what is left on the two sides of a range is not one run
-pub parts_apart : (f l : ℕ) (ss : List Span) → f ≤ l → IfSome (left_part f ss) (λ a. IfSome (right_part l ss) (λ b. joins a b ≡ false))
-parts_apart f l ss h = apart_at f l (slice_get ss 0) (slice_get ss (length ss - 1)) h
 
 -- the whole, from what the code's steps give
 pub relocked_by_parts : (ss new : List Span) (f l t : ℕ) (mode : Option Mode) (middle a b c : Option Span) → f ≤ l → l ≤ t → t ≤ l + 1 → IsCanonical ss → IsChain (l + 2) (drop (prefix_len (begins_by t) ss) ss) → option_to_list middle ≡ asked f l mode → listed a b c ≡ runs (listed (left_part f (touched (f - 1) t ss)) middle (right_part l (touched (f - 1) t ss))) → new ≡ take (prefix_len (ends_before (f - 1)) ss) ss ++ (listed a b c ++ drop (prefix_len (begins_by t) ss) ss) → new ≡ relocked ss f l mode

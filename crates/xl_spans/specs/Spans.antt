@@ -1,4 +1,4 @@
--- The byte ranges that one owner has locked in one file, as maximal runs of one mode (XNFS C702 chapter 10, RFC 7530 16.10 and 16.12).
+-- The byte ranges that one owner has locked in one file, as maximal runs of one mode (XNFS C702, RFC 7530 16.10 and 16.12).
 use Rattle.std.specs.Prelude.{◌≡◌, ℕ, ◌+◌, ◌-◌, ◌<◌, ◌≤◌, ◌==◌, nat_lt, nat_le, min, max, Bool, true, false, not, ◌&&◌, if◌then◌else◌, List, [], ◌∷◌, ◌++◌, Option, Some, None, length}
 use Rattle.std.specs.List.{AllByRecursion, filter_map, find, slice_get}
 use Rattle.std.specs.Option.{option_and_then, option_to_list}

@@ -152,7 +152,7 @@ fn cut_and_join(items: &mut Vec<Span>, first: u64, last: u64, mode: Option<Mode>
     requires canonical { IsCanonical items.old.items }
     requires room { vec_len items.old + 2 ≤ vec_capacity items.old }
     ensures spans { items.new.items ≡ relocked items.old.items first last mode }
-    ensures grown { vec_len items.new ≤ vec_len items.old + 2 }
+    ensures grown { vec_len items.new ≤ vec_len items.old + 1 + length (asked first last mode) }
     ensures capacity { vec_capacity items.new ≡ vec_capacity items.old }
 {
     let (start, end) = touched_places(items, first, last);
@@ -172,7 +172,7 @@ pub(crate) fn relock(items: &mut Vec<Span>, first: u64, last: u64, mode: Option<
     ensures spans { items.new.items ≡ relocked items.old.items first last mode }
     ensures bytes { (x : ℕ) → mode_at items.new.items x ≡ (if within first last x then mode else mode_at items.old.items x) }
     ensures canonical { IsCanonical items.new.items }
-    ensures grown { vec_len items.new ≤ vec_len items.old + 2 }
+    ensures grown { vec_len items.new ≤ vec_len items.old + 1 + length (asked first last mode) }
     ensures capacity { vec_capacity items.new ≡ vec_capacity items.old }
 {
     cut_and_join(items, first, last, mode);

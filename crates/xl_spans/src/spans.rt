@@ -10,7 +10,7 @@ use std::alloc::{AllocError, Global};
 use std::marker::Model;
 
 /// The byte ranges that one owner has locked in one file, as maximal runs of one mode in the order of their bytes
-/// (XNFS C702 chapter 10, RFC 7530 16.10). A contract sees the runs, and how many more fit without memory.
+/// (XNFS C702, RFC 7530 16.10). A contract sees the runs, and how many more fit without memory.
 #[derive(Drop)]
 pub struct Spans {
     items: Vec<Span>,
@@ -104,7 +104,7 @@ impl Spans {
         ensures spans { self.new.spans ≡ relocked self.old.spans first last None }
         ensures bytes { (x : ℕ) → mode_at self.new.spans x ≡ (if within first last x then None else mode_at self.old.spans x) }
         ensures canonical { IsCanonical self.new.spans }
-        ensures spare { self.old.spare ≤ self.new.spare + 2 }
+        ensures spare { self.old.spare ≤ self.new.spare + 1 }
         ensures room { self.new.spare + length self.new.spans ≡ self.old.spare + length self.old.spans }
     {
         relock(&mut self.items, first, last, None);

@@ -1,6 +1,7 @@
 pub mod ClaimLaws
 pub mod HouseLaws
 pub mod JobLaws
+pub mod LawfulLaws
 pub mod LineLaws
 pub mod NameLaws
 pub mod OrderLaws

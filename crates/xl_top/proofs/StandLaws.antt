@@ -72,7 +72,7 @@ in_real : (l : LockItem) (o : Option ℕ) (a : RangeAsk) → aimed_in l o ≡ Ok
 in_real l None a e = absurd cc
 in_real l (Some file) a e = at_real l file (last_of l.l_offset l.l_len) a refl e
 
-aimed_real : (count : ℕ) (l : LockItem) (a : RangeAsk) → aimed count l ≡ Ok a → IsReal a
+pub aimed_real : (count : ℕ) (l : LockItem) (a : RangeAsk) → aimed count l ≡ Ok a → IsReal a
 unfolding aimed
 aimed_real count l a e = in_real l (exported count l.fh) a e
 
@@ -168,7 +168,7 @@ heard_held s None number bytes keeps = keeps
 heard_held s (Some Smb) number bytes keeps = keeps
 heard_held s (Some Rpc) number bytes keeps = told_keeps (length s.exports.files) s.held (call_at bytes) keeps
 
-nothing_keeps : IsHeld []
+pub nothing_keeps : IsHeld []
 unfolding spans_of
 nothing_keeps = record { ranges = tt; compatible = tt; canonical = λ file owner. tt }
 

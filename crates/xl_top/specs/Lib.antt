@@ -5,6 +5,7 @@ pub mod Frame
 pub mod FrontNlm
 pub mod House
 pub mod Job
+pub mod Lawful
 pub mod Machine
 pub mod Short
 pub mod Transcript

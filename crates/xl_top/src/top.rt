@@ -3,6 +3,7 @@ ghost use Rattle.std.specs.Prelude.{◌≡◌, ◌≢◌, ℕ, ◌+◌, ◌<◌,
 ghost use Rattle.std.specs.Result.{result_ok};
 ghost use Rattle.xl_base.specs.Outside.{Rose, Took, Ended, Added, Began};
 ghost use Rattle.xl_top.specs.Capture.{captured, most_bytes};
+ghost use Rattle.xl_top.specs.Lawful.{AlwaysLawful, AlwaysComplete};
 ghost use Rattle.xl_top.specs.House.{Housed, AlwaysHeld, IsHeldBy, is_spoiled, replay, IsLegal, IsOrderly, entries_of, most_entries};
 ghost use Rattle.xl_top.specs.Machine.{begin};
 ghost use Rattle.xl_top.specs.Job.{job, is_status, is_stepped, is_read, is_idle, capped, head_with, head_of, journal_of, no_journal, IsReplayed, IsBegun, BeginsAs, IsCutAt, whole_transcript};
@@ -282,7 +283,7 @@ fn replay_text<O: Sink>(alloc: Global, text: &[u8], out: &mut O) -> Done
 }
 
 /// Does what the words ask for, from the input to the output.
-#[tactic(auto, using(crate::proofs::ReadLaws::read_whole, crate::proofs::ReadLaws::read_ended, crate::proofs::StandLaws::begun_held))]
+#[tactic(auto, using(crate::proofs::ReadLaws::read_whole, crate::proofs::ReadLaws::read_ended, crate::proofs::StandLaws::begun_held, crate::proofs::LawfulLaws::begun_lawful, crate::proofs::LawfulLaws::complete_always))]
 pub fn run<I: Source, O: Sink>(alloc: Global, words: &[String], input: &mut I, out: &mut O) -> Done
     ensures known { is_status result.status ≡ true }
 
@@ -311,6 +312,11 @@ pub fn run<I: Source, O: Sink>(alloc: Global, words: &[String], input: &mut I, o
 
     // At every free moment the claims are pairwise compatible, and each owner's ranges sorted maximal runs.
     ensures free { AlwaysHeld (begin result.journal.head) result.journal.entries }
+
+    // Each byte that an owner lost or that weakened was its own act, each that is new or stronger was granted to it; what
+    // nothing stands against was granted.
+    ensures lawful { AlwaysLawful (begin result.journal.head) result.journal.entries }
+    ensures complete { AlwaysComplete (begin result.journal.head) result.journal.entries }
 {
     if parse(words).is_err() {
         return idle(alloc, 1, 0);

@@ -1,0 +1,14 @@
+pub mod Places
+pub mod Bodies
+pub mod Heads
+pub mod Sessions
+pub mod Files
+pub mod Locks
+pub mod Leases
+pub mod Breaks
+pub mod Creates
+pub mod Calls
+pub mod Replies
+pub mod Messages
+pub mod Faults
+pub mod Lengths

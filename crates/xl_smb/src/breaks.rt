@@ -1,0 +1,160 @@
+//! OPLOCK_BREAK: acknowledgements, their replies, and the notices that ask for them.
+ghost use Rattle.std.specs.Prelude.{◌≡◌, ◌++◌, ◌≤◌, length, OnOk};
+ghost use Rattle.xl_base.specs.Results.{Gives};
+ghost use Rattle.xl_smb.specs.Breaks.{break_at, oplock_text, lease_text, break_text, BreakFits, notice_at, lease_notice, LeaseNoticeFits, notice, NoticeFits};
+ghost use Rattle.xl_smb.specs.Files.{FileIdFits};
+ghost use Rattle.xl_smb.specs.Leases.{LeaseFits};
+
+use crate::command::Command;
+use crate::fault::SmbBad;
+use crate::file::{FileId, file_id_at};
+use crate::lease::Lease;
+use crate::place::{
+    bytes_at, check_fixed, put_all, size_found, u16_bytes, u32_at, u32_bytes, u64_at, u64_bytes,
+};
+use std::alloc::AllocError;
+
+/// What a client keeps after a break, and, in the reply, what it now holds.
+#[derive(Clone, Copy, Debug, PartialEq, Eq)]
+pub enum Break {
+    /// Of an oplock: the level, 0 none, 1 II, 8 exclusive, 9 batch, 0xFF a lease; and the open (MS-SMB2 2.2.24.1,
+    /// 2.2.25.1).
+    Oplock(u8, FileId),
+    /// Of a lease (MS-SMB2 2.2.24.2, 2.2.25.2).
+    Lease(Lease),
+}
+
+/// What the server tells a client whose cache is broken.
+#[derive(Clone, Copy, Debug, PartialEq, Eq)]
+pub enum Notice {
+    /// Of an oplock: the level that may be kept, and the open (MS-SMB2 2.2.23.1).
+    Oplock(u8, FileId),
+    /// Of a lease (MS-SMB2 2.2.23.2).
+    Lease(LeaseNotice),
+}
+
+/// The break of a lease.
+#[derive(Clone, Copy, Debug, PartialEq, Eq)]
+pub struct LeaseNotice {
+    /// 1 where an acknowledgement is awaited.
+    pub flags: u32,
+    /// The lease's key.
+    pub key: [u8; 16],
+    /// What was held: 1 read, 2 handle, 4 write.
+    pub current: u32,
+    /// What may be kept.
+    pub new: u32,
+}
+
+/// An acknowledgement or the reply to one, which have the same form.
+#[tactic(auto, unfolding(crate::specs::Breaks::break_at))]
+pub(crate) fn break_at(body: &[u8]) -> Result<Break, SmbBad>
+    ensures { Gives (λ held. held) result (break_at body.now) }
+{
+    if size_found(body) == 36 {
+        check_fixed(Command::OplockBreak.number(), 36, 36, body)?;
+        return Ok(Break::Lease(Lease {
+            key: bytes_at(body, 8),
+            state: u32_at(body, 24),
+            flags: u32_at(body, 4),
+            duration: u64_at(body, 28),
+        }));
+    }
+    check_fixed(Command::OplockBreak.number(), 24, 24, body)?;
+    Ok(Break::Oplock(body[2], file_id_at(body, 8)))
+}
+
+/// A notice, by its body.
+#[tactic(auto, unfolding(crate::specs::Breaks::notice_at))]
+pub(crate) fn notice_at(body: &[u8]) -> Result<Notice, SmbBad>
+    ensures { Gives (λ told. told) result (notice_at body.now) }
+{
+    if size_found(body) == 44 {
+        check_fixed(Command::OplockBreak.number(), 44, 44, body)?;
+        return Ok(Notice::Lease(LeaseNotice {
+            flags: u32_at(body, 4),
+            key: bytes_at(body, 8),
+            current: u32_at(body, 24),
+            new: u32_at(body, 28),
+        }));
+    }
+    check_fixed(Command::OplockBreak.number(), 24, 24, body)?;
+    Ok(Notice::Oplock(body[2], file_id_at(body, 8)))
+}
+
+/// Writes the form of an oplock's break, which acknowledgements, replies and notices share.
+#[tactic(auto, unfolding(crate::specs::Breaks::oplock_text))]
+fn put_oplock(out: &mut Vec<u8>, level: u8, file_id: FileId) -> Result<(), AllocError>
+    ensures ok { OnOk result (out.new.items ≡ out.old.items ++ oplock_text level file_id) }
+    ensures fits { FileIdFits file_id }
+{
+    put_all(
+        out,
+        &[
+            &u16_bytes(24),
+            &[level, 0],
+            &[0; 4],
+            &u64_bytes(file_id.persistent),
+            &u64_bytes(file_id.volatile),
+        ],
+    )
+}
+
+#[tactic(auto, unfolding(crate::specs::Breaks::lease_text))]
+fn put_lease(out: &mut Vec<u8>, lease: Lease) -> Result<(), AllocError>
+    ensures ok { OnOk result (out.new.items ≡ out.old.items ++ lease_text lease) }
+    ensures fits { LeaseFits lease }
+{
+    put_all(
+        out,
+        &[
+            &u16_bytes(36),
+            &[0; 2],
+            &u32_bytes(lease.flags),
+            &lease.key,
+            &u32_bytes(lease.state),
+            &u64_bytes(lease.duration),
+        ],
+    )
+}
+
+#[tactic(auto, unfolding(crate::specs::Breaks::lease_notice))]
+fn put_lease_notice(out: &mut Vec<u8>, told: LeaseNotice) -> Result<(), AllocError>
+    ensures ok { OnOk result (out.new.items ≡ out.old.items ++ lease_notice told) }
+    ensures fits { LeaseNoticeFits told }
+{
+    put_all(
+        out,
+        &[
+            &u16_bytes(44),
+            &[0; 2],
+            &u32_bytes(told.flags),
+            &told.key,
+            &u32_bytes(told.current),
+            &u32_bytes(told.new),
+            &[0; 12],
+        ],
+    )
+}
+
+/// Writes an acknowledgement or the reply to one.
+pub(crate) fn put_break(out: &mut Vec<u8>, held: Break) -> Result<(), AllocError>
+    ensures ok { OnOk result (out.new.items ≡ out.old.items ++ break_text held) }
+    ensures fits { BreakFits held }
+{
+    match held {
+        Break::Oplock(level, file_id) => put_oplock(out, level, file_id),
+        Break::Lease(lease) => put_lease(out, lease),
+    }
+}
+
+/// Writes the body of a notice.
+pub(crate) fn put_notice(out: &mut Vec<u8>, told: Notice) -> Result<(), AllocError>
+    ensures ok { OnOk result (out.new.items ≡ out.old.items ++ notice told) }
+    ensures fits { NoticeFits told }
+{
+    match told {
+        Notice::Oplock(level, file_id) => put_oplock(out, level, file_id),
+        Notice::Lease(lease) => put_lease_notice(out, lease),
+    }
+}

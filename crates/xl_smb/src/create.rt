@@ -1,0 +1,183 @@
+//! CREATE.
+ghost use Rattle.std.specs.Prelude.{◌≡◌, ◌++◌, ◌<◌, ◌≤◌, ◌^◌, true, length, OnOk};
+ghost use Rattle.xl_base.specs.Results.{Gives};
+ghost use Rattle.xl_smb.specs.Creates.{shown_create_call, create_call_at, create_call, padding, contexts_place, CreateCallFits, CreateCallHas, contexts_at, shown_create_reply, create_reply_at, create_reply, CreateReplyFits, CreateReplyHas};
+
+use crate::command::Command;
+use crate::fault::SmbBad;
+use crate::file::{FileId, FileStatus, file_id_at, status_at};
+use crate::lease::{Contexts, are_contexts};
+use crate::place::{
+    check_fixed, part_at, put_all, u16_at, u16_bytes, u32_at, u32_bytes, u64_bytes,
+};
+use std::alloc::AllocError;
+
+/// What a client asks with CREATE, which opens a file (MS-SMB2 2.2.13).
+#[derive(Clone, Copy, Debug, PartialEq, Eq)]
+pub struct CreateCall<'a> {
+    /// The oplock that is wished for: 0 none, 1 II, 8 exclusive, 9 batch, 0xFF a lease.
+    pub oplock_level: u8,
+    /// What the open is for (MS-SMB2 2.2.13.1).
+    pub desired_access: u32,
+    /// What others may open it for: 1 read, 2 write, 4 delete.
+    pub share_access: u32,
+    /// What to do where the file is there or isn't, 0 to 5.
+    pub disposition: u32,
+    /// How to open it.
+    pub options: u32,
+    /// The file's name, UTF-16LE.
+    pub name: &'a [u8],
+    /// What else is asked.
+    pub contexts: Contexts<'a>,
+}
+
+/// What a server answers to CREATE (MS-SMB2 2.2.14).
+#[derive(Clone, Copy, Debug, PartialEq, Eq)]
+pub struct CreateReply<'a> {
+    /// The oplock that is granted.
+    pub oplock_level: u8,
+    /// What was done: 0 superseded, 1 opened, 2 made, 3 overwritten.
+    pub action: u32,
+    /// What the file is.
+    pub status: FileStatus,
+    /// The open.
+    pub file_id: FileId,
+    /// What else is answered.
+    pub contexts: Contexts<'a>,
+}
+
+/// The contexts at a place of the frame, each of which lies within them.
+#[tactic(auto, unfolding(crate::specs::Creates::contexts_at))]
+fn contexts_at(frame: &[u8], start: u32, count: u32) -> Result<&[u8], SmbBad>
+    ensures { Gives (λ list. list.now) result (contexts_at start count frame.now) }
+{
+    let list = part_at(frame, start, count)?;
+    if !are_contexts(list) {
+        return Err(SmbBad::Offset);
+    }
+    Ok(list)
+}
+
+#[tactic(auto, unfolding(crate::specs::Creates::create_call_at))]
+pub(crate) fn create_call_at<'a>(frame: &'a [u8], body: &[u8]) -> Result<CreateCall<'a>, SmbBad>
+    ensures { Gives shown_create_call result (create_call_at frame.now body.now) }
+{
+    check_fixed(Command::Create.number(), 57, 56, body)?;
+    let name = part_at(
+        frame,
+        u32::from(u16_at(body, 44)),
+        u32::from(u16_at(body, 46)),
+    )?;
+    let contexts = contexts_at(frame, u32_at(body, 48), u32_at(body, 52))?;
+    Ok(CreateCall {
+        oplock_level: body[3],
+        desired_access: u32_at(body, 24),
+        share_access: u32_at(body, 32),
+        disposition: u32_at(body, 36),
+        options: u32_at(body, 40),
+        name,
+        contexts: Contexts(contexts),
+    })
+}
+
+#[tactic(auto, unfolding(crate::specs::Creates::create_reply_at))]
+pub(crate) fn create_reply_at<'a>(frame: &'a [u8], body: &[u8]) -> Result<CreateReply<'a>, SmbBad>
+    ensures { Gives shown_create_reply result (create_reply_at frame.now body.now) }
+{
+    check_fixed(Command::Create.number(), 89, 88, body)?;
+    let contexts = contexts_at(frame, u32_at(body, 80), u32_at(body, 84))?;
+    Ok(CreateReply {
+        oplock_level: body[2],
+        action: u32_at(body, 4),
+        status: status_at(body),
+        file_id: file_id_at(body, 64),
+        contexts: Contexts(contexts),
+    })
+}
+
+/// How many zeros stand between a name and the contexts behind it, which begin at a multiple of 8; none where there are
+/// no contexts.
+#[tactic(auto, unfolding(crate::specs::Creates::padding))]
+fn padding(name: usize, contexts: usize) -> usize
+    ensures is { result ≡ padding name contexts }
+    ensures short { result < 8 }
+{
+    if contexts == 0 {
+        return 0;
+    }
+    (8 - name % 8) % 8
+}
+
+/// Where the contexts begin that stand behind so many bytes of the frame, 0 where there are none.
+#[tactic(auto, unfolding(crate::specs::Creates::contexts_place))]
+fn contexts_place(before: usize, contexts: usize) -> u32
+    requires { before < 2 ^ 32 }
+    ensures { result ≡ contexts_place before contexts }
+{
+    if contexts == 0 { 0 } else { before as u32 }
+}
+
+/// Writes a CREATE request.
+#[tactic(auto, unfolding(crate::specs::Creates::create_call))]
+pub(crate) fn put_create_call(out: &mut Vec<u8>, call: CreateCall<'_>) -> Result<(), AllocError>
+    requires { CreateCallHas (shown_create_call call) }
+    ensures ok { OnOk result (out.new.items ≡ out.old.items ++ create_call (shown_create_call call.entry)) }
+    ensures fits { CreateCallFits (shown_create_call call.entry) }
+{
+    let Contexts(contexts) = call.contexts;
+    let padding = padding(call.name.len(), contexts.len());
+    let place = contexts_place(120 + call.name.len() + padding, contexts.len());
+    let zeros = [0; 8];
+    put_all(
+        out,
+        &[
+            &u16_bytes(57),
+            &[0, call.oplock_level],
+            &[0; 20],
+            &u32_bytes(call.desired_access),
+            &[0; 4],
+            &u32_bytes(call.share_access),
+            &u32_bytes(call.disposition),
+            &u32_bytes(call.options),
+            &u16_bytes(120),
+            &u16_bytes(call.name.len() as u16),
+            &u32_bytes(place),
+            &u32_bytes(contexts.len() as u32),
+            call.name,
+            &zeros[..padding],
+            contexts,
+        ],
+    )
+}
+
+/// Writes a CREATE reply.
+#[tactic(auto, unfolding(crate::specs::Creates::create_reply))]
+pub(crate) fn put_create_reply(out: &mut Vec<u8>, reply: CreateReply<'_>) -> Result<(), AllocError>
+    requires { CreateReplyHas (shown_create_reply reply) }
+    ensures ok { OnOk result (out.new.items ≡ out.old.items ++ create_reply (shown_create_reply reply.entry)) }
+    ensures fits { CreateReplyFits (shown_create_reply reply.entry) }
+{
+    let Contexts(contexts) = reply.contexts;
+    let status = reply.status;
+    put_all(
+        out,
+        &[
+            &u16_bytes(89),
+            &[reply.oplock_level, 0],
+            &u32_bytes(reply.action),
+            &u64_bytes(status.created),
+            &u64_bytes(status.accessed),
+            &u64_bytes(status.written),
+            &u64_bytes(status.changed),
+            &u64_bytes(status.allocated),
+            &u64_bytes(status.end_of_file),
+            &u32_bytes(status.attributes),
+            &[0; 4],
+            &u64_bytes(reply.file_id.persistent),
+            &u64_bytes(reply.file_id.volatile),
+            &u32_bytes(contexts_place(152, contexts.len())),
+            &u32_bytes(contexts.len() as u32),
+            contexts,
+        ],
+    )
+}

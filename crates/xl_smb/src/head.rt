@@ -1,0 +1,169 @@
+//! The header of a message.
+ghost use Rattle.std.specs.Prelude.{◌≡◌, ◌≤◌, ◌++◌, length, OnOk};
+ghost use Rattle.xl_base.specs.Results.{Gives};
+ghost use Rattle.xl_smb.specs.Heads.{is_set, is_notice, has_mark, route_at, head_at, head_of, route, head, RouteFits, HeadFits};
+
+use crate::fault::SmbBad;
+use crate::place::{bytes_at, put_all, u16_at, u16_bytes, u32_at, u32_bytes, u64_at, u64_bytes};
+use std::alloc::AllocError;
+
+/// What a message belongs to, by the form of its header.
+#[derive(Clone, Copy, Debug, PartialEq, Eq)]
+pub enum Route {
+    /// The synchronous form: the tree of this number, 0 for none (MS-SMB2 2.2.1.2).
+    Tree(u32),
+    /// The asynchronous form, flag 2: the pending request of this number (MS-SMB2 2.2.1.1).
+    Async(u64),
+}
+
+/// The header of a message (MS-SMB2 2.2.1).
+#[derive(Clone, Copy, Debug, PartialEq, Eq)]
+pub struct SmbHead {
+    /// How many credits the request costs; not used here.
+    pub credit_charge: u16,
+    /// The status of a reply, 0 for success (MS-ERREF 2.3).
+    pub status: u32,
+    /// The command's number.
+    pub command: u16,
+    /// The credits that a request asks for, or that a reply grants.
+    pub credits: u16,
+    /// 1 a reply, 2 the asynchronous form, 4 related to the part before it, 8 signed.
+    pub flags: u32,
+    /// The way to the next part of the frame, 0 in the last.
+    pub next_command: u32,
+    /// The request's number, repeated in its replies; all ones in a notice.
+    pub message_id: u64,
+    /// The tree, or the pending request.
+    pub route: Route,
+    /// The session, 0 for none.
+    pub session_id: u64,
+    /// The signature, zeros where the message isn't signed.
+    pub signature: [u8; 16],
+}
+
+impl SmbHead {
+    /// Whether flag 1 is set, so that the message is a reply or a notice.
+    pub fn is_reply(&self) -> bool
+        ensures { result ≡ is_set 1 self.now.flags }
+    {
+        is_set(1, self.flags)
+    }
+}
+
+/// Whether this flag is set.
+fn is_set(flag: u32, flags: u32) -> bool
+    ensures { result ≡ is_set flag flags }
+{
+    flags & flag != 0
+}
+
+/// Whether a frame begins with the mark and the header's size.
+#[tactic(auto, unfolding(crate::specs::Heads::has_mark))]
+fn has_mark(frame: &[u8]) -> bool
+    requires { 64 ≤ length frame.now }
+    ensures { result ≡ has_mark frame.now }
+{
+    frame[..6] == [0xFE, 0x53, 0x4D, 0x42, 64, 0]
+}
+
+/// Whether a header is that of a notice, which the server sends without a request (MS-SMB2 2.2.23).
+#[tactic(auto, unfolding(crate::specs::Heads::is_notice))]
+pub(crate) fn is_notice(head: &SmbHead) -> bool
+    ensures { result ≡ is_notice head.now }
+{
+    head.status == 0
+        && head.command == 18
+        && head.flags == 1
+        && head.credits == 0
+        && head.message_id == u64::MAX
+        && head.session_id == 0
+        && head.route == Route::Tree(0)
+}
+
+#[tactic(auto, unfolding(crate::specs::Heads::route_at))]
+fn route_at(frame: &[u8]) -> Route
+    requires { 64 ≤ length frame.now }
+    ensures { result ≡ route_at frame.now }
+{
+    if is_set(2, u32_at(frame, 16)) {
+        Route::Async(u64_at(frame, 32))
+    } else {
+        Route::Tree(u32_at(frame, 36))
+    }
+}
+
+/// Reads the header of a message, whatever stands behind it: Short where there are fewer than 64 bytes, else Magic where
+/// the first six aren't the mark and the header's size.
+#[tactic(auto, unfolding(crate::specs::Heads::head_of))]
+pub fn read_head(frame: &[u8]) -> Result<SmbHead, SmbBad>
+    ensures exact { Gives (λ head. head) result (head_of frame.now) }
+    ensures long { OnOk result (64 ≤ length frame.now) }
+{
+    if frame.len() < 64 {
+        return Err(SmbBad::Short);
+    }
+    if !has_mark(frame) {
+        return Err(SmbBad::Magic);
+    }
+    Ok(head_at(frame))
+}
+
+/// The header of a frame.
+#[tactic(auto, unfolding(crate::specs::Heads::head_at))]
+fn head_at(frame: &[u8]) -> SmbHead
+    requires { 64 ≤ length frame.now }
+    ensures { result ≡ head_at frame.now }
+{
+    SmbHead {
+        credit_charge: u16_at(frame, 6),
+        status: u32_at(frame, 8),
+        command: u16_at(frame, 12),
+        credits: u16_at(frame, 14),
+        flags: u32_at(frame, 16),
+        next_command: u32_at(frame, 20),
+        message_id: u64_at(frame, 24),
+        route: route_at(frame),
+        session_id: u64_at(frame, 40),
+        signature: bytes_at(frame, 48),
+    }
+}
+
+/// The tree or the pending request in eight bytes.
+#[tactic(auto, unfolding(crate::specs::Heads::route, xl_base::specs::Codec::little_endian))]
+fn route_bytes(to: Route) -> [u8; 8]
+    ensures spelled { result ≡ route to }
+    ensures fits { RouteFits to }
+{
+    match to {
+        Route::Tree(tree) => {
+            let [a, b, c, d] = tree.to_le_bytes();
+            [0, 0, 0, 0, a, b, c, d]
+        }
+        Route::Async(pending) => pending.to_le_bytes(),
+    }
+}
+
+/// Writes a header.
+#[tactic(auto, unfolding(crate::specs::Heads::head))]
+pub(crate) fn put_head(out: &mut Vec<u8>, h: SmbHead) -> Result<(), AllocError>
+    ensures ok { OnOk result (out.new.items ≡ out.old.items ++ head h) }
+    ensures fits { HeadFits h }
+{
+    let route = route_bytes(h.route);
+    put_all(
+        out,
+        &[
+            &[0xFE, 0x53, 0x4D, 0x42, 64, 0],
+            &u16_bytes(h.credit_charge),
+            &u32_bytes(h.status),
+            &u16_bytes(h.command),
+            &u16_bytes(h.credits),
+            &u32_bytes(h.flags),
+            &u32_bytes(h.next_command),
+            &u64_bytes(h.message_id),
+            &route,
+            &u64_bytes(h.session_id),
+            &h.signature,
+        ],
+    )
+}

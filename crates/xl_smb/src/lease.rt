@@ -1,0 +1,174 @@
+//! Leases and the contexts of CREATE that carry them.
+ghost use Rattle.std.specs.Prelude.{◌≡◌, ◌≤◌, ◌++◌, true, length, drop, option_map, Some, IfSome, OnOk, IfOk};
+ghost use Rattle.xl_base.specs.Results.{Gives};
+ghost use Rattle.xl_smb.specs.Leases.{shown_context, context_at, are_contexts, is_named, find, lease_at, lease_of, lease_context, LeaseFits};
+
+use crate::fault::SmbBad;
+use crate::place::{
+    bytes_at, part_at, put_all, u16_at, u16_bytes, u32_at, u32_bytes, u64_at, u64_bytes,
+};
+use std::alloc::{AllocError, Global};
+
+/// A lease, as CREATE asks for it and is answered (MS-SMB2 2.2.13.2.8, 2.2.14.2.10), and as its break is acknowledged.
+#[derive(Clone, Copy, Debug, PartialEq, Eq)]
+pub struct Lease {
+    /// The key by which the client names it.
+    pub key: [u8; 16],
+    /// What may be cached: 1 read, 2 handle, 4 write.
+    pub state: u32,
+    /// 2 where a break runs.
+    pub flags: u32,
+    /// Not used; zero.
+    pub duration: u64,
+}
+
+/// The contexts of a CREATE request or reply (MS-SMB2 2.2.13.2): each has a name and data, and says how far the next one
+/// is.
+#[derive(Clone, Copy, Debug, PartialEq, Eq)]
+pub struct Contexts<'a>(pub &'a [u8]);
+
+/// One context: how far the next one is, 0 in the last; its name; and its data.
+#[derive(Clone, Copy)]
+struct Context<'a> {
+    next: u32,
+    name: &'a [u8],
+    content: &'a [u8],
+}
+
+impl<'a> Contexts<'a> {
+    /// The data of the first context of this name and this length. None where there is none, and where a context leaves
+    /// the list, which no message that was read has.
+    pub fn find(self, name: &[u8], size: usize) -> Option<&'a [u8]>
+        ensures { option_map (λ content. content.now) result ≡ find name.now size self.entry.0.now }
+    {
+        first_of(self.0, name, size)
+    }
+
+    /// The lease of the first `RqLs` context of 32 bytes. Other contexts are passed over.
+    pub fn lease(self) -> Option<Lease>
+        ensures { result ≡ lease_of self.entry.0.now }
+    {
+        match first_of(self.0, b"RqLs", 32) {
+            Some(content) => Some(lease_at(content)),
+            None => None,
+        }
+    }
+}
+
+/// The context at the front of a list.
+#[tactic(auto, unfolding(crate::specs::Leases::context_at))]
+fn context_at(list: &[u8]) -> Result<Context<'_>, SmbBad>
+    ensures is { Gives shown_context result (context_at list.now) }
+    ensures long { OnOk result (16 ≤ length list.now) }
+{
+    if list.len() < 16 {
+        return Err(SmbBad::Offset);
+    }
+    let name = part_at(list, u32::from(u16_at(list, 4)), u32::from(u16_at(list, 6)))?;
+    let content = part_at(list, u32::from(u16_at(list, 10)), u32_at(list, 12))?;
+    Ok(Context {
+        next: u32_at(list, 0),
+        name,
+        content,
+    })
+}
+
+/// What stands so far on in a list; nothing where that is past its end.
+fn after(list: &[u8], next: u32) -> &[u8]
+    ensures { result.now ≡ drop next list.now }
+{
+    let next = (next as usize).min(list.len());
+    list.split_at(next).1
+}
+
+/// Whether each context lies within the list.
+#[tactic(auto, using(crate::proofs::LeaseLaws::chain_step, crate::proofs::LeaseLaws::chain_last, crate::proofs::LeaseLaws::chain_bad))]
+pub(crate) fn are_contexts(list: &[u8]) -> bool
+    ensures { result ≡ are_contexts list.now }
+{
+    let mut rest = list;
+    'contexts: while let Ok(context) = context_at(rest) {
+        if context.next == 0 {
+            return true;
+        }
+        rest = after(rest, context.next);
+    }
+    list.is_empty()
+}
+
+/// The data of the first context of this name and this length.
+#[tactic(auto, using(crate::proofs::LeaseLaws::find_this, crate::proofs::LeaseLaws::find_step, crate::proofs::LeaseLaws::find_last, crate::proofs::LeaseLaws::find_bad))]
+fn first_of<'a>(list: &'a [u8], name: &[u8], size: usize) -> Option<&'a [u8]>
+    ensures found { option_map (λ content. content.now) result ≡ find name.now size list.now }
+    ensures sized { IfSome result (λ content. length content.now ≡ size) }
+{
+    let mut rest = list;
+    'contexts: while let Ok(context) = context_at(rest) {
+        if is_named(&context, name, size) {
+            return Some(context.content);
+        }
+        if context.next == 0 {
+            return None;
+        }
+        rest = after(rest, context.next);
+    }
+    None
+}
+
+/// Whether a context has this name and this length.
+fn is_named(context: &Context<'_>, name: &[u8], size: usize) -> bool
+    ensures { result ≡ is_named name.now size (shown_context context.now) }
+{
+    context.name == name && context.content.len() == size
+}
+
+/// The lease in the 32 bytes of its context.
+#[tactic(auto, unfolding(crate::specs::Leases::lease_at))]
+fn lease_at(content: &[u8]) -> Lease
+    requires { 32 ≤ length content.now }
+    ensures { result ≡ lease_at content.now }
+{
+    Lease {
+        key: bytes_at(content, 0),
+        state: u32_at(content, 16),
+        flags: u32_at(content, 20),
+        duration: u64_at(content, 24),
+    }
+}
+
+/// Writes the list of one context that carries this lease.
+#[tactic(auto, unfolding(crate::specs::Leases::lease_context))]
+fn put_lease_context(out: &mut Vec<u8>, lease: Lease) -> Result<(), AllocError>
+    ensures ok { OnOk result (out.new.items ≡ out.old.items ++ lease_context lease) }
+    ensures fits { LeaseFits lease }
+{
+    put_all(
+        out,
+        &[
+            &u32_bytes(0),
+            &u16_bytes(16),
+            &u16_bytes(4),
+            &[0; 2],
+            &u16_bytes(24),
+            &u32_bytes(32),
+            b"RqLs",
+            &[0; 4],
+            &lease.key,
+            &u32_bytes(lease.state),
+            &u32_bytes(lease.flags),
+            &u64_bytes(lease.duration),
+        ],
+    )
+}
+
+/// The list of one context, 56 bytes, that carries this lease.
+#[tactic(auto, using(crate::proofs::LeaseLaws::lease_contexts, crate::proofs::LeaseLaws::lease_again))]
+pub fn lease_context(alloc: Global, lease: Lease) -> Result<Vec<u8>, AllocError>
+    ensures spelled { IfOk result (λ list. list.items ≡ lease_context lease) }
+    ensures contexts { IfOk result (λ list. are_contexts list.items ≡ true) }
+    ensures again { IfOk result (λ list. lease_of list.items ≡ Some lease) }
+{
+    let mut out = Vec::new(alloc);
+    put_lease_context(&mut out, lease)?;
+    Ok(out)
+}

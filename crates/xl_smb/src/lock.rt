@@ -1,0 +1,197 @@
+//! CLOSE and LOCK.
+ghost use Rattle.std.specs.Prelude.{◌≡◌, ℕ, ◌*◌, ◌+◌, ◌/◌, ◌<◌, ◌≤◌, ◌++◌, length, slice_index_or, OnOk, IsTrue, ◌↔◌};
+ghost use Rattle.xl_base.specs.Results.{Gives};
+ghost use Rattle.xl_smb.specs.Bodies.{IsCounted};
+ghost use Rattle.xl_smb.specs.Locks.{close_call_at, close_call, CloseCallFits, close_reply_at, close_reply, CloseReplyFits, shown_lock, lock_call_at, lock_call, LockFits, element_at};
+
+use crate::command::Command;
+use crate::fault::SmbBad;
+use crate::file::{FileId, FileStatus, file_id_at, status_at};
+use crate::place::{
+    check_fixed, part_at, put_all, u16_at, u16_bytes, u32_at, u32_bytes, u64_at, u64_bytes,
+};
+use std::alloc::AllocError;
+
+/// What a client asks with CLOSE (MS-SMB2 2.2.15).
+#[derive(Clone, Copy, Debug, PartialEq, Eq)]
+pub struct CloseCall {
+    /// 1 asks for the file's status.
+    pub flags: u16,
+    /// The open.
+    pub file_id: FileId,
+}
+
+/// What a server answers to CLOSE (MS-SMB2 2.2.16).
+#[derive(Clone, Copy, Debug, PartialEq, Eq)]
+pub struct CloseReply {
+    /// 1 where the status was asked for.
+    pub flags: u16,
+    /// What the file was, zeros where that wasn't asked for.
+    pub status: FileStatus,
+}
+
+/// One range of a LOCK request (MS-SMB2 2.2.26.1).
+#[derive(Clone, Copy, Debug, PartialEq, Eq)]
+pub struct LockElement {
+    /// The first byte.
+    pub offset: u64,
+    /// How many bytes.
+    pub length: u64,
+    /// 1 shared, 2 exclusive, 4 unlock, 0x10 don't wait.
+    pub flags: u32,
+}
+
+/// The ranges of a LOCK request, 24 bytes each.
+#[derive(Clone, Copy, Debug, PartialEq, Eq)]
+pub struct LockElements<'a>(pub &'a [u8]);
+
+/// What a client asks with LOCK (MS-SMB2 2.2.26).
+#[derive(Clone, Copy, Debug, PartialEq, Eq)]
+pub struct LockCall<'a> {
+    /// Which replay of a lock this is.
+    pub sequence: u32,
+    /// The open.
+    pub file_id: FileId,
+    /// The ranges.
+    pub elements: LockElements<'a>,
+}
+
+impl LockElements<'_> {
+    ghost use Rattle.xl_smb.specs.Locks.{elements_of};
+
+    /// How many ranges there are.
+    #[tactic(auto, using(crate::proofs::PlaceLaws::each_length))]
+    pub fn len(&self) -> usize
+        ensures { result ≡ length (elements_of self.now.0.now) }
+    {
+        self.0.len() / 24
+    }
+
+    /// Whether there is no range.
+    #[tactic(auto, using(crate::proofs::PlaceLaws::each_length))]
+    pub fn is_empty(&self) -> bool
+        ensures { IsTrue result ↔ (length (elements_of self.now.0.now) ≡ 0) }
+    {
+        self.0.len() < 24
+    }
+
+    /// The range of this index, counted from 0.
+    #[tactic(auto, using(crate::proofs::PlaceLaws::each_length, crate::proofs::PlaceLaws::each_at))]
+    pub fn at(&self, index: usize) -> LockElement
+        requires { index < length (elements_of self.now.0.now) }
+        ensures { (d : LockElement) → slice_index_or (elements_of self.now.0.now) index d ≡ result }
+    {
+        element_at(&self.0[24 * index..])
+    }
+}
+
+#[tactic(auto, unfolding(crate::specs::Locks::element_at))]
+fn element_at(bytes: &[u8]) -> LockElement
+    requires { 24 ≤ length bytes.now }
+    ensures { result ≡ element_at bytes.now }
+{
+    LockElement {
+        offset: u64_at(bytes, 0),
+        length: u64_at(bytes, 8),
+        flags: u32_at(bytes, 16),
+    }
+}
+
+#[tactic(auto, unfolding(crate::specs::Locks::close_call_at))]
+pub(crate) fn close_call_at(body: &[u8]) -> Result<CloseCall, SmbBad>
+    ensures { Gives (λ call. call) result (close_call_at body.now) }
+{
+    check_fixed(Command::Close.number(), 24, 24, body)?;
+    Ok(CloseCall {
+        flags: u16_at(body, 2),
+        file_id: file_id_at(body, 8),
+    })
+}
+
+#[tactic(auto, unfolding(crate::specs::Locks::close_reply_at))]
+pub(crate) fn close_reply_at(body: &[u8]) -> Result<CloseReply, SmbBad>
+    ensures { Gives (λ reply. reply) result (close_reply_at body.now) }
+{
+    check_fixed(Command::Close.number(), 60, 60, body)?;
+    Ok(CloseReply {
+        flags: u16_at(body, 2),
+        status: status_at(body),
+    })
+}
+
+#[tactic(auto, unfolding(crate::specs::Locks::lock_call_at))]
+pub(crate) fn lock_call_at(body: &[u8]) -> Result<LockCall<'_>, SmbBad>
+    ensures { Gives shown_lock result (lock_call_at body.now) }
+{
+    check_fixed(Command::Lock.number(), 48, 24, body)?;
+    let elements = part_at(body, 24, 24 * u32::from(u16_at(body, 2)))?;
+    Ok(LockCall {
+        sequence: u32_at(body, 4),
+        file_id: file_id_at(body, 8),
+        elements: LockElements(elements),
+    })
+}
+
+/// Writes a CLOSE request.
+#[tactic(auto, unfolding(crate::specs::Locks::close_call))]
+pub(crate) fn put_close_call(out: &mut Vec<u8>, call: CloseCall) -> Result<(), AllocError>
+    ensures ok { OnOk result (out.new.items ≡ out.old.items ++ close_call call) }
+    ensures fits { CloseCallFits call }
+{
+    put_all(
+        out,
+        &[
+            &u16_bytes(24),
+            &u16_bytes(call.flags),
+            &[0; 4],
+            &u64_bytes(call.file_id.persistent),
+            &u64_bytes(call.file_id.volatile),
+        ],
+    )
+}
+
+/// Writes a CLOSE reply.
+#[tactic(auto, unfolding(crate::specs::Locks::close_reply))]
+pub(crate) fn put_close_reply(out: &mut Vec<u8>, reply: CloseReply) -> Result<(), AllocError>
+    ensures ok { OnOk result (out.new.items ≡ out.old.items ++ close_reply reply) }
+    ensures fits { CloseReplyFits reply }
+{
+    let status = reply.status;
+    put_all(
+        out,
+        &[
+            &u16_bytes(60),
+            &u16_bytes(reply.flags),
+            &[0; 4],
+            &u64_bytes(status.created),
+            &u64_bytes(status.accessed),
+            &u64_bytes(status.written),
+            &u64_bytes(status.changed),
+            &u64_bytes(status.allocated),
+            &u64_bytes(status.end_of_file),
+            &u32_bytes(status.attributes),
+        ],
+    )
+}
+
+/// Writes a LOCK request.
+#[tactic(auto, unfolding(crate::specs::Locks::lock_call))]
+pub(crate) fn put_lock_call(out: &mut Vec<u8>, call: LockCall<'_>) -> Result<(), AllocError>
+    requires { IsCounted 24 (shown_lock call).elements }
+    ensures ok { OnOk result (out.new.items ≡ out.old.items ++ lock_call (shown_lock call.entry)) }
+    ensures fits { LockFits (shown_lock call.entry) }
+{
+    let LockElements(elements) = call.elements;
+    let count = (elements.len() / 24) as u16;
+    put_all(
+        out,
+        &[
+            &u16_bytes(48),
+            &u16_bytes(count),
+            &u32_bytes(call.sequence),
+            &u64_bytes(call.file_id.persistent),
+            &u64_bytes(call.file_id.volatile),
+            elements,
+        ],
+    )
+}

@@ -1,0 +1,119 @@
+//! Replies.
+ghost use Rattle.std.specs.Prelude.{◌≡◌, ◌++◌, Some, OnOk};
+ghost use Rattle.xl_base.specs.Results.{Gives};
+ghost use Rattle.xl_smb.specs.Replies.{shown_reply, success_at, error_at, error, reply_text, ReplyFits, ReplyHas};
+
+use crate::breaks::{Break, break_at, put_break};
+use crate::command::Command;
+use crate::create::{CreateReply, create_reply_at, put_create_reply};
+use crate::fault::SmbBad;
+use crate::lock::{CloseReply, close_reply_at, put_close_reply};
+use crate::place::{check_fixed, put_all, u16_bytes};
+use crate::session::{
+    NegotiateReply, SessionSetupReply, TreeConnectReply, check_empty, negotiate_reply_at,
+    put_empty, put_negotiate_reply, put_setup_reply, put_tree_reply, setup_reply_at, tree_reply_at,
+};
+use std::alloc::AllocError;
+
+/// What a reply answers, by its command at status 0.
+#[derive(Clone, Copy, Debug, PartialEq, Eq)]
+pub enum SmbReply<'a> {
+    /// The dialect that was agreed on.
+    Negotiate(NegotiateReply<'a>),
+    /// The session that began.
+    SessionSetup(SessionSetupReply<'a>),
+    /// The session ended.
+    Logoff,
+    /// The share that was connected.
+    TreeConnect(TreeConnectReply),
+    /// The share was left.
+    TreeDisconnect,
+    /// The open that was made.
+    Create(CreateReply<'a>),
+    /// The open was closed.
+    Close(CloseReply),
+    /// The ranges were locked or unlocked.
+    Lock,
+    /// The server is there.
+    Echo,
+    /// What is now held.
+    OplockBreak(Break),
+    /// The form of every reply whose status isn't 0 (MS-SMB2 2.2.2).
+    Error,
+    /// At status 0, of CANCEL, which has no reply, or of a command whose messages aren't read.
+    Other,
+}
+
+/// The reply of a command at status 0. The body is what stands behind the header.
+#[tactic(auto, unfolding(crate::specs::Replies::success_at))]
+pub(crate) fn success_at<'a>(
+    command: Command,
+    frame: &'a [u8],
+    body: &'a [u8],
+) -> Result<SmbReply<'a>, SmbBad>
+    ensures { Gives shown_reply result (success_at (Some command) frame.now body.now) }
+{
+    match command {
+        Command::Negotiate => Ok(SmbReply::Negotiate(negotiate_reply_at(frame, body)?)),
+        Command::SessionSetup => Ok(SmbReply::SessionSetup(setup_reply_at(frame, body)?)),
+        Command::TreeConnect => Ok(SmbReply::TreeConnect(tree_reply_at(body)?)),
+        Command::Create => Ok(SmbReply::Create(create_reply_at(frame, body)?)),
+        Command::Close => Ok(SmbReply::Close(close_reply_at(body)?)),
+        Command::OplockBreak => Ok(SmbReply::OplockBreak(break_at(body)?)),
+        Command::Cancel => Ok(SmbReply::Other),
+        Command::Logoff => {
+            check_empty(command, body)?;
+            Ok(SmbReply::Logoff)
+        }
+        Command::TreeDisconnect => {
+            check_empty(command, body)?;
+            Ok(SmbReply::TreeDisconnect)
+        }
+        Command::Lock => {
+            check_empty(command, body)?;
+            Ok(SmbReply::Lock)
+        }
+        Command::Echo => {
+            check_empty(command, body)?;
+            Ok(SmbReply::Echo)
+        }
+    }
+}
+
+/// The reply of a command, by its number, at another status.
+#[tactic(auto, unfolding(crate::specs::Replies::error_at))]
+pub(crate) fn error_at<'a>(command: u16, body: &[u8]) -> Result<SmbReply<'a>, SmbBad>
+    ensures { Gives shown_reply result (error_at command body.now) }
+{
+    check_fixed(command, 9, 8, body)?;
+    Ok(SmbReply::Error)
+}
+
+/// Writes the error form, whose data is one zero byte.
+#[tactic(auto, unfolding(crate::specs::Replies::error))]
+fn put_error(out: &mut Vec<u8>) -> Result<(), AllocError>
+    ensures { OnOk result (out.new.items ≡ out.old.items ++ error) }
+{
+    put_all(out, &[&u16_bytes(9), &[0; 7]])
+}
+
+/// Writes the body of a reply.
+pub(crate) fn put_reply(out: &mut Vec<u8>, reply: SmbReply<'_>) -> Result<(), AllocError>
+    requires { ReplyHas (shown_reply reply) }
+    ensures ok { OnOk result (out.new.items ≡ out.old.items ++ reply_text (shown_reply reply.entry)) }
+    ensures fits { ReplyFits (shown_reply reply.entry) }
+{
+    match reply {
+        SmbReply::Negotiate(reply) => put_negotiate_reply(out, reply),
+        SmbReply::SessionSetup(reply) => put_setup_reply(out, reply),
+        SmbReply::TreeConnect(reply) => put_tree_reply(out, reply),
+        SmbReply::Create(reply) => put_create_reply(out, reply),
+        SmbReply::Close(reply) => put_close_reply(out, reply),
+        SmbReply::OplockBreak(held) => put_break(out, held),
+        SmbReply::Logoff | SmbReply::TreeDisconnect | SmbReply::Lock | SmbReply::Echo => {
+            put_empty(out)
+        }
+        SmbReply::Error => put_error(out),
+        SmbReply::Other => Ok(()),
+    }
+}

@@ -1,0 +1,392 @@
+//! NEGOTIATE, SESSION_SETUP and TREE_CONNECT, and the commands whose messages have no field.
+ghost use Rattle.std.specs.Prelude.{◌≡◌, ◌==◌, ◌++◌, ◌<◌, ◌^◌, length, OnOk, IsTrue, ◌↔◌};
+ghost use Rattle.std.specs.List.{list_any};
+ghost use Rattle.xl_base.specs.Results.{Gives};
+ghost use Rattle.xl_smb.specs.Bodies.{IsCounted};
+ghost use Rattle.xl_smb.specs.Sessions.{shown_negotiate_call, negotiate_call_at, negotiate_call, NegotiateCallFits, shown_negotiate_reply, negotiate_reply_at, negotiate_reply, NegotiateReplyFits, shown_setup_call, setup_call_at, setup_call, SetupCallFits, shown_setup_reply, setup_reply_at, setup_reply, SetupReplyFits, path_at, tree_call, tree_reply_at, tree_reply, TreeReplyFits, empty_at, empty};
+
+use crate::command::Command;
+use crate::fault::SmbBad;
+use crate::place::{
+    bytes_at, check_fixed, part_at, put_all, u16_at, u16_bytes, u32_at, u32_bytes, u64_at,
+    u64_bytes,
+};
+use std::alloc::AllocError;
+
+/// The dialects that a client offers, two bytes each, lowest byte first.
+#[derive(Clone, Copy, Debug, PartialEq, Eq)]
+pub struct Dialects<'a>(pub &'a [u8]);
+
+/// What a client asks with NEGOTIATE (MS-SMB2 2.2.3).
+#[derive(Clone, Copy, Debug, PartialEq, Eq)]
+pub struct NegotiateCall<'a> {
+    /// 1 signing is enabled, 2 it is required.
+    pub security_mode: u16,
+    /// What the client can do.
+    pub capabilities: u32,
+    /// Who the client is.
+    pub client_guid: [u8; 16],
+    /// The dialects that it speaks.
+    pub dialects: Dialects<'a>,
+}
+
+/// What a server answers to NEGOTIATE (MS-SMB2 2.2.4).
+#[derive(Clone, Copy, Debug, PartialEq, Eq)]
+pub struct NegotiateReply<'a> {
+    /// 1 signing is enabled, 2 it is required.
+    pub security_mode: u16,
+    /// The dialect that was chosen, 0x0210 for SMB 2.1.
+    pub dialect: u16,
+    /// Who the server is.
+    pub server_guid: [u8; 16],
+    /// What the server can do.
+    pub capabilities: u32,
+    /// The longest buffer of a query or a change, in bytes.
+    pub max_transact: u32,
+    /// The longest read, in bytes.
+    pub max_read: u32,
+    /// The longest write, in bytes.
+    pub max_write: u32,
+    /// The server's clock, in units of 100 ns since 1601.
+    pub system_time: u64,
+    /// When the server started, in the same units.
+    pub start_time: u64,
+    /// The security token.
+    pub buffer: &'a [u8],
+}
+
+/// What a client asks with SESSION_SETUP (MS-SMB2 2.2.5).
+#[derive(Clone, Copy, Debug, PartialEq, Eq)]
+pub struct SessionSetupCall<'a> {
+    /// 1 binds a session to a further connection.
+    pub flags: u8,
+    /// 1 signing is enabled, 2 it is required.
+    pub security_mode: u8,
+    /// The session that this one replaces, 0 for none.
+    pub previous_session: u64,
+    /// The security token.
+    pub buffer: &'a [u8],
+}
+
+/// What a server answers to SESSION_SETUP (MS-SMB2 2.2.6).
+#[derive(Clone, Copy, Debug, PartialEq, Eq)]
+pub struct SessionSetupReply<'a> {
+    /// 1 a guest session, 2 an anonymous one.
+    pub flags: u16,
+    /// The security token.
+    pub buffer: &'a [u8],
+}
+
+/// What a server answers to TREE_CONNECT (MS-SMB2 2.2.10).
+#[derive(Clone, Copy, Debug, PartialEq, Eq)]
+pub struct TreeConnectReply {
+    /// 1 a disk, 2 a named pipe, 3 a printer.
+    pub share_type: u8,
+    /// What the share is, as its caching.
+    pub flags: u32,
+    /// What the share can do.
+    pub capabilities: u32,
+    /// The most that this user may ask for.
+    pub maximal_access: u32,
+}
+
+impl Dialects<'_> {
+    ghost use Rattle.xl_smb.specs.Sessions.{dialects_of};
+
+    /// How many dialects there are.
+    #[tactic(auto, using(crate::proofs::PlaceLaws::each_length))]
+    pub fn len(&self) -> usize
+        ensures { result ≡ length (dialects_of self.now.0.now) }
+    {
+        self.0.len() / 2
+    }
+
+    /// Whether there is no dialect.
+    #[tactic(auto, using(crate::proofs::PlaceLaws::each_length))]
+    pub fn is_empty(&self) -> bool
+        ensures { IsTrue result ↔ (length (dialects_of self.now.0.now) ≡ 0) }
+    {
+        self.0.len() < 2
+    }
+
+    /// Whether a dialect is among them.
+    #[tactic(auto, using(crate::proofs::PlaceLaws::whole_more, crate::proofs::PlaceLaws::whole_none))]
+    pub fn contains(&self, dialect: u16) -> bool
+        ensures { result ≡ list_any (λ offered. offered == dialect) (dialects_of self.now.0.now) }
+    {
+        let mut rest = self.0;
+        'dialects: while rest.len() >= 2 {
+            if u16_at(rest, 0) == dialect {
+                return true;
+            }
+            rest = rest.split_at(2).1;
+        }
+        false
+    }
+}
+
+#[tactic(auto, unfolding(crate::specs::Sessions::negotiate_call_at))]
+pub(crate) fn negotiate_call_at(body: &[u8]) -> Result<NegotiateCall<'_>, SmbBad>
+    ensures { Gives shown_negotiate_call result (negotiate_call_at body.now) }
+{
+    check_fixed(Command::Negotiate.number(), 36, 36, body)?;
+    let dialects = part_at(body, 36, 2 * u32::from(u16_at(body, 2)))?;
+    Ok(NegotiateCall {
+        security_mode: u16_at(body, 4),
+        capabilities: u32_at(body, 8),
+        client_guid: bytes_at(body, 12),
+        dialects: Dialects(dialects),
+    })
+}
+
+#[tactic(auto, unfolding(crate::specs::Sessions::negotiate_reply_at))]
+pub(crate) fn negotiate_reply_at<'a>(
+    frame: &'a [u8],
+    body: &[u8],
+) -> Result<NegotiateReply<'a>, SmbBad>
+    ensures { Gives shown_negotiate_reply result (negotiate_reply_at frame.now body.now) }
+{
+    check_fixed(Command::Negotiate.number(), 65, 64, body)?;
+    let buffer = part_at(
+        frame,
+        u32::from(u16_at(body, 56)),
+        u32::from(u16_at(body, 58)),
+    )?;
+    Ok(NegotiateReply {
+        security_mode: u16_at(body, 2),
+        dialect: u16_at(body, 4),
+        server_guid: bytes_at(body, 8),
+        capabilities: u32_at(body, 24),
+        max_transact: u32_at(body, 28),
+        max_read: u32_at(body, 32),
+        max_write: u32_at(body, 36),
+        system_time: u64_at(body, 40),
+        start_time: u64_at(body, 48),
+        buffer,
+    })
+}
+
+#[tactic(auto, unfolding(crate::specs::Sessions::setup_call_at))]
+pub(crate) fn setup_call_at<'a>(
+    frame: &'a [u8],
+    body: &[u8],
+) -> Result<SessionSetupCall<'a>, SmbBad>
+    ensures { Gives shown_setup_call result (setup_call_at frame.now body.now) }
+{
+    check_fixed(Command::SessionSetup.number(), 25, 24, body)?;
+    let buffer = part_at(
+        frame,
+        u32::from(u16_at(body, 12)),
+        u32::from(u16_at(body, 14)),
+    )?;
+    Ok(SessionSetupCall {
+        flags: body[2],
+        security_mode: body[3],
+        previous_session: u64_at(body, 16),
+        buffer,
+    })
+}
+
+#[tactic(auto, unfolding(crate::specs::Sessions::setup_reply_at))]
+pub(crate) fn setup_reply_at<'a>(
+    frame: &'a [u8],
+    body: &[u8],
+) -> Result<SessionSetupReply<'a>, SmbBad>
+    ensures { Gives shown_setup_reply result (setup_reply_at frame.now body.now) }
+{
+    check_fixed(Command::SessionSetup.number(), 9, 8, body)?;
+    let buffer = part_at(
+        frame,
+        u32::from(u16_at(body, 4)),
+        u32::from(u16_at(body, 6)),
+    )?;
+    Ok(SessionSetupReply {
+        flags: u16_at(body, 2),
+        buffer,
+    })
+}
+
+/// The path of a TREE_CONNECT request (MS-SMB2 2.2.9).
+#[tactic(auto, unfolding(crate::specs::Sessions::path_at))]
+pub(crate) fn path_at<'a>(frame: &'a [u8], body: &[u8]) -> Result<&'a [u8], SmbBad>
+    ensures { Gives (λ path. path.now) result (path_at frame.now body.now) }
+{
+    check_fixed(Command::TreeConnect.number(), 9, 8, body)?;
+    part_at(
+        frame,
+        u32::from(u16_at(body, 4)),
+        u32::from(u16_at(body, 6)),
+    )
+}
+
+#[tactic(auto, unfolding(crate::specs::Sessions::tree_reply_at))]
+pub(crate) fn tree_reply_at(body: &[u8]) -> Result<TreeConnectReply, SmbBad>
+    ensures { Gives (λ reply. reply) result (tree_reply_at body.now) }
+{
+    check_fixed(Command::TreeConnect.number(), 16, 16, body)?;
+    Ok(TreeConnectReply {
+        share_type: body[2],
+        flags: u32_at(body, 4),
+        capabilities: u32_at(body, 8),
+        maximal_access: u32_at(body, 12),
+    })
+}
+
+/// Writes a NEGOTIATE request.
+#[tactic(auto, unfolding(crate::specs::Sessions::negotiate_call))]
+pub(crate) fn put_negotiate_call(
+    out: &mut Vec<u8>,
+    call: NegotiateCall<'_>,
+) -> Result<(), AllocError>
+    requires { IsCounted 2 (shown_negotiate_call call).dialects }
+    ensures ok { OnOk result (out.new.items ≡ out.old.items ++ negotiate_call (shown_negotiate_call call.entry)) }
+    ensures fits { NegotiateCallFits (shown_negotiate_call call.entry) }
+{
+    let Dialects(dialects) = call.dialects;
+    let guid = call.client_guid;
+    let count = (dialects.len() / 2) as u16;
+    put_all(
+        out,
+        &[
+            &u16_bytes(36),
+            &u16_bytes(count),
+            &u16_bytes(call.security_mode),
+            &[0; 2],
+            &u32_bytes(call.capabilities),
+            &guid,
+            &[0; 8],
+            dialects,
+        ],
+    )
+}
+
+/// Writes a NEGOTIATE reply.
+#[tactic(auto, unfolding(crate::specs::Sessions::negotiate_reply))]
+pub(crate) fn put_negotiate_reply(
+    out: &mut Vec<u8>,
+    reply: NegotiateReply<'_>,
+) -> Result<(), AllocError>
+    requires { length (shown_negotiate_reply reply).buffer < 2 ^ 16 }
+    ensures ok { OnOk result (out.new.items ≡ out.old.items ++ negotiate_reply (shown_negotiate_reply reply.entry)) }
+    ensures fits { NegotiateReplyFits (shown_negotiate_reply reply.entry) }
+{
+    let guid = reply.server_guid;
+    put_all(
+        out,
+        &[
+            &u16_bytes(65),
+            &u16_bytes(reply.security_mode),
+            &u16_bytes(reply.dialect),
+            &[0; 2],
+            &guid,
+            &u32_bytes(reply.capabilities),
+            &u32_bytes(reply.max_transact),
+            &u32_bytes(reply.max_read),
+            &u32_bytes(reply.max_write),
+            &u64_bytes(reply.system_time),
+            &u64_bytes(reply.start_time),
+            &u16_bytes(128),
+            &u16_bytes(reply.buffer.len() as u16),
+            &[0; 4],
+            reply.buffer,
+        ],
+    )
+}
+
+/// Writes a SESSION_SETUP request.
+#[tactic(auto, unfolding(crate::specs::Sessions::setup_call))]
+pub(crate) fn put_setup_call(
+    out: &mut Vec<u8>,
+    call: SessionSetupCall<'_>,
+) -> Result<(), AllocError>
+    requires { length (shown_setup_call call).buffer < 2 ^ 16 }
+    ensures ok { OnOk result (out.new.items ≡ out.old.items ++ setup_call (shown_setup_call call.entry)) }
+    ensures fits { SetupCallFits (shown_setup_call call.entry) }
+{
+    put_all(
+        out,
+        &[
+            &u16_bytes(25),
+            &[call.flags, call.security_mode],
+            &[0; 8],
+            &u16_bytes(88),
+            &u16_bytes(call.buffer.len() as u16),
+            &u64_bytes(call.previous_session),
+            call.buffer,
+        ],
+    )
+}
+
+/// Writes a SESSION_SETUP reply.
+#[tactic(auto, unfolding(crate::specs::Sessions::setup_reply))]
+pub(crate) fn put_setup_reply(
+    out: &mut Vec<u8>,
+    reply: SessionSetupReply<'_>,
+) -> Result<(), AllocError>
+    requires { length (shown_setup_reply reply).buffer < 2 ^ 16 }
+    ensures ok { OnOk result (out.new.items ≡ out.old.items ++ setup_reply (shown_setup_reply reply.entry)) }
+    ensures fits { SetupReplyFits (shown_setup_reply reply.entry) }
+{
+    put_all(
+        out,
+        &[
+            &u16_bytes(9),
+            &u16_bytes(reply.flags),
+            &u16_bytes(72),
+            &u16_bytes(reply.buffer.len() as u16),
+            reply.buffer,
+        ],
+    )
+}
+
+/// Writes a TREE_CONNECT request for this path.
+#[tactic(auto, unfolding(crate::specs::Sessions::tree_call))]
+pub(crate) fn put_tree_call(out: &mut Vec<u8>, path: &[u8]) -> Result<(), AllocError>
+    requires { length path.now < 2 ^ 16 }
+    ensures { OnOk result (out.new.items ≡ out.old.items ++ tree_call path.now) }
+{
+    put_all(
+        out,
+        &[
+            &u16_bytes(9),
+            &[0; 2],
+            &u16_bytes(72),
+            &u16_bytes(path.len() as u16),
+            path,
+        ],
+    )
+}
+
+/// Writes a TREE_CONNECT reply.
+#[tactic(auto, unfolding(crate::specs::Sessions::tree_reply))]
+pub(crate) fn put_tree_reply(out: &mut Vec<u8>, reply: TreeConnectReply) -> Result<(), AllocError>
+    ensures ok { OnOk result (out.new.items ≡ out.old.items ++ tree_reply reply) }
+    ensures fits { TreeReplyFits reply }
+{
+    put_all(
+        out,
+        &[
+            &u16_bytes(16),
+            &[reply.share_type, 0],
+            &u32_bytes(reply.flags),
+            &u32_bytes(reply.capabilities),
+            &u32_bytes(reply.maximal_access),
+        ],
+    )
+}
+
+/// Sees that the body of a message without fields is whole.
+#[tactic(auto, unfolding(crate::specs::Sessions::empty_at))]
+pub(crate) fn check_empty(command: Command, body: &[u8]) -> Result<(), SmbBad>
+    ensures { Gives (λ done. done) result (empty_at command body.now) }
+{
+    check_fixed(command.number(), 4, 4, body)
+}
+
+/// Writes the body of a message without fields.
+#[tactic(auto, unfolding(crate::specs::Sessions::empty))]
+pub(crate) fn put_empty(out: &mut Vec<u8>) -> Result<(), AllocError>
+    ensures { OnOk result (out.new.items ≡ out.old.items ++ empty) }
+{
+    put_all(out, &[&u16_bytes(4), &[0; 2]])
+}

@@ -1,0 +1,93 @@
+-- What a table of claims answers, on the flat list of its claims.
+use Rattle.std.specs.Prelude.{ℕ, Bool, true, false, not, ◌&&◌, ◌||◌, ◌==◌, nat_le, List, [], ◌∷◌, Option, Some, None, if◌then◌else◌}
+use Rattle.xl_base.specs.Lists.{placed}
+use Rattle.xl_base.specs.declared.event.Moment.{Moment}
+use Rattle.xl_base.specs.declared.name.Owner.{Owner}
+use Rattle.xl_matrix.specs.declared.claim.Extent.TheVariants.{Bytes}
+use Rattle.xl_matrix.specs.declared.claim.What.{What}
+use Rattle.xl_matrix.specs.declared.claim.What.TheVariants.{Share, Range, Cache}
+use Rattle.xl_matrix.specs.declared.claim.Claim.{Claim}
+use Rattle.xl_matrix.specs.Owners.{posix}
+use Rattle.xl_matrix.specs.Extents.{has_byte}
+use Rattle.xl_matrix.specs.Equal.{same_owners, same_claims}
+use Rattle.xl_matrix.specs.Matrix.{ranges_meet, compat}
+use Rattle.xl_table.specs.Order.{goes_first, no_later}
+
+-- the claim at its place: behind all that stand no later
+unfoldable pub inserted : Claim → List Claim → List Claim
+inserted claim held = placed goes_first claim held
+
+-- without the first claim equal to it
+abbrev pub removed : Claim → List Claim → List Claim
+removed claim [] = []
+removed claim (c ∷ cs) = if same_claims c claim then cs else c ∷ removed claim cs
+
+-- the claim with something else claimed
+abbrev pub with_what : Claim → What → Claim
+with_what claim to = record { file = claim.file; owner = claim.owner; party = claim.party; what = to }
+
+-- the first equal one taken out, and the changed claim at its place
+unfoldable pub changed : Claim → What → List Claim → List Claim
+changed claim to held = inserted (with_what claim to) (removed claim held)
+
+-- what an ask of its owner replaces: a share, and the ranges of a POSIX owner
+abbrev pub is_replaced : Owner → What → Bool
+is_replaced owner (Share access deny) = true
+is_replaced owner (Range extent exclusive) = posix owner
+is_replaced owner (Cache kind running) = false
+
+-- the held claim is the asker's own, and the ask replaces it
+abbrev pub is_own : Claim → Claim → Bool
+is_own ask held = same_owners ask.owner held.owner && is_replaced held.owner held.what
+
+-- an exclusive range that is asked meets a range
+abbrev pub is_met : Owner → What → Owner → What → Bool
+is_met owner (Range extent true) other (Range place alone) = ranges_meet owner extent other place
+is_met owner _ other _ = false
+
+-- an exclusive range is asked where its owner has one already
+abbrev pub is_met_by_own : Claim → Claim → Bool
+is_met_by_own ask held = (ask.file == held.file) && (same_owners ask.owner held.owner && is_met ask.owner ask.what held.owner held.what)
+
+-- the held claim blocks the ask: both may not be held together, or an SMB open asks for an exclusive range where it
+-- has one; but what the ask replaces doesn't
+unfoldable pub blocks : Claim → Claim → Bool
+blocks ask held = not (is_own ask held) && (not (compat ask held) || is_met_by_own ask held)
+
+-- the claim's break runs, and its answer is due
+abbrev pub due_by : What → ℕ → Bool
+due_by (Cache kind (Some running)) now = nat_le running.deadline.0 now
+due_by _ now = false
+
+abbrev pub is_due : Moment → Claim → Bool
+is_due now claim = due_by claim.what now.0
+
+-- the claim is a range on this file that has the byte
+abbrev pub locks_by : What → ℕ → Bool
+locks_by (Range extent exclusive) byte = has_byte extent byte
+locks_by _ byte = false
+
+abbrev pub locks : ℕ → ℕ → Claim → Bool
+locks file byte claim = (claim.file == file) && locks_by claim.what byte
+
+-- how ranges are told apart: by the first byte, then the last, then exclusive before shared
+abbrev pub range_key_by : What → List ℕ
+range_key_by (Range (Bytes first last) exclusive) = first ∷ last ∷ (if exclusive then 0 else 1) ∷ []
+range_key_by _ = 0 ∷ 0 ∷ 0 ∷ []
+
+abbrev pub range_key : Claim → List ℕ
+range_key claim = range_key_by claim.what
+
+-- the lesser of the least so far and one more claim; of equal ones the earlier
+abbrev pub lesser : Option Claim → Claim → Claim
+lesser None claim = claim
+lesser (Some least) claim = if no_later (range_key least) (range_key claim) then least else claim
+
+-- the least of those that lock the byte, with the least so far
+abbrev pub holder_from : Option Claim → ℕ → ℕ → List Claim → Option Claim
+holder_from least file byte [] = least
+holder_from least file byte (c ∷ cs) = holder_from (if locks file byte c then Some (lesser least c) else least) file byte cs
+
+-- the least range on the file that has the byte
+unfoldable pub holder : ℕ → ℕ → List Claim → Option Claim
+holder file byte held = holder_from None file byte held

@@ -1,0 +1,4 @@
+pub mod Order
+pub mod Flat
+pub mod Held
+pub mod Trials

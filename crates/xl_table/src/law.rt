@@ -1,0 +1,35 @@
+//! Laws of the flat list. The functions do nothing; what they ensure holds of every list of claims.
+ghost use Rattle.std.specs.Prelude.{◌≡◌, ℕ, Bool, true, false, List, []};
+ghost use Rattle.std.specs.List.{AllByRecursion, filter};
+ghost use Rattle.xl_base.specs.Lists.{IsIn, Pairwise, placed};
+ghost use Rattle.xl_base.specs.declared.name.Owner.{Owner};
+ghost use Rattle.xl_matrix.specs.declared.claim.Extent.{Extent};
+ghost use Rattle.xl_matrix.specs.declared.claim.What.{What};
+ghost use Rattle.xl_matrix.specs.declared.claim.Claim.{Claim};
+ghost use Rattle.xl_matrix.specs.Owners.{posix};
+ghost use Rattle.xl_matrix.specs.Matrix.{compat};
+ghost use Rattle.xl_matrix.specs.Weaker.{weaker};
+ghost use Rattle.xl_spans.specs.Spans.{IsCanonical};
+ghost use Rattle.xl_table.specs.Order.{goes_first};
+ghost use Rattle.xl_table.specs.Flat.{inserted, removed, changed, with_what, is_own, blocks};
+ghost use Rattle.xl_table.specs.Held.{is_range, is_real, has_one_party, mode_of, is_of, spans_of, begins_first, IsSound};
+
+/// Claims stay pairwise compatible: when one that nothing blocks is entered, where what it replaces is gone; when one
+/// is taken out; and when one is made weaker.
+pub fn stays_compatible()
+    ensures entered { (ask : Claim) (held : List Claim) → Pairwise compat held → AllByRecursion (λ d. is_own ask d ≡ false) held → filter (λ d. blocks ask d) held ≡ [] → Pairwise compat (inserted ask held) }
+    ensures taken { (claim : Claim) (held : List Claim) → Pairwise compat held → Pairwise compat (removed claim held) }
+    ensures weakened { (claim : Claim) (to : What) (held : List Claim) → Pairwise compat held → IsIn claim held → weaker (with_what claim to) claim ≡ true → Pairwise compat (changed claim to held) }
+{}
+
+/// When a claim may be entered. A share or a cache always may, and a claim may always become one. A range may where it
+/// is real, its owner's ranges on the file have its party, and the owner's group, where it is of NLM or NFSv4, is
+/// canonical then; in that group it stands by its first byte.
+pub fn stays_sound()
+    ensures entered { (claim : Claim) (held : List Claim) → IsSound held → is_real claim ≡ true → AllByRecursion (λ c. has_one_party claim c ≡ true) held → (posix claim.owner ≡ true → IsCanonical (spans_of claim.file claim.owner (inserted claim held))) → IsSound (inserted claim held) }
+    ensures others { (claim : Claim) (held : List Claim) → IsSound held → is_range claim.what ≡ false → IsSound (inserted claim held) }
+    ensures changed { (claim : Claim) (to : What) (held : List Claim) → IsSound held → is_range to ≡ false → IsSound (changed claim to held) }
+    ensures taken { (claim : Claim) (held : List Claim) → IsSound held → IsSound (removed claim held) }
+    ensures spans { (file : ℕ) (owner : Owner) (claim : Claim) (first last : ℕ) (exclusive : Bool) (held : List Claim) → is_of file owner claim ≡ true → posix owner ≡ true → claim.what ≡ What.Range (Extent.Bytes first last) exclusive → Pairwise goes_first held → spans_of file owner (inserted claim held) ≡ placed begins_first (record { first = first; last = last; mode = mode_of exclusive }) (spans_of file owner held) }
+    ensures apart { (file : ℕ) (owner : Owner) (claim : Claim) (held : List Claim) → is_of file owner claim ≡ false → spans_of file owner (inserted claim held) ≡ spans_of file owner held }
+{}

@@ -1,0 +1,17 @@
+//! The table of the claims that are held: a flat list in a fixed order, and what is asked of it.
+#![tactic(auto)]
+
+mod block;
+mod holding;
+mod law;
+mod listing;
+mod ordering;
+mod placing;
+mod table;
+
+pub use block::{is_answer_due, is_blocked_by};
+pub use law::{stays_compatible, stays_sound};
+pub use table::{CLAIMS, Table, TableErr};
+
+#[cfg(test)]
+mod tests;

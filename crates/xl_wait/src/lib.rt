@@ -1,0 +1,12 @@
+//! The queue of those who wait for a claim, in order of arrival.
+#![tactic(auto)]
+
+mod listing;
+mod queue;
+mod waiter;
+
+pub use queue::{Queue, QueueErr, WAITERS};
+pub use waiter::{Rooms, Waiter};
+
+#[cfg(test)]
+mod tests;

@@ -1,0 +1,125 @@
+//! The queue.
+ghost use Rattle.std.specs.Prelude.{◌≡◌, ℕ, ◌≤◌, ◌∷◌, ◌++◌, [], length, slice_get, option_copied, IsTrue, ◌↔◌, IfOk, OnOk, OnErr};
+ghost use Rattle.xl_wait.specs.declared.queue.QueueErr.TheVariants.{NoMemory};
+
+use crate::listing::{find_waiter, list_numbers};
+use crate::waiter::Waiter;
+use std::alloc::{AllocError, AllocFailed, Global};
+use std::marker::Model;
+use thiserror::Error;
+
+/// How many waiters a queue holds.
+pub const WAITERS: usize = 1_024;
+
+/// Why a waiter could not be entered.
+#[derive(Clone, Copy, Debug, PartialEq, Eq, Error)]
+pub enum QueueErr {
+    /// Memory ran out.
+    #[error("no memory")]
+    NoMemory,
+    /// The queue holds so many waiters, and no more.
+    #[error("the queue is full at {0} waiters")]
+    Full(u32),
+}
+
+impl<T: Drop> From<AllocFailed<T>> for QueueErr {
+    ghost from_gives = { λ _ e. e ≡ NoMemory };
+
+    fn from(_e: AllocFailed<T>) -> QueueErr {
+        QueueErr::NoMemory
+    }
+}
+
+/// Those who wait, at most 1,024, in order of arrival. A contract sees their list.
+#[derive(Drop)]
+pub struct Queue {
+    waiters: Vec<Waiter>,
+}
+
+impl Model for Queue {
+    ghost use Rattle.std.specs.Prelude.{List, ◌≤◌, length};
+    ghost use Rattle.xl_wait.specs.declared.waiter.Waiter.{Waiter};
+
+    ghost Value = { List Waiter };
+
+    ghost view = { λ q. q.waiters.items };
+
+    ghost invariant = { λ q. length q.waiters.items ≤ 1024 };
+}
+
+impl Queue {
+    ghost use Rattle.xl_wait.specs.Waiting.{is_waiting, cancelled, numbers_of};
+
+    /// The queue where nobody waits; it takes no memory.
+    pub fn new(alloc: Global) -> Queue
+        ensures { result ≡ [] }
+    {
+        Queue {
+            waiters: Vec::new(alloc),
+        }
+    }
+
+    /// The waiters in order of arrival, at most 1,024.
+    pub fn waiters(&self) -> &[Waiter]
+        ensures waiters { result.now ≡ self.now }
+        ensures room { length self.now ≤ 1024 }
+    {
+        &self.waiters
+    }
+
+    /// How many wait.
+    pub fn len(&self) -> usize
+        ensures { result ≡ length self.now }
+    {
+        self.waiters.len()
+    }
+
+    /// Whether nobody waits.
+    pub fn is_empty(&self) -> bool
+        ensures { IsTrue result ↔ (self.now ≡ []) }
+    {
+        self.waiters.is_empty()
+    }
+
+    /// Enters a waiter behind the others. Full comes exactly where 1,024 wait. After an error the queue is as it was.
+    pub fn push(&mut self, waiter: Waiter) -> Result<(), QueueErr>
+        ensures ok { OnOk result (self.new ≡ self.old ++ waiter ∷ []) }
+        ensures full { (n : ℕ) → (result ≡ Err (QueueErr.Full n)) ↔ ((n ≡ 1024) × (length self.old ≡ 1024)) }
+        ensures err { OnErr result (self.new ≡ self.old) }
+    {
+        if self.waiters.len() >= WAITERS {
+            return Err(QueueErr::Full(1_024));
+        }
+        self.waiters.push(waiter)?;
+        Ok(())
+    }
+
+    /// Takes out the first waiter of this number, and nobody else. False comes exactly where none has it; then the
+    /// queue is as it was. It takes no memory.
+    pub fn cancel(&mut self, id: u32) -> bool
+        ensures waiting { result ≡ is_waiting id self.old }
+        ensures after { self.new ≡ cancelled id self.old }
+    {
+        match find_waiter(&self.waiters, id) {
+            Some(place) => {
+                let _ = self.waiters.remove(place);
+                true
+            }
+            None => false,
+        }
+    }
+
+    /// The waiter at this place, counted from 0; None exactly where fewer wait.
+    pub fn at(&self, place: usize) -> Option<&Waiter>
+        ensures { option_copied result ≡ slice_get self.now place }
+    {
+        self.waiters.get(place)
+    }
+
+    /// The numbers of the waiters that came by this connection, in order.
+    pub fn of_conn(&self, alloc: Global, conn: u64) -> Result<Vec<u32>, AllocError>
+        ensures { IfOk result (λ v. v.items ≡ numbers_of conn self.now) }
+    {
+        list_numbers(alloc, &self.waiters, conn)
+    }
+}

@@ -1,0 +1,32 @@
+//! One who waits.
+
+use xl_base::Sequence;
+use xl_matrix::{CacheKind, Claim};
+
+/// How much room is left in the tables of the fronts, or how many rows of them something takes.
+#[derive(Clone, Copy, Debug, PartialEq, Eq)]
+pub struct Rooms {
+    /// NLM hosts.
+    pub hosts: u32,
+    /// NFSv4 owners.
+    pub owners: u32,
+    /// Opens, of NFSv4 and SMB together.
+    pub opens: u32,
+}
+
+/// One who waits for claims.
+#[derive(Drop, Debug)]
+pub struct Waiter {
+    /// Its number.
+    pub id: u32,
+    /// The connection that its answer goes to; None where it is told by a call of its own.
+    pub conn: Option<u64>,
+    /// The claims that it asks for, in order.
+    pub asked: Sequence<Claim>,
+    /// The caches that it wishes for once it is served, the first choice first.
+    pub wish: Sequence<CacheKind>,
+    /// Whether its party's name is to be recorded before it is granted.
+    pub monitored: bool,
+    /// The rows of the fronts' tables that its grant adds.
+    pub rows: Rooms,
+}
