@@ -61,12 +61,12 @@ replied_told count held call =
     elim (cases_Bool (not (eqb call.0.prog nlm_program))) [
       | inl a ↦ rw a refl
       | inr a ↦ rw a (elim (cases_Bool (not (eqb call.0.vers nlm_version))) [
-          | inl b ↦ rw b refl
-          | inr b ↦ rw b (elim (cases_Bool (not (is_served call.0.proc))) [
-              | inl c ↦ rw c refl
-              | inr c ↦ rw c (replied_whole count held call.0.xid (arguments_at call.0.proc call.1))
-            ])
+        | inl b ↦ rw b refl
+        | inr b ↦ rw b (elim (cases_Bool (not (is_served call.0.proc))) [
+          | inl c ↦ rw c refl
+          | inr c ↦ rw c (replied_whole count held call.0.xid (arguments_at call.0.proc call.1))
         ])
+      ])
     ]
 
 by_told : (count : ℕ) (held : Held) (r : Result (HeadItem × List ℕ) RpcBad) → IsTold count held (call_by r) (told_by count held r)
@@ -105,7 +105,7 @@ IsAt file owner first last at who x = (at ≡ file) × ((who ≡ owner) × (with
 
 changed : (file : ℕ) (owner : Owner) (party : Party) (first last : ℕ) (mode : Option Mode) (cs : List Claim) → first ≤ last → IsHeld cs → (at : ℕ) (who : Owner) (x : ℕ)
     → (IsAt file owner first last at who x × (held_mode at who (relocked_in file owner party first last mode cs) x ≡ mode))
-      ⊎ (held_mode at who (relocked_in file owner party first last mode cs) x ≡ held_mode at who cs x)
+    ⊎ (held_mode at who (relocked_in file owner party first last mode cs) x ≡ held_mode at who cs x)
 changed file owner party first last mode cs ends held at who x =
     elim (cases_Bool ((eqb at file) && (same_owners who owner))) [
       | inl same ↦
@@ -157,11 +157,11 @@ lock_change cookie a exclusive held real keeps =
     elim (cases_Bool (is_blocked a exclusive held)) [
       | inl blocked ↦ subst (λ r. IsChange (Locks cookie a exclusive) held r.1) (sym (lock_denied a exclusive held blocked)) (unchanged (Locks cookie a exclusive) held)
       | inr free ↦ elim (cases_Bool (has_room held)) [
-          | inl room ↦
-              let granted = lock_granted a exclusive held free room in
-              subst (λ r. IsChange (Locks cookie a exclusive) held r.1) (sym granted) (granted_change cookie a exclusive held real keeps (ap (λ r. r.0) granted))
-          | inr full ↦ subst (λ r. IsChange (Locks cookie a exclusive) held r.1) (sym (lock_full a exclusive held free full)) (unchanged (Locks cookie a exclusive) held)
-        ]
+        | inl room ↦
+            let granted = lock_granted a exclusive held free room in
+            subst (λ r. IsChange (Locks cookie a exclusive) held r.1) (sym granted) (granted_change cookie a exclusive held real keeps (ap (λ r. r.0) granted))
+        | inr full ↦ subst (λ r. IsChange (Locks cookie a exclusive) held r.1) (sym (lock_full a exclusive held free full)) (unchanged (Locks cookie a exclusive) held)
+      ]
     ]
 
 unlock_change : (a : RangeAsk) (held : Held) → IsReal a → IsHeld held.claims → IsChange (Unlocks a) held (unlocked a held)
@@ -233,9 +233,10 @@ begun_lawful head es = lawful_always (begin head) es nothing_keeps
 -- ---- completeness
 
 lock_due : (number xid : ℕ) (cookie : List ℕ) (a : RangeAsk) (exclusive : Bool) (held : Held) → IsDue number xid (Locks cookie a exclusive) held (told_so number xid cookie (status_of (lock a exclusive held).0)) (lock a exclusive held).1
-lock_due number xid cookie a exclusive held =
-    (λ free room. ap (λ r. told_so number xid cookie (status_of r.0)) (lock_granted a exclusive held free room),
-    λ blocked. (ap (λ r. told_so number xid cookie (status_of r.0)) (lock_denied a exclusive held blocked), ap (λ r. r.1) (lock_denied a exclusive held blocked)))
+lock_due number xid cookie a exclusive held = (
+  λ free room. ap (λ r. told_so number xid cookie (status_of r.0)) (lock_granted a exclusive held free room),
+  λ blocked. (ap (λ r. told_so number xid cookie (status_of r.0)) (lock_denied a exclusive held blocked), ap (λ r. r.1) (lock_denied a exclusive held blocked)),
+)
 
 -- a successful reply with these results
 abbrev replied_with : ℕ → ℕ → List ℕ → List Out

@@ -47,13 +47,13 @@ last_real : (offset len last : ℕ) → last_of offset len ≡ Some last → (of
 last_real offset len last e =
     elim (cases_Bool (eqb len 0)) [
       | inl whole ↦
-        let at = chosen (ltb offset (2 ^ 64)) (2 ^ 64 - 1) last (rw whole at e) in
-        (omega (arith, ltb-true offset (2 ^ 64) at.0, at.1), omega (arith, at.1))
+          let at = chosen (ltb offset (2 ^ 64)) (2 ^ 64 - 1) last (rw whole at e) in
+          (omega (arith, ltb-true offset (2 ^ 64) at.0, at.1), omega (arith, at.1))
       | inr part ↦
-        let at = chosen (leb (offset + len) (2 ^ 64)) (offset + len - 1) last (rw part at e) in
-        let within = leb-true (offset + len) (2 ^ 64) at.0 in
-        let more = eqb-false len 0 part in
-        (omega (arith, within, at.1, more), omega (arith, within, at.1, more))
+          let at = chosen (leb (offset + len) (2 ^ 64)) (offset + len - 1) last (rw part at e) in
+          let within = leb-true (offset + len) (2 ^ 64) at.0 in
+          let more = eqb-false len 0 part in
+          (omega (arith, within, at.1, more), omega (arith, within, at.1, more))
     ]
 
 abbrev done : RangeAsk → Result RangeAsk NlmStatus
@@ -96,9 +96,9 @@ lock_keeps a exclusive held real keeps =
     elim (cases_Bool (list_any (is_blocker (claim_of a exclusive held.names)) held.claims)) [
       | inl blocked ↦ rw blocked keeps
       | inr free ↦ rw free (elim (cases_Bool (has_room held)) [
-          | inl room ↦ rw room (keeps_held a.file (owner_of a.owner held.names) (party_of a.party (entered a.owner held.names)) (party_of a.party held.names) a.first a.last (Some exclusive) held.claims real.ends real.top refl (free_from (claim_of a exclusive held.names) held.claims free) keeps)
-          | inr full ↦ rw full keeps
-        ])
+        | inl room ↦ rw room (keeps_held a.file (owner_of a.owner held.names) (party_of a.party (entered a.owner held.names)) (party_of a.party held.names) a.first a.last (Some exclusive) held.claims real.ends real.top refl (free_from (claim_of a exclusive held.names) held.claims free) keeps)
+        | inr full ↦ rw full keeps
+      ])
     ]
 
 unlock_keeps : (a : RangeAsk) (held : Held) → IsReal a → IsHeld held.claims → IsHeld (unlocked a held).claims
@@ -144,12 +144,12 @@ replied_keeps count held head args keeps =
     elim (cases_Bool (not (eqb head.prog nlm_program))) [
       | inl a ↦ rw a keeps
       | inr a ↦ rw a (elim (cases_Bool (not (eqb head.vers nlm_version))) [
-          | inl b ↦ rw b keeps
-          | inr b ↦ rw b (elim (cases_Bool (not (is_served head.proc))) [
-              | inl c ↦ rw c keeps
-              | inr c ↦ rw c (replied_by_keeps count held head.xid (arguments_at head.proc args) keeps)
-            ])
+        | inl b ↦ rw b keeps
+        | inr b ↦ rw b (elim (cases_Bool (not (is_served head.proc))) [
+          | inl c ↦ rw c keeps
+          | inr c ↦ rw c (replied_by_keeps count held head.xid (arguments_at head.proc args) keeps)
         ])
+      ])
     ]
 
 told_keeps : (count : ℕ) (held : Held) (r : Result (HeadItem × List ℕ) RpcBad) → IsHeld held.claims → IsHeld (told_by count held r).1.claims

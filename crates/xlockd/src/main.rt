@@ -5,10 +5,9 @@ mod standard;
 
 use standard::{StandardInput, StandardOutput};
 use std::alloc::{AllocError, Global};
-use std::env;
-use std::io;
 use std::process::ExitCode;
 use std::rt::Env;
+use std::{env, io};
 use xl_top::{Done, run};
 
 /// The program's words, its name first.
