@@ -1,0 +1,113 @@
+-- Who asks: the numbers of names, which may still have to come, and the claim that an ask is for.
+use Rattle.std.specs.Prelude.{◌≡◌, ℕ, ◌+◌, ◌≤◌, Bool, true, false, ◌&&◌, nat_le, if◌then◌else◌, List, [], ◌∷◌, length, Option, Some, None}
+use Rattle.xl_base.specs.declared.name.Owner.{Owner}
+use Rattle.xl_base.specs.declared.name.Owner.TheVariants as owners
+use Rattle.xl_base.specs.declared.name.Party.{Party}
+use Rattle.xl_base.specs.declared.name.Party.TheVariants as parties
+use Rattle.xl_matrix.specs.declared.claim.Claim.{Claim}
+use Rattle.xl_matrix.specs.declared.claim.Extent.{Extent}
+use Rattle.xl_matrix.specs.declared.claim.Extent.TheVariants.{Bytes, Empty}
+use Rattle.xl_matrix.specs.declared.claim.What.TheVariants.{Range}
+use Rattle.xl_names.specs.Names.{protocol_of, same_name, number_of, place_of, is_kept, entered, most_names}
+use Rattle.xl_names.specs.declared.name.Name.{Name}
+use Rattle.xl_names.specs.declared.name.Name.TheVariants.{NlmRange, NlmShare, NlmParty, NfsRange, NfsShare, NfsParty, SmbLease}
+use Rattle.xl_core.specs.declared.ask.Who.{Who}
+use Rattle.xl_core.specs.declared.ask.Who.TheVariants.{Named, Open}
+use Rattle.xl_core.specs.declared.ask.Act.{Act}
+use Rattle.xl_core.specs.declared.ask.Act.TheVariants.{Ranges, Test, Unlock}
+use Rattle.xl_core.specs.declared.ask.Ask.{Ask}
+
+-- ---- an ask that may enter its names
+
+-- the owner and the party with the number that the name has, or gets when it comes
+abbrev pub owner_in : Who → List Name → Owner
+owner_in (Named name) names = owners.Name (protocol_of name) (place_of name names)
+owner_in (Open number) names = owners.Open number
+
+abbrev pub party_in : Who → List Name → Party
+party_in (Named name) names = parties.Name (protocol_of name) (place_of name names)
+party_in (Open number) names = parties.Open number
+
+-- the names once this one came
+abbrev pub who_entered : Who → List Name → List Name
+who_entered (Named name) names = entered name names
+who_entered (Open number) names = names
+
+-- of an ask the owner comes first, then the party
+abbrev pub asker : Ask → List Name → Owner
+asker a names = owner_in a.owner names
+
+abbrev pub asking_party : Ask → List Name → Party
+asking_party a names = party_in a.party (who_entered a.owner names)
+
+abbrev pub both_entered : Ask → List Name → List Name
+both_entered a names = who_entered a.party (who_entered a.owner names)
+
+-- how many names come with this one
+abbrev pub coming : Who → List Name → ℕ
+coming (Named name) names = if is_kept name names then 0 else 1
+coming (Open number) names = 0
+
+-- the ask's names can be kept
+abbrev pub names_fit : Ask → List Name → Bool
+names_fit a names = nat_le (length names + (coming a.owner names + coming a.party names)) most_names
+
+-- the claim on a range that the ask is for
+abbrev pub asked_claim : Ask → Extent → Bool → List Name → Claim
+asked_claim a extent exclusive names = record { file = a.file; owner = asker a names; party = asking_party a names; what = Range extent exclusive }
+
+-- ---- an ask that enters no name
+
+-- what stands for the number of a name that has none
+abbrev pub no_number : ℕ
+no_number = 4294967295
+
+abbrev pub number_or : Option ℕ → ℕ
+number_or None = no_number
+number_or (Some number) = number
+
+abbrev pub known_owner : Who → List Name → Owner
+known_owner (Named name) names = owners.Name (protocol_of name) (number_or (number_of name names))
+known_owner (Open number) names = owners.Open number
+
+abbrev pub known_party : Who → List Name → Party
+known_party (Named name) names = parties.Name (protocol_of name) (number_or (number_of name names))
+known_party (Open number) names = parties.Open number
+
+-- the claim on a range that a test or an unlock is for
+abbrev pub known_claim : Ask → Extent → Bool → List Name → Claim
+known_claim a extent exclusive names =
+    record { file = a.file; owner = known_owner a.owner names; party = known_party a.party names; what = Range extent exclusive }
+
+-- ---- which asks the core takes
+
+-- the client that an owner of POSIX ranges belongs to
+abbrev pub client_of : Name → Option Name
+client_of (NlmRange caller svid oh) = Some (NlmParty caller)
+client_of (NfsRange client owner) = Some (NfsParty client)
+client_of _ = None
+
+abbrev pub is_name : Option Name → Name → Bool
+is_name None name = false
+is_name (Some client) name = same_name client name
+
+-- the party is the client of an owner of POSIX ranges
+abbrev pub is_client : Who → Who → Bool
+is_client (Named owner) (Named party) = is_name (client_of owner) party
+is_client _ _ = false
+
+-- a range with bytes, in their order
+abbrev pub IsRealExtent : Extent → Type 0
+IsRealExtent (Bytes first last) = first ≤ last
+IsRealExtent (Empty offset) = ⊥
+
+-- one such range
+abbrev pub IsFitAct : Act → Type 0
+IsFitAct (Ranges ((extent, exclusive) ∷ [])) = IsRealExtent extent
+IsFitAct (Ranges _) = ⊥
+IsFitAct (Test extent exclusive) = IsRealExtent extent
+IsFitAct (Unlock extent) = IsRealExtent extent
+
+pub record IsFit (a : Ask) : Type 0 where
+  pub act : IsFitAct a.act
+  pub party : is_client a.owner a.party ≡ true

@@ -1,0 +1,93 @@
+-- What the core's state keeps at each free moment.
+use Rattle.std.specs.Prelude.{◌≡◌, ℕ, ◌≤◌, Bool, true, false, not, ◌&&◌, ◌==◌, List, [], ◌∷◌, Option, Some, None}
+use Rattle.std.specs.List.{AllByRecursion, list_any, slice_get}
+use Rattle.xl_base.specs.Lists.{Pairwise}
+use Rattle.xl_base.specs.Stable.{same_protocol}
+use Rattle.xl_base.specs.declared.name.Owner.{Owner}
+use Rattle.xl_base.specs.declared.name.Owner.TheVariants as owners
+use Rattle.xl_base.specs.declared.name.Party.{Party}
+use Rattle.xl_base.specs.declared.name.Party.TheVariants as parties
+use Rattle.xl_base.specs.declared.name.Protocol.{Protocol}
+use Rattle.xl_matrix.specs.Equal.{same_owners, same_parties}
+use Rattle.xl_matrix.specs.Matrix.{compat}
+use Rattle.xl_matrix.specs.Owners.{posix}
+use Rattle.xl_matrix.specs.declared.claim.Claim.{Claim}
+use Rattle.xl_matrix.specs.declared.claim.Extent.TheVariants.{Bytes}
+use Rattle.xl_matrix.specs.declared.claim.What.{What}
+use Rattle.xl_matrix.specs.declared.claim.What.TheVariants.{Share, Range, Cache}
+use Rattle.xl_names.specs.Names.{protocol_of, AreDistinct}
+use Rattle.xl_names.specs.declared.name.Name.{Name}
+use Rattle.xl_table.specs.Flat.{blocks}
+use Rattle.xl_table.specs.Held.{IsKept}
+use Rattle.xl_wait.specs.declared.waiter.Waiter.{Waiter}
+use Rattle.xl_core.specs.State.{CoreState}
+use Rattle.xl_core.specs.Asking.{client_of, is_name}
+
+-- ---- the claims
+
+-- a range of a POSIX owner, with its bytes in order
+abbrev pub IsRangeBy : What → Type 0
+IsRangeBy (Range (Bytes first last) exclusive) = first ≤ last
+IsRangeBy _ = ⊥
+
+abbrev pub IsRange : Claim → Type 0
+IsRange c = IsRangeBy c.what × (posix c.owner ≡ true)
+
+abbrev pub agree : Protocol → Protocol → Option Name → Option Name → Bool
+agree protocol other (Some owner) (Some party) = same_protocol protocol (protocol_of owner) && (same_protocol other (protocol_of party) && is_name (client_of owner) party)
+agree protocol other _ _ = false
+
+-- the owner's name and the party's are kept, and the party is the owner's client
+abbrev pub are_kept : List Name → Owner → Party → Bool
+are_kept names (owners.Name protocol number) (parties.Name other at) = agree protocol other (slice_get names number) (slice_get names at)
+are_kept names _ _ = false
+
+-- a real range of a client that is known by name
+abbrev pub IsKnown : List Name → Claim → Type 0
+IsKnown names c = IsRange c × (are_kept names c.owner c.party ≡ true)
+
+-- two claims may stand beside each other as far as an owner has one share on a file, and a party one cache
+abbrev pub is_single_by : Claim → Claim → What → What → Bool
+is_single_by a b (Share access deny) (Share rights denied) = not (same_owners a.owner b.owner)
+is_single_by a b (Cache kind running) (Cache other due) = not (same_parties a.party b.party)
+is_single_by a b _ _ = true
+
+abbrev pub is_single : Claim → Claim → Bool
+is_single a b = not (a.file == b.file && not (is_single_by a b a.what b.what))
+
+-- ---- the waiters
+
+abbrev pub are_apart : Waiter → Waiter → Bool
+are_apart v w = not (v.id == w.id)
+
+-- one who waits for real ranges, under a number that was given out
+abbrev pub IsWaiter : List Name → ℕ → Waiter → Type 0
+IsWaiter names counter w = (w.id ≤ counter) × AllByRecursion (IsKnown names) w.asked
+
+-- ---- the state
+
+-- The claims stand in the table's order, each POSIX owner's ranges on a file as sorted maximal runs (kept); any two may
+-- be held together by the matrix; an owner has one share on a file and a party one cache; all are of clients known by
+-- name. The waiters are known too, and have numbers of their own.
+pub record IsGood (s : CoreState) : Type 0 where
+  pub kept : IsKept s.claims
+  pub compatible : Pairwise compat s.claims
+  pub single : Pairwise is_single s.claims
+  pub known : AllByRecursion (IsKnown s.names) s.claims
+  pub waiters : AllByRecursion (IsWaiter s.names s.counter) s.waiters
+  pub apart : Pairwise are_apart s.waiters
+  pub distinct : AreDistinct s.names
+
+-- ---- nobody is forgotten
+
+-- something held blocks the claim
+abbrev pub is_blocked : List Claim → Claim → Bool
+is_blocked held claim = list_any (λ c. blocks claim c) held
+
+abbrev pub is_still_blocked : List Claim → Option Claim → Bool
+is_still_blocked held None = true
+is_still_blocked held (Some claim) = is_blocked held claim
+
+-- each waiter has something held against what it asks for
+abbrev pub IsSettled : CoreState → Type 0
+IsSettled s = AllByRecursion (λ w. is_still_blocked s.claims (slice_get w.asked 0) ≡ true) s.waiters

@@ -1,0 +1,42 @@
+-- What the core keeps between two calls.
+use Rattle.std.specs.Prelude.{◌≡◌, ℕ, ◌≤◌, Bool, true, false, List, []}
+use Rattle.xl_base.specs.Stable.{Stable}
+use Rattle.xl_base.specs.declared.event.Moment.{Moment}
+use Rattle.xl_matrix.specs.declared.claim.Claim.{Claim}
+use Rattle.xl_names.specs.declared.name.Name.{Name}
+use Rattle.xl_wait.specs.declared.waiter.Waiter.{Waiter}
+
+-- the claims in the table's order, the waiters in order of arrival, the names kept, the record as it is stored, the
+-- clock, and the last number that was given out; of the step that runs, how many stores were made and whether one failed
+pub record CoreState : Type 0 where
+  pub claims : List Claim
+  pub waiters : List Waiter
+  pub names : List Name
+  pub stable : Stable
+  pub clock : Moment
+  pub counter : ℕ
+  pub made : ℕ
+  pub failed : Bool
+
+-- the state at a start
+abbrev pub started : Stable → Moment → CoreState
+started stable clock = record { claims = []; waiters = []; names = []; stable = stable; clock = clock; counter = 0; made = 0; failed = false }
+
+-- the state at the beginning of a step
+unfoldable pub step_begun : CoreState → CoreState
+step_begun s = record { claims = s.claims; waiters = s.waiters; names = s.names; stable = s.stable; clock = s.clock; counter = s.counter; made = 0; failed = false }
+
+-- the state with these claims, waiters, names and last number
+abbrev pub with_parts : CoreState → List Claim → List Waiter → List Name → ℕ → CoreState
+with_parts s claims waiters names counter =
+    record { claims = claims; waiters = waiters; names = names; stable = s.stable; clock = s.clock; counter = counter; made = s.made; failed = s.failed }
+
+-- as far as the state tells, n stores succeed in this step
+pub record MayBe (n : ℕ) (s : CoreState) : Type 0 where
+  pub enough : s.made ≤ n
+  pub spent : s.failed ≡ true → s.made ≡ n
+
+-- what never goes back in a step
+pub record GoesOn (old new : CoreState) : Type 0 where
+  pub made : old.made ≤ new.made
+  pub failed : old.failed ≡ true → (new.failed ≡ true) × (new.made ≡ old.made)

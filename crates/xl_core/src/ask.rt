@@ -1,0 +1,92 @@
+//! What is asked of the core, what it answers, and what it tells of besides.
+
+use xl_base::{Moment, Sequence};
+use xl_matrix::{CacheKind, Claim, Extent};
+use xl_names::Name;
+use xl_wait::Rooms;
+
+/// Who asks: a client by the name that it gave, or an SMB open by its number.
+#[derive(Drop, Debug)]
+pub enum Who {
+    /// The owner or party of this name.
+    Named(Name),
+    /// The SMB open of this number.
+    Open(u32),
+}
+
+/// What is asked for.
+#[derive(Drop, Debug)]
+pub enum Act {
+    /// Byte ranges, each with whether it is exclusive, all of them or none. Of NLM (XNFS C702, NLM_LOCK) and NFSv4
+    /// (RFC 7530 16.10) there is one.
+    Ranges(Sequence<(Extent, bool)>),
+    /// Whether a range could be locked, exclusive or not (XNFS C702, NLM_TEST; RFC 7530 16.11).
+    Test(Extent, bool),
+    /// That a range be unlocked (XNFS C702, NLM_UNLOCK; RFC 7530 16.12).
+    Unlock(Extent),
+}
+
+/// One ask.
+#[derive(Drop, Debug)]
+pub struct Ask {
+    /// The file's number.
+    pub file: u32,
+    /// Who is to own what is asked for.
+    pub owner: Who,
+    /// The client behind the owner.
+    pub party: Who,
+    /// What is asked for.
+    pub act: Act,
+    /// The caches wished for once the ask is granted, the first choice first.
+    pub wish: Sequence<CacheKind>,
+    /// The connection that a late answer goes to; None where it is told by a call of its own.
+    pub conn: Option<u64>,
+    /// Whether the asker waits where something held blocks it.
+    pub blocking: bool,
+    /// Whether it claims again what it had before a restart (RFC 7530 9.6.2).
+    pub reclaim: bool,
+    /// Whether the party's name is to be recorded before the grant.
+    pub monitored: bool,
+    /// The rows that a grant adds to the tables of the fronts.
+    pub rows: Rooms,
+}
+
+/// What an ask is answered.
+#[derive(Clone, Copy, Debug, PartialEq, Eq)]
+pub enum Answer {
+    /// Granted, with the claim that was asked. Of a test or an unlock it is the range, shared for an unlock, in which a
+    /// name without a number stands as 4,294,967,295.
+    Granted(Claim),
+    /// This held claim blocks it: of ranges the least by first byte, then last byte (an empty range first), then
+    /// exclusive before shared, then the owner's text.
+    Conflict(Claim),
+    /// It waits under this number.
+    Queued(u32),
+    /// The break of this cache is awaited.
+    Recall(Claim),
+    /// Grace runs until this moment.
+    Grace(Moment),
+    /// A reclaim where no grace runs; the clock.
+    NoGrace(Moment),
+    /// A reclaim in grace by a client that isn't recorded.
+    NotRecorded,
+    /// A table would have more rows than this, its limit; of several limits the least.
+    Full(u32),
+    /// An unlock of what isn't held.
+    NotHeld,
+    /// The record could not be stored.
+    StoreFailed,
+}
+
+/// What happened in a step besides its answer.
+#[derive(Drop, Debug)]
+pub enum Effect {
+    /// The break of this cache began, to this kind or none; a recall's call has this number.
+    Begun(Claim, Option<CacheKind>, Option<u32>),
+    /// The waiter of this number is served, with this answer.
+    Served(u32, Answer),
+    /// The waiter of this number waits no more.
+    Cancelled(u32),
+    /// The client of this id string expired.
+    Expired(Sequence<u8>),
+}
