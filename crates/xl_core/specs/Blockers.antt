@@ -1,5 +1,5 @@
 -- Which held claims block an ask, and the least of them.
-use Rattle.std.specs.Prelude.{◌≡◌, ℕ, Bool, false, ◌&&◌, ◌==◌, nat_lt, if◌then◌else◌, List, [], ◌∷◌, Option, Some, None}
+use Rattle.std.specs.Prelude.{◌≡◌, ℕ, Bool, false, ◌==◌, nat_lt, if◌then◌else◌, List, [], ◌∷◌, Option, Some, None}
 use Rattle.std.specs.List.{filter}
 use Rattle.std.specs.Ordering.{nat_cmp, is_lt}
 use Rattle.std.specs.Cmp.Lexicographic.{slice_cmp}
@@ -46,8 +46,5 @@ unfoldable pub blockers : List Waiter → CoreState → Claim → List Claim
 blockers earlier s ask = filter (λ held. blocks ask held) s.claims
 
 -- what a test is told of: ranges alone
-abbrev pub blocks_test : Claim → Claim → Bool
-blocks_test ask held = is_range held.what && blocks ask held
-
 unfoldable pub test_blockers : CoreState → Claim → List Claim
-test_blockers s ask = filter (blocks_test ask) s.claims
+test_blockers s ask = filter (λ held. is_range held.what) (filter (λ held. blocks ask held) s.claims)

@@ -76,12 +76,12 @@ granted s a claim = with_parts s (granted_claims claim s.claims) s.waiters (both
 abbrev pub waiting_rows : Rooms → Rooms
 waiting_rows rows = record { hosts = 0; owners = rows.owners; opens = rows.opens }
 
-abbrev pub waiter_of : CoreState → Ask → Claim → Waiter
-waiter_of s a claim = record { id = s.counter + 1; conn = a.conn; asked = claim ∷ []; wish = a.wish; monitored = a.monitored; rows = waiting_rows a.rows }
+abbrev pub waiter_of : ℕ → Ask → Claim → Waiter
+waiter_of id a claim = record { id = id; conn = a.conn; asked = claim ∷ []; wish = a.wish; monitored = a.monitored; rows = waiting_rows a.rows }
 
 -- the state where the asker waits, with the names kept
 abbrev pub waiting : CoreState → Ask → Claim → CoreState
-waiting s a claim = with_parts s s.claims (s.waiters ++ waiter_of s a claim ∷ []) (both_entered a s.names) (s.counter + 1)
+waiting s a claim = with_parts s s.claims (s.waiters ++ waiter_of (s.counter + 1) a claim ∷ []) (both_entered a s.names) (s.counter + 1)
 
 abbrev pub queued : CoreState → Ask → Claim → Option ℕ → Answer × List Effect × CoreState
 queued s a claim (Some limit) = (Full limit, [], s)
@@ -113,22 +113,22 @@ tested s a claim = if a.reclaim then NoGrace s.clock else test_answered claim (l
 
 -- ---- an unlock
 
-abbrev pub unlocked_bytes : CoreState → Ask → Claim → ℕ → ℕ → Answer × List Effect × CoreState
-unlocked_bytes s a claim first last =
+abbrev pub unlocked_bytes : CoreState → Claim → ℕ → ℕ → Answer × List Effect × CoreState
+unlocked_bytes s claim first last =
     if not (holds_byte claim.file claim.owner first last s.claims) then (NotHeld, [], s)
     else if not (relock_fits claim.file claim.owner first last None s.claims) then (Full most_claims, [], s)
     else (Granted claim, [], with_parts s (relocked_in claim.file claim.owner claim.party first last None s.claims) s.waiters s.names s.counter)
 
-unfoldable pub unlocked : CoreState → Ask → Claim → Extent → Answer × List Effect × CoreState
-unlocked s a claim (Bytes first last) = unlocked_bytes s a claim first last
-unlocked s a claim (Empty offset) = (NotHeld, [], s)
+unfoldable pub unlocked : CoreState → Claim → Extent → Answer × List Effect × CoreState
+unlocked s claim (Bytes first last) = unlocked_bytes s claim first last
+unlocked s claim (Empty offset) = (NotHeld, [], s)
 
 -- ---- an ask
 
 abbrev pub acted : ℕ → Rooms → CoreState → Ask → Act → Answer × List Effect × CoreState
 acted n left s a (Ranges ranges) = ranges_asked n left s a (slice_get ranges 0)
 acted n left s a (Test extent exclusive) = (tested s a (known_claim a extent exclusive s.names), [], s)
-acted n left s a (Unlock extent) = unlocked s a (known_claim a extent false s.names) extent
+acted n left s a (Unlock extent) = unlocked s (known_claim a extent false s.names) extent
 
 -- What an ask is answered, what it tells of, and what it leaves, where this room is left in the fronts' tables and n
 -- stores succeed in the step: no grace runs, so a reclaim comes too late; what is held may block; a limit may be

@@ -11,8 +11,8 @@ use Rattle.xl_spans.specs.Spans.{relocked, meets, touches}
 use Rattle.xl_spans.specs.declared.span.Mode.{Mode}
 use Rattle.xl_spans.specs.declared.span.Mode.TheVariants.{Shared, Exclusive}
 use Rattle.xl_spans.specs.declared.span.Span.{Span}
-use Rattle.xl_table.specs.Flat.{inserted}
-use Rattle.xl_table.specs.Held.{is_of, spans_of, mode_of}
+use Rattle.xl_table.specs.Flat.{inserted, removed}
+use Rattle.xl_table.specs.Held.{is_of, spans_of, mode_of, IsSound}
 
 abbrev pub is_exclusive : Mode → Bool
 is_exclusive Exclusive = true
@@ -45,6 +45,16 @@ fresh file owner first last mode cs = filter (touches first last) (relocked (spa
 abbrev pub all_inserted : List Claim → List Claim → List Claim
 all_inserted [] held = held
 all_inserted (c ∷ cs) held = all_inserted cs (inserted c held)
+
+-- the claims with these taken out, one after another
+abbrev pub all_removed : List Claim → List Claim → List Claim
+all_removed [] held = held
+all_removed (c ∷ cs) held = all_removed cs (removed c held)
+
+-- a table may take these in, one after another
+abbrev pub AreSoundToInsert : List Claim → List Claim → Type 0
+AreSoundToInsert [] held = Unit {0}
+AreSoundToInsert (c ∷ cs) held = IsSound (inserted c held) × AreSoundToInsert cs (inserted c held)
 
 -- the claims after the owner's lock of the range in this mode, or after its unlock at None: the spans that it touches
 -- are taken out, and the new runs are entered

@@ -62,8 +62,13 @@ settle n left s = option_map (served s) (first_turn n left s [] s.waiters)
 unfoldable pub waits_for : Party → Waiter → Bool
 waits_for party w = list_any (λ c. same_parties c.party party) w.asked
 
-abbrev pub told_cancelled : Waiter → Effect
-told_cancelled w = Cancelled w.id
+-- the numbers of the party's waiters
+unfoldable pub numbers_for : Party → List Waiter → List ℕ
+numbers_for party waiters = map (λ w. w.id) (filter (waits_for party) waiters)
+
+abbrev pub all_told : List ℕ → List Effect
+all_told [] = []
+all_told (id ∷ ids) = Cancelled id ∷ all_told ids
 
 -- one waiter is taken out; no claim changes
 unfoldable pub cancel : CoreState → ℕ → List Effect × CoreState
@@ -72,5 +77,10 @@ cancel s id = (Cancelled id ∷ [], with_parts s s.claims (cancelled id s.waiter
 -- all claims and waiters of a party are taken out; its name stays
 unfoldable pub end_party : CoreState → Party → List Effect × CoreState
 end_party s party =
-    (map told_cancelled (filter (waits_for party) s.waiters),
+    (all_told (numbers_for party s.waiters),
      with_parts s (filter (λ c. not (same_parties c.party party)) s.claims) (filter (λ w. not (waits_for party w)) s.waiters) s.names s.counter)
+
+-- the waiters without those of these numbers, taken out one after another
+abbrev pub all_cancelled : List ℕ → List Waiter → List Waiter
+all_cancelled [] waiters = waiters
+all_cancelled (id ∷ ids) waiters = all_cancelled ids (cancelled id waiters)

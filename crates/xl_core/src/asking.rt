@@ -1,7 +1,7 @@
 //! The numbers of those who ask.
-ghost use Rattle.std.specs.Prelude.{◌≡◌, ℕ, ◌≤◌, length, OnOk, OnErr, IfOk};
-ghost use Rattle.xl_names.specs.Names.{place_of, entered, is_kept, most_names};
-ghost use Rattle.xl_core.specs.Asking.{owner_in, party_in, who_entered, asker, asking_party, both_entered, coming, names_fit, asked_claim, known_owner, known_party, known_claim};
+ghost use Rattle.std.specs.Prelude.{◌≡◌, ◌≤◌, ◌+◌, length, IfSome, OnOk, IfOk};
+ghost use Rattle.xl_names.specs.Names.{same_name, place_of, is_kept, entered, most_names};
+ghost use Rattle.xl_core.specs.Asking.{owner_in, party_in, who_entered, asker, asking_party, both_entered, coming, names_fit, asked_claim, number_or, known_owner, known_party, known_claim};
 
 use crate::ask::{Ask, Who};
 use std::alloc::AllocError;
@@ -23,11 +23,151 @@ fn place_of(names: &Names, name: &Name) -> u32
     }
 }
 
-fn owner_in(who: &Who, names: &Names) -> Owner
+/// Keeps a name, for which there is room.
+fn enter(names: &mut Names, who: &Who) -> Result<(), AllocError>
+    ensures { OnOk result (names.new ≡ who_entered who.now names.old) }
+{
+    if let Who::Named(name) = who {
+        if names.intern(name).is_err() {
+            return Err(AllocError);
+        }
+    }
+    Ok(())
+}
+
+/// Keeps the names of an ask, for which there is room.
+pub(crate) fn enter_both(names: &mut Names, ask: &Ask) -> Result<(), AllocError>
+    ensures { OnOk result (names.new ≡ both_entered ask.now names.old) }
+{
+    enter(names, &ask.owner)?;
+    enter(names, &ask.party)?;
+    Ok(())
+}
+
+/// How many names come with one who asks.
+#[tactic(auto, using(crate::proofs::AskLaws::coming_known, crate::proofs::AskLaws::coming_unknown))]
+fn coming(names: &Names, who: &Who) -> usize
+    ensures count { result ≡ coming who.now names.now }
+    ensures most { result ≤ 1 }
+{
+    match who {
+        Who::Named(name) => match names.find(name) {
+            Some(_) => 0,
+            None => 1,
+        },
+        Who::Open(_) => 0,
+    }
+}
+
+/// Whether the names of an ask can be kept.
+pub(crate) fn do_names_fit(names: &Names, ask: &Ask) -> bool
+    ensures { result ≡ names_fit ask.now names.now }
+{
+    names.as_slice().len() + (coming(names, &ask.owner) + coming(names, &ask.party))
+        <= MOST_NAMES as usize
+}
+
+fn owner_in(names: &Names, who: &Who) -> Owner
     ensures { result ≡ owner_in who.now names.now }
 {
     match who {
         Who::Named(name) => Owner::Name(name.protocol(), place_of(names, name)),
         Who::Open(number) => Owner::Open(*number),
+    }
+}
+
+/// The place of a name once another came.
+fn place_behind(names: &Names, name: &Name, before: &Who) -> u32
+    ensures { result ≡ place_of name.now (who_entered before.now names.now) }
+{
+    match before {
+        Who::Named(other) => place_after(names, name, other),
+        Who::Open(_) => place_of(names, name),
+    }
+}
+
+#[tactic(auto, using(xl_names::proofs::NameLaws::eq_is))]
+fn is_same(a: &Name, b: &Name) -> bool
+    ensures { result ≡ same_name a.now b.now }
+{
+    *a == *b
+}
+
+/// The place of a name once another name came.
+#[tactic(auto, using(crate::proofs::AskLaws::place_still, crate::proofs::AskLaws::place_there, crate::proofs::AskLaws::place_same, crate::proofs::AskLaws::place_next))]
+fn place_after(names: &Names, name: &Name, other: &Name) -> u32
+    ensures { result ≡ place_of name.now (entered other.now names.now) }
+{
+    let count = names.as_slice().len() as u32;
+    match (names.find(name), names.find(other)) {
+        (Some(number), _) => number,
+        (None, Some(_)) => count,
+        (None, None) => {
+            if is_same(name, other) {
+                count
+            } else {
+                count + 1
+            }
+        }
+    }
+}
+
+fn party_behind(names: &Names, who: &Who, before: &Who) -> Party
+    ensures { result ≡ party_in who.now (who_entered before.now names.now) }
+{
+    match who {
+        Who::Named(name) => Party::Name(name.protocol(), place_behind(names, name, before)),
+        Who::Open(number) => Party::Open(*number),
+    }
+}
+
+/// The claim on a range that an ask is for.
+pub(crate) fn asked_claim(names: &Names, ask: &Ask, extent: Extent, exclusive: bool) -> Claim
+    ensures { result ≡ asked_claim ask.now extent exclusive names.now }
+{
+    Claim {
+        file: ask.file,
+        owner: owner_in(names, &ask.owner),
+        party: party_behind(names, &ask.party, &ask.owner),
+        what: What::Range(extent, exclusive),
+    }
+}
+
+fn number_or(number: Option<u32>) -> u32
+    ensures { result ≡ number_or number }
+{
+    match number {
+        Some(number) => number,
+        None => NO_NUMBER,
+    }
+}
+
+fn known_owner(names: &Names, who: &Who) -> Owner
+    ensures { result ≡ known_owner who.now names.now }
+{
+    match who {
+        Who::Named(name) => Owner::Name(name.protocol(), number_or(names.find(name))),
+        Who::Open(number) => Owner::Open(*number),
+    }
+}
+
+fn known_party(names: &Names, who: &Who) -> Party
+    ensures { result ≡ known_party who.now names.now }
+{
+    match who {
+        Who::Named(name) => Party::Name(name.protocol(), number_or(names.find(name))),
+        Who::Open(number) => Party::Open(*number),
+    }
+}
+
+/// The claim on a range that a test or an unlock is for; it enters no name.
+pub(crate) fn known_claim(names: &Names, ask: &Ask, extent: Extent, exclusive: bool) -> Claim
+    ensures { result ≡ known_claim ask.now extent exclusive names.now }
+{
+    Claim {
+        file: ask.file,
+        owner: known_owner(names, &ask.owner),
+        party: known_party(names, &ask.party),
+        what: What::Range(extent, exclusive),
     }
 }

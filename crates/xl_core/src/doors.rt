@@ -1,1 +1,150 @@
-//! todo
+//! The core and its calls.
+ghost use Rattle.std.specs.Prelude.{◌≡◌, ℕ, ◌+◌, ◌<◌, ◌^◌, true, List, Option, Some, None, Ok, option_map, OnOk, IfOk};
+ghost use Rattle.xl_wait.specs.Waiting.{is_waiting};
+ghost use Rattle.xl_core.specs.State.{started, step_begun, MayBe, GoesOn};
+ghost use Rattle.xl_core.specs.Asking.{IsFit};
+ghost use Rattle.xl_core.specs.Good.{IsGood};
+ghost use Rattle.xl_core.specs.Decide.{ask};
+ghost use Rattle.xl_core.specs.Settle.{settle, cancel, end_party};
+
+use crate::ask::{Answer, Ask, Effect};
+use crate::parts::Parts;
+use crate::{decide, leaving, settling};
+use std::alloc::{AllocError, Global};
+use std::marker::Model;
+use xl_base::{Keeper, Moment, Party, Record, Sequence};
+use xl_names::Names;
+use xl_table::Table;
+use xl_wait::{Queue, Rooms};
+
+/// The claims that are held, those who wait, and the names of both. A contract sees them as flat lists. A call that
+/// finds no memory leaves it spent: nothing is known of it then.
+#[derive(Drop)]
+pub struct Core {
+    parts: Parts,
+}
+
+impl Model for Core {
+    ghost use Rattle.xl_core.specs.State.{CoreState};
+    ghost use Rattle.xl_core.specs.Whole.{state_of};
+
+    ghost Value = { CoreState };
+
+    ghost view = { λ c. state_of c.parts };
+}
+
+impl Core {
+    /// The core at a start: nothing is held, nobody waits, and this is the record as it is stored. It takes no memory.
+    pub fn new(alloc: Global, stable: Record, clock: Moment) -> Core
+        ensures state { result ≡ started stable clock }
+        ensures good { IsGood result }
+    {
+        Core {
+            parts: Parts {
+                table: Table::new(alloc),
+                queue: Queue::new(alloc),
+                names: Names::new(alloc),
+                stable,
+                clock,
+                counter: 0,
+                made: 0,
+                failed: false,
+            },
+        }
+    }
+
+    /// The claims that are held, in the table's order.
+    pub fn table(&self) -> &Table
+        ensures { result.now ≡ self.now.claims }
+    {
+        &self.parts.table
+    }
+
+    /// Those who wait, in order of arrival.
+    pub fn queue(&self) -> &Queue
+        ensures { result.now ≡ self.now.waiters }
+    {
+        &self.parts.queue
+    }
+
+    /// The names that are kept.
+    pub fn names(&self) -> &Names
+        ensures { result.now ≡ self.now.names }
+    {
+        &self.parts.names
+    }
+
+    /// Begins a step: none of its stores was made, and none failed. It takes no memory.
+    pub fn begin_step(&mut self)
+        ensures state { self.new ≡ step_begun self.old }
+        ensures good { IsGood self.old → IsGood self.new }
+    {
+        begin_step(&mut self.parts);
+    }
+
+    /// Answers an ask, where this room is left in the tables of the fronts, and tells what happened besides. At least
+    /// 65,536 numbers must be left to give out. No ask stores the record yet.
+    pub fn ask<K: Keeper>(
+        &mut self,
+        alloc: Global,
+        _keeper: &mut K,
+        request: &Ask,
+        left: &Rooms,
+    ) -> Result<(Answer, Sequence<Effect>), AllocError>
+        requires fit { IsFit request.now }
+        requires good { IsGood self.old }
+        requires numbers { self.old.counter + 65536 < 2 ^ 32 }
+        ensures state { (n : ℕ) → IfOk result (λ r. MayBe n self.new → ask n left.now self.old request.now ≡ (r.0, r.1, self.new)) }
+        ensures on { OnOk result (GoesOn self.old self.new) }
+        ensures good { OnOk result (IsGood self.new) }
+        ensures keeper { _keeper.new ≡ _keeper.old }
+    {
+        let answer = decide::answer(alloc, &mut self.parts, left, request)?;
+        Ok((answer, Sequence::new(alloc)))
+    }
+
+    /// One turn: serves the first waiter that nothing blocks, and tells so. None comes exactly where each of them is
+    /// blocked; then nothing changed.
+    pub fn settle<K: Keeper>(
+        &mut self,
+        alloc: Global,
+        _keeper: &mut K,
+        left: &Rooms,
+    ) -> Result<Option<Sequence<Effect>>, AllocError>
+        requires good { IsGood self.old }
+        ensures state { (n : ℕ) → IfOk result (λ r. MayBe n self.new → settle n left.now self.old ≡ option_map (λ effects. (effects, self.new)) r) }
+        ensures none { result ≡ Ok None → self.new ≡ self.old }
+        ensures on { OnOk result (GoesOn self.old self.new) }
+        ensures good { OnOk result (IsGood self.new) }
+        ensures keeper { _keeper.new ≡ _keeper.old }
+    {
+        settling::settle(alloc, &mut self.parts, left)
+    }
+
+    /// Takes out the waiter of this number, and tells so. No claim changes.
+    pub fn cancel(&mut self, alloc: Global, waiter: u32) -> Result<Sequence<Effect>, AllocError>
+        requires waits { is_waiting waiter self.old.waiters ≡ true }
+        requires good { IsGood self.old }
+        ensures state { IfOk result (λ effects. cancel self.old waiter ≡ (effects, self.new)) }
+        ensures good { OnOk result (IsGood self.new) }
+    {
+        leaving::cancel(alloc, &mut self.parts, waiter)
+    }
+
+    /// Takes out all claims and waiters of a party, and tells of the waiters. Its name stays.
+    pub fn end_party(&mut self, alloc: Global, party: Party) -> Result<Sequence<Effect>, AllocError>
+        requires good { IsGood self.old }
+        ensures state { IfOk result (λ effects. end_party self.old party ≡ (effects, self.new)) }
+        ensures good { OnOk result (IsGood self.new) }
+    {
+        leaving::end_party(alloc, &mut self.parts, party)
+    }
+}
+
+#[tactic(auto, unfolding(crate::specs::State::step_begun))]
+fn begin_step(parts: &mut Parts)
+    ensures { state_of parts.new ≡ step_begun (state_of parts.old) }
+{
+    parts.made = 0;
+    parts.failed = false;
+}

@@ -1,1 +1,90 @@
-//! todo
+//! Who waits no more, and who leaves.
+ghost use Rattle.std.specs.Prelude.{◌≡◌, ℕ, ◌++◌, true, length, map, OnOk, IfOk};
+ghost use Rattle.std.specs.List.{filter, list_any};
+ghost use Rattle.xl_matrix.specs.Equal.{same_parties};
+ghost use Rattle.xl_wait.specs.Waiting.{cancelled};
+ghost use Rattle.xl_core.specs.Good.{IsGood};
+ghost use Rattle.xl_core.specs.Settle.{waits_for, numbers_for, all_told, all_cancelled, cancel, end_party};
+ghost use Rattle.xl_core.specs.Whole.{state_of};
+
+use crate::ask::Effect;
+use crate::parts::Parts;
+use crate::relock::take_out;
+use std::alloc::{AllocError, Global};
+use xl_base::{Party, Sequence};
+use xl_matrix::same_party;
+use xl_wait::{Queue, Waiter};
+
+/// Takes one waiter out.
+#[tactic(auto, unfolding(crate::specs::Settle::cancel))]
+pub(crate) fn cancel(
+    alloc: Global,
+    parts: &mut Parts,
+    id: u32,
+) -> Result<Sequence<Effect>, AllocError>
+    ensures { IfOk result (λ effects. cancel (state_of parts.old) id ≡ (effects, state_of parts.new)) }
+{
+    let mut effects = Sequence::new(alloc);
+    effects.push(Effect::Cancelled(id))?;
+    parts.queue.cancel(id);
+    Ok(effects)
+}
+
+fn waits_for(party: Party, waiter: &Waiter) -> bool
+    ensures { result ≡ waits_for party waiter.now }
+{
+    waiter
+        .asked
+        .as_slice()
+        .iter()
+        .any(|claim| same_party(claim.party, party))
+}
+
+/// The numbers of the party's waiters.
+fn numbers_for(alloc: Global, party: Party, waiters: &[Waiter]) -> Result<Vec<u32>, AllocError>
+    ensures { IfOk result (λ v. v.items ≡ numbers_for party waiters.now) }
+{
+    let mut numbers = Vec::new(alloc);
+    for waiter in waiters {
+        if waits_for(party, waiter) {
+            numbers.push(waiter.id)?;
+        }
+    }
+    Ok(numbers)
+}
+
+fn told(alloc: Global, numbers: &[u32]) -> Result<Sequence<Effect>, AllocError>
+    ensures { IfOk result (λ effects. effects ≡ all_told numbers.now) }
+{
+    let mut effects = Sequence::new(alloc);
+    for number in numbers {
+        effects.push(Effect::Cancelled(*number))?;
+    }
+    Ok(effects)
+}
+
+fn cancel_all(queue: &mut Queue, numbers: &[u32])
+    ensures { queue.new ≡ all_cancelled numbers.now queue.old }
+{
+    for number in numbers {
+        queue.cancel(*number);
+    }
+}
+
+/// Takes out all claims and waiters of a party.
+#[tactic(auto, unfolding(crate::specs::Settle::end_party), using(crate::proofs::WriteBack::all_taken, crate::proofs::TurnLaws::all_out))]
+pub(crate) fn end_party(
+    alloc: Global,
+    parts: &mut Parts,
+    party: Party,
+) -> Result<Sequence<Effect>, AllocError>
+    requires good { IsGood (state_of parts.old) }
+    ensures { IfOk result (λ effects. end_party (state_of parts.old) party ≡ (effects, state_of parts.new)) }
+{
+    let claims = parts.table.of_party(alloc, party)?;
+    let numbers = numbers_for(alloc, party, parts.queue.waiters())?;
+    let effects = told(alloc, &numbers)?;
+    take_out(&mut parts.table, &claims);
+    cancel_all(&mut parts.queue, &numbers);
+    Ok(effects)
+}

@@ -1,0 +1,47 @@
+-- The number of a name that has one, or is still to come.
+use Rattle.std.proofs.Common.{◌≡◌, ℕ, ◌+◌, Bool, true, false, cond, List, [], ◌∷◌, ◌++◌, length, Option, Some, None, refl, sym, ap, subst, ◌∙◌, arith}
+use Rattle.std.proofs.lemmas.Bool.{or_parts}
+use Rattle.std.proofs.lemmas.List.{length-append}
+use Rattle.xl_names.proofs.NameLaws.{kept_from_number, new_from_none, place_new, number_stays, number_entered, same_name_is}
+use Rattle.xl_names.specs.Names.{number_of, place_of, is_kept, entered, same_name}
+use Rattle.xl_names.specs.declared.name.Name.{Name}
+use Rattle.xl_core.specs.Asking.{coming}
+use Rattle.xl_core.specs.declared.ask.Who.TheVariants.{Named}
+
+pub place_known : (name : Name) (names : List Name) (number : ℕ) → number_of name names ≡ Some number → number ≡ place_of name names
+place_known name names number e = sym (kept_from_number name names number e).1
+
+pub place_unknown : (name : Name) (names : List Name) → number_of name names ≡ None → length names ≡ place_of name names
+place_unknown name names e = sym (place_new name names (new_from_none name names e))
+
+-- ---- how many names come
+
+pub coming_known : (name : Name) (names : List Name) (number : ℕ) → number_of name names ≡ Some number → 0 ≡ coming (Named name) names
+coming_known name names number e = rw (kept_from_number name names number e).0 refl
+
+pub coming_unknown : (name : Name) (names : List Name) → number_of name names ≡ None → 1 ≡ coming (Named name) names
+coming_unknown name names e = rw (new_from_none name names e) refl
+
+-- ---- the place of a name once another came
+
+pub place_still : (name other : Name) (names : List Name) (number : ℕ) → number_of name names ≡ Some number → number ≡ place_of name (entered other names)
+place_still name other names number e = sym (kept_from_number name (entered other names) number (number_stays names other name number e)).1
+
+pub place_there : (name other : Name) (names : List Name) (number : ℕ) → number_of name names ≡ None → number_of other names ≡ Some number → length names ≡ place_of name (entered other names)
+place_there name other names number e k = rw (kept_from_number other names number k).0 (place_unknown name names e)
+
+pub place_same : (name other : Name) (names : List Name) → number_of name names ≡ None → number_of other names ≡ None → same_name name other ≡ true → length names ≡ place_of name (entered other names)
+place_same name other names e k same =
+    subst (λ (x : Name). length names ≡ place_of name (entered x names)) (same_name_is name other same)
+    (place_unknown name names e ∙ sym (kept_from_number name (entered name names) (place_of name names) (number_entered names name)).1)
+
+new_behind : (name other : Name) (names : List Name) → is_kept name names ≡ false → same_name name other ≡ false → is_kept name (names ++ other ∷ []) ≡ false
+new_behind name other [] new apart = rw apart refl
+new_behind name other (n ∷ ns) new apart =
+    let parts = or_parts (same_name name n) (is_kept name ns) new in
+    rw (parts.0, new_behind name other ns parts.1 apart) refl
+
+pub place_next : (name other : Name) (names : List Name) → number_of name names ≡ None → number_of other names ≡ None → same_name name other ≡ false → length names + 1 ≡ place_of name (entered other names)
+place_next name other names e k apart =
+    rw (new_from_none other names k)
+    (sym (length-append names (other ∷ [])) ∙ sym (place_new name (names ++ other ∷ []) (new_behind name other names (new_from_none name names e) apart)))
