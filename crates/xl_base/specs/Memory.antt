@@ -1,6 +1,11 @@
--- A source and a sink in memory as their callers see them.
-use Rattle.std.specs.Prelude.{ℕ, Bool, ◌==◌, List}
+-- A source, a sink and a keeper in memory as their callers see them.
+use Rattle.std.specs.Prelude.{ℕ, ◌+◌, ◌-◌, ◌^◌, min, Bool, ◌==◌, List, [], ◌∷◌, ◌++◌}
 use Rattle.std.specs.List.{list_any}
+use Rattle.xl_base.specs.Stable.{Stable}
+use Rattle.xl_base.specs.declared.keeper.LoadOutcome.{LoadOutcome}
+use Rattle.xl_base.specs.declared.keeper.LoadOutcome.TheVariants as load
+use Rattle.xl_base.specs.declared.keeper.StoreOutcome.{StoreOutcome}
+use Rattle.xl_base.specs.declared.keeper.StoreOutcome.TheVariants as store
 
 pub record MemoryInput : Type 0 where
   -- the bytes that are not yet read
@@ -21,3 +26,28 @@ pub record MemoryOutput : Type 0 where
 -- whether the call of this number is one that fails
 abbrev pub is_failing : List ℕ → ℕ → Bool
 is_failing failing call = list_any (λ number. number == call) failing
+
+pub record MemoryStorage : Type 0 where
+  -- the record that is held
+  pub held : Stable
+  -- the records that were given to be stored, in order
+  pub given : List Stable
+  pub failing : List ℕ
+  pub calls : ℕ
+  pub faults : ℕ
+
+-- a count of 64 bits after one more; it stops at its last value
+abbrev pub counted : ℕ → ℕ
+counted count = min (count + 1) (2 ^ 64 - 1)
+
+-- a keeper in memory after a load
+abbrev pub after_load : LoadOutcome → MemoryStorage → MemoryStorage
+after_load (load.Loaded _) k = record { held = k.held; given = k.given; failing = k.failing; calls = counted k.calls; faults = k.faults }
+after_load load.Failed k = record { held = k.held; given = k.given; failing = k.failing; calls = counted k.calls; faults = counted k.faults }
+after_load load.NoMemory k = record { held = k.held; given = k.given; failing = k.failing; calls = counted k.calls; faults = k.faults }
+
+-- a keeper in memory after a store of this record
+abbrev pub after_store : StoreOutcome → Stable → MemoryStorage → MemoryStorage
+after_store store.Stored stable k = record { held = stable; given = k.given ++ stable ∷ []; failing = k.failing; calls = counted k.calls; faults = k.faults }
+after_store store.Failed stable k = record { held = k.held; given = k.given ++ stable ∷ []; failing = k.failing; calls = counted k.calls; faults = counted k.faults }
+after_store store.NoMemory stable k = record { held = k.held; given = k.given; failing = k.failing; calls = counted k.calls; faults = k.faults }

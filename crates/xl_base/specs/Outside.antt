@@ -1,7 +1,12 @@
 -- What the outside gives and takes, where it tells it, and what its counts of faults say.
-use Rattle.std.specs.Prelude.{◌≡◌, ℕ, ◌-◌, ◌^◌, ◌<◌, ◌≤◌, List, [], ◌++◌, length, take, Option, Some, None}
+use Rattle.std.specs.Prelude.{◌≡◌, ℕ, ◌-◌, ◌^◌, ◌<◌, ◌≤◌, List, [], ◌++◌, ◌∷◌, length, take, Option, Some, None, option_map}
 use Rattle.xl_base.specs.declared.source.ReadOutcome.{ReadOutcome}
 use Rattle.xl_base.specs.declared.source.ReadOutcome.TheVariants.{Got, End, Failed}
+use Rattle.xl_base.specs.Stable.{Stable}
+use Rattle.xl_base.specs.declared.keeper.LoadOutcome.{LoadOutcome}
+use Rattle.xl_base.specs.declared.keeper.LoadOutcome.TheVariants as load
+use Rattle.xl_base.specs.declared.keeper.StoreOutcome.{StoreOutcome}
+use Rattle.xl_base.specs.declared.keeper.StoreOutcome.TheVariants as store
 use Rattle.xl_base.specs.declared.sink.WriteOutcome.{WriteOutcome}
 use Rattle.xl_base.specs.declared.sink.WriteOutcome.TheVariants as write
 
@@ -46,3 +51,21 @@ Began (Some held) bytes (Some now) = IsPrefix held now × IsPrefix now (held ++ 
 abbrev pub Writes : WriteOutcome → List ℕ → Option (List ℕ) → Option (List ℕ) → Type 0
 Writes write.Wrote bytes old new = Added old bytes new
 Writes write.Failed bytes old new = Began old bytes new
+
+-- What one load says of the record that is held: where that is told, it is the one that was loaded.
+abbrev pub Loads : LoadOutcome → Option Stable → Type 0
+Loads (load.Loaded stable) held = held ≡ option_map (λ _. stable) held
+Loads load.Failed held = Unit {0}
+Loads load.NoMemory held = Unit {0}
+
+-- The record that is held after a store of this one, where it is told: this one just where it was stored.
+abbrev pub held_after : StoreOutcome → Stable → Option Stable → Option Stable
+held_after store.Stored stable held = option_map (λ _. stable) held
+held_after store.Failed stable held = held
+held_after store.NoMemory stable held = held
+
+-- The records given to be stored, with this one behind them unless memory ran out, where they are told.
+abbrev pub given_after : StoreOutcome → Stable → Option (List Stable) → Option (List Stable)
+given_after store.Stored stable given = option_map (λ list. list ++ stable ∷ []) given
+given_after store.Failed stable given = option_map (λ list. list ++ stable ∷ []) given
+given_after store.NoMemory stable given = given

@@ -1,5 +1,5 @@
 -- The record on stable storage (RFC 7530 9.6.2).
-use Rattle.std.specs.Prelude.{◌≡◌, ℕ, Bool, true, false, ◌&&◌, List, [], ◌∷◌, bytes_eq}
+use Rattle.std.specs.Prelude.{◌≡◌, ℕ, ◌+◌, ◌-◌, ◌^◌, Bool, true, false, ◌&&◌, ◌==◌, if◌then◌else◌, List, [], ◌∷◌, bytes_eq}
 use Rattle.std.specs.List.{list_any}
 use Rattle.xl_base.specs.declared.name.Protocol.{Protocol}
 use Rattle.xl_base.specs.declared.name.Protocol.TheVariants.{Nlm, Nfs, Smb}
@@ -9,6 +9,10 @@ use Rattle.xl_base.specs.declared.stable.Recorded.{Recorded}
 pub record Stable : Type 0 where
   pub epoch : ℕ
   pub names : List Recorded
+
+-- the record with its epoch raised by one, as at a start; after 4,294,967,295 comes 1
+abbrev pub raised : Stable → Stable
+raised stable = record { epoch = if stable.epoch == 2 ^ 32 - 1 then 1 else stable.epoch + 1; names = stable.names }
 
 abbrev pub same_protocol : Protocol → Protocol → Bool
 same_protocol Nlm Nlm = true

@@ -7,4 +7,7 @@ pub enum Halt {
     NoMemory,
     /// The journal has this many entries, the most that it can have.
     JournalFull(u64),
+    /// At a start the record could not be loaded, or not stored with its epoch raised; the number is the keeper's
+    /// count of faults.
+    StartStore(u64),
 }

@@ -1,10 +1,10 @@
 //! The record on stable storage: the epoch, and the clients that may reclaim after a restart (RFC 7530 9.6.2).
-ghost use Rattle.std.specs.Prelude.{◌≡◌, ◌∷◌, [], ◌++◌, true, false, OnOk, OnErr, IsTrue, ◌↔◌};
+ghost use Rattle.std.specs.Prelude.{◌≡◌, ◌∷◌, [], ◌++◌, true, false, OnOk, OnErr, IfOk, IsTrue, ◌↔◌};
 ghost use Rattle.xl_base.specs.declared.stable.RecordNameError.TheVariants.{NoMemory};
 
 use crate::name::Protocol;
 use crate::sequence::Sequence;
-use std::alloc::{AllocFailed, Global};
+use std::alloc::{AllocError, AllocFailed, Global};
 use std::marker::Model;
 
 /// The name of a client that may reclaim after a restart.
@@ -14,6 +14,18 @@ pub struct Recorded {
     pub protocol: Protocol,
     /// The NFSv4 client id string, or the NLM caller name.
     pub name: Sequence<u8>,
+}
+
+impl Recorded {
+    /// The same name once more.
+    pub fn copy(&self, alloc: Global) -> Result<Recorded, AllocError>
+        ensures { IfOk result (λ r. r ≡ self.now) }
+    {
+        Ok(Recorded {
+            protocol: self.protocol,
+            name: Sequence::from_slice(alloc, self.name.as_slice())?,
+        })
+    }
 }
 
 /// Why a name could not be recorded.
@@ -54,7 +66,7 @@ impl Model for Record {
 
 #[tactic(auto, using(crate::proofs::StableLaws::recordable_push))]
 impl Record {
-    ghost use Rattle.xl_base.specs.Stable.{AreRecordable, is_recorded, is_recordable};
+    ghost use Rattle.xl_base.specs.Stable.{AreRecordable, is_recorded, is_recordable, raised};
 
     /// The record of a server that never started: epoch 0 and no names. It takes no memory.
     pub fn new(alloc: Global) -> Record
@@ -78,6 +90,26 @@ impl Record {
         ensures { self.new ≡ record { epoch = epoch; names = self.old.names } }
     {
         self.epoch = epoch;
+    }
+
+    /// Raises the epoch by one, as a start does; after 4,294,967,295 comes 1.
+    pub fn raise_epoch(&mut self)
+        ensures { self.new ≡ raised self.old }
+    {
+        self.epoch = match self.epoch.checked_add(1) {
+            Some(epoch) => epoch,
+            None => 1,
+        };
+    }
+
+    /// The same record once more.
+    pub fn copy(&self, alloc: Global) -> Result<Record, AllocError>
+        ensures { IfOk result (λ r. r ≡ self.now) }
+    {
+        Ok(Record {
+            epoch: self.epoch,
+            names: Sequence::from_vec(copy_names(alloc, self.names.as_slice())?),
+        })
     }
 
     /// The names in the order in which they were recorded.
@@ -119,4 +151,15 @@ fn is_among(names: &[Recorded], name: &Recorded) -> bool
     ensures { result ≡ is_recorded name.now names.now }
 {
     names.iter().any(|held| *held == *name)
+}
+
+/// The same names once more.
+fn copy_names(alloc: Global, names: &[Recorded]) -> Result<Vec<Recorded>, AllocError>
+    ensures { IfOk result (λ v. v.items ≡ names.now) }
+{
+    let mut copies = Vec::new(alloc);
+    'names: for name in names {
+        copies.push(name.copy(alloc)?)?;
+    }
+    Ok(copies)
 }

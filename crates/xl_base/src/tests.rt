@@ -70,6 +70,39 @@ fn sources_and_sinks(rt: HostRuntime) -> Result<(), Fail> {
 }
 
 #[test]
+fn keepers(rt: HostRuntime) -> Result<(), Fail> {
+    let mut stable = Record::new(rt.alloc());
+    let name = Sequence::from_slice(rt.alloc(), b"c")?;
+    let protocol = Protocol::Nlm;
+    stable.add(Recorded { protocol, name })?;
+    let failing = Vec::from_slice(rt.alloc(), &[3, 4])?;
+    let mut keeper = MemoryKeeper::new(rt.alloc(), stable.copy(rt.alloc())?, failing);
+    let rows = [(0, 1), (u32::MAX, 1), (7, 8)];
+    for (epoch, next) in rows {
+        stable.set_epoch(epoch);
+        stable.raise_epoch();
+        assert_eq!(rt; stable.epoch(), next, "after {epoch}");
+    }
+    let LoadOutcome::Loaded(loaded) = keeper.load(rt.alloc()) else {
+        panic!(rt; "no record was loaded");
+    };
+    assert_eq!(rt; loaded.epoch(), 0);
+    assert!(rt; loaded.names() == stable.names());
+    assert_eq!(rt; keeper.store(rt.alloc(), &stable), StoreOutcome::Stored);
+    assert_eq!(rt; keeper.faults(), 0);
+    assert!(rt; matches!(keeper.load(rt.alloc()), LoadOutcome::Failed));
+    stable.set_epoch(9);
+    assert_eq!(rt; keeper.store(rt.alloc(), &stable), StoreOutcome::Failed);
+    assert_eq!(rt; keeper.faults(), 2);
+    assert_eq!(rt; keeper.held().epoch(), 8);
+    let [first, second] = keeper.given() else {
+        panic!(rt; "two records were given");
+    };
+    assert_eq!(rt; (first.epoch(), second.epoch()), (8, 9));
+    Ok(())
+}
+
+#[test]
 fn sequences(rt: HostRuntime) -> Result<(), Fail> {
     let mut list: Sequence<u8> = Sequence::new(rt.alloc());
     assert!(rt; list.is_empty());

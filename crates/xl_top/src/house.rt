@@ -57,7 +57,7 @@ fn act_and_enter(
     ensures next { OnOk result (state_of exports.now machine.new ≡ (step 0 (state_of exports.now machine.old) event).next) }
     ensures err { OnErr result (entries.new ≡ entries.old) }
     ensures full { (count : ℕ) → (result ≡ Err (Halt.JournalFull count)) ↔ ((count ≡ length entries.old) × (length entries.old ≡ 1048576)) }
-    ensures kept { (count : ℕ) → result ≡ Err (Halt.JournalFull count) → machine.new ≡ machine.old }
+    ensures kept { IfErr result (λ halt. is_spoiled (Some halt) ≡ false → machine.new ≡ machine.old) }
 {
     if entries.len() == MOST_ENTRIES {
         return Err(Halt::JournalFull(entries.len() as u64));

@@ -240,7 +240,8 @@ fn replay<O: Sink>(alloc: Global, capture: Capture, out: &mut O) -> Done
 {
     let (journal, held, ended) = step_capture(alloc, capture);
     let status = match ended {
-        Err(Halt::NoMemory) => 6,
+        // A house that has started never answers StartStore.
+        Err(Halt::NoMemory | Halt::StartStore(_)) => 6,
         Err(Halt::JournalFull(_)) => match write_whole(alloc, &journal, &held, out) {
             Written::All | Written::Failed => 7,
             Written::NoMemory => 6,
