@@ -1,2 +1,6 @@
 pub mod AskLaws
 pub mod SpanLaws
+pub mod WriteBack
+pub mod KnownLaws
+pub mod ClaimLaws
+pub mod TurnLaws

@@ -1,5 +1,5 @@
 -- What the core's state keeps at each free moment.
-use Rattle.std.specs.Prelude.{◌≡◌, ℕ, ◌≤◌, Bool, true, false, not, ◌&&◌, ◌==◌, List, [], ◌∷◌, Option, Some, None}
+use Rattle.std.specs.Prelude.{◌≡◌, ℕ, ◌≤◌, Bool, true, false, not, ◌&&◌, ◌==◌, List, [], ◌∷◌, length, Option, Some, None}
 use Rattle.std.specs.List.{AllByRecursion, list_any, slice_get}
 use Rattle.xl_base.specs.Lists.{Pairwise}
 use Rattle.xl_base.specs.Stable.{same_protocol}
@@ -15,7 +15,7 @@ use Rattle.xl_matrix.specs.declared.claim.Claim.{Claim}
 use Rattle.xl_matrix.specs.declared.claim.Extent.TheVariants.{Bytes}
 use Rattle.xl_matrix.specs.declared.claim.What.{What}
 use Rattle.xl_matrix.specs.declared.claim.What.TheVariants.{Share, Range, Cache}
-use Rattle.xl_names.specs.Names.{protocol_of, AreDistinct}
+use Rattle.xl_names.specs.Names.{protocol_of, AreDistinct, most_names}
 use Rattle.xl_names.specs.declared.name.Name.{Name}
 use Rattle.xl_table.specs.Flat.{blocks}
 use Rattle.xl_table.specs.Held.{IsKept}
@@ -77,6 +77,7 @@ pub record IsGood (s : CoreState) : Type 0 where
   pub waiters : AllByRecursion (IsWaiter s.names s.counter) s.waiters
   pub apart : Pairwise are_apart s.waiters
   pub distinct : AreDistinct s.names
+  pub few : length s.names ≤ most_names
 
 -- ---- nobody is forgotten
 

@@ -41,6 +41,11 @@ abbrev pub first_turn : ℕ → Rooms → CoreState → List Waiter → List Wai
 first_turn n left s earlier [] = None
 first_turn n left s earlier (w ∷ ws) = first_some (turn_of n left s earlier w) (first_turn n left s (earlier ++ w ∷ []) ws)
 
+-- the same, where those before don't count
+abbrev pub next_turn : Rooms → CoreState → List Waiter → Option Turn
+next_turn left s [] = None
+next_turn left s (w ∷ ws) = first_some (turn_of 0 left s [] w) (next_turn left s ws)
+
 -- ---- a turn is served
 
 abbrev pub served_by : CoreState → Turn → Option ℕ → List Effect × CoreState

@@ -2,7 +2,7 @@
 ghost use Rattle.std.specs.Prelude.{◌≡◌, ℕ, ◌+◌, ◌<◌, ◌≤◌, ◌^◌, true, List, [], length, Some, None, IfOk, IfSome};
 ghost use Rattle.std.specs.List.{AllByRecursion};
 ghost use Rattle.xl_matrix.specs.Owners.{posix};
-ghost use Rattle.xl_table.specs.Held.{has_one_party};
+ghost use Rattle.xl_table.specs.Held.{is_range, has_one_party};
 ghost use Rattle.xl_wait.specs.declared.waiter.Waiter.{Waiter};
 ghost use Rattle.xl_core.specs.Asking.{IsFit, IsRealExtent, is_client, names_fit};
 ghost use Rattle.xl_core.specs.Good.{IsRange, IsGood};
@@ -130,7 +130,9 @@ fn wait(
 ) -> Result<Answer, AllocError>
     requires names { names ≡ names_fit ask.now parts.old.names }
     requires room { parts.old.counter + 65536 < 2 ^ 32 }
-    ensures { IfOk result (λ answer. queued (state_of parts.old) ask.now claim.now (passed_by_wait left.now ask.now.rows (length parts.old.queue) names) ≡ (answer, [], state_of parts.new)) }
+    ensures answer { IfOk result (λ answer. queued (state_of parts.old) ask.now claim.now (passed_by_wait left.now ask.now.rows (length parts.old.queue) names) ≡ (answer, [], state_of parts.new)) }
+    ensures made { parts.new.made ≡ parts.old.made }
+    ensures failed { parts.new.failed ≡ parts.old.failed }
 {
     if let Some(limit) = passed_by_wait(left, &ask.rows, parts.queue.len(), names) {
         return Ok(Answer::Full(limit));
@@ -157,7 +159,9 @@ fn lock(
     requires range { IsRange claim.now }
     requires party { AllByRecursion (λ c. has_one_party claim.now c ≡ true) parts.old.table }
     requires room { parts.old.counter + 65536 < 2 ^ 32 }
-    ensures { (n : ℕ) → IfOk result (λ answer. lock_asked n left.now (state_of parts.old) ask.now claim.now ≡ (answer, [], state_of parts.new)) }
+    ensures answer { (n : ℕ) → IfOk result (λ answer. lock_asked n left.now (state_of parts.old) ask.now claim.now ≡ (answer, [], state_of parts.new)) }
+    ensures made { parts.new.made ≡ parts.old.made }
+    ensures failed { parts.new.failed ≡ parts.old.failed }
 {
     let names = do_names_fit(&parts.names, ask);
     match decide(alloc, parts, left, &ask.rows, names, claim)? {
@@ -199,10 +203,13 @@ fn unlock_bytes(
     first: u64,
     last: u64,
 ) -> Result<Answer, AllocError>
+    requires range { is_range claim.now.what ≡ true }
     requires posix { posix claim.now.owner ≡ true }
     requires ends { first ≤ last }
     requires party { AllByRecursion (λ c. has_one_party claim.now c ≡ true) parts.old.table }
-    ensures { IfOk result (λ answer. unlocked_bytes (state_of parts.old) claim.now first last ≡ (answer, [], state_of parts.new)) }
+    ensures answer { IfOk result (λ answer. unlocked_bytes (state_of parts.old) claim.now first last ≡ (answer, [], state_of parts.new)) }
+    ensures made { parts.new.made ≡ parts.old.made }
+    ensures failed { parts.new.failed ≡ parts.old.failed }
 {
     let bytes = Bytes {
         file: claim.file,
@@ -228,10 +235,13 @@ fn unlock(
     claim: &Claim,
     extent: Extent,
 ) -> Result<Answer, AllocError>
+    requires range { is_range claim.now.what ≡ true }
     requires posix { posix claim.now.owner ≡ true }
     requires real { IsRealExtent extent }
     requires party { AllByRecursion (λ c. has_one_party claim.now c ≡ true) parts.old.table }
-    ensures { IfOk result (λ answer. unlocked (state_of parts.old) claim.now extent ≡ (answer, [], state_of parts.new)) }
+    ensures answer { IfOk result (λ answer. unlocked (state_of parts.old) claim.now extent ≡ (answer, [], state_of parts.new)) }
+    ensures made { parts.new.made ≡ parts.old.made }
+    ensures failed { parts.new.failed ≡ parts.old.failed }
 {
     match extent {
         Extent::Bytes(first, last) => unlock_bytes(alloc, parts, claim, first, last),
@@ -240,6 +250,7 @@ fn unlock(
 }
 
 /// Answers an ask for ranges, of which it has one.
+#[tactic(auto, using(crate::proofs::TurnLaws::asked_one_party))]
 fn lock_first(
     alloc: Global,
     parts: &mut Parts,
@@ -251,7 +262,9 @@ fn lock_first(
     requires real { IfSome range (λ r. IsRealExtent r.0) }
     requires good { IsGood (state_of parts.old) }
     requires room { parts.old.counter + 65536 < 2 ^ 32 }
-    ensures { (n : ℕ) → IfOk result (λ answer. ranges_asked n left.now (state_of parts.old) ask.now range ≡ (answer, [], state_of parts.new)) }
+    ensures answer { (n : ℕ) → IfOk result (λ answer. ranges_asked n left.now (state_of parts.old) ask.now range ≡ (answer, [], state_of parts.new)) }
+    ensures made { parts.new.made ≡ parts.old.made }
+    ensures failed { parts.new.failed ≡ parts.old.failed }
 {
     let Some((extent, exclusive)) = range else {
         return Ok(Answer::NotHeld);
@@ -264,7 +277,7 @@ fn lock_first(
 }
 
 /// Answers an ask.
-#[tactic(auto, unfolding(crate::specs::Decide::ask))]
+#[tactic(auto, unfolding(crate::specs::Decide::ask), using(crate::proofs::TurnLaws::known_one_party))]
 pub(crate) fn answer(
     alloc: Global,
     parts: &mut Parts,
@@ -274,7 +287,9 @@ pub(crate) fn answer(
     requires fit { IsFit request.now }
     requires good { IsGood (state_of parts.old) }
     requires room { parts.old.counter + 65536 < 2 ^ 32 }
-    ensures { (n : ℕ) → IfOk result (λ answer. ask n left.now (state_of parts.old) request.now ≡ (answer, [], state_of parts.new)) }
+    ensures answer { (n : ℕ) → IfOk result (λ answer. ask n left.now (state_of parts.old) request.now ≡ (answer, [], state_of parts.new)) }
+    ensures made { parts.new.made ≡ parts.old.made }
+    ensures failed { parts.new.failed ≡ parts.old.failed }
 {
     match &request.act {
         Act::Ranges(ranges) => {

@@ -6,6 +6,7 @@ ghost use Rattle.xl_core.specs.Asking.{IsFit};
 ghost use Rattle.xl_core.specs.Good.{IsGood};
 ghost use Rattle.xl_core.specs.Decide.{ask};
 ghost use Rattle.xl_core.specs.Settle.{settle, cancel, end_party};
+ghost use Rattle.xl_core.specs.Whole.{state_of};
 
 use crate::ask::{Answer, Ask, Effect};
 use crate::parts::Parts;
@@ -118,7 +119,8 @@ impl Core {
         ensures good { OnOk result (IsGood self.new) }
         ensures keeper { _keeper.new ≡ _keeper.old }
     {
-        settling::settle(alloc, &mut self.parts, left)
+        let turn = settling::settle(alloc, &mut self.parts, left)?;
+        Ok(turn)
     }
 
     /// Takes out the waiter of this number, and tells so. No claim changes.

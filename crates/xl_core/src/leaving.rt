@@ -30,6 +30,7 @@ pub(crate) fn cancel(
     Ok(effects)
 }
 
+#[tactic(auto, unfolding(crate::specs::Settle::waits_for))]
 fn waits_for(party: Party, waiter: &Waiter) -> bool
     ensures { result ≡ waits_for party waiter.now }
 {
@@ -41,6 +42,7 @@ fn waits_for(party: Party, waiter: &Waiter) -> bool
 }
 
 /// The numbers of the party's waiters.
+#[tactic(auto, unfolding(crate::specs::Settle::numbers_for))]
 fn numbers_for(alloc: Global, party: Party, waiters: &[Waiter]) -> Result<Vec<u32>, AllocError>
     ensures { IfOk result (λ v. v.items ≡ numbers_for party waiters.now) }
 {
@@ -72,7 +74,7 @@ fn cancel_all(queue: &mut Queue, numbers: &[u32])
 }
 
 /// Takes out all claims and waiters of a party.
-#[tactic(auto, unfolding(crate::specs::Settle::end_party), using(crate::proofs::WriteBack::all_taken, crate::proofs::TurnLaws::all_out))]
+#[tactic(auto, unfolding(crate::specs::Settle::end_party), using(crate::proofs::WriteBack::all_removed_is, crate::proofs::TurnLaws::all_out))]
 pub(crate) fn end_party(
     alloc: Global,
     parts: &mut Parts,

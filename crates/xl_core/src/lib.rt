@@ -13,4 +13,4 @@ mod relock;
 mod settling;
 
 pub use ask::{Act, Answer, Ask, Effect, Who};
-// pub use doors::Core;
+pub use doors::Core;

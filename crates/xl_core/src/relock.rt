@@ -3,7 +3,7 @@ ghost use Rattle.std.specs.Prelude.{◌≡◌, ℕ, ◌+◌, ◌≤◌, [], ◌+
 ghost use Rattle.std.specs.List.{AllByRecursion, filter, list_any};
 ghost use Rattle.xl_matrix.specs.Owners.{posix};
 ghost use Rattle.xl_spans.specs.Spans.{IsCanonical, meets, touches, relocked};
-ghost use Rattle.xl_table.specs.Held.{is_of, with_span, spans_of, mode_of, has_one_party};
+ghost use Rattle.xl_table.specs.Held.{is_of, is_range, with_span, spans_of, mode_of, has_one_party};
 ghost use Rattle.xl_core.specs.Good.{IsRange};
 ghost use Rattle.xl_core.specs.Relock.{is_exclusive, range_claim, touches_by, is_touched, touched, untouched, fresh, all_removed, all_inserted, AreSoundToInsert, relocked_in, most_claims, relock_fits, holds_byte, granted_claims, grant_fits};
 
@@ -204,7 +204,7 @@ fn range_claim(ask: &Claim, span: &Span) -> Claim
 }
 
 /// Locks the range for the asker in this mode, or unlocks it at None, where the table has room.
-#[tactic(auto, unfolding(crate::specs::Relock::relocked_in))]
+#[tactic(auto, unfolding(crate::specs::Relock::relocked_in), using(crate::proofs::WriteBack::may_be_entered, crate::proofs::WriteBack::touched_removed))]
 pub(crate) fn relock(
     alloc: Global,
     table: &mut Table,
@@ -214,6 +214,7 @@ pub(crate) fn relock(
 ) -> Result<(), AllocError>
     requires file { bytes.now.file ≡ ask.now.file }
     requires owner { bytes.now.owner ≡ ask.now.owner }
+    requires range { is_range ask.now.what ≡ true }
     requires posix { posix ask.now.owner ≡ true }
     requires ends { bytes.now.first ≤ bytes.now.last }
     requires party { AllByRecursion (λ c. has_one_party ask.now c ≡ true) table.old }

@@ -4,7 +4,7 @@ ghost use Rattle.std.specs.List.{AllByRecursion, slice_get};
 ghost use Rattle.xl_table.specs.Held.{has_one_party};
 ghost use Rattle.xl_wait.specs.declared.waiter.Waiter.{Waiter};
 ghost use Rattle.xl_core.specs.Good.{IsRange, IsWaiter, IsGood};
-ghost use Rattle.xl_core.specs.Settle.{turn_by, turn_of, first_turn, served, settle};
+ghost use Rattle.xl_core.specs.Settle.{turn_by, turn_of, next_turn, first_turn, served, settle};
 ghost use Rattle.xl_core.specs.Whole.{state_of};
 
 use crate::ask::{Answer, Effect};
@@ -67,18 +67,32 @@ fn turn_of(
     turn_by(alloc, parts, left, waiter, first)
 }
 
-/// The turn of the first waiter that has one.
-#[tactic(auto, using(crate::proofs::TurnLaws::no_turn, crate::proofs::TurnLaws::a_turn, crate::proofs::TurnLaws::any_turn))]
-fn first_turn(alloc: Global, parts: &Parts, left: &Rooms) -> Result<Option<Turn>, AllocError>
-    requires { AllByRecursion (IsWaiter parts.now.names parts.now.counter) parts.now.queue }
-    ensures { (n : ℕ) → IfOk result (λ t. t ≡ first_turn n left.now (state_of parts.now) [] parts.now.queue) }
+/// The turn of the first of these that has one.
+fn next_turn(
+    alloc: Global,
+    parts: &Parts,
+    left: &Rooms,
+    waiters: &[Waiter],
+) -> Result<Option<Turn>, AllocError>
+    requires { AllByRecursion (IsWaiter parts.now.names parts.now.counter) waiters.now }
+    ensures { IfOk result (λ t. t ≡ next_turn left.now (state_of parts.now) waiters.now) }
 {
-    for waiter in parts.queue.waiters() {
+    for waiter in waiters {
         if let Some(turn) = turn_of(alloc, parts, left, waiter)? {
             return Ok(Some(turn));
         }
     }
     Ok(None)
+}
+
+/// The turn of the first waiter that has one.
+#[tactic(auto, using(crate::proofs::TurnLaws::next_is_first))]
+fn first_turn(alloc: Global, parts: &Parts, left: &Rooms) -> Result<Option<Turn>, AllocError>
+    requires { AllByRecursion (IsWaiter parts.now.names parts.now.counter) parts.now.queue }
+    ensures { (n : ℕ) → IfOk result (λ t. t ≡ first_turn n left.now (state_of parts.now) [] parts.now.queue) }
+{
+    let turn = next_turn(alloc, parts, left, parts.queue.waiters())?;
+    Ok(turn)
 }
 
 /// Takes the waiter out, and gives it what it asked for where there is room.
@@ -90,7 +104,9 @@ fn serve(
 ) -> Result<Sequence<Effect>, AllocError>
     requires range { IsRange turn.now.claim }
     requires party { AllByRecursion (λ c. has_one_party turn.now.claim c ≡ true) parts.old.table }
-    ensures { IfOk result (λ effects. served (state_of parts.old) turn.now ≡ (effects, state_of parts.new)) }
+    ensures served { IfOk result (λ effects. served (state_of parts.old) turn.now ≡ (effects, state_of parts.new)) }
+    ensures made { parts.new.made ≡ parts.old.made }
+    ensures failed { parts.new.failed ≡ parts.old.failed }
 {
     let answer = match turn.full {
         Some(limit) => Answer::Full(limit),
@@ -115,6 +131,8 @@ pub(crate) fn settle(
     requires good { IsGood (state_of parts.old) }
     ensures turn { (n : ℕ) → IfOk result (λ r. settle n left.now (state_of parts.old) ≡ option_map (λ effects. (effects, state_of parts.new)) r) }
     ensures none { result ≡ Ok None → parts.new ≡ parts.old }
+    ensures made { parts.new.made ≡ parts.old.made }
+    ensures failed { parts.new.failed ≡ parts.old.failed }
 {
     let Some(turn) = first_turn(alloc, parts, left)? else {
         return Ok(None);
