@@ -1,7 +1,7 @@
 -- What a lock or unlock of a range leaves, where the spans that it touches are taken out and the new runs are put in.
 use Rattle.std.proofs.Common.{◌≡◌, ℕ, ◌+◌, ◌<◌, ◌≤◌, Bool, true, false, not, ◌&&◌, ◌||◌, ◌==◌, nat_le, if◌then◌else◌, ◌⊎◌, inl, inr, List, [], ◌∷◌, length, map, Option, refl, sym, ap, subst, ◌∙◌, arith}
 use Rattle.std.specs.List.{AllByRecursion, filter}
-use Rattle.std.proofs.lemmas.Bool.{cases_Bool, both_ways, and_parts, and_from, and_left, and_right, or_left, or_right, false_from_ne_true, not_from_false, eqb-true, eq-eqb, leb-true, le-leb, lt-leb, ne_eqb}
+use Rattle.std.proofs.lemmas.Bool.{cases_Bool, both_ways, and_parts, and_from, and_left, and_right, or_left, or_right, or_cases, false_from_ne_true, not-true, not_from_false, eqb-true, eq-eqb, leb-true, le-leb, lt-leb, ne_eqb}
 use Rattle.xl_base.specs.Lists.{IsIn, Pairwise, placed}
 use Rattle.xl_base.proofs.Members.{all_in, all_from, in_map_from, in_filter_from, pairwise_filter}
 use Rattle.xl_base.specs.declared.name.Owner.{Owner}
@@ -12,7 +12,7 @@ use Rattle.xl_matrix.specs.declared.claim.What.{What}
 use Rattle.xl_matrix.specs.declared.claim.What.TheVariants.{Share, Range, Cache}
 use Rattle.xl_matrix.specs.Equal.{same_owners, same_parties, same_claims}
 use Rattle.xl_matrix.specs.Owners.{posix}
-use Rattle.xl_matrix.proofs.EqualLaws.{same_owners-true, same_owners-self, same_parties-self, same_claims-true, same_claims-self, eqb-sym, same_owners-sym, same_parties-sym}
+use Rattle.xl_matrix.proofs.EqualLaws.{same_owners-true, same_owners-self, same_parties-self, same_parties-true, same_claims-true, same_claims-self, eqb-sym, same_owners-sym, same_parties-sym}
 use Rattle.xl_spans.specs.Spans.{IsBefore, IsCanonical, same_mode, relocked, touches}
 use Rattle.xl_spans.specs.declared.span.Mode.{Mode}
 use Rattle.xl_spans.specs.declared.span.Mode.TheVariants.{Shared, Exclusive}
@@ -26,13 +26,9 @@ use Rattle.xl_table.specs.Order.{goes_first}
 use Rattle.xl_table.proofs.FlatLaws.{all_inserted as all_put, pairwise_into, length_inserted}
 use Rattle.xl_table.proofs.InsertLaws.{spans_of-inserted_own, spans_of-inserted_apart}
 use Rattle.xl_table.proofs.OrderLaws.{inserted_ordered}
-use Rattle.xl_core.specs.Relock.{is_exclusive, range_claim, touches_by, is_touched, touched, untouched, fresh, all_inserted, relocked_in, relock_fits}
+use Rattle.xl_core.specs.Relock.{is_exclusive, range_claim, touches_by, is_touched, touched, untouched, fresh, all_inserted, all_removed, AreSoundToInsert, relocked_in, relock_fits}
 
 -- ---- the touched claims are taken out, one after another
-
-abbrev pub all_removed : List Claim → List Claim → List Claim
-all_removed [] held = held
-all_removed (c ∷ cs) held = all_removed cs (removed c held)
 
 removed_behind : (p : Claim → Bool) (d : Claim) (cs held : List Claim) → p d ≡ false → AllByRecursion (λ c. p c ≡ true) cs → all_removed cs (d ∷ held) ≡ d ∷ all_removed cs held
 removed_behind p d [] held fails all = refl
@@ -489,6 +485,38 @@ sound_next c cs held new e is = sound_all_before cs (inserted c held) (subst (λ
 
 pub room_next : (c : Claim) (cs held new : List Claim) → all_inserted (c ∷ cs) held ≡ new → length new ≤ 16384 → length held < 16384
 room_next c cs held new e room = omega (arith, room, ap (λ (ds : List Claim). length ds) e, length_all_inserted cs (inserted c held), length_inserted c held)
+
+next_sound : (cs held : List Claim) → IsSound (all_inserted cs held) → AreSoundToInsert cs held
+next_sound [] held is = tt
+next_sound (c ∷ cs) held is = (sound_all_before cs (inserted c held) is, next_sound cs (inserted c held) is)
+
+-- the new runs may be put in, one after another
+pub sound_to_insert : (file : ℕ) (owner : Owner) (party : Party) (first last : ℕ) (mode : Option Mode) (cs : List Claim) → IsKept cs → posix owner ≡ true → first ≤ last → IsOfParty file owner party cs → AreSoundToInsert (map (range_claim file owner party) (fresh file owner first last mode cs)) (untouched file owner first last cs)
+sound_to_insert file owner party first last mode cs kept p ends one =
+    next_sound (map (range_claim file owner party) (fresh file owner first last mode cs)) (untouched file owner first last cs)
+    (subst (λ (ds : List Claim). IsSound ds) (relocked_is file owner party first last mode cs) (sound_relocked file owner party first last mode cs kept p ends one))
+
+-- where each of these and a range that is asked have one party, if they have one owner and file
+pub of_party : (ask : Claim) (cs : List Claim) → is_range ask.what ≡ true → AllByRecursion (λ c. has_one_party ask c ≡ true) cs → IsOfParty ask.file ask.owner ask.party cs
+of_party ask cs range all c h own other =
+    let same = is_of-true ask.file ask.owner c own in
+    let both : (is_range ask.what && (is_range c.what && ((ask.file == c.file) && same_owners ask.owner c.owner))) ≡ true =
+    rw (range, other, eq-eqb ask.file c.file (sym same.0), subst (λ (o : Owner). same_owners ask.owner o ≡ true) (sym same.1) (same_owners-self ask.owner)) refl in
+    let one : same_parties ask.party c.party ≡ true =
+    elim (or_cases (not (is_range ask.what && (is_range c.what && ((ask.file == c.file) && same_owners ask.owner c.owner)))) (same_parties ask.party c.party) (all_in (λ d. has_one_party ask d ≡ true) c cs all h)) [
+      | inl apart ↦ absurd (both_ways (is_range ask.what && (is_range c.what && ((ask.file == c.file) && same_owners ask.owner c.owner))) (not-true (is_range ask.what && (is_range c.what && ((ask.file == c.file) && same_owners ask.owner c.owner))) apart) both)
+      | inr same ↦ same
+    ] in
+    sym (same_parties-true ask.party c.party one)
+
+pub all_one_party : (ask : Claim) (cs : List Claim) → IsOfParty ask.file ask.owner ask.party cs → AllByRecursion (λ c. has_one_party ask c ≡ true) cs
+all_one_party ask cs one = all_from (λ c. has_one_party ask c ≡ true) cs (λ c h. one_party_old ask c (one c h))
+
+pub may_be_entered : (ask : Claim) (first last : ℕ) (mode : Option Mode) (cs : List Claim) → IsKept cs → posix ask.owner ≡ true → first ≤ last → is_range ask.what ≡ true → AllByRecursion (λ c. has_one_party ask c ≡ true) cs
+    → AreSoundToInsert (map (range_claim ask.file ask.owner ask.party) (fresh ask.file ask.owner first last mode cs)) (all_removed (touched ask.file ask.owner first last cs) cs)
+may_be_entered ask first last mode cs kept p ends range all =
+    subst (λ (ds : List Claim). AreSoundToInsert (map (range_claim ask.file ask.owner ask.party) (fresh ask.file ask.owner first last mode cs)) ds) (sym (touched_removed ask.file ask.owner first last cs))
+    (sound_to_insert ask.file ask.owner ask.party first last mode cs kept p ends (of_party ask cs range all))
 
 -- without some of the claims the list is kept
 pub kept_filter : (p : Claim → Bool) (cs : List Claim) → IsKept cs → IsKept (filter p cs)
