@@ -1,3 +1,5 @@
 pub mod AskLaws
 pub mod SpanLaws
 pub mod WriteBack
+pub mod KnownLaws
+pub mod ClaimLaws

@@ -96,7 +96,7 @@ merged p (s ∷ ss) c =
 -- ---- the spans of each owner afterwards
 
 -- of what is claimed, the span that the range touches is left out, and any other stays
-abbrev is_far : ℕ → ℕ → Span → Bool
+abbrev pub is_far : ℕ → ℕ → Span → Bool
 is_far first last s = not (touches first last s)
 
 out_span : (first last : ℕ) (w : What) (ss : List Span) → touches_by first last w ≡ true → filter (is_far first last) (with_span w ss) ≡ filter (is_far first last) ss
@@ -111,7 +111,7 @@ left_span first last (Range (Empty offset) exclusive) ss h = refl
 left_span first last (Share access deny) ss h = refl
 left_span first last (Cache kind running) ss h = refl
 
-spans_of-untouched : (file : ℕ) (owner : Owner) (first last : ℕ) (cs : List Claim) → spans_of file owner (untouched file owner first last cs) ≡ filter (is_far first last) (spans_of file owner cs)
+pub spans_of-untouched : (file : ℕ) (owner : Owner) (first last : ℕ) (cs : List Claim) → spans_of file owner (untouched file owner first last cs) ≡ filter (is_far first last) (spans_of file owner cs)
 unfolding untouched
 spans_of-untouched file owner first last [] = refl
 spans_of-untouched file owner first last (c ∷ cs) =
@@ -131,7 +131,7 @@ mode_exclusive : (m : Mode) → mode_of (is_exclusive m) ≡ m
 mode_exclusive Shared = refl
 mode_exclusive Exclusive = refl
 
-relocked_is : (file : ℕ) (owner : Owner) (party : Party) (first last : ℕ) (mode : Option Mode) (cs : List Claim) → relocked_in file owner party first last mode cs ≡ all_inserted (map (range_claim file owner party) (fresh file owner first last mode cs)) (untouched file owner first last cs)
+pub relocked_is : (file : ℕ) (owner : Owner) (party : Party) (first last : ℕ) (mode : Option Mode) (cs : List Claim) → relocked_in file owner party first last mode cs ≡ all_inserted (map (range_claim file owner party) (fresh file owner first last mode cs)) (untouched file owner first last cs)
 unfolding relocked_in
 relocked_is file owner party first last mode cs = refl
 
