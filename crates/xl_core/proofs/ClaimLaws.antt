@@ -30,7 +30,7 @@ use Rattle.xl_table.specs.Held.{mode_of, is_range, with_span, is_of, spans_of, I
 use Rattle.xl_core.specs.Good.{IsRangeBy, IsRange, are_kept, IsKnown, is_single_by, is_single}
 use Rattle.xl_core.specs.Relock.{is_exclusive, range_claim, is_touched, untouched, fresh, all_inserted, relocked_in, relock_fits, granted_by, granted_claims, grant_fits_by, grant_fits}
 use Rattle.xl_core.proofs.KnownLaws.{one_party}
-use Rattle.xl_core.proofs.WriteBack.{IsOfParty, relocked_is, spans_of-untouched, left_in, left_all, left_pairwise, all_all_inserted, pairwise_all_inserted, kept_relocked}
+use Rattle.xl_core.proofs.WriteBack.{is_of-true, IsOfParty, relocked_is, spans_of-untouched, left_in, left_all, left_pairwise, all_all_inserted, pairwise_all_inserted, kept_relocked}
 
 -- ---- what the claims of an owner do to a byte
 
@@ -223,11 +223,6 @@ IsFree file owner party first last (Some exclusive) cs = (c : Claim) → IsIn c 
 abbrev pub mode_asked : Option Bool → Option Mode
 mode_asked None = None
 mode_asked (Some exclusive) = Some (mode_of exclusive)
-
-is_of-true : (file : ℕ) (owner : Owner) (c : Claim) → is_of file owner c ≡ true → (c.file ≡ file) × (c.owner ≡ owner)
-is_of-true file owner c h =
-    let parts = and_parts (eqb c.file file) (same_owners c.owner owner) h in
-    (eqb-true c.file file parts.0, same_owners-true c.owner owner parts.1)
 
 -- a relock, and what it is asked of
 record IsRelock (names : List Name) (file : ℕ) (owner : Owner) (party : Party) (first last : ℕ) (asked : Option Bool) (cs : List Claim) : Type 0 where

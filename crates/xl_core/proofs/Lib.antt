@@ -3,3 +3,5 @@ pub mod SpanLaws
 pub mod WriteBack
 pub mod KnownLaws
 pub mod ClaimLaws
+pub mod DecideLaws
+pub mod GoodLaws

@@ -163,7 +163,7 @@ spans_of-relocked file owner party first last mode cs kept p ends =
     ∙ ap (λ (ss : List Span). all_placed (filter (touches first last) new) ss) (spans_of-untouched file owner first last cs ∙ sym (relocked_untouched old first last mode ends canonical))
     ∙ merged (touches first last) new (relocked_canonical old first last mode ends canonical)
 
-is_of-true : (file : ℕ) (owner : Owner) (c : Claim) → is_of file owner c ≡ true → (c.file ≡ file) × (c.owner ≡ owner)
+pub is_of-true : (file : ℕ) (owner : Owner) (c : Claim) → is_of file owner c ≡ true → (c.file ≡ file) × (c.owner ≡ owner)
 is_of-true file owner c h =
     let parts = and_parts (c.file == file) (same_owners c.owner owner) h in
     (eqb-true c.file file parts.0, same_owners-true c.owner owner parts.1)
