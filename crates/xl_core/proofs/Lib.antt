@@ -3,4 +3,6 @@ pub mod SpanLaws
 pub mod WriteBack
 pub mod KnownLaws
 pub mod ClaimLaws
+pub mod DecideLaws
+pub mod GoodLaws
 pub mod TurnLaws

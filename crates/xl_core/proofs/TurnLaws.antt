@@ -1,61 +1,51 @@
--- What the code of an ask, of a turn and of a leaving party rests on.
-use Rattle.std.proofs.Common.{◌≡◌, ℕ, ◌+◌, ◌<◌, Bool, true, false, not, cond, ◌==◌, List, [], ◌∷◌, ◌++◌, drop, length, map, Option, Some, None, IfSome, refl, sym, ap, subst, ◌∙◌, inl, inr, ◌⊎◌, arith}
+-- What the code of a turn and of a leaving party rests on.
+use Rattle.std.proofs.Common.{◌≡◌, ℕ, Bool, true, false, not, cond, ◌==◌, List, [], ◌∷◌, ◌++◌, map, Option, Some, None, IfSome, option_map, inl, inr, refl, sym, ap, subst, ◌∙◌}
 use Rattle.std.specs.List.{AllByRecursion, filter, slice_get}
-use Rattle.std.proofs.lemmas.Bool.{cases_Bool, and_parts, not-true, eqb-true, eq-eqb}
-use Rattle.std.proofs.lemmas.Option.{same_Some}
-use Rattle.xl_base.specs.Lists.{IsIn, Pairwise}
-use Rattle.xl_base.proofs.Members.{all_in}
-use Rattle.xl_base.specs.declared.name.Owner.{Owner}
+use Rattle.std.proofs.lemmas.Bool.{cases_Bool, not-true, eq-eqb}
+use Rattle.xl_base.specs.Lists.{Pairwise}
 use Rattle.xl_base.specs.declared.name.Party.{Party}
 use Rattle.xl_matrix.specs.declared.claim.Claim.{Claim}
-use Rattle.xl_matrix.specs.declared.claim.Extent.{Extent}
-use Rattle.xl_matrix.specs.Equal.{same_owners}
-use Rattle.xl_matrix.proofs.EqualLaws.{same_owners-true}
 use Rattle.xl_names.specs.declared.name.Name.{Name}
-use Rattle.xl_names.specs.Names.{AreDistinct}
-use Rattle.xl_table.specs.Held.{has_one_party, is_of}
+use Rattle.xl_table.specs.Held.{has_one_party}
 use Rattle.xl_wait.specs.Waiting.{cancelled}
 use Rattle.xl_wait.specs.declared.waiter.Rooms.{Rooms}
 use Rattle.xl_wait.specs.declared.waiter.Waiter.{Waiter}
 use Rattle.xl_core.specs.State.{CoreState}
-use Rattle.xl_core.specs.Asking.{is_client, asker, asking_party, asked_claim, known_claim, known_owner, known_party, both_entered}
 use Rattle.xl_core.specs.Blockers.{blockers}
 use Rattle.xl_core.specs.Decide.{decide}
-use Rattle.xl_core.specs.Good.{IsRange, IsKnown, IsWaiter, IsGood, are_apart, are_kept}
-use Rattle.xl_core.specs.Settle.{turn_with, turn_by, turn_of, first_some, next_turn, first_turn, waits_for, numbers_for, all_cancelled}
-use Rattle.xl_core.specs.declared.ask.Ask.{Ask}
-use Rattle.xl_core.specs.declared.decide.Verdict.{Verdict}
-use Rattle.xl_core.specs.declared.decide.Verdict.TheVariants as verdict
+use Rattle.xl_core.specs.Good.{IsRange, IsKnown, IsWaiter, IsGood, are_apart}
+use Rattle.xl_core.specs.Settle.{turn_by, turn_of, first_some, next_turn, first_turn, waits_for, numbers_for, all_cancelled}
 use Rattle.xl_core.specs.declared.settling.Turn.{Turn}
-use Rattle.xl_core.proofs.KnownLaws.{both_go_on, both_distinct, kept_on, one_party, asker_kept, known_party_is}
-use Rattle.xl_core.proofs.WriteBack.{all_one_party}
+use Rattle.xl_core.specs.Asking.{is_client, asked_claim, known_claim, IsFit}
+use Rattle.xl_core.specs.Decide.{ask}
+use Rattle.xl_core.specs.Settle.{settle}
+use Rattle.xl_core.specs.Whole.{state_of}
+use Rattle.xl_core.specs.declared.ask.Answer.{Answer}
+use Rattle.xl_core.specs.declared.ask.Ask.{Ask}
+use Rattle.xl_core.specs.declared.ask.Effect.{Effect}
+use Rattle.xl_core.specs.declared.parts.Parts.{Parts}
+use Rattle.xl_matrix.specs.declared.claim.Extent.{Extent}
+use Rattle.xl_core.proofs.GoodLaws.{ask_good, settle_good, asked_one_party, unlocked_one_party, first_turn_is, waiter_known, known_one_party}
 
--- ---- an owner's ranges on a file have one party
+-- ---- an ask
 
-is_of-true : (file : ℕ) (owner : Owner) (c : Claim) → is_of file owner c ≡ true → (c.file ≡ file) × (c.owner ≡ owner)
-is_of-true file owner c h =
-    let parts = and_parts (c.file == file) (same_owners c.owner owner) h in
-    (eqb-true c.file file parts.0, same_owners-true c.owner owner parts.1)
+pub asked_alone : (p : Parts) (a : Ask) (extent : Extent) (exclusive : Bool) (claim : Claim) → claim ≡ asked_claim a extent exclusive p.names → IsGood (state_of p) → is_client a.owner a.party ≡ true → AllByRecursion (λ c. has_one_party claim c ≡ true) p.table
+asked_alone p a extent exclusive claim e good client =
+    subst (λ (x : Claim). AllByRecursion (λ c. has_one_party x c ≡ true) p.table) (sym e) (asked_one_party (state_of p) a extent exclusive good client)
 
-pub asked_one_party : (s : CoreState) (a : Ask) (extent : Extent) (exclusive : Bool) → IsGood s → is_client a.owner a.party ≡ true → AllByRecursion (λ c. has_one_party (asked_claim a extent exclusive s.names) c ≡ true) s.claims
-asked_one_party s a extent exclusive good client =
-    all_one_party (asked_claim a extent exclusive s.names) s.claims (λ c h own range.
-        let held = (all_in (IsKnown s.names) c s.claims good.known h).1 in
-        let there = kept_on s.names (both_entered a s.names) c.owner c.party (both_go_on a s.names) held in
-        one_party (both_entered a s.names) (asker a s.names) c.party (asking_party a s.names) (both_distinct a s.names good.distinct)
-        (subst (λ (o : Owner). are_kept (both_entered a s.names) o c.party ≡ true) (is_of-true a.file (asker a s.names) c own).1 there) (asker_kept a s.names client))
+pub known_alone : (p : Parts) (a : Ask) (extent : Extent) (exclusive : Bool) (claim : Claim) → claim ≡ known_claim a extent exclusive p.names → IsGood (state_of p) → is_client a.owner a.party ≡ true → AllByRecursion (λ c. has_one_party claim c ≡ true) p.table
+known_alone p a extent exclusive claim e good client =
+    subst (λ (x : Claim). AllByRecursion (λ c. has_one_party x c ≡ true) p.table) (sym e) (unlocked_one_party (state_of p) a extent exclusive good client)
 
-pub known_one_party : (s : CoreState) (a : Ask) (extent : Extent) (exclusive : Bool) → IsGood s → is_client a.owner a.party ≡ true → AllByRecursion (λ c. has_one_party (known_claim a extent exclusive s.names) c ≡ true) s.claims
-known_one_party s a extent exclusive good client =
-    all_one_party (known_claim a extent exclusive s.names) s.claims (λ c h own range.
-        let held = (all_in (IsKnown s.names) c s.claims good.known h).1 in
-        known_party_is a s.names c.party good.distinct good.few client
-        (subst (λ (o : Owner). are_kept s.names o c.party ≡ true) (is_of-true a.file (known_owner a.owner s.names) c own).1 held))
+pub ask_keeps : (left : Rooms) (s t : CoreState) (a : Ask) (answer : Answer) (effects : List Effect) → ((n : ℕ) → ask n left s a ≡ (answer, effects, t)) → IsGood s → IsFit a → IsGood t
+ask_keeps left s t a answer effects e good fit = subst (λ (r : Answer × List Effect × CoreState). IsGood r.2) (e 0) (ask_good 0 left s a good fit)
 
-one_with : (names : List Name) (ask : Claim) (cs : List Claim) → AreDistinct names → IsKnown names ask → AllByRecursion (IsKnown names) cs → AllByRecursion (λ c. has_one_party ask c ≡ true) cs
-one_with names ask cs distinct known all =
-    all_one_party ask cs (λ c h own range.
-        one_party names ask.owner c.party ask.party distinct (subst (λ (o : Owner). are_kept names o c.party ≡ true) (is_of-true ask.file ask.owner c own).1 (all_in (IsKnown names) c cs all h).1) known.1)
+told_good : (s t : CoreState) (o : Option (List Effect × CoreState)) (r : Option (List Effect)) → IsGood s → o ≡ option_map (λ effects. (effects, t)) r → (r ≡ None → t ≡ s) → IfSome o (λ x. IsGood x.1) → IsGood t
+told_good s t o None good e same turned = subst (λ (x : CoreState). IsGood x) (sym (same refl)) good
+told_good s t o (Some effects) good e same turned = subst (λ (x : Option (List Effect × CoreState)). IfSome x (λ y. IsGood y.1)) e turned
+
+pub settle_keeps : (left : Rooms) (s t : CoreState) (r : Option (List Effect)) → ((n : ℕ) → settle n left s ≡ option_map (λ effects. (effects, t)) r) → (r ≡ None → t ≡ s) → IsGood s → IsGood t
+settle_keeps left s t r e same good = told_good s t (settle 0 left s) r good (e 0) same (settle_good 0 left s good)
 
 -- ---- who waits, waits for a range
 
@@ -70,34 +60,17 @@ range_of names (Some c) known = known.0
 pub first_is_range : (names : List Name) (counter : ℕ) (w : Waiter) → IsWaiter names counter w → IfSome (slice_get w.asked 0) (λ c. IsRange c)
 first_is_range names counter w waits = range_of names (slice_get w.asked 0) (first_known names w.asked waits.1)
 
-turn_at : (names : List Name) (w : Waiter) (claim : Claim) (v : Verdict) (turn : Turn) → IsKnown names claim → turn_with w claim v ≡ Some turn → IsKnown names turn.claim
-turn_at names w claim (verdict.Blocked c) turn known e = absurd cc
-turn_at names w claim (verdict.Full limit) turn known e = subst (IsKnown names) (ap (λ t. t.claim) (same_Some (record { id = w.id; claim = claim; full = Some limit }) turn e)) known
-turn_at names w claim verdict.Free turn known e = subst (IsKnown names) (ap (λ t. t.claim) (same_Some (record { id = w.id; claim = claim; full = None }) turn e)) known
-
-turn_in : (n : ℕ) (left : Rooms) (s : CoreState) (earlier : List Waiter) (w : Waiter) (o : Option Claim) (turn : Turn) → IfSome o (λ c. IsKnown s.names c) → turn_by n left s earlier w o ≡ Some turn → IsKnown s.names turn.claim
-turn_in n left s earlier w None turn known e = absurd cc
-turn_in n left s earlier w (Some claim) turn known e = turn_at s.names w claim (decide n earlier s left w.rows true claim) turn known e
-
-some_cases : (t later : Option Turn) (turn : Turn) → first_some t later ≡ Some turn → (t ≡ Some turn) ⊎ (later ≡ Some turn)
-some_cases None later turn e = inr e
-some_cases (Some t) later turn e = inl e
-
-first_in : (n : ℕ) (left : Rooms) (s : CoreState) (earlier ws : List Waiter) (turn : Turn) → AllByRecursion (IsWaiter s.names s.counter) ws → first_turn n left s earlier ws ≡ Some turn → IsKnown s.names turn.claim
-unfolding turn_of
-first_in n left s earlier [] turn all e = absurd cc
-first_in n left s earlier (w ∷ ws) turn all e =
-    elim (some_cases (turn_of n left s earlier w) (first_turn n left s (earlier ++ w ∷ []) ws) turn e) [
-      | inl now ↦ turn_in n left s earlier w (slice_get w.asked 0) turn (first_known s.names w.asked all.0.1) now
-      | inr later ↦ first_in n left s (earlier ++ w ∷ []) ws turn all.1 later
-    ]
+turn_known : (n : ℕ) (left : Rooms) (s : CoreState) (turn : Turn) → IsGood s → first_turn n left s [] s.waiters ≡ Some turn → IsKnown s.names turn.claim
+turn_known n left s turn good e =
+    let found = first_turn_is n left s [] s.waiters turn e in
+    waiter_known s found.0 turn.claim good found.1 found.2.claim
 
 -- whose turn has come, asks for a range, and has one party with its owner's ranges
-pub turn_is_range : (n : ℕ) (left : Rooms) (s : CoreState) (turn : Turn) → IsGood s → Some turn ≡ first_turn n left s [] s.waiters → IsRange turn.claim
-turn_is_range n left s turn good e = (first_in n left s [] s.waiters turn good.waiters (sym e)).0
+pub turn_is_range : (left : Rooms) (p : Parts) (turn : Turn) → IsGood (state_of p) → ((n : ℕ) → Some turn ≡ first_turn n left (state_of p) [] p.queue) → IsRange turn.claim
+turn_is_range left p turn good e = (turn_known 0 left (state_of p) turn good (sym (e 0))).0
 
-pub turn_has_one_party : (n : ℕ) (left : Rooms) (s : CoreState) (turn : Turn) → IsGood s → Some turn ≡ first_turn n left s [] s.waiters → AllByRecursion (λ c. has_one_party turn.claim c ≡ true) s.claims
-turn_has_one_party n left s turn good e = one_with s.names turn.claim s.claims good.distinct (first_in n left s [] s.waiters turn good.waiters (sym e)) good.known
+pub turn_has_one_party : (left : Rooms) (p : Parts) (turn : Turn) → IsGood (state_of p) → ((n : ℕ) → Some turn ≡ first_turn n left (state_of p) [] p.queue) → AllByRecursion (λ c. has_one_party turn.claim c ≡ true) p.table
+turn_has_one_party left p turn good e = known_one_party (state_of p) turn.claim good (turn_known 0 left (state_of p) turn good (sym (e 0)))
 
 -- ---- the search for a turn
 

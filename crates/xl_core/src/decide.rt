@@ -250,7 +250,7 @@ fn unlock(
 }
 
 /// Answers an ask for ranges, of which it has one.
-#[tactic(auto, using(crate::proofs::TurnLaws::asked_one_party))]
+#[tactic(auto, using(crate::proofs::TurnLaws::asked_alone))]
 fn lock_first(
     alloc: Global,
     parts: &mut Parts,
@@ -277,7 +277,7 @@ fn lock_first(
 }
 
 /// Answers an ask.
-#[tactic(auto, unfolding(crate::specs::Decide::ask), using(crate::proofs::TurnLaws::known_one_party))]
+#[tactic(auto, unfolding(crate::specs::Decide::ask), using(crate::proofs::TurnLaws::known_alone))]
 pub(crate) fn answer(
     alloc: Global,
     parts: &mut Parts,

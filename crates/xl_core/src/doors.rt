@@ -36,6 +36,7 @@ impl Model for Core {
 
 impl Core {
     /// The core at a start: nothing is held, nobody waits, and this is the record as it is stored. It takes no memory.
+    #[tactic(auto, using(crate::proofs::GoodLaws::started_good))]
     pub fn new(alloc: Global, stable: Record, clock: Moment) -> Core
         ensures state { result ≡ started stable clock }
         ensures good { IsGood result }
@@ -76,6 +77,7 @@ impl Core {
     }
 
     /// Begins a step: none of its stores was made, and none failed. It takes no memory.
+    #[tactic(auto, using(crate::proofs::GoodLaws::begun_good))]
     pub fn begin_step(&mut self)
         ensures state { self.new ≡ step_begun self.old }
         ensures good { IsGood self.old → IsGood self.new }
@@ -85,6 +87,7 @@ impl Core {
 
     /// Answers an ask, where this room is left in the tables of the fronts, and tells what happened besides. At least
     /// 65,536 numbers must be left to give out. No ask stores the record yet.
+    #[tactic(auto, using(crate::proofs::TurnLaws::ask_keeps))]
     pub fn ask<K: Keeper>(
         &mut self,
         alloc: Global,
@@ -106,6 +109,7 @@ impl Core {
 
     /// One turn: serves the first waiter that nothing blocks, and tells so. None comes exactly where each of them is
     /// blocked; then nothing changed.
+    #[tactic(auto, using(crate::proofs::TurnLaws::settle_keeps))]
     pub fn settle<K: Keeper>(
         &mut self,
         alloc: Global,
@@ -124,6 +128,7 @@ impl Core {
     }
 
     /// Takes out the waiter of this number, and tells so. No claim changes.
+    #[tactic(auto, using(crate::proofs::GoodLaws::cancel_good))]
     pub fn cancel(&mut self, alloc: Global, waiter: u32) -> Result<Sequence<Effect>, AllocError>
         requires waits { is_waiting waiter self.old.waiters ≡ true }
         requires good { IsGood self.old }
@@ -134,6 +139,7 @@ impl Core {
     }
 
     /// Takes out all claims and waiters of a party, and tells of the waiters. Its name stays.
+    #[tactic(auto, using(crate::proofs::GoodLaws::end_party_good))]
     pub fn end_party(&mut self, alloc: Global, party: Party) -> Result<Sequence<Effect>, AllocError>
         requires good { IsGood self.old }
         ensures state { IfOk result (λ effects. end_party self.old party ≡ (effects, self.new)) }

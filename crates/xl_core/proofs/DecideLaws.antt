@@ -1,0 +1,132 @@
+-- What the least of some claims is, what a verdict says, and which limits are passed.
+use Rattle.std.proofs.Common.{◌≡◌, ℕ, ◌≤◌, ◌<◌, Bool, true, false, not, if◌then◌else◌, ltb, leb, inl, inr, List, [], ◌∷◌, Option, Some, None, refl, sym, ap, subst, ◌∙◌}
+use Rattle.std.specs.List.{filter, list_any}
+use Rattle.std.proofs.lemmas.Bool.{cases_Bool, both_ways, not-true, not-false}
+use Rattle.xl_base.specs.Lists.{IsIn}
+use Rattle.xl_base.proofs.Members.{in_filter_from}
+use Rattle.xl_matrix.specs.declared.claim.Claim.{Claim}
+use Rattle.xl_names.specs.Names.{most_names}
+use Rattle.xl_names.specs.declared.name.Name.{Name}
+use Rattle.xl_table.specs.Flat.{blocks}
+use Rattle.xl_wait.specs.declared.waiter.Rooms.{Rooms}
+use Rattle.xl_wait.specs.declared.waiter.Waiter.{Waiter}
+use Rattle.xl_core.specs.State.{CoreState}
+use Rattle.xl_core.specs.Blockers.{range_before, lesser, least_from, least, blockers}
+use Rattle.xl_core.specs.Decide.{most_hosts, most_opens, most_owners, passed_by_grant, decided, decide}
+use Rattle.xl_core.specs.Good.{is_blocked}
+use Rattle.xl_core.specs.Relock.{most_claims, grant_fits}
+use Rattle.xl_core.specs.declared.decide.Verdict.{Verdict}
+use Rattle.xl_core.specs.declared.decide.Verdict.TheVariants as verdict
+
+-- ---- the least
+
+least_from_one : (names : List Name) (l : Claim) (cs : List Claim) → (d : Claim) × (least_from names (Some l) cs ≡ Some d) × IsIn d (l ∷ cs)
+least_from_one names l [] = (l, refl, inl refl)
+least_from_one names l (c ∷ cs) =
+    elim (cases_Bool (range_before names c l)) [
+      | inl before ↦ let rest = least_from_one names c cs in (rest.0, rw before rest.1, inr rest.2)
+      | inr behind ↦
+          let rest = least_from_one names l cs in
+          (rest.0, rw behind rest.1, elim rest.2 [ inl e ↦ inl e | inr there ↦ inr (inr there) ])
+    ]
+
+abbrev some : Claim → Option Claim
+some c = Some c
+
+same_some : (a b : Claim) → some a ≡ some b → a ≡ b
+same_some a b e = cc
+
+pub least_in : (names : List Name) (cs : List Claim) (c : Claim) → least names cs ≡ Some c → IsIn c cs
+unfolding least
+least_in names [] c e = cc
+least_in names (d ∷ ds) c e = let found = least_from_one names d ds in subst (λ (x : Claim). IsIn x (d ∷ ds)) (same_some found.0 c (sym found.1 ∙ e)) found.2
+
+pub least_none : (names : List Name) (cs : List Claim) → least names cs ≡ None → cs ≡ []
+unfolding least
+least_none names [] e = refl
+least_none names (d ∷ ds) e = let found = least_from_one names d ds in let none : some found.0 ≡ None = sym found.1 ∙ e in absurd cc
+
+pub least_empty : (names : List Name) (cs : List Claim) → cs ≡ [] → least names cs ≡ None
+unfolding least
+least_empty names cs e = rw e refl
+
+-- ---- what blocks
+
+none_passes : (p : Claim → Bool) (cs : List Claim) → filter p cs ≡ [] → list_any p cs ≡ false
+none_passes p [] e = refl
+none_passes p (c ∷ cs) e =
+    elim (cases_Bool (p c)) [
+      | inl passes ↦ let two : (c ∷ filter p cs) ≡ [] = rw passes at e in absurd cc
+      | inr fails ↦ rw fails (none_passes p cs (rw fails at e))
+    ]
+
+none_stays : (p : Claim → Bool) (cs : List Claim) → list_any p cs ≡ false → filter p cs ≡ []
+none_stays p [] e = refl
+none_stays p (c ∷ cs) e =
+    elim (cases_Bool (p c)) [
+      | inl passes ↦ let two : true ≡ false = rw passes at e in absurd cc
+      | inr fails ↦ rw fails (none_stays p cs (rw fails at e))
+    ]
+
+pub one_passes : (p : Claim → Bool) (cs : List Claim) (c : Claim) → IsIn c cs → p c ≡ true → list_any p cs ≡ true
+one_passes p [] c h passes = absurd h
+one_passes p (d ∷ ds) c h passes =
+    elim (cases_Bool (p d)) [
+      | inl here ↦ rw here refl
+      | inr not_here ↦ rw not_here (elim h [ inl e ↦ absurd (both_ways (p d) not_here (ap p e ∙ passes)) | inr there ↦ one_passes p ds c there passes ])
+    ]
+
+pub blockers_none : (earlier : List Waiter) (s : CoreState) (ask : Claim) → least s.names (blockers earlier s ask) ≡ None → is_blocked s.claims ask ≡ false
+unfolding blockers
+blockers_none earlier s ask e = none_passes (λ c. blocks ask c) s.claims (least_none s.names (filter (λ held. blocks ask held) s.claims) e)
+
+pub none_blockers : (earlier : List Waiter) (s : CoreState) (ask : Claim) → is_blocked s.claims ask ≡ false → least s.names (blockers earlier s ask) ≡ None
+unfolding blockers
+none_blockers earlier s ask free = least_empty s.names (filter (λ held. blocks ask held) s.claims) (none_stays (λ c. blocks ask c) s.claims free)
+
+pub blockers_some : (earlier : List Waiter) (s : CoreState) (ask c : Claim) → least s.names (blockers earlier s ask) ≡ Some c → IsIn c s.claims × (blocks ask c ≡ true)
+unfolding blockers
+blockers_some earlier s ask c e = in_filter_from (λ held. blocks ask held) c s.claims (least_in s.names (filter (λ held. blocks ask held) s.claims) c e)
+
+-- ---- verdicts
+
+-- what stands behind a verdict: the claim that blocks, or the limit that is passed
+abbrev pub IsVerdict : Option Claim → Option ℕ → Verdict → Type 0
+IsVerdict o passed (verdict.Blocked c) = o ≡ Some c
+IsVerdict o passed (verdict.Full limit) = (o ≡ None) × (passed ≡ Some limit)
+IsVerdict o passed verdict.Free = (o ≡ None) × (passed ≡ None)
+
+decided_is : (o : Option Claim) (passed : Option ℕ) → IsVerdict o passed (decided o passed)
+decided_is (Some c) passed = refl
+decided_is None (Some limit) = (refl, refl)
+decided_is None None = (refl, refl)
+
+pub decide_is : (n : ℕ) (earlier : List Waiter) (s : CoreState) (left rows : Rooms) (names : Bool) (claim : Claim) (v : Verdict) → decide n earlier s left rows names claim ≡ v → IsVerdict (least s.names (blockers earlier s claim)) (passed_by_grant left rows (grant_fits claim s.claims) names) v
+unfolding decide
+decide_is n earlier s left rows names claim v e =
+    subst (λ (x : Verdict). IsVerdict (least s.names (blockers earlier s claim)) (passed_by_grant left rows (grant_fits claim s.claims) names) x) e
+    (decided_is (least s.names (blockers earlier s claim)) (passed_by_grant left rows (grant_fits claim s.claims) names))
+
+-- ---- limits
+
+abbrev some_limit : ℕ → Option ℕ
+some_limit n = Some n
+
+pub passed_none : (left rows : Rooms) (claims names : Bool) → passed_by_grant left rows claims names ≡ None → (claims ≡ true) × (names ≡ true)
+unfolding passed_by_grant
+passed_none left rows claims names e =
+    elim (cases_Bool (ltb left.hosts rows.hosts)) [
+      | inl h ↦ let two : some_limit most_hosts ≡ None = rw h at e in absurd cc
+      | inr h ↦ elim (cases_Bool (ltb left.opens rows.opens)) [
+        | inl o ↦ let two : some_limit most_opens ≡ None = rw (h, o) at e in absurd cc
+        | inr o ↦ elim (cases_Bool (ltb left.owners rows.owners)) [
+          | inl w ↦ let two : some_limit most_owners ≡ None = rw (h, o, w) at e in absurd cc
+          | inr w ↦ both claims names (rw (h, o, w) at e)
+        ]
+      ]
+    ]
+  where
+    both : (claims names : Bool) → (if not claims then some_limit most_claims else if not names then some_limit most_names else None) ≡ None → (claims ≡ true) × (names ≡ true)
+    both true true e = (refl, refl)
+    both true false e = cc
+    both false names e = cc

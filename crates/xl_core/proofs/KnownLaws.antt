@@ -1,0 +1,247 @@
+-- Names that are kept: claims of known clients stay known, an owner has one client, and who asks is known.
+use Rattle.std.proofs.Common.{◌≡◌, ℕ, zero, suc, ◌≤◌, Bool, true, false, not, ◌&&◌, List, [], ◌∷◌, ◌++◌, length, Option, Some, None, inl, inr, refl, sym, ap, subst, ◌∙◌, slice_get, arith}
+use Rattle.std.specs.List.{AllByRecursion}
+use Rattle.std.proofs.lemmas.Bool.{cases_Bool, both_ways, and_parts, and_from}
+use Rattle.std.proofs.lemmas.Option.{same_Some}
+use Rattle.xl_base.specs.Stable.{same_protocol}
+use Rattle.xl_base.specs.declared.name.Owner.{Owner}
+use Rattle.xl_base.specs.declared.name.Owner.TheVariants as owners
+use Rattle.xl_base.specs.declared.name.Party.{Party}
+use Rattle.xl_base.specs.declared.name.Party.TheVariants as parties
+use Rattle.xl_base.specs.declared.name.Protocol.{Protocol}
+use Rattle.xl_base.specs.declared.name.Protocol.TheVariants.{Nlm, Nfs, Smb}
+use Rattle.xl_base.proofs.Members.{all_weaker}
+use Rattle.xl_matrix.specs.Owners.{posix}
+use Rattle.xl_matrix.specs.declared.claim.Claim.{Claim}
+use Rattle.xl_matrix.specs.declared.claim.Extent.{Extent}
+use Rattle.xl_matrix.specs.declared.claim.Extent.TheVariants.{Bytes, Empty}
+use Rattle.xl_matrix.specs.declared.claim.What.TheVariants.{Range}
+use Rattle.xl_names.specs.Names.{protocol_of, same_name, number_of, place_of, is_kept, entered, AreDistinct, most_names}
+use Rattle.xl_names.specs.declared.name.Name.{Name}
+use Rattle.xl_names.specs.declared.name.Name.TheVariants.{NlmRange, NlmShare, NlmParty, NfsRange, NfsShare, NfsParty, SmbLease}
+use Rattle.xl_names.proofs.NameLaws.{same_name_is, same_name_self, number_at, name_at, number_stays, number_entered, distinct_entered}
+use Rattle.xl_wait.specs.declared.waiter.Waiter.{Waiter}
+use Rattle.xl_core.specs.Asking.{owner_in, party_in, who_entered, asker, asking_party, both_entered, asked_claim, no_number, number_or, known_owner, known_party, known_claim, client_of, is_name, is_client, IsRealExtent}
+use Rattle.xl_core.specs.Good.{IsRangeBy, IsRange, agree, are_kept, IsKnown, IsWaiter}
+use Rattle.xl_core.specs.declared.ask.Ask.{Ask}
+use Rattle.xl_core.specs.declared.ask.Who.{Who}
+use Rattle.xl_core.specs.declared.ask.Who.TheVariants.{Named, Open}
+
+-- ---- names keep their numbers
+
+-- each number of the first list's has its name in the second
+abbrev pub GoOn : List Name → List Name → Type 0
+GoOn names more = (number : ℕ) (name : Name) → slice_get names number ≡ Some name → slice_get more number ≡ Some name
+
+get_push : (names more : List Name) (number : ℕ) (name : Name) → slice_get names number ≡ Some name → slice_get (names ++ more) number ≡ Some name
+get_push [] more number name h = cc
+get_push (n ∷ ns) more zero name h = h
+get_push (n ∷ ns) more (suc number) name h = get_push ns more number name h
+
+pub entered_goes_on : (name : Name) (names : List Name) → GoOn names (entered name names)
+entered_goes_on name names number other h =
+    elim (cases_Bool (is_kept name names)) [
+      | inl old ↦ rw old h
+      | inr new ↦ rw new (get_push names (name ∷ []) number other h)
+    ]
+
+pub who_goes_on : (who : Who) (names : List Name) → GoOn names (who_entered who names)
+who_goes_on (Named name) names = entered_goes_on name names
+who_goes_on (Open number) names = λ at name h. h
+
+pub both_go_on : (a : Ask) (names : List Name) → GoOn names (both_entered a names)
+both_go_on a names number name h = who_goes_on a.party (who_entered a.owner names) number name (who_goes_on a.owner names number name h)
+
+pub who_distinct : (who : Who) (names : List Name) → AreDistinct names → AreDistinct (who_entered who names)
+who_distinct (Named name) names ok = distinct_entered names name ok
+who_distinct (Open number) names ok = ok
+
+pub both_distinct : (a : Ask) (names : List Name) → AreDistinct names → AreDistinct (both_entered a names)
+both_distinct a names ok = who_distinct a.party (who_entered a.owner names) (who_distinct a.owner names ok)
+
+-- ---- what it is to be known
+
+-- the owner and the party with the names of these numbers, of which the second is the first one's client
+pub record AreNamed (names : List Name) (owner : Owner) (party : Party) : Type 0 where
+  pub number : ℕ
+  pub at : ℕ
+  pub name : Name
+  pub client : Name
+  pub owner_is : owner ≡ owners.Name (protocol_of name) number
+  pub party_is : party ≡ parties.Name (protocol_of client) at
+  pub owner_at : slice_get names number ≡ Some name
+  pub party_at : slice_get names at ≡ Some client
+  pub client_is : client_of name ≡ Some client
+
+same_protocol_is : (p q : Protocol) → same_protocol p q ≡ true → p ≡ q
+same_protocol_is Nlm Nlm h = refl
+same_protocol_is Nfs Nfs h = refl
+same_protocol_is Smb Smb h = refl
+same_protocol_is Nlm Nfs h = absurd (both_ways false refl h)
+same_protocol_is Nlm Smb h = absurd (both_ways false refl h)
+same_protocol_is Nfs Nlm h = absurd (both_ways false refl h)
+same_protocol_is Nfs Smb h = absurd (both_ways false refl h)
+same_protocol_is Smb Nlm h = absurd (both_ways false refl h)
+same_protocol_is Smb Nfs h = absurd (both_ways false refl h)
+
+same_protocol_self : (p : Protocol) → same_protocol p p ≡ true
+same_protocol_self Nlm = refl
+same_protocol_self Nfs = refl
+same_protocol_self Smb = refl
+
+is_name_is : (o : Option Name) (name : Name) → is_name o name ≡ true → o ≡ Some name
+is_name_is None name h = absurd (both_ways false refl h)
+is_name_is (Some client) name h = ap Some (same_name_is client name h)
+
+agree_parts : (protocol other : Protocol) (o p : Option Name) → agree protocol other o p ≡ true → (name : Name) × (client : Name) × (o ≡ Some name) × (p ≡ Some client) × (protocol ≡ protocol_of name) × (other ≡ protocol_of client) × (client_of name ≡ Some client)
+agree_parts protocol other None p h = absurd (both_ways false refl h)
+agree_parts protocol other (Some name) None h = absurd (both_ways false refl h)
+agree_parts protocol other (Some name) (Some client) h =
+    let one = and_parts (same_protocol protocol (protocol_of name)) (same_protocol other (protocol_of client) && is_name (client_of name) client) h in
+    let two = and_parts (same_protocol other (protocol_of client)) (is_name (client_of name) client) one.1 in
+    (name, client, refl, refl, same_protocol_is protocol (protocol_of name) one.0, same_protocol_is other (protocol_of client) two.0, is_name_is (client_of name) client two.1)
+
+pub kept_parts : (names : List Name) (owner : Owner) (party : Party) → are_kept names owner party ≡ true → AreNamed names owner party
+kept_parts names (owners.Name protocol number) (parties.Name other at) h =
+    let parts = agree_parts protocol other (slice_get names number) (slice_get names at) h in
+    record {
+      number = number;
+      at = at;
+      name = parts.0;
+      client = parts.1;
+      owner_is = ap (λ (p : Protocol). owners.Name p number) parts.4;
+      party_is = ap (λ (p : Protocol). parties.Name p at) parts.5;
+      owner_at = parts.2;
+      party_at = parts.3;
+      client_is = parts.6;
+    }
+kept_parts names (owners.Name protocol number) (parties.Open at) h = absurd (both_ways false refl h)
+kept_parts names (owners.Open number) party h = absurd (both_ways false refl h)
+
+agree_self : (name client : Name) → client_of name ≡ Some client → agree (protocol_of name) (protocol_of client) (Some name) (Some client) ≡ true
+agree_self name client is =
+    and_from _ _ (same_protocol_self (protocol_of name)) (and_from _ _ (same_protocol_self (protocol_of client)) (ap (λ (o : Option Name). is_name o client) is ∙ same_name_self client))
+
+pub kept_from : (names : List Name) (owner : Owner) (party : Party) → AreNamed names owner party → are_kept names owner party ≡ true
+kept_from names owner party is =
+    ap (λ (o : Owner). are_kept names o party) is.owner_is
+    ∙ ap (λ (p : Party). are_kept names (owners.Name (protocol_of is.name) is.number) p) is.party_is
+    ∙ ap (λ (o : Option Name). agree (protocol_of is.name) (protocol_of is.client) o (slice_get names is.at)) is.owner_at
+    ∙ ap (λ (o : Option Name). agree (protocol_of is.name) (protocol_of is.client) (Some is.name) o) is.party_at
+    ∙ agree_self is.name is.client is.client_is
+
+pub kept_on : (names more : List Name) (owner : Owner) (party : Party) → GoOn names more → are_kept names owner party ≡ true → are_kept more owner party ≡ true
+kept_on names more owner party on h =
+    let is = kept_parts names owner party h in
+    kept_from more owner party (record {
+      number = is.number;
+      at = is.at;
+      name = is.name;
+      client = is.client;
+      owner_is = is.owner_is;
+      party_is = is.party_is;
+      owner_at = on is.number is.name is.owner_at;
+      party_at = on is.at is.client is.party_at;
+      client_is = is.client_is;
+    })
+
+pub known_on : (names more : List Name) (cs : List Claim) → GoOn names more → AllByRecursion (IsKnown names) cs → AllByRecursion (IsKnown more) cs
+known_on names more cs on all = all_weaker (IsKnown names) (IsKnown more) cs (λ c h. (h.0, kept_on names more c.owner c.party on h.1)) all
+
+pub waiters_on : (names more : List Name) (counter next : ℕ) (ws : List Waiter) → GoOn names more → counter ≤ next → AllByRecursion (IsWaiter names counter) ws → AllByRecursion (IsWaiter more next) ws
+waiters_on names more counter next ws on h all = all_weaker (IsWaiter names counter) (IsWaiter more next) ws (λ w is. (omega (arith, h, is.0), known_on names more w.asked on is.1)) all
+
+-- an owner has one client
+pub one_party : (names : List Name) (owner : Owner) (p q : Party) → AreDistinct names → are_kept names owner p ≡ true → are_kept names owner q ≡ true → p ≡ q
+one_party names owner p q distinct h k =
+    let a = kept_parts names owner p h in
+    let b = kept_parts names owner q k in
+    let number : a.number ≡ b.number = number_same (protocol_of a.name) (protocol_of b.name) a.number b.number (sym a.owner_is ∙ b.owner_is) in
+    let name : a.name ≡ b.name = same_Some a.name b.name (sym a.owner_at ∙ ap (λ (n : ℕ). slice_get names n) number ∙ b.owner_at) in
+    let client : a.client ≡ b.client = same_Some a.client b.client (sym a.client_is ∙ ap client_of name ∙ b.client_is) in
+    let at : a.at ≡ b.at = same_Some a.at b.at (sym (number_at names a.client a.at distinct a.party_at) ∙ ap (λ (n : Name). number_of n names) client ∙ number_at names b.client b.at distinct b.party_at) in
+    a.party_is ∙ ap (λ (n : Name). parties.Name (protocol_of n) a.at) client ∙ ap (λ (n : ℕ). parties.Name (protocol_of b.client) n) at ∙ sym b.party_is
+  where
+    number_same : (x y : Protocol) (n m : ℕ) → owners.Name x n ≡ owners.Name y m → n ≡ m
+    number_same x y n m e = cc
+
+-- ---- who asks is known
+
+is_client_is : (owner party : Who) → is_client owner party ≡ true → (name : Name) × (client : Name) × (owner ≡ Named name) × (party ≡ Named client) × (client_of name ≡ Some client)
+is_client_is (Named name) (Named client) h = (name, client, refl, refl, is_name_is (client_of name) client h)
+is_client_is (Named name) (Open number) h = absurd (both_ways false refl h)
+is_client_is (Open number) party h = absurd (both_ways false refl h)
+
+get_entered : (names : List Name) (name : Name) → slice_get (entered name names) (place_of name names) ≡ Some name
+get_entered names name = name_at (entered name names) name (place_of name names) (number_entered names name)
+
+names_entered : (names : List Name) (name client : Name) → client_of name ≡ Some client → AreNamed (who_entered (Named client) (who_entered (Named name) names)) (owner_in (Named name) names) (party_in (Named client) (who_entered (Named name) names))
+names_entered names name client is = record {
+  number = place_of name names;
+  at = place_of client (entered name names);
+  name = name;
+  client = client;
+  owner_is = refl;
+  party_is = refl;
+  owner_at = entered_goes_on client (entered name names) (place_of name names) name (get_entered names name);
+  party_at = get_entered (entered name names) client;
+  client_is = is;
+}
+
+pub asker_kept : (a : Ask) (names : List Name) → is_client a.owner a.party ≡ true → are_kept (both_entered a names) (asker a names) (asking_party a names) ≡ true
+asker_kept a names h =
+    let is = is_client_is a.owner a.party h in
+    ap (λ (w : Who). are_kept (who_entered a.party (who_entered w names)) (owner_in w names) (party_in a.party (who_entered w names))) is.2
+    ∙ ap (λ (w : Who). are_kept (who_entered w (who_entered (Named is.0) names)) (owner_in (Named is.0) names) (party_in w (who_entered (Named is.0) names))) is.3
+    ∙ kept_from _ _ _ (names_entered names is.0 is.1 is.4)
+
+client_posix : (name client : Name) → client_of name ≡ Some client → (number : ℕ) → posix (owners.Name (protocol_of name) number) ≡ true
+client_posix (NlmRange caller svid oh) client is number = refl
+client_posix (NfsRange owner name) client is number = refl
+client_posix (NlmShare caller oh) client is number = cc
+client_posix (NlmParty caller) client is number = cc
+client_posix (NfsShare owner name) client is number = cc
+client_posix (NfsParty owner) client is number = cc
+client_posix (SmbLease guid key) client is number = cc
+
+pub kept_posix : (names : List Name) (owner : Owner) (party : Party) → are_kept names owner party ≡ true → posix owner ≡ true
+kept_posix names owner party h = let is = kept_parts names owner party h in ap (λ (o : Owner). posix o) is.owner_is ∙ client_posix is.name is.client is.client_is is.number
+
+real_range : (extent : Extent) (exclusive : Bool) → IsRealExtent extent → IsRangeBy (Range extent exclusive)
+real_range (Bytes first last) exclusive h = h
+real_range (Empty offset) exclusive h = absurd h
+
+-- the claim that is asked for is known once its names are entered
+pub asked_known : (a : Ask) (extent : Extent) (exclusive : Bool) (names : List Name) → is_client a.owner a.party ≡ true → IsRealExtent extent → IsKnown (both_entered a names) (asked_claim a extent exclusive names)
+asked_known a extent exclusive names h real =
+    let kept = asker_kept a names h in
+    ((real_range extent exclusive real, kept_posix (both_entered a names) (asker a names) (asking_party a names) kept), kept)
+
+-- ---- who asks, where no name is entered
+
+get_none : (names : List Name) (number : ℕ) (name : Name) → length names ≤ number → slice_get names number ≡ Some name → ⊥
+get_none [] number name h e = cc
+get_none (n ∷ ns) zero name h e = omega (arith, h)
+get_none (n ∷ ns) (suc number) name h e = get_none ns number name (omega (arith, h)) e
+
+number_known : (names : List Name) (name : Name) (o : Option ℕ) → number_of name names ≡ o → length names ≤ most_names → (other : Name) → slice_get names (number_or o) ≡ Some other → (number_of name names ≡ Some (number_or o)) × (name ≡ other)
+number_known names name None e room other h = absurd (get_none names no_number other (omega (arith, room)) h)
+number_known names name (Some number) e room other h = (e, same_Some name other (sym (name_at names name number e) ∙ h))
+
+-- an owner with a known party is the asker whose name is kept, and the party is the asker's
+pub known_party_is : (a : Ask) (names : List Name) (party : Party) → AreDistinct names → length names ≤ most_names → is_client a.owner a.party ≡ true → are_kept names (known_owner a.owner names) party ≡ true → party ≡ known_party a.party names
+known_party_is a names party distinct room h kept =
+    let is = is_client_is a.owner a.party h in
+    let named = kept_parts names (known_owner a.owner names) party kept in
+    let same : owners.Name (protocol_of is.0) (number_or (number_of is.0 names)) ≡ owners.Name (protocol_of named.name) named.number =
+    sym (ap (λ (w : Who). known_owner w names) is.2) ∙ named.owner_is in
+    let number = number_same (protocol_of is.0) (protocol_of named.name) (number_or (number_of is.0 names)) named.number same in
+    let name = number_known names is.0 (number_of is.0 names) refl room named.name (ap (λ (n : ℕ). slice_get names n) number ∙ named.owner_at) in
+    let client : named.client ≡ is.1 = same_Some named.client is.1 (sym named.client_is ∙ ap client_of (sym name.1) ∙ is.4) in
+    let at : number_of is.1 names ≡ Some named.at = ap (λ (n : Name). number_of n names) (sym client) ∙ number_at names named.client named.at distinct named.party_at in
+    named.party_is ∙ ap (λ (n : Name). parties.Name (protocol_of n) named.at) client
+    ∙ ap (λ (o : Option ℕ). parties.Name (protocol_of is.1) (number_or o)) (sym at)
+    ∙ sym (ap (λ (w : Who). known_party w names) is.3)
+  where
+    number_same : (x y : Protocol) (n m : ℕ) → owners.Name x n ≡ owners.Name y m → n ≡ m
+    number_same x y n m e = cc
