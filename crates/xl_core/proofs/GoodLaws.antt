@@ -42,7 +42,7 @@ use Rattle.xl_core.specs.declared.ask.Who.TheVariants.{Named, Open}
 use Rattle.xl_core.specs.declared.decide.Verdict.{Verdict}
 use Rattle.xl_core.specs.declared.decide.Verdict.TheVariants as verdict
 use Rattle.xl_core.specs.declared.settling.Turn.{Turn}
-use Rattle.xl_core.proofs.KnownLaws.{GoOn, both_go_on, both_distinct, known_on, waiters_on, one_party, asker_kept, asked_known, kept_on, kept_posix, known_party_is}
+use Rattle.xl_core.proofs.KnownLaws.{both_few, GoOn, both_go_on, both_distinct, known_on, waiters_on, one_party, asker_kept, asked_known, kept_on, kept_posix, known_party_is}
 use Rattle.xl_core.proofs.ClaimLaws.{AreGood, relocked_good, granted_good, all_single}
 use Rattle.xl_core.proofs.DecideLaws.{decide_is, blockers_none, passed_none}
 use Rattle.xl_core.proofs.WriteBack.{is_of-true, all_one_party, kept_filter}
@@ -76,41 +76,6 @@ started_good stable clock = record { kept = kept_empty; compatible = tt; single 
 pub begun_good : (s : CoreState) → IsGood s → IsGood (step_begun s)
 unfolding step_begun
 begun_good s good = record { kept = good.kept; compatible = good.compatible; single = good.single; known = good.known; waiters = good.waiters; apart = good.apart; distinct = good.distinct; few = good.few }
-
--- ---- names that come
-
-kept_later : (name other : Name) (names : List Name) → is_kept name names ≡ true → is_kept name (entered other names) ≡ true
-kept_later name other names h =
-    elim (cases_Bool (is_kept other names)) [
-      | inl old ↦ rw old h
-      | inr new ↦ rw new (list_any-append (same_name name) names (other ∷ []) ∙ or_left (is_kept name names) (is_kept name (other ∷ [])) h)
-    ]
-
-length_who : (who : Who) (names : List Name) → length (who_entered who names) ≡ length names + coming who names
-length_who (Open number) names = omega arith
-length_who (Named name) names =
-    elim (cases_Bool (is_kept name names)) [
-      | inl old ↦ rw old (omega arith)
-      | inr new ↦ rw new (omega (arith, length-append names (name ∷ [])))
-    ]
-
-coming_later : (who other : Who) (names : List Name) → coming who (who_entered other names) ≤ coming who names
-coming_later (Open number) other names = omega arith
-coming_later (Named name) (Open number) names = omega arith
-coming_later (Named name) (Named other) names =
-    elim (cases_Bool (is_kept name names)) [
-      | inl old ↦ rw (old, kept_later name other names old) (omega arith)
-      | inr new ↦ rw new (at_most (is_kept name (entered other names)))
-    ]
-  where
-    at_most : (b : Bool) → (if b then 0 else 1) ≤ 1
-    at_most true = omega arith
-    at_most false = omega arith
-
-pub both_few : (a : Ask) (names : List Name) → names_fit a names ≡ true → length (both_entered a names) ≤ most_names
-both_few a names h =
-    omega (arith, length_who a.party (who_entered a.owner names), length_who a.owner names, coming_later a.party a.owner names,
-    leb-true (length names + (coming a.owner names + coming a.party names)) most_names h)
 
 -- ---- a party for each owner
 

@@ -357,9 +357,15 @@ length_new : (file : ℕ) (owner : Owner) (party : Party) (xs : List Span) → l
 length_new file owner party [] = refl
 length_new file owner party (x ∷ xs) = omega (arith, length_new file owner party xs)
 
-length_left : (file : ℕ) (owner : Owner) (first last : ℕ) (cs : List Claim) → length (touched file owner first last cs) + length (untouched file owner first last cs) ≡ length cs
+pub length_left : (file : ℕ) (owner : Owner) (first last : ℕ) (cs : List Claim) → length (touched file owner first last cs) + length (untouched file owner first last cs) ≡ length cs
 unfolding touched untouched
 length_left file owner first last cs = length_split (is_touched file owner first last) cs
+
+pub length_relocked : (file : ℕ) (owner : Owner) (party : Party) (first last : ℕ) (mode : Option Mode) (cs : List Claim) → length (relocked_in file owner party first last mode cs) ≡ length (fresh file owner first last mode cs) + length (untouched file owner first last cs)
+length_relocked file owner party first last mode cs =
+    omega (arith, ap (λ (ds : List Claim). length ds) (relocked_is file owner party first last mode cs),
+    length_all_inserted (map (range_claim file owner party) (fresh file owner first last mode cs)) (untouched file owner first last cs),
+    length_new file owner party (fresh file owner first last mode cs))
 
 fits_room : (file : ℕ) (owner : Owner) (first last : ℕ) (mode : Option Mode) (cs : List Claim) → relock_fits file owner first last mode cs ≡ true → length cs + length (fresh file owner first last mode cs) ≤ 16384 + length (touched file owner first last cs)
 unfolding relock_fits
