@@ -7,3 +7,4 @@ pub mod DecideLaws
 pub mod GoodLaws
 pub mod TurnLaws
 pub mod LimitLaws
+pub mod CauseLaws

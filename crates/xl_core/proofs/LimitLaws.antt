@@ -99,7 +99,7 @@ over n most = grind (arith, nat_tests)
 one_over : (n most : ℕ) → nat_le most n ≡ nat_lt most (n + 1)
 one_over n most = grind (arith, nat_tests)
 
-grant_found : (left rows : Rooms) (held kept : ℕ) → IsFound (grant_limits left rows held kept) (passed_by_grant left rows (nat_le held most_claims) (nat_le kept most_names))
+pub grant_found : (left rows : Rooms) (held kept : ℕ) → IsFound (grant_limits left rows held kept) (passed_by_grant left rows (nat_le held most_claims) (nat_le kept most_names))
 unfolding passed_by_grant
 grant_found left rows held kept =
     subst (λ (c : Bool). IsFound (grant_limits left rows held kept)
@@ -108,7 +108,7 @@ grant_found left rows held kept =
     (if nat_lt left.hosts rows.hosts then Some most_hosts else if nat_lt left.opens rows.opens then Some most_opens else if nat_lt left.owners rows.owners then Some most_owners else if nat_lt most_claims held then Some most_claims else if c then Some most_names else None)) (sym (over kept most_names))
     (found_first (grant_limits left rows held kept) (grant_rising left rows held kept)))
 
-wait_found : (left rows : Rooms) (waiting kept : ℕ) → IsFound (wait_limits left rows (waiting + 1) kept) (passed_by_wait left rows waiting (nat_le kept most_names))
+pub wait_found : (left rows : Rooms) (waiting kept : ℕ) → IsFound (wait_limits left rows (waiting + 1) kept) (passed_by_wait left rows waiting (nat_le kept most_names))
 unfolding passed_by_wait
 wait_found left rows waiting kept =
     subst (λ (c : Bool). IsFound (wait_limits left rows (waiting + 1) kept)

@@ -1,0 +1,273 @@
+-- Each answer of an ask is given exactly where its cause stands.
+use Rattle.std.proofs.Common.{◌≡◌, ℕ, ◌+◌, ◌<◌, ◌≤◌, Bool, true, false, not, if◌then◌else◌, ◌&&◌, ◌||◌, nat_le, leb, ◌⊎◌, inl, inr, List, [], ◌∷◌, ◌++◌, length, Option, Some, None, refl, sym, ap, subst, ◌∙◌, ◌↔◌, arith}
+use Rattle.std.specs.List.{AllByRecursion, filter, list_any, slice_get}
+use Rattle.std.proofs.lemmas.Bool.{cases_Bool, both_ways, and_parts, and_from, and_right, or_parts, or_cases, or_left, or_right, or_from, not-true, not-false, leb-true, le-leb, lt-leb, leb-false}
+use Rattle.xl_base.specs.Lists.{IsIn}
+use Rattle.xl_base.proofs.Members.{in_filter_from}
+use Rattle.xl_base.specs.declared.name.Owner.{Owner}
+use Rattle.xl_matrix.specs.Owners.{posix}
+use Rattle.xl_matrix.specs.declared.claim.Claim.{Claim}
+use Rattle.xl_matrix.specs.declared.claim.Extent.{Extent}
+use Rattle.xl_matrix.specs.declared.claim.Extent.TheVariants.{Bytes}
+use Rattle.xl_names.specs.Names.{most_names}
+use Rattle.xl_spans.specs.Spans.{within, mode_at, meets, IsCanonical}
+use Rattle.xl_spans.specs.declared.span.Span.{Span}
+use Rattle.xl_spans.specs.declared.span.Mode.{Mode}
+use Rattle.xl_spans.proofs.Bytes.{AreRanges}
+use Rattle.xl_spans.proofs.Chains.{canonical_ranges}
+use Rattle.xl_table.specs.Flat.{blocks}
+use Rattle.xl_table.specs.Held.{is_range, spans_of}
+use Rattle.xl_wait.specs.declared.waiter.Rooms.{Rooms}
+use Rattle.xl_wait.specs.declared.waiter.Waiter.{Waiter}
+use Rattle.xl_core.specs.State.{CoreState}
+use Rattle.xl_core.specs.Asking.{both_entered, names_fit, asked_claim, known_claim, is_client, IsRealExtent}
+use Rattle.xl_core.specs.Blockers.{least, blockers, test_blockers}
+use Rattle.xl_core.specs.Causes.{IsRoom, IsLeastPassed, limits_of_grant, limits_of_wait, IsLockDue, stands_against, IsTestDue, HasNoByte, HasByte, left_by_unlock, IsUnlockDue}
+use Rattle.xl_core.specs.Decide.{passed_by_grant, passed_by_wait, decided, decide, granted, waiting, queued, lock_answered, lock_asked, test_answered, tested, unlocked_bytes, unlocked, acted, ask}
+use Rattle.xl_core.specs.Good.{IsRange, IsGood, is_blocked}
+use Rattle.xl_core.specs.Relock.{most_claims, relocked_in, relock_fits, holds_byte, granted_claims, grant_fits}
+use Rattle.xl_core.specs.declared.ask.Act.{Act}
+use Rattle.xl_core.specs.declared.ask.Act.TheVariants.{Ranges, Test, Unlock}
+use Rattle.xl_core.specs.declared.ask.Answer.{Answer}
+use Rattle.xl_core.specs.declared.ask.Answer.TheVariants as answers
+use Rattle.xl_core.specs.declared.ask.Ask.{Ask}
+use Rattle.xl_core.specs.declared.ask.Effect.{Effect}
+use Rattle.xl_core.specs.declared.decide.Verdict.{Verdict}
+use Rattle.xl_core.specs.declared.decide.Verdict.TheVariants as verdict
+use Rattle.xl_core.proofs.DecideLaws.{least_in, least_none, least_empty, one_passes, blockers_none, none_blockers, blockers_some}
+use Rattle.xl_core.proofs.KnownLaws.{asked_known, names_fit_is}
+use Rattle.xl_core.proofs.LimitLaws.{IsFound, grant_found, wait_found, room_found, least_found, found_least, found_room, relock_fits_is, fits_is}
+
+abbrev pub Answered : Type 0
+Answered = Answer × List Effect × CoreState
+
+-- ---- the ways in which a lock goes
+
+-- what a lock of this claim is answered, reclaims among them
+abbrev pub lock_result : ℕ → Rooms → CoreState → Ask → Claim → Answered
+lock_result n left s a claim = if a.reclaim then (answers.NoGrace s.clock, [], s) else lock_asked n left s a claim
+
+abbrev least_blocker : CoreState → Claim → Option Claim
+least_blocker s claim = least s.names (blockers s.waiters s claim)
+
+abbrev grant_limit : Rooms → CoreState → Ask → Claim → Option ℕ
+grant_limit left s a claim = passed_by_grant left a.rows (grant_fits claim s.claims) (names_fit a s.names)
+
+abbrev wait_limit : Rooms → CoreState → Ask → Option ℕ
+wait_limit left s a = passed_by_wait left a.rows (length s.waiters) (names_fit a s.names)
+
+pub data LockCase (left : Rooms) (s : CoreState) (a : Ask) (claim : Claim) (r : Answered) : Type 0 where
+  Late : a.reclaim ≡ true → r ≡ (answers.NoGrace s.clock, [], s) → LockCase left s a claim r
+  Conflicts : (c : Claim) → a.reclaim ≡ false → a.blocking ≡ false → least s.names (blockers s.waiters s claim) ≡ Some c → r ≡ (answers.Conflict c, [], s) → LockCase left s a claim r
+  Crowded : (c : Claim) (limit : ℕ) → a.reclaim ≡ false → a.blocking ≡ true → least s.names (blockers s.waiters s claim) ≡ Some c → passed_by_wait left a.rows (length s.waiters) (names_fit a s.names) ≡ Some limit → r ≡ (answers.Full limit, [], s) → LockCase left s a claim r
+  Waits : (c : Claim) → a.reclaim ≡ false → a.blocking ≡ true → least s.names (blockers s.waiters s claim) ≡ Some c → passed_by_wait left a.rows (length s.waiters) (names_fit a s.names) ≡ None → r ≡ (answers.Queued (s.counter + 1), [], waiting s a claim) → LockCase left s a claim r
+  NoRoom : (limit : ℕ) → a.reclaim ≡ false → least s.names (blockers s.waiters s claim) ≡ None → passed_by_grant left a.rows (grant_fits claim s.claims) (names_fit a s.names) ≡ Some limit → r ≡ (answers.Full limit, [], s) → LockCase left s a claim r
+  Goes : a.reclaim ≡ false → least s.names (blockers s.waiters s claim) ≡ None → passed_by_grant left a.rows (grant_fits claim s.claims) (names_fit a s.names) ≡ None → r ≡ (answers.Granted claim, [], granted s a claim) → LockCase left s a claim r
+
+late : (n : ℕ) (left : Rooms) (s : CoreState) (a : Ask) (claim : Claim) → a.reclaim ≡ true → lock_result n left s a claim ≡ (answers.NoGrace s.clock, [], s)
+late n left s a claim e = ap (λ (b : Bool). if b then (answers.NoGrace s.clock, [], s) else lock_asked n left s a claim) e
+
+timely : (n : ℕ) (left : Rooms) (s : CoreState) (a : Ask) (claim : Claim) (o : Option Claim) (p : Option ℕ) → a.reclaim ≡ false → least_blocker s claim ≡ o → grant_limit left s a claim ≡ p → lock_result n left s a claim ≡ lock_answered left s a claim (decided o p)
+unfolding lock_asked decide
+timely n left s a claim o p e is passes =
+    ap (λ (b : Bool). if b then (answers.NoGrace s.clock, [], s) else lock_asked n left s a claim) e
+    ∙ (λ i. lock_answered left s a claim (decided (is i) (passes i)))
+
+blocked_by : (n : ℕ) (left : Rooms) (s : CoreState) (a : Ask) (claim c : Claim) (b : Bool) → a.reclaim ≡ false → least_blocker s claim ≡ Some c → a.blocking ≡ b → lock_result n left s a claim ≡ (if b then queued s a claim (wait_limit left s a) else (answers.Conflict c, [], s))
+blocked_by n left s a claim c b e is blocks =
+    timely n left s a claim (Some c) (grant_limit left s a claim) e is refl
+    ∙ ap (λ (x : Bool). if x then queued s a claim (wait_limit left s a) else (answers.Conflict c, [], s)) blocks
+
+waits_by : (n : ℕ) (left : Rooms) (s : CoreState) (a : Ask) (claim c : Claim) (p : Option ℕ) → a.reclaim ≡ false → least_blocker s claim ≡ Some c → a.blocking ≡ true → wait_limit left s a ≡ p → lock_result n left s a claim ≡ queued s a claim p
+waits_by n left s a claim c p e is blocks passes = blocked_by n left s a claim c true e is blocks ∙ ap (λ (q : Option ℕ). queued s a claim q) passes
+
+when_blocked : (n : ℕ) (left : Rooms) (s : CoreState) (a : Ask) (claim c : Claim) (p : Option ℕ) → a.reclaim ≡ false → least_blocker s claim ≡ Some c → a.blocking ≡ true → wait_limit left s a ≡ p → LockCase left s a claim (lock_result n left s a claim)
+when_blocked n left s a claim c None e is blocks passes = Waits c e blocks is passes (waits_by n left s a claim c None e is blocks passes)
+when_blocked n left s a claim c (Some limit) e is blocks passes = Crowded c limit e blocks is passes (waits_by n left s a claim c (Some limit) e is blocks passes)
+
+when_timely : (n : ℕ) (left : Rooms) (s : CoreState) (a : Ask) (claim : Claim) (o : Option Claim) (p : Option ℕ) → a.reclaim ≡ false → least_blocker s claim ≡ o → grant_limit left s a claim ≡ p → LockCase left s a claim (lock_result n left s a claim)
+when_timely n left s a claim None None e is passes = Goes e is passes (timely n left s a claim None None e is passes)
+when_timely n left s a claim None (Some limit) e is passes = NoRoom limit e is passes (timely n left s a claim None (Some limit) e is passes)
+when_timely n left s a claim (Some c) p e is passes =
+    elim (cases_Bool a.blocking) [
+      | inl blocks ↦ when_blocked n left s a claim c (wait_limit left s a) e is blocks refl
+      | inr hurries ↦ Conflicts c e hurries is (blocked_by n left s a claim c false e is hurries)
+    ]
+
+pub lock_case : (n : ℕ) (left : Rooms) (s : CoreState) (a : Ask) (claim : Claim) → LockCase left s a claim (lock_result n left s a claim)
+lock_case n left s a claim =
+    elim (cases_Bool a.reclaim) [
+      | inl e ↦ Late e (late n left s a claim e)
+      | inr e ↦ when_timely n left s a claim (least_blocker s claim) (grant_limit left s a claim) e refl refl
+    ]
+
+-- ---- why a lock is answered so
+
+option_cases : (o : Option Claim) → (o ≡ None) ⊎ ((c : Claim) × (o ≡ Some c))
+option_cases None = inl refl
+option_cases (Some c) = inr (c, refl)
+
+some_blocks : (s : CoreState) (claim c : Claim) → least_blocker s claim ≡ Some c → is_blocked s.claims claim ≡ true
+some_blocks s claim c e = let found = blockers_some s.waiters s claim c e in one_passes (λ d. blocks claim d) s.claims c found.0 found.1
+
+blocks_some : (s : CoreState) (claim : Claim) → is_blocked s.claims claim ≡ true → (c : Claim) × (least_blocker s claim ≡ Some c)
+blocks_some s claim blocked =
+    elim (option_cases (least_blocker s claim)) [
+      | inl none ↦ absurd (both_ways (is_blocked s.claims claim) (blockers_none s.waiters s claim none) blocked)
+      | inr found ↦ found
+    ]
+
+grant_is_found : (left : Rooms) (s : CoreState) (a : Ask) (claim : Claim) → is_client a.owner a.party ≡ true → IsRange claim → IsFound (limits_of_grant left s a claim) (grant_limit left s a claim)
+grant_is_found left s a claim client range =
+    subst (λ (b : Bool). IsFound (limits_of_grant left s a claim) (passed_by_grant left a.rows b (names_fit a s.names))) (sym (fits_is claim s.claims range))
+    (subst (λ (b : Bool). IsFound (limits_of_grant left s a claim) (passed_by_grant left a.rows (nat_le (length (granted_claims claim s.claims)) most_claims) b)) (sym (names_fit_is a s.names client))
+    (grant_found left a.rows (length (granted_claims claim s.claims)) (length (both_entered a s.names))))
+
+wait_is_found : (left : Rooms) (s : CoreState) (a : Ask) → is_client a.owner a.party ≡ true → IsFound (limits_of_wait left s a) (wait_limit left s a)
+wait_is_found left s a client =
+    subst (λ (b : Bool). IsFound (limits_of_wait left s a) (passed_by_wait left a.rows (length s.waiters) b)) (sym (names_fit_is a s.names client))
+    (wait_found left a.rows (length s.waiters) (length (both_entered a s.names)))
+
+abbrev first_is : Answered → Answer
+first_is r = r.0
+
+case_due : (left : Rooms) (s : CoreState) (a : Ask) (claim : Claim) (r : Answered) → is_client a.owner a.party ≡ true → IsRange claim → LockCase left s a claim r → IsLockDue left s a claim r.0
+case_due left s a claim r client range (Late reclaim e) = subst (λ (x : Answered). IsLockDue left s a claim x.0) (sym e) (refl, reclaim)
+case_due left s a claim r client range (Conflicts c timely hurries is e) =
+    let found = blockers_some s.waiters s claim c is in
+    subst (λ (x : Answered). IsLockDue left s a claim x.0) (sym e) (timely, hurries, is, found.0, found.1)
+case_due left s a claim r client range (Crowded c limit timely blocks is passes e) =
+    subst (λ (x : Answered). IsLockDue left s a claim x.0) (sym e)
+    (timely, inr (blocks, some_blocks s claim c is, found_least (limits_of_wait left s a) (wait_limit left s a) limit (wait_is_found left s a client) passes))
+case_due left s a claim r client range (Waits c timely blocks is passes e) =
+    subst (λ (x : Answered). IsLockDue left s a claim x.0) (sym e)
+    (refl, timely, blocks, some_blocks s claim c is, found_room (limits_of_wait left s a) (wait_limit left s a) (wait_is_found left s a client) passes)
+case_due left s a claim r client range (NoRoom limit timely is passes e) =
+    subst (λ (x : Answered). IsLockDue left s a claim x.0) (sym e)
+    (timely, inl (blockers_none s.waiters s claim is, found_least (limits_of_grant left s a claim) (grant_limit left s a claim) limit (grant_is_found left s a claim client range) passes))
+case_due left s a claim r client range (Goes timely is passes e) =
+    subst (λ (x : Answered). IsLockDue left s a claim x.0) (sym e)
+    (refl, timely, blockers_none s.waiters s claim is, found_room (limits_of_grant left s a claim) (grant_limit left s a claim) (grant_is_found left s a claim client range) passes)
+
+-- a cause brings its answer
+due_case : (n : ℕ) (left : Rooms) (s : CoreState) (a : Ask) (claim : Claim) (answer : Answer) → is_client a.owner a.party ≡ true → IsRange claim → IsLockDue left s a claim answer → (lock_result n left s a claim).0 ≡ answer
+due_case n left s a claim (answers.Granted c) client range due =
+    ap first_is (timely n left s a claim None None due.1 (none_blockers s.waiters s claim due.2) (room_found (limits_of_grant left s a claim) (grant_limit left s a claim) (grant_is_found left s a claim client range) due.3))
+    ∙ ap answers.Granted (sym due.0)
+due_case n left s a claim (answers.Conflict c) client range due = ap first_is (blocked_by n left s a claim c false due.0 due.2 due.1)
+due_case n left s a claim (answers.Queued number) client range due =
+    let found = blocks_some s claim due.3 in
+    ap first_is (waits_by n left s a claim found.0 None due.1 found.1 due.2 (room_found (limits_of_wait left s a) (wait_limit left s a) (wait_is_found left s a client) due.4))
+    ∙ ap answers.Queued (sym due.0)
+due_case n left s a claim (answers.NoGrace clock) client range due = ap first_is (late n left s a claim due.1) ∙ ap answers.NoGrace (sym due.0)
+due_case n left s a claim (answers.Full limit) client range due =
+    elim due.1 [
+      | inl grants ↦ ap first_is (timely n left s a claim None (Some limit) due.0 (none_blockers s.waiters s claim grants.0) (least_found (limits_of_grant left s a claim) (grant_limit left s a claim) limit (grant_is_found left s a claim client range) grants.1))
+      | inr waits ↦
+          let found = blocks_some s claim waits.1 in
+          ap first_is (waits_by n left s a claim found.0 (Some limit) due.0 found.1 waits.0 (least_found (limits_of_wait left s a) (wait_limit left s a) limit (wait_is_found left s a client) waits.2))
+    ]
+due_case n left s a claim (answers.Recall c) client range due = absurd due
+due_case n left s a claim (answers.Grace until) client range due = absurd due
+due_case n left s a claim answers.NotRecorded client range due = absurd due
+due_case n left s a claim answers.NotHeld client range due = absurd due
+due_case n left s a claim answers.StoreFailed client range due = absurd due
+
+pub lock_is : (n : ℕ) (left : Rooms) (s : CoreState) (a : Ask) (extent : Extent) (exclusive : Bool) → a.act ≡ Ranges ((extent, exclusive) ∷ []) → ask n left s a ≡ lock_result n left s a (asked_claim a extent exclusive s.names)
+unfolding ask
+lock_is n left s a extent exclusive e = ap (λ (act : Act). acted n left s a act) e
+
+pub lock_due : (n : ℕ) (left : Rooms) (s : CoreState) (a : Ask) (extent : Extent) (exclusive : Bool) (answer : Answer) → a.act ≡ Ranges ((extent, exclusive) ∷ []) → is_client a.owner a.party ≡ true → IsRealExtent extent
+    → ((ask n left s a).0 ≡ answer) ↔ IsLockDue left s a (asked_claim a extent exclusive s.names) answer
+lock_due n left s a extent exclusive answer act client real =
+    let claim = asked_claim a extent exclusive s.names in
+    let range : IsRange claim = (asked_known a extent exclusive s.names client real).0 in
+    let is = ap first_is (lock_is n left s a extent exclusive act) in
+    (
+      λ e. subst (λ (x : Answer). IsLockDue left s a claim x) (sym is ∙ e) (case_due left s a claim (lock_result n left s a claim) client range (lock_case n left s a claim)),
+      λ due. is ∙ due_case n left s a claim answer client range due,
+    )
+
+-- ---- why a test is
+
+none_stands : (claim : Claim) (cs : List Claim) → filter (λ c. is_range c.what) (filter (λ c. blocks claim c) cs) ≡ [] → list_any (stands_against claim) cs ≡ false
+none_stands claim [] e = refl
+none_stands claim (c ∷ cs) e =
+    elim (cases_Bool (blocks claim c)) [
+      | inr free ↦ rw (free, and_right (is_range c.what) false refl) (none_stands claim cs (rw free at e))
+      | inl stands ↦ elim (cases_Bool (is_range c.what)) [
+        | inl range ↦ let two : (c ∷ filter (λ d. is_range d.what) (filter (λ d. blocks claim d) cs)) ≡ [] = rw range at (rw stands at e) in absurd cc
+        | inr other ↦ rw other (none_stands claim cs (rw other at (rw stands at e)))
+      ]
+    ]
+
+stands_none : (claim : Claim) (cs : List Claim) → list_any (stands_against claim) cs ≡ false → filter (λ c. is_range c.what) (filter (λ c. blocks claim c) cs) ≡ []
+stands_none claim [] e = refl
+stands_none claim (c ∷ cs) e =
+    elim (cases_Bool (blocks claim c)) [
+      | inr free ↦ rw free (stands_none claim cs (or_parts (stands_against claim c) (list_any (stands_against claim) cs) e).1)
+      | inl stands ↦ elim (cases_Bool (is_range c.what)) [
+        | inl range ↦ absurd (both_ways (stands_against claim c) (or_parts (stands_against claim c) (list_any (stands_against claim) cs) e).0 (and_from (is_range c.what) (blocks claim c) range stands))
+        | inr other ↦ rw stands (rw other (stands_none claim cs (or_parts (stands_against claim c) (list_any (stands_against claim) cs) e).1))
+      ]
+    ]
+
+test_none : (s : CoreState) (claim : Claim) → least s.names (test_blockers s claim) ≡ None → list_any (stands_against claim) s.claims ≡ false
+unfolding test_blockers
+test_none s claim e = none_stands claim s.claims (least_none s.names (filter (λ c. is_range c.what) (filter (λ c. blocks claim c) s.claims)) e)
+
+none_test : (s : CoreState) (claim : Claim) → list_any (stands_against claim) s.claims ≡ false → least s.names (test_blockers s claim) ≡ None
+unfolding test_blockers
+none_test s claim e = least_empty s.names (filter (λ c. is_range c.what) (filter (λ c. blocks claim c) s.claims)) (stands_none claim s.claims e)
+
+test_some : (s : CoreState) (claim c : Claim) → least s.names (test_blockers s claim) ≡ Some c → IsIn c s.claims × (stands_against claim c ≡ true)
+unfolding test_blockers
+test_some s claim c e =
+    let ranges = in_filter_from (λ d. is_range d.what) c (filter (λ d. blocks claim d) s.claims) (least_in s.names (filter (λ d. is_range d.what) (filter (λ d. blocks claim d) s.claims)) c e) in
+    let held = in_filter_from (λ d. blocks claim d) c s.claims ranges.0 in
+    (held.0, and_from (is_range c.what) (blocks claim c) ranges.1 held.1)
+
+test_by : (s : CoreState) (a : Ask) (claim : Claim) (o : Option Claim) → a.reclaim ≡ false → least s.names (test_blockers s claim) ≡ o → tested s a claim ≡ test_answered claim o
+unfolding tested
+test_by s a claim o e is = ap (λ (b : Bool). if b then answers.NoGrace s.clock else test_answered claim (least s.names (test_blockers s claim))) e ∙ ap (λ (p : Option Claim). test_answered claim p) is
+
+test_late : (s : CoreState) (a : Ask) (claim : Claim) → a.reclaim ≡ true → tested s a claim ≡ answers.NoGrace s.clock
+unfolding tested
+test_late s a claim e = ap (λ (b : Bool). if b then answers.NoGrace s.clock else test_answered claim (least s.names (test_blockers s claim))) e
+
+test_forth : (s : CoreState) (a : Ask) (claim : Claim) → IsTestDue s a claim (tested s a claim)
+test_forth s a claim =
+    elim (cases_Bool a.reclaim) [
+      | inl e ↦ subst (λ (x : Answer). IsTestDue s a claim x) (sym (test_late s a claim e)) (refl, e)
+      | inr e ↦ elim (option_cases (least s.names (test_blockers s claim))) [
+        | inl none ↦ subst (λ (x : Answer). IsTestDue s a claim x) (sym (test_by s a claim None e none)) (refl, e, test_none s claim none)
+        | inr found ↦
+            let held = test_some s claim found.0 found.1 in
+            subst (λ (x : Answer). IsTestDue s a claim x) (sym (test_by s a claim (Some found.0) e found.1)) (e, found.1, held.0, held.1)
+      ]
+    ]
+
+test_back : (s : CoreState) (a : Ask) (claim : Claim) (answer : Answer) → IsTestDue s a claim answer → tested s a claim ≡ answer
+test_back s a claim (answers.Granted c) due = test_by s a claim None due.1 (none_test s claim due.2) ∙ ap answers.Granted (sym due.0)
+test_back s a claim (answers.Conflict c) due = test_by s a claim (Some c) due.0 due.1
+test_back s a claim (answers.NoGrace clock) due = test_late s a claim due.1 ∙ ap answers.NoGrace (sym due.0)
+test_back s a claim (answers.Queued number) due = absurd due
+test_back s a claim (answers.Full limit) due = absurd due
+test_back s a claim (answers.Recall c) due = absurd due
+test_back s a claim (answers.Grace until) due = absurd due
+test_back s a claim answers.NotRecorded due = absurd due
+test_back s a claim answers.NotHeld due = absurd due
+test_back s a claim answers.StoreFailed due = absurd due
+
+test_is : (n : ℕ) (left : Rooms) (s : CoreState) (a : Ask) (extent : Extent) (exclusive : Bool) → a.act ≡ Test extent exclusive → ask n left s a ≡ (tested s a (known_claim a extent exclusive s.names), [], s)
+unfolding ask
+test_is n left s a extent exclusive e = ap (λ (act : Act). acted n left s a act) e
+
+pub test_due : (n : ℕ) (left : Rooms) (s : CoreState) (a : Ask) (extent : Extent) (exclusive : Bool) (answer : Answer) → a.act ≡ Test extent exclusive → ((ask n left s a).0 ≡ answer) ↔ IsTestDue s a (known_claim a extent exclusive s.names) answer
+test_due n left s a extent exclusive answer act =
+    let claim = known_claim a extent exclusive s.names in
+    let is = ap first_is (test_is n left s a extent exclusive act) in
+    (
+      λ e. subst (λ (x : Answer). IsTestDue s a claim x) (sym is ∙ e) (test_forth s a claim),
+      λ due. is ∙ test_back s a claim answer due,
+    )
