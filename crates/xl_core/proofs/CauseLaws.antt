@@ -1,6 +1,7 @@
 -- Each answer of an ask is given exactly where its cause stands.
-use Rattle.std.proofs.Common.{◌≡◌, ℕ, ◌+◌, ◌<◌, ◌≤◌, Bool, true, false, not, if◌then◌else◌, ◌&&◌, ◌||◌, nat_le, leb, ◌⊎◌, inl, inr, List, [], ◌∷◌, ◌++◌, length, Option, Some, None, refl, sym, ap, subst, ◌∙◌, ◌↔◌, arith}
+use Rattle.std.proofs.Common.{◌≡◌, ℕ, ◌+◌, ◌<◌, ◌≤◌, Bool, true, false, not, if◌then◌else◌, ◌&&◌, ◌||◌, nat_le, leb, max, ◌⊎◌, inl, inr, List, [], ◌∷◌, ◌++◌, length, Option, Some, None, refl, sym, ap, subst, ◌∙◌, ◌↔◌, arith}
 use Rattle.std.specs.List.{AllByRecursion, filter, list_any, slice_get}
+use Rattle.std.proofs.lemmas.Bool.Decides.{nat_tests}
 use Rattle.std.proofs.lemmas.Bool.{cases_Bool, both_ways, and_parts, and_from, and_right, or_parts, or_cases, or_left, or_right, or_from, not-true, not-false, leb-true, le-leb, lt-leb, leb-false}
 use Rattle.xl_base.specs.Lists.{IsIn}
 use Rattle.xl_base.proofs.Members.{in_filter_from}
@@ -19,7 +20,7 @@ use Rattle.xl_table.specs.Flat.{blocks}
 use Rattle.xl_table.specs.Held.{is_range, spans_of}
 use Rattle.xl_wait.specs.declared.waiter.Rooms.{Rooms}
 use Rattle.xl_wait.specs.declared.waiter.Waiter.{Waiter}
-use Rattle.xl_core.specs.State.{CoreState}
+use Rattle.xl_core.specs.State.{CoreState, with_parts}
 use Rattle.xl_core.specs.Asking.{both_entered, names_fit, asked_claim, known_claim, is_client, IsRealExtent}
 use Rattle.xl_core.specs.Blockers.{least, blockers, test_blockers}
 use Rattle.xl_core.specs.Causes.{IsRoom, IsLeastPassed, limits_of_grant, limits_of_wait, IsLockDue, stands_against, IsTestDue, HasNoByte, HasByte, left_by_unlock, IsUnlockDue}
@@ -35,7 +36,7 @@ use Rattle.xl_core.specs.declared.ask.Effect.{Effect}
 use Rattle.xl_core.specs.declared.decide.Verdict.{Verdict}
 use Rattle.xl_core.specs.declared.decide.Verdict.TheVariants as verdict
 use Rattle.xl_core.proofs.DecideLaws.{least_in, least_none, least_empty, one_passes, blockers_none, none_blockers, blockers_some}
-use Rattle.xl_core.proofs.KnownLaws.{asked_known, names_fit_is}
+use Rattle.xl_core.proofs.KnownLaws.{asked_known, known_posix, names_fit_is}
 use Rattle.xl_core.proofs.LimitLaws.{IsFound, grant_found, wait_found, room_found, least_found, found_least, found_room, relock_fits_is, fits_is}
 
 abbrev pub Answered : Type 0
@@ -270,4 +271,130 @@ test_due n left s a extent exclusive answer act =
     (
       λ e. subst (λ (x : Answer). IsTestDue s a claim x) (sym is ∙ e) (test_forth s a claim),
       λ due. is ∙ test_back s a claim answer due,
+    )
+
+-- ---- why an unlock is
+
+common_byte : (a b f l : ℕ) → a ≤ b → f ≤ l → (leb a l && leb f b) ≡ true → ((leb f (max a f) && leb (max a f) l) ≡ true) × ((leb a (max a f) && leb (max a f) b) ≡ true)
+common_byte a b f l h k e = (grind (arith, nat_tests), grind (arith, nat_tests))
+
+apart_byte : (a b f l x : ℕ) → (leb a l && leb f b) ≡ false → (leb f x && leb x l) ≡ true → (leb a x && leb x b) ≡ false
+apart_byte a b f l x e k = grind (arith, nat_tests)
+
+abbrev some_mode : Mode → Option Mode
+some_mode m = Some m
+
+met_byte : (first last : ℕ) (ss : List Span) → first ≤ last → AreRanges ss → list_any (meets first last) ss ≡ true → (byte : ℕ) × (within first last byte ≡ true) × (mode_at ss byte ≡ None → ⊥)
+met_byte first last [] ends ranges e = absurd (both_ways false refl e)
+met_byte first last (s ∷ ss) ends ranges e =
+    elim (cases_Bool (meets first last s)) [
+      | inl met ↦
+          let both = common_byte s.first s.last first last ranges.0 ends met in
+          (max s.first first, both.0, λ none. let two : some_mode s.mode ≡ None = rw both.1 at none in absurd cc)
+      | inr apart ↦
+          let rest = met_byte first last ss ends ranges.1 (rw apart at e) in
+          (rest.0, rest.1, λ none. elim (cases_Bool (within s.first s.last rest.0)) [
+            | inl inside ↦ let two : some_mode s.mode ≡ None = rw inside at none in absurd cc
+            | inr outside ↦ rest.2 (rw outside at none)
+          ])
+    ]
+
+no_byte : (first last : ℕ) (ss : List Span) → list_any (meets first last) ss ≡ false → (byte : ℕ) → within first last byte ≡ true → mode_at ss byte ≡ None
+no_byte first last [] e byte inside = refl
+no_byte first last (s ∷ ss) e byte inside =
+    let parts = or_parts (meets first last s) (list_any (meets first last) ss) e in
+    rw (apart_byte s.first s.last first last byte parts.0 inside) (no_byte first last ss parts.1 byte inside)
+
+-- what is needed of the owner's spans
+record IsUnlock (s : CoreState) (claim : Claim) (first last : ℕ) : Type 0 where
+  ends : first ≤ last
+  ranges : AreRanges (spans_of claim.file claim.owner s.claims)
+
+holds_is : (s : CoreState) (claim : Claim) (first last : ℕ) → IsUnlock s claim first last → holds_byte claim.file claim.owner first last s.claims ≡ true → HasByte s claim.file claim.owner first last
+unfolding holds_byte
+holds_is s claim first last is e = met_byte first last (spans_of claim.file claim.owner s.claims) is.ends is.ranges e
+
+none_is : (s : CoreState) (claim : Claim) (first last : ℕ) → holds_byte claim.file claim.owner first last s.claims ≡ false → HasNoByte s claim.file claim.owner first last
+unfolding holds_byte
+none_is s claim first last e = no_byte first last (spans_of claim.file claim.owner s.claims) e
+
+is_holds : (s : CoreState) (claim : Claim) (first last : ℕ) → HasByte s claim.file claim.owner first last → holds_byte claim.file claim.owner first last s.claims ≡ true
+is_holds s claim first last has =
+    elim (cases_Bool (holds_byte claim.file claim.owner first last s.claims)) [
+      | inl holds ↦ holds
+      | inr none ↦ absurd (has.2 (none_is s claim first last none has.0 has.1))
+    ]
+
+is_none : (s : CoreState) (claim : Claim) (first last : ℕ) → IsUnlock s claim first last → HasNoByte s claim.file claim.owner first last → holds_byte claim.file claim.owner first last s.claims ≡ false
+is_none s claim first last is none =
+    elim (cases_Bool (holds_byte claim.file claim.owner first last s.claims)) [
+      | inl holds ↦ let has = holds_is s claim first last is holds in absurd (has.2 (none has.0 has.1))
+      | inr e ↦ e
+    ]
+
+abbrev unlock_gone : CoreState → Claim → ℕ → ℕ → Answered
+unlock_gone s claim first last = (answers.Granted claim, [], with_parts s (relocked_in claim.file claim.owner claim.party first last None s.claims) s.waiters s.names s.counter)
+
+unlock_by : (s : CoreState) (claim : Claim) (first last : ℕ) (holds fits : Bool) → holds_byte claim.file claim.owner first last s.claims ≡ holds → relock_fits claim.file claim.owner first last None s.claims ≡ fits
+    → unlocked_bytes s claim first last ≡ (if not holds then (answers.NotHeld, [], s) else if not fits then (answers.Full most_claims, [], s) else unlock_gone s claim first last)
+unlock_by s claim first last holds fits e f = λ i. if not (e i) then (answers.NotHeld, [], s) else if not (f i) then (answers.Full most_claims, [], s) else unlock_gone s claim first last
+
+pub data UnlockCase (s : CoreState) (claim : Claim) (first last : ℕ) (r : Answered) : Type 0 where
+  Nothing : holds_byte claim.file claim.owner first last s.claims ≡ false → r ≡ (answers.NotHeld, [], s) → UnlockCase s claim first last r
+  Splits : holds_byte claim.file claim.owner first last s.claims ≡ true → relock_fits claim.file claim.owner first last None s.claims ≡ false → r ≡ (answers.Full most_claims, [], s) → UnlockCase s claim first last r
+  Leaves : holds_byte claim.file claim.owner first last s.claims ≡ true → relock_fits claim.file claim.owner first last None s.claims ≡ true
+      → r ≡ (answers.Granted claim, [], with_parts s (relocked_in claim.file claim.owner claim.party first last None s.claims) s.waiters s.names s.counter) → UnlockCase s claim first last r
+
+pub unlock_case : (s : CoreState) (claim : Claim) (first last : ℕ) → UnlockCase s claim first last (unlocked_bytes s claim first last)
+unlock_case s claim first last =
+    elim (cases_Bool (holds_byte claim.file claim.owner first last s.claims)) [
+      | inr none ↦ Nothing none (unlock_by s claim first last false (relock_fits claim.file claim.owner first last None s.claims) none refl)
+      | inl holds ↦ elim (cases_Bool (relock_fits claim.file claim.owner first last None s.claims)) [
+        | inr full ↦ Splits holds full (unlock_by s claim first last true false holds full)
+        | inl fits ↦ Leaves holds fits (unlock_by s claim first last true true holds fits)
+      ]
+    ]
+
+fits_unlock : (s : CoreState) (claim : Claim) (first last : ℕ) → relock_fits claim.file claim.owner first last None s.claims ≡ nat_le (left_by_unlock s claim first last) most_claims
+fits_unlock s claim first last = relock_fits_is claim.file claim.owner claim.party first last None s.claims
+
+unlock_forth : (s : CoreState) (claim : Claim) (first last : ℕ) (r : Answered) → IsUnlock s claim first last → UnlockCase s claim first last r → IsUnlockDue s claim first last r.0
+unlock_forth s claim first last r is (Nothing none e) = subst (λ (x : Answered). IsUnlockDue s claim first last x.0) (sym e) (none_is s claim first last none)
+unlock_forth s claim first last r is (Splits holds full e) =
+    subst (λ (x : Answered). IsUnlockDue s claim first last x.0) (sym e)
+    (refl, holds_is s claim first last is holds, leb-false (left_by_unlock s claim first last) most_claims (sym (fits_unlock s claim first last) ∙ full))
+unlock_forth s claim first last r is (Leaves holds fits e) =
+    subst (λ (x : Answered). IsUnlockDue s claim first last x.0) (sym e)
+    (refl, holds_is s claim first last is holds, leb-true (left_by_unlock s claim first last) most_claims (sym (fits_unlock s claim first last) ∙ fits))
+
+unlock_back : (s : CoreState) (claim : Claim) (first last : ℕ) (answer : Answer) → IsUnlock s claim first last → IsUnlockDue s claim first last answer → (unlocked_bytes s claim first last).0 ≡ answer
+unlock_back s claim first last (answers.Granted c) is due =
+    ap first_is (unlock_by s claim first last true true (is_holds s claim first last due.1) (fits_unlock s claim first last ∙ le-leb (left_by_unlock s claim first last) most_claims due.2)) ∙ ap answers.Granted (sym due.0)
+unlock_back s claim first last (answers.Full limit) is due =
+    ap first_is (unlock_by s claim first last true false (is_holds s claim first last due.1) (fits_unlock s claim first last ∙ lt-leb (left_by_unlock s claim first last) most_claims due.2)) ∙ ap answers.Full (sym due.0)
+unlock_back s claim first last answers.NotHeld is due = ap first_is (unlock_by s claim first last false (relock_fits claim.file claim.owner first last None s.claims) (is_none s claim first last is due) refl)
+unlock_back s claim first last (answers.Conflict c) is due = absurd due
+unlock_back s claim first last (answers.Queued number) is due = absurd due
+unlock_back s claim first last (answers.NoGrace clock) is due = absurd due
+unlock_back s claim first last (answers.Recall c) is due = absurd due
+unlock_back s claim first last (answers.Grace until) is due = absurd due
+unlock_back s claim first last answers.NotRecorded is due = absurd due
+unlock_back s claim first last answers.StoreFailed is due = absurd due
+
+pub unlock_is : (n : ℕ) (left : Rooms) (s : CoreState) (a : Ask) (first last : ℕ) → a.act ≡ Unlock (Bytes first last) → ask n left s a ≡ unlocked_bytes s (known_claim a (Bytes first last) false s.names) first last
+unfolding ask unlocked
+unlock_is n left s a first last e = ap (λ (act : Act). acted n left s a act) e
+
+pub unlock_due : (n : ℕ) (left : Rooms) (s : CoreState) (a : Ask) (first last : ℕ) (answer : Answer) → a.act ≡ Unlock (Bytes first last) → is_client a.owner a.party ≡ true → first ≤ last → IsGood s
+    → ((ask n left s a).0 ≡ answer) ↔ IsUnlockDue s (known_claim a (Bytes first last) false s.names) first last answer
+unlock_due n left s a first last answer act client ends good =
+    let claim = known_claim a (Bytes first last) false s.names in
+    let is : IsUnlock s claim first last = record {
+      ends = ends;
+      ranges = canonical_ranges (spans_of claim.file claim.owner s.claims) (good.kept.sound.canonical claim.file claim.owner (known_posix a s.names client));
+    } in
+    let same = ap first_is (unlock_is n left s a first last act) in
+    (
+      λ e. subst (λ (x : Answer). IsUnlockDue s claim first last x) (sym same ∙ e) (unlock_forth s claim first last (unlocked_bytes s claim first last) is (unlock_case s claim first last)),
+      λ due. same ∙ unlock_back s claim first last answer is due,
     )

@@ -160,7 +160,7 @@ lock_good n left s a claim good known = lock_answered_good n left s a claim (dec
 
 -- ---- an unlock
 
-span_owner : (file : ℕ) (owner : Owner) (p : Span → Bool) (cs : List Claim) → list_any p (spans_of file owner cs) ≡ true → (c : Claim) × IsIn c cs × (is_of file owner c ≡ true)
+pub span_owner : (file : ℕ) (owner : Owner) (p : Span → Bool) (cs : List Claim) → list_any p (spans_of file owner cs) ≡ true → (c : Claim) × IsIn c cs × (is_of file owner c ≡ true)
 span_owner file owner p [] e = absurd (both_ways false refl e)
 span_owner file owner p (c ∷ cs) e =
     elim (cases_Bool (is_of file owner c)) [
@@ -169,7 +169,7 @@ span_owner file owner p (c ∷ cs) e =
     ]
 
 -- who holds a byte is known
-holder_kept : (s : CoreState) (a : Ask) (extent : Extent) (exclusive : Bool) (first last : ℕ) → IsGood s → is_client a.owner a.party ≡ true → (let claim = known_claim a extent exclusive s.names in holds_byte claim.file claim.owner first last s.claims ≡ true → are_kept s.names claim.owner claim.party ≡ true)
+pub holder_kept : (s : CoreState) (a : Ask) (extent : Extent) (exclusive : Bool) (first last : ℕ) → IsGood s → is_client a.owner a.party ≡ true → (let claim = known_claim a extent exclusive s.names in holds_byte claim.file claim.owner first last s.claims ≡ true → are_kept s.names claim.owner claim.party ≡ true)
 unfolding holds_byte
 holder_kept s a extent exclusive first last good client holds =
     let claim = known_claim a extent exclusive s.names in
@@ -223,7 +223,7 @@ ask_good n left s a good fit = acted_good n left s a a.act good fit.party fit.ac
 -- ---- a turn
 
 -- the waiter's turn: nothing held blocks what it asks for first, and a limit stands against it exactly where its grant would pass one
-pub record IsTurn (left : Rooms) (s : CoreState) (w : Waiter) (turn : Turn) : Type 0 where
+pub record IsTurnOf (left : Rooms) (s : CoreState) (w : Waiter) (turn : Turn) : Type 0 where
   pub id : turn.id ≡ w.id
   pub claim : slice_get w.asked 0 ≡ Some turn.claim
   pub free : is_blocked s.claims turn.claim ≡ false
@@ -232,22 +232,22 @@ pub record IsTurn (left : Rooms) (s : CoreState) (w : Waiter) (turn : Turn) : Ty
 same_turn : (a b : Turn) → Some a ≡ Some b → a ≡ b
 same_turn a b e = cc
 
-turn_with_is : (n : ℕ) (left : Rooms) (s : CoreState) (earlier : List Waiter) (w : Waiter) (claim : Claim) (v : Verdict) (turn : Turn) → slice_get w.asked 0 ≡ Some claim → decide n earlier s left w.rows true claim ≡ v → turn_with w claim v ≡ Some turn → IsTurn left s w turn
+turn_with_is : (n : ℕ) (left : Rooms) (s : CoreState) (earlier : List Waiter) (w : Waiter) (claim : Claim) (v : Verdict) (turn : Turn) → slice_get w.asked 0 ≡ Some claim → decide n earlier s left w.rows true claim ≡ v → turn_with w claim v ≡ Some turn → IsTurnOf left s w turn
 turn_with_is n left s earlier w claim (verdict.Blocked c) turn at e is = absurd cc
 turn_with_is n left s earlier w claim (verdict.Full limit) turn at e is =
     let why = decide_is n earlier s left w.rows true claim (verdict.Full limit) e in
-    subst (λ (t : Turn). IsTurn left s w t) (same_turn (record { id = w.id; claim = claim; full = Some limit }) turn is)
+    subst (λ (t : Turn). IsTurnOf left s w t) (same_turn (record { id = w.id; claim = claim; full = Some limit }) turn is)
     (record { id = refl; claim = at; free = blockers_none earlier s claim why.0; full = sym why.1 })
 turn_with_is n left s earlier w claim verdict.Free turn at e is =
     let why = decide_is n earlier s left w.rows true claim verdict.Free e in
-    subst (λ (t : Turn). IsTurn left s w t) (same_turn (record { id = w.id; claim = claim; full = None }) turn is)
+    subst (λ (t : Turn). IsTurnOf left s w t) (same_turn (record { id = w.id; claim = claim; full = None }) turn is)
     (record { id = refl; claim = at; free = blockers_none earlier s claim why.0; full = sym why.1 })
 
-turn_by_is : (n : ℕ) (left : Rooms) (s : CoreState) (earlier : List Waiter) (w : Waiter) (o : Option Claim) (turn : Turn) → slice_get w.asked 0 ≡ o → turn_by n left s earlier w o ≡ Some turn → IsTurn left s w turn
+turn_by_is : (n : ℕ) (left : Rooms) (s : CoreState) (earlier : List Waiter) (w : Waiter) (o : Option Claim) (turn : Turn) → slice_get w.asked 0 ≡ o → turn_by n left s earlier w o ≡ Some turn → IsTurnOf left s w turn
 turn_by_is n left s earlier w None turn at is = absurd cc
 turn_by_is n left s earlier w (Some claim) turn at is = turn_with_is n left s earlier w claim (decide n earlier s left w.rows true claim) turn at refl is
 
-pub turn_of_is : (n : ℕ) (left : Rooms) (s : CoreState) (earlier : List Waiter) (w : Waiter) (turn : Turn) → turn_of n left s earlier w ≡ Some turn → IsTurn left s w turn
+pub turn_of_is : (n : ℕ) (left : Rooms) (s : CoreState) (earlier : List Waiter) (w : Waiter) (turn : Turn) → turn_of n left s earlier w ≡ Some turn → IsTurnOf left s w turn
 unfolding turn_of
 turn_of_is n left s earlier w turn is = turn_by_is n left s earlier w (slice_get w.asked 0) turn refl is
 
@@ -256,7 +256,7 @@ first_some_cases (Some t) b turn e = inl e
 first_some_cases None b turn e = inr (refl, e)
 
 -- a turn is one of those who wait
-pub first_turn_is : (n : ℕ) (left : Rooms) (s : CoreState) (earlier ws : List Waiter) (turn : Turn) → first_turn n left s earlier ws ≡ Some turn → (w : Waiter) × IsIn w ws × IsTurn left s w turn
+pub first_turn_is : (n : ℕ) (left : Rooms) (s : CoreState) (earlier ws : List Waiter) (turn : Turn) → first_turn n left s earlier ws ≡ Some turn → (w : Waiter) × IsIn w ws × IsTurnOf left s w turn
 first_turn_is n left s earlier [] turn e = absurd cc
 first_turn_is n left s earlier (w ∷ ws) turn e =
     elim (first_some_cases (turn_of n left s earlier w) (first_turn n left s (earlier ++ w ∷ []) ws) turn e) [
@@ -264,7 +264,7 @@ first_turn_is n left s earlier (w ∷ ws) turn e =
       | inr later ↦ let rest = first_turn_is n left s (earlier ++ w ∷ []) ws turn later.1 in (rest.0, inr rest.1, rest.2)
     ]
 
-cancelled_all : (P : Waiter → Type 0) (id : ℕ) (ws : List Waiter) → AllByRecursion P ws → AllByRecursion P (cancelled id ws)
+pub cancelled_all : (P : Waiter → Type 0) (id : ℕ) (ws : List Waiter) → AllByRecursion P ws → AllByRecursion P (cancelled id ws)
 cancelled_all P id [] all = tt
 cancelled_all P id (w ∷ ws) all =
     elim (cases_Bool (w.id == id)) [
@@ -291,7 +291,7 @@ asked_in (c ∷ cs) claim e = inl (same_claim c claim e)
 pub waiter_known : (s : CoreState) (w : Waiter) (claim : Claim) → IsGood s → IsIn w s.waiters → slice_get w.asked 0 ≡ Some claim → IsKnown s.names claim
 waiter_known s w claim good h e = all_in (IsKnown s.names) claim w.asked (all_in (IsWaiter s.names s.counter) w s.waiters good.waiters h).1 (asked_in w.asked claim e)
 
-served_by_good : (left : Rooms) (s : CoreState) (w : Waiter) (turn : Turn) (o : Option ℕ) → IsGood s → IsIn w s.waiters → IsTurn left s w turn → turn.full ≡ o → IsGood (served_by s turn o).1
+served_by_good : (left : Rooms) (s : CoreState) (w : Waiter) (turn : Turn) (o : Option ℕ) → IsGood s → IsIn w s.waiters → IsTurnOf left s w turn → turn.full ≡ o → IsGood (served_by s turn o).1
 served_by_good left s w turn (Some limit) good h is e =
     with_good s s.claims (cancelled turn.id s.waiters) s.names s.counter good.distinct good.few (good_claims s good)
     (cancelled_all (IsWaiter s.names s.counter) turn.id s.waiters good.waiters) (cancelled_pairwise are_apart turn.id s.waiters good.apart)
@@ -302,7 +302,7 @@ served_by_good left s w turn None good h is e =
     (cancelled_all (IsWaiter s.names s.counter) turn.id s.waiters good.waiters) (cancelled_pairwise are_apart turn.id s.waiters good.apart)
 
 -- a waiter whose turn it is is served
-pub served_good : (left : Rooms) (s : CoreState) (w : Waiter) (turn : Turn) → IsGood s → IsIn w s.waiters → IsTurn left s w turn → IsGood (served s turn).1
+pub served_good : (left : Rooms) (s : CoreState) (w : Waiter) (turn : Turn) → IsGood s → IsIn w s.waiters → IsTurnOf left s w turn → IsGood (served s turn).1
 unfolding served
 served_good left s w turn good h is = served_by_good left s w turn turn.full good h is refl
 

@@ -21,7 +21,7 @@ use Rattle.xl_matrix.specs.declared.claim.What.TheVariants.{Range}
 use Rattle.xl_names.specs.Names.{protocol_of, same_name, number_of, place_of, is_kept, entered, AreDistinct, most_names}
 use Rattle.xl_names.specs.declared.name.Name.{Name}
 use Rattle.xl_names.specs.declared.name.Name.TheVariants.{NlmRange, NlmShare, NlmParty, NfsRange, NfsShare, NfsParty, SmbLease}
-use Rattle.xl_names.proofs.NameLaws.{same_name_is, same_name_self, number_at, name_at, number_stays, number_entered, distinct_entered}
+use Rattle.xl_names.proofs.NameLaws.{same_name_is, same_name_self, kept_from_number, number_at, name_at, number_stays, number_entered, distinct_entered}
 use Rattle.xl_wait.specs.declared.waiter.Waiter.{Waiter}
 use Rattle.xl_core.specs.Asking.{owner_in, party_in, who_entered, asker, asking_party, both_entered, coming, names_fit, asked_claim, no_number, number_or, known_owner, known_party, known_claim, client_of, is_name, is_client, IsRealExtent}
 use Rattle.xl_core.specs.Good.{IsRangeBy, IsRange, agree, are_kept, IsKnown, IsWaiter}
@@ -153,6 +153,9 @@ known_on names more cs on all = all_weaker (IsKnown names) (IsKnown more) cs (λ
 pub waiters_on : (names more : List Name) (counter next : ℕ) (ws : List Waiter) → GoOn names more → counter ≤ next → AllByRecursion (IsWaiter names counter) ws → AllByRecursion (IsWaiter more next) ws
 waiters_on names more counter next ws on h all = all_weaker (IsWaiter names counter) (IsWaiter more next) ws (λ w is. (omega (arith, h, is.0), known_on names more w.asked on is.1)) all
 
+number_same : (x y : Protocol) (n m : ℕ) → owners.Name x n ≡ owners.Name y m → n ≡ m
+number_same x y n m e = cc
+
 -- an owner has one client
 pub one_party : (names : List Name) (owner : Owner) (p q : Party) → AreDistinct names → are_kept names owner p ≡ true → are_kept names owner q ≡ true → p ≡ q
 one_party names owner p q distinct h k =
@@ -163,9 +166,6 @@ one_party names owner p q distinct h k =
     let client : a.client ≡ b.client = same_Some a.client b.client (sym a.client_is ∙ ap client_of name ∙ b.client_is) in
     let at : a.at ≡ b.at = same_Some a.at b.at (sym (number_at names a.client a.at distinct a.party_at) ∙ ap (λ (n : Name). number_of n names) client ∙ number_at names b.client b.at distinct b.party_at) in
     a.party_is ∙ ap (λ (n : Name). parties.Name (protocol_of n) a.at) client ∙ ap (λ (n : ℕ). parties.Name (protocol_of b.client) n) at ∙ sym b.party_is
-  where
-    number_same : (x y : Protocol) (n m : ℕ) → owners.Name x n ≡ owners.Name y m → n ≡ m
-    number_same x y n m e = cc
 
 -- ---- who asks is known
 
@@ -230,6 +230,25 @@ number_known : (names : List Name) (name : Name) (o : Option ℕ) → number_of 
 number_known names name None e room other h = absurd (get_none names no_number other (omega (arith, room)) h)
 number_known names name (Some number) e room other h = (e, same_Some name other (sym (name_at names name number e) ∙ h))
 
+pub known_posix : (a : Ask) (names : List Name) → is_client a.owner a.party ≡ true → posix (known_owner a.owner names) ≡ true
+known_posix a names h =
+    let is = is_client_is a.owner a.party h in
+    ap (λ (w : Who). posix (known_owner w names)) is.2 ∙ client_posix is.0 is.1 is.4 (number_or (number_of is.0 names))
+
+-- an owner with a known party is the asker whose name is kept
+pub known_owner_is : (a : Ask) (names : List Name) (party : Party) → length names ≤ most_names → is_client a.owner a.party ≡ true → are_kept names (known_owner a.owner names) party ≡ true → known_owner a.owner names ≡ asker a names
+known_owner_is a names party room h kept =
+    let is = is_client_is a.owner a.party h in
+    let named = kept_parts names (known_owner a.owner names) party kept in
+    let same : owners.Name (protocol_of is.0) (number_or (number_of is.0 names)) ≡ owners.Name (protocol_of named.name) named.number =
+    sym (ap (λ (w : Who). known_owner w names) is.2) ∙ named.owner_is in
+    let number = number_same (protocol_of is.0) (protocol_of named.name) (number_or (number_of is.0 names)) named.number same in
+    let name = number_known names is.0 (number_of is.0 names) refl room named.name (ap (λ (n : ℕ). slice_get names n) number ∙ named.owner_at) in
+    let place = (kept_from_number is.0 names (number_or (number_of is.0 names)) name.0).1 in
+    ap (λ (w : Who). known_owner w names) is.2
+    ∙ ap (λ (n : ℕ). owners.Name (protocol_of is.0) n) (sym place)
+    ∙ sym (ap (λ (w : Who). owner_in w names) is.2)
+
 -- an owner with a known party is the asker whose name is kept, and the party is the asker's
 pub known_party_is : (a : Ask) (names : List Name) (party : Party) → AreDistinct names → length names ≤ most_names → is_client a.owner a.party ≡ true → are_kept names (known_owner a.owner names) party ≡ true → party ≡ known_party a.party names
 known_party_is a names party distinct room h kept =
@@ -244,9 +263,6 @@ known_party_is a names party distinct room h kept =
     named.party_is ∙ ap (λ (n : Name). parties.Name (protocol_of n) named.at) client
     ∙ ap (λ (o : Option ℕ). parties.Name (protocol_of is.1) (number_or o)) (sym at)
     ∙ sym (ap (λ (w : Who). known_party w names) is.3)
-  where
-    number_same : (x y : Protocol) (n m : ℕ) → owners.Name x n ≡ owners.Name y m → n ≡ m
-    number_same x y n m e = cc
 
 -- ---- names that come
 

@@ -5,13 +5,14 @@ use Rattle.xl_base.specs.Lists.{IsIn}
 use Rattle.xl_base.specs.declared.name.Owner.{Owner}
 use Rattle.xl_matrix.specs.declared.claim.Claim.{Claim}
 use Rattle.xl_names.specs.Names.{most_names}
+use Rattle.xl_names.specs.declared.name.Name.{Name}
 use Rattle.xl_spans.specs.Spans.{within, mode_at}
 use Rattle.xl_table.specs.Flat.{blocks}
 use Rattle.xl_table.specs.Held.{is_range, spans_of}
 use Rattle.xl_wait.specs.declared.waiter.Rooms.{Rooms}
 use Rattle.xl_wait.specs.declared.waiter.Waiter.{Waiter}
 use Rattle.xl_core.specs.State.{CoreState}
-use Rattle.xl_core.specs.Asking.{both_entered}
+use Rattle.xl_core.specs.Asking.{asker, both_entered}
 use Rattle.xl_core.specs.Blockers.{least, blockers, test_blockers}
 use Rattle.xl_core.specs.Decide.{most_hosts, most_waiters, most_opens, most_owners}
 use Rattle.xl_core.specs.Good.{is_blocked, is_still_blocked}
@@ -130,3 +131,13 @@ pub record IsTurn (left : Rooms) (s : CoreState) (effects : List Effect) (new : 
   pub waiters : new.waiters ≡ before ++ behind
   pub names : new.names ≡ s.names
   pub others : (file : ℕ) (owner : Owner) → ((file ≡ claim.file) × (owner ≡ claim.owner) → ⊥) → spans_of file owner new.claims ≡ spans_of file owner s.claims
+
+-- ---- what an ask may change
+
+-- An ask that isn't granted leaves the claims as they were; one that is changes only what its owner has on its file.
+-- No waiter goes, and each name keeps its number.
+pub record IsOwn (s : CoreState) (a : Ask) (answer : Answer) (new : CoreState) : Type 0 where
+  pub refused : ((claim : Claim) → answer ≡ Granted claim → ⊥) → new.claims ≡ s.claims
+  pub others : (file : ℕ) (owner : Owner) → ((file ≡ a.file) × (owner ≡ asker a s.names) → ⊥) → spans_of file owner new.claims ≡ spans_of file owner s.claims
+  pub waiters : (w : Waiter) → IsIn w s.waiters → IsIn w new.waiters
+  pub names : (number : ℕ) (name : Name) → slice_get s.names number ≡ Some name → slice_get new.names number ≡ Some name
