@@ -107,6 +107,10 @@ decide_is n earlier s left rows names claim v e =
     subst (λ (x : Verdict). IsVerdict (least s.names (blockers earlier s claim)) (passed_by_grant left rows (grant_fits claim s.claims) names) x) e
     (decided_is (least s.names (blockers earlier s claim)) (passed_by_grant left rows (grant_fits claim s.claims) names))
 
+pub decide_by : (n : ℕ) (earlier : List Waiter) (s : CoreState) (left rows : Rooms) (names : Bool) (claim : Claim) (o : Option Claim) (passed : Option ℕ) → least s.names (blockers earlier s claim) ≡ o → passed_by_grant left rows (grant_fits claim s.claims) names ≡ passed → decide n earlier s left rows names claim ≡ decided o passed
+unfolding decide
+decide_by n earlier s left rows names claim o passed e f = λ i. decided (e i) (f i)
+
 -- ---- limits
 
 abbrev some_limit : ℕ → Option ℕ

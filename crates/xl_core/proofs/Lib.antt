@@ -8,3 +8,5 @@ pub mod GoodLaws
 pub mod TurnLaws
 pub mod LimitLaws
 pub mod CauseLaws
+pub mod ChangeLaws
+pub mod SettleLaws
