@@ -21,7 +21,7 @@ use Rattle.xl_table.specs.Held.{is_range, spans_of}
 use Rattle.xl_wait.specs.declared.waiter.Rooms.{Rooms}
 use Rattle.xl_wait.specs.declared.waiter.Waiter.{Waiter}
 use Rattle.xl_core.specs.State.{CoreState, with_parts}
-use Rattle.xl_core.specs.Asking.{both_entered, names_fit, asked_claim, known_claim, is_client, IsRealExtent}
+use Rattle.xl_core.specs.Asking.{both_entered, names_fit, asked_claim, known_claim, is_client, IsRealExtent, IsFitAct, IsFit}
 use Rattle.xl_core.specs.Blockers.{least, blockers, test_blockers}
 use Rattle.xl_core.specs.Causes.{IsRoom, IsLeastPassed, limits_of_grant, limits_of_wait, IsLockDue, stands_against, IsTestDue, HasNoByte, HasByte, left_by_unlock, IsUnlockDue}
 use Rattle.xl_core.specs.Decide.{passed_by_grant, passed_by_wait, decided, decide, granted, waiting, queued, lock_answered, lock_asked, test_answered, tested, unlocked_bytes, unlocked, acted, ask}
@@ -398,3 +398,20 @@ unlock_due n left s a first last answer act client ends good =
       λ e. subst (λ (x : Answer). IsUnlockDue s claim first last x) (sym same ∙ e) (unlock_forth s claim first last (unlocked_bytes s claim first last) is (unlock_case s claim first last)),
       λ due. same ∙ unlock_back s claim first last answer is due,
     )
+
+-- ---- asks that are fit
+
+pub real_extent : (a : Ask) (extent : Extent) (exclusive : Bool) → IsFit a → a.act ≡ Ranges ((extent, exclusive) ∷ []) → IsRealExtent extent
+real_extent a extent exclusive fit e = subst (λ (act : Act). IsFitAct act) e fit.act
+
+pub real_unlock : (a : Ask) (first last : ℕ) → IsFit a → a.act ≡ Unlock (Bytes first last) → first ≤ last
+real_unlock a first last fit e = subst (λ (act : Act). IsFitAct act) e fit.act
+
+-- nothing stands against a lock, so it is granted
+pub lock_free : (n : ℕ) (left : Rooms) (s : CoreState) (a : Ask) (extent : Extent) (exclusive : Bool) → IsFit a → a.act ≡ Ranges ((extent, exclusive) ∷ []) → a.reclaim ≡ false → is_blocked s.claims (asked_claim a extent exclusive s.names) ≡ false
+    → IsRoom (limits_of_grant left s a (asked_claim a extent exclusive s.names)) → (ask n left s a).0 ≡ answers.Granted (asked_claim a extent exclusive s.names)
+lock_free n left s a extent exclusive fit act timely free room =
+    (lock_due n left s a extent exclusive (answers.Granted (asked_claim a extent exclusive s.names)) act fit.party (real_extent a extent exclusive fit act)).1 (refl, timely, free, room)
+
+pub test_leaves : (n : ℕ) (left : Rooms) (s : CoreState) (a : Ask) (extent : Extent) (exclusive : Bool) → a.act ≡ Test extent exclusive → (ask n left s a).2 ≡ s
+test_leaves n left s a extent exclusive act = ap (λ (r : Answered). r.2) (test_is n left s a extent exclusive act)

@@ -7,6 +7,7 @@ mod asking;
 mod blocking;
 mod decide;
 mod doors;
+pub mod law;
 mod leaving;
 mod parts;
 mod relock;

@@ -1,0 +1,11 @@
+use Rattle.xl_core.proofs.SettleLaws.{settled_is, turn_is, turn_fewer}
+use Rattle.xl_core.proofs.law.nobody_is_forgotten.Goals as goal
+
+pub returns-clause-settled : goal.returns-clause-settled
+returns-clause-settled c = settled_is
+
+pub returns-clause-turns : goal.returns-clause-turns
+returns-clause-turns c = turn_is
+
+pub returns-clause-fewer : goal.returns-clause-fewer
+returns-clause-fewer c = turn_fewer
