@@ -51,7 +51,10 @@ granted_spans c first last exclusive cs kept is own ends =
 nothing_own : (s : CoreState) (a : Ask) (r : Answered) → r.2 ≡ s → IsOwn s a r.0 r.2
 nothing_own s a r e =
     subst (λ (t : CoreState). IsOwn s a r.0 t) (sym e)
-    (record { refused = λ none. refl; others = λ file owner apart. refl; waiters = λ w h. h; names = λ number name h. h })
+    (record { claims = λ none. refl; waiters = λ none. refl; refused = λ none nobody. refl; others = λ file owner apart. refl; stay = λ w h. h; names = λ number name h. h })
+
+not_queued : (n : ℕ) → ((number : ℕ) → answers.Queued n ≡ answers.Queued number → ⊥) → ⊥
+not_queued n none = none n refl
 
 not_granted : (c : Claim) → ((claim : Claim) → answers.Granted c ≡ answers.Granted claim → ⊥) → ⊥
 not_granted c none = none c refl
@@ -64,17 +67,21 @@ lock_own left s a claim r file owner (NoRoom limit timely is passes e) = nothing
 lock_own left s a claim r file owner (Waits c timely blocks is passes e) =
     subst (λ (x : Answered). IsOwn s a x.0 x.2) (sym e)
     (record {
-      refused = λ none. refl;
+      claims = λ none. refl;
+      waiters = λ none. absurd (not_queued (s.counter + 1) none);
+      refused = λ none nobody. absurd (not_queued (s.counter + 1) nobody);
       others = λ at who apart. refl;
-      waiters = λ w h. in_append_left w s.waiters (waiter_of (s.counter + 1) a claim ∷ []) h;
+      stay = λ w h. in_append_left w s.waiters (waiter_of (s.counter + 1) a claim ∷ []) h;
       names = both_go_on a s.names;
     })
 lock_own left s a claim r file owner (Goes timely is passes e) =
     subst (λ (x : Answered). IsOwn s a x.0 x.2) (sym e)
     (record {
-      refused = λ none. absurd (not_granted claim none);
+      claims = λ none. absurd (not_granted claim none);
+      waiters = λ none. refl;
+      refused = λ none nobody. absurd (not_granted claim none);
       others = λ at who apart. granted_apart claim s.claims at who (λ same. apart (same.0 ∙ file, same.1 ∙ owner));
-      waiters = λ w h. h;
+      stay = λ w h. h;
       names = both_go_on a s.names;
     })
 
@@ -84,9 +91,11 @@ unlock_own s a claim first last r file owner (Splits holds full e) = nothing_own
 unlock_own s a claim first last r file owner (Leaves holds fits e) =
     subst (λ (x : Answered). IsOwn s a x.0 x.2) (sym e)
     (record {
-      refused = λ none. absurd (not_granted claim none);
+      claims = λ none. absurd (not_granted claim none);
+      waiters = λ none. refl;
+      refused = λ none nobody. absurd (not_granted claim none);
       others = λ at who apart. spans_of-relocked_apart claim.file claim.owner claim.party first last None s.claims at who (λ same. apart (same.0 ∙ file, same.1 ∙ owner holds));
-      waiters = λ w h. h;
+      stay = λ w h. h;
       names = λ number name h. h;
     })
 
@@ -157,3 +166,24 @@ ask_left n left s a first last c good client ends act at =
     let same = holder_is s a (Bytes first last) first last good client found.0 in
     ap (λ (x : Answered). spans_of a.file (asker a s.names) x.2.claims) is
     ∙ subst (λ (o : Owner). spans_of a.file o (unlocked_bytes s claim first last).2.claims ≡ relocked (spans_of a.file o s.claims) first last None) same found.1
+
+-- ---- who waits stands in the queue
+
+lock_waits : (left : Rooms) (s : CoreState) (a : Ask) (claim : Claim) (number : ℕ) (r : Answered) → LockCase left s a claim r → r.0 ≡ answers.Queued number → r.2.waiters ≡ s.waiters ++ waiter_of number a claim ∷ []
+lock_waits left s a claim number r (Late reclaim e) at = let two : answers.NoGrace s.clock ≡ answers.Queued number = sym (ap (λ (x : Answered). x.0) e) ∙ at in absurd cc
+lock_waits left s a claim number r (Conflicts d timely hurries blocks e) at = let two : answers.Conflict d ≡ answers.Queued number = sym (ap (λ (x : Answered). x.0) e) ∙ at in absurd cc
+lock_waits left s a claim number r (Crowded d limit timely waits blocks passes e) at = let two : answers.Full limit ≡ answers.Queued number = sym (ap (λ (x : Answered). x.0) e) ∙ at in absurd cc
+lock_waits left s a claim number r (NoRoom limit timely blocks passes e) at = let two : answers.Full limit ≡ answers.Queued number = sym (ap (λ (x : Answered). x.0) e) ∙ at in absurd cc
+lock_waits left s a claim number r (Goes timely blocks passes e) at = let two : answers.Granted claim ≡ answers.Queued number = sym (ap (λ (x : Answered). x.0) e) ∙ at in absurd cc
+lock_waits left s a claim number r (Waits d timely waits blocks passes e) at =
+    ap (λ (x : Answered). x.2.waiters) e ∙ ap (λ (n : ℕ). s.waiters ++ waiter_of n a claim ∷ []) (same_number (s.counter + 1) number (sym (ap (λ (x : Answered). x.0) e) ∙ at))
+  where
+    same_number : (x y : ℕ) → answers.Queued x ≡ answers.Queued y → x ≡ y
+    same_number x y e = cc
+
+pub ask_waits : (n : ℕ) (left : Rooms) (s : CoreState) (a : Ask) (extent : Extent) (exclusive : Bool) (number : ℕ) → a.act ≡ Ranges ((extent, exclusive) ∷ []) → (ask n left s a).0 ≡ answers.Queued number
+    → (ask n left s a).2.waiters ≡ s.waiters ++ waiter_of number a (asked_claim a extent exclusive s.names) ∷ []
+ask_waits n left s a extent exclusive number act at =
+    let claim = asked_claim a extent exclusive s.names in
+    let is = lock_is n left s a extent exclusive act in
+    ap (λ (x : Answered). x.2.waiters) is ∙ lock_waits left s a claim number (lock_result n left s a claim) (lock_case n left s a claim) (sym (ap (λ (x : Answered). x.0) is) ∙ at)

@@ -134,10 +134,12 @@ pub record IsTurn (left : Rooms) (s : CoreState) (effects : List Effect) (new : 
 
 -- ---- what an ask may change
 
--- An ask that isn't granted leaves the claims as they were; one that is changes only what its owner has on its file.
--- No waiter goes, and each name keeps its number.
+-- An ask that is neither granted nor told to wait changes nothing. One that is granted changes only what its owner has on
+-- its file, one that waits no claim. No waiter goes, and each name keeps its number.
 pub record IsOwn (s : CoreState) (a : Ask) (answer : Answer) (new : CoreState) : Type 0 where
-  pub refused : ((claim : Claim) → answer ≡ Granted claim → ⊥) → new.claims ≡ s.claims
+  pub claims : ((claim : Claim) → answer ≡ Granted claim → ⊥) → new.claims ≡ s.claims
+  pub waiters : ((number : ℕ) → answer ≡ Queued number → ⊥) → new.waiters ≡ s.waiters
+  pub refused : ((claim : Claim) → answer ≡ Granted claim → ⊥) → ((number : ℕ) → answer ≡ Queued number → ⊥) → new ≡ s
   pub others : (file : ℕ) (owner : Owner) → ((file ≡ a.file) × (owner ≡ asker a s.names) → ⊥) → spans_of file owner new.claims ≡ spans_of file owner s.claims
-  pub waiters : (w : Waiter) → IsIn w s.waiters → IsIn w new.waiters
+  pub stay : (w : Waiter) → IsIn w s.waiters → IsIn w new.waiters
   pub names : (number : ℕ) (name : Name) → slice_get s.names number ≡ Some name → slice_get new.names number ≡ Some name

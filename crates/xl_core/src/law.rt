@@ -1,6 +1,6 @@
 //! Laws of the core. The functions do nothing; what they ensure holds of every state, and so of what each call of
 //! `Core` leaves.
-ghost use Rattle.std.specs.Prelude.{◌≡◌, ℕ, ◌+◌, Bool, true, false, List, [], ◌∷◌, length, Option, Some, None, IfSome, ◌↔◌};
+ghost use Rattle.std.specs.Prelude.{◌≡◌, ℕ, ◌+◌, Bool, true, false, List, [], ◌∷◌, ◌++◌, length, Option, Some, None, IfSome, ◌↔◌};
 ghost use Rattle.std.specs.List.{AllByRecursion};
 ghost use Rattle.xl_base.specs.Lists.{IsIn};
 ghost use Rattle.xl_base.specs.Stable.{Stable};
@@ -19,7 +19,7 @@ ghost use Rattle.xl_core.specs.State.{CoreState, started, step_begun};
 ghost use Rattle.xl_core.specs.Asking.{asker, asked_claim, known_claim, IsFit};
 ghost use Rattle.xl_core.specs.Blockers.{range_before, least};
 ghost use Rattle.xl_core.specs.Causes.{IsRoom, limits_of_grant, IsLockDue, IsTestDue, IsUnlockDue, IsTurn, IsOwn};
-ghost use Rattle.xl_core.specs.Decide.{ask};
+ghost use Rattle.xl_core.specs.Decide.{waiter_of, ask};
 ghost use Rattle.xl_core.specs.Good.{IsGood, is_blocked, IsSettled};
 ghost use Rattle.xl_core.specs.Settle.{settle, waits_for, cancel, end_party};
 ghost use Rattle.xl_core.specs.declared.ask.Act.{Act};
@@ -56,16 +56,18 @@ pub fn free_asks_are_granted()
 {}
 
 /// An ask changes only what its owner has on its file, and that only where it is granted; no waiter goes, and each name
-/// keeps its number. A test changes nothing.
+/// keeps its number. One that is neither granted nor told to wait changes nothing, nor does a test.
 pub fn nothing_else_changes()
     ensures asks { (n : ℕ) (left : Rooms) (s : CoreState) (a : Ask) → IsGood s → IsFit a → IsOwn s a (ask n left s a).0 (ask n left s a).2 }
     ensures tests { (n : ℕ) (left : Rooms) (s : CoreState) (a : Ask) (extent : Extent) (exclusive : Bool) → a.act ≡ Act.Test extent exclusive → (ask n left s a).2 ≡ s }
 {}
 
-/// There is no turn exactly where each waiter is blocked. A turn is that of the first waiter that nothing held blocks:
+/// An asker that is told to wait stands at the end of the queue, under the number that it is told. There is no turn
+/// exactly where each waiter is blocked. A turn is that of the first waiter that nothing held blocks:
 /// it has what it asked for, or is told the least limit that this would pass, and waits no more; all others wait on,
 /// and have what they had. So turns end, with nobody left whom nothing blocks.
 pub fn nobody_is_forgotten()
+    ensures waits { (n : ℕ) (left : Rooms) (s : CoreState) (a : Ask) (extent : Extent) (exclusive : Bool) (number : ℕ) → a.act ≡ Act.Ranges ((extent, exclusive) ∷ []) → (ask n left s a).0 ≡ Answer.Queued number → (ask n left s a).2.waiters ≡ s.waiters ++ waiter_of number a (asked_claim a extent exclusive s.names) ∷ [] }
     ensures settled { (n : ℕ) (left : Rooms) (s : CoreState) → (settle n left s ≡ None) ↔ IsSettled s }
     ensures turns { (n : ℕ) (left : Rooms) (s : CoreState) → IsGood s → IfSome (settle n left s) (λ r. IsTurn left s r.0 r.1) }
     ensures fewer { (n : ℕ) (left : Rooms) (s : CoreState) → IsGood s → IfSome (settle n left s) (λ r. length r.1.waiters + 1 ≡ length s.waiters) }
