@@ -1,17 +1,14 @@
 -- Each answer of an ask is given exactly where its cause stands.
-use Rattle.std.proofs.Common.{◌≡◌, ℕ, ◌+◌, ◌<◌, ◌≤◌, Bool, true, false, not, if◌then◌else◌, ◌&&◌, ◌||◌, nat_le, leb, max, ◌⊎◌, inl, inr, List, [], ◌∷◌, ◌++◌, length, Option, Some, None, refl, sym, ap, subst, ◌∙◌, ◌↔◌, arith}
-use Rattle.std.specs.List.{AllByRecursion, filter, list_any, slice_get}
+use Rattle.std.proofs.Common.{◌≡◌, ℕ, ◌+◌, ◌≤◌, Bool, true, false, not, if◌then◌else◌, ◌&&◌, nat_le, leb, max, ◌⊎◌, inl, inr, List, [], ◌∷◌, length, Option, Some, None, refl, sym, ap, subst, ◌∙◌, ◌↔◌, arith}
+use Rattle.std.specs.List.{filter, list_any}
 use Rattle.std.proofs.lemmas.Bool.Decides.{nat_tests}
-use Rattle.std.proofs.lemmas.Bool.{cases_Bool, both_ways, and_parts, and_from, and_right, or_parts, or_cases, or_left, or_right, or_from, not-true, not-false, leb-true, le-leb, lt-leb, leb-false}
+use Rattle.std.proofs.lemmas.Bool.{cases_Bool, both_ways, and_from, and_right, or_parts, leb-true, le-leb, lt-leb, leb-false}
 use Rattle.xl_base.specs.Lists.{IsIn}
 use Rattle.xl_base.proofs.Members.{in_filter_from}
-use Rattle.xl_base.specs.declared.name.Owner.{Owner}
-use Rattle.xl_matrix.specs.Owners.{posix}
 use Rattle.xl_matrix.specs.declared.claim.Claim.{Claim}
 use Rattle.xl_matrix.specs.declared.claim.Extent.{Extent}
 use Rattle.xl_matrix.specs.declared.claim.Extent.TheVariants.{Bytes}
-use Rattle.xl_names.specs.Names.{most_names}
-use Rattle.xl_spans.specs.Spans.{within, mode_at, meets, IsCanonical}
+use Rattle.xl_spans.specs.Spans.{within, mode_at, meets}
 use Rattle.xl_spans.specs.declared.span.Span.{Span}
 use Rattle.xl_spans.specs.declared.span.Mode.{Mode}
 use Rattle.xl_spans.proofs.Bytes.{AreRanges}
@@ -19,11 +16,10 @@ use Rattle.xl_spans.proofs.Chains.{canonical_ranges}
 use Rattle.xl_table.specs.Flat.{blocks}
 use Rattle.xl_table.specs.Held.{is_range, spans_of}
 use Rattle.xl_wait.specs.declared.waiter.Rooms.{Rooms}
-use Rattle.xl_wait.specs.declared.waiter.Waiter.{Waiter}
 use Rattle.xl_core.specs.State.{CoreState, with_parts}
 use Rattle.xl_core.specs.Asking.{both_entered, names_fit, asked_claim, known_claim, is_client, IsRealExtent, IsFitAct, IsFit}
 use Rattle.xl_core.specs.Blockers.{least, blockers, test_blockers}
-use Rattle.xl_core.specs.Causes.{IsRoom, IsLeastPassed, limits_of_grant, limits_of_wait, IsLockDue, stands_against, IsTestDue, HasNoByte, HasByte, left_by_unlock, IsUnlockDue}
+use Rattle.xl_core.specs.Causes.{IsRoom, limits_of_grant, limits_of_wait, IsLockDue, stands_against, IsTestDue, HasNoByte, HasByte, left_by_unlock, IsUnlockDue}
 use Rattle.xl_core.specs.Decide.{passed_by_grant, passed_by_wait, decided, decide, granted, waiting, queued, lock_answered, lock_asked, test_answered, tested, unlocked_bytes, unlocked, acted, ask}
 use Rattle.xl_core.specs.Good.{IsRange, IsGood, is_blocked}
 use Rattle.xl_core.specs.Relock.{most_claims, relocked_in, relock_fits, holds_byte, granted_claims, grant_fits}
@@ -33,8 +29,6 @@ use Rattle.xl_core.specs.declared.ask.Answer.{Answer}
 use Rattle.xl_core.specs.declared.ask.Answer.TheVariants as answers
 use Rattle.xl_core.specs.declared.ask.Ask.{Ask}
 use Rattle.xl_core.specs.declared.ask.Effect.{Effect}
-use Rattle.xl_core.specs.declared.decide.Verdict.{Verdict}
-use Rattle.xl_core.specs.declared.decide.Verdict.TheVariants as verdict
 use Rattle.xl_core.proofs.DecideLaws.{least_in, least_none, least_empty, one_passes, blockers_none, none_blockers, blockers_some}
 use Rattle.xl_core.proofs.KnownLaws.{asked_known, known_posix, names_fit_is}
 use Rattle.xl_core.proofs.LimitLaws.{IsFound, grant_found, wait_found, room_found, least_found, found_least, found_room, relock_fits_is, fits_is}
@@ -183,8 +177,7 @@ pub lock_due : (n : ℕ) (left : Rooms) (s : CoreState) (a : Ask) (extent : Exte
 lock_due n left s a extent exclusive answer act client real =
     let claim = asked_claim a extent exclusive s.names in
     let range : IsRange claim = (asked_known a extent exclusive s.names client real).0 in
-    let is = ap first_is (lock_is n left s a extent exclusive act) in
-    (
+    let is = ap first_is (lock_is n left s a extent exclusive act) in (
       λ e. subst (λ (x : Answer). IsLockDue left s a claim x) (sym is ∙ e) (case_due left s a claim (lock_result n left s a claim) client range (lock_case n left s a claim)),
       λ due. is ∙ due_case n left s a claim answer client range due,
     )
@@ -267,8 +260,7 @@ test_is n left s a extent exclusive e = ap (λ (act : Act). acted n left s a act
 pub test_due : (n : ℕ) (left : Rooms) (s : CoreState) (a : Ask) (extent : Extent) (exclusive : Bool) (answer : Answer) → a.act ≡ Test extent exclusive → ((ask n left s a).0 ≡ answer) ↔ IsTestDue s a (known_claim a extent exclusive s.names) answer
 test_due n left s a extent exclusive answer act =
     let claim = known_claim a extent exclusive s.names in
-    let is = ap first_is (test_is n left s a extent exclusive act) in
-    (
+    let is = ap first_is (test_is n left s a extent exclusive act) in (
       λ e. subst (λ (x : Answer). IsTestDue s a claim x) (sym is ∙ e) (test_forth s a claim),
       λ due. is ∙ test_back s a claim answer due,
     )
@@ -292,11 +284,14 @@ met_byte first last (s ∷ ss) ends ranges e =
           let both = common_byte s.first s.last first last ranges.0 ends met in
           (max s.first first, both.0, λ none. let two : some_mode s.mode ≡ None = rw both.1 at none in absurd cc)
       | inr apart ↦
-          let rest = met_byte first last ss ends ranges.1 (rw apart at e) in
-          (rest.0, rest.1, λ none. elim (cases_Bool (within s.first s.last rest.0)) [
-            | inl inside ↦ let two : some_mode s.mode ≡ None = rw inside at none in absurd cc
-            | inr outside ↦ rest.2 (rw outside at none)
-          ])
+          let rest = met_byte first last ss ends ranges.1 (rw apart at e) in (
+            rest.0,
+            rest.1,
+            λ none. elim (cases_Bool (within s.first s.last rest.0)) [
+              | inl inside ↦ let two : some_mode s.mode ≡ None = rw inside at none in absurd cc
+              | inr outside ↦ rest.2 (rw outside at none)
+            ],
+          )
     ]
 
 no_byte : (first last : ℕ) (ss : List Span) → list_any (meets first last) ss ≡ false → (byte : ℕ) → within first last byte ≡ true → mode_at ss byte ≡ None
@@ -393,8 +388,7 @@ unlock_due n left s a first last answer act client ends good =
       ends = ends;
       ranges = canonical_ranges (spans_of claim.file claim.owner s.claims) (good.kept.sound.canonical claim.file claim.owner (known_posix a s.names client));
     } in
-    let same = ap first_is (unlock_is n left s a first last act) in
-    (
+    let same = ap first_is (unlock_is n left s a first last act) in (
       λ e. subst (λ (x : Answer). IsUnlockDue s claim first last x) (sym same ∙ e) (unlock_forth s claim first last (unlocked_bytes s claim first last) is (unlock_case s claim first last)),
       λ due. same ∙ unlock_back s claim first last answer is due,
     )

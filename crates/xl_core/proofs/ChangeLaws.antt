@@ -1,6 +1,5 @@
 -- An ask changes only what its owner has on its file, and only where it is granted.
 use Rattle.std.proofs.Common.{◌≡◌, ℕ, ◌+◌, ◌≤◌, Bool, true, false, List, [], ◌∷◌, ◌++◌, Option, Some, None, refl, sym, ap, subst, ◌∙◌, slice_get}
-use Rattle.xl_base.specs.Lists.{IsIn}
 use Rattle.xl_base.proofs.Members.{in_append_left}
 use Rattle.xl_base.specs.declared.name.Owner.{Owner}
 use Rattle.xl_matrix.specs.Owners.{posix}
@@ -10,16 +9,14 @@ use Rattle.xl_matrix.specs.declared.claim.Extent.TheVariants.{Bytes, Empty}
 use Rattle.xl_matrix.specs.declared.claim.What.{What}
 use Rattle.xl_matrix.specs.declared.claim.What.TheVariants.{Share, Range, Cache}
 use Rattle.xl_spans.specs.Spans.{relocked}
-use Rattle.xl_spans.specs.declared.span.Span.{Span}
 use Rattle.xl_table.specs.Held.{mode_of, spans_of, IsKept}
 use Rattle.xl_wait.specs.declared.waiter.Rooms.{Rooms}
-use Rattle.xl_wait.specs.declared.waiter.Waiter.{Waiter}
-use Rattle.xl_core.specs.State.{CoreState, with_parts}
-use Rattle.xl_core.specs.Asking.{asker, asked_claim, known_claim, is_client, IsFit}
+use Rattle.xl_core.specs.State.{CoreState}
+use Rattle.xl_core.specs.Asking.{asker, asked_claim, known_claim, is_client}
 use Rattle.xl_core.specs.Causes.{IsOwn}
-use Rattle.xl_core.specs.Decide.{granted, waiter_of, ranges_asked, unlocked_bytes, unlocked, acted, ask}
+use Rattle.xl_core.specs.Decide.{waiter_of, ranges_asked, unlocked_bytes, unlocked, acted, ask}
 use Rattle.xl_core.specs.Good.{IsGood}
-use Rattle.xl_core.specs.Relock.{most_claims, relocked_in, holds_byte, granted_by, granted_claims}
+use Rattle.xl_core.specs.Relock.{most_claims, holds_byte, granted_by, granted_claims}
 use Rattle.xl_core.specs.declared.ask.Act.{Act}
 use Rattle.xl_core.specs.declared.ask.Act.TheVariants.{Ranges, Test, Unlock}
 use Rattle.xl_core.specs.declared.ask.Answer.TheVariants as answers

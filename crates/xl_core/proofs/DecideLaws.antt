@@ -1,5 +1,5 @@
 -- What the least of some claims is, what a verdict says, and which limits are passed.
-use Rattle.std.proofs.Common.{◌≡◌, ℕ, ◌≤◌, ◌<◌, Bool, true, false, not, if◌then◌else◌, ltb, nat_lt, ◌==◌, arith, inl, inr, List, [], ◌∷◌, Option, Some, None, refl, sym, ap, subst, ◌∙◌}
+use Rattle.std.proofs.Common.{◌≡◌, ℕ, Bool, true, false, not, if◌then◌else◌, ltb, nat_lt, ◌==◌, arith, inl, inr, List, [], ◌∷◌, Option, Some, None, refl, sym, ap, subst, ◌∙◌}
 use Rattle.std.specs.List.{AllByRecursion, filter, list_any}
 use Rattle.std.specs.declared.cmp.Ordering.{Ordering}
 use Rattle.std.specs.declared.cmp.Ordering.TheVariants.{Less, Equal, Greater}
@@ -17,7 +17,7 @@ use Rattle.xl_table.specs.Flat.{blocks}
 use Rattle.xl_wait.specs.declared.waiter.Rooms.{Rooms}
 use Rattle.xl_wait.specs.declared.waiter.Waiter.{Waiter}
 use Rattle.xl_core.specs.State.{CoreState}
-use Rattle.xl_core.specs.Blockers.{range_key, range_before, lesser, least_from, least, blockers}
+use Rattle.xl_core.specs.Blockers.{range_key, range_before, least_from, least, blockers}
 use Rattle.xl_core.specs.Decide.{most_hosts, most_opens, most_owners, passed_by_grant, decided, decide}
 use Rattle.xl_core.specs.Good.{is_blocked}
 use Rattle.xl_core.specs.Relock.{most_claims, grant_fits}

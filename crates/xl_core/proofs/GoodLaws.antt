@@ -1,9 +1,7 @@
 -- The state stays good: by each ask, each turn, each cancel, and when a party leaves.
-use Rattle.std.proofs.Common.{◌≡◌, ℕ, ◌+◌, ◌≤◌, Bool, true, false, not, if◌then◌else◌, ◌==◌, nat_le, nat_lt, ◌&&◌, ◌⊎◌, inl, inr, List, [], ◌∷◌, ◌++◌, length, Option, Some, None, IfSome, option_map, refl, sym, ap, subst, ◌∙◌, slice_get, arith}
+use Rattle.std.proofs.Common.{◌≡◌, ℕ, ◌+◌, ◌≤◌, Bool, true, false, not, if◌then◌else◌, ◌==◌, nat_le, nat_lt, ◌⊎◌, inl, inr, List, [], ◌∷◌, ◌++◌, length, Option, Some, None, IfSome, option_map, refl, sym, subst, ◌∙◌, slice_get, arith}
 use Rattle.std.specs.List.{AllByRecursion, filter, list_any}
-use Rattle.std.proofs.lemmas.Bool.{cases_Bool, both_ways, leb-true, ne_eqb, not-true, not-false, not_from_false, or_left}
-use Rattle.std.proofs.lemmas.List.{length-append}
-use Rattle.std.proofs.lemmas.List.Folds.{list_any-append}
+use Rattle.std.proofs.lemmas.Bool.{cases_Bool, both_ways, ne_eqb, not_from_false}
 use Rattle.xl_base.specs.Lists.{IsIn, Pairwise}
 use Rattle.xl_base.proofs.Members.{all_in, all_from, all_append, in_filter_from, pairwise_append, pairwise_filter}
 use Rattle.xl_base.specs.Stable.{Stable}
@@ -15,20 +13,19 @@ use Rattle.xl_matrix.specs.Matrix.{compat}
 use Rattle.xl_matrix.specs.declared.claim.Claim.{Claim}
 use Rattle.xl_matrix.specs.declared.claim.Extent.{Extent}
 use Rattle.xl_matrix.specs.declared.claim.Extent.TheVariants.{Bytes, Empty}
-use Rattle.xl_names.specs.Names.{is_kept, same_name, entered, AreDistinct, most_names}
+use Rattle.xl_names.specs.Names.{AreDistinct, most_names}
 use Rattle.xl_names.specs.declared.name.Name.{Name}
 use Rattle.xl_spans.specs.Spans.{meets}
 use Rattle.xl_spans.specs.declared.span.Span.{Span}
-use Rattle.xl_table.specs.Held.{is_of, is_range, spans_of, has_one_party, IsKept}
+use Rattle.xl_table.specs.Held.{is_of, spans_of, has_one_party}
 use Rattle.xl_table.proofs.KeptLaws.{kept_empty}
 use Rattle.xl_wait.specs.Waiting.{cancelled}
 use Rattle.xl_wait.specs.declared.waiter.Rooms.{Rooms}
 use Rattle.xl_wait.specs.declared.waiter.Waiter.{Waiter}
 use Rattle.xl_core.specs.State.{CoreState, started, step_begun, with_parts}
-use Rattle.xl_core.specs.Asking.{who_entered, asker, both_entered, coming, names_fit, asked_claim, known_claim, is_client, IsRealExtent, IsFitAct, IsFit}
-use Rattle.xl_core.specs.Blockers.{least, blockers}
+use Rattle.xl_core.specs.Asking.{both_entered, names_fit, asked_claim, known_claim, is_client, IsRealExtent, IsFitAct, IsFit}
 use Rattle.xl_core.specs.Decide.{most_hosts, most_waiters, passed_by_grant, passed_by_wait, decide, waiter_of, waiting, queued, lock_answered, lock_asked, ranges_asked, unlocked_bytes, unlocked, acted, ask}
-use Rattle.xl_core.specs.Good.{IsRange, are_kept, IsKnown, is_single, are_apart, IsWaiter, IsGood, is_blocked}
+use Rattle.xl_core.specs.Good.{are_kept, IsKnown, are_apart, IsWaiter, IsGood, is_blocked}
 use Rattle.xl_core.specs.Relock.{relocked_in, relock_fits, holds_byte, granted_claims, grant_fits}
 use Rattle.xl_core.specs.Settle.{turn_with, turn_by, turn_of, first_some, first_turn, served_by, served, settle, waits_for, cancel, end_party}
 use Rattle.xl_core.specs.declared.ask.Act.{Act}
@@ -37,8 +34,6 @@ use Rattle.xl_core.specs.declared.ask.Answer.{Answer}
 use Rattle.xl_core.specs.declared.ask.Answer.TheVariants.{NoGrace}
 use Rattle.xl_core.specs.declared.ask.Ask.{Ask}
 use Rattle.xl_core.specs.declared.ask.Effect.{Effect}
-use Rattle.xl_core.specs.declared.ask.Who.{Who}
-use Rattle.xl_core.specs.declared.ask.Who.TheVariants.{Named, Open}
 use Rattle.xl_core.specs.declared.decide.Verdict.{Verdict}
 use Rattle.xl_core.specs.declared.decide.Verdict.TheVariants as verdict
 use Rattle.xl_core.specs.declared.settling.Turn.{Turn}
@@ -251,7 +246,7 @@ pub turn_of_is : (n : ℕ) (left : Rooms) (s : CoreState) (earlier : List Waiter
 unfolding turn_of
 turn_of_is n left s earlier w turn is = turn_by_is n left s earlier w (slice_get w.asked 0) turn refl is
 
-first_some_cases : (a b : Option Turn) (turn : Turn) → first_some a b ≡ Some turn → (a ≡ Some turn) ⊎ ((a ≡ None) × (b ≡ Some turn))
+pub first_some_cases : (a b : Option Turn) (turn : Turn) → first_some a b ≡ Some turn → (a ≡ Some turn) ⊎ ((a ≡ None) × (b ≡ Some turn))
 first_some_cases (Some t) b turn e = inl e
 first_some_cases None b turn e = inr (refl, e)
 
@@ -306,7 +301,7 @@ pub served_good : (left : Rooms) (s : CoreState) (w : Waiter) (turn : Turn) → 
 unfolding served
 served_good left s w turn good h is = served_by_good left s w turn turn.full good h is refl
 
-mapped : (f : Turn → List Effect × CoreState) (P : List Effect × CoreState → Type 0) (o : Option Turn) → ((turn : Turn) → o ≡ Some turn → P (f turn)) → IfSome (option_map f o) P
+pub mapped : (f : Turn → List Effect × CoreState) (P : List Effect × CoreState → Type 0) (o : Option Turn) → ((turn : Turn) → o ≡ Some turn → P (f turn)) → IfSome (option_map f o) P
 mapped f P None each = tt
 mapped f P (Some turn) each = each turn refl
 

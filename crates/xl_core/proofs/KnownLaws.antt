@@ -1,5 +1,5 @@
 -- Names that are kept: claims of known clients stay known, an owner has one client, and who asks is known.
-use Rattle.std.proofs.Common.{◌≡◌, ℕ, zero, suc, ◌+◌, ◌≤◌, Bool, true, false, not, if◌then◌else◌, nat_le, ◌&&◌, ◌||◌, List, [], ◌∷◌, ◌++◌, length, Option, Some, None, inl, inr, refl, sym, ap, subst, ◌∙◌, slice_get, arith}
+use Rattle.std.proofs.Common.{◌≡◌, ℕ, zero, suc, ◌+◌, ◌≤◌, Bool, true, false, if◌then◌else◌, nat_le, ◌&&◌, ◌||◌, List, [], ◌∷◌, ◌++◌, length, Option, Some, None, inl, inr, refl, sym, ap, ◌∙◌, slice_get, arith}
 use Rattle.std.specs.List.{AllByRecursion}
 use Rattle.std.proofs.lemmas.Bool.{cases_Bool, both_ways, and_parts, and_from, or_left, leb-true}
 use Rattle.std.proofs.lemmas.List.{length-append}
@@ -21,10 +21,10 @@ use Rattle.xl_matrix.specs.declared.claim.What.TheVariants.{Range}
 use Rattle.xl_names.specs.Names.{protocol_of, same_name, number_of, place_of, is_kept, entered, AreDistinct, most_names}
 use Rattle.xl_names.specs.declared.name.Name.{Name}
 use Rattle.xl_names.specs.declared.name.Name.TheVariants.{NlmRange, NlmShare, NlmParty, NfsRange, NfsShare, NfsParty, SmbLease}
-use Rattle.xl_names.proofs.NameLaws.{same_name_is, same_name_self, kept_from_number, number_at, name_at, number_stays, number_entered, distinct_entered}
+use Rattle.xl_names.proofs.NameLaws.{same_name_is, same_name_self, kept_from_number, number_at, name_at, number_entered, distinct_entered}
 use Rattle.xl_wait.specs.declared.waiter.Waiter.{Waiter}
-use Rattle.xl_core.specs.Asking.{owner_in, party_in, who_entered, asker, asking_party, both_entered, coming, names_fit, asked_claim, no_number, number_or, known_owner, known_party, known_claim, client_of, is_name, is_client, IsRealExtent}
-use Rattle.xl_core.specs.Good.{IsRangeBy, IsRange, agree, are_kept, IsKnown, IsWaiter}
+use Rattle.xl_core.specs.Asking.{owner_in, party_in, who_entered, asker, asking_party, both_entered, coming, names_fit, asked_claim, no_number, number_or, known_owner, known_party, client_of, is_name, is_client, IsRealExtent}
+use Rattle.xl_core.specs.Good.{IsRangeBy, agree, are_kept, IsKnown, IsWaiter}
 use Rattle.xl_core.specs.declared.ask.Ask.{Ask}
 use Rattle.xl_core.specs.declared.ask.Who.{Who}
 use Rattle.xl_core.specs.declared.ask.Who.TheVariants.{Named, Open}
@@ -296,8 +296,13 @@ coming_later (Named name) (Named other) names =
 
 pub both_few : (a : Ask) (names : List Name) → names_fit a names ≡ true → length (both_entered a names) ≤ most_names
 both_few a names h =
-    omega (arith, length_who a.party (who_entered a.owner names), length_who a.owner names, coming_later a.party a.owner names,
-    leb-true (length names + (coming a.owner names + coming a.party names)) most_names h)
+    omega (
+      arith,
+      length_who a.party (who_entered a.owner names),
+      length_who a.owner names,
+      coming_later a.party a.owner names,
+      leb-true (length names + (coming a.owner names + coming a.party names)) most_names h,
+    )
 
 -- an owner's name is not its client's
 client_differs : (name client : Name) → client_of name ≡ Some client → same_name client name ≡ false

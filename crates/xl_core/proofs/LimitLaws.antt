@@ -1,31 +1,23 @@
 -- The limit that is told is the least that is passed.
-use Rattle.std.proofs.Common.{◌≡◌, ℕ, ◌+◌, ◌≤◌, Bool, true, false, not, if◌then◌else◌, ◌&&◌, ◌||◌, eqb, ltb, leb, inl, inr, List, [], ◌∷◌, length, Option, Some, None, refl, sym, ap, subst, ◌∙◌, arith}
+use Rattle.std.proofs.Common.{◌≡◌, ℕ, ◌+◌, ◌≤◌, Bool, true, false, not, if◌then◌else◌, ◌&&◌, inl, inr, List, [], ◌∷◌, length, Option, Some, None, refl, sym, ap, subst, ◌∙◌, arith}
 use Rattle.std.specs.Prelude.{nat_lt, nat_le, ◌==◌}
-use Rattle.std.specs.List.{AllByRecursion, list_any}
-use Rattle.std.proofs.lemmas.Bool.{cases_Bool, both_ways, and_parts, and_right, or_cases, or_left, or_right, eqb-true, eq-eqb, leb-true}
+use Rattle.std.specs.List.{AllByRecursion}
+use Rattle.std.proofs.lemmas.Bool.{cases_Bool, both_ways, and_parts, and_right, or_cases, or_left, eqb-true, eq-eqb}
 use Rattle.std.proofs.lemmas.Bool.Decides.{nat_tests}
-use Rattle.std.proofs.lemmas.List.Folds.{list_any-append}
 use Rattle.xl_matrix.specs.declared.claim.Claim.{Claim}
 use Rattle.xl_matrix.specs.declared.claim.Extent.TheVariants.{Bytes, Empty}
 use Rattle.xl_matrix.specs.declared.claim.What.{What}
 use Rattle.xl_matrix.specs.declared.claim.What.TheVariants.{Share, Range, Cache}
-use Rattle.xl_names.specs.Names.{same_name, is_kept, entered, most_names}
-use Rattle.xl_names.specs.declared.name.Name.{Name}
-use Rattle.xl_names.specs.declared.name.Name.TheVariants.{NlmRange, NlmShare, NlmParty, NfsRange, NfsShare, NfsParty, SmbLease}
+use Rattle.xl_names.specs.Names.{most_names}
 use Rattle.xl_spans.specs.declared.span.Mode.{Mode}
 use Rattle.xl_table.specs.Held.{mode_of}
 use Rattle.xl_base.specs.declared.name.Owner.{Owner}
 use Rattle.xl_base.specs.declared.name.Party.{Party}
 use Rattle.xl_wait.specs.declared.waiter.Rooms.{Rooms}
-use Rattle.xl_core.specs.State.{CoreState}
-use Rattle.xl_core.specs.Asking.{who_entered, both_entered, coming, names_fit, client_of, is_client}
-use Rattle.xl_core.specs.Causes.{grant_limits, wait_limits, is_passed, IsRoom, IsLeastPassed, limits_of_grant, limits_of_wait}
+use Rattle.xl_core.specs.Causes.{grant_limits, wait_limits, is_passed, IsRoom, IsLeastPassed}
 use Rattle.xl_core.specs.Decide.{most_hosts, most_waiters, most_opens, most_owners, passed_by_grant, passed_by_wait}
 use Rattle.xl_core.specs.Good.{IsRangeBy, IsRange}
 use Rattle.xl_core.specs.Relock.{most_claims, touched, untouched, fresh, relocked_in, relock_fits, granted_by, granted_claims, grant_fits_by, grant_fits}
-use Rattle.xl_core.specs.declared.ask.Ask.{Ask}
-use Rattle.xl_core.specs.declared.ask.Who.{Who}
-use Rattle.xl_core.specs.declared.ask.Who.TheVariants.{Named, Open}
 use Rattle.xl_core.proofs.WriteBack.{length_left, length_relocked}
 
 -- ---- the least of rising limits
@@ -63,9 +55,10 @@ found_first [] rising = λ n. refl
 found_first (limit ∷ limits) rising =
     elim (cases_Bool limit.1) [
       | inl on ↦
-          subst (λ (o : Option ℕ). IsFound (limit ∷ limits) o) (ap (λ (b : Bool). if b then Some limit.0 else first_passed limits) (sym on))
-          (or_left ((limit.0 == limit.0) && limit.1) (is_passed limits limit.0) (ap (λ (b : Bool). b && limit.1) (eq-eqb limit.0 limit.0 refl) ∙ on),
-          λ n e. passed_above limit.0 n (limit ∷ limits) (omega arith, rising.0) e)
+          subst (λ (o : Option ℕ). IsFound (limit ∷ limits) o) (ap (λ (b : Bool). if b then Some limit.0 else first_passed limits) (sym on)) (
+            or_left ((limit.0 == limit.0) && limit.1) (is_passed limits limit.0) (ap (λ (b : Bool). b && limit.1) (eq-eqb limit.0 limit.0 refl) ∙ on),
+            λ n e. passed_above limit.0 n (limit ∷ limits) (omega arith, rising.0) e,
+          )
       | inr off ↦
           subst (λ (o : Option ℕ). IsFound (limit ∷ limits) o) (ap (λ (b : Bool). if b then Some limit.0 else first_passed limits) (sym off))
           (found_later limit limits (first_passed limits) off (found_first limits rising.1))

@@ -1,7 +1,7 @@
 -- A turn is the first waiter's that nothing held blocks, nobody else's, and comes while there is one.
-use Rattle.std.proofs.Common.{◌≡◌, ℕ, ◌+◌, Bool, true, false, not, ◌==◌, nat_le, inl, inr, ◌⊎◌, List, [], ◌∷◌, ◌++◌, length, Option, Some, None, IfSome, option_map, refl, sym, ap, subst, ◌∙◌, ◌↔◌, slice_get, arith}
-use Rattle.std.specs.List.{AllByRecursion, filter}
-use Rattle.std.proofs.lemmas.Bool.{cases_Bool, both_ways, le-leb, eq-eqb, not-true, not_from_false}
+use Rattle.std.proofs.Common.{◌≡◌, ℕ, ◌+◌, Bool, true, false, not, ◌==◌, nat_le, inl, inr, List, [], ◌∷◌, ◌++◌, length, Option, Some, None, IfSome, option_map, refl, sym, ap, subst, ◌∙◌, ◌↔◌, slice_get, arith}
+use Rattle.std.specs.List.{AllByRecursion}
+use Rattle.std.proofs.lemmas.Bool.{both_ways, le-leb, eq-eqb, not-true, not_from_false}
 use Rattle.std.proofs.lemmas.List.{length-append}
 use Rattle.xl_base.specs.Lists.{IsIn, Pairwise}
 use Rattle.xl_base.proofs.Members.{all_in, in_filter, in_filter_from, in_append_right}
@@ -13,14 +13,13 @@ use Rattle.xl_table.specs.Flat.{blocks}
 use Rattle.xl_wait.specs.Waiting.{cancelled}
 use Rattle.xl_wait.specs.declared.waiter.Rooms.{Rooms}
 use Rattle.xl_wait.specs.declared.waiter.Waiter.{Waiter}
-use Rattle.xl_core.specs.State.{CoreState, with_parts}
+use Rattle.xl_core.specs.State.{CoreState}
 use Rattle.xl_core.specs.Blockers.{least, blockers}
-use Rattle.xl_core.specs.Causes.{grant_limits, IsTurnDue, IsBlockedWaiter, IsTurn}
-use Rattle.xl_core.specs.Decide.{passed_by_grant, decided, decide}
+use Rattle.xl_core.specs.Causes.{grant_limits, IsBlockedWaiter, IsTurn}
+use Rattle.xl_core.specs.Decide.{passed_by_grant, decide}
 use Rattle.xl_core.specs.Good.{are_apart, IsGood, is_blocked, is_still_blocked, IsSettled}
 use Rattle.xl_core.specs.Relock.{most_claims, granted_claims, grant_fits}
 use Rattle.xl_core.specs.Settle.{turn_with, turn_by, turn_of, first_some, first_turn, served_by, served, settle, waits_for, cancel, end_party}
-use Rattle.xl_core.specs.declared.ask.Answer.{Answer}
 use Rattle.xl_core.specs.declared.ask.Answer.TheVariants.{Granted, Full}
 use Rattle.xl_core.specs.declared.ask.Effect.{Effect}
 use Rattle.xl_core.specs.declared.ask.Effect.TheVariants.{Served}
@@ -29,7 +28,7 @@ use Rattle.xl_core.specs.declared.decide.Verdict.TheVariants as verdict
 use Rattle.xl_core.specs.declared.settling.Turn.{Turn}
 use Rattle.xl_core.proofs.ChangeLaws.{granted_apart}
 use Rattle.xl_core.proofs.DecideLaws.{decide_is, decide_by, blockers_some, blockers_none, one_passes}
-use Rattle.xl_core.proofs.GoodLaws.{IsTurnOf, turn_of_is, waiter_known}
+use Rattle.xl_core.proofs.GoodLaws.{IsTurnOf, turn_of_is, first_some_cases, mapped, waiter_known}
 use Rattle.xl_core.proofs.LimitLaws.{IsFound, grant_found, fits_is}
 
 -- ---- a waiter without a turn is blocked
@@ -93,10 +92,6 @@ settled_is n left s = (
 
 -- ---- the first that has a turn
 
-some_cases : (a b : Option Turn) (turn : Turn) → first_some a b ≡ Some turn → (a ≡ Some turn) ⊎ ((a ≡ None) × (b ≡ Some turn))
-some_cases (Some t) b turn e = inl e
-some_cases None b turn e = inr (refl, e)
-
 -- who stands where in the queue
 record IsFirst (left : Rooms) (s : CoreState) (ws : List Waiter) (turn : Turn) : Type 0 where
   before : List Waiter
@@ -109,7 +104,7 @@ record IsFirst (left : Rooms) (s : CoreState) (ws : List Waiter) (turn : Turn) :
 first_is : (n : ℕ) (left : Rooms) (s : CoreState) (earlier ws : List Waiter) (turn : Turn) → first_turn n left s earlier ws ≡ Some turn → IsFirst left s ws turn
 first_is n left s earlier [] turn e = absurd cc
 first_is n left s earlier (w ∷ ws) turn e =
-    elim (some_cases (turn_of n left s earlier w) (first_turn n left s (earlier ++ w ∷ []) ws) turn e) [
+    elim (first_some_cases (turn_of n left s earlier w) (first_turn n left s (earlier ++ w ∷ []) ws) turn e) [
       | inl own ↦ record { before = []; waiter = w; behind = ws; stood = refl; blocked = tt; is = turn_of_is n left s earlier w turn own }
       | inr later ↦
           let rest = first_is n left s (earlier ++ w ∷ []) ws turn later.1 in
@@ -188,10 +183,6 @@ served_turn left s turn None good first e = record {
 served_is : (left : Rooms) (s : CoreState) (turn : Turn) → IsGood s → IsFirst left s s.waiters turn → IsTurn left s (served s turn).0 (served s turn).1
 unfolding served
 served_is left s turn good first = served_turn left s turn turn.full good first refl
-
-mapped : (f : Turn → List Effect × CoreState) (P : List Effect × CoreState → Type 0) (o : Option Turn) → ((turn : Turn) → o ≡ Some turn → P (f turn)) → IfSome (option_map f o) P
-mapped f P None each = tt
-mapped f P (Some turn) each = each turn refl
 
 pub turn_is : (n : ℕ) (left : Rooms) (s : CoreState) → IsGood s → IfSome (settle n left s) (λ r. IsTurn left s r.0 r.1)
 unfolding settle

@@ -1,4 +1,3 @@
-use Rattle.std.proofs.Common.{refl}
 use Rattle.xl_core.proofs.CauseLaws.{lock_free, real_extent, real_unlock}
 use Rattle.xl_core.proofs.ChangeLaws.{ask_held, ask_left}
 use Rattle.xl_core.proofs.law.free_asks_are_granted.Goals as goal
