@@ -91,12 +91,7 @@ pub fn put_open(text: &mut String, number: u32) -> Result<(), AllocError>
 }
 
 /// Adds the text of the name of this number, where it is kept.
-fn put_kept(
-    alloc: Global,
-    text: &mut String,
-    names: &Names,
-    number: u32,
-) -> Result<(), AllocError>
+fn put_kept(alloc: Global, text: &mut String, names: &Names, number: u32) -> Result<(), AllocError>
     ensures { OnOk result (string_bytes text.new ≡ string_bytes text.old ++ text_at (slice_get names.now number)) }
 {
     if let Some(name) = names.as_slice().get(number as usize) {
