@@ -3,9 +3,9 @@ use Rattle.std.proofs.Common.{◌≡◌, ℕ, ◌<◌, List, [], length, take, R
 use Rattle.xl_base.specs.declared.journal.Entry.{Entry}
 use Rattle.xl_base.specs.declared.journal.Head.{Head}
 use Rattle.xl_base.specs.declared.journal.Journal.{Journal}
-use Rattle.xl_top.specs.Job.{head_of, journal_of, no_journal, BeginsAs, IsReplayed, IsBegun, IsCutAt}
-use Rattle.xl_top.specs.House.{entries_of, most_entries}
-use Rattle.xl_top.specs.Machine.{begin}
+use Rattle.xl_top.specs.Job.{transcript_from, whole_transcript, head_of, journal_of, no_journal, BeginsAs, IsReplayed, IsBegun, IsCutAt}
+use Rattle.xl_house.specs.Journals.{entries_of, most_entries}
+use Rattle.xl_house.specs.Machine.{begin}
 use Rattle.xl_top.specs.declared.capture.Capture.{Capture}
 
 abbrev journal_with : Head → List Entry → Journal
@@ -13,6 +13,9 @@ journal_with head entries = record { head = head; entries = entries }
 
 pub same_journal : (c : Capture) (journal : Journal) → journal.head ≡ head_of c → journal.entries ≡ entries_of (begin (head_of c)) c.events → journal ≡ journal_of c
 same_journal c journal head entries = ap (λ (h : Head). journal_with h journal.entries) head ∙ ap (journal_with (head_of c)) entries
+
+pub same_transcript : (journal : Journal) (head : Head) (es : List Entry) → journal.head ≡ head → journal.entries ≡ es → transcript_from head es ≡ whole_transcript journal
+same_transcript journal head es h e = ap (λ (x : Head). transcript_from x es) (sym h) ∙ ap (λ (x : List Entry). transcript_from journal.head x) (sym e)
 
 pub begins : (c : Capture) (journal : Journal) → journal.head ≡ head_of c → take (length journal.entries) (entries_of (begin (head_of c)) c.events) ≡ journal.entries → BeginsAs c journal
 begins c journal head entries = record { entries = entries; head = λ some. head }

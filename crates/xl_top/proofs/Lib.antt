@@ -1,13 +1,6 @@
-pub mod ClaimLaws
-pub mod HouseLaws
 pub mod JobLaws
-pub mod LawfulLaws
 pub mod LineLaws
-pub mod NameLaws
-pub mod OrderLaws
+pub mod PlainLaws
 pub mod ReadLaws
-pub mod ReplyLaws
-pub mod ServeLaws
 pub mod SortLaws
-pub mod StandLaws
 pub mod WriteLaws

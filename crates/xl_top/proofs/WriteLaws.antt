@@ -21,3 +21,7 @@ began_all None new bytes added = tt
 began_all (Some held) None bytes added = absurd added
 began_all (Some held) (Some now) bytes added =
     subst (λ (n : List ℕ). IsPrefix held n × IsPrefix n (held ++ bytes)) (sym added) (prefix_append held bytes, prefix_self (held ++ bytes))
+
+-- what began as one text began as an equal one
+pub began_as : (old new : Option (List ℕ)) (a b : List ℕ) → a ≡ b → Began old a new → Began old b new
+began_as old new a b e began = subst (λ (t : List ℕ). Began old t new) e began

@@ -7,7 +7,7 @@ use Rattle.hex.specs.Hex.{decode_of}
 use Rattle.xl_base.specs.declared.event.Event.{Event}
 use Rattle.xl_base.specs.declared.event.Event.TheVariants.{Open, Message}
 use Rattle.xl_base.specs.declared.event.Kind.TheVariants.{Rpc}
-use Rattle.xl_top.specs.Frame.{record_of}
+use Rattle.xl_frame.specs.Frames.{record_of}
 use Rattle.xl_top.specs.declared.capture.Capture.{Capture}
 use Rattle.xl_top.specs.declared.capture.CaptureError.{CaptureError}
 use Rattle.xl_top.specs.declared.capture.CaptureError.TheVariants as errors

@@ -1,11 +1,17 @@
 -- What the program's words ask for, and what its ending says.
-use Rattle.std.specs.Prelude.{◌≡◌, ℕ, ◌+◌, ◌<◌, Bool, ◌==◌, ◌||◌, if◌then◌else◌, List, [], ◌∷◌, length, take, codes, bytes_eq, Option, Some, None, Result, Ok, Err, IfSome}
+use Rattle.std.specs.Prelude.{◌≡◌, ℕ, ◌+◌, ◌<◌, Bool, true, false, ◌==◌, ◌||◌, if◌then◌else◌, List, [], ◌∷◌, length, take, codes, bytes_eq, Option, Some, None, Result, Ok, Err, IfSome}
+use Rattle.std.specs.List.{AllByRecursion}
+use Rattle.xl_base.specs.declared.event.Event.{Event}
+use Rattle.xl_base.specs.declared.halt.Halt.{Halt}
+use Rattle.xl_base.specs.declared.halt.Halt.TheVariants as halts
+use Rattle.xl_base.specs.declared.journal.Entry.{Entry}
+use Rattle.xl_base.specs.declared.journal.Exports.{Exports}
 use Rattle.xl_base.specs.declared.journal.Head.{Head}
 use Rattle.xl_base.specs.declared.journal.Journal.{Journal}
 use Rattle.xl_top.specs.Capture.{most_bytes, no_lines, captured}
-use Rattle.xl_top.specs.House.{entries_of, replay}
+use Rattle.xl_house.specs.Journals.{entries_of, replay, is_restart}
 use Rattle.xl_top.specs.Transcript.{transcript}
-use Rattle.xl_top.specs.Machine.{begin}
+use Rattle.xl_house.specs.Machine.{Whole, begin}
 use Rattle.xl_top.specs.declared.capture.Capture.{Capture}
 use Rattle.xl_top.specs.declared.top.Job.{Job}
 use Rattle.xl_top.specs.declared.top.Job.TheVariants.{Replay}
@@ -35,10 +41,14 @@ is_idle n = n == 1 || n == 2 || n == 4
 abbrev pub capped : List ℕ → List ℕ
 capped input = take (most_bytes + 1) input
 
--- what a run begins from: these files, the default times in milliseconds, and the empty record
+-- these files, with the default times in milliseconds
+abbrev pub exports_with : List (List ℕ) → Exports
+exports_with files = record { files = files; addresses = []; lease = 90000; grace = 90000; break_time = 35000 }
+
+-- what a run begins from: these files, and the empty record
 abbrev pub head_with : List (List ℕ) → Head
 head_with files = record {
-  exports = record { files = files; addresses = []; lease = 90000; grace = 90000; break_time = 35000 };
+  exports = exports_with files;
   start = record { 0 = 0 };
   «record» = record { epoch = 0; names = [] };
 }
@@ -74,6 +84,23 @@ abbrev pub IsCutAt : ℕ → Result Capture ℕ → Journal → Type 0
 IsCutAt most (Ok c) journal = (length journal.entries ≡ most) × (most < length c.events) × BeginsAs c journal
 IsCutAt most (Err line) journal = ⊥
 
+-- the transcript of entries, and of what is held in the state that they lead to
+abbrev pub transcript_with : List Entry → Whole → List ℕ
+transcript_with es s = transcript es s.core.claims s.core.names
+
+abbrev pub transcript_from : Head → List Entry → List ℕ
+transcript_from head es = transcript_with es (replay (begin head) es)
+
 -- the transcript of a whole journal: its outs, and what is held after it
 abbrev pub whole_transcript : Journal → List ℕ
-whole_transcript journal = transcript journal.entries (replay (begin journal.head) journal.entries).held
+whole_transcript journal = transcript_from journal.head journal.entries
+
+-- no event of these starts the server again
+abbrev pub AreSteps : List Event → Type 0
+AreSteps events = AllByRecursion (λ e. is_restart e ≡ false) events
+
+-- a run of steps that ended with a state that counts: all were made, or the journal is full
+abbrev pub is_whole : Result (Unit {0}) Halt → Bool
+is_whole (Ok _) = true
+is_whole (Err (halts.JournalFull count)) = true
+is_whole (Err _) = false

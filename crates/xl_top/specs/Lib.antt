@@ -1,11 +1,3 @@
-pub mod Aims
 pub mod Capture
-pub mod Claims
-pub mod Frame
-pub mod FrontNlm
-pub mod House
 pub mod Job
-pub mod Lawful
-pub mod Machine
-pub mod Short
 pub mod Transcript

@@ -15,7 +15,6 @@ use Rattle.xl_matrix.specs.declared.claim.Extent.TheVariants.{Bytes}
 use Rattle.xl_matrix.specs.declared.claim.What.{What}
 use Rattle.xl_matrix.specs.declared.claim.What.TheVariants.{Range}
 use Rattle.xl_names.specs.declared.name.Name.{Name}
-use Rattle.xl_top.specs.Claims.{Held}
 use Rattle.xl_names.specs.Texts.{hex_word, owner_text}
 use Rattle.xl_top.specs.declared.transcript.Row.{Row}
 
@@ -67,9 +66,9 @@ row_lines [] = []
 row_lines (r ∷ rs) = row_line r ++ row_lines rs
 
 -- the lines of what is held, in their order
-unfoldable pub claim_lines : Held → List ℕ
-claim_lines held = row_lines (sorted row_before (map (row_of held.names) held.claims))
+unfoldable pub claim_lines : List Claim → List Name → List ℕ
+claim_lines claims names = row_lines (sorted row_before (map (row_of names) claims))
 
--- the transcript of a journal: its outs, and what is held after it
-abbrev pub transcript : List Entry → Held → List ℕ
-transcript es held = entry_lines 0 es ++ claim_lines held
+-- the transcript of a journal: its outs, and the claims that are held after it, with the names of their owners
+abbrev pub transcript : List Entry → List Claim → List Name → List ℕ
+transcript es claims names = entry_lines 0 es ++ claim_lines claims names

@@ -5,10 +5,10 @@ ghost use Rattle.xl_base.specs.Results.{GivesUnless};
 ghost use Rattle.xl_top.specs.declared.capture.CaptureError.TheVariants.{NoMemory as capture_no_memory};
 ghost use Rattle.xl_top.specs.declared.capture.LineError.TheVariants.{NoMemory as line_no_memory};
 
-use crate::frame;
 use hex::FromHexError;
 use std::alloc::{AllocError, AllocFailed, Global};
 use xl_base::{Event, Kind, Sequence};
+use xl_frame::record_of;
 
 /// The most bytes of a capture.
 pub const MOST_BYTES: usize = 268435456;
@@ -172,7 +172,7 @@ fn add_bytes(alloc: Global, capture: &mut Capture, hex: &[u8]) -> Result<(), Lin
         return Err(LineError::Bad);
     }
     let bytes = bytes_of(alloc, hex)?;
-    let Some(message) = frame::record_of(&bytes) else {
+    let Some(message) = record_of(&bytes) else {
         return Err(LineError::Bad);
     };
     let message = Sequence::from_slice(alloc, message)?;

@@ -2,12 +2,7 @@
 #![tactic(auto)]
 
 mod capture;
-mod claims;
-mod frame;
-mod front_nlm;
-mod house;
-mod machine;
-mod texts;
+mod keeper;
 mod top;
 mod transcript;
 

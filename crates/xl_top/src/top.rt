@@ -3,22 +3,23 @@ ghost use Rattle.std.specs.Prelude.{◌≡◌, ◌≢◌, ℕ, ◌+◌, ◌<◌,
 ghost use Rattle.std.specs.Result.{result_ok};
 ghost use Rattle.xl_base.specs.Outside.{Rose, Took, Ended, Added, Began};
 ghost use Rattle.xl_top.specs.Capture.{captured, most_bytes};
-ghost use Rattle.xl_top.specs.Lawful.{AlwaysLawful, AlwaysComplete};
-ghost use Rattle.xl_top.specs.House.{Housed, AlwaysHeld, IsHeldBy, is_spoiled, replay, IsLegal, IsOrderly, entries_of, most_entries};
-ghost use Rattle.xl_top.specs.Machine.{begin};
-ghost use Rattle.xl_top.specs.Job.{job, is_status, is_stepped, is_read, is_idle, capped, head_with, head_of, journal_of, no_journal, IsReplayed, IsBegun, BeginsAs, IsCutAt, whole_transcript};
-ghost use Rattle.xl_top.specs.Claims.{held_of};
+ghost use Rattle.xl_house.specs.Lawful.{AlwaysLawful, AlwaysComplete};
+ghost use Rattle.xl_house.specs.Free.{AlwaysFree};
+ghost use Rattle.xl_house.specs.Housed.{Housed, is_spoiled};
+ghost use Rattle.xl_house.specs.Journals.{replay, IsLegal, IsOrderly, entries_of, most_entries};
+ghost use Rattle.xl_house.specs.Machine.{begin};
+ghost use Rattle.xl_top.specs.Job.{job, is_status, is_stepped, is_read, is_idle, capped, exports_with, head_with, head_of, journal_of, no_journal, IsReplayed, IsBegun, BeginsAs, IsCutAt, AreSteps, is_whole, transcript_from, whole_transcript};
 ghost use Rattle.xl_top.specs.Transcript.{transcript};
 
 use crate::capture::{Capture, CaptureError, MOST_BYTES, read_capture};
-use crate::claims::Claims;
-use crate::house::House;
+use crate::keeper::SureKeeper;
 use crate::transcript::transcript;
 use std::alloc::{AllocError, AllocFailed, Global};
 use xl_base::{
-    Entry, Event, Exports, Halt, Head, Journal, Moment, ReadOutcome, Record, Sequence, Sink,
-    Source, WriteOutcome,
+    Event, Exports, Halt, Head, Journal, Moment, ReadOutcome, Record, Sequence, Sink, Source,
+    WriteOutcome,
 };
+use xl_house::House;
 
 /// What the program's words ask for.
 #[derive(Clone, Copy, Debug, PartialEq, Eq)]
@@ -117,15 +118,21 @@ fn read_all<I: Source>(alloc: Global, input: &mut I) -> Result<Vec<u8>, Unread>
 }
 
 /// Steps the events in order. An error leaves the house halted, with a beginning of their entries.
-#[tactic(auto, using(crate::proofs::HouseLaws::stepped, crate::proofs::HouseLaws::front, crate::proofs::HouseLaws::some_left))]
-fn step_all(alloc: Global, house: &mut House, events: Vec<Event>) -> Result<(), Halt>
-    requires { house.old.halt ≡ None }
+#[tactic(auto, using(xl_house::proofs::JournalLaws::stepped, xl_house::proofs::JournalLaws::front, xl_house::proofs::JournalLaws::some_left))]
+fn step_all(
+    alloc: Global,
+    house: &mut House<SureKeeper>,
+    events: Vec<Event>,
+) -> Result<(), Halt>
+    requires goes { house.old.halt ≡ None }
+    requires steps { AreSteps events.items }
     ensures head { house.new.head ≡ house.old.head }
     ensures ok { OnOk result (house.new.entries ≡ house.old.entries ++ entries_of (replay (begin house.old.head) house.old.entries) events.items) }
     ensures err { OnErr result (take (length house.new.entries) (house.old.entries ++ entries_of (replay (begin house.old.head) house.old.entries) events.items) ≡ house.new.entries) }
     ensures full { (count : ℕ) → result ≡ Err (Halt.JournalFull count) → (length house.new.entries ≡ most_entries) × (most_entries < length house.old.entries + length events.items) }
     ensures unspoiled { OnOk result (is_spoiled house.new.halt ≡ false) }
     ensures unspoiled_full { (count : ℕ) → result ≡ Err (Halt.JournalFull count) → is_spoiled house.new.halt ≡ false }
+    ensures started { (count : ℕ) → result ≡ Err (Halt.StartStore count) → ⊥ }
 {
     for event in events {
         if let Err(halt) = house.step(alloc, event) {
@@ -143,19 +150,18 @@ enum Written {
     NoMemory,
 }
 
-/// Writes the transcript of the entries.
+/// Writes the transcript of a house's journal.
 #[tactic(auto, using(crate::proofs::WriteLaws::began_none, crate::proofs::WriteLaws::began_all))]
-fn write_transcript<O: Sink>(
-    alloc: Global,
-    entries: &[Entry],
-    held: &Claims,
-    out: &mut O,
-) -> Written
-    ensures all { result ≡ Written.All → Added (O.held out.old) (transcript entries.now (held_of held.now)) (O.held out.new) }
-    ensures began { Began (O.held out.old) (transcript entries.now (held_of held.now)) (O.held out.new) }
+fn write_whole<O: Sink>(alloc: Global, house: &House<SureKeeper>, out: &mut O) -> Written
+    requires { is_spoiled house.now.halt ≡ false }
+    ensures all { result ≡ Written.All → Added (O.held out.old) (transcript_from house.now.head house.now.entries) (O.held out.new) }
+    ensures began { Began (O.held out.old) (transcript_from house.now.head house.now.entries) (O.held out.new) }
     ensures failed { result ≡ Written.Failed → Rose (O.faults out.old) (O.faults out.new) }
 {
-    let Ok(text) = transcript(alloc, entries, held) else {
+    let Ok(claims) = house.dump(alloc) else {
+        return Written::NoMemory;
+    };
+    let Ok(text) = transcript(alloc, house.outs_from(0), &claims, house.names()) else {
         return Written::NoMemory;
     };
     match out.write(&text) {
@@ -164,31 +170,16 @@ fn write_transcript<O: Sink>(
     }
 }
 
-/// Writes the transcript of a journal, where this is what is held after it.
-fn write_whole<O: Sink>(alloc: Global, journal: &Journal, held: &Claims, out: &mut O) -> Written
-    requires held { IsHeldBy journal.now (held_of held.now) }
-    ensures all { result ≡ Written.All → Added (O.held out.old) (whole_transcript journal.now) (O.held out.new) }
-    ensures began { Began (O.held out.old) (whole_transcript journal.now) (O.held out.new) }
-    ensures failed { result ≡ Written.Failed → Rose (O.faults out.old) (O.faults out.new) }
+/// These files, with the default times.
+fn exports_with(alloc: Global, files: Sequence<Sequence<u8>>) -> Exports
+    ensures { result ≡ exports_with files }
 {
-    write_transcript(alloc, journal.entries.as_slice(), held, out)
-}
-
-/// What a run of these files begins from.
-fn head_with(alloc: Global, files: Sequence<Sequence<u8>>) -> Head
-    ensures { result ≡ head_with files }
-{
-    let record = Record::new(alloc);
-    Head {
-        exports: Exports {
-            files,
-            addresses: Sequence::new(alloc),
-            lease: 90000,
-            grace: 90000,
-            break_time: 35000,
-        },
-        start: Moment(0),
-        record,
+    Exports {
+        files,
+        addresses: Sequence::new(alloc),
+        lease: 90000,
+        grace: 90000,
+        break_time: 35000,
     }
 }
 
@@ -196,7 +187,11 @@ fn head_with(alloc: Global, files: Sequence<Sequence<u8>>) -> Head
 fn idle(alloc: Global, status: u8, line: u64) -> Done
     ensures { result ≡ record { status = status; line = line; journal = no_journal } }
 {
-    let head = head_with(alloc, Sequence::new(alloc));
+    let head = Head {
+        exports: exports_with(alloc, Sequence::new(alloc)),
+        start: Moment(0),
+        record: Record::new(alloc),
+    };
     Done {
         status,
         line,
@@ -207,26 +202,45 @@ fn idle(alloc: Global, status: u8, line: u64) -> Done
     }
 }
 
-#[tactic(auto, using(crate::proofs::JobLaws::same_journal, crate::proofs::JobLaws::begins))]
-/// Steps the events of a capture on a house of its own. The answer says how the last step ended.
-fn step_capture(alloc: Global, capture: Capture) -> (Journal, Claims, Result<(), Halt>)
-    ensures held { OnOk result.2 (IsHeldBy result.0 (held_of result.1)) }
-    ensures held_full { (count : ℕ) → result.2 ≡ Err (Halt.JournalFull count) → IsHeldBy result.0 (held_of result.1) }
-    ensures ok { OnOk result.2 (result.0 ≡ journal_of capture) }
-    ensures begun { BeginsAs capture result.0 }
-    ensures full { (count : ℕ) → result.2 ≡ Err (Halt.JournalFull count) → IsCutAt most_entries (Ok capture) result.0 }
-    ensures legal { IsLegal (begin result.0.head) result.0.entries }
-    ensures orderly { IsOrderly [] [] 0 result.0.entries }
+/// A house over these files, of a server that never started before. None comes for want of memory.
+fn start(alloc: Global, files: Sequence<Sequence<u8>>) -> Option<House<SureKeeper>>
+    ensures { IfSome result (λ h. (h.head ≡ head_with files) × ((h.entries ≡ []) × (h.halt ≡ None))) }
+{
+    let keeper = SureKeeper::new(alloc, Record::new(alloc));
+    match House::start(alloc, exports_with(alloc, files), keeper, Moment(0)) {
+        Ok(house) => Some(house),
+        Err(ended) => match ended.halt {
+            Halt::NoMemory => None,
+            Halt::JournalFull(_) | Halt::StartStore(_) => unreachable!(),
+        },
+    }
+}
+
+/// A house that stepped the events of a capture, and how the last step ended. None comes for want of memory at the
+/// start.
+#[tactic(auto, using(crate::proofs::JobLaws::begins))]
+fn step_capture(
+    alloc: Global,
+    capture: Capture,
+) -> Option<(House<SureKeeper>, Result<(), Halt>)>
+    requires { AreSteps capture.events }
+    ensures head { IfSome result (λ r. r.0.head ≡ head_of capture) }
+    ensures ok { IfSome result (λ r. OnOk r.1 (r.0.entries ≡ entries_of (begin (head_of capture)) capture.events)) }
+    ensures begun { IfSome result (λ r. take (length r.0.entries) (entries_of (begin (head_of capture)) capture.events) ≡ r.0.entries) }
+    ensures full { IfSome result (λ r. (count : ℕ) → r.1 ≡ Err (Halt.JournalFull count) → (length r.0.entries ≡ most_entries) × (most_entries < length capture.events)) }
+    ensures whole { IfSome result (λ r. is_whole r.1 ≡ true → is_spoiled r.0.halt ≡ false) }
+    ensures started { IfSome result (λ r. (count : ℕ) → r.1 ≡ Err (Halt.StartStore count) → ⊥) }
 {
     let Capture { files, events } = capture;
-    let mut house = House::start(alloc, head_with(alloc, files));
+    let mut house = start(alloc, files)?;
     let ended = step_all(alloc, &mut house, events.into_vec());
-    let (journal, held) = house.end();
-    (journal, held, ended)
+    Some((house, ended))
 }
 
 /// Replays a capture, and writes its transcript.
+#[tactic(auto, using(crate::proofs::JobLaws::same_journal, crate::proofs::JobLaws::begins))]
 fn replay<O: Sink>(alloc: Global, capture: Capture, out: &mut O) -> Done
+    requires { AreSteps capture.events }
     ensures known { is_stepped result.status ≡ true }
     ensures line { result.line ≡ 0 }
     ensures replayed { result.status ≡ 0 → result.journal ≡ journal_of capture }
@@ -239,20 +253,23 @@ fn replay<O: Sink>(alloc: Global, capture: Capture, out: &mut O) -> Done
     ensures legal { IsLegal (begin result.journal.head) result.journal.entries }
     ensures orderly { IsOrderly [] [] 0 result.journal.entries }
 {
-    let (journal, held, ended) = step_capture(alloc, capture);
+    let Some((house, ended)) = step_capture(alloc, capture) else {
+        return idle(alloc, 6, 0);
+    };
     let status = match ended {
-        // A house that has started never answers StartStore.
-        Err(Halt::NoMemory | Halt::StartStore(_)) => 6,
-        Err(Halt::JournalFull(_)) => match write_whole(alloc, &journal, &held, out) {
+        Err(Halt::NoMemory) => 6,
+        Err(Halt::JournalFull(_)) => match write_whole(alloc, &house, out) {
             Written::All | Written::Failed => 7,
             Written::NoMemory => 6,
         },
-        Ok(()) => match write_whole(alloc, &journal, &held, out) {
+        Err(Halt::StartStore(_)) => unreachable!(),
+        Ok(()) => match write_whole(alloc, &house, out) {
             Written::All => 0,
             Written::Failed => 3,
             Written::NoMemory => 6,
         },
     };
+    let (journal, _) = house.end();
     Done {
         status,
         line: 0,
@@ -261,7 +278,7 @@ fn replay<O: Sink>(alloc: Global, capture: Capture, out: &mut O) -> Done
 }
 
 /// Replays the capture that a text is, and writes its transcript.
-#[tactic(auto, using(crate::proofs::JobLaws::replayed_as, crate::proofs::JobLaws::begun_as, crate::proofs::JobLaws::cut_as, crate::proofs::JobLaws::bad_as))]
+#[tactic(auto, using(crate::proofs::PlainLaws::captured_steps, crate::proofs::JobLaws::replayed_as, crate::proofs::JobLaws::begun_as, crate::proofs::JobLaws::cut_as, crate::proofs::JobLaws::bad_as))]
 fn replay_text<O: Sink>(alloc: Global, text: &[u8], out: &mut O) -> Done
     ensures known { is_read result.status ≡ true }
     ensures replayed { result.status ≡ 0 → IsReplayed (captured text.now) result.journal }
@@ -285,7 +302,7 @@ fn replay_text<O: Sink>(alloc: Global, text: &[u8], out: &mut O) -> Done
 }
 
 /// Does what the words ask for, from the input to the output.
-#[tactic(auto, using(crate::proofs::ReadLaws::read_whole, crate::proofs::ReadLaws::read_ended, crate::proofs::StandLaws::begun_held, crate::proofs::LawfulLaws::begun_lawful, crate::proofs::LawfulLaws::complete_always))]
+#[tactic(auto, using(crate::proofs::ReadLaws::read_whole, crate::proofs::ReadLaws::read_ended, xl_house::proofs::MachineLaws::begun_free, xl_house::proofs::LawfulLaws::lawful_always, xl_house::proofs::CompleteLaws::complete_always))]
 pub fn run<I: Source, O: Sink>(alloc: Global, words: &[String], input: &mut I, out: &mut O) -> Done
     ensures known { is_status result.status ≡ true }
 
@@ -312,8 +329,9 @@ pub fn run<I: Source, O: Sink>(alloc: Global, words: &[String], input: &mut I, o
     ensures legal { IsLegal (begin result.journal.head) result.journal.entries }
     ensures orderly { IsOrderly [] [] 0 result.journal.entries }
 
-    // At every free moment the claims are pairwise compatible, and each owner's ranges sorted maximal runs.
-    ensures free { AlwaysHeld (begin result.journal.head) result.journal.entries }
+    // At every free moment the claims are pairwise compatible, each owner's ranges are sorted maximal runs, and nobody
+    // who waits could be served.
+    ensures free { AlwaysFree (begin result.journal.head) result.journal.entries }
 
     // Each byte that an owner lost or that weakened was its own act, each that is new or stronger was granted to it; what
     // nothing stands against was granted.

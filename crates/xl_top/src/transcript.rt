@@ -1,17 +1,14 @@
 //! The transcript of a journal.
 ghost use Rattle.std.specs.Prelude.{◌≡◌, ◌≤◌, ◌++◌, length, map, insert, OnOk, IfOk, string_bytes};
 ghost use Rattle.xl_base.specs.Lists.{placed, sorted};
-ghost use Rattle.xl_top.specs.Claims.{held_of};
 ghost use Rattle.xl_top.specs.Transcript.{dest_words, out_line, out_lines, entry_lines, row_of, by_bytes, row_before, row_line, row_lines, transcript};
 
-use crate::claims::Claims;
-use crate::texts::owner_text;
 use std::alloc::{AllocError, Global};
 use std::cmp::Ordering;
 use std::fmt::Write;
 use xl_base::{Dest, Entry, Out, Sequence};
 use xl_matrix::{Claim, Extent, What};
-use xl_names::{Names, put_hex_word};
+use xl_names::{Names, owner_text, put_hex_word};
 
 /// Adds where an out goes.
 #[tactic(auto, unfolding(crate::specs::Transcript::dest_words))]
@@ -200,13 +197,18 @@ fn put_rows(alloc: Global, bytes: &mut Vec<u8>, rows: &[Row]) -> Result<(), Allo
 /// The transcript of a journal's entries: a line for each out, in order, and then a line for each range that is held
 /// after them, in the order of the file, the owner's text and the bytes.
 #[tactic(auto, unfolding(crate::specs::Transcript::claim_lines))]
-pub fn transcript(alloc: Global, entries: &[Entry], held: &Claims) -> Result<Vec<u8>, AllocError>
-    ensures { IfOk result (λ text. text.items ≡ transcript entries.now (held_of held.now)) }
+pub fn transcript(
+    alloc: Global,
+    entries: &[Entry],
+    claims: &[Claim],
+    names: &Names,
+) -> Result<Vec<u8>, AllocError>
+    ensures { IfOk result (λ text. text.items ≡ transcript entries.now claims.now names.now) }
 {
     let mut text = String::new(alloc);
     put_entries(alloc, &mut text, entries)?;
     let mut bytes = text.into_bytes();
-    let rows = in_order(alloc, rows_of(alloc, &held.names, &held.claims)?)?;
+    let rows = in_order(alloc, rows_of(alloc, names, claims)?)?;
     put_rows(alloc, &mut bytes, &rows)?;
     Ok(bytes)
 }

@@ -1,7 +1,7 @@
 -- What was read of the input is what is looked at of it.
 use Rattle.std.proofs.Common.{◌≡◌, ◌∙◌, ap, sym, subst, List, ℕ, Some, Result, Err}
 use Rattle.xl_top.specs.Capture.{captured}
-use Rattle.xl_top.specs.House.{most_entries}
+use Rattle.xl_house.specs.Journals.{most_entries}
 use Rattle.xl_top.specs.Job.{capped, IsReplayed, IsBegun, IsCutAt}
 use Rattle.xl_top.specs.declared.capture.Capture.{Capture}
 use Rattle.xl_top.proofs.ReadLaws.{read_whole}
