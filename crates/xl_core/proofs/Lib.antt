@@ -6,3 +6,4 @@ pub mod ClaimLaws
 pub mod DecideLaws
 pub mod GoodLaws
 pub mod TurnLaws
+pub mod SettledLaws

@@ -1,0 +1,5 @@
+pub mod SettleLaws
+pub mod FrontLaws
+pub mod MachineLaws
+pub mod JournalLaws
+pub mod OrderLaws

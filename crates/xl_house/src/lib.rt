@@ -1,0 +1,10 @@
+#![tactic(auto)]
+
+mod connections;
+mod law;
+mod machine;
+mod outs;
+mod settling;
+
+pub use connections::Connection;
+pub use law::trial;
