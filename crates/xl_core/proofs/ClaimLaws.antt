@@ -1,12 +1,12 @@
 -- Claims of known clients stay so, and stay compatible, when a range that nothing blocks is locked, and when one is unlocked.
-use Rattle.std.proofs.Common.{◌≡◌, ℕ, suc, ◌+◌, ◌<◌, ◌≤◌, Bool, true, false, not, cond, if◌then◌else◌, eqb, leb, ◌&&◌, ◌||◌, ◌⊎◌, inl, inr, List, [], ◌∷◌, map, Option, Some, None, refl, sym, ap, subst, ◌∙◌, arith}
+use Rattle.std.proofs.Common.{◌≡◌, ℕ, ◌+◌, ◌<◌, ◌≤◌, Bool, true, false, not, cond, eqb, leb, ◌&&◌, ◌||◌, ◌⊎◌, inl, inr, List, [], ◌∷◌, map, Option, Some, None, refl, sym, ap, subst, ◌∙◌, arith}
 use Rattle.std.specs.List.{AllByRecursion, filter, list_any}
-use Rattle.std.proofs.lemmas.Bool.{cases_Bool, and_parts, and_from, and_left, and_right, and_cases, or_left, or_parts, or_from, not-true, not-false, not_from_false, eqb-true, eq-eqb, leb-true, le-leb, lt-leb, both_ways, false_from_ne_true}
+use Rattle.std.proofs.lemmas.Bool.{cases_Bool, and_parts, and_from, and_left, and_right, and_cases, or_left, or_parts, not-true, not-false, not_from_false, eqb-true, eq-eqb, leb-true, lt-leb, both_ways}
 use Rattle.xl_base.specs.Lists.{IsIn, Pairwise}
 use Rattle.xl_base.proofs.Members.{all_in, all_from, in_map_from, in_filter_from}
 use Rattle.xl_base.specs.declared.name.Owner.{Owner}
 use Rattle.xl_base.specs.declared.name.Party.{Party}
-use Rattle.xl_matrix.specs.Equal.{same_owners, same_parties}
+use Rattle.xl_matrix.specs.Equal.{same_owners}
 use Rattle.xl_matrix.specs.Matrix.{compat, fit_by, lock_by, lock_on, locks_agree}
 use Rattle.xl_matrix.specs.Owners.{posix}
 use Rattle.xl_matrix.specs.declared.claim.Claim.{Claim}
@@ -14,7 +14,7 @@ use Rattle.xl_matrix.specs.declared.claim.Extent.{Extent}
 use Rattle.xl_matrix.specs.declared.claim.Extent.TheVariants.{Bytes, Empty}
 use Rattle.xl_matrix.specs.declared.claim.What.{What}
 use Rattle.xl_matrix.specs.declared.claim.What.TheVariants.{Share, Range, Cache}
-use Rattle.xl_matrix.proofs.EqualLaws.{same_owners-true, same_owners-self, same_owners-sym}
+use Rattle.xl_matrix.proofs.EqualLaws.{same_owners-sym}
 use Rattle.xl_matrix.proofs.PartLaws.{compat_bytes}
 use Rattle.xl_matrix.proofs.SideLaws.{compat-sym}
 use Rattle.xl_names.specs.Names.{AreDistinct}
@@ -26,9 +26,9 @@ use Rattle.xl_spans.proofs.Bytes.{relocked_mode, AreRanges}
 use Rattle.xl_spans.proofs.Chains.{canonical_ranges, canonical_rest, relocked_canonical, IsChain}
 use Rattle.xl_spans.proofs.Untouched.{canonical_filter, relocked_untouched}
 use Rattle.xl_table.specs.Flat.{blocks, is_own, is_met_by_own}
-use Rattle.xl_table.specs.Held.{mode_of, is_range, with_span, is_of, spans_of, IsKept}
+use Rattle.xl_table.specs.Held.{mode_of, with_span, is_of, spans_of, IsKept}
 use Rattle.xl_core.specs.Good.{IsRangeBy, IsRange, are_kept, IsKnown, is_single_by, is_single}
-use Rattle.xl_core.specs.Relock.{is_exclusive, range_claim, is_touched, untouched, fresh, all_inserted, relocked_in, relock_fits, granted_by, granted_claims, grant_fits_by, grant_fits}
+use Rattle.xl_core.specs.Relock.{is_exclusive, range_claim, untouched, fresh, relocked_in, relock_fits, granted_by, granted_claims, grant_fits_by, grant_fits}
 use Rattle.xl_core.proofs.KnownLaws.{one_party}
 use Rattle.xl_core.proofs.WriteBack.{is_of-true, IsOfParty, relocked_is, spans_of-untouched, left_in, left_all, left_pairwise, all_all_inserted, pairwise_all_inserted, kept_relocked}
 

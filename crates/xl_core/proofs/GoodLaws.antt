@@ -1,9 +1,7 @@
 -- The state stays good: by each ask, each turn, each cancel, and when a party leaves.
-use Rattle.std.proofs.Common.{◌≡◌, ℕ, ◌+◌, ◌≤◌, Bool, true, false, not, if◌then◌else◌, ◌==◌, nat_le, nat_lt, ◌&&◌, ◌⊎◌, inl, inr, List, [], ◌∷◌, ◌++◌, length, Option, Some, None, IfSome, option_map, refl, sym, ap, subst, ◌∙◌, slice_get, arith}
+use Rattle.std.proofs.Common.{◌≡◌, ℕ, ◌+◌, ◌≤◌, Bool, true, false, not, if◌then◌else◌, ◌==◌, nat_le, nat_lt, ◌⊎◌, inl, inr, List, [], ◌∷◌, ◌++◌, length, Option, Some, None, IfSome, option_map, refl, sym, subst, ◌∙◌, slice_get, arith}
 use Rattle.std.specs.List.{AllByRecursion, filter, list_any}
-use Rattle.std.proofs.lemmas.Bool.{cases_Bool, both_ways, leb-true, ne_eqb, not-true, not-false, not_from_false, or_left}
-use Rattle.std.proofs.lemmas.List.{length-append}
-use Rattle.std.proofs.lemmas.List.Folds.{list_any-append}
+use Rattle.std.proofs.lemmas.Bool.{cases_Bool, both_ways, ne_eqb, not_from_false}
 use Rattle.xl_base.specs.Lists.{IsIn, Pairwise}
 use Rattle.xl_base.proofs.Members.{all_in, all_from, all_append, in_filter_from, pairwise_append, pairwise_filter}
 use Rattle.xl_base.specs.Stable.{Stable}
@@ -15,20 +13,19 @@ use Rattle.xl_matrix.specs.Matrix.{compat}
 use Rattle.xl_matrix.specs.declared.claim.Claim.{Claim}
 use Rattle.xl_matrix.specs.declared.claim.Extent.{Extent}
 use Rattle.xl_matrix.specs.declared.claim.Extent.TheVariants.{Bytes, Empty}
-use Rattle.xl_names.specs.Names.{is_kept, same_name, entered, AreDistinct, most_names}
+use Rattle.xl_names.specs.Names.{AreDistinct, most_names}
 use Rattle.xl_names.specs.declared.name.Name.{Name}
 use Rattle.xl_spans.specs.Spans.{meets}
 use Rattle.xl_spans.specs.declared.span.Span.{Span}
-use Rattle.xl_table.specs.Held.{is_of, is_range, spans_of, has_one_party, IsKept}
+use Rattle.xl_table.specs.Held.{is_of, spans_of, has_one_party}
 use Rattle.xl_table.proofs.KeptLaws.{kept_empty}
 use Rattle.xl_wait.specs.Waiting.{cancelled}
 use Rattle.xl_wait.specs.declared.waiter.Rooms.{Rooms}
 use Rattle.xl_wait.specs.declared.waiter.Waiter.{Waiter}
 use Rattle.xl_core.specs.State.{CoreState, started, step_begun, with_parts}
-use Rattle.xl_core.specs.Asking.{who_entered, asker, both_entered, coming, names_fit, asked_claim, known_claim, is_client, IsRealExtent, IsFitAct, IsFit}
-use Rattle.xl_core.specs.Blockers.{least, blockers}
+use Rattle.xl_core.specs.Asking.{both_entered, names_fit, asked_claim, known_claim, is_client, IsRealExtent, IsFitAct, IsFit}
 use Rattle.xl_core.specs.Decide.{most_hosts, most_waiters, passed_by_grant, passed_by_wait, decide, waiter_of, waiting, queued, lock_answered, lock_asked, ranges_asked, unlocked_bytes, unlocked, acted, ask}
-use Rattle.xl_core.specs.Good.{IsRange, are_kept, IsKnown, is_single, are_apart, IsWaiter, IsGood, is_blocked}
+use Rattle.xl_core.specs.Good.{are_kept, IsKnown, are_apart, IsWaiter, IsGood, is_blocked}
 use Rattle.xl_core.specs.Relock.{relocked_in, relock_fits, holds_byte, granted_claims, grant_fits}
 use Rattle.xl_core.specs.Settle.{turn_with, turn_by, turn_of, first_some, first_turn, served_by, served, settle, waits_for, cancel, end_party}
 use Rattle.xl_core.specs.declared.ask.Act.{Act}
@@ -37,12 +34,10 @@ use Rattle.xl_core.specs.declared.ask.Answer.{Answer}
 use Rattle.xl_core.specs.declared.ask.Answer.TheVariants.{NoGrace}
 use Rattle.xl_core.specs.declared.ask.Ask.{Ask}
 use Rattle.xl_core.specs.declared.ask.Effect.{Effect}
-use Rattle.xl_core.specs.declared.ask.Who.{Who}
-use Rattle.xl_core.specs.declared.ask.Who.TheVariants.{Named, Open}
 use Rattle.xl_core.specs.declared.decide.Verdict.{Verdict}
 use Rattle.xl_core.specs.declared.decide.Verdict.TheVariants as verdict
 use Rattle.xl_core.specs.declared.settling.Turn.{Turn}
-use Rattle.xl_core.proofs.KnownLaws.{GoOn, both_go_on, both_distinct, known_on, waiters_on, one_party, asker_kept, asked_known, kept_on, kept_posix, known_party_is}
+use Rattle.xl_core.proofs.KnownLaws.{both_few, GoOn, both_go_on, both_distinct, known_on, waiters_on, one_party, asker_kept, asked_known, kept_on, kept_posix, known_party_is}
 use Rattle.xl_core.proofs.ClaimLaws.{AreGood, relocked_good, granted_good, all_single}
 use Rattle.xl_core.proofs.DecideLaws.{decide_is, blockers_none, passed_none}
 use Rattle.xl_core.proofs.WriteBack.{is_of-true, all_one_party, kept_filter}
@@ -76,41 +71,6 @@ started_good stable clock = record { kept = kept_empty; compatible = tt; single 
 pub begun_good : (s : CoreState) → IsGood s → IsGood (step_begun s)
 unfolding step_begun
 begun_good s good = record { kept = good.kept; compatible = good.compatible; single = good.single; known = good.known; waiters = good.waiters; apart = good.apart; distinct = good.distinct; few = good.few }
-
--- ---- names that come
-
-kept_later : (name other : Name) (names : List Name) → is_kept name names ≡ true → is_kept name (entered other names) ≡ true
-kept_later name other names h =
-    elim (cases_Bool (is_kept other names)) [
-      | inl old ↦ rw old h
-      | inr new ↦ rw new (list_any-append (same_name name) names (other ∷ []) ∙ or_left (is_kept name names) (is_kept name (other ∷ [])) h)
-    ]
-
-length_who : (who : Who) (names : List Name) → length (who_entered who names) ≡ length names + coming who names
-length_who (Open number) names = omega arith
-length_who (Named name) names =
-    elim (cases_Bool (is_kept name names)) [
-      | inl old ↦ rw old (omega arith)
-      | inr new ↦ rw new (omega (arith, length-append names (name ∷ [])))
-    ]
-
-coming_later : (who other : Who) (names : List Name) → coming who (who_entered other names) ≤ coming who names
-coming_later (Open number) other names = omega arith
-coming_later (Named name) (Open number) names = omega arith
-coming_later (Named name) (Named other) names =
-    elim (cases_Bool (is_kept name names)) [
-      | inl old ↦ rw (old, kept_later name other names old) (omega arith)
-      | inr new ↦ rw new (at_most (is_kept name (entered other names)))
-    ]
-  where
-    at_most : (b : Bool) → (if b then 0 else 1) ≤ 1
-    at_most true = omega arith
-    at_most false = omega arith
-
-pub both_few : (a : Ask) (names : List Name) → names_fit a names ≡ true → length (both_entered a names) ≤ most_names
-both_few a names h =
-    omega (arith, length_who a.party (who_entered a.owner names), length_who a.owner names, coming_later a.party a.owner names,
-    leb-true (length names + (coming a.owner names + coming a.party names)) most_names h)
 
 -- ---- a party for each owner
 
@@ -195,7 +155,7 @@ lock_good n left s a claim good known = lock_answered_good n left s a claim (dec
 
 -- ---- an unlock
 
-span_owner : (file : ℕ) (owner : Owner) (p : Span → Bool) (cs : List Claim) → list_any p (spans_of file owner cs) ≡ true → (c : Claim) × IsIn c cs × (is_of file owner c ≡ true)
+pub span_owner : (file : ℕ) (owner : Owner) (p : Span → Bool) (cs : List Claim) → list_any p (spans_of file owner cs) ≡ true → (c : Claim) × IsIn c cs × (is_of file owner c ≡ true)
 span_owner file owner p [] e = absurd (both_ways false refl e)
 span_owner file owner p (c ∷ cs) e =
     elim (cases_Bool (is_of file owner c)) [
@@ -204,7 +164,7 @@ span_owner file owner p (c ∷ cs) e =
     ]
 
 -- who holds a byte is known
-holder_kept : (s : CoreState) (a : Ask) (extent : Extent) (exclusive : Bool) (first last : ℕ) → IsGood s → is_client a.owner a.party ≡ true → (let claim = known_claim a extent exclusive s.names in holds_byte claim.file claim.owner first last s.claims ≡ true → are_kept s.names claim.owner claim.party ≡ true)
+pub holder_kept : (s : CoreState) (a : Ask) (extent : Extent) (exclusive : Bool) (first last : ℕ) → IsGood s → is_client a.owner a.party ≡ true → (let claim = known_claim a extent exclusive s.names in holds_byte claim.file claim.owner first last s.claims ≡ true → are_kept s.names claim.owner claim.party ≡ true)
 unfolding holds_byte
 holder_kept s a extent exclusive first last good client holds =
     let claim = known_claim a extent exclusive s.names in
@@ -258,7 +218,7 @@ ask_good n left s a good fit = acted_good n left s a a.act good fit.party fit.ac
 -- ---- a turn
 
 -- the waiter's turn: nothing held blocks what it asks for first, and a limit stands against it exactly where its grant would pass one
-pub record IsTurn (left : Rooms) (s : CoreState) (w : Waiter) (turn : Turn) : Type 0 where
+pub record IsTurnOf (left : Rooms) (s : CoreState) (w : Waiter) (turn : Turn) : Type 0 where
   pub id : turn.id ≡ w.id
   pub claim : slice_get w.asked 0 ≡ Some turn.claim
   pub free : is_blocked s.claims turn.claim ≡ false
@@ -267,31 +227,31 @@ pub record IsTurn (left : Rooms) (s : CoreState) (w : Waiter) (turn : Turn) : Ty
 same_turn : (a b : Turn) → Some a ≡ Some b → a ≡ b
 same_turn a b e = cc
 
-turn_with_is : (n : ℕ) (left : Rooms) (s : CoreState) (earlier : List Waiter) (w : Waiter) (claim : Claim) (v : Verdict) (turn : Turn) → slice_get w.asked 0 ≡ Some claim → decide n earlier s left w.rows true claim ≡ v → turn_with w claim v ≡ Some turn → IsTurn left s w turn
+turn_with_is : (n : ℕ) (left : Rooms) (s : CoreState) (earlier : List Waiter) (w : Waiter) (claim : Claim) (v : Verdict) (turn : Turn) → slice_get w.asked 0 ≡ Some claim → decide n earlier s left w.rows true claim ≡ v → turn_with w claim v ≡ Some turn → IsTurnOf left s w turn
 turn_with_is n left s earlier w claim (verdict.Blocked c) turn at e is = absurd cc
 turn_with_is n left s earlier w claim (verdict.Full limit) turn at e is =
     let why = decide_is n earlier s left w.rows true claim (verdict.Full limit) e in
-    subst (λ (t : Turn). IsTurn left s w t) (same_turn (record { id = w.id; claim = claim; full = Some limit }) turn is)
+    subst (λ (t : Turn). IsTurnOf left s w t) (same_turn (record { id = w.id; claim = claim; full = Some limit }) turn is)
     (record { id = refl; claim = at; free = blockers_none earlier s claim why.0; full = sym why.1 })
 turn_with_is n left s earlier w claim verdict.Free turn at e is =
     let why = decide_is n earlier s left w.rows true claim verdict.Free e in
-    subst (λ (t : Turn). IsTurn left s w t) (same_turn (record { id = w.id; claim = claim; full = None }) turn is)
+    subst (λ (t : Turn). IsTurnOf left s w t) (same_turn (record { id = w.id; claim = claim; full = None }) turn is)
     (record { id = refl; claim = at; free = blockers_none earlier s claim why.0; full = sym why.1 })
 
-turn_by_is : (n : ℕ) (left : Rooms) (s : CoreState) (earlier : List Waiter) (w : Waiter) (o : Option Claim) (turn : Turn) → slice_get w.asked 0 ≡ o → turn_by n left s earlier w o ≡ Some turn → IsTurn left s w turn
+turn_by_is : (n : ℕ) (left : Rooms) (s : CoreState) (earlier : List Waiter) (w : Waiter) (o : Option Claim) (turn : Turn) → slice_get w.asked 0 ≡ o → turn_by n left s earlier w o ≡ Some turn → IsTurnOf left s w turn
 turn_by_is n left s earlier w None turn at is = absurd cc
 turn_by_is n left s earlier w (Some claim) turn at is = turn_with_is n left s earlier w claim (decide n earlier s left w.rows true claim) turn at refl is
 
-pub turn_of_is : (n : ℕ) (left : Rooms) (s : CoreState) (earlier : List Waiter) (w : Waiter) (turn : Turn) → turn_of n left s earlier w ≡ Some turn → IsTurn left s w turn
+pub turn_of_is : (n : ℕ) (left : Rooms) (s : CoreState) (earlier : List Waiter) (w : Waiter) (turn : Turn) → turn_of n left s earlier w ≡ Some turn → IsTurnOf left s w turn
 unfolding turn_of
 turn_of_is n left s earlier w turn is = turn_by_is n left s earlier w (slice_get w.asked 0) turn refl is
 
-first_some_cases : (a b : Option Turn) (turn : Turn) → first_some a b ≡ Some turn → (a ≡ Some turn) ⊎ ((a ≡ None) × (b ≡ Some turn))
+pub first_some_cases : (a b : Option Turn) (turn : Turn) → first_some a b ≡ Some turn → (a ≡ Some turn) ⊎ ((a ≡ None) × (b ≡ Some turn))
 first_some_cases (Some t) b turn e = inl e
 first_some_cases None b turn e = inr (refl, e)
 
 -- a turn is one of those who wait
-pub first_turn_is : (n : ℕ) (left : Rooms) (s : CoreState) (earlier ws : List Waiter) (turn : Turn) → first_turn n left s earlier ws ≡ Some turn → (w : Waiter) × IsIn w ws × IsTurn left s w turn
+pub first_turn_is : (n : ℕ) (left : Rooms) (s : CoreState) (earlier ws : List Waiter) (turn : Turn) → first_turn n left s earlier ws ≡ Some turn → (w : Waiter) × IsIn w ws × IsTurnOf left s w turn
 first_turn_is n left s earlier [] turn e = absurd cc
 first_turn_is n left s earlier (w ∷ ws) turn e =
     elim (first_some_cases (turn_of n left s earlier w) (first_turn n left s (earlier ++ w ∷ []) ws) turn e) [
@@ -299,7 +259,7 @@ first_turn_is n left s earlier (w ∷ ws) turn e =
       | inr later ↦ let rest = first_turn_is n left s (earlier ++ w ∷ []) ws turn later.1 in (rest.0, inr rest.1, rest.2)
     ]
 
-cancelled_all : (P : Waiter → Type 0) (id : ℕ) (ws : List Waiter) → AllByRecursion P ws → AllByRecursion P (cancelled id ws)
+pub cancelled_all : (P : Waiter → Type 0) (id : ℕ) (ws : List Waiter) → AllByRecursion P ws → AllByRecursion P (cancelled id ws)
 cancelled_all P id [] all = tt
 cancelled_all P id (w ∷ ws) all =
     elim (cases_Bool (w.id == id)) [
@@ -326,7 +286,7 @@ asked_in (c ∷ cs) claim e = inl (same_claim c claim e)
 pub waiter_known : (s : CoreState) (w : Waiter) (claim : Claim) → IsGood s → IsIn w s.waiters → slice_get w.asked 0 ≡ Some claim → IsKnown s.names claim
 waiter_known s w claim good h e = all_in (IsKnown s.names) claim w.asked (all_in (IsWaiter s.names s.counter) w s.waiters good.waiters h).1 (asked_in w.asked claim e)
 
-served_by_good : (left : Rooms) (s : CoreState) (w : Waiter) (turn : Turn) (o : Option ℕ) → IsGood s → IsIn w s.waiters → IsTurn left s w turn → turn.full ≡ o → IsGood (served_by s turn o).1
+served_by_good : (left : Rooms) (s : CoreState) (w : Waiter) (turn : Turn) (o : Option ℕ) → IsGood s → IsIn w s.waiters → IsTurnOf left s w turn → turn.full ≡ o → IsGood (served_by s turn o).1
 served_by_good left s w turn (Some limit) good h is e =
     with_good s s.claims (cancelled turn.id s.waiters) s.names s.counter good.distinct good.few (good_claims s good)
     (cancelled_all (IsWaiter s.names s.counter) turn.id s.waiters good.waiters) (cancelled_pairwise are_apart turn.id s.waiters good.apart)
@@ -337,11 +297,11 @@ served_by_good left s w turn None good h is e =
     (cancelled_all (IsWaiter s.names s.counter) turn.id s.waiters good.waiters) (cancelled_pairwise are_apart turn.id s.waiters good.apart)
 
 -- a waiter whose turn it is is served
-pub served_good : (left : Rooms) (s : CoreState) (w : Waiter) (turn : Turn) → IsGood s → IsIn w s.waiters → IsTurn left s w turn → IsGood (served s turn).1
+pub served_good : (left : Rooms) (s : CoreState) (w : Waiter) (turn : Turn) → IsGood s → IsIn w s.waiters → IsTurnOf left s w turn → IsGood (served s turn).1
 unfolding served
 served_good left s w turn good h is = served_by_good left s w turn turn.full good h is refl
 
-mapped : (f : Turn → List Effect × CoreState) (P : List Effect × CoreState → Type 0) (o : Option Turn) → ((turn : Turn) → o ≡ Some turn → P (f turn)) → IfSome (option_map f o) P
+pub mapped : (f : Turn → List Effect × CoreState) (P : List Effect × CoreState → Type 0) (o : Option Turn) → ((turn : Turn) → o ≡ Some turn → P (f turn)) → IfSome (option_map f o) P
 mapped f P None each = tt
 mapped f P (Some turn) each = each turn refl
 

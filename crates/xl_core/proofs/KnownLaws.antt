@@ -1,7 +1,9 @@
 -- Names that are kept: claims of known clients stay known, an owner has one client, and who asks is known.
-use Rattle.std.proofs.Common.{◌≡◌, ℕ, zero, suc, ◌≤◌, Bool, true, false, not, ◌&&◌, List, [], ◌∷◌, ◌++◌, length, Option, Some, None, inl, inr, refl, sym, ap, subst, ◌∙◌, slice_get, arith}
+use Rattle.std.proofs.Common.{◌≡◌, ℕ, zero, suc, ◌+◌, ◌≤◌, Bool, true, false, if◌then◌else◌, nat_le, ◌&&◌, ◌||◌, List, [], ◌∷◌, ◌++◌, length, Option, Some, None, inl, inr, refl, sym, ap, ◌∙◌, slice_get, arith}
 use Rattle.std.specs.List.{AllByRecursion}
-use Rattle.std.proofs.lemmas.Bool.{cases_Bool, both_ways, and_parts, and_from}
+use Rattle.std.proofs.lemmas.Bool.{cases_Bool, both_ways, and_parts, and_from, or_left, leb-true}
+use Rattle.std.proofs.lemmas.List.{length-append}
+use Rattle.std.proofs.lemmas.List.Folds.{list_any-append}
 use Rattle.std.proofs.lemmas.Option.{same_Some}
 use Rattle.xl_base.specs.Stable.{same_protocol}
 use Rattle.xl_base.specs.declared.name.Owner.{Owner}
@@ -19,10 +21,10 @@ use Rattle.xl_matrix.specs.declared.claim.What.TheVariants.{Range}
 use Rattle.xl_names.specs.Names.{protocol_of, same_name, number_of, place_of, is_kept, entered, AreDistinct, most_names}
 use Rattle.xl_names.specs.declared.name.Name.{Name}
 use Rattle.xl_names.specs.declared.name.Name.TheVariants.{NlmRange, NlmShare, NlmParty, NfsRange, NfsShare, NfsParty, SmbLease}
-use Rattle.xl_names.proofs.NameLaws.{same_name_is, same_name_self, number_at, name_at, number_stays, number_entered, distinct_entered}
+use Rattle.xl_names.proofs.NameLaws.{same_name_is, same_name_self, kept_from_number, number_at, name_at, number_entered, distinct_entered}
 use Rattle.xl_wait.specs.declared.waiter.Waiter.{Waiter}
-use Rattle.xl_core.specs.Asking.{owner_in, party_in, who_entered, asker, asking_party, both_entered, asked_claim, no_number, number_or, known_owner, known_party, known_claim, client_of, is_name, is_client, IsRealExtent}
-use Rattle.xl_core.specs.Good.{IsRangeBy, IsRange, agree, are_kept, IsKnown, IsWaiter}
+use Rattle.xl_core.specs.Asking.{owner_in, party_in, who_entered, asker, asking_party, both_entered, coming, names_fit, asked_claim, no_number, number_or, known_owner, known_party, client_of, is_name, is_client, IsRealExtent}
+use Rattle.xl_core.specs.Good.{IsRangeBy, agree, are_kept, IsKnown, IsWaiter}
 use Rattle.xl_core.specs.declared.ask.Ask.{Ask}
 use Rattle.xl_core.specs.declared.ask.Who.{Who}
 use Rattle.xl_core.specs.declared.ask.Who.TheVariants.{Named, Open}
@@ -151,6 +153,9 @@ known_on names more cs on all = all_weaker (IsKnown names) (IsKnown more) cs (λ
 pub waiters_on : (names more : List Name) (counter next : ℕ) (ws : List Waiter) → GoOn names more → counter ≤ next → AllByRecursion (IsWaiter names counter) ws → AllByRecursion (IsWaiter more next) ws
 waiters_on names more counter next ws on h all = all_weaker (IsWaiter names counter) (IsWaiter more next) ws (λ w is. (omega (arith, h, is.0), known_on names more w.asked on is.1)) all
 
+number_same : (x y : Protocol) (n m : ℕ) → owners.Name x n ≡ owners.Name y m → n ≡ m
+number_same x y n m e = cc
+
 -- an owner has one client
 pub one_party : (names : List Name) (owner : Owner) (p q : Party) → AreDistinct names → are_kept names owner p ≡ true → are_kept names owner q ≡ true → p ≡ q
 one_party names owner p q distinct h k =
@@ -161,9 +166,6 @@ one_party names owner p q distinct h k =
     let client : a.client ≡ b.client = same_Some a.client b.client (sym a.client_is ∙ ap client_of name ∙ b.client_is) in
     let at : a.at ≡ b.at = same_Some a.at b.at (sym (number_at names a.client a.at distinct a.party_at) ∙ ap (λ (n : Name). number_of n names) client ∙ number_at names b.client b.at distinct b.party_at) in
     a.party_is ∙ ap (λ (n : Name). parties.Name (protocol_of n) a.at) client ∙ ap (λ (n : ℕ). parties.Name (protocol_of b.client) n) at ∙ sym b.party_is
-  where
-    number_same : (x y : Protocol) (n m : ℕ) → owners.Name x n ≡ owners.Name y m → n ≡ m
-    number_same x y n m e = cc
 
 -- ---- who asks is known
 
@@ -228,6 +230,25 @@ number_known : (names : List Name) (name : Name) (o : Option ℕ) → number_of 
 number_known names name None e room other h = absurd (get_none names no_number other (omega (arith, room)) h)
 number_known names name (Some number) e room other h = (e, same_Some name other (sym (name_at names name number e) ∙ h))
 
+pub known_posix : (a : Ask) (names : List Name) → is_client a.owner a.party ≡ true → posix (known_owner a.owner names) ≡ true
+known_posix a names h =
+    let is = is_client_is a.owner a.party h in
+    ap (λ (w : Who). posix (known_owner w names)) is.2 ∙ client_posix is.0 is.1 is.4 (number_or (number_of is.0 names))
+
+-- an owner with a known party is the asker whose name is kept
+pub known_owner_is : (a : Ask) (names : List Name) (party : Party) → length names ≤ most_names → is_client a.owner a.party ≡ true → are_kept names (known_owner a.owner names) party ≡ true → known_owner a.owner names ≡ asker a names
+known_owner_is a names party room h kept =
+    let is = is_client_is a.owner a.party h in
+    let named = kept_parts names (known_owner a.owner names) party kept in
+    let same : owners.Name (protocol_of is.0) (number_or (number_of is.0 names)) ≡ owners.Name (protocol_of named.name) named.number =
+    sym (ap (λ (w : Who). known_owner w names) is.2) ∙ named.owner_is in
+    let number = number_same (protocol_of is.0) (protocol_of named.name) (number_or (number_of is.0 names)) named.number same in
+    let name = number_known names is.0 (number_of is.0 names) refl room named.name (ap (λ (n : ℕ). slice_get names n) number ∙ named.owner_at) in
+    let place = (kept_from_number is.0 names (number_or (number_of is.0 names)) name.0).1 in
+    ap (λ (w : Who). known_owner w names) is.2
+    ∙ ap (λ (n : ℕ). owners.Name (protocol_of is.0) n) (sym place)
+    ∙ sym (ap (λ (w : Who). owner_in w names) is.2)
+
 -- an owner with a known party is the asker whose name is kept, and the party is the asker's
 pub known_party_is : (a : Ask) (names : List Name) (party : Party) → AreDistinct names → length names ≤ most_names → is_client a.owner a.party ≡ true → are_kept names (known_owner a.owner names) party ≡ true → party ≡ known_party a.party names
 known_party_is a names party distinct room h kept =
@@ -242,6 +263,82 @@ known_party_is a names party distinct room h kept =
     named.party_is ∙ ap (λ (n : Name). parties.Name (protocol_of n) named.at) client
     ∙ ap (λ (o : Option ℕ). parties.Name (protocol_of is.1) (number_or o)) (sym at)
     ∙ sym (ap (λ (w : Who). known_party w names) is.3)
+
+-- ---- names that come
+
+kept_later : (name other : Name) (names : List Name) → is_kept name names ≡ true → is_kept name (entered other names) ≡ true
+kept_later name other names h =
+    elim (cases_Bool (is_kept other names)) [
+      | inl old ↦ rw old h
+      | inr new ↦ rw new (list_any-append (same_name name) names (other ∷ []) ∙ or_left (is_kept name names) (is_kept name (other ∷ [])) h)
+    ]
+
+pub length_who : (who : Who) (names : List Name) → length (who_entered who names) ≡ length names + coming who names
+length_who (Open number) names = omega arith
+length_who (Named name) names =
+    elim (cases_Bool (is_kept name names)) [
+      | inl old ↦ rw old (omega arith)
+      | inr new ↦ rw new (omega (arith, length-append names (name ∷ [])))
+    ]
+
+pub coming_later : (who other : Who) (names : List Name) → coming who (who_entered other names) ≤ coming who names
+coming_later (Open number) other names = omega arith
+coming_later (Named name) (Open number) names = omega arith
+coming_later (Named name) (Named other) names =
+    elim (cases_Bool (is_kept name names)) [
+      | inl old ↦ rw (old, kept_later name other names old) (omega arith)
+      | inr new ↦ rw new (at_most (is_kept name (entered other names)))
+    ]
   where
-    number_same : (x y : Protocol) (n m : ℕ) → owners.Name x n ≡ owners.Name y m → n ≡ m
-    number_same x y n m e = cc
+    at_most : (b : Bool) → (if b then 0 else 1) ≤ 1
+    at_most true = omega arith
+    at_most false = omega arith
+
+pub both_few : (a : Ask) (names : List Name) → names_fit a names ≡ true → length (both_entered a names) ≤ most_names
+both_few a names h =
+    omega (
+      arith,
+      length_who a.party (who_entered a.owner names),
+      length_who a.owner names,
+      coming_later a.party a.owner names,
+      leb-true (length names + (coming a.owner names + coming a.party names)) most_names h,
+    )
+
+-- an owner's name is not its client's
+client_differs : (name client : Name) → client_of name ≡ Some client → same_name client name ≡ false
+client_differs (NlmRange caller svid oh) client is = ap (λ (n : Name). same_name n (NlmRange caller svid oh)) (same_Some client (NlmParty caller) (sym is))
+client_differs (NfsRange owner name) client is = ap (λ (n : Name). same_name n (NfsRange owner name)) (same_Some client (NfsParty owner) (sym is))
+client_differs (NlmShare caller oh) client is = cc
+client_differs (NlmParty caller) client is = cc
+client_differs (NfsShare owner name) client is = cc
+client_differs (NfsParty owner) client is = cc
+client_differs (SmbLease guid key) client is = cc
+
+coming_client : (name client : Name) (names : List Name) → client_of name ≡ Some client → coming (Named client) (entered name names) ≡ coming (Named client) names
+coming_client name client names is =
+    elim (cases_Bool (is_kept name names)) [
+      | inl old ↦ rw old refl
+      | inr new ↦ rw new (ap (λ (b : Bool). if b then 0 else 1) (no_more new))
+    ]
+  where
+    or_false : (b : Bool) → (b || false) ≡ b
+    or_false true = refl
+    or_false false = refl
+
+    no_more : is_kept name names ≡ false → is_kept client (names ++ name ∷ []) ≡ is_kept client names
+    no_more new = list_any-append (same_name client) names (name ∷ []) ∙ ap (λ (b : Bool). is_kept client names || (b || false)) (client_differs name client is) ∙ or_false (is_kept client names)
+
+named_length : (name client : Name) (names : List Name) → client_of name ≡ Some client → length (who_entered (Named client) (who_entered (Named name) names)) ≡ length names + (coming (Named name) names + coming (Named client) names)
+named_length name client names is = omega (arith, length_who (Named client) (who_entered (Named name) names), length_who (Named name) names, coming_client name client names is)
+
+-- how many names are kept once those who ask are
+pub both_length : (a : Ask) (names : List Name) → is_client a.owner a.party ≡ true → length (both_entered a names) ≡ length names + (coming a.owner names + coming a.party names)
+both_length a names h =
+    let is = is_client_is a.owner a.party h in
+    ap (λ (w : Who). length (who_entered a.party (who_entered w names))) is.2
+    ∙ ap (λ (w : Who). length (who_entered w (who_entered (Named is.0) names))) is.3
+    ∙ named_length is.0 is.1 names is.4
+    ∙ sym (ap (λ (w : Who). length names + (coming w names + coming a.party names)) is.2 ∙ ap (λ (w : Who). length names + (coming (Named is.0) names + coming w names)) is.3)
+
+pub names_fit_is : (a : Ask) (names : List Name) → is_client a.owner a.party ≡ true → names_fit a names ≡ nat_le (length (both_entered a names)) most_names
+names_fit_is a names h = ap (λ (n : ℕ). nat_le n most_names) (sym (both_length a names h))

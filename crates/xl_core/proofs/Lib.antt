@@ -6,4 +6,7 @@ pub mod ClaimLaws
 pub mod DecideLaws
 pub mod GoodLaws
 pub mod TurnLaws
-pub mod SettledLaws
+pub mod LimitLaws
+pub mod CauseLaws
+pub mod ChangeLaws
+pub mod SettleLaws

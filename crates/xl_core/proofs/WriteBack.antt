@@ -357,9 +357,18 @@ length_new : (file : ℕ) (owner : Owner) (party : Party) (xs : List Span) → l
 length_new file owner party [] = refl
 length_new file owner party (x ∷ xs) = omega (arith, length_new file owner party xs)
 
-length_left : (file : ℕ) (owner : Owner) (first last : ℕ) (cs : List Claim) → length (touched file owner first last cs) + length (untouched file owner first last cs) ≡ length cs
+pub length_left : (file : ℕ) (owner : Owner) (first last : ℕ) (cs : List Claim) → length (touched file owner first last cs) + length (untouched file owner first last cs) ≡ length cs
 unfolding touched untouched
 length_left file owner first last cs = length_split (is_touched file owner first last) cs
+
+pub length_relocked : (file : ℕ) (owner : Owner) (party : Party) (first last : ℕ) (mode : Option Mode) (cs : List Claim) → length (relocked_in file owner party first last mode cs) ≡ length (fresh file owner first last mode cs) + length (untouched file owner first last cs)
+length_relocked file owner party first last mode cs =
+    omega (
+      arith,
+      ap (λ (ds : List Claim). length ds) (relocked_is file owner party first last mode cs),
+      length_all_inserted (map (range_claim file owner party) (fresh file owner first last mode cs)) (untouched file owner first last cs),
+      length_new file owner party (fresh file owner first last mode cs),
+    )
 
 fits_room : (file : ℕ) (owner : Owner) (first last : ℕ) (mode : Option Mode) (cs : List Claim) → relock_fits file owner first last mode cs ≡ true → length cs + length (fresh file owner first last mode cs) ≤ 16384 + length (touched file owner first last cs)
 unfolding relock_fits
@@ -380,7 +389,7 @@ kept_relocked file owner party first last mode cs kept p ends one fits = record 
   );
 }
 
--- ---- each moment in which one more is put in
+-- ---- the new runs are put in one after another
 
 -- one list of spans in the place of another: it is canonical, and stands behind whatever that did
 record IsAsGood (old new : List Span) : Type 0 where
@@ -478,13 +487,6 @@ sound_before c held is = record {
 sound_all_before : (cs held : List Claim) → IsSound (all_inserted cs held) → IsSound held
 sound_all_before [] held is = is
 sound_all_before (c ∷ cs) held is = sound_before c held (sound_all_before cs (inserted c held) is)
-
--- where all together make a list that is kept, each next one may be put in: the list is sound then, and there is room
-pub sound_next : (c : Claim) (cs held new : List Claim) → all_inserted (c ∷ cs) held ≡ new → IsSound new → IsSound (inserted c held)
-sound_next c cs held new e is = sound_all_before cs (inserted c held) (subst (λ (ds : List Claim). IsSound ds) (sym e) is)
-
-pub room_next : (c : Claim) (cs held new : List Claim) → all_inserted (c ∷ cs) held ≡ new → length new ≤ 16384 → length held < 16384
-room_next c cs held new e room = omega (arith, room, ap (λ (ds : List Claim). length ds) e, length_all_inserted cs (inserted c held), length_inserted c held)
 
 next_sound : (cs held : List Claim) → IsSound (all_inserted cs held) → AreSoundToInsert cs held
 next_sound [] held is = tt

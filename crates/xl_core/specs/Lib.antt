@@ -6,3 +6,4 @@ pub mod Decide
 pub mod Settle
 pub mod Good
 pub mod Whole
+pub mod Causes

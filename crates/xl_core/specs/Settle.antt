@@ -81,9 +81,10 @@ cancel s id = (Cancelled id ∷ [], with_parts s s.claims (cancelled id s.waiter
 
 -- all claims and waiters of a party are taken out; its name stays
 unfoldable pub end_party : CoreState → Party → List Effect × CoreState
-end_party s party =
-    (all_told (numbers_for party s.waiters),
-     with_parts s (filter (λ c. not (same_parties c.party party)) s.claims) (filter (λ w. not (waits_for party w)) s.waiters) s.names s.counter)
+end_party s party = (
+  all_told (numbers_for party s.waiters),
+  with_parts s (filter (λ c. not (same_parties c.party party)) s.claims) (filter (λ w. not (waits_for party w)) s.waiters) s.names s.counter,
+)
 
 -- the waiters without those of these numbers, taken out one after another
 abbrev pub all_cancelled : List ℕ → List Waiter → List Waiter

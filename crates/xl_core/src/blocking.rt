@@ -1,5 +1,5 @@
 //! Which held claims block an ask, and the least of them.
-ghost use Rattle.std.specs.Prelude.{◌≡◌, ℕ, List, Option, Some, None, IfOk, string_bytes};
+ghost use Rattle.std.specs.Prelude.{◌≡◌, ℕ, List, Option, Some, None, IfOk};
 ghost use Rattle.std.specs.Ordering.{nat_cmp, is_lt};
 ghost use Rattle.std.specs.Cmp.Lexicographic.{slice_cmp};
 ghost use Rattle.xl_names.specs.Texts.{owner_text};
@@ -13,7 +13,7 @@ use crate::parts::Parts;
 use std::alloc::{AllocError, Global};
 use xl_base::Owner;
 use xl_matrix::{Claim, Extent, What};
-use xl_names::{Names, put_name, put_open};
+use xl_names::{Names, owner_text};
 
 /// What orders ranges: the first byte, whether there are bytes, the last, and 0 where it is exclusive.
 fn range_key(claim: &Claim) -> (u64, u8, u64, u8)
@@ -34,22 +34,6 @@ fn range_key(claim: &Claim) -> (u64, u8, u64, u8)
         ),
         _ => (0, 0, 0, 0),
     }
-}
-
-/// The text of an owner; of one whose name isn't kept none.
-fn owner_text(alloc: Global, names: &Names, owner: Owner) -> Result<String, AllocError>
-    ensures { IfOk result (λ text. string_bytes text ≡ owner_text names.now owner) }
-{
-    let mut text = String::new(alloc);
-    match owner {
-        Owner::Name(_, number) => {
-            if let Some(name) = names.as_slice().get(number as usize) {
-                put_name(alloc, &mut text, name)?;
-            }
-        }
-        Owner::Open(number) => put_open(&mut text, number)?,
-    }
-    Ok(text)
 }
 
 /// Whether the first owner's text comes before the second's.

@@ -7,6 +7,7 @@ mod asking;
 mod blocking;
 mod decide;
 mod doors;
+pub mod law;
 mod leaving;
 mod parts;
 mod relock;
@@ -14,3 +15,6 @@ mod settling;
 
 pub use ask::{Act, Answer, Ask, Effect, Who};
 pub use doors::Core;
+
+#[cfg(test)]
+mod tests;

@@ -229,17 +229,11 @@ pub(crate) fn relock(
 
 /// Whether the owner has a byte of the range.
 #[tactic(auto, unfolding(crate::specs::Relock::holds_byte))]
-pub(crate) fn holds_byte(
-    alloc: Global,
-    table: &Table,
-    bytes: &Bytes,
-) -> Result<bool, AllocError>
+pub(crate) fn holds_byte(alloc: Global, table: &Table, bytes: &Bytes) -> Result<bool, AllocError>
     ensures { IfOk result (λ held. held ≡ holds_byte bytes.now.file bytes.now.owner bytes.now.first bytes.now.last table.now) }
 {
     let spans = spans_of(alloc, bytes.file, bytes.owner, table.claims())?;
-    Ok(spans
-        .iter()
-        .any(|span| span.first <= bytes.last && bytes.first <= span.last))
+    Ok(spans.iter().any(|span| span.first <= bytes.last && bytes.first <= span.last))
 }
 
 fn bytes_of(claim: &Claim, first: u64, last: u64) -> Bytes

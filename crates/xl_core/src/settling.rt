@@ -97,11 +97,7 @@ fn first_turn(alloc: Global, parts: &Parts, left: &Rooms) -> Result<Option<Turn>
 
 /// Takes the waiter out, and gives it what it asked for where there is room.
 #[tactic(auto, unfolding(crate::specs::Settle::served))]
-fn serve(
-    alloc: Global,
-    parts: &mut Parts,
-    turn: &Turn,
-) -> Result<Sequence<Effect>, AllocError>
+fn serve(alloc: Global, parts: &mut Parts, turn: &Turn) -> Result<Sequence<Effect>, AllocError>
     requires range { IsRange turn.now.claim }
     requires party { AllByRecursion (λ c. has_one_party turn.now.claim c ≡ true) parts.old.table }
     ensures served { IfOk result (λ effects. served (state_of parts.old) turn.now ≡ (effects, state_of parts.new)) }

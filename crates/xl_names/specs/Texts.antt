@@ -1,5 +1,5 @@
 -- The texts of owners and parties, as transcripts and the order of blockers have them.
-use Rattle.std.specs.Prelude.{ℕ, ◌<◌, List, [], ◌∷◌, ◌++◌, length, slice_get, Option, Some, None, codes}
+use Rattle.std.specs.Prelude.{ℕ, List, [], ◌∷◌, ◌++◌, slice_get, Option, Some, None, codes}
 use Rattle.std.specs.Fmt.{decimal, signed_decimal}
 use Rattle.hex.specs.Hex.{encode_lower}
 use Rattle.xl_base.specs.declared.name.Owner.{Owner}
@@ -48,12 +48,3 @@ owner_text names (owner.Open number) = open_text number
 abbrev pub party_text : List Name → Party → List ℕ
 party_text names (party.Name protocol number) = text_at (slice_get names number)
 party_text names (party.Open number) = open_text number
-
--- the names hold the owner's number, or the party's
-abbrev pub HoldsOwner : List Name → Owner → Type 0
-HoldsOwner names (owner.Name protocol number) = number < length names
-HoldsOwner names (owner.Open number) = Unit {0}
-
-abbrev pub HoldsParty : List Name → Party → Type 0
-HoldsParty names (party.Name protocol number) = number < length names
-HoldsParty names (party.Open number) = Unit {0}

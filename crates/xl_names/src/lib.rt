@@ -9,7 +9,9 @@ mod text;
 
 pub use name::Name;
 pub use names::{MOST_NAMES, NameErr, Names};
-pub use text::{owner_text, party_text, put_name, put_open, put_owner, put_party, text_of};
+pub use text::{
+    owner_text, party_text, put_hex_word, put_name, put_open, put_owner, put_party, text_of,
+};
 
 #[cfg(test)]
 mod tests;

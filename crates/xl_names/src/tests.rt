@@ -102,3 +102,12 @@ fn numbers_agree_with_plain_programs(rt: HostRuntime) -> Result<(), Fail> {
     assert!(rt; 30 < list.len());
     Ok(())
 }
+
+#[test]
+fn bytes_have_words(rt: HostRuntime) -> Result<(), Fail> {
+    let mut text = String::new(rt.alloc());
+    put_hex_word(rt.alloc(), &mut text, &[0, 0xab, 0x10])?;
+    put_hex_word(rt.alloc(), &mut text, &[])?;
+    assert_eq!(rt; text.as_str(), "00ab10-");
+    Ok(())
+}

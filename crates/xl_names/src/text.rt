@@ -1,7 +1,7 @@
 //! The texts of owners and parties. Where memory runs out, a text to which one was to be added may hold a beginning of it.
-ghost use Rattle.std.specs.Prelude.{◌≡◌, ◌++◌, codes, OnOk, IfOk, string_bytes};
+ghost use Rattle.std.specs.Prelude.{◌≡◌, ◌++◌, codes, slice_get, OnOk, IfOk, string_bytes};
 ghost use Rattle.std.specs.Fmt.{decimal, signed_decimal};
-ghost use Rattle.xl_names.specs.Texts.{hex_word, tagged, tagged_two, name_text, open_text, owner_text, party_text, HoldsOwner, HoldsParty};
+ghost use Rattle.xl_names.specs.Texts.{hex_word, tagged, tagged_two, name_text, open_text, text_at, owner_text, party_text};
 
 use crate::name::Name;
 use crate::names::Names;
@@ -9,8 +9,9 @@ use std::alloc::{AllocError, Global};
 use std::fmt::Write;
 use xl_base::{Owner, Party};
 
-/// Adds bytes as a word of lower case hex; a dash stands for none.
-fn put_hex_word(alloc: Global, text: &mut String, bytes: &[u8]) -> Result<(), AllocError>
+/// Adds bytes as a word: two lower case hex digits a byte, or a dash where there are no bytes. It fails only where memory
+/// runs out.
+pub fn put_hex_word(alloc: Global, text: &mut String, bytes: &[u8]) -> Result<(), AllocError>
     ensures { OnOk result (string_bytes text.new ≡ string_bytes text.old ++ hex_word bytes.now) }
 {
     if bytes.is_empty() {
@@ -89,41 +90,53 @@ pub fn put_open(text: &mut String, number: u32) -> Result<(), AllocError>
     Ok(())
 }
 
-/// Adds the text of the owner of a share or of ranges.
+/// Adds the text of the name of this number, where it is kept.
+fn put_kept(
+    alloc: Global,
+    text: &mut String,
+    names: &Names,
+    number: u32,
+) -> Result<(), AllocError>
+    ensures { OnOk result (string_bytes text.new ≡ string_bytes text.old ++ text_at (slice_get names.now number)) }
+{
+    if let Some(name) = names.as_slice().get(number as usize) {
+        put_name(alloc, text, name)?;
+    }
+    Ok(())
+}
+
+/// Adds the text of the owner of a share or of ranges; of one whose name isn't kept nothing.
 pub fn put_owner(
     alloc: Global,
     text: &mut String,
     names: &Names,
     owner: Owner,
 ) -> Result<(), AllocError>
-    requires { HoldsOwner names.now owner }
     ensures { OnOk result (string_bytes text.new ≡ string_bytes text.old ++ owner_text names.now owner) }
 {
     match owner {
-        Owner::Name(_, number) => put_name(alloc, text, names.name(number)),
+        Owner::Name(_, number) => put_kept(alloc, text, names, number),
         Owner::Open(number) => put_open(text, number),
     }
 }
 
-/// Adds the text of a party.
+/// Adds the text of a party; of one whose name isn't kept nothing.
 pub fn put_party(
     alloc: Global,
     text: &mut String,
     names: &Names,
     party: Party,
 ) -> Result<(), AllocError>
-    requires { HoldsParty names.now party }
     ensures { OnOk result (string_bytes text.new ≡ string_bytes text.old ++ party_text names.now party) }
 {
     match party {
-        Party::Name(_, number) => put_name(alloc, text, names.name(number)),
+        Party::Name(_, number) => put_kept(alloc, text, names, number),
         Party::Open(number) => put_open(text, number),
     }
 }
 
 /// The text of the owner of a share or of ranges, as `put_owner` adds it.
 pub fn owner_text(alloc: Global, names: &Names, owner: Owner) -> Result<String, AllocError>
-    requires { HoldsOwner names.now owner }
     ensures { IfOk result (λ text. string_bytes text ≡ owner_text names.now owner) }
 {
     let mut text = String::new(alloc);
@@ -133,7 +146,6 @@ pub fn owner_text(alloc: Global, names: &Names, owner: Owner) -> Result<String, 
 
 /// The text of a party, as `put_party` adds it.
 pub fn party_text(alloc: Global, names: &Names, party: Party) -> Result<String, AllocError>
-    requires { HoldsParty names.now party }
     ensures { IfOk result (λ text. string_bytes text ≡ party_text names.now party) }
 {
     let mut text = String::new(alloc);

@@ -178,6 +178,7 @@ fn write_whole<O: Sink>(alloc: Global, journal: &Journal, held: &Claims, out: &m
 fn head_with(alloc: Global, files: Sequence<Sequence<u8>>) -> Head
     ensures { result ≡ head_with files }
 {
+    let record = Record::new(alloc);
     Head {
         exports: Exports {
             files,
@@ -187,7 +188,7 @@ fn head_with(alloc: Global, files: Sequence<Sequence<u8>>) -> Head
             break_time: 35000,
         },
         start: Moment(0),
-        record: Record::new(alloc),
+        record,
     }
 }
 

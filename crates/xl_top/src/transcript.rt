@@ -5,13 +5,13 @@ ghost use Rattle.xl_top.specs.Claims.{held_of};
 ghost use Rattle.xl_top.specs.Transcript.{dest_words, out_line, out_lines, entry_lines, row_of, by_bytes, row_before, row_line, row_lines, transcript};
 
 use crate::claims::Claims;
-use crate::texts::{owner_text, put_hex_word};
+use crate::texts::owner_text;
 use std::alloc::{AllocError, Global};
 use std::cmp::Ordering;
 use std::fmt::Write;
 use xl_base::{Dest, Entry, Out, Sequence};
 use xl_matrix::{Claim, Extent, What};
-use xl_names::Names;
+use xl_names::{Names, put_hex_word};
 
 /// Adds where an out goes.
 #[tactic(auto, unfolding(crate::specs::Transcript::dest_words))]

@@ -1,0 +1,15 @@
+use Rattle.xl_core.proofs.CauseLaws.{lock_due, test_due, unlock_due, real_extent, real_unlock}
+use Rattle.xl_core.proofs.DecideLaws.{least_first}
+use Rattle.xl_core.proofs.law.answers_have_causes.Goals as goal
+
+pub returns-clause-locks : goal.returns-clause-locks
+returns-clause-locks c = λ n left s a extent exclusive answer fit act. lock_due n left s a extent exclusive answer act fit.party (real_extent a extent exclusive fit act)
+
+pub returns-clause-tests : goal.returns-clause-tests
+returns-clause-tests c = test_due
+
+pub returns-clause-unlocks : goal.returns-clause-unlocks
+returns-clause-unlocks c = λ n left s a first last answer good fit act. unlock_due n left s a first last answer act fit.party (real_unlock a first last fit act) good
+
+pub returns-clause-least : goal.returns-clause-least
+returns-clause-least c = least_first

@@ -1,0 +1,20 @@
+use Rattle.xl_core.proofs.GoodLaws.{started_good, begun_good, ask_good, settle_good, cancel_good, end_party_good}
+use Rattle.xl_core.proofs.law.stays_good.Goals as goal
+
+pub returns-clause-started : goal.returns-clause-started
+returns-clause-started c = started_good
+
+pub returns-clause-begun : goal.returns-clause-begun
+returns-clause-begun c = begun_good
+
+pub returns-clause-asked : goal.returns-clause-asked
+returns-clause-asked c = ask_good
+
+pub returns-clause-settled : goal.returns-clause-settled
+returns-clause-settled c = settle_good
+
+pub returns-clause-cancelled : goal.returns-clause-cancelled
+returns-clause-cancelled c = cancel_good
+
+pub returns-clause-ended : goal.returns-clause-ended
+returns-clause-ended c = end_party_good

@@ -1,0 +1,145 @@
+-- Why an ask or a turn is answered as it is, and what a turn leaves.
+use Rattle.std.specs.Prelude.{◌≡◌, ℕ, ◌+◌, ◌<◌, ◌≤◌, Bool, true, false, ◌&&◌, ◌==◌, nat_lt, ◌⊎◌, List, [], ◌∷◌, ◌++◌, length, Some, None}
+use Rattle.std.specs.List.{AllByRecursion, list_any, slice_get}
+use Rattle.xl_base.specs.Lists.{IsIn}
+use Rattle.xl_base.specs.declared.name.Owner.{Owner}
+use Rattle.xl_matrix.specs.declared.claim.Claim.{Claim}
+use Rattle.xl_names.specs.Names.{most_names}
+use Rattle.xl_names.specs.declared.name.Name.{Name}
+use Rattle.xl_spans.specs.Spans.{within, mode_at}
+use Rattle.xl_table.specs.Flat.{blocks}
+use Rattle.xl_table.specs.Held.{is_range, spans_of}
+use Rattle.xl_wait.specs.declared.waiter.Rooms.{Rooms}
+use Rattle.xl_wait.specs.declared.waiter.Waiter.{Waiter}
+use Rattle.xl_core.specs.State.{CoreState}
+use Rattle.xl_core.specs.Asking.{asker, both_entered}
+use Rattle.xl_core.specs.Blockers.{least, blockers, test_blockers}
+use Rattle.xl_core.specs.Decide.{most_hosts, most_waiters, most_opens, most_owners}
+use Rattle.xl_core.specs.Good.{is_blocked, is_still_blocked}
+use Rattle.xl_core.specs.Relock.{most_claims, relocked_in, granted_claims}
+use Rattle.xl_core.specs.declared.ask.Answer.{Answer}
+use Rattle.xl_core.specs.declared.ask.Answer.TheVariants.{Granted, Conflict, Queued, NoGrace, Full, NotHeld}
+use Rattle.xl_core.specs.declared.ask.Ask.{Ask}
+use Rattle.xl_core.specs.declared.ask.Effect.{Effect}
+use Rattle.xl_core.specs.declared.ask.Effect.TheVariants.{Served}
+
+-- ---- limits
+
+-- each limit of a grant, and whether it is passed: so many rows are left and come, so many claims are held afterwards,
+-- and so many names are kept
+abbrev pub grant_limits : Rooms → Rooms → ℕ → ℕ → List (ℕ × Bool)
+grant_limits left rows held kept =
+    (most_hosts, nat_lt left.hosts rows.hosts) ∷ (most_opens, nat_lt left.opens rows.opens) ∷ (most_owners, nat_lt left.owners rows.owners)
+    ∷ (most_claims, nat_lt most_claims held) ∷ (most_names, nat_lt most_names kept) ∷ []
+
+-- each limit of a wait; so many wait afterwards
+abbrev pub wait_limits : Rooms → Rooms → ℕ → ℕ → List (ℕ × Bool)
+wait_limits left rows waiting kept =
+    (most_hosts, nat_lt left.hosts rows.hosts) ∷ (most_waiters, nat_lt most_waiters waiting) ∷ (most_names, nat_lt most_names kept) ∷ []
+
+-- the limit is among these, and passed
+abbrev pub is_passed : List (ℕ × Bool) → ℕ → Bool
+is_passed limits n = list_any (λ limit. (limit.0 == n) && limit.1) limits
+
+-- none of the limits is passed
+abbrev pub IsRoom : List (ℕ × Bool) → Type 0
+IsRoom limits = (n : ℕ) → is_passed limits n ≡ false
+
+-- this limit is passed, and no lesser one
+abbrev pub IsLeastPassed : List (ℕ × Bool) → ℕ → Type 0
+IsLeastPassed limits n = (is_passed limits n ≡ true) × ((m : ℕ) → is_passed limits m ≡ true → n ≤ m)
+
+-- the limits of an ask's grant, and of its wait
+abbrev pub limits_of_grant : Rooms → CoreState → Ask → Claim → List (ℕ × Bool)
+limits_of_grant left s a claim = grant_limits left a.rows (length (granted_claims claim s.claims)) (length (both_entered a s.names))
+
+abbrev pub limits_of_wait : Rooms → CoreState → Ask → List (ℕ × Bool)
+limits_of_wait left s a = wait_limits left a.rows (length s.waiters + 1) (length (both_entered a s.names))
+
+-- ---- why an ask is answered so
+
+-- Why a lock is. A reclaim comes too late, as no grace runs. What nothing held blocks is granted where no limit is
+-- passed. What something blocks waits, where it may and no limit is passed; else the least of what blocks it is told.
+abbrev pub IsLockDue : Rooms → CoreState → Ask → Claim → Answer → Type 0
+IsLockDue left s a claim (Granted c) = (c ≡ claim) × (a.reclaim ≡ false) × (is_blocked s.claims claim ≡ false) × IsRoom (limits_of_grant left s a claim)
+IsLockDue left s a claim (Conflict c) =
+    (a.reclaim ≡ false) × (a.blocking ≡ false) × (least s.names (blockers s.waiters s claim) ≡ Some c) × IsIn c s.claims × (blocks claim c ≡ true)
+IsLockDue left s a claim (Queued number) =
+    (number ≡ s.counter + 1) × (a.reclaim ≡ false) × (a.blocking ≡ true) × (is_blocked s.claims claim ≡ true) × IsRoom (limits_of_wait left s a)
+IsLockDue left s a claim (NoGrace clock) = (clock ≡ s.clock) × (a.reclaim ≡ true)
+IsLockDue left s a claim (Full limit) =
+    (a.reclaim ≡ false)
+    × (((is_blocked s.claims claim ≡ false) × IsLeastPassed (limits_of_grant left s a claim) limit)
+    ⊎ ((a.blocking ≡ true) × (is_blocked s.claims claim ≡ true) × IsLeastPassed (limits_of_wait left s a) limit))
+IsLockDue left s a claim _ = ⊥
+
+-- a held range blocks a test of this range
+abbrev pub stands_against : Claim → Claim → Bool
+stands_against claim held = is_range held.what && blocks claim held
+
+-- Why a test is: a reclaim comes too late; else the least of the held ranges that block it is told, if there is one.
+abbrev pub IsTestDue : CoreState → Ask → Claim → Answer → Type 0
+IsTestDue s a claim (Granted c) = (c ≡ claim) × (a.reclaim ≡ false) × (list_any (stands_against claim) s.claims ≡ false)
+IsTestDue s a claim (Conflict c) = (a.reclaim ≡ false) × (least s.names (test_blockers s claim) ≡ Some c) × IsIn c s.claims × (stands_against claim c ≡ true)
+IsTestDue s a claim (NoGrace clock) = (clock ≡ s.clock) × (a.reclaim ≡ true)
+IsTestDue s a claim _ = ⊥
+
+-- the owner has no byte of the range
+abbrev pub HasNoByte : CoreState → ℕ → Owner → ℕ → ℕ → Type 0
+HasNoByte s file owner first last = (byte : ℕ) → within first last byte ≡ true → mode_at (spans_of file owner s.claims) byte ≡ None
+
+abbrev pub HasByte : CoreState → ℕ → Owner → ℕ → ℕ → Type 0
+HasByte s file owner first last = (byte : ℕ) × (within first last byte ≡ true) × (mode_at (spans_of file owner s.claims) byte ≡ None → ⊥)
+
+-- how many claims there are after the owner's unlock
+abbrev pub left_by_unlock : CoreState → Claim → ℕ → ℕ → ℕ
+left_by_unlock s claim first last = length (relocked_in claim.file claim.owner claim.party first last None s.claims)
+
+-- Why an unlock is. One that cuts a range in two adds a claim, for which there may be no room.
+abbrev pub IsUnlockDue : CoreState → Claim → ℕ → ℕ → Answer → Type 0
+IsUnlockDue s claim first last (Granted c) = (c ≡ claim) × HasByte s claim.file claim.owner first last × (left_by_unlock s claim first last ≤ most_claims)
+IsUnlockDue s claim first last (Full limit) = (limit ≡ most_claims) × HasByte s claim.file claim.owner first last × (most_claims < left_by_unlock s claim first last)
+IsUnlockDue s claim first last NotHeld = HasNoByte s claim.file claim.owner first last
+IsUnlockDue s claim first last _ = ⊥
+
+-- ---- what a turn is
+
+-- Why a waiter is so served, and which claims are held then; its names are kept already.
+abbrev pub IsTurnDue : Rooms → CoreState → Waiter → Claim → Answer → List Claim → Type 0
+IsTurnDue left s w claim (Granted c) claims = (c ≡ claim) × IsRoom (grant_limits left w.rows (length (granted_claims claim s.claims)) (length s.names)) × (claims ≡ granted_claims claim s.claims)
+IsTurnDue left s w claim (Full limit) claims = IsLeastPassed (grant_limits left w.rows (length (granted_claims claim s.claims)) (length s.names)) limit × (claims ≡ s.claims)
+IsTurnDue left s w claim _ claims = ⊥
+
+-- something held blocks what the waiter asks for
+abbrev pub IsBlockedWaiter : CoreState → Waiter → Type 0
+IsBlockedWaiter s w = is_still_blocked s.claims (slice_get w.asked 0) ≡ true
+
+-- The first waiter that nothing held blocks is answered and waits no more; the others wait on. Only what its owner has
+-- on its file changes.
+pub record IsTurn (left : Rooms) (s : CoreState) (effects : List Effect) (new : CoreState) : Type 0 where
+  pub before : List Waiter
+  pub waiter : Waiter
+  pub behind : List Waiter
+  pub claim : Claim
+  pub answer : Answer
+  pub stood : s.waiters ≡ before ++ waiter ∷ behind
+  pub blocked : AllByRecursion (IsBlockedWaiter s) before
+  pub asked : slice_get waiter.asked 0 ≡ Some claim
+  pub free : is_blocked s.claims claim ≡ false
+  pub due : IsTurnDue left s waiter claim answer new.claims
+  pub told : effects ≡ Served waiter.id answer ∷ []
+  pub waiters : new.waiters ≡ before ++ behind
+  pub names : new.names ≡ s.names
+  pub others : (file : ℕ) (owner : Owner) → ((file ≡ claim.file) × (owner ≡ claim.owner) → ⊥) → spans_of file owner new.claims ≡ spans_of file owner s.claims
+
+-- ---- what an ask may change
+
+-- An ask that is neither granted nor told to wait changes nothing. One that is granted changes only what its owner has on
+-- its file, one that waits no claim. No waiter goes, and each name keeps its number.
+pub record IsOwn (s : CoreState) (a : Ask) (answer : Answer) (new : CoreState) : Type 0 where
+  pub claims : ((claim : Claim) → answer ≡ Granted claim → ⊥) → new.claims ≡ s.claims
+  pub waiters : ((number : ℕ) → answer ≡ Queued number → ⊥) → new.waiters ≡ s.waiters
+  pub refused : ((claim : Claim) → answer ≡ Granted claim → ⊥) → ((number : ℕ) → answer ≡ Queued number → ⊥) → new ≡ s
+  pub others : (file : ℕ) (owner : Owner) → ((file ≡ a.file) × (owner ≡ asker a s.names) → ⊥) → spans_of file owner new.claims ≡ spans_of file owner s.claims
+  pub stay : (w : Waiter) → IsIn w s.waiters → IsIn w new.waiters
+  pub names : (number : ℕ) (name : Name) → slice_get s.names number ≡ Some name → slice_get new.names number ≡ Some name
