@@ -1,0 +1,5 @@
+pub mod AskLaws
+pub mod HostLaws
+pub mod ReplyLaws
+pub mod ShortLaws
+pub mod StepLaws
