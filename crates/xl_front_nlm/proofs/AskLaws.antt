@@ -1,5 +1,5 @@
 -- An owner of NLM ranges belongs to its caller.
-use Rattle.std.proofs.Common.{◌≡◌, List, refl}
+use Rattle.std.proofs.Common.{◌≡◌, ℕ, List, refl}
 use Rattle.std.specs.Prelude.{true, bytes_eq}
 use Rattle.std.specs.Cmp.Lexicographic.{bytes_decides}
 

@@ -47,7 +47,7 @@ holder_short : (names : List Name) (c : Claim) → AreShort names → length (ho
 holder_short names c short = rw (holder_same (owner_parts names c.owner) c.what) (owner_short names c.owner short)
 
 -- a holder is told just where the status is Denied, and its oh is short
-IsToldShort : List Name → Outcome → Type 0
+abbrev IsToldShort : List Name → Outcome → Type 0
 IsToldShort names outcome = (is_some (test_holder names outcome) ≡ is_denied (test_status outcome)) × IfSome (test_holder names outcome) (λ h. length h.oh ≤ 1024)
 
 answer_told : (names : List Name) (answer : Answer) → AreShort names → IsToldShort names (Answered answer)

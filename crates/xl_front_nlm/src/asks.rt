@@ -1,5 +1,6 @@
 //! What the core is asked for a call.
-ghost use Rattle.std.specs.Prelude.{◌≡◌, ◌≤◌, false, option_copied, IfOk};
+ghost use Rattle.std.specs.Prelude.{◌≡◌, ◌≤◌, false, IfOk};
+ghost use Rattle.std.specs.List.{list_any, slice_get};
 ghost use Rattle.xl_nlm.specs.Items.{shown_lock, shown_test_args, shown_lock_args, shown_unlock_args};
 ghost use Rattle.xl_core.specs.Asking.{IsFit};
 ghost use Rattle.xl_front_nlm.specs.Asks.{owner_of, ask_of, test_ask, lock_ask, unlock_ask, is_aimed, is_same, waits_by, does_wait};
@@ -109,8 +110,8 @@ fn is_aimed(what: What, at: &Aim, exclusive: bool) -> bool
 }
 
 /// Whether the claim is this owner's, on the very bytes, in this mode.
-fn is_same(owner: Owner, at: &Aim, exclusive: bool, claim: Option<&Claim>) -> bool
-    ensures { result ≡ is_same owner at.now exclusive (option_copied claim) }
+fn is_same(owner: Owner, at: &Aim, exclusive: bool, claim: Option<Claim>) -> bool
+    ensures { result ≡ is_same owner at.now exclusive claim }
 {
     let Some(claim) = claim else {
         return false;
@@ -120,16 +121,25 @@ fn is_same(owner: Owner, at: &Aim, exclusive: bool, claim: Option<&Claim>) -> bo
         && is_aimed(claim.what, at, exclusive)
 }
 
+/// Whether one of them waits for the very bytes in this mode as this owner.
+fn any_same(owner: Owner, at: &Aim, exclusive: bool, waiters: &[Waiter]) -> bool
+    ensures { result ≡ list_any (λ w. is_same owner at.now exclusive (slice_get w.asked 0)) waiters.now }
+{
+    waiters
+        .iter()
+        .any(|waiter| is_same(owner, at, exclusive, waiter.asked.as_slice().first().copied()))
+}
+
 fn waits_by(waiters: &[Waiter], at: &Aim, exclusive: bool, number: Option<u32>) -> bool
     ensures { result ≡ waits_by waiters.now at.now exclusive number }
 {
-    let Some(number) = number else {
-        return false;
-    };
-    let owner = Owner::Name(Protocol::Nlm, number);
-    waiters
-        .iter()
-        .any(|waiter| is_same(owner, at, exclusive, waiter.asked.as_slice().first()))
+    match number {
+        Some(number) => {
+            let owner = Owner::Name(Protocol::Nlm, number);
+            any_same(owner, at, exclusive, waiters)
+        }
+        None => false,
+    }
 }
 
 /// Whether the owner waits for the very bytes in this mode already.

@@ -109,6 +109,7 @@ fn rooms_of(hosts: &IndexSet<Sequence<u8>>) -> Rooms
 }
 
 /// Enters a host behind those before it, where it is new.
+#[tactic(auto, using(crate::proofs::HostLaws::sound_entered))]
 fn enter(
     hosts: &mut IndexSet<Sequence<u8>>,
     caller: Sequence<u8>,

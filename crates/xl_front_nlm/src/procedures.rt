@@ -1,5 +1,5 @@
 //! What becomes of a call.
-ghost use Rattle.std.specs.Prelude.{◌≡◌, ℕ, ◌+◌, ◌≤◌, ◌<◌, ◌^◌, true, IfOk, OnOk};
+ghost use Rattle.std.specs.Prelude.{◌≡◌, ℕ, ◌+◌, ◌≤◌, ◌<◌, ◌^◌, IfOk, OnOk};
 ghost use Rattle.xl_nlm.specs.Items.{shown_test_args, shown_lock_args, shown_unlock_args, shown_call};
 ghost use Rattle.xl_nlm.specs.Arguments.{CallFits, TestArgsFits, LockArgsFits, UnlockArgsFits};
 ghost use Rattle.xl_core.specs.Asking.{IsFit};
@@ -7,7 +7,7 @@ ghost use Rattle.xl_core.specs.Decide.{ask};
 ghost use Rattle.xl_core.specs.Good.{IsGood};
 ghost use Rattle.xl_core.specs.State.{MayBe, GoesOn};
 ghost use Rattle.xl_front_nlm.specs.Asks.{lock_ask, answered_for, test_done, lock_done, unlock_done, served};
-ghost use Rattle.xl_front_nlm.specs.Hosts.{rooms, lock_rows, makes_host};
+ghost use Rattle.xl_front_nlm.specs.Hosts.{rooms, lock_rows};
 ghost use Rattle.xl_front_nlm.specs.declared.outcome.Outcome.TheVariants.{Answered};
 ghost use Rattle.xl_front_nlm.specs.Short.{AreShort, IsShortAsk, Grows};
 
@@ -21,6 +21,7 @@ use xl_core::{Answer, Ask, Core, Effect};
 use xl_nlm::{LockArgs, NlmCall, TestArgs, UnlockArgs};
 
 /// Asks the core.
+#[tactic(auto, using(crate::proofs::StepLaws::may_be_made, crate::proofs::StepLaws::ask_grows))]
 fn asked<K: Keeper>(
     alloc: Global,
     front: &Front,
@@ -37,7 +38,7 @@ fn asked<K: Keeper>(
     ensures on { OnOk result (GoesOn core.old core.new) }
     ensures good { OnOk result (IsGood core.new) }
     ensures grows { OnOk result (Grows core.old core.new) }
-    ensures room { IfOk result (λ r. makes_host r.0 ≡ true → request.now.rows.hosts ≤ (rooms front.now).hosts) }
+    ensures now { IfOk result (λ r. ask core.new.made (rooms front.now) core.old request.now ≡ (r.0, r.1, core.new)) }
     ensures keeper { keeper.new ≡ keeper.old }
 {
     core.ask(alloc, keeper, request, &front.rooms())
@@ -102,6 +103,7 @@ fn unlock<K: Keeper>(
 }
 
 /// A lock that nobody waits for already. The caller may be a host from then on.
+#[tactic(auto, using(crate::proofs::StepLaws::room_to_note))]
 fn lock_at<K: Keeper>(
     alloc: Global,
     front: &mut Front,

@@ -1,11 +1,12 @@
 //! What a record of ONC RPC is answered: the Network Lock Manager, program 100021 version 4 (XNFS C702), is served.
-ghost use Rattle.std.specs.Prelude.{◌≡◌, ℕ, ◌+◌, ◌≤◌, ◌<◌, ◌^◌, true, length, option_map, IfOk, IfSome, OnOk};
+ghost use Rattle.std.specs.Prelude.{◌≡◌, ℕ, ◌+◌, ◌≤◌, ◌<◌, ◌^◌, true, [], ◌++◌, length, option_map, IfOk, IfSome, OnOk};
 ghost use Rattle.std.specs.List.{AllByRecursion};
 ghost use Rattle.xl_nlm.specs.Arguments.{arguments_at, CallFits};
 ghost use Rattle.xl_nlm.specs.Items.{shown_call, shown_reply};
 ghost use Rattle.xl_nlm.specs.Replies.{results, IsShortReply};
 ghost use Rattle.xl_rpc.specs.Calls.{shown_head};
 ghost use Rattle.xl_rpc.specs.Replies.{reply};
+ghost use Rattle.xl_rpc.specs.declared.reply.Verdict.TheVariants.{Success};
 ghost use Rattle.xl_core.specs.Good.{IsGood};
 ghost use Rattle.xl_core.specs.State.{MayBe, GoesOn};
 ghost use Rattle.xl_front_nlm.specs.Asks.{served};
@@ -53,14 +54,15 @@ fn plain(
 }
 
 /// A reply with results, which are short.
-fn with_results(alloc: Global, xid: u32, reply: &NlmReply) -> Result<Vec<u8>, AllocError>
-    requires { IsShortReply (shown_reply reply.now) }
-    ensures reply { IfOk result (λ v. v.items ≡ reply xid Success ++ results (shown_reply reply.now)) }
+#[tactic(auto, using(crate::proofs::ReplyLaws::whole_short))]
+fn with_results(alloc: Global, xid: u32, told: &NlmReply) -> Result<Vec<u8>, AllocError>
+    requires { IsShortReply (shown_reply told.now) }
+    ensures reply { IfOk result (λ v. v.items ≡ reply xid Success ++ results (shown_reply told.now)) }
     ensures little { IfOk result (λ v. length v.items ≤ 65536) }
 {
     let mut out = XdrOut::new(alloc);
     write_reply(&mut out, xid, Verdict::Success)?;
-    write_result(&mut out, reply)?;
+    write_result(&mut out, told)?;
     Ok(out.done())
 }
 
