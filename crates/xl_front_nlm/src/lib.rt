@@ -5,13 +5,16 @@ mod aim;
 mod asks;
 mod effects;
 mod front;
+pub mod law;
 mod outcome;
 mod procedures;
 mod results;
 mod step;
 
+pub use aim::Aim;
 pub use effects::shown;
 pub use front::{Front, MOST_HOSTS};
+pub use outcome::Outcome;
 pub use step::nlm_step;
 
 #[cfg(test)]

@@ -379,7 +379,7 @@ fn hosts_are_few(rt: HostRuntime) -> Result<(), Fail> {
     for (row, stat) in [(test, 0), (more, 2), (again, 0), (test, 1)] {
         let (next, got) = told(alloc, server, &record(alloc, row)?)?;
         server = next;
-        assert_eq!(rt; got.as_slice().get(31).copied(), Some(stat));
+        assert_eq!(rt; got.as_slice().get(35).copied(), Some(stat));
     }
     assert_eq!(rt; server.front.hosts().len(), 256);
     Ok(())
