@@ -16,7 +16,7 @@ use Rattle.xl_core.specs.Good.{IsGood, IsSettled, is_still_blocked}
 use Rattle.xl_core.specs.Settle.{settle}
 use Rattle.xl_core.specs.declared.ask.Effect.{Effect}
 use Rattle.xl_core.proofs.GoodLaws.{started_good, begun_good, settle_good}
-use Rattle.xl_core.proofs.SettledLaws.{IsTurned, IsStill, none_is_settled, settle_turns}
+use Rattle.xl_core.proofs.SettleLaws.{settled_is, turn_fewer}
 use Rattle.xl_wait.specs.declared.waiter.Waiter.{Waiter}
 use Rattle.xl_front_nlm.specs.Hosts.{rooms}
 use Rattle.xl_front_nlm.specs.FrontNlm.{nlm_step}
@@ -24,6 +24,7 @@ use Rattle.xl_house.specs.Free.{IsFree, AlwaysFree}
 use Rattle.xl_house.specs.Journals.{is_restart}
 use Rattle.xl_house.specs.Machine.{Whole, Turn, begin, kind_of, after_turn, settled_for, settled, front_done, heard_by, heard, connected, onward, turn_of, settled_turn, restarted, step}
 use Rattle.xl_house.specs.declared.connections.Connection.{Connection}
+use Rattle.xl_house.proofs.StillLaws.{IsStill, IsAfterTurn, still, still_on, turn_still}
 use Rattle.xl_house.proofs.FrontLaws.{front_good, front_still}
 use Rattle.xl_house.proofs.SettleLaws.{may_be_made, may_be_before}
 
@@ -57,38 +58,32 @@ none_waits : (P : Waiter → Type 0) (ws : List Waiter) → length ws ≡ 0 → 
 none_waits P [] e = tt
 none_waits P (w ∷ ws) e = absurd (omega (arith, e))
 
-ends_by : (fuel n : ℕ) (hosts : List (List ℕ)) (s : CoreState) (o : Option (List Effect × CoreState)) → settle n (rooms hosts) s ≡ o → length s.waiters ≡ suc fuel → ((t : CoreState) → length t.waiters ≡ fuel → IsSettled (settled_for fuel n hosts t).1) → IsSettled (after_turn hosts (settled_for fuel n hosts) s o).1
-ends_by fuel n hosts s None is e rests = none_is_settled n (rooms hosts) s is
-ends_by fuel n hosts s (Some turn) is e rests =
-    let turned : IsTurned s turn.1 = subst (λ (x : Option (List Effect × CoreState)). IfSome x (λ y. IsTurned s y.1)) is (settle_turns n (rooms hosts) s) in
-    rests turn.1 (omega (arith, turned.fewer, e))
+ends_by : (fuel n : ℕ) (hosts : List (List ℕ)) (s : CoreState) (o : Option (List Effect × CoreState)) → settle n (rooms hosts) s ≡ o → IfSome o (λ r. length r.1.waiters + 1 ≡ length s.waiters) → IfSome o (λ r. IsGood r.1) → length s.waiters ≡ suc fuel
+    → ((t : CoreState) → IsGood t → length t.waiters ≡ fuel → IsSettled (settled_for fuel n hosts t).1) → IsSettled (after_turn hosts (settled_for fuel n hosts) s o).1
+ends_by fuel n hosts s None is fewer good e rests = (settled_is n (rooms hosts) s).0 is
+ends_by fuel n hosts s (Some turn) is fewer good e rests = rests turn.1 good (omega (arith, fewer, e))
 
-ends_for : (fuel n : ℕ) (hosts : List (List ℕ)) (s : CoreState) → length s.waiters ≡ fuel → IsSettled (settled_for fuel n hosts s).1
-ends_for zero n hosts s e = none_waits (λ w. is_still_blocked s.claims (slice_get w.asked 0) ≡ true) s.waiters e
-ends_for (suc fuel) n hosts s e = ends_by fuel n hosts s (settle n (rooms hosts) s) refl e (λ t h. ends_for fuel n hosts t h)
+ends_for : (fuel n : ℕ) (hosts : List (List ℕ)) (s : CoreState) → IsGood s → length s.waiters ≡ fuel → IsSettled (settled_for fuel n hosts s).1
+ends_for zero n hosts s good e = none_waits (λ w. is_still_blocked s.claims (slice_get w.asked 0) ≡ true) s.waiters e
+ends_for (suc fuel) n hosts s good e =
+    ends_by fuel n hosts s (settle n (rooms hosts) s) refl (turn_fewer n (rooms hosts) s good) (settle_good n (rooms hosts) s good) e (λ t g h. ends_for fuel n hosts t g h)
 
 -- nobody is forgotten
-pub settling_ends : (n : ℕ) (hosts : List (List ℕ)) (s : CoreState) → IsSettled (settled n hosts s).1
+pub settling_ends : (n : ℕ) (hosts : List (List ℕ)) (s : CoreState) → IsGood s → IsSettled (settled n hosts s).1
 unfolding settled
-settling_ends n hosts s = ends_for (length s.waiters) n hosts s refl
+settling_ends n hosts s good = ends_for (length s.waiters) n hosts s good refl
 
 pub settling_good : (n : ℕ) (hosts : List (List ℕ)) (s : CoreState) → IsGood s → IsGood (settled n hosts s).1
 settling_good n hosts s good = settling_keeps IsGood n hosts s (λ t holds. settle_good n (rooms hosts) t holds) good
-
-still_on : (a b c : CoreState) → IsStill a b → IsStill b c → IsStill a c
-still_on a b c first next = record { stable = next.stable ∙ first.stable; clock = next.clock ∙ first.clock; made = next.made ∙ first.made; failed = next.failed ∙ first.failed }
 
 if_some : (P Q : List Effect × CoreState → Type 0) (o : Option (List Effect × CoreState)) → ((r : List Effect × CoreState) → P r → Q r) → IfSome o P → IfSome o Q
 if_some P Q None each holds = tt
 if_some P Q (Some r) each holds = each r holds
 
-still : (s : CoreState) → IsStill s s
-still s = record { stable = refl; clock = refl; made = refl; failed = refl }
-
 pub settling_still : (n : ℕ) (hosts : List (List ℕ)) (s : CoreState) → IsStill s (settled n hosts s).1
 settling_still n hosts s =
     settling_keeps (λ t. IsStill s t) n hosts s
-    (λ t holds. if_some (λ r. IsTurned t r.1) (λ r. IsStill s r.1) (settle n (rooms hosts) t) (λ r turned. still_on s t r.1 holds turned.still) (settle_turns n (rooms hosts) t))
+    (λ t holds. if_some (λ r. IsAfterTurn t r.1) (λ r. IsStill s r.1) (settle n (rooms hosts) t) (λ r turned. still_on s t r.1 holds turned.still) (turn_still n (rooms hosts) t))
     (still s)
 
 -- ---- what an event gives before the table is settled
@@ -147,7 +142,7 @@ turn_free : (n : ℕ) (s : Whole) (e : Event) (connections : List Connection) �
 turn_free n s e connections free =
     free_from s connections (heard n s e).1 (left_by n s e)
     (settling_good n (heard n s e).1 (heard n s e).2 (heard_good n s e free.good))
-    (settling_ends n (heard n s e).1 (heard n s e).2)
+    (settling_ends n (heard n s e).1 (heard n s e).2 (heard_good n s e free.good))
 
 pub started_free : (s : Whole) (stable : Stable) (clock : Moment) → s.core ≡ started stable clock → IsFree s
 started_free s stable clock e = record {

@@ -4,4 +4,3 @@ pub mod Free
 pub mod Housed
 pub mod Starts
 pub mod Whole
-pub mod Asked
