@@ -1,6 +1,6 @@
 -- Journals with one entry more.
 use Rattle.std.proofs.Math.Seq.{take-append_seam}
-use Rattle.std.proofs.Common.{◌≡◌, ℕ, suc, ◌+◌, ◌<◌, ◌≤◌, false, arith, length-append, List, [], ◌∷◌, ◌++◌, length, take, refl, sym, ap, subst, ◌∙◌, append_assoc}
+use Rattle.std.proofs.Common.{◌≡◌, ℕ, suc, ◌+◌, ◌<◌, ◌≤◌, false, arith, length-append, Option, List, [], ◌∷◌, ◌++◌, length, take, refl, sym, ap, subst, ◌∙◌, append_assoc}
 use Rattle.xl_base.specs.Stable.{Stable}
 use Rattle.xl_base.specs.declared.event.Event.{Event}
 use Rattle.xl_base.specs.declared.journal.Entry.{Entry}
@@ -8,8 +8,8 @@ use Rattle.xl_front_nlm.specs.Short.{AreShort}
 use Rattle.xl_house.specs.Machine.{Whole, step}
 use Rattle.xl_house.specs.Journals.{replay, IsStep, IsLegal, entry, entries_of, is_restart}
 use Rattle.xl_house.specs.Free.{IsFree}
-use Rattle.xl_house.specs.Housed.{Stands}
-use Rattle.xl_house.proofs.MachineLaws.{none_made, next_place, step_free}
+use Rattle.xl_house.specs.Housed.{Holds, Stands}
+use Rattle.xl_house.proofs.MachineLaws.{none_made, next_place, step_free, step_still}
 
 pub replay_entry : (s : Whole) (es : List Entry) (event : Event) → replay s (es ++ entry 0 (replay s es) event ∷ []) ≡ (step 0 (replay s es) event).next
 replay_entry s [] event = refl
@@ -53,3 +53,13 @@ stands_next start es old new event stands e counter short =
       counter = omega (arith, counter, stands.counter, longer);
       short = short;
     }
+
+-- the keeper still holds the machine's record, as nothing is stored
+pub holds_next : (held : Option Stable) (old new : Whole) (event : Event) → Holds held old.core.stable → is_restart event ≡ false → new ≡ (step 0 old event).next → Holds held new.core.stable
+holds_next held old new event holds other e =
+    subst (λ (stable : Stable). Holds held stable) (sym (ap (λ (s : Whole). s.core.stable) e ∙ step_still 0 old event other)) holds
+
+pub holds_after : (held : Option Stable) (start : Whole) (es : List Entry) (old new : Whole) (event : Event) → Stands start es old → new ≡ (step 0 old event).next → Holds held new.core.stable → Holds held (replay start (es ++ entry 0 old event ∷ [])).core.stable
+holds_after held start es old new event stands e holds =
+    let replayed = e ∙ ap (λ (s : Whole). (step 0 s event).next) stands.replayed ∙ sym (replay_entry start es event) ∙ ap (λ (s : Whole). replay start (es ++ entry 0 s event ∷ [])) (sym stands.replayed) in
+    subst (λ (s : Whole). Holds held s.core.stable) replayed holds

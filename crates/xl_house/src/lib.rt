@@ -1,6 +1,7 @@
 #![tactic(auto)]
 
 mod connections;
+mod house;
 mod law;
 mod machine;
 mod outs;
