@@ -1,11 +1,11 @@
 -- The front changes the core through one ask at most.
-use Rattle.std.proofs.Common.{◌≡◌, ℕ, ◌+◌, ◌-◌, ◌^◌, ◌≤◌, Bool, true, false, not, cond, eqb, ltb, leb, inl, inr, Option, Some, None, Result, Ok, Err, List, [], ◌∷◌, ◌++◌, length, refl, sym, ap, ◌∙◌, arith}
+use Rattle.std.proofs.Common.{◌≡◌, ℕ, ◌+◌, ◌-◌, ◌^◌, ◌≤◌, Bool, true, false, not, cond, eqb, ltb, leb, inl, inr, Option, Some, None, Result, Ok, Err, List, length, refl, arith}
 use Rattle.std.specs.Prelude.{bytes_eq}
 use Rattle.std.specs.Cmp.Lexicographic.{bytes_decides}
 use Rattle.std.proofs.lemmas.Bool.{cases_Bool, ltb-true, leb-true, eqb-false}
 use Rattle.xl_base.specs.declared.journal.Exports.{Exports}
 use Rattle.xl_nlm.specs.Arguments.{arguments_at}
-use Rattle.xl_nlm.specs.Items.{LockItem, TestArgsItem, LockArgsItem, UnlockArgsItem, CallItem, Null, Test, Lock, Cancel, Unlock, Granted, Share, Unshare, NmLock, FreeAll}
+use Rattle.xl_nlm.specs.Items.{TestArgsItem, LockArgsItem, UnlockArgsItem, CallItem, Null, Test, Lock, Cancel, Unlock, Granted, Share, Unshare, NmLock, FreeAll}
 use Rattle.xl_rpc.specs.Calls.{HeadItem, call_at}
 use Rattle.xl_rpc.specs.declared.fault.RpcBad.{RpcBad}
 use Rattle.xl_rpc.specs.declared.fault.RpcBad.TheVariants as bad

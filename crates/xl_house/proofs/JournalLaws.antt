@@ -1,12 +1,12 @@
 -- Journals with one entry more.
 use Rattle.std.proofs.Math.Seq.{take-append_seam}
-use Rattle.std.proofs.Common.{◌≡◌, ℕ, suc, ◌+◌, ◌<◌, ◌≤◌, false, arith, length-append, Option, List, [], ◌∷◌, ◌++◌, length, take, refl, sym, ap, subst, ◌∙◌, append_assoc}
+use Rattle.std.proofs.Common.{◌≡◌, suc, ◌+◌, ◌<◌, ◌≤◌, false, arith, length-append, Option, List, [], ◌∷◌, ◌++◌, length, take, refl, sym, ap, subst, ◌∙◌, append_assoc}
 use Rattle.xl_base.specs.Stable.{Stable}
 use Rattle.xl_base.specs.declared.event.Event.{Event}
 use Rattle.xl_base.specs.declared.journal.Entry.{Entry}
 use Rattle.xl_front_nlm.specs.Short.{AreShort}
 use Rattle.xl_house.specs.Machine.{Whole, step}
-use Rattle.xl_house.specs.Journals.{replay, IsStep, IsLegal, entry, entries_of, is_restart}
+use Rattle.xl_house.specs.Journals.{replay, IsLegal, entry, entries_of, is_restart}
 use Rattle.xl_house.specs.Free.{IsFree}
 use Rattle.xl_house.specs.Housed.{Holds, Stands}
 use Rattle.xl_house.proofs.MachineLaws.{none_made, next_place, step_free, step_still}

@@ -1,5 +1,5 @@
 -- What each event keeps.
-use Rattle.std.proofs.Common.{◌≡◌, ℕ, zero, suc, ◌+◌, ◌≤◌, Bool, true, false, Option, Some, None, IfSome, List, [], ◌∷◌, ◌++◌, length, refl, sym, ap, subst, ◌∙◌, arith}
+use Rattle.std.proofs.Common.{◌≡◌, ℕ, zero, suc, ◌+◌, true, false, Option, Some, None, IfSome, List, [], ◌∷◌, ◌++◌, length, refl, sym, ap, subst, ◌∙◌, arith}
 use Rattle.std.specs.List.{AllByRecursion, slice_get}
 use Rattle.xl_base.specs.Stable.{Stable, raised}
 use Rattle.xl_base.specs.declared.event.Event.{Event}
@@ -19,10 +19,9 @@ use Rattle.xl_core.proofs.GoodLaws.{started_good, begun_good, settle_good}
 use Rattle.xl_core.proofs.SettleLaws.{settled_is, turn_fewer}
 use Rattle.xl_wait.specs.declared.waiter.Waiter.{Waiter}
 use Rattle.xl_front_nlm.specs.Hosts.{rooms}
-use Rattle.xl_front_nlm.specs.FrontNlm.{nlm_step}
 use Rattle.xl_house.specs.Free.{IsFree, AlwaysFree}
 use Rattle.xl_house.specs.Journals.{is_restart}
-use Rattle.xl_house.specs.Machine.{Whole, Turn, begin, kind_of, after_turn, settled_for, settled, front_done, heard_by, heard, connected, onward, turn_of, settled_turn, restarted, step}
+use Rattle.xl_house.specs.Machine.{Whole, Turn, begin, kind_of, after_turn, settled_for, settled, heard_by, heard, connected, onward, settled_turn, restarted, step}
 use Rattle.xl_house.specs.declared.connections.Connection.{Connection}
 use Rattle.xl_house.proofs.StillLaws.{IsStill, IsAfterTurn, still, still_on, turn_still}
 use Rattle.xl_house.proofs.FrontLaws.{front_good, front_still}
@@ -132,11 +131,11 @@ left_by n s e = (settled n (heard n s e).1 (heard n s e).2).1
 
 pub free_from : (s : Whole) (connections : List Connection) (hosts : List (List ℕ)) (core : CoreState) → IsGood core → IsSettled core → IsFree (onward s connections hosts core)
 free_from s connections hosts core good settled = record {
-    good = begun_good core good;
-    settled = begun_settled core settled;
-    made = (begun_still core).0;
-    failed = (begun_still core).1;
-  }
+  good = begun_good core good;
+  settled = begun_settled core settled;
+  made = (begun_still core).0;
+  failed = (begun_still core).1;
+}
 
 turn_free : (n : ℕ) (s : Whole) (e : Event) (connections : List Connection) → IsFree s → IsFree (settled_turn n s connections (heard n s e)).next
 turn_free n s e connections free =
@@ -146,11 +145,11 @@ turn_free n s e connections free =
 
 pub started_free : (s : Whole) (stable : Stable) (clock : Moment) → s.core ≡ started stable clock → IsFree s
 started_free s stable clock e = record {
-    good = subst (λ (t : CoreState). IsGood t) (sym e) (started_good stable clock);
-    settled = subst (λ (t : CoreState). IsSettled t) (sym e) tt;
-    made = ap (λ (t : CoreState). t.made) e;
-    failed = ap (λ (t : CoreState). t.failed) e;
-  }
+  good = subst (λ (t : CoreState). IsGood t) (sym e) (started_good stable clock);
+  settled = subst (λ (t : CoreState). IsSettled t) (sym e) tt;
+  made = ap (λ (t : CoreState). t.made) e;
+  failed = ap (λ (t : CoreState). t.failed) e;
+}
 
 pub step_free : (n : ℕ) (s : Whole) (e : Event) → IsFree s → IsFree (step n s e).next
 unfolding step

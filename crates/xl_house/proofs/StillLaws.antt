@@ -1,5 +1,5 @@
 -- No ask and no turn stores anything.
-use Rattle.std.proofs.Common.{◌≡◌, ℕ, ◌+◌, Bool, true, false, inl, inr, Option, Some, None, IfSome, option_map, List, [], length, refl, sym, ap, subst, ◌∙◌}
+use Rattle.std.proofs.Common.{◌≡◌, ℕ, Bool, false, inl, inr, Option, Some, None, IfSome, option_map, List, [], refl, sym, subst, ◌∙◌}
 use Rattle.std.specs.List.{slice_get}
 use Rattle.std.proofs.lemmas.Bool.{cases_Bool}
 use Rattle.xl_matrix.specs.declared.claim.Claim.{Claim}

@@ -1,5 +1,5 @@
 -- What holds at each free moment: before the first entry of a journal, and after each.
-use Rattle.std.specs.Prelude.{◌≡◌, ℕ, ◌≤◌, false, List, [], ◌∷◌}
+use Rattle.std.specs.Prelude.{◌≡◌, false, List, [], ◌∷◌}
 use Rattle.xl_base.specs.declared.journal.Entry.{Entry}
 use Rattle.xl_core.specs.Good.{IsGood, IsSettled}
 use Rattle.xl_house.specs.Machine.{Whole, step}

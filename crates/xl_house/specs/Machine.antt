@@ -4,7 +4,7 @@ use Rattle.xl_base.specs.Stable.{raised}
 use Rattle.xl_base.specs.declared.event.Dest.{Dest}
 use Rattle.xl_base.specs.declared.event.Dest.TheVariants.{Conn, Back}
 use Rattle.xl_base.specs.declared.event.Event.{Event}
-use Rattle.xl_base.specs.declared.event.Event.TheVariants.{Open, Message, End, Called, Tick, Restart}
+use Rattle.xl_base.specs.declared.event.Event.TheVariants.{Open, Message, End, Restart}
 use Rattle.xl_base.specs.declared.event.Kind.{Kind}
 use Rattle.xl_base.specs.declared.event.Kind.TheVariants.{Rpc, Smb}
 use Rattle.xl_base.specs.declared.event.Out.{Out}
@@ -123,10 +123,10 @@ settled_turn n s connections done = turn_of s connections done (settled n done.1
 -- A restart begins anew from the record with its epoch raised, which is stored. The clock goes on, and so do the places.
 abbrev pub restarted : Whole → Turn
 restarted s = record {
-    next = record { exports = s.exports; place = s.place + 1; connections = []; hosts = []; core = started (raised s.core.stable) s.core.clock };
-    made = 1;
-    outs = []
-  }
+  next = record { exports = s.exports; place = s.place + 1; connections = []; hosts = []; core = started (raised s.core.stable) s.core.clock };
+  made = 1;
+  outs = [];
+}
 
 -- What an event does, of whose stores n succeed; it ends settled.
 unfoldable pub step : ℕ → Whole → Event → Turn

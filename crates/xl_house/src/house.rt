@@ -1,5 +1,6 @@
 //! The house: the machine with its journal.
 ghost use Rattle.std.specs.Prelude.{◌≡◌, ℕ, ◌+◌, ◌<◌, ◌≤◌, ◌^◌, [], ◌∷◌, ◌++◌, length, drop, true, false, Ok, Err, Some, None, OnOk, OnErr, IfOk, IfErr, IfSome, ◌↔◌};
+ghost use Rattle.xl_base.specs.Stable.{raised};
 ghost use Rattle.xl_front_nlm.specs.Short.{AreShort};
 ghost use Rattle.xl_house.specs.Free.{IsFree, AlwaysFree};
 ghost use Rattle.xl_house.specs.Housed.{Housed, is_spoiled, Holds, Stands};
@@ -10,7 +11,9 @@ ghost use Rattle.xl_house.specs.Whole.{whole_of};
 use crate::machine::{Machine, act};
 use std::alloc::{AllocError, Global};
 use std::marker::Model;
-use xl_base::{Entry, Event, Exports, Halt, Head, Journal, Keeper, Sequence};
+use xl_base::{Entry, Event, Exports, Halt, Head, Journal, Keeper, Record, Sequence};
+use xl_core::Core;
+use xl_front_nlm::Front;
 use xl_matrix::Claim;
 use xl_names::Names;
 
@@ -93,6 +96,27 @@ fn act_and_enter<K: Keeper>(
 }
 
 impl<K: Keeper> House<K> {
+    /// The house that begins from this head, with its record as the keeper holds it now. It takes no memory.
+    pub(crate) fn begin(alloc: Global, head: Head, stable: Record, keeper: K) -> House<K>
+        requires raised { stable ≡ raised head.«record» }
+        requires holds { Holds (K.held keeper) stable }
+        ensures { result ≡ record { head = head; entries = []; halt = None; keeper = keeper } }
+    {
+        let core = Core::new(alloc, stable, head.start);
+        House {
+            head,
+            entries: Sequence::new(alloc),
+            machine: Machine {
+                place: 0,
+                connections: Vec::new(alloc),
+                front: Front::new(alloc),
+                core,
+            },
+            keeper,
+            halt: None,
+        }
+    }
+
     /// One event that is no restart, entered with what it did at the place that is answered. After an error the journal
     /// is as it was, and each later step answers the same error: JournalFull exactly where the journal has 1,048,576
     /// entries. No step stores the record yet.

@@ -32,11 +32,7 @@ pub(crate) struct Machine {
 
 /// Opens or ends a connection where the event at this place does.
 #[tactic(auto, unfolding(crate::specs::Machine::connected))]
-fn connect(
-    connections: &mut Vec<Connection>,
-    place: u64,
-    event: &Event,
-) -> Result<(), AllocError>
+fn connect(connections: &mut Vec<Connection>, place: u64, event: &Event) -> Result<(), AllocError>
     ensures { OnOk result (connections.new.items ≡ connected connections.old.items place event.now) }
 {
     match event {
@@ -160,13 +156,7 @@ pub(crate) fn act<K: Keeper>(
     ensures keeper { keeper.new ≡ keeper.old }
 {
     let mut outs = hear_event(alloc, exports, machine, keeper, event)?;
-    settle(
-        alloc,
-        &machine.front,
-        &mut machine.core,
-        keeper,
-        &mut outs,
-    )?;
+    settle(alloc, &machine.front, &mut machine.core, keeper, &mut outs)?;
     connect(&mut machine.connections, machine.place, event)?;
     machine.core.begin_step();
     machine.place += 1;

@@ -1,8 +1,7 @@
-use Rattle.std.proofs.Common.{◌∙◌, ap, arith}
-use Rattle.xl_core.specs.State.{CoreState}
+use Rattle.std.proofs.Common.{◌∙◌}
 use Rattle.xl_house.specs.Machine.{connected}
 use Rattle.xl_house.specs.Whole.{whole_of}
-use Rattle.xl_house.proofs.MachineLaws.{IsActed, acted_step, begun_counter, begun_names}
+use Rattle.xl_house.proofs.MachineLaws.{acted_step, begun_counter, begun_names}
 use Rattle.xl_house.proofs.machine.act.Goals as goal
 
 pub returns-clause-step : goal.returns-clause-step

@@ -9,7 +9,7 @@ turns-smaller g c = turn_smaller c.args.front.now c.turns.core c.settle.new.self
 pub turns-preserved : goal.turns-preserved
 turns-preserved g c = (
   rw (c.in_ok-show_all.ensures, c.as_slice.ensures)
-  (turn_preserves c.args.front.now c.args.core.now c.args.outs.now c.turns.core c.settle.new.self c.turns.outs c.in_ok-effects.field-0 c.in-Some.effects c.turns.invariant.0 c.turns.invariant.1.0 (λ n may. rw (← c.rooms.ensures) (c.in_ok-effects.ensures.state n may)) c.in-Some.is c.in_ok-effects.ensures.on),
+      (turn_preserves c.args.front.now c.args.core.now c.args.outs.now c.turns.core c.settle.new.self c.turns.outs c.in_ok-effects.field-0 c.in-Some.effects c.turns.invariant.0 c.turns.invariant.1.0 (λ n may. rw (← c.rooms.ensures) (c.in_ok-effects.ensures.state n may)) c.in-Some.is c.in_ok-effects.ensures.on),
   (c.in_ok-effects.ensures.good, c.settle.ensures.keeper ∙ c.turns.invariant.1.1),
 )
 

@@ -1,4 +1,4 @@
-use Rattle.std.proofs.Common.{◌≡◌, ◌++◌, length}
+use Rattle.std.proofs.Common.{◌≡◌, length}
 use Rattle.xl_core.specs.Good.{IsGood}
 use Rattle.xl_house.proofs.SettleLaws.{IsSettling}
 use Rattle.xl_house.proofs.settling.settle.Given as goal

@@ -1,8 +1,5 @@
-use Rattle.std.proofs.Common.{ap, subst}
-use Rattle.xl_house.specs.Housed.{Housed, is_spoiled, Holds}
-use Rattle.xl_house.specs.Journals.{replay}
-use Rattle.xl_house.specs.Machine.{begin}
-use Rattle.xl_house.specs.Whole.{whole_of}
+use Rattle.std.proofs.Common.{ap}
+use Rattle.xl_house.specs.Housed.{Housed, is_spoiled}
 use Rattle.xl_house.proofs.JournalLaws.{stands_next, legal_next, holds_next, holds_after}
 use Rattle.xl_house.proofs.house.House.step.Goals as goal
 
