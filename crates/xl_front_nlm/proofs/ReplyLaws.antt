@@ -1,0 +1,104 @@
+-- Replies and results fit a record.
+use Rattle.std.proofs.Common.{◌≡◌, ℕ, ◌+◌, ◌-◌, ◌%◌, ◌<◌, ◌≤◌, List, [], ◌++◌, length, replicate, Option, Some, None, refl, ap, arith}
+use Rattle.std.proofs.Math.Nat.{mod-lt}
+use Rattle.std.proofs.lemmas.List.{length-append, length-replicate}
+use Rattle.std.specs.Int.{w32, w64, cast_unsigned}
+use Rattle.std.specs.Prelude.{IfSome, if◌then◌else◌}
+use Rattle.xl_base.specs.Codec.{big_endian}
+use Rattle.xl_nlm.specs.Arguments.{TextFits}
+use Rattle.xl_nlm.specs.Items.{HolderItem, TestResItem, ResItem, ShareResItem, ReplyItem, Void, TestAnswer, Answer, ShareAnswer}
+use Rattle.xl_nlm.specs.Replies.{holder, holder_part, test_res, res, share_res, results, status_number, IsShortReply}
+use Rattle.xl_rpc.specs.Xdr.{hyper, pad, fixed, opaque}
+use Rattle.xl_rpc.specs.Replies.{reply, told, detail, stat, reply_stat}
+use Rattle.xl_rpc.specs.Xdr.{unsigned}
+use Rattle.xl_rpc.specs.declared.reply.Verdict.{Verdict}
+use Rattle.xl_rpc.specs.declared.reply.Verdict.TheVariants.{Success, ProgUnavail, ProgMismatch, ProcUnavail, GarbageArgs, SystemErr, RpcMismatch, AuthError}
+
+length-unsigned : (n : ℕ) → length (unsigned n) ≡ 4
+unfolding big_endian
+length-unsigned n = refl
+
+-- one word before the rest
+longer : (n : ℕ) (rest : List ℕ) (most : ℕ) → length rest ≤ most → length (unsigned n ++ rest) ≤ most + 4
+longer n rest most le = omega (arith, length-append (unsigned n) rest, length-unsigned n, le)
+
+two : (m n : ℕ) → length (unsigned m ++ unsigned n) ≤ 8
+two m n = longer m (unsigned n) 4 (omega (arith, length-unsigned n))
+
+accepted_short : (n : ℕ) (detail : List ℕ) → length detail ≤ 8 → length (unsigned 0 ++ (unsigned 0 ++ (unsigned n ++ detail))) ≤ 20
+accepted_short n detail le = longer 0 (unsigned 0 ++ (unsigned n ++ detail)) 16 (longer 0 (unsigned n ++ detail) 12 (longer n detail 8 le))
+
+told_short : (v : Verdict) → length (told v) ≤ 20
+told_short Success = accepted_short 0 [] (omega arith)
+told_short ProgUnavail = accepted_short 1 [] (omega arith)
+told_short (ProgMismatch low high) = accepted_short 2 (unsigned low ++ unsigned high) (two low high)
+told_short ProcUnavail = accepted_short 3 [] (omega arith)
+told_short GarbageArgs = accepted_short 4 [] (omega arith)
+told_short SystemErr = accepted_short 5 [] (omega arith)
+told_short (RpcMismatch low high) = omega (arith, longer 0 (unsigned low ++ unsigned high) 8 (two low high))
+told_short (AuthError why) = omega (arith, two 1 why)
+
+reply_little : (xid : ℕ) (v : Verdict) → length (reply xid v) ≤ 32
+unfolding reply
+reply_little xid v = omega (arith, longer xid (unsigned 1 ++ (unsigned (reply_stat v) ++ told v)) 28 (longer 1 (unsigned (reply_stat v) ++ told v) 24 (longer (reply_stat v) (told v) 20 (told_short v))))
+
+pub reply_short : (xid : ℕ) (v : Verdict) → length (reply xid v) ≤ 65536
+reply_short xid v = omega (arith, reply_little xid v)
+
+-- ---- results
+
+length-hyper : (n : ℕ) → length (hyper n) ≡ 8
+unfolding big_endian
+length-hyper n = refl
+
+pad_short : (n : ℕ) → pad n < 4
+unfolding pad
+pad_short n = mod-lt (4 - n % 4) (omega arith)
+
+opaque_short : (bytes : List ℕ) → TextFits bytes → length (opaque bytes) ≤ 1031
+unfolding opaque fixed
+opaque_short bytes le =
+    let fill = length-append bytes (replicate (pad (length bytes)) 0) in
+    let zeros = length-replicate {A = ℕ} (pad (length bytes)) 0 in
+    longer (length bytes) (bytes ++ replicate (pad (length bytes)) 0) 1027 (omega (arith, fill, zeros, pad_short (length bytes), le))
+
+res_short : (r : ResItem) → TextFits r.cookie → length (res r) ≤ 4096
+unfolding res
+res_short r le = omega (arith, length-append (opaque r.cookie) (unsigned (status_number r.stat)), opaque_short r.cookie le, length-unsigned (status_number r.stat))
+
+share_res_short : (r : ShareResItem) → TextFits r.cookie → length (share_res r) ≤ 4096
+unfolding share_res
+share_res_short r le =
+    let rest = length-append (unsigned (status_number r.stat)) (unsigned (cast_unsigned w32 r.sequence)) in
+    let all = length-append (opaque r.cookie) (unsigned (status_number r.stat) ++ unsigned (cast_unsigned w32 r.sequence)) in
+    omega (arith, all, rest, opaque_short r.cookie le, length-unsigned (status_number r.stat), length-unsigned (cast_unsigned w32 r.sequence))
+
+holder_short : (h : HolderItem) → TextFits h.oh → length (holder h) ≤ 1055
+unfolding holder
+holder_short h le =
+    let bytes = hyper h.l_offset ++ hyper h.l_len in
+    let two = length-append (hyper h.l_offset) (hyper h.l_len) in
+    let oh = length-append (opaque h.oh) bytes in
+    let rest : length (opaque h.oh ++ bytes) ≤ 1047 = omega (arith, two, oh, length-hyper h.l_offset, length-hyper h.l_len, opaque_short h.oh le) in
+    longer (if h.exclusive then 1 else 0) (unsigned (cast_unsigned w32 h.svid) ++ (opaque h.oh ++ bytes)) 1051 (longer (cast_unsigned w32 h.svid) (opaque h.oh ++ bytes) 1047 rest)
+
+part_short : (h : Option HolderItem) → IfSome h (λ h. TextFits h.oh) → length (holder_part h) ≤ 1055
+part_short None le = omega arith
+part_short (Some h) le = holder_short h le
+
+test_res_short : (r : TestResItem) → TextFits r.cookie → IfSome r.holder (λ h. TextFits h.oh) → length (test_res r) ≤ 4096
+unfolding test_res
+test_res_short r le oh =
+    let part = holder_part r.holder in
+    let rest = longer (status_number r.stat) part 1055 (part_short r.holder oh) in
+    omega (arith, length-append (opaque r.cookie) (unsigned (status_number r.stat) ++ part), opaque_short r.cookie le, rest)
+
+results_short : (r : ReplyItem) → IsShortReply r → length (results r) ≤ 4096
+results_short Void short = omega arith
+results_short (TestAnswer r) short = test_res_short r short.0 short.2
+results_short (Answer r) short = res_short r short
+results_short (ShareAnswer r) short = share_res_short r short
+
+-- a reply with short results fits a record
+pub whole_short : (bytes : List ℕ) (xid : ℕ) (v : Verdict) (r : ReplyItem) → bytes ≡ reply xid v ++ results r → IsShortReply r → length bytes ≤ 65536
+whole_short bytes xid v r e short = omega (arith, ap length e, length-append (reply xid v) (results r), reply_little xid v, results_short r short)

@@ -1,0 +1,109 @@
+-- Who is told BLOCKED waits.
+use Rattle.std.proofs.Common.{◌≡◌, ℕ, ◌+◌, Bool, true, false, not, ◌&&◌, ◌||◌, cond, List, [], ◌∷◌, ◌++◌, length, Option, Some, None, Ok, refl, sym, ap, subst, ◌∙◌, inl, inr, arith}
+use Rattle.std.proofs.lemmas.Bool.{cases_Bool, or_right}
+use Rattle.std.proofs.lemmas.Bool.Decides.{nat_tests}
+use Rattle.std.proofs.lemmas.List.Folds.{list_any-append}
+use Rattle.std.specs.Bool.{◌==◌}
+use Rattle.std.specs.List.{list_any, slice_get}
+use Rattle.xl_base.specs.declared.name.Owner.TheVariants as owners
+use Rattle.xl_base.specs.declared.name.Protocol.TheVariants.{Nlm}
+use Rattle.xl_matrix.specs.Equal.{same_flag}
+use Rattle.xl_matrix.specs.declared.claim.Claim.{Claim}
+use Rattle.xl_matrix.specs.declared.claim.Extent.{Extent}
+use Rattle.xl_matrix.specs.declared.claim.Extent.TheVariants.{Bytes}
+use Rattle.xl_names.proofs.NameLaws.{number_entered, number_stays}
+use Rattle.xl_names.specs.Names.{number_of, place_of, entered}
+use Rattle.xl_names.specs.declared.name.Name.{Name}
+use Rattle.xl_names.specs.declared.name.Name.TheVariants.{NlmParty}
+use Rattle.xl_nlm.specs.Items.{LockArgsItem, Lock}
+use Rattle.xl_nlm.specs.declared.item.NlmStatus.TheVariants.{Blocked}
+use Rattle.xl_wait.specs.declared.waiter.Rooms.{Rooms}
+use Rattle.xl_wait.specs.declared.waiter.Waiter.{Waiter}
+use Rattle.xl_core.specs.Asking.{both_entered, asked_claim, names_fit}
+use Rattle.xl_core.specs.Blockers.{least, blockers}
+use Rattle.xl_core.specs.Decide.{passed_by_grant, passed_by_wait, decided, decide, waiter_of, waiting, queued, lock_answered, lock_asked, ranges_asked, ask}
+use Rattle.xl_core.specs.Relock.{grant_fits}
+use Rattle.xl_core.specs.State.{CoreState}
+use Rattle.xl_core.specs.declared.ask.Answer.{Answer}
+use Rattle.xl_core.specs.declared.ask.Ask.{Ask}
+use Rattle.xl_core.specs.declared.ask.Effect.{Effect}
+use Rattle.xl_front_nlm.proofs.ServeLaws.{lock_is_asked, lock_waits_on}
+use Rattle.xl_front_nlm.specs.Aims.{aimed}
+use Rattle.xl_front_nlm.specs.Asks.{owner_of, lock_ask, is_same, waits_by, does_wait, answered_for, served}
+use Rattle.xl_front_nlm.specs.Hosts.{rooms, lock_rows}
+use Rattle.xl_front_nlm.specs.Results.{answer_status, status_of}
+use Rattle.xl_front_nlm.specs.declared.aim.Aim.{Aim}
+use Rattle.xl_front_nlm.specs.declared.outcome.Outcome.{Outcome}
+
+same_number : (n : ℕ) → (n == n) ≡ true
+same_number n = grind (arith, nat_tests)
+
+flag_self : (b : Bool) → same_flag b b ≡ true
+flag_self true = refl
+flag_self false = refl
+
+-- the claim that a lock asks for is the one that its owner is looked for by
+asked_is_same : (a : LockArgsItem) (at : Aim) (rows : Rooms) (names : List Name)
+    → is_same (owners.Name Nlm (place_of (owner_of a.lock) names)) at a.exclusive (Some (asked_claim (lock_ask rows a at) (Bytes at.first at.last) a.exclusive names)) ≡ true
+asked_is_same a at rows names =
+    rw (same_number at.file, same_number (place_of (owner_of a.lock) names), same_number at.first, same_number at.last) (flag_self a.exclusive)
+
+last_passes : (p : Waiter → Bool) (ws : List Waiter) (w : Waiter) → p w ≡ true → list_any p (ws ++ w ∷ []) ≡ true
+last_passes p ws w e = list_any-append p ws (w ∷ []) ∙ or_right (list_any p ws) (p w || false) (rw e refl)
+
+-- the owner's number, once both names came
+number_known : (a : LockArgsItem) (at : Aim) (rows : Rooms) (names : List Name) → number_of (owner_of a.lock) (both_entered (lock_ask rows a at) names) ≡ Some (place_of (owner_of a.lock) names)
+number_known a at rows names =
+    number_stays (entered (owner_of a.lock) names) (NlmParty a.lock.caller_name) (owner_of a.lock) (place_of (owner_of a.lock) names) (number_entered names (owner_of a.lock))
+
+waiting_waits : (s : CoreState) (a : LockArgsItem) (at : Aim) (rows : Rooms)
+    → does_wait (waiting s (lock_ask rows a at) (asked_claim (lock_ask rows a at) (Bytes at.first at.last) a.exclusive s.names)) a at ≡ true
+waiting_waits s a at rows =
+    let request = lock_ask rows a at in
+    let claim = asked_claim request (Bytes at.first at.last) a.exclusive s.names in
+    let waiters = s.waiters ++ waiter_of (s.counter + 1) request claim ∷ [] in
+    ap (waits_by waiters at a.exclusive) (number_known a at rows s.names)
+    ∙ last_passes (λ w. is_same (owners.Name Nlm (place_of (owner_of a.lock) s.names)) at a.exclusive (slice_get w.asked 0)) s.waiters (waiter_of (s.counter + 1) request claim) (asked_is_same a at rows s.names)
+
+-- an answer that is told as BLOCKED leaves the asker among those who wait
+abbrev WaitsAfter : LockArgsItem → Aim → Answer × List Effect × CoreState → Type 0
+WaitsAfter a at r = answer_status r.0 ≡ Blocked → does_wait r.2 a at ≡ true
+
+choice_waits : (a : LockArgsItem) (at : Aim) (b : Bool) (x y : Answer × List Effect × CoreState) → WaitsAfter a at x → WaitsAfter a at y → WaitsAfter a at (cond b x y)
+choice_waits a at true x y first second = first
+choice_waits a at false x y first second = second
+
+queued_waits : (s : CoreState) (a : LockArgsItem) (at : Aim) (rows : Rooms) (passed : Option ℕ)
+    → WaitsAfter a at (queued s (lock_ask rows a at) (asked_claim (lock_ask rows a at) (Bytes at.first at.last) a.exclusive s.names) passed)
+queued_waits s a at rows (Some limit) = λ told. absurd cc
+queued_waits s a at rows None = λ told. waiting_waits s a at rows
+
+answered_waits : (left rows : Rooms) (s : CoreState) (a : LockArgsItem) (at : Aim) (least : Option Claim) (passed : Option ℕ)
+    → WaitsAfter a at (lock_answered left s (lock_ask rows a at) (asked_claim (lock_ask rows a at) (Bytes at.first at.last) a.exclusive s.names) (decided least passed))
+answered_waits left rows s a at (Some c) passed =
+    choice_waits a at a.block _ _ (queued_waits s a at rows (passed_by_wait left rows (length s.waiters) (names_fit (lock_ask rows a at) s.names))) (λ told. absurd cc)
+answered_waits left rows s a at None (Some limit) = λ told. absurd cc
+answered_waits left rows s a at None None = λ told. absurd cc
+
+lock_waits : (n : ℕ) (left rows : Rooms) (s : CoreState) (a : LockArgsItem) (at : Aim)
+    → WaitsAfter a at (lock_asked n left s (lock_ask rows a at) (asked_claim (lock_ask rows a at) (Bytes at.first at.last) a.exclusive s.names))
+unfolding lock_asked decide
+lock_waits n left rows s a at =
+    let request = lock_ask rows a at in
+    let claim = asked_claim request (Bytes at.first at.last) a.exclusive s.names in
+    answered_waits left rows s a at (least s.names (blockers s.waiters s claim)) (passed_by_grant left rows (grant_fits claim s.claims) (names_fit request s.names))
+
+ask_waits : (n : ℕ) (left rows : Rooms) (s : CoreState) (a : LockArgsItem) (at : Aim) → WaitsAfter a at (ask n left s (lock_ask rows a at))
+unfolding ask
+ask_waits n left rows s a at = choice_waits a at a.reclaim _ _ (λ told. absurd cc) (lock_waits n left rows s a at)
+
+abbrev ToldWaits : LockArgsItem → Aim → Outcome × List Effect × List (List ℕ) × CoreState → Type 0
+ToldWaits a at r = status_of r.0 ≡ Blocked → does_wait r.3 a at ≡ true
+
+pub blocked_waits : (n count : ℕ) (hosts : List (List ℕ)) (s : CoreState) (a : LockArgsItem) (at : Aim) → aimed count a.lock ≡ Ok at
+    → status_of (served n count hosts s (Lock a)).0 ≡ Blocked → does_wait (served n count hosts s (Lock a)).3 a at ≡ true
+blocked_waits n count hosts s a at e =
+    elim (cases_Bool (does_wait s a at)) [
+      | inl waits ↦ subst (ToldWaits a at) (sym (lock_waits_on n count hosts s a at e waits)) (λ told. waits)
+      | inr fresh ↦ subst (ToldWaits a at) (sym (lock_is_asked n count hosts s a at e fresh)) (ask_waits n (rooms hosts) (lock_rows a.lock.caller_name hosts) s a at)
+    ]

@@ -1,0 +1,42 @@
+-- The hosts: the caller names that were granted something or waited since the start, in order of arrival.
+use Rattle.std.specs.Prelude.{◌≡◌, ℕ, ◌-◌, ◌≤◌, Bool, true, false, not, bytes_eq, if◌then◌else◌, List, [], ◌∷◌, ◌++◌, length}
+use Rattle.std.specs.List.{list_any}
+use Rattle.xl_base.specs.Lists.{Pairwise}
+use Rattle.xl_wait.specs.declared.waiter.Rooms.{Rooms}
+use Rattle.xl_core.specs.Decide.{most_hosts, most_opens, most_owners}
+use Rattle.xl_core.specs.declared.ask.Answer.{Answer}
+use Rattle.xl_core.specs.declared.ask.Answer.TheVariants.{Granted, Queued}
+
+abbrev pub is_host : List ℕ → List (List ℕ) → Bool
+is_host caller hosts = list_any (bytes_eq caller) hosts
+
+-- the hosts once this one came
+abbrev pub host_entered : List ℕ → List (List ℕ) → List (List ℕ)
+host_entered caller hosts = if is_host caller hosts then hosts else hosts ++ caller ∷ []
+
+-- what the front keeps: at most 256 hosts, each once
+abbrev pub are_apart : List ℕ → List ℕ → Bool
+are_apart a b = not (bytes_eq a b)
+
+abbrev pub AreHosts : List (List ℕ) → Type 0
+AreHosts hosts = (length hosts ≤ most_hosts) × Pairwise are_apart hosts
+
+-- the room that is left in the tables of the fronts; the others have no rows
+abbrev pub rooms : List (List ℕ) → Rooms
+rooms hosts = record { hosts = most_hosts - length hosts; owners = most_owners; opens = most_opens }
+
+-- the rows that a lock of this caller adds
+abbrev pub lock_rows : List ℕ → List (List ℕ) → Rooms
+lock_rows caller hosts = record { hosts = if is_host caller hosts then 0 else 1; owners = 0; opens = 0 }
+
+abbrev pub no_rows : Rooms
+no_rows = record { hosts = 0; owners = 0; opens = 0 }
+
+-- a grant and a wait make the caller a host
+abbrev pub makes_host : Answer → Bool
+makes_host (Granted c) = true
+makes_host (Queued id) = true
+makes_host _ = false
+
+abbrev pub hosts_after : Answer → List ℕ → List (List ℕ) → List (List ℕ)
+hosts_after answer caller hosts = if makes_host answer then host_entered caller hosts else hosts

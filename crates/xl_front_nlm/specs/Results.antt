@@ -1,0 +1,86 @@
+-- How what became of a call is told (XNFS C702, nlm4_stats, nlm4_testres, nlm4_res).
+use Rattle.std.specs.Prelude.{ℕ, ℤ, pos, Bool, false, List, [], Option, Some, None, slice_get}
+use Rattle.xl_base.specs.declared.name.Owner.{Owner}
+use Rattle.xl_base.specs.declared.name.Owner.TheVariants as owners
+use Rattle.xl_matrix.specs.declared.claim.Claim.{Claim}
+use Rattle.xl_matrix.specs.declared.claim.Extent.TheVariants.{Bytes}
+use Rattle.xl_matrix.specs.declared.claim.What.{What}
+use Rattle.xl_matrix.specs.declared.claim.What.TheVariants.{Range}
+use Rattle.xl_names.specs.declared.name.Name.{Name}
+use Rattle.xl_names.specs.declared.name.Name.TheVariants.{NlmRange}
+use Rattle.xl_nlm.specs.Items.{CallItem, Test, Lock, Unlock, HolderItem, TestResItem, ReplyItem, Void, TestAnswer, Answer as ResAnswer}
+use Rattle.xl_nlm.specs.declared.item.NlmStatus.{NlmStatus}
+use Rattle.xl_nlm.specs.declared.item.NlmStatus.TheVariants as stats
+use Rattle.xl_core.specs.declared.ask.Answer.{Answer}
+use Rattle.xl_core.specs.declared.ask.Answer.TheVariants as answers
+use Rattle.xl_front_nlm.specs.Aims.{length_of}
+use Rattle.xl_front_nlm.specs.declared.outcome.Outcome.{Outcome}
+use Rattle.xl_front_nlm.specs.declared.outcome.Outcome.TheVariants.{NoFile, TooBig, Waits, Answered, Nothing}
+
+-- ---- LOCK and UNLOCK
+
+-- the map of the core's answers
+abbrev pub answer_status : Answer → NlmStatus
+answer_status (answers.Granted c) = stats.Granted
+answer_status (answers.Conflict c) = stats.Denied
+answer_status (answers.Queued id) = stats.Blocked
+answer_status (answers.Recall c) = stats.Denied
+answer_status (answers.Grace until) = stats.DeniedGracePeriod
+answer_status (answers.NoGrace clock) = stats.DeniedGracePeriod
+answer_status answers.NotRecorded = stats.Denied
+answer_status (answers.Full limit) = stats.DeniedNolocks
+answer_status answers.NotHeld = stats.Granted
+answer_status answers.StoreFailed = stats.Failed
+
+abbrev pub status_of : Outcome → NlmStatus
+status_of NoFile = stats.StaleFh
+status_of TooBig = stats.Fbig
+status_of Waits = stats.Blocked
+status_of (Answered answer) = answer_status answer
+status_of Nothing = stats.Granted
+
+-- ---- TEST
+
+-- denied where something held blocks the range; nothing is granted in grace
+abbrev pub test_answer_status : Answer → NlmStatus
+test_answer_status (answers.Conflict c) = stats.Denied
+test_answer_status (answers.Grace until) = stats.DeniedGracePeriod
+test_answer_status _ = stats.Granted
+
+abbrev pub test_status : Outcome → NlmStatus
+test_status (Answered answer) = test_answer_status answer
+test_status outcome = status_of outcome
+
+-- the svid and oh of an owner of NLM ranges; of another 0 and none
+abbrev pub parts_by : Option Name → ℤ × List ℕ
+parts_by (Some (NlmRange caller svid oh)) = (svid, oh)
+parts_by _ = (pos 0, [])
+
+abbrev pub owner_parts : List Name → Owner → ℤ × List ℕ
+owner_parts names (owners.Name protocol number) = parts_by (slice_get names number)
+owner_parts names (owners.Open number) = (pos 0, [])
+
+abbrev pub holder_by : ℤ × List ℕ → What → HolderItem
+holder_by who (Range (Bytes first last) exclusive) = record { exclusive = exclusive; svid = who.0; oh = who.1; l_offset = first; l_len = length_of first last }
+holder_by who _ = record { exclusive = false; svid = who.0; oh = who.1; l_offset = 0; l_len = length_of 0 0 }
+
+-- a held range as TEST tells it
+abbrev pub holder_of : List Name → Claim → HolderItem
+holder_of names c = holder_by (owner_parts names c.owner) c.what
+
+-- the holder, where one is told
+abbrev pub test_holder : List Name → Outcome → Option HolderItem
+test_holder names (Answered (answers.Conflict c)) = Some (holder_of names c)
+test_holder names _ = None
+
+abbrev pub test_result : List ℕ → List Name → Outcome → TestResItem
+test_result cookie names outcome = record { cookie = cookie; stat = test_status outcome; holder = test_holder names outcome }
+
+-- ---- the results of a call
+
+-- with the call's cookie; these are the names kept after it
+unfoldable pub reply_of : List Name → CallItem → Outcome → ReplyItem
+reply_of names (Test a) outcome = TestAnswer (test_result a.cookie names outcome)
+reply_of names (Lock a) outcome = ResAnswer (record { cookie = a.cookie; stat = status_of outcome })
+reply_of names (Unlock a) outcome = ResAnswer (record { cookie = a.cookie; stat = status_of outcome })
+reply_of names _ outcome = Void

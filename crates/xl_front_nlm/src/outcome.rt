@@ -1,0 +1,18 @@
+//! What became of a call.
+
+use xl_core::Answer;
+
+/// What became of a call.
+#[derive(Clone, Copy, Debug, PartialEq, Eq)]
+pub enum Outcome {
+    /// The handle is of no exported file.
+    NoFile,
+    /// The range passes the last byte that there is.
+    TooBig,
+    /// The owner waits for the very bytes in this mode already.
+    Waits,
+    /// The core was asked, and answered so.
+    Answered(Answer),
+    /// There was nothing to do.
+    Nothing,
+}

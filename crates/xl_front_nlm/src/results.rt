@@ -1,0 +1,145 @@
+//! How what became of a call is told.
+ghost use Rattle.std.specs.Prelude.{◌≡◌, ◌≤◌, length, option_map};
+ghost use Rattle.xl_nlm.specs.Arguments.{CallFits};
+ghost use Rattle.xl_nlm.specs.Items.{shown_call, shown_holder, shown_test_res, shown_reply};
+ghost use Rattle.xl_nlm.specs.Replies.{IsShortReply};
+ghost use Rattle.xl_front_nlm.specs.Results.{answer_status, status_of, test_answer_status, test_status, owner_parts, holder_of, test_holder, test_result, reply_of};
+ghost use Rattle.xl_front_nlm.specs.Short.{AreShort};
+
+use crate::aim::length_of;
+use crate::outcome::Outcome;
+use xl_base::Owner;
+use xl_core::Answer;
+use xl_matrix::{Claim, Extent, What};
+use xl_names::{Name, Names};
+use xl_nlm::{Holder, NlmCall, NlmReply, NlmStatus, Res, TestRes};
+
+/// How the core's answer to a lock or an unlock is told.
+fn answer_status(answer: Answer) -> NlmStatus
+    ensures { result ≡ answer_status answer }
+{
+    match answer {
+        Answer::Granted(_) | Answer::NotHeld => NlmStatus::Granted,
+        Answer::Conflict(_) | Answer::Recall(_) | Answer::NotRecorded => NlmStatus::Denied,
+        Answer::Queued(_) => NlmStatus::Blocked,
+        Answer::Grace(_) | Answer::NoGrace(_) => NlmStatus::DeniedGracePeriod,
+        Answer::Full(_) => NlmStatus::DeniedNolocks,
+        Answer::StoreFailed => NlmStatus::Failed,
+    }
+}
+
+/// How what became of a lock or an unlock is told.
+fn status_of(outcome: Outcome) -> NlmStatus
+    ensures { result ≡ status_of outcome }
+{
+    match outcome {
+        Outcome::NoFile => NlmStatus::StaleFh,
+        Outcome::TooBig => NlmStatus::Fbig,
+        Outcome::Waits => NlmStatus::Blocked,
+        Outcome::Answered(answer) => answer_status(answer),
+        Outcome::Nothing => NlmStatus::Granted,
+    }
+}
+
+/// How the core's answer to a test is told.
+fn test_answer_status(answer: Answer) -> NlmStatus
+    ensures { result ≡ test_answer_status answer }
+{
+    match answer {
+        Answer::Conflict(_) => NlmStatus::Denied,
+        Answer::Grace(_) => NlmStatus::DeniedGracePeriod,
+        _ => NlmStatus::Granted,
+    }
+}
+
+/// How what became of a test is told.
+fn test_status(outcome: Outcome) -> NlmStatus
+    ensures { result ≡ test_status outcome }
+{
+    match outcome {
+        Outcome::Answered(answer) => test_answer_status(answer),
+        _ => status_of(outcome),
+    }
+}
+
+/// The svid and oh of an owner of NLM ranges; of another 0 and none.
+fn owner_parts(names: &Names, owner: Owner) -> (i32, &[u8])
+    ensures { (result.0, result.1.now) ≡ owner_parts names.now owner }
+{
+    let Owner::Name(_, number) = owner else {
+        return (0, &[]);
+    };
+    match names.as_slice().get(number as usize) {
+        Some(Name::NlmRange(_, svid, oh)) => (*svid, oh.as_slice()),
+        _ => (0, &[]),
+    }
+}
+
+/// A held range as TEST tells it.
+fn holder_of<'a>(names: &'a Names, claim: &Claim) -> Holder<'a>
+    ensures { shown_holder result ≡ holder_of names.now claim.now }
+{
+    let (first, last, exclusive) = match claim.what {
+        What::Range(Extent::Bytes(first, last), exclusive) => (first, last, exclusive),
+        _ => (0, 0, false),
+    };
+    let (svid, oh) = owner_parts(names, claim.owner);
+    Holder {
+        exclusive,
+        svid,
+        oh,
+        l_offset: first,
+        l_len: length_of(first, last),
+    }
+}
+
+/// The holder, where one is told.
+fn test_holder(names: &Names, outcome: Outcome) -> Option<Holder<'_>>
+    ensures { option_map shown_holder result ≡ test_holder names.now outcome }
+{
+    match outcome {
+        Outcome::Answered(Answer::Conflict(claim)) => Some(holder_of(names, &claim)),
+        _ => None,
+    }
+}
+
+/// The results of TEST.
+fn test_result<'a>(names: &'a Names, cookie: &'a [u8], outcome: Outcome) -> TestRes<'a>
+    ensures { shown_test_res result ≡ test_result cookie.now names.now outcome }
+{
+    TestRes {
+        cookie,
+        stat: test_status(outcome),
+        holder: test_holder(names, outcome),
+    }
+}
+
+/// The results of a call.
+#[tactic(auto, unfolding(crate::specs::Results::reply_of))]
+fn results_of<'a>(names: &'a Names, call: &NlmCall<'a>, outcome: Outcome) -> NlmReply<'a>
+    ensures { shown_reply result ≡ reply_of names.now (shown_call call.now) outcome }
+{
+    match call {
+        NlmCall::Test(args) => NlmReply::Test(test_result(names, args.cookie, outcome)),
+        NlmCall::Lock(args) => NlmReply::Res(Res {
+            cookie: args.cookie,
+            stat: status_of(outcome),
+        }),
+        NlmCall::Unlock(args) => NlmReply::Res(Res {
+            cookie: args.cookie,
+            stat: status_of(outcome),
+        }),
+        _ => NlmReply::Void,
+    }
+}
+
+/// The results of a call, which are short.
+#[tactic(auto, using(crate::proofs::ShortLaws::reply_is_short))]
+pub(crate) fn reply_of<'a>(names: &'a Names, call: &NlmCall<'a>, outcome: Outcome) -> NlmReply<'a>
+    requires fits { CallFits (shown_call call.now) }
+    requires short { AreShort names.now }
+    ensures value { shown_reply result ≡ reply_of names.now (shown_call call.now) outcome }
+    ensures short { IsShortReply (shown_reply result) }
+{
+    results_of(names, call, outcome)
+}

@@ -1,0 +1,65 @@
+-- Journals with one entry more.
+use Rattle.std.proofs.Math.Seq.{take-append_seam}
+use Rattle.std.proofs.Common.{◌≡◌, suc, ◌+◌, ◌<◌, ◌≤◌, false, arith, length-append, Option, List, [], ◌∷◌, ◌++◌, length, take, refl, sym, ap, subst, ◌∙◌, append_assoc}
+use Rattle.xl_base.specs.Stable.{Stable}
+use Rattle.xl_base.specs.declared.event.Event.{Event}
+use Rattle.xl_base.specs.declared.journal.Entry.{Entry}
+use Rattle.xl_front_nlm.specs.Short.{AreShort}
+use Rattle.xl_house.specs.Machine.{Whole, step}
+use Rattle.xl_house.specs.Journals.{replay, IsLegal, entry, entries_of, is_restart}
+use Rattle.xl_house.specs.Free.{IsFree}
+use Rattle.xl_house.specs.Housed.{Holds, Stands}
+use Rattle.xl_house.proofs.MachineLaws.{none_made, next_place, step_free, step_still}
+
+pub replay_entry : (s : Whole) (es : List Entry) (event : Event) → replay s (es ++ entry 0 (replay s es) event ∷ []) ≡ (step 0 (replay s es) event).next
+replay_entry s [] event = refl
+replay_entry s (e ∷ es) event = replay_entry (step e.stores s e.event).next es event
+
+pub legal_entry : (s : Whole) (es : List Entry) (event : Event) → is_restart event ≡ false → IsLegal s es → IsLegal s (es ++ entry 0 (replay s es) event ∷ [])
+legal_entry s [] event other legal = ((sym (none_made 0 s event other), refl), tt)
+legal_entry s (e ∷ es) event other legal = (legal.0, legal_entry (step e.stores s e.event).next es event other legal.1)
+
+-- the events that are left, after one more is stepped
+pub stepped : (s : Whole) (es : List Entry) (event : Event) (rest : List Event) → (es ++ entry 0 (replay s es) event ∷ []) ++ entries_of (replay s (es ++ entry 0 (replay s es) event ∷ [])) rest ≡ es ++ entries_of (replay s es) (event ∷ rest)
+stepped s es event rest =
+    append_assoc es (entry 0 (replay s es) event ∷ []) (entries_of (replay s (es ++ entry 0 (replay s es) event ∷ [])) rest)
+    ∙ ap (λ (t : Whole). es ++ (entry 0 (replay s es) event ∷ entries_of t rest)) (replay_entry s es event)
+
+-- entries are the front of what they begin
+pub front : (es more whole : List Entry) → es ++ more ≡ whole → take (length es) whole ≡ es
+front es more whole e = ap (λ (w : List Entry). take (length es) w) (sym e) ∙ take-append_seam es more
+
+pub length-entries_of : (s : Whole) (events : List Event) → length (entries_of s events) ≡ length events
+length-entries_of s [] = refl
+length-entries_of s (event ∷ events) = ap suc (length-entries_of (step 0 s event).next events)
+
+-- where an event is left, more events were given than entries are made
+pub some_left : (s t : Whole) (es old : List Entry) (event : Event) (rest events : List Event) → es ++ entries_of t (event ∷ rest) ≡ old ++ entries_of s events → length es < length old + length events
+some_left s t es old event rest events e =
+    omega (arith, ap length e, length-append es (entries_of t (event ∷ rest)), length-append old (entries_of s events), length-entries_of s events, length-entries_of t (event ∷ rest))
+
+-- ---- the house stands for the replay of its entries
+
+pub legal_next : (start : Whole) (es : List Entry) (old : Whole) (event : Event) → Stands start es old → is_restart event ≡ false → IsLegal start es → IsLegal start (es ++ entry 0 old event ∷ [])
+legal_next start es old event stands other legal = subst (λ (s : Whole). IsLegal start (es ++ entry 0 s event ∷ [])) (sym stands.replayed) (legal_entry start es event other legal)
+
+pub stands_next : (start : Whole) (es : List Entry) (old new : Whole) (event : Event) → Stands start es old → new ≡ (step 0 old event).next → new.core.counter ≤ old.core.counter + 1 → AreShort new.core.names → Stands start (es ++ entry 0 old event ∷ []) new
+stands_next start es old new event stands e counter short =
+    let longer = length-append es (entry 0 old event ∷ []) in
+    record {
+      replayed = e ∙ ap (λ (s : Whole). (step 0 s event).next) stands.replayed ∙ sym (replay_entry start es event) ∙ ap (λ (s : Whole). replay start (es ++ entry 0 s event ∷ [])) (sym stands.replayed);
+      place = ap (λ (s : Whole). s.place) e ∙ next_place 0 old event ∙ omega (arith, stands.place, longer);
+      free = subst (λ (s : Whole). IsFree s) (sym e) (step_free 0 old event stands.free);
+      counter = omega (arith, counter, stands.counter, longer);
+      short = short;
+    }
+
+-- the keeper still holds the machine's record, as nothing is stored
+pub holds_next : (held : Option Stable) (old new : Whole) (event : Event) → Holds held old.core.stable → is_restart event ≡ false → new ≡ (step 0 old event).next → Holds held new.core.stable
+holds_next held old new event holds other e =
+    subst (λ (stable : Stable). Holds held stable) (sym (ap (λ (s : Whole). s.core.stable) e ∙ step_still 0 old event other)) holds
+
+pub holds_after : (held : Option Stable) (start : Whole) (es : List Entry) (old new : Whole) (event : Event) → Stands start es old → new ≡ (step 0 old event).next → Holds held new.core.stable → Holds held (replay start (es ++ entry 0 old event ∷ [])).core.stable
+holds_after held start es old new event stands e holds =
+    let replayed = e ∙ ap (λ (s : Whole). (step 0 s event).next) stands.replayed ∙ sym (replay_entry start es event) ∙ ap (λ (s : Whole). replay start (es ++ entry 0 s event ∷ [])) (sym stands.replayed) in
+    subst (λ (s : Whole). Holds held s.core.stable) replayed holds

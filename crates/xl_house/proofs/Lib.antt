@@ -1,0 +1,6 @@
+pub mod StillLaws
+pub mod FrontLaws
+pub mod SettleLaws
+pub mod MachineLaws
+pub mod JournalLaws
+pub mod OrderLaws

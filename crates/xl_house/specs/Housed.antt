@@ -1,0 +1,36 @@
+-- A house as its callers see it.
+use Rattle.std.specs.Prelude.{◌≡◌, ◌≤◌, Bool, true, false, List, length, Option, Some, option_map}
+use Rattle.xl_base.specs.Stable.{Stable}
+use Rattle.xl_base.specs.declared.halt.Halt.{Halt}
+use Rattle.xl_base.specs.declared.halt.Halt.TheVariants.{NoMemory}
+use Rattle.xl_base.specs.declared.journal.Entry.{Entry}
+use Rattle.xl_base.specs.declared.journal.Head.{Head}
+use Rattle.xl_front_nlm.specs.Short.{AreShort}
+use Rattle.xl_house.specs.Machine.{Whole}
+use Rattle.xl_house.specs.Journals.{replay}
+use Rattle.xl_house.specs.Free.{IsFree}
+
+-- what it began from, its entries, the halt that it stopped with, and its keeper
+pub record Housed (K : Type 0) : Type 0 where
+  pub head : Head
+  pub entries : List Entry
+  pub halt : Option Halt
+  pub keeper : K
+
+-- a house that found no memory in a step is spent: its state counts for nothing
+abbrev pub is_spoiled : Option Halt → Bool
+is_spoiled (Some NoMemory) = true
+is_spoiled _ = false
+
+-- the keeper holds this record, where it tells what it holds
+abbrev pub Holds : Option Stable → Stable → Type 0
+Holds held stable = held ≡ option_map (λ _. stable) held
+
+-- The state is the one that the entries lead to, at its place and a free moment. No more numbers were given out than
+-- there are entries, and the names fit the messages that tell them.
+pub record Stands (start : Whole) (es : List Entry) (s : Whole) : Type 0 where
+  pub replayed : s ≡ replay start es
+  pub place : s.place ≡ length es
+  pub free : IsFree s
+  pub counter : s.core.counter ≤ length es
+  pub short : AreShort s.core.names

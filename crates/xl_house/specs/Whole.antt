@@ -1,0 +1,8 @@
+-- The state that the machine's parts make up.
+use Rattle.xl_base.specs.declared.journal.Exports.{Exports}
+use Rattle.xl_house.specs.Machine.{Whole}
+use Rattle.xl_house.specs.declared.machine.Machine.{Machine}
+
+-- beside what is exported
+abbrev pub whole_of : Exports → Machine → Whole
+whole_of exports m = record { exports = exports; place = m.place; connections = m.connections.items; hosts = m.front; core = m.core }

@@ -1,0 +1,55 @@
+//! The connections that are open.
+ghost use Rattle.std.specs.Prelude.{◌≡◌, OnOk};
+ghost use Rattle.xl_house.specs.Machine.{with_connection, without, kind_of};
+
+use std::alloc::AllocError;
+use xl_base::Kind;
+
+/// The most connections that are open together.
+const MOST_CONNECTIONS: usize = 64;
+
+/// An open connection.
+#[derive(Clone, Copy, Debug, PartialEq, Eq)]
+pub struct Connection {
+    /// Its number, which is the place of its opening.
+    pub number: u64,
+    /// What it speaks.
+    pub kind: Kind,
+}
+
+/// Opens a connection where there is room.
+#[tactic(auto, unfolding(crate::specs::Machine::with_connection))]
+pub(crate) fn open(
+    connections: &mut Vec<Connection>,
+    place: u64,
+    kind: Kind,
+) -> Result<(), AllocError>
+    ensures { OnOk result (connections.new.items ≡ with_connection connections.old.items place kind) }
+{
+    if connections.len() < MOST_CONNECTIONS {
+        connections.push(Connection {
+            number: place,
+            kind,
+        })?;
+    }
+    Ok(())
+}
+
+/// Ends a connection.
+#[tactic(auto, unfolding(crate::specs::Machine::without))]
+pub(crate) fn end(connections: &mut Vec<Connection>, number: u64)
+    ensures { connections.new.items ≡ without connections.old.items number }
+{
+    connections.retain(|c| c.number != number);
+}
+
+/// What the open connection of this number speaks.
+#[tactic(auto, unfolding(crate::specs::Machine::kind_of))]
+pub(crate) fn kind_of(connections: &[Connection], number: u64) -> Option<Kind>
+    ensures { result ≡ kind_of connections.now number }
+{
+    connections
+        .iter()
+        .find(|c| c.number == number)
+        .map(|c| c.kind)
+}

@@ -1,0 +1,206 @@
+//! The house: the machine with its journal.
+ghost use Rattle.std.specs.Prelude.{◌≡◌, ℕ, ◌+◌, ◌<◌, ◌≤◌, ◌^◌, [], ◌∷◌, ◌++◌, length, drop, true, false, Ok, Err, Some, None, OnOk, OnErr, IfOk, IfErr, IfSome, ◌↔◌};
+ghost use Rattle.xl_base.specs.Stable.{raised};
+ghost use Rattle.xl_front_nlm.specs.Short.{AreShort};
+ghost use Rattle.xl_house.specs.Free.{IsFree, AlwaysFree};
+ghost use Rattle.xl_house.specs.Housed.{Housed, is_spoiled, Holds, Stands};
+ghost use Rattle.xl_house.specs.Journals.{replay, IsLegal, IsOrderly, entry, is_restart};
+ghost use Rattle.xl_house.specs.Machine.{begin, step};
+ghost use Rattle.xl_house.specs.Whole.{whole_of};
+
+use crate::machine::{Machine, act};
+use std::alloc::{AllocError, Global};
+use std::marker::Model;
+use xl_base::{Entry, Event, Exports, Halt, Head, Journal, Keeper, Record, Sequence};
+use xl_core::Core;
+use xl_front_nlm::Front;
+use xl_matrix::Claim;
+use xl_names::Names;
+
+/// The most entries of a journal.
+pub const MOST_ENTRIES: usize = 1_048_576;
+
+/// The machine with its journal, and the keeper of its record. Each step is one entry. A step that finds no memory, or
+/// a full journal, halts the house for good.
+#[derive(Drop)]
+pub struct House<K: Keeper> {
+    head: Head,
+    entries: Sequence<Entry>,
+    machine: Machine,
+    keeper: K,
+    halt: Option<Halt>,
+}
+
+impl<K: Keeper> Model for House<K> {
+    ghost use Rattle.std.specs.Prelude.{◌≡◌, ◌≤◌, length, false};
+    ghost use Rattle.xl_house.specs.Machine.{begin};
+    ghost use Rattle.xl_house.specs.Journals.{IsLegal};
+    ghost use Rattle.xl_house.specs.Housed.{Housed, is_spoiled, Holds, Stands};
+    ghost use Rattle.xl_house.specs.Whole.{whole_of};
+
+    ghost Value = { Housed K };
+
+    ghost view = { λ h. record { head = h.head; entries = h.entries; halt = h.halt; keeper = h.keeper } };
+
+    ghost invariant = { λ h. record {
+      stands : is_spoiled h.halt ≡ false → Stands (begin h.head) h.entries (whole_of h.head.exports h.machine);
+      holds : is_spoiled h.halt ≡ false → Holds (K.held h.keeper) h.machine.core.stable;
+      few : length h.entries ≤ 1048576;
+      legal : IsLegal (begin h.head) h.entries;
+    } };
+}
+
+/// Acts on one event and enters it, at this place. A full journal leaves all as it was.
+fn act_and_enter<K: Keeper>(
+    alloc: Global,
+    exports: &Exports,
+    machine: &mut Machine,
+    keeper: &mut K,
+    entries: &mut Sequence<Entry>,
+    event: Event,
+) -> Result<u64, Halt>
+    requires place { machine.old.place ≡ length entries.old }
+    requires few { length entries.old ≤ 1048576 }
+    requires free { IsFree (whole_of exports.now machine.old) }
+    requires counter { machine.old.core.counter ≤ length entries.old }
+    requires short { AreShort machine.old.core.names }
+    requires goes_on { is_restart event ≡ false }
+    ensures place { IfOk result (λ place. place ≡ length entries.old) }
+    ensures few { length entries.new ≤ 1048576 }
+    ensures short { OnOk result (AreShort machine.new.core.names) }
+    ensures counter { OnOk result (machine.new.core.counter ≤ machine.old.core.counter + 1) }
+    ensures entered { OnOk result (entries.new ≡ entries.old ++ entry 0 (whole_of exports.now machine.old) event ∷ []) }
+    ensures next { OnOk result (whole_of exports.now machine.new ≡ (step 0 (whole_of exports.now machine.old) event).next) }
+    ensures err { OnErr result (entries.new ≡ entries.old) }
+    ensures full { (count : ℕ) → (result ≡ Err (Halt.JournalFull count)) ↔ ((count ≡ length entries.old) × (length entries.old ≡ 1048576)) }
+    ensures started { (count : ℕ) → result ≡ Err (Halt.StartStore count) → ⊥ }
+    ensures kept { IfErr result (λ halt. is_spoiled (Some halt) ≡ false → machine.new ≡ machine.old) }
+    ensures keeper { keeper.new ≡ keeper.old }
+{
+    if entries.len() == MOST_ENTRIES {
+        return Err(Halt::JournalFull(entries.len() as u64));
+    }
+    let place = machine.place;
+    let Ok(outs) = act(alloc, exports, machine, keeper, &event) else {
+        return Err(Halt::NoMemory);
+    };
+    let entry = Entry {
+        event,
+        stores: 0,
+        outs,
+    };
+    if entries.push(entry).is_err() {
+        return Err(Halt::NoMemory);
+    }
+    Ok(place)
+}
+
+impl<K: Keeper> House<K> {
+    /// The house that begins from this head, with its record as the keeper holds it now. It takes no memory.
+    pub(crate) fn begin(alloc: Global, head: Head, stable: Record, keeper: K) -> House<K>
+        requires raised { stable ≡ raised head.«record» }
+        requires holds { Holds (K.held keeper) stable }
+        ensures { result ≡ record { head = head; entries = []; halt = None; keeper = keeper } }
+    {
+        let core = Core::new(alloc, stable, head.start);
+        House {
+            head,
+            entries: Sequence::new(alloc),
+            machine: Machine {
+                place: 0,
+                connections: Vec::new(alloc),
+                front: Front::new(alloc),
+                core,
+            },
+            keeper,
+            halt: None,
+        }
+    }
+
+    /// One event that is no restart, entered with what it did at the place that is answered. After an error the journal
+    /// is as it was, and each later step answers the same error: JournalFull exactly where the journal has 1,048,576
+    /// entries. No step stores the record yet.
+    #[tactic(auto, using(crate::proofs::JournalLaws::legal_next, crate::proofs::JournalLaws::stands_next))]
+    pub fn step(&mut self, alloc: Global, event: Event) -> Result<u64, Halt>
+        requires goes_on { is_restart event ≡ false }
+        ensures ok { IfOk result (λ place. (place ≡ length self.old.entries) × (self.new ≡ record { head = self.old.head; entries = self.old.entries ++ entry 0 (replay (begin self.old.head) self.old.entries) event ∷ []; halt = None; keeper = self.old.keeper })) }
+        ensures err { IfErr result (λ halt. self.new ≡ record { head = self.old.head; entries = self.old.entries; halt = Some halt; keeper = self.old.keeper }) }
+        ensures stays { IfSome self.old.halt (λ halt. result ≡ Err halt) }
+        ensures full { (count : ℕ) → self.old.halt ≡ None → (result ≡ Err (Halt.JournalFull count)) ↔ ((count ≡ length self.old.entries) × (length self.old.entries ≡ 1048576)) }
+        ensures started { (count : ℕ) → self.old.halt ≡ None → result ≡ Err (Halt.StartStore count) → ⊥ }
+        ensures holds { OnOk result (Holds (K.held self.new.keeper) (replay (begin self.new.head) self.new.entries).core.stable) }
+    {
+        match self.halt {
+            Some(halt) => return Err(halt),
+            None => {}
+        }
+        match act_and_enter(
+            alloc,
+            &self.head.exports,
+            &mut self.machine,
+            &mut self.keeper,
+            &mut self.entries,
+            event,
+        ) {
+            Ok(place) => Ok(place),
+            Err(halt) => {
+                self.halt = Some(halt);
+                Err(halt)
+            }
+        }
+    }
+
+    /// The halt that stopped the house, if one did.
+    pub fn halt(&self) -> Option<Halt>
+        ensures { result ≡ self.now.halt }
+    {
+        self.halt
+    }
+
+    /// The entries from this place on, which isn't past the last.
+    pub fn outs_from(&self, place: u64) -> &[Entry]
+        requires { place ≤ length self.now.entries }
+        ensures { result.now ≡ drop place self.now.entries }
+    {
+        let entries = self.entries.as_slice();
+        &entries[place as usize..]
+    }
+
+    /// The claims that are held, in the table's order. A house that found no memory has none to tell.
+    pub fn dump(&self, alloc: Global) -> Result<Vec<Claim>, AllocError>
+        requires { is_spoiled self.now.halt ≡ false }
+        ensures { IfOk result (λ v. v.items ≡ (replay (begin self.now.head) self.now.entries).core.claims) }
+    {
+        Vec::from_slice(alloc, self.machine.core.table().claims())
+    }
+
+    /// The names that are kept. A house that found no memory has none to tell.
+    pub fn names(&self) -> &Names
+        requires { is_spoiled self.now.halt ≡ false }
+        ensures { result.now ≡ (replay (begin self.now.head) self.now.entries).core.names }
+    {
+        self.machine.core.names()
+    }
+
+    /// The journal, and the keeper. The journal is legal: each entry has the stores and the outs that the machine's step
+    /// gives at its place. At each free moment any two claims may be held together, and nobody is forgotten. No out to a
+    /// connection stands before its opening or after its end. The keeper holds the machine's record.
+    #[tactic(auto, using(crate::proofs::OrderLaws::legal_orderly, crate::proofs::MachineLaws::begun_free))]
+    pub fn end(self) -> (Journal, K)
+        ensures journal { (result.0.head ≡ self.head) × (result.0.entries ≡ self.entries) }
+        ensures keeper { result.1 ≡ self.keeper }
+        ensures legal { IsLegal (begin result.0.head) result.0.entries }
+        ensures free { AlwaysFree (begin result.0.head) result.0.entries }
+        ensures orderly { IsOrderly [] [] 0 result.0.entries }
+        ensures holds { is_spoiled self.halt ≡ false → Holds (K.held result.1) (replay (begin result.0.head) result.0.entries).core.stable }
+    {
+        let House {
+            head,
+            entries,
+            machine: _,
+            keeper,
+            halt: _,
+        } = self;
+        (Journal { head, entries }, keeper)
+    }
+}

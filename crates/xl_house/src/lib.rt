@@ -1,0 +1,13 @@
+//! The house: the machine with its journal. It steps events over the NLM front and the core, one entry each.
+#![tactic(auto)]
+
+mod connections;
+mod house;
+mod machine;
+mod outs;
+mod settling;
+mod start;
+
+pub use connections::Connection;
+pub use house::{House, MOST_ENTRIES};
+pub use start::Ended;
