@@ -65,10 +65,10 @@ both_short a names short small = who_short a.party (who_entered a.owner names) (
 queued_grows : (s : CoreState) (a : Ask) (claim : Claim) (passed : Option ℕ) → AreShort s.names → IsShortAsk a → Grows s (queued s a claim passed).2
 queued_grows s a claim (Some limit) short small = grows_self s short
 queued_grows s a claim None short small = record {
-    counter = omega arith;
-    waiters = omega (arith, length-append s.waiters (waiter_of (s.counter + 1) a claim ∷ []));
-    short = both_short a s.names short small
-  }
+  counter = omega arith;
+  waiters = omega (arith, length-append s.waiters (waiter_of (s.counter + 1) a claim ∷ []));
+  short = both_short a s.names short small;
+}
 
 choice_grows : (s : CoreState) (b : Bool) (x y : Answer × List Effect × CoreState) → Grows s x.2 → Grows s y.2 → Grows s (cond b x y).2
 choice_grows s true x y first second = first
@@ -98,10 +98,10 @@ bytes_grow s c first last short =
     elim (cases_Bool (holds_byte c.file c.owner first last s.claims)) [
       | inr e ↦ rw e (grows_self s short)
       | inl e ↦
-        elim (cases_Bool (relock_fits c.file c.owner first last None s.claims)) [
-          | inr k ↦ rw (e, k) (grows_self s short)
-          | inl k ↦ rw (e, k) (record { counter = omega arith; waiters = omega arith; short = short })
-        ]
+          elim (cases_Bool (relock_fits c.file c.owner first last None s.claims)) [
+            | inr k ↦ rw (e, k) (grows_self s short)
+            | inl k ↦ rw (e, k) (record { counter = omega arith; waiters = omega arith; short = short })
+          ]
     ]
 
 unlock_grows : (s : CoreState) (c : Claim) (extent : Extent) → AreShort s.names → Grows s (unlocked s c extent).2

@@ -39,17 +39,17 @@ owner_of l = NlmRange l.caller_name l.svid l.oh
 -- and callers aren't recorded yet.
 abbrev pub ask_of : LockItem → ℕ → Act → Bool → Bool → Rooms → Ask
 ask_of l file act blocking reclaim rows = record {
-    file = file;
-    owner = Named (owner_of l);
-    party = Named (NlmParty l.caller_name);
-    act = act;
-    wish = [];
-    conn = None;
-    blocking = blocking;
-    reclaim = reclaim;
-    monitored = false;
-    rows = rows
-  }
+  file = file;
+  owner = Named (owner_of l);
+  party = Named (NlmParty l.caller_name);
+  act = act;
+  wish = [];
+  conn = None;
+  blocking = blocking;
+  reclaim = reclaim;
+  monitored = false;
+  rows = rows;
+}
 
 abbrev pub test_ask : TestArgsItem → Aim → Ask
 test_ask a at = ask_of a.lock at.file (acts.Test (Bytes at.first at.last) a.exclusive) false false no_rows

@@ -30,13 +30,7 @@ fn owner_of(alloc: Global, lock: &Lock) -> Result<Name, AllocError>
 }
 
 /// An ask of NLM that neither waits nor reclaims.
-fn ask_of(
-    alloc: Global,
-    lock: &Lock,
-    file: u32,
-    act: Act,
-    rows: Rooms,
-) -> Result<Ask, AllocError>
+fn ask_of(alloc: Global, lock: &Lock, file: u32, act: Act, rows: Rooms) -> Result<Ask, AllocError>
     ensures { IfOk result (λ ask. ask ≡ ask_of (shown_lock lock.now) file act false false rows) }
 {
     let owner = owner_of(alloc, lock)?;
@@ -116,18 +110,19 @@ fn is_same(owner: Owner, at: &Aim, exclusive: bool, claim: Option<Claim>) -> boo
     let Some(claim) = claim else {
         return false;
     };
-    claim.file == at.file
-        && same_owner(claim.owner, owner)
-        && is_aimed(claim.what, at, exclusive)
+    claim.file == at.file && same_owner(claim.owner, owner) && is_aimed(claim.what, at, exclusive)
 }
 
 /// Whether one of them waits for the very bytes in this mode as this owner.
 fn any_same(owner: Owner, at: &Aim, exclusive: bool, waiters: &[Waiter]) -> bool
     ensures { result ≡ list_any (λ w. is_same owner at.now exclusive (slice_get w.asked 0)) waiters.now }
 {
-    waiters
-        .iter()
-        .any(|waiter| is_same(owner, at, exclusive, waiter.asked.as_slice().first().copied()))
+    waiters.iter().any(|waiter| is_same(
+        owner,
+        at,
+        exclusive,
+        waiter.asked.as_slice().first().copied(),
+    ))
 }
 
 fn waits_by(waiters: &[Waiter], at: &Aim, exclusive: bool, number: Option<u32>) -> bool
@@ -152,10 +147,5 @@ pub(crate) fn does_wait(
     ensures { IfOk result (λ waits. waits ≡ does_wait core.now (shown_lock_args args.now) at.now) }
 {
     let number = core.names().find(&owner_of(alloc, &args.lock)?);
-    Ok(waits_by(
-        core.queue().waiters(),
-        at,
-        args.exclusive,
-        number,
-    ))
+    Ok(waits_by(core.queue().waiters(), at, args.exclusive, number))
 }

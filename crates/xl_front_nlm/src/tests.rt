@@ -360,7 +360,10 @@ fn hosts_are_few(rt: HostRuntime) -> Result<(), Fail> {
         };
         let (next, got) = told(alloc, server, &record(alloc, row)?)?;
         server = next;
-        assert!(rt; got.as_slice() == reply(alloc, &[0])?.as_slice(), "at {caller}");
+        assert!(rt;
+            got.as_slice() == reply(alloc, &[0])?.as_slice(),
+            "at {caller}"
+        );
     }
     assert_eq!(rt; server.front.rooms().hosts, 0);
     let more = Row {

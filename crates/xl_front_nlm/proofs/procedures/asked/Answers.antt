@@ -7,7 +7,7 @@ use Rattle.xl_front_nlm.proofs.procedures.asked.Goals as goal
 
 pub returns-clause-now : goal.returns-clause-now
 returns-clause-now g c =
-    IfOk-weaker c.ask.result _ _ 
+    IfOk-weaker c.ask.result _ _
     (λ r is. sym (ap (λ (left : Rooms). ask c.ask.new.self.made left c.args.core.now c.args.request.now) c.rooms.ensures) ∙ is (may_be_made c.ask.new.self))
     (c.ask.ensures.state c.ask.new.self.made)
 
