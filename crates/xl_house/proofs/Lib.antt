@@ -4,3 +4,5 @@ pub mod SettleLaws
 pub mod MachineLaws
 pub mod JournalLaws
 pub mod OrderLaws
+pub mod LawfulLaws
+pub mod CompleteLaws

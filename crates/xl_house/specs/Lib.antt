@@ -4,3 +4,4 @@ pub mod Free
 pub mod Housed
 pub mod Starts
 pub mod Whole
+pub mod Lawful
