@@ -5,6 +5,7 @@ ghost use Rattle.xl_front_nlm.specs.Short.{AreShort};
 ghost use Rattle.xl_house.specs.Free.{IsFree, AlwaysFree};
 ghost use Rattle.xl_house.specs.Housed.{Housed, is_spoiled, Holds, Stands};
 ghost use Rattle.xl_house.specs.Journals.{replay, IsLegal, IsOrderly, entry, is_restart};
+ghost use Rattle.xl_house.specs.Lawful.{AlwaysLawful, AlwaysComplete};
 ghost use Rattle.xl_house.specs.Machine.{begin, step};
 ghost use Rattle.xl_house.specs.Whole.{whole_of};
 
@@ -183,14 +184,17 @@ impl<K: Keeper> House<K> {
     }
 
     /// The journal, and the keeper. The journal is legal: each entry has the stores and the outs that the machine's step
-    /// gives at its place. At each free moment any two claims may be held together, and nobody is forgotten. No out to a
-    /// connection stands before its opening or after its end. The keeper holds the machine's record.
-    #[tactic(auto, using(crate::proofs::OrderLaws::legal_orderly, crate::proofs::MachineLaws::begun_free))]
+    /// gives at its place. At each free moment any two claims may be held together, and nobody is forgotten. Each byte
+    /// that an owner lost or gained has its cause in the entry, and a lock that nothing stands against was granted. No
+    /// out to a connection stands before its opening or after its end. The keeper holds the machine's record.
+    #[tactic(auto, using(crate::proofs::OrderLaws::legal_orderly, crate::proofs::MachineLaws::begun_free, crate::proofs::LawfulLaws::lawful_always, crate::proofs::CompleteLaws::complete_always))]
     pub fn end(self) -> (Journal, K)
         ensures journal { (result.0.head ≡ self.head) × (result.0.entries ≡ self.entries) }
         ensures keeper { result.1 ≡ self.keeper }
         ensures legal { IsLegal (begin result.0.head) result.0.entries }
         ensures free { AlwaysFree (begin result.0.head) result.0.entries }
+        ensures lawful { AlwaysLawful (begin result.0.head) result.0.entries }
+        ensures complete { AlwaysComplete (begin result.0.head) result.0.entries }
         ensures orderly { IsOrderly [] [] 0 result.0.entries }
         ensures holds { is_spoiled self.halt ≡ false → Holds (K.held result.1) (replay (begin result.0.head) result.0.entries).core.stable }
     {
