@@ -158,6 +158,13 @@ impl<K: Keeper> House<K> {
         self.halt
     }
 
+    /// Whether the house found no memory in a step: what is held is spent then.
+    pub fn is_spoiled(&self) -> bool
+        ensures { result ≡ is_spoiled self.now.halt }
+    {
+        matches!(self.halt, Some(Halt::NoMemory))
+    }
+
     /// The entries from this place on, which isn't past the last.
     pub fn outs_from(&self, place: u64) -> &[Entry]
         requires { place ≤ length self.now.entries }
