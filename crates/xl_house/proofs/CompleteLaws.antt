@@ -53,9 +53,9 @@ all_quiet hosts s (e ∷ es) = all_quiet hosts s es
 quiet_for : (fuel n : ℕ) (hosts : List (List ℕ)) (s : CoreState) → (settled_for fuel n hosts s).0 ≡ []
 quiet_for zero n hosts s = refl
 quiet_for (suc fuel) n hosts s = quiet_after (settle n (rooms hosts) s) (λ t. quiet_for fuel n hosts t) where
-    quiet_after : (o : Option (List Effect × CoreState)) → ((t : CoreState) → (settled_for fuel n hosts t).0 ≡ []) → (after_turn hosts (settled_for fuel n hosts) s o).0 ≡ []
-    quiet_after None next = refl
-    quiet_after (Some r) next = ap (λ (os : List Out). os ++ (settled_for fuel n hosts r.1).0) (all_quiet hosts r.1 r.0) ∙ next r.1
+  quiet_after : (o : Option (List Effect × CoreState)) → ((t : CoreState) → (settled_for fuel n hosts t).0 ≡ []) → (after_turn hosts (settled_for fuel n hosts) s o).0 ≡ []
+  quiet_after None next = refl
+  quiet_after (Some r) next = ap (λ (os : List Out). os ++ (settled_for fuel n hosts r.1).0) (all_quiet hosts r.1 r.0) ∙ next r.1
 
 pub quiet : (n : ℕ) (hosts : List (List ℕ)) (s : CoreState) → (settled n hosts s).0 ≡ []
 unfolding settled
@@ -86,7 +86,7 @@ reply_to number xid a answer = told_so number xid a.cookie (answer_status answer
 
 lock_is_due : (n number xid : ℕ) (hosts after : List (List ℕ)) (s : CoreState) (a : LockArgsItem) (at : Aim) → IsGood s → IsSettled s → s.made ≡ 0 → s.failed ≡ false → at.first ≤ at.last
     → (let done = ask n (rooms hosts) s (asks hosts a at) in
-       a.reclaim ≡ false → IsDueLock n number xid hosts s (step_begun (settled n after done.2).1) (reply_to number xid a done.0) a at)
+    a.reclaim ≡ false → IsDueLock n number xid hosts s (step_begun (settled n after done.2).1) (reply_to number xid a done.0) a at)
 unfolding step_begun
 lock_is_due n number xid hosts after s a at good is made failed ends timely =
     let request = asks hosts a at in
@@ -97,16 +97,18 @@ lock_is_due n number xid hosts after s a at good is made failed ends timely =
       granted = λ free room. ap (reply_to number xid a) (lock_free n (rooms hosts) s request extent a.exclusive (lock_fit hosts a at ends) refl timely free room);
       denied = λ blocked hurries.
           let found = denial (rooms hosts) s request claim _ (lock_case n (rooms hosts) s request claim) blocked timely hurries in
-          let e = lock_is n (rooms hosts) s request extent a.exclusive refl ∙ found.1 in
-          (ap (λ (r : Answered). reply_to number xid a r.0) e,
-           ap (λ (r : Answered). step_begun (settled n after r.2).1) e ∙ ap step_begun (still n after s is) ∙ begun_same s made failed);
+          let e = lock_is n (rooms hosts) s request extent a.exclusive refl ∙ found.1 in (
+            ap (λ (r : Answered). reply_to number xid a r.0) e,
+            ap (λ (r : Answered). step_begun (settled n after r.2).1) e ∙ ap step_begun (still n after s is) ∙ begun_same s made failed,
+          );
       blocked = λ blocked waits room.
           let queued = (lock_due n (rooms hosts) s request extent a.exclusive (answers.Queued (s.counter + 1)) refl (lock_client hosts a at) ends).1 (refl, timely, waits, blocked, room) in
           let same = still n after done.2 (queue_settled n hosts s a at (s.counter + 1) good is ends queued) in
-          let own = ask_own n (rooms hosts) s request good (lock_client hosts a at) in
-          (ap (reply_to number xid a) queued,
-           ap (λ (c : CoreState). c.claims) same ∙ own.claims (λ c e. not_both (s.counter + 1) c (sym queued ∙ e)),
-           ap (λ (c : CoreState). c.waiters) same ∙ ask_waits n (rooms hosts) s request extent a.exclusive (s.counter + 1) refl queued);
+          let own = ask_own n (rooms hosts) s request good (lock_client hosts a at) in (
+            ap (reply_to number xid a) queued,
+            ap (λ (c : CoreState). c.claims) same ∙ own.claims (λ c e. not_both (s.counter + 1) c (sym queued ∙ e)),
+            ap (λ (c : CoreState). c.waiters) same ∙ ask_waits n (rooms hosts) s request extent a.exclusive (s.counter + 1) refl queued,
+          );
     }
   where
     not_both : (k : ℕ) (c : Claim) → answers.Queued k ≡ answers.Granted c → ⊥
@@ -159,7 +161,7 @@ told_due n number count hosts s (Some call) r e good is made failed =
 
 heard_due : (n : ℕ) (exports : Exports) (hosts : List (List ℕ)) (s : CoreState) (kind : Option Kind) (number : ℕ) (bytes : List ℕ) → IsGood s → IsSettled s → s.made ≡ 0 → s.failed ≡ false
     → (let done = heard_by n exports hosts s kind number bytes in
-       IsDueOn n number (length exports.files) hosts s (step_begun (settled n done.1 done.2).1) (done.0 ++ (settled n done.1 done.2).0) kind bytes)
+    IsDueOn n number (length exports.files) hosts s (step_begun (settled n done.1 done.2).1) (done.0 ++ (settled n done.1 done.2).0) kind bytes)
 unfolding nlm_step
 heard_due n exports hosts s None number bytes good is made failed = tt
 heard_due n exports hosts s (Some Smb) number bytes good is made failed = tt
@@ -171,10 +173,10 @@ heard_due n exports hosts s (Some Rpc) number bytes good is made failed =
 
 message_due : (n : ℕ) (s : Whole) (number : ℕ) (bytes : List ℕ) → IsFree s
     → (let done = heard_by n s.exports s.hosts (step_begun s.core) (kind_of s.connections number) number bytes in
-       IsDueOn n number (length s.exports.files) s.hosts s.core (step_begun (settled n done.1 done.2).1) (done.0 ++ (settled n done.1 done.2).0) (kind_of s.connections number) bytes)
+    IsDueOn n number (length s.exports.files) s.hosts s.core (step_begun (settled n done.1 done.2).1) (done.0 ++ (settled n done.1 done.2).0) (kind_of s.connections number) bytes)
 message_due n s number bytes free =
     subst (λ (c : CoreState). let done = heard_by n s.exports s.hosts c (kind_of s.connections number) number bytes in
-       IsDueOn n number (length s.exports.files) s.hosts s.core (step_begun (settled n done.1 done.2).1) (done.0 ++ (settled n done.1 done.2).0) (kind_of s.connections number) bytes) (sym (begun_same s.core free.made free.failed))
+    IsDueOn n number (length s.exports.files) s.hosts s.core (step_begun (settled n done.1 done.2).1) (done.0 ++ (settled n done.1 done.2).0) (kind_of s.connections number) bytes) (sym (begun_same s.core free.made free.failed))
     (heard_due n s.exports s.hosts s.core (kind_of s.connections number) number bytes free.good free.settled free.made free.failed)
 
 step_complete : (n : ℕ) (s : Whole) (e : Event) → IsFree s → IsComplete n s e (step n s e).outs (step n s e).next

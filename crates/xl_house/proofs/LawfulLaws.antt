@@ -138,8 +138,13 @@ granted_by_bytes s t c good range is others file owner x =
     elim (same_place c.file file c.owner owner) [
       | inr apart ↦ inl (wrote.others file owner apart x)
       | inl here ↦ elim (cases_Bool (within first last x)) [
-        | inl inside ↦ inr (exclusive, sym here.0, sym here.1, locks_there c first last x exclusive parts.3 inside,
-            subst (λ (f : ℕ). held_mode t f owner x ≡ Some (mode_of exclusive)) (sym here.0) (subst (λ (o : Owner). held_mode t c.file o x ≡ Some (mode_of exclusive)) (sym here.1) (wrote.inside x inside)))
+        | inl inside ↦ inr (
+          exclusive,
+          sym here.0,
+          sym here.1,
+          locks_there c first last x exclusive parts.3 inside,
+          subst (λ (f : ℕ). held_mode t f owner x ≡ Some (mode_of exclusive)) (sym here.0) (subst (λ (o : Owner). held_mode t c.file o x ≡ Some (mode_of exclusive)) (sym here.1) (wrote.inside x inside)),
+        )
         | inr outside ↦ inl (subst (λ (f : ℕ). held_mode t f owner x ≡ held_mode s f owner x) (sym here.0) (subst (λ (o : Owner). held_mode t c.file o x ≡ held_mode s c.file o x) (sym here.1) (wrote.outside x outside)))
       ]
     ]
@@ -155,17 +160,17 @@ due_by_bytes left s t effects turn (answers.Granted c) good due file owner x =
     elim (granted_by_bytes s t turn.claim good known.0 due.2 turn.others file owner x) [
       | inl same ↦ inl same
       | inr wrote ↦ inr (record {
-          waiter = turn.waiter;
-          claim = turn.claim;
-          exclusive = wrote.0;
-          stood = there;
-          gone = λ h. taken turn.before turn.behind turn.waiter apart (subst (λ (ws : List Waiter). IsIn turn.waiter ws) turn.waiters h);
-          asked = turn.asked;
-          file_is = wrote.1;
-          owner_is = wrote.2;
-          locks = wrote.3;
-          mode = wrote.4;
-        })
+        waiter = turn.waiter;
+        claim = turn.claim;
+        exclusive = wrote.0;
+        stood = there;
+        gone = λ h. taken turn.before turn.behind turn.waiter apart (subst (λ (ws : List Waiter). IsIn turn.waiter ws) turn.waiters h);
+        asked = turn.asked;
+        file_is = wrote.1;
+        owner_is = wrote.2;
+        locks = wrote.3;
+        mode = wrote.4;
+      })
     ]
 due_by_bytes left s t effects turn (answers.Conflict c) good due file owner x = absurd due
 due_by_bytes left s t effects turn (answers.Queued id) good due file owner x = absurd due
@@ -263,10 +268,10 @@ on_for : (fuel n : ℕ) (hosts after : List (List ℕ)) (s a : CoreState) (asked
 on_for zero n hosts after s a asked on = on
 on_for (suc fuel) n hosts after s a asked on =
     on_after (settle n (rooms after) a) refl (λ r e. on_for fuel n hosts after s r.1 asked (on_by_turn n (rooms after) hosts s a asked r on e)) where
-    on_after : (o : Option (List Effect × CoreState)) → settle n (rooms after) a ≡ o → ((r : List Effect × CoreState) → settle n (rooms after) a ≡ Some r → IsOn n hosts s (settled_for fuel n after r.1).1 asked)
-        → IsOn n hosts s (after_turn after (settled_for fuel n after) a o).1 asked
-    on_after None e next = on
-    on_after (Some r) e next = next r e
+      on_after : (o : Option (List Effect × CoreState)) → settle n (rooms after) a ≡ o → ((r : List Effect × CoreState) → settle n (rooms after) a ≡ Some r → IsOn n hosts s (settled_for fuel n after r.1).1 asked)
+          → IsOn n hosts s (after_turn after (settled_for fuel n after) a o).1 asked
+      on_after None e next = on
+      on_after (Some r) e next = next r e
 
 settles : (n : ℕ) (hosts after : List (List ℕ)) (s a : CoreState) (asked : Asked) → IsOn n hosts s a asked → IsChange n hosts s (settled n after a).1 asked
 unfolding settled
@@ -320,8 +325,11 @@ lock_change n hosts s a at good ends file owner x =
           elim (same_place at.file file (asker request s.names) owner) [
             | inr apart ↦ inl (wrote.others file owner apart x)
             | inl here ↦ elim (cases_Bool (within at.first at.last x)) [
-              | inl inside ↦ inr (inl ((here.0, here.1, inside), ap is_granted granted.1,
-                  subst (λ (f : ℕ). held_mode done.2 f owner x ≡ Some (mode_of a.exclusive)) (sym here.0) (subst (λ (o : Owner). held_mode done.2 at.file o x ≡ Some (mode_of a.exclusive)) (sym here.1) (wrote.inside x inside))))
+              | inl inside ↦ inr (inl (
+                (here.0, here.1, inside),
+                ap is_granted granted.1,
+                subst (λ (f : ℕ). held_mode done.2 f owner x ≡ Some (mode_of a.exclusive)) (sym here.0) (subst (λ (o : Owner). held_mode done.2 at.file o x ≡ Some (mode_of a.exclusive)) (sym here.1) (wrote.inside x inside)),
+              ))
               | inr outside ↦ inl (subst (λ (f : ℕ). held_mode done.2 f owner x ≡ held_mode s f owner x) (sym here.0) (subst (λ (o : Owner). held_mode done.2 at.file o x ≡ held_mode s at.file o x) (sym here.1) (wrote.outside x outside)))
             ]
           ]
@@ -340,8 +348,10 @@ unlock_change n hosts s a at good ends file owner x =
           elim (same_place at.file file (asker request s.names) owner) [
             | inr apart ↦ inl (wrote.others file owner apart x)
             | inl here ↦ elim (cases_Bool (within at.first at.last x)) [
-              | inl inside ↦ inr (inl ((here.0, here.1, inside),
-                  subst (λ (f : ℕ). held_mode done.2 f owner x ≡ None) (sym here.0) (subst (λ (o : Owner). held_mode done.2 at.file o x ≡ None) (sym here.1) (wrote.inside x inside))))
+              | inl inside ↦ inr (inl (
+                (here.0, here.1, inside),
+                subst (λ (f : ℕ). held_mode done.2 f owner x ≡ None) (sym here.0) (subst (λ (o : Owner). held_mode done.2 at.file o x ≡ None) (sym here.1) (wrote.inside x inside)),
+              ))
               | inr outside ↦ inl (subst (λ (f : ℕ). held_mode done.2 f owner x ≡ held_mode s f owner x) (sym here.0) (subst (λ (o : Owner). held_mode done.2 at.file o x ≡ held_mode s at.file o x) (sym here.1) (wrote.outside x outside)))
             ]
           ]
@@ -372,10 +382,10 @@ lock_settles n hosts after s a at good is ends =
     elim (queued_cases done.0) [
       | inl queued ↦ subst (λ (t : CoreState). IsChange n hosts s t (Locks a at)) (sym (still n after done.2 (queue_settled n hosts s a at queued.0 good is ends queued.1))) (lock_change n hosts s a at good ends)
       | inr none ↦ settles n hosts after s done.2 (Locks a at) (record {
-          change = lock_change n hosts s a at good ends;
-          stay = λ w h. subst (λ (ws : List Waiter). IsIn w ws) (own.waiters none) h;
-          good = ask_good n (rooms hosts) s request good (lock_fit hosts a at ends);
-        })
+        change = lock_change n hosts s a at good ends;
+        stay = λ w h. subst (λ (ws : List Waiter). IsIn w ws) (own.waiters none) h;
+        good = ask_good n (rooms hosts) s request good (lock_fit hosts a at ends);
+      })
     ]
 
 unlock_settles : (n : ℕ) (hosts after : List (List ℕ)) (s : CoreState) (a : UnlockArgsItem) (at : Aim) → IsGood s → at.first ≤ at.last → IsChange n hosts s (settled n after (ask n (rooms hosts) s (unlock_ask a at)).2).1 (Unlocks a at)
@@ -552,13 +562,13 @@ quiet_change n s free =
 
 message_change : (n : ℕ) (s : Whole) (number : ℕ) (bytes : List ℕ) → IsFree s
     → (let done = heard_by n s.exports s.hosts (step_begun s.core) (kind_of s.connections number) number bytes in
-       IsChange n s.hosts s.core (step_begun (settled n done.1 done.2).1) (asked_on (length s.exports.files) s.core (kind_of s.connections number) bytes))
+    IsChange n s.hosts s.core (step_begun (settled n done.1 done.2).1) (asked_on (length s.exports.files) s.core (kind_of s.connections number) bytes))
 message_change n s number bytes free =
     subst (λ (c : CoreState). let done = heard_by n s.exports s.hosts c (kind_of s.connections number) number bytes in
-       IsChange n s.hosts s.core (step_begun (settled n done.1 done.2).1) (asked_on (length s.exports.files) s.core (kind_of s.connections number) bytes)) (sym (begun_same s.core free.made free.failed))
+    IsChange n s.hosts s.core (step_begun (settled n done.1 done.2).1) (asked_on (length s.exports.files) s.core (kind_of s.connections number) bytes)) (sym (begun_same s.core free.made free.failed))
     (let done = heard_by n s.exports s.hosts s.core (kind_of s.connections number) number bytes in
-     begun_change n s.hosts s.core (settled n done.1 done.2).1 (asked_on (length s.exports.files) s.core (kind_of s.connections number) bytes)
-     (heard_change n s.exports s.hosts s.core (kind_of s.connections number) number bytes free.good free.settled))
+    begun_change n s.hosts s.core (settled n done.1 done.2).1 (asked_on (length s.exports.files) s.core (kind_of s.connections number) bytes)
+    (heard_change n s.exports s.hosts s.core (kind_of s.connections number) number bytes free.good free.settled))
 
 pub step_lawful : (n : ℕ) (s : Whole) (e : Event) → IsFree s → IsLawful n s e (step n s e).next
 unfolding step heard connected

@@ -36,7 +36,7 @@ pub struct Usage;
 #[derive(Drop, Debug)]
 pub struct Done {
     /// 0: the job was done to the end of the input. 1: the words ask for no job. 2: the source failed. 3: the sink
-    /// failed. 4: a line isn't in the capture's grammar. 6: memory ran out.
+    /// failed. 4: a line isn't in the capture's grammar. 6: memory ran out. 7: an event met a full journal.
     pub status: u8,
     /// At status 4 the number of the first such line, counted from 1; else 0.
     pub line: u64,
@@ -119,11 +119,7 @@ fn read_all<I: Source>(alloc: Global, input: &mut I) -> Result<Vec<u8>, Unread>
 
 /// Steps the events in order. An error leaves the house halted, with a beginning of their entries.
 #[tactic(auto, using(xl_house::proofs::JournalLaws::stepped, xl_house::proofs::JournalLaws::front, xl_house::proofs::JournalLaws::some_left))]
-fn step_all(
-    alloc: Global,
-    house: &mut House<SureKeeper>,
-    events: Vec<Event>,
-) -> Result<(), Halt>
+fn step_all(alloc: Global, house: &mut House<SureKeeper>, events: Vec<Event>) -> Result<(), Halt>
     requires goes { house.old.halt ≡ None }
     requires steps { AreSteps events.items }
     ensures head { house.new.head ≡ house.old.head }
@@ -219,10 +215,7 @@ fn start(alloc: Global, files: Sequence<Sequence<u8>>) -> Option<House<SureKeepe
 /// A house that stepped the events of a capture, and how the last step ended. None comes for want of memory at the
 /// start.
 #[tactic(auto, using(crate::proofs::JobLaws::begins))]
-fn step_capture(
-    alloc: Global,
-    capture: Capture,
-) -> Option<(House<SureKeeper>, Result<(), Halt>)>
+fn step_capture(alloc: Global, capture: Capture) -> Option<(House<SureKeeper>, Result<(), Halt>)>
     requires { AreSteps capture.events }
     ensures head { IfSome result (λ r. r.0.head ≡ head_of capture) }
     ensures ok { IfSome result (λ r. OnOk r.1 (r.0.entries ≡ entries_of (begin (head_of capture)) capture.events)) }
@@ -333,8 +326,8 @@ pub fn run<I: Source, O: Sink>(alloc: Global, words: &[String], input: &mut I, o
     // who waits could be served.
     ensures free { AlwaysFree (begin result.journal.head) result.journal.entries }
 
-    // Each byte that an owner lost or that weakened was its own act, each that is new or stronger was granted to it; what
-    // nothing stands against was granted.
+    // Each byte of each owner stands as it stood before an entry, but for what its owner did in it, or was granted after
+    // a wait. A lock that nothing stands against is granted; one that is blocked is denied, or waits.
     ensures lawful { AlwaysLawful (begin result.journal.head) result.journal.entries }
     ensures complete { AlwaysComplete (begin result.journal.head) result.journal.entries }
 {
