@@ -1,3 +1,6 @@
+ghost use Rattle.std.specs.Prelude.{◌≡◌, ◌∷◌, [], IfOk};
+ghost use Rattle.xl_core.specs.Asking.{IsFitAct, IsFit};
+
 use crate::*;
 use std::alloc::{AllocError, Global};
 use std::test::Fail;
@@ -5,9 +8,6 @@ use xl_base::{MemoryKeeper, Moment, Party, Record, Sequence};
 use xl_matrix::Extent;
 use xl_names::Name;
 use xl_wait::Rooms;
-
-ghost use Rattle.std.specs.Prelude.{◌≡◌, ◌∷◌, [], IfOk};
-ghost use Rattle.xl_core.specs.Asking.{IsFitAct, IsFit};
 
 const NO_ROWS: Rooms = Rooms {
     hosts: 0,

@@ -259,8 +259,8 @@ fn are_told(alloc: Global, house: &mut House<MemoryKeeper>, rows: &[Row]) -> Res
 fn steps(rt: HostRuntime) -> Result<(), Fail> {
     for (rows, ranges) in TABLES {
         let mut house = connected(rt.alloc())?;
-        assert!(rt; are_told(rt.alloc(), &mut house, rows)?, "{rows:?}");
-        assert!(rt; holds(rt.alloc(), &house, ranges)?, "{rows:?}");
+        assert!(rt; are_told(rt.alloc(), &mut house, rows)?);
+        assert!(rt; holds(rt.alloc(), &house, ranges)?);
     }
     Ok(())
 }
