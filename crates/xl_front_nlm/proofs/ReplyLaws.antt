@@ -2,14 +2,14 @@
 use Rattle.std.proofs.Common.{◌≡◌, ℕ, ◌+◌, ◌-◌, ◌%◌, ◌<◌, ◌≤◌, List, [], ◌++◌, length, replicate, Option, Some, None, refl, ap, arith}
 use Rattle.std.proofs.Math.Nat.{mod-lt}
 use Rattle.std.proofs.lemmas.List.{length-append, length-replicate}
-use Rattle.std.specs.Int.{w32, w64, cast_unsigned}
+use Rattle.std.specs.Int.{w32, cast_unsigned}
 use Rattle.std.specs.Prelude.{IfSome, if◌then◌else◌}
 use Rattle.xl_base.specs.Codec.{big_endian}
 use Rattle.xl_nlm.specs.Arguments.{TextFits}
 use Rattle.xl_nlm.specs.Items.{HolderItem, TestResItem, ResItem, ShareResItem, ReplyItem, Void, TestAnswer, Answer, ShareAnswer}
 use Rattle.xl_nlm.specs.Replies.{holder, holder_part, test_res, res, share_res, results, status_number, IsShortReply}
 use Rattle.xl_rpc.specs.Xdr.{hyper, pad, fixed, opaque}
-use Rattle.xl_rpc.specs.Replies.{reply, told, detail, stat, reply_stat}
+use Rattle.xl_rpc.specs.Replies.{reply, told, detail, reply_stat}
 use Rattle.xl_rpc.specs.Xdr.{unsigned}
 use Rattle.xl_rpc.specs.declared.reply.Verdict.{Verdict}
 use Rattle.xl_rpc.specs.declared.reply.Verdict.TheVariants.{Success, ProgUnavail, ProgMismatch, ProcUnavail, GarbageArgs, SystemErr, RpcMismatch, AuthError}

@@ -1,5 +1,5 @@
 -- What is told of a call is short.
-use Rattle.std.proofs.Common.{◌≡◌, ℕ, ℤ, ◌≤◌, zero, suc, Bool, true, false, List, [], ◌∷◌, length, slice_get, Option, Some, None, refl, sym, subst, arith}
+use Rattle.std.proofs.Common.{◌≡◌, ℕ, ℤ, ◌≤◌, zero, suc, List, [], ◌∷◌, length, slice_get, Some, refl, sym, subst, arith}
 use Rattle.std.specs.Prelude.{is_some, IfSome}
 use Rattle.xl_base.specs.declared.name.Owner.{Owner}
 use Rattle.xl_base.specs.declared.name.Owner.TheVariants as owners

@@ -1,5 +1,5 @@
 -- Who is told BLOCKED waits.
-use Rattle.std.proofs.Common.{◌≡◌, ℕ, ◌+◌, Bool, true, false, not, ◌&&◌, ◌||◌, cond, List, [], ◌∷◌, ◌++◌, length, Option, Some, None, Ok, refl, sym, ap, subst, ◌∙◌, inl, inr, arith}
+use Rattle.std.proofs.Common.{◌≡◌, ℕ, ◌+◌, Bool, true, false, ◌||◌, cond, List, [], ◌∷◌, ◌++◌, length, Option, Some, None, Ok, refl, sym, ap, subst, ◌∙◌, inl, inr, arith}
 use Rattle.std.proofs.lemmas.Bool.{cases_Bool, or_right}
 use Rattle.std.proofs.lemmas.Bool.Decides.{nat_tests}
 use Rattle.std.proofs.lemmas.List.Folds.{list_any-append}
@@ -9,7 +9,6 @@ use Rattle.xl_base.specs.declared.name.Owner.TheVariants as owners
 use Rattle.xl_base.specs.declared.name.Protocol.TheVariants.{Nlm}
 use Rattle.xl_matrix.specs.Equal.{same_flag}
 use Rattle.xl_matrix.specs.declared.claim.Claim.{Claim}
-use Rattle.xl_matrix.specs.declared.claim.Extent.{Extent}
 use Rattle.xl_matrix.specs.declared.claim.Extent.TheVariants.{Bytes}
 use Rattle.xl_names.proofs.NameLaws.{number_entered, number_stays}
 use Rattle.xl_names.specs.Names.{number_of, place_of, entered}
@@ -21,15 +20,14 @@ use Rattle.xl_wait.specs.declared.waiter.Rooms.{Rooms}
 use Rattle.xl_wait.specs.declared.waiter.Waiter.{Waiter}
 use Rattle.xl_core.specs.Asking.{both_entered, asked_claim, names_fit}
 use Rattle.xl_core.specs.Blockers.{least, blockers}
-use Rattle.xl_core.specs.Decide.{passed_by_grant, passed_by_wait, decided, decide, waiter_of, waiting, queued, lock_answered, lock_asked, ranges_asked, ask}
+use Rattle.xl_core.specs.Decide.{passed_by_grant, passed_by_wait, decided, decide, waiter_of, waiting, queued, lock_answered, lock_asked, ask}
 use Rattle.xl_core.specs.Relock.{grant_fits}
 use Rattle.xl_core.specs.State.{CoreState}
 use Rattle.xl_core.specs.declared.ask.Answer.{Answer}
-use Rattle.xl_core.specs.declared.ask.Ask.{Ask}
 use Rattle.xl_core.specs.declared.ask.Effect.{Effect}
 use Rattle.xl_front_nlm.proofs.ServeLaws.{lock_is_asked, lock_waits_on}
 use Rattle.xl_front_nlm.specs.Aims.{aimed}
-use Rattle.xl_front_nlm.specs.Asks.{owner_of, lock_ask, is_same, waits_by, does_wait, answered_for, served}
+use Rattle.xl_front_nlm.specs.Asks.{owner_of, lock_ask, is_same, waits_by, does_wait, served}
 use Rattle.xl_front_nlm.specs.Hosts.{rooms, lock_rows}
 use Rattle.xl_front_nlm.specs.Results.{answer_status, status_of}
 use Rattle.xl_front_nlm.specs.declared.aim.Aim.{Aim}

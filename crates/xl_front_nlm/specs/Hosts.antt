@@ -1,5 +1,5 @@
 -- The hosts: the caller names that were granted something or waited since the start, in order of arrival.
-use Rattle.std.specs.Prelude.{◌≡◌, ℕ, ◌-◌, ◌≤◌, Bool, true, false, not, bytes_eq, if◌then◌else◌, List, [], ◌∷◌, ◌++◌, length}
+use Rattle.std.specs.Prelude.{ℕ, ◌-◌, ◌≤◌, Bool, true, false, not, bytes_eq, if◌then◌else◌, List, [], ◌∷◌, ◌++◌, length}
 use Rattle.std.specs.List.{list_any}
 use Rattle.xl_base.specs.Lists.{Pairwise}
 use Rattle.xl_wait.specs.declared.waiter.Rooms.{Rooms}

@@ -197,6 +197,30 @@ fn play(alloc: Global, server: &mut Server, rows: &[Row]) -> Result<Vec<u8>, All
     Ok(stats)
 }
 
+fn are(stats: &[u8], wanted: &[u8]) -> bool {
+    stats == wanted
+}
+
+/// What came of calls on a new server.
+#[derive(Drop)]
+struct Ended {
+    stats: Vec<u8>,
+    waiters: usize,
+    hosts: usize,
+    claims: usize,
+}
+
+fn end_of(alloc: Global, rows: &[Row]) -> Result<Ended, AllocError> {
+    let mut server = Server::new(alloc)?;
+    let stats = play(alloc, &mut server, rows)?;
+    Ok(Ended {
+        stats,
+        waiters: server.core.queue().len(),
+        hosts: server.front.hosts().len(),
+        claims: server.core.table().len(),
+    })
+}
+
 const LOCK: Row = Row {
     procedure: 2,
     block: false,
@@ -209,119 +233,130 @@ const LOCK: Row = Row {
 };
 
 /// The same LOCK by another caller.
-fn other() -> Row {
-    let mut row = LOCK;
-    row.caller = 0x6262;
-    row
-}
+const OTHER: Row = Row {
+    caller: 0x6262,
+    ..LOCK
+};
 
 /// That one, where it may wait.
-fn waiting() -> Row {
-    let mut row = other();
-    row.block = true;
-    row
-}
+const WAITING: Row = Row {
+    block: true,
+    ..OTHER
+};
 
-fn unlock() -> Row {
-    let mut row = LOCK;
-    row.procedure = 4;
-    row
-}
+const UNLOCK: Row = Row {
+    procedure: 4,
+    ..LOCK
+};
 
 /// Three times the same lock that may wait is BLOCKED, and one waits.
 #[test]
 fn one_waits(rt: HostRuntime) -> Result<(), Fail> {
     let alloc = rt.alloc();
-    let mut server = Server::new(alloc)?;
-    let rows = [LOCK, waiting(), waiting(), waiting()];
-    let stats = play(alloc, &mut server, &rows)?;
-    assert!(rt; stats.as_slice() == [0, 3, 3, 3].as_slice());
-    assert_eq!(rt; server.core.queue().len(), 1);
-    assert_eq!(rt; server.front.hosts().len(), 2);
+    let end = end_of(alloc, &[LOCK, WAITING, WAITING, WAITING])?;
+    assert!(rt; are(&end.stats, b"\x00\x03\x03\x03"));
+    assert_eq!(rt; end.waiters, 1);
+    assert_eq!(rt; end.hosts, 2);
     Ok(())
 }
 
 /// What equals a waiter is BLOCKED, also where it may not wait, and where it reclaims; another mode, other bytes,
 /// another file and another owner don't equal it.
-fn nearly_waiting() -> [Row; 6] {
-    let mut late = other();
-    late.reclaim = true;
-    let mut shared = other();
-    shared.exclusive = false;
-    let mut fewer = other();
-    fewer.len = 9;
-    let mut elsewhere = other();
-    elsewhere.file = 2;
-    let mut third = other();
-    third.caller = 0x6363;
-    [other(), late, shared, fewer, elsewhere, third]
-}
+const NEARLY_WAITING: [Row; 8] = [
+    LOCK,
+    WAITING,
+    OTHER,
+    Row {
+        reclaim: true,
+        ..OTHER
+    },
+    Row {
+        exclusive: false,
+        ..OTHER
+    },
+    Row { len: 9, ..OTHER },
+    Row { file: 2, ..OTHER },
+    Row {
+        caller: 0x6363,
+        ..OTHER
+    },
+];
 
 #[test]
 fn what_equals_a_waiter(rt: HostRuntime) -> Result<(), Fail> {
-    let alloc = rt.alloc();
-    let mut server = Server::new(alloc)?;
-    let stats = play(alloc, &mut server, &[LOCK, waiting()])?;
-    assert!(rt; stats.as_slice() == [0, 3].as_slice());
-    let stats = play(alloc, &mut server, &nearly_waiting())?;
-    assert!(rt; stats.as_slice() == [3, 3, 1, 1, 0, 1].as_slice());
-    assert_eq!(rt; server.core.queue().len(), 1);
+    let end = end_of(rt.alloc(), &NEARLY_WAITING)?;
+    assert!(rt; are(&end.stats, b"\x00\x03\x03\x03\x01\x01\x00\x01"));
+    assert_eq!(rt; end.waiters, 1);
     Ok(())
 }
 
 /// A lock that may not wait is DENIED, an unlock GRANTED, held or not; a reclaim comes too late.
+const NOBODY_WAITING: [Row; 7] = [
+    LOCK,
+    OTHER,
+    Row {
+        caller: 0x6262,
+        ..UNLOCK
+    },
+    UNLOCK,
+    UNLOCK,
+    Row {
+        reclaim: true,
+        ..WAITING
+    },
+    OTHER,
+];
+
 #[test]
 fn nobody_waits(rt: HostRuntime) -> Result<(), Fail> {
-    let alloc = rt.alloc();
-    let mut server = Server::new(alloc)?;
-    let mut theirs = unlock();
-    theirs.caller = 0x6262;
-    let mut late = waiting();
-    late.reclaim = true;
-    let rows = [LOCK, other(), theirs, unlock(), unlock(), late, other()];
-    let stats = play(alloc, &mut server, &rows)?;
-    assert!(rt; stats.as_slice() == [0, 1, 0, 0, 0, 4, 0].as_slice());
-    assert_eq!(rt; server.core.queue().len(), 0);
-    assert_eq!(rt; server.front.hosts().len(), 2);
+    let end = end_of(rt.alloc(), &NOBODY_WAITING)?;
+    assert!(rt; are(&end.stats, b"\x00\x01\x00\x00\x00\x04\x00"));
+    assert_eq!(rt; end.waiters, 0);
+    assert_eq!(rt; end.hosts, 2);
     Ok(())
 }
 
 /// A handle of no file before all else, then a range that passes the last byte.
-fn wrong() -> [Row; 5] {
-    let mut no_file = LOCK;
-    no_file.file = 3;
-    no_file.first = u64::MAX;
-    let mut root = unlock();
-    root.file = 0;
-    let mut big = LOCK;
-    big.first = u64::MAX;
-    big.len = 2;
-    big.reclaim = true;
-    let mut last = LOCK;
-    last.first = u64::MAX;
-    last.len = 1;
-    let mut to_the_end = unlock();
-    to_the_end.first = u64::MAX;
-    to_the_end.len = 0;
-    [no_file, root, big, last, to_the_end]
-}
+const WRONG: [Row; 5] = [
+    Row {
+        file: 3,
+        first: u64::MAX,
+        ..LOCK
+    },
+    Row { file: 0, ..UNLOCK },
+    Row {
+        first: u64::MAX,
+        len: 2,
+        reclaim: true,
+        ..LOCK
+    },
+    Row {
+        first: u64::MAX,
+        len: 1,
+        ..LOCK
+    },
+    Row {
+        first: u64::MAX,
+        len: 0,
+        ..UNLOCK
+    },
+];
 
 #[test]
 fn checks_come_in_order(rt: HostRuntime) -> Result<(), Fail> {
-    let alloc = rt.alloc();
-    let mut server = Server::new(alloc)?;
-    let stats = play(alloc, &mut server, &wrong())?;
-    assert!(rt; stats.as_slice() == [7, 7, 8, 0, 0].as_slice());
-    assert!(rt; server.core.table().is_empty());
+    let end = end_of(rt.alloc(), &WRONG)?;
+    assert!(rt; are(&end.stats, b"\x07\x07\x08\x00\x00"));
+    assert_eq!(rt; end.claims, 0);
     Ok(())
 }
 
 /// A test from this byte on.
 fn test_from(first: u64) -> Row {
-    let mut row = other();
-    row.procedure = 1;
-    row.first = first;
-    row
+    Row {
+        procedure: 1,
+        first,
+        ..OTHER
+    }
 }
 
 /// Whether the reply to a row has the words of a reply with this cookie and these words behind it.
@@ -337,37 +372,69 @@ fn is_told(
     Ok(reply.as_slice() == wanted.as_slice())
 }
 
+/// A test of 0 to 9 before it is held, and locks of 0 to 9 and of 20 to the end.
+const HELD: [Row; 3] = [
+    Row {
+        procedure: 1,
+        ..OTHER
+    },
+    LOCK,
+    Row {
+        first: 20,
+        len: 0,
+        ..LOCK
+    },
+];
+
+/// How many of the tests are answered as they should be, where 0 to 9 and 20 to the end are held.
+fn tests_told(alloc: Global, server: &mut Server) -> Result<usize, AllocError> {
+    let mut right = 0;
+    // exclusive, svid 7, an oh of four bytes, 0 and 10
+    if is_told(alloc, server, test_from(0), &[1, 1, 7, 4, 5, 0, 0, 0, 10])? {
+        right += 1;
+    }
+    if is_told(alloc, server, test_from(30), &[1, 1, 7, 4, 5, 0, 20, 0, 0])? {
+        right += 1;
+    }
+    if is_told(alloc, server, test_from(10), &[0])? {
+        right += 1;
+    }
+    Ok(right)
+}
+
 /// A test is told the least range that stands against it, with its owner, and makes nobody a host.
 #[test]
 fn tests_tell_the_holder(rt: HostRuntime) -> Result<(), Fail> {
     let alloc = rt.alloc();
     let mut server = Server::new(alloc)?;
-    let mut to_the_end = LOCK;
-    to_the_end.first = 20;
-    to_the_end.len = 0;
-    let stats = play(alloc, &mut server, &[test_from(0), LOCK, to_the_end])?;
-    assert!(rt; stats.as_slice() == [0, 0, 0].as_slice());
-    // exclusive, svid 7, an oh of four bytes, 0 and 10
-    let held = [1, 1, 7, 4, 5, 0, 0, 0, 10];
-    assert!(rt; is_told(alloc, &mut server, test_from(0), &held)?);
-    let held = [1, 1, 7, 4, 5, 0, 20, 0, 0];
-    assert!(rt; is_told(alloc, &mut server, test_from(30), &held)?);
-    assert!(rt; is_told(alloc, &mut server, test_from(10), &[0])?);
-    assert_eq!(rt; server.front.hosts().len(), 1);
+    let stats = play(alloc, &mut server, &HELD)?;
+    assert!(rt; are(&stats, b"\x00\x00\x00"));
+    assert_eq!(rt; tests_told(alloc, &mut server)?, 3);
     assert_eq!(rt; server.front.rooms().hosts, 255);
     Ok(())
 }
 
-/// LOCKs of one byte each by so many callers.
-fn callers(alloc: Global, count: u16) -> Result<Vec<Row>, AllocError> {
+/// LOCKs of one byte each by 256 callers; a test and a LOCK of the next one, and a LOCK of the last but one.
+fn callers(alloc: Global) -> Result<Vec<Row>, AllocError> {
     let mut rows = Vec::new(alloc);
-    for caller in 0..count {
-        let mut row = LOCK;
-        row.caller = caller;
-        row.first = caller as u64;
-        row.len = 1;
-        rows.push(row)?;
+    for caller in 0..256u16 {
+        rows.push(Row {
+            caller,
+            first: caller as u64,
+            len: 1,
+            ..LOCK
+        })?;
     }
+    rows.push(test_from(256))?;
+    rows.push(Row {
+        first: 256,
+        ..OTHER
+    })?;
+    rows.push(Row {
+        caller: 255,
+        first: 256,
+        ..OTHER
+    })?;
     Ok(rows)
 }
 
@@ -375,19 +442,11 @@ fn callers(alloc: Global, count: u16) -> Result<Vec<Row>, AllocError> {
 #[test]
 fn hosts_are_few(rt: HostRuntime) -> Result<(), Fail> {
     let alloc = rt.alloc();
-    let mut server = Server::new(alloc)?;
-    let stats = play(alloc, &mut server, &callers(alloc, 256)?)?;
-    assert_eq!(rt; stats.len(), 256);
-    assert!(rt; stats.iter().all(|stat| *stat == 0));
-    assert_eq!(rt; server.front.rooms().hosts, 0);
-    let mut again = LOCK;
-    again.caller = 255;
-    again.first = 256;
-    let mut more = other();
-    more.first = 256;
-    let stats = play(alloc, &mut server, &[test_from(256), more, again])?;
-    assert!(rt; stats.as_slice() == [0, 2, 0].as_slice());
-    assert_eq!(rt; server.front.hosts().len(), 256);
+    let rows = callers(alloc)?;
+    let end = end_of(alloc, &rows)?;
+    assert_eq!(rt; end.claims, 256);
+    assert_eq!(rt; end.hosts, 256);
+    assert!(rt; end.stats.as_slice().ends_with(&[0, 0, 2, 0]));
     Ok(())
 }
 
@@ -423,14 +482,20 @@ fn replies_to_calls(rt: HostRuntime) -> Result<(), Fail> {
     let alloc = rt.alloc();
     let mut server = Server::new(alloc)?;
     assert_eq!(rt; answered(alloc, &mut server)?, HEADS.len());
-    // a byte behind the arguments: GARBAGE_ARGS
+    // no call: no reply
+    assert!(rt; server.take(alloc, &[0, 0, 0, 9, 0, 0, 0, 1])?.is_empty());
+    Ok(())
+}
+
+/// A byte behind the arguments: GARBAGE_ARGS.
+#[test]
+fn nothing_stands_behind_arguments(rt: HostRuntime) -> Result<(), Fail> {
+    let alloc = rt.alloc();
+    let mut server = Server::new(alloc)?;
     let mut long = record(alloc, LOCK)?;
     long.push(0)?;
     let reply = reply_to(alloc, &mut server, &long)?;
     assert!(rt; reply.as_slice() == units(alloc, &[9, 1, 0, 0, 0, 4])?.as_slice());
-    // no call: no reply
-    assert!(rt; server.take(alloc, &[0, 0, 0, 9, 0, 0, 0, 1])?.is_empty());
-    assert!(rt; server.core.table().is_empty());
     Ok(())
 }
 
