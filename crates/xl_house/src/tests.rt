@@ -2,9 +2,8 @@ use super::*;
 use std::alloc::{AllocError, Global};
 use std::test::*;
 use xl_base::{
-    Dest, Event, Exports, Halt, Kind, MemoryKeeper, Moment, Owner, Record, Sequence, handle_of,
+    Dest, Event, Exports, Halt, Kind, MemoryKeeper, Moment, Record, Sequence, handle_of,
 };
-use xl_matrix::{Claim, Extent, What};
 
 /// One file, and default times.
 fn exports(alloc: Global) -> Result<Exports, AllocError> {
@@ -123,128 +122,6 @@ const LOCK: Row = Row {
     stat: 0,
 };
 
-const UNLOCK: Row = Row {
-    procedure: 4,
-    ..LOCK
-};
-
-const UNLOCK_SECOND: Row = Row {
-    caller: 2,
-    ..UNLOCK
-};
-
-const WAIT: Row = Row {
-    block: true,
-    caller: 2,
-    stat: 3,
-    ..LOCK
-};
-
-/// A held range: the place of its owner's name, its first and last byte, and whether it is exclusive.
-type Held = (u32, u64, u64, bool);
-
-/// Calls in order, and what is held after them.
-const TABLES: [(&[Row], &[Held]); 6] = [
-    // one owner has four spans
-    (
-        &[
-            Row { len: 100, ..LOCK },
-            Row {
-                first: 40,
-                len: 20,
-                exclusive: false,
-                ..LOCK
-            },
-            Row {
-                first: 50,
-                len: 1,
-                ..UNLOCK
-            },
-        ],
-        &[
-            (0, 0, 39, true),
-            (0, 40, 49, false),
-            (0, 51, 59, false),
-            (0, 60, 99, true),
-        ],
-    ),
-    // three times the same lock waits once
-    (&[LOCK, WAIT, WAIT, WAIT, UNLOCK, UNLOCK_SECOND], &[]),
-    // the first of two that wait is served, then the second
-    (
-        &[LOCK, WAIT, Row { caller: 3, ..WAIT }, UNLOCK],
-        &[(2, 0, 9, true)],
-    ),
-    (
-        &[LOCK, WAIT, Row { caller: 3, ..WAIT }, UNLOCK, UNLOCK_SECOND],
-        &[(4, 0, 9, true)],
-    ),
-    // an unlock serves the second, which lets the first in
-    (
-        &[
-            LOCK,
-            Row {
-                caller: 3,
-                first: 10,
-                ..LOCK
-            },
-            Row {
-                exclusive: false,
-                ..WAIT
-            },
-            Row {
-                caller: 1,
-                len: 20,
-                exclusive: false,
-                ..WAIT
-            },
-            Row {
-                caller: 3,
-                first: 10,
-                ..UNLOCK
-            },
-        ],
-        &[(0, 0, 19, false), (4, 0, 9, false)],
-    ),
-    // who doesn't wait is denied, and isn't served later
-    (
-        &[
-            LOCK,
-            Row {
-                caller: 2,
-                stat: 1,
-                ..LOCK
-            },
-            UNLOCK,
-        ],
-        &[],
-    ),
-];
-
-fn held(claim: &Claim) -> Option<Held> {
-    match (claim.owner, claim.what) {
-        (Owner::Name(_, name), What::Range(Extent::Bytes(first, last), exclusive)) => {
-            Some((name, first, last, exclusive))
-        }
-        _ => None,
-    }
-}
-
-/// Whether just these ranges are held.
-fn holds(alloc: Global, house: &House<MemoryKeeper>, ranges: &[Held]) -> Result<bool, Fail> {
-    if house.is_spoiled() {
-        return Ok(false);
-    }
-    let claims = house.dump(alloc)?;
-    Ok(
-        claims.len() == ranges.len()
-            && claims
-                .iter()
-                .zip(ranges)
-                .all(|(claim, range)| held(claim) == Some(*range)),
-    )
-}
-
 /// Whether each call is told its status.
 fn are_told(alloc: Global, house: &mut House<MemoryKeeper>, rows: &[Row]) -> Result<bool, Fail> {
     for row in rows {
@@ -253,16 +130,6 @@ fn are_told(alloc: Global, house: &mut House<MemoryKeeper>, rows: &[Row]) -> Res
         }
     }
     Ok(true)
-}
-
-#[test]
-fn steps(rt: HostRuntime) -> Result<(), Fail> {
-    for (rows, ranges) in TABLES {
-        let mut house = connected(rt.alloc())?;
-        assert!(rt; are_told(rt.alloc(), &mut house, rows)?);
-        assert!(rt; holds(rt.alloc(), &house, ranges)?);
-    }
-    Ok(())
 }
 
 /// Whether each of so many callers is granted a shared lock, one after another.
@@ -312,71 +179,6 @@ fn hosts(rt: HostRuntime) -> Result<(), Fail> {
     let mut house = connected(rt.alloc())?;
     assert!(rt; all_granted(rt.alloc(), &mut house, 256)?);
     assert!(rt; are_told(rt.alloc(), &mut house, &LATE)?);
-    Ok(())
-}
-
-/// Whether so many locks wait, each for another range.
-fn all_wait(alloc: Global, house: &mut House<MemoryKeeper>, locks: u64) -> Result<bool, Fail> {
-    for len in 1..=locks {
-        if !is_told(alloc, house, Row { len, ..WAIT })? {
-            return Ok(false);
-        }
-    }
-    Ok(true)
-}
-
-#[test]
-fn waiters(rt: HostRuntime) -> Result<(), Fail> {
-    let mut house = connected(rt.alloc())?;
-    assert!(rt; is_told(rt.alloc(), &mut house, LOCK)?);
-    assert!(rt; all_wait(rt.alloc(), &mut house, 1024)?);
-    let late = Row {
-        len: 1025,
-        stat: 2,
-        ..WAIT
-    };
-    assert!(rt; is_told(rt.alloc(), &mut house, late)?);
-    Ok(())
-}
-
-/// How many outs the event gives.
-fn count(alloc: Global, house: &mut House<MemoryKeeper>, event: Event) -> Result<usize, Fail> {
-    if matches!(event, Event::Restart) {
-        return Err(Fail::from("a restart"));
-    }
-    let Ok(place) = house.step(alloc, event) else {
-        return Err(Fail::from("a halt"));
-    };
-    let [entry] = house.outs_from(place) else {
-        return Err(Fail::from("no entry"));
-    };
-    Ok(entry.outs.len())
-}
-
-/// How many outs a LOCK on the connection of this number gives.
-fn answers(alloc: Global, house: &mut House<MemoryKeeper>, number: u64) -> Result<usize, Fail> {
-    let bytes = Sequence::from_vec(record(alloc, LOCK)?);
-    count(alloc, house, Event::Message(number, bytes))
-}
-
-/// Whether nothing is sent for the events that name no connection, nor for the end of connection 0.
-fn are_silent(alloc: Global, house: &mut House<MemoryKeeper>) -> Result<bool, Fail> {
-    let ticks = count(alloc, house, Event::Tick(Moment(9)))?;
-    let calls = count(alloc, house, Event::Called(1, None))?;
-    let ends = count(alloc, house, Event::End(0))?;
-    Ok(ticks == 0 && calls == 0 && ends == 0)
-}
-
-#[test]
-fn events(rt: HostRuntime) -> Result<(), Fail> {
-    let mut house = connected(rt.alloc())?;
-    assert_eq!(rt; count(rt.alloc(), &mut house, Event::Open(Kind::Smb))?, 0);
-    for (number, outs) in [(0, 1), (1, 0), (2, 0)] {
-        assert_eq!(rt; answers(rt.alloc(), &mut house, number)?, outs);
-    }
-    assert!(rt; are_silent(rt.alloc(), &mut house)?);
-    assert_eq!(rt; answers(rt.alloc(), &mut house, 0)?, 0);
-    assert_eq!(rt; house.halt(), None);
     Ok(())
 }
 
