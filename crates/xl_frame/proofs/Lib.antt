@@ -1,0 +1,4 @@
+pub mod FrameLaws
+pub mod Growth
+pub mod RecordLaws
+pub mod StreamLaws

@@ -1,1 +1,5 @@
+pub mod Cutting
 pub mod Frames
+pub mod Progress
+pub mod Records
+pub mod Shown

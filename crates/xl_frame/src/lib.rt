@@ -2,11 +2,21 @@
 //! (MS-SMB2 2.1).
 #![tactic(auto)]
 
+mod cutter;
+mod cutting;
+mod fault;
+mod fragment;
 mod law;
+mod message;
 mod reading;
 mod wrapping;
 
-pub use law::wrapped_records_are_read;
+pub use cutter::Cutter;
+pub use fault::{FeedError, FrameBad};
+pub use law::{
+    handed_messages_are_the_streams, records_are_cut_out, streams_are_cut_anywhere,
+    wrapped_messages_are_cut_out, wrapped_records_are_read,
+};
 pub use reading::record_of;
 pub use wrapping::{MOST_BYTES, wrap};
 
