@@ -1,0 +1,11 @@
+pub mod Basics
+pub mod Locks
+pub mod Opens
+pub mod Opened
+pub mod Clients
+pub mod Statuses
+pub mod Compounds
+pub mod Ops
+pub mod Outcomes
+pub mod Results
+pub mod Callbacks
