@@ -7,7 +7,7 @@ use std::alloc::{AllocError, Global};
 use std::marker::Model;
 use std::test::Fail;
 use xl_base::{Dest, Exports, MemoryKeeper, Moment, Out, Record, Sequence, handle_of};
-use xl_core::{Core, Effect};
+use xl_core::Core;
 
 /// A server that exports two files. Its calls come one after another, by connection 3.
 #[derive(Drop)]
@@ -133,19 +133,18 @@ struct Row {
     exclusive: bool,
 }
 
-/// A call with this version of RPC, and this program, version and procedure, without arguments.
-fn head(alloc: Global, words: [u32; 4]) -> Result<Vec<u8>, AllocError> {
+/// These numbers as bytes.
+fn units(alloc: Global, words: &[u32]) -> Result<Vec<u8>, AllocError> {
     let mut out = Vec::new(alloc);
-    let [version, program, edition, procedure] = words;
-    for word in [9, 0, version, program, edition, procedure, 0, 0, 0, 0] {
-        put(&mut out, word)?;
+    for word in words {
+        put(&mut out, *word)?;
     }
     Ok(out)
 }
 
 /// The record of a row: cookie `cook`, svid 7, oh of the four bytes 0, 0, 0, 5.
 fn record(alloc: Global, row: Row) -> Result<Vec<u8>, AllocError> {
-    let mut out = head(alloc, [2, 100021, 4, row.procedure])?;
+    let mut out = units(alloc, &[9, 0, 2, 100021, 4, row.procedure, 0, 0, 0, 0])?;
     put(&mut out, 4)?;
     out.extend_from_slice(b"cook")?;
     if row.procedure == 2 {
@@ -166,15 +165,6 @@ fn record(alloc: Global, row: Row) -> Result<Vec<u8>, AllocError> {
     if row.procedure == 2 {
         put(&mut out, row.reclaim as u32)?;
         put(&mut out, 0)?;
-    }
-    Ok(out)
-}
-
-/// These numbers as bytes.
-fn units(alloc: Global, words: &[u32]) -> Result<Vec<u8>, AllocError> {
-    let mut out = Vec::new(alloc);
-    for word in words {
-        put(&mut out, *word)?;
     }
     Ok(out)
 }
@@ -205,20 +195,19 @@ fn are(stats: &[u8], wanted: &[u8]) -> bool {
 #[derive(Drop)]
 struct Ended {
     stats: Vec<u8>,
-    waiters: usize,
-    hosts: usize,
-    claims: usize,
+    /// How many wait, are hosts and hold.
+    counts: [usize; 3],
 }
 
 fn end_of(alloc: Global, rows: &[Row]) -> Result<Ended, AllocError> {
     let mut server = Server::new(alloc)?;
     let stats = play(alloc, &mut server, rows)?;
-    Ok(Ended {
-        stats,
-        waiters: server.core.queue().len(),
-        hosts: server.front.hosts().len(),
-        claims: server.core.table().len(),
-    })
+    let counts = [
+        server.core.queue().len(),
+        server.front.hosts().len(),
+        server.core.table().len(),
+    ];
+    Ok(Ended { stats, counts })
 }
 
 const LOCK: Row = Row {
@@ -249,16 +238,8 @@ const UNLOCK: Row = Row {
     ..LOCK
 };
 
-/// Three times the same lock that may wait is BLOCKED, and one waits.
-#[test]
-fn one_waits(rt: HostRuntime) -> Result<(), Fail> {
-    let alloc = rt.alloc();
-    let end = end_of(alloc, &[LOCK, WAITING, WAITING, WAITING])?;
-    assert!(rt; are(&end.stats, b"\x00\x03\x03\x03"));
-    assert_eq!(rt; end.waiters, 1);
-    assert_eq!(rt; end.hosts, 2);
-    Ok(())
-}
+/// Three times the same lock that may wait is BLOCKED.
+const WAITING_ALONE: [Row; 4] = [LOCK, WAITING, WAITING, WAITING];
 
 /// What equals a waiter is BLOCKED, also where it may not wait, and where it reclaims; another mode, other bytes,
 /// another file and another owner don't equal it.
@@ -282,14 +263,6 @@ const NEARLY_WAITING: [Row; 8] = [
     },
 ];
 
-#[test]
-fn what_equals_a_waiter(rt: HostRuntime) -> Result<(), Fail> {
-    let end = end_of(rt.alloc(), &NEARLY_WAITING)?;
-    assert!(rt; are(&end.stats, b"\x00\x03\x03\x03\x01\x01\x00\x01"));
-    assert_eq!(rt; end.waiters, 1);
-    Ok(())
-}
-
 /// A lock that may not wait is DENIED, an unlock GRANTED, held or not; a reclaim comes too late.
 const NOBODY_WAITING: [Row; 7] = [
     LOCK,
@@ -306,15 +279,6 @@ const NOBODY_WAITING: [Row; 7] = [
     },
     OTHER,
 ];
-
-#[test]
-fn nobody_waits(rt: HostRuntime) -> Result<(), Fail> {
-    let end = end_of(rt.alloc(), &NOBODY_WAITING)?;
-    assert!(rt; are(&end.stats, b"\x00\x01\x00\x00\x00\x04\x00"));
-    assert_eq!(rt; end.waiters, 0);
-    assert_eq!(rt; end.hosts, 2);
-    Ok(())
-}
 
 /// A handle of no file before all else, then a range that passes the last byte.
 const WRONG: [Row; 5] = [
@@ -342,11 +306,25 @@ const WRONG: [Row; 5] = [
     },
 ];
 
+/// Calls on a new server, their statuses, and how many wait, are hosts and hold in the end.
+const ROWS: [(&[Row], &[u8], [usize; 3]); 4] = [
+    (&WAITING_ALONE, b"\x00\x03\x03\x03", [1, 2, 1]),
+    (
+        &NEARLY_WAITING,
+        b"\x00\x03\x03\x03\x01\x01\x00\x01",
+        [1, 2, 2],
+    ),
+    (&NOBODY_WAITING, b"\x00\x01\x00\x00\x00\x04\x00", [0, 2, 1]),
+    (&WRONG, b"\x07\x07\x08\x00\x00", [0, 1, 0]),
+];
+
 #[test]
-fn checks_come_in_order(rt: HostRuntime) -> Result<(), Fail> {
-    let end = end_of(rt.alloc(), &WRONG)?;
-    assert!(rt; are(&end.stats, b"\x07\x07\x08\x00\x00"));
-    assert_eq!(rt; end.claims, 0);
+fn calls(rt: HostRuntime) -> Result<(), Fail> {
+    for (rows, stats, counts) in ROWS {
+        let end = end_of(rt.alloc(), rows)?;
+        assert!(rt; are(&end.stats, stats), "{rows:?}");
+        assert_eq!(rt; end.counts, counts, "{rows:?}");
+    }
     Ok(())
 }
 
@@ -411,100 +389,5 @@ fn tests_tell_the_holder(rt: HostRuntime) -> Result<(), Fail> {
     assert!(rt; are(&stats, b"\x00\x00\x00"));
     assert_eq!(rt; tests_told(alloc, &mut server)?, 3);
     assert_eq!(rt; server.front.rooms().hosts, 255);
-    Ok(())
-}
-
-/// LOCKs of one byte each by 256 callers; a test and a LOCK of the next one, and a LOCK of the last but one.
-fn callers(alloc: Global) -> Result<Vec<Row>, AllocError> {
-    let mut rows = Vec::new(alloc);
-    for caller in 0..256u16 {
-        rows.push(Row {
-            caller,
-            first: caller as u64,
-            len: 1,
-            ..LOCK
-        })?;
-    }
-    rows.push(test_from(256))?;
-    rows.push(Row {
-        first: 256,
-        ..OTHER
-    })?;
-    rows.push(Row {
-        caller: 255,
-        first: 256,
-        ..OTHER
-    })?;
-    Ok(rows)
-}
-
-/// 256 callers find room. To the next one a test is answered still, and a lock has none.
-#[test]
-fn hosts_are_few(rt: HostRuntime) -> Result<(), Fail> {
-    let alloc = rt.alloc();
-    let rows = callers(alloc)?;
-    let end = end_of(alloc, &rows)?;
-    assert_eq!(rt; end.claims, 256);
-    assert_eq!(rt; end.hosts, 256);
-    assert!(rt; end.stats.as_slice().ends_with(&[0, 0, 2, 0]));
-    Ok(())
-}
-
-/// Calls by their RPC version, program, version and procedure, and the words of their replies.
-const HEADS: [([u32; 4], &[u32]); 6] = [
-    // NULL
-    ([2, 100021, 4, 0], &[9, 1, 0, 0, 0, 0]),
-    // CANCEL, which isn't served: PROC_UNAVAIL
-    ([2, 100021, 4, 3], &[9, 1, 0, 0, 0, 3]),
-    // version 3, with a procedure that no version has: PROG_MISMATCH 4 4
-    ([2, 100021, 3, 99], &[9, 1, 0, 0, 0, 2, 4, 4]),
-    // NFS: PROG_UNAVAIL
-    ([2, 100003, 4, 1], &[9, 1, 0, 0, 0, 1]),
-    // TEST without arguments: GARBAGE_ARGS
-    ([2, 100021, 4, 1], &[9, 1, 0, 0, 0, 4]),
-    // RPC version 3: RPC_MISMATCH 2 2
-    ([3, 100021, 4, 0], &[9, 1, 1, 0, 2, 2]),
-];
-
-/// How many of the calls are answered so, from the first on.
-fn answered(alloc: Global, server: &mut Server) -> Result<usize, AllocError> {
-    for (place, (words, wanted)) in HEADS.iter().enumerate() {
-        let reply = reply_to(alloc, server, &head(alloc, *words)?)?;
-        if reply.as_slice() != units(alloc, wanted)?.as_slice() {
-            return Ok(place);
-        }
-    }
-    Ok(HEADS.len())
-}
-
-#[test]
-fn replies_to_calls(rt: HostRuntime) -> Result<(), Fail> {
-    let alloc = rt.alloc();
-    let mut server = Server::new(alloc)?;
-    assert_eq!(rt; answered(alloc, &mut server)?, HEADS.len());
-    // no call: no reply
-    assert!(rt; server.take(alloc, &[0, 0, 0, 9, 0, 0, 0, 1])?.is_empty());
-    Ok(())
-}
-
-/// A byte behind the arguments: GARBAGE_ARGS.
-#[test]
-fn nothing_stands_behind_arguments(rt: HostRuntime) -> Result<(), Fail> {
-    let alloc = rt.alloc();
-    let mut server = Server::new(alloc)?;
-    let mut long = record(alloc, LOCK)?;
-    long.push(0)?;
-    let reply = reply_to(alloc, &mut server, &long)?;
-    assert!(rt; reply.as_slice() == units(alloc, &[9, 1, 0, 0, 0, 4])?.as_slice());
-    Ok(())
-}
-
-/// An effect sends nothing yet.
-#[test]
-fn effects_send_nothing(rt: HostRuntime) -> Result<(), Fail> {
-    let alloc = rt.alloc();
-    let server = Server::new(alloc)?;
-    let effect = Effect::Cancelled(1);
-    assert!(rt; shown(alloc, &server.front, &server.core, &effect)?.is_empty());
     Ok(())
 }

@@ -42,30 +42,16 @@ use Rattle.xl_house.specs.Journals.{IsLegal}
 use Rattle.xl_house.specs.Lawful.{call_in, Asked, Nothing, Locks, Unlocks, asked_by_lock, asked_by_unlock, asked_by, asks, wanted, told_so, IsDueLock, IsDue, IsDueTo, IsDueOn, IsComplete, AlwaysComplete}
 use Rattle.xl_core.specs.Settle.{settle}
 use Rattle.xl_house.specs.Machine.{Whole, framed, all_shown, after_turn, settled_for, settled, front_done, kind_of, heard_by, heard, connected, step}
+use Rattle.xl_house.proofs.OrderLaws.{none_shown, settling_silent}
 use Rattle.xl_house.proofs.LawfulLaws.{IsTold, is_told, aimed_real, still, begun_same, lock_fit, lock_client, queue_settled}
 
 -- ---- nothing is sent but the reply
 
-all_quiet : (hosts : List (List ℕ)) (s : CoreState) (effects : List Effect) → all_shown hosts s effects ≡ []
-all_quiet hosts s [] = refl
-all_quiet hosts s (e ∷ es) = all_quiet hosts s es
-
-quiet_for : (fuel n : ℕ) (hosts : List (List ℕ)) (s : CoreState) → (settled_for fuel n hosts s).0 ≡ []
-quiet_for zero n hosts s = refl
-quiet_for (suc fuel) n hosts s = quiet_after (settle n (rooms hosts) s) (λ t. quiet_for fuel n hosts t) where
-  quiet_after : (o : Option (List Effect × CoreState)) → ((t : CoreState) → (settled_for fuel n hosts t).0 ≡ []) → (after_turn hosts (settled_for fuel n hosts) s o).0 ≡ []
-  quiet_after None next = refl
-  quiet_after (Some r) next = ap (λ (os : List Out). os ++ (settled_for fuel n hosts r.1).0) (all_quiet hosts r.1 r.0) ∙ next r.1
-
-pub quiet : (n : ℕ) (hosts : List (List ℕ)) (s : CoreState) → (settled n hosts s).0 ≡ []
-unfolding settled
-quiet n hosts s = quiet_for (length s.waiters) n hosts s
-
 pub reply_alone : (n : ℕ) (r : List Out × List Effect × List (List ℕ) × CoreState) → (front_done r).0 ++ (settled n r.2 r.3).0 ≡ map (framed Rpc) r.0
 reply_alone n r =
-    ap (λ (os : List Out). (all_shown r.2 r.3 r.1 ++ map (framed Rpc) r.0) ++ os) (quiet n r.2 r.3)
+    ap (λ (os : List Out). (all_shown r.2 r.3 r.1 ++ map (framed Rpc) r.0) ++ os) (settling_silent n r.2 r.3)
     ∙ append-nil (all_shown r.2 r.3 r.1 ++ map (framed Rpc) r.0)
-    ∙ ap (λ (os : List Out). os ++ map (framed Rpc) r.0) (all_quiet r.2 r.3 r.1)
+    ∙ ap (λ (os : List Out). os ++ map (framed Rpc) r.0) (none_shown r.2 r.3 r.1)
 
 -- ---- a lock
 

@@ -193,7 +193,8 @@ impl<K: Keeper> House<K> {
     /// The journal, and the keeper. The journal is legal: each entry has the stores and the outs that the machine's step
     /// gives at its place. At each free moment any two claims may be held together, and nobody is forgotten. Each byte
     /// that an owner lost or gained has its cause in the entry, and a lock that nothing stands against was granted. No
-    /// out to a connection stands before its opening or after its end. The keeper holds the machine's record.
+    /// out to a connection stands before its opening or after its end. It has at most 1,048,576 entries. The keeper holds
+    /// the machine's record.
     #[tactic(auto, using(crate::proofs::OrderLaws::legal_orderly, crate::proofs::MachineLaws::begun_free, crate::proofs::LawfulLaws::lawful_always, crate::proofs::CompleteLaws::complete_always))]
     pub fn end(self) -> (Journal, K)
         ensures journal { (result.0.head ≡ self.head) × (result.0.entries ≡ self.entries) }
@@ -203,6 +204,7 @@ impl<K: Keeper> House<K> {
         ensures lawful { AlwaysLawful (begin result.0.head) result.0.entries }
         ensures complete { AlwaysComplete (begin result.0.head) result.0.entries }
         ensures orderly { IsOrderly [] [] 0 result.0.entries }
+        ensures most { length result.0.entries ≤ 1048576 }
         ensures holds { is_spoiled self.halt ≡ false → Holds (K.held result.1) (replay (begin result.0.head) result.0.entries).core.stable }
     {
         let House {

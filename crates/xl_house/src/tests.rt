@@ -174,6 +174,61 @@ const LATE: [Row; 4] = [
     },
 ];
 
+/// Whether a caller waits for each of so many bytes, one after another.
+fn all_wait(alloc: Global, house: &mut House<MemoryKeeper>, bytes: u64) -> Result<bool, Fail> {
+    for first in 0..bytes {
+        let row = Row {
+            block: true,
+            caller: 2,
+            first,
+            len: 1,
+            stat: 3,
+            ..LOCK
+        };
+        if !is_told(alloc, house, row)? {
+            return Ok(false);
+        }
+    }
+    Ok(true)
+}
+
+/// The lock for whose bytes others wait.
+const HELD: [Row; 1] = [Row { len: 2000, ..LOCK }];
+
+/// The calls where so many wait: one that would wait, one that may not, and one that nothing stands against.
+const CROWDED: [Row; 3] = [
+    Row {
+        block: true,
+        caller: 2,
+        first: 1024,
+        len: 1,
+        stat: 2,
+        ..LOCK
+    },
+    Row {
+        caller: 2,
+        first: 1024,
+        len: 1,
+        stat: 1,
+        ..LOCK
+    },
+    Row {
+        block: true,
+        caller: 2,
+        first: 2000,
+        ..LOCK
+    },
+];
+
+#[test]
+fn waiters(rt: HostRuntime) -> Result<(), Fail> {
+    let mut house = connected(rt.alloc())?;
+    assert!(rt; are_told(rt.alloc(), &mut house, &HELD)?);
+    assert!(rt; all_wait(rt.alloc(), &mut house, 1024)?);
+    assert!(rt; are_told(rt.alloc(), &mut house, &CROWDED)?);
+    Ok(())
+}
+
 #[test]
 fn hosts(rt: HostRuntime) -> Result<(), Fail> {
     let mut house = connected(rt.alloc())?;
