@@ -1,12 +1,17 @@
 -- A journal is its head and its entries.
-use Rattle.std.proofs.Common.{◌≡◌, ℕ, ◌<◌, List, [], length, take, Result, Ok, Err, refl, sym, subst, ap, ◌∙◌, arith}
+use Rattle.std.proofs.Common.{◌≡◌, ℕ, ◌<◌, true, false, List, [], length, take, Result, Ok, Err, refl, sym, subst, ap, ◌∙◌, arith}
+use Rattle.xl_base.proofs.Members.{all_weaker}
+use Rattle.xl_base.specs.declared.event.Event.{Event}
+use Rattle.xl_base.specs.declared.event.Event.TheVariants.{Open, Message, End, Called, Tick, Restart}
 use Rattle.xl_base.specs.declared.journal.Entry.{Entry}
 use Rattle.xl_base.specs.declared.journal.Head.{Head}
 use Rattle.xl_base.specs.declared.journal.Journal.{Journal}
-use Rattle.xl_top.specs.Job.{transcript_from, whole_transcript, head_of, journal_of, no_journal, BeginsAs, IsReplayed, IsBegun, IsCutAt}
-use Rattle.xl_house.specs.Journals.{entries_of, most_entries}
+use Rattle.xl_top.specs.Job.{AreSteps, transcript_from, whole_transcript, head_of, journal_of, no_journal, BeginsAs, IsReplayed, IsBegun, IsCutAt}
+use Rattle.xl_capture.specs.Capture.{captured}
+use Rattle.xl_capture.proofs.PlainLaws.{is_plain, captured_plain}
+use Rattle.xl_house.specs.Journals.{entries_of, most_entries, is_restart}
 use Rattle.xl_house.specs.Machine.{begin}
-use Rattle.xl_top.specs.declared.capture.Capture.{Capture}
+use Rattle.xl_capture.specs.declared.capture.Capture.{Capture}
 
 abbrev journal_with : Head → List Entry → Journal
 journal_with head entries = record { head = head; entries = entries }
@@ -33,3 +38,15 @@ cut_as r c journal e cut = subst (λ s. IsCutAt most_entries s journal) (sym e) 
 pub bad_as : (r : Result Capture ℕ) → IsBegun r no_journal
 bad_as (Ok c) = record { entries = refl; head = λ some. absurd (omega (arith, some)) }
 bad_as (Err line) = refl
+
+goes_on : (e : Event) → is_plain e ≡ true → is_restart e ≡ false
+goes_on (Open kind) plain = refl
+goes_on (Message conn bytes) plain = refl
+goes_on (End conn) plain = refl
+goes_on (Called call reply) plain = refl
+goes_on (Tick moment) plain = refl
+goes_on Restart plain = absurd cc
+
+-- no event of a capture starts the server again
+pub captured_steps : (text : List ℕ) (c : Capture) → captured text ≡ Ok c → AreSteps c.events
+captured_steps text c e = all_weaker (λ d. is_plain d ≡ true) (λ d. is_restart d ≡ false) c.events goes_on (captured_plain text c e)

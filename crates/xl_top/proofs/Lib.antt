@@ -1,6 +1,4 @@
 pub mod JobLaws
-pub mod LineLaws
-pub mod PlainLaws
 pub mod ReadLaws
-pub mod SortLaws
+pub mod WordLaws
 pub mod WriteLaws

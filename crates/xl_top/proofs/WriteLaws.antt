@@ -1,8 +1,9 @@
 -- What stands in a sink after a write that was perhaps cut short.
-use Rattle.std.proofs.Common.{◌≡◌, ℕ, ◌≤◌, List, ◌++◌, length, take, Option, Some, None, refl, ap, sym, subst, ◌∙◌, arith}
+use Rattle.std.proofs.Common.{◌≡◌, ℕ, ◌≤◌, List, ◌++◌, length, take, Option, Some, None, Result, refl, ap, sym, subst, ◌∙◌, arith}
 use Rattle.std.proofs.Math.Seq.{take-length, take-append_seam}
 use Rattle.std.proofs.lemmas.List.{length-append}
 use Rattle.xl_base.specs.Outside.{IsPrefix, Began, Added}
+use Rattle.xl_top.specs.Job.{AddsShown, BeginsShown}
 
 prefix_self : (xs : List ℕ) → IsPrefix xs xs
 prefix_self xs = (omega arith, take-length xs)
@@ -25,3 +26,10 @@ began_all (Some held) (Some now) bytes added =
 -- what began as one text began as an equal one
 pub began_as : (old new : Option (List ℕ)) (a b : List ℕ) → a ≡ b → Began old a new → Began old b new
 began_as old new a b e began = subst (λ (t : List ℕ). Began old t new) e began
+
+-- what lines were written is that of an equal text
+pub adds_as : (old new : Option (List ℕ)) (a b : Result (List ℕ) ℕ) → a ≡ b → AddsShown old a new → AddsShown old b new
+adds_as old new a b e adds = subst (λ (r : Result (List ℕ) ℕ). AddsShown old r new) e adds
+
+pub begins_as : (old new : Option (List ℕ)) (a b : Result (List ℕ) ℕ) → a ≡ b → BeginsShown old a new → BeginsShown old b new
+begins_as old new a b e begins = subst (λ (r : Result (List ℕ) ℕ). BeginsShown old r new) e begins

@@ -1,6 +1,7 @@
--- What the program's words ask for, and what its ending says.
+-- What the ending of a run says.
 use Rattle.std.specs.Prelude.{◌≡◌, ℕ, ◌+◌, ◌<◌, Bool, true, false, ◌==◌, ◌||◌, if◌then◌else◌, List, [], ◌∷◌, length, take, codes, bytes_eq, Option, Some, None, Result, Ok, Err, IfSome}
 use Rattle.std.specs.List.{AllByRecursion}
+use Rattle.xl_base.specs.Outside.{Added, Began}
 use Rattle.xl_base.specs.declared.event.Event.{Event}
 use Rattle.xl_base.specs.declared.halt.Halt.{Halt}
 use Rattle.xl_base.specs.declared.halt.Halt.TheVariants as halts
@@ -8,18 +9,11 @@ use Rattle.xl_base.specs.declared.journal.Entry.{Entry}
 use Rattle.xl_base.specs.declared.journal.Exports.{Exports}
 use Rattle.xl_base.specs.declared.journal.Head.{Head}
 use Rattle.xl_base.specs.declared.journal.Journal.{Journal}
-use Rattle.xl_top.specs.Capture.{most_bytes, no_lines, captured}
+use Rattle.xl_capture.specs.Capture.{most_bytes, no_lines, captured}
 use Rattle.xl_house.specs.Journals.{entries_of, replay, is_restart}
-use Rattle.xl_top.specs.Transcript.{transcript}
+use Rattle.xl_capture.specs.Transcript.{transcript}
 use Rattle.xl_house.specs.Machine.{Whole, begin}
-use Rattle.xl_top.specs.declared.capture.Capture.{Capture}
-use Rattle.xl_top.specs.declared.top.Job.{Job}
-use Rattle.xl_top.specs.declared.top.Job.TheVariants.{Replay}
-
--- what the words ask for, the program's name first
-abbrev pub job : List (List ℕ) → Option Job
-job (name ∷ word ∷ []) = if bytes_eq word (codes "replay") then Some Replay else None
-job words = None
+use Rattle.xl_capture.specs.declared.capture.Capture.{Capture}
 
 -- the statuses that an ending has
 abbrev pub is_status : ℕ → Bool
@@ -32,6 +26,17 @@ is_stepped n = n == 0 || n == 3 || n == 6 || n == 7
 -- those of a text that was read to its end: a bad line besides
 abbrev pub is_read : ℕ → Bool
 is_read n = n == 4 || is_stepped n
+
+-- the statuses that a replay of an input has: a failed source besides
+abbrev pub is_replay : ℕ → Bool
+is_replay n = n == 2 || is_read n
+
+-- those of a text whose lines are shown: done, a failed sink, a bad line, no memory; and those of an input
+abbrev pub is_shown : ℕ → Bool
+is_shown n = n == 0 || n == 3 || n == 4 || n == 6
+
+abbrev pub is_show : ℕ → Bool
+is_show n = n == 2 || is_shown n
 
 -- the statuses at which nothing was stepped or written: no job, a failed source, a bad line
 abbrev pub is_idle : ℕ → Bool
@@ -104,3 +109,13 @@ abbrev pub is_whole : Result (Unit {0}) Halt → Bool
 is_whole (Ok _) = true
 is_whole (Err (halts.JournalFull count)) = true
 is_whole (Err _) = false
+
+-- the lines that a text shows were added to what was written
+abbrev pub AddsShown : Option (List ℕ) → Result (List ℕ) ℕ → Option (List ℕ) → Type 0
+AddsShown old (Ok lines) new = Added old lines new
+AddsShown old (Err line) new = ⊥
+
+-- a beginning of them was
+abbrev pub BeginsShown : Option (List ℕ) → Result (List ℕ) ℕ → Option (List ℕ) → Type 0
+BeginsShown old (Ok lines) new = Began old lines new
+BeginsShown old (Err line) new = ⊥

@@ -1,3 +1,2 @@
-pub mod Capture
 pub mod Job
-pub mod Transcript
+pub mod Words

@@ -1,13 +1,12 @@
 //! The program's top call.
 #![tactic(auto)]
 
-mod capture;
 mod keeper;
 mod top;
-mod transcript;
+mod words;
 
-pub use capture::{Capture, CaptureError};
-pub use top::{Done, Job, Usage, parse, run};
+pub use top::{Done, run};
+pub use words::{Job, ParseError, parse};
 
 #[cfg(test)]
 mod tests;

@@ -1,7 +1,9 @@
+ghost use Rattle.std.specs.Prelude.{None};
+
 use super::*;
 use std::alloc::{AllocError, Global};
 use std::test::*;
-use xl_base::{MemorySink, MemorySource};
+use xl_base::{MemorySink, MemorySource, ReadOutcome, Source};
 
 #[derive(Drop)]
 /// What a run gave: its status, the line, the entries of its journal, and what it wrote.
@@ -288,6 +290,55 @@ const CONFLICTS: [(&str, &str); 13] = [
 const CONFLICTS_HELD: &str =
     "1 range nlm:61/7/7879 10 19 s\n1 range nlm:61/7/7879 30 18446744073709551615 x\n1 range nlm:62/-2/- 0 9 s\n1 range nlm:62/-2/- 20 29 x\n";
 
+/// Three who wait: the first in order is served, then the two behind it in one step.
+const WAITS: [(&str, &str); 9] = [
+    // a: exclusive 0 to 9: GRANTED
+    (
+        "000000010000000000000002000186b5000000040000000200000000000000000000000000000000000000000000000000000001000000016100000000000008584c4b310000000100000000000000070000000000000000000000000000000a0000000000000000",
+        "0000000100000001000000000000000000000000000000000000000000000000",
+    ),
+    // b waits for exclusive 0 to 9, three times: BLOCKED
+    (
+        "000000020000000000000002000186b5000000040000000200000000000000000000000000000000000000000000000100000001000000016200000000000008584c4b310000000100000000000000070000000000000000000000000000000a0000000000000000",
+        "0000000200000001000000000000000000000000000000000000000000000003",
+    ),
+    (
+        "000000030000000000000002000186b5000000040000000200000000000000000000000000000000000000000000000100000001000000016200000000000008584c4b310000000100000000000000070000000000000000000000000000000a0000000000000000",
+        "0000000300000001000000000000000000000000000000000000000000000003",
+    ),
+    (
+        "000000040000000000000002000186b5000000040000000200000000000000000000000000000000000000000000000100000001000000016200000000000008584c4b310000000100000000000000070000000000000000000000000000000a0000000000000000",
+        "0000000400000001000000000000000000000000000000000000000000000003",
+    ),
+    // c, and d, wait for shared 0 to 9
+    (
+        "000000050000000000000002000186b5000000040000000200000000000000000000000000000000000000000000000100000000000000016300000000000008584c4b310000000100000000000000070000000000000000000000000000000a0000000000000000",
+        "0000000500000001000000000000000000000000000000000000000000000003",
+    ),
+    (
+        "000000060000000000000002000186b5000000040000000200000000000000000000000000000000000000000000000100000000000000016400000000000008584c4b310000000100000000000000070000000000000000000000000000000a0000000000000000",
+        "0000000600000001000000000000000000000000000000000000000000000003",
+    ),
+    // a unlocks: b has its lock, for which the others wait on
+    (
+        "000000070000000000000002000186b500000004000000040000000000000000000000000000000000000000000000016100000000000008584c4b310000000100000000000000070000000000000000000000000000000a",
+        "0000000700000001000000000000000000000000000000000000000000000000",
+    ),
+    // c, without waiting: DENIED
+    (
+        "000000080000000000000002000186b5000000040000000200000000000000000000000000000000000000000000000000000000000000016300000000000008584c4b31000000010000000000000007000000000000000000000000000000050000000000000000",
+        "0000000800000001000000000000000000000000000000000000000000000001",
+    ),
+    // b unlocks, and waits no more: c and d have their locks
+    (
+        "000000090000000000000002000186b500000004000000040000000000000000000000000000000000000000000000016200000000000008584c4b310000000100000000000000070000000000000000000000000000000a",
+        "0000000900000001000000000000000000000000000000000000000000000000",
+    ),
+];
+
+/// The lines of what is held after it.
+const WAITS_HELD: &str = "1 range nlm:63/7/- 0 9 s\n1 range nlm:64/7/- 0 9 s\n";
+
 /// Calls that change nothing.
 const REFUSED: [(&str, &str); 15] = [
     // a reclaim, out of grace: DENIED_GRACE_PERIOD
@@ -393,10 +444,11 @@ fn first_lock(rt: HostRuntime) -> Result<(), Fail> {
 
 #[test]
 fn locks(rt: HostRuntime) -> Result<(), Fail> {
-    let tables: [(&[(&str, &str)], &str); 4] = [
+    let tables: [(&[(&str, &str)], &str); 5] = [
         (&LAST_BYTE, LAST_BYTE_HELD),
         (&SPANS, SPANS_HELD),
         (&CONFLICTS, CONFLICTS_HELD),
+        (&WAITS, WAITS_HELD),
         (&REFUSED, ""),
     ];
     for (rows, held) in tables {
@@ -413,12 +465,15 @@ fn endings(rt: HostRuntime) -> Result<(), Fail> {
     let one = format!(in rt.alloc(); "O rpc\n{call}")?;
     let long = format!(in rt.alloc(); "O rpc\n{call}B 0 8\nB 1 8\n")?;
     // words, input, reads and writes that fail, status, line, entries
-    let rows: [(&[&str], &str, &[u64], &[u64], u8, u64, usize); 12] = [
+    let rows: [(&[&str], &str, &[u64], &[u64], u8, u64, usize); 15] = [
         (&REPLAY, "", &[], &[], 0, 0, 0),
         (&REPLAY, one.as_str(), &[], &[], 0, 0, 2),
         (&["xlockd", "fly"], one.as_str(), &[], &[], 1, 0, 0),
         (&["xlockd"], one.as_str(), &[], &[], 1, 0, 0),
         (&["xlockd", "replay", "replay"], "zip", &[1], &[], 1, 0, 0),
+        (&["xlockd", "--help"], "", &[], &[], 1, 0, 0),
+        (&["xlockd", "replay", "--help"], "", &[], &[], 1, 0, 0),
+        (&["xlockd", "--version"], "", &[], &[], 1, 0, 0),
         (&REPLAY, one.as_str(), &[1], &[], 2, 0, 0),
         (&REPLAY, "zip", &[2], &[], 2, 0, 0),
         (&REPLAY, one.as_str(), &[3], &[], 0, 0, 2),
@@ -441,8 +496,40 @@ fn endings(rt: HostRuntime) -> Result<(), Fail> {
     Ok(())
 }
 
+const SHOW: [&str; 2] = ["xlockd", "show"];
+
+#[test]
+fn shows(rt: HostRuntime) -> Result<(), Fail> {
+    // messages, reads and writes that fail, status, line, what is written
+    let rows: [(&str, &[u64], &[u64], u8, u64, &str); 7] = [
+        ("", &[], &[], 0, 0, ""),
+        ("# a line\n\nrpc 00\n", &[], &[], 0, 0, "bad 1\n"),
+        (
+            "rpc 000000010000000000000002000186b5000000040000000200000000000000000000000000000000000000000000000000000001000000016100000000000008584c4b310000000100000000000000070000000000000000000000000000000a0000000000000000\nsmb 00\n",
+            &[],
+            &[],
+            0,
+            0,
+            "call 1 100021 4 2 ok\nbad 1\n",
+        ),
+        ("zip 00\n", &[], &[], 4, 1, ""),
+        ("rpc 00\nrpc 0\n", &[], &[], 4, 2, ""),
+        ("rpc 00\n", &[1], &[], 2, 0, ""),
+        // the sink writes a half of what a failing write is given
+        ("rpc 00\n", &[], &[1], 3, 0, "bad"),
+    ];
+    for (input, bad_reads, bad_writes, status, line, text) in rows {
+        let got = run_on(rt.alloc(), &SHOW, input.as_bytes(), bad_reads, bad_writes)?;
+        assert_eq!(rt; got.status, status, "at {input:?}");
+        assert_eq!(rt; got.line, line, "at {input:?}");
+        assert_eq!(rt; got.text.as_str(), text, "at {input:?}");
+        assert_eq!(rt; got.entries, 0, "at {input:?}");
+    }
+    Ok(())
+}
+
 /// Inputs, and the number of their first bad line; 0 where all are in the grammar.
-const LINES: [(&str, u64); 24] = [
+const LINES: [(&str, u64); 36] = [
     ("F a.txt", 0),
     ("F a.txt\nF b_c-9.\nO rpc\n", 0),
     ("F a\tO rpc", 1),
@@ -462,17 +549,29 @@ const LINES: [(&str, u64); 24] = [
         1,
     ),
     ("O rpc\nF a\n", 2),
-    ("O rpc\nO rpc\n", 2),
+    ("E 0\nF a\n", 2),
+    ("O rpc\nO rpc\n", 0),
     ("O smb\n", 1),
-    ("B 0 80000000\n", 1),
-    ("O rpc\nB 0 80000000\n", 0),
+    ("O\n", 1),
+    ("O rpc !0\n", 1),
+    ("B 0 80000000\n", 0),
+    ("B 0 zz\n", 1),
+    ("B 0 8\n", 1),
+    ("B 0 \n", 1),
+    ("B 00 -\n", 1),
+    ("B 0 -\nB 10 -\nE 18446744073709551615", 0),
+    ("E 18446744073709551616\n", 1),
+    ("E 99999999999999999999\n", 1),
+    ("E 1f\n", 1),
+    ("E +1\n", 1),
+    ("E \n", 1),
+    ("E 0 -\n", 1),
     ("O rpc\nB 0 80000001Aa\nB 0 80000001aA", 0),
-    ("O rpc\nB 1 80000000\n", 2),
-    ("O rpc\nB 00 80000000\n", 2),
-    ("O rpc\nB 0 -\n", 2),
-    ("O rpc\nB 0 00000000\n", 2),
     ("O rpc\nB 0 8000000100 00\n", 2),
-    ("O rpc\n\n", 2),
+    ("O rpc\n\n\n# B 0 zz\n#\nB 0 8\n", 6),
+    ("\n \n", 2),
+    ("#F\n\nF a\nO rpc\n #\n", 5),
+    ("H 61 za\n", 1),
 ];
 
 #[test]
@@ -482,17 +581,179 @@ fn lines_of_captures(rt: HostRuntime) -> Result<(), Fail> {
         assert_eq!(rt; got.line, line, "at {input:?}");
         assert_eq!(rt; got.status, if line == 0 { 0 } else { 4 }, "at {input:?}");
     }
-    // 256 lines, and one more
-    let mut many = String::from_str(rt.alloc(), "O rpc\n")?;
-    for _ in 0..255 {
-        many.push_str("B 0 80000000\n")?;
+    Ok(())
+}
+
+/// Lines of files, as many as these.
+fn files(alloc: Global, count: u64) -> Result<String, AllocError> {
+    let mut text = String::new(alloc);
+    for number in 0..count {
+        text.push_str(format!(in alloc; "F f{number}\n")?.as_str())?;
     }
-    let got = run_on(rt.alloc(), &REPLAY, many.as_bytes(), &[], &[])?;
-    assert_eq!(rt; got.status, 0);
-    assert_eq!(rt; got.entries, 256);
-    many.push_str("B 0 80000000\n")?;
-    let got = run_on(rt.alloc(), &REPLAY, many.as_bytes(), &[], &[])?;
-    assert_eq!(rt; got.status, 4);
-    assert_eq!(rt; got.line, 257);
+    Ok(text)
+}
+
+#[test]
+fn many_files(rt: HostRuntime) -> Result<(), Fail> {
+    for (count, line) in [(1024, 0), (1025, 1025)] {
+        let input = files(rt.alloc(), count)?;
+        let got = run_on(rt.alloc(), &REPLAY, input.as_bytes(), &[], &[])?;
+        assert_eq!(rt; got.line, line);
+    }
+    Ok(())
+}
+
+/// Texts, how many entries they make, and what is written.
+const STREAMS: [(&str, usize, &str); 11] = [
+    // a LOCK of 0 to 9 in three pieces
+    (
+        "F a.txt\nO rpc\nB 0 8000\nB 0 0068000000\nB 0 010000000000000002000186b5000000040000000200000000000000000000000000000000000000000000000000000001000000016100000000000008584c4b310000000100000000000000070000000000000000000000000000000a0000000000000000\n",
+        2,
+        "1 c0 800000200000000100000001000000000000000000000000000000000000000000000000\n1 range nlm:61/7/- 0 9 x\n",
+    ),
+    // the same in two fragments
+    (
+        "F a.txt\nO rpc\nB 0 00000010000000010000000000000002000186b580000058000000040000000200000000000000000000000000000000000000000000000000000001000000016100000000000008584c4b310000000100000000000000070000000000000000000000000000000a0000000000000000\n",
+        2,
+        "1 c0 800000200000000100000001000000000000000000000000000000000000000000000000\n1 range nlm:61/7/- 0 9 x\n",
+    ),
+    // a header of 65,537 bytes ends the connection
+    ("O rpc\nB 0 80010001\nB 0 80000000\nE 0\n", 2, ""),
+    // so does one that makes a record so long
+    ("O rpc\nB 0 0000000161\nB 0 80010000\nB 0 80000000\n", 2, ""),
+    // 64 fragments, and a header more
+    (
+        "O rpc\nB 0 0000000161000000016100000001610000000161000000016100000001610000000161000000016100000001610000000161000000016100000001610000000161000000016100000001610000000161000000016100000001610000000161000000016100000001610000000161000000016100000001610000000161000000016100000001610000000161000000016100000001610000000161000000016100000001610000000161000000016100000001610000000161000000016100000001610000000161000000016100000001610000000161000000016100000001610000000161000000016100000001610000000161000000016100000001610000000161000000016100000001610000000161000000016100000001610000000161000000016100000001610000000161000000016100000001610000000161\nB 0 80000001\nB 0 80000000\n",
+        2,
+        "",
+    ),
+    // 64 fragments, and a record more
+    (
+        "O rpc\nB 0 0000000161000000016100000001610000000161000000016100000001610000000161000000016100000001610000000161000000016100000001610000000161000000016100000001610000000161000000016100000001610000000161000000016100000001610000000161000000016100000001610000000161000000016100000001610000000161000000016100000001610000000161000000016100000001610000000161000000016100000001610000000161000000016100000001610000000161000000016100000001610000000161000000016100000001610000000161000000016100000001610000000161000000016100000001610000000161000000016100000001610000000161000000016100000001610000000161000000016100000001610000000161000000016100000001618000000161\nB 0 80000000\n",
+        3,
+        "",
+    ),
+    // an empty fragment that isn't the last: what stands before it counts, what stands behind it doesn't
+    (
+        "O rpc\nB 0 80000000000000008000000080000000\nB 0 80000000\n",
+        3,
+        "",
+    ),
+    // an empty record: a message without a reply
+    ("O rpc\nB 0 80000000\nB 0 -\nB 0 800000\n", 2, ""),
+    // a connection ends once
+    ("O rpc\nB 0 8000\nE 0\nE 0\nB 0 0000\nB 0 80000000\n", 2, ""),
+    // numbers of events that are no openings
+    (
+        "O rpc\nB 0 80000000\nE 1\nE 2\nB 1 80000000\nB 7 80000000\nO rpc\nB 2 80000000\nB 1 80000000\n",
+        4,
+        "",
+    ),
+    // two connections whose bytes come in turns
+    (
+        "O rpc\nO rpc\nB 0 8000002800000005000000000000\nB 1 800000\nB 1 28000000060000000000000002000186b50000000400000000000000000000\n# a line\nB 0 0002000186b5000000040000000000000000000000000000000000000000\n\nB 1 0000000000000000000080000028000000070000000000000002000186b5000000040000000000000000000000000000000000000000\n",
+        5,
+        "2 c0 80000018000000050000000100000000000000000000000000000000\n3 c1 80000018000000060000000100000000000000000000000000000000\n4 c1 80000018000000070000000100000000000000000000000000000000\n",
+    ),
+];
+
+#[test]
+fn streams(rt: HostRuntime) -> Result<(), Fail> {
+    for (input, entries, text) in STREAMS {
+        let got = run_on(rt.alloc(), &REPLAY, input.as_bytes(), &[], &[])?;
+        assert_eq!(rt; got.entries, entries, "at {input:?}");
+        assert_eq!(rt; got.text.as_str(), text, "at {input:?}");
+    }
+    Ok(())
+}
+
+/// Openings of 65 connections, and these lines behind them.
+fn openings(alloc: Global, lines: &str) -> Result<String, AllocError> {
+    let mut text = String::new(alloc);
+    for _ in 0..65 {
+        text.push_str("O rpc\n")?;
+    }
+    text.push_str(lines)?;
+    Ok(text)
+}
+
+#[test]
+fn many_connections(rt: HostRuntime) -> Result<(), Fail> {
+    let rows: [(&str, usize); 4] = [
+        ("", 65),
+        ("B 64 80000000\nE 64\n", 65),
+        ("B 63 80000000\nE 63\n", 67),
+        ("E 0\nB 64 80000000\nO rpc\nB 66 80000000\n", 68),
+    ];
+    for (lines, entries) in rows {
+        let input = openings(rt.alloc(), lines)?;
+        let got = run_on(rt.alloc(), &REPLAY, input.as_bytes(), &[], &[])?;
+        assert_eq!(rt; got.entries, entries, "at {lines:?}");
+    }
+    Ok(())
+}
+
+/// One connection, and so many empty records in one line, each of which is an event without a reply.
+fn empty_records(alloc: Global, count: u32) -> Result<String, AllocError> {
+    let mut text = String::from_str(alloc, "O rpc\nB 0 ")?;
+    for _ in 0..count {
+        text.push_str("80000000")?;
+    }
+    Ok(text)
+}
+
+#[test]
+fn a_full_journal(rt: HostRuntime) -> Result<(), Fail> {
+    for (records, status) in [(1_048_575, 0), (1_048_576, 7)] {
+        let input = empty_records(rt.alloc(), records)?;
+        let got = run_on(rt.alloc(), &REPLAY, input.as_bytes(), &[], &[])?;
+        assert_eq!(rt; got.status, status);
+        assert_eq!(rt; got.entries, 1_048_576);
+    }
+    Ok(())
+}
+
+/// A source of so many bytes that it makes as they are read: one line, a comment.
+#[derive(Drop)]
+struct Comment {
+    left: u64,
+}
+
+impl Source for Comment {
+    ghost left = { λ _. None };
+
+    ghost faults = { λ _. 0 };
+
+    fn faults(&self) -> u64 {
+        0
+    }
+
+    fn read(&mut self, buffer: &mut [u8]) -> ReadOutcome {
+        let count = (buffer.len() as u64).min(self.left);
+        if count == 0 {
+            return ReadOutcome::End;
+        }
+        buffer[..count as usize].fill(b'#');
+        self.left -= count;
+        ReadOutcome::Got(count as usize)
+    }
+}
+
+/// The status and the line of a run on so many bytes.
+fn run_on_bytes(alloc: Global, count: u64) -> Result<(u8, u64), AllocError> {
+    let mut words = Vec::new(alloc);
+    for word in REPLAY {
+        words.push(String::from_str(alloc, word)?)?;
+    }
+    let mut source = Comment { left: count };
+    let mut sink = MemorySink::new(alloc, Vec::new(alloc));
+    let done = run(alloc, &words, &mut source, &mut sink);
+    Ok((done.status, done.line))
+}
+
+#[test]
+fn the_most_bytes(rt: HostRuntime) -> Result<(), Fail> {
+    assert_eq!(rt; run_on_bytes(rt.alloc(), 268_435_456)?, (0, 0));
+    assert_eq!(rt; run_on_bytes(rt.alloc(), 268_435_457)?, (4, 1));
     Ok(())
 }

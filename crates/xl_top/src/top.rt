@@ -2,35 +2,26 @@
 ghost use Rattle.std.specs.Prelude.{◌≡◌, ◌≢◌, ℕ, ◌+◌, ◌<◌, ◌≤◌, ◌^◌, [], ◌∷◌, ◌++◌, length, take, map, true, false, List, Option, Some, None, Ok, Err, OnOk, OnErr, IfOk, IfErr, IfSome, ◌↔◌, string_bytes, codes, bytes_eq};
 ghost use Rattle.std.specs.Result.{result_ok};
 ghost use Rattle.xl_base.specs.Outside.{Rose, Took, Ended, Added, Began};
-ghost use Rattle.xl_top.specs.Capture.{captured, most_bytes};
+ghost use Rattle.xl_capture.specs.Capture.{captured, most_bytes};
 ghost use Rattle.xl_house.specs.Lawful.{AlwaysLawful, AlwaysComplete};
 ghost use Rattle.xl_house.specs.Free.{AlwaysFree};
 ghost use Rattle.xl_house.specs.Housed.{Housed, is_spoiled};
 ghost use Rattle.xl_house.specs.Journals.{replay, IsLegal, IsOrderly, entries_of, most_entries};
 ghost use Rattle.xl_house.specs.Machine.{begin};
-ghost use Rattle.xl_top.specs.Job.{job, is_status, is_stepped, is_read, is_idle, capped, exports_with, head_with, head_of, journal_of, no_journal, IsReplayed, IsBegun, BeginsAs, IsCutAt, AreSteps, is_whole, transcript_from, whole_transcript};
-ghost use Rattle.xl_top.specs.Transcript.{transcript};
+ghost use Rattle.xl_top.specs.Job.{is_status, is_stepped, is_read, is_replay, is_shown, is_show, is_idle, AddsShown, BeginsShown, capped, exports_with, head_with, head_of, journal_of, no_journal, IsReplayed, IsBegun, BeginsAs, IsCutAt, AreSteps, is_whole, transcript_from, whole_transcript};
+ghost use Rattle.xl_capture.specs.Show.{shown};
+ghost use Rattle.xl_capture.specs.Transcript.{transcript};
+ghost use Rattle.xl_top.specs.Words.{job};
 
-use crate::capture::{Capture, CaptureError, MOST_BYTES, read_capture};
 use crate::keeper::SureKeeper;
-use crate::transcript::transcript;
+use crate::words::{Job, ParseError, parse};
 use std::alloc::{AllocError, AllocFailed, Global};
 use xl_base::{
     Event, Exports, Halt, Head, Journal, Moment, ReadOutcome, Record, Sequence, Sink, Source,
     WriteOutcome,
 };
+use xl_capture::{Capture, CaptureError, MOST_BYTES, read_capture, show_text, transcript};
 use xl_house::House;
-
-/// What the program's words ask for.
-#[derive(Clone, Copy, Debug, PartialEq, Eq)]
-pub enum Job {
-    /// Read a capture, replay it, and write its transcript.
-    Replay,
-}
-
-/// The words ask for no job.
-#[derive(Clone, Copy, Debug, PartialEq, Eq)]
-pub struct Usage;
 
 /// How a run ended.
 #[derive(Drop, Debug)]
@@ -42,16 +33,6 @@ pub struct Done {
     pub line: u64,
     /// What was stepped.
     pub journal: Journal,
-}
-
-/// What the words ask for; the program's name is the first of them.
-pub fn parse(words: &[String]) -> Result<Job, Usage>
-    ensures { result_ok result ≡ job (map string_bytes words.now) }
-{
-    match words {
-        [_, word] if word.as_str() == "replay" => Ok(Job::Replay),
-        _ => Err(Usage),
-    }
 }
 
 /// Why an input was not read.
@@ -183,10 +164,11 @@ fn exports_with(alloc: Global, files: Sequence<Sequence<u8>>) -> Exports
 fn idle(alloc: Global, status: u8, line: u64) -> Done
     ensures { result ≡ record { status = status; line = line; journal = no_journal } }
 {
+    let record = Record::new(alloc);
     let head = Head {
         exports: exports_with(alloc, Sequence::new(alloc)),
         start: Moment(0),
-        record: Record::new(alloc),
+        record,
     };
     Done {
         status,
@@ -245,6 +227,7 @@ fn replay<O: Sink>(alloc: Global, capture: Capture, out: &mut O) -> Done
     ensures failed { result.status ≡ 3 → Rose (O.faults out.old) (O.faults out.new) }
     ensures legal { IsLegal (begin result.journal.head) result.journal.entries }
     ensures orderly { IsOrderly [] [] 0 result.journal.entries }
+    ensures most { length result.journal.entries ≤ most_entries }
 {
     let Some((house, ended)) = step_capture(alloc, capture) else {
         return idle(alloc, 6, 0);
@@ -271,7 +254,7 @@ fn replay<O: Sink>(alloc: Global, capture: Capture, out: &mut O) -> Done
 }
 
 /// Replays the capture that a text is, and writes its transcript.
-#[tactic(auto, using(crate::proofs::PlainLaws::captured_steps, crate::proofs::JobLaws::replayed_as, crate::proofs::JobLaws::begun_as, crate::proofs::JobLaws::cut_as, crate::proofs::JobLaws::bad_as))]
+#[tactic(auto, using(crate::proofs::JobLaws::captured_steps, crate::proofs::JobLaws::replayed_as, crate::proofs::JobLaws::begun_as, crate::proofs::JobLaws::cut_as, crate::proofs::JobLaws::bad_as))]
 fn replay_text<O: Sink>(alloc: Global, text: &[u8], out: &mut O) -> Done
     ensures known { is_read result.status ≡ true }
     ensures replayed { result.status ≡ 0 → IsReplayed (captured text.now) result.journal }
@@ -286,6 +269,7 @@ fn replay_text<O: Sink>(alloc: Global, text: &[u8], out: &mut O) -> Done
     ensures idle { result.status ≡ 4 → (result.journal ≡ no_journal) × (O.held out.new ≡ O.held out.old) × (O.faults out.new ≡ O.faults out.old) }
     ensures legal { IsLegal (begin result.journal.head) result.journal.entries }
     ensures orderly { IsOrderly [] [] 0 result.journal.entries }
+    ensures most { length result.journal.entries ≤ most_entries }
 {
     match read_capture(alloc, text) {
         Ok(capture) => replay(alloc, capture, out),
@@ -294,33 +278,113 @@ fn replay_text<O: Sink>(alloc: Global, text: &[u8], out: &mut O) -> Done
     }
 }
 
-/// Does what the words ask for, from the input to the output.
-#[tactic(auto, using(crate::proofs::ReadLaws::read_whole, crate::proofs::ReadLaws::read_ended, xl_house::proofs::MachineLaws::begun_free, xl_house::proofs::LawfulLaws::lawful_always, xl_house::proofs::CompleteLaws::complete_always))]
-pub fn run<I: Source, O: Sink>(alloc: Global, words: &[String], input: &mut I, out: &mut O) -> Done
-    ensures known { is_status result.status ≡ true }
-
-    // The words ask for no job just at 1. At 2 the source failed, at 3 the sink did.
-    ensures words { (result.status ≡ 1) ↔ (job (map string_bytes words.now) ≡ None) }
+/// Replays the capture that the input has, and writes its transcript.
+#[tactic(auto, using(crate::proofs::ReadLaws::read_whole, xl_capture::proofs::EndLaws::read_ended))]
+fn replay_input<I: Source, O: Sink>(alloc: Global, input: &mut I, out: &mut O) -> Done
+    ensures known { is_replay result.status ≡ true }
     ensures read { result.status ≡ 2 → Rose (I.faults input.old) (I.faults input.new) }
     ensures write { result.status ≡ 3 → Rose (O.faults out.old) (O.faults out.new) }
-
-    // What was read is a capture at 0, 3 and 7, and isn't one at 4, whose line is the first that is bad.
     ensures replayed { (all : List ℕ) → I.left input.old ≡ Some all → result.status ≡ 0 → IsReplayed (captured (capped all)) result.journal }
     ensures unwritten { (all : List ℕ) → I.left input.old ≡ Some all → result.status ≡ 3 → IsReplayed (captured (capped all)) result.journal }
     ensures full { (all : List ℕ) → I.left input.old ≡ Some all → result.status ≡ 7 → IsCutAt most_entries (captured (capped all)) result.journal }
     ensures bad { (all : List ℕ) → I.left input.old ≡ Some all → result.status ≡ 4 → captured (capped all) ≡ Err result.line }
     ensures line { result.status ≢ 4 → result.line ≡ 0 }
     ensures begun { (all : List ℕ) → I.left input.old ≡ Some all → result.status ≡ 6 → IsBegun (captured (capped all)) result.journal }
-
-    // What was written: all of the transcript at 0, a beginning at 3, 6 and 7, nothing at 1, 2 and 4.
     ensures ended { result.status ≡ 0 → Ended (I.left input.new) }
     ensures written { result.status ≡ 0 → Added (O.held out.old) (whole_transcript result.journal) (O.held out.new) }
     ensures began { Began (O.held out.old) (whole_transcript result.journal) (O.held out.new) }
     ensures idle { is_idle result.status ≡ true → (result.journal ≡ no_journal) × (O.held out.new ≡ O.held out.old) × (O.faults out.new ≡ O.faults out.old) }
+    ensures legal { IsLegal (begin result.journal.head) result.journal.entries }
+    ensures orderly { IsOrderly [] [] 0 result.journal.entries }
+    ensures most { length result.journal.entries ≤ most_entries }
+{
+    let text = match read_all(alloc, input) {
+        Ok(text) => text,
+        Err(Unread::Failed) => return idle(alloc, 2, 0),
+        Err(Unread::NoMemory) => return idle(alloc, 6, 0),
+    };
+    replay_text(alloc, &text, out)
+}
+
+/// Writes what the lines of a text show.
+#[tactic(auto, using(xl_capture::proofs::ShowLaws::shown_ended))]
+fn show_given<O: Sink>(alloc: Global, text: &[u8], out: &mut O) -> Done
+    ensures known { is_shown result.status ≡ true }
+    ensures nothing { result.journal ≡ no_journal }
+    ensures line { result.status ≢ 4 → result.line ≡ 0 }
+    ensures fit { result.status ≡ 0 → length text.now ≤ most_bytes }
+    ensures bad { result.status ≡ 4 → shown text.now ≡ Err result.line }
+    ensures written { result.status ≡ 0 → AddsShown (O.held out.old) (shown text.now) (O.held out.new) }
+    ensures began { result.status ≡ 3 → BeginsShown (O.held out.old) (shown text.now) (O.held out.new) }
+    ensures failed { result.status ≡ 3 → Rose (O.faults out.old) (O.faults out.new) }
+    ensures idle { result.status ≢ 0 → result.status ≢ 3 → (O.held out.new ≡ O.held out.old) × (O.faults out.new ≡ O.faults out.old) }
+{
+    match show_text(alloc, text) {
+        Ok(lines) => match out.write(&lines) {
+            WriteOutcome::Wrote => idle(alloc, 0, 0),
+            WriteOutcome::Failed => idle(alloc, 3, 0),
+        },
+        Err(CaptureError::BadLine(number)) => idle(alloc, 4, number),
+        Err(CaptureError::NoMemory) => idle(alloc, 6, 0),
+    }
+}
+
+/// Shows what the lines of the input say.
+#[tactic(auto, using(crate::proofs::ReadLaws::shown_whole))]
+fn show_input<I: Source, O: Sink>(alloc: Global, input: &mut I, out: &mut O) -> Done
+    ensures known { is_show result.status ≡ true }
+    ensures nothing { result.journal ≡ no_journal }
+    ensures read { result.status ≡ 2 → Rose (I.faults input.old) (I.faults input.new) }
+    ensures write { result.status ≡ 3 → Rose (O.faults out.old) (O.faults out.new) }
+    ensures bad { (all : List ℕ) → I.left input.old ≡ Some all → result.status ≡ 4 → shown (capped all) ≡ Err result.line }
+    ensures line { result.status ≢ 4 → result.line ≡ 0 }
+    ensures ended { result.status ≡ 0 → Ended (I.left input.new) }
+    ensures written { (all : List ℕ) → I.left input.old ≡ Some all → result.status ≡ 0 → AddsShown (O.held out.old) (shown (capped all)) (O.held out.new) }
+    ensures began { (all : List ℕ) → I.left input.old ≡ Some all → result.status ≡ 3 → BeginsShown (O.held out.old) (shown (capped all)) (O.held out.new) }
+    ensures idle { result.status ≢ 0 → result.status ≢ 3 → (O.held out.new ≡ O.held out.old) × (O.faults out.new ≡ O.faults out.old) }
+{
+    let text = match read_all(alloc, input) {
+        Ok(text) => text,
+        Err(Unread::Failed) => return idle(alloc, 2, 0),
+        Err(Unread::NoMemory) => return idle(alloc, 6, 0),
+    };
+    show_given(alloc, &text, out)
+}
+
+/// Does what the words ask for, from the input to the output.
+#[tactic(auto, using(xl_house::proofs::MachineLaws::begun_free, xl_house::proofs::LawfulLaws::lawful_always, xl_house::proofs::CompleteLaws::complete_always))]
+pub fn run<I: Source, O: Sink>(alloc: Global, words: &[String], input: &mut I, out: &mut O) -> Done
+    ensures known { is_status result.status ≡ true }
+
+    // The words ask for no job just at 1, unless memory runs out. At 2 the source failed, at 3 the sink did.
+    ensures words { (result.status ≡ 1 → job (map string_bytes words.now) ≡ None) × (job (map string_bytes words.now) ≡ None → result.status ≢ 6 → result.status ≡ 1) }
+    ensures read { result.status ≡ 2 → Rose (I.faults input.old) (I.faults input.new) }
+    ensures write { result.status ≡ 3 → Rose (O.faults out.old) (O.faults out.new) }
+    ensures line { result.status ≢ 4 → result.line ≡ 0 }
+    ensures ended { result.status ≡ 0 → Ended (I.left input.new) }
+    ensures idle { is_idle result.status ≡ true → (result.journal ≡ no_journal) × (O.held out.new ≡ O.held out.old) × (O.faults out.new ≡ O.faults out.old) }
+
+    // Of a replay, what was read is a capture at 0, 3 and 7, and isn't one at 4, whose line is the first that is bad. What
+    // was written: all of the transcript at 0, a beginning at 3, 6 and 7, nothing at 1, 2 and 4.
+    ensures replayed { job (map string_bytes words.now) ≡ Some Job.Replay → (all : List ℕ) → I.left input.old ≡ Some all → result.status ≡ 0 → IsReplayed (captured (capped all)) result.journal }
+    ensures unwritten { job (map string_bytes words.now) ≡ Some Job.Replay → (all : List ℕ) → I.left input.old ≡ Some all → result.status ≡ 3 → IsReplayed (captured (capped all)) result.journal }
+    ensures full { job (map string_bytes words.now) ≡ Some Job.Replay → (all : List ℕ) → I.left input.old ≡ Some all → result.status ≡ 7 → IsCutAt most_entries (captured (capped all)) result.journal }
+    ensures bad { job (map string_bytes words.now) ≡ Some Job.Replay → (all : List ℕ) → I.left input.old ≡ Some all → result.status ≡ 4 → captured (capped all) ≡ Err result.line }
+    ensures begun { job (map string_bytes words.now) ≡ Some Job.Replay → (all : List ℕ) → I.left input.old ≡ Some all → result.status ≡ 6 → IsBegun (captured (capped all)) result.journal }
+    ensures written { job (map string_bytes words.now) ≡ Some Job.Replay → result.status ≡ 0 → Added (O.held out.old) (whole_transcript result.journal) (O.held out.new) }
+    ensures began { job (map string_bytes words.now) ≡ Some Job.Replay → Began (O.held out.old) (whole_transcript result.journal) (O.held out.new) }
+
+    // Of messages that are shown, the lines on them were written at 0, a beginning at 3, nothing else. At 4 the line is the
+    // first that is bad.
+    ensures shown { job (map string_bytes words.now) ≡ Some Job.Show → (all : List ℕ) → I.left input.old ≡ Some all → result.status ≡ 0 → AddsShown (O.held out.old) (shown (capped all)) (O.held out.new) }
+    ensures shown_part { job (map string_bytes words.now) ≡ Some Job.Show → (all : List ℕ) → I.left input.old ≡ Some all → result.status ≡ 3 → BeginsShown (O.held out.old) (shown (capped all)) (O.held out.new) }
+    ensures shown_bad { job (map string_bytes words.now) ≡ Some Job.Show → (all : List ℕ) → I.left input.old ≡ Some all → result.status ≡ 4 → shown (capped all) ≡ Err result.line }
+    ensures shown_alone { job (map string_bytes words.now) ≡ Some Job.Show → (is_show result.status ≡ true) × (result.journal ≡ no_journal) × (result.status ≡ 6 → O.held out.new ≡ O.held out.old) }
 
     // The journal is the machine's, and nothing is sent to a connection before its opening or after its end.
     ensures legal { IsLegal (begin result.journal.head) result.journal.entries }
     ensures orderly { IsOrderly [] [] 0 result.journal.entries }
+    ensures most { length result.journal.entries ≤ most_entries }
 
     // At every free moment the claims are pairwise compatible, each owner's ranges are sorted maximal runs, and nobody
     // who waits could be served.
@@ -331,13 +395,10 @@ pub fn run<I: Source, O: Sink>(alloc: Global, words: &[String], input: &mut I, o
     ensures lawful { AlwaysLawful (begin result.journal.head) result.journal.entries }
     ensures complete { AlwaysComplete (begin result.journal.head) result.journal.entries }
 {
-    if parse(words).is_err() {
-        return idle(alloc, 1, 0);
+    match parse(alloc, words) {
+        Ok(Job::Replay) => replay_input(alloc, input, out),
+        Ok(Job::Show) => show_input(alloc, input, out),
+        Err(ParseError::Usage) => idle(alloc, 1, 0),
+        Err(ParseError::NoMemory) => idle(alloc, 6, 0),
     }
-    let text = match read_all(alloc, input) {
-        Ok(text) => text,
-        Err(Unread::Failed) => return idle(alloc, 2, 0),
-        Err(Unread::NoMemory) => return idle(alloc, 6, 0),
-    };
-    replay_text(alloc, &text, out)
 }

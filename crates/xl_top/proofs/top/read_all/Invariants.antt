@@ -1,6 +1,6 @@
 use Rattle.std.proofs.Common.{◌≡◌, ◌+◌, ◌-◌, ◌≤◌, length}
 use Rattle.xl_base.specs.Outside.{Took}
-use Rattle.xl_top.specs.Capture.{most_bytes}
+use Rattle.xl_capture.specs.Capture.{most_bytes}
 use Rattle.xl_top.proofs.top.read_all.Given as goal
 
 abbrev pub invariant-reads : goal.invariant-reads

@@ -1,0 +1,115 @@
+-- A connection's bytes come to the same wherever its lines cut them.
+use Rattle.std.proofs.Common.{◌≡◌, inl, inr, ℕ, true, eqb, List, [], ◌∷◌, ◌++◌, map, Option, Some, None, IfSome, refl, sym, ap, ◌∙◌, append_assoc}
+use Rattle.std.specs.Option.{option_to_list}
+use Rattle.std.proofs.lemmas.Bool.{cases_Bool, eqb-true, eq-eqb}
+use Rattle.std.proofs.lemmas.List.{append-nil, map-append}
+use Rattle.xl_base.specs.declared.event.Event.{Event}
+use Rattle.xl_base.specs.declared.event.Event.TheVariants.{Message, End}
+use Rattle.xl_base.specs.declared.event.Kind.TheVariants.{Rpc}
+use Rattle.xl_frame.specs.Cutting.{then_piece}
+use Rattle.xl_frame.specs.Frames.{Framed, frames}
+use Rattle.xl_frame.specs.declared.fault.FrameBad.{FrameBad}
+use Rattle.xl_frame.proofs.StreamLaws.{cut_anywhere}
+use Rattle.xl_capture.specs.Capture.{with_events, with_frames, with_stream, with_piece}
+use Rattle.xl_capture.specs.Links.{Link, link_of, without, framed, end_of, events_of, still_open}
+use Rattle.xl_capture.specs.declared.capture.Reading.{Reading}
+
+some_link : (a b : Link) → Some a ≡ Some b → a ≡ b
+some_link a b e = cc
+
+-- what has no connection of the number is as it is without it
+none_without : (conn : ℕ) (ls : List Link) → link_of conn ls ≡ None → without conn ls ≡ ls
+none_without conn [] e = refl
+none_without conn (l ∷ ls) e =
+    elim (cases_Bool (eqb l.conn conn)) [
+      | inl same ↦ let none : Some l ≡ None = rw same at e in absurd cc
+      | inr other ↦ let rest : link_of conn ls ≡ None = rw other at e in rw other (ap (λ (ms : List Link). l ∷ ms) (none_without conn ls rest))
+    ]
+
+-- behind others without it stands a connection of the number
+link_behind : (conn : ℕ) (others : List Link) (l : Link) → link_of conn others ≡ None → l.conn ≡ conn → link_of conn (others ++ l ∷ []) ≡ Some l
+link_behind conn [] l none is = rw (eq-eqb l.conn conn is) refl
+link_behind conn (o ∷ os) l none is =
+    elim (cases_Bool (eqb o.conn conn)) [
+      | inl same ↦ let no : Some o ≡ None = rw same at none in absurd cc
+      | inr other ↦ let rest : link_of conn os ≡ None = rw other at none in rw other (link_behind conn os l rest is)
+    ]
+
+without_behind : (conn : ℕ) (others : List Link) (l : Link) → link_of conn others ≡ None → l.conn ≡ conn → without conn (others ++ l ∷ []) ≡ others
+without_behind conn [] l none is = rw (eq-eqb l.conn conn is) refl
+without_behind conn (o ∷ os) l none is =
+    elim (cases_Bool (eqb o.conn conn)) [
+      | inl same ↦ let no : Some o ≡ None = rw same at none in absurd cc
+      | inr other ↦ let rest : link_of conn os ≡ None = rw other at none in rw other (ap (λ (ms : List Link). o ∷ ms) (without_behind conn os l rest is))
+    ]
+
+-- the connection that is found has the number
+pub found_conn : (conn : ℕ) (ls : List Link) (l : Link) → link_of conn ls ≡ Some l → l.conn ≡ conn
+found_conn conn [] l e = absurd cc
+found_conn conn (m ∷ ms) l e =
+    elim (cases_Bool (eqb m.conn conn)) [
+      | inl same ↦ let one : m ≡ l = some_link m l (rw same at e) in ap (λ (k : Link). k.conn) (sym one) ∙ eqb-true _ _ same
+      | inr other ↦ let rest : link_of conn ms ≡ Some l = rw other at e in found_conn conn ms l rest
+    ]
+
+abbrev cut_as : List (List ℕ) → List ℕ → Option FrameBad → Framed
+cut_as messages rest bad = record { frames = messages; rest = rest; bad = bad }
+
+abbrev reading_with : Reading → List Link → List Event → Reading
+reading_with r links events = record { capture = record { files = r.capture.files; events = events }; links = links; begun = true }
+
+-- two event lines
+events_twice : (r : Reading) (events more : List Event) (links last : List Link) → with_events (with_events r events links) more last ≡ with_events r (events ++ more) last
+events_twice r events more links last =
+    ap (reading_with r last) (append_assoc r.capture.events events more)
+
+-- what messages and what stands behind them come to
+events_join : (conn : ℕ) (messages others : List (List ℕ)) (ends : List Event) → (map (Message conn) messages ++ []) ++ (map (Message conn) others ++ ends) ≡ map (Message conn) (messages ++ others) ++ ends
+events_join conn messages others ends =
+    ap (λ (es : List Event). es ++ (map (Message conn) others ++ ends)) (append-nil (map (Message conn) messages))
+    ∙ sym (append_assoc (map (Message conn) messages) (map (Message conn) others) ends)
+    ∙ ap (λ (es : List Event). es ++ ends) (sym (map-append (Message conn) messages others))
+
+more_frames : (r : Reading) (others : List Link) (conn : ℕ) (messages : List (List ℕ)) (rest : List ℕ) (bad : Option FrameBad) (more : List ℕ) → link_of conn others ≡ None
+    → with_piece (with_frames r others conn (cut_as messages rest bad)) conn more ≡ with_frames r others conn (then_piece Rpc (cut_as messages rest bad) more)
+unfolding with_piece then_piece
+more_frames r others conn messages rest None more none =
+    let l : Link = record { conn = conn; rest = rest } in
+    let r1 = with_frames r others conn (cut_as messages rest None) in
+    let f = frames Rpc (rest ++ more) in
+    ap (λ (o : Option Link). with_stream r1 (without conn (others ++ l ∷ [])) o more) (link_behind conn others l none refl)
+    ∙ ap (λ (ls : List Link). with_frames r1 ls conn f) (without_behind conn others l none refl)
+    ∙ events_twice r (map (Message conn) messages ++ []) (events_of conn f) (others ++ l ∷ []) (others ++ option_to_list (still_open conn f))
+    ∙ ap (λ (es : List Event). with_events r es (others ++ option_to_list (still_open conn f))) (events_join conn messages f.frames (end_of conn f.bad))
+more_frames r others conn messages rest (Some fault) more none =
+    let r1 = with_frames r others conn (cut_as messages rest (Some fault)) in
+    let all : List Event = map (Message conn) messages ++ End conn ∷ [] in
+    ap (λ (ls : List Link). with_stream r1 (without conn ls) (link_of conn ls) more) (append-nil others)
+    ∙ ap (λ (o : Option Link). with_stream r1 (without conn others) o more) none
+    ∙ ap (λ (ls : List Link). with_events r1 [] ls) (none_without conn others none ∙ sym (append-nil others))
+    ∙ events_twice r all [] (others ++ []) (others ++ [])
+    ∙ ap (λ (es : List Event). with_events r es (others ++ [])) (append-nil all)
+
+stream_joins : (r : Reading) (others : List Link) (o : Option Link) (conn : ℕ) (bytes more : List ℕ) → link_of conn others ≡ None → IfSome o (λ l. l.conn ≡ conn)
+    → with_piece (with_stream r others o bytes) conn more ≡ with_stream r others o (bytes ++ more)
+unfolding with_piece
+stream_joins r others None conn bytes more none is =
+    ap (λ (o : Option Link). with_stream (with_events r [] others) (without conn others) o more) none
+    ∙ events_twice r [] [] others (without conn others)
+    ∙ ap (λ (ls : List Link). with_events r [] ls) (none_without conn others none)
+stream_joins r others (Some l) conn bytes more none is =
+    let f = framed l bytes in
+    let here : link_of l.conn others ≡ None = ap (λ (n : ℕ). link_of n others) is ∙ none in
+    let joined : then_piece Rpc f more ≡ framed l (bytes ++ more) = sym (cut_anywhere Rpc (l.rest ++ bytes) more) ∙ ap (frames Rpc) (append_assoc l.rest bytes more) in
+    ap (λ (n : ℕ). with_piece (with_frames r others l.conn f) n more) (sym is)
+    ∙ more_frames r others l.conn f.frames f.rest f.bad more here
+    ∙ ap (with_frames r others l.conn) joined
+
+found : (conn : ℕ) (ls : List Link) (o : Option Link) → link_of conn ls ≡ o → IfSome o (λ l. l.conn ≡ conn)
+found conn ls None e = tt
+found conn ls (Some l) e = found_conn conn ls l e
+
+-- two pieces of a connection's stream come to the same as both at once
+pub pieces_join : (r : Reading) (conn : ℕ) (bytes more : List ℕ) → link_of conn (without conn r.links) ≡ None → with_piece (with_piece r conn bytes) conn more ≡ with_piece r conn (bytes ++ more)
+unfolding with_piece
+pieces_join r conn bytes more none = stream_joins r (without conn r.links) (link_of conn r.links) conn bytes more none (found conn r.links (link_of conn r.links) refl)

@@ -1,0 +1,222 @@
+-- The open connections have distinct numbers, each the place of an event.
+use Rattle.std.proofs.Common.{◌≡◌, ℕ, ◌+◌, ◌<◌, Bool, true, false, cond, eqb, ltb, inl, inr, List, [], ◌∷◌, ◌++◌, length, Option, Some, None, Result, Ok, Err, refl, sym, ap, subst, ◌∙◌, ◌&&◌, IfSome, arith}
+use Rattle.std.specs.Option.{option_map, option_map_or, option_and_then, option_to_list, is_none}
+use Rattle.std.specs.Prelude.{bytes_eq, codes}
+use Rattle.std.proofs.lemmas.Bool.{cases_Bool, eqb-true, eqb-false, ne_eqb}
+use Rattle.std.proofs.lemmas.List.{append-nil, length-append}
+use Rattle.xl_base.proofs.Members.{all_append, all_weaker}
+use Rattle.xl_base.specs.declared.event.Event.{Event}
+use Rattle.xl_base.specs.declared.event.Event.TheVariants.{Open, End}
+use Rattle.xl_base.specs.declared.event.Kind.TheVariants.{Rpc}
+use Rattle.xl_frame.specs.Frames.{Framed}
+use Rattle.xl_capture.specs.Capture.{IsNumbered, words_of, bytes_of, takes_file, with_name, with_file, with_events, most_open, with_link, with_open, with_stream, with_piece, with_bytes, with_last, with_ended, with_end, with_words, is_passed_over, with_line, is_last, with_lines}
+use Rattle.xl_capture.specs.Links.{Link, opened, link_of, without, framed, events_of, still_open, AreDistinct, AreBelow}
+use Rattle.xl_capture.specs.Numbers.{number_of}
+use Rattle.xl_capture.specs.declared.capture.Reading.{Reading}
+use Rattle.xl_capture.proofs.CutLaws.{found_conn}
+
+-- ---- lists of connections
+
+some_link : (a b : Link) → Some a ≡ Some b → a ≡ b
+some_link a b e = cc
+
+conn_of : (a b : Link) → Some a ≡ Some b → a.conn ≡ b.conn
+conn_of a b e = ap (λ (l : Link). l.conn) (some_link a b e)
+
+below_without : (n conn : ℕ) (ls : List Link) → AreBelow n ls → AreBelow n (without conn ls)
+below_without n conn [] all = tt
+below_without n conn (l ∷ ls) all =
+    elim (cases_Bool (eqb l.conn conn)) [
+      | inl same ↦ rw same all.1
+      | inr other ↦ rw other (all.0, below_without n conn ls all.1)
+    ]
+
+below_found : (n conn : ℕ) (ls : List Link) (l : Link) → AreBelow n ls → link_of conn ls ≡ Some l → l.conn < n
+below_found n conn [] l all e = absurd cc
+below_found n conn (m ∷ ms) l all e =
+    elim (cases_Bool (eqb m.conn conn)) [
+      | inl same ↦ let one : Some m ≡ Some l = rw same at e in subst (λ (k : ℕ). k < n) (conn_of m l one) all.0
+      | inr other ↦ let rest : link_of conn ms ≡ Some l = rw other at e in below_found n conn ms l all.1 rest
+    ]
+
+-- the place of the next event is no connection's number
+next_is_new : (n : ℕ) (ls : List Link) → AreBelow n ls → link_of n ls ≡ None
+next_is_new n [] all = refl
+next_is_new n (l ∷ ls) all =
+    let other : eqb l.conn n ≡ false = ne_eqb l.conn n (λ e. absurd (omega (arith, e, all.0))) in
+    rw other (next_is_new n ls all.1)
+
+none_without : (conn other : ℕ) (ls : List Link) → link_of other ls ≡ None → link_of other (without conn ls) ≡ None
+none_without conn other [] e = refl
+none_without conn other (l ∷ ls) e =
+    elim (cases_Bool (eqb l.conn other)) [
+      | inl is ↦ let none : Some l ≡ None = rw is at e in absurd cc
+      | inr differs ↦
+          let rest : link_of other ls ≡ None = rw differs at e in
+          elim (cases_Bool (eqb l.conn conn)) [
+            | inl same ↦ rw same rest
+            | inr kept ↦ rw (kept, differs) (none_without conn other ls rest)
+          ]
+    ]
+
+distinct_without : (conn : ℕ) (ls : List Link) → AreDistinct ls → AreDistinct (without conn ls)
+distinct_without conn [] all = tt
+distinct_without conn (l ∷ ls) all =
+    elim (cases_Bool (eqb l.conn conn)) [
+      | inl same ↦ rw same all.1
+      | inr other ↦ rw other (none_without conn l.conn ls all.0, distinct_without conn ls all.1)
+    ]
+
+-- taken out, none of the number is left
+pub none_left : (conn : ℕ) (ls : List Link) → AreDistinct ls → link_of conn (without conn ls) ≡ None
+none_left conn [] all = refl
+none_left conn (l ∷ ls) all =
+    elim (cases_Bool (eqb l.conn conn)) [
+      | inl same ↦ rw same (ap (λ (n : ℕ). link_of n ls) (sym (eqb-true l.conn conn same)) ∙ all.0)
+      | inr other ↦ rw (other, other) (none_left conn ls all.1)
+    ]
+
+none_append : (conn : ℕ) (ls : List Link) (l : Link) → link_of conn ls ≡ None → eqb l.conn conn ≡ false → link_of conn (ls ++ l ∷ []) ≡ None
+none_append conn [] l e differs = rw differs refl
+none_append conn (m ∷ ms) l e differs =
+    elim (cases_Bool (eqb m.conn conn)) [
+      | inl is ↦ let none : Some m ≡ None = rw is at e in absurd cc
+      | inr other ↦ let rest : link_of conn ms ≡ None = rw other at e in rw other (none_append conn ms l rest differs)
+    ]
+
+distinct_append : (ls : List Link) (l : Link) → AreDistinct ls → link_of l.conn ls ≡ None → AreDistinct (ls ++ l ∷ [])
+distinct_append [] l all e = (refl, tt)
+distinct_append (m ∷ ms) l all e =
+    elim (cases_Bool (eqb m.conn l.conn)) [
+      | inl is ↦ let none : Some m ≡ None = rw is at e in absurd cc
+      | inr other ↦
+          let rest : link_of l.conn ms ≡ None = rw other at e in
+          let turned : eqb l.conn m.conn ≡ false = ne_eqb l.conn m.conn (λ same. eqb-false m.conn l.conn other (sym same)) in
+          (none_append m.conn ms l all.0 turned, distinct_append ms l all.1 rest)
+    ]
+
+-- ---- lines
+
+events_numbered : (r : Reading) (events : List Event) (links : List Link) → AreBelow (length r.capture.events) links → AreDistinct links → IsNumbered (with_events r events links)
+events_numbered r events links below distinct = record {
+  places = all_weaker (λ l. l.conn < length r.capture.events) (λ l. l.conn < length (r.capture.events ++ events)) links (λ l less. omega (arith, less, length-append r.capture.events events)) below;
+  distinct = distinct;
+}
+
+link_below : (test : Bool) (n : ℕ) (ls : List Link) → AreBelow n ls → AreBelow (n + 1) (cond test (ls ++ opened n ∷ []) ls)
+link_below true n ls all = all_append (λ l. l.conn < n + 1) ls (opened n ∷ []) (all_weaker (λ l. l.conn < n) (λ l. l.conn < n + 1) ls (λ l less. omega (arith, less)) all) (omega arith, tt)
+link_below false n ls all = all_weaker (λ l. l.conn < n) (λ l. l.conn < n + 1) ls (λ l less. omega (arith, less)) all
+
+link_distinct : (test : Bool) (n : ℕ) (ls : List Link) → AreBelow n ls → AreDistinct ls → AreDistinct (cond test (ls ++ opened n ∷ []) ls)
+link_distinct true n ls all distinct = distinct_append ls (opened n) distinct (next_is_new n ls all)
+link_distinct false n ls all distinct = distinct
+
+open_numbered : (r : Reading) → IsNumbered r → IsNumbered (with_open r)
+unfolding with_open
+open_numbered r is =
+    let n = length r.capture.events in
+    record {
+      places = subst (λ (m : ℕ). AreBelow m (with_link r.links n)) (sym (length-append r.capture.events (Open Rpc ∷ []))) (link_below (ltb (length r.links) most_open) n r.links is.places);
+      distinct = link_distinct (ltb (length r.links) most_open) n r.links is.places is.distinct;
+    }
+
+kept_below : (n conn : ℕ) (f : Framed) (test : Bool) (others : List Link) → AreBelow n others → conn < n → AreBelow n (others ++ option_to_list (cond test (Some (record { conn = conn; rest = f.rest })) None))
+kept_below n conn f true others all less = all_append (λ l. l.conn < n) others (record { conn = conn; rest = f.rest } ∷ []) all (less, tt)
+kept_below n conn f false others all less = all_append (λ l. l.conn < n) others [] all tt
+
+kept_distinct : (conn : ℕ) (f : Framed) (test : Bool) (others : List Link) → AreDistinct others → link_of conn others ≡ None → AreDistinct (others ++ option_to_list (cond test (Some (record { conn = conn; rest = f.rest })) None))
+kept_distinct conn f true others all none = distinct_append others (record { conn = conn; rest = f.rest }) all none
+kept_distinct conn f false others all none = subst AreDistinct (sym (append-nil others)) all
+
+stream_numbered : (r : Reading) (others : List Link) (o : Option Link) (bytes : List ℕ) → AreBelow (length r.capture.events) others → AreDistinct others → IfSome o (λ l. (l.conn < length r.capture.events) × (link_of l.conn others ≡ None)) → IsNumbered (with_stream r others o bytes)
+stream_numbered r others None bytes below distinct is = events_numbered r [] others below distinct
+stream_numbered r others (Some l) bytes below distinct is =
+    let f = framed l bytes in
+    events_numbered r (events_of l.conn f) (others ++ option_to_list (still_open l.conn f)) (kept_below (length r.capture.events) l.conn f (is_none f.bad) others below is.0) (kept_distinct l.conn f (is_none f.bad) others distinct is.1)
+
+found_new : (n conn : ℕ) (ls : List Link) (o : Option Link) → AreBelow n ls → AreDistinct ls → link_of conn ls ≡ o → IfSome o (λ l. (l.conn < n) × (link_of l.conn (without conn ls) ≡ None))
+found_new n conn ls None below distinct e = tt
+found_new n conn ls (Some l) below distinct e = (below_found n conn ls l below e, ap (λ (m : ℕ). link_of m (without conn ls)) (found_conn conn ls l e) ∙ none_left conn ls distinct)
+
+piece_numbered : (r : Reading) (conn : ℕ) (bytes : List ℕ) → IsNumbered r → IsNumbered (with_piece r conn bytes)
+unfolding with_piece
+piece_numbered r conn bytes is =
+    let n = length r.capture.events in
+    stream_numbered r (without conn r.links) (link_of conn r.links) bytes (below_without n conn r.links is.places) (distinct_without conn r.links is.distinct) (found_new n conn r.links (link_of conn r.links) is.places is.distinct refl)
+
+last_numbered : (r : Reading) (others : List Link) (o : Option Link) → AreBelow (length r.capture.events) others → AreDistinct others → IsNumbered (with_last r others o)
+last_numbered r others None below distinct = events_numbered r [] others below distinct
+last_numbered r others (Some l) below distinct = events_numbered r (End l.conn ∷ []) others below distinct
+
+ended_numbered : (r : Reading) (conn : ℕ) → IsNumbered r → IsNumbered (with_ended r conn)
+unfolding with_ended
+ended_numbered r conn is = last_numbered r (without conn r.links) (link_of conn r.links) (below_without (length r.capture.events) conn r.links is.places) (distinct_without conn r.links is.distinct)
+
+-- what a line makes
+abbrev IsNumberedIf : Option Reading → Type 0
+IsNumberedIf None = Unit {0}
+IsNumberedIf (Some r) = IsNumbered r
+
+either_numbered : (b : Bool) (x y : Option Reading) → IsNumberedIf x → IsNumberedIf y → IsNumberedIf (cond b x y)
+either_numbered true x y p q = p
+either_numbered false x y p q = q
+
+map_numbered : {A : Type 0} (f : A → Reading) (o : Option A) → ((x : A) → IsNumbered (f x)) → IsNumberedIf (option_map f o)
+map_numbered f None each = tt
+map_numbered f (Some x) each = each x
+
+then_numbered : {A : Type 0} (f : A → Option Reading) (o : Option A) → ((x : A) → IsNumberedIf (f x)) → IsNumberedIf (option_and_then f o)
+then_numbered f None each = tt
+then_numbered f (Some x) each = each x
+
+file_numbered : (r : Reading) (name : List ℕ) → IsNumbered r → IsNumberedIf (with_file r name)
+unfolding with_file
+file_numbered r name is = either_numbered (takes_file r name) (Some (with_name r name)) None (record { places = is.places; distinct = is.distinct }) tt
+
+bytes_numbered : (r : Reading) (conn hex : List ℕ) → IsNumbered r → IsNumberedIf (with_bytes r conn hex)
+unfolding with_bytes
+bytes_numbered r conn hex is = then_numbered (λ n. option_map (λ bytes. with_piece r n bytes) (bytes_of hex)) (number_of conn)
+    (λ n. map_numbered (λ bytes. with_piece r n bytes) (bytes_of hex) (λ bytes. piece_numbered r n bytes is))
+
+end_numbered : (r : Reading) (conn : List ℕ) → IsNumbered r → IsNumberedIf (with_end r conn)
+unfolding with_end
+end_numbered r conn is = map_numbered (λ n. with_ended r n) (number_of conn) (λ n. ended_numbered r n is)
+
+words_numbered : (r : Reading) (words : List (List ℕ)) → IsNumbered r → IsNumberedIf (with_words r words)
+unfolding with_words
+words_numbered r [] is = tt
+words_numbered r (a ∷ []) is = tt
+words_numbered r (a ∷ b ∷ []) is =
+    either_numbered (bytes_eq a (codes "F")) (with_file r b) (cond (bytes_eq a (codes "O") && bytes_eq b (codes "rpc")) (Some (with_open r)) (cond (bytes_eq a (codes "E")) (with_end r b) None)) (file_numbered r b is)
+    (either_numbered (bytes_eq a (codes "O") && bytes_eq b (codes "rpc")) (Some (with_open r)) (cond (bytes_eq a (codes "E")) (with_end r b) None) (open_numbered r is)
+    (either_numbered (bytes_eq a (codes "E")) (with_end r b) None (end_numbered r b is) tt))
+words_numbered r (a ∷ b ∷ d ∷ []) is = either_numbered (bytes_eq a (codes "B")) (with_bytes r b d) None (bytes_numbered r b d is) tt
+words_numbered r (a ∷ b ∷ d ∷ e ∷ more) is = tt
+
+line_numbered : (r : Reading) (line : List ℕ) → IsNumbered r → IsNumberedIf (with_line r line)
+unfolding with_line
+line_numbered r line is = either_numbered (is_passed_over line) (Some r) (with_words r (words_of line)) is (words_numbered r (words_of line) is)
+
+-- what lines make
+abbrev IsNumberedOf : Result Reading ℕ → Type 0
+IsNumberedOf (Ok r) = IsNumbered r
+IsNumberedOf (Err line) = Unit {0}
+
+err_numbered : (b : Bool) (line : ℕ) (r : Result Reading ℕ) → IsNumberedOf r → IsNumberedOf (cond b (Err line) r)
+err_numbered true line r is = tt
+err_numbered false line r is = is
+
+next_numbered : (past : Bool) (n : ℕ) (ls : List (List ℕ)) (o : Option Reading) → IsNumberedIf o → ((s : Reading) → IsNumbered s → IsNumberedOf (with_lines past s (n + 1) ls)) → IsNumberedOf (option_map_or (λ s. with_lines past s (n + 1) ls) o (Err (n + 1)))
+next_numbered past n ls None is rest = tt
+next_numbered past n ls (Some s) is rest = rest s is
+
+lines_numbered : (past : Bool) (r : Reading) (n : ℕ) (ls : List (List ℕ)) → IsNumbered r → IsNumberedOf (with_lines past r n ls)
+unfolding with_lines
+lines_numbered past r n [] is = is
+lines_numbered past r n (l ∷ ls) is =
+    err_numbered (past && is_last ls) (n + 1) (option_map_or (λ s. with_lines past s (n + 1) ls) (with_line r l) (Err (n + 1)))
+    (next_numbered past n ls (with_line r l) (line_numbered r l is) (λ s more. lines_numbered past s (n + 1) ls more))
+
+-- lines keep the numbers so
+pub stays_numbered : (past : Bool) (r s : Reading) (n : ℕ) (lines : List (List ℕ)) → IsNumbered r → with_lines past r n lines ≡ Ok s → IsNumbered s
+stays_numbered past r s n lines is e = subst IsNumberedOf e (lines_numbered past r n lines is)

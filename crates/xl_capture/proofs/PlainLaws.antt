@@ -1,0 +1,143 @@
+-- A capture's events are openings, messages and ends.
+use Rattle.std.proofs.Common.{◌≡◌, ℕ, ◌+◌, Bool, true, false, cond, ◌&&◌, List, [], ◌∷◌, length, map, Option, Some, None, Result, Ok, Err, refl, subst}
+use Rattle.std.specs.List.{AllByRecursion}
+use Rattle.std.specs.Option.{option_map, option_map_or, option_and_then}
+use Rattle.std.specs.Prelude.{nat_lt, bytes_eq, codes}
+use Rattle.xl_base.specs.declared.event.Event.{Event}
+use Rattle.xl_base.specs.declared.event.Event.TheVariants.{Open, Message, End}
+use Rattle.xl_base.specs.declared.event.Kind.TheVariants.{Rpc}
+use Rattle.xl_base.proofs.Members.{all_append}
+use Rattle.xl_frame.specs.Frames.{Framed}
+use Rattle.xl_frame.specs.declared.fault.FrameBad.{FrameBad}
+use Rattle.xl_capture.specs.Capture.{words_of, bytes_of, takes_file, with_name, with_file, with_events, with_link, with_open, with_stream, with_piece, with_bytes, with_last, with_ended, with_end, with_words, is_passed_over, with_line, is_last, most_bytes, with_lines, no_reading, lines_of, capture_in, captured}
+use Rattle.xl_capture.specs.Links.{Link, link_of, without, framed, end_of, events_of}
+use Rattle.xl_capture.specs.Numbers.{number_of}
+use Rattle.xl_capture.specs.declared.capture.Capture.{Capture}
+use Rattle.xl_capture.specs.declared.capture.Reading.{Reading}
+
+-- an event of a capture
+abbrev pub is_plain : Event → Bool
+is_plain (Open kind) = true
+is_plain (Message conn bytes) = true
+is_plain (End conn) = true
+is_plain _ = false
+
+abbrev pub ArePlain : List Event → Type 0
+ArePlain events = AllByRecursion (λ e. is_plain e ≡ true) events
+
+abbrev ArePlainIn : Reading → Type 0
+ArePlainIn r = ArePlain r.capture.events
+
+-- what a line makes
+abbrev ArePlainIf : Option Reading → Type 0
+ArePlainIf None = Unit {0}
+ArePlainIf (Some r) = ArePlainIn r
+
+either_test : (b : Bool) (x y : Option Reading) → ArePlainIf x → ArePlainIf y → ArePlainIf (cond b x y)
+either_test true x y p q = p
+either_test false x y p q = q
+
+map_plain : {A : Type 0} (f : A → Reading) (o : Option A) → ((x : A) → ArePlainIn (f x)) → ArePlainIf (option_map f o)
+map_plain f None each = tt
+map_plain f (Some x) each = each x
+
+then_plain : {A : Type 0} (f : A → Option Reading) (o : Option A) → ((x : A) → ArePlainIf (f x)) → ArePlainIf (option_and_then f o)
+then_plain f None each = tt
+then_plain f (Some x) each = each x
+
+file_plain : (r : Reading) (name : List ℕ) → ArePlainIn r → ArePlainIf (with_file r name)
+unfolding with_file
+file_plain r name plain = either_test (takes_file r name) (Some (with_name r name)) None plain tt
+
+events_plain : (r : Reading) (events : List Event) (links : List Link) → ArePlainIn r → ArePlain events → ArePlainIn (with_events r events links)
+events_plain r events links plain more = all_append (λ e. is_plain e ≡ true) r.capture.events events plain more
+
+open_plain : (r : Reading) → ArePlainIn r → ArePlainIn (with_open r)
+unfolding with_open
+open_plain r plain = events_plain r (Open Rpc ∷ []) (with_link r.links (length r.capture.events)) plain (refl, tt)
+
+messages_plain : (conn : ℕ) (frames : List (List ℕ)) → ArePlain (map (Message conn) frames)
+messages_plain conn [] = tt
+messages_plain conn (frame ∷ frames) = (refl, messages_plain conn frames)
+
+end_plain : (conn : ℕ) (bad : Option FrameBad) → ArePlain (end_of conn bad)
+end_plain conn None = tt
+end_plain conn (Some fault) = (refl, tt)
+
+frames_plain : (conn : ℕ) (f : Framed) → ArePlain (events_of conn f)
+frames_plain conn f = all_append (λ e. is_plain e ≡ true) (map (Message conn) f.frames) (end_of conn f.bad) (messages_plain conn f.frames) (end_plain conn f.bad)
+
+stream_plain : (r : Reading) (others : List Link) (o : Option Link) (bytes : List ℕ) → ArePlainIn r → ArePlainIn (with_stream r others o bytes)
+stream_plain r others None bytes plain = events_plain r [] others plain tt
+stream_plain r others (Some l) bytes plain = all_append (λ e. is_plain e ≡ true) r.capture.events (events_of l.conn (framed l bytes)) plain (frames_plain l.conn (framed l bytes))
+
+piece_plain : (r : Reading) (conn : ℕ) (bytes : List ℕ) → ArePlainIn r → ArePlainIn (with_piece r conn bytes)
+unfolding with_piece
+piece_plain r conn bytes plain = stream_plain r (without conn r.links) (link_of conn r.links) bytes plain
+
+bytes_plain : (r : Reading) (conn hex : List ℕ) → ArePlainIn r → ArePlainIf (with_bytes r conn hex)
+unfolding with_bytes
+bytes_plain r conn hex plain = then_plain (λ n. option_map (λ bytes. with_piece r n bytes) (bytes_of hex)) (number_of conn)
+    (λ n. map_plain (λ bytes. with_piece r n bytes) (bytes_of hex) (λ bytes. piece_plain r n bytes plain))
+
+last_plain : (r : Reading) (others : List Link) (o : Option Link) → ArePlainIn r → ArePlainIn (with_last r others o)
+last_plain r others None plain = events_plain r [] others plain tt
+last_plain r others (Some l) plain = events_plain r (End l.conn ∷ []) others plain (refl, tt)
+
+ended_plain : (r : Reading) (conn : ℕ) → ArePlainIn r → ArePlainIn (with_ended r conn)
+unfolding with_ended
+ended_plain r conn plain = last_plain r (without conn r.links) (link_of conn r.links) plain
+
+ends_plain : (r : Reading) (conn : List ℕ) → ArePlainIn r → ArePlainIf (with_end r conn)
+unfolding with_end
+ends_plain r conn plain = map_plain (λ n. with_ended r n) (number_of conn) (λ n. ended_plain r n plain)
+
+words_plain : (r : Reading) (words : List (List ℕ)) → ArePlainIn r → ArePlainIf (with_words r words)
+unfolding with_words
+words_plain r [] plain = tt
+words_plain r (a ∷ []) plain = tt
+words_plain r (a ∷ b ∷ []) plain =
+    either_test (bytes_eq a (codes "F")) (with_file r b) (cond (bytes_eq a (codes "O") && bytes_eq b (codes "rpc")) (Some (with_open r)) (cond (bytes_eq a (codes "E")) (with_end r b) None)) (file_plain r b plain)
+    (either_test (bytes_eq a (codes "O") && bytes_eq b (codes "rpc")) (Some (with_open r)) (cond (bytes_eq a (codes "E")) (with_end r b) None) (open_plain r plain)
+    (either_test (bytes_eq a (codes "E")) (with_end r b) None (ends_plain r b plain) tt))
+words_plain r (a ∷ b ∷ d ∷ []) plain = either_test (bytes_eq a (codes "B")) (with_bytes r b d) None (bytes_plain r b d plain) tt
+words_plain r (a ∷ b ∷ d ∷ e ∷ more) plain = tt
+
+line_plain : (r : Reading) (line : List ℕ) → ArePlainIn r → ArePlainIf (with_line r line)
+unfolding with_line
+line_plain r line plain = either_test (is_passed_over line) (Some r) (with_words r (words_of line)) plain (words_plain r (words_of line) plain)
+
+-- what lines make
+abbrev ArePlainOf : Result Reading ℕ → Type 0
+ArePlainOf (Ok r) = ArePlainIn r
+ArePlainOf (Err line) = Unit {0}
+
+err_plain : (b : Bool) (line : ℕ) (r : Result Reading ℕ) → ArePlainOf r → ArePlainOf (cond b (Err line) r)
+err_plain true line r plain = tt
+err_plain false line r plain = plain
+
+next_plain : (past : Bool) (n : ℕ) (ls : List (List ℕ)) (o : Option Reading) → ArePlainIf o → ((s : Reading) → ArePlainIn s → ArePlainOf (with_lines past s (n + 1) ls)) → ArePlainOf (option_map_or (λ s. with_lines past s (n + 1) ls) o (Err (n + 1)))
+next_plain past n ls None plain rest = tt
+next_plain past n ls (Some s) plain rest = rest s plain
+
+lines_plain : (past : Bool) (r : Reading) (n : ℕ) (ls : List (List ℕ)) → ArePlainIn r → ArePlainOf (with_lines past r n ls)
+unfolding with_lines
+lines_plain past r n [] plain = plain
+lines_plain past r n (l ∷ ls) plain =
+    err_plain (past && is_last ls) (n + 1) (option_map_or (λ s. with_lines past s (n + 1) ls) (with_line r l) (Err (n + 1)))
+    (next_plain past n ls (with_line r l) (line_plain r l plain) (λ s more. lines_plain past s (n + 1) ls more))
+
+abbrev is_read : Capture → Result Capture ℕ
+is_read c = Ok c
+
+same_capture : (a b : Capture) → is_read a ≡ is_read b → a ≡ b
+same_capture a b e = cc
+
+read_plain : (r : Result Reading ℕ) (c : Capture) → capture_in r ≡ Ok c → ArePlainOf r → ArePlain c.events
+read_plain (Ok r) c e plain = subst (λ (d : Capture). ArePlain d.events) (same_capture r.capture c e) plain
+read_plain (Err line) c e plain = absurd cc
+
+-- a capture that was read has no other events
+pub captured_plain : (text : List ℕ) (c : Capture) → captured text ≡ Ok c → ArePlain c.events
+unfolding captured
+captured_plain text c e = read_plain (with_lines (nat_lt most_bytes (length text)) no_reading 0 (lines_of text)) c e (lines_plain (nat_lt most_bytes (length text)) no_reading 0 (lines_of text) tt)

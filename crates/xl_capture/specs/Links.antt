@@ -1,0 +1,53 @@
+-- The open connections of a capture.
+use Rattle.std.specs.Prelude.{◌≡◌, ℕ, ◌<◌, ◌==◌, if◌then◌else◌, List, [], ◌∷◌, ◌++◌, map, Option, Some, None}
+use Rattle.std.specs.List.{AllByRecursion}
+use Rattle.std.specs.Option.{is_none}
+use Rattle.xl_base.specs.declared.event.Event.{Event}
+use Rattle.xl_base.specs.declared.event.Event.TheVariants.{Message, End}
+use Rattle.xl_base.specs.declared.event.Kind.TheVariants.{Rpc}
+use Rattle.xl_frame.specs.Frames.{Framed, frames}
+use Rattle.xl_frame.specs.declared.fault.FrameBad.{FrameBad}
+
+-- an open connection: its number, and what came of its stream behind the last whole frame
+pub record Link : Type 0 where
+  pub conn : ℕ
+  pub rest : List ℕ
+
+-- a connection that was just opened
+abbrev pub opened : ℕ → Link
+opened conn = record { conn = conn; rest = [] }
+
+-- the open connection of this number
+abbrev pub link_of : ℕ → List Link → Option Link
+link_of conn [] = None
+link_of conn (l ∷ ls) = if l.conn == conn then Some l else link_of conn ls
+
+-- without the open connection of this number
+abbrev pub without : ℕ → List Link → List Link
+without conn [] = []
+without conn (l ∷ ls) = if l.conn == conn then ls else l ∷ without conn ls
+
+-- the frames that stand in a connection's stream with these bytes more, from the last whole frame on
+abbrev pub framed : Link → List ℕ → Framed
+framed l bytes = frames Rpc (l.rest ++ bytes)
+
+-- a bad frame ends the connection
+abbrev pub end_of : ℕ → Option FrameBad → List Event
+end_of conn bad = if is_none bad then [] else End conn ∷ []
+
+-- what frames of a connection come to: a message for each, and its end where a bad one stands behind them
+abbrev pub events_of : ℕ → Framed → List Event
+events_of conn f = map (Message conn) f.frames ++ end_of conn f.bad
+
+-- the connection behind these frames, where it is open still
+abbrev pub still_open : ℕ → Framed → Option Link
+still_open conn f = if is_none f.bad then Some (record { conn = conn; rest = f.rest }) else None
+
+-- no two of these have one number
+abbrev pub AreDistinct : List Link → Type 0
+AreDistinct [] = Unit {0}
+AreDistinct (l ∷ ls) = (link_of l.conn ls ≡ None) × AreDistinct ls
+
+-- each number is a place below n
+abbrev pub AreBelow : ℕ → List Link → Type 0
+AreBelow n ls = AllByRecursion (λ l. l.conn < n) ls

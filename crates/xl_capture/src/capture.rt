@@ -1,0 +1,312 @@
+//! The text of a capture.
+ghost use Rattle.std.specs.Prelude.{◌≡◌, ℕ, ◌∷◌, [], ◌++◌, length, map, take, Option, Some, None, MatchOption, IfOk, IfSome, ◌<◌, ◌==◌, nat_le, ◌&&◌, ◌||◌, bytes_eq, codes, position, true};
+ghost use Rattle.std.specs.List.{list_all};
+ghost use Rattle.xl_base.specs.Results.{GivesUnless};
+ghost use Rattle.xl_capture.specs.declared.capture.CaptureError.TheVariants.{NoMemory as capture_no_memory};
+ghost use Rattle.xl_capture.specs.declared.capture.LineError.TheVariants.{NoMemory as line_no_memory};
+
+use crate::links::{Link, Links};
+use crate::numbers::number_of;
+use hex::FromHexError;
+use std::alloc::{AllocError, AllocFailed, Global};
+use xl_base::{Event, Kind, Sequence};
+
+/// The most bytes of a capture.
+pub const MOST_BYTES: usize = 268435456;
+
+/// The most files of a capture.
+const MOST_FILES: usize = 1024;
+
+/// The most connections that are open at once.
+const MOST_OPEN: usize = 64;
+
+/// What a capture says: the exported files, and the events in order.
+#[derive(Drop, Debug)]
+pub struct Capture {
+    /// The names of the files, numbered from 1 in this order.
+    pub files: Sequence<Sequence<u8>>,
+    /// The events in order.
+    pub events: Sequence<Event>,
+}
+
+/// What is known at a line of a capture.
+#[derive(Drop)]
+struct Reading {
+    /// What the lines so far say.
+    capture: Capture,
+    /// The connections that are open.
+    links: Links,
+    /// Whether an event line stood.
+    begun: bool,
+}
+
+/// Why a text is no capture.
+#[derive(Clone, Copy, Debug, PartialEq, Eq)]
+pub enum CaptureError {
+    /// Memory ran out.
+    NoMemory,
+    /// The line of this number, counted from 1, is the first that isn't in the grammar.
+    BadLine(u64),
+}
+
+/// Why a line can't be added to a capture.
+#[derive(Clone, Copy, Debug, PartialEq, Eq)]
+pub(crate) enum LineError {
+    NoMemory,
+    Bad,
+}
+
+impl From<AllocError> for LineError {
+    ghost from_gives = { λ _ e. e ≡ line_no_memory };
+
+    fn from(_e: AllocError) -> LineError {
+        LineError::NoMemory
+    }
+}
+
+impl<T: Drop> From<AllocFailed<T>> for LineError {
+    ghost from_gives = { λ _ e. e ≡ line_no_memory };
+
+    fn from(_e: AllocFailed<T>) -> LineError {
+        LineError::NoMemory
+    }
+}
+
+ghost use Rattle.xl_capture.specs.Capture.{is_line_end, lines_of, words_of, is_name_byte, is_file_name, bytes_of, is_named, takes_file, with_file, with_open, with_piece, with_bytes, with_ended, with_end, with_words, is_passed_over, with_line, with_lines, captured, bad_line, Follows, ReadsAs};
+ghost use Rattle.xl_capture.specs.Numbers.{number_of};
+
+#[tactic(auto, using(crate::proofs::LineLaws::first_line, crate::proofs::LineLaws::only_line))]
+/// The first line of a text and what comes after its end, or None where there is no line.
+pub(crate) fn next_line(text: &[u8]) -> Option<(&[u8], &[u8])>
+    ensures lines { MatchOption result (text.now ≡ []) (λ p. lines_of text.now ≡ p.0.now ∷ lines_of p.1.now) }
+    ensures shorter { IfSome result (λ p. length p.1.now < length text.now) }
+{
+    if text.is_empty() {
+        return None;
+    }
+    match line_end(text) {
+        Some(end) => {
+            let (line, _) = text.split_at(end);
+            let (_, rest) = text.split_at(end + 1);
+            Some((line, rest))
+        }
+        None => {
+            let (line, rest) = text.split_at(text.len());
+            Some((line, rest))
+        }
+    }
+}
+
+/// Where the first line ends, if it has an end.
+fn line_end(text: &[u8]) -> Option<usize>
+    ensures { result ≡ position is_line_end text.now }
+{
+    text.iter().position(|b| *b == b'\n')
+}
+
+fn is_name_byte(b: u8) -> bool
+    ensures { result ≡ is_name_byte b }
+{
+    matches!(b, b'a'..=b'z' | b'0'..=b'9' | b'.' | b'_' | b'-')
+}
+
+fn is_file_name(name: &[u8]) -> bool
+    ensures { result ≡ is_file_name name.now }
+{
+    1 <= name.len() && name.len() <= 64 && are_name_bytes(name)
+}
+
+fn are_name_bytes(name: &[u8]) -> bool
+    ensures { result ≡ list_all is_name_byte name.now }
+{
+    name.iter().all(|b| is_name_byte(*b))
+}
+
+pub(crate) fn is_text(bytes: &[u8], text: &[u8]) -> bool
+    ensures { result ≡ bytes_eq bytes.now text.now }
+{
+    bytes == text
+}
+
+fn is_named(name: &[u8], names: &[Sequence<u8>]) -> bool
+    ensures { result ≡ is_named name.now names.now }
+{
+    names.iter().any(|held| is_text(held.as_slice(), name))
+}
+
+/// The bytes of a hex word.
+pub(crate) fn bytes_of(alloc: Global, word: &[u8]) -> Result<Vec<u8>, LineError>
+    ensures { ReadsAs (λ v. v.items) result (bytes_of word.now) }
+{
+    if word.is_empty() {
+        return Err(LineError::Bad);
+    }
+    if is_text(word, b"-") {
+        return Ok(Vec::new(alloc));
+    }
+    match hex::decode(alloc, word) {
+        Ok(bytes) => Ok(bytes),
+        Err(FromHexError::OutOfMemory) => Err(LineError::NoMemory),
+        Err(_) => Err(LineError::Bad),
+    }
+}
+
+/// Whether a file of this name may be added.
+fn takes_file(reading: &Reading, name: &[u8]) -> bool
+    ensures { result ≡ takes_file reading.now name.now }
+{
+    !reading.begun
+        && reading.capture.files.len() < MOST_FILES
+        && is_file_name(name)
+        && !is_named(name, reading.capture.files.as_slice())
+}
+
+/// Adds a line `F NAME`.
+#[tactic(auto, unfolding(crate::specs::Capture::with_file))]
+fn add_file(alloc: Global, reading: &mut Reading, name: &[u8]) -> Result<(), LineError>
+    ensures { Follows result (with_file reading.old name.now) reading.new }
+{
+    if !takes_file(reading, name) {
+        return Err(LineError::Bad);
+    }
+    let name = Sequence::from_slice(alloc, name)?;
+    reading.capture.files.push(name)?;
+    Ok(())
+}
+
+/// Adds a line `O rpc`. The connection's number is the place of this event.
+#[tactic(auto, unfolding(crate::specs::Capture::with_open))]
+fn add_open(alloc: Global, reading: &mut Reading) -> Result<(), LineError>
+    ensures { Follows result (Some (with_open reading.old)) reading.new }
+{
+    let place = reading.capture.events.len() as u64;
+    reading.begun = true;
+    reading.capture.events.push(Event::Open(Kind::Rpc))?;
+    if reading.links.len() < MOST_OPEN {
+        reading.links.push(Link::open(alloc, place))?;
+    }
+    Ok(())
+}
+
+/// Adds bytes that come by the connection of this number.
+#[tactic(auto, unfolding(crate::specs::Capture::with_piece))]
+fn add_piece(alloc: Global, reading: &mut Reading, conn: u64, bytes: &[u8]) -> Result<(), LineError>
+    ensures { Follows result (Some (with_piece reading.old conn bytes.now)) reading.new }
+{
+    reading.begun = true;
+    let Some(link) = reading.links.take_out(conn) else {
+        return Ok(());
+    };
+    if let Some(open) = link.feed(alloc, bytes, &mut reading.capture.events)? {
+        reading.links.push(open)?;
+    }
+    Ok(())
+}
+
+/// Adds a line `B CONN HEX`.
+#[tactic(auto, unfolding(crate::specs::Capture::with_bytes))]
+fn add_bytes(alloc: Global, reading: &mut Reading, conn: &[u8], hex: &[u8]) -> Result<(), LineError>
+    ensures { Follows result (with_bytes reading.old conn.now hex.now) reading.new }
+{
+    let Some(conn) = number_of(conn) else {
+        return Err(LineError::Bad);
+    };
+    let bytes = bytes_of(alloc, hex)?;
+    add_piece(alloc, reading, conn, &bytes)
+}
+
+/// Adds the end of the connection of this number, where it is open.
+#[tactic(auto, unfolding(crate::specs::Capture::with_ended))]
+fn add_ended(reading: &mut Reading, conn: u64) -> Result<(), LineError>
+    ensures { Follows result (Some (with_ended reading.old conn)) reading.new }
+{
+    reading.begun = true;
+    if let Some(link) = reading.links.take_out(conn) {
+        reading.capture.events.push(Event::End(link.conn()))?;
+    }
+    Ok(())
+}
+
+/// Adds a line `E CONN`.
+#[tactic(auto, unfolding(crate::specs::Capture::with_end))]
+fn add_end(reading: &mut Reading, conn: &[u8]) -> Result<(), LineError>
+    ensures { Follows result (with_end reading.old conn.now) reading.new }
+{
+    match number_of(conn) {
+        Some(conn) => add_ended(reading, conn),
+        None => Err(LineError::Bad),
+    }
+}
+
+/// Adds a line, given by its words.
+#[tactic(auto, unfolding(crate::specs::Capture::with_words))]
+fn add_words(alloc: Global, reading: &mut Reading, words: &[&[u8]]) -> Result<(), LineError>
+    ensures { Follows result (with_words reading.old (map (λ w. w.now) words.now)) reading.new }
+{
+    match words {
+        [a, b] if is_text(a, b"F") => add_file(alloc, reading, b),
+        [a, b] if is_text(a, b"O") && is_text(b, b"rpc") => add_open(alloc, reading),
+        [a, b] if is_text(a, b"E") => add_end(reading, b),
+        [a, b, hex] if is_text(a, b"B") => add_bytes(alloc, reading, b, hex),
+        _ => Err(LineError::Bad),
+    }
+}
+
+/// The first words of a line: as many as tell whether it is in the grammar, where no line has more than three.
+pub(crate) fn words_of(alloc: Global, line: &[u8]) -> Result<Vec<&[u8]>, AllocError>
+    ensures { IfOk result (λ v. map (λ w. w.now) v.items ≡ take 4 (words_of line.now)) }
+{
+    line.split(|b| *b == b' ' || *b == b'\t')
+        .take(4)
+        .collect(alloc)
+}
+
+/// Whether a line is passed over: one that is empty, or begins with `#`.
+pub(crate) fn is_passed_over(line: &[u8]) -> bool
+    ensures { result ≡ is_passed_over line.now }
+{
+    matches!(line, [] | [b'#', ..])
+}
+
+/// Adds a line.
+#[tactic(auto, using(crate::proofs::LineLaws::few_words), unfolding(crate::specs::Capture::with_line))]
+fn add_line(alloc: Global, reading: &mut Reading, line: &[u8]) -> Result<(), LineError>
+    ensures { Follows result (with_line reading.old line.now) reading.new }
+{
+    if is_passed_over(line) {
+        return Ok(());
+    }
+    let words = words_of(alloc, line)?;
+    add_words(alloc, reading, &words)
+}
+
+#[tactic(auto, using(crate::proofs::LineLaws::is_last_line), unfolding(crate::specs::Capture::with_lines, crate::specs::Capture::captured))]
+/// Reads a capture. Of a text past `MOST_BYTES` one byte more is given, and the line with that byte is bad.
+pub fn read_capture(alloc: Global, text: &[u8]) -> Result<Capture, CaptureError>
+    ensures { GivesUnless bad_line (λ c. c) result (captured text.now) }
+{
+    let past = text.len() > MOST_BYTES;
+    let mut reading = Reading {
+        capture: Capture {
+            files: Sequence::new(alloc),
+            events: Sequence::new(alloc),
+        },
+        links: Links::new(alloc),
+        begun: false,
+    };
+    let mut rest = text;
+    let mut number = 0u64;
+    'lines: while let Some((line, after)) = next_line(rest) {
+        number += 1;
+        if past && after.is_empty() {
+            return Err(CaptureError::BadLine(number));
+        }
+        match add_line(alloc, &mut reading, line) {
+            Ok(()) => {}
+            Err(LineError::Bad) => return Err(CaptureError::BadLine(number)),
+            Err(LineError::NoMemory) => return Err(CaptureError::NoMemory),
+        }
+        rest = after;
+    }
+    Ok(reading.capture)
+}

@@ -1,0 +1,17 @@
+//! The texts of captures and transcripts, and what `show` tells of messages.
+#![tactic(auto)]
+
+mod capture;
+mod law;
+mod links;
+mod numbers;
+mod show;
+mod transcripts;
+
+pub use capture::{Capture, CaptureError, MOST_BYTES, read_capture};
+pub use law::streams_may_be_cut_anywhere;
+pub use show::{show_line, show_text};
+pub use transcripts::transcript;
+
+#[cfg(test)]
+mod tests;
