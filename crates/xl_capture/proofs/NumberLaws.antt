@@ -6,10 +6,10 @@ use Rattle.std.proofs.lemmas.Bool.{cases_Bool, eqb-true, eqb-false, ne_eqb}
 use Rattle.std.proofs.lemmas.List.{append-nil, length-append}
 use Rattle.xl_base.proofs.Members.{all_append, all_weaker}
 use Rattle.xl_base.specs.declared.event.Event.{Event}
-use Rattle.xl_base.specs.declared.event.Event.TheVariants.{Open, End}
+use Rattle.xl_base.specs.declared.event.Event.TheVariants.{Open, End, Called}
 use Rattle.xl_base.specs.declared.event.Kind.TheVariants.{Rpc}
 use Rattle.xl_frame.specs.Frames.{Framed}
-use Rattle.xl_capture.specs.Capture.{IsNumbered, words_of, bytes_of, takes_file, with_name, with_file, with_events, most_open, with_link, with_open, with_stream, with_piece, with_bytes, with_last, with_ended, with_end, with_words, is_passed_over, with_line, is_last, with_lines}
+use Rattle.xl_capture.specs.Capture.{IsNumbered, words_of, bytes_of, takes_file, with_name, with_file, takes_address, with_caller, with_address, with_host, with_events, most_open, with_link, with_open, with_stream, with_piece, with_bytes, with_last, with_ended, with_end, with_called, with_reply, with_no_reply, with_words, is_passed_over, with_line, is_last, with_lines}
 use Rattle.xl_capture.specs.Links.{Link, opened, link_of, without, framed, events_of, still_open, AreDistinct, AreBelow}
 use Rattle.xl_capture.specs.Numbers.{number_of}
 use Rattle.xl_capture.specs.declared.capture.Reading.{Reading}
@@ -173,6 +173,14 @@ file_numbered : (r : Reading) (name : List ℕ) → IsNumbered r → IsNumberedI
 unfolding with_file
 file_numbered r name is = either_numbered (takes_file r name) (Some (with_name r name)) None (record { places = is.places; distinct = is.distinct }) tt
 
+address_numbered : (r : Reading) (caller address : List ℕ) → IsNumbered r → IsNumberedIf (with_address r caller address)
+unfolding with_address
+address_numbered r caller address is = either_numbered (takes_address r caller address) (Some (with_caller r caller address)) None (record { places = is.places; distinct = is.distinct }) tt
+
+host_numbered : (r : Reading) (hex address : List ℕ) → IsNumbered r → IsNumberedIf (with_host r hex address)
+unfolding with_host
+host_numbered r hex address is = then_numbered (λ caller. with_address r caller address) (bytes_of hex) (λ caller. address_numbered r caller address is)
+
 bytes_numbered : (r : Reading) (conn hex : List ℕ) → IsNumbered r → IsNumberedIf (with_bytes r conn hex)
 unfolding with_bytes
 bytes_numbered r conn hex is = then_numbered (λ n. option_map (λ bytes. with_piece r n bytes) (bytes_of hex)) (number_of conn)
@@ -182,15 +190,32 @@ end_numbered : (r : Reading) (conn : List ℕ) → IsNumbered r → IsNumberedIf
 unfolding with_end
 end_numbered r conn is = map_numbered (λ n. with_ended r n) (number_of conn) (λ n. ended_numbered r n is)
 
+called_numbered : (r : Reading) (call : ℕ) (reply : Option (List ℕ)) → IsNumbered r → IsNumbered (with_called r call reply)
+unfolding with_called
+called_numbered r call reply is = events_numbered r (Called call reply ∷ []) r.links is.places is.distinct
+
+reply_numbered : (r : Reading) (call hex : List ℕ) → IsNumbered r → IsNumberedIf (with_reply r call hex)
+unfolding with_reply
+reply_numbered r call hex is = then_numbered (λ n. option_map (λ bytes. with_called r n (Some bytes)) (bytes_of hex)) (number_of call)
+    (λ n. map_numbered (λ bytes. with_called r n (Some bytes)) (bytes_of hex) (λ bytes. called_numbered r n (Some bytes) is))
+
+no_reply_numbered : (r : Reading) (call : List ℕ) → IsNumbered r → IsNumberedIf (with_no_reply r call)
+unfolding with_no_reply
+no_reply_numbered r call is = map_numbered (λ n. with_called r n None) (number_of call) (λ n. called_numbered r n None is)
+
 words_numbered : (r : Reading) (words : List (List ℕ)) → IsNumbered r → IsNumberedIf (with_words r words)
 unfolding with_words
 words_numbered r [] is = tt
 words_numbered r (a ∷ []) is = tt
 words_numbered r (a ∷ b ∷ []) is =
-    either_numbered (bytes_eq a (codes "F")) (with_file r b) (cond (bytes_eq a (codes "O") && bytes_eq b (codes "rpc")) (Some (with_open r)) (cond (bytes_eq a (codes "E")) (with_end r b) None)) (file_numbered r b is)
-    (either_numbered (bytes_eq a (codes "O") && bytes_eq b (codes "rpc")) (Some (with_open r)) (cond (bytes_eq a (codes "E")) (with_end r b) None) (open_numbered r is)
-    (either_numbered (bytes_eq a (codes "E")) (with_end r b) None (end_numbered r b is) tt))
-words_numbered r (a ∷ b ∷ d ∷ []) is = either_numbered (bytes_eq a (codes "B")) (with_bytes r b d) None (bytes_numbered r b d is) tt
+    either_numbered (bytes_eq a (codes "F")) (with_file r b) _ (file_numbered r b is)
+    (either_numbered (bytes_eq a (codes "O") && bytes_eq b (codes "rpc")) (Some (with_open r)) _ (open_numbered r is)
+    (either_numbered (bytes_eq a (codes "E")) (with_end r b) _ (end_numbered r b is)
+    (either_numbered (bytes_eq a (codes "C")) (with_no_reply r b) None (no_reply_numbered r b is) tt)))
+words_numbered r (a ∷ b ∷ d ∷ []) is =
+    either_numbered (bytes_eq a (codes "B")) (with_bytes r b d) _ (bytes_numbered r b d is)
+    (either_numbered (bytes_eq a (codes "H")) (with_host r b d) _ (host_numbered r b d is)
+    (either_numbered (bytes_eq a (codes "C")) (with_reply r b d) None (reply_numbered r b d is) tt))
 words_numbered r (a ∷ b ∷ d ∷ e ∷ more) is = tt
 
 line_numbered : (r : Reading) (line : List ℕ) → IsNumbered r → IsNumberedIf (with_line r line)

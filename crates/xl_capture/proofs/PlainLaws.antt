@@ -1,15 +1,15 @@
--- A capture's events are openings, messages and ends.
+-- A capture's events are openings, messages, ends, and calls that are over.
 use Rattle.std.proofs.Common.{◌≡◌, ℕ, ◌+◌, Bool, true, false, cond, ◌&&◌, List, [], ◌∷◌, length, map, Option, Some, None, Result, Ok, Err, refl, subst}
 use Rattle.std.specs.List.{AllByRecursion}
 use Rattle.std.specs.Option.{option_map, option_map_or, option_and_then}
 use Rattle.std.specs.Prelude.{nat_lt, bytes_eq, codes}
 use Rattle.xl_base.specs.declared.event.Event.{Event}
-use Rattle.xl_base.specs.declared.event.Event.TheVariants.{Open, Message, End}
+use Rattle.xl_base.specs.declared.event.Event.TheVariants.{Open, Message, End, Called}
 use Rattle.xl_base.specs.declared.event.Kind.TheVariants.{Rpc}
 use Rattle.xl_base.proofs.Members.{all_append}
 use Rattle.xl_frame.specs.Frames.{Framed}
 use Rattle.xl_frame.specs.declared.fault.FrameBad.{FrameBad}
-use Rattle.xl_capture.specs.Capture.{words_of, bytes_of, takes_file, with_name, with_file, with_events, with_link, with_open, with_stream, with_piece, with_bytes, with_last, with_ended, with_end, with_words, is_passed_over, with_line, is_last, most_bytes, with_lines, no_reading, lines_of, capture_in, captured}
+use Rattle.xl_capture.specs.Capture.{words_of, bytes_of, takes_file, with_name, with_file, takes_address, with_caller, with_address, with_host, with_events, with_link, with_open, with_stream, with_piece, with_bytes, with_last, with_ended, with_end, with_called, with_reply, with_no_reply, with_words, is_passed_over, with_line, is_last, most_bytes, with_lines, no_reading, lines_of, capture_in, captured}
 use Rattle.xl_capture.specs.Links.{Link, link_of, without, framed, end_of, events_of}
 use Rattle.xl_capture.specs.Numbers.{number_of}
 use Rattle.xl_capture.specs.declared.capture.Capture.{Capture}
@@ -20,6 +20,7 @@ abbrev pub is_plain : Event → Bool
 is_plain (Open kind) = true
 is_plain (Message conn bytes) = true
 is_plain (End conn) = true
+is_plain (Called call reply) = true
 is_plain _ = false
 
 abbrev pub ArePlain : List Event → Type 0
@@ -48,6 +49,14 @@ then_plain f (Some x) each = each x
 file_plain : (r : Reading) (name : List ℕ) → ArePlainIn r → ArePlainIf (with_file r name)
 unfolding with_file
 file_plain r name plain = either_test (takes_file r name) (Some (with_name r name)) None plain tt
+
+address_plain : (r : Reading) (caller address : List ℕ) → ArePlainIn r → ArePlainIf (with_address r caller address)
+unfolding with_address
+address_plain r caller address plain = either_test (takes_address r caller address) (Some (with_caller r caller address)) None plain tt
+
+host_plain : (r : Reading) (hex address : List ℕ) → ArePlainIn r → ArePlainIf (with_host r hex address)
+unfolding with_host
+host_plain r hex address plain = then_plain (λ caller. with_address r caller address) (bytes_of hex) (λ caller. address_plain r caller address plain)
 
 events_plain : (r : Reading) (events : List Event) (links : List Link) → ArePlainIn r → ArePlain events → ArePlainIn (with_events r events links)
 events_plain r events links plain more = all_append (λ e. is_plain e ≡ true) r.capture.events events plain more
@@ -92,15 +101,32 @@ ends_plain : (r : Reading) (conn : List ℕ) → ArePlainIn r → ArePlainIf (wi
 unfolding with_end
 ends_plain r conn plain = map_plain (λ n. with_ended r n) (number_of conn) (λ n. ended_plain r n plain)
 
+called_plain : (r : Reading) (call : ℕ) (reply : Option (List ℕ)) → ArePlainIn r → ArePlainIn (with_called r call reply)
+unfolding with_called
+called_plain r call reply plain = events_plain r (Called call reply ∷ []) r.links plain (refl, tt)
+
+reply_plain : (r : Reading) (call hex : List ℕ) → ArePlainIn r → ArePlainIf (with_reply r call hex)
+unfolding with_reply
+reply_plain r call hex plain = then_plain (λ n. option_map (λ bytes. with_called r n (Some bytes)) (bytes_of hex)) (number_of call)
+    (λ n. map_plain (λ bytes. with_called r n (Some bytes)) (bytes_of hex) (λ bytes. called_plain r n (Some bytes) plain))
+
+no_reply_plain : (r : Reading) (call : List ℕ) → ArePlainIn r → ArePlainIf (with_no_reply r call)
+unfolding with_no_reply
+no_reply_plain r call plain = map_plain (λ n. with_called r n None) (number_of call) (λ n. called_plain r n None plain)
+
 words_plain : (r : Reading) (words : List (List ℕ)) → ArePlainIn r → ArePlainIf (with_words r words)
 unfolding with_words
 words_plain r [] plain = tt
 words_plain r (a ∷ []) plain = tt
 words_plain r (a ∷ b ∷ []) plain =
-    either_test (bytes_eq a (codes "F")) (with_file r b) (cond (bytes_eq a (codes "O") && bytes_eq b (codes "rpc")) (Some (with_open r)) (cond (bytes_eq a (codes "E")) (with_end r b) None)) (file_plain r b plain)
-    (either_test (bytes_eq a (codes "O") && bytes_eq b (codes "rpc")) (Some (with_open r)) (cond (bytes_eq a (codes "E")) (with_end r b) None) (open_plain r plain)
-    (either_test (bytes_eq a (codes "E")) (with_end r b) None (ends_plain r b plain) tt))
-words_plain r (a ∷ b ∷ d ∷ []) plain = either_test (bytes_eq a (codes "B")) (with_bytes r b d) None (bytes_plain r b d plain) tt
+    either_test (bytes_eq a (codes "F")) (with_file r b) _ (file_plain r b plain)
+    (either_test (bytes_eq a (codes "O") && bytes_eq b (codes "rpc")) (Some (with_open r)) _ (open_plain r plain)
+    (either_test (bytes_eq a (codes "E")) (with_end r b) _ (ends_plain r b plain)
+    (either_test (bytes_eq a (codes "C")) (with_no_reply r b) None (no_reply_plain r b plain) tt)))
+words_plain r (a ∷ b ∷ d ∷ []) plain =
+    either_test (bytes_eq a (codes "B")) (with_bytes r b d) _ (bytes_plain r b d plain)
+    (either_test (bytes_eq a (codes "H")) (with_host r b d) _ (host_plain r b d plain)
+    (either_test (bytes_eq a (codes "C")) (with_reply r b d) None (reply_plain r b d plain) tt))
 words_plain r (a ∷ b ∷ d ∷ e ∷ more) plain = tt
 
 line_plain : (r : Reading) (line : List ℕ) → ArePlainIn r → ArePlainIf (with_line r line)

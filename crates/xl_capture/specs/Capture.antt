@@ -5,7 +5,7 @@ use Rattle.std.specs.Option.{option_map, option_map_or, option_and_then, option_
 use Rattle.std.specs.Result.{result_ok}
 use Rattle.hex.specs.Hex.{decode_of}
 use Rattle.xl_base.specs.declared.event.Event.{Event}
-use Rattle.xl_base.specs.declared.event.Event.TheVariants.{Open, End}
+use Rattle.xl_base.specs.declared.event.Event.TheVariants.{Open, End, Called}
 use Rattle.xl_base.specs.declared.event.Kind.TheVariants.{Rpc}
 use Rattle.xl_frame.specs.Frames.{Framed}
 use Rattle.xl_capture.specs.Links.{Link, opened, link_of, without, framed, events_of, still_open, AreDistinct, AreBelow}
@@ -50,6 +50,13 @@ is_name_byte b = (nat_le 97 b && nat_le b 122) || (nat_le 48 b && nat_le b 57) |
 abbrev pub is_file_name : List ℕ → Bool
 is_file_name name = nat_le 1 (length name) && nat_le (length name) 64 && list_all is_name_byte name
 
+-- a byte of an address: a graphic one of ASCII
+abbrev pub is_graphic : ℕ → Bool
+is_graphic b = nat_le 33 b && nat_le b 126
+
+abbrev pub is_address : List ℕ → Bool
+is_address address = nat_le 1 (length address) && nat_le (length address) 64 && list_all is_graphic address
+
 -- the bytes of a hex word; a dash stands for none
 abbrev pub bytes_of : List ℕ → Option (List ℕ)
 bytes_of [] = None
@@ -57,6 +64,10 @@ bytes_of (c ∷ cs) = if bytes_eq (c ∷ cs) (codes "-") then Some [] else resul
 
 abbrev pub is_named : List ℕ → List (List ℕ) → Bool
 is_named name names = list_any (λ held. bytes_eq held name) names
+
+-- the caller of this name has an address
+abbrev pub has_address : List ℕ → List (List ℕ × List ℕ) → Bool
+has_address caller addresses = list_any (λ held. bytes_eq held.0 caller) addresses
 
 -- the most bytes of a capture, the most files, and the most connections that are open at once
 abbrev pub most_bytes : ℕ
@@ -68,9 +79,9 @@ most_files = 1024
 abbrev pub most_open : ℕ
 most_open = 64
 
--- what is known where nothing is read: no file, no event, nothing open
+-- what is known where nothing is read: no file, no address, no event, nothing open
 abbrev pub no_lines : Capture
-no_lines = record { files = []; events = [] }
+no_lines = record { files = []; addresses = []; events = [] }
 
 abbrev pub no_reading : Reading
 no_reading = record { capture = no_lines; links = []; begun = false }
@@ -85,15 +96,30 @@ abbrev pub takes_file : Reading → List ℕ → Bool
 takes_file r name = not r.begun && nat_lt (length r.capture.files) most_files && is_file_name name && not (is_named name r.capture.files)
 
 abbrev pub with_name : Reading → List ℕ → Reading
-with_name r name = record { capture = record { files = r.capture.files ++ name ∷ []; events = r.capture.events }; links = r.links; begun = r.begun }
+with_name r name = record { capture = record { files = r.capture.files ++ name ∷ []; addresses = r.capture.addresses; events = r.capture.events }; links = r.links; begun = r.begun }
 
 -- with a line `F NAME`
 unfoldable pub with_file : Reading → List ℕ → Option Reading
 with_file r name = if takes_file r name then Some (with_name r name) else None
 
+-- this address of this caller may be added: no event line stands before it, and the caller has none yet
+abbrev pub takes_address : Reading → List ℕ → List ℕ → Bool
+takes_address r caller address = is_address address && not r.begun && not (has_address caller r.capture.addresses)
+
+abbrev pub with_caller : Reading → List ℕ → List ℕ → Reading
+with_caller r caller address = record { capture = record { files = r.capture.files; addresses = r.capture.addresses ++ (caller, address) ∷ []; events = r.capture.events }; links = r.links; begun = r.begun }
+
+-- with the address of a caller
+unfoldable pub with_address : Reading → List ℕ → List ℕ → Option Reading
+with_address r caller address = if takes_address r caller address then Some (with_caller r caller address) else None
+
+-- with a line `H HEX ADDR`
+unfoldable pub with_host : Reading → List ℕ → List ℕ → Option Reading
+with_host r hex address = option_and_then (λ caller. with_address r caller address) (bytes_of hex)
+
 -- with an event line that makes these events, and leaves these connections open
 abbrev pub with_events : Reading → List Event → List Link → Reading
-with_events r events links = record { capture = record { files = r.capture.files; events = r.capture.events ++ events }; links = links; begun = true }
+with_events r events links = record { capture = record { files = r.capture.files; addresses = r.capture.addresses; events = r.capture.events ++ events }; links = links; begun = true }
 
 -- with one connection more, of the number of its opening's place; none where as many are open as may be
 abbrev pub with_link : List Link → ℕ → List Link
@@ -132,14 +158,31 @@ with_ended r conn = with_last r (without conn r.links) (link_of conn r.links)
 unfoldable pub with_end : Reading → List ℕ → Option Reading
 with_end r conn = option_map (λ n. with_ended r n) (number_of conn)
 
+-- with the end of a call, with a reply or without one
+unfoldable pub with_called : Reading → ℕ → Option (List ℕ) → Reading
+with_called r call reply = with_events r (Called call reply ∷ []) r.links
+
+-- with a line `C CALL HEX`
+unfoldable pub with_reply : Reading → List ℕ → List ℕ → Option Reading
+with_reply r call hex = option_and_then (λ n. option_map (λ bytes. with_called r n (Some bytes)) (bytes_of hex)) (number_of call)
+
+-- with a line `C CALL`
+unfoldable pub with_no_reply : Reading → List ℕ → Option Reading
+with_no_reply r call = option_map (λ n. with_called r n None) (number_of call)
+
 -- with one line more, given by its words
 unfoldable pub with_words : Reading → List (List ℕ) → Option Reading
 with_words r (a ∷ b ∷ []) =
     if bytes_eq a (codes "F") then with_file r b
     else if bytes_eq a (codes "O") && bytes_eq b (codes "rpc") then Some (with_open r)
     else if bytes_eq a (codes "E") then with_end r b
+    else if bytes_eq a (codes "C") then with_no_reply r b
     else None
-with_words r (a ∷ b ∷ d ∷ []) = if bytes_eq a (codes "B") then with_bytes r b d else None
+with_words r (a ∷ b ∷ d ∷ []) =
+    if bytes_eq a (codes "B") then with_bytes r b d
+    else if bytes_eq a (codes "H") then with_host r b d
+    else if bytes_eq a (codes "C") then with_reply r b d
+    else None
 with_words r words = None
 
 -- an empty line, and one that begins with `#`, is passed over

@@ -1,5 +1,6 @@
 pub mod Capture
 pub mod Links
 pub mod Numbers
+pub mod Rows
 pub mod Show
 pub mod Transcript

@@ -20,11 +20,14 @@ const MOST_FILES: usize = 1024;
 /// The most connections that are open at once.
 const MOST_OPEN: usize = 64;
 
-/// What a capture says: the exported files, and the events in order.
+/// What a capture says: the exported files, the addresses of callers, and the events in order.
 #[derive(Drop, Debug)]
 pub struct Capture {
     /// The names of the files, numbered from 1 in this order.
     pub files: Sequence<Sequence<u8>>,
+    /// The callback addresses of NLM callers, in order: a caller's name, which no other has, and 1 to 64 graphic bytes
+    /// of ASCII.
+    pub addresses: Sequence<(Sequence<u8>, Sequence<u8>)>,
     /// The events in order.
     pub events: Sequence<Event>,
 }
@@ -72,7 +75,7 @@ impl<T: Drop> From<AllocFailed<T>> for LineError {
     }
 }
 
-ghost use Rattle.xl_capture.specs.Capture.{is_line_end, lines_of, words_of, is_name_byte, is_file_name, bytes_of, is_named, takes_file, with_file, with_open, with_piece, with_bytes, with_ended, with_end, with_words, is_passed_over, with_line, with_lines, captured, bad_line, Follows, ReadsAs};
+ghost use Rattle.xl_capture.specs.Capture.{is_line_end, lines_of, words_of, is_name_byte, is_file_name, is_graphic, is_address, bytes_of, is_named, has_address, takes_file, with_file, takes_address, with_address, with_host, with_open, with_piece, with_bytes, with_ended, with_end, with_called, with_reply, with_no_reply, with_words, is_passed_over, with_line, with_lines, captured, bad_line, Follows, ReadsAs};
 ghost use Rattle.xl_capture.specs.Numbers.{number_of};
 
 #[tactic(auto, using(crate::proofs::LineLaws::first_line, crate::proofs::LineLaws::only_line))]
@@ -122,6 +125,18 @@ fn are_name_bytes(name: &[u8]) -> bool
     name.iter().all(|b| is_name_byte(*b))
 }
 
+fn is_address(address: &[u8]) -> bool
+    ensures { result ≡ is_address address.now }
+{
+    1 <= address.len() && address.len() <= 64 && are_graphic(address)
+}
+
+fn are_graphic(address: &[u8]) -> bool
+    ensures { result ≡ list_all is_graphic address.now }
+{
+    address.iter().all(|b| b.is_ascii_graphic())
+}
+
 pub(crate) fn is_text(bytes: &[u8], text: &[u8]) -> bool
     ensures { result ≡ bytes_eq bytes.now text.now }
 {
@@ -132,6 +147,14 @@ fn is_named(name: &[u8], names: &[Sequence<u8>]) -> bool
     ensures { result ≡ is_named name.now names.now }
 {
     names.iter().any(|held| is_text(held.as_slice(), name))
+}
+
+fn has_address(caller: &[u8], addresses: &[(Sequence<u8>, Sequence<u8>)]) -> bool
+    ensures { result ≡ has_address caller.now addresses.now }
+{
+    addresses
+        .iter()
+        .any(|held| is_text(held.0.as_slice(), caller))
 }
 
 /// The bytes of a hex word.
@@ -172,6 +195,48 @@ fn add_file(alloc: Global, reading: &mut Reading, name: &[u8]) -> Result<(), Lin
     let name = Sequence::from_slice(alloc, name)?;
     reading.capture.files.push(name)?;
     Ok(())
+}
+
+/// Whether this address of this caller may be added.
+fn takes_address(reading: &Reading, caller: &[u8], address: &[u8]) -> bool
+    ensures { result ≡ takes_address reading.now caller.now address.now }
+{
+    is_address(address)
+        && !reading.begun
+        && !has_address(caller, reading.capture.addresses.as_slice())
+}
+
+/// Adds the address of a caller.
+#[tactic(auto, unfolding(crate::specs::Capture::with_address))]
+fn add_address(
+    alloc: Global,
+    reading: &mut Reading,
+    caller: Vec<u8>,
+    address: &[u8],
+) -> Result<(), LineError>
+    ensures { Follows result (with_address reading.old caller.items address.now) reading.new }
+{
+    if !takes_address(reading, &caller, address) {
+        return Err(LineError::Bad);
+    }
+    let address = Sequence::from_slice(alloc, address)?;
+    let caller = Sequence::from_vec(caller);
+    reading.capture.addresses.push((caller, address))?;
+    Ok(())
+}
+
+/// Adds a line `H HEX ADDR`.
+#[tactic(auto, unfolding(crate::specs::Capture::with_host))]
+fn add_host(
+    alloc: Global,
+    reading: &mut Reading,
+    hex: &[u8],
+    address: &[u8],
+) -> Result<(), LineError>
+    ensures { Follows result (with_host reading.old hex.now address.now) reading.new }
+{
+    let caller = bytes_of(alloc, hex)?;
+    add_address(alloc, reading, caller, address)
 }
 
 /// Adds a line `O rpc`. The connection's number is the place of this event.
@@ -238,6 +303,43 @@ fn add_end(reading: &mut Reading, conn: &[u8]) -> Result<(), LineError>
     }
 }
 
+/// Adds the end of the call of this number, with a reply or without one.
+#[tactic(auto, unfolding(crate::specs::Capture::with_called))]
+fn add_called(
+    reading: &mut Reading,
+    call: u64,
+    reply: Option<Sequence<u8>>,
+) -> Result<(), LineError>
+    ensures { Follows result (Some (with_called reading.old call reply)) reading.new }
+{
+    reading.begun = true;
+    reading.capture.events.push(Event::Called(call, reply))?;
+    Ok(())
+}
+
+/// Adds a line `C CALL HEX`.
+#[tactic(auto, unfolding(crate::specs::Capture::with_reply))]
+fn add_reply(alloc: Global, reading: &mut Reading, call: &[u8], hex: &[u8]) -> Result<(), LineError>
+    ensures { Follows result (with_reply reading.old call.now hex.now) reading.new }
+{
+    let Some(call) = number_of(call) else {
+        return Err(LineError::Bad);
+    };
+    let reply = Sequence::from_vec(bytes_of(alloc, hex)?);
+    add_called(reading, call, Some(reply))
+}
+
+/// Adds a line `C CALL`.
+#[tactic(auto, unfolding(crate::specs::Capture::with_no_reply))]
+fn add_no_reply(reading: &mut Reading, call: &[u8]) -> Result<(), LineError>
+    ensures { Follows result (with_no_reply reading.old call.now) reading.new }
+{
+    match number_of(call) {
+        Some(call) => add_called(reading, call, None),
+        None => Err(LineError::Bad),
+    }
+}
+
 /// Adds a line, given by its words.
 #[tactic(auto, unfolding(crate::specs::Capture::with_words))]
 fn add_words(alloc: Global, reading: &mut Reading, words: &[&[u8]]) -> Result<(), LineError>
@@ -247,7 +349,10 @@ fn add_words(alloc: Global, reading: &mut Reading, words: &[&[u8]]) -> Result<()
         [a, b] if is_text(a, b"F") => add_file(alloc, reading, b),
         [a, b] if is_text(a, b"O") && is_text(b, b"rpc") => add_open(alloc, reading),
         [a, b] if is_text(a, b"E") => add_end(reading, b),
+        [a, b] if is_text(a, b"C") => add_no_reply(reading, b),
         [a, b, hex] if is_text(a, b"B") => add_bytes(alloc, reading, b, hex),
+        [a, hex, address] if is_text(a, b"H") => add_host(alloc, reading, hex, address),
+        [a, b, hex] if is_text(a, b"C") => add_reply(alloc, reading, b, hex),
         _ => Err(LineError::Bad),
     }
 }
@@ -289,6 +394,7 @@ pub fn read_capture(alloc: Global, text: &[u8]) -> Result<Capture, CaptureError>
     let mut reading = Reading {
         capture: Capture {
             files: Sequence::new(alloc),
+            addresses: Sequence::new(alloc),
             events: Sequence::new(alloc),
         },
         links: Links::new(alloc),

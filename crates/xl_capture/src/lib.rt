@@ -5,6 +5,7 @@ mod capture;
 mod law;
 mod links;
 mod numbers;
+mod rows;
 mod show;
 mod transcripts;
 

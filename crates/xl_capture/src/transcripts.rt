@@ -1,14 +1,15 @@
 //! The transcript of a journal.
 ghost use Rattle.std.specs.Prelude.{◌≡◌, ◌≤◌, ◌++◌, length, map, insert, OnOk, IfOk, string_bytes};
 ghost use Rattle.xl_base.specs.Lists.{placed, sorted};
-ghost use Rattle.xl_capture.specs.Transcript.{dest_words, out_line, out_lines, entry_lines, row_of, by_bytes, row_before, row_line, row_lines, transcript};
+ghost use Rattle.xl_capture.specs.Rows.{row_of, row_before};
+ghost use Rattle.xl_capture.specs.Transcript.{dest_words, out_line, out_lines, entry_lines, row_lines, transcript};
 
+use crate::rows::{Row, put_row, row_before, row_of};
 use std::alloc::{AllocError, Global};
-use std::cmp::Ordering;
 use std::fmt::Write;
-use xl_base::{Dest, Entry, Out, Sequence};
-use xl_matrix::{Claim, Extent, What};
-use xl_names::{Names, owner_text, put_hex_word};
+use xl_base::{Dest, Entry, Out};
+use xl_matrix::Claim;
+use xl_names::{Names, put_hex_word};
 
 /// Adds where an out goes.
 #[tactic(auto, unfolding(crate::specs::Transcript::dest_words))]
@@ -58,45 +59,6 @@ fn put_entries(alloc: Global, text: &mut String, entries: &[Entry]) -> Result<()
     Ok(())
 }
 
-/// A held range as the transcript tells it.
-#[derive(Drop, Debug)]
-pub struct Row {
-    /// The file's number.
-    pub file: u32,
-    /// The owner's text.
-    pub owner: Sequence<u8>,
-    /// The first byte.
-    pub first: u64,
-    /// The last byte.
-    pub last: u64,
-    /// Whether the range is locked exclusively.
-    pub exclusive: bool,
-}
-
-/// A held range as its row.
-fn row_of(alloc: Global, names: &Names, claim: &Claim) -> Result<Row, AllocError>
-    ensures { IfOk result (λ r. r ≡ row_of names.now claim.now) }
-{
-    let text = owner_text(alloc, names, claim.owner)?;
-    let owner = Sequence::from_vec(text.into_bytes());
-    Ok(match claim.what {
-        What::Range(Extent::Bytes(first, last), exclusive) => Row {
-            file: claim.file,
-            owner,
-            first,
-            last,
-            exclusive,
-        },
-        _ => Row {
-            file: claim.file,
-            owner,
-            first: 0,
-            last: 0,
-            exclusive: false,
-        },
-    })
-}
-
 /// The rows of claims.
 fn rows_of(alloc: Global, names: &Names, claims: &[Claim]) -> Result<Vec<Row>, AllocError>
     ensures { IfOk result (λ v. v.items ≡ map (row_of names.now) claims.now) }
@@ -106,34 +68,6 @@ fn rows_of(alloc: Global, names: &Names, claims: &[Claim]) -> Result<Vec<Row>, A
         rows.push(row_of(alloc, names, claim)?)?;
     }
     Ok(rows)
-}
-
-/// Whether the first row's bytes stand before the second's.
-fn by_bytes(a: &Row, b: &Row) -> bool
-    ensures { result ≡ by_bytes a.now b.now }
-{
-    if a.first != b.first {
-        a.first < b.first
-    } else if a.last != b.last {
-        a.last < b.last
-    } else {
-        a.exclusive && !b.exclusive
-    }
-}
-
-/// Whether the first row stands before the second.
-#[tactic(auto, unfolding(crate::specs::Transcript::row_before))]
-fn row_before(a: &Row, b: &Row) -> bool
-    ensures { result ≡ row_before a.now b.now }
-{
-    if a.file != b.file {
-        return a.file < b.file;
-    }
-    match a.owner.as_slice().cmp(b.owner.as_slice()) {
-        Ordering::Less => true,
-        Ordering::Equal => by_bytes(a, b),
-        Ordering::Greater => false,
-    }
 }
 
 /// How many rows in order stand before the row.
@@ -162,28 +96,6 @@ fn in_order(alloc: Global, rows: Vec<Row>) -> Result<Vec<Row>, AllocError>
     Ok(out)
 }
 
-/// Adds a text to bytes.
-fn put_text(bytes: &mut Vec<u8>, text: &str) -> Result<(), AllocError>
-    ensures { OnOk result (bytes.new.items ≡ bytes.old.items ++ text.now) }
-{
-    bytes.extend_from_slice(text.as_bytes())
-}
-
-/// Adds the line of a row.
-#[tactic(auto, unfolding(crate::specs::Transcript::row_line))]
-fn put_row(alloc: Global, bytes: &mut Vec<u8>, row: &Row) -> Result<(), AllocError>
-    ensures { OnOk result (bytes.new.items ≡ bytes.old.items ++ row_line row.now) }
-{
-    let file = row.file;
-    let first = row.first;
-    let last = row.last;
-    put_text(bytes, &format!(in alloc; "{file} range ")?)?;
-    bytes.extend_from_slice(row.owner.as_slice())?;
-    put_text(bytes, &format!(in alloc; " {first} {last}")?)?;
-    put_text(bytes, if row.exclusive { " x\n" } else { " s\n" })?;
-    Ok(())
-}
-
 /// Adds the lines of rows.
 fn put_rows(alloc: Global, bytes: &mut Vec<u8>, rows: &[Row]) -> Result<(), AllocError>
     ensures { OnOk result (bytes.new.items ≡ bytes.old.items ++ row_lines rows.now) }
@@ -194,8 +106,10 @@ fn put_rows(alloc: Global, bytes: &mut Vec<u8>, rows: &[Row]) -> Result<(), Allo
     Ok(())
 }
 
-/// The transcript of a journal's entries: a line for each out, in order, and then a line for each range that is held
-/// after them, in the order of the file, the owner's text and the bytes.
+/// The transcript of a journal's entries: a line for each out, in order, and then a line for each claim that is held
+/// after them. These stand in the order of the file; then shares, ranges and caches; then the text of the owner, or of a
+/// cache's party, by its bytes; then the first byte, the last byte (a range without one first), and exclusive before
+/// shared.
 #[tactic(auto, unfolding(crate::specs::Transcript::claim_lines))]
 pub fn transcript(
     alloc: Global,

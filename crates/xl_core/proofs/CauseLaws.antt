@@ -8,6 +8,9 @@ use Rattle.xl_base.proofs.Members.{in_filter_from}
 use Rattle.xl_matrix.specs.declared.claim.Claim.{Claim}
 use Rattle.xl_matrix.specs.declared.claim.Extent.{Extent}
 use Rattle.xl_matrix.specs.declared.claim.Extent.TheVariants.{Bytes}
+use Rattle.xl_matrix.specs.declared.claim.Extent.TheVariants as extents
+use Rattle.xl_matrix.specs.declared.claim.What.{What}
+use Rattle.xl_matrix.specs.declared.claim.What.TheVariants as whats
 use Rattle.xl_spans.specs.Spans.{within, mode_at, meets}
 use Rattle.xl_spans.specs.declared.span.Span.{Span}
 use Rattle.xl_spans.specs.declared.span.Mode.{Mode}
@@ -17,14 +20,14 @@ use Rattle.xl_table.specs.Flat.{blocks}
 use Rattle.xl_table.specs.Held.{is_range, spans_of}
 use Rattle.xl_wait.specs.declared.waiter.Rooms.{Rooms}
 use Rattle.xl_core.specs.State.{CoreState, with_parts}
-use Rattle.xl_core.specs.Asking.{both_entered, names_fit, asked_claim, known_claim, is_client, IsRealExtent, IsFitAct, IsFit}
+use Rattle.xl_core.specs.Asking.{both_entered, names_fit, asked_what, asked_claim, known_claim, is_client, IsRealExtent, IsFitAct, IsFit}
 use Rattle.xl_core.specs.Blockers.{least, blockers, test_blockers}
-use Rattle.xl_core.specs.Causes.{IsRoom, limits_of_grant, limits_of_wait, IsLockDue, stands_against, IsTestDue, HasNoByte, HasByte, left_by_unlock, IsUnlockDue}
-use Rattle.xl_core.specs.Decide.{passed_by_grant, passed_by_wait, decided, decide, granted, waiting, queued, lock_answered, lock_asked, test_answered, tested, unlocked_bytes, unlocked, acted, ask}
-use Rattle.xl_core.specs.Good.{IsRange, IsGood, is_blocked}
+use Rattle.xl_core.specs.Causes.{IsRoom, limits_of_grant, limits_of_wait, IsClaimDue, stands_against, IsTestDue, HasNoByte, HasByte, left_by_unlock, IsUnlockDue}
+use Rattle.xl_core.specs.Decide.{passed_by_grant, passed_by_wait, decided, decide, granted, waiting, queued, claim_answered, claim_decided, test_answered, tested, unlocked_bytes, unlocked, claim_asked, acted, ask}
+use Rattle.xl_core.specs.Good.{IsPosixBy, IsPosix, IsGood, is_blocked}
 use Rattle.xl_core.specs.Relock.{most_claims, relocked_in, relock_fits, holds_byte, granted_claims, grant_fits}
 use Rattle.xl_core.specs.declared.ask.Act.{Act}
-use Rattle.xl_core.specs.declared.ask.Act.TheVariants.{Ranges, Test, Unlock}
+use Rattle.xl_core.specs.declared.ask.Act.TheVariants.{Share, Ranges, Test, Unlock}
 use Rattle.xl_core.specs.declared.ask.Answer.{Answer}
 use Rattle.xl_core.specs.declared.ask.Answer.TheVariants as answers
 use Rattle.xl_core.specs.declared.ask.Ask.{Ask}
@@ -36,11 +39,11 @@ use Rattle.xl_core.proofs.LimitLaws.{IsFound, grant_found, wait_found, room_foun
 abbrev pub Answered : Type 0
 Answered = Answer × List Effect × CoreState
 
--- ---- the ways in which a lock goes
+-- ---- the ways in which an ask for a claim goes
 
--- what a lock of this claim is answered, reclaims among them
+-- what an ask for this claim is answered, reclaims among them
 abbrev pub lock_result : ℕ → Rooms → CoreState → Ask → Claim → Answered
-lock_result n left s a claim = if a.reclaim then (answers.NoGrace s.clock, [], s) else lock_asked n left s a claim
+lock_result n left s a claim = if a.reclaim then (answers.NoGrace s.clock, [], s) else claim_decided n left s a claim
 
 abbrev least_blocker : CoreState → Claim → Option Claim
 least_blocker s claim = least s.names (blockers s.waiters s claim)
@@ -60,13 +63,13 @@ pub data LockCase (left : Rooms) (s : CoreState) (a : Ask) (claim : Claim) (r : 
   Goes : a.reclaim ≡ false → least s.names (blockers s.waiters s claim) ≡ None → passed_by_grant left a.rows (grant_fits claim s.claims) (names_fit a s.names) ≡ None → r ≡ (answers.Granted claim, [], granted s a claim) → LockCase left s a claim r
 
 late : (n : ℕ) (left : Rooms) (s : CoreState) (a : Ask) (claim : Claim) → a.reclaim ≡ true → lock_result n left s a claim ≡ (answers.NoGrace s.clock, [], s)
-late n left s a claim e = ap (λ (b : Bool). if b then (answers.NoGrace s.clock, [], s) else lock_asked n left s a claim) e
+late n left s a claim e = ap (λ (b : Bool). if b then (answers.NoGrace s.clock, [], s) else claim_decided n left s a claim) e
 
-timely : (n : ℕ) (left : Rooms) (s : CoreState) (a : Ask) (claim : Claim) (o : Option Claim) (p : Option ℕ) → a.reclaim ≡ false → least_blocker s claim ≡ o → grant_limit left s a claim ≡ p → lock_result n left s a claim ≡ lock_answered left s a claim (decided o p)
-unfolding lock_asked decide
+timely : (n : ℕ) (left : Rooms) (s : CoreState) (a : Ask) (claim : Claim) (o : Option Claim) (p : Option ℕ) → a.reclaim ≡ false → least_blocker s claim ≡ o → grant_limit left s a claim ≡ p → lock_result n left s a claim ≡ claim_answered left s a claim (decided o p)
+unfolding claim_decided decide
 timely n left s a claim o p e is passes =
-    ap (λ (b : Bool). if b then (answers.NoGrace s.clock, [], s) else lock_asked n left s a claim) e
-    ∙ (λ i. lock_answered left s a claim (decided (is i) (passes i)))
+    ap (λ (b : Bool). if b then (answers.NoGrace s.clock, [], s) else claim_decided n left s a claim) e
+    ∙ (λ i. claim_answered left s a claim (decided (is i) (passes i)))
 
 blocked_by : (n : ℕ) (left : Rooms) (s : CoreState) (a : Ask) (claim c : Claim) (b : Bool) → a.reclaim ≡ false → least_blocker s claim ≡ Some c → a.blocking ≡ b → lock_result n left s a claim ≡ (if b then queued s a claim (wait_limit left s a) else (answers.Conflict c, [], s))
 blocked_by n left s a claim c b e is blocks =
@@ -96,7 +99,7 @@ lock_case n left s a claim =
       | inr e ↦ when_timely n left s a claim (least_blocker s claim) (grant_limit left s a claim) e refl refl
     ]
 
--- ---- why a lock is answered so
+-- ---- why an ask for a claim is answered so
 
 option_cases : (o : Option Claim) → (o ≡ None) ⊎ ((c : Claim) × (o ≡ Some c))
 option_cases None = inl refl
@@ -112,7 +115,7 @@ blocks_some s claim blocked =
       | inr found ↦ found
     ]
 
-grant_is_found : (left : Rooms) (s : CoreState) (a : Ask) (claim : Claim) → is_client a.owner a.party ≡ true → IsRange claim → IsFound (limits_of_grant left s a claim) (grant_limit left s a claim)
+grant_is_found : (left : Rooms) (s : CoreState) (a : Ask) (claim : Claim) → is_client a.owner a.party ≡ true → IsPosix claim → IsFound (limits_of_grant left s a claim) (grant_limit left s a claim)
 grant_is_found left s a claim client range =
     subst (λ (b : Bool). IsFound (limits_of_grant left s a claim) (passed_by_grant left a.rows b (names_fit a s.names))) (sym (fits_is claim s.claims range))
     (subst (λ (b : Bool). IsFound (limits_of_grant left s a claim) (passed_by_grant left a.rows (nat_le (length (granted_claims claim s.claims)) most_claims) b)) (sym (names_fit_is a s.names client))
@@ -126,26 +129,26 @@ wait_is_found left s a client =
 abbrev first_is : Answered → Answer
 first_is r = r.0
 
-case_due : (left : Rooms) (s : CoreState) (a : Ask) (claim : Claim) (r : Answered) → is_client a.owner a.party ≡ true → IsRange claim → LockCase left s a claim r → IsLockDue left s a claim r.0
-case_due left s a claim r client range (Late reclaim e) = subst (λ (x : Answered). IsLockDue left s a claim x.0) (sym e) (refl, reclaim)
+case_due : (left : Rooms) (s : CoreState) (a : Ask) (claim : Claim) (r : Answered) → is_client a.owner a.party ≡ true → IsPosix claim → LockCase left s a claim r → IsClaimDue left s a claim r.0
+case_due left s a claim r client range (Late reclaim e) = subst (λ (x : Answered). IsClaimDue left s a claim x.0) (sym e) (refl, reclaim)
 case_due left s a claim r client range (Conflicts c timely hurries is e) =
     let found = blockers_some s.waiters s claim c is in
-    subst (λ (x : Answered). IsLockDue left s a claim x.0) (sym e) (timely, hurries, is, found.0, found.1)
+    subst (λ (x : Answered). IsClaimDue left s a claim x.0) (sym e) (timely, hurries, is, found.0, found.1)
 case_due left s a claim r client range (Crowded c limit timely blocks is passes e) =
-    subst (λ (x : Answered). IsLockDue left s a claim x.0) (sym e)
+    subst (λ (x : Answered). IsClaimDue left s a claim x.0) (sym e)
     (timely, inr (blocks, some_blocks s claim c is, found_least (limits_of_wait left s a) (wait_limit left s a) limit (wait_is_found left s a client) passes))
 case_due left s a claim r client range (Waits c timely blocks is passes e) =
-    subst (λ (x : Answered). IsLockDue left s a claim x.0) (sym e)
+    subst (λ (x : Answered). IsClaimDue left s a claim x.0) (sym e)
     (refl, timely, blocks, some_blocks s claim c is, found_room (limits_of_wait left s a) (wait_limit left s a) (wait_is_found left s a client) passes)
 case_due left s a claim r client range (NoRoom limit timely is passes e) =
-    subst (λ (x : Answered). IsLockDue left s a claim x.0) (sym e)
+    subst (λ (x : Answered). IsClaimDue left s a claim x.0) (sym e)
     (timely, inl (blockers_none s.waiters s claim is, found_least (limits_of_grant left s a claim) (grant_limit left s a claim) limit (grant_is_found left s a claim client range) passes))
 case_due left s a claim r client range (Goes timely is passes e) =
-    subst (λ (x : Answered). IsLockDue left s a claim x.0) (sym e)
+    subst (λ (x : Answered). IsClaimDue left s a claim x.0) (sym e)
     (refl, timely, blockers_none s.waiters s claim is, found_room (limits_of_grant left s a claim) (grant_limit left s a claim) (grant_is_found left s a claim client range) passes)
 
 -- a cause brings its answer
-due_case : (n : ℕ) (left : Rooms) (s : CoreState) (a : Ask) (claim : Claim) (answer : Answer) → is_client a.owner a.party ≡ true → IsRange claim → IsLockDue left s a claim answer → (lock_result n left s a claim).0 ≡ answer
+due_case : (n : ℕ) (left : Rooms) (s : CoreState) (a : Ask) (claim : Claim) (answer : Answer) → is_client a.owner a.party ≡ true → IsPosix claim → IsClaimDue left s a claim answer → (lock_result n left s a claim).0 ≡ answer
 due_case n left s a claim (answers.Granted c) client range due =
     ap first_is (timely n left s a claim None None due.1 (none_blockers s.waiters s claim due.2) (room_found (limits_of_grant left s a claim) (grant_limit left s a claim) (grant_is_found left s a claim client range) due.3))
     ∙ ap answers.Granted (sym due.0)
@@ -168,17 +171,23 @@ due_case n left s a claim answers.NotRecorded client range due = absurd due
 due_case n left s a claim answers.NotHeld client range due = absurd due
 due_case n left s a claim answers.StoreFailed client range due = absurd due
 
-pub lock_is : (n : ℕ) (left : Rooms) (s : CoreState) (a : Ask) (extent : Extent) (exclusive : Bool) → a.act ≡ Ranges ((extent, exclusive) ∷ []) → ask n left s a ≡ lock_result n left s a (asked_claim a extent exclusive s.names)
-unfolding ask
-lock_is n left s a extent exclusive e = ap (λ (act : Act). acted n left s a act) e
+by_act : (n : ℕ) (left : Rooms) (s : CoreState) (a : Ask) (act : Act) (what : What) → asked_what act ≡ Some what → acted n left s a act ≡ lock_result n left s a (asked_claim a what s.names)
+by_act n left s a (Share access deny) what e = ap (λ (o : Option What). claim_asked n left s a o) e
+by_act n left s a (Ranges ranges) what e = ap (λ (o : Option What). claim_asked n left s a o) e
+by_act n left s a (Test extent exclusive) what e = absurd cc
+by_act n left s a (Unlock extent) what e = absurd cc
 
-pub lock_due : (n : ℕ) (left : Rooms) (s : CoreState) (a : Ask) (extent : Extent) (exclusive : Bool) (answer : Answer) → a.act ≡ Ranges ((extent, exclusive) ∷ []) → is_client a.owner a.party ≡ true → IsRealExtent extent
-    → ((ask n left s a).0 ≡ answer) ↔ IsLockDue left s a (asked_claim a extent exclusive s.names) answer
-lock_due n left s a extent exclusive answer act client real =
-    let claim = asked_claim a extent exclusive s.names in
-    let range : IsRange claim = (asked_known a extent exclusive s.names client real).0 in
-    let is = ap first_is (lock_is n left s a extent exclusive act) in (
-      λ e. subst (λ (x : Answer). IsLockDue left s a claim x) (sym is ∙ e) (case_due left s a claim (lock_result n left s a claim) client range (lock_case n left s a claim)),
+pub lock_is : (n : ℕ) (left : Rooms) (s : CoreState) (a : Ask) (what : What) → asked_what a.act ≡ Some what → ask n left s a ≡ lock_result n left s a (asked_claim a what s.names)
+unfolding ask
+lock_is n left s a what e = by_act n left s a a.act what e
+
+pub lock_due : (n : ℕ) (left : Rooms) (s : CoreState) (a : Ask) (what : What) (answer : Answer) → asked_what a.act ≡ Some what → is_client a.owner a.party ≡ true → IsPosixBy what
+    → ((ask n left s a).0 ≡ answer) ↔ IsClaimDue left s a (asked_claim a what s.names) answer
+lock_due n left s a what answer act client real =
+    let claim = asked_claim a what s.names in
+    let range : IsPosix claim = (asked_known a what s.names client real).0 in
+    let is = ap first_is (lock_is n left s a what act) in (
+      λ e. subst (λ (x : Answer). IsClaimDue left s a claim x) (sym is ∙ e) (case_due left s a claim (lock_result n left s a claim) client range (lock_case n left s a claim)),
       λ due. is ∙ due_case n left s a claim answer client range due,
     )
 
@@ -395,17 +404,39 @@ unlock_due n left s a first last answer act client ends good =
 
 -- ---- asks that are fit
 
-pub real_extent : (a : Ask) (extent : Extent) (exclusive : Bool) → IsFit a → a.act ≡ Ranges ((extent, exclusive) ∷ []) → IsRealExtent extent
-real_extent a extent exclusive fit e = subst (λ (act : Act). IsFitAct act) e fit.act
+abbrev pub some_what : What → Option What
+some_what what = Some what
+
+pub same_what : (v w : What) → some_what v ≡ some_what w → v ≡ w
+same_what v w e = cc
+
+real_range : (extent : Extent) (exclusive : Bool) → IsRealExtent extent → IsPosixBy (whats.Range extent exclusive)
+real_range (Bytes first last) exclusive h = h
+real_range (extents.Empty offset) exclusive h = absurd h
+
+by_fit : (act : Act) (what : What) → IsFitAct act → asked_what act ≡ Some what → IsPosixBy what
+by_fit (Share access deny) what fit e = subst (λ (w : What). IsPosixBy w) (same_what (whats.Share access deny) what e) tt
+by_fit (Ranges []) what fit e = absurd fit
+by_fit (Ranges (range ∷ [])) what fit e = subst (λ (w : What). IsPosixBy w) (same_what (whats.Range range.0 range.1) what e) (real_range range.0 range.1 fit)
+by_fit (Ranges (range ∷ more ∷ rest)) what fit e = absurd fit
+by_fit (Test extent exclusive) what fit e = absurd cc
+by_fit (Unlock extent) what fit e = absurd cc
+
+-- what a fit ask is for may be held
+pub fit_what : (a : Ask) (what : What) → IsFit a → asked_what a.act ≡ Some what → IsPosixBy what
+fit_what a what fit e = by_fit a.act what fit.act e
+
+pub real_extent : (a : Ask) (first last : ℕ) (exclusive : Bool) → IsFit a → a.act ≡ Ranges ((Bytes first last, exclusive) ∷ []) → first ≤ last
+real_extent a first last exclusive fit e = subst (λ (act : Act). IsFitAct act) e fit.act
 
 pub real_unlock : (a : Ask) (first last : ℕ) → IsFit a → a.act ≡ Unlock (Bytes first last) → first ≤ last
 real_unlock a first last fit e = subst (λ (act : Act). IsFitAct act) e fit.act
 
--- nothing stands against a lock, so it is granted
-pub lock_free : (n : ℕ) (left : Rooms) (s : CoreState) (a : Ask) (extent : Extent) (exclusive : Bool) → IsFit a → a.act ≡ Ranges ((extent, exclusive) ∷ []) → a.reclaim ≡ false → is_blocked s.claims (asked_claim a extent exclusive s.names) ≡ false
-    → IsRoom (limits_of_grant left s a (asked_claim a extent exclusive s.names)) → (ask n left s a).0 ≡ answers.Granted (asked_claim a extent exclusive s.names)
-lock_free n left s a extent exclusive fit act timely free room =
-    (lock_due n left s a extent exclusive (answers.Granted (asked_claim a extent exclusive s.names)) act fit.party (real_extent a extent exclusive fit act)).1 (refl, timely, free, room)
+-- nothing stands against the claim, so it is granted
+pub lock_free : (n : ℕ) (left : Rooms) (s : CoreState) (a : Ask) (what : What) → IsFit a → asked_what a.act ≡ Some what → a.reclaim ≡ false → is_blocked s.claims (asked_claim a what s.names) ≡ false
+    → IsRoom (limits_of_grant left s a (asked_claim a what s.names)) → (ask n left s a).0 ≡ answers.Granted (asked_claim a what s.names)
+lock_free n left s a what fit act timely free room =
+    (lock_due n left s a what (answers.Granted (asked_claim a what s.names)) act fit.party (fit_what a what fit act)).1 (refl, timely, free, room)
 
 pub test_leaves : (n : ℕ) (left : Rooms) (s : CoreState) (a : Ask) (extent : Extent) (exclusive : Bool) → a.act ≡ Test extent exclusive → (ask n left s a).2 ≡ s
 test_leaves n left s a extent exclusive act = ap (λ (r : Answered). r.2) (test_is n left s a extent exclusive act)

@@ -1,9 +1,10 @@
--- Claims of known clients stay so, and stay compatible, when a range that nothing blocks is locked, and when one is unlocked.
-use Rattle.std.proofs.Common.{◌≡◌, ℕ, ◌+◌, ◌<◌, ◌≤◌, Bool, true, false, not, cond, eqb, leb, ◌&&◌, ◌||◌, ◌⊎◌, inl, inr, List, [], ◌∷◌, map, Option, Some, None, refl, sym, ap, subst, ◌∙◌, arith}
+-- Claims of known clients stay so, and stay compatible, when a claim that nothing blocks is granted, and when a range is
+-- unlocked.
+use Rattle.std.proofs.Common.{◌≡◌, ℕ, ◌+◌, ◌<◌, ◌≤◌, Bool, true, false, not, cond, eqb, leb, ◌&&◌, ◌||◌, ◌⊎◌, inl, inr, List, [], ◌∷◌, length, map, Option, Some, None, refl, sym, ap, subst, ◌∙◌, arith}
 use Rattle.std.specs.List.{AllByRecursion, filter, list_any}
-use Rattle.std.proofs.lemmas.Bool.{cases_Bool, and_parts, and_from, and_left, and_right, and_cases, or_left, or_parts, not-true, not-false, not_from_false, eqb-true, eq-eqb, leb-true, lt-leb, both_ways}
+use Rattle.std.proofs.lemmas.Bool.{cases_Bool, and_parts, and_from, and_left, and_right, and_cases, or_left, or_right, or_parts, not-true, not-false, not_from_false, eqb-true, eq-eqb, leb-true, lt-leb, both_ways}
 use Rattle.xl_base.specs.Lists.{IsIn, Pairwise}
-use Rattle.xl_base.proofs.Members.{all_in, all_from, in_map_from, in_filter_from}
+use Rattle.xl_base.proofs.Members.{all_in, all_from, in_map_from, in_filter_from, pairwise_filter}
 use Rattle.xl_base.specs.declared.name.Owner.{Owner}
 use Rattle.xl_base.specs.declared.name.Party.{Party}
 use Rattle.xl_matrix.specs.Equal.{same_owners}
@@ -14,7 +15,8 @@ use Rattle.xl_matrix.specs.declared.claim.Extent.{Extent}
 use Rattle.xl_matrix.specs.declared.claim.Extent.TheVariants.{Bytes, Empty}
 use Rattle.xl_matrix.specs.declared.claim.What.{What}
 use Rattle.xl_matrix.specs.declared.claim.What.TheVariants.{Share, Range, Cache}
-use Rattle.xl_matrix.proofs.EqualLaws.{same_owners-sym}
+use Rattle.xl_matrix.proofs.EqualLaws.{eqb-sym, same_owners-sym, same_parties-sym}
+use Rattle.xl_matrix.specs.declared.claim.Rwd.{Rwd}
 use Rattle.xl_matrix.proofs.PartLaws.{compat_bytes}
 use Rattle.xl_matrix.proofs.SideLaws.{compat-sym}
 use Rattle.xl_names.specs.Names.{AreDistinct}
@@ -26,10 +28,14 @@ use Rattle.xl_spans.proofs.Bytes.{relocked_mode, AreRanges}
 use Rattle.xl_spans.proofs.Chains.{canonical_ranges, canonical_rest, relocked_canonical, IsChain}
 use Rattle.xl_spans.proofs.Untouched.{canonical_filter, relocked_untouched}
 use Rattle.xl_table.specs.Flat.{blocks, is_own, is_met_by_own}
-use Rattle.xl_table.specs.Held.{mode_of, with_span, is_of, spans_of, IsKept}
-use Rattle.xl_core.specs.Good.{IsRangeBy, IsRange, are_kept, IsKnown, is_single_by, is_single}
-use Rattle.xl_core.specs.Relock.{is_exclusive, range_claim, untouched, fresh, relocked_in, relock_fits, granted_by, granted_claims, grant_fits_by, grant_fits}
+use Rattle.xl_table.specs.Held.{mode_of, is_range, with_span, is_of, spans_of, IsKept}
+use Rattle.xl_table.proofs.FlatLaws.{all_inserted as all_put, pairwise_into}
+use Rattle.xl_table.proofs.InsertLaws.{sound_inserted_other}
+use Rattle.xl_table.proofs.KeptLaws.{kept_inserted}
+use Rattle.xl_core.specs.Good.{IsRangeBy, IsRange, IsPosixBy, IsPosix, are_kept, IsKnown, is_single_by, is_single}
+use Rattle.xl_core.specs.Relock.{most_claims, is_exclusive, range_claim, untouched, fresh, relocked_in, relock_fits, is_share, is_share_of, unshared, old_shares, shared_in, share_fits, granted_by, granted_claims, grant_fits_by, grant_fits}
 use Rattle.xl_core.proofs.KnownLaws.{one_party}
+use Rattle.xl_core.proofs.ShareLaws.{kept_unshared, length_unshared}
 use Rattle.xl_core.proofs.WriteBack.{is_of-true, IsOfParty, relocked_is, spans_of-untouched, left_in, left_all, left_pairwise, all_all_inserted, pairwise_all_inserted, kept_relocked}
 
 -- ---- what the claims of an owner do to a byte
@@ -176,6 +182,13 @@ other_file : (a b : Claim) → eqb a.file b.file ≡ false → compat a b ≡ tr
 unfolding compat
 other_file a b two = or_left (not (eqb a.file b.file)) (fit_by a b a.what b.what) (not_from_false (eqb a.file b.file) two)
 
+-- a claim that locks a byte is a range
+locks_range : (w : What) (x : ℕ) (b : Bool) → IsPosixBy w → lock_by w x ≡ Some b → IsRangeBy w
+locks_range (Range (Bytes first last) exclusive) x b h e = h
+locks_range (Range (Empty offset) exclusive) x b h e = absurd h
+locks_range (Share access deny) x b h e = cc
+locks_range (Cache kind running) x b h e = absurd h
+
 fits_from : (a b : Claim) → IsRange a → IsRange b → (a.file ≡ b.file → Agrees a b) → compat a b ≡ true
 fits_from a b range other agrees =
     elim (cases_Bool (eqb a.file b.file)) [
@@ -186,6 +199,26 @@ fits_from a b range other agrees =
           (compat_bytes a b p.0 q.0 p.1 q.1 p.2 q.2 same range.1).1 (agrees same)
       | inr two ↦ other_file a b two
     ]
+
+beside_share : (a b : Claim) (w : What) (access deny : Rwd) → IsRangeBy w → fit_by a b w (Share access deny) ≡ true
+unfolding fit_by
+beside_share a b (Range extent exclusive) access deny h = refl
+beside_share a b (Share rights denied) access deny h = absurd h
+beside_share a b (Cache kind running) access deny h = absurd h
+
+fits_share : (a b : Claim) (access deny : Rwd) → IsRange a → b.what ≡ Share access deny → compat a b ≡ true
+unfolding compat
+fits_share a b access deny range share =
+    or_right (not (eqb a.file b.file)) (fit_by a b a.what b.what) (ap (λ (w : What). fit_by a b a.what w) share ∙ beside_share a b a.what access deny range.0)
+
+-- a range stands beside each share, and beside a range that it agrees with
+fits_known : (a b : Claim) (w : What) → b.what ≡ w → IsRange a → IsPosix b → (IsRange b → a.file ≡ b.file → Agrees a b) → compat a b ≡ true
+fits_known a b (Share access deny) is range known agrees = fits_share a b access deny range is
+fits_known a b (Range (Bytes first last) exclusive) is range known agrees = fits_from a b range (real, known.1) (agrees (real, known.1)) where
+  real : IsRangeBy b.what
+  real = subst (λ (v : What). IsRangeBy v) (sym is) (subst (λ (v : What). IsPosixBy v) is known.0)
+fits_known a b (Range (Empty offset) exclusive) is range known agrees = absurd (subst (λ (v : What). IsPosixBy v) is known.0)
+fits_known a b (Cache kind running) is range known agrees = absurd (subst (λ (v : What). IsPosixBy v) is known.0)
 
 -- of two held claims at different places
 pairwise_two : (cs : List Claim) (a b : Claim) → Pairwise compat cs → IsIn a cs → IsIn b cs → (a ≡ b → ⊥) → compat a b ≡ true
@@ -208,7 +241,36 @@ pairwise_two (c ∷ cs) a b all h k apart =
 pub record AreGood (names : List Name) (cs : List Claim) : Type 0 where
   pub kept : IsKept cs
   pub compatible : Pairwise compat cs
+  pub single : Pairwise is_single cs
   pub known : AllByRecursion (IsKnown names) cs
+
+-- ---- one share of an owner on a file
+
+single_by : (a b : Claim) (w v : What) → IsRangeBy w → is_single_by a b w v ≡ true
+single_by a b (Range extent exclusive) v h = refl
+single_by a b (Share access deny) v h = absurd h
+single_by a b (Cache kind running) v h = absurd h
+
+single_range : (a b : Claim) → IsRange a → is_single a b ≡ true
+single_range a b range = rw (single_by a b a.what b.what range.0) (not_from_false (eqb a.file b.file && false) (and_right (eqb a.file b.file) false refl))
+
+all_single : (cs : List Claim) → AllByRecursion IsRange cs → Pairwise is_single cs
+all_single [] all = tt
+all_single (c ∷ cs) all = (all_from (λ d. is_single c d ≡ true) cs (λ d h. single_range c d all.0), all_single cs all.1)
+
+single_by-sym : (a b : Claim) (w v : What) → is_single_by a b w v ≡ is_single_by b a v w
+single_by-sym a b (Share access deny) (Share rights denied) = ap not (same_owners-sym a.owner b.owner)
+single_by-sym a b (Share access deny) (Range extent exclusive) = refl
+single_by-sym a b (Share access deny) (Cache kind running) = refl
+single_by-sym a b (Range extent exclusive) (Share rights denied) = refl
+single_by-sym a b (Range extent exclusive) (Range place alone) = refl
+single_by-sym a b (Range extent exclusive) (Cache kind running) = refl
+single_by-sym a b (Cache kind running) (Share rights denied) = refl
+single_by-sym a b (Cache kind running) (Range extent exclusive) = refl
+single_by-sym a b (Cache kind running) (Cache other due) = ap not (same_parties-sym a.party b.party)
+
+is_single-sym : (a b : Claim) → is_single a b ≡ is_single b a
+is_single-sym a b = λ i. not (eqb-sym a.file b.file i && not (single_by-sym a b a.what b.what i))
 
 -- ---- the relock
 
@@ -238,17 +300,14 @@ new_spans file owner first last asked cs = relocked (spans_of file owner cs) fir
 
 -- a byte of a new span agrees with another's claim: it was asked for, or the owner had it
 new_agrees : (names : List Name) (file : ℕ) (owner : Owner) (party : Party) (first last : ℕ) (asked : Option Bool) (cs : List Claim) (c : Claim) (x : ℕ) (m : Mode)
-    → IsRelock names file owner party first last asked cs → IsIn c cs → is_of file owner c ≡ false → file ≡ c.file
+    → IsRelock names file owner party first last asked cs → IsIn c cs → IsRange c → is_of file owner c ≡ false → file ≡ c.file
     → mode_at (new_spans file owner first last asked cs) x ≡ Some m → locks_agree owner (Some (is_exclusive m)) c.owner (lock_on c x) ≡ true
-new_agrees names file owner party first last asked cs c x m is there other one e =
+new_agrees names file owner party first last asked cs c x m is there range other one e =
     elim (cases_Bool (within first last x)) [
       | inl inside ↦ asked_agrees asked is.free inside (rw inside at modes)
       | inr outside ↦ held_agrees (locked_by file owner cs x m (rw outside at modes))
     ]
   where
-    range : IsRange c
-    range = (all_in (IsKnown names) c cs is.good.known there).0
-
     modes : (cond (within first last x) (mode_asked asked) (mode_at (spans_of file owner cs) x)) ≡ Some m
     modes = sym (relocked_mode (spans_of file owner cs) first last (mode_asked asked) x is.ends (canonical_ranges (spans_of file owner cs) (is.good.kept.sound.canonical file owner is.own))) ∙ e
 
@@ -257,7 +316,8 @@ new_agrees names file owner party first last asked cs c x m is there other one e
         let parts = is_of-true file owner found.0 found.2 in
         let apart : found.0 ≡ c → ⊥ = λ same. both_ways (is_of file owner c) other (ap (is_of file owner) (sym same) ∙ found.2) in
         let fits = pairwise_two cs found.0 c is.good.compatible found.1 there apart in
-        let agrees = agree_from found.0 c (all_in (IsKnown names) found.0 cs is.good.known found.1).0 range (parts.0 ∙ one) fits x in
+        let known = (all_in (IsKnown names) found.0 cs is.good.known found.1).0 in
+        let agrees = agree_from found.0 c (locks_range found.0.what x (is_exclusive m) known.0 found.3, known.1) range (parts.0 ∙ one) fits x in
         subst (λ (o : Owner). locks_agree o (Some (is_exclusive m)) c.owner (lock_on c x) ≡ true) parts.1
         (subst (λ (l : Option Bool). locks_agree found.0.owner l c.owner (lock_on c x) ≡ true) found.3 agrees)
 
@@ -297,7 +357,7 @@ fresh_in file owner first last mode cs s h = (in_filter_from (touches first last
 new_fits : (names : List Name) (file : ℕ) (owner : Owner) (party : Party) (first last : ℕ) (asked : Option Bool) (cs : List Claim) (s : Span) (c : Claim)
     → IsRelock names file owner party first last asked cs → IsIn s (fresh file owner first last (mode_asked asked) cs) → IsRange (range_claim file owner party s) → IsIn c (untouched file owner first last cs) → compat (range_claim file owner party s) c ≡ true
 new_fits names file owner party first last asked cs s c is new real there =
-    fits_from (range_claim file owner party s) c real (all_in (IsKnown names) c cs is.good.known held).0 (λ one x. at x one (cases_Bool (within s.first s.last x)))
+    fits_known (range_claim file owner party s) c c.what refl real (all_in (IsKnown names) c cs is.good.known held).0 (λ range one x. at x range one (cases_Bool (within s.first s.last x)))
   where
     held : IsIn c cs
     held = left_in file owner first last cs c there
@@ -310,12 +370,12 @@ new_fits names file owner party first last asked cs s c is new real there =
         mode_of_span s (new_spans file owner first last asked cs) x (relocked_canonical (spans_of file owner cs) first last (mode_asked asked) is.ends canonical)
         (fresh_in file owner first last (mode_asked asked) cs s new) inside
 
-    at : (x : ℕ) → file ≡ c.file → (within s.first s.last x ≡ true) ⊎ (within s.first s.last x ≡ false) → locks_agree owner (lock_on (range_claim file owner party s) x) c.owner (lock_on c x) ≡ true
-    at x one (inr outside) = rw outside refl
-    at x one (inl inside) =
+    at : (x : ℕ) → IsRange c → file ≡ c.file → (within s.first s.last x ≡ true) ⊎ (within s.first s.last x ≡ false) → locks_agree owner (lock_on (range_claim file owner party s) x) c.owner (lock_on c x) ≡ true
+    at x range one (inr outside) = rw outside refl
+    at x range one (inl inside) =
         elim (cases_Bool (is_of file owner c)) [
           | inl own ↦ agree_none owner c.owner (lock_on (range_claim file owner party s) x) (lock_on c x) (new_apart file owner first last (mode_asked asked) cs s c x canonical is.ends new there own inside)
-          | inr other ↦ rw inside (new_agrees names file owner party first last asked cs c x s.mode is held other one (modes x inside))
+          | inr other ↦ rw inside (new_agrees names file owner party first last asked cs c x s.mode is held range other one (modes x inside))
         ]
 
 -- two spans of one owner do not meet
@@ -345,9 +405,9 @@ new_known : (names : List Name) (file : ℕ) (owner : Owner) (party : Party) (ss
 new_known names file owner party [] own kept ranges = tt
 new_known names file owner party (s ∷ ss) own kept ranges = (((ranges.0, own), kept), new_known names file owner party ss own kept ranges.1)
 
-known_ranges : (names : List Name) (cs : List Claim) → AllByRecursion (IsKnown names) cs → AllByRecursion IsRange cs
-known_ranges names [] all = tt
-known_ranges names (c ∷ cs) all = (all.0.0, known_ranges names cs all.1)
+new_ranges : (file : ℕ) (owner : Owner) (party : Party) (ss : List Span) → posix owner ≡ true → AreRanges ss → AllByRecursion IsRange (map (range_claim file owner party) ss)
+new_ranges file owner party [] own ranges = tt
+new_ranges file owner party (s ∷ ss) own ranges = ((ranges.0, own), new_ranges file owner party ss own ranges.1)
 
 fresh_canonical : (file : ℕ) (owner : Owner) (first last : ℕ) (mode : Option Mode) (cs : List Claim) → IsCanonical (spans_of file owner cs) → first ≤ last → IsCanonical (fresh file owner first last mode cs)
 unfolding fresh
@@ -367,6 +427,8 @@ relocked_good names file owner party first last asked cs distinct good ends own 
   kept = kept_relocked file owner party first last (mode_asked asked) cs good.kept own ends (of_one_party names file owner party cs distinct good.known kept) fits;
   compatible = subst (λ (ds : List Claim). Pairwise compat ds) (sym (relocked_is file owner party first last (mode_asked asked) cs))
       (pairwise_all_inserted compat compat-sym new left (new_pairwise file owner party spans canonical ranges) (left_pairwise compat file owner first last cs good.compatible) across);
+  single = subst (λ (ds : List Claim). Pairwise is_single ds) (sym (relocked_is file owner party first last (mode_asked asked) cs))
+      (pairwise_all_inserted is_single is_single-sym new left (all_single new ranges) (left_pairwise is_single file owner first last cs good.single) (λ c d h k. single_range c d (all_in IsRange c new ranges h)));
   known = subst (λ (ds : List Claim). AllByRecursion (IsKnown names) ds) (sym (relocked_is file owner party first last (mode_asked asked) cs))
       (all_all_inserted (IsKnown names) new left known (left_all (IsKnown names) file owner first last cs good.known));
 } where
@@ -389,7 +451,7 @@ relocked_good names file owner party first last asked cs distinct good ends own 
   known = new_known names file owner party spans own kept (canonical_ranges spans canonical)
 
   ranges : AllByRecursion IsRange new
-  ranges = known_ranges names new known
+  ranges = new_ranges file owner party spans own (canonical_ranges spans canonical)
 
   across : (c d : Claim) → IsIn c new → IsIn d left → compat c d ≡ true
   across c d h k =
@@ -425,7 +487,81 @@ free_from ask (d ∷ ds) free c h other =
       | inr there ↦ free_from ask ds parts.1 c there other
     ]
 
-granted_by_good : (names : List Name) (c : Claim) (w : What) (cs : List Claim) → c.what ≡ w → IsRangeBy w → posix c.owner ≡ true → are_kept names c.owner c.party ≡ true
+-- ---- a share
+
+share_beside : (a b : Claim) (w v : What) (access deny : Rwd) → w ≡ Share access deny → IsPosixBy v → is_share v ≡ false → fit_by a b w v ≡ true
+unfolding fit_by
+share_beside a b w (Range extent exclusive) access deny is known other = ap (λ (x : What). fit_by a b x (Range extent exclusive)) is
+share_beside a b w (Share rights denied) access deny is known other = absurd (both_ways true other refl)
+share_beside a b w (Cache kind running) access deny is known other = absurd known
+
+-- a share that nothing blocks stands beside each claim that isn't its owner's share
+share_fits_held : (c : Claim) (access deny : Rwd) (cs : List Claim) (d : Claim) → c.what ≡ Share access deny → list_any (λ e. blocks c e) cs ≡ false → IsIn d cs → IsPosix d → is_share_of c.file c.owner d ≡ false → compat c d ≡ true
+unfolding compat
+share_fits_held c access deny cs d is free there known other =
+    elim (cases_Bool (is_of c.file c.owner d)) [
+      | inr apart ↦ free_from c cs free d there apart
+      | inl own ↦ beside (rw own at other)
+    ]
+  where
+    beside : is_share d.what ≡ false → compat c d ≡ true
+    beside no_share = or_right (not (eqb c.file d.file)) (fit_by c d c.what d.what) (share_beside c d c.what d.what access deny is known.0 no_share)
+
+single_share : (c d : Claim) (w v : What) → is_share_of c.file c.owner d ≡ false → c.file ≡ d.file → d.what ≡ v → is_share w ≡ true → is_single_by c d w v ≡ true
+single_share c d (Share access deny) (Share rights denied) other one is h =
+    not_from_false (same_owners c.owner d.owner) (same_owners-sym c.owner d.owner ∙ apart)
+  where
+    apart : same_owners d.owner c.owner ≡ false
+    apart =
+        elim (cases_Bool (same_owners d.owner c.owner)) [
+          | inr e ↦ e
+          | inl same ↦ absurd (both_ways (is_share_of c.file c.owner d) other
+              (and_from (is_of c.file c.owner d) (is_share d.what) (and_from (eqb d.file c.file) (same_owners d.owner c.owner) (eq-eqb d.file c.file (sym one)) same) (ap is_share is)))
+        ]
+single_share c d (Share access deny) (Range extent exclusive) other one is h = refl
+single_share c d (Share access deny) (Cache kind running) other one is h = refl
+single_share c d (Range extent exclusive) v other one is h = absurd (both_ways false refl h)
+single_share c d (Cache kind running) v other one is h = absurd (both_ways false refl h)
+
+share_single : (c d : Claim) → is_share c.what ≡ true → is_share_of c.file c.owner d ≡ false → is_single c d ≡ true
+share_single c d share other =
+    elim (cases_Bool (eqb c.file d.file)) [
+      | inr two ↦ rw two refl
+      | inl one ↦ rw (single_share c d c.what d.what other (eqb-true c.file d.file one) refl share) (not_from_false (eqb c.file d.file && false) (and_right (eqb c.file d.file) false refl))
+    ]
+
+-- a claim that is left is one that is held, and isn't the owner's share
+left_of : (file : ℕ) (owner : Owner) (cs : List Claim) (d : Claim) → IsIn d (unshared file owner cs) → IsIn d cs × (is_share_of file owner d ≡ false)
+unfolding unshared
+left_of file owner cs d h = let found = in_filter_from (λ (e : Claim). not (is_share_of file owner e)) d cs h in (found.0, not-true (is_share_of file owner d) found.1)
+
+left_two : (test : Claim → Claim → Bool) (file : ℕ) (owner : Owner) (cs : List Claim) → Pairwise test cs → Pairwise test (unshared file owner cs)
+unfolding unshared
+left_two test file owner cs all = pairwise_filter test (λ c. not (is_share_of file owner c)) cs all
+
+share_room : (c : Claim) (cs : List Claim) → share_fits c cs ≡ true → length (unshared c.file c.owner cs) < 16384
+unfolding share_fits
+share_room c cs fits = omega (arith, leb-true (length cs + 1) (most_claims + length (old_shares c.file c.owner cs)) fits, length_unshared c.file c.owner cs)
+
+shared_good : (names : List Name) (c : Claim) (access deny : Rwd) (cs : List Claim) → c.what ≡ Share access deny → posix c.owner ≡ true → are_kept names c.owner c.party ≡ true
+    → AreGood names cs → list_any (λ d. blocks c d) cs ≡ false → share_fits c cs ≡ true → AreGood names (shared_in c cs)
+unfolding shared_in
+shared_good names c access deny cs is own kept good free fits = record {
+  kept = kept_inserted c left (kept_unshared c.file c.owner cs good.kept) (sound_inserted_other c left (kept_unshared c.file c.owner cs good.kept).sound (ap is_range is)) (share_room c cs fits);
+  compatible = pairwise_into compat compat-sym c left (all_from (λ d. compat c d ≡ true) left beside) (left_two compat c.file c.owner cs good.compatible);
+  single = pairwise_into is_single is_single-sym c left (all_from (λ d. is_single c d ≡ true) left (λ d h. share_single c d share (left_of c.file c.owner cs d h).1)) (left_two is_single c.file c.owner cs good.single);
+  known = all_put (IsKnown names) c left ((subst (λ (w : What). IsPosixBy w) (sym is) tt, own), kept) (all_from (IsKnown names) left (λ d h. all_in (IsKnown names) d cs good.known (left_of c.file c.owner cs d h).0));
+} where
+  left : List Claim
+  left = unshared c.file c.owner cs
+
+  share : is_share c.what ≡ true
+  share = ap is_share is
+
+  beside : (d : Claim) → IsIn d left → compat c d ≡ true
+  beside d h = let found = left_of c.file c.owner cs d h in share_fits_held c access deny cs d is free found.0 (all_in (IsKnown names) d cs good.known found.0).0 found.1
+
+granted_by_good : (names : List Name) (c : Claim) (w : What) (cs : List Claim) → c.what ≡ w → IsPosixBy w → posix c.owner ≡ true → are_kept names c.owner c.party ≡ true
     → AreDistinct names → AreGood names cs → list_any (λ d. blocks c d) cs ≡ false → grant_fits_by c w cs ≡ true → AreGood names (granted_by c w cs)
 granted_by_good names c (Range (Bytes first last) exclusive) cs is ends own kept distinct good free fits =
     relocked_good names c.file c.owner c.party first last (Some exclusive) cs distinct good ends own kept
@@ -434,24 +570,10 @@ granted_by_good names c (Range (Bytes first last) exclusive) cs is ends own kept
     is_lock : (c : Claim) (first last : ℕ) (exclusive : Bool) → c.what ≡ Range (Bytes first last) exclusive → c ≡ lock_claim c.file c.owner c.party first last exclusive
     is_lock c first last exclusive is = λ i. record { file = c.file; owner = c.owner; party = c.party; what = is i }
 granted_by_good names c (Range (Empty offset) exclusive) cs is ends own kept distinct good free fits = absurd ends
-granted_by_good names c (Share access deny) cs is ends own kept distinct good free fits = absurd ends
+granted_by_good names c (Share access deny) cs is ends own kept distinct good free fits = shared_good names c access deny cs is own kept good free fits
 granted_by_good names c (Cache kind running) cs is ends own kept distinct good free fits = absurd ends
 
 -- the claims stay so where one is granted that nothing blocks
 pub granted_good : (names : List Name) (c : Claim) (cs : List Claim) → AreDistinct names → AreGood names cs → IsKnown names c → list_any (λ d. blocks c d) cs ≡ false → grant_fits c cs ≡ true → AreGood names (granted_claims c cs)
 unfolding granted_claims grant_fits
 granted_good names c cs distinct good known free fits = granted_by_good names c c.what cs refl known.0.0 known.0.1 known.1 distinct good free fits
-
--- ---- ranges alone are single
-
-single_by : (a b : Claim) (w v : What) → IsRangeBy w → is_single_by a b w v ≡ true
-single_by a b (Range extent exclusive) v h = refl
-single_by a b (Share access deny) v h = absurd h
-single_by a b (Cache kind running) v h = absurd h
-
-single_range : (a b : Claim) → IsRange a → is_single a b ≡ true
-single_range a b range = rw (single_by a b a.what b.what range.0) (not_from_false (eqb a.file b.file && false) (and_right (eqb a.file b.file) false refl))
-
-pub all_single : (names : List Name) (cs : List Claim) → AllByRecursion (IsKnown names) cs → Pairwise is_single cs
-all_single names [] all = tt
-all_single names (c ∷ cs) all = (all_from (λ d. is_single c d ≡ true) cs (λ d h. single_range c d all.0.0), all_single names cs all.1)

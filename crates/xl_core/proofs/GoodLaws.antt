@@ -10,26 +10,31 @@ use Rattle.xl_base.specs.declared.name.Owner.{Owner}
 use Rattle.xl_base.specs.declared.name.Party.{Party}
 use Rattle.xl_matrix.specs.Equal.{same_parties}
 use Rattle.xl_matrix.specs.Matrix.{compat}
+use Rattle.xl_core.specs.Good.{is_single}
 use Rattle.xl_matrix.specs.declared.claim.Claim.{Claim}
 use Rattle.xl_matrix.specs.declared.claim.Extent.{Extent}
 use Rattle.xl_matrix.specs.declared.claim.Extent.TheVariants.{Bytes, Empty}
+use Rattle.xl_matrix.specs.declared.claim.What.{What}
+use Rattle.xl_matrix.specs.declared.claim.What.TheVariants as whats
 use Rattle.xl_names.specs.Names.{AreDistinct, most_names}
 use Rattle.xl_names.specs.declared.name.Name.{Name}
 use Rattle.xl_spans.specs.Spans.{meets}
 use Rattle.xl_spans.specs.declared.span.Span.{Span}
+use Rattle.xl_table.specs.Flat.{removed}
 use Rattle.xl_table.specs.Held.{is_of, spans_of, has_one_party}
-use Rattle.xl_table.proofs.KeptLaws.{kept_empty}
+use Rattle.xl_table.proofs.FlatLaws.{all_removed, pairwise_removed}
+use Rattle.xl_table.proofs.KeptLaws.{kept_empty, kept_removed}
 use Rattle.xl_wait.specs.Waiting.{cancelled}
 use Rattle.xl_wait.specs.declared.waiter.Rooms.{Rooms}
 use Rattle.xl_wait.specs.declared.waiter.Waiter.{Waiter}
-use Rattle.xl_core.specs.State.{CoreState, started, step_begun, with_parts}
-use Rattle.xl_core.specs.Asking.{both_entered, names_fit, asked_claim, known_claim, is_client, IsRealExtent, IsFitAct, IsFit}
-use Rattle.xl_core.specs.Decide.{most_hosts, most_waiters, passed_by_grant, passed_by_wait, decide, waiter_of, waiting, queued, lock_answered, lock_asked, ranges_asked, unlocked_bytes, unlocked, acted, ask}
-use Rattle.xl_core.specs.Good.{are_kept, IsKnown, are_apart, IsWaiter, IsGood, is_blocked}
+use Rattle.xl_core.specs.State.{CoreState, started, step_begun, drawn, with_parts}
+use Rattle.xl_core.specs.Asking.{both_entered, names_fit, asked_what, asked_claim, known_claim, is_client, IsRealExtent, IsFitAct, IsFit}
+use Rattle.xl_core.specs.Decide.{most_hosts, most_waiters, passed_by_grant, passed_by_wait, decide, waiter_of, waiting, queued, claim_answered, claim_decided, claim_asked, unlocked_bytes, unlocked, acted, ask}
+use Rattle.xl_core.specs.Good.{IsPosixBy, are_kept, IsKnown, are_apart, IsWaiter, IsGood, is_blocked}
 use Rattle.xl_core.specs.Relock.{relocked_in, relock_fits, holds_byte, granted_claims, grant_fits}
-use Rattle.xl_core.specs.Settle.{turn_with, turn_by, turn_of, first_some, first_turn, served_by, served, settle, waits_for, cancel, end_party}
+use Rattle.xl_core.specs.Settle.{turn_with, turn_by, turn_of, first_some, first_turn, served_by, served, settle, waits_for, cancel, give_back, end_party}
 use Rattle.xl_core.specs.declared.ask.Act.{Act}
-use Rattle.xl_core.specs.declared.ask.Act.TheVariants.{Ranges, Test, Unlock}
+use Rattle.xl_core.specs.declared.ask.Act.TheVariants.{Share, Ranges, Test, Unlock}
 use Rattle.xl_core.specs.declared.ask.Answer.{Answer}
 use Rattle.xl_core.specs.declared.ask.Answer.TheVariants.{NoGrace}
 use Rattle.xl_core.specs.declared.ask.Ask.{Ask}
@@ -38,24 +43,24 @@ use Rattle.xl_core.specs.declared.decide.Verdict.{Verdict}
 use Rattle.xl_core.specs.declared.decide.Verdict.TheVariants as verdict
 use Rattle.xl_core.specs.declared.settling.Turn.{Turn}
 use Rattle.xl_core.proofs.KnownLaws.{both_few, GoOn, both_go_on, both_distinct, known_on, waiters_on, one_party, asker_kept, asked_known, kept_on, kept_posix, known_party_is}
-use Rattle.xl_core.proofs.ClaimLaws.{AreGood, relocked_good, granted_good, all_single}
+use Rattle.xl_core.proofs.ClaimLaws.{AreGood, relocked_good, granted_good}
 use Rattle.xl_core.proofs.DecideLaws.{decide_is, blockers_none, passed_none}
 use Rattle.xl_core.proofs.WriteBack.{is_of-true, all_one_party, kept_filter}
 
 -- ---- a good state, part by part
 
 pub good_claims : (s : CoreState) → IsGood s → AreGood s.names s.claims
-good_claims s good = record { kept = good.kept; compatible = good.compatible; known = good.known }
+good_claims s good = record { kept = good.kept; compatible = good.compatible; single = good.single; known = good.known }
 
 claims_on : (names more : List Name) (cs : List Claim) → GoOn names more → AreGood names cs → AreGood more cs
-claims_on names more cs on good = record { kept = good.kept; compatible = good.compatible; known = known_on names more cs on good.known }
+claims_on names more cs on good = record { kept = good.kept; compatible = good.compatible; single = good.single; known = known_on names more cs on good.known }
 
 -- the state with these parts
 with_good : (s : CoreState) (claims : List Claim) (waiters : List Waiter) (names : List Name) (counter : ℕ) → AreDistinct names → length names ≤ most_names → AreGood names claims → AllByRecursion (IsWaiter names counter) waiters → Pairwise are_apart waiters → IsGood (with_parts s claims waiters names counter)
 with_good s claims waiters names counter distinct few good waits apart = record {
   kept = good.kept;
   compatible = good.compatible;
-  single = all_single names claims good.known;
+  single = good.single;
   known = good.known;
   waiters = waits;
   apart = apart;
@@ -82,9 +87,9 @@ known_one names c cs more on distinct all kept =
     owner_of d own = (is_of-true c.file c.owner d own).1
 
 -- the claim that is asked for, and the ranges that its owner has on its file, are of one party
-pub asked_one_party : (s : CoreState) (a : Ask) (extent : Extent) (exclusive : Bool) → IsGood s → is_client a.owner a.party ≡ true → AllByRecursion (λ c. has_one_party (asked_claim a extent exclusive s.names) c ≡ true) s.claims
-asked_one_party s a extent exclusive good client =
-    known_one s.names (asked_claim a extent exclusive s.names) s.claims (both_entered a s.names) (both_go_on a s.names) (both_distinct a s.names good.distinct) good.known (asker_kept a s.names client)
+pub asked_one_party : (s : CoreState) (a : Ask) (what : What) → IsGood s → is_client a.owner a.party ≡ true → AllByRecursion (λ c. has_one_party (asked_claim a what s.names) c ≡ true) s.claims
+asked_one_party s a what good client =
+    known_one s.names (asked_claim a what s.names) s.claims (both_entered a s.names) (both_go_on a s.names) (both_distinct a s.names good.distinct) good.known (asker_kept a s.names client)
 
 -- so is what a waiter asks for
 pub known_one_party : (s : CoreState) (c : Claim) → IsGood s → IsKnown s.names c → AllByRecursion (λ d. has_one_party c d ≡ true) s.claims
@@ -97,7 +102,7 @@ unlocked_one_party s a extent exclusive good client =
     all_one_party claim s.claims (λ d h own range. known_party_is a s.names d.party good.distinct good.few client
     (subst (λ (o : Owner). are_kept s.names o d.party ≡ true) (is_of-true claim.file claim.owner d own).1 (all_in (IsKnown s.names) d s.claims good.known h).1))
 
--- ---- a lock
+-- ---- a share or a lock
 
 waiting_good : (s : CoreState) (a : Ask) (claim : Claim) → IsGood s → names_fit a s.names ≡ true → IsKnown (both_entered a s.names) claim → IsGood (waiting s a claim)
 waiting_good s a claim good fit known =
@@ -132,14 +137,14 @@ queued_good : (s : CoreState) (a : Ask) (claim : Claim) (o : Option ℕ) → IsG
 queued_good s a claim (Some limit) good fit known = good
 queued_good s a claim None good fit known = waiting_good s a claim good (fit refl) known
 
-lock_answered_good : (n : ℕ) (left : Rooms) (s : CoreState) (a : Ask) (claim : Claim) (v : Verdict) → decide n s.waiters s left a.rows (names_fit a s.names) claim ≡ v → IsGood s → IsKnown (both_entered a s.names) claim → IsGood (lock_answered left s a claim v).2
-lock_answered_good n left s a claim (verdict.Blocked c) e good known =
+claim_answered_good : (n : ℕ) (left : Rooms) (s : CoreState) (a : Ask) (claim : Claim) (v : Verdict) → decide n s.waiters s left a.rows (names_fit a s.names) claim ≡ v → IsGood s → IsKnown (both_entered a s.names) claim → IsGood (claim_answered left s a claim v).2
+claim_answered_good n left s a claim (verdict.Blocked c) e good known =
     elim (cases_Bool a.blocking) [
       | inl waits ↦ rw waits (queued_good s a claim (passed_by_wait left a.rows (length s.waiters) (names_fit a s.names)) good (passed_wait left a.rows (length s.waiters) (names_fit a s.names)) known)
       | inr hurries ↦ rw hurries good
     ]
-lock_answered_good n left s a claim (verdict.Full limit) e good known = good
-lock_answered_good n left s a claim verdict.Free e good known =
+claim_answered_good n left s a claim (verdict.Full limit) e good known = good
+claim_answered_good n left s a claim verdict.Free e good known =
     let free = decide_is n s.waiters s left a.rows (names_fit a s.names) claim verdict.Free e in
     let fits = passed_none left a.rows (grant_fits claim s.claims) (names_fit a s.names) free.1 in
     let more = both_entered a s.names in
@@ -149,9 +154,9 @@ lock_answered_good n left s a claim verdict.Free e good known =
     (granted_good more claim s.claims distinct (claims_on s.names more s.claims on (good_claims s good)) known (blockers_none s.waiters s claim free.0) fits.0)
     (waiters_on s.names more s.counter s.counter s.waiters on (omega arith) good.waiters) good.apart
 
-pub lock_good : (n : ℕ) (left : Rooms) (s : CoreState) (a : Ask) (claim : Claim) → IsGood s → IsKnown (both_entered a s.names) claim → IsGood (lock_asked n left s a claim).2
-unfolding lock_asked
-lock_good n left s a claim good known = lock_answered_good n left s a claim (decide n s.waiters s left a.rows (names_fit a s.names) claim) refl good known
+pub lock_good : (n : ℕ) (left : Rooms) (s : CoreState) (a : Ask) (claim : Claim) → IsGood s → IsKnown (both_entered a s.names) claim → IsGood (claim_decided n left s a claim).2
+unfolding claim_decided
+lock_good n left s a claim good known = claim_answered_good n left s a claim (decide n s.waiters s left a.rows (names_fit a s.names) claim) refl good known
 
 -- ---- an unlock
 
@@ -194,18 +199,23 @@ unlock_good s a (Empty offset) good client ends = absurd ends
 
 -- ---- an ask
 
-ranges_good : (n : ℕ) (left : Rooms) (s : CoreState) (a : Ask) (extent : Extent) (exclusive : Bool) → IsGood s → is_client a.owner a.party ≡ true → IsRealExtent extent → IsGood (ranges_asked n left s a (Some (extent, exclusive))).2
-ranges_good n left s a extent exclusive good client real =
-    either_good a.reclaim (NoGrace s.clock, [], s) (lock_asked n left s a (asked_claim a extent exclusive s.names)) good
-    (lock_good n left s a (asked_claim a extent exclusive s.names) good (asked_known a extent exclusive s.names client real))
+asked_good : (n : ℕ) (left : Rooms) (s : CoreState) (a : Ask) (what : What) → IsGood s → is_client a.owner a.party ≡ true → IsPosixBy what → IsGood (claim_asked n left s a (Some what)).2
+asked_good n left s a what good client posix_what =
+    either_good a.reclaim (NoGrace s.clock, [], s) (claim_decided n left s a (asked_claim a what s.names)) good
+    (lock_good n left s a (asked_claim a what s.names) good (asked_known a what s.names client posix_what))
   where
     either_good : (b : Bool) (x y : Answer × List Effect × CoreState) → IsGood x.2 → IsGood y.2 → IsGood (if b then x else y).2
     either_good true x y good later = good
     either_good false x y good later = later
 
+real_range : (extent : Extent) (exclusive : Bool) → IsRealExtent extent → IsPosixBy (whats.Range extent exclusive)
+real_range (Bytes first last) exclusive h = h
+real_range (Empty offset) exclusive h = absurd h
+
 acted_good : (n : ℕ) (left : Rooms) (s : CoreState) (a : Ask) (act : Act) → IsGood s → is_client a.owner a.party ≡ true → IsFitAct act → IsGood (acted n left s a act).2
+acted_good n left s a (Share access deny) good client fit = asked_good n left s a (whats.Share access deny) good client tt
 acted_good n left s a (Ranges []) good client fit = absurd fit
-acted_good n left s a (Ranges (range ∷ [])) good client fit = ranges_good n left s a range.0 range.1 good client fit
+acted_good n left s a (Ranges (range ∷ [])) good client fit = asked_good n left s a (whats.Range range.0 range.1) good client (real_range range.0 range.1 fit)
 acted_good n left s a (Ranges (range ∷ more ∷ rest)) good client fit = absurd fit
 acted_good n left s a (Test extent exclusive) good client fit = good
 acted_good n left s a (Unlock extent) good client fit = unlock_good s a extent good client fit
@@ -320,6 +330,24 @@ cancel_good s id good =
     with_good s s.claims (cancelled id s.waiters) s.names s.counter good.distinct good.few (good_claims s good)
     (cancelled_all (IsWaiter s.names s.counter) id s.waiters good.waiters) (cancelled_pairwise are_apart id s.waiters good.apart)
 
+pub give_back_good : (s : CoreState) (claim : Claim) → IsGood s → IsGood (give_back s claim).1
+unfolding give_back
+give_back_good s claim good =
+    with_good s (removed claim s.claims) s.waiters s.names s.counter good.distinct good.few
+    (record {
+      kept = kept_removed claim s.claims good.kept;
+      compatible = pairwise_removed compat claim s.claims good.compatible;
+      single = pairwise_removed is_single claim s.claims good.single;
+      known = all_removed (IsKnown s.names) claim s.claims good.known;
+    })
+    good.waiters good.apart
+
+pub drawn_good : (s : CoreState) → IsGood s → IsGood (drawn s)
+unfolding drawn
+drawn_good s good =
+    with_good s s.claims s.waiters s.names (s.counter + 1) good.distinct good.few (good_claims s good)
+    (waiters_on s.names s.names s.counter (s.counter + 1) s.waiters (λ number name h. h) (omega arith) good.waiters) good.apart
+
 pub end_party_good : (s : CoreState) (party : Party) → IsGood s → IsGood (end_party s party).1
 unfolding end_party
 end_party_good s party good =
@@ -329,6 +357,7 @@ end_party_good s party good =
     (record {
       kept = kept_filter stays s.claims good.kept;
       compatible = pairwise_filter compat stays s.claims good.compatible;
+      single = pairwise_filter is_single stays s.claims good.single;
       known = all_from (IsKnown s.names) (filter stays s.claims) (λ c h. all_in (IsKnown s.names) c s.claims good.known (in_filter_from stays c s.claims h).0);
     })
     (all_from (IsWaiter s.names s.counter) (filter waits s.waiters) (λ w h. all_in (IsWaiter s.names s.counter) w s.waiters good.waiters (in_filter_from waits w s.waiters h).0))

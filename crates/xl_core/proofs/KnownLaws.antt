@@ -17,14 +17,14 @@ use Rattle.xl_matrix.specs.Owners.{posix}
 use Rattle.xl_matrix.specs.declared.claim.Claim.{Claim}
 use Rattle.xl_matrix.specs.declared.claim.Extent.{Extent}
 use Rattle.xl_matrix.specs.declared.claim.Extent.TheVariants.{Bytes, Empty}
-use Rattle.xl_matrix.specs.declared.claim.What.TheVariants.{Range}
+use Rattle.xl_matrix.specs.declared.claim.What.{What}
 use Rattle.xl_names.specs.Names.{protocol_of, same_name, number_of, place_of, is_kept, entered, AreDistinct, most_names}
 use Rattle.xl_names.specs.declared.name.Name.{Name}
 use Rattle.xl_names.specs.declared.name.Name.TheVariants.{NlmRange, NlmShare, NlmParty, NfsRange, NfsShare, NfsParty, SmbLease}
 use Rattle.xl_names.proofs.NameLaws.{same_name_is, same_name_self, kept_from_number, number_at, name_at, number_entered, distinct_entered}
 use Rattle.xl_wait.specs.declared.waiter.Waiter.{Waiter}
-use Rattle.xl_core.specs.Asking.{owner_in, party_in, who_entered, asker, asking_party, both_entered, coming, names_fit, asked_claim, no_number, number_or, known_owner, known_party, client_of, is_name, is_client, IsRealExtent}
-use Rattle.xl_core.specs.Good.{IsRangeBy, agree, are_kept, IsKnown, IsWaiter}
+use Rattle.xl_core.specs.Asking.{owner_in, party_in, who_entered, asker, asking_party, both_entered, coming, names_fit, asked_what, asked_claim, no_number, number_or, known_owner, known_party, client_of, is_name, is_client, IsRealExtent}
+use Rattle.xl_core.specs.Good.{IsPosixBy, agree, are_kept, IsKnown, IsWaiter}
 use Rattle.xl_core.specs.declared.ask.Ask.{Ask}
 use Rattle.xl_core.specs.declared.ask.Who.{Who}
 use Rattle.xl_core.specs.declared.ask.Who.TheVariants.{Named, Open}
@@ -200,24 +200,20 @@ asker_kept a names h =
 client_posix : (name client : Name) → client_of name ≡ Some client → (number : ℕ) → posix (owners.Name (protocol_of name) number) ≡ true
 client_posix (NlmRange caller svid oh) client is number = refl
 client_posix (NfsRange owner name) client is number = refl
-client_posix (NlmShare caller oh) client is number = cc
+client_posix (NlmShare caller oh) client is number = refl
 client_posix (NlmParty caller) client is number = cc
-client_posix (NfsShare owner name) client is number = cc
+client_posix (NfsShare owner name) client is number = refl
 client_posix (NfsParty owner) client is number = cc
 client_posix (SmbLease guid key) client is number = cc
 
 pub kept_posix : (names : List Name) (owner : Owner) (party : Party) → are_kept names owner party ≡ true → posix owner ≡ true
 kept_posix names owner party h = let is = kept_parts names owner party h in ap (λ (o : Owner). posix o) is.owner_is ∙ client_posix is.name is.client is.client_is is.number
 
-real_range : (extent : Extent) (exclusive : Bool) → IsRealExtent extent → IsRangeBy (Range extent exclusive)
-real_range (Bytes first last) exclusive h = h
-real_range (Empty offset) exclusive h = absurd h
-
 -- the claim that is asked for is known once its names are entered
-pub asked_known : (a : Ask) (extent : Extent) (exclusive : Bool) (names : List Name) → is_client a.owner a.party ≡ true → IsRealExtent extent → IsKnown (both_entered a names) (asked_claim a extent exclusive names)
-asked_known a extent exclusive names h real =
+pub asked_known : (a : Ask) (what : What) (names : List Name) → is_client a.owner a.party ≡ true → IsPosixBy what → IsKnown (both_entered a names) (asked_claim a what names)
+asked_known a what names h posix_what =
     let kept = asker_kept a names h in
-    ((real_range extent exclusive real, kept_posix (both_entered a names) (asker a names) (asking_party a names) kept), kept)
+    ((posix_what, kept_posix (both_entered a names) (asker a names) (asking_party a names) kept), kept)
 
 -- ---- who asks, where no name is entered
 
@@ -308,9 +304,9 @@ both_few a names h =
 client_differs : (name client : Name) → client_of name ≡ Some client → same_name client name ≡ false
 client_differs (NlmRange caller svid oh) client is = ap (λ (n : Name). same_name n (NlmRange caller svid oh)) (same_Some client (NlmParty caller) (sym is))
 client_differs (NfsRange owner name) client is = ap (λ (n : Name). same_name n (NfsRange owner name)) (same_Some client (NfsParty owner) (sym is))
-client_differs (NlmShare caller oh) client is = cc
+client_differs (NlmShare caller oh) client is = ap (λ (n : Name). same_name n (NlmShare caller oh)) (same_Some client (NlmParty caller) (sym is))
 client_differs (NlmParty caller) client is = cc
-client_differs (NfsShare owner name) client is = cc
+client_differs (NfsShare owner name) client is = ap (λ (n : Name). same_name n (NfsShare owner name)) (same_Some client (NfsParty owner) (sym is))
 client_differs (NfsParty owner) client is = cc
 client_differs (SmbLease guid key) client is = cc
 

@@ -1,6 +1,7 @@
 pub mod AskLaws
 pub mod SpanLaws
 pub mod WriteBack
+pub mod ShareLaws
 pub mod KnownLaws
 pub mod ClaimLaws
 pub mod DecideLaws

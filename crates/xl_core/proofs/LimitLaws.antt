@@ -16,8 +16,10 @@ use Rattle.xl_base.specs.declared.name.Party.{Party}
 use Rattle.xl_wait.specs.declared.waiter.Rooms.{Rooms}
 use Rattle.xl_core.specs.Causes.{grant_limits, wait_limits, is_passed, IsRoom, IsLeastPassed}
 use Rattle.xl_core.specs.Decide.{most_hosts, most_waiters, most_opens, most_owners, passed_by_grant, passed_by_wait}
-use Rattle.xl_core.specs.Good.{IsRangeBy, IsRange}
-use Rattle.xl_core.specs.Relock.{most_claims, touched, untouched, fresh, relocked_in, relock_fits, granted_by, granted_claims, grant_fits_by, grant_fits}
+use Rattle.xl_core.specs.Good.{IsPosixBy, IsPosix}
+use Rattle.xl_core.specs.Relock.{most_claims, touched, untouched, fresh, relocked_in, relock_fits, unshared, old_shares, shared_in, share_fits, granted_by, granted_claims, grant_fits_by, grant_fits}
+use Rattle.xl_table.proofs.FlatLaws.{length_inserted}
+use Rattle.xl_core.proofs.ShareLaws.{length_unshared}
 use Rattle.xl_core.proofs.WriteBack.{length_left, length_relocked}
 
 -- ---- the least of rising limits
@@ -122,12 +124,21 @@ relock_fits_is file owner party first last mode cs =
     room_tests (length cs) (length (fresh file owner first last mode cs)) (length (touched file owner first last cs)) (length (untouched file owner first last cs)) most_claims (length_left file owner first last cs)
     ∙ ap (λ (n : ℕ). nat_le n most_claims) (sym (length_relocked file owner party first last mode cs))
 
-fits_by : (c : Claim) (w : What) (cs : List Claim) → IsRangeBy w → grant_fits_by c w cs ≡ nat_le (length (granted_by c w cs)) most_claims
+share_fits_is : (c : Claim) (cs : List Claim) → share_fits c cs ≡ nat_le (length (shared_in c cs)) most_claims
+unfolding share_fits shared_in
+share_fits_is c cs =
+    room_tests (length cs) 1 (length (old_shares c.file c.owner cs)) (length (unshared c.file c.owner cs)) most_claims (length_unshared c.file c.owner cs)
+    ∙ ap (λ (n : ℕ). nat_le n most_claims) (flip (length (unshared c.file c.owner cs)) ∙ sym (length_inserted c (unshared c.file c.owner cs)))
+  where
+    flip : (n : ℕ) → 1 + n ≡ n + 1
+    flip n = omega arith
+
+fits_by : (c : Claim) (w : What) (cs : List Claim) → IsPosixBy w → grant_fits_by c w cs ≡ nat_le (length (granted_by c w cs)) most_claims
 fits_by c (Range (Bytes first last) exclusive) cs h = relock_fits_is c.file c.owner c.party first last (Some (mode_of exclusive)) cs
 fits_by c (Range (Empty offset) exclusive) cs h = absurd h
-fits_by c (Share access deny) cs h = absurd h
+fits_by c (Share access deny) cs h = share_fits_is c cs
 fits_by c (Cache kind running) cs h = absurd h
 
-pub fits_is : (c : Claim) (cs : List Claim) → IsRange c → grant_fits c cs ≡ nat_le (length (granted_claims c cs)) most_claims
+pub fits_is : (c : Claim) (cs : List Claim) → IsPosix c → grant_fits c cs ≡ nat_le (length (granted_claims c cs)) most_claims
 unfolding grant_fits granted_claims
-fits_is c cs range = fits_by c c.what cs range.0
+fits_is c cs known = fits_by c c.what cs known.0

@@ -9,7 +9,7 @@ use Rattle.xl_base.specs.declared.name.Party.{Party}
 use Rattle.xl_matrix.specs.Equal.{same_parties}
 use Rattle.xl_matrix.specs.declared.claim.Claim.{Claim}
 use Rattle.xl_names.specs.Names.{most_names}
-use Rattle.xl_table.specs.Flat.{blocks}
+use Rattle.xl_table.specs.Flat.{blocks, removed}
 use Rattle.xl_wait.specs.Waiting.{cancelled}
 use Rattle.xl_wait.specs.declared.waiter.Rooms.{Rooms}
 use Rattle.xl_wait.specs.declared.waiter.Waiter.{Waiter}
@@ -19,14 +19,14 @@ use Rattle.xl_core.specs.Causes.{grant_limits, IsBlockedWaiter, IsTurn}
 use Rattle.xl_core.specs.Decide.{passed_by_grant, decide}
 use Rattle.xl_core.specs.Good.{are_apart, IsGood, is_blocked, is_still_blocked, IsSettled}
 use Rattle.xl_core.specs.Relock.{most_claims, granted_claims, grant_fits}
-use Rattle.xl_core.specs.Settle.{turn_with, turn_by, turn_of, first_some, first_turn, served_by, served, settle, waits_for, cancel, end_party}
+use Rattle.xl_core.specs.Settle.{turn_with, turn_by, turn_of, first_some, first_turn, served_by, served, settle, waits_for, cancel, give_back, end_party}
 use Rattle.xl_core.specs.declared.ask.Answer.TheVariants.{Granted, Full}
 use Rattle.xl_core.specs.declared.ask.Effect.{Effect}
 use Rattle.xl_core.specs.declared.ask.Effect.TheVariants.{Served}
 use Rattle.xl_core.specs.declared.decide.Verdict.{Verdict}
 use Rattle.xl_core.specs.declared.decide.Verdict.TheVariants as verdict
 use Rattle.xl_core.specs.declared.settling.Turn.{Turn}
-use Rattle.xl_core.proofs.ChangeLaws.{granted_apart}
+use Rattle.xl_core.proofs.ChangeLaws.{spans_apart, shares_apart}
 use Rattle.xl_core.proofs.DecideLaws.{decide_is, decide_by, blockers_some, blockers_none, one_passes}
 use Rattle.xl_core.proofs.GoodLaws.{IsTurnOf, turn_of_is, first_some_cases, mapped, waiter_known}
 use Rattle.xl_core.proofs.LimitLaws.{IsFound, grant_found, fits_is}
@@ -161,7 +161,8 @@ served_turn left s turn (Some limit) good first e = record {
   told = ap (λ (id : ℕ). Served id (Full limit) ∷ []) first.is.id;
   waiters = waiters_left s left turn first good;
   names = refl;
-  others = λ file owner apart. refl;
+  spans = λ file owner apart. refl;
+  shares = λ file owner apart. refl;
 }
 served_turn left s turn None good first e = record {
   before = first.before;
@@ -177,7 +178,8 @@ served_turn left s turn None good first e = record {
   told = ap (λ (id : ℕ). Served id (Granted turn.claim) ∷ []) first.is.id;
   waiters = waiters_left s left turn first good;
   names = refl;
-  others = λ file owner apart. granted_apart turn.claim s.claims file owner apart;
+  spans = λ file owner apart. spans_apart turn.claim s.claims file owner apart;
+  shares = λ file owner apart. shares_apart turn.claim s.claims file owner apart;
 }
 
 served_is : (left : Rooms) (s : CoreState) (turn : Turn) → IsGood s → IsFirst left s s.waiters turn → IsTurn left s (served s turn).0 (served s turn).1
@@ -207,6 +209,10 @@ turn_fewer n left s good = if_weaker (λ r. IsTurn left s r.0 r.1) (λ r. length
 pub cancel_is : (s : CoreState) (id : ℕ) → ((cancel s id).1.claims ≡ s.claims) × ((cancel s id).1.waiters ≡ cancelled id s.waiters)
 unfolding cancel
 cancel_is s id = (refl, refl)
+
+pub give_back_is : (s : CoreState) (claim : Claim) → ((give_back s claim).1.claims ≡ removed claim s.claims) × ((give_back s claim).1.waiters ≡ s.waiters)
+unfolding give_back
+give_back_is s claim = (refl, refl)
 
 -- of the claims a party takes its own with it
 pub party_claims : (s : CoreState) (party : Party) (c : Claim) → IsIn c (end_party s party).1.claims ↔ (IsIn c s.claims × (same_parties c.party party ≡ false))

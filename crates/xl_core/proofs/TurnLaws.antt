@@ -13,7 +13,7 @@ use Rattle.xl_wait.specs.declared.waiter.Waiter.{Waiter}
 use Rattle.xl_core.specs.State.{CoreState}
 use Rattle.xl_core.specs.Blockers.{blockers}
 use Rattle.xl_core.specs.Decide.{decide}
-use Rattle.xl_core.specs.Good.{IsRange, IsKnown, IsWaiter, IsGood, are_apart}
+use Rattle.xl_core.specs.Good.{IsPosix, IsKnown, IsWaiter, IsGood, are_apart}
 use Rattle.xl_core.specs.Settle.{turn_by, turn_of, first_some, next_turn, first_turn, waits_for, numbers_for, all_cancelled}
 use Rattle.xl_core.specs.declared.settling.Turn.{Turn}
 use Rattle.xl_core.specs.Asking.{is_client, asked_claim, known_claim, IsFit}
@@ -25,13 +25,14 @@ use Rattle.xl_core.specs.declared.ask.Ask.{Ask}
 use Rattle.xl_core.specs.declared.ask.Effect.{Effect}
 use Rattle.xl_core.specs.declared.parts.Parts.{Parts}
 use Rattle.xl_matrix.specs.declared.claim.Extent.{Extent}
+use Rattle.xl_matrix.specs.declared.claim.What.{What}
 use Rattle.xl_core.proofs.GoodLaws.{ask_good, settle_good, asked_one_party, unlocked_one_party, first_turn_is, waiter_known, known_one_party}
 
 -- ---- an ask
 
-pub asked_alone : (p : Parts) (a : Ask) (extent : Extent) (exclusive : Bool) (claim : Claim) → claim ≡ asked_claim a extent exclusive p.names → IsGood (state_of p) → is_client a.owner a.party ≡ true → AllByRecursion (λ c. has_one_party claim c ≡ true) p.table
-asked_alone p a extent exclusive claim e good client =
-    subst (λ (x : Claim). AllByRecursion (λ c. has_one_party x c ≡ true) p.table) (sym e) (asked_one_party (state_of p) a extent exclusive good client)
+pub asked_alone : (p : Parts) (a : Ask) (what : What) (claim : Claim) → claim ≡ asked_claim a what p.names → IsGood (state_of p) → is_client a.owner a.party ≡ true → AllByRecursion (λ c. has_one_party claim c ≡ true) p.table
+asked_alone p a what claim e good client =
+    subst (λ (x : Claim). AllByRecursion (λ c. has_one_party x c ≡ true) p.table) (sym e) (asked_one_party (state_of p) a what good client)
 
 pub known_alone : (p : Parts) (a : Ask) (extent : Extent) (exclusive : Bool) (claim : Claim) → claim ≡ known_claim a extent exclusive p.names → IsGood (state_of p) → is_client a.owner a.party ≡ true → AllByRecursion (λ c. has_one_party claim c ≡ true) p.table
 known_alone p a extent exclusive claim e good client =
@@ -47,27 +48,27 @@ told_good s t o (Some effects) good e same turned = subst (λ (x : Option (List 
 pub settle_keeps : (left : Rooms) (s t : CoreState) (r : Option (List Effect)) → ((n : ℕ) → settle n left s ≡ option_map (λ effects. (effects, t)) r) → (r ≡ None → t ≡ s) → IsGood s → IsGood t
 settle_keeps left s t r e same good = told_good s t (settle 0 left s) r good (e 0) same (settle_good 0 left s good)
 
--- ---- who waits, waits for a range
+-- ---- who waits, waits for a share or a range
 
 first_known : (names : List Name) (cs : List Claim) → AllByRecursion (IsKnown names) cs → IfSome (slice_get cs 0) (λ c. IsKnown names c)
 first_known names [] all = tt
 first_known names (c ∷ cs) all = all.0
 
-range_of : (names : List Name) (o : Option Claim) → IfSome o (λ c. IsKnown names c) → IfSome o (λ c. IsRange c)
-range_of names None known = tt
-range_of names (Some c) known = known.0
+posix_of : (names : List Name) (o : Option Claim) → IfSome o (λ c. IsKnown names c) → IfSome o (λ c. IsPosix c)
+posix_of names None known = tt
+posix_of names (Some c) known = known.0
 
-pub first_is_range : (names : List Name) (counter : ℕ) (w : Waiter) → IsWaiter names counter w → IfSome (slice_get w.asked 0) (λ c. IsRange c)
-first_is_range names counter w waits = range_of names (slice_get w.asked 0) (first_known names w.asked waits.1)
+pub first_is_posix : (names : List Name) (counter : ℕ) (w : Waiter) → IsWaiter names counter w → IfSome (slice_get w.asked 0) (λ c. IsPosix c)
+first_is_posix names counter w waits = posix_of names (slice_get w.asked 0) (first_known names w.asked waits.1)
 
 turn_known : (n : ℕ) (left : Rooms) (s : CoreState) (turn : Turn) → IsGood s → first_turn n left s [] s.waiters ≡ Some turn → IsKnown s.names turn.claim
 turn_known n left s turn good e =
     let found = first_turn_is n left s [] s.waiters turn e in
     waiter_known s found.0 turn.claim good found.1 found.2.claim
 
--- whose turn has come, asks for a range, and has one party with its owner's ranges
-pub turn_is_range : (left : Rooms) (p : Parts) (turn : Turn) → IsGood (state_of p) → ((n : ℕ) → Some turn ≡ first_turn n left (state_of p) [] p.queue) → IsRange turn.claim
-turn_is_range left p turn good e = (turn_known 0 left (state_of p) turn good (sym (e 0))).0
+-- whose turn has come, asks for a share or a range, and has one party with its owner's ranges
+pub turn_is_posix : (left : Rooms) (p : Parts) (turn : Turn) → IsGood (state_of p) → ((n : ℕ) → Some turn ≡ first_turn n left (state_of p) [] p.queue) → IsPosix turn.claim
+turn_is_posix left p turn good e = (turn_known 0 left (state_of p) turn good (sym (e 0))).0
 
 pub turn_has_one_party : (left : Rooms) (p : Parts) (turn : Turn) → IsGood (state_of p) → ((n : ℕ) → Some turn ≡ first_turn n left (state_of p) [] p.queue) → AllByRecursion (λ c. has_one_party turn.claim c ≡ true) p.table
 turn_has_one_party left p turn good e = known_one_party (state_of p) turn.claim good (turn_known 0 left (state_of p) turn good (sym (e 0)))

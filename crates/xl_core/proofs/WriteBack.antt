@@ -345,7 +345,7 @@ sound_relocked file owner party first last mode cs kept p ends one = record {
 
 -- ---- the list is kept afterwards
 
-length_split : (p : Claim → Bool) (cs : List Claim) → length (filter p cs) + length (filter (λ c. not (p c)) cs) ≡ length cs
+pub length_split : (p : Claim → Bool) (cs : List Claim) → length (filter p cs) + length (filter (λ c. not (p c)) cs) ≡ length cs
 length_split p [] = omega arith
 length_split p (c ∷ cs) =
     elim (cases_Bool (p c)) [

@@ -1,5 +1,6 @@
 -- Who asks: the numbers of names, which may still have to come, and the claim that an ask is for.
-use Rattle.std.specs.Prelude.{◌≡◌, ℕ, ◌+◌, ◌≤◌, Bool, true, false, ◌&&◌, nat_le, if◌then◌else◌, List, [], ◌∷◌, length, Option, Some, None}
+use Rattle.std.specs.Prelude.{◌≡◌, ℕ, ◌+◌, ◌≤◌, Bool, true, false, ◌&&◌, nat_le, if◌then◌else◌, List, [], ◌∷◌, length, Option, Some, None, option_map}
+use Rattle.std.specs.List.{slice_get}
 use Rattle.xl_base.specs.declared.name.Owner.{Owner}
 use Rattle.xl_base.specs.declared.name.Owner.TheVariants as owners
 use Rattle.xl_base.specs.declared.name.Party.{Party}
@@ -7,14 +8,15 @@ use Rattle.xl_base.specs.declared.name.Party.TheVariants as parties
 use Rattle.xl_matrix.specs.declared.claim.Claim.{Claim}
 use Rattle.xl_matrix.specs.declared.claim.Extent.{Extent}
 use Rattle.xl_matrix.specs.declared.claim.Extent.TheVariants.{Bytes, Empty}
-use Rattle.xl_matrix.specs.declared.claim.What.TheVariants.{Range}
+use Rattle.xl_matrix.specs.declared.claim.What.{What}
+use Rattle.xl_matrix.specs.declared.claim.What.TheVariants as whats
 use Rattle.xl_names.specs.Names.{protocol_of, same_name, number_of, place_of, is_kept, entered, most_names}
 use Rattle.xl_names.specs.declared.name.Name.{Name}
 use Rattle.xl_names.specs.declared.name.Name.TheVariants.{NlmRange, NlmShare, NlmParty, NfsRange, NfsShare, NfsParty, SmbLease}
 use Rattle.xl_core.specs.declared.ask.Who.{Who}
 use Rattle.xl_core.specs.declared.ask.Who.TheVariants.{Named, Open}
 use Rattle.xl_core.specs.declared.ask.Act.{Act}
-use Rattle.xl_core.specs.declared.ask.Act.TheVariants.{Ranges, Test, Unlock}
+use Rattle.xl_core.specs.declared.ask.Act.TheVariants.{Share, Ranges, Test, Unlock}
 use Rattle.xl_core.specs.declared.ask.Ask.{Ask}
 
 -- ---- an ask that may enter its names
@@ -52,9 +54,19 @@ coming (Open number) names = 0
 abbrev pub names_fit : Ask → List Name → Bool
 names_fit a names = nat_le (length names + (coming a.owner names + coming a.party names)) most_names
 
--- the claim on a range that the ask is for
-abbrev pub asked_claim : Ask → Extent → Bool → List Name → Claim
-asked_claim a extent exclusive names = record { file = a.file; owner = asker a names; party = asking_party a names; what = Range extent exclusive }
+abbrev pub range_what : Extent × Bool → What
+range_what range = whats.Range range.0 range.1
+
+-- what is to be held once the ask is granted; nothing by a test or an unlock
+abbrev pub asked_what : Act → Option What
+asked_what (Share access deny) = Some (whats.Share access deny)
+asked_what (Ranges ranges) = option_map range_what (slice_get ranges 0)
+asked_what (Test extent exclusive) = None
+asked_what (Unlock extent) = None
+
+-- the claim that the ask is for
+abbrev pub asked_claim : Ask → What → List Name → Claim
+asked_claim a what names = record { file = a.file; owner = asker a names; party = asking_party a names; what = what }
 
 -- ---- an ask that enters no name
 
@@ -77,21 +89,23 @@ known_party (Open number) names = parties.Open number
 -- the claim on a range that a test or an unlock is for
 abbrev pub known_claim : Ask → Extent → Bool → List Name → Claim
 known_claim a extent exclusive names =
-    record { file = a.file; owner = known_owner a.owner names; party = known_party a.party names; what = Range extent exclusive }
+    record { file = a.file; owner = known_owner a.owner names; party = known_party a.party names; what = whats.Range extent exclusive }
 
 -- ---- which asks the core takes
 
--- the client that an owner of POSIX ranges belongs to
+-- the client that an owner of POSIX ranges or of shares belongs to
 abbrev pub client_of : Name → Option Name
 client_of (NlmRange caller svid oh) = Some (NlmParty caller)
+client_of (NlmShare caller oh) = Some (NlmParty caller)
 client_of (NfsRange client owner) = Some (NfsParty client)
+client_of (NfsShare client owner) = Some (NfsParty client)
 client_of _ = None
 
 abbrev pub is_name : Option Name → Name → Bool
 is_name None name = false
 is_name (Some client) name = same_name client name
 
--- the party is the client of an owner of POSIX ranges
+-- the party is the owner's client
 abbrev pub is_client : Who → Who → Bool
 is_client (Named owner) (Named party) = is_name (client_of owner) party
 is_client _ _ = false
@@ -101,8 +115,9 @@ abbrev pub IsRealExtent : Extent → Type 0
 IsRealExtent (Bytes first last) = first ≤ last
 IsRealExtent (Empty offset) = ⊥
 
--- one such range
+-- a share, or one such range
 abbrev pub IsFitAct : Act → Type 0
+IsFitAct (Share access deny) = Unit {0}
 IsFitAct (Ranges ((extent, exclusive) ∷ [])) = IsRealExtent extent
 IsFitAct (Ranges _) = ⊥
 IsFitAct (Test extent exclusive) = IsRealExtent extent

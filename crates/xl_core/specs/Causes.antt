@@ -16,7 +16,9 @@ use Rattle.xl_core.specs.Asking.{asker, both_entered}
 use Rattle.xl_core.specs.Blockers.{least, blockers, test_blockers}
 use Rattle.xl_core.specs.Decide.{most_hosts, most_waiters, most_opens, most_owners}
 use Rattle.xl_core.specs.Good.{is_blocked, is_still_blocked}
-use Rattle.xl_core.specs.Relock.{most_claims, relocked_in, granted_claims}
+use Rattle.xl_core.specs.Relock.{most_claims, is_share, shares_of, relocked_in, granted_claims}
+use Rattle.xl_core.specs.declared.ask.Act.{Act}
+use Rattle.xl_core.specs.declared.ask.Act.TheVariants.{Share}
 use Rattle.xl_core.specs.declared.ask.Answer.{Answer}
 use Rattle.xl_core.specs.declared.ask.Answer.TheVariants.{Granted, Conflict, Queued, NoGrace, Full, NotHeld}
 use Rattle.xl_core.specs.declared.ask.Ask.{Ask}
@@ -58,20 +60,20 @@ limits_of_wait left s a = wait_limits left a.rows (length s.waiters + 1) (length
 
 -- ---- why an ask is answered so
 
--- Why a lock is. A reclaim comes too late, as no grace runs. What nothing held blocks is granted where no limit is
+-- Why a share or a lock is. A reclaim comes too late, as no grace runs. What nothing held blocks is granted where no limit is
 -- passed. What something blocks waits, where it may and no limit is passed; else the least of what blocks it is told.
-abbrev pub IsLockDue : Rooms → CoreState → Ask → Claim → Answer → Type 0
-IsLockDue left s a claim (Granted c) = (c ≡ claim) × (a.reclaim ≡ false) × (is_blocked s.claims claim ≡ false) × IsRoom (limits_of_grant left s a claim)
-IsLockDue left s a claim (Conflict c) =
+abbrev pub IsClaimDue : Rooms → CoreState → Ask → Claim → Answer → Type 0
+IsClaimDue left s a claim (Granted c) = (c ≡ claim) × (a.reclaim ≡ false) × (is_blocked s.claims claim ≡ false) × IsRoom (limits_of_grant left s a claim)
+IsClaimDue left s a claim (Conflict c) =
     (a.reclaim ≡ false) × (a.blocking ≡ false) × (least s.names (blockers s.waiters s claim) ≡ Some c) × IsIn c s.claims × (blocks claim c ≡ true)
-IsLockDue left s a claim (Queued number) =
+IsClaimDue left s a claim (Queued number) =
     (number ≡ s.counter + 1) × (a.reclaim ≡ false) × (a.blocking ≡ true) × (is_blocked s.claims claim ≡ true) × IsRoom (limits_of_wait left s a)
-IsLockDue left s a claim (NoGrace clock) = (clock ≡ s.clock) × (a.reclaim ≡ true)
-IsLockDue left s a claim (Full limit) =
+IsClaimDue left s a claim (NoGrace clock) = (clock ≡ s.clock) × (a.reclaim ≡ true)
+IsClaimDue left s a claim (Full limit) =
     (a.reclaim ≡ false)
     × (((is_blocked s.claims claim ≡ false) × IsLeastPassed (limits_of_grant left s a claim) limit)
     ⊎ ((a.blocking ≡ true) × (is_blocked s.claims claim ≡ true) × IsLeastPassed (limits_of_wait left s a) limit))
-IsLockDue left s a claim _ = ⊥
+IsClaimDue left s a claim _ = ⊥
 
 -- a held range blocks a test of this range
 abbrev pub stands_against : Claim → Claim → Bool
@@ -130,16 +132,23 @@ pub record IsTurn (left : Rooms) (s : CoreState) (effects : List Effect) (new : 
   pub told : effects ≡ Served waiter.id answer ∷ []
   pub waiters : new.waiters ≡ before ++ behind
   pub names : new.names ≡ s.names
-  pub others : (file : ℕ) (owner : Owner) → ((file ≡ claim.file) × (owner ≡ claim.owner) → ⊥) → spans_of file owner new.claims ≡ spans_of file owner s.claims
+  pub spans : (file : ℕ) (owner : Owner) → ((file ≡ claim.file) × (owner ≡ claim.owner) × (is_share claim.what ≡ false) → ⊥) → spans_of file owner new.claims ≡ spans_of file owner s.claims
+  pub shares : (file : ℕ) (owner : Owner) → ((file ≡ claim.file) × (owner ≡ claim.owner) × (is_share claim.what ≡ true) → ⊥) → shares_of file owner new.claims ≡ shares_of file owner s.claims
 
 -- ---- what an ask may change
 
+-- a share is asked for
+abbrev pub asks_share : Act → Bool
+asks_share (Share access deny) = true
+asks_share _ = false
+
 -- An ask that is neither granted nor told to wait changes nothing. One that is granted changes only what its owner has on
--- its file, one that waits no claim. No waiter goes, and each name keeps its number.
+-- its file: a share for a share, ranges for a range. One that waits changes no claim. No waiter goes, and each name keeps its number.
 pub record IsOwn (s : CoreState) (a : Ask) (answer : Answer) (new : CoreState) : Type 0 where
   pub claims : ((claim : Claim) → answer ≡ Granted claim → ⊥) → new.claims ≡ s.claims
   pub waiters : ((number : ℕ) → answer ≡ Queued number → ⊥) → new.waiters ≡ s.waiters
   pub refused : ((claim : Claim) → answer ≡ Granted claim → ⊥) → ((number : ℕ) → answer ≡ Queued number → ⊥) → new ≡ s
-  pub others : (file : ℕ) (owner : Owner) → ((file ≡ a.file) × (owner ≡ asker a s.names) → ⊥) → spans_of file owner new.claims ≡ spans_of file owner s.claims
+  pub spans : (file : ℕ) (owner : Owner) → ((file ≡ a.file) × (owner ≡ asker a s.names) × (asks_share a.act ≡ false) → ⊥) → spans_of file owner new.claims ≡ spans_of file owner s.claims
+  pub shares : (file : ℕ) (owner : Owner) → ((file ≡ a.file) × (owner ≡ asker a s.names) × (asks_share a.act ≡ true) → ⊥) → shares_of file owner new.claims ≡ shares_of file owner s.claims
   pub stay : (w : Waiter) → IsIn w s.waiters → IsIn w new.waiters
   pub names : (number : ℕ) (name : Name) → slice_get s.names number ≡ Some name → slice_get new.names number ≡ Some name

@@ -1,18 +1,18 @@
 -- What an ask is answered, and what it changes.
 use Rattle.std.specs.Prelude.{◌≡◌, ℕ, ◌+◌, Bool, true, false, not, nat_le, nat_lt, if◌then◌else◌, List, [], ◌∷◌, ◌++◌, length, Option, Some, None}
-use Rattle.std.specs.List.{slice_get}
 use Rattle.xl_matrix.specs.declared.claim.Claim.{Claim}
 use Rattle.xl_matrix.specs.declared.claim.Extent.{Extent}
 use Rattle.xl_matrix.specs.declared.claim.Extent.TheVariants.{Bytes, Empty}
+use Rattle.xl_matrix.specs.declared.claim.What.{What}
 use Rattle.xl_wait.specs.declared.waiter.Rooms.{Rooms}
 use Rattle.xl_wait.specs.declared.waiter.Waiter.{Waiter}
 use Rattle.xl_names.specs.Names.{most_names}
 use Rattle.xl_core.specs.State.{CoreState, with_parts}
-use Rattle.xl_core.specs.Asking.{both_entered, names_fit, asked_claim, known_claim, known_owner, known_party}
+use Rattle.xl_core.specs.Asking.{both_entered, names_fit, asked_what, asked_claim, known_claim, known_owner, known_party}
 use Rattle.xl_core.specs.Blockers.{least, blockers, test_blockers}
 use Rattle.xl_core.specs.Relock.{most_claims, relocked_in, relock_fits, holds_byte, granted_claims, grant_fits}
 use Rattle.xl_core.specs.declared.ask.Act.{Act}
-use Rattle.xl_core.specs.declared.ask.Act.TheVariants.{Ranges, Test, Unlock}
+use Rattle.xl_core.specs.declared.ask.Act.TheVariants.{Share, Ranges, Test, Unlock}
 use Rattle.xl_core.specs.declared.ask.Answer.{Answer}
 use Rattle.xl_core.specs.declared.ask.Answer.TheVariants.{Granted, Conflict, Queued, NoGrace, Full, NotHeld}
 use Rattle.xl_core.specs.declared.ask.Ask.{Ask}
@@ -66,7 +66,7 @@ unfoldable pub decide : ℕ → List Waiter → CoreState → Rooms → Rooms �
 decide n earlier s left rows names claim =
     decided (least s.names (blockers earlier s claim)) (passed_by_grant left rows (grant_fits claim s.claims) names)
 
--- ---- a lock
+-- ---- a share or a lock
 
 -- the state after the grant, with the names kept
 abbrev pub granted : CoreState → Ask → Claim → CoreState
@@ -87,20 +87,19 @@ abbrev pub queued : CoreState → Ask → Claim → Option ℕ → Answer × Lis
 queued s a claim (Some limit) = (Full limit, [], s)
 queued s a claim None = (Queued (s.counter + 1), [], waiting s a claim)
 
-abbrev pub lock_answered : Rooms → CoreState → Ask → Claim → Verdict → Answer × List Effect × CoreState
-lock_answered left s a claim (verdict.Blocked c) =
+abbrev pub claim_answered : Rooms → CoreState → Ask → Claim → Verdict → Answer × List Effect × CoreState
+claim_answered left s a claim (verdict.Blocked c) =
     if a.blocking then queued s a claim (passed_by_wait left a.rows (length s.waiters) (names_fit a s.names)) else (Conflict c, [], s)
-lock_answered left s a claim (verdict.Full limit) = (Full limit, [], s)
-lock_answered left s a claim verdict.Free = (Granted claim, [], granted s a claim)
+claim_answered left s a claim (verdict.Full limit) = (Full limit, [], s)
+claim_answered left s a claim verdict.Free = (Granted claim, [], granted s a claim)
 
-unfoldable pub lock_asked : ℕ → Rooms → CoreState → Ask → Claim → Answer × List Effect × CoreState
-lock_asked n left s a claim = lock_answered left s a claim (decide n s.waiters s left a.rows (names_fit a s.names) claim)
+unfoldable pub claim_decided : ℕ → Rooms → CoreState → Ask → Claim → Answer × List Effect × CoreState
+claim_decided n left s a claim = claim_answered left s a claim (decide n s.waiters s left a.rows (names_fit a s.names) claim)
 
 -- an ask for no range at all asks for nothing that is held
-abbrev pub ranges_asked : ℕ → Rooms → CoreState → Ask → Option (Extent × Bool) → Answer × List Effect × CoreState
-ranges_asked n left s a None = (NotHeld, [], s)
-ranges_asked n left s a (Some range) =
-    if a.reclaim then (NoGrace s.clock, [], s) else lock_asked n left s a (asked_claim a range.0 range.1 s.names)
+abbrev pub claim_asked : ℕ → Rooms → CoreState → Ask → Option What → Answer × List Effect × CoreState
+claim_asked n left s a None = (NotHeld, [], s)
+claim_asked n left s a (Some what) = if a.reclaim then (NoGrace s.clock, [], s) else claim_decided n left s a (asked_claim a what s.names)
 
 -- ---- a test
 
@@ -126,7 +125,8 @@ unlocked s claim (Empty offset) = (NotHeld, [], s)
 -- ---- an ask
 
 abbrev pub acted : ℕ → Rooms → CoreState → Ask → Act → Answer × List Effect × CoreState
-acted n left s a (Ranges ranges) = ranges_asked n left s a (slice_get ranges 0)
+acted n left s a (Share access deny) = claim_asked n left s a (asked_what (Share access deny))
+acted n left s a (Ranges ranges) = claim_asked n left s a (asked_what (Ranges ranges))
 acted n left s a (Test extent exclusive) = (tested s a (known_claim a extent exclusive s.names), [], s)
 acted n left s a (Unlock extent) = unlocked s (known_claim a extent false s.names) extent
 

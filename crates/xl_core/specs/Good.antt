@@ -33,6 +33,15 @@ IsRangeBy _ = ⊥
 abbrev pub IsRange : Claim → Type 0
 IsRange c = IsRangeBy c.what × (posix c.owner ≡ true)
 
+-- a share, or such a range, of a POSIX owner
+abbrev pub IsPosixBy : What → Type 0
+IsPosixBy (Share access deny) = Unit {0}
+IsPosixBy (Range (Bytes first last) exclusive) = first ≤ last
+IsPosixBy _ = ⊥
+
+abbrev pub IsPosix : Claim → Type 0
+IsPosix c = IsPosixBy c.what × (posix c.owner ≡ true)
+
 abbrev pub agree : Protocol → Protocol → Option Name → Option Name → Bool
 agree protocol other (Some owner) (Some party) = same_protocol protocol (protocol_of owner) && (same_protocol other (protocol_of party) && is_name (client_of owner) party)
 agree protocol other _ _ = false
@@ -42,9 +51,9 @@ abbrev pub are_kept : List Name → Owner → Party → Bool
 are_kept names (owners.Name protocol number) (parties.Name other at) = agree protocol other (slice_get names number) (slice_get names at)
 are_kept names _ _ = false
 
--- a real range of a client that is known by name
+-- a share or a real range of a client that is known by name
 abbrev pub IsKnown : List Name → Claim → Type 0
-IsKnown names c = IsRange c × (are_kept names c.owner c.party ≡ true)
+IsKnown names c = IsPosix c × (are_kept names c.owner c.party ≡ true)
 
 -- two claims may stand beside each other as far as an owner has one share on a file, and a party one cache
 abbrev pub is_single_by : Claim → Claim → What → What → Bool
@@ -60,7 +69,7 @@ is_single a b = not (a.file == b.file && not (is_single_by a b a.what b.what))
 abbrev pub are_apart : Waiter → Waiter → Bool
 are_apart v w = not (v.id == w.id)
 
--- one who waits for real ranges, under a number that was given out
+-- one who waits for shares or real ranges, under a number that was given out
 abbrev pub IsWaiter : List Name → ℕ → Waiter → Type 0
 IsWaiter names counter w = (w.id ≤ counter) × AllByRecursion (IsKnown names) w.asked
 

@@ -1,12 +1,13 @@
--- What a lock or unlock of a POSIX range does to the claims (XNFS C702 chapter 10, RFC 7530 16.10 and 16.12).
-use Rattle.std.specs.Prelude.{◌≡◌, ℕ, ◌+◌, ◌≤◌, Bool, true, false, not, ◌&&◌, nat_le, List, [], ◌∷◌, length, map, Option, Some, None}
+-- What a share, a lock and an unlock of a POSIX range do to the claims (XNFS C702 chapter 10, RFC 7530 16.10 and 16.12).
+use Rattle.std.specs.Prelude.{◌≡◌, ℕ, ◌+◌, ◌≤◌, Bool, true, false, not, ◌&&◌, nat_le, if◌then◌else◌, List, [], ◌∷◌, length, map, Option, Some, None}
 use Rattle.std.specs.List.{filter, list_any}
 use Rattle.xl_base.specs.declared.name.Owner.{Owner}
 use Rattle.xl_base.specs.declared.name.Party.{Party}
 use Rattle.xl_matrix.specs.declared.claim.Claim.{Claim}
 use Rattle.xl_matrix.specs.declared.claim.Extent.TheVariants.{Bytes}
 use Rattle.xl_matrix.specs.declared.claim.What.{What}
-use Rattle.xl_matrix.specs.declared.claim.What.TheVariants.{Range}
+use Rattle.xl_matrix.specs.declared.claim.Rwd.{Rwd}
+use Rattle.xl_matrix.specs.declared.claim.What.TheVariants.{Share, Range}
 use Rattle.xl_spans.specs.Spans.{relocked, meets, touches}
 use Rattle.xl_spans.specs.declared.span.Mode.{Mode}
 use Rattle.xl_spans.specs.declared.span.Mode.TheVariants.{Shared, Exclusive}
@@ -74,10 +75,46 @@ relock_fits file owner first last mode cs =
 unfoldable pub holds_byte : ℕ → Owner → ℕ → ℕ → List Claim → Bool
 holds_byte file owner first last cs = list_any (meets first last) (spans_of file owner cs)
 
+-- ---- a share
+
+abbrev pub is_share : What → Bool
+is_share (Share access deny) = true
+is_share _ = false
+
+-- the claim is a share of this owner on this file
+abbrev pub is_share_of : ℕ → Owner → Claim → Bool
+is_share_of file owner c = is_of file owner c && is_share c.what
+
+-- the access and the deny of what is claimed, where that is a share, before these
+abbrev pub with_share : What → List (Rwd × Rwd) → List (Rwd × Rwd)
+with_share (Share access deny) shares = (access, deny) ∷ shares
+with_share _ shares = shares
+
+-- an owner's shares on a file, as they stand in the list: one at most
+abbrev pub shares_of : ℕ → Owner → List Claim → List (Rwd × Rwd)
+shares_of file owner [] = []
+shares_of file owner (c ∷ cs) = if is_of file owner c then with_share c.what (shares_of file owner cs) else shares_of file owner cs
+
+-- without the owner's share on the file, and the claims of such shares
+unfoldable pub unshared : ℕ → Owner → List Claim → List Claim
+unshared file owner cs = filter (λ c. not (is_share_of file owner c)) cs
+
+unfoldable pub old_shares : ℕ → Owner → List Claim → List Claim
+old_shares file owner cs = filter (is_share_of file owner) cs
+
+-- the claims with this share, which replaces its owner's on the file (XNFS C702, NLM_SHARE)
+unfoldable pub shared_in : Claim → List Claim → List Claim
+shared_in c cs = inserted c (unshared c.file c.owner cs)
+
+-- the table has room for the claims afterwards
+unfoldable pub share_fits : Claim → List Claim → Bool
+share_fits c cs = nat_le (length cs + 1) (most_claims + length (old_shares c.file c.owner cs))
+
 -- ---- a granted claim
 
--- the claims after a grant; ranges with bytes alone are asked for
+-- the claims after a grant; shares and ranges with bytes alone are asked for
 abbrev pub granted_by : Claim → What → List Claim → List Claim
+granted_by c (Share access deny) cs = shared_in c cs
 granted_by c (Range (Bytes first last) exclusive) cs = relocked_in c.file c.owner c.party first last (Some (mode_of exclusive)) cs
 granted_by c _ cs = cs
 
@@ -85,6 +122,7 @@ unfoldable pub granted_claims : Claim → List Claim → List Claim
 granted_claims c cs = granted_by c c.what cs
 
 abbrev pub grant_fits_by : Claim → What → List Claim → Bool
+grant_fits_by c (Share access deny) cs = share_fits c cs
 grant_fits_by c (Range (Bytes first last) exclusive) cs = relock_fits c.file c.owner first last (Some (mode_of exclusive)) cs
 grant_fits_by c _ cs = true
 

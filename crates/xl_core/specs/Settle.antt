@@ -4,6 +4,7 @@ use Rattle.std.specs.List.{filter, list_any, slice_get}
 use Rattle.xl_base.specs.declared.name.Party.{Party}
 use Rattle.xl_matrix.specs.Equal.{same_parties}
 use Rattle.xl_matrix.specs.declared.claim.Claim.{Claim}
+use Rattle.xl_table.specs.Flat.{removed}
 use Rattle.xl_wait.specs.Waiting.{cancelled}
 use Rattle.xl_wait.specs.declared.waiter.Rooms.{Rooms}
 use Rattle.xl_wait.specs.declared.waiter.Waiter.{Waiter}
@@ -78,6 +79,10 @@ all_told (id ∷ ids) = Cancelled id ∷ all_told ids
 -- one waiter is taken out; no claim changes
 unfoldable pub cancel : CoreState → ℕ → List Effect × CoreState
 cancel s id = (Cancelled id ∷ [], with_parts s s.claims (cancelled id s.waiters) s.names s.counter)
+
+-- one claim is taken out
+unfoldable pub give_back : CoreState → Claim → List Effect × CoreState
+give_back s claim = ([], with_parts s (removed claim s.claims) s.waiters s.names s.counter)
 
 -- all claims and waiters of a party are taken out; its name stays
 unfoldable pub end_party : CoreState → Party → List Effect × CoreState

@@ -1,5 +1,5 @@
 -- What the core keeps between two calls.
-use Rattle.std.specs.Prelude.{◌≡◌, ℕ, ◌≤◌, Bool, true, false, List, []}
+use Rattle.std.specs.Prelude.{◌≡◌, ℕ, ◌+◌, ◌≤◌, Bool, true, false, List, []}
 use Rattle.xl_base.specs.Stable.{Stable}
 use Rattle.xl_base.specs.declared.event.Moment.{Moment}
 use Rattle.xl_matrix.specs.declared.claim.Claim.{Claim}
@@ -30,6 +30,10 @@ step_begun s = record { claims = s.claims; waiters = s.waiters; names = s.names;
 abbrev pub with_parts : CoreState → List Claim → List Waiter → List Name → ℕ → CoreState
 with_parts s claims waiters names counter =
     record { claims = claims; waiters = waiters; names = names; stable = s.stable; clock = s.clock; counter = counter; made = s.made; failed = s.failed }
+
+-- the state once the next number is given out
+unfoldable pub drawn : CoreState → CoreState
+drawn s = with_parts s s.claims s.waiters s.names (s.counter + 1)
 
 -- as far as the state tells, n stores succeed in this step
 pub record MayBe (n : ℕ) (s : CoreState) : Type 0 where

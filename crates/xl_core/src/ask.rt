@@ -1,7 +1,7 @@
 //! What is asked of the core, what it answers, and what it tells of besides.
 
 use xl_base::{Moment, Sequence};
-use xl_matrix::{CacheKind, Claim, Extent};
+use xl_matrix::{CacheKind, Claim, Extent, Rwd};
 use xl_names::Name;
 use xl_wait::Rooms;
 
@@ -17,6 +17,9 @@ pub enum Who {
 /// What is asked for.
 #[derive(Drop, Debug)]
 pub enum Act {
+    /// A share: this access, and what is denied to others (XNFS C702, NLM_SHARE; RFC 7530 9.9). It replaces what its
+    /// owner has on the file.
+    Share(Rwd, Rwd),
     /// Byte ranges, each with whether it is exclusive, all of them or none. Of NLM (XNFS C702, NLM_LOCK) and NFSv4
     /// (RFC 7530 16.10) there is one.
     Ranges(Sequence<(Extent, bool)>),
@@ -58,7 +61,7 @@ pub enum Answer {
     /// name without a number stands as 4,294,967,295.
     Granted(Claim),
     /// This held claim blocks it: of ranges the least by first byte, then last byte (an empty range first), then
-    /// exclusive before shared, then the owner's text.
+    /// exclusive before shared, then the owner's text; of shares the least by the owner's text.
     Conflict(Claim),
     /// It waits under this number.
     Queued(u32),

@@ -121,15 +121,15 @@ fn party_behind(names: &Names, who: &Who, before: &Who) -> Party
     }
 }
 
-/// The claim on a range that an ask is for.
-pub(crate) fn asked_claim(names: &Names, ask: &Ask, extent: Extent, exclusive: bool) -> Claim
-    ensures { result ≡ asked_claim ask.now extent exclusive names.now }
+/// The claim that an ask is for.
+pub(crate) fn asked_claim(names: &Names, ask: &Ask, what: What) -> Claim
+    ensures { result ≡ asked_claim ask.now what names.now }
 {
     Claim {
         file: ask.file,
         owner: owner_in(names, &ask.owner),
         party: party_behind(names, &ask.party, &ask.owner),
-        what: What::Range(extent, exclusive),
+        what,
     }
 }
 

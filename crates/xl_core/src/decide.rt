@@ -4,10 +4,11 @@ ghost use Rattle.std.specs.List.{AllByRecursion};
 ghost use Rattle.xl_matrix.specs.Owners.{posix};
 ghost use Rattle.xl_table.specs.Held.{is_range, has_one_party};
 ghost use Rattle.xl_wait.specs.declared.waiter.Waiter.{Waiter};
-ghost use Rattle.xl_core.specs.Asking.{IsFit, IsRealExtent, is_client, names_fit};
-ghost use Rattle.xl_core.specs.Good.{IsRange, IsGood};
-ghost use Rattle.xl_core.specs.Decide.{passed_by_grant, passed_by_wait, decide, waiter_of, queued, lock_asked, ranges_asked, tested, unlocked_bytes, unlocked, ask};
+ghost use Rattle.xl_core.specs.Asking.{asked_what, IsFitAct, IsFit, IsRealExtent, is_client, names_fit};
+ghost use Rattle.xl_core.specs.Good.{IsPosixBy, IsPosix, IsGood};
+ghost use Rattle.xl_core.specs.Decide.{passed_by_grant, passed_by_wait, decide, waiter_of, queued, claim_decided, claim_asked, tested, unlocked_bytes, unlocked, ask};
 ghost use Rattle.xl_core.specs.Whole.{state_of};
+ghost use Rattle.xl_core.specs.declared.ask.Act.TheVariants.{Ranges};
 
 use crate::ask::{Act, Answer, Ask};
 use crate::asking::{asked_claim, do_names_fit, enter_both, known_claim};
@@ -16,7 +17,7 @@ use crate::parts::Parts;
 use crate::relock::{Bytes, do_fit, does_grant_fit, grant, holds_byte, relock};
 use std::alloc::{AllocError, Global};
 use xl_base::Sequence;
-use xl_matrix::{Claim, Extent};
+use xl_matrix::{Claim, Extent, What};
 use xl_names::MOST_NAMES;
 use xl_table::CLAIMS;
 use xl_wait::{Rooms, WAITERS, Waiter};
@@ -87,7 +88,7 @@ pub(crate) fn decide(
     names: bool,
     claim: &Claim,
 ) -> Result<Verdict, AllocError>
-    requires { IsRange claim.now }
+    requires { IsPosix claim.now }
     ensures { (n : ℕ) (earlier : List Waiter) → IfOk result (λ v. v ≡ decide n earlier (state_of parts.now) left.now rows.now names claim.now) }
 {
     if let Some(blocker) = least_blocker(alloc, parts, claim)? {
@@ -147,19 +148,19 @@ fn wait(
     Ok(Answer::Queued(id))
 }
 
-/// Answers an ask for a claim on a range.
-#[tactic(auto, unfolding(crate::specs::Decide::lock_asked))]
-fn lock(
+/// Answers an ask for a claim.
+#[tactic(auto, unfolding(crate::specs::Decide::claim_decided))]
+fn decide_claim(
     alloc: Global,
     parts: &mut Parts,
     left: &Rooms,
     ask: &Ask,
     claim: &Claim,
 ) -> Result<Answer, AllocError>
-    requires range { IsRange claim.now }
+    requires posix { IsPosix claim.now }
     requires party { AllByRecursion (λ c. has_one_party claim.now c ≡ true) parts.old.table }
     requires room { parts.old.counter + 65536 < 2 ^ 32 }
-    ensures answer { (n : ℕ) → IfOk result (λ answer. lock_asked n left.now (state_of parts.old) ask.now claim.now ≡ (answer, [], state_of parts.new)) }
+    ensures answer { (n : ℕ) → IfOk result (λ answer. claim_decided n left.now (state_of parts.old) ask.now claim.now ≡ (answer, [], state_of parts.new)) }
     ensures made { parts.new.made ≡ parts.old.made }
     ensures failed { parts.new.failed ≡ parts.old.failed }
 {
@@ -249,31 +250,42 @@ fn unlock(
     }
 }
 
-/// Answers an ask for ranges, of which it has one.
+/// Answers an ask for what is to be held.
 #[tactic(auto, using(crate::proofs::TurnLaws::asked_alone))]
-fn lock_first(
+fn claim(
     alloc: Global,
     parts: &mut Parts,
     left: &Rooms,
     ask: &Ask,
-    range: Option<(Extent, bool)>,
+    what: Option<What>,
 ) -> Result<Answer, AllocError>
     requires client { is_client ask.now.owner ask.now.party ≡ true }
-    requires real { IfSome range (λ r. IsRealExtent r.0) }
+    requires posix { IfSome what (λ w. IsPosixBy w) }
     requires good { IsGood (state_of parts.old) }
     requires room { parts.old.counter + 65536 < 2 ^ 32 }
-    ensures answer { (n : ℕ) → IfOk result (λ answer. ranges_asked n left.now (state_of parts.old) ask.now range ≡ (answer, [], state_of parts.new)) }
+    ensures answer { (n : ℕ) → IfOk result (λ answer. claim_asked n left.now (state_of parts.old) ask.now what ≡ (answer, [], state_of parts.new)) }
     ensures made { parts.new.made ≡ parts.old.made }
     ensures failed { parts.new.failed ≡ parts.old.failed }
 {
-    let Some((extent, exclusive)) = range else {
+    let Some(what) = what else {
         return Ok(Answer::NotHeld);
     };
     if ask.reclaim {
         return Ok(Answer::NoGrace(parts.clock));
     }
-    let claim = asked_claim(&parts.names, ask, extent, exclusive);
-    lock(alloc, parts, left, ask, &claim)
+    let claim = asked_claim(&parts.names, ask, what);
+    decide_claim(alloc, parts, left, ask, &claim)
+}
+
+/// The first of these ranges.
+fn first_range(ranges: &[(Extent, bool)]) -> Option<What>
+    ensures what { result ≡ asked_what (Ranges ranges.now) }
+    ensures posix { IsFitAct (Ranges ranges.now) → IfSome result (λ w. IsPosixBy w) }
+{
+    match ranges.first() {
+        Some((extent, exclusive)) => Some(What::Range(*extent, *exclusive)),
+        None => None,
+    }
 }
 
 /// Answers an ask.
@@ -292,9 +304,13 @@ pub(crate) fn answer(
     ensures failed { parts.new.failed ≡ parts.old.failed }
 {
     match &request.act {
+        Act::Share(access, deny) => {
+            let what = Some(What::Share(*access, *deny));
+            claim(alloc, parts, left, request, what)
+        }
         Act::Ranges(ranges) => {
-            let first = ranges.as_slice().first().copied();
-            lock_first(alloc, parts, left, request, first)
+            let what = first_range(ranges.as_slice());
+            claim(alloc, parts, left, request, what)
         }
         Act::Test(extent, exclusive) => {
             let claim = known_claim(&parts.names, request, *extent, *exclusive);

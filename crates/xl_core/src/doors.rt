@@ -1,11 +1,12 @@
 //! The core and its calls.
 ghost use Rattle.std.specs.Prelude.{◌≡◌, ℕ, ◌+◌, ◌<◌, ◌^◌, true, List, Option, Some, None, Ok, option_map, OnOk, IfOk};
+ghost use Rattle.xl_base.specs.Lists.{IsIn};
 ghost use Rattle.xl_wait.specs.Waiting.{is_waiting};
-ghost use Rattle.xl_core.specs.State.{started, step_begun, MayBe, GoesOn};
+ghost use Rattle.xl_core.specs.State.{started, step_begun, drawn, MayBe, GoesOn};
 ghost use Rattle.xl_core.specs.Asking.{IsFit};
 ghost use Rattle.xl_core.specs.Good.{IsGood};
 ghost use Rattle.xl_core.specs.Decide.{ask};
-ghost use Rattle.xl_core.specs.Settle.{settle, cancel, end_party};
+ghost use Rattle.xl_core.specs.Settle.{settle, cancel, give_back, end_party};
 ghost use Rattle.xl_core.specs.Whole.{state_of};
 
 use crate::ask::{Answer, Ask, Effect};
@@ -14,6 +15,7 @@ use crate::{decide, leaving, settling};
 use std::alloc::{AllocError, Global};
 use std::marker::Model;
 use xl_base::{Keeper, Moment, Party, Record, Sequence};
+use xl_matrix::Claim;
 use xl_names::Names;
 use xl_table::Table;
 use xl_wait::{Queue, Rooms};
@@ -138,6 +140,29 @@ impl Core {
         leaving::cancel(alloc, &mut self.parts, waiter)
     }
 
+    /// Takes out one claim, which is held: what its owner gives back. There is nothing to tell.
+    #[tactic(auto, using(crate::proofs::GoodLaws::give_back_good))]
+    pub fn give_back(&mut self, alloc: Global, claim: &Claim) -> Sequence<Effect>
+        requires held { IsIn claim.now self.old.claims }
+        requires good { IsGood self.old }
+        ensures state { give_back self.old claim.now ≡ (result, self.new) }
+        ensures good { IsGood self.new }
+    {
+        leaving::give_back(alloc, &mut self.parts, claim)
+    }
+
+    /// Gives out the next number. At least 65,536 numbers must be left to give out. It takes no memory.
+    #[tactic(auto, using(crate::proofs::GoodLaws::drawn_good))]
+    pub fn draw(&mut self) -> u32
+        requires good { IsGood self.old }
+        requires numbers { self.old.counter + 65536 < 2 ^ 32 }
+        ensures state { self.new ≡ drawn self.old }
+        ensures number { result ≡ self.new.counter }
+        ensures good { IsGood self.new }
+    {
+        draw(&mut self.parts)
+    }
+
     /// Takes out all claims and waiters of a party, and tells of the waiters. Its name stays.
     #[tactic(auto, using(crate::proofs::GoodLaws::end_party_good))]
     pub fn end_party(&mut self, alloc: Global, party: Party) -> Result<Sequence<Effect>, AllocError>
@@ -147,6 +172,16 @@ impl Core {
     {
         leaving::end_party(alloc, &mut self.parts, party)
     }
+}
+
+#[tactic(auto, unfolding(crate::specs::State::drawn))]
+fn draw(parts: &mut Parts) -> u32
+    requires { parts.old.counter + 65536 < 2 ^ 32 }
+    ensures state { state_of parts.new ≡ drawn (state_of parts.old) }
+    ensures number { result ≡ parts.new.counter }
+{
+    parts.counter += 1;
+    parts.counter
 }
 
 #[tactic(auto, unfolding(crate::specs::State::step_begun))]

@@ -9,19 +9,23 @@ ghost use Rattle.xl_base.specs.declared.name.Party.{Party};
 ghost use Rattle.xl_matrix.specs.Equal.{same_parties};
 ghost use Rattle.xl_matrix.specs.declared.claim.Claim.{Claim};
 ghost use Rattle.xl_matrix.specs.declared.claim.Extent.{Extent};
+ghost use Rattle.xl_matrix.specs.declared.claim.Rwd.{Rwd};
+ghost use Rattle.xl_matrix.specs.declared.claim.What.{What};
+ghost use Rattle.xl_table.specs.Flat.{removed};
+ghost use Rattle.xl_core.specs.Relock.{shares_of};
 ghost use Rattle.xl_names.specs.declared.name.Name.{Name};
 ghost use Rattle.xl_spans.specs.Spans.{relocked};
 ghost use Rattle.xl_table.specs.Held.{mode_of, spans_of};
 ghost use Rattle.xl_wait.specs.Waiting.{cancelled};
 ghost use Rattle.xl_wait.specs.declared.waiter.Rooms.{Rooms};
 ghost use Rattle.xl_wait.specs.declared.waiter.Waiter.{Waiter};
-ghost use Rattle.xl_core.specs.State.{CoreState, started, step_begun};
-ghost use Rattle.xl_core.specs.Asking.{asker, asked_claim, known_claim, IsFit};
+ghost use Rattle.xl_core.specs.State.{CoreState, started, step_begun, drawn};
+ghost use Rattle.xl_core.specs.Asking.{asker, asked_what, asked_claim, known_claim, IsFit};
 ghost use Rattle.xl_core.specs.Blockers.{range_before, least};
-ghost use Rattle.xl_core.specs.Causes.{IsRoom, limits_of_grant, IsLockDue, IsTestDue, IsUnlockDue, IsTurn, IsOwn};
+ghost use Rattle.xl_core.specs.Causes.{IsRoom, limits_of_grant, IsClaimDue, IsTestDue, IsUnlockDue, IsTurn, IsOwn};
 ghost use Rattle.xl_core.specs.Decide.{waiter_of, ask};
 ghost use Rattle.xl_core.specs.Good.{IsGood, is_blocked, IsSettled};
-ghost use Rattle.xl_core.specs.Settle.{settle, waits_for, cancel, end_party};
+ghost use Rattle.xl_core.specs.Settle.{settle, waits_for, cancel, give_back, end_party};
 ghost use Rattle.xl_core.specs.declared.ask.Act.{Act};
 ghost use Rattle.xl_core.specs.declared.ask.Answer.{Answer};
 ghost use Rattle.xl_core.specs.declared.ask.Ask.{Ask};
@@ -34,28 +38,32 @@ pub fn stays_good()
     ensures asked { (n : ℕ) (left : Rooms) (s : CoreState) (a : Ask) → IsGood s → IsFit a → IsGood (ask n left s a).2 }
     ensures settled { (n : ℕ) (left : Rooms) (s : CoreState) → IsGood s → IfSome (settle n left s) (λ r. IsGood r.1) }
     ensures cancelled { (s : CoreState) (id : ℕ) → IsGood s → IsGood (cancel s id).1 }
+    ensures given_back { (s : CoreState) (claim : Claim) → IsGood s → IsGood (give_back s claim).1 }
+    ensures drawn { (s : CoreState) → IsGood s → IsGood (drawn s) }
     ensures ended { (s : CoreState) (party : Party) → IsGood s → IsGood (end_party s party).1 }
 {}
 
-/// Each answer is given exactly where its cause stands, which `IsLockDue`, `IsTestDue` and `IsUnlockDue` say; of
+/// Each answer is given exactly where its cause stands, which `IsClaimDue`, `IsTestDue` and `IsUnlockDue` say; of
 /// several limits the least is told. Of the claims that block an ask the one that is told is held, and none of the
 /// others comes before it.
 pub fn answers_have_causes()
-    ensures locks { (n : ℕ) (left : Rooms) (s : CoreState) (a : Ask) (extent : Extent) (exclusive : Bool) (answer : Answer) → IsFit a → a.act ≡ Act.Ranges ((extent, exclusive) ∷ []) → ((ask n left s a).0 ≡ answer) ↔ IsLockDue left s a (asked_claim a extent exclusive s.names) answer }
+    ensures claims { (n : ℕ) (left : Rooms) (s : CoreState) (a : Ask) (what : What) (answer : Answer) → IsFit a → asked_what a.act ≡ Some what → ((ask n left s a).0 ≡ answer) ↔ IsClaimDue left s a (asked_claim a what s.names) answer }
     ensures tests { (n : ℕ) (left : Rooms) (s : CoreState) (a : Ask) (extent : Extent) (exclusive : Bool) (answer : Answer) → a.act ≡ Act.Test extent exclusive → ((ask n left s a).0 ≡ answer) ↔ IsTestDue s a (known_claim a extent exclusive s.names) answer }
     ensures unlocks { (n : ℕ) (left : Rooms) (s : CoreState) (a : Ask) (first last : ℕ) (answer : Answer) → IsGood s → IsFit a → a.act ≡ Act.Unlock (Extent.Bytes first last) → ((ask n left s a).0 ≡ answer) ↔ IsUnlockDue s (known_claim a (Extent.Bytes first last) false s.names) first last answer }
     ensures least { (names : List Name) (claims : List Claim) (c : Claim) → least names claims ≡ Some c → IsIn c claims × AllByRecursion (λ d. range_before names d c ≡ false) claims }
 {}
 
-/// A lock that is no reclaim, that nothing held blocks and that passes no limit is granted. What is granted is held
-/// then, whatever the owner had in the range before; what is unlocked no more.
+/// A share or a lock that is no reclaim, that nothing held blocks and that passes no limit is granted. What is granted is
+/// held then, whatever the owner had in the range before, or shared; what is unlocked no more.
 pub fn free_asks_are_granted()
-    ensures granted { (n : ℕ) (left : Rooms) (s : CoreState) (a : Ask) (extent : Extent) (exclusive : Bool) → IsFit a → a.act ≡ Act.Ranges ((extent, exclusive) ∷ []) → a.reclaim ≡ false → is_blocked s.claims (asked_claim a extent exclusive s.names) ≡ false → IsRoom (limits_of_grant left s a (asked_claim a extent exclusive s.names)) → (ask n left s a).0 ≡ Answer.Granted (asked_claim a extent exclusive s.names) }
+    ensures granted { (n : ℕ) (left : Rooms) (s : CoreState) (a : Ask) (what : What) → IsFit a → asked_what a.act ≡ Some what → a.reclaim ≡ false → is_blocked s.claims (asked_claim a what s.names) ≡ false → IsRoom (limits_of_grant left s a (asked_claim a what s.names)) → (ask n left s a).0 ≡ Answer.Granted (asked_claim a what s.names) }
     ensures held { (n : ℕ) (left : Rooms) (s : CoreState) (a : Ask) (first last : ℕ) (exclusive : Bool) (c : Claim) → IsGood s → IsFit a → a.act ≡ Act.Ranges ((Extent.Bytes first last, exclusive) ∷ []) → (ask n left s a).0 ≡ Answer.Granted c → spans_of a.file (asker a s.names) (ask n left s a).2.claims ≡ relocked (spans_of a.file (asker a s.names) s.claims) first last (Some (mode_of exclusive)) }
+    ensures shared { (n : ℕ) (left : Rooms) (s : CoreState) (a : Ask) (access deny : Rwd) (c : Claim) → IsFit a → a.act ≡ Act.Share access deny → (ask n left s a).0 ≡ Answer.Granted c → shares_of a.file (asker a s.names) (ask n left s a).2.claims ≡ (access, deny) ∷ [] }
     ensures given_up { (n : ℕ) (left : Rooms) (s : CoreState) (a : Ask) (first last : ℕ) (c : Claim) → IsGood s → IsFit a → a.act ≡ Act.Unlock (Extent.Bytes first last) → (ask n left s a).0 ≡ Answer.Granted c → spans_of a.file (asker a s.names) (ask n left s a).2.claims ≡ relocked (spans_of a.file (asker a s.names) s.claims) first last None }
 {}
 
-/// An ask changes only what its owner has on its file, and that only where it is granted; no waiter goes, and each name
+/// An ask changes only what its owner has on its file, a share for a share and ranges for a range, and that only where
+/// it is granted; no waiter goes, and each name
 /// keeps its number. One that is neither granted nor told to wait changes nothing, nor does a test.
 pub fn nothing_else_changes()
     ensures asks { (n : ℕ) (left : Rooms) (s : CoreState) (a : Ask) → IsGood s → IsFit a → IsOwn s a (ask n left s a).0 (ask n left s a).2 }
@@ -67,16 +75,17 @@ pub fn nothing_else_changes()
 /// it has what it asked for, or is told the least limit that this would pass, and waits no more; all others wait on,
 /// and have what they had. So turns end, with nobody left whom nothing blocks.
 pub fn nobody_is_forgotten()
-    ensures waits { (n : ℕ) (left : Rooms) (s : CoreState) (a : Ask) (extent : Extent) (exclusive : Bool) (number : ℕ) → a.act ≡ Act.Ranges ((extent, exclusive) ∷ []) → (ask n left s a).0 ≡ Answer.Queued number → (ask n left s a).2.waiters ≡ s.waiters ++ waiter_of number a (asked_claim a extent exclusive s.names) ∷ [] }
+    ensures waits { (n : ℕ) (left : Rooms) (s : CoreState) (a : Ask) (what : What) (number : ℕ) → asked_what a.act ≡ Some what → (ask n left s a).0 ≡ Answer.Queued number → (ask n left s a).2.waiters ≡ s.waiters ++ waiter_of number a (asked_claim a what s.names) ∷ [] }
     ensures settled { (n : ℕ) (left : Rooms) (s : CoreState) → (settle n left s ≡ None) ↔ IsSettled s }
     ensures turns { (n : ℕ) (left : Rooms) (s : CoreState) → IsGood s → IfSome (settle n left s) (λ r. IsTurn left s r.0 r.1) }
     ensures fewer { (n : ℕ) (left : Rooms) (s : CoreState) → IsGood s → IfSome (settle n left s) (λ r. length r.1.waiters + 1 ≡ length s.waiters) }
 {}
 
-/// Who cancels takes no claim with it, and of the waiters only the one of this number. A party that ends takes its own
+/// Who gives a claim back takes that claim out, and no other. Who cancels takes no claim with it, and of the waiters only the one of this number. A party that ends takes its own
 /// claims and waiters, and no others.
 pub fn only_a_party_leaves()
     ensures cancelled { (s : CoreState) (id : ℕ) → ((cancel s id).1.claims ≡ s.claims) × ((cancel s id).1.waiters ≡ cancelled id s.waiters) }
+    ensures given_back { (s : CoreState) (claim : Claim) → ((give_back s claim).1.claims ≡ removed claim s.claims) × ((give_back s claim).1.waiters ≡ s.waiters) }
     ensures claims { (s : CoreState) (party : Party) (c : Claim) → IsIn c (end_party s party).1.claims ↔ (IsIn c s.claims × (same_parties c.party party ≡ false)) }
     ensures waiters { (s : CoreState) (party : Party) (w : Waiter) → IsIn w (end_party s party).1.waiters ↔ (IsIn w s.waiters × (waits_for party w ≡ false)) }
 {}

@@ -4,7 +4,7 @@ ghost use Rattle.std.specs.List.{filter, list_any};
 ghost use Rattle.xl_matrix.specs.Equal.{same_parties};
 ghost use Rattle.xl_wait.specs.Waiting.{cancelled};
 ghost use Rattle.xl_core.specs.Good.{IsGood};
-ghost use Rattle.xl_core.specs.Settle.{waits_for, numbers_for, all_told, all_cancelled, cancel, end_party};
+ghost use Rattle.xl_core.specs.Settle.{waits_for, numbers_for, all_told, all_cancelled, cancel, give_back, end_party};
 ghost use Rattle.xl_core.specs.Whole.{state_of};
 
 use crate::ask::Effect;
@@ -12,7 +12,7 @@ use crate::parts::Parts;
 use crate::relock::take_out;
 use std::alloc::{AllocError, Global};
 use xl_base::{Party, Sequence};
-use xl_matrix::same_party;
+use xl_matrix::{Claim, same_party};
 use xl_wait::{Queue, Waiter};
 
 /// Takes one waiter out.
@@ -28,6 +28,15 @@ pub(crate) fn cancel(
     effects.push(Effect::Cancelled(id))?;
     parts.queue.cancel(id);
     Ok(effects)
+}
+
+/// Takes one claim out.
+#[tactic(auto, unfolding(crate::specs::Settle::give_back))]
+pub(crate) fn give_back(alloc: Global, parts: &mut Parts, claim: &Claim) -> Sequence<Effect>
+    ensures { give_back (state_of parts.old) claim.now ≡ (result, state_of parts.new) }
+{
+    parts.table.remove(claim);
+    Sequence::new(alloc)
 }
 
 #[tactic(auto, unfolding(crate::specs::Settle::waits_for))]

@@ -1,11 +1,12 @@
-//! A lock or unlock of a POSIX range: the owner's spans are built from the claims, changed, and written back.
+//! A lock or unlock of a POSIX range: the owner's spans are built from the claims, changed, and written back. A share
+//! replaces its owner's.
 ghost use Rattle.std.specs.Prelude.{◌≡◌, ℕ, ◌+◌, ◌≤◌, [], ◌++◌, true, length, map, nat_le, Some, None, OnOk, IfOk};
 ghost use Rattle.std.specs.List.{AllByRecursion, filter, list_any};
 ghost use Rattle.xl_matrix.specs.Owners.{posix};
 ghost use Rattle.xl_spans.specs.Spans.{IsCanonical, meets, touches, relocked};
 ghost use Rattle.xl_table.specs.Held.{is_of, is_range, with_span, spans_of, mode_of, has_one_party};
-ghost use Rattle.xl_core.specs.Good.{IsRange};
-ghost use Rattle.xl_core.specs.Relock.{is_exclusive, range_claim, touches_by, is_touched, touched, untouched, fresh, all_removed, all_inserted, AreSoundToInsert, relocked_in, most_claims, relock_fits, holds_byte, granted_claims, grant_fits};
+ghost use Rattle.xl_core.specs.Good.{IsPosix};
+ghost use Rattle.xl_core.specs.Relock.{is_exclusive, range_claim, touches_by, is_touched, touched, untouched, fresh, all_removed, all_inserted, AreSoundToInsert, relocked_in, most_claims, relock_fits, holds_byte, is_share, is_share_of, unshared, old_shares, shared_in, share_fits, granted_claims, grant_fits};
 
 use std::alloc::{AllocError, Global};
 use xl_base::Owner;
@@ -247,6 +248,52 @@ fn bytes_of(claim: &Claim, first: u64, last: u64) -> Bytes
     }
 }
 
+fn is_share_of(file: u32, owner: Owner, claim: &Claim) -> bool
+    ensures { result ≡ is_share_of file owner claim.now }
+{
+    is_of(file, owner, claim) && matches!(claim.what, What::Share(_, _))
+}
+
+/// The owner's shares on a file.
+#[tactic(auto, unfolding(crate::specs::Relock::old_shares))]
+fn old_shares(
+    alloc: Global,
+    file: u32,
+    owner: Owner,
+    claims: &[Claim],
+) -> Result<Vec<Claim>, AllocError>
+    ensures { IfOk result (λ v. v.items ≡ old_shares file owner claims.now) }
+{
+    claims
+        .iter()
+        .filter(|claim| is_share_of(file, owner, claim))
+        .copied()
+        .collect(alloc)
+}
+
+/// Whether the table has room for the claims after a share is granted.
+#[tactic(auto, unfolding(crate::specs::Relock::share_fits))]
+fn does_share_fit(alloc: Global, table: &Table, claim: &Claim) -> Result<bool, AllocError>
+    ensures { IfOk result (λ fit. fit ≡ share_fits claim.now table.now) }
+{
+    let old = old_shares(alloc, claim.file, claim.owner, table.claims())?;
+    Ok(table.len() + 1 <= CLAIMS + old.len())
+}
+
+/// Enters a granted share in the place of its owner's, where the table has room.
+#[tactic(auto, unfolding(crate::specs::Relock::shared_in), using(crate::proofs::ShareLaws::share_may_be_entered, crate::proofs::ShareLaws::old_removed))]
+fn share(alloc: Global, table: &mut Table, claim: &Claim) -> Result<(), AllocError>
+    requires { is_share claim.now.what ≡ true }
+    ensures { OnOk result (table.new ≡ shared_in claim.now table.old) }
+{
+    let old = old_shares(alloc, claim.file, claim.owner, table.claims())?;
+    take_out(table, &old);
+    if table.insert(*claim).is_err() {
+        return Err(AllocError);
+    }
+    Ok(())
+}
+
 /// Whether the table has room for the claims after a grant.
 #[tactic(auto, unfolding(crate::specs::Relock::grant_fits))]
 pub(crate) fn does_grant_fit(
@@ -254,7 +301,7 @@ pub(crate) fn does_grant_fit(
     table: &Table,
     claim: &Claim,
 ) -> Result<bool, AllocError>
-    requires { IsRange claim.now }
+    requires { IsPosix claim.now }
     ensures { IfOk result (λ fit. fit ≡ grant_fits claim.now table.now) }
 {
     match claim.what {
@@ -262,6 +309,7 @@ pub(crate) fn does_grant_fit(
             let mode = Some(mode_of(exclusive));
             do_fit(alloc, table, &bytes_of(claim, first, last), mode)
         }
+        What::Share(_, _) => does_share_fit(alloc, table, claim),
         _ => Ok(true),
     }
 }
@@ -269,7 +317,7 @@ pub(crate) fn does_grant_fit(
 /// Enters a granted claim, for which the table has room.
 #[tactic(auto, unfolding(crate::specs::Relock::granted_claims))]
 pub(crate) fn grant(alloc: Global, table: &mut Table, claim: &Claim) -> Result<(), AllocError>
-    requires range { IsRange claim.now }
+    requires posix { IsPosix claim.now }
     requires party { AllByRecursion (λ c. has_one_party claim.now c ≡ true) table.old }
     ensures { OnOk result (table.new ≡ granted_claims claim.now table.old) }
 {
@@ -278,6 +326,7 @@ pub(crate) fn grant(alloc: Global, table: &mut Table, claim: &Claim) -> Result<(
             let mode = Some(mode_of(exclusive));
             relock(alloc, table, claim, &bytes_of(claim, first, last), mode)
         }
+        What::Share(_, _) => share(alloc, table, claim),
         _ => Ok(()),
     }
 }

@@ -3,7 +3,7 @@ ghost use Rattle.std.specs.Prelude.{◌≡◌, ℕ, true, List, [], Option, Some
 ghost use Rattle.std.specs.List.{AllByRecursion, slice_get};
 ghost use Rattle.xl_table.specs.Held.{has_one_party};
 ghost use Rattle.xl_wait.specs.declared.waiter.Waiter.{Waiter};
-ghost use Rattle.xl_core.specs.Good.{IsRange, IsWaiter, IsGood};
+ghost use Rattle.xl_core.specs.Good.{IsPosix, IsWaiter, IsGood};
 ghost use Rattle.xl_core.specs.Settle.{turn_by, turn_of, next_turn, first_turn, served, settle};
 ghost use Rattle.xl_core.specs.Whole.{state_of};
 
@@ -34,7 +34,7 @@ fn turn_by(
     waiter: &Waiter,
     claim: Option<Claim>,
 ) -> Result<Option<Turn>, AllocError>
-    requires { IfSome claim (λ c. IsRange c) }
+    requires { IfSome claim (λ c. IsPosix c) }
     ensures { (n : ℕ) (earlier : List Waiter) → IfOk result (λ t. t ≡ turn_by n left.now (state_of parts.now) earlier waiter.now claim) }
 {
     let Some(claim) = claim else {
@@ -53,7 +53,7 @@ fn turn_by(
 }
 
 /// The waiter's turn, where nothing blocks it.
-#[tactic(auto, unfolding(crate::specs::Settle::turn_of), using(crate::proofs::TurnLaws::first_is_range))]
+#[tactic(auto, unfolding(crate::specs::Settle::turn_of), using(crate::proofs::TurnLaws::first_is_posix))]
 fn turn_of(
     alloc: Global,
     parts: &Parts,
@@ -98,7 +98,7 @@ fn first_turn(alloc: Global, parts: &Parts, left: &Rooms) -> Result<Option<Turn>
 /// Takes the waiter out, and gives it what it asked for where there is room.
 #[tactic(auto, unfolding(crate::specs::Settle::served))]
 fn serve(alloc: Global, parts: &mut Parts, turn: &Turn) -> Result<Sequence<Effect>, AllocError>
-    requires range { IsRange turn.now.claim }
+    requires posix { IsPosix turn.now.claim }
     requires party { AllByRecursion (λ c. has_one_party turn.now.claim c ≡ true) parts.old.table }
     ensures served { IfOk result (λ effects. served (state_of parts.old) turn.now ≡ (effects, state_of parts.new)) }
     ensures made { parts.new.made ≡ parts.old.made }
@@ -118,7 +118,7 @@ fn serve(alloc: Global, parts: &mut Parts, turn: &Turn) -> Result<Sequence<Effec
 }
 
 /// One turn, where a waiter has one.
-#[tactic(auto, unfolding(crate::specs::Settle::settle), using(crate::proofs::TurnLaws::turn_is_range, crate::proofs::TurnLaws::turn_has_one_party))]
+#[tactic(auto, unfolding(crate::specs::Settle::settle), using(crate::proofs::TurnLaws::turn_is_posix, crate::proofs::TurnLaws::turn_has_one_party))]
 pub(crate) fn settle(
     alloc: Global,
     parts: &mut Parts,

@@ -1,8 +1,14 @@
+pub mod AnswerLaws
 pub mod AskLaws
+pub mod CallLaws
+pub mod GrantLaws
 pub mod HostLaws
+pub mod LeaveLaws
 pub mod ReplyLaws
 pub mod SentLaws
 pub mod ServeLaws
+pub mod ShareLaws
 pub mod ShortLaws
+pub mod StandLaws
 pub mod StepLaws
 pub mod WaitLaws

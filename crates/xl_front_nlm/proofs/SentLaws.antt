@@ -6,6 +6,7 @@ use Rattle.xl_base.specs.declared.event.Out.{Out}
 use Rattle.xl_base.specs.declared.journal.Exports.{Exports}
 use Rattle.xl_core.specs.State.{CoreState}
 use Rattle.xl_front_nlm.specs.FrontNlm.{sent, told, nlm_step}
+use Rattle.xl_front_nlm.specs.State.{FrontState}
 
 back : (conn : ℕ) (reply : Option (List ℕ)) → AllByRecursion (λ (out : Out). out.dest ≡ Conn conn) (sent conn reply)
 back conn None = tt
@@ -15,10 +16,10 @@ few : (conn : ℕ) (reply : Option (List ℕ)) → length (sent conn reply) ≤ 
 few conn None = omega arith
 few conn (Some bytes) = omega arith
 
-pub replies_back : (n : ℕ) (exports : Exports) (hosts : List (List ℕ)) (s : CoreState) (conn : ℕ) (bytes : List ℕ) → AllByRecursion (λ (out : Out). out.dest ≡ Conn conn) (nlm_step n exports hosts s conn bytes).0
+pub replies_back : (n : ℕ) (exports : Exports) (f : FrontState) (s : CoreState) (conn : ℕ) (bytes : List ℕ) → AllByRecursion (λ (out : Out). out.dest ≡ Conn conn) (nlm_step n exports f s conn bytes).0
 unfolding nlm_step
-replies_back n exports hosts s conn bytes = back conn (told n (length exports.files) hosts s bytes).0
+replies_back n exports f s conn bytes = back conn (told n (length exports.files) f s bytes).0
 
-pub one_reply : (n : ℕ) (exports : Exports) (hosts : List (List ℕ)) (s : CoreState) (conn : ℕ) (bytes : List ℕ) → length (nlm_step n exports hosts s conn bytes).0 ≤ 1
+pub one_reply : (n : ℕ) (exports : Exports) (f : FrontState) (s : CoreState) (conn : ℕ) (bytes : List ℕ) → length (nlm_step n exports f s conn bytes).0 ≤ 1
 unfolding nlm_step
-one_reply n exports hosts s conn bytes = few conn (told n (length exports.files) hosts s bytes).0
+one_reply n exports f s conn bytes = few conn (told n (length exports.files) f s bytes).0

@@ -17,10 +17,10 @@ use Rattle.xl_core.specs.declared.ask.Answer.TheVariants as answers
 use Rattle.xl_front_nlm.specs.Results.{parts_by, owner_parts, holder_by, holder_of, test_status, test_holder, reply_of}
 use Rattle.xl_front_nlm.specs.Short.{IsShort, AreShort}
 use Rattle.xl_front_nlm.specs.declared.outcome.Outcome.{Outcome}
-use Rattle.xl_front_nlm.specs.declared.outcome.Outcome.TheVariants.{NoFile, TooBig, Waits, Answered, Nothing}
+use Rattle.xl_front_nlm.specs.declared.outcome.Outcome.TheVariants.{NoFile, TooBig, Waits, NotWaiting, Answered, Ended, Nothing}
 
 parts_short : (name : Name) → IsShort name → length (parts_by (Some name)).1 ≤ 1024
-parts_short (NlmRange caller svid oh) short = short
+parts_short (NlmRange caller svid oh) short = short.1
 parts_short (NlmShare caller oh) short = omega arith
 parts_short (NlmParty caller) short = omega arith
 parts_short (NfsRange client owner) short = omega arith
@@ -66,7 +66,9 @@ told_short : (names : List Name) (outcome : Outcome) → AreShort names → IsTo
 told_short names NoFile short = (refl, tt)
 told_short names TooBig short = (refl, tt)
 told_short names Waits short = (refl, tt)
+told_short names NotWaiting short = (refl, tt)
 told_short names (Answered answer) short = answer_told names answer short
+told_short names Ended short = (refl, tt)
 told_short names Nothing short = (refl, tt)
 
 of_short : (names : List Name) (call : CallItem) (outcome : Outcome) → CallFits call → AreShort names → IsShortReply (reply_of names call outcome)
@@ -74,12 +76,12 @@ unfolding reply_of
 of_short names Null outcome fits short = tt
 of_short names (Test a) outcome fits short = (fits.0, (told_short names outcome short).0, (told_short names outcome short).1)
 of_short names (Lock a) outcome fits short = fits.0
-of_short names (Cancel a) outcome fits short = tt
+of_short names (Cancel a) outcome fits short = fits.0
 of_short names (Unlock a) outcome fits short = fits.0
 of_short names (Granted a) outcome fits short = tt
-of_short names (ShareCall a) outcome fits short = tt
-of_short names (Unshare a) outcome fits short = tt
-of_short names (NmLock a) outcome fits short = tt
+of_short names (ShareCall a) outcome fits short = fits.0
+of_short names (Unshare a) outcome fits short = fits.0
+of_short names (NmLock a) outcome fits short = fits.0
 of_short names (FreeAll n) outcome fits short = tt
 
 pub reply_is_short : (r : ReplyItem) (names : List Name) (call : CallItem) (outcome : Outcome) → r ≡ reply_of names call outcome → CallFits call → AreShort names → IsShortReply r

@@ -8,29 +8,34 @@ use Rattle.std.specs.Bool.{◌==◌}
 use Rattle.xl_matrix.specs.declared.claim.Claim.{Claim}
 use Rattle.xl_matrix.specs.declared.claim.Extent.{Extent}
 use Rattle.xl_matrix.specs.declared.claim.Extent.TheVariants.{Bytes, Empty}
+use Rattle.xl_matrix.specs.declared.claim.What.{What}
+use Rattle.xl_matrix.specs.declared.claim.What.TheVariants as whats
 use Rattle.xl_names.specs.Names.{is_kept}
 use Rattle.xl_names.specs.declared.name.Name.{Name}
 use Rattle.xl_wait.specs.declared.waiter.Rooms.{Rooms}
 use Rattle.xl_core.specs.State.{CoreState, MayBe, GoesOn}
-use Rattle.xl_core.specs.Asking.{who_entered, both_entered, asked_claim, known_claim, names_fit}
+use Rattle.xl_core.specs.Asking.{who_entered, both_entered, asked_what, asked_claim, known_claim, names_fit}
 use Rattle.xl_core.specs.Relock.{holds_byte, relock_fits, grant_fits}
 use Rattle.xl_core.specs.Blockers.{least, blockers}
-use Rattle.xl_core.specs.Decide.{passed_by_grant, passed_by_wait, decided, decide, queued, lock_answered, lock_asked, ranges_asked, unlocked_bytes, unlocked, acted, ask, waiter_of}
+use Rattle.xl_core.specs.Decide.{passed_by_grant, passed_by_wait, decided, decide, queued, claim_answered, claim_decided, claim_asked, unlocked_bytes, unlocked, acted, ask, waiter_of}
 use Rattle.xl_core.specs.declared.ask.Act.{Act}
-use Rattle.xl_core.specs.declared.ask.Act.TheVariants.{Ranges, Test, Unlock}
+use Rattle.xl_core.specs.declared.ask.Act.TheVariants.{Share, Ranges, Test, Unlock}
 use Rattle.xl_core.specs.declared.ask.Answer.{Answer}
 use Rattle.xl_core.specs.declared.ask.Ask.{Ask}
 use Rattle.xl_core.specs.declared.ask.Effect.{Effect}
 use Rattle.xl_core.specs.declared.ask.Who.{Who}
 use Rattle.xl_core.specs.declared.ask.Who.TheVariants.{Named, Open}
 use Rattle.xl_core.specs.Decide.{most_hosts}
-use Rattle.xl_nlm.specs.Items.{LockArgsItem, CallItem}
+use Rattle.xl_nlm.specs.Items.{LockArgsItem, ShareArgsItem, CallItem}
 use Rattle.xl_rpc.specs.declared.fault.RpcBad.{RpcBad}
 use Rattle.xl_front_nlm.specs.FrontNlm.{with_results, replied_by}
-use Rattle.xl_front_nlm.specs.Asks.{lock_ask, served}
-use Rattle.xl_front_nlm.specs.Hosts.{is_host, rooms, lock_rows, makes_host}
+use Rattle.xl_front_nlm.specs.Asks.{lock_ask, refusal_ask, rights_of, share_ask}
+use Rattle.xl_front_nlm.specs.Serving.{served}
+use Rattle.xl_front_nlm.specs.State.{FrontState}
+use Rattle.xl_front_nlm.specs.Hosts.{is_host, rooms, host_rows, makes_host}
 use Rattle.xl_front_nlm.specs.declared.aim.Aim.{Aim}
-use Rattle.xl_front_nlm.specs.Short.{IsShort, AreShort, IsShortWho, IsShortAsk, Grows}
+use Rattle.xl_front_nlm.specs.declared.grant.Grant.{Grant}
+use Rattle.xl_front_nlm.specs.Short.{IsShort, AreShort, IsShortWho, IsShortAsk, Grows, IsStill}
 
 -- ---- nothing changes
 
@@ -74,24 +79,23 @@ choice_grows : (s : CoreState) (b : Bool) (x y : Answer × List Effect × CoreSt
 choice_grows s true x y first second = first
 choice_grows s false x y first second = second
 
-blocked_grows : (left : Rooms) (s : CoreState) (a : Ask) (claim c : Claim) (passed : Option ℕ) → AreShort s.names → IsShortAsk a → Grows s (lock_answered left s a claim (decided (Some c) passed)).2
+blocked_grows : (left : Rooms) (s : CoreState) (a : Ask) (claim c : Claim) (passed : Option ℕ) → AreShort s.names → IsShortAsk a → Grows s (claim_answered left s a claim (decided (Some c) passed)).2
 blocked_grows left s a claim c passed short small =
     choice_grows s a.blocking _ _ (queued_grows s a claim (passed_by_wait left a.rows (length s.waiters) (names_fit a s.names)) short small) (grows_self s short)
 
-answered_grows : (left : Rooms) (s : CoreState) (a : Ask) (claim : Claim) (least : Option Claim) (passed : Option ℕ) → AreShort s.names → IsShortAsk a → Grows s (lock_answered left s a claim (decided least passed)).2
+answered_grows : (left : Rooms) (s : CoreState) (a : Ask) (claim : Claim) (least : Option Claim) (passed : Option ℕ) → AreShort s.names → IsShortAsk a → Grows s (claim_answered left s a claim (decided least passed)).2
 answered_grows left s a claim (Some c) passed short small = blocked_grows left s a claim c passed short small
 answered_grows left s a claim None (Some limit) short small = grows_self s short
 answered_grows left s a claim None None short small = record { counter = omega arith; waiters = omega arith; short = both_short a s.names short small }
 
-lock_grows : (n : ℕ) (left : Rooms) (s : CoreState) (a : Ask) (claim : Claim) → AreShort s.names → IsShortAsk a → Grows s (lock_asked n left s a claim).2
-unfolding lock_asked decide
-lock_grows n left s a claim short small =
+claim_grows : (n : ℕ) (left : Rooms) (s : CoreState) (a : Ask) (claim : Claim) → AreShort s.names → IsShortAsk a → Grows s (claim_decided n left s a claim).2
+unfolding claim_decided decide
+claim_grows n left s a claim short small =
     answered_grows left s a claim (least s.names (blockers s.waiters s claim)) (passed_by_grant left a.rows (grant_fits claim s.claims) (names_fit a s.names)) short small
 
-ranges_grow : (n : ℕ) (left : Rooms) (s : CoreState) (a : Ask) (range : Option (Extent × Bool)) → AreShort s.names → IsShortAsk a → Grows s (ranges_asked n left s a range).2
-ranges_grow n left s a None short small = grows_self s short
-ranges_grow n left s a (Some range) short small =
-    choice_grows s a.reclaim _ _ (grows_self s short) (lock_grows n left s a (asked_claim a range.0 range.1 s.names) short small)
+asked_grows : (n : ℕ) (left : Rooms) (s : CoreState) (a : Ask) (what : Option What) → AreShort s.names → IsShortAsk a → Grows s (claim_asked n left s a what).2
+asked_grows n left s a None short small = grows_self s short
+asked_grows n left s a (Some what) short small = choice_grows s a.reclaim _ _ (grows_self s short) (claim_grows n left s a (asked_claim a what s.names) short small)
 
 bytes_grow : (s : CoreState) (c : Claim) (first last : ℕ) → AreShort s.names → Grows s (unlocked_bytes s c first last).2
 bytes_grow s c first last short =
@@ -110,7 +114,8 @@ unlock_grows s c (Bytes first last) short = bytes_grow s c first last short
 unlock_grows s c (Empty offset) short = grows_self s short
 
 acted_grows : (n : ℕ) (left : Rooms) (s : CoreState) (a : Ask) (act : Act) → AreShort s.names → IsShortAsk a → Grows s (acted n left s a act).2
-acted_grows n left s a (Ranges ranges) short small = ranges_grow n left s a (slice_get ranges 0) short small
+acted_grows n left s a (Share access deny) short small = asked_grows n left s a (asked_what (Share access deny)) short small
+acted_grows n left s a (Ranges ranges) short small = asked_grows n left s a (asked_what (Ranges ranges)) short small
 acted_grows n left s a (Test extent exclusive) short small = grows_self s short
 acted_grows n left s a (Unlock extent) short small = unlock_grows s (known_claim a extent false s.names) extent short
 
@@ -118,6 +123,31 @@ pub ask_grows : (n : ℕ) (left : Rooms) (s new : CoreState) (a : Ask) (answer :
 unfolding ask
 ask_grows n left s new a answer effects e short small =
     subst (λ (t : CoreState). Grows s t) (ap (λ (r : Answer × List Effect × CoreState). r.2) e) (acted_grows n left s a a.act short small)
+
+-- ---- an unlock changes claims alone
+
+pub still_self : (s : CoreState) → IsStill s s
+still_self s = record { counter = refl; waiters = refl; names = refl }
+
+bytes_still : (s : CoreState) (c : Claim) (first last : ℕ) → IsStill s (unlocked_bytes s c first last).2
+bytes_still s c first last =
+    elim (cases_Bool (holds_byte c.file c.owner first last s.claims)) [
+      | inr e ↦ rw e (still_self s)
+      | inl e ↦
+          elim (cases_Bool (relock_fits c.file c.owner first last None s.claims)) [
+            | inr k ↦ rw (e, k) (still_self s)
+            | inl k ↦ rw (e, k) (record { counter = refl; waiters = refl; names = refl })
+          ]
+    ]
+
+refusal_still : (n : ℕ) (left : Rooms) (s : CoreState) (g : Grant) → IsStill s (ask n left s (refusal_ask g)).2
+unfolding ask unlocked
+refusal_still n left s g = bytes_still s (known_claim (refusal_ask g) (Bytes g.first g.last) false s.names) g.first g.last
+
+pub refused_still : (n : ℕ) (left : Rooms) (s new : CoreState) (g : Grant) (request : Ask) (answer : Answer) (effects : List Effect) → request ≡ refusal_ask g → ask n left s request ≡ (answer, effects, new) → IsStill s new
+refused_still n left s new g request answer effects e is =
+    let done : (ask n left s (refusal_ask g)).2 ≡ new = ap (λ (q : Ask). (ask n left s q).2) (sym e) ∙ ap (λ (r : Answer × List Effect × CoreState). r.2) is in
+    subst (λ (t : CoreState). IsStill s t) done (refusal_still n left s g)
 
 -- ---- a grant and a wait have room for their hosts
 
@@ -144,50 +174,62 @@ choice_room : (left : Rooms) (a : Ask) (b : Bool) (x y : Answer × List Effect �
 choice_room left a true x y first second = first
 choice_room left a false x y first second = second
 
-blocked_room : (left : Rooms) (s : CoreState) (a : Ask) (claim c : Claim) (passed : Option ℕ) → HasRoomFor left a (lock_answered left s a claim (decided (Some c) passed)).0
+blocked_room : (left : Rooms) (s : CoreState) (a : Ask) (claim c : Claim) (passed : Option ℕ) → HasRoomFor left a (claim_answered left s a claim (decided (Some c) passed)).0
 blocked_room left s a claim c passed =
     choice_room left a a.blocking _ _
     (queued_room left s a claim (passed_by_wait left a.rows (length s.waiters) (names_fit a s.names)) (wait_room left a.rows (length s.waiters) (names_fit a s.names)))
     (λ made. absurd (false≢true made))
 
-answered_room : (left : Rooms) (s : CoreState) (a : Ask) (claim : Claim) (least : Option Claim) (passed : Option ℕ) → (passed ≡ None → HasRoom left a.rows) → HasRoomFor left a (lock_answered left s a claim (decided least passed)).0
+answered_room : (left : Rooms) (s : CoreState) (a : Ask) (claim : Claim) (least : Option Claim) (passed : Option ℕ) → (passed ≡ None → HasRoom left a.rows) → HasRoomFor left a (claim_answered left s a claim (decided least passed)).0
 answered_room left s a claim (Some c) passed room = blocked_room left s a claim c passed
 answered_room left s a claim None (Some limit) room = λ made. absurd (false≢true made)
 answered_room left s a claim None None room = λ _. room refl
 
-lock_room : (n : ℕ) (left : Rooms) (s : CoreState) (a : Ask) (claim : Claim) → HasRoomFor left a (lock_asked n left s a claim).0
-unfolding lock_asked decide
-lock_room n left s a claim =
+claim_room : (n : ℕ) (left : Rooms) (s : CoreState) (a : Ask) (claim : Claim) → HasRoomFor left a (claim_decided n left s a claim).0
+unfolding claim_decided decide
+claim_room n left s a claim =
     let names = names_fit a s.names in
     let fits = grant_fits claim s.claims in
     answered_room left s a claim (least s.names (blockers s.waiters s claim)) (passed_by_grant left a.rows fits names) (grant_room left a.rows fits names)
 
-ranges_room : (n : ℕ) (left : Rooms) (s : CoreState) (a : Ask) (range : Option (Extent × Bool)) → HasRoomFor left a (ranges_asked n left s a range).0
-ranges_room n left s a None = λ made. absurd (false≢true made)
-ranges_room n left s a (Some range) =
-    choice_room left a a.reclaim _ _ (λ made. absurd (false≢true made)) (lock_room n left s a (asked_claim a range.0 range.1 s.names))
+asked_room : (n : ℕ) (left : Rooms) (s : CoreState) (a : Ask) (what : Option What) → HasRoomFor left a (claim_asked n left s a what).0
+asked_room n left s a None = λ made. absurd (false≢true made)
+asked_room n left s a (Some what) =
+    choice_room left a a.reclaim _ _ (λ made. absurd (false≢true made)) (claim_room n left s a (asked_claim a what s.names))
 
 lock_has_room : (n : ℕ) (left rows : Rooms) (s : CoreState) (a : LockArgsItem) (at : Aim) → HasRoomFor left (lock_ask rows a at) (ask n left s (lock_ask rows a at)).0
 unfolding ask
-lock_has_room n left rows s a at = ranges_room n left s (lock_ask rows a at) (Some (Bytes at.first at.last, a.exclusive))
+lock_has_room n left rows s a at = asked_room n left s (lock_ask rows a at) (Some (whats.Range (Bytes at.first at.last) a.exclusive))
 
-fresh_room : (caller : List ℕ) (hosts : List (List ℕ)) (rows : Rooms) → rows ≡ lock_rows caller hosts → HasRoom (rooms hosts) rows → is_host caller hosts ≡ false → length hosts < most_hosts
+share_has_room : (n : ℕ) (left rows : Rooms) (s : CoreState) (a : ShareArgsItem) (file : ℕ) → HasRoomFor left (share_ask rows a file) (ask n left s (share_ask rows a file)).0
+unfolding ask
+share_has_room n left rows s a file = asked_room n left s (share_ask rows a file) (Some (whats.Share (rights_of a.access) (rights_of a.mode)))
+
+fresh_room : (caller : List ℕ) (hosts : List (List ℕ)) (rows : Rooms) → rows ≡ host_rows caller hosts → HasRoom (rooms hosts) rows → is_host caller hosts ≡ false → length hosts < most_hosts
 fresh_room caller hosts rows e room fresh =
     let one : rows.hosts ≡ 1 = ap (λ (r : Rooms). r.hosts) e ∙ rw fresh refl in
     omega (arith, room, one)
 
--- a caller that comes as a host has room
-pub room_to_note : (n : ℕ) (hosts : List (List ℕ)) (s new : CoreState) (caller : List ℕ) (rows : Rooms) (a : LockArgsItem) (at : Aim) (request : Ask) (answer : Answer) (effects : List Effect)
-    → rows ≡ lock_rows caller hosts → request ≡ lock_ask rows a at → ask n (rooms hosts) s request ≡ (answer, effects, new)
+-- a caller that comes as a host has room, by a lock and by a share
+answer_is : (n : ℕ) (left : Rooms) (s new : CoreState) (request asked : Ask) (answer : Answer) (effects : List Effect) → request ≡ asked → ask n left s request ≡ (answer, effects, new) → (ask n left s asked).0 ≡ answer
+answer_is n left s new request asked answer effects e is = ap (λ (q : Ask). (ask n left s q).0) (sym e) ∙ ap (λ (r : Answer × List Effect × CoreState). r.0) is
+
+pub lock_room_to_note : (n : ℕ) (hosts : List (List ℕ)) (s new : CoreState) (caller : List ℕ) (rows : Rooms) (a : LockArgsItem) (at : Aim) (request : Ask) (answer : Answer) (effects : List Effect)
+    → rows ≡ host_rows caller hosts → request ≡ lock_ask rows a at → ask n (rooms hosts) s request ≡ (answer, effects, new)
     → makes_host answer ≡ true → is_host caller hosts ≡ false → length hosts < most_hosts
-room_to_note n hosts s new caller rows a at request answer effects e k is makes fresh =
-    let first : (ask n (rooms hosts) s (lock_ask rows a at)).0 ≡ answer = ap (λ (q : Ask). (ask n (rooms hosts) s q).0) (sym k) ∙ ap (λ (r : Answer × List Effect × CoreState). r.0) is in
-    fresh_room caller hosts rows e (lock_has_room n (rooms hosts) rows s a at (ap makes_host first ∙ makes)) fresh
+lock_room_to_note n hosts s new caller rows a at request answer effects e k is makes fresh =
+    fresh_room caller hosts rows e (lock_has_room n (rooms hosts) rows s a at (ap makes_host (answer_is n (rooms hosts) s new request (lock_ask rows a at) answer effects k is) ∙ makes)) fresh
+
+pub share_room_to_note : (n : ℕ) (hosts : List (List ℕ)) (s new : CoreState) (caller : List ℕ) (rows : Rooms) (a : ShareArgsItem) (file : ℕ) (request : Ask) (answer : Answer) (effects : List Effect)
+    → rows ≡ host_rows caller hosts → request ≡ share_ask rows a file → ask n (rooms hosts) s request ≡ (answer, effects, new)
+    → makes_host answer ≡ true → is_host caller hosts ≡ false → length hosts < most_hosts
+share_room_to_note n hosts s new caller rows a file request answer effects e k is makes fresh =
+    fresh_room caller hosts rows e (share_has_room n (rooms hosts) rows s a file (ap makes_host (answer_is n (rooms hosts) s new request (share_ask rows a file) answer effects k is) ∙ makes)) fresh
 
 -- ---- the arguments of a call were read, and nothing stands behind them
 
-pub replied_with : (n count : ℕ) (hosts : List (List ℕ)) (s : CoreState) (xid : ℕ) (read : Result (CallItem × List ℕ) RpcBad) (call : CallItem) (rest left : List ℕ) (r : List ℕ × List Effect × List (List ℕ) × CoreState)
-    → read ≡ Ok (call, rest) → left ≡ rest → (length left == 0) ≡ true → with_results xid call (served n count hosts s call) ≡ r → replied_by n count hosts s xid read ≡ r
-replied_with n count hosts s xid read call rest left r e k none is =
+pub replied_with : (n count : ℕ) (f : FrontState) (s : CoreState) (xid : ℕ) (read : Result (CallItem × List ℕ) RpcBad) (call : CallItem) (rest left : List ℕ) (r : List ℕ × List Effect × FrontState × CoreState)
+    → read ≡ Ok (call, rest) → left ≡ rest → (length left == 0) ≡ true → with_results xid call (served n count f s call) ≡ r → replied_by n count f s xid read ≡ r
+replied_with n count f s xid read call rest left r e k none is =
     let empty : (length rest == 0) ≡ true = ap (λ (x : List ℕ). length x == 0) (sym k) ∙ none in
-    ap (replied_by n count hosts s xid) e ∙ rw empty is
+    ap (replied_by n count f s xid) e ∙ rw empty is

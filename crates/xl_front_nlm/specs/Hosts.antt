@@ -25,9 +25,9 @@ AreHosts hosts = (length hosts ≤ most_hosts) × Pairwise are_apart hosts
 abbrev pub rooms : List (List ℕ) → Rooms
 rooms hosts = record { hosts = most_hosts - length hosts; owners = most_owners; opens = most_opens }
 
--- the rows that a lock of this caller adds
-abbrev pub lock_rows : List ℕ → List (List ℕ) → Rooms
-lock_rows caller hosts = record { hosts = if is_host caller hosts then 0 else 1; owners = 0; opens = 0 }
+-- the rows that a lock or a share of this caller adds
+abbrev pub host_rows : List ℕ → List (List ℕ) → Rooms
+host_rows caller hosts = record { hosts = if is_host caller hosts then 0 else 1; owners = 0; opens = 0 }
 
 abbrev pub no_rows : Rooms
 no_rows = record { hosts = 0; owners = 0; opens = 0 }

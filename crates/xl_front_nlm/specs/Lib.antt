@@ -1,6 +1,11 @@
 pub mod Short
 pub mod Hosts
+pub mod State
 pub mod Aims
-pub mod Results
 pub mod Asks
+pub mod Standing
+pub mod Results
+pub mod Serving
+pub mod Grants
+pub mod Answers
 pub mod FrontNlm

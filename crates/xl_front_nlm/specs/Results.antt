@@ -1,4 +1,4 @@
--- How what became of a call is told (XNFS C702, nlm4_stats, nlm4_testres, nlm4_res).
+-- How what became of a call is told (XNFS C702, nlm4_stats, nlm4_testres, nlm4_res, nlm4_shareres).
 use Rattle.std.specs.Prelude.{ℕ, ℤ, pos, false, List, [], Option, Some, None, slice_get}
 use Rattle.xl_base.specs.declared.name.Owner.{Owner}
 use Rattle.xl_base.specs.declared.name.Owner.TheVariants as owners
@@ -8,16 +8,16 @@ use Rattle.xl_matrix.specs.declared.claim.What.{What}
 use Rattle.xl_matrix.specs.declared.claim.What.TheVariants.{Range}
 use Rattle.xl_names.specs.declared.name.Name.{Name}
 use Rattle.xl_names.specs.declared.name.Name.TheVariants.{NlmRange}
-use Rattle.xl_nlm.specs.Items.{CallItem, Test, Lock, Unlock, HolderItem, TestResItem, ReplyItem, Void, TestAnswer, Answer as ResAnswer}
+use Rattle.xl_nlm.specs.Items.{CallItem, Test, Lock, Cancel, Unlock, Share, Unshare, NmLock, HolderItem, TestResItem, ReplyItem, Void, TestAnswer, Answer as ResAnswer, ShareAnswer}
 use Rattle.xl_nlm.specs.declared.item.NlmStatus.{NlmStatus}
 use Rattle.xl_nlm.specs.declared.item.NlmStatus.TheVariants as stats
 use Rattle.xl_core.specs.declared.ask.Answer.{Answer}
 use Rattle.xl_core.specs.declared.ask.Answer.TheVariants as answers
 use Rattle.xl_front_nlm.specs.Aims.{length_of}
 use Rattle.xl_front_nlm.specs.declared.outcome.Outcome.{Outcome}
-use Rattle.xl_front_nlm.specs.declared.outcome.Outcome.TheVariants.{NoFile, TooBig, Waits, Answered, Nothing}
+use Rattle.xl_front_nlm.specs.declared.outcome.Outcome.TheVariants.{NoFile, TooBig, Waits, NotWaiting, Answered, Ended, Nothing}
 
--- ---- LOCK and UNLOCK
+-- ---- all calls but TEST
 
 -- the map of the core's answers
 abbrev pub answer_status : Answer → NlmStatus
@@ -36,7 +36,9 @@ abbrev pub status_of : Outcome → NlmStatus
 status_of NoFile = stats.StaleFh
 status_of TooBig = stats.Fbig
 status_of Waits = stats.Blocked
+status_of NotWaiting = stats.Denied
 status_of (Answered answer) = answer_status answer
+status_of Ended = stats.Granted
 status_of Nothing = stats.Granted
 
 -- ---- TEST
@@ -47,9 +49,12 @@ test_answer_status (answers.Conflict c) = stats.Denied
 test_answer_status (answers.Grace until) = stats.DeniedGracePeriod
 test_answer_status _ = stats.Granted
 
+-- no other outcome comes of a test
 abbrev pub test_status : Outcome → NlmStatus
+test_status NoFile = stats.StaleFh
+test_status TooBig = stats.Fbig
 test_status (Answered answer) = test_answer_status answer
-test_status outcome = status_of outcome
+test_status _ = stats.Granted
 
 -- the svid and oh of an owner of NLM ranges; of another 0 and none
 abbrev pub parts_by : Option Name → ℤ × List ℕ
@@ -78,9 +83,21 @@ test_result cookie names outcome = record { cookie = cookie; stat = test_status 
 
 -- ---- the results of a call
 
--- with the call's cookie; these are the names kept after it
+-- with the call's cookie
+abbrev pub res_of : List ℕ → Outcome → ReplyItem
+res_of cookie outcome = ResAnswer (record { cookie = cookie; stat = status_of outcome })
+
+-- the sequence is not used
+abbrev pub share_res_of : List ℕ → Outcome → ReplyItem
+share_res_of cookie outcome = ShareAnswer (record { cookie = cookie; stat = status_of outcome; sequence = pos 0 })
+
+-- these are the names kept after the call
 unfoldable pub reply_of : List Name → CallItem → Outcome → ReplyItem
 reply_of names (Test a) outcome = TestAnswer (test_result a.cookie names outcome)
-reply_of names (Lock a) outcome = ResAnswer (record { cookie = a.cookie; stat = status_of outcome })
-reply_of names (Unlock a) outcome = ResAnswer (record { cookie = a.cookie; stat = status_of outcome })
+reply_of names (Lock a) outcome = res_of a.cookie outcome
+reply_of names (Cancel a) outcome = res_of a.cookie outcome
+reply_of names (Unlock a) outcome = res_of a.cookie outcome
+reply_of names (Share a) outcome = share_res_of a.cookie outcome
+reply_of names (Unshare a) outcome = share_res_of a.cookie outcome
+reply_of names (NmLock a) outcome = res_of a.cookie outcome
 reply_of names _ outcome = Void

@@ -1,16 +1,20 @@
 -- Names whose parts fit the messages that tell them, and what a step adds to the core at most.
-use Rattle.std.specs.Prelude.{◌+◌, ◌≤◌, List, length}
+use Rattle.std.specs.Prelude.{◌≡◌, ◌+◌, ◌≤◌, List, length}
 use Rattle.std.specs.List.{AllByRecursion}
+use Rattle.xl_base.specs.declared.event.Dest.{Dest}
+use Rattle.xl_base.specs.declared.event.Dest.TheVariants.{Conn, Back}
+use Rattle.xl_base.specs.declared.event.Out.{Out}
 use Rattle.xl_names.specs.declared.name.Name.{Name}
 use Rattle.xl_names.specs.declared.name.Name.TheVariants.{NlmRange}
 use Rattle.xl_core.specs.State.{CoreState}
 use Rattle.xl_core.specs.declared.ask.Ask.{Ask}
 use Rattle.xl_core.specs.declared.ask.Who.{Who}
 use Rattle.xl_core.specs.declared.ask.Who.TheVariants.{Named, Open}
+use Rattle.xl_front_nlm.specs.declared.grant.Grant.{Grant}
 
--- TEST tells the oh of an owner of NLM ranges
+-- TEST tells the oh of an owner of NLM ranges, and GRANTED its caller too
 abbrev pub IsShort : Name → Type 0
-IsShort (NlmRange caller svid oh) = length oh ≤ 1024
+IsShort (NlmRange caller svid oh) = (length caller ≤ 1024) × (length oh ≤ 1024)
 IsShort _ = Unit {0}
 
 abbrev pub AreShort : List Name → Type 0
@@ -23,8 +27,25 @@ IsShortWho (Open number) = Unit {0}
 abbrev pub IsShortAsk : Ask → Type 0
 IsShortAsk a = IsShortWho a.owner × IsShortWho a.party
 
+abbrev pub IsShortGrant : Grant → Type 0
+IsShortGrant g = (length g.caller ≤ 1024) × (length g.oh ≤ 1024)
+
+-- what is sent to a connection fits a frame; a call is sent without one
+abbrev pub FitsBy : Out → Dest → Type 0
+FitsBy out (Conn number) = length out.bytes ≤ 65536
+FitsBy out (Back call) = Unit {0}
+
+abbrev pub FitsFrame : Out → Type 0
+FitsFrame out = FitsBy out out.dest
+
 -- one number and one waiter, and short names
 pub record Grows (old new : CoreState) : Type 0 where
   pub counter : new.counter ≤ old.counter + 1
   pub waiters : length new.waiters ≤ length old.waiters + 1
   pub short : AreShort new.names
+
+-- no number was given out, nobody came to wait or waits no more, and no name came
+pub record IsStill (old new : CoreState) : Type 0 where
+  pub counter : new.counter ≡ old.counter
+  pub waiters : new.waiters ≡ old.waiters
+  pub names : new.names ≡ old.names

@@ -19,7 +19,7 @@ pub struct Aim {
 }
 
 /// The number of the file of a handle, where it is one of the exported files, of which there are so many.
-fn exported(count: usize, fh: &[u8]) -> Option<u32>
+pub(crate) fn exported(count: usize, fh: &[u8]) -> Option<u32>
     ensures { result ≡ exported count fh.now }
 {
     match file_of(fh) {

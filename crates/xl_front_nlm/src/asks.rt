@@ -1,18 +1,18 @@
 //! What the core is asked for a call.
 ghost use Rattle.std.specs.Prelude.{◌≡◌, ◌≤◌, false, IfOk};
-ghost use Rattle.std.specs.List.{list_any, slice_get};
-ghost use Rattle.xl_nlm.specs.Items.{shown_lock, shown_test_args, shown_lock_args, shown_unlock_args};
+ghost use Rattle.xl_nlm.specs.Items.{shown_lock, shown_test_args, shown_lock_args, shown_unlock_args, shown_share_args};
 ghost use Rattle.xl_core.specs.Asking.{IsFit};
-ghost use Rattle.xl_front_nlm.specs.Asks.{owner_of, ask_of, test_ask, lock_ask, unlock_ask, is_aimed, is_same, waits_by, does_wait};
+ghost use Rattle.xl_front_nlm.specs.Asks.{owner_of, ask_of, test_ask, lock_ask, unlock_ask, refusal_ask, rights_of, share_owner, share_ask};
 
 use crate::aim::Aim;
+use crate::grant::Grant;
 use std::alloc::{AllocError, Global};
-use xl_base::{Owner, Protocol, Sequence};
-use xl_core::{Act, Ask, Core, Who};
-use xl_matrix::{Claim, Extent, What, same_owner};
+use xl_base::Sequence;
+use xl_core::{Act, Ask, Who};
+use xl_matrix::{Extent, Rwd};
 use xl_names::Name;
-use xl_nlm::{Lock, LockArgs, TestArgs, UnlockArgs};
-use xl_wait::{Rooms, Waiter};
+use xl_nlm::{Lock, LockArgs, Rights, ShareArgs, TestArgs, UnlockArgs};
+use xl_wait::Rooms;
 
 const NO_ROWS: Rooms = Rooms {
     hosts: 0,
@@ -21,7 +21,7 @@ const NO_ROWS: Rooms = Rooms {
 };
 
 /// The owner of what a lock names.
-fn owner_of(alloc: Global, lock: &Lock) -> Result<Name, AllocError>
+pub(crate) fn owner_of(alloc: Global, lock: &Lock) -> Result<Name, AllocError>
     ensures { IfOk result (λ name. name ≡ owner_of (shown_lock lock.now)) }
 {
     let caller = Sequence::from_slice(alloc, lock.caller_name)?;
@@ -29,12 +29,27 @@ fn owner_of(alloc: Global, lock: &Lock) -> Result<Name, AllocError>
     Ok(Name::NlmRange(caller, lock.svid, oh))
 }
 
-/// An ask of NLM that neither waits nor reclaims.
-fn ask_of(alloc: Global, lock: &Lock, file: u32, act: Act, rows: Rooms) -> Result<Ask, AllocError>
-    ensures { IfOk result (λ ask. ask ≡ ask_of (shown_lock lock.now) file act false false rows) }
+/// The owner of a share.
+pub(crate) fn share_owner(alloc: Global, args: &ShareArgs) -> Result<Name, AllocError>
+    ensures { IfOk result (λ name. name ≡ share_owner (shown_share_args args.now)) }
 {
-    let owner = owner_of(alloc, lock)?;
-    let caller = Sequence::from_slice(alloc, lock.caller_name)?;
+    let caller = Sequence::from_slice(alloc, args.caller_name)?;
+    let oh = Sequence::from_slice(alloc, args.oh)?;
+    Ok(Name::NlmShare(caller, oh))
+}
+
+/// An ask of NLM that neither waits nor reclaims.
+fn ask_of(
+    alloc: Global,
+    owner: Name,
+    caller: &[u8],
+    file: u32,
+    act: Act,
+    rows: Rooms,
+) -> Result<Ask, AllocError>
+    ensures { IfOk result (λ ask. ask ≡ ask_of owner caller.now file act false false rows) }
+{
+    let caller = Sequence::from_slice(alloc, caller)?;
     Ok(Ask {
         file,
         owner: Who::Named(owner),
@@ -56,11 +71,12 @@ pub(crate) fn test_ask(alloc: Global, args: &TestArgs, at: &Aim) -> Result<Ask, 
     ensures value { IfOk result (λ ask. ask ≡ test_ask (shown_test_args args.now) at.now) }
     ensures fit { IfOk result (λ ask. IsFit ask) }
 {
+    let owner = owner_of(alloc, &args.lock)?;
     let act = Act::Test(Extent::Bytes(at.first, at.last), args.exclusive);
-    ask_of(alloc, &args.lock, at.file, act, NO_ROWS)
+    ask_of(alloc, owner, args.lock.caller_name, at.file, act, NO_ROWS)
 }
 
-/// What is asked for LOCK, which adds these rows.
+/// What is asked for LOCK and NM_LOCK, which add these rows.
 #[tactic(auto, using(crate::proofs::AskLaws::own_client))]
 pub(crate) fn lock_ask(
     alloc: Global,
@@ -72,10 +88,11 @@ pub(crate) fn lock_ask(
     ensures value { IfOk result (λ ask. ask ≡ lock_ask rows (shown_lock_args args.now) at.now) }
     ensures fit { IfOk result (λ ask. IsFit ask) }
 {
+    let owner = owner_of(alloc, &args.lock)?;
     let mut ranges = Sequence::new(alloc);
     ranges.push((Extent::Bytes(at.first, at.last), args.exclusive))?;
     let act = Act::Ranges(ranges);
-    let mut request = ask_of(alloc, &args.lock, at.file, act, rows)?;
+    let mut request = ask_of(alloc, owner, args.lock.caller_name, at.file, act, rows)?;
     request.blocking = args.block;
     request.reclaim = args.reclaim;
     Ok(request)
@@ -88,64 +105,57 @@ pub(crate) fn unlock_ask(alloc: Global, args: &UnlockArgs, at: &Aim) -> Result<A
     ensures value { IfOk result (λ ask. ask ≡ unlock_ask (shown_unlock_args args.now) at.now) }
     ensures fit { IfOk result (λ ask. IsFit ask) }
 {
+    let owner = owner_of(alloc, &args.lock)?;
     let act = Act::Unlock(Extent::Bytes(at.first, at.last));
-    ask_of(alloc, &args.lock, at.file, act, NO_ROWS)
+    ask_of(alloc, owner, args.lock.caller_name, at.file, act, NO_ROWS)
 }
 
-fn is_aimed(what: What, at: &Aim, exclusive: bool) -> bool
-    ensures { result ≡ is_aimed what at.now exclusive }
+/// What is asked where a client refuses a lock that it is told of.
+#[tactic(auto, using(crate::proofs::AskLaws::own_client))]
+pub(crate) fn refusal_ask(alloc: Global, grant: &Grant) -> Result<Ask, AllocError>
+    requires ends { grant.now.first ≤ grant.now.last }
+    ensures value { IfOk result (λ ask. ask ≡ refusal_ask grant.now) }
+    ensures fit { IfOk result (λ ask. IsFit ask) }
 {
-    match what {
-        What::Range(Extent::Bytes(first, last), alone) => first == at.first
-            && last == at.last
-            && alone == exclusive,
-        _ => false,
-    }
-}
-
-/// Whether the claim is this owner's, on the very bytes, in this mode.
-fn is_same(owner: Owner, at: &Aim, exclusive: bool, claim: Option<Claim>) -> bool
-    ensures { result ≡ is_same owner at.now exclusive claim }
-{
-    let Some(claim) = claim else {
-        return false;
-    };
-    claim.file == at.file && same_owner(claim.owner, owner) && is_aimed(claim.what, at, exclusive)
-}
-
-/// Whether one of them waits for the very bytes in this mode as this owner.
-fn any_same(owner: Owner, at: &Aim, exclusive: bool, waiters: &[Waiter]) -> bool
-    ensures { result ≡ list_any (λ w. is_same owner at.now exclusive (slice_get w.asked 0)) waiters.now }
-{
-    waiters.iter().any(|waiter| is_same(
+    let caller = Sequence::from_slice(alloc, grant.caller.as_slice())?;
+    let oh = Sequence::from_slice(alloc, grant.oh.as_slice())?;
+    let owner = Name::NlmRange(caller, grant.svid, oh);
+    let act = Act::Unlock(Extent::Bytes(grant.first, grant.last));
+    ask_of(
+        alloc,
         owner,
-        at,
-        exclusive,
-        waiter.asked.as_slice().first().copied(),
-    ))
+        grant.caller.as_slice(),
+        grant.file,
+        act,
+        NO_ROWS,
+    )
 }
 
-fn waits_by(waiters: &[Waiter], at: &Aim, exclusive: bool, number: Option<u32>) -> bool
-    ensures { result ≡ waits_by waiters.now at.now exclusive number }
+/// The access of a share, or what it denies to others.
+fn rights_of(rights: Rights) -> Rwd
+    ensures { result ≡ rights_of rights }
 {
-    match number {
-        Some(number) => {
-            let owner = Owner::Name(Protocol::Nlm, number);
-            any_same(owner, at, exclusive, waiters)
-        }
-        None => false,
+    Rwd {
+        r: rights.read,
+        w: rights.write,
+        d: false,
     }
 }
 
-/// Whether the owner waits for the very bytes in this mode already.
-pub(crate) fn does_wait(
+/// What is asked for SHARE, which adds these rows.
+#[tactic(auto, using(crate::proofs::AskLaws::own_client))]
+pub(crate) fn share_ask(
     alloc: Global,
-    core: &Core,
-    args: &LockArgs,
-    at: &Aim,
-) -> Result<bool, AllocError>
-    ensures { IfOk result (λ waits. waits ≡ does_wait core.now (shown_lock_args args.now) at.now) }
+    rows: Rooms,
+    args: &ShareArgs,
+    file: u32,
+) -> Result<Ask, AllocError>
+    ensures value { IfOk result (λ ask. ask ≡ share_ask rows (shown_share_args args.now) file) }
+    ensures fit { IfOk result (λ ask. IsFit ask) }
 {
-    let number = core.names().find(&owner_of(alloc, &args.lock)?);
-    Ok(waits_by(core.queue().waiters(), at, args.exclusive, number))
+    let owner = share_owner(alloc, args)?;
+    let act = Act::Share(rights_of(args.access), rights_of(args.mode));
+    let mut request = ask_of(alloc, owner, args.caller_name, file, act, rows)?;
+    request.reclaim = args.reclaim;
+    Ok(request)
 }

@@ -1,20 +1,104 @@
 //! What an effect sends.
-ghost use Rattle.std.specs.Prelude.{◌≡◌, IfOk};
-ghost use Rattle.xl_front_nlm.specs.FrontNlm.{shown};
+ghost use Rattle.std.specs.Prelude.{◌≡◌, ◌+◌, ◌≤◌, ◌<◌, ◌^◌, Some, IfOk, OnOk};
+ghost use Rattle.std.specs.List.{AllByRecursion};
+ghost use Rattle.xl_core.specs.Good.{IsGood, IsRangeBy};
+ghost use Rattle.xl_core.specs.State.{GoesOn};
+ghost use Rattle.xl_front_nlm.specs.Grants.{told_to, told_grant, shown};
+ghost use Rattle.xl_front_nlm.specs.Short.{AreShort, IsShortGrant, FitsFrame};
 
+use crate::call::GrantedCall;
 use crate::front::Front;
+use crate::grant::{Grant, address_of, call_of, grant_of};
 use std::alloc::{AllocError, Global};
-use xl_base::{Out, Sequence};
-use xl_core::{Core, Effect};
+use xl_base::{Exports, Out, Sequence};
+use xl_core::{Answer, Core, Effect};
+use xl_matrix::Claim;
 
-/// What is sent for an effect of the core: no client is called back yet, so it gives none. It takes no memory.
+/// Calls a client at this address. The call awaits its answer from then on.
+#[tactic(auto, unfolding(xl_core::specs::State::drawn))]
+fn tell(
+    alloc: Global,
+    front: &mut Front,
+    core: &mut Core,
+    claim: &Claim,
+    grant: &Grant,
+    to: &[u8],
+) -> Result<Sequence<Out>, AllocError>
+    requires range { IsRangeBy claim.now.what }
+    requires small { IsShortGrant grant.now }
+    requires good { IsGood core.old }
+    requires numbers { core.old.counter + 65536 < 2 ^ 32 }
+    ensures state { IfOk result (λ outs. told_to front.old core.old claim.now grant.now (Some to.now) ≡ (outs, front.new, core.new)) }
+    ensures on { OnOk result (GoesOn core.old core.new) }
+    ensures good { OnOk result (IsGood core.new) }
+    ensures names { OnOk result (core.new.names ≡ core.old.names) }
+    ensures counter { OnOk result (core.new.counter ≤ core.old.counter + 1) }
+    ensures little { IfOk result (λ outs. AllByRecursion FitsFrame outs) }
+{
+    let number = core.draw();
+    front.await_answer(GrantedCall {
+        number,
+        claim: *claim,
+    })?;
+    let mut outs = Sequence::new(alloc);
+    outs.push(call_of(alloc, number, to, grant)?)?;
+    Ok(outs)
+}
+
+/// Tells of a grant, where its caller has an address.
+#[tactic(auto, unfolding(crate::specs::Grants::told_grant), using(crate::proofs::StepLaws::goes_on_self))]
+fn tell_grant(
+    alloc: Global,
+    exports: &Exports,
+    front: &mut Front,
+    core: &mut Core,
+    claim: &Claim,
+) -> Result<Sequence<Out>, AllocError>
+    requires good { IsGood core.old }
+    requires numbers { core.old.counter + 65536 < 2 ^ 32 }
+    requires short { AreShort core.old.names }
+    ensures state { IfOk result (λ outs. told_grant exports.now front.old core.old claim.now ≡ (outs, front.new, core.new)) }
+    ensures on { OnOk result (GoesOn core.old core.new) }
+    ensures good { OnOk result (IsGood core.new) }
+    ensures short { OnOk result (AreShort core.new.names) }
+    ensures counter { OnOk result (core.new.counter ≤ core.old.counter + 1) }
+    ensures little { IfOk result (λ outs. AllByRecursion FitsFrame outs) }
+{
+    let Some(grant) = grant_of(alloc, core.names(), claim)? else {
+        return Ok(Sequence::new(alloc));
+    };
+    let Some(to) = address_of(exports.addresses.as_slice(), grant.caller.as_slice()) else {
+        return Ok(Sequence::new(alloc));
+    };
+    tell(alloc, front, core, claim, &grant, to)
+}
+
+/// What is sent for an effect of the core. Who waited for a lock and was granted it is told by a call of GRANTED (XNFS
+/// C702), where its caller has an address; the call takes the next number, and awaits its answer from then on. All else
+/// sends nothing. At least 65,536 numbers must be left to give out. After an error nothing is known of the front and the
+/// core.
+#[tactic(auto, using(crate::proofs::StepLaws::goes_on_self))]
 pub fn shown(
     alloc: Global,
-    _front: &Front,
-    _core: &Core,
-    _effect: &Effect,
+    exports: &Exports,
+    front: &mut Front,
+    core: &mut Core,
+    effect: &Effect,
 ) -> Result<Sequence<Out>, AllocError>
-    ensures { IfOk result (λ outs. outs ≡ shown _front.now _core.now _effect.now) }
+    requires good { IsGood core.old }
+    requires numbers { core.old.counter + 65536 < 2 ^ 32 }
+    requires short { AreShort core.old.names }
+    ensures state { IfOk result (λ outs. shown exports.now front.old core.old effect.now ≡ (outs, front.new, core.new)) }
+    ensures on { OnOk result (GoesOn core.old core.new) }
+    ensures good { OnOk result (IsGood core.new) }
+    ensures short { OnOk result (AreShort core.new.names) }
+    ensures counter { OnOk result (core.new.counter ≤ core.old.counter + 1) }
+    ensures little { IfOk result (λ outs. AllByRecursion FitsFrame outs) }
 {
-    Ok(Sequence::new(alloc))
+    match effect {
+        Effect::Served(_, Answer::Granted(claim)) => {
+            tell_grant(alloc, exports, front, core, claim)
+        }
+        _ => Ok(Sequence::new(alloc)),
+    }
 }

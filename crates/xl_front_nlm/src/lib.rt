@@ -2,18 +2,29 @@
 #![tactic(auto)]
 
 mod aim;
+mod answers;
+mod asking;
 mod asks;
+mod call;
 mod effects;
 mod front;
+mod grant;
 pub mod law;
+mod leaving;
 mod outcome;
 mod procedures;
+mod ranges;
 mod results;
+mod shares;
+mod standing;
 mod step;
 
 pub use aim::Aim;
+pub use answers::nlm_called;
+pub use call::GrantedCall;
 pub use effects::shown;
 pub use front::{Front, MOST_HOSTS};
+pub use grant::Grant;
 pub use outcome::Outcome;
 pub use step::nlm_step;
 

@@ -11,8 +11,12 @@ pub enum Outcome {
     TooBig,
     /// The owner waits for the very bytes in this mode already.
     Waits,
+    /// The owner doesn't wait for the very bytes in this mode.
+    NotWaiting,
     /// The core was asked, and answered so.
     Answered(Answer),
+    /// What the call gives up is given up, if it stood.
+    Ended,
     /// There was nothing to do.
     Nothing,
 }

@@ -3,7 +3,7 @@ ghost use Rattle.std.specs.Prelude.{◌≡◌, ◌≤◌, length, option_map};
 ghost use Rattle.xl_nlm.specs.Arguments.{CallFits};
 ghost use Rattle.xl_nlm.specs.Items.{shown_call, shown_holder, shown_test_res, shown_reply};
 ghost use Rattle.xl_nlm.specs.Replies.{IsShortReply};
-ghost use Rattle.xl_front_nlm.specs.Results.{answer_status, status_of, test_answer_status, test_status, owner_parts, holder_of, test_holder, test_result, reply_of};
+ghost use Rattle.xl_front_nlm.specs.Results.{answer_status, status_of, test_answer_status, test_status, owner_parts, holder_of, test_holder, test_result, res_of, share_res_of, reply_of};
 ghost use Rattle.xl_front_nlm.specs.Short.{AreShort};
 
 use crate::aim::length_of;
@@ -12,9 +12,9 @@ use xl_base::Owner;
 use xl_core::Answer;
 use xl_matrix::{Claim, Extent, What};
 use xl_names::{Name, Names};
-use xl_nlm::{Holder, NlmCall, NlmReply, NlmStatus, Res, TestRes};
+use xl_nlm::{Holder, NlmCall, NlmReply, NlmStatus, Res, ShareRes, TestRes};
 
-/// How the core's answer to a lock or an unlock is told.
+/// How the core's answer to a call other than TEST is told.
 fn answer_status(answer: Answer) -> NlmStatus
     ensures { result ≡ answer_status answer }
 {
@@ -28,7 +28,7 @@ fn answer_status(answer: Answer) -> NlmStatus
     }
 }
 
-/// How what became of a lock or an unlock is told.
+/// How what became of a call other than TEST is told.
 fn status_of(outcome: Outcome) -> NlmStatus
     ensures { result ≡ status_of outcome }
 {
@@ -36,8 +36,9 @@ fn status_of(outcome: Outcome) -> NlmStatus
         Outcome::NoFile => NlmStatus::StaleFh,
         Outcome::TooBig => NlmStatus::Fbig,
         Outcome::Waits => NlmStatus::Blocked,
+        Outcome::NotWaiting => NlmStatus::Denied,
         Outcome::Answered(answer) => answer_status(answer),
-        Outcome::Nothing => NlmStatus::Granted,
+        Outcome::Ended | Outcome::Nothing => NlmStatus::Granted,
     }
 }
 
@@ -52,13 +53,15 @@ fn test_answer_status(answer: Answer) -> NlmStatus
     }
 }
 
-/// How what became of a test is told.
+/// How what became of a test is told; no other outcome comes of one.
 fn test_status(outcome: Outcome) -> NlmStatus
     ensures { result ≡ test_status outcome }
 {
     match outcome {
+        Outcome::NoFile => NlmStatus::StaleFh,
+        Outcome::TooBig => NlmStatus::Fbig,
         Outcome::Answered(answer) => test_answer_status(answer),
-        _ => status_of(outcome),
+        _ => NlmStatus::Granted,
     }
 }
 
@@ -114,6 +117,27 @@ fn test_result<'a>(names: &'a Names, cookie: &'a [u8], outcome: Outcome) -> Test
     }
 }
 
+/// The results of LOCK, CANCEL, UNLOCK and NM_LOCK.
+fn res_of(cookie: &[u8], outcome: Outcome) -> NlmReply<'_>
+    ensures { shown_reply result ≡ res_of cookie.now outcome }
+{
+    NlmReply::Res(Res {
+        cookie,
+        stat: status_of(outcome),
+    })
+}
+
+/// The results of SHARE and UNSHARE.
+fn share_res_of(cookie: &[u8], outcome: Outcome) -> NlmReply<'_>
+    ensures { shown_reply result ≡ share_res_of cookie.now outcome }
+{
+    NlmReply::Share(ShareRes {
+        cookie,
+        stat: status_of(outcome),
+        sequence: 0,
+    })
+}
+
 /// The results of a call.
 #[tactic(auto, unfolding(crate::specs::Results::reply_of))]
 fn results_of<'a>(names: &'a Names, call: &NlmCall<'a>, outcome: Outcome) -> NlmReply<'a>
@@ -121,15 +145,11 @@ fn results_of<'a>(names: &'a Names, call: &NlmCall<'a>, outcome: Outcome) -> Nlm
 {
     match call {
         NlmCall::Test(args) => NlmReply::Test(test_result(names, args.cookie, outcome)),
-        NlmCall::Lock(args) => NlmReply::Res(Res {
-            cookie: args.cookie,
-            stat: status_of(outcome),
-        }),
-        NlmCall::Unlock(args) => NlmReply::Res(Res {
-            cookie: args.cookie,
-            stat: status_of(outcome),
-        }),
-        _ => NlmReply::Void,
+        NlmCall::Lock(args) | NlmCall::NmLock(args) => res_of(args.cookie, outcome),
+        NlmCall::Cancel(args) => res_of(args.cookie, outcome),
+        NlmCall::Unlock(args) => res_of(args.cookie, outcome),
+        NlmCall::Share(args) | NlmCall::Unshare(args) => share_res_of(args.cookie, outcome),
+        NlmCall::Null | NlmCall::Granted(_) | NlmCall::FreeAll(_) => NlmReply::Void,
     }
 }
 

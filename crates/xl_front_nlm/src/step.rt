@@ -9,9 +9,9 @@ ghost use Rattle.xl_rpc.specs.Replies.{reply};
 ghost use Rattle.xl_rpc.specs.declared.reply.Verdict.TheVariants.{Success};
 ghost use Rattle.xl_core.specs.Good.{IsGood};
 ghost use Rattle.xl_core.specs.State.{MayBe, GoesOn};
-ghost use Rattle.xl_front_nlm.specs.Asks.{served};
+ghost use Rattle.xl_front_nlm.specs.Serving.{served};
 ghost use Rattle.xl_front_nlm.specs.FrontNlm.{is_served, with_results, replied_by, replied, told, sent, nlm_step};
-ghost use Rattle.xl_front_nlm.specs.Short.{AreShort, Grows};
+ghost use Rattle.xl_front_nlm.specs.Short.{AreShort, Grows, FitsFrame};
 
 use crate::front::Front;
 use crate::procedures::serve;
@@ -127,7 +127,7 @@ fn replied_to<K: Keeper>(
 fn is_served(proc: u32) -> bool
     ensures { result ≡ is_served proc }
 {
-    proc == 0 || proc == 1 || proc == 2 || proc == 4
+    proc <= 4 || (20 <= proc && proc <= 23)
 }
 
 /// The reply to a call.
@@ -197,7 +197,7 @@ fn told<K: Keeper>(
 /// A reply to the connection, without its frame.
 fn sent(alloc: Global, conn: u64, reply: Option<Vec<u8>>) -> Result<Sequence<Out>, AllocError>
     ensures value { IfOk result (λ outs. outs ≡ sent conn (option_map (λ v. v.items) reply)) }
-    ensures little { IfSome reply (λ v. length v.items ≤ 65536) → IfOk result (λ outs. AllByRecursion (λ out. length out.bytes ≤ 65536) outs) }
+    ensures little { IfSome reply (λ v. length v.items ≤ 65536) → IfOk result (λ outs. AllByRecursion FitsFrame outs) }
 {
     let mut outs = Sequence::new(alloc);
     if let Some(bytes) = reply {
@@ -212,9 +212,9 @@ fn sent(alloc: Global, conn: u64, reply: Option<Vec<u8>>) -> Result<Sequence<Out
 
 /// Answers a record of ONC RPC (RFC 5531), without its frame, from the connection of this number: the reply, if there
 /// is one, without its frame and at most 65,536 bytes long, and what the core told of besides. Of program 100021
-/// version 4 (XNFS C702) NULL, TEST, LOCK and UNLOCK are served; a lock that may wait is told BLOCKED. At least 65,536
-/// numbers must be left to give out; a record takes one at most, and one place in the queue. After an error nothing is
-/// known of the front and the core.
+/// version 4 (XNFS C702) NULL, TEST, LOCK, CANCEL, UNLOCK, SHARE, UNSHARE, NM_LOCK and FREE_ALL are served; a lock that
+/// may wait is told BLOCKED. At least 65,536 numbers must be left to give out; a record takes one at most, and one place
+/// in the queue. After an error nothing is known of the front and the core.
 #[tactic(auto, unfolding(crate::specs::FrontNlm::nlm_step))]
 pub fn nlm_step<K: Keeper>(
     alloc: Global,
@@ -234,7 +234,7 @@ pub fn nlm_step<K: Keeper>(
     ensures short { OnOk result (AreShort core.new.names) }
     ensures counter { OnOk result (core.new.counter ≤ core.old.counter + 1) }
     ensures waiters { OnOk result (length core.new.waiters ≤ length core.old.waiters + 1) }
-    ensures little { IfOk result (λ r. AllByRecursion (λ out. length out.bytes ≤ 65536) r.0) }
+    ensures little { IfOk result (λ r. AllByRecursion FitsFrame r.0) }
     ensures keeper { keeper.new ≡ keeper.old }
 {
     let count = exports.files.len();

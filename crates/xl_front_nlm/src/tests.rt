@@ -118,11 +118,11 @@ fn put(out: &mut Vec<u8>, number: u32) -> Result<(), AllocError> {
     out.extend_from_slice(&number.to_be_bytes())
 }
 
-/// A call of TEST (1), LOCK (2) or UNLOCK (4).
+/// A call of TEST (1), LOCK (2), CANCEL (3), UNLOCK (4) or NM_LOCK (22).
 #[derive(Clone, Copy, Debug)]
 struct Row {
     procedure: u32,
-    /// Of a LOCK, whether it waits, and whether it reclaims.
+    /// Of a LOCK and an NM_LOCK, whether it waits, and whether it reclaims; of a CANCEL the first too.
     block: bool,
     reclaim: bool,
     /// The caller, of two letters.
@@ -147,7 +147,7 @@ fn record(alloc: Global, row: Row) -> Result<Vec<u8>, AllocError> {
     let mut out = units(alloc, &[9, 0, 2, 100021, 4, row.procedure, 0, 0, 0, 0])?;
     put(&mut out, 4)?;
     out.extend_from_slice(b"cook")?;
-    if row.procedure == 2 {
+    if matches!(row.procedure, 2 | 3 | 22) {
         put(&mut out, row.block as u32)?;
     }
     if row.procedure != 4 {
@@ -162,7 +162,7 @@ fn record(alloc: Global, row: Row) -> Result<Vec<u8>, AllocError> {
     }
     out.extend_from_slice(&row.first.to_be_bytes())?;
     out.extend_from_slice(&row.len.to_be_bytes())?;
-    if row.procedure == 2 {
+    if matches!(row.procedure, 2 | 22) {
         put(&mut out, row.reclaim as u32)?;
         put(&mut out, 0)?;
     }
@@ -263,6 +263,38 @@ const NEARLY_WAITING: [Row; 8] = [
     },
 ];
 
+/// A CANCEL takes one waiter out, whatever its `block` says; another mode is nobody's. Then nobody waits.
+const CANCELLED: [Row; 5] = [
+    LOCK,
+    WAITING,
+    Row {
+        procedure: 3,
+        exclusive: false,
+        ..WAITING
+    },
+    Row {
+        procedure: 3,
+        ..OTHER
+    },
+    Row {
+        procedure: 3,
+        ..WAITING
+    },
+];
+
+/// An NM_LOCK waits, once, and is what a LOCK of the same is.
+const UNMONITORED: [Row; 3] = [
+    Row {
+        procedure: 22,
+        ..LOCK
+    },
+    Row {
+        procedure: 22,
+        ..WAITING
+    },
+    OTHER,
+];
+
 /// A lock that may not wait is DENIED, an unlock GRANTED, held or not; a reclaim comes too late.
 const NOBODY_WAITING: [Row; 7] = [
     LOCK,
@@ -307,13 +339,15 @@ const WRONG: [Row; 5] = [
 ];
 
 /// Calls on a new server, their statuses, and how many wait, are hosts and hold in the end.
-const ROWS: [(&[Row], &[u8], [usize; 3]); 4] = [
+const ROWS: [(&[Row], &[u8], [usize; 3]); 6] = [
     (&WAITING_ALONE, b"\x00\x03\x03\x03", [1, 2, 1]),
     (
         &NEARLY_WAITING,
         b"\x00\x03\x03\x03\x01\x01\x00\x01",
         [1, 2, 2],
     ),
+    (&CANCELLED, b"\x00\x03\x01\x00\x01", [0, 2, 1]),
+    (&UNMONITORED, b"\x00\x03\x03", [1, 2, 1]),
     (&NOBODY_WAITING, b"\x00\x01\x00\x00\x00\x04\x00", [0, 2, 1]),
     (&WRONG, b"\x07\x07\x08\x00\x00", [0, 1, 0]),
 ];

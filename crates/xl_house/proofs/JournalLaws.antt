@@ -43,7 +43,7 @@ some_left s t es old event rest events e =
 pub legal_next : (start : Whole) (es : List Entry) (old : Whole) (event : Event) → Stands start es old → is_restart event ≡ false → IsLegal start es → IsLegal start (es ++ entry 0 old event ∷ [])
 legal_next start es old event stands other legal = subst (λ (s : Whole). IsLegal start (es ++ entry 0 s event ∷ [])) (sym stands.replayed) (legal_entry start es event other legal)
 
-pub stands_next : (start : Whole) (es : List Entry) (old new : Whole) (event : Event) → Stands start es old → new ≡ (step 0 old event).next → new.core.counter ≤ old.core.counter + 1 → AreShort new.core.names → Stands start (es ++ entry 0 old event ∷ []) new
+pub stands_next : (start : Whole) (es : List Entry) (old new : Whole) (event : Event) → Stands start es old → new ≡ (step 0 old event).next → new.core.counter + length new.core.waiters ≤ old.core.counter + length old.core.waiters + 2 → AreShort new.core.names → Stands start (es ++ entry 0 old event ∷ []) new
 stands_next start es old new event stands e counter short =
     let longer = length-append es (entry 0 old event ∷ []) in
     record {

@@ -1,8 +1,12 @@
 pub mod StillLaws
+pub mod ShownLaws
+pub mod QuietLaws
 pub mod FrontLaws
 pub mod SettleLaws
 pub mod MachineLaws
 pub mod JournalLaws
 pub mod OrderLaws
+pub mod LeaveLaws
+pub mod ChangeLaws
 pub mod LawfulLaws
 pub mod CompleteLaws

@@ -16,8 +16,16 @@ use Rattle.xl_core.specs.State.{CoreState, step_begun}
 use Rattle.xl_core.specs.Settle.{settle}
 use Rattle.xl_core.specs.declared.ask.Effect.{Effect}
 use Rattle.xl_front_nlm.specs.Hosts.{rooms}
+use Rattle.xl_core.specs.declared.ask.Answer.{Answer}
+use Rattle.xl_front_nlm.specs.Answers.{nlm_called}
 use Rattle.xl_front_nlm.specs.FrontNlm.{told, sent, nlm_step}
-use Rattle.xl_house.specs.Machine.{Whole, begin, with_connection, without, kind_of, framed, all_shown, after_turn, settled_for, settled, heard_by, heard, connected, settled_turn, step, most_connections}
+use Rattle.xl_front_nlm.specs.Grants.{grant_of, address_of, told_to, told_of, told_grant, shown}
+use Rattle.xl_front_nlm.specs.State.{FrontState}
+use Rattle.xl_front_nlm.specs.declared.grant.Grant.{Grant}
+use Rattle.xl_matrix.specs.declared.claim.Claim.{Claim}
+use Rattle.xl_core.specs.declared.ask.Answer.TheVariants as answers
+use Rattle.xl_core.specs.declared.ask.Effect.TheVariants.{Begun, Served, Cancelled, Expired}
+use Rattle.xl_house.specs.Machine.{Whole, Sent, begin, with_connection, without, kind_of, framed, all_shown, after_turn, settled_for, settled, heard_by, heard, connected, settled_turn, step, most_connections}
 use Rattle.xl_house.proofs.MachineLaws.{next_place}
 use Rattle.xl_house.specs.Journals.{IsLegal, IsOrderly, IsTimely, opened_after, ended_after}
 use Rattle.xl_house.specs.declared.connections.Connection.{Connection}
@@ -40,55 +48,92 @@ found opened ended (c ∷ cs) number kind each e =
       | inr other ↦ found opened ended cs number kind each.1 (rw other at e)
     ]
 
--- no effect is shown yet
-pub none_shown : (hosts : List (List ℕ)) (s : CoreState) (effects : List Effect) → all_shown hosts s effects ≡ []
-none_shown hosts s [] = refl
-none_shown hosts s (effect ∷ effects) = none_shown hosts s effects
-
-nothing_by : (hosts : List (List ℕ)) (rest : CoreState → List Out × CoreState) (s : CoreState) (o : Option (List Effect × CoreState)) → ((t : CoreState) → (rest t).0 ≡ []) → (after_turn hosts rest s o).0 ≡ []
-nothing_by hosts rest s None rests = refl
-nothing_by hosts rest s (Some turn) rests = ap (λ (outs : List Out). outs ++ (rest turn.1).0) (none_shown hosts turn.1 turn.0) ∙ rests turn.1
-
-nothing_for : (fuel n : ℕ) (hosts : List (List ℕ)) (s : CoreState) → (settled_for fuel n hosts s).0 ≡ []
-nothing_for zero n hosts s = refl
-nothing_for (suc fuel) n hosts s = nothing_by hosts (settled_for fuel n hosts) s (settle n (rooms hosts) s) (λ t. nothing_for fuel n hosts t)
-
--- so settling sends nothing
-pub settling_silent : (n : ℕ) (hosts : List (List ℕ)) (s : CoreState) → (settled n hosts s).0 ≡ []
-unfolding settled
-settling_silent n hosts s = nothing_for (length s.waiters) n hosts s
-
 abbrev AreTimely : List ℕ → List ℕ → List Out → Type 0
 AreTimely opened ended outs = AllByRecursion (λ o. IsTimely opened ended o.dest) outs
+
+timely_append : (opened ended : List ℕ) (xs ys : List Out) → AreTimely opened ended xs → AreTimely opened ended ys → AreTimely opened ended (xs ++ ys)
+timely_append opened ended xs ys front back = all_append (λ o. IsTimely opened ended o.dest) xs ys front back
+
+-- ---- what is shown are calls
+
+to_timely : (opened ended : List ℕ) (f : FrontState) (s : CoreState) (claim : Claim) (g : Grant) (o : Option (List ℕ)) → AreTimely opened ended (map (framed Rpc) (told_to f s claim g o).0)
+to_timely opened ended f s claim g None = tt
+to_timely opened ended f s claim g (Some to) = (tt, tt)
+
+of_timely : (opened ended : List ℕ) (exports : Exports) (f : FrontState) (s : CoreState) (claim : Claim) (o : Option Grant) → AreTimely opened ended (map (framed Rpc) (told_of exports f s claim o).0)
+of_timely opened ended exports f s claim None = tt
+of_timely opened ended exports f s claim (Some g) = to_timely opened ended f s claim g (address_of exports.addresses g.caller)
+
+grant_timely : (opened ended : List ℕ) (exports : Exports) (f : FrontState) (s : CoreState) (claim : Claim) → AreTimely opened ended (map (framed Rpc) (told_grant exports f s claim).0)
+unfolding told_grant
+grant_timely opened ended exports f s claim = of_timely opened ended exports f s claim (grant_of s.names claim)
+
+served_timely : (opened ended : List ℕ) (exports : Exports) (f : FrontState) (s : CoreState) (id : ℕ) (answer : Answer) → AreTimely opened ended (map (framed Rpc) (shown exports f s (Served id answer)).0)
+served_timely opened ended exports f s id (answers.Granted claim) = grant_timely opened ended exports f s claim
+served_timely opened ended exports f s id (answers.Conflict c) = tt
+served_timely opened ended exports f s id (answers.Queued number) = tt
+served_timely opened ended exports f s id (answers.Recall c) = tt
+served_timely opened ended exports f s id (answers.Grace until) = tt
+served_timely opened ended exports f s id (answers.NoGrace clock) = tt
+served_timely opened ended exports f s id answers.NotRecorded = tt
+served_timely opened ended exports f s id (answers.Full limit) = tt
+served_timely opened ended exports f s id answers.NotHeld = tt
+served_timely opened ended exports f s id answers.StoreFailed = tt
+
+shown_timely : (opened ended : List ℕ) (exports : Exports) (f : FrontState) (s : CoreState) (effect : Effect) → AreTimely opened ended (map (framed Rpc) (shown exports f s effect).0)
+shown_timely opened ended exports f s (Served id answer) = served_timely opened ended exports f s id answer
+shown_timely opened ended exports f s (Begun c to number) = tt
+shown_timely opened ended exports f s (Cancelled id) = tt
+shown_timely opened ended exports f s (Expired id) = tt
+
+all_timely : (opened ended : List ℕ) (exports : Exports) (f : FrontState) (s : CoreState) (effects : List Effect) → AreTimely opened ended (all_shown exports f s effects).0
+all_timely opened ended exports f s [] = tt
+all_timely opened ended exports f s (effect ∷ effects) =
+    let r = shown exports f s effect in
+    timely_append opened ended (map (framed Rpc) r.0) (all_shown exports r.1 r.2 effects).0 (shown_timely opened ended exports f s effect) (all_timely opened ended exports r.1 r.2 effects)
+
+-- so is what settling sends
+turns_timely : (opened ended : List ℕ) (exports : Exports) (rest : FrontState → CoreState → Sent) (f : FrontState) (s : CoreState) (o : Option (List Effect × CoreState)) → ((g : FrontState) (t : CoreState) → AreTimely opened ended (rest g t).0) → AreTimely opened ended (after_turn exports rest f s o).0
+turns_timely opened ended exports rest f s None rests = tt
+turns_timely opened ended exports rest f s (Some turn) rests =
+    let done = all_shown exports f turn.1 turn.0 in
+    timely_append opened ended done.0 (rest done.1 done.2).0 (all_timely opened ended exports f turn.1 turn.0) (rests done.1 done.2)
+
+settled_for_timely : (fuel n : ℕ) (opened ended : List ℕ) (exports : Exports) (f : FrontState) (s : CoreState) → AreTimely opened ended (settled_for fuel n exports f s).0
+settled_for_timely zero n opened ended exports f s = tt
+settled_for_timely (suc fuel) n opened ended exports f s = turns_timely opened ended exports (settled_for fuel n exports) f s (settle n (rooms f.hosts) s) (λ g t. settled_for_timely fuel n opened ended exports g t)
+
+pub settled_timely : (n : ℕ) (opened ended : List ℕ) (exports : Exports) (f : FrontState) (s : CoreState) → AreTimely opened ended (settled n exports f s).0
+unfolding settled
+settled_timely n opened ended exports f s = settled_for_timely (length s.waiters) n opened ended exports f s
+
+-- ---- an event
 
 sent_timely : (opened ended : List ℕ) (number : ℕ) (reply : Option (List ℕ)) → IsIn number opened × (IsIn number ended → ⊥) → AreTimely opened ended (map (framed Rpc) (sent number reply))
 sent_timely opened ended number None stands = tt
 sent_timely opened ended number (Some bytes) stands = (stands, tt)
 
-by_timely : (n : ℕ) (opened ended : List ℕ) (exports : Exports) (hosts : List (List ℕ)) (s : CoreState) (cs : List Connection) (number : ℕ) (bytes : List ℕ) (kind : Option Kind) → kind_of cs number ≡ kind → AllByRecursion (Stands opened ended) cs → AreTimely opened ended (heard_by n exports hosts s kind number bytes).0
+by_timely : (n : ℕ) (opened ended : List ℕ) (exports : Exports) (f : FrontState) (s : CoreState) (cs : List Connection) (number : ℕ) (bytes : List ℕ) (kind : Option Kind) → kind_of cs number ≡ kind → AllByRecursion (Stands opened ended) cs → AreTimely opened ended (heard_by n exports f s kind number bytes).0
 unfolding nlm_step
-by_timely n opened ended exports hosts s cs number bytes None e each = tt
-by_timely n opened ended exports hosts s cs number bytes (Some Smb) e each = tt
-by_timely n opened ended exports hosts s cs number bytes (Some Rpc) e each =
-    let r = told n (length exports.files) hosts s bytes in
-    all_append (λ o. IsTimely opened ended o.dest) (all_shown r.2 r.3 r.1) (map (framed Rpc) (sent number r.0))
-    (subst (λ (outs : List Out). AreTimely opened ended outs) (sym (none_shown r.2 r.3 r.1)) tt)
-    (sent_timely opened ended number r.0 (found opened ended cs number Rpc each e))
+by_timely n opened ended exports f s cs number bytes None e each = tt
+by_timely n opened ended exports f s cs number bytes (Some Smb) e each = tt
+by_timely n opened ended exports f s cs number bytes (Some Rpc) e each =
+    let r = told n (length exports.files) f s bytes in
+    timely_append opened ended (all_shown exports r.2 r.3 r.1).0 (map (framed Rpc) (sent number r.0)) (all_timely opened ended exports r.2 r.3 r.1) (sent_timely opened ended number r.0 (found opened ended cs number Rpc each e))
 
 heard_timely : (n : ℕ) (opened ended : List ℕ) (s : Whole) (e : Event) → Fits opened ended s → AreTimely opened (ended_after opened ended s.place e) (heard n s e).0
 unfolding heard ended_after
 heard_timely n opened ended s (Open kind) fits = tt
-heard_timely n opened ended s (Message number bytes) fits = by_timely n opened ended s.exports s.hosts (step_begun s.core) s.connections number bytes (kind_of s.connections number) refl fits.each
+heard_timely n opened ended s (Message number bytes) fits = by_timely n opened ended s.exports s.front (step_begun s.core) s.connections number bytes (kind_of s.connections number) refl fits.each
 heard_timely n opened ended s (End number) fits = tt
-heard_timely n opened ended s (Called call reply) fits = tt
+heard_timely n opened ended s (Called call reply) fits = let r = nlm_called n s.front (step_begun s.core) call reply in all_timely opened ended s.exports r.1 r.2 r.0
 heard_timely n opened ended s (Tick moment) fits = tt
 heard_timely n opened ended s Restart fits = tt
 
 turn_timely : (n : ℕ) (opened ended : List ℕ) (s : Whole) (e : Event) → Fits opened ended s → AreTimely opened (ended_after opened ended s.place e) (settled_turn n s (connected s.connections s.place e) (heard n s e)).outs
 turn_timely n opened ended s e fits =
-    all_append (λ o. IsTimely opened (ended_after opened ended s.place e) o.dest) (heard n s e).0 (settled n (heard n s e).1 (heard n s e).2).0
-    (heard_timely n opened ended s e fits)
-    (subst (λ (outs : List Out). AreTimely opened (ended_after opened ended s.place e) outs) (sym (settling_silent n (heard n s e).1 (heard n s e).2)) tt)
+    timely_append opened (ended_after opened ended s.place e) (heard n s e).0 (settled n s.exports (heard n s e).1 (heard n s e).2).0
+    (heard_timely n opened ended s e fits) (settled_timely n opened (ended_after opened ended s.place e) s.exports (heard n s e).1 (heard n s e).2)
 
 timely : (n : ℕ) (opened ended : List ℕ) (s : Whole) (e : Event) → Fits opened ended s → AllByRecursion (λ o. IsTimely opened (ended_after opened ended s.place e) o.dest) (step n s e).outs
 unfolding step

@@ -1,5 +1,5 @@
 -- Turns come to an end.
-use Rattle.std.proofs.Common.{◌≡◌, ℕ, zero, suc, ◌+◌, ◌≤◌, Option, Some, None, IfSome, option_map, List, [], ◌++◌, length, refl, sym, ap, subst, ◌∙◌, arith, append_assoc, append-nil}
+use Rattle.std.proofs.Common.{◌≡◌, ℕ, zero, suc, ◌+◌, ◌<◌, ◌≤◌, ◌^◌, Option, Some, None, IfSome, option_map, List, [], ◌++◌, length, refl, sym, ap, subst, ◌∙◌, arith, append_assoc, append-nil}
 use Rattle.xl_base.specs.declared.event.Out.{Out}
 use Rattle.xl_core.specs.State.{CoreState, MayBe, GoesOn}
 use Rattle.xl_core.specs.Good.{IsGood, IsSettled}
@@ -8,8 +8,13 @@ use Rattle.xl_core.specs.declared.ask.Effect.{Effect}
 use Rattle.xl_core.specs.Causes.{IsTurn}
 use Rattle.xl_core.proofs.SettleLaws.{settled_is, turn_is, turn_fewer}
 use Rattle.xl_house.proofs.StillLaws.{IsAfterTurn, turn_still}
+use Rattle.xl_house.proofs.QuietLaws.{turn_grants}
+use Rattle.xl_house.proofs.ShownLaws.{all_shown_is, all_shown_good, all_shown_hosts, shown_waiters, shown_names}
+use Rattle.xl_base.specs.declared.journal.Exports.{Exports}
+use Rattle.xl_front_nlm.specs.State.{FrontState}
+use Rattle.xl_house.specs.Shown.{IsShown}
 use Rattle.xl_front_nlm.specs.Hosts.{rooms}
-use Rattle.xl_house.specs.Machine.{all_shown, after_turn, settled_for, settled}
+use Rattle.xl_house.specs.Machine.{Sent, grants, behind, and_then, all_shown, after_turn, settled_for, settled}
 
 -- ---- the stores of a step
 
@@ -34,98 +39,120 @@ goes_further a b c first next = record {
 
 -- ---- settling
 
-abbrev Sent : Type 0
-Sent = List Out × CoreState
-
-none_for : (fuel n : ℕ) (hosts : List (List ℕ)) (s : CoreState) → settle n (rooms hosts) s ≡ None → settled_for fuel n hosts s ≡ ([], s)
-none_for zero n hosts s e = refl
-none_for (suc fuel) n hosts s e = ap (λ (r : Option (List Effect × CoreState)). after_turn hosts (settled_for fuel n hosts) s r) e
+none_for : (fuel n : ℕ) (exports : Exports) (f : FrontState) (s : CoreState) → settle n (rooms f.hosts) s ≡ None → settled_for fuel n exports f s ≡ ([], f, s)
+none_for zero n exports f s e = refl
+none_for (suc fuel) n exports f s e = ap (λ (r : Option (List Effect × CoreState)). after_turn exports (settled_for fuel n exports) f s r) e
 
 -- what a turn gave
 abbrev Turned : Type 0
 Turned = Option (List Effect × CoreState)
 
-fewer : (n : ℕ) (hosts : List (List ℕ)) (s t : CoreState) (effects : List Effect) → IsGood s → settle n (rooms hosts) s ≡ Some (effects, t) → suc (length t.waiters) ≡ length s.waiters
-fewer n hosts s t effects good e =
-    let one : length t.waiters + 1 ≡ length s.waiters = subst (λ (r : Turned). IfSome r (λ x. length x.1.waiters + 1 ≡ length s.waiters)) e (turn_fewer n (rooms hosts) s good) in
+fewer : (n : ℕ) (f : FrontState) (s t : CoreState) (effects : List Effect) → IsGood s → settle n (rooms f.hosts) s ≡ Some (effects, t) → suc (length t.waiters) ≡ length s.waiters
+fewer n f s t effects good e =
+    let one : length t.waiters + 1 ≡ length s.waiters = subst (λ (r : Turned). IfSome r (λ x. length x.1.waiters + 1 ≡ length s.waiters)) e (turn_fewer n (rooms f.hosts) s good) in
     omega (arith, one)
 
 -- where no waiter has a turn, nothing happens
-pub none_settles : (n : ℕ) (hosts : List (List ℕ)) (s : CoreState) → settle n (rooms hosts) s ≡ None → settled n hosts s ≡ ([], s)
+pub none_settles : (n : ℕ) (exports : Exports) (f : FrontState) (s : CoreState) → settle n (rooms f.hosts) s ≡ None → settled n exports f s ≡ ([], f, s)
 unfolding settled
-none_settles n hosts s e = none_for (length s.waiters) n hosts s e
+none_settles n exports f s e = none_for (length s.waiters) n exports f s e
+
+-- as many wait once the effects are shown
+told_waiters : (exports : Exports) (f : FrontState) (t : CoreState) (effects : List Effect) → length (all_shown exports f t effects).2.waiters ≡ length t.waiters
+told_waiters exports f t effects = ap length (shown_waiters (grants effects) t (all_shown exports f t effects).2 (all_shown_is exports f t effects))
 
 -- a turn, and then the rest
-pub turn_settles : (n : ℕ) (hosts : List (List ℕ)) (s t : CoreState) (effects : List Effect) → IsGood s → settle n (rooms hosts) s ≡ Some (effects, t) → settled n hosts s ≡ (all_shown hosts t effects ++ (settled n hosts t).0, (settled n hosts t).1)
+pub turn_settles : (n : ℕ) (exports : Exports) (f : FrontState) (s t : CoreState) (effects : List Effect) → IsGood s → settle n (rooms f.hosts) s ≡ Some (effects, t) → settled n exports f s ≡ and_then (settled n exports) (all_shown exports f t effects)
 unfolding settled
-turn_settles n hosts s t effects good e =
-    ap (λ (fuel : ℕ). settled_for fuel n hosts s) (sym (fewer n hosts s t effects good e))
-    ∙ ap (λ (r : Turned). after_turn hosts (settled_for (length t.waiters) n hosts) s r) e
+turn_settles n exports f s t effects good e =
+    let done = all_shown exports f t effects in
+    ap (λ (fuel : ℕ). settled_for fuel n exports f s) (sym (fewer n f s t effects good e))
+    ∙ ap (λ (r : Turned). after_turn exports (settled_for (length t.waiters) n exports) f s r) e
+    ∙ ap (λ (fuel : ℕ). behind done.0 (settled_for fuel n exports done.1 done.2)) (sym (told_waiters exports f t effects))
 
 -- how far settling came: what is still to be done gives what all of it gives
-pub record IsSettling (hosts : List (List ℕ)) (first : CoreState) (sent : List Out) (s : CoreState) (outs : List Out) : Type 0 where
+pub record IsSettling (exports : Exports) (before : FrontState) (first : CoreState) (sent : List Out) (f : FrontState) (s : CoreState) (outs : List Out) : Type 0 where
   pub on : GoesOn first s
   pub names : s.names ≡ first.names
-  pub counter : s.counter ≡ first.counter
-  pub told : (n : ℕ) → MayBe n s → outs ++ (settled n hosts s).0 ≡ sent ++ (settled n hosts first).0
-  pub left : (n : ℕ) → MayBe n s → (settled n hosts s).1 ≡ (settled n hosts first).1
+  pub counter : s.counter + length s.waiters ≤ first.counter + length first.waiters
+  pub told : (n : ℕ) → MayBe n s → behind outs (settled n exports f s) ≡ behind sent (settled n exports before first)
 
-pub settling_begins : (hosts : List (List ℕ)) (s : CoreState) (outs : List Out) → IsSettling hosts s outs s outs
-settling_begins hosts s outs = record { on = goes_on_self s; names = refl; counter = refl; told = λ n may. refl; left = λ n may. refl }
+pub settling_begins : (exports : Exports) (f : FrontState) (s : CoreState) (outs : List Out) → IsSettling exports f s outs f s outs
+settling_begins exports f s outs = record { on = goes_on_self s; names = refl; counter = omega arith; told = λ n may. refl }
 
-pub settling_goes_on : (hosts : List (List ℕ)) (first : CoreState) (sent : List Out) (s t : CoreState) (outs : List Out) (effects : List Effect)
-    → IsSettling hosts first sent s outs → IsGood s → ((n : ℕ) → MayBe n t → settle n (rooms hosts) s ≡ Some (effects, t)) → GoesOn s t
-    → IsSettling hosts first sent t (outs ++ all_shown hosts t effects)
-settling_goes_on hosts first sent s t outs effects settling good turn on =
-    let is = turn t.made (may_be_made t) in
-    let turned : IsTurn (rooms hosts) s effects t = subst (λ (r : Turned). IfSome r (λ x. IsTurn (rooms hosts) s x.0 x.1)) is (turn_is t.made (rooms hosts) s good) in
-    let after : IsAfterTurn s t = subst (λ (r : Turned). IfSome r (λ x. IsAfterTurn s x.1)) is (turn_still t.made (rooms hosts) s) in
-    record {
-      on = goes_further first s t settling.on on;
-      names = turned.names ∙ settling.names;
-      counter = after.counter ∙ settling.counter;
-      told = λ n may.
-          append_assoc outs (all_shown hosts t effects) (settled n hosts t).0
-          ∙ ap (λ (r : Sent). outs ++ r.0) (sym (turn_settles n hosts s t effects good (turn n may)))
-          ∙ settling.told n (may_be_before n s t on may);
-      left = λ n may. ap (λ (r : Sent). r.1) (sym (turn_settles n hosts s t effects good (turn n may))) ∙ settling.left n (may_be_before n s t on may);
-    }
+behind_on : (outs more : List Out) (rest : Sent) → behind (outs ++ more) rest ≡ behind outs (behind more rest)
+behind_on outs more rest = λ i. (append_assoc outs more rest.0 i, rest.1, rest.2)
 
 -- ---- as the code tells it: what a turn gave, if there was one
 
-abbrev Gives : List (List ℕ) → CoreState → CoreState → Option (List Effect) → Type 0
-Gives hosts s t r = (n : ℕ) → MayBe n t → settle n (rooms hosts) s ≡ option_map (λ effects. (effects, t)) r
+abbrev Gives : FrontState → CoreState → CoreState → Option (List Effect) → Type 0
+Gives f s t r = (n : ℕ) → MayBe n t → settle n (rooms f.hosts) s ≡ option_map (λ effects. (effects, t)) r
 
-gives_some : (hosts : List (List ℕ)) (s t : CoreState) (r : Option (List Effect)) (effects : List Effect) → Gives hosts s t r → r ≡ Some effects → Gives hosts s t (Some effects)
-gives_some hosts s t r effects gives e = subst (λ (x : Option (List Effect)). Gives hosts s t x) e gives
+gives_some : (f : FrontState) (s t : CoreState) (r : Option (List Effect)) (effects : List Effect) → Gives f s t r → r ≡ Some effects → Gives f s t (Some effects)
+gives_some f s t r effects gives e = subst (λ (x : Option (List Effect)). Gives f s t x) e gives
 
-pub turn_smaller : (hosts : List (List ℕ)) (s t : CoreState) (r : Option (List Effect)) (effects : List Effect) → IsGood s → Gives hosts s t r → r ≡ Some effects → suc (length t.waiters) ≤ length s.waiters
-turn_smaller hosts s t r effects good gives e =
-    let one = fewer t.made hosts s t effects good (gives_some hosts s t r effects gives e t.made (may_be_made t)) in
-    omega (arith, one)
+a_turn : (f : FrontState) (s t : CoreState) (effects : List Effect) → IsGood s → Gives f s t (Some effects) → IsTurn (rooms f.hosts) s effects t
+a_turn f s t effects good gives = subst (λ (r : Turned). IfSome r (λ x. IsTurn (rooms f.hosts) s x.0 x.1)) (gives t.made (may_be_made t)) (turn_is t.made (rooms f.hosts) s good)
 
-pub turn_preserves : (hosts : List (List ℕ)) (first : CoreState) (sent : List Out) (s t : CoreState) (outs : List Out) (r : Option (List Effect)) (effects : List Effect)
-    → IsSettling hosts first sent s outs → IsGood s → Gives hosts s t r → r ≡ Some effects → GoesOn s t → IsSettling hosts first sent t (outs ++ all_shown hosts t effects)
-turn_preserves hosts first sent s t outs r effects settling good gives e on = settling_goes_on hosts first sent s t outs effects settling good (gives_some hosts s t r effects gives e) on
+after_turn_is : (f : FrontState) (s t : CoreState) (effects : List Effect) → Gives f s t (Some effects) → IsAfterTurn s t
+after_turn_is f s t effects gives = subst (λ (r : Turned). IfSome r (λ x. IsAfterTurn s x.1)) (gives t.made (may_be_made t)) (turn_still t.made (rooms f.hosts) s)
 
-gives_none : (hosts : List (List ℕ)) (s t : CoreState) (r : Option (List Effect)) → Gives hosts s t r → r ≡ None → (n : ℕ) → MayBe n t → settle n (rooms hosts) s ≡ None
-gives_none hosts s t r gives e n may = gives n may ∙ ap (λ (x : Option (List Effect)). option_map (λ effects. (effects, t)) x) e
+-- a turn gives out one number at most, and takes one waiter out
+turn_room : (f : FrontState) (s t : CoreState) (effects : List Effect) → IsGood s → Gives f s t (Some effects) → t.counter + length t.waiters + grants effects ≤ s.counter + length s.waiters
+turn_room f s t effects good gives =
+    omega (arith, (after_turn_is f s t effects gives).counter, fewer t.made f s t effects good (gives t.made (may_be_made t)), turn_grants (rooms f.hosts) s t effects (a_turn f s t effects good gives))
+
+-- so there are numbers for what a turn tells
+pub turn_numbers : (exports : Exports) (before : FrontState) (first : CoreState) (sent : List Out) (f : FrontState) (s t : CoreState) (outs : List Out) (r : Option (List Effect)) (effects : List Effect)
+    → IsSettling exports before first sent f s outs → IsGood s → Gives f s t r → r ≡ Some effects → first.counter + length first.waiters + 65536 < 2 ^ 32 → t.counter + grants effects + 65536 < 2 ^ 32
+turn_numbers exports before first sent f s t outs r effects settling good gives e room =
+    omega (arith, settling.counter, turn_room f s t effects good (gives_some f s t r effects gives e), room)
+
+pub turn_names : (f : FrontState) (s t : CoreState) (r : Option (List Effect)) (effects : List Effect) → IsGood s → Gives f s t r → r ≡ Some effects → t.names ≡ s.names
+turn_names f s t r effects good gives e = (a_turn f s t effects good (gives_some f s t r effects gives e)).names
+
+pub turn_smaller : (exports : Exports) (f g : FrontState) (s t u : CoreState) (r : Option (List Effect)) (effects : List Effect) (outs new : List Out) → IsGood s → Gives f s t r → r ≡ Some effects → behind outs (all_shown exports f t effects) ≡ (new, g, u) → suc (length u.waiters) ≤ length s.waiters
+turn_smaller exports f g s t u r effects outs new good gives e shown =
+    let one = fewer t.made f s t effects good (gives_some f s t r effects gives e t.made (may_be_made t)) in
+    let same : length u.waiters ≡ length t.waiters = ap (λ (x : Sent). length x.2.waiters) (sym shown) ∙ told_waiters exports f t effects in
+    omega (arith, one, same)
+
+parts_on : (most : ℕ) (t u : CoreState) → IsShown most t u → GoesOn t u
+parts_on most t u is = record {
+  made = omega (arith, ap (λ (x : CoreState). x.made) is.parts);
+  failed = λ f. (ap (λ (x : CoreState). x.failed) is.parts ∙ f, ap (λ (x : CoreState). x.made) is.parts);
+}
+
+pub turn_preserves : (exports : Exports) (before : FrontState) (first : CoreState) (sent : List Out) (f g : FrontState) (s t u : CoreState) (outs new : List Out) (r : Option (List Effect)) (effects : List Effect)
+    → IsSettling exports before first sent f s outs → IsGood s → Gives f s t r → r ≡ Some effects → GoesOn s t → behind outs (all_shown exports f t effects) ≡ (new, g, u) → IsSettling exports before first sent g u new
+turn_preserves exports before first sent f g s t u outs new r effects settling good gives e on shown =
+    let given = gives_some f s t r effects gives e in
+    let done = all_shown exports f t effects in
+    let last : done.2 ≡ u = ap (λ (x : Sent). x.2) shown in
+    let is : IsShown (grants effects) t u = subst (λ (x : CoreState). IsShown (grants effects) t x) last (all_shown_is exports f t effects) in
+    let further : GoesOn t u = parts_on (grants effects) t u is in
+    record {
+      on = goes_further first s u settling.on (goes_further s t u on further);
+      names = shown_names (grants effects) t u is ∙ (a_turn f s t effects good given).names ∙ settling.names;
+      counter = omega (arith, settling.counter, turn_room f s t effects good given, is.most, ap length (shown_waiters (grants effects) t u is));
+      told = λ n may.
+          ap (λ (x : Sent). and_then (settled n exports) x) (sym shown)
+          ∙ behind_on outs done.0 (settled n exports done.1 done.2)
+          ∙ ap (λ (x : Sent). behind outs x) (sym (turn_settles n exports f s t effects good (given n (may_be_before n t u further may))))
+          ∙ settling.told n (may_be_before n s u (goes_further s t u on further) may);
+    }
+
+gives_none : (f : FrontState) (s t : CoreState) (r : Option (List Effect)) → Gives f s t r → r ≡ None → (n : ℕ) → MayBe n t → settle n (rooms f.hosts) s ≡ None
+gives_none f s t r gives e n may = gives n may ∙ ap (λ (x : Option (List Effect)). option_map (λ effects. (effects, t)) x) e
 
 -- once no waiter has a turn
-pub ended_outs : (hosts : List (List ℕ)) (first : CoreState) (sent : List Out) (s t : CoreState) (outs : List Out) (r : Option (List Effect))
-    → IsSettling hosts first sent s outs → Gives hosts s t r → r ≡ None → t ≡ s → (n : ℕ) → MayBe n t → outs ≡ sent ++ (settled n hosts first).0
-ended_outs hosts first sent s t outs r settling gives e same n may =
-    sym (append-nil outs)
-    ∙ ap (λ (x : Sent). outs ++ x.0) (sym (none_settles n hosts s (gives_none hosts s t r gives e n may)))
-    ∙ settling.told n (subst (λ (x : CoreState). MayBe n x) same may)
+pub ended_state : (exports : Exports) (before : FrontState) (first : CoreState) (sent : List Out) (f : FrontState) (s t : CoreState) (outs : List Out) (r : Option (List Effect))
+    → IsSettling exports before first sent f s outs → Gives f s t r → r ≡ None → t ≡ s → (n : ℕ) → MayBe n t → behind sent (settled n exports before first) ≡ (outs, f, t)
+ended_state exports before first sent f s t outs r settling gives e same n may =
+    sym (settling.told n (subst (λ (x : CoreState). MayBe n x) same may))
+    ∙ ap (λ (x : Sent). behind outs x) (none_settles n exports f s (gives_none f s t r gives e n may))
+    ∙ (λ i. (append-nil outs i, f, sym same i))
 
-pub ended_core : (hosts : List (List ℕ)) (first : CoreState) (sent : List Out) (s t : CoreState) (outs : List Out) (r : Option (List Effect))
-    → IsSettling hosts first sent s outs → Gives hosts s t r → r ≡ None → t ≡ s → (n : ℕ) → MayBe n t → t ≡ (settled n hosts first).1
-ended_core hosts first sent s t outs r settling gives e same n may =
-    same
-    ∙ ap (λ (x : Sent). x.1) (sym (none_settles n hosts s (gives_none hosts s t r gives e n may)))
-    ∙ settling.left n (subst (λ (x : CoreState). MayBe n x) same may)
-
-pub ended_settled : (hosts : List (List ℕ)) (s t : CoreState) (r : Option (List Effect)) → Gives hosts s t r → r ≡ None → t ≡ s → IsSettled t
-ended_settled hosts s t r gives e same =
-    subst (λ (x : CoreState). IsSettled x) (sym same) ((settled_is t.made (rooms hosts) s).0 (gives_none hosts s t r gives e t.made (may_be_made t)))
+pub ended_settled : (f : FrontState) (s t : CoreState) (r : Option (List Effect)) → Gives f s t r → r ≡ None → t ≡ s → IsSettled t
+ended_settled f s t r gives e same =
+    subst (λ (x : CoreState). IsSettled x) (sym same) ((settled_is t.made (rooms f.hosts) s).0 (gives_none f s t r gives e t.made (may_be_made t)))

@@ -1,18 +1,19 @@
--- No ask and no turn stores anything.
+-- No ask, nothing given up and no turn stores anything.
 use Rattle.std.proofs.Common.{◌≡◌, ℕ, Bool, false, inl, inr, Option, Some, None, IfSome, option_map, List, [], refl, sym, subst, ◌∙◌}
-use Rattle.std.specs.List.{slice_get}
 use Rattle.std.proofs.lemmas.Bool.{cases_Bool}
 use Rattle.xl_matrix.specs.declared.claim.Claim.{Claim}
+use Rattle.xl_base.specs.declared.name.Party.{Party}
 use Rattle.xl_matrix.specs.declared.claim.Extent.{Extent}
+use Rattle.xl_matrix.specs.declared.claim.What.{What}
 use Rattle.xl_matrix.specs.declared.claim.Extent.TheVariants.{Bytes, Empty}
 use Rattle.xl_wait.specs.declared.waiter.Rooms.{Rooms}
 use Rattle.xl_core.specs.State.{CoreState}
-use Rattle.xl_core.specs.Asking.{asked_claim, known_claim}
-use Rattle.xl_core.specs.Decide.{ranges_asked, unlocked_bytes, unlocked, acted, ask}
+use Rattle.xl_core.specs.Asking.{asked_what, asked_claim, known_claim}
+use Rattle.xl_core.specs.Decide.{claim_asked, unlocked_bytes, unlocked, acted, ask}
 use Rattle.xl_core.specs.Relock.{holds_byte, relock_fits}
-use Rattle.xl_core.specs.Settle.{first_turn, served_by, served, settle}
+use Rattle.xl_core.specs.Settle.{first_turn, served_by, served, settle, cancel, give_back, end_party}
 use Rattle.xl_core.specs.declared.ask.Act.{Act}
-use Rattle.xl_core.specs.declared.ask.Act.TheVariants.{Ranges, Test, Unlock}
+use Rattle.xl_core.specs.declared.ask.Act.TheVariants.{Share, Ranges, Test, Unlock}
 use Rattle.xl_core.specs.declared.ask.Answer.{Answer}
 use Rattle.xl_core.specs.declared.ask.Ask.{Ask}
 use Rattle.xl_core.specs.declared.ask.Effect.{Effect}
@@ -44,10 +45,10 @@ case_still left s a claim r (Waits c timely blocks is passes e) = subst (λ (x :
 case_still left s a claim r (NoRoom limit timely is passes e) = subst (λ (x : Answered). IsStill s x.2) (sym e) (still s)
 case_still left s a claim r (Goes timely is passes e) = subst (λ (x : Answered). IsStill s x.2) (sym e) (record { stable = refl; clock = refl; made = refl; failed = refl })
 
-ranges_still : (n : ℕ) (left : Rooms) (s : CoreState) (a : Ask) (range : Option (Extent × Bool)) → IsStill s (ranges_asked n left s a range).2
-ranges_still n left s a None = still s
-ranges_still n left s a (Some range) =
-    let claim = asked_claim a range.0 range.1 s.names in
+claim_still : (n : ℕ) (left : Rooms) (s : CoreState) (a : Ask) (what : Option What) → IsStill s (claim_asked n left s a what).2
+claim_still n left s a None = still s
+claim_still n left s a (Some what) =
+    let claim = asked_claim a what s.names in
     case_still left s a claim (lock_result n left s a claim) (lock_case n left s a claim)
 
 bytes_still : (s : CoreState) (c : Claim) (first last : ℕ) → IsStill s (unlocked_bytes s c first last).2
@@ -66,13 +67,28 @@ unlock_still s c (Bytes first last) = bytes_still s c first last
 unlock_still s c (Empty offset) = still s
 
 acted_still : (n : ℕ) (left : Rooms) (s : CoreState) (a : Ask) (act : Act) → IsStill s (acted n left s a act).2
-acted_still n left s a (Ranges ranges) = ranges_still n left s a (slice_get ranges 0)
+acted_still n left s a (Share access deny) = claim_still n left s a (asked_what (Share access deny))
+acted_still n left s a (Ranges ranges) = claim_still n left s a (asked_what (Ranges ranges))
 acted_still n left s a (Test extent exclusive) = still s
 acted_still n left s a (Unlock extent) = unlock_still s (known_claim a extent false s.names) extent
 
 pub ask_still : (n : ℕ) (left : Rooms) (s : CoreState) (a : Ask) → IsStill s (ask n left s a).2
 unfolding ask
 ask_still n left s a = acted_still n left s a a.act
+
+-- ---- what is given up
+
+pub cancel_still : (s : CoreState) (id : ℕ) → IsStill s (cancel s id).1
+unfolding cancel
+cancel_still s id = record { stable = refl; clock = refl; made = refl; failed = refl }
+
+pub give_back_still : (s : CoreState) (claim : Claim) → IsStill s (give_back s claim).1
+unfolding give_back
+give_back_still s claim = record { stable = refl; clock = refl; made = refl; failed = refl }
+
+pub end_party_still : (s : CoreState) (party : Party) → IsStill s (end_party s party).1
+unfolding end_party
+end_party_still s party = record { stable = refl; clock = refl; made = refl; failed = refl }
 
 -- ---- a turn
 

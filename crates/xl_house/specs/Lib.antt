@@ -1,4 +1,5 @@
 pub mod Machine
+pub mod Shown
 pub mod Journals
 pub mod Free
 pub mod Housed

@@ -1,10 +1,10 @@
 -- The machine: what one event does to the state, and what it sends.
-use Rattle.std.specs.Prelude.{ℕ, zero, suc, ◌+◌, not, ◌==◌, nat_lt, if◌then◌else◌, List, [], ◌∷◌, ◌++◌, length, map, filter, find, option_map, Option, Some, None}
+use Rattle.std.specs.Prelude.{ℕ, zero, suc, ◌+◌, Bool, true, false, not, ◌==◌, nat_lt, if◌then◌else◌, List, [], ◌∷◌, ◌++◌, length, map, filter, find, option_map, Option, Some, None}
 use Rattle.xl_base.specs.Stable.{raised}
 use Rattle.xl_base.specs.declared.event.Dest.{Dest}
 use Rattle.xl_base.specs.declared.event.Dest.TheVariants.{Conn, Back}
 use Rattle.xl_base.specs.declared.event.Event.{Event}
-use Rattle.xl_base.specs.declared.event.Event.TheVariants.{Open, Message, End, Restart}
+use Rattle.xl_base.specs.declared.event.Event.TheVariants.{Open, Message, End, Called, Restart}
 use Rattle.xl_base.specs.declared.event.Kind.{Kind}
 use Rattle.xl_base.specs.declared.event.Kind.TheVariants.{Rpc, Smb}
 use Rattle.xl_base.specs.declared.event.Out.{Out}
@@ -13,23 +13,28 @@ use Rattle.xl_base.specs.declared.journal.Head.{Head}
 use Rattle.xl_frame.specs.Frames.{wrapped}
 use Rattle.xl_core.specs.State.{CoreState, started, step_begun}
 use Rattle.xl_core.specs.Settle.{settle}
+use Rattle.xl_core.specs.declared.ask.Answer.TheVariants.{Granted}
 use Rattle.xl_core.specs.declared.ask.Effect.{Effect}
+use Rattle.xl_core.specs.declared.ask.Effect.TheVariants.{Served}
 use Rattle.xl_front_nlm.specs.Hosts.{rooms}
-use Rattle.xl_front_nlm.specs.FrontNlm.{nlm_step, shown}
+use Rattle.xl_front_nlm.specs.Answers.{nlm_called}
+use Rattle.xl_front_nlm.specs.FrontNlm.{nlm_step}
+use Rattle.xl_front_nlm.specs.Grants.{shown}
+use Rattle.xl_front_nlm.specs.State.{FrontState, empty_front}
 use Rattle.xl_house.specs.declared.connections.Connection.{Connection}
 
--- the state between two events: what is exported, the place of the next event, the open connections, the hosts of the
--- NLM front, and the core
+-- the state between two events: what is exported, the place of the next event, the open connections, the NLM front, and
+-- the core
 pub record Whole : Type 0 where
   pub exports : Exports
   pub place : ℕ
   pub connections : List Connection
-  pub hosts : List (List ℕ)
+  pub front : FrontState
   pub core : CoreState
 
 -- the state after a first start: nothing is held, and the record is the loaded one with its epoch raised
 abbrev pub begin : Head → Whole
-begin head = record { exports = head.exports; place = 0; connections = []; hosts = []; core = started (raised head.record) head.start }
+begin head = record { exports = head.exports; place = 0; connections = []; front = empty_front; core = started (raised head.record) head.start }
 
 -- what an event gives: the next state, how many stores were made, and what was sent
 pub record Turn : Type 0 where
@@ -65,43 +70,77 @@ framed_by kind o (Back call) = o
 abbrev pub framed : Kind → Out → Out
 framed kind o = framed_by kind o o.dest
 
+-- ---- what is sent, and the front and the core afterwards
+
+abbrev pub Sent : Type 0
+Sent = List Out × FrontState × CoreState
+
+-- these come first
+abbrev pub behind : List Out → Sent → Sent
+behind outs rest = (outs ++ rest.0, rest.1, rest.2)
+
+-- these come last
+abbrev pub before : Sent → List Out → Sent
+before done outs = (done.0 ++ outs, done.1, done.2)
+
+abbrev pub and_then : (FrontState → CoreState → Sent) → Sent → Sent
+and_then rest done = behind done.0 (rest done.1 done.2)
+
+-- what the NLM front sends, in its frames
+abbrev pub in_frames : Sent → Sent
+in_frames done = (map (framed Rpc) done.0, done.1, done.2)
+
+-- the effect tells of a grant, and how many of these do
+abbrev pub is_grant : Effect → Bool
+is_grant (Served id (Granted claim)) = true
+is_grant _ = false
+
+abbrev pub grants : List Effect → ℕ
+grants [] = 0
+grants (effect ∷ effects) = if is_grant effect then grants effects + 1 else grants effects
+
 -- what the NLM front sends for these effects, in order
-abbrev pub all_shown : List (List ℕ) → CoreState → List Effect → List Out
-all_shown hosts s [] = []
-all_shown hosts s (effect ∷ effects) = map (framed Rpc) (shown hosts s effect) ++ all_shown hosts s effects
+abbrev pub all_shown : Exports → FrontState → CoreState → List Effect → Sent
+all_shown exports f s [] = ([], f, s)
+all_shown exports f s (effect ∷ effects) = and_then (λ g t. all_shown exports g t effects) (in_frames (shown exports f s effect))
 
 -- ---- settling
 
 -- what a turn sends, and then the rest
-abbrev pub after_turn : List (List ℕ) → (CoreState → List Out × CoreState) → CoreState → Option (List Effect × CoreState) → List Out × CoreState
-after_turn hosts rest s None = ([], s)
-after_turn hosts rest s (Some turn) = (all_shown hosts turn.1 turn.0 ++ (rest turn.1).0, (rest turn.1).1)
+abbrev pub after_turn : Exports → (FrontState → CoreState → Sent) → FrontState → CoreState → Option (List Effect × CoreState) → Sent
+after_turn exports rest f s None = ([], f, s)
+after_turn exports rest f s (Some turn) = and_then rest (all_shown exports f turn.1 turn.0)
 
 -- turns until no waiter has one, at most so many
-abbrev pub settled_for : ℕ → ℕ → List (List ℕ) → CoreState → List Out × CoreState
-settled_for zero n hosts s = ([], s)
-settled_for (suc fuel) n hosts s = after_turn hosts (settled_for fuel n hosts) s (settle n (rooms hosts) s)
+abbrev pub settled_for : ℕ → ℕ → Exports → FrontState → CoreState → Sent
+settled_for zero n exports f s = ([], f, s)
+settled_for (suc fuel) n exports f s = after_turn exports (settled_for fuel n exports) f s (settle n (rooms f.hosts) s)
 
--- Turns until no waiter has one; each takes a waiter out. What they send, and the core afterwards.
-unfoldable pub settled : ℕ → List (List ℕ) → CoreState → List Out × CoreState
-settled n hosts s = settled_for (length s.waiters) n hosts s
+-- turns until no waiter has one; each takes a waiter out
+unfoldable pub settled : ℕ → Exports → FrontState → CoreState → Sent
+settled n exports f s = settled_for (length s.waiters) n exports f s
 
 -- ---- an event
 
 -- what the front gave for a message: what it shows for the effects comes before the reply
-abbrev pub front_done : List Out × List Effect × List (List ℕ) × CoreState → List Out × List (List ℕ) × CoreState
-front_done r = (all_shown r.2 r.3 r.1 ++ map (framed Rpc) r.0, r.2, r.3)
+abbrev pub front_done : Exports → List Out × List Effect × FrontState × CoreState → Sent
+front_done exports r = before (all_shown exports r.2 r.3 r.1) (map (framed Rpc) r.0)
 
 -- what a message from a connection of this kind gives; only ONC RPC is served
-abbrev pub heard_by : ℕ → Exports → List (List ℕ) → CoreState → Option Kind → ℕ → List ℕ → List Out × List (List ℕ) × CoreState
-heard_by n exports hosts s (Some Rpc) number bytes = front_done (nlm_step n exports hosts s number bytes)
-heard_by n exports hosts s (Some Smb) number bytes = ([], hosts, s)
-heard_by n exports hosts s None number bytes = ([], hosts, s)
+abbrev pub heard_by : ℕ → Exports → FrontState → CoreState → Option Kind → ℕ → List ℕ → Sent
+heard_by n exports f s (Some Rpc) number bytes = front_done exports (nlm_step n exports f s number bytes)
+heard_by n exports f s (Some Smb) number bytes = ([], f, s)
+heard_by n exports f s None number bytes = ([], f, s)
 
--- what an event gives before the table is settled: what is sent, the hosts, and the core
-unfoldable pub heard : ℕ → Whole → Event → List Out × List (List ℕ) × CoreState
-heard n s (Message number bytes) = heard_by n s.exports s.hosts (step_begun s.core) (kind_of s.connections number) number bytes
-heard n s _ = ([], s.hosts, step_begun s.core)
+-- what the end of a call of the server's gives
+abbrev pub called_done : Exports → List Effect × FrontState × CoreState → Sent
+called_done exports r = all_shown exports r.1 r.2 r.0
+
+-- what an event gives before the table is settled
+unfoldable pub heard : ℕ → Whole → Event → Sent
+heard n s (Message number bytes) = heard_by n s.exports s.front (step_begun s.core) (kind_of s.connections number) number bytes
+heard n s (Called call reply) = called_done s.exports (nlm_called n s.front (step_begun s.core) call reply)
+heard n s _ = ([], s.front, step_begun s.core)
 
 -- the connections after the event at this place
 unfoldable pub connected : List Connection → ℕ → Event → List Connection
@@ -110,20 +149,20 @@ connected connections place (End number) = without connections number
 connected connections place _ = connections
 
 -- the state with these, at the next place; at a free moment the core has made no store
-abbrev pub onward : Whole → List Connection → List (List ℕ) → CoreState → Whole
-onward s connections hosts core = record { exports = s.exports; place = s.place + 1; connections = connections; hosts = hosts; core = step_begun core }
+abbrev pub onward : Whole → List Connection → FrontState → CoreState → Whole
+onward s connections front core = record { exports = s.exports; place = s.place + 1; connections = connections; front = front; core = step_begun core }
 
-abbrev pub turn_of : Whole → List Connection → List Out × List (List ℕ) × CoreState → List Out × CoreState → Turn
-turn_of s connections done rest = record { next = onward s connections done.1 rest.1; made = rest.1.made; outs = done.0 ++ rest.0 }
+abbrev pub turn_of : Whole → List Connection → Sent → Turn
+turn_of s connections done = record { next = onward s connections done.1 done.2; made = done.2.made; outs = done.0 }
 
 -- what an event gives, once the table is settled
-abbrev pub settled_turn : ℕ → Whole → List Connection → List Out × List (List ℕ) × CoreState → Turn
-settled_turn n s connections done = turn_of s connections done (settled n done.1 done.2)
+abbrev pub settled_turn : ℕ → Whole → List Connection → Sent → Turn
+settled_turn n s connections done = turn_of s connections (and_then (settled n s.exports) done)
 
 -- A restart begins anew from the record with its epoch raised, which is stored. The clock goes on, and so do the places.
 abbrev pub restarted : Whole → Turn
 restarted s = record {
-  next = record { exports = s.exports; place = s.place + 1; connections = []; hosts = []; core = started (raised s.core.stable) s.core.clock };
+  next = record { exports = s.exports; place = s.place + 1; connections = []; front = empty_front; core = started (raised s.core.stable) s.core.clock };
   made = 1;
   outs = [];
 }

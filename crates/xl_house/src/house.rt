@@ -63,13 +63,13 @@ fn act_and_enter<K: Keeper>(
     requires place { machine.old.place ≡ length entries.old }
     requires few { length entries.old ≤ 1048576 }
     requires free { IsFree (whole_of exports.now machine.old) }
-    requires counter { machine.old.core.counter ≤ length entries.old }
+    requires counter { machine.old.core.counter + length machine.old.core.waiters ≤ length entries.old + length entries.old }
     requires short { AreShort machine.old.core.names }
     requires goes_on { is_restart event ≡ false }
     ensures place { IfOk result (λ place. place ≡ length entries.old) }
     ensures few { length entries.new ≤ 1048576 }
     ensures short { OnOk result (AreShort machine.new.core.names) }
-    ensures counter { OnOk result (machine.new.core.counter ≤ machine.old.core.counter + 1) }
+    ensures counter { OnOk result (machine.new.core.counter + length machine.new.core.waiters ≤ machine.old.core.counter + length machine.old.core.waiters + 2) }
     ensures entered { OnOk result (entries.new ≡ entries.old ++ entry 0 (whole_of exports.now machine.old) event ∷ []) }
     ensures next { OnOk result (whole_of exports.now machine.new ≡ (step 0 (whole_of exports.now machine.old) event).next) }
     ensures err { OnErr result (entries.new ≡ entries.old) }

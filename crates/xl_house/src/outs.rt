@@ -1,17 +1,20 @@
 //! What is sent, in its frames.
-ghost use Rattle.std.specs.Prelude.{◌≡◌, ◌≤◌, ◌++◌, length, map, OnOk, IfOk};
+ghost use Rattle.std.specs.Prelude.{◌≡◌, ◌+◌, ◌<◌, ◌≤◌, ◌++◌, ◌^◌, map, OnOk, IfOk};
 ghost use Rattle.std.specs.List.{AllByRecursion};
-ghost use Rattle.xl_house.specs.Machine.{framed, all_shown};
+ghost use Rattle.xl_core.specs.Good.{IsGood};
+ghost use Rattle.xl_front_nlm.specs.Short.{AreShort, FitsFrame};
+ghost use Rattle.xl_house.specs.Machine.{framed, grants, behind, all_shown};
+ghost use Rattle.xl_house.specs.Shown.{IsShown};
 
 use std::alloc::{AllocError, Global};
-use xl_base::{Dest, Kind, Out, Sequence};
+use xl_base::{Dest, Exports, Kind, Out, Sequence};
 use xl_core::{Core, Effect};
 use xl_frame::wrap;
 use xl_front_nlm::{Front, shown};
 
 /// An out in its frame, where it goes to a connection of this kind; a call has none.
 fn framed(alloc: Global, kind: Kind, out: Out) -> Result<Out, AllocError>
-    requires { length out.bytes ≤ 65536 }
+    requires { FitsFrame out }
     ensures { IfOk result (λ o. o ≡ framed kind out) }
 {
     let Out { dest, to, bytes } = out;
@@ -29,7 +32,7 @@ pub(crate) fn send_all(
     sent: Sequence<Out>,
     outs: &mut Sequence<Out>,
 ) -> Result<(), AllocError>
-    requires { AllByRecursion (λ o. length o.bytes ≤ 65536) sent }
+    requires { AllByRecursion FitsFrame sent }
     ensures { OnOk result (outs.new ≡ outs.old ++ map (framed kind) sent) }
 {
     for out in sent.into_vec() {
@@ -38,19 +41,45 @@ pub(crate) fn send_all(
     Ok(())
 }
 
-/// Adds what the NLM front sends for these effects, in order.
-pub(crate) fn show_all(
+/// Adds what the NLM front sends for each of these effects.
+fn show_each(
     alloc: Global,
-    front: &Front,
-    core: &Core,
+    exports: &Exports,
+    front: &mut Front,
+    core: &mut Core,
     effects: &[Effect],
     outs: &mut Sequence<Out>,
 ) -> Result<(), AllocError>
-    ensures { OnOk result (outs.new ≡ outs.old ++ all_shown front.now core.now effects.now) }
+    requires good { IsGood core.old }
+    requires numbers { core.old.counter + grants effects.now + 65536 < 2 ^ 32 }
+    requires short { AreShort core.old.names }
+    ensures sent { OnOk result (behind outs.old (all_shown exports.now front.old core.old effects.now) ≡ (outs.new, front.new, core.new)) }
+    ensures good { OnOk result (IsGood core.new) }
 {
     for effect in effects {
-        let sent = shown(alloc, front, core, effect)?;
+        let sent = shown(alloc, exports, front, core, effect)?;
         send_all(alloc, Kind::Rpc, sent, outs)?;
     }
+    Ok(())
+}
+
+/// Adds what the NLM front sends for these effects, in order. Numbers are given out to what tells of a grant.
+#[tactic(auto, using(crate::proofs::ShownLaws::all_is_shown))]
+pub(crate) fn show_all(
+    alloc: Global,
+    exports: &Exports,
+    front: &mut Front,
+    core: &mut Core,
+    effects: &[Effect],
+    outs: &mut Sequence<Out>,
+) -> Result<(), AllocError>
+    requires good { IsGood core.old }
+    requires numbers { core.old.counter + grants effects.now + 65536 < 2 ^ 32 }
+    requires short { AreShort core.old.names }
+    ensures sent { OnOk result (behind outs.old (all_shown exports.now front.old core.old effects.now) ≡ (outs.new, front.new, core.new)) }
+    ensures good { OnOk result (IsGood core.new) }
+    ensures same { OnOk result (IsShown (grants effects.now) core.old core.new) }
+{
+    show_each(alloc, exports, front, core, effects, outs)?;
     Ok(())
 }

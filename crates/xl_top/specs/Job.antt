@@ -46,21 +46,21 @@ is_idle n = n == 1 || n == 2 || n == 4
 abbrev pub capped : List ℕ → List ℕ
 capped input = take (most_bytes + 1) input
 
--- these files, with the default times in milliseconds
-abbrev pub exports_with : List (List ℕ) → Exports
-exports_with files = record { files = files; addresses = []; lease = 90000; grace = 90000; break_time = 35000 }
+-- these files and these callers' addresses, with the default times in milliseconds
+abbrev pub exports_with : List (List ℕ) → List (List ℕ × List ℕ) → Exports
+exports_with files addresses = record { files = files; addresses = addresses; lease = 90000; grace = 90000; break_time = 35000 }
 
--- what a run begins from: these files, and the empty record
-abbrev pub head_with : List (List ℕ) → Head
-head_with files = record {
-  exports = exports_with files;
+-- what a run begins from: these files and addresses, and the empty record
+abbrev pub head_with : List (List ℕ) → List (List ℕ × List ℕ) → Head
+head_with files addresses = record {
+  exports = exports_with files addresses;
   start = record { 0 = 0 };
   «record» = record { epoch = 0; names = [] };
 }
 
 -- what a capture's run begins from
 abbrev pub head_of : Capture → Head
-head_of c = head_with c.files
+head_of c = head_with c.files c.addresses
 
 -- the journal that a capture's events make
 abbrev pub journal_of : Capture → Journal

@@ -147,13 +147,16 @@ fn write_whole<O: Sink>(alloc: Global, house: &House<SureKeeper>, out: &mut O) -
     }
 }
 
-/// These files, with the default times.
-fn exports_with(alloc: Global, files: Sequence<Sequence<u8>>) -> Exports
-    ensures { result ≡ exports_with files }
+/// These files and these callers' addresses, with the default times.
+fn exports_with(
+    files: Sequence<Sequence<u8>>,
+    addresses: Sequence<(Sequence<u8>, Sequence<u8>)>,
+) -> Exports
+    ensures { result ≡ exports_with files addresses }
 {
     Exports {
         files,
-        addresses: Sequence::new(alloc),
+        addresses,
         lease: 90000,
         grace: 90000,
         break_time: 35000,
@@ -166,7 +169,7 @@ fn idle(alloc: Global, status: u8, line: u64) -> Done
 {
     let record = Record::new(alloc);
     let head = Head {
-        exports: exports_with(alloc, Sequence::new(alloc)),
+        exports: exports_with(Sequence::new(alloc), Sequence::new(alloc)),
         start: Moment(0),
         record,
     };
@@ -180,12 +183,18 @@ fn idle(alloc: Global, status: u8, line: u64) -> Done
     }
 }
 
-/// A house over these files, of a server that never started before. None comes for want of memory.
-fn start(alloc: Global, files: Sequence<Sequence<u8>>) -> Option<House<SureKeeper>>
-    ensures { IfSome result (λ h. (h.head ≡ head_with files) × ((h.entries ≡ []) × (h.halt ≡ None))) }
+/// A house over these files and these callers' addresses, of a server that never started before. None comes for want of
+/// memory.
+fn start(
+    alloc: Global,
+    files: Sequence<Sequence<u8>>,
+    addresses: Sequence<(Sequence<u8>, Sequence<u8>)>,
+) -> Option<House<SureKeeper>>
+    ensures { IfSome result (λ h. (h.head ≡ head_with files addresses) × ((h.entries ≡ []) × (h.halt ≡ None))) }
 {
     let keeper = SureKeeper::new(alloc, Record::new(alloc));
-    match House::start(alloc, exports_with(alloc, files), keeper, Moment(0)) {
+    let exports = exports_with(files, addresses);
+    match House::start(alloc, exports, keeper, Moment(0)) {
         Ok(house) => Some(house),
         Err(ended) => match ended.halt {
             Halt::NoMemory => None,
@@ -206,8 +215,12 @@ fn step_capture(alloc: Global, capture: Capture) -> Option<(House<SureKeeper>, R
     ensures whole { IfSome result (λ r. is_whole r.1 ≡ true → is_spoiled r.0.halt ≡ false) }
     ensures started { IfSome result (λ r. (count : ℕ) → r.1 ≡ Err (Halt.StartStore count) → ⊥) }
 {
-    let Capture { files, events } = capture;
-    let mut house = start(alloc, files)?;
+    let Capture {
+        files,
+        addresses,
+        events,
+    } = capture;
+    let mut house = start(alloc, files, addresses)?;
     let ended = step_all(alloc, &mut house, events.into_vec());
     Some((house, ended))
 }

@@ -1,6 +1,6 @@
 use Rattle.std.proofs.Common.{◌≡◌, vec_len}
 use Rattle.xl_base.specs.Lists.{sorted}
-use Rattle.xl_capture.specs.Transcript.{row_before}
+use Rattle.xl_capture.specs.Rows.{row_before}
 use Rattle.xl_capture.proofs.SortLaws.{sorted_onto}
 use Rattle.xl_capture.proofs.transcripts.in_order.Given as goal
 

@@ -1,6 +1,6 @@
 use Rattle.std.proofs.Common.{◌≡◌, ◌≤◌, ◌-◌, ◌++◌, length, take, drop}
 use Rattle.xl_base.specs.Lists.{placed}
-use Rattle.xl_capture.specs.Transcript.{row_before}
+use Rattle.xl_capture.specs.Rows.{row_before}
 use Rattle.xl_capture.proofs.transcripts.place.Given as goal
 
 abbrev pub invariant-rows : goal.invariant-rows

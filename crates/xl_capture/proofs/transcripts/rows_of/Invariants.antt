@@ -1,5 +1,5 @@
 use Rattle.std.proofs.Common.{◌≡◌, ◌++◌, map, drop}
-use Rattle.xl_capture.specs.Transcript.{row_of}
+use Rattle.xl_capture.specs.Rows.{row_of}
 use Rattle.xl_capture.proofs.transcripts.rows_of.Given as goal
 
 abbrev pub invariant-loop-claim : goal.invariant-loop-claim

@@ -1,4 +1,4 @@
-use Rattle.xl_core.proofs.GoodLaws.{started_good, begun_good, ask_good, settle_good, cancel_good, end_party_good}
+use Rattle.xl_core.proofs.GoodLaws.{started_good, begun_good, ask_good, settle_good, cancel_good, give_back_good, drawn_good, end_party_good}
 use Rattle.xl_core.proofs.law.stays_good.Goals as goal
 
 pub returns-clause-started : goal.returns-clause-started
@@ -15,6 +15,12 @@ returns-clause-settled c = settle_good
 
 pub returns-clause-cancelled : goal.returns-clause-cancelled
 returns-clause-cancelled c = cancel_good
+
+pub returns-clause-given_back : goal.returns-clause-given_back
+returns-clause-given_back c = give_back_good
+
+pub returns-clause-drawn : goal.returns-clause-drawn
+returns-clause-drawn c = drawn_good
 
 pub returns-clause-ended : goal.returns-clause-ended
 returns-clause-ended c = end_party_good

@@ -1,7 +1,8 @@
-use Rattle.std.proofs.Common.{◌≡◌, ◌≤◌, ◌++◌, length, map}
+use Rattle.std.proofs.Common.{◌≡◌, ◌++◌, map}
 use Rattle.std.specs.List.{AllByRecursion}
+use Rattle.xl_front_nlm.specs.Short.{FitsFrame}
 use Rattle.xl_house.specs.Machine.{framed}
 use Rattle.xl_house.proofs.outs.send_all.Given as goal
 
 abbrev pub invariant-loop-out : goal.invariant-loop-out
-invariant-loop-out l = (l.outs ++ map (framed l.kind) l.out-iterator.rest.items ≡ l.fn.outs ++ map (framed l.kind) l.fn.sent) × AllByRecursion (λ o. length o.bytes ≤ 65536) l.out-iterator.rest.items
+invariant-loop-out l = (l.outs ++ map (framed l.kind) l.out-iterator.rest.items ≡ l.fn.outs ++ map (framed l.kind) l.fn.sent) × AllByRecursion FitsFrame l.out-iterator.rest.items

@@ -1,0 +1,106 @@
+-- What is found stands in the list.
+use Rattle.std.proofs.Common.{◌≡◌, ℕ, Bool, true, false, not, List, [], ◌∷◌, Option, Some, None, refl, sym, ap, subst, ◌∙◌, inl, inr, arith}
+use Rattle.std.proofs.lemmas.Bool.{cases_Bool, true≢false}
+use Rattle.std.proofs.lemmas.Bool.Decides.{nat_tests}
+use Rattle.std.specs.Bool.{◌==◌}
+use Rattle.std.specs.List.{AllByRecursion, find}
+use Rattle.std.specs.Prelude.{IfSome, option_map}
+use Rattle.xl_base.specs.Lists.{IsIn, Pairwise}
+use Rattle.xl_core.specs.Good.{are_apart}
+use Rattle.xl_matrix.specs.declared.claim.Claim.{Claim}
+use Rattle.xl_wait.specs.Waiting.{is_waiting}
+use Rattle.xl_wait.specs.declared.waiter.Waiter.{Waiter}
+
+-- ---- waiters
+
+same_number : (n : ℕ) → (n == n) ≡ true
+same_number n = grind (arith, nat_tests)
+
+-- who waits among some waits among one more
+abbrev AreWaiting : List Waiter → Option ℕ → Type 0
+AreWaiting ws number = IfSome number (λ id. is_waiting id ws ≡ true)
+
+one_more : (w : Waiter) (ws : List Waiter) (number : Option ℕ) → AreWaiting ws number → AreWaiting (w ∷ ws) number
+one_more w ws None waits = tt
+one_more w ws (Some id) waits =
+    elim (cases_Bool (w.id == id)) [
+      | inl e ↦ rw e refl
+      | inr e ↦ rw e waits
+    ]
+
+waiter_found : (p : Waiter → Bool) (ws : List Waiter) → AreWaiting ws (option_map (λ (w : Waiter). w.id) (find p ws))
+waiter_found p [] = tt
+waiter_found p (w ∷ ws) =
+    elim (cases_Bool (p w)) [
+      | inl e ↦ rw (e, same_number w.id) refl
+      | inr e ↦ rw e (one_more w ws (option_map (λ (v : Waiter). v.id) (find p ws)) (waiter_found p ws))
+    ]
+
+pub found_waits : (number : Option ℕ) (p : Waiter → Bool) (ws : List Waiter) → number ≡ option_map (λ (w : Waiter). w.id) (find p ws) → IfSome number (λ id. is_waiting id ws ≡ true)
+found_waits number p ws e = subst (AreWaiting ws) (sym e) (waiter_found p ws)
+
+-- nobody among those apart from a waiter has its number
+no_other : (v : Waiter) (ws : List Waiter) → AllByRecursion (λ (w : Waiter). are_apart v w ≡ true) ws → is_waiting v.id ws ≡ false
+no_other v [] apart = refl
+no_other v (w ∷ ws) apart =
+    let other : (w.id == v.id) ≡ false = apart_numbers v.id w.id apart.0 in
+    rw other (no_other v ws apart.1)
+  where
+    apart_numbers : (m n : ℕ) → not (m == n) ≡ true → (n == m) ≡ false
+    apart_numbers m n e = grind (arith, nat_tests)
+
+-- of waiters with numbers of their own, the one of the number that is found is the one that is looked for
+abbrev IsTheOne : (Waiter → Bool) → ℕ → Waiter → Type 0
+IsTheOne p id w = w.id ≡ id → p w ≡ true
+
+found_here : (p : Waiter → Bool) (v : Waiter) (vs : List Waiter) (w : Waiter) → AllByRecursion (λ (u : Waiter). are_apart v u ≡ true) vs → p v ≡ true → IsIn w (v ∷ vs) → IsTheOne p v.id w
+found_here p v vs w apart e (inl same) = λ _. subst (λ (u : Waiter). p u ≡ true) same e
+found_here p v vs w apart e (inr h) = λ k. absurd (true≢false (sym (is_there vs w h k) ∙ no_other v vs apart))
+  where
+    is_there : (ws : List Waiter) (w : Waiter) → IsIn w ws → w.id ≡ v.id → is_waiting v.id ws ≡ true
+    is_there [] w h k = absurd h
+    is_there (u ∷ us) w (inl same) k = rw (ap (λ (x : Waiter). x.id) same ∙ k) (rw (same_number v.id) refl)
+    is_there (u ∷ us) w (inr h) k =
+        elim (cases_Bool (u.id == v.id)) [
+          | inl e ↦ rw e refl
+          | inr e ↦ rw e (is_there us w h k)
+        ]
+
+there_not_here : (p : Waiter → Bool) (v : Waiter) (vs : List Waiter) (id : ℕ) → AllByRecursion (λ (u : Waiter). are_apart v u ≡ true) vs → option_map (λ (u : Waiter). u.id) (find p vs) ≡ Some id → v.id ≡ id → ⊥
+there_not_here p v vs id apart e k =
+    let waits : is_waiting id vs ≡ true = subst (AreWaiting vs) e (waiter_found p vs) in
+    true≢false (sym waits ∙ subst (λ (i : ℕ). is_waiting i vs ≡ false) k (no_other v vs apart))
+
+pub found_is_the_one : (p : Waiter → Bool) (ws : List Waiter) (id : ℕ) (w : Waiter) → Pairwise are_apart ws → option_map (λ (v : Waiter). v.id) (find p ws) ≡ Some id → IsIn w ws → w.id ≡ id → p w ≡ true
+found_is_the_one p [] id w apart e h k = absurd h
+found_is_the_one p (v ∷ vs) id w apart e h k =
+    elim (cases_Bool (p v)) [
+      | inl y ↦ found_here p v vs w apart.0 y h (k ∙ sym (number_in (rw y at e)))
+      | inr n ↦ elim h [
+        | inl same ↦ absurd (there_not_here p v vs id apart.0 (rw n at e) (ap (λ (x : Waiter). x.id) same ∙ k))
+        | inr later ↦ found_is_the_one p vs id w apart.1 (rw n at e) later k
+      ]
+    ]
+  where
+    number_in : Some v.id ≡ Some id → v.id ≡ id
+    number_in e = cc
+
+-- ---- claims
+
+abbrev AreIn : List Claim → Option Claim → Type 0
+AreIn cs found = IfSome found (λ claim. IsIn claim cs)
+
+in_more : (c : Claim) (cs : List Claim) (found : Option Claim) → AreIn cs found → AreIn (c ∷ cs) found
+in_more c cs None held = tt
+in_more c cs (Some claim) held = inr held
+
+claim_found : (p : Claim → Bool) (cs : List Claim) → AreIn cs (find p cs)
+claim_found p [] = tt
+claim_found p (c ∷ cs) =
+    elim (cases_Bool (p c)) [
+      | inl e ↦ rw e (inl refl)
+      | inr e ↦ rw e (in_more c cs (find p cs) (claim_found p cs))
+    ]
+
+pub found_is_in : (found : Option Claim) (p : Claim → Bool) (cs : List Claim) → found ≡ find p cs → IfSome found (λ claim. IsIn claim cs)
+found_is_in found p cs e = subst (AreIn cs) (sym e) (claim_found p cs)

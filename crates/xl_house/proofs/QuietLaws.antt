@@ -1,0 +1,90 @@
+-- No door of the core tells of a grant; a turn tells of one at most.
+use Rattle.std.proofs.Common.{◌≡◌, ℕ, ◌+◌, ◌≤◌, Bool, true, false, if◌then◌else◌, inl, inr, Option, Some, None, List, [], ◌∷◌, refl, sym, ap, subst, ◌∙◌, arith}
+use Rattle.std.proofs.lemmas.Bool.{cases_Bool}
+use Rattle.xl_base.specs.declared.name.Party.{Party}
+use Rattle.xl_matrix.specs.declared.claim.Claim.{Claim}
+use Rattle.xl_matrix.specs.declared.claim.Extent.{Extent}
+use Rattle.xl_matrix.specs.declared.claim.Extent.TheVariants.{Bytes, Empty}
+use Rattle.xl_matrix.specs.declared.claim.What.{What}
+use Rattle.xl_wait.specs.declared.waiter.Rooms.{Rooms}
+use Rattle.xl_wait.specs.declared.waiter.Waiter.{Waiter}
+use Rattle.xl_core.specs.State.{CoreState}
+use Rattle.xl_core.specs.Asking.{asked_what, asked_claim, known_claim}
+use Rattle.xl_core.specs.Causes.{IsTurn}
+use Rattle.xl_core.specs.Decide.{claim_asked, unlocked_bytes, unlocked, acted, ask}
+use Rattle.xl_core.specs.Relock.{holds_byte, relock_fits}
+use Rattle.xl_core.specs.Settle.{all_told, numbers_for, cancel, end_party}
+use Rattle.xl_core.specs.declared.ask.Act.{Act}
+use Rattle.xl_core.specs.declared.ask.Act.TheVariants.{Share, Ranges, Test, Unlock}
+use Rattle.xl_core.specs.declared.ask.Answer.{Answer}
+use Rattle.xl_core.specs.declared.ask.Ask.{Ask}
+use Rattle.xl_core.specs.declared.ask.Effect.{Effect}
+use Rattle.xl_core.specs.declared.ask.Effect.TheVariants.{Served, Cancelled}
+use Rattle.xl_core.proofs.CauseLaws.{lock_result, LockCase, Late, Conflicts, Crowded, Waits, NoRoom, Goes, lock_case}
+use Rattle.xl_house.specs.Machine.{is_grant, grants}
+
+abbrev Answered : Type 0
+Answered = Answer × List Effect × CoreState
+
+case_told : (left : Rooms) (s : CoreState) (a : Ask) (claim : Claim) (r : Answered) → LockCase left s a claim r → r.1 ≡ []
+case_told left s a claim r (Late late e) = ap (λ (x : Answered). x.1) e
+case_told left s a claim r (Conflicts c timely hurries is e) = ap (λ (x : Answered). x.1) e
+case_told left s a claim r (Crowded c limit timely blocks is passes e) = ap (λ (x : Answered). x.1) e
+case_told left s a claim r (Waits c timely blocks is passes e) = ap (λ (x : Answered). x.1) e
+case_told left s a claim r (NoRoom limit timely is passes e) = ap (λ (x : Answered). x.1) e
+case_told left s a claim r (Goes timely is passes e) = ap (λ (x : Answered). x.1) e
+
+claim_told : (n : ℕ) (left : Rooms) (s : CoreState) (a : Ask) (what : Option What) → (claim_asked n left s a what).1 ≡ []
+claim_told n left s a None = refl
+claim_told n left s a (Some what) = let claim = asked_claim a what s.names in case_told left s a claim (lock_result n left s a claim) (lock_case n left s a claim)
+
+bytes_told : (s : CoreState) (c : Claim) (first last : ℕ) → (unlocked_bytes s c first last).1 ≡ []
+bytes_told s c first last =
+    elim (cases_Bool (holds_byte c.file c.owner first last s.claims)) [
+      | inr e ↦ rw e refl
+      | inl e ↦ elim (cases_Bool (relock_fits c.file c.owner first last None s.claims)) [
+        | inr k ↦ rw (e, k) refl
+        | inl k ↦ rw (e, k) refl
+      ]
+    ]
+
+unlock_told : (s : CoreState) (c : Claim) (extent : Extent) → (unlocked s c extent).1 ≡ []
+unfolding unlocked
+unlock_told s c (Bytes first last) = bytes_told s c first last
+unlock_told s c (Empty offset) = refl
+
+acted_told : (n : ℕ) (left : Rooms) (s : CoreState) (a : Ask) (act : Act) → (acted n left s a act).1 ≡ []
+acted_told n left s a (Share access deny) = claim_told n left s a (asked_what (Share access deny))
+acted_told n left s a (Ranges ranges) = claim_told n left s a (asked_what (Ranges ranges))
+acted_told n left s a (Test extent exclusive) = refl
+acted_told n left s a (Unlock extent) = unlock_told s (known_claim a extent false s.names) extent
+
+-- an ask tells of nothing
+pub ask_told : (n : ℕ) (left : Rooms) (s : CoreState) (a : Ask) → (ask n left s a).1 ≡ []
+unfolding ask
+ask_told n left s a = acted_told n left s a a.act
+
+pub ask_quiet : (n : ℕ) (left : Rooms) (s : CoreState) (a : Ask) → grants (ask n left s a).1 ≡ 0
+ask_quiet n left s a = ap (λ (effects : List Effect). grants effects) (ask_told n left s a)
+
+pub cancel_quiet : (s : CoreState) (id : ℕ) → grants (cancel s id).0 ≡ 0
+unfolding cancel
+cancel_quiet s id = refl
+
+told_quiet : (ids : List ℕ) → grants (all_told ids) ≡ 0
+told_quiet [] = refl
+told_quiet (id ∷ ids) = told_quiet ids
+
+pub end_party_quiet : (s : CoreState) (party : Party) → grants (end_party s party).0 ≡ 0
+unfolding end_party
+end_party_quiet s party = told_quiet (numbers_for party s.waiters)
+
+-- ---- a turn
+
+at_most : (b : Bool) → (if b then 0 + 1 else 0) ≤ 1
+at_most true = omega arith
+at_most false = omega arith
+
+pub turn_grants : (left : Rooms) (s t : CoreState) (effects : List Effect) → IsTurn left s effects t → grants effects ≤ 1
+turn_grants left s t effects turn =
+    subst (λ (told : List Effect). grants told ≤ 1) (sym turn.told) (at_most (is_grant (Served turn.waiter.id turn.answer)))
