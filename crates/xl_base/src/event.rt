@@ -3,11 +3,11 @@
 use crate::sequence::Sequence;
 
 /// A moment of the machine's clock, in milliseconds.
-#[derive(Clone, Copy, Debug, PartialEq, Eq, PartialOrd, Ord)]
+#[derive(Clone, Copy)]
 pub struct Moment(pub u64);
 
 /// What a connection speaks: ONC RPC over TCP (RFC 5531), or SMB 2 over TCP (MS-SMB2 2.1).
-#[derive(Clone, Copy, Debug, PartialEq, Eq)]
+#[derive(Clone, Copy)]
 pub enum Kind {
     /// ONC RPC with record marking.
     Rpc,
@@ -16,7 +16,7 @@ pub enum Kind {
 }
 
 /// Where an out goes.
-#[derive(Clone, Copy, Debug, PartialEq, Eq)]
+#[derive(Clone, Copy)]
 pub enum Dest {
     /// To the connection of this number, which is the place of its Open in the journal.
     Conn(u64),
@@ -25,7 +25,7 @@ pub enum Dest {
 }
 
 /// One message that the machine sends.
-#[derive(Drop, Debug)]
+#[derive(Drop)]
 pub struct Out {
     /// Where it goes.
     pub dest: Dest,
@@ -36,7 +36,7 @@ pub struct Out {
 }
 
 /// One event of the machine.
-#[derive(Drop, Debug)]
+#[derive(Drop)]
 pub enum Event {
     /// A connection of this kind is opened; its number is the place of this event.
     Open(Kind),

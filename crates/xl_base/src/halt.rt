@@ -1,7 +1,7 @@
 //! Why a house stops.
 
 /// Why a house stops for good.
-#[derive(Clone, Copy, Debug, PartialEq, Eq)]
+#[derive(Clone, Copy, Debug)]
 pub enum Halt {
     /// Memory ran out; nothing of that step was entered or sent.
     NoMemory,

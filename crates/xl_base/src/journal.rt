@@ -5,7 +5,7 @@ use crate::sequence::Sequence;
 use crate::stable::Record;
 
 /// What is exported, and for how long things last.
-#[derive(Drop, Debug)]
+#[derive(Drop)]
 pub struct Exports {
     /// The names of the files, numbered from 1 in this order.
     pub files: Sequence<Sequence<u8>>,
@@ -20,7 +20,7 @@ pub struct Exports {
 }
 
 /// What a run began from.
-#[derive(Drop, Debug)]
+#[derive(Drop)]
 pub struct Head {
     /// What is exported.
     pub exports: Exports,
@@ -31,7 +31,7 @@ pub struct Head {
 }
 
 /// One event, and what it did.
-#[derive(Drop, Debug)]
+#[derive(Drop)]
 pub struct Entry {
     /// The event.
     pub event: Event,
@@ -42,7 +42,7 @@ pub struct Entry {
 }
 
 /// A whole run: what it began from, and its entries in order. An entry's place is its index.
-#[derive(Drop, Debug)]
+#[derive(Drop)]
 pub struct Journal {
     /// What it began from.
     pub head: Head,

@@ -10,7 +10,7 @@ use std::alloc::Global;
 use std::marker::Model;
 
 /// What one load gave.
-#[derive(Drop, Debug)]
+#[derive(Drop)]
 pub enum LoadOutcome {
     /// The record that is held.
     Loaded(Record),
@@ -21,7 +21,7 @@ pub enum LoadOutcome {
 }
 
 /// What became of one store.
-#[derive(Clone, Copy, Debug, PartialEq, Eq)]
+#[derive(Clone, Copy)]
 pub enum StoreOutcome {
     /// The record is held from now on, in place of the one before.
     Stored,

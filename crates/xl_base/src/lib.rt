@@ -23,6 +23,3 @@ pub use sequence::Sequence;
 pub use sink::{MemorySink, Sink, WriteOutcome};
 pub use source::{MemorySource, ReadOutcome, Source};
 pub use stable::{Record, RecordNameError, Recorded};
-
-#[cfg(test)]
-mod tests;

@@ -1,7 +1,7 @@
 //! Who holds a claim.
 
 /// The protocol that a name belongs to. Names of different protocols are never equal.
-#[derive(Clone, Copy, Debug, PartialEq, Eq, Hash)]
+#[derive(Clone, Copy, PartialEq, Eq)]
 pub enum Protocol {
     /// The Network Lock Manager, version 4 (XNFS C702).
     Nlm,
@@ -12,7 +12,7 @@ pub enum Protocol {
 }
 
 /// Who owns a share or a byte range: a name's number, or an SMB open by its number.
-#[derive(Clone, Copy, Debug, PartialEq, Eq, Hash)]
+#[derive(Clone, Copy)]
 pub enum Owner {
     /// The owner of this protocol whose name has this number.
     Name(Protocol, u32),
@@ -21,7 +21,7 @@ pub enum Owner {
 }
 
 /// Who may cache: a client by its name's number, or an SMB open without a lease by its number.
-#[derive(Clone, Copy, Debug, PartialEq, Eq, Hash)]
+#[derive(Clone, Copy)]
 pub enum Party {
     /// The party of this protocol whose name has this number.
     Name(Protocol, u32),

@@ -8,7 +8,7 @@ use std::alloc::Global;
 use std::marker::Model;
 
 /// What became of one write.
-#[derive(Clone, Copy, Debug, PartialEq, Eq)]
+#[derive(Clone, Copy)]
 pub enum WriteOutcome {
     /// All the bytes were written.
     Wrote,

@@ -6,7 +6,7 @@ ghost use Rattle.xl_base.specs.Outside.{Reads, Rose};
 use std::marker::Model;
 
 /// What one read gave.
-#[derive(Clone, Copy, Debug, PartialEq, Eq)]
+#[derive(Clone, Copy)]
 pub enum ReadOutcome {
     /// So many bytes, at least one, now stand at the front of the buffer.
     Got(usize),

@@ -8,7 +8,7 @@ use std::alloc::{AllocError, AllocFailed, Global};
 use std::marker::Model;
 
 /// The name of a client that may reclaim after a restart.
-#[derive(Drop, Debug, PartialEq, Eq)]
+#[derive(Drop, PartialEq, Eq)]
 pub struct Recorded {
     /// NFSv4 or NLM.
     pub protocol: Protocol,
@@ -29,7 +29,7 @@ impl Recorded {
 }
 
 /// Why a name could not be recorded.
-#[derive(Clone, Copy, Debug, PartialEq, Eq)]
+#[derive(Clone, Copy, Debug)]
 pub enum RecordNameError {
     /// Memory ran out.
     NoMemory,
@@ -48,7 +48,7 @@ impl<T: Drop> From<AllocFailed<T>> for RecordNameError {
 }
 
 /// The record on stable storage. Its names are distinct, and each is an NFSv4 or an NLM name.
-#[derive(Drop, Debug)]
+#[derive(Drop)]
 pub struct Record {
     epoch: u32,
     names: Sequence<Recorded>,

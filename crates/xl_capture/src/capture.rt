@@ -21,7 +21,7 @@ const MOST_FILES: usize = 1024;
 const MOST_OPEN: usize = 64;
 
 /// What a capture says: the exported files, the addresses of callers, and the events in order.
-#[derive(Drop, Debug)]
+#[derive(Drop)]
 pub struct Capture {
     /// The names of the files, numbered from 1 in this order.
     pub files: Sequence<Sequence<u8>>,
@@ -44,7 +44,7 @@ struct Reading {
 }
 
 /// Why a text is no capture.
-#[derive(Clone, Copy, Debug, PartialEq, Eq)]
+#[derive(Clone, Copy, Debug)]
 pub enum CaptureError {
     /// Memory ran out.
     NoMemory,
@@ -53,7 +53,7 @@ pub enum CaptureError {
 }
 
 /// Why a line can't be added to a capture.
-#[derive(Clone, Copy, Debug, PartialEq, Eq)]
+#[derive(Clone, Copy)]
 pub(crate) enum LineError {
     NoMemory,
     Bad,

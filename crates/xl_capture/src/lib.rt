@@ -13,6 +13,3 @@ pub use capture::{Capture, CaptureError, MOST_BYTES, read_capture};
 pub use law::streams_may_be_cut_anywhere;
 pub use show::{show_line, show_text};
 pub use transcripts::transcript;
-
-#[cfg(test)]
-mod tests;

@@ -10,7 +10,7 @@ use xl_matrix::{Break, CacheKind, Claim, Extent, Rwd, What};
 use xl_names::{Names, owner_text, party_text};
 
 /// A claim as the transcript tells it.
-#[derive(Drop, Debug)]
+#[derive(Drop)]
 pub struct Row {
     /// The file's number.
     pub file: u32,

@@ -4,7 +4,6 @@ ghost use Rattle.std.specs.Fmt.{decimal};
 ghost use Rattle.std.specs.Option.{is_none};
 ghost use Rattle.xl_base.specs.Results.{GivesUnless};
 ghost use Rattle.xl_rpc.specs.Calls.{shown_head};
-ghost use Rattle.xl_rpc.specs.Replies.{is_denied, stat};
 ghost use Rattle.xl_nfs.specs.Ops.{shown_op};
 ghost use Rattle.xl_smb.specs.Messages.{shown as shown_message};
 ghost use Rattle.xl_capture.specs.Capture.{bytes_of, bad_line, ReadsAs};
@@ -180,37 +179,15 @@ fn put_call(alloc: Global, text: &mut String, call: &Call) -> Result<(), AllocEr
     Ok(())
 }
 
-fn is_denied(verdict: Verdict) -> bool
-    ensures { result ≡ is_denied verdict }
-{
-    matches!(verdict, Verdict::RpcMismatch(..) | Verdict::AuthError(_))
-}
-
-/// The accept_stat of an accepted reply, the reject_stat of a denied one.
-fn stat_of(verdict: Verdict) -> u32
-    ensures { result ≡ stat verdict }
-{
-    match verdict {
-        Verdict::Success => 0,
-        Verdict::ProgUnavail => 1,
-        Verdict::ProgMismatch(..) => 2,
-        Verdict::ProcUnavail => 3,
-        Verdict::GarbageArgs => 4,
-        Verdict::SystemErr => 5,
-        Verdict::RpcMismatch(..) => 0,
-        Verdict::AuthError(_) => 1,
-    }
-}
-
 /// Adds what is told of a reply.
 #[tactic(auto, unfolding(crate::specs::Show::reply_text))]
 fn put_reply(text: &mut String, xid: u32, verdict: Verdict) -> Result<(), AllocError>
     ensures { OnOk result (string_bytes text.new ≡ string_bytes text.old ++ reply_text xid verdict) }
 {
-    if is_denied(verdict) {
+    if verdict.is_denied() {
         write!(text, "denied {xid}")?;
     } else {
-        let stat = stat_of(verdict);
+        let stat = verdict.stat();
         write!(text, "reply {xid} {stat}")?;
     }
     Ok(())

@@ -6,7 +6,7 @@ use xl_names::Name;
 use xl_wait::Rooms;
 
 /// Who asks: a client by the name that it gave, or an SMB open by its number.
-#[derive(Drop, Debug)]
+#[derive(Drop)]
 pub enum Who {
     /// The owner or party of this name.
     Named(Name),
@@ -15,7 +15,7 @@ pub enum Who {
 }
 
 /// What is asked for.
-#[derive(Drop, Debug)]
+#[derive(Drop)]
 pub enum Act {
     /// A share: this access, and what is denied to others (XNFS C702, NLM_SHARE; RFC 7530 9.9). It replaces what its
     /// owner has on the file.
@@ -30,7 +30,7 @@ pub enum Act {
 }
 
 /// One ask.
-#[derive(Drop, Debug)]
+#[derive(Drop)]
 pub struct Ask {
     /// The file's number.
     pub file: u32,
@@ -55,7 +55,7 @@ pub struct Ask {
 }
 
 /// What an ask is answered.
-#[derive(Clone, Copy, Debug, PartialEq, Eq)]
+#[derive(Clone, Copy)]
 pub enum Answer {
     /// Granted, with the claim that was asked. Of a test or an unlock it is the range, shared for an unlock, in which a
     /// name without a number stands as 4,294,967,295.
@@ -82,7 +82,7 @@ pub enum Answer {
 }
 
 /// What happened in a step besides its answer.
-#[derive(Drop, Debug)]
+#[derive(Drop)]
 pub enum Effect {
     /// The break of this cache began, to this kind or none; a recall's call has this number.
     Begun(Claim, Option<CacheKind>, Option<u32>),

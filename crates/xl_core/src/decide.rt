@@ -32,7 +32,7 @@ const MOST_OPENS: u32 = 4_096;
 const MOST_OWNERS: u32 = 8_192;
 
 /// What stands against a claim that is asked for.
-#[derive(Clone, Copy, Debug, PartialEq, Eq)]
+#[derive(Clone, Copy)]
 pub(crate) enum Verdict {
     /// The held claim that blocks it; of several the least.
     Blocked(Claim),

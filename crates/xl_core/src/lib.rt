@@ -15,6 +15,3 @@ mod settling;
 
 pub use ask::{Act, Answer, Ask, Effect, Who};
 pub use doors::Core;
-
-#[cfg(test)]
-mod tests;

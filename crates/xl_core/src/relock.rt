@@ -15,7 +15,7 @@ use xl_spans::{Mode, Span, Spans};
 use xl_table::{CLAIMS, Table};
 
 /// The owner of a claim, on its file, and a range of bytes.
-#[derive(Clone, Copy, Debug)]
+#[derive(Clone, Copy)]
 pub(crate) struct Bytes {
     pub file: u32,
     pub owner: Owner,

@@ -17,7 +17,7 @@ use xl_matrix::Claim;
 use xl_wait::{Rooms, Waiter};
 
 /// A waiter whose turn has come.
-#[derive(Clone, Copy, Debug, PartialEq, Eq)]
+#[derive(Clone, Copy)]
 pub(crate) struct Turn {
     /// The waiter's number.
     pub id: u32,

@@ -17,14 +17,6 @@ header Smb count = 0 ∷ bytes_high_first 3 count
 abbrev pub wrapped : Kind → List ℕ → List ℕ
 wrapped kind bytes = header kind (length bytes) ++ bytes
 
--- whether the bytes are one whole fragment, the last, of at most 65,536 bytes
-abbrev pub is_one_record : List ℕ → Bool
-is_one_record bytes = nat_le 4 (length bytes) && nat_le (length bytes) 65540 && from_be_bytes w32 (take 4 bytes) + 4 == 2 ^ 31 + length bytes
-
--- the record that such bytes are
-abbrev pub record_of : List ℕ → Option (List ℕ)
-record_of bytes = if is_one_record bytes then Some (drop 4 bytes) else None
-
 -- ---- fragments: four bytes, read as a number with the highest byte first, and so many bytes as they say. An RPC record
 -- is its fragments joined; an SMB message is one fragment.
 

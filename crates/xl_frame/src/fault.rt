@@ -7,7 +7,7 @@ use thiserror::Error;
 
 /// Why a stream is no stream of frames. Each is judged once the four bytes of a header stand, the first that applies in
 /// the order Marker, Empty, Fragments, Long.
-#[derive(Clone, Copy, Debug, PartialEq, Eq, Error)]
+#[derive(Clone, Copy, Debug, Error)]
 pub enum FrameBad {
     /// A message of so many bytes, more than 65,536; for ONC RPC the sum of its fragments so far.
     #[error("a message of {0} bytes")]
@@ -24,7 +24,7 @@ pub enum FrameBad {
 }
 
 /// Why a piece of a stream could not be taken.
-#[derive(Clone, Copy, Debug, PartialEq, Eq, Error)]
+#[derive(Clone, Copy, Debug, Error)]
 pub enum FeedError {
     /// Memory ran out; nothing of the piece is taken.
     #[error("no memory")]

@@ -2,15 +2,10 @@
 ghost use Rattle.std.specs.Prelude.{◌≡◌, ℕ, ◌≤◌, List, [], ◌∷◌, ◌++◌, length, Some};
 ghost use Rattle.xl_base.specs.declared.event.Kind.{Kind};
 ghost use Rattle.xl_base.specs.declared.event.Kind.TheVariants.{Rpc};
-ghost use Rattle.xl_frame.specs.Frames.{wrapped, record_of, frames, with_frames};
+ghost use Rattle.xl_frame.specs.Frames.{wrapped, frames, with_frames};
 ghost use Rattle.xl_frame.specs.Records.{spelled, message_in, IsRecord, Begins};
 ghost use Rattle.xl_base.specs.Codec.{IsBytes};
 ghost use Rattle.xl_frame.specs.Cutting.{then_piece, framed_of, Call, begun, after, stream_of};
-
-/// A record in its frame is read from it again.
-pub fn wrapped_records_are_read()
-    ensures { (bytes : List ℕ) → length bytes ≤ 65536 → record_of (wrapped Rpc bytes) ≡ Some bytes }
-{}
 
 /// A message in its frame is cut out as itself, whatever follows.
 #[tactic(auto, using(crate::proofs::StreamLaws::wrapped_are_cut))]

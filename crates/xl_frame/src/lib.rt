@@ -8,17 +8,12 @@ mod fault;
 mod fragment;
 mod law;
 mod message;
-mod reading;
 mod wrapping;
 
 pub use cutter::Cutter;
 pub use fault::{FeedError, FrameBad};
 pub use law::{
     handed_messages_are_the_streams, records_are_cut_out, streams_are_cut_anywhere,
-    wrapped_messages_are_cut_out, wrapped_records_are_read,
+    wrapped_messages_are_cut_out,
 };
-pub use reading::record_of;
 pub use wrapping::{MOST_BYTES, wrap};
-
-#[cfg(test)]
-mod tests;

@@ -8,7 +8,7 @@ use xl_base::file_of;
 use xl_nlm::Lock;
 
 /// The bytes of a file that a lock names.
-#[derive(Clone, Copy, Debug, PartialEq, Eq)]
+#[derive(Clone, Copy)]
 pub struct Aim {
     /// The file's number, from 1.
     pub file: u32,

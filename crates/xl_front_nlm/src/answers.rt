@@ -41,7 +41,7 @@ fn refuses_by(bytes: &[u8]) -> bool
     ensures { result ≡ refuses_by (reply_at bytes.now) }
 {
     match read_reply(bytes) {
-        Ok(reply) => reply.verdict == Verdict::Success && refuses_with(reply.body),
+        Ok(reply) => matches!(reply.verdict, Verdict::Success) && refuses_with(reply.body),
         Err(_) => false,
     }
 }

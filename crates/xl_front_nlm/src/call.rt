@@ -3,7 +3,7 @@
 use xl_matrix::Claim;
 
 /// A call of GRANTED (XNFS C702, NLM_GRANTED) that awaits its answer.
-#[derive(Clone, Copy, Debug, PartialEq, Eq)]
+#[derive(Clone, Copy)]
 pub struct GrantedCall {
     /// Its number.
     pub number: u32,

@@ -12,7 +12,7 @@ use xl_names::{Name, Names};
 use xl_nlm::{Lock, granted_call};
 
 /// A range that an owner of NLM ranges has, and how its client names the owner.
-#[derive(Drop, Debug)]
+#[derive(Drop)]
 pub struct Grant {
     /// The file's number.
     pub file: u32,

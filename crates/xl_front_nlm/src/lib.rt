@@ -27,6 +27,3 @@ pub use front::{Front, MOST_HOSTS};
 pub use grant::Grant;
 pub use outcome::Outcome;
 pub use step::nlm_step;
-
-#[cfg(test)]
-mod tests;

@@ -3,7 +3,7 @@
 use xl_core::Answer;
 
 /// What became of a call.
-#[derive(Clone, Copy, Debug, PartialEq, Eq)]
+#[derive(Clone, Copy)]
 pub enum Outcome {
     /// The handle is of no exported file.
     NoFile,

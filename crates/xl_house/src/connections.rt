@@ -9,7 +9,7 @@ use xl_base::Kind;
 const MOST_CONNECTIONS: usize = 64;
 
 /// An open connection.
-#[derive(Clone, Copy, Debug, PartialEq, Eq)]
+#[derive(Clone, Copy)]
 pub struct Connection {
     /// Its number, which is the place of its opening.
     pub number: u64,

@@ -11,6 +11,3 @@ mod start;
 pub use connections::Connection;
 pub use house::{House, MOST_ENTRIES};
 pub use start::Ended;
-
-#[cfg(test)]
-mod tests;

@@ -3,7 +3,7 @@
 use xl_base::{Moment, Owner, Party};
 
 /// Which of reading, writing and deleting are meant: an access that a share has, or one that it denies to others.
-#[derive(Clone, Copy, Debug, PartialEq, Eq)]
+#[derive(Clone, Copy)]
 pub struct Rwd {
     /// Reading.
     pub r: bool,
@@ -14,7 +14,7 @@ pub struct Rwd {
 }
 
 /// Where a byte range lies.
-#[derive(Clone, Copy, Debug, PartialEq, Eq)]
+#[derive(Clone, Copy)]
 pub enum Extent {
     /// The bytes from the first to the last, both among them.
     Bytes(u64, u64),
@@ -24,7 +24,7 @@ pub enum Extent {
 
 /// What a cache allows its party: R reading, W writing, H keeping the handle open (MS-SMB2 2.2.13.2.8), or an NFSv4
 /// delegation (RFC 7530 10.4). Level II, exclusive and batch oplocks are R, RW and RWH.
-#[derive(Clone, Copy, Debug, PartialEq, Eq)]
+#[derive(Clone, Copy)]
 pub enum CacheKind {
     /// Reading.
     R,
@@ -41,7 +41,7 @@ pub enum CacheKind {
 }
 
 /// A break of a cache that was told to its party and is not yet answered.
-#[derive(Clone, Copy, Debug, PartialEq, Eq)]
+#[derive(Clone, Copy)]
 pub struct Break {
     /// What the cache is to become; None where it is to end.
     pub target: Option<CacheKind>,
@@ -50,7 +50,7 @@ pub struct Break {
 }
 
 /// What is claimed.
-#[derive(Clone, Copy, Debug, PartialEq, Eq)]
+#[derive(Clone, Copy)]
 pub enum What {
     /// The file is open: with this access, which denies that to other opens (MS-SMB2 2.2.13, RFC 7530 9.9).
     Share(Rwd, Rwd),
@@ -61,7 +61,7 @@ pub enum What {
 }
 
 /// One claim on one file.
-#[derive(Clone, Copy, Debug, PartialEq, Eq)]
+#[derive(Clone, Copy)]
 pub struct Claim {
     /// The file's number, from 1.
     pub file: u32,

@@ -21,6 +21,3 @@ pub use matrix::{compatible, guards, has_handle, has_write};
 pub use owner::{is_posix, protocol_of_owner, protocol_of_party};
 pub use right::{has_common, is_none, rights_within};
 pub use weaker::{kind_within, lies_within};
-
-#[cfg(test)]
-mod tests;

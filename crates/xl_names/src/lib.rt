@@ -12,6 +12,3 @@ pub use names::{MOST_NAMES, NameErr, Names};
 pub use text::{
     owner_text, party_text, put_hex_word, put_name, put_open, put_owner, put_party, text_of,
 };
-
-#[cfg(test)]
-mod tests;

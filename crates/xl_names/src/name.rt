@@ -7,7 +7,7 @@ use xl_base::{Protocol, Sequence};
 
 /// Who owns a share or a byte range, or who may cache, as the client names them. Names of different protocols, or of
 /// different kinds, are never equal.
-#[derive(Drop, Debug, PartialEq, Eq, Hash)]
+#[derive(Drop, PartialEq, Eq, Hash)]
 pub enum Name {
     /// The owner of NLM byte ranges: caller name, svid and oh (XNFS C702, `nlm4_lock`).
     NlmRange(Sequence<u8>, i32, Sequence<u8>),

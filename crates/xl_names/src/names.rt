@@ -12,7 +12,7 @@ use thiserror::Error;
 pub const MOST_NAMES: u32 = 1_048_576;
 
 /// Why a name got no number.
-#[derive(Clone, Copy, Debug, PartialEq, Eq, Error)]
+#[derive(Clone, Copy, Debug, Error)]
 pub enum NameErr {
     /// Memory ran out.
     #[error("no memory")]

@@ -8,7 +8,7 @@ use std::alloc::AllocError;
 use xl_rpc::{RpcBad, Xdr, XdrOut};
 
 /// What names an open, the locks of an owner or a delegation (stateid4, RFC 7530 9.1.4).
-#[derive(Clone, Copy, Debug, PartialEq, Eq)]
+#[derive(Clone, Copy)]
 pub struct Stateid {
     /// Rises by one with each change of the state.
     pub seqid: u32,
@@ -17,7 +17,7 @@ pub struct Stateid {
 }
 
 /// An owner of opens or locks (open_owner4, lock_owner4).
-#[derive(Clone, Copy, Debug)]
+#[derive(Clone, Copy)]
 pub struct Owner<'a> {
     /// The client, by the number that SETCLIENTID gave it.
     pub clientid: u64,
@@ -26,7 +26,7 @@ pub struct Owner<'a> {
 }
 
 /// How a range is locked (nfs_lock_type4), numbered from 1 in this order.
-#[derive(Clone, Copy, Debug, PartialEq, Eq)]
+#[derive(Clone, Copy)]
 pub enum LockType {
     /// Shared (READ_LT).
     Read,
@@ -39,7 +39,7 @@ pub enum LockType {
 }
 
 /// Which attributes of a file are meant (bitmap4).
-#[derive(Clone, Copy, Debug)]
+#[derive(Clone, Copy)]
 pub struct Bitmap<'a> {
     /// The words one behind the other, four bytes each, the highest byte first.
     pub words: &'a [u8],

@@ -13,7 +13,7 @@ use xl_base::handle_of;
 use xl_rpc::{Auth, CallHead, RpcBad, Xdr, XdrOut, write_call};
 
 /// How a client answers the one operation of the call (nfs_cb_resop4).
-#[derive(Clone, Copy, Debug)]
+#[derive(Clone, Copy)]
 pub enum RecallResult {
     /// It is CB_RECALL, and ended so.
     Recall(NfsStatus),
@@ -22,7 +22,7 @@ pub enum RecallResult {
 }
 
 /// A client's reply to the call (CB_COMPOUND4res).
-#[derive(Clone, Copy, Debug)]
+#[derive(Clone, Copy)]
 pub struct RecallReply<'a> {
     /// How the last operation ended.
     pub status: NfsStatus,

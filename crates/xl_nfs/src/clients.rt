@@ -8,7 +8,7 @@ use std::alloc::AllocError;
 use xl_rpc::{RpcBad, Xdr, XdrOut};
 
 /// The arguments of SETCLIENTID (SETCLIENTID4args).
-#[derive(Clone, Copy, Debug)]
+#[derive(Clone, Copy)]
 pub struct SetClientIdArgs<'a> {
     /// Changes when the client restarts.
     pub verifier: [u8; 8],
@@ -25,7 +25,7 @@ pub struct SetClientIdArgs<'a> {
 }
 
 /// What SETCLIENTID answers and SETCLIENTID_CONFIRM repeats (SETCLIENTID4resok, SETCLIENTID_CONFIRM4args).
-#[derive(Clone, Copy, Debug, PartialEq, Eq)]
+#[derive(Clone, Copy)]
 pub struct ClientConfirm {
     /// The client's number.
     pub clientid: u64,

@@ -7,7 +7,7 @@ use crate::basics::read_text;
 use xl_rpc::{RpcBad, Xdr};
 
 /// What stands before a COMPOUND's operations (COMPOUND4args).
-#[derive(Clone, Copy, Debug)]
+#[derive(Clone, Copy)]
 pub struct CompoundHead<'a> {
     /// What the reply repeats, at most 1,024 bytes.
     pub tag: &'a [u8],

@@ -30,6 +30,3 @@ pub use opens::{
 pub use outcome::LockFault;
 pub use result::{NfsResult, read_result, write_result};
 pub use status::NfsStatus;
-
-#[cfg(test)]
-mod tests;

@@ -11,7 +11,7 @@ use std::alloc::AllocError;
 use xl_rpc::{RpcBad, Xdr, XdrOut};
 
 /// A lock owner that has no locks under this open yet (open_to_lock_owner4).
-#[derive(Clone, Copy, Debug)]
+#[derive(Clone, Copy)]
 pub struct NewLocker<'a> {
     /// The open owner's next seqid.
     pub open_seqid: u32,
@@ -24,7 +24,7 @@ pub struct NewLocker<'a> {
 }
 
 /// A lock owner that has locks under this open (exist_lock_owner4).
-#[derive(Clone, Copy, Debug, PartialEq, Eq)]
+#[derive(Clone, Copy)]
 pub struct KnownLocker {
     /// Its locks.
     pub stateid: Stateid,
@@ -33,7 +33,7 @@ pub struct KnownLocker {
 }
 
 /// Who asks for a lock (locker4).
-#[derive(Clone, Copy, Debug)]
+#[derive(Clone, Copy)]
 pub enum Locker<'a> {
     /// A lock owner that has no locks under this open yet (new_lock_owner is true).
     New(NewLocker<'a>),
@@ -42,7 +42,7 @@ pub enum Locker<'a> {
 }
 
 /// The arguments of LOCK (LOCK4args).
-#[derive(Clone, Copy, Debug)]
+#[derive(Clone, Copy)]
 pub struct LockArgs<'a> {
     /// How the range is locked.
     pub kind: LockType,
@@ -57,7 +57,7 @@ pub struct LockArgs<'a> {
 }
 
 /// The arguments of LOCKT (LOCKT4args).
-#[derive(Clone, Copy, Debug)]
+#[derive(Clone, Copy)]
 pub struct LockTestArgs<'a> {
     /// How the range would be locked.
     pub kind: LockType,
@@ -70,7 +70,7 @@ pub struct LockTestArgs<'a> {
 }
 
 /// The arguments of LOCKU (LOCKU4args).
-#[derive(Clone, Copy, Debug, PartialEq, Eq)]
+#[derive(Clone, Copy)]
 pub struct UnlockArgs {
     /// How the range is locked.
     pub kind: LockType,
@@ -85,7 +85,7 @@ pub struct UnlockArgs {
 }
 
 /// Who holds what a LOCK or a LOCKT asked for (LOCK4denied).
-#[derive(Clone, Copy, Debug)]
+#[derive(Clone, Copy)]
 pub struct Denied<'a> {
     /// The first byte.
     pub offset: u64,

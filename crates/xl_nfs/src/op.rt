@@ -24,7 +24,7 @@ use std::alloc::AllocError;
 use xl_rpc::{RpcBad, Xdr, XdrOut};
 
 /// An operation of a COMPOUND, with its arguments (nfs_argop4).
-#[derive(Clone, Copy, Debug)]
+#[derive(Clone, Copy)]
 pub enum NfsOp<'a> {
     /// CLOSE (RFC 7530 16.2).
     Close(CloseArgs),

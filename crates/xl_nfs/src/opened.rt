@@ -10,7 +10,7 @@ use std::alloc::AllocError;
 use xl_rpc::{RpcBad, Xdr, XdrOut};
 
 /// How the directory changed (change_info4).
-#[derive(Clone, Copy, Debug, PartialEq, Eq)]
+#[derive(Clone, Copy)]
 pub struct ChangeInfo {
     /// Whether nothing else changed it between the two.
     pub atomic: bool,
@@ -21,7 +21,7 @@ pub struct ChangeInfo {
 }
 
 /// Who may open the file without asking the server (nfsace4).
-#[derive(Clone, Copy, Debug)]
+#[derive(Clone, Copy)]
 pub struct Ace<'a> {
     /// Whether it allows or denies.
     pub kind: u32,
@@ -34,7 +34,7 @@ pub struct Ace<'a> {
 }
 
 /// A delegation for reading (open_read_delegation4).
-#[derive(Clone, Copy, Debug)]
+#[derive(Clone, Copy)]
 pub struct ReadDelegation<'a> {
     /// The delegation.
     pub stateid: Stateid,
@@ -45,7 +45,7 @@ pub struct ReadDelegation<'a> {
 }
 
 /// A delegation for writing (open_write_delegation4).
-#[derive(Clone, Copy, Debug)]
+#[derive(Clone, Copy)]
 pub struct WriteDelegation<'a> {
     /// The delegation.
     pub stateid: Stateid,
@@ -58,7 +58,7 @@ pub struct WriteDelegation<'a> {
 }
 
 /// The delegation that comes with an open (open_delegation4).
-#[derive(Clone, Copy, Debug)]
+#[derive(Clone, Copy)]
 pub enum Delegation<'a> {
     /// None (OPEN_DELEGATE_NONE).
     None,
@@ -69,7 +69,7 @@ pub enum Delegation<'a> {
 }
 
 /// The result of OPEN (OPEN4resok).
-#[derive(Clone, Copy, Debug)]
+#[derive(Clone, Copy)]
 pub struct OpenResult<'a> {
     /// The open.
     pub stateid: Stateid,

@@ -11,7 +11,7 @@ use std::alloc::AllocError;
 use xl_rpc::{RpcBad, Xdr, XdrOut};
 
 /// The arguments of CLOSE (CLOSE4args).
-#[derive(Clone, Copy, Debug, PartialEq, Eq)]
+#[derive(Clone, Copy)]
 pub struct CloseArgs {
     /// The open owner's next seqid.
     pub seqid: u32,
@@ -20,7 +20,7 @@ pub struct CloseArgs {
 }
 
 /// The arguments of OPEN_CONFIRM (OPEN_CONFIRM4args).
-#[derive(Clone, Copy, Debug, PartialEq, Eq)]
+#[derive(Clone, Copy)]
 pub struct OpenConfirmArgs {
     /// The open.
     pub stateid: Stateid,
@@ -29,7 +29,7 @@ pub struct OpenConfirmArgs {
 }
 
 /// The arguments of OPEN_DOWNGRADE (OPEN_DOWNGRADE4args).
-#[derive(Clone, Copy, Debug, PartialEq, Eq)]
+#[derive(Clone, Copy)]
 pub struct OpenDowngradeArgs {
     /// The open.
     pub stateid: Stateid,
@@ -42,7 +42,7 @@ pub struct OpenDowngradeArgs {
 }
 
 /// Attributes of a file (fattr4).
-#[derive(Clone, Copy, Debug)]
+#[derive(Clone, Copy)]
 pub struct Attributes<'a> {
     /// Which they are.
     pub mask: Bitmap<'a>,
@@ -51,7 +51,7 @@ pub struct Attributes<'a> {
 }
 
 /// How an OPEN makes a file (createhow4).
-#[derive(Clone, Copy, Debug)]
+#[derive(Clone, Copy)]
 pub enum CreateHow<'a> {
     /// A file that is there is opened (UNCHECKED4).
     Unchecked(Attributes<'a>),
@@ -62,7 +62,7 @@ pub enum CreateHow<'a> {
 }
 
 /// Whether an OPEN makes a file (openflag4).
-#[derive(Clone, Copy, Debug)]
+#[derive(Clone, Copy)]
 pub enum OpenHow<'a> {
     /// It opens what is there (OPEN4_NOCREATE).
     NoCreate,
@@ -71,7 +71,7 @@ pub enum OpenHow<'a> {
 }
 
 /// A delegation and the name of its file (open_claim_delegate_cur4).
-#[derive(Clone, Copy, Debug)]
+#[derive(Clone, Copy)]
 pub struct NamedDelegation<'a> {
     /// The delegation.
     pub stateid: Stateid,
@@ -80,7 +80,7 @@ pub struct NamedDelegation<'a> {
 }
 
 /// What an OPEN opens, and by what right (open_claim4).
-#[derive(Clone, Copy, Debug)]
+#[derive(Clone, Copy)]
 pub enum OpenClaim<'a> {
     /// The file of this name in the current directory (CLAIM_NULL).
     Null(&'a [u8]),
@@ -93,7 +93,7 @@ pub enum OpenClaim<'a> {
 }
 
 /// The arguments of OPEN (OPEN4args).
-#[derive(Clone, Copy, Debug)]
+#[derive(Clone, Copy)]
 pub struct OpenArgs<'a> {
     /// The open owner's next seqid.
     pub seqid: u32,
@@ -110,7 +110,7 @@ pub struct OpenArgs<'a> {
 }
 
 /// Which delegation a client had (open_delegation_type4), numbered from 0 in this order.
-#[derive(Clone, Copy, Debug, PartialEq, Eq)]
+#[derive(Clone, Copy)]
 pub enum DelegationType {
     /// None (OPEN_DELEGATE_NONE).
     None,

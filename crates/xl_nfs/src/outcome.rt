@@ -17,7 +17,7 @@ use std::alloc::AllocError;
 use xl_rpc::{RpcBad, Xdr, XdrOut};
 
 /// Why a range cannot be locked (LOCK4res, LOCKT4res).
-#[derive(Clone, Copy, Debug)]
+#[derive(Clone, Copy)]
 pub enum LockFault<'a> {
     /// This lock stands against it (NFS4ERR_DENIED).
     Denied(Denied<'a>),

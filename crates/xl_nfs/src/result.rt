@@ -19,7 +19,7 @@ use xl_rpc::{RpcBad, Xdr, XdrOut};
 
 /// The result of an operation: how it ended, and where it was done, or a LOCK or a LOCKT was denied, what it has to tell
 /// (nfs_resop4).
-#[derive(Clone, Copy, Debug)]
+#[derive(Clone, Copy)]
 pub enum NfsResult<'a> {
     /// CLOSE.
     Close(Result<Stateid, NfsStatus>),

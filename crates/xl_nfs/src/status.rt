@@ -8,7 +8,7 @@ use std::alloc::AllocError;
 use xl_rpc::{RpcBad, Xdr, XdrOut};
 
 /// How an operation ended (nfsstat4, RFC 7530 13.1): the statuses that this server answers.
-#[derive(Clone, Copy, Debug, PartialEq, Eq)]
+#[derive(Clone, Copy)]
 pub enum NfsStatus {
     /// It was done (NFS4_OK, 0).
     Ok,

@@ -1,7 +1,7 @@
 //! The messages and their parts. Texts and opaque data have at most 1,024 bytes.
 
 /// A range of a file's bytes, and who asks for it (nlm4_lock).
-#[derive(Clone, Copy, Debug)]
+#[derive(Clone, Copy)]
 pub struct Lock<'a> {
     /// The name of the client's host.
     pub caller_name: &'a [u8],
@@ -18,7 +18,7 @@ pub struct Lock<'a> {
 }
 
 /// The arguments of TEST and GRANTED (nlm4_testargs).
-#[derive(Clone, Copy, Debug)]
+#[derive(Clone, Copy)]
 pub struct TestArgs<'a> {
     /// What the reply repeats.
     pub cookie: &'a [u8],
@@ -29,7 +29,7 @@ pub struct TestArgs<'a> {
 }
 
 /// The arguments of LOCK and NM_LOCK (nlm4_lockargs).
-#[derive(Clone, Copy, Debug)]
+#[derive(Clone, Copy)]
 pub struct LockArgs<'a> {
     /// What the reply repeats.
     pub cookie: &'a [u8],
@@ -46,7 +46,7 @@ pub struct LockArgs<'a> {
 }
 
 /// The arguments of CANCEL (nlm4_cancargs).
-#[derive(Clone, Copy, Debug)]
+#[derive(Clone, Copy)]
 pub struct CancelArgs<'a> {
     /// What the reply repeats.
     pub cookie: &'a [u8],
@@ -59,7 +59,7 @@ pub struct CancelArgs<'a> {
 }
 
 /// The arguments of UNLOCK (nlm4_unlockargs).
-#[derive(Clone, Copy, Debug)]
+#[derive(Clone, Copy)]
 pub struct UnlockArgs<'a> {
     /// What the reply repeats.
     pub cookie: &'a [u8],
@@ -68,7 +68,7 @@ pub struct UnlockArgs<'a> {
 }
 
 /// Whether a share reads and writes, or whether it denies reading and writing to others (fsh4_access, fsh4_mode).
-#[derive(Clone, Copy, Debug, PartialEq, Eq)]
+#[derive(Clone, Copy)]
 pub struct Rights {
     /// Reading.
     pub read: bool,
@@ -77,7 +77,7 @@ pub struct Rights {
 }
 
 /// The arguments of SHARE and UNSHARE (nlm4_shareargs).
-#[derive(Clone, Copy, Debug)]
+#[derive(Clone, Copy)]
 pub struct ShareArgs<'a> {
     /// What the reply repeats.
     pub cookie: &'a [u8],
@@ -96,7 +96,7 @@ pub struct ShareArgs<'a> {
 }
 
 /// The arguments of FREE_ALL (nlm4_notify).
-#[derive(Clone, Copy, Debug)]
+#[derive(Clone, Copy)]
 pub struct Notify<'a> {
     /// The name of the client's host.
     pub name: &'a [u8],
@@ -105,7 +105,7 @@ pub struct Notify<'a> {
 }
 
 /// A call of the program, with its arguments.
-#[derive(Clone, Copy, Debug)]
+#[derive(Clone, Copy)]
 pub enum NlmCall<'a> {
     /// NULL.
     Null,
@@ -130,7 +130,7 @@ pub enum NlmCall<'a> {
 }
 
 /// How a request ended (nlm4_stats), numbered from 0 in this order.
-#[derive(Clone, Copy, Debug, PartialEq, Eq)]
+#[derive(Clone, Copy)]
 pub enum NlmStatus {
     /// It was done.
     Granted,
@@ -155,7 +155,7 @@ pub enum NlmStatus {
 }
 
 /// Who holds what a TEST asked for (nlm4_holder).
-#[derive(Clone, Copy, Debug)]
+#[derive(Clone, Copy)]
 pub struct Holder<'a> {
     /// Whether the lock is exclusive.
     pub exclusive: bool,
@@ -170,7 +170,7 @@ pub struct Holder<'a> {
 }
 
 /// The result of TEST (nlm4_testres).
-#[derive(Clone, Copy, Debug)]
+#[derive(Clone, Copy)]
 pub struct TestRes<'a> {
     /// The call's cookie.
     pub cookie: &'a [u8],
@@ -181,7 +181,7 @@ pub struct TestRes<'a> {
 }
 
 /// The result of the calls on locks but TEST (nlm4_res).
-#[derive(Clone, Copy, Debug)]
+#[derive(Clone, Copy)]
 pub struct Res<'a> {
     /// The call's cookie.
     pub cookie: &'a [u8],
@@ -190,7 +190,7 @@ pub struct Res<'a> {
 }
 
 /// The result of SHARE and UNSHARE (nlm4_shareres).
-#[derive(Clone, Copy, Debug)]
+#[derive(Clone, Copy)]
 pub struct ShareRes<'a> {
     /// The call's cookie.
     pub cookie: &'a [u8],
@@ -201,7 +201,7 @@ pub struct ShareRes<'a> {
 }
 
 /// The results of a call.
-#[derive(Clone, Copy, Debug)]
+#[derive(Clone, Copy)]
 pub enum NlmReply<'a> {
     /// Of NULL and FREE_ALL.
     Void,

@@ -18,6 +18,3 @@ pub use law::{one_spelling, spellings_are_read};
 pub use reading::{is_known, read};
 pub use results::read_result;
 pub use writing::{write, write_result};
-
-#[cfg(test)]
-mod tests;

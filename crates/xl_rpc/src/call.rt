@@ -10,7 +10,7 @@ use crate::xdr::Xdr;
 use std::alloc::AllocError;
 
 /// A credential or a verifier (RFC 5531 8.2). It is read and written, and not judged.
-#[derive(Clone, Copy, Debug)]
+#[derive(Clone, Copy)]
 pub struct Auth<'a> {
     /// The flavor; AUTH_NONE is 0.
     pub flavor: u32,
@@ -19,7 +19,7 @@ pub struct Auth<'a> {
 }
 
 /// What stands before a call's arguments.
-#[derive(Clone, Copy, Debug)]
+#[derive(Clone, Copy)]
 pub struct CallHead<'a> {
     /// The number by which the reply names the call.
     pub xid: u32,
@@ -36,7 +36,7 @@ pub struct CallHead<'a> {
 }
 
 /// A call.
-#[derive(Clone, Copy, Debug)]
+#[derive(Clone, Copy)]
 pub struct Call<'a> {
     /// What stands before the arguments.
     pub head: CallHead<'a>,

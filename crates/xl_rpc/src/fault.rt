@@ -5,7 +5,7 @@ ghost use Rattle.xl_rpc.specs.Faults.{number_of};
 use thiserror::Error;
 
 /// The first fault that is met in a message, read from its front.
-#[derive(Clone, Copy, Debug, PartialEq, Eq, Error)]
+#[derive(Clone, Copy, Debug, Error)]
 pub enum RpcBad {
     /// The bytes end within an item.
     #[error("the bytes end within an item")]

@@ -14,6 +14,3 @@ pub use law::{one_call_spelling, one_reply_spelling, spellings_are_read};
 pub use reply::{Reply, Verdict, read_reply, write_reply};
 pub use writer::XdrOut;
 pub use xdr::Xdr;
-
-#[cfg(test)]
-mod tests;

@@ -12,7 +12,7 @@ use crate::xdr::Xdr;
 use std::alloc::AllocError;
 
 /// What a reply says of its call.
-#[derive(Clone, Copy, Debug, PartialEq, Eq)]
+#[derive(Clone, Copy)]
 pub enum Verdict {
     /// The call was done; its results stand behind (SUCCESS).
     Success,
@@ -33,7 +33,7 @@ pub enum Verdict {
 }
 
 /// A reply.
-#[derive(Clone, Copy, Debug)]
+#[derive(Clone, Copy)]
 pub struct Reply<'a> {
     /// The number of the call that it answers.
     pub xid: u32,
@@ -162,25 +162,28 @@ pub fn read_reply(bytes: &[u8]) -> Result<Reply<'_>, RpcBad>
     read_all(bytes)
 }
 
-fn is_denied(verdict: Verdict) -> bool
-    ensures { result ≡ is_denied verdict }
-{
-    matches!(verdict, Verdict::RpcMismatch(..) | Verdict::AuthError(_))
-}
+impl Verdict {
+    /// Whether the reply says that the call was denied (MSG_DENIED, RFC 5531 9).
+    pub fn is_denied(self) -> bool
+        ensures { result ≡ is_denied self }
+    {
+        matches!(self, Verdict::RpcMismatch(..) | Verdict::AuthError(_))
+    }
 
-/// The accept_stat of an accepted reply, the reject_stat of a denied one.
-fn stat_of(verdict: Verdict) -> u32
-    ensures { result ≡ stat verdict }
-{
-    match verdict {
-        Verdict::Success => 0,
-        Verdict::ProgUnavail => 1,
-        Verdict::ProgMismatch(..) => 2,
-        Verdict::ProcUnavail => 3,
-        Verdict::GarbageArgs => 4,
-        Verdict::SystemErr => 5,
-        Verdict::RpcMismatch(..) => 0,
-        Verdict::AuthError(_) => 1,
+    /// The accept_stat of an accepted reply, the reject_stat of a denied one (RFC 5531 9).
+    pub fn stat(self) -> u32
+        ensures { result ≡ stat self }
+    {
+        match self {
+            Verdict::Success => 0,
+            Verdict::ProgUnavail => 1,
+            Verdict::ProgMismatch(..) => 2,
+            Verdict::ProcUnavail => 3,
+            Verdict::GarbageArgs => 4,
+            Verdict::SystemErr => 5,
+            Verdict::RpcMismatch(..) => 0,
+            Verdict::AuthError(_) => 1,
+        }
     }
 }
 
@@ -201,14 +204,14 @@ fn put_detail(out: &mut XdrOut, verdict: Verdict) -> Result<(), AllocError>
 fn put_told(out: &mut XdrOut, verdict: Verdict) -> Result<(), AllocError>
     ensures { OnOk result (out.new ≡ out.old ++ (unsigned (reply_stat verdict) ++ told verdict)) }
 {
-    if is_denied(verdict) {
+    if verdict.is_denied() {
         out.u32(DENIED)?;
     } else {
         out.u32(ACCEPTED)?;
         out.u32(AUTH_NONE)?;
         out.u32(0)?;
     }
-    out.u32(stat_of(verdict))?;
+    out.u32(verdict.stat())?;
     put_detail(out, verdict)?;
     Ok(())
 }

@@ -15,7 +15,7 @@ use crate::place::{
 use std::alloc::AllocError;
 
 /// What a client keeps after a break, and, in the reply, what it now holds.
-#[derive(Clone, Copy, Debug, PartialEq, Eq)]
+#[derive(Clone, Copy)]
 pub enum Break {
     /// Of an oplock: the level, 0 none, 1 II, 8 exclusive, 9 batch, 0xFF a lease; and the open (MS-SMB2 2.2.24.1,
     /// 2.2.25.1).
@@ -25,7 +25,7 @@ pub enum Break {
 }
 
 /// What the server tells a client whose cache is broken.
-#[derive(Clone, Copy, Debug, PartialEq, Eq)]
+#[derive(Clone, Copy)]
 pub enum Notice {
     /// Of an oplock: the level that may be kept, and the open (MS-SMB2 2.2.23.1).
     Oplock(u8, FileId),
@@ -34,7 +34,7 @@ pub enum Notice {
 }
 
 /// The break of a lease.
-#[derive(Clone, Copy, Debug, PartialEq, Eq)]
+#[derive(Clone, Copy)]
 pub struct LeaseNotice {
     /// 1 where an acknowledgement is awaited.
     pub flags: u32,

@@ -17,7 +17,7 @@ use crate::session::{
 use std::alloc::AllocError;
 
 /// What a request asks, by its command.
-#[derive(Clone, Copy, Debug, PartialEq, Eq)]
+#[derive(Clone, Copy)]
 pub enum SmbCall<'a> {
     /// Agree on a dialect.
     Negotiate(NegotiateCall<'a>),

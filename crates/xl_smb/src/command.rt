@@ -3,7 +3,7 @@ ghost use Rattle.std.specs.Prelude.{◌≡◌};
 ghost use Rattle.xl_smb.specs.Heads.{command_of, number_of};
 
 /// The commands whose messages are read (MS-SMB2 2.2.1.2).
-#[derive(Clone, Copy, Debug, PartialEq, Eq)]
+#[derive(Clone, Copy)]
 pub enum Command {
     /// 0: agree on a dialect.
     Negotiate,

@@ -13,7 +13,7 @@ use crate::place::{
 use std::alloc::AllocError;
 
 /// What a client asks with CREATE, which opens a file (MS-SMB2 2.2.13).
-#[derive(Clone, Copy, Debug, PartialEq, Eq)]
+#[derive(Clone, Copy)]
 pub struct CreateCall<'a> {
     /// The oplock that is wished for: 0 none, 1 II, 8 exclusive, 9 batch, 0xFF a lease.
     pub oplock_level: u8,
@@ -32,7 +32,7 @@ pub struct CreateCall<'a> {
 }
 
 /// What a server answers to CREATE (MS-SMB2 2.2.14).
-#[derive(Clone, Copy, Debug, PartialEq, Eq)]
+#[derive(Clone, Copy)]
 pub struct CreateReply<'a> {
     /// The oplock that is granted.
     pub oplock_level: u8,

@@ -5,7 +5,7 @@ ghost use Rattle.xl_smb.specs.Bodies.{number_of_fault};
 use thiserror::Error;
 
 /// Why bytes are no message; the first of these that the bytes show, in this order.
-#[derive(Clone, Copy, Debug, PartialEq, Eq, Error)]
+#[derive(Clone, Copy, Debug, Error)]
 pub enum SmbBad {
     /// There are fewer than the header's 64 bytes.
     #[error("the header is cut")]

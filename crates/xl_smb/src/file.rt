@@ -5,7 +5,7 @@ ghost use Rattle.xl_smb.specs.Files.{file_id_at, status_at};
 use crate::place::{u32_at, u64_at};
 
 /// The name of an open (MS-SMB2 2.2.14.1).
-#[derive(Clone, Copy, Debug, PartialEq, Eq)]
+#[derive(Clone, Copy)]
 pub struct FileId {
     /// The half that a durable open keeps.
     pub persistent: u64,
@@ -14,7 +14,7 @@ pub struct FileId {
 }
 
 /// What a file is, as the replies to CREATE and CLOSE tell. Times are in units of 100 ns since 1601.
-#[derive(Clone, Copy, Debug, PartialEq, Eq)]
+#[derive(Clone, Copy)]
 pub struct FileStatus {
     /// When it was made.
     pub created: u64,

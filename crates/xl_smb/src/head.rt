@@ -8,7 +8,7 @@ use crate::place::{bytes_at, put_all, u16_at, u16_bytes, u32_at, u32_bytes, u64_
 use std::alloc::AllocError;
 
 /// What a message belongs to, by the form of its header.
-#[derive(Clone, Copy, Debug, PartialEq, Eq)]
+#[derive(Clone, Copy)]
 pub enum Route {
     /// The synchronous form: the tree of this number, 0 for none (MS-SMB2 2.2.1.2).
     Tree(u32),
@@ -17,7 +17,7 @@ pub enum Route {
 }
 
 /// The header of a message (MS-SMB2 2.2.1).
-#[derive(Clone, Copy, Debug, PartialEq, Eq)]
+#[derive(Clone, Copy)]
 pub struct SmbHead {
     /// How many credits the request costs; not used here.
     pub credit_charge: u16,
@@ -77,7 +77,7 @@ pub(crate) fn is_notice(head: &SmbHead) -> bool
         && head.credits == 0
         && head.message_id == u64::MAX
         && head.session_id == 0
-        && head.route == Route::Tree(0)
+        && matches!(head.route, Route::Tree(0))
 }
 
 #[tactic(auto, unfolding(crate::specs::Heads::route_at))]

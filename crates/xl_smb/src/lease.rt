@@ -10,7 +10,7 @@ use crate::place::{
 use std::alloc::{AllocError, Global};
 
 /// A lease, as CREATE asks for it and is answered (MS-SMB2 2.2.13.2.8, 2.2.14.2.10), and as its break is acknowledged.
-#[derive(Clone, Copy, Debug, PartialEq, Eq)]
+#[derive(Clone, Copy)]
 pub struct Lease {
     /// The key by which the client names it.
     pub key: [u8; 16],
@@ -24,7 +24,7 @@ pub struct Lease {
 
 /// The contexts of a CREATE request or reply (MS-SMB2 2.2.13.2): each has a name and data, and says how far the next one
 /// is.
-#[derive(Clone, Copy, Debug, PartialEq, Eq)]
+#[derive(Clone, Copy)]
 pub struct Contexts<'a>(pub &'a [u8]);
 
 /// One context: how far the next one is, 0 in the last; its name; and its data.

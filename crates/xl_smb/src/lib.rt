@@ -33,6 +33,3 @@ pub use reply::SmbReply;
 pub use session::{
     Dialects, NegotiateCall, NegotiateReply, SessionSetupCall, SessionSetupReply, TreeConnectReply,
 };
-
-#[cfg(test)]
-mod tests;

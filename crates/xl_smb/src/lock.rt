@@ -13,7 +13,7 @@ use crate::place::{
 use std::alloc::AllocError;
 
 /// What a client asks with CLOSE (MS-SMB2 2.2.15).
-#[derive(Clone, Copy, Debug, PartialEq, Eq)]
+#[derive(Clone, Copy)]
 pub struct CloseCall {
     /// 1 asks for the file's status.
     pub flags: u16,
@@ -22,7 +22,7 @@ pub struct CloseCall {
 }
 
 /// What a server answers to CLOSE (MS-SMB2 2.2.16).
-#[derive(Clone, Copy, Debug, PartialEq, Eq)]
+#[derive(Clone, Copy)]
 pub struct CloseReply {
     /// 1 where the status was asked for.
     pub flags: u16,
@@ -31,7 +31,7 @@ pub struct CloseReply {
 }
 
 /// One range of a LOCK request (MS-SMB2 2.2.26.1).
-#[derive(Clone, Copy, Debug, PartialEq, Eq)]
+#[derive(Clone, Copy)]
 pub struct LockElement {
     /// The first byte.
     pub offset: u64,
@@ -42,11 +42,11 @@ pub struct LockElement {
 }
 
 /// The ranges of a LOCK request, 24 bytes each.
-#[derive(Clone, Copy, Debug, PartialEq, Eq)]
+#[derive(Clone, Copy)]
 pub struct LockElements<'a>(pub &'a [u8]);
 
 /// What a client asks with LOCK (MS-SMB2 2.2.26).
-#[derive(Clone, Copy, Debug, PartialEq, Eq)]
+#[derive(Clone, Copy)]
 pub struct LockCall<'a> {
     /// Which replay of a lock this is.
     pub sequence: u32,

@@ -18,7 +18,7 @@ use crate::reply::{SmbReply, error_at, put_reply, success_at};
 use std::alloc::{AllocError, Global};
 
 /// One message: all of a frame, without the frame's own header.
-#[derive(Clone, Copy, Debug, PartialEq, Eq)]
+#[derive(Clone, Copy)]
 pub enum SmbMessage<'a> {
     /// A request.
     Call(SmbHead, SmbCall<'a>),

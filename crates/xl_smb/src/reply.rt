@@ -16,7 +16,7 @@ use crate::session::{
 use std::alloc::AllocError;
 
 /// What a reply answers, by its command at status 0.
-#[derive(Clone, Copy, Debug, PartialEq, Eq)]
+#[derive(Clone, Copy)]
 pub enum SmbReply<'a> {
     /// The dialect that was agreed on.
     Negotiate(NegotiateReply<'a>),

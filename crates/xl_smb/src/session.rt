@@ -14,11 +14,11 @@ use crate::place::{
 use std::alloc::AllocError;
 
 /// The dialects that a client offers, two bytes each, lowest byte first.
-#[derive(Clone, Copy, Debug, PartialEq, Eq)]
+#[derive(Clone, Copy)]
 pub struct Dialects<'a>(pub &'a [u8]);
 
 /// What a client asks with NEGOTIATE (MS-SMB2 2.2.3).
-#[derive(Clone, Copy, Debug, PartialEq, Eq)]
+#[derive(Clone, Copy)]
 pub struct NegotiateCall<'a> {
     /// 1 signing is enabled, 2 it is required.
     pub security_mode: u16,
@@ -31,7 +31,7 @@ pub struct NegotiateCall<'a> {
 }
 
 /// What a server answers to NEGOTIATE (MS-SMB2 2.2.4).
-#[derive(Clone, Copy, Debug, PartialEq, Eq)]
+#[derive(Clone, Copy)]
 pub struct NegotiateReply<'a> {
     /// 1 signing is enabled, 2 it is required.
     pub security_mode: u16,
@@ -56,7 +56,7 @@ pub struct NegotiateReply<'a> {
 }
 
 /// What a client asks with SESSION_SETUP (MS-SMB2 2.2.5).
-#[derive(Clone, Copy, Debug, PartialEq, Eq)]
+#[derive(Clone, Copy)]
 pub struct SessionSetupCall<'a> {
     /// 1 binds a session to a further connection.
     pub flags: u8,
@@ -69,7 +69,7 @@ pub struct SessionSetupCall<'a> {
 }
 
 /// What a server answers to SESSION_SETUP (MS-SMB2 2.2.6).
-#[derive(Clone, Copy, Debug, PartialEq, Eq)]
+#[derive(Clone, Copy)]
 pub struct SessionSetupReply<'a> {
     /// 1 a guest session, 2 an anonymous one.
     pub flags: u16,
@@ -78,7 +78,7 @@ pub struct SessionSetupReply<'a> {
 }
 
 /// What a server answers to TREE_CONNECT (MS-SMB2 2.2.10).
-#[derive(Clone, Copy, Debug, PartialEq, Eq)]
+#[derive(Clone, Copy)]
 pub struct TreeConnectReply {
     /// 1 a disk, 2 a named pipe, 3 a printer.
     pub share_type: u8,

@@ -11,6 +11,3 @@ mod spans;
 
 pub use span::{Mode, Span};
 pub use spans::Spans;
-
-#[cfg(test)]
-mod tests;

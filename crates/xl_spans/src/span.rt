@@ -3,7 +3,7 @@ ghost use Rattle.std.specs.Prelude.{◌≡◌, ◌+◌, ◌-◌};
 ghost use Rattle.xl_spans.specs.Spans.{same_mode, joins, excludes, part_before, part_past};
 
 /// How a range is locked.
-#[derive(Clone, Copy, Debug, PartialEq, Eq)]
+#[derive(Clone, Copy)]
 pub enum Mode {
     /// Shared with other owners who lock it so (NFSv4 READ_LT).
     Shared,
@@ -12,7 +12,7 @@ pub enum Mode {
 }
 
 /// A range of bytes in one mode, with both ends in it. Its numbers are below 2^64.
-#[derive(Clone, Copy, Debug, PartialEq, Eq)]
+#[derive(Clone, Copy)]
 pub struct Span {
     /// The first byte.
     pub first: u64,

@@ -12,6 +12,3 @@ mod table;
 pub use block::{is_answer_due, is_blocked_by};
 pub use law::{stays_compatible, stays_sound};
 pub use table::{CLAIMS, Table, TableErr};
-
-#[cfg(test)]
-mod tests;

@@ -16,7 +16,7 @@ use xl_matrix::{Claim, What};
 pub const CLAIMS: usize = 16_384;
 
 /// Why a claim could not be entered.
-#[derive(Clone, Copy, Debug, PartialEq, Eq, Error)]
+#[derive(Clone, Copy, Debug, Error)]
 pub enum TableErr {
     /// Memory ran out.
     #[error("no memory")]

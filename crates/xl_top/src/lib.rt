@@ -7,6 +7,3 @@ mod words;
 
 pub use top::{Done, run};
 pub use words::{Job, ParseError, parse};
-
-#[cfg(test)]
-mod tests;

@@ -24,7 +24,7 @@ use xl_capture::{Capture, CaptureError, MOST_BYTES, read_capture, show_text, tra
 use xl_house::House;
 
 /// How a run ended.
-#[derive(Drop, Debug)]
+#[derive(Drop)]
 pub struct Done {
     /// 0: the job was done to the end of the input. 1: the words ask for no job. 2: the source failed. 3: the sink
     /// failed. 4: a line isn't in the capture's grammar. 6: memory ran out. 7: an event met a full journal.
@@ -36,7 +36,7 @@ pub struct Done {
 }
 
 /// Why an input was not read.
-#[derive(Clone, Copy, Debug, PartialEq, Eq)]
+#[derive(Clone, Copy)]
 enum Unread {
     NoMemory,
     Failed,
@@ -120,7 +120,7 @@ fn step_all(alloc: Global, house: &mut House<SureKeeper>, events: Vec<Event>) ->
 }
 
 /// What became of the output.
-#[derive(Clone, Copy, Debug, PartialEq, Eq)]
+#[derive(Clone, Copy)]
 enum Written {
     All,
     Failed,

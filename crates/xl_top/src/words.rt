@@ -8,7 +8,7 @@ use clap::{ArgMatches, Command, Error};
 use std::alloc::Global;
 
 /// What the program's words ask for.
-#[derive(Clone, Copy, Debug, PartialEq, Eq)]
+#[derive(Clone, Copy)]
 pub enum Job {
     /// Read a capture, replay it, and write its transcript.
     Replay,
@@ -17,7 +17,7 @@ pub enum Job {
 }
 
 /// Why words ask for no job.
-#[derive(Clone, Copy, Debug, PartialEq, Eq)]
+#[derive(Clone, Copy)]
 pub enum ParseError {
     /// Memory ran out.
     NoMemory,

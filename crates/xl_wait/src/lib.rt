@@ -7,6 +7,3 @@ mod waiter;
 
 pub use queue::{Queue, QueueErr, WAITERS};
 pub use waiter::{Rooms, Waiter};
-
-#[cfg(test)]
-mod tests;

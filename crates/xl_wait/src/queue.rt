@@ -12,7 +12,7 @@ use thiserror::Error;
 pub const WAITERS: usize = 1_024;
 
 /// Why a waiter could not be entered.
-#[derive(Clone, Copy, Debug, PartialEq, Eq, Error)]
+#[derive(Clone, Copy, Debug, Error)]
 pub enum QueueErr {
     /// Memory ran out.
     #[error("no memory")]

@@ -4,7 +4,7 @@ use xl_base::Sequence;
 use xl_matrix::{CacheKind, Claim};
 
 /// How much room is left in the tables of the fronts, or how many rows of them something takes.
-#[derive(Clone, Copy, Debug, PartialEq, Eq)]
+#[derive(Clone, Copy)]
 pub struct Rooms {
     /// NLM hosts.
     pub hosts: u32,
@@ -15,7 +15,7 @@ pub struct Rooms {
 }
 
 /// One who waits for claims.
-#[derive(Drop, Debug)]
+#[derive(Drop)]
 pub struct Waiter {
     /// Its number.
     pub id: u32,

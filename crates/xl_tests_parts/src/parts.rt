@@ -1,0 +1,20 @@
+//! The parts below the fronts and the house.
+
+use std::str::Split;
+
+mod asks;
+mod base;
+mod matrix;
+mod names;
+mod spans;
+mod table;
+mod wait;
+
+/// The next word of a row; it is empty where none is left.
+fn next<'a>(words: &mut Split<'a, char>) -> &'a str {
+    words.next().unwrap_or("")
+}
+
+fn number(word: &str) -> u64 {
+    word.parse().unwrap_or(99)
+}

@@ -1,0 +1,267 @@
+//! Handles, the record, and the outside in memory.
+
+use super::{next, number};
+use std::alloc::{AllocError, Global};
+use xl_base::{
+    Keeper, LoadOutcome, MemoryKeeper, MemorySink, MemorySource, Protocol, ReadOutcome, Record,
+    RecordNameError, Recorded, Sequence, Sink, Source, StoreOutcome, WriteOutcome, file_of,
+    handle_of,
+};
+
+/// Bytes, and the number of the file whose handle they are; a dash where they are none.
+const HANDLES: &str = "\
+XLK1\0\0\0\x01 1
+XLK1\x01\x02\x03\x04 16909060
+XLK1\0\0\0\x07 7
+XLK1\0\0\0\0 0
+XLK2\0\0\0\x07 -
+XLK1\0\0\x07 -
+XLK1\0\0\0\x07\0 -
+ -";
+
+fn are_of(bytes: &[u8], file: u32) -> bool {
+    handle_of(file).as_slice() == bytes
+}
+
+fn is_handle(row: &str) -> bool {
+    let mut words = row.split(' ');
+    let bytes = next(&mut words).as_bytes();
+    let file = next(&mut words);
+    match file_of(bytes) {
+        Some(found) => found as u64 == number(file) && are_of(bytes, found),
+        None => file == "-",
+    }
+}
+
+#[test]
+fn handles(rt: HostRuntime) {
+    for row in HANDLES.lines() {
+        assert!(rt; is_handle(row));
+    }
+}
+
+fn recorded(alloc: Global, protocol: Protocol, name: &str) -> Result<Recorded, AllocError> {
+    Ok(Recorded {
+        protocol,
+        name: Sequence::from_slice(alloc, name.as_bytes())?,
+    })
+}
+
+fn word(added: Result<(), RecordNameError>) -> &'static str {
+    match added {
+        Ok(()) => "added",
+        Err(RecordNameError::NoMemory) => "no memory",
+        Err(RecordNameError::Smb) => "smb",
+        Err(RecordNameError::Twice) => "twice",
+    }
+}
+
+fn add(
+    alloc: Global,
+    record: &mut Record,
+    protocol: Protocol,
+    name: &str,
+) -> Result<(), RecordNameError> {
+    match recorded(alloc, protocol, name) {
+        Ok(name) => record.add(name),
+        Err(_) => Err(RecordNameError::NoMemory),
+    }
+}
+
+fn is_recorded(alloc: Global, record: &Record, protocol: Protocol, name: &str) -> bool {
+    match recorded(alloc, protocol, name) {
+        Ok(name) => record.contains(&name),
+        Err(_) => false,
+    }
+}
+
+fn protocol(word: &str) -> Protocol {
+    match word {
+        "nlm" => Protocol::Nlm,
+        "nfs" => Protocol::Nfs,
+        _ => Protocol::Smb,
+    }
+}
+
+/// How a name is recorded, its protocol, and the name; one after the other.
+const NAMES: &str = "\
+added nfs c
+added nlm c
+twice nfs c
+smb smb d
+added nlm ";
+
+/// Whether the row's name is recorded as it says; all but SMB names are held then.
+fn is_added(alloc: Global, record: &mut Record, row: &str) -> bool {
+    let mut words = row.split(' ');
+    let answer = next(&mut words);
+    let protocol = protocol(next(&mut words));
+    let name = next(&mut words);
+    word(add(alloc, record, protocol, name)) == answer
+        && is_recorded(alloc, record, protocol, name) == (answer != "smb")
+}
+
+fn are_three(record: &Record) -> bool {
+    record.names().len() == 3 && record.epoch() == 3
+}
+
+#[test]
+fn records(rt: HostRuntime) {
+    let mut record = Record::new(rt.alloc());
+    record.set_epoch(3);
+    for row in NAMES.lines() {
+        assert!(rt; is_added(rt.alloc(), &mut record, row));
+    }
+    assert!(rt; are_three(&record));
+}
+
+/// How many bytes a read gives; 9 where it fails.
+fn reads(source: &mut MemorySource, buffer: &mut [u8; 3]) -> usize {
+    match source.read(buffer) {
+        ReadOutcome::Got(count) => count,
+        ReadOutcome::End => 0,
+        ReadOutcome::Failed => 9,
+    }
+}
+
+fn are(bytes: &[u8], text: &str) -> bool {
+    bytes == text.as_bytes()
+}
+
+/// The counts and bytes of four reads, of which the second fails.
+fn are_read(source: &mut MemorySource) -> bool {
+    let mut buffer = [0u8; 3];
+    reads(source, &mut buffer) == 3
+        && are(&buffer, "abc")
+        && reads(source, &mut buffer) == 9
+        && source.faults() == 1
+        && reads(source, &mut buffer) == 2
+        && are(&buffer, "dec")
+        && reads(source, &mut buffer) == 0
+}
+
+fn writes(sink: &mut MemorySink, bytes: &str) -> bool {
+    matches!(sink.write(bytes.as_bytes()), WriteOutcome::Wrote)
+}
+
+/// What three writes hold, of which the second fails.
+fn are_written(sink: &mut MemorySink) -> bool {
+    writes(sink, "ab")
+        && !writes(sink, "cdef")
+        && writes(sink, "g")
+        && are(sink.bytes(), "abcdg")
+        && sink.faults() == 1
+}
+
+fn sources(alloc: Global) -> Result<bool, AllocError> {
+    let failing = Vec::from_slice(alloc, &[2])?;
+    let mut source = MemorySource::new(Vec::from_slice(alloc, b"abcde")?, failing);
+    Ok(are_read(&mut source))
+}
+
+fn sinks(alloc: Global) -> Result<bool, AllocError> {
+    let mut sink = MemorySink::new(alloc, Vec::from_slice(alloc, &[2])?);
+    Ok(are_written(&mut sink))
+}
+
+#[test]
+fn sources_and_sinks(rt: HostRuntime) {
+    assert!(rt; matches!(sources(rt.alloc()), Ok(true)));
+    assert!(rt; matches!(sinks(rt.alloc()), Ok(true)));
+}
+
+fn is_name(name: &Recorded, text: &str) -> bool {
+    matches!(name.protocol, Protocol::Nlm) && are(name.name.as_slice(), text)
+}
+
+fn has_one_name(record: &Record) -> bool {
+    match record.names().first() {
+        Some(name) => record.names().len() == 1 && is_name(name, "c"),
+        None => false,
+    }
+}
+
+fn loads(alloc: Global, keeper: &mut MemoryKeeper) -> bool {
+    let outcome = keeper.load(alloc);
+    match &outcome {
+        LoadOutcome::Loaded(record) => record.epoch() == 0 && has_one_name(record),
+        _ => false,
+    }
+}
+
+fn stores(alloc: Global, keeper: &mut MemoryKeeper, record: &Record) -> bool {
+    matches!(keeper.store(alloc, record), StoreOutcome::Stored)
+}
+
+fn raised(record: &mut Record, epoch: u32) -> u32 {
+    record.set_epoch(epoch);
+    record.raise_epoch();
+    record.epoch()
+}
+
+fn were_given(given: &[Record], one: u32, other: u32) -> bool {
+    matches!(given, [first, second] if first.epoch() == one && second.epoch() == other)
+}
+
+/// The third call and the fourth, a load and a store of another epoch.
+fn fail(alloc: Global, keeper: &mut MemoryKeeper, record: &mut Record) -> bool {
+    record.set_epoch(9);
+    matches!(keeper.load(alloc), LoadOutcome::Failed)
+        && matches!(keeper.store(alloc, record), StoreOutcome::Failed)
+}
+
+fn are_kept(alloc: Global, keeper: &mut MemoryKeeper, record: &mut Record) -> bool {
+    loads(alloc, keeper)
+        && raised(record, 0) == 1
+        && raised(record, u32::MAX) == 1
+        && raised(record, 7) == 8
+        && stores(alloc, keeper, record)
+        && keeper.faults() == 0
+        && fail(alloc, keeper, record)
+        && keeper.faults() == 2
+        && keeper.held().epoch() == 8
+        && were_given(keeper.given(), 8, 9)
+}
+
+fn keeps_copy(alloc: Global, copy: Record, failing: Vec<u64>, record: &mut Record) -> bool {
+    let mut keeper = MemoryKeeper::new(alloc, copy, failing);
+    are_kept(alloc, &mut keeper, record)
+}
+
+fn keeps(alloc: Global, record: &mut Record) -> Result<bool, AllocError> {
+    let failing = Vec::from_slice(alloc, &[3, 4])?;
+    let copy = record.copy(alloc)?;
+    Ok(keeps_copy(alloc, copy, failing, record))
+}
+
+#[test]
+fn keepers(rt: HostRuntime) {
+    let mut record = Record::new(rt.alloc());
+    assert!(rt; add(rt.alloc(), &mut record, Protocol::Nlm, "c").is_ok());
+    assert!(rt; matches!(keeps(rt.alloc(), &mut record), Ok(true)));
+}
+
+fn pushes(list: &mut Sequence<u8>, item: u8, want: &str) -> bool {
+    list.push(item).is_ok() && list.len() == want.len() && are(list.as_slice(), want)
+}
+
+fn is_same(alloc: Global, list: &Sequence<u8>, items: &str) -> bool {
+    match Vec::from_slice(alloc, items.as_bytes()) {
+        Ok(items) => *list == Sequence::from_vec(items),
+        Err(_) => false,
+    }
+}
+
+fn grows(alloc: Global, list: &mut Sequence<u8>) -> bool {
+    pushes(list, b'a', "a")
+        && is_same(alloc, list, "a")
+        && pushes(list, b'b', "ab")
+        && !is_same(alloc, list, "a")
+}
+
+#[test]
+fn sequences(rt: HostRuntime) {
+    let mut list: Sequence<u8> = Sequence::new(rt.alloc());
+    assert!(rt; list.is_empty() && grows(rt.alloc(), &mut list));
+    assert!(rt; are(list.into_vec().as_slice(), "ab"));
+}

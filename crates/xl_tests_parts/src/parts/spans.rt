@@ -1,0 +1,155 @@
+//! The ranges that one owner has locked in one file.
+
+use std::alloc::AllocError;
+use xl_spans::{Mode, Span, Spans, plain};
+
+fn is_shared(mode: Mode) -> bool {
+    matches!(mode, Mode::Shared)
+}
+
+fn same_span(a: &Span, b: &Span) -> bool {
+    a.first == b.first && a.last == b.last && is_shared(a.mode) == is_shared(b.mode)
+}
+
+fn same_spans(a: &[Span], b: &[Span]) -> bool {
+    for (a, b) in a.iter().zip(b) {
+        if !same_span(a, b) {
+            return false;
+        }
+    }
+    a.len() == b.len()
+}
+
+/// What is shown where no span is found; it has no byte.
+const NO_SPAN: Span = Span {
+    first: 1,
+    last: 0,
+    mode: Mode::Shared,
+};
+
+fn same_found(a: Option<Span>, b: Option<Span>) -> bool {
+    same_span(&a.unwrap_or(NO_SPAN), &b.unwrap_or(NO_SPAN))
+}
+
+fn same_mode(a: Option<Mode>, b: Option<Mode>) -> bool {
+    match a {
+        None => b.is_none(),
+        Some(a) => matches!(b, Some(b) if is_shared(a) == is_shared(b)),
+    }
+}
+
+/// Locks the range in the mode, or unlocks it at None.
+fn relock(spans: &mut Spans, first: u64, last: u64, mode: Option<Mode>) -> Result<(), AllocError> {
+    spans.reserve(2)?;
+    if first <= last {
+        match mode {
+            Some(mode) => spans.lock(first, last, mode),
+            None => spans.unlock(first, last),
+        }
+    }
+    Ok(())
+}
+
+const FOUR: [Span; 4] = [
+    Span {
+        first: 0,
+        last: 39,
+        mode: Mode::Exclusive,
+    },
+    Span {
+        first: 40,
+        last: 49,
+        mode: Mode::Shared,
+    },
+    Span {
+        first: 51,
+        last: 59,
+        mode: Mode::Shared,
+    },
+    Span {
+        first: 60,
+        last: 99,
+        mode: Mode::Exclusive,
+    },
+];
+
+const WHOLE: [Span; 1] = [Span {
+    first: 7,
+    last: u64::MAX,
+    mode: Mode::Shared,
+}];
+
+fn make_four(spans: &mut Spans) -> bool {
+    relock(spans, 0, 99, Some(Mode::Exclusive)).is_ok()
+        && relock(spans, 40, 59, Some(Mode::Shared)).is_ok()
+        && relock(spans, 50, 50, None).is_ok()
+        && same_spans(spans.spans(), &FOUR)
+}
+
+fn reach_the_last_byte(spans: &mut Spans) -> bool {
+    relock(spans, u64::MAX, u64::MAX, Some(Mode::Shared)).is_ok()
+        && relock(spans, 7, u64::MAX - 1, Some(Mode::Shared)).is_ok()
+}
+
+#[test]
+fn locks_make_runs(rt: HostRuntime) {
+    assert!(rt; make_four(&mut Spans::new(rt.alloc())));
+    let mut spans = Spans::from_vec(Vec::new(rt.alloc()));
+    assert!(rt; spans.spare() == 0 && reach_the_last_byte(&mut spans));
+    assert!(rt; same_spans(&spans.into_vec(), &WHOLE));
+}
+
+/// Byte k of eight: the first four are those from 0 on, the others those up to 2^64 - 1.
+fn byte(k: u64) -> u64 {
+    if k % 8 < 4 {
+        k % 8
+    } else {
+        u64::MAX - (7 - k % 8)
+    }
+}
+
+fn same_conflict(spans: &Spans, held: &[Span], first: u64, last: u64, mode: Mode) -> bool {
+    first > last
+        || same_found(
+            spans.first_conflict(first, last, mode),
+            plain::first_conflict(held, first, last, mode),
+        )
+}
+
+fn same_answers(spans: &Spans, held: &[Span], first: u64, last: u64) -> bool {
+    for k in 0..8 {
+        if !same_mode(spans.at(byte(k)), plain::mode_at(held, byte(k))) {
+            return false;
+        }
+    }
+    same_spans(spans.spans(), held)
+        && same_conflict(spans, held, first, last, Mode::Shared)
+        && same_conflict(spans, held, first, last, Mode::Exclusive)
+}
+
+/// What a drawn number asks for: a first byte, a last one no less, and a mode, or None for an unlock.
+fn asked(number: u64) -> (u64, u64, Option<Mode>) {
+    let (one, other) = (byte(number), byte(number / 8));
+    let mode = match number / 64 % 4 {
+        0 => None,
+        1 => Some(Mode::Shared),
+        _ => Some(Mode::Exclusive),
+    };
+    (one.min(other), one.max(other), mode)
+}
+
+/// 400 locks and unlocks of ranges among eight bytes, each by the fast body and by the plain program.
+#[test]
+fn bodies_agree_with_plain_programs(rt: HostRuntime) {
+    let mut spans = Spans::new(rt.alloc());
+    let mut held: Vec<Span> = Vec::new(rt.alloc());
+    let mut draw: u64 = 1;
+    for _ in 0..400 {
+        draw = draw.wrapping_mul(1103515245).wrapping_add(12345) % 2147483648;
+        let (first, last, mode) = asked(draw / 65536);
+        assert!(rt; relock(&mut spans, first, last, mode).is_ok());
+        let next = plain::relocked(rt.alloc(), &held, first, last, mode);
+        held = next.expect(&rt, "the spans");
+        assert!(rt; same_answers(&spans, &held, first, last));
+    }
+}

@@ -1,0 +1,95 @@
+//! Those who wait.
+
+use std::alloc::{AllocError, Global};
+use xl_base::{Owner, Party, Protocol, Sequence};
+use xl_matrix::{Claim, Extent, What};
+use xl_wait::{Queue, QueueErr, Rooms, Waiter};
+
+const CLAIM: Claim = Claim {
+    file: 1,
+    owner: Owner::Name(Protocol::Nlm, 1),
+    party: Party::Name(Protocol::Nlm, 2),
+    what: What::Range(Extent::Bytes(0, 9), true),
+};
+
+fn waiter(alloc: Global, id: u32, conn: Option<u64>) -> Result<Waiter, AllocError> {
+    let asked = Sequence::from_slice(alloc, &[CLAIM])?;
+    Ok(Waiter {
+        id,
+        conn,
+        asked,
+        wish: Sequence::new(alloc),
+        monitored: true,
+        rows: Rooms {
+            hosts: 1,
+            owners: 0,
+            opens: 0,
+        },
+    })
+}
+
+/// 0 where the waiter waits, the limit where that is reached.
+fn limit(pushed: Result<(), QueueErr>) -> u32 {
+    match pushed {
+        Ok(()) => 0,
+        Err(QueueErr::Full(most)) => most,
+        Err(QueueErr::NoMemory) => 1,
+    }
+}
+
+fn pushes(alloc: Global, queue: &mut Queue, id: u32, conn: Option<u64>) -> u32 {
+    match waiter(alloc, id, conn) {
+        Ok(waiter) => limit(queue.push(waiter)),
+        Err(_) => 1,
+    }
+}
+
+fn is_room(rows: Rooms) -> bool {
+    rows.hosts == 1 && rows.owners == 0 && rows.opens == 0
+}
+
+fn is_waiter(waiter: Option<&Waiter>, id: u32) -> bool {
+    matches!(waiter, Some(waiter) if waiter.id == id && is_room(waiter.rows))
+}
+
+fn came_by(alloc: Global, queue: &Queue, conn: u64) -> bool {
+    matches!(queue.of_conn(alloc, conn), Ok(numbers) if matches!(numbers.as_slice(), [7, 9]))
+}
+
+fn cancels(queue: &mut Queue, id: u32) -> bool {
+    queue.cancel(id)
+}
+
+fn are_two(queue: &Queue, first: u32, last: u32) -> bool {
+    queue.len() == 2
+        && queue.waiters().len() == 2
+        && is_waiter(queue.waiters().first(), first)
+        && is_waiter(queue.at(1), last)
+        && queue.at(2).is_none()
+}
+
+fn come_and_go(alloc: Global, queue: &mut Queue) -> bool {
+    pushes(alloc, queue, 7, Some(0)) == 0
+        && pushes(alloc, queue, 8, None) == 0
+        && pushes(alloc, queue, 9, Some(0)) == 0
+        && cancels(queue, 8)
+        && !cancels(queue, 8)
+        && are_two(queue, 7, 9)
+        && came_by(alloc, queue, 0)
+}
+
+#[test]
+fn waiters_come_and_go(rt: HostRuntime) {
+    let mut queue = Queue::new(rt.alloc());
+    assert!(rt; queue.is_empty() && come_and_go(rt.alloc(), &mut queue));
+}
+
+#[test]
+fn a_full_queue(rt: HostRuntime) {
+    let mut queue = Queue::new(rt.alloc());
+    for id in 0..1_024u32 {
+        assert!(rt; pushes(rt.alloc(), &mut queue, id, None) == 0);
+    }
+    assert!(rt; pushes(rt.alloc(), &mut queue, 2_000, None) == 1_024);
+    assert!(rt; cancels(&mut queue, 500) && pushes(rt.alloc(), &mut queue, 2_000, None) == 0);
+}

@@ -1,0 +1,5 @@
+#![tactic(auto)]
+//! Tests of what is served, shown and read, by captures and transcripts.
+
+#[cfg(test)]
+mod served;

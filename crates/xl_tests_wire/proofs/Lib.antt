@@ -1,0 +1,2 @@
+pub mod NfsLaws
+pub mod NlmLaws
