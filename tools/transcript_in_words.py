@@ -7,13 +7,14 @@ reads the capture and, from standard input or from the file that is named behind
 writes a line for each event of the capture, with its place in the journal and what was answered, and behind it what else
 was sent; at the end a line for each claim that is held:
 
-    1  c0  lock a 7 a.txt 0 10 x            GRANTED
-    2  c0  lock b 7 a.txt 0 10 x block      BLOCKED
-    3  c0  unlock a 7 a.txt 0 10            GRANTED
-    3  call 2 to 127.0.0.1.3.4: granted b 7 a.txt 0 10 x
-    held: a.txt, bytes 0 to 9, exclusive, by nlm b 7
+    0   c0   open
+    1   c0   lock a 7 a.txt 0 10 x               GRANTED
+    2   c0   lock b 7 a.txt 0 10 x block         BLOCKED
+    3   c0   unlock a 7 a.txt 0 10               GRANTED
+    3        call 2 to 127.0.0.1.3.4: granted b 7 a.txt 0 10 x
+    held: a.txt, bytes 0 to 9, exclusive, by nlm b 7 -
 
-`c0` is the connection. The words of calls are those of capture_from_words.py.
+`c0` is the connection that was opened at place 0. The words of calls are those of capture_from_words.py.
 """
 import argparse
 import sys
@@ -23,7 +24,7 @@ from xlock.captures import Capture, CaptureError
 from xlock.transcripts import TranscriptError
 from xlock.xdr import XdrError
 
-WIDTH = 52
+WIDTH = 48
 
 
 def call_in_words(record, files, cookie=b""):
@@ -92,21 +93,25 @@ def message_in(out):
     return b"".join(cutter.feed(out.data))
 
 
+def line_of(place, where, said, answer=""):
+    line = f"{place:<3} {where:<4} {said}"
+    return f"{line:<{WIDTH}} {answer}" if answer else line
+
+
 def told_lines(event, place, outs, files):
     """The lines of an event: what came, with its answer, and what else was sent."""
     said, call, module = event_in_words(event, files)
     where = f"c{event.connection}" if event.what in ("open", "message", "end") else ""
-    answers, others = [], []
+    answer, others = "", []
     for out in outs:
         if out.connection is None:
             told, _, _ = call_in_words(message_in(out), files, xdr.u64(out.call))
-            others.append(f"{place}  call {out.call} to {words.word_of(out.address)}: {told}")
-        elif out.connection == event.connection and not answers:
-            answers.append(reply_in_words(message_in(out), call, module))
+            others.append(line_of(place, "", f"call {out.call} to {words.word_of(out.address)}: {told}"))
+        elif out.connection == event.connection and not answer:
+            answer = reply_in_words(message_in(out), call, module)
         else:
-            others.append(f"{place}  c{out.connection}  bytes 0x{message_in(out).hex()}")
-    line = f"{place}  {where:<3} {said}"
-    return [f"{line:<{WIDTH}}  {answers[0]}" if answers else line.rstrip()] + others
+            others.append(line_of(place, f"c{out.connection}", "bytes 0x" + message_in(out).hex()))
+    return [line_of(place, where, said, answer)] + others
 
 
 def holder_in_words(text):

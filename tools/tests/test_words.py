@@ -72,7 +72,7 @@ class Words(unittest.TestCase):
 
     def test_said_again(self):
         said = in_words(capture_of(CALLS), "")
-        self.assertEqual([line.split("  c0  ")[1] for line in said[1:]], CALLS.splitlines())
+        self.assertEqual([line[9:] for line in said[1:]], CALLS.splitlines())
 
     def test_places(self):
         # The fragments of a record are one event, two records in one line are two, and a bad mark ends the connection.
@@ -106,13 +106,13 @@ class Transcripts(unittest.TestCase):
         self.assertEqual(
             in_words(capture, transcript),
             [
-                "0  c0  open",
-                f"{'1  c0  lock a 7 a.txt 0 10 x':<52}  GRANTED",
-                f"{'2  c0  test b 1 a.txt 0 end s':<52}  DENIED held: bytes 0 to 9, exclusive, svid 7, oh -",
-                "2  call 2 to z: granted b 7 a.txt 0 10 x",
-                "3  c0  end",
-                "4      answer 2 denied",
-                "5      no_answer 3",
+                "0   c0   open",
+                "1   c0   lock a 7 a.txt 0 10 x                   GRANTED",
+                "2   c0   test b 1 a.txt 0 end s                  DENIED held: bytes 0 to 9, exclusive, svid 7, oh -",
+                "2        call 2 to z: granted b 7 a.txt 0 10 x",
+                "3   c0   end",
+                "4        answer 2 denied",
+                "5        no_answer 3",
                 "held: a.txt, a share of access rw that denies -, by nlm a -",
                 "held: a.txt, bytes 0 to 9, exclusive, by nlm a 7 oh",
                 "held: a.txt, bytes 0 to the end, shared, by nfs c o",
