@@ -120,7 +120,7 @@ USAGES = {
     "unlock": RANGE + MARKS,
     "granted": RANGE + " x|s" + MARKS,
     "share": "CALLER FILE ACCESS DENY [reclaim]" + MARKS,
-    "unshare": "CALLER FILE [ACCESS] [DENY]" + MARKS,
+    "unshare": "CALLER FILE [ACCESS] [DENY] [reclaim]" + MARKS,
     "free_all": "CALLER [state=N]",
 }
 
