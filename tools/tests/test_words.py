@@ -47,7 +47,7 @@ unlock - 1 b.txt 5 5
 granted a 1 a.txt 0 1 x
 share a b.txt rw -
 share a b.txt r rw reclaim oh=0x00
-unshare a b.txt - w
+unshare a b.txt - w reclaim
 free_all a state=3
 call 100000 2 3 0x01020304
 """
