@@ -3,8 +3,8 @@
 
 For each COUNT (10000, 100000 and 1000000 by default) it makes a capture of that many NLM calls on one connection: half
 LOCK, a quarter UNLOCK, a quarter TEST, over 8 files, 4 owners and 16 ranges of 10 bytes, so that at most 512 claims
-stand. It replays the capture five times and prints the processor's least time, the calls a second, the greatest peak of resident
-memory, and that peak in terms of the capture's bytes. The draws are those of a linear congruential generator, so that
+stand. It replays the capture five times and prints the processor's least time, the calls a second, the greatest peak of
+resident memory, and that peak in terms of the capture's bytes. The draws are those of a linear congruential generator, so that
 each run has the same calls.
 """
 import os
@@ -41,7 +41,8 @@ def main():
             runs = [replay(binary, path) for _ in range(5)]
             seconds, peak = min(run[0] for run in runs), max(run[1] for run in runs)
             size = os.path.getsize(path)
-        print(f"{count}  {seconds:.3f}  {count / seconds:.0f}  {seconds / count * 1e6:.2f}  {peak / 1e6:.1f}  {peak / size:.1f}")
+        rate = f"{seconds:.3f}  {count / seconds:.0f}  {seconds / count * 1e6:.2f}"
+        print(f"{count}  {rate}  {peak / 1e6:.1f}  {peak / size:.1f}")
 
 
 if __name__ == "__main__":

@@ -22,8 +22,8 @@ reads the file WORDS, or standard input where none is named, and writes a captur
 FILE is an exported file's name, `/` the root, `0x..` any other handle. LENGTH is a number of bytes or `end`. x is an
 exclusive lock, s a shared one. ACCESS and DENY are r, w, rw or -. A name (CALLER, oh, cookie) is a word, `0x..` its bytes
 in hex, `-` no byte. Each call also takes xid=N, fragments=N (its record in fragments of N bytes) and pieces=N (its
-bytes in lines of N). Empty lines and the words from one on that begins with `#` are passed over. In the capture a comment above each line
-has its words.
+bytes in lines of N). Empty lines and the words from one on that begins with `#` are passed over. In the capture a
+comment above each line has its words.
 
     lock a 7 a.txt 0 10 x         caller a, process 7, locks the bytes 0 to 9 of a.txt
     lock b 7 a.txt 0 10 x block   caller b waits for them

@@ -10,6 +10,7 @@ one differs. With --write it writes the captures, the transcripts (with PROGRAM)
 difference before it is kept.
 """
 import argparse
+import itertools
 import subprocess
 import sys
 from pathlib import Path
@@ -35,8 +36,9 @@ def parts_of(folder, name, program):
 
 
 def first_difference(wanted, found):
-    pairs = zip(wanted.splitlines() + [None] * len(found), found.splitlines() + [None] * len(wanted))
-    return next((f"line {at}: {one or 'the end'}, and it is {two or 'the end'}" for at, (one, two) in enumerate(pairs, 1) if one != two), "its end")
+    pairs = itertools.zip_longest(wanted.splitlines(), found.splitlines(), fillvalue="the end")
+    said = (f"line {at}: {one}, and it is {two}" for at, (one, two) in enumerate(pairs, 1) if one != two)
+    return next(said, "its end")
 
 
 def faults(folder, program=None, writes=False):

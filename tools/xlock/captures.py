@@ -7,7 +7,10 @@ from xlock.words import Files
 
 MOST_OPEN = 64
 # The lines, by how many words stand behind the first.
-LINES = {"F": (1,), "H": (2,), "L": (3,), "K": (1,), "N": (2,), "O": (1,), "B": (2,), "E": (1,), "C": (1, 2), "T": (1,), "R": (0,)}
+LINES = {
+    "F": (1,), "H": (2,), "L": (3,), "K": (1,), "N": (2,),
+    "O": (1,), "B": (2,), "E": (1,), "C": (1, 2), "T": (1,), "R": (0,),
+}  # fmt: skip
 HEADERS = ("F", "H", "L", "K", "N")
 CUTTERS = {"rpc": RecordCutter, "smb": FrameCutter}
 

@@ -146,7 +146,7 @@ class Session:
 
     def _open(self, conversation):
         if len(self.writer.capture.cutters) == MOST_OPEN:
-            self.notes.append(f"{conversation}: more than {MOST_OPEN} connections are open at once, and this one is refused")
+            self.notes.append(f"{conversation}: {MOST_OPEN} connections are open already, and this one is refused")
         self.writer.comment(str(conversation))
         self.numbers[id(conversation)] = self.writer.open(conversation.kind)
 
@@ -168,7 +168,7 @@ class Session:
     def _name_callers(self):
         """The addresses of those who may have to be called back: the port is that at which the other server did so, 0
         where it didn't."""
-        ports = {conversation.server.end[0]: conversation.server.end[1] for conversation in self.called_back if conversation.server.end}
+        ports = dict(conversation.server.end for conversation in self.called_back if conversation.server.end)
         for asked in self.asked:
             try:
                 call = rpc.read_call(asked.message)

@@ -78,7 +78,8 @@ def functions_of(source, module):
     """The functions of a file."""
     text = without_texts(source)
     functions, owners, at = [], [], 0
-    heads = re.compile(r"\b(?P<kind>impl|trait|mod)\b(?P<header>[^{};]*)\{|\b(?P<pub>pub\s+)?(?:const\s+)?fn\s+(?P<name>\w+)|[{}]")
+    block, function = r"\b(?P<kind>impl|trait|mod)\b(?P<header>[^{};]*)\{", r"\b(?P<pub>pub\s+)?(?:const\s+)?fn\s+(?P<name>\w+)"
+    heads = re.compile(f"{block}|{function}|[{{}}]")
     while found := heads.search(text, at):
         at = found.end()
         if found["name"]:
