@@ -26,6 +26,7 @@ holder_text names owner party (Share access deny) = owner_text names owner
 holder_text names owner party (Range extent exclusive) = owner_text names owner
 holder_text names owner party (Cache kind running) = party_text names party
 
+-- a claim as a row: its file, its holder's text, and what is claimed
 abbrev pub row_of : List Name → Claim → Row
 row_of names c = record { file = c.file; holder = holder_text names c.owner c.party c.what; what = c.what }
 
@@ -37,6 +38,7 @@ class_of (Share access deny) = 0
 class_of (Range extent exclusive) = 1
 class_of (Cache kind running) = 2
 
+-- where a range begins; one without a byte at its offset
 abbrev pub first_of : Extent → ℕ
 first_of (Bytes first last) = first
 first_of (Empty offset) = offset
@@ -59,10 +61,12 @@ ends_before (Empty offset) (Empty other) = false
 unfoldable pub range_before : Extent → Bool → Extent → Bool → Bool
 range_before a x b y = if first_of a == first_of b then (if is_same_end a b then x && not y else ends_before a b) else nat_lt (first_of a) (first_of b)
 
+-- the same of what is claimed, where only ranges have an order among themselves
 abbrev pub what_before : What → What → Bool
 what_before (Range a x) (Range b y) = range_before a x b y
 what_before _ _ = false
 
+-- by the text of the holder, and of one holder by what is claimed
 abbrev pub by_holder : Ordering → Bool → Bool
 by_holder Less rest = true
 by_holder Equal rest = rest
@@ -80,11 +84,13 @@ row_before a b = if a.file == b.file then claimed_before a b else nat_lt a.file 
 
 -- ---- the line of a row
 
+-- the word of each class
 abbrev pub class_word : What → List ℕ
 class_word (Share access deny) = codes "share"
 class_word (Range extent exclusive) = codes "range"
 class_word (Cache kind running) = codes "cache"
 
+-- a letter where its right is there
 abbrev pub letter_if : Bool → List ℕ → List ℕ
 letter_if true letter = letter
 letter_if false letter = []
@@ -98,10 +104,12 @@ abbrev pub extent_words : Extent → List ℕ
 extent_words (Bytes first last) = decimal first ++ codes " " ++ decimal last
 extent_words (Empty offset) = decimal offset ++ codes " -"
 
+-- exclusive or shared
 abbrev pub mode_word : Bool → List ℕ
 mode_word true = codes " x"
 mode_word false = codes " s"
 
+-- the kind of a cache
 abbrev pub kind_word : CacheKind → List ℕ
 kind_word R = codes "R"
 kind_word RH = codes "RH"
@@ -110,6 +118,7 @@ kind_word RWH = codes "RWH"
 kind_word ReadDeleg = codes "ReadDeleg"
 kind_word WriteDeleg = codes "WriteDeleg"
 
+-- what a break is to leave of it
 abbrev pub target_word : Option CacheKind → List ℕ
 target_word None = codes "none"
 target_word (Some kind) = kind_word kind
@@ -119,10 +128,12 @@ abbrev pub break_words : Option Break → List ℕ
 break_words None = []
 break_words (Some b) = codes " > " ++ target_word b.target ++ codes " " ++ decimal b.deadline.0
 
+-- what is claimed, in words
 unfoldable pub what_words : What → List ℕ
 what_words (Share access deny) = letters access ++ codes " " ++ letters deny
 what_words (Range extent exclusive) = extent_words extent ++ mode_word exclusive
 what_words (Cache kind running) = kind_word kind ++ break_words running
 
+-- the line of a claim
 unfoldable pub row_line : Row → List ℕ
 row_line r = decimal r.file ++ codes " " ++ class_word r.what ++ codes " " ++ r.holder ++ codes " " ++ what_words r.what ++ codes "\n"

@@ -24,9 +24,11 @@ pub record Cutting : Type 0 where
   pub rest : List ℕ
   pub bad : Option FrameBad
 
+-- a cutter that has been fed what was cut so, and has handed out nothing
 abbrev pub cutting : Kind → Framed → Cutting
 cutting kind framed = record { kind = kind; ready = framed.frames; rest = framed.rest; bad = framed.bad }
 
+-- what a cutter would still hand out, and what it holds
 abbrev pub framed_of : Cutting → Framed
 framed_of c = record { frames = c.ready; rest = c.rest; bad = c.bad }
 
@@ -61,10 +63,12 @@ pub record Run : Type 0 where
 abbrev pub begun : Kind → Run
 begun kind = record { handed = []; cutter = record { kind = kind; ready = []; rest = []; bad = None } }
 
+-- after one call more
 abbrev pub called : Run → Call → Run
 called run (Feed piece) = record { handed = run.handed; cutter = fed run.cutter piece }
 called run Next = record { handed = run.handed ++ take 1 run.cutter.ready; cutter = without_first run.cutter }
 
+-- after these calls, in order
 abbrev pub after : Run → List Call → Run
 after run [] = run
 after run (call ∷ calls) = after (called run call) calls
