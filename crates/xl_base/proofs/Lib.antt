@@ -1,4 +1,5 @@
 pub mod CodecLaws
+pub mod FormatLaws
 pub mod Members
 pub mod MemoryLaws
 pub mod StableLaws
