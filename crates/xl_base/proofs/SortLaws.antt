@@ -1,7 +1,13 @@
 -- A list in order in which those that tie stand as before is the list sorted by insertion: so std's stable sort gives it.
 use Rattle.std.proofs.Common.{◌≡◌, ℕ, suc, ◌+◌, Bool, true, false, not, ◌&&◌, if◌then◌else◌, inl, inr, List, [], ◌∷◌, refl, sym, ap, ap₂, subst, ◌∙◌, arith}
 use Rattle.std.specs.List.{filter, AllByRecursion}
-use Rattle.std.specs.List.Sorted.{IsSortedBy, IsStableBy, ties}
+use denote.Ref.{Bor}
+use denote.Param.Members.{Mut}
+use Rattle.std.specs.declared.cmp.Ordering.{Ordering}
+use Rattle.std.specs.Ordering.{is_lt}
+use Rattle.std.specs.Fn.{Called, ComparesAs}
+use Rattle.std.proofs.lemmas.Fn.{always_returns_same}
+use Rattle.std.specs.List.Sorted.{IsSortedBy, IsStableBy, IsSortedByClosure, IsStableByClosure, ties}
 use Rattle.std.specs.Prelude.{slice_index_or}
 use Rattle.std.specs.Cmp.{IsStrictWeakOrder}
 use Rattle.std.proofs.lemmas.Bool.{cases_Bool, true≢false}
@@ -163,3 +169,10 @@ unique {A} {lt} o (y ∷ ys) (z ∷ zs) ry rz same =
 -- what std's stable sort gives
 pub sorted_is : {A : Type 0} {lt : A → A → Bool} (o : IsStrictWeakOrder lt) (xs ys : List A) → IsSortedBy lt ys → IsStableBy lt xs ys → ys ≡ sorted lt xs
 sorted_is {A} {lt} o xs ys up stable = unique o ys (sorted lt xs) (rises o ys up) (sorted_rises o xs) (λ w. stable w ∙ sym (sorted_stable o w xs))
+
+-- what its clauses say where the closure compares by this order
+pub sorted_from_sort_by : {A : Type 0} {lt : A → A → Bool} (o : IsStrictWeakOrder lt) {F : Type 0} {g : Mut F (Bor A × (Bor A × Unit {0})) Ordering} {f : F} (xs ys : List A)
+    → IsSortedByClosure g f ys → IsStableByClosure g f xs ys
+    → ((a : Bor A × (Bor A × Unit {0})) (r : Ordering) (f' : F) → Called g f a r f' → (is_lt r ≡ lt a.0.now a.1.0.now) × (f' ≡ f)) → ys ≡ sorted lt xs
+sorted_from_sort_by {A} {lt} o {F} {g} {f} xs ys up stable h =
+    let compares : ComparesAs g lt f = always_returns_same g (λ a r. is_lt r ≡ lt a.0.now a.1.0.now) f h in sorted_is o xs ys (up lt o compares) (stable lt o compares)
