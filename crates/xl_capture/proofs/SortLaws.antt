@@ -11,8 +11,8 @@ row_cmp_total : IsTotalOrder row_cmp
 unfolding row_cmp
 row_cmp_total =
     then_total (on_total (λ (r : Row). r.file) nat_cmp_total)
-        (then_total (on_total (λ (r : Row). class_of r.what) nat_cmp_total)
-        (then_total (on_total (λ (r : Row). r.holder) nat_list_cmp_total) (on_total (λ (r : Row). range_key r.what) nat_list_cmp_total)))
+    (then_total (on_total (λ (r : Row). class_of r.what) nat_cmp_total)
+    (then_total (on_total (λ (r : Row). r.holder) nat_list_cmp_total) (on_total (λ (r : Row). range_key r.what) nat_list_cmp_total)))
 
 pub rows_ranked : IsStrictWeakOrder row_before
 rows_ranked = ranks_by row_cmp_total (λ (r : Row). r)

@@ -58,7 +58,12 @@ fn range_key(what: What) -> [u64; 4]
     ensures { result ≡ range_key what }
 {
     match what {
-        What::Range(Extent::Bytes(first, last), exclusive) => [first, 1, last, u64::from(!exclusive)],
+        What::Range(Extent::Bytes(first, last), exclusive) => [
+            first,
+            1,
+            last,
+            u64::from(!exclusive),
+        ],
         What::Range(Extent::Empty(offset), exclusive) => [offset, 0, 0, u64::from(!exclusive)],
         _ => [0; 4],
     }
@@ -73,7 +78,9 @@ pub fn row_cmp(a: &Row, b: &Row) -> Ordering
     let by_holder = a.holder.as_slice().cmp(b.holder.as_slice());
     let by_range = range_key(a.what).cmp(&range_key(b.what));
     let by_class = class_of(a.what).cmp(&class_of(b.what));
-    a.file.cmp(&b.file).then(by_class.then(by_holder.then(by_range)))
+    a.file
+        .cmp(&b.file)
+        .then(by_class.then(by_holder.then(by_range)))
 }
 
 fn class_word(what: What) -> &'static str
