@@ -220,7 +220,7 @@ fn step_capture(alloc: Global, capture: Capture) -> Option<(House<SureKeeper>, R
         addresses,
         events,
     } = capture;
-    let mut house = start(alloc, files, addresses)?;
+    let mut house = start(alloc, files, addresses.into_sequence())?;
     let ended = step_all(alloc, &mut house, events.into_vec());
     Some((house, ended))
 }
