@@ -3,3 +3,4 @@ pub mod FormatLaws
 pub mod Members
 pub mod MemoryLaws
 pub mod StableLaws
+pub mod SortLaws

@@ -8,6 +8,7 @@ use Rattle.xl_base.specs.declared.event.Event.{Event}
 use Rattle.xl_base.specs.declared.event.Event.TheVariants.{Open, End, Called}
 use Rattle.xl_base.specs.declared.event.Kind.TheVariants.{Rpc}
 use Rattle.xl_frame.specs.Frames.{Framed}
+use Rattle.xl_capture.specs.Addresses.{has_address}
 use Rattle.xl_capture.specs.Links.{Link, opened, link_of, without, framed, events_of, still_open, AreDistinct, AreBelow}
 use Rattle.xl_capture.specs.Numbers.{number_of}
 use Rattle.xl_capture.specs.declared.capture.Capture.{Capture}
@@ -68,10 +69,6 @@ bytes_of (c ∷ cs) = if bytes_eq (c ∷ cs) (codes "-") then Some [] else resul
 -- the file's name is taken
 abbrev pub is_named : List ℕ → List (List ℕ) → Bool
 is_named name names = list_any (λ held. bytes_eq held name) names
-
--- the caller of this name has an address
-abbrev pub has_address : List ℕ → List (List ℕ × List ℕ) → Bool
-has_address caller addresses = list_any (λ held. bytes_eq held.0 caller) addresses
 
 -- the most bytes of a capture, the most files, and the most connections that are open at once
 abbrev pub most_bytes : ℕ

@@ -1,10 +1,9 @@
 -- Claims as the transcript tells them.
-use Rattle.std.specs.Prelude.{ℕ, ◌==◌, ◌&&◌, ◌||◌, Bool, true, false, not, nat_lt, if◌then◌else◌, List, [], ◌++◌, codes, Option, Some, None}
+use Rattle.std.specs.Prelude.{ℕ, ◌||◌, Bool, true, false, if◌then◌else◌, List, [], ◌∷◌, ◌++◌, codes, Option, Some, None}
 use Rattle.std.specs.Fmt.{decimal}
-use Rattle.std.specs.Ordering.{nat_cmp}
+use Rattle.std.specs.Ordering.{nat_cmp, is_lt, ordering_then}
 use Rattle.std.specs.Cmp.Lexicographic.{slice_cmp}
 use Rattle.std.specs.declared.cmp.Ordering.{Ordering}
-use Rattle.std.specs.declared.cmp.Ordering.TheVariants.{Less, Equal, Greater}
 use Rattle.xl_base.specs.declared.name.Owner.{Owner}
 use Rattle.xl_base.specs.declared.name.Party.{Party}
 use Rattle.xl_matrix.specs.declared.claim.Break.{Break}
@@ -38,49 +37,31 @@ class_of (Share access deny) = 0
 class_of (Range extent exclusive) = 1
 class_of (Cache kind running) = 2
 
--- where a range begins; one without a byte at its offset
-abbrev pub first_of : Extent → ℕ
-first_of (Bytes first last) = first
-first_of (Empty offset) = offset
+-- what parts two ranges of one holder: the first byte, none before some, the last byte, exclusive before shared
+abbrev pub range_key : What → List ℕ
+range_key (Range (Bytes first last) exclusive) = first ∷ 1 ∷ last ∷ (if exclusive then 0 else 1) ∷ []
+range_key (Range (Empty offset) exclusive) = offset ∷ 0 ∷ 0 ∷ (if exclusive then 0 else 1) ∷ []
+range_key _ = 0 ∷ 0 ∷ 0 ∷ 0 ∷ []
 
--- two ranges end at one byte, or neither has a byte
-abbrev pub is_same_end : Extent → Extent → Bool
-is_same_end (Bytes first last) (Bytes other end) = last == end
-is_same_end (Bytes first last) (Empty offset) = false
-is_same_end (Empty offset) (Bytes first last) = false
-is_same_end (Empty offset) (Empty other) = true
+abbrev pub by_file : Row → Row → Ordering
+by_file a b = nat_cmp a.file b.file
 
--- the first range ends before the second; one without a byte ends before one with some
-abbrev pub ends_before : Extent → Extent → Bool
-ends_before (Bytes first last) (Bytes other end) = nat_lt last end
-ends_before (Bytes first last) (Empty offset) = false
-ends_before (Empty offset) (Bytes first last) = true
-ends_before (Empty offset) (Empty other) = false
+abbrev pub by_class : Row → Row → Ordering
+by_class a b = nat_cmp (class_of a.what) (class_of b.what)
 
--- a range stands before another of its owner: by the first byte, then the last, then exclusive before shared
-unfoldable pub range_before : Extent → Bool → Extent → Bool → Bool
-range_before a x b y = if first_of a == first_of b then (if is_same_end a b then x && not y else ends_before a b) else nat_lt (first_of a) (first_of b)
+abbrev pub by_holder : Row → Row → Ordering
+by_holder a b = slice_cmp nat_cmp a.holder b.holder
 
--- the same of what is claimed, where only ranges have an order among themselves
-abbrev pub what_before : What → What → Bool
-what_before (Range a x) (Range b y) = range_before a x b y
-what_before _ _ = false
+abbrev pub by_range : Row → Row → Ordering
+by_range a b = slice_cmp nat_cmp (range_key a.what) (range_key b.what)
 
--- by the text of the holder, and of one holder by what is claimed
-abbrev pub by_holder : Ordering → Bool → Bool
-by_holder Less rest = true
-by_holder Equal rest = rest
-by_holder Greater rest = false
-
--- of one file: by what is claimed, then the holder's text
-unfoldable pub claimed_before : Row → Row → Bool
-claimed_before a b =
-    if class_of a.what == class_of b.what then by_holder (slice_cmp nat_cmp a.holder b.holder) (what_before a.what b.what)
-    else nat_lt (class_of a.what) (class_of b.what)
+-- how a row stands to another
+unfoldable pub row_cmp : Row → Row → Ordering
+row_cmp a b = ordering_then (by_file a b) (ordering_then (by_class a b) (ordering_then (by_holder a b) (by_range a b)))
 
 -- the first row stands before the second
-unfoldable pub row_before : Row → Row → Bool
-row_before a b = if a.file == b.file then claimed_before a b else nat_lt a.file b.file
+abbrev pub row_before : Row → Row → Bool
+row_before a b = is_lt (row_cmp a b)
 
 -- ---- the line of a row
 
