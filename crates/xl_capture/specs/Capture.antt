@@ -1,5 +1,5 @@
 -- The text of a capture.
-use Rattle.std.specs.Prelude.{◌≡◌, ℕ, ◌+◌, Bool, true, false, not, ◌==◌, ◌&&◌, ◌||◌, nat_le, nat_lt, if◌then◌else◌, List, [], ◌∷◌, ◌++◌, length, codes, bytes_eq, Option, Some, None, Result, Ok, Err}
+use Rattle.std.specs.Prelude.{◌≡◌, ℕ, ◌+◌, Bool, true, false, not, ◌==◌, ◌&&◌, ◌||◌, nat_le, nat_lt, if◌then◌else◌, List, [], ◌∷◌, ◌++◌, length, take, codes, bytes_eq, Option, Some, None, Result, Ok, Err}
 use Rattle.std.specs.List.{slice_split, list_all, list_any}
 use Rattle.std.specs.Option.{option_map, option_map_or, option_and_then, option_to_list}
 use Rattle.std.specs.Result.{result_ok}
@@ -216,9 +216,13 @@ abbrev pub capture_in : Result Reading ℕ → Result Capture ℕ
 capture_in (Ok r) = Ok r.capture
 capture_in (Err line) = Err line
 
--- the capture that a text is, of which no more than one byte past the most is given
+-- what is looked at of a text: no more than one byte past the most
+abbrev pub looked_at : List ℕ → List ℕ
+looked_at text = take (most_bytes + 1) text
+
+-- the capture that a text is; where the text goes past the most bytes, the line with the byte past them is bad
 unfoldable pub captured : List ℕ → Result Capture ℕ
-captured text = capture_in (with_lines (nat_lt most_bytes (length text)) no_reading 0 (lines_of text))
+captured text = capture_in (with_lines (nat_lt most_bytes (length text)) no_reading 0 (lines_of (looked_at text)))
 
 -- the line that an error names, none for want of memory
 abbrev pub bad_line : CaptureError → Option ℕ

@@ -19,7 +19,7 @@ use Rattle.xl_smb.specs.Heads.{command_of}
 use Rattle.xl_smb.specs.Messages.{MessageItem, Call, Reply, Told, message_at}
 use Rattle.xl_smb.specs.declared.fault.SmbBad.{SmbBad}
 use Rattle.xl_smb.specs.declared.head.SmbHead.{SmbHead}
-use Rattle.xl_capture.specs.Capture.{lines_of, words_of, bytes_of, is_passed_over, is_last, most_bytes}
+use Rattle.xl_capture.specs.Capture.{lines_of, words_of, bytes_of, is_passed_over, is_last, most_bytes, looked_at}
 
 -- a message that can't be read, by its fault's number
 abbrev pub bad_text : ℕ → List ℕ
@@ -192,6 +192,6 @@ show_lines past before n (l ∷ ls) =
     if past && is_last ls then Err (n + 1)
     else option_map_or (λ line. show_lines past (before ++ line) (n + 1) ls) (show_line l) (Err (n + 1))
 
--- what is shown of a text, of which no more than one byte past the most of a capture is given
+-- what is shown of a text, which has no more bytes than a capture
 unfoldable pub shown : List ℕ → Result (List ℕ) ℕ
-shown text = show_lines (nat_lt most_bytes (length text)) [] 0 (lines_of text)
+shown text = show_lines (nat_lt most_bytes (length text)) [] 0 (lines_of (looked_at text))

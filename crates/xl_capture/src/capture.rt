@@ -76,7 +76,7 @@ impl<T: Drop> From<AllocFailed<T>> for LineError {
     }
 }
 
-ghost use Rattle.xl_capture.specs.Capture.{is_line_end, lines_of, words_of, is_name_byte, is_file_name, is_graphic, is_address, bytes_of, is_named, takes_file, with_file, takes_address, with_address, with_host, with_open, with_piece, with_bytes, with_ended, with_end, with_called, with_reply, with_no_reply, with_words, is_passed_over, with_line, with_lines, captured, bad_line, Follows, ReadsAs};
+ghost use Rattle.xl_capture.specs.Capture.{is_line_end, lines_of, words_of, is_name_byte, is_file_name, is_graphic, is_address, bytes_of, is_named, takes_file, with_file, takes_address, with_address, with_host, with_open, with_piece, with_bytes, with_ended, with_end, with_called, with_reply, with_no_reply, with_words, is_passed_over, with_line, with_lines, looked_at, captured, bad_line, Follows, ReadsAs};
 ghost use Rattle.xl_capture.specs.Numbers.{number_of};
 
 #[tactic(auto, using(crate::proofs::LineLaws::first_line, crate::proofs::LineLaws::only_line))]
@@ -375,8 +375,15 @@ fn add_line(alloc: Global, reading: &mut Reading, line: &[u8]) -> Result<(), Lin
     add_words(alloc, reading, &words)
 }
 
+/// What is looked at of a text: no more than one byte past `MOST_BYTES`.
+pub(crate) fn looked_at(text: &[u8]) -> &[u8]
+    ensures { result.now ≡ looked_at text.now }
+{
+    &text[..text.len().min(MOST_BYTES + 1)]
+}
+
 #[tactic(auto, using(crate::proofs::LineLaws::is_last_line), unfolding(crate::specs::Capture::with_lines, crate::specs::Capture::captured))]
-/// Reads a capture. Of a text past `MOST_BYTES` one byte more is given, and the line with that byte is bad.
+/// Reads a capture. Of a text past `MOST_BYTES` the line with the byte past them is bad, if none before it is.
 pub fn read_capture(alloc: Global, text: &[u8]) -> Result<Capture, CaptureError>
     ensures { GivesUnless bad_line (λ c. c) result (captured text.now) }
 {
@@ -390,7 +397,8 @@ pub fn read_capture(alloc: Global, text: &[u8]) -> Result<Capture, CaptureError>
         links: Links::new(alloc),
         begun: false,
     };
-    let mut rest = text;
+    let head = looked_at(text);
+    let mut rest = head;
     let mut number = 0u64;
     'lines: while let Some((line, after)) = next_line(rest) {
         number += 1;

@@ -3,8 +3,8 @@ use Rattle.std.specs.Prelude.{List, [], ◌∷◌, ◌++◌, Option, Some, None,
 use Rattle.std.specs.Prelude.{Result, Ok, Err}
 use Rattle.xl_base.specs.declared.event.Kind.{Kind}
 use Rattle.xl_frame.specs.declared.fault.FrameBad.{FrameBad}
-use Rattle.xl_frame.specs.declared.fault.FeedError.{FeedError}
-use Rattle.xl_frame.specs.declared.fault.FeedError.TheVariants.{NoMemory, Bad}
+use Rattle.xl_frame.specs.declared.fault.FeedErr.{FeedErr}
+use Rattle.xl_frame.specs.declared.fault.FeedErr.TheVariants.{NoMemory, Bad}
 use Rattle.xl_frame.specs.Frames.{Framed, with_frames, frames}
 
 -- the old one where it has a fault, else the new one
@@ -38,7 +38,7 @@ fed c piece = cutting c.kind (then_piece c.kind (framed_of c) piece)
 
 -- What feeding a piece answers and leaves: Ok where no bad place is met, else its fault, and after want of memory what
 -- was there before.
-abbrev pub Feeds : Cutting → List ℕ → Result (Unit {0}) FeedError → Cutting → Type 0
+abbrev pub Feeds : Cutting → List ℕ → Result (Unit {0}) FeedErr → Cutting → Type 0
 Feeds old piece (Ok done) new = (new ≡ fed old piece) × (new.bad ≡ None)
 Feeds old piece (Err NoMemory) new = new ≡ old
 Feeds old piece (Err (Bad fault)) new = (new ≡ fed old piece) × (new.bad ≡ Some fault)
