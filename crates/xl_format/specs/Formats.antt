@@ -1,14 +1,14 @@
 -- Formats of XDR (RFC 4506), and formats that are put together of others.
-use Rattle.std.specs.Prelude.{◌≡◌, ℕ, ℤ, ◌^◌, Bool, true, false, List, [], ◌++◌, length, nat_lt}
-use Rattle.std.proofs.Common.{refl}
+use Rattle.std.specs.Prelude.{◌≡◌, ℕ, ℤ, ◌^◌, Bool, true, false, List, [], ◌++◌, length, Option, Some, None, nat_lt}
+use Rattle.std.proofs.Common.{refl, sym, subst}
 use Rattle.std.proofs.lemmas.Bool.{ltb-true}
 use Rattle.xl_base.specs.Codec.{pair_at, as_at, exactly_at, tagged_at, nothing_at, never_at}
-use Rattle.xl_base.specs.Formats.{Format, numbered_at, Cases, others, cases_at, Chosen, spelled, AreSeen, IsMade}
-use Rattle.xl_base.proofs.CodecLaws.{pair_codec, as_codec, view_codec, exactly_codec, tagged_codec, nothing_codec, never_codec}
+use Rattle.xl_base.specs.Formats.{Format, numbered_at, Cases, others, when, cases_at, Chosen, chosen, spelled, AreSeen, IsMade}
+use Rattle.xl_base.proofs.CodecLaws.{pair_codec, as_codec, view_codec, exactly_codec, tagged_codec, never_codec}
 use Rattle.xl_base.proofs.FormatLaws.{numbered_codec, choice_codec}
 use Rattle.xl_rpc.specs.declared.fault.RpcBad.{RpcBad}
-use Rattle.xl_rpc.specs.Xdr.{unsigned, hyper, signed, boolean, fixed, opaque, words, UnsignedFits, HyperFits, SignedFits, BooleanFits, OpaqueFits, WordsFit, unsigned_at, hyper_at, signed_at, boolean_at, opaque_fixed_at, opaque_at, words_at}
-use Rattle.xl_rpc.proofs.XdrLaws.{unsigned_codec, hyper_codec, signed_codec, boolean_codec, opaque_fixed_codec, opaque_codec, words_codec}
+use Rattle.xl_rpc.specs.Xdr.{void, unsigned, hyper, signed, boolean, fixed, opaque, words, UnsignedFits, HyperFits, SignedFits, BooleanFits, OpaqueFits, WordsFit, unsigned_at, hyper_at, signed_at, boolean_at, opaque_fixed_at, opaque_at, words_at}
+use Rattle.xl_rpc.proofs.XdrLaws.{void_codec, unsigned_codec, hyper_codec, signed_codec, boolean_codec, opaque_fixed_codec, opaque_codec, words_codec}
 
 -- ---- formats of XDR
 
@@ -56,13 +56,17 @@ abbrev pub marked : {A : Type 0} (n : ℕ) → RpcBad → nat_lt n (2 ^ 32) ≡ 
 marked n fault small f = record { at = exactly_at n fault unsigned_at f.at; spell = λ a. unsigned n ++ f.spell a; Fit = f.Fit; codec = exactly_codec n fault unsigned_codec (ltb-true n (2 ^ 32) small) f.codec }
 
 -- nothing at all, this value without any bytes, and what is never there
-abbrev pub nothing : {E : Type 0} → Format (Unit {0}) E
-nothing = record { at = nothing_at; spell = λ _. []; Fit = λ _. Unit {0}; codec = nothing_codec }
+unfoldable pub nothing : Format (Unit {0}) RpcBad
+nothing = record { at = nothing_at; spell = λ _. void; Fit = λ _. Unit {0}; codec = void_codec }
 
-abbrev pub just : {A E : Type 0} → A → Format A E
-just a = record { at = as_at (λ _. a) nothing_at; spell = λ _. []; Fit = λ x. a ≡ x; codec = view_codec (λ _. a) (λ _. []) (λ x. a ≡ x) nothing_codec (λ _ _. (refl, refl)) (λ x same. (tt, same, tt)) }
+pub nothing_fits : nothing.Fit tt
+unfolding nothing
+nothing_fits = tt
 
-abbrev pub never : {A E : Type 0} → E → Format A E
+abbrev pub just : {A : Type 0} → A → Format A RpcBad
+just a = record { at = as_at (λ _. a) nothing.at; spell = λ _. nothing.spell tt; Fit = λ x. a ≡ x; codec = view_codec (λ _. a) (λ _. nothing.spell tt) (λ x. a ≡ x) nothing.codec (λ _ _. (refl, refl)) (λ x same. (tt, same, nothing_fits)) }
+
+abbrev pub never : {A : Type 0} → RpcBad → Format A RpcBad
 never fault = record { at = never_at fault; spell = λ _. []; Fit = λ _. ⊥; codec = never_codec fault (λ _. []) (λ _. ⊥) (λ _ none. none) }
 
 -- ---- values that are numbered
@@ -78,15 +82,15 @@ numbered fault to from made = record {
 -- ---- one form of several
 
 -- at a number of no form stands this fault
-abbrev pub otherwise : {K A E : Type 0} → E → Cases K A E
+abbrev pub otherwise : {K A : Type 0} → RpcBad → Cases K A RpcBad
 otherwise fault = others (λ _. never fault)
 
-abbrev pub none_else : {K A E : Type 0} (choose : A → Chosen K A E) (before : K → Bool) (fault : E) → AreSeen choose before (otherwise fault)
+abbrev pub none_else : {K A : Type 0} (choose : A → Chosen K A RpcBad) (before : K → Bool) (fault : RpcBad) → AreSeen choose before (otherwise fault)
 none_else choose before fault = (λ k unknown a none. absurd none, tt)
 
 -- the value that stands without any bytes at this key where the condition holds
-abbrev pub standing : {K A E : Type 0} → K → A → Type 0 → Chosen K A E
-standing {K} {A} key a Condition = record { key = key; Part = Unit {0}; make = λ _. a; format = nothing; part = tt; Fit = Condition; fits = λ _. tt }
+abbrev pub standing : {K A : Type 0} → K → A → Type 0 → Chosen K A RpcBad
+standing {K} {A} key a Condition = record { key = key; Part = Unit {0}; make = λ _. a; format = nothing; part = tt; Fit = Condition; fits = λ _. nothing_fits }
 
 -- the form at a key that is known before
 abbrev pub choice : {K A E : Type 0} (cases : Cases K A E) (choose : A → Chosen K A E) → AreSeen choose (λ _. false) cases → ((a : A) → IsMade cases a (choose a)) → K → Format A E
@@ -100,3 +104,20 @@ tagged key cases choose as_seen made = record {
   Fit = λ a. key.Fit (choose a).key × (choose a).Fit;
   codec = tagged_codec (λ a. (choose a).key) key.codec (choice_codec cases choose as_seen made);
 }
+
+-- a thing that is there where the test holds
+abbrev pub there_if : {A : Type 0} → Format A RpcBad → Cases Bool (Option A) RpcBad
+there_if f = when (λ b. b) true (λ b holds. holds) Some f (others (λ _. just None))
+
+abbrev pub chosen_part : {A : Type 0} → Format A RpcBad → Option A → Chosen Bool (Option A) RpcBad
+chosen_part f (Some a) = chosen true Some f a
+chosen_part f None = standing false None (Unit {0})
+
+pub part_made : {A : Type 0} (f : Format A RpcBad) (o : Option A) → IsMade (there_if f) o (chosen_part f o)
+part_made f (Some a) = (refl, λ _ _. refl)
+part_made f None = (refl, λ _ _. refl)
+
+abbrev pub optional : {A : Type 0} → Bool → Format A RpcBad → Format (Option A) RpcBad
+optional {A} test f = choice (there_if f) (chosen_part f)
+    (λ _. refl, (λ k absent o same. subst (λ (x : Option A). (spelled (chosen_part f x) ≡ nothing.spell tt) × (((chosen_part f x).key ≡ k) × (chosen_part f x).Fit)) same (refl, (sym absent, tt)), tt))
+    (part_made f) test

@@ -8,12 +8,12 @@ use Rattle.std.proofs.lemmas.Bool.{eqb-true, ltb-true, ltb-false, leb-true, le-l
 use Rattle.std.proofs.lemmas.Bool.Decides.{nat_tests}
 use Rattle.std.proofs.lemmas.Int.{of_z-to_z, to_z-of_z}
 use Rattle.std.proofs.lemmas.List.{length-append, length-drop, length-replicate, length-take-le, take-append-drop, take_at, drop_at, append-nil}
-use Rattle.xl_base.specs.Codec.{IsCodec, guard_at, fixed_at}
-use Rattle.xl_base.proofs.CodecLaws.{view_codec, guard_codec, tagged_codec, same_codec, fixed_codec, bind_ok, guard_ok, guard_not, ok_is, big_endian_32, big_endian_64}
+use Rattle.xl_base.specs.Codec.{IsCodec, guard_at, fixed_at, nothing_at}
+use Rattle.xl_base.proofs.CodecLaws.{view_codec, guard_codec, tagged_codec, same_codec, fixed_codec, bind_ok, guard_ok, guard_not, ok_is, nothing_codec, big_endian_32, big_endian_64}
 use Rattle.std.specs.Prelude.{OnOk, OnErr}
 use Rattle.xl_rpc.specs.declared.fault.RpcBad.{RpcBad}
 use Rattle.xl_rpc.specs.declared.fault.RpcBad.TheVariants as bad
-use Rattle.xl_rpc.specs.Xdr.{words, words_at, WordsFit, Begins, Keeps, IsReadAgain, unsigned, hyper, signed, boolean, pad, fixed, opaque, unsigned_at, hyper_at, signed_at, boolean_at, is_padded, opaque_fixed_at, opaque_at}
+use Rattle.xl_rpc.specs.Xdr.{void, words, words_at, WordsFit, Begins, Keeps, IsReadAgain, unsigned, hyper, signed, boolean, pad, fixed, opaque, unsigned_at, hyper_at, signed_at, boolean_at, is_padded, opaque_fixed_at, opaque_at}
 
 -- the front of four zeros
 pub zeros_are : (n : ℕ) → n < 4 → take {A = ℕ} n (0 ∷ 0 ∷ 0 ∷ 0 ∷ []) ≡ replicate n 0
@@ -101,6 +101,10 @@ opaque_codec most lt = same_codec opaque (λ bytes. length bytes ≤ most)
     (λ n. same_codec fixed (λ bytes. (length bytes ≡ n) × Unit {0}) (opaque_fixed_codec n) (λ bytes len. (refl, (len, tt))) (λ bytes fit. fit.0)))
     (λ bytes fit. (refl, leb-true (length bytes) most fit.0.1))
     (λ bytes le. ((omega arith, le-leb (length bytes) most le), tt))
+
+pub void_codec : IsCodec {E = RpcBad} nothing_at (λ _. void) (λ _. Unit {0})
+unfolding void
+void_codec = nothing_codec
 
 pub words_codec : IsCodec words_at words WordsFit
 unfolding words_at words

@@ -1,5 +1,5 @@
 -- XDR (RFC 4506): the spelling of each item, and its reading with the first fault met.
-use Rattle.std.specs.Prelude.{◌≡◌, ℕ, ℤ, ◌+◌, ◌-◌, ◌*◌, ◌/◌, ◌%◌, ◌^◌, ◌<◌, ◌≤◌, ◌==◌, Bool, List, ◌++◌, length, take, drop, replicate, Result, Ok, OnOk, nat_lt, nat_le, if◌then◌else◌}
+use Rattle.std.specs.Prelude.{◌≡◌, ℕ, ℤ, ◌+◌, ◌-◌, ◌*◌, ◌/◌, ◌%◌, ◌^◌, ◌<◌, ◌≤◌, ◌==◌, Bool, List, [], ◌++◌, length, take, drop, replicate, Result, Ok, OnOk, nat_lt, nat_le, if◌then◌else◌}
 use Rattle.std.specs.Int.{w32, w64, cast_signed, cast_unsigned}
 use Rattle.std.specs.Int.RustNames.{FitsSigned}
 use Rattle.std.specs.List.{list_all}
@@ -21,6 +21,10 @@ signed z = unsigned (cast_unsigned w32 z)
 
 abbrev pub boolean : Bool → List ℕ
 boolean b = unsigned (if b then 1 else 0)
+
+-- nothing (4.16)
+unfoldable pub void : List ℕ
+void = []
 
 -- how many zero bytes fill n bytes to whole units of four (3)
 unfoldable pub pad : ℕ → ℕ
