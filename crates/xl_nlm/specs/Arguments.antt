@@ -20,9 +20,6 @@ unfoldable pub lock : Format LockItem RpcBad
 lock = seen (λ l. record { caller_name = l.0; fh = l.1.0; oh = l.1.1.0; svid = l.1.1.1.0; l_offset = l.1.1.1.1.0; l_len = l.1.1.1.1.1 })
     (λ l. (l.caller_name, (l.fh, (l.oh, (l.svid, (l.l_offset, l.l_len)))))) (name ⋆ name ⋆ name ⋆ i32 ⋆ u64 ⋆ u64) (λ _. refl) (λ _. refl)
 
-abbrev pub LockFits : LockItem → Type 0
-LockFits l = lock.Fit l
-
 unfoldable pub test_args : Format TestArgsItem RpcBad
 test_args = seen (λ a. record { cookie = a.0; exclusive = a.1.0; lock = a.1.1 }) (λ a. (a.cookie, (a.exclusive, a.lock))) (name ⋆ flag ⋆ lock) (λ _. refl) (λ _. refl)
 
@@ -93,6 +90,22 @@ call_made _ = (refl, λ _ _. refl)
 
 unfoldable pub arguments_of : ℕ → Format CallItem RpcBad
 arguments_of proc = choice calls call (λ _. refl, (λ _. refl, (λ _. refl, (λ _. refl, (λ _. refl, (λ _. refl, (λ _. refl, (λ _. refl, (λ _. refl, (λ _. refl, none_else call _ bad.Value)))))))))) call_made proc
+
+-- what has a spelling
+abbrev pub LockFits : LockItem → Type 0
+LockFits l = lock.Fit l
+
+abbrev pub TestArgsFits : TestArgsItem → Type 0
+TestArgsFits a = test_args.Fit a
+
+abbrev pub LockArgsFits : LockArgsItem → Type 0
+LockArgsFits a = lock_args.Fit a
+
+abbrev pub CancelArgsFits : CancelArgsItem → Type 0
+CancelArgsFits a = cancel_args.Fit a
+
+abbrev pub UnlockArgsFits : UnlockArgsItem → Type 0
+UnlockArgsFits a = unlock_args.Fit a
 
 -- the procedure of a call, its arguments, and whether they have a spelling
 abbrev pub procedure_of : CallItem → ℕ

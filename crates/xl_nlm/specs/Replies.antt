@@ -84,6 +84,9 @@ results r = spelled (reply r)
 abbrev pub ReplyFits : ReplyItem → Type 0
 ReplyFits r = (reply r).Fit
 
+abbrev pub ResFits : ResItem → Type 0
+ResFits r = res.Fit r
+
 -- results of this procedure that have a spelling
 abbrev pub IsReplyTo : ℕ → ReplyItem → Type 0
 IsReplyTo proc r = ((reply r).key ≡ form_of proc) × ReplyFits r
