@@ -144,19 +144,19 @@ never_codec fault spell Fit none = record {
 }
 
 -- what stands behind a tag: tag_of is the tag of a value
-pub tagged_codec : {A E : Type 0} {number : List ℕ → Result (ℕ × List ℕ) E} {spell_number : ℕ → List ℕ} {Fit_number : ℕ → Type 0} {at : ℕ → List ℕ → Result (A × List ℕ) E} {spell : A → List ℕ} {Fit : A → Type 0} (tag_of : A → ℕ)
-    → IsCodec number spell_number Fit_number → ((tag : ℕ) → IsCodec (at tag) spell (λ v. (tag_of v ≡ tag) × Fit v))
-    → IsCodec (tagged_at number at) (λ v. spell_number (tag_of v) ++ spell v) (λ v. Fit_number (tag_of v) × Fit v)
-tagged_codec {A} {E} {number} {spell_number} {Fit_number} {at} {spell} {Fit} tag_of f g = record {
+pub tagged_codec : {K A E : Type 0} {key : List ℕ → Result (K × List ℕ) E} {spell_key : K → List ℕ} {Fit_key : K → Type 0} {at : K → List ℕ → Result (A × List ℕ) E} {spell : A → List ℕ} {Fit : A → Type 0} (tag_of : A → K)
+    → IsCodec key spell_key Fit_key → ((tag : K) → IsCodec (at tag) spell (λ v. (tag_of v ≡ tag) × Fit v))
+    → IsCodec (tagged_at key at) (λ v. spell_key (tag_of v) ++ spell v) (λ v. Fit_key (tag_of v) × Fit v)
+tagged_codec {K} {A} {E} {key} {spell_key} {Fit_key} {at} {spell} {Fit} tag_of f g = record {
   takes = λ bytes x is e.
-      let tag = bind_ok (number bytes) (λ tag. at tag.0 tag.1) x e in
+      let tag = bind_ok (key bytes) (λ tag. at tag.0 tag.1) x e in
       let one = f.takes bytes tag.0 is tag.1 in
       let two = (g tag.0.0).takes tag.0.1 x one.0.rest_is tag.2 in
       let same : tag.0.0 ≡ tag_of x.0 = sym two.1.0 in
-      let both = Takes-then bytes (spell_number tag.0.0) tag.0.1 (spell x.0) x.1 one.0 two.0 in
-      (subst (λ (k : ℕ). Takes bytes (spell_number k ++ spell x.0) x.1) same both, (subst Fit_number same one.1, two.1.1));
+      let both = Takes-then bytes (spell_key tag.0.0) tag.0.1 (spell x.0) x.1 one.0 two.0 in
+      (subst (λ (k : K). Takes bytes (spell_key k ++ spell x.0) x.1) same both, (subst Fit_key same one.1, two.1.1));
   again = λ v rest fit.
-      ap (tagged_at number at) (append_assoc (spell_number (tag_of v)) (spell v) rest)
+      ap (tagged_at key at) (append_assoc (spell_key (tag_of v)) (spell v) rest)
       ∙ rw (f.again (tag_of v) (spell v ++ rest) fit.0) ((g (tag_of v)).again v rest (refl, fit.1));
 }
 

@@ -36,9 +36,9 @@ guard_at test fault at bytes = at bytes >>= λ a. if test a.0 then Ok a else Err
 abbrev pub exactly_at : {A E : Type 0} → ℕ → E → (List ℕ → Result (ℕ × List ℕ) E) → (List ℕ → Result (A × List ℕ) E) → List ℕ → Result (A × List ℕ) E
 exactly_at n fault number at bytes = number bytes >>= λ m. if m.0 == n then at m.1 else Err fault
 
--- a number, and what it says stands behind it
-abbrev pub tagged_at : {A E : Type 0} → (List ℕ → Result (ℕ × List ℕ) E) → (ℕ → List ℕ → Result (A × List ℕ) E) → List ℕ → Result (A × List ℕ) E
-tagged_at number at bytes = number bytes >>= λ tag. at tag.0 tag.1
+-- a tag, and what it says stands behind it
+abbrev pub tagged_at : {K A E : Type 0} → (List ℕ → Result (K × List ℕ) E) → (K → List ℕ → Result (A × List ℕ) E) → List ℕ → Result (A × List ℕ) E
+tagged_at key at bytes = key bytes >>= λ tag. at tag.0 tag.1
 
 -- one thing where the tag is n, and another where it isn't
 abbrev pub if_at : {A E : Type 0} → ℕ → ℕ → (List ℕ → Result (A × List ℕ) E) → (List ℕ → Result (A × List ℕ) E) → List ℕ → Result (A × List ℕ) E

@@ -148,5 +148,5 @@ pub fn refused_locks_are_unlocked()
         → nlm_called n f s number bytes ≡ ([], taken f number, s) }
     ensures unknown { (n : ℕ) (f : FrontState) (s : CoreState) (number : ℕ) (bytes : Option (List ℕ)) → find (λ c. c.number == number) f.calls ≡ None
         → nlm_called n f s number bytes ≡ ([], f, s) }
-    ensures read { (xid : ℕ) (r : ResItem) (rest : List ℕ) → UnsignedFits xid → ResFits r → refuses (Some (reply xid Success ++ (res r ++ rest))) ≡ not (is_granted r.stat) }
+    ensures read { (xid : ℕ) (r : ResItem) (rest : List ℕ) → UnsignedFits xid → ResFits r → refuses (Some (reply xid Success ++ (res.spell r ++ rest))) ≡ not (is_granted r.stat) }
 {}

@@ -24,7 +24,7 @@ use xl_core::{Answer, Core, Effect};
 use xl_nlm::{CancelArgs, LockArgs, TestArgs, UnlockArgs};
 
 /// TEST.
-#[tactic(auto, unfolding(crate::specs::Serving::test_done), using(crate::proofs::StepLaws::goes_on_self, crate::proofs::StepLaws::grows_self))]
+#[tactic(auto, unfolding(crate::specs::Serving::test_done, xl_nlm::specs::Arguments::test_args, xl_nlm::specs::Arguments::lock), using(crate::proofs::StepLaws::goes_on_self, crate::proofs::StepLaws::grows_self))]
 pub(crate) fn test<K: Keeper>(
     alloc: Global,
     count: usize,
@@ -53,7 +53,7 @@ pub(crate) fn test<K: Keeper>(
 }
 
 /// A lock that nobody waits for already. The caller may be a host from then on.
-#[tactic(auto, using(crate::proofs::StepLaws::lock_room_to_note))]
+#[tactic(auto, unfolding(xl_nlm::specs::Arguments::lock_args, xl_nlm::specs::Arguments::lock), using(crate::proofs::StepLaws::lock_room_to_note))]
 fn lock_at<K: Keeper>(
     alloc: Global,
     front: &mut Front,
@@ -113,7 +113,7 @@ pub(crate) fn lock<K: Keeper>(
 }
 
 /// UNLOCK.
-#[tactic(auto, unfolding(crate::specs::Serving::unlock_done), using(crate::proofs::StepLaws::goes_on_self, crate::proofs::StepLaws::grows_self))]
+#[tactic(auto, unfolding(crate::specs::Serving::unlock_done, xl_nlm::specs::Arguments::unlock_args, xl_nlm::specs::Arguments::lock), using(crate::proofs::StepLaws::goes_on_self, crate::proofs::StepLaws::grows_self))]
 pub(crate) fn unlock<K: Keeper>(
     alloc: Global,
     count: usize,

@@ -3,7 +3,7 @@ ghost use Rattle.std.specs.Prelude.{◌≡◌, ℕ, ◌+◌, ◌≤◌, ◌<◌,
 ghost use Rattle.std.specs.List.{AllByRecursion};
 ghost use Rattle.xl_nlm.specs.Arguments.{arguments_at, CallFits};
 ghost use Rattle.xl_nlm.specs.Items.{shown_call, shown_reply};
-ghost use Rattle.xl_nlm.specs.Replies.{results, IsShortReply};
+ghost use Rattle.xl_nlm.specs.Replies.{results, ReplyFits};
 ghost use Rattle.xl_rpc.specs.Calls.{shown_head};
 ghost use Rattle.xl_rpc.specs.Replies.{reply};
 ghost use Rattle.xl_rpc.specs.declared.reply.Verdict.TheVariants.{Success};
@@ -56,7 +56,7 @@ fn plain(
 /// A reply with results, which are short.
 #[tactic(auto, using(crate::proofs::ReplyLaws::whole_short))]
 fn with_results(alloc: Global, xid: u32, told: &NlmReply) -> Result<Vec<u8>, AllocError>
-    requires { IsShortReply (shown_reply told.now) }
+    requires { ReplyFits (shown_reply told.now) }
     ensures reply { IfOk result (λ v. v.items ≡ reply xid Success ++ results (shown_reply told.now)) }
     ensures little { IfOk result (λ v. length v.items ≤ 65536) }
 {

@@ -1,10 +1,26 @@
 //! A writer of XDR items (RFC 4506).
-ghost use Rattle.std.specs.Prelude.{◌≡◌, ◌<◌, ◌≤◌, ◌^◌, [], ◌++◌, length, OnOk, OnErr};
-ghost use Rattle.xl_rpc.specs.Xdr.{unsigned, hyper, signed, boolean, fixed, opaque};
+ghost use Rattle.std.specs.Prelude.{◌≡◌, ◌<◌, ◌≤◌, ◌^◌, [], ◌++◌, length, take, OnOk, OnErr};
+ghost use Rattle.xl_rpc.specs.Xdr.{Keeps, unsigned, hyper, signed, boolean, fixed, opaque};
 
 use crate::xdr::padding;
 use std::alloc::{AllocError, Global};
 use std::marker::Model;
+
+/// Writes a message by an expression that writes its items one behind the other: where memory runs out within it, what
+/// was written of it is taken back.
+#[macro_export]
+macro_rules! put_whole {
+    ($out:ident; $put:expr) => {{
+        let before = $out.len();
+        match $put {
+            Ok(()) => Ok(()),
+            Err(error) => {
+                $out.truncate(before);
+                Err(error)
+            }
+        }
+    }};
+}
 
 /// A writer of items one behind the other. A contract sees the bytes written so far. Want of memory leaves them as
 /// they were.
@@ -31,15 +47,6 @@ impl XdrOut {
         }
     }
 
-    /// Another writer with nothing written, which takes its memory from the same allocator. It takes none itself.
-    pub fn new_beside(&self) -> XdrOut
-        ensures { result ≡ [] }
-    {
-        XdrOut {
-            bytes: Vec::new(*self.bytes.allocator()),
-        }
-    }
-
     /// The bytes written so far.
     pub fn as_slice(&self) -> &[u8]
         ensures { result.now ≡ self.now }
@@ -56,61 +63,79 @@ impl XdrOut {
     }
 
     /// Writes an unsigned integer (RFC 4506 4.2).
+    #[tactic(auto, using(crate::proofs::XdrLaws::keeps_front))]
     pub fn u32(&mut self, value: u32) -> Result<(), AllocError>
         ensures ok { OnOk result (self.new ≡ self.old ++ unsigned value) }
         ensures err { OnErr result (self.new ≡ self.old) }
+        ensures kept { Keeps self.old self.new }
     {
         put_u32(&mut self.bytes, value)
     }
 
     /// Writes an unsigned hyper integer (RFC 4506 4.5).
+    #[tactic(auto, using(crate::proofs::XdrLaws::keeps_front))]
     pub fn u64(&mut self, value: u64) -> Result<(), AllocError>
         ensures ok { OnOk result (self.new ≡ self.old ++ hyper value) }
         ensures err { OnErr result (self.new ≡ self.old) }
+        ensures kept { Keeps self.old self.new }
     {
         put_u64(&mut self.bytes, value)
     }
 
     /// Writes an integer (RFC 4506 4.1).
+    #[tactic(auto, using(crate::proofs::XdrLaws::keeps_front))]
     pub fn i32(&mut self, value: i32) -> Result<(), AllocError>
         ensures ok { OnOk result (self.new ≡ self.old ++ signed value) }
         ensures err { OnErr result (self.new ≡ self.old) }
+        ensures kept { Keeps self.old self.new }
     {
         put_u32(&mut self.bytes, value.cast_unsigned())
     }
 
     /// Writes a bool (RFC 4506 4.4).
+    #[tactic(auto, using(crate::proofs::XdrLaws::keeps_front))]
     pub fn boolean(&mut self, value: bool) -> Result<(), AllocError>
         ensures ok { OnOk result (self.new ≡ self.old ++ boolean value) }
         ensures err { OnErr result (self.new ≡ self.old) }
+        ensures kept { Keeps self.old self.new }
     {
         put_u32(&mut self.bytes, if value { 1 } else { 0 })
     }
 
     /// Writes opaque data or a string: its length, the bytes, and zero bytes to whole units of four (RFC 4506 4.10).
+    #[tactic(auto, using(crate::proofs::XdrLaws::keeps_front))]
     pub fn opaque(&mut self, value: &[u8]) -> Result<(), AllocError>
         requires { length value.now < 2 ^ 32 }
         ensures ok { OnOk result (self.new ≡ self.old ++ opaque value.now) }
         ensures err { OnErr result (self.new ≡ self.old) }
+        ensures kept { Keeps self.old self.new }
     {
         put_opaque(&mut self.bytes, value)
     }
 
     /// Writes opaque data without its length, and zero bytes to whole units of four (RFC 4506 4.9).
+    #[tactic(auto, using(crate::proofs::XdrLaws::keeps_front))]
     pub fn fixed(&mut self, value: &[u8]) -> Result<(), AllocError>
         requires { length value.now < 2 ^ 32 }
         ensures ok { OnOk result (self.new ≡ self.old ++ fixed value.now) }
         ensures err { OnErr result (self.new ≡ self.old) }
+        ensures kept { Keeps self.old self.new }
     {
         put_units(&mut self.bytes, &[], value)
     }
 
-    /// Writes what another writer wrote, behind what was written before.
-    pub fn append(&mut self, written: &XdrOut) -> Result<(), AllocError>
-        ensures ok { OnOk result (self.new ≡ self.old ++ written.now) }
-        ensures err { OnErr result (self.new ≡ self.old) }
+    /// How many bytes are written so far.
+    pub fn len(&self) -> usize
+        ensures { result ≡ length self.now }
     {
-        self.bytes.extend_from_slice(written.as_slice())
+        self.bytes.len()
+    }
+
+    /// Takes back what was written behind so many bytes.
+    pub fn truncate(&mut self, len: usize)
+        ensures { self.new ≡ take len self.old }
+    {
+        self.bytes.truncate(len)
     }
 }
 
