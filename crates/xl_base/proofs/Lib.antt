@@ -2,3 +2,4 @@ pub mod CodecLaws
 pub mod Members
 pub mod MemoryLaws
 pub mod StableLaws
+pub mod Searches

@@ -1,0 +1,4 @@
+pub mod TargetLaws
+pub mod LevelLaws
+pub mod PlanLaws
+pub mod BreakLaws
