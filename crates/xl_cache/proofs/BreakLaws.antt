@@ -1,9 +1,9 @@
 -- What is left of a broken cache may stand beside what is asked, and is less than there was; and an ask that need not
 -- wait is blocked by nothing that is left.
-use Rattle.std.proofs.Common.{◌≡◌, ℕ, Bool, true, false, not, ◌&&◌, ◌||◌, ◌==◌, Option, Some, None, if◌then◌else◌, inl, inr, List, [], ◌∷◌, find, refl, sym, ap, subst, ◌∙◌}
+use Rattle.std.proofs.Common.{◌≡◌, Bool, true, false, not, ◌&&◌, ◌||◌, ◌==◌, Option, Some, None, inl, inr, List, find, refl, sym, ap, subst, ◌∙◌}
 use Rattle.std.specs.Prelude.{IsSome, IfSome}
-use Rattle.std.specs.List.{filter, filter_map, list_any}
-use Rattle.std.proofs.lemmas.Bool.{cases_Bool, both_ways, and_parts, and_from, or_cases, or_left, or_right, or_parts, not-true, not-false, not_from_true, not_from_false}
+use Rattle.std.specs.List.{list_any}
+use Rattle.std.proofs.lemmas.Bool.{cases_Bool, both_ways, and_parts, and_from, or_cases, or_left, or_right, or_parts, not-true, not-false, not_from_false}
 use Rattle.xl_base.specs.Lists.{IsIn}
 use Rattle.xl_base.specs.declared.name.Owner.{Owner}
 use Rattle.xl_base.specs.declared.name.Party.{Party}
@@ -19,14 +19,14 @@ use Rattle.xl_matrix.specs.declared.claim.Claim.{Claim}
 use Rattle.xl_matrix.specs.Kinds.{guarding, keeps_handle}
 use Rattle.xl_matrix.specs.Equal.{same_owners, same_parties, same_claims}
 use Rattle.xl_matrix.specs.Matrix.{fit_by, compat}
-use Rattle.xl_matrix.specs.Blocks.{is_share, is_range, is_cache, is_replaced, is_own, is_met, is_met_by_own, blocks}
-use Rattle.xl_matrix.proofs.EqualLaws.{same_parties-true, same_parties-self, same_claims-self}
+use Rattle.xl_matrix.specs.Blocks.{is_share, is_range, is_cache, is_own, is_met, is_met_by_own, blocks}
+use Rattle.xl_matrix.proofs.EqualLaws.{same_parties-true, same_claims-self}
 use Rattle.xl_cache.specs.declared.need.Need.{Need}
 use Rattle.xl_cache.specs.declared.planner.Plan.{Plan}
-use Rattle.xl_cache.specs.Targets.{rests, loses_handle, target_of, needs_answer}
-use Rattle.xl_cache.specs.Planning.{keeps_handle_by, is_running, with_kind, keeps_open, is_covered, is_final, blocking_shares, covers, is_in_the_way, need_of, break_by, break_of, is_awaited, needs_answer_by, is_slow, recalled_from, recalled_by, is_ended, left_by, planned, is_obstacle, FitsWhenBroken, is_less}
+use Rattle.xl_cache.specs.Targets.{loses_handle, target_of}
+use Rattle.xl_cache.specs.Planning.{keeps_handle_by, is_running, with_kind, keeps_open, is_covered, is_final, blocking_shares, covers, is_in_the_way, need_of, break_by, break_of, needs_answer_by, is_slow, recalled_from, recalled_by, is_ended, left_by, planned, is_obstacle, FitsWhenBroken, is_less}
 use Rattle.xl_cache.proofs.TargetLaws.{rest_by}
-use Rattle.xl_cache.proofs.PlanLaws.{obstacle_breaks, break_is_of, names_all}
+use Rattle.xl_cache.proofs.PlanLaws.{obstacle_breaks, names_all}
 
 -- ---- what is left
 
@@ -297,8 +297,8 @@ unfolding left_by
 plan_frees ask held none free =
     any_none (blocks ask) (left_by (planned ask held) held)
     (λ c i.
-      let stays = in_filter_from (λ d. not (is_ended (planned ask held).breaks d)) c held i in
-      elim (cases_Bool (blocks ask c)) [
-        | inl b ↦ absurd (both_ways (is_ended (planned ask held).breaks c) (not-true (is_ended (planned ask held).breaks c) stays.1) (blocker_ends ask held c none free stays.0 b))
-        | inr e ↦ e
-      ])
+    let stays = in_filter_from (λ d. not (is_ended (planned ask held).breaks d)) c held i in
+    elim (cases_Bool (blocks ask c)) [
+      | inl b ↦ absurd (both_ways (is_ended (planned ask held).breaks c) (not-true (is_ended (planned ask held).breaks c) stays.1) (blocker_ends ask held c none free stays.0 b))
+      | inr e ↦ e
+    ])

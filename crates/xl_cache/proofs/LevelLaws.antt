@@ -1,5 +1,5 @@
 -- Lease states and kinds.
-use Rattle.std.proofs.Common.{◌≡◌, ℕ, Bool, true, false, ◌==◌, Option, Some, None, refl, sym, ap, inl, inr, ◌∙◌, cond}
+use Rattle.std.proofs.Common.{◌≡◌, ℕ, true, false, ◌==◌, Some, None, refl, sym, ap, inl, inr, ◌∙◌}
 use Rattle.std.proofs.lemmas.Bool.{cases_Bool, both_ways, eqb-true}
 use Rattle.xl_matrix.specs.declared.claim.CacheKind.{CacheKind}
 use Rattle.xl_matrix.specs.declared.claim.CacheKind.TheVariants.{R, RH, RW, RWH, ReadDeleg, WriteDeleg}

@@ -2,3 +2,4 @@ pub mod TargetLaws
 pub mod LevelLaws
 pub mod PlanLaws
 pub mod BreakLaws
+pub mod WishLaws

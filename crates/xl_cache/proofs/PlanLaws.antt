@@ -1,22 +1,20 @@
 -- A plan names each cache in the way of an ask, and no other.
-use Rattle.std.proofs.Common.{◌≡◌, Bool, true, false, not, ◌&&◌, ◌||◌, Option, Some, None, if◌then◌else◌, inl, inr, List, [], ◌∷◌, map, find, refl, sym, ap, subst, ◌∙◌}
-use Rattle.std.specs.Prelude.{IsSome, IfSome}
-use Rattle.std.specs.List.{filter, filter_map, list_any}
+use Rattle.std.proofs.Common.{◌≡◌, true, false, not, ◌&&◌, Option, Some, None, inl, inr, List, find, refl, sym, ap, subst}
+use Rattle.std.specs.Prelude.{IfSome}
+use Rattle.std.specs.List.{list_any}
 use Rattle.std.proofs.lemmas.Bool.{cases_Bool, both_ways, and_parts, and_from, or_cases}
 use Rattle.xl_base.specs.Lists.{IsIn}
 use Rattle.xl_base.proofs.Members.{in_map}
 use Rattle.xl_base.proofs.Searches.{any_found, find_in, find_some, in_filter_map, in_filter_map_from}
 use Rattle.xl_matrix.specs.declared.claim.CacheKind.{CacheKind}
-use Rattle.xl_matrix.specs.declared.claim.Break.{Break}
 use Rattle.xl_matrix.specs.declared.claim.What.{What}
 use Rattle.xl_matrix.specs.declared.claim.What.TheVariants.{Share, Range, Cache}
 use Rattle.xl_matrix.specs.declared.claim.Claim.{Claim}
 use Rattle.xl_matrix.specs.Equal.{same_parties}
 use Rattle.xl_matrix.specs.Blocks.{is_cache, blocks}
 use Rattle.xl_cache.specs.declared.need.Need.{Need}
-use Rattle.xl_cache.specs.declared.planner.Plan.{Plan}
 use Rattle.xl_cache.specs.Targets.{target_of}
-use Rattle.xl_cache.specs.Planning.{keeps_handle_by, is_running, keeps_open, blocking_shares, covers, is_in_the_way, need_of, break_by, break_of, is_awaited, is_slow, recalled_from, recalled_by, plan_with, planned, broken_claim, is_obstacle, NamesAll, NamesOnly}
+use Rattle.xl_cache.specs.Planning.{keeps_handle_by, is_running, keeps_open, blocking_shares, covers, is_in_the_way, need_of, break_by, break_of, is_awaited, is_slow, recalled_from, recalled_by, planned, broken_claim, is_obstacle, NamesAll, NamesOnly}
 
 -- what keeps a handle is a cache
 keeper_is_cache : (what : What) → keeps_handle_by what ≡ true → is_cache what ≡ true
@@ -67,9 +65,9 @@ pub names_all : (ask : Claim) (held : List Claim) → NamesAll ask held (planned
 unfolding planned
 names_all ask held = record {
   begun = λ c i h r.
-    let b = obstacle_breaks ask (blocking_shares ask held) c h r in
-    in_map broken_claim (c, b.0) (planned ask held).breaks (in_filter_map (break_of ask (blocking_shares ask held)) c (c, b.0) held i b.1);
-  awaited = λ c i h r. find_some (is_awaited ask (blocking_shares ask held)) c held i (and_from (is_in_the_way ask (blocking_shares ask held) c) (is_running c.what) h r)
+      let b = obstacle_breaks ask (blocking_shares ask held) c h r in
+      in_map broken_claim (c, b.0) (planned ask held).breaks (in_filter_map (break_of ask (blocking_shares ask held)) c (c, b.0) held i b.1);
+  awaited = λ c i h r. find_some (is_awaited ask (blocking_shares ask held)) c held i (and_from (is_in_the_way ask (blocking_shares ask held) c) (is_running c.what) h r);
 }
 
 -- a break of the plan is that of an obstacle

@@ -1,10 +1,9 @@
 -- What breaks leave of a cache.
-use Rattle.std.proofs.Common.{◌≡◌, Bool, true, false, ◌&&◌, ◌||◌, if◌then◌else◌, Option, Some, None, refl, sym, ap, subst, ◌∙◌}
+use Rattle.std.proofs.Common.{◌≡◌, Bool, true, false, ◌&&◌, ◌||◌, if◌then◌else◌, Option, Some, None, refl, sym, subst}
 use Rattle.xl_matrix.specs.declared.claim.CacheKind.{CacheKind}
 use Rattle.xl_matrix.specs.declared.claim.CacheKind.TheVariants.{R, RH, RW, RWH, ReadDeleg, WriteDeleg}
-use Rattle.xl_matrix.specs.Kinds.{kind_lies_within}
 use Rattle.xl_cache.specs.declared.need.Need.{Need}
-use Rattle.xl_cache.specs.Targets.{is_delegation, rests, loses_handle, target_of, rest_lies_within, together}
+use Rattle.xl_cache.specs.Targets.{rests, loses_handle, target_of, rest_lies_within, together}
 
 -- what a break leaves, by whether a range is asked and whether the handle goes
 abbrev pub rest_by : CacheKind → Bool → Bool → Option CacheKind

@@ -1,7 +1,7 @@
 -- Kinds of caches as SMB numbers them: oplock levels and lease states (MS-SMB2 2.2.13, 2.2.13.2.8).
 use Rattle.std.specs.Prelude.{ℕ, ◌==◌, Option, Some, None, if◌then◌else◌, List, [], ◌∷◌}
 use Rattle.xl_matrix.specs.declared.claim.CacheKind.{CacheKind}
-use Rattle.xl_matrix.specs.declared.claim.CacheKind.TheVariants.{R, RH, RW, RWH, ReadDeleg, WriteDeleg}
+use Rattle.xl_matrix.specs.declared.claim.CacheKind.TheVariants.{R, RH, RW, RWH}
 
 -- the bits of a lease state: 1 for reading, 2 for the handle, 4 for writing
 abbrev pub state_of : Option CacheKind → ℕ

@@ -1,5 +1,5 @@
 -- Which caches an ask breaks, and which it waits for.
-use Rattle.std.specs.Prelude.{◌≡◌, map, IsSome, IfSome, Bool, true, false, not, ◌&&◌, ◌||◌, ◌==◌, Option, Some, None, is_some, if◌then◌else◌, List, [], ◌∷◌}
+use Rattle.std.specs.Prelude.{◌≡◌, map, IsSome, IfSome, Bool, true, false, not, ◌&&◌, ◌||◌, ◌==◌, Option, Some, None, is_some, if◌then◌else◌, List}
 use Rattle.std.specs.List.{filter, filter_map, find, list_any}
 use Rattle.xl_base.specs.Lists.{IsIn}
 use Rattle.xl_base.specs.declared.name.Party.{Party}

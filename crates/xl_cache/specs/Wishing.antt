@@ -1,5 +1,5 @@
 -- What a wish for a cache gets (MS-SMB2 3.3.5.9, RFC 7530 10.4).
-use Rattle.std.specs.Prelude.{Bool, true, false, not, ◌&&◌, ◌||◌, ◌==◌, Option, Some, None, if◌then◌else◌, List, [], ◌∷◌}
+use Rattle.std.specs.Prelude.{◌≡◌, Bool, true, ◌&&◌, ◌||◌, ◌==◌, Option, Some, None, if◌then◌else◌, List}
 use Rattle.std.specs.List.{filter_map, find, list_all}
 use Rattle.xl_matrix.specs.declared.claim.CacheKind.{CacheKind}
 use Rattle.xl_matrix.specs.declared.claim.CacheKind.TheVariants.{RWH}
@@ -63,3 +63,8 @@ granted_beside wanted held (Some c) = raised_by wanted held c.what
 -- stand; where it has one, the first join that may, but nothing while its break runs. None where all stays as it is.
 unfoldable pub granted_kind : Wish → List Claim → Option CacheKind
 granted_kind wanted held = granted_beside wanted held (find (is_its_cache wanted) held)
+
+-- a cache of which no break runs, that lies within this kind
+abbrev pub Keeps : What → CacheKind → Type 0
+Keeps (Cache kind None) raised = kind_lies_within kind raised ≡ true
+Keeps _ raised = ⊥

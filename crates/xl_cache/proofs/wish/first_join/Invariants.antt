@@ -1,7 +1,7 @@
 use Rattle.std.proofs.Common.{◌≡◌, find, drop}
 use Rattle.std.specs.List.{filter_map}
 use Rattle.xl_cache.specs.Wishing.{joined, may_replace}
-use Rattle.xl_cache.proofs.wish.best_join.Given as goal
+use Rattle.xl_cache.proofs.wish.first_join.Given as goal
 
 abbrev pub invariant-kinds : goal.invariant-kinds
 invariant-kinds l =
