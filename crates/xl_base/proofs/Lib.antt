@@ -2,5 +2,6 @@ pub mod CodecLaws
 pub mod FormatLaws
 pub mod Members
 pub mod MemoryLaws
-pub mod StableLaws
+pub mod Searches
 pub mod SortLaws
+pub mod StableLaws
