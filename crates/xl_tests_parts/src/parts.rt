@@ -4,6 +4,7 @@ use std::str::Split;
 
 mod asks;
 mod base;
+mod exact;
 mod matrix;
 mod names;
 mod spans;
