@@ -20,7 +20,9 @@ use xl_base::{
     Event, Exports, Halt, Head, Journal, Moment, ReadOutcome, Record, Sequence, Sink, Source,
     WriteOutcome,
 };
-use xl_capture::{Capture, CaptureError, MOST_BYTES, read_capture, show_text, transcript};
+use xl_capture::{
+    Addresses, Capture, CaptureError, MOST_BYTES, read_capture, show_text, transcript,
+};
 use xl_house::House;
 
 /// How a run ended.
@@ -189,12 +191,12 @@ fn idle(alloc: Global, status: u8, line: u64) -> Done
 fn start(
     alloc: Global,
     files: Sequence<Sequence<u8>>,
-    addresses: Sequence<(Sequence<u8>, Sequence<u8>)>,
+    addresses: Addresses,
 ) -> Option<House<SureKeeper>>
     ensures { IfSome result (λ h. (h.head ≡ head_with files addresses) × ((h.entries ≡ []) × (h.halt ≡ None))) }
 {
     let keeper = SureKeeper::new(alloc, Record::new(alloc));
-    let exports = exports_with(files, addresses);
+    let exports = exports_with(files, addresses.into_sequence());
     match House::start(alloc, exports, keeper, Moment(0)) {
         Ok(house) => Some(house),
         Err(ended) => match ended.halt {
@@ -221,7 +223,7 @@ fn step_capture(alloc: Global, capture: Capture) -> Option<(House<SureKeeper>, R
         addresses,
         events,
     } = capture;
-    let mut house = start(alloc, files, addresses.into_sequence())?;
+    let mut house = start(alloc, files, addresses)?;
     let ended = step_all(alloc, &mut house, events.into_vec());
     Some((house, ended))
 }
