@@ -41,7 +41,24 @@ def first_difference(wanted, found):
     return next(said, "its end")
 
 
+def ending(program, words):
+    """The exit status and the line on standard error of the program with these words and no input."""
+    ran = subprocess.run([program, *words], stdin=subprocess.DEVNULL, capture_output=True)
+    return ran.returncode, ran.stderr.decode().rstrip()
+
+
+def word_faults(program):
+    """A word that isn't UTF-8 is no command's, and so is one that no command has."""
+    usage = 1, "xlockd: usage: replay, serve, show or make SEED COUNT"
+    for words in ([b"\xff"], [b"replay", b"\xff"], [b"fly"], []):
+        found = ending(program, words)
+        if found != usage:
+            yield f"the words {words} end with {found}"
+
+
 def faults(folder, program=None, writes=False):
+    if program:
+        yield from word_faults(program)
     names = sorted(path.stem for path in folder.glob("*.words"))
     if not names:
         yield f"{folder} has no examples"

@@ -58,6 +58,13 @@ impl Addresses {
         add(alloc, &mut self.list, &mut self.callers, caller, address)
     }
 
+    /// The callers with their addresses, in order.
+    pub fn as_slice(&self) -> &[(Sequence<u8>, Sequence<u8>)]
+        ensures { result.now ≡ self.now }
+    {
+        self.list.as_slice()
+    }
+
     /// The list of both.
     pub fn into_sequence(self) -> Sequence<(Sequence<u8>, Sequence<u8>)>
         ensures { result ≡ self }
