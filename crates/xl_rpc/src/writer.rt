@@ -47,6 +47,15 @@ impl XdrOut {
         }
     }
 
+    /// Another writer with nothing written, which takes its memory from the same allocator. It takes none itself.
+    pub fn new_beside(&self) -> XdrOut
+        ensures { result ≡ [] }
+    {
+        XdrOut {
+            bytes: Vec::new(*self.bytes.allocator()),
+        }
+    }
+
     /// The bytes written so far.
     pub fn as_slice(&self) -> &[u8]
         ensures { result.now ≡ self.now }
@@ -122,6 +131,14 @@ impl XdrOut {
         ensures kept { Keeps self.old self.new }
     {
         put_units(&mut self.bytes, &[], value)
+    }
+
+    /// Writes what another writer wrote, behind what was written before.
+    pub fn append(&mut self, written: &XdrOut) -> Result<(), AllocError>
+        ensures ok { OnOk result (self.new ≡ self.old ++ written.now) }
+        ensures err { OnErr result (self.new ≡ self.old) }
+    {
+        self.bytes.extend_from_slice(written.as_slice())
     }
 
     /// How many bytes are written so far.
