@@ -11,7 +11,8 @@ ghost use Rattle.xl_capture.specs.Show.{bad_text, whole_word, is_nlm_shown, nlm_
 ghost use Rattle.xl_nfs.specs.Compounds.{compound_head_at};
 
 use crate::capture::{
-    CaptureError, LineError, MOST_BYTES, bytes_of, is_passed_over, looked_at, is_text, next_line, words_of,
+    CaptureError, LineError, MOST_BYTES, bytes_of, is_passed_over, is_text, looked_at, next_line,
+    words_of,
 };
 use std::alloc::{AllocError, Global};
 use std::fmt::Write;

@@ -246,9 +246,11 @@ packet_found stream body rest last fits e =
           let plain = no_fault (get_or head 0 0) number p.0 in
           let len : length body ≡ number = ap length (sym p.3) ∙ omega (arith, length-take number (drop 4 stream), p.2) in
           let is : head ≡ header Smb number = smb_header head number (omega (arith, length-take 4 stream, within)) (IsBytes-take 4 stream fits) refl plain.0 in
-          let tail : body ++ rest ≡ drop 4 stream = ap (λ (b : List ℕ). b ++ rest) (sym p.3) ∙ ap (λ (r : List ℕ). take number (drop 4 stream) ++ r) (sym p.4) ∙ take-append-drop number (drop 4 stream) in
-          (sym p.1, omega (arith, len, plain.1),
-            sym (append_assoc (header Smb (length body)) body rest ∙ ap (λ (n : ℕ). header Smb n ++ (body ++ rest)) len ∙ ap (λ (h : List ℕ). h ++ (body ++ rest)) (sym is) ∙ ap (λ (t : List ℕ). head ++ t) tail ∙ take-append-drop 4 stream))
+          let tail : body ++ rest ≡ drop 4 stream = ap (λ (b : List ℕ). b ++ rest) (sym p.3) ∙ ap (λ (r : List ℕ). take number (drop 4 stream) ++ r) (sym p.4) ∙ take-append-drop number (drop 4 stream) in (
+            sym p.1,
+            omega (arith, len, plain.1),
+            sym (append_assoc (header Smb (length body)) body rest ∙ ap (λ (n : ℕ). header Smb n ++ (body ++ rest)) len ∙ ap (λ (h : List ℕ). h ++ (body ++ rest)) (sym is) ∙ ap (λ (t : List ℕ). head ++ t) tail ∙ take-append-drop 4 stream),
+          )
     ]
 
 smb_step : (stream message rest : List ℕ) → IsBytes stream → (x : Fragment) → fragment_at Smb 64 0 stream ≡ x → beyond (message_at Smb 63) 0 x ≡ Whole message rest → (length message ≤ 65536) × (stream ≡ wrapped Smb message ++ rest)

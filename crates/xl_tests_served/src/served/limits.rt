@@ -18,9 +18,10 @@ fn files(alloc: Global, count: u64) -> Result<String, AllocError> {
 }
 
 /// A call of NLM's NULL, and what is sent as its reply at the first place behind the opening.
-const NULL: &str = "80000028000000050000000000000002000186b5000000040000000000000000000000000000000000000000";
-const FULL: &str =
-    "7 0 1048576\n1 c0 80000018000000050000000100000000000000000000000000000000\n";
+const NULL: &str =
+    "80000028000000050000000000000002000186b5000000040000000000000000000000000000000000000000";
+
+const FULL: &str = "7 0 1048576\n1 c0 80000018000000050000000100000000000000000000000000000000\n";
 
 /// One connection, and this record before so many empty ones in one line, each of which is an event without a reply.
 fn records(alloc: Global, first: &str, count: u64) -> Result<String, AllocError> {
