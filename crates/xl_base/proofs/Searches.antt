@@ -1,9 +1,10 @@
 -- Laws of searches in a list: whether an element passes a test, the first that does, and what a function gives of each.
-use Rattle.std.proofs.Common.{◌≡◌, Bool, true, false, Option, Some, None, inl, inr, List, [], ◌∷◌, refl, sym, ap, ◌∙◌}
+use Rattle.std.proofs.Common.{◌≡◌, Bool, true, false, Option, Some, None, inl, inr, List, [], ◌∷◌, refl, sym, ap, subst, ◌∙◌}
 use Rattle.std.specs.Prelude.{IsSome, IfSome}
-use Rattle.std.specs.List.{find, filter_map, cons_option, list_any}
+use Rattle.std.specs.List.{find, filter_map, cons_option, list_any, AllByRecursion}
 use Rattle.std.proofs.lemmas.Bool.{cases_Bool, both_ways, or_cases, or_left, or_right, or_parts}
 use Rattle.xl_base.specs.Lists.{IsIn}
+use Rattle.xl_base.proofs.Members.{all_from}
 
 -- an element that passes
 pub any_found : {A : Type 0} (p : A → Bool) (xs : List A) → list_any p xs ≡ true → (x : A) × IsIn x xs × (p x ≡ true)
@@ -62,6 +63,16 @@ find_some p x (y ∷ ys) h passes =
             | inr t ↦ find_some p x ys t passes
           ])
     ]
+
+-- where none is found, none passes
+pub none_found : {A : Type 0} (p : A → Bool) (xs : List A) → find p xs ≡ None → AllByRecursion (λ x. p x ≡ false) xs
+none_found {A = A} p xs none =
+    all_from (λ x. p x ≡ false) xs
+    (λ x i.
+    elim (cases_Bool (p x)) [
+      | inl passes ↦ absurd (both_ways false refl (subst (λ (o : Option A). IsSome o) none (find_some p x xs i passes)))
+      | inr fails ↦ fails
+    ])
 
 pub in_filter_map : {A B : Type 0} (f : A → Option B) (x : A) (y : B) (xs : List A) → IsIn x xs → f x ≡ Some y → IsIn y (filter_map f xs)
 in_filter_map f x y [] h is = absurd h

@@ -22,11 +22,10 @@ use Rattle.xl_matrix.specs.Matrix.{fit_by, compat}
 use Rattle.xl_matrix.specs.Blocks.{is_share, is_range, is_cache, is_own, is_met, is_met_by_own, blocks}
 use Rattle.xl_matrix.proofs.EqualLaws.{same_parties-true, same_claims-self}
 use Rattle.xl_cache.specs.declared.need.Need.{Need}
-use Rattle.xl_cache.specs.declared.planner.Plan.{Plan}
 use Rattle.xl_cache.specs.Targets.{loses_handle, target_of}
-use Rattle.xl_cache.specs.Planning.{keeps_handle_by, is_running, with_kind, keeps_open, is_covered, is_final, blocking_shares, covers, is_in_the_way, need_of, break_by, break_of, needs_answer_by, is_slow, recalled_from, recalled_by, is_ended, left_by, planned, is_obstacle, FitsWhenBroken, is_less}
+use Rattle.xl_cache.specs.Planning.{keeps_handle_by, is_running, with_kind, keeps_open, is_covered, is_final, blocking_shares, covers, is_in_the_way, need_of, break_by, break_of, needs_answer_by, is_slow, recalled_by, is_ended, left_by, planned, is_obstacle, FitsWhenBroken, is_less}
 use Rattle.xl_cache.proofs.TargetLaws.{rest_by}
-use Rattle.xl_cache.proofs.PlanLaws.{obstacle_breaks, names_all}
+use Rattle.xl_cache.proofs.PlanLaws.{no_wait, obstacle_breaks, names_all}
 
 -- ---- what is left
 
@@ -208,15 +207,6 @@ plan_less ask held n b i =
     ]
 
 -- ---- an ask that need not wait
-
-recalled_none : (awaited : Option Claim) (slow : Option (Claim × Option CacheKind)) → recalled_from awaited slow ≡ None → (awaited ≡ None) × (slow ≡ None)
-recalled_none (Some c) slow h = absurd cc
-recalled_none None (Some b) h = absurd cc
-recalled_none None None h = (refl, refl)
-
-no_wait : (p : Plan) → recalled_by p ≡ None → (p.awaited ≡ None) × (find is_slow p.breaks ≡ None)
-unfolding recalled_by
-no_wait p h = recalled_none p.awaited (find is_slow p.breaks) h
 
 some_none : {A : Type 0} (o : Option A) → o ≡ None → IsSome o → ⊥
 some_none None e s = both_ways false refl s

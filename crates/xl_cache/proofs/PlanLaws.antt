@@ -1,11 +1,11 @@
 -- A plan names each cache in the way of an ask, and no other.
-use Rattle.std.proofs.Common.{◌≡◌, true, false, not, ◌&&◌, Option, Some, None, inl, inr, List, find, refl, sym, ap, subst}
+use Rattle.std.proofs.Common.{◌≡◌, true, false, not, ◌&&◌, Option, Some, None, inl, inr, List, map, find, refl, sym, ap, subst}
 use Rattle.std.specs.Prelude.{IfSome}
-use Rattle.std.specs.List.{list_any}
+use Rattle.std.specs.List.{filter, list_any, AllByRecursion}
 use Rattle.std.proofs.lemmas.Bool.{cases_Bool, both_ways, and_parts, and_from, or_cases}
 use Rattle.xl_base.specs.Lists.{IsIn}
-use Rattle.xl_base.proofs.Members.{in_map}
-use Rattle.xl_base.proofs.Searches.{any_found, find_in, find_some, in_filter_map, in_filter_map_from}
+use Rattle.xl_base.proofs.Members.{in_map, in_filter}
+use Rattle.xl_base.proofs.Searches.{any_found, find_in, find_some, none_found, in_filter_map, in_filter_map_from}
 use Rattle.xl_matrix.specs.declared.claim.CacheKind.{CacheKind}
 use Rattle.xl_matrix.specs.declared.claim.What.{What}
 use Rattle.xl_matrix.specs.declared.claim.What.TheVariants.{Share, Range, Cache}
@@ -13,6 +13,7 @@ use Rattle.xl_matrix.specs.declared.claim.Claim.{Claim}
 use Rattle.xl_matrix.specs.Equal.{same_parties}
 use Rattle.xl_matrix.specs.Blocks.{is_cache, blocks}
 use Rattle.xl_cache.specs.declared.need.Need.{Need}
+use Rattle.xl_cache.specs.declared.planner.Plan.{Plan}
 use Rattle.xl_cache.specs.Targets.{target_of}
 use Rattle.xl_cache.specs.Planning.{keeps_handle_by, is_running, keeps_open, blocking_shares, covers, is_in_the_way, need_of, break_by, break_of, is_awaited, is_slow, recalled_from, recalled_by, planned, broken_claim, is_obstacle, NamesAll, NamesOnly}
 
@@ -95,3 +96,31 @@ recalled_in ask held = by (planned ask held).awaited (find is_slow (planned ask 
 
 pub names_only : (ask : Claim) (held : List Claim) → NamesOnly ask held (planned ask held)
 names_only ask held = record { begun = begun_in ask held; awaited = awaited_in ask held; recalled = recalled_in ask held }
+
+-- ---- who is recalled
+
+pub awaited_is_recalled : (p : Plan) → IfSome p.awaited (λ c. recalled_by p ≡ Some c)
+unfolding recalled_by
+awaited_is_recalled p = by p.awaited where
+  by : (o : Option Claim) → IfSome o (λ c. recalled_from o (find is_slow p.breaks) ≡ Some c)
+  by None = tt
+  by (Some c) = refl
+
+pub slow_is_recalled : (p : Plan) → p.awaited ≡ None → IfSome (recalled_by p) (λ c. IsIn c (map broken_claim (filter is_slow p.breaks)))
+unfolding recalled_by
+slow_is_recalled p none = rw none (by (find is_slow p.breaks) (find_in is_slow p.breaks)) where
+  by : (s : Option (Claim × Option CacheKind)) → IfSome s (λ b. IsIn b p.breaks × (is_slow b ≡ true)) → IfSome (recalled_from None s) (λ c. IsIn c (map broken_claim (filter is_slow p.breaks)))
+  by None h = tt
+  by (Some b) h = in_map broken_claim b (filter is_slow p.breaks) (in_filter is_slow b p.breaks h.0 h.1)
+
+recalled_none : (awaited : Option Claim) (slow : Option (Claim × Option CacheKind)) → recalled_from awaited slow ≡ None → (awaited ≡ None) × (slow ≡ None)
+recalled_none (Some c) slow h = absurd cc
+recalled_none None (Some b) h = absurd cc
+recalled_none None None h = (refl, refl)
+
+pub no_wait : (p : Plan) → recalled_by p ≡ None → (p.awaited ≡ None) × (find is_slow p.breaks ≡ None)
+unfolding recalled_by
+no_wait p h = recalled_none p.awaited (find is_slow p.breaks) h
+
+pub none_is_slow : (p : Plan) → recalled_by p ≡ None → (p.awaited ≡ None) × AllByRecursion (λ b. is_slow b ≡ false) p.breaks
+none_is_slow p h = let both = no_wait p h in (both.0, none_found is_slow p.breaks both.1)

@@ -1,12 +1,11 @@
 -- What a wish gets.
 use Rattle.std.proofs.Common.{◌≡◌, Bool, true, false, ◌&&◌, ◌||◌, Option, Some, None, inl, inr, List, [], ◌∷◌, find, refl, subst}
-use Rattle.std.specs.Prelude.{IsSome, IfSome, IfNone}
+use Rattle.std.specs.Prelude.{IfSome, IfNone}
 use Rattle.std.specs.Option.{IsSomeAnd}
 use Rattle.std.specs.List.{filter_map, list_all, AllByRecursion}
 use Rattle.std.proofs.lemmas.Bool.{cases_Bool, both_ways, and_parts, and_from, or_right}
 use Rattle.xl_base.specs.Lists.{IsIn}
-use Rattle.xl_base.proofs.Members.{all_from}
-use Rattle.xl_base.proofs.Searches.{find_in, find_some, in_filter_map_from}
+use Rattle.xl_base.proofs.Searches.{find_in, none_found, in_filter_map_from}
 use Rattle.xl_matrix.specs.declared.claim.CacheKind.{CacheKind}
 use Rattle.xl_matrix.specs.declared.claim.CacheKind.TheVariants.{R, RH, RW, RWH, ReadDeleg, WriteDeleg}
 use Rattle.xl_matrix.specs.declared.claim.What.{What}
@@ -24,21 +23,12 @@ pub best_is_chosen : (wanted : Wish) (held : List Claim) → IfSome (best_of wan
 unfolding best_of
 best_is_chosen wanted held = find_in (may_stand wanted held) wanted.kinds
 
-found_none : {A : Type 0} (p : A → Bool) (xs : List A) → IfNone (find p xs) (AllByRecursion (λ x. p x ≡ false) xs)
-found_none {A = A} p xs = by (find p xs) refl where
-  by : (o : Option A) → find p xs ≡ o → IfNone o (AllByRecursion (λ x. p x ≡ false) xs)
-  by (Some x) e = tt
-  by None e =
-      all_from (λ x. p x ≡ false) xs
-      (λ x i.
-      elim (cases_Bool (p x)) [
-        | inl passes ↦ absurd (both_ways false refl (subst (λ (o : Option A). IsSome o) e (find_some p x xs i passes)))
-        | inr fails ↦ fails
-      ])
-
 pub none_is_chosen : (wanted : Wish) (held : List Claim) → IfNone (best_of wanted held) (AllByRecursion (λ kind. may_stand wanted held kind ≡ false) wanted.kinds)
 unfolding best_of
-none_is_chosen wanted held = found_none (may_stand wanted held) wanted.kinds
+none_is_chosen wanted held = by (find (may_stand wanted held) wanted.kinds) refl where
+  by : (o : Option CacheKind) → find (may_stand wanted held) wanted.kinds ≡ o → IfNone o (AllByRecursion (λ kind. may_stand wanted held kind ≡ false) wanted.kinds)
+  by (Some kind) e = tt
+  by None e = none_found (may_stand wanted held) wanted.kinds e
 
 -- ---- joins
 

@@ -1,6 +1,8 @@
 //! A plan of breaks, and what it comes to.
-ghost use Rattle.std.specs.Prelude.{◌≡◌, find};
-ghost use Rattle.xl_cache.specs.Planning.{needs_answer_by, is_slow, recalled_from, recalled_by};
+ghost use Rattle.std.specs.Prelude.{◌≡◌, false, Some, None, IfSome, filter, find, map};
+ghost use Rattle.std.specs.List.{AllByRecursion};
+ghost use Rattle.xl_base.specs.Lists.{IsIn};
+ghost use Rattle.xl_cache.specs.Planning.{needs_answer_by, is_slow, broken_claim, recalled_from, recalled_by};
 
 use crate::need::answer_needed;
 use xl_base::Sequence;
@@ -42,10 +44,8 @@ fn first_slow(breaks: &[(Claim, Option<CacheKind>)]) -> Option<(Claim, Option<Ca
     None
 }
 
-/// The cache whose answer the ask has to wait for: the awaited one, else the first whose break begins now and needs an
-/// answer. None where the ask need not wait: then every break of the plan takes effect as it is told.
 #[tactic(auto, unfolding(crate::specs::Planning::recalled_by))]
-pub fn recalled(plan: &Plan) -> Option<Claim>
+fn find_recalled(plan: &Plan) -> Option<Claim>
     ensures { result ≡ recalled_by plan.now }
 {
     match plan.awaited {
@@ -55,4 +55,16 @@ pub fn recalled(plan: &Plan) -> Option<Claim>
             None => None,
         },
     }
+}
+
+/// The cache whose answer the ask has to wait for: the awaited one, else the first whose break begins now and needs an
+/// answer. None where the ask need not wait: every break of the plan then takes effect as it is told. It takes no
+/// memory.
+pub fn recalled(plan: &Plan) -> Option<Claim>
+    ensures is { result ≡ recalled_by plan.now }
+    ensures awaited { IfSome plan.now.awaited (λ c. result ≡ Some c) }
+    ensures begun { plan.now.awaited ≡ None → IfSome result (λ c. IsIn c (map broken_claim (filter is_slow plan.now.breaks))) }
+    ensures none { result ≡ None → (plan.now.awaited ≡ None) × AllByRecursion (λ b. is_slow b ≡ false) plan.now.breaks }
+{
+    find_recalled(plan)
 }

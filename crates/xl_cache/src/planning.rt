@@ -2,7 +2,7 @@
 ghost use Rattle.std.specs.Prelude.{◌≡◌, ◌&&◌, Bool, true, false, None, IfOk, IfSome, IsSome, filter, find};
 ghost use Rattle.std.specs.List.{AllByRecursion, filter_map, list_any};
 ghost use Rattle.xl_matrix.specs.Blocks.{is_share, is_range, is_cache, blocks};
-ghost use Rattle.xl_cache.specs.Planning.{keeps_handle_by, is_running, is_oplock, keeps_open, is_covered, blocking_shares, covers, is_in_the_way, need_of, break_by, break_of, is_awaited, plan_with, planned, NamesAll, NamesOnly, MakesWay, IsFreeUnlessRecalled};
+ghost use Rattle.xl_cache.specs.Planning.{keeps_handle_by, is_running, is_oplock, keeps_open, is_covered, is_final, blocking_shares, covers, is_in_the_way, need_of, break_by, break_of, is_awaited, plan_with, planned, NamesAll, NamesOnly, MakesWay, IsFreeUnlessRecalled};
 
 use crate::need::{Need, target};
 use crate::planner::Plan;
@@ -62,6 +62,14 @@ pub fn is_share_covered(ask: &Claim, held: &[Claim], share: &Claim) -> bool
     ensures { result ≡ is_covered ask.now held.now share.now }
 {
     is_a_share(share.what) && !same_party(share.party, ask.party) && has_keeper(share, held)
+}
+
+/// Whether the claim blocks the ask for good: it is a share or a range, and not covered, so that no break makes way. An
+/// ask that such a claim blocks is refused or waits, and breaks nothing. It takes no memory.
+pub fn is_final_blocker(ask: &Claim, held: &[Claim], claim: &Claim) -> bool
+    ensures { result ≡ is_final ask.now held.now claim.now }
+{
+    is_blocked_by(ask, claim) && !is_a_cache(claim.what) && !is_share_covered(ask, held, claim)
 }
 
 fn list_blocking_shares(
@@ -174,8 +182,8 @@ fn make_plan(alloc: Global, ask: &Claim, held: &[Claim]) -> Result<Plan, AllocEr
 
 /// The breaks that an ask for a share or a range begins, and whether it waits for one that runs (MS-FSA 2.1.4.12,
 /// RFC 7530 10.4.4). In the way are the caches that block the ask, and those that cover a share that does. Each of which
-/// no break runs is broken, in the order in which they are held; of the others the ask waits for the first. Where a
-/// blocker is neither a cache nor covered no break makes way, and the plan is not to be carried out.
+/// no break runs is broken, in the order in which they are held; of the others the ask waits for the first. An ask that
+/// a claim blocks for good (see `is_final_blocker`) breaks nothing, and its plan is not to be carried out.
 pub fn plan(alloc: Global, ask: &Claim, held: &[Claim]) -> Result<Plan, AllocError>
     ensures is { IfOk result (λ p. p ≡ planned ask.now held.now) }
     ensures all { IfOk result (λ p. NamesAll ask.now held.now p) }

@@ -6,10 +6,10 @@ use std::alloc::{AllocError, Global};
 use std::str::Split;
 use xl_base::Sequence;
 use xl_cache::{
-    CacheKind, Need, Plan, Wish, answer_needed, best, best_join, guards, is_oplock_party,
-    is_share_covered, join, kind_for, kind_in_lease, lease_kinds_have_states, lease_state,
-    leaves_what_all_leave, oplock_level, plan, recalled, rest_within, target, wish_of_lease,
-    wish_of_oplock,
+    CacheKind, Need, Plan, Wish, answer_needed, best, best_join, guards, is_final_blocker,
+    is_oplock_party, is_share_covered, join, kind_for, kind_in_lease, lease_kinds_have_states,
+    lease_state, leaves_what_all_leave, oplock_level, plan, recalled, rest_within, target,
+    wish_of_lease, wish_of_oplock,
 };
 use xl_matrix::{Claim, What, is_a_cache, is_a_range, is_a_share, is_blocked_by, same_claim};
 
@@ -166,27 +166,32 @@ fn plans_of_breaks(rt: HostRuntime) {
     }
 }
 
-/// What is asked, what is held, and whether the share that stands first there blocks, and is covered.
+/// What is asked, what is held, and whether the claim that stands first there blocks, is covered, and blocks for good.
 const COVERED: &str = "\
-nfs share w -|open share r w;open cache RH|yes|yes
-nfs share w -|open share r w;lease cache RH|yes|no
-nfs share w -|open share r w;open cache RW|yes|no
-nfs share w -|open share r w;open break RWH 7|yes|yes
-open share w -|open share r w;open cache RH|no|no
-lease share w -|client share r w;client cache read|yes|yes
-nfs share w -|open share r -;open cache RH|no|yes";
+nfs share w -|open share r w;open cache RH|yes|yes|no
+nfs share w -|open share r w;lease cache RH|yes|no|yes
+nfs share w -|open share r w;open cache RW|yes|no|yes
+nfs share w -|open share r w;open break RWH 7|yes|yes|no
+open share w -|open share r w;open cache RH|no|no|no
+lease share w -|client share r w;client cache read|yes|yes|no
+nfs share w -|open share r -;open cache RH|no|yes|no
+nfs lock 0 9|open lock 0 9;open cache RWH|yes|no|yes
+nfs lock 0 9|open cache RWH;open share r w|yes|no|no";
 
-fn is_covered(alloc: Global, row: &str) -> Result<bool, AllocError> {
+fn is_blocker(ask: &Claim, held: &[Claim], words: &mut Split<'_, char>) -> bool {
+    match held.first() {
+        None => false,
+        Some(first) => is_blocked_by(ask, first) == (next(words) == "yes")
+            && is_share_covered(ask, held, first) == (next(words) == "yes")
+            && is_final_blocker(ask, held, first) == (next(words) == "yes"),
+    }
+}
+
+fn blocks(alloc: Global, row: &str) -> Result<bool, AllocError> {
     let mut words = row.split('|');
     let ask = claim_in(next(&mut words));
     let held = claims_in(alloc, next(&mut words))?;
-    match held.first() {
-        None => Ok(false),
-        Some(share) => Ok(
-            is_blocked_by(&ask, share) == (next(&mut words) == "yes")
-                && is_share_covered(&ask, &held, share) == (next(&mut words) == "yes"),
-        ),
-    }
+    Ok(is_blocker(&ask, &held, &mut words))
 }
 
 fn is_guarded(what: What) -> bool {
@@ -209,7 +214,7 @@ fn has_words(share: &Claim, cache: &Claim) -> bool {
 #[test]
 fn covered_shares(rt: HostRuntime) {
     for row in COVERED.lines() {
-        assert!(rt; matches!(is_covered(rt.alloc(), row), Ok(true)));
+        assert!(rt; matches!(blocks(rt.alloc(), row), Ok(true)));
     }
     assert!(rt; has_words(&claim_in("nfs share r w"), &claim_in("other cache R")));
 }
