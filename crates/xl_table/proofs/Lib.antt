@@ -6,3 +6,4 @@ pub mod HolderLaws
 pub mod FitLaws
 pub mod InsertLaws
 pub mod TrialLaws
+pub mod SectionLaws
