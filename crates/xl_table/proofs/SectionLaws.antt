@@ -1,10 +1,11 @@
 -- What bisection finds in the flat list: a file's claims, an owner's shares, its ranges.
-use Rattle.std.proofs.Common.{◌≡◌, ℕ, ◌+◌, ◌-◌, ◌<◌, ◌≤◌, suc, zero, Bool, true, false, not, ◌&&◌, ◌||◌, ◌==◌, nat_lt, if◌then◌else◌, List, [], ◌∷◌, ◌++◌, length, take, drop, get_or, Option, Some, None, refl, sym, ap, subst, ◌∙◌, inl, inr, arith}
+use Rattle.std.proofs.Common.{◌≡◌, ℕ, ◌+◌, ◌-◌, ◌<◌, ◌≤◌, suc, zero, Bool, true, false, not, ◌&&◌, ◌||◌, ◌==◌, nat_lt, if◌then◌else◌, List, [], ◌∷◌, ◌++◌, length, take, drop, get_or, Option, Some, None, IfSome, refl, sym, ap, subst, ◌∙◌, inl, inr, arith}
 use Rattle.std.proofs.Math.Numerals.{one-add}
 use Rattle.std.proofs.Math.Nat.{suc-add, suc-sub-suc, sub-zero}
 use Rattle.std.specs.List.{AllByRecursion, filter, find, list_any, prefix_len, slice_get, slice_range}
 use Rattle.std.specs.List.Sorted.{IsPartitionPoint, IsPartitionedBy}
 use Rattle.std.proofs.lemmas.List.Sums.{prefix_len_is}
+use Rattle.std.proofs.lemmas.Option.{same_Some}
 use Rattle.std.proofs.lemmas.Bool.{cases_Bool, both_ways, and_parts, and_from, and_left, and_right, not-true, not-false, not_from_false, false_from_ne_true, eqb-true, eq-eqb, or_cases}
 use Rattle.std.proofs.lemmas.Bool.Decides.{nat_tests}
 use Rattle.xl_base.specs.declared.name.Owner.{Owner}
@@ -18,12 +19,15 @@ use Rattle.xl_matrix.specs.declared.claim.What.{What}
 use Rattle.xl_matrix.specs.declared.claim.What.TheVariants.{Share, Range, Cache}
 use Rattle.xl_matrix.specs.Equal.{same_owners}
 use Rattle.xl_spans.specs.declared.span.Span.{Span}
-use Rattle.xl_table.specs.Order.{no_later, owner_key, key_by, key, goes_first}
-use Rattle.xl_table.specs.Flat.{blocks, is_blocked}
+use Rattle.xl_matrix.specs.Matrix.{compat}
+use Rattle.xl_matrix.proofs.EqualLaws.{eqb-sym}
+use Rattle.xl_table.specs.Order.{no_later, owner_key, place_in_group, key_by, key, goes_first}
+use Rattle.xl_table.specs.Flat.{is_own, blocks, is_blocked}
 use Rattle.xl_table.specs.Held.{is_range, is_share, is_of, with_span, spans_of}
 use Rattle.xl_table.specs.Relock.{is_range_of, is_share_of}
 use Rattle.xl_table.specs.Sections.{group, starts, is_no_later_than, is_before, is_upto, IsParted, spans_in}
 use Rattle.xl_table.proofs.OrderLaws.{no_later-on}
+use Rattle.xl_table.proofs.InsertLaws.{not_range}
 
 -- ---- a list in which all that pass a test stand before all that fail it
 
@@ -94,8 +98,8 @@ cut_at p q within (c ∷ cs) parted ended =
           (record {
             order = omega (arith, more.order);
             before = (early, more.before);
-            section = rw (suc-sub-suc j i) more.section;
-            rest = ap (λ (ds : List Claim). c ∷ ds) more.rest;
+            section = rw (suc-sub-suc j i, within c early, early) more.section;
+            rest = rw (within c early, early) (ap (λ (ds : List Claim). c ∷ ds) more.rest);
             behind = more.behind;
           })
       | inr late ↦
@@ -106,8 +110,8 @@ cut_at p q within (c ∷ cs) parted ended =
                 (record {
                   order = omega arith;
                   before = tt;
-                  section = ap (λ (ds : List Claim). c ∷ ds) (subst (λ (n : ℕ). slice_range cs n j ≡ filter (is_between p q) cs) none more.section);
-                  rest = subst (λ (n : ℕ). take n cs ++ drop j cs ≡ filter (λ d. not (is_between p q d)) cs) none more.rest;
+                  section = rw (in_it, late) (from_zero j (filter (is_between p q) cs) (subst (λ (n : ℕ). slice_range cs n j ≡ filter (is_between p q) cs) none more.section));
+                  rest = rw (in_it, late) (subst (λ (n : ℕ). take n cs ++ drop j cs ≡ filter (λ d. not (is_between p q d)) cs) none more.rest);
                   behind = more.behind;
                 })
             | inr past ↦
@@ -115,12 +119,15 @@ cut_at p q within (c ∷ cs) parted ended =
                 (record {
                   order = omega arith;
                   before = tt;
-                  section = sym (none_pass p q cs (ended.0 past));
-                  rest = ap (λ (ds : List Claim). c ∷ ds) (sym (all_stay p q cs (ended.0 past)));
+                  section = rw past (sym (none_pass p q cs (ended.0 past)));
+                  rest = rw past (ap (λ (ds : List Claim). c ∷ ds) (sym (all_stay p q cs (ended.0 past))));
                   behind = (past, ended.0 past);
                 })
           ]
     ]
+  where
+    from_zero : (j : ℕ) (ds : List Claim) → slice_range cs 0 j ≡ ds → slice_range (c ∷ cs) 0 (suc j) ≡ c ∷ ds
+    from_zero j ds e = rw sub-zero (ap (λ (xs : List Claim). c ∷ xs) (rw sub-zero at e))
 
 -- ---- the claims whose numbers begin with these
 
@@ -187,7 +194,7 @@ section_cut front cs ordered =
 pub section_order : (front : List ℕ) (cs : List Claim) → Pairwise goes_first cs → prefix_len (is_before front) cs ≤ prefix_len (is_upto front) cs
 section_order front cs ordered = (section_cut front cs ordered).order
 
-same_filter : (p q : Claim → Bool) (cs : List Claim) → ((c : Claim) → p c ≡ q c) → filter p cs ≡ filter q cs
+pub same_filter : (p q : Claim → Bool) (cs : List Claim) → ((c : Claim) → p c ≡ q c) → filter p cs ≡ filter q cs
 same_filter p q [] same = refl
 same_filter p q (c ∷ cs) same = rw (same c, same_filter p q cs same) refl
 
@@ -198,16 +205,140 @@ section_is front test cs out i j same ordered a b is =
     ∙ (section_cut front cs ordered).section
     ∙ same_filter (is_between (is_before front) (is_upto front)) test cs (λ c. starts_is front (key c) ∙ same c)
 
+-- and all else is what stands before it and behind it
+pub section_rest : (front : List ℕ) (test : Claim → Bool) (cs : List Claim) → ((c : Claim) → starts front (key c) ≡ test c) → Pairwise goes_first cs
+    → take (prefix_len (is_before front) cs) cs ++ drop (prefix_len (is_upto front) cs) cs ≡ filter (λ c. not (test c)) cs
+section_rest front test cs same ordered =
+    (section_cut front cs ordered).rest
+    ∙ same_filter (λ c. not (is_between (is_before front) (is_upto front) c)) (λ c. not (test c)) cs (λ c. ap not (starts_is front (key c) ∙ same c))
+
 -- ---- whose numbers begin with a file, or with an owner's class there
+
+and_true : (b : Bool) → (b && true) ≡ b
+and_true true = refl
+and_true false = refl
+
+and_false : (b : Bool) → (b && false) ≡ false
+and_false true = refl
+and_false false = refl
 
 starts_file : (file : ℕ) (c : Claim) → starts (file ∷ []) (key c) ≡ (c.file == file)
 unfolding key
 starts_file file c = by c.what where
-  and_true : (b : Bool) → (b && true) ≡ b
-  and_true true = refl
-  and_true false = refl
-
   by : (w : What) → starts (file ∷ []) (key_by c w) ≡ (c.file == file)
   by (Share access deny) = and_true (c.file == file)
   by (Range extent exclusive) = and_true (c.file == file)
   by (Cache kind running) = and_true (c.file == file)
+
+same_key : (owner who : Owner) (rest : List ℕ) → starts (owner_key owner) (owner_key who ++ rest) ≡ same_owners who owner
+same_key (owners.Open n) (owners.Open m) rest = and_true (m == n)
+same_key (owners.Open n) (owners.Name Nlm m) rest = refl
+same_key (owners.Open n) (owners.Name Nfs m) rest = refl
+same_key (owners.Open n) (owners.Name Smb m) rest = and_false (m == n)
+same_key (owners.Name Nlm n) (owners.Open m) rest = refl
+same_key (owners.Name Nfs n) (owners.Open m) rest = refl
+same_key (owners.Name Smb n) (owners.Open m) rest = and_false (m == n)
+same_key (owners.Name Nlm n) (owners.Name Nlm m) rest = and_true (m == n)
+same_key (owners.Name Nlm n) (owners.Name Nfs m) rest = refl
+same_key (owners.Name Nlm n) (owners.Name Smb m) rest = refl
+same_key (owners.Name Nfs n) (owners.Name Nlm m) rest = refl
+same_key (owners.Name Nfs n) (owners.Name Nfs m) rest = and_true (m == n)
+same_key (owners.Name Nfs n) (owners.Name Smb m) rest = refl
+same_key (owners.Name Smb n) (owners.Name Nlm m) rest = refl
+same_key (owners.Name Smb n) (owners.Name Nfs m) rest = refl
+same_key (owners.Name Smb n) (owners.Name Smb m) rest = and_true (m == n)
+
+-- a claim begins with the numbers of an owner's class where it is of that class, and no other does
+pub starts_share : (file : ℕ) (owner : Owner) (c : Claim) → starts (group file 0 owner) (key c) ≡ is_share_of file owner c
+unfolding key
+starts_share file owner c = by c.what where
+  by : (w : What) → starts (group file 0 owner) (key_by c w) ≡ (is_of file owner c && is_share w)
+  by (Share access deny) = ap (λ (b : Bool). (c.file == file) && b) (same_key owner c.owner (0 ∷ [])) ∙ sym (and_true (is_of file owner c))
+  by (Range extent exclusive) = and_false (c.file == file) ∙ sym (and_false (is_of file owner c))
+  by (Cache kind running) = and_false (c.file == file) ∙ sym (and_false (is_of file owner c))
+
+pub starts_range : (file : ℕ) (owner : Owner) (c : Claim) → starts (group file 1 owner) (key c) ≡ is_range_of file owner c
+unfolding key
+starts_range file owner c = by c.what where
+  by : (w : What) → starts (group file 1 owner) (key_by c w) ≡ (is_of file owner c && is_range w)
+  by (Range extent exclusive) = ap (λ (b : Bool). (c.file == file) && b) (same_key owner c.owner (place_in_group c.owner extent ∷ [])) ∙ sym (and_true (is_of file owner c))
+  by (Share access deny) = and_false (c.file == file) ∙ sym (and_false (is_of file owner c))
+  by (Cache kind running) = and_false (c.file == file) ∙ sym (and_false (is_of file owner c))
+
+-- ---- what bisection gives
+
+pub file_section : (file : ℕ) (cs out : List Claim) (i j : ℕ) → Pairwise goes_first cs → i ≡ prefix_len (is_before (file ∷ [])) cs → j ≡ prefix_len (is_upto (file ∷ [])) cs → out ≡ slice_range cs i j → out ≡ filter (λ c. c.file == file) cs
+file_section file cs out i j ordered a b is = section_is (file ∷ []) (λ c. c.file == file) cs out i j (starts_file file) ordered a b is
+
+pub share_section : (file : ℕ) (owner : Owner) (cs out : List Claim) (i j : ℕ) → Pairwise goes_first cs → i ≡ prefix_len (is_before (group file 0 owner)) cs → j ≡ prefix_len (is_upto (group file 0 owner)) cs → out ≡ slice_range cs i j → out ≡ filter (is_share_of file owner) cs
+share_section file owner cs out i j ordered a b is = section_is (group file 0 owner) (is_share_of file owner) cs out i j (starts_share file owner) ordered a b is
+
+pub range_section : (file : ℕ) (owner : Owner) (cs out : List Claim) (i j : ℕ) → Pairwise goes_first cs → i ≡ prefix_len (is_before (group file 1 owner)) cs → j ≡ prefix_len (is_upto (group file 1 owner)) cs → out ≡ slice_range cs i j → out ≡ filter (is_range_of file owner) cs
+range_section file owner cs out i j ordered a b is = section_is (group file 1 owner) (is_range_of file owner) cs out i j (starts_range file owner) ordered a b is
+
+-- ---- what is asked of a section alone
+
+pub filter_within : (p q : Claim → Bool) (cs : List Claim) → ((c : Claim) → q c ≡ false → p c ≡ false) → filter p (filter q cs) ≡ filter p cs
+filter_within p q [] out = refl
+filter_within p q (c ∷ cs) out =
+    elim (cases_Bool (q c)) [
+      | inl in_it ↦ rw (in_it, filter_within p q cs out) refl
+      | inr past ↦ rw (past, out c past) (filter_within p q cs out)
+    ]
+
+any_within : (p q : Claim → Bool) (cs : List Claim) → ((c : Claim) → q c ≡ false → p c ≡ false) → list_any p (filter q cs) ≡ list_any p cs
+any_within p q [] out = refl
+any_within p q (c ∷ cs) out =
+    elim (cases_Bool (q c)) [
+      | inl in_it ↦ rw (in_it, any_within p q cs out) refl
+      | inr past ↦ rw (past, out c past) (any_within p q cs out)
+    ]
+
+pub filter_and : (p q : Claim → Bool) (cs : List Claim) → filter p (filter q cs) ≡ filter (λ c. q c && p c) cs
+filter_and p q [] = refl
+filter_and p q (c ∷ cs) = elim (cases_Bool (q c)) [ inl h ↦ rw (h, filter_and p q cs) refl | inr h ↦ rw h (filter_and p q cs) ]
+
+-- a claim on another file blocks nothing
+blocks_there : (ask c : Claim) → (c.file == ask.file) ≡ false → blocks ask c ≡ false
+unfolding blocks compat
+blocks_there ask c other =
+    let apart : (ask.file == c.file) ≡ false = eqb-sym ask.file c.file ∙ other in
+    rw apart (and_false (not (is_own ask c)))
+
+pub blocks_on_file : (ask : Claim) (cs out : List Claim) → out ≡ filter (λ c. c.file == ask.file) cs → filter (λ held. blocks ask held) out ≡ filter (λ held. blocks ask held) cs
+blocks_on_file ask cs out is = ap (λ (ds : List Claim). filter (λ held. blocks ask held) ds) is ∙ filter_within (λ held. blocks ask held) (λ c. c.file == ask.file) cs (blocks_there ask)
+
+pub blocked_on_file : (ask : Claim) (cs out : List Claim) → out ≡ filter (λ c. c.file == ask.file) cs → is_blocked out ask ≡ is_blocked cs ask
+blocked_on_file ask cs out is = ap (λ (ds : List Claim). is_blocked ds ask) is ∙ any_within (λ held. blocks ask held) (λ c. c.file == ask.file) cs (blocks_there ask)
+
+pub kind_on_file : (p : What → Bool) (file : ℕ) (cs out : List Claim) → out ≡ filter (λ c. c.file == file) cs → filter (λ held. p held.what) out ≡ filter (λ held. (held.file == file) && p held.what) cs
+kind_on_file p file cs out is = ap (λ (ds : List Claim). filter (λ held. p held.what) ds) is ∙ filter_and (λ held. p held.what) (λ c. c.file == file) cs
+
+-- the owner's spans are those of its ranges
+spans_of-section : (file : ℕ) (owner : Owner) (cs : List Claim) → spans_in (filter (is_range_of file owner) cs) ≡ spans_of file owner cs
+spans_of-section file owner [] = refl
+spans_of-section file owner (c ∷ cs) =
+    elim (cases_Bool (is_of file owner c)) [
+      | inr apart ↦ rw apart (spans_of-section file owner cs)
+      | inl own ↦ elim (cases_Bool (is_range c.what)) [
+        | inl range ↦ rw (own, range) (ap (λ (ss : List Span). with_span c.what ss) (spans_of-section file owner cs))
+        | inr other ↦ rw (own, other) (spans_of-section file owner cs ∙ sym (not_range c.what other (spans_of file owner cs)))
+      ]
+    ]
+
+pub spans_on_file : (file : ℕ) (owner : Owner) (cs out : List Claim) → out ≡ filter (is_range_of file owner) cs → spans_in out ≡ spans_of file owner cs
+spans_on_file file owner cs out is = ap spans_in is ∙ spans_of-section file owner cs
+
+find_filter : (p : Claim → Bool) (cs : List Claim) → slice_get (filter p cs) 0 ≡ find p cs
+find_filter p [] = refl
+find_filter p (c ∷ cs) = elim (cases_Bool (p c)) [ inl h ↦ rw h refl | inr h ↦ rw h (find_filter p cs) ]
+
+pub first_share : (file : ℕ) (owner : Owner) (cs out : List Claim) → out ≡ filter (is_share_of file owner) cs → slice_get out 0 ≡ find (is_share_of file owner) cs
+first_share file owner cs out is = ap (λ (ds : List Claim). slice_get ds 0) is ∙ find_filter (is_share_of file owner) cs
+
+pub first_is_in : (p : Claim → Bool) (cs : List Claim) (found : Option Claim) → found ≡ find p cs → IfSome found (λ c. IsIn c cs)
+first_is_in p cs None e = tt
+first_is_in p cs (Some c) e = go cs (sym e) where
+  go : (ds : List Claim) → find p ds ≡ Some c → IsIn c ds
+  go [] h = cc
+  go (d ∷ ds) h = elim (cases_Bool (p d)) [ inl here ↦ inl (same_Some d c (rw here at h)) | inr later ↦ inr (go ds (rw later at h)) ]

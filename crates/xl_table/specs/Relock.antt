@@ -102,9 +102,12 @@ unites (owners.Name Nfs number) = true
 unites (owners.Name Smb number) = false
 unites (owners.Open number) = false
 
+unfoldable pub united_by : Owner → What → List Claim → What
+united_by owner what old = if unites owner then united_with what old else what
+
 -- the share that its owner has once this one is granted
-unfoldable pub united : Claim → List Claim → Claim
-united c cs = if unites c.owner then with_what c (united_with c.what (old_shares c.file c.owner cs)) else c
+abbrev pub united : Claim → List Claim → Claim
+united c cs = with_what c (united_by c.owner c.what (old_shares c.file c.owner cs))
 
 -- the claims with this share in the place of its owner's on the file, or united with it
 unfoldable pub shared_in : Claim → List Claim → List Claim

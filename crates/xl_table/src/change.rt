@@ -8,7 +8,7 @@ ghost use Rattle.xl_table.specs.Relock.{relocked_in, shared_in, granted_claims};
 ghost use Rattle.xl_table.specs.Changes.{written, MayBeWritten};
 
 use crate::relock::{fresh_claims, mode_of, touched_places, united};
-use crate::section::{group_of, places};
+use crate::section::{between, group_of, places};
 use std::alloc::{AllocError, Global};
 use xl_matrix::{Claim, Extent, What};
 use xl_spans::Mode;
@@ -60,9 +60,10 @@ pub(crate) fn relock(
     ensures fits { IfOk result (λ change. MayBeWritten change claims.now) }
 {
     let (start, end) = places(claims, &group_of(ask.file, 1, ask.owner));
-    let group = &claims[start..end];
+    let group = between(claims, start, end);
     let (near, far) = touched_places(group, first, last);
-    let entered = fresh_claims(alloc, ask, &group[near..far], first, last, mode)?;
+    let touched = between(group, near, far);
+    let entered = fresh_claims(alloc, ask, touched, first, last, mode)?;
     Ok(make_change(claims, start + near, start + far, entered))
 }
 
@@ -75,7 +76,7 @@ pub(crate) fn share(alloc: Global, claims: &[Claim], claim: &Claim) -> Result<Ch
 {
     let (start, end) = places(claims, &group_of(claim.file, 0, claim.owner));
     let mut entered = Vec::new(alloc);
-    entered.push(united(claim, &claims[start..end]))?;
+    entered.push(united(claim, between(claims, start, end)))?;
     Ok(make_change(claims, start, end, entered))
 }
 
@@ -109,14 +110,28 @@ fn take_between(claims: &mut Vec<Claim>, start: usize, end: usize)
     drop(claims.drain(start..end));
 }
 
+/// Puts a claim, for which the list has room, at the place.
+fn put_one(claims: &mut Vec<Claim>, place: usize, claim: Claim)
+    requires place { place ≤ vec_len claims.old }
+    requires room { vec_len claims.old < vec_capacity claims.old }
+    ensures items { claims.new.items ≡ take place claims.old.items ++ claim ∷ drop place claims.old.items }
+    ensures len { vec_len claims.new ≡ vec_len claims.old + 1 }
+    ensures capacity { vec_capacity claims.new ≡ vec_capacity claims.old }
+{
+    let _ = claims.insert(place, claim);
+}
+
 /// Puts claims, for which the list has room, at the place.
-fn put_between(claims: &mut Vec<Claim>, place: usize, entered: &[Claim])
+fn put_all(claims: &mut Vec<Claim>, place: usize, entered: &[Claim])
     requires place { place ≤ vec_len claims.old }
     requires room { vec_len claims.old + length entered.now ≤ vec_capacity claims.old }
-    ensures { claims.new.items ≡ take place claims.old.items ++ (entered.now ++ drop place claims.old.items) }
+    ensures items { claims.new.items ≡ take place claims.old.items ++ (entered.now ++ drop place claims.old.items) }
+    ensures len { vec_len claims.new ≡ vec_len claims.old + length entered.now }
+    ensures capacity { vec_capacity claims.new ≡ vec_capacity claims.old }
 {
-    'entered: for (i, claim) in entered.iter().enumerate() {
-        let _ = claims.insert(place + i, *claim);
+    if let [claim, rest @ ..] = entered {
+        put_all(claims, place, rest);
+        put_one(claims, place, *claim);
     }
 }
 
@@ -129,6 +144,6 @@ pub(crate) fn write(claims: &mut Vec<Claim>, change: &Change) -> Result<(), Allo
 {
     claims.reserve(change.entered.len())?;
     take_between(claims, change.start, change.end);
-    put_between(claims, change.start, &change.entered);
+    put_all(claims, change.start, &change.entered);
     Ok(())
 }

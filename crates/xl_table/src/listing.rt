@@ -87,7 +87,7 @@ pub(crate) fn list_file(
 }
 
 /// The shares on the file.
-#[tactic(auto, using(crate::proofs::SectionLaws::and_filter))]
+#[tactic(auto, using(crate::proofs::SectionLaws::kind_on_file))]
 pub(crate) fn list_shares(
     alloc: Global,
     claims: &[Claim],
@@ -104,7 +104,7 @@ pub(crate) fn list_shares(
 }
 
 /// The caches on the file.
-#[tactic(auto, using(crate::proofs::SectionLaws::and_filter))]
+#[tactic(auto, using(crate::proofs::SectionLaws::kind_on_file))]
 pub(crate) fn list_caches(
     alloc: Global,
     claims: &[Claim],

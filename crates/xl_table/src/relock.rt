@@ -3,8 +3,9 @@ ghost use Rattle.std.specs.Prelude.{◌≡◌, ℕ, List, ◌-◌, ◌≤◌, �
 ghost use Rattle.std.specs.List.{AllByRecursion, filter, find, list_any, prefix_len};
 ghost use Rattle.xl_matrix.specs.declared.claim.Claim.{Claim};
 ghost use Rattle.xl_spans.specs.Spans.{IsCanonical, meets, relocked};
+ghost use Rattle.xl_table.specs.Flat.{with_what};
 ghost use Rattle.xl_table.specs.Held.{is_of, is_range, is_share, with_span, spans_of, mode_of};
-ghost use Rattle.xl_table.specs.Relock.{is_exclusive, range_claim, is_range_of, is_share_of, old_shares, either_right, united_what, united_with, unites, united};
+ghost use Rattle.xl_table.specs.Relock.{is_exclusive, range_claim, is_range_of, is_share_of, old_shares, either_right, united_what, united_with, unites, united_by};
 ghost use Rattle.xl_table.specs.Sections.{range_ends_before, range_begins_by, IsParted, spans_in};
 
 use std::alloc::{AllocError, Global};
@@ -89,6 +90,7 @@ pub(crate) fn touched_places(group: &[Claim], first: u64, last: u64) -> (usize, 
     requires ends { first ≤ last }
     requires ending { IsParted (λ c. range_ends_before (first - 1) c.what) group.now }
     requires beginning { IsParted (λ c. range_begins_by last c.what) group.now }
+    requires order { prefix_len (λ c. range_ends_before (first - 1) c.what) group.now ≤ prefix_len (λ c. range_begins_by last c.what) group.now }
     ensures start { result.0 ≡ prefix_len (λ c. range_ends_before (first - 1) c.what) group.now }
     ensures end { result.1 ≡ prefix_len (λ c. range_begins_by last c.what) group.now }
     ensures order { result.0 ≤ result.1 }
@@ -158,18 +160,26 @@ pub(crate) fn fresh_claims(
     range_claims(alloc, ask, &runs)
 }
 
+fn meets(first: u64, last: u64, what: What) -> bool
+    ensures { result ≡ list_any (meets first last) (with_span what []) }
+{
+    match what {
+        What::Range(Extent::Bytes(start, end), _) => start <= last && first <= end,
+        _ => false,
+    }
+}
+
+fn any_meets(claims: &[Claim], first: u64, last: u64) -> bool
+    ensures { result ≡ list_any (λ c. list_any (meets first last) (with_span c.what [])) claims.now }
+{
+    claims.iter().any(|claim| meets(first, last, claim.what))
+}
+
 /// Whether one of these claims has a byte of the range.
 pub(crate) fn has_byte_in(claims: &[Claim], first: u64, last: u64) -> bool
     ensures { result ≡ list_any (meets first last) (spans_in claims.now) }
 {
-    for claim in claims {
-        if let What::Range(Extent::Bytes(start, end), _) = claim.what {
-            if start <= last && first <= end {
-                return true;
-            }
-        }
-    }
-    false
+    any_meets(claims, first, last)
 }
 
 // ---- shares
@@ -218,18 +228,18 @@ fn unites(owner: Owner) -> bool
 }
 
 /// The share that its owner has once this one is granted, where these are the owner's.
-#[tactic(auto, unfolding(crate::specs::Relock::united))]
+#[tactic(auto, unfolding(crate::specs::Relock::united_by))]
 pub(crate) fn united(claim: &Claim, old: &[Claim]) -> Claim
-    ensures { (held : List Claim) → old.now ≡ old_shares claim.now.file claim.now.owner held → result ≡ united claim.now held }
+    ensures { result ≡ with_what claim.now (united_by claim.now.owner claim.now.what old.now) }
 {
-    if unites(claim.owner) {
-        Claim {
-            file: claim.file,
-            owner: claim.owner,
-            party: claim.party,
-            what: united_with(claim.what, old),
-        }
-    } else {
-        *claim
+    Claim {
+        file: claim.file,
+        owner: claim.owner,
+        party: claim.party,
+        what: if unites(claim.owner) {
+            united_with(claim.what, old)
+        } else {
+            claim.what
+        },
     }
 }

@@ -237,7 +237,7 @@ impl Table {
     }
 
     /// Takes out the claims of a party. It takes no memory.
-    #[tactic(auto, using(crate::proofs::KeptLaws::kept_filter))]
+    #[tactic(auto, using(crate::proofs::WriteBack::kept_filter))]
     pub fn remove_party(&mut self, party: Party)
         ensures { self.new ≡ filter (λ held. not (same_parties held.party party)) self.old }
     {
