@@ -23,7 +23,7 @@ use Rattle.xl_matrix.specs.Matrix.{compat}
 use Rattle.xl_matrix.proofs.EqualLaws.{eqb-sym}
 use Rattle.xl_table.specs.Order.{no_later, owner_key, place_in_group, key_by, key, goes_first}
 use Rattle.xl_table.specs.Flat.{is_own, blocks, is_blocked}
-use Rattle.xl_table.specs.Held.{is_range, is_share, is_of, with_span, spans_of}
+use Rattle.xl_table.specs.Held.{is_range, is_share, is_cache, is_of, with_span, spans_of}
 use Rattle.xl_table.specs.Relock.{is_range_of, is_share_of}
 use Rattle.xl_table.specs.Sections.{group, starts, is_no_later_than, is_before, is_upto, IsParted, spans_in}
 use Rattle.xl_table.proofs.OrderLaws.{no_later-on}
@@ -267,8 +267,8 @@ starts_range file owner c = by c.what where
 
 -- ---- what bisection gives
 
-pub file_section : (file : ℕ) (cs out : List Claim) (i j : ℕ) → Pairwise goes_first cs → i ≡ prefix_len (is_before (file ∷ [])) cs → j ≡ prefix_len (is_upto (file ∷ [])) cs → out ≡ slice_range cs i j → out ≡ filter (λ c. c.file == file) cs
-file_section file cs out i j ordered a b is = section_is (file ∷ []) (λ c. c.file == file) cs out i j (starts_file file) ordered a b is
+pub file_section : (file : ℕ) (cs out : List Claim) (i j n : ℕ) → n ≡ file → Pairwise goes_first cs → i ≡ prefix_len (is_before (n ∷ [])) cs → j ≡ prefix_len (is_upto (n ∷ [])) cs → out ≡ slice_range cs i j → out ≡ filter (λ c. c.file == file) cs
+file_section file cs out i j n e ordered a b is = section_is (n ∷ []) (λ c. c.file == file) cs out i j (λ c. starts_file n c ∙ ap (λ (m : ℕ). c.file == m) e) ordered a b is
 
 pub share_section : (file : ℕ) (owner : Owner) (cs out : List Claim) (i j : ℕ) → Pairwise goes_first cs → i ≡ prefix_len (is_before (group file 0 owner)) cs → j ≡ prefix_len (is_upto (group file 0 owner)) cs → out ≡ slice_range cs i j → out ≡ filter (is_share_of file owner) cs
 share_section file owner cs out i j ordered a b is = section_is (group file 0 owner) (is_share_of file owner) cs out i j (starts_share file owner) ordered a b is
@@ -305,14 +305,17 @@ blocks_there ask c other =
     let apart : (ask.file == c.file) ≡ false = eqb-sym ask.file c.file ∙ other in
     rw apart (and_false (not (is_own ask c)))
 
-pub blocks_on_file : (ask : Claim) (cs out : List Claim) → out ≡ filter (λ c. c.file == ask.file) cs → filter (λ held. blocks ask held) out ≡ filter (λ held. blocks ask held) cs
-blocks_on_file ask cs out is = ap (λ (ds : List Claim). filter (λ held. blocks ask held) ds) is ∙ filter_within (λ held. blocks ask held) (λ c. c.file == ask.file) cs (blocks_there ask)
+pub blocks_on_file : (ask : Claim) (cs out list : List Claim) → list ≡ filter (λ held. blocks ask held) out → out ≡ filter (λ c. c.file == ask.file) cs → list ≡ filter (λ held. blocks ask held) cs
+blocks_on_file ask cs out list e is = e ∙ ap (λ (ds : List Claim). filter (λ held. blocks ask held) ds) is ∙ filter_within (λ held. blocks ask held) (λ c. c.file == ask.file) cs (blocks_there ask)
 
 pub blocked_on_file : (ask : Claim) (cs out : List Claim) → out ≡ filter (λ c. c.file == ask.file) cs → is_blocked out ask ≡ is_blocked cs ask
 blocked_on_file ask cs out is = ap (λ (ds : List Claim). is_blocked ds ask) is ∙ any_within (λ held. blocks ask held) (λ c. c.file == ask.file) cs (blocks_there ask)
 
-pub kind_on_file : (p : What → Bool) (file : ℕ) (cs out : List Claim) → out ≡ filter (λ c. c.file == file) cs → filter (λ held. p held.what) out ≡ filter (λ held. (held.file == file) && p held.what) cs
-kind_on_file p file cs out is = ap (λ (ds : List Claim). filter (λ held. p held.what) ds) is ∙ filter_and (λ held. p held.what) (λ c. c.file == file) cs
+pub shares_on_file : (file : ℕ) (cs out list : List Claim) → list ≡ filter (λ held. is_share held.what) out → out ≡ filter (λ c. c.file == file) cs → list ≡ filter (λ held. (held.file == file) && is_share held.what) cs
+shares_on_file file cs out list e is = e ∙ ap (λ (ds : List Claim). filter (λ held. is_share held.what) ds) is ∙ filter_and (λ held. is_share held.what) (λ c. c.file == file) cs
+
+pub caches_on_file : (file : ℕ) (cs out list : List Claim) → list ≡ filter (λ held. is_cache held.what) out → out ≡ filter (λ c. c.file == file) cs → list ≡ filter (λ held. (held.file == file) && is_cache held.what) cs
+caches_on_file file cs out list e is = e ∙ ap (λ (ds : List Claim). filter (λ held. is_cache held.what) ds) is ∙ filter_and (λ held. is_cache held.what) (λ c. c.file == file) cs
 
 -- the owner's spans are those of its ranges
 spans_of-section : (file : ℕ) (owner : Owner) (cs : List Claim) → spans_in (filter (is_range_of file owner) cs) ≡ spans_of file owner cs

@@ -23,7 +23,17 @@ pub(crate) fn list_blockers(
     requires { Pairwise goes_first claims.now }
     ensures { IfOk result (λ v. v.items ≡ filter (λ held. blocks ask.now held) claims.now) }
 {
-    on_file(claims, ask.file)
+    Ok(blockers_among(alloc, on_file(claims, ask.file), ask)?)
+}
+
+fn blockers_among(
+    alloc: Global,
+    claims: &[Claim],
+    ask: &Claim,
+) -> Result<Vec<Claim>, AllocError>
+    ensures { IfOk result (λ v. v.items ≡ filter (λ held. blocks ask.now held) claims.now) }
+{
+    claims
         .iter()
         .filter(|held| is_blocked_by(ask, held))
         .copied()
@@ -87,7 +97,7 @@ pub(crate) fn list_file(
 }
 
 /// The shares on the file.
-#[tactic(auto, using(crate::proofs::SectionLaws::kind_on_file))]
+#[tactic(auto, using(crate::proofs::SectionLaws::shares_on_file))]
 pub(crate) fn list_shares(
     alloc: Global,
     claims: &[Claim],
@@ -96,15 +106,27 @@ pub(crate) fn list_shares(
     requires { Pairwise goes_first claims.now }
     ensures { IfOk result (λ v. v.items ≡ filter (λ held. (held.file == file) && is_share held.what) claims.now) }
 {
-    on_file(claims, file)
+    Ok(shares_among(alloc, on_file(claims, file))?)
+}
+
+fn is_share(what: What) -> bool
+    ensures { result ≡ is_share what }
+{
+    matches!(what, What::Share(_, _))
+}
+
+fn shares_among(alloc: Global, claims: &[Claim]) -> Result<Vec<Claim>, AllocError>
+    ensures { IfOk result (λ v. v.items ≡ filter (λ held. is_share held.what) claims.now) }
+{
+    claims
         .iter()
-        .filter(|held| matches!(held.what, What::Share(_, _)))
+        .filter(|held| is_share(held.what))
         .copied()
         .collect(alloc)
 }
 
 /// The caches on the file.
-#[tactic(auto, using(crate::proofs::SectionLaws::kind_on_file))]
+#[tactic(auto, using(crate::proofs::SectionLaws::caches_on_file))]
 pub(crate) fn list_caches(
     alloc: Global,
     claims: &[Claim],
@@ -113,9 +135,21 @@ pub(crate) fn list_caches(
     requires { Pairwise goes_first claims.now }
     ensures { IfOk result (λ v. v.items ≡ filter (λ held. (held.file == file) && is_cache held.what) claims.now) }
 {
-    on_file(claims, file)
+    Ok(caches_among(alloc, on_file(claims, file))?)
+}
+
+fn is_cache(what: What) -> bool
+    ensures { result ≡ is_cache what }
+{
+    matches!(what, What::Cache(_, _))
+}
+
+fn caches_among(alloc: Global, claims: &[Claim]) -> Result<Vec<Claim>, AllocError>
+    ensures { IfOk result (λ v. v.items ≡ filter (λ held. is_cache held.what) claims.now) }
+{
+    claims
         .iter()
-        .filter(|held| matches!(held.what, What::Cache(_, _)))
+        .filter(|held| is_cache(held.what))
         .copied()
         .collect(alloc)
 }

@@ -12,7 +12,7 @@ use crate::listing::{
 };
 use crate::placing::{is_held, put, replace, take_out};
 use crate::relock::{has_byte_in, spans_in};
-use crate::section::{ranges_by, shares_by};
+use crate::section::{find_share, ranges_by};
 use std::alloc::{AllocError, AllocFailed, Global};
 use std::marker::Model;
 use thiserror::Error;
@@ -172,12 +172,12 @@ impl Table {
     }
 
     /// The owner's share on the file, of which it has one at most; the first where there are more. It takes no memory.
-    #[tactic(auto, using(crate::proofs::SectionLaws::first_share))]
+    #[tactic(auto, using(crate::proofs::SectionLaws::first_is_in))]
     pub fn share_of(&self, file: u32, owner: Owner) -> Option<Claim>
         ensures share { result ≡ find (is_share_of file owner) self.now }
         ensures held { IfSome result (λ c. IsIn c self.now) }
     {
-        shares_by(&self.claims, file, owner).first().copied()
+        find_share(&self.claims, file, owner)
     }
 
     /// The shares on a file, in the table's order.
