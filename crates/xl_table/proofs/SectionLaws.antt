@@ -230,6 +230,22 @@ starts_file file c = by c.what where
   by (Range extent exclusive) = and_true (c.file == file)
   by (Cache kind running) = and_true (c.file == file)
 
+starts_shares : (file : ℕ) (c : Claim) → starts (file ∷ 0 ∷ []) (key c) ≡ ((c.file == file) && is_share c.what)
+unfolding key
+starts_shares file c = by c.what where
+  by : (w : What) → starts (file ∷ 0 ∷ []) (key_by c w) ≡ ((c.file == file) && is_share w)
+  by (Share access deny) = refl
+  by (Range extent exclusive) = refl
+  by (Cache kind running) = refl
+
+starts_caches : (file : ℕ) (c : Claim) → starts (file ∷ 2 ∷ []) (key c) ≡ ((c.file == file) && is_cache c.what)
+unfolding key
+starts_caches file c = by c.what where
+  by : (w : What) → starts (file ∷ 2 ∷ []) (key_by c w) ≡ ((c.file == file) && is_cache w)
+  by (Share access deny) = refl
+  by (Range extent exclusive) = refl
+  by (Cache kind running) = refl
+
 same_key : (owner who : Owner) (rest : List ℕ) → starts (owner_key owner) (owner_key who ++ rest) ≡ same_owners who owner
 same_key (owners.Open n) (owners.Open m) rest = and_true (m == n)
 same_key (owners.Open n) (owners.Name Nlm m) rest = refl
@@ -270,6 +286,12 @@ starts_range file owner c = by c.what where
 pub file_section : (file : ℕ) (cs out : List Claim) (i j n : ℕ) → n ≡ file → Pairwise goes_first cs → i ≡ prefix_len (is_before (n ∷ [])) cs → j ≡ prefix_len (is_upto (n ∷ [])) cs → out ≡ slice_range cs i j → out ≡ filter (λ c. c.file == file) cs
 file_section file cs out i j n e ordered a b is = section_is (n ∷ []) (λ c. c.file == file) cs out i j (λ c. starts_file n c ∙ ap (λ (m : ℕ). c.file == m) e) ordered a b is
 
+pub shares_section : (file : ℕ) (cs out : List Claim) (i j n : ℕ) → n ≡ file → Pairwise goes_first cs → i ≡ prefix_len (is_before (n ∷ 0 ∷ [])) cs → j ≡ prefix_len (is_upto (n ∷ 0 ∷ [])) cs → out ≡ slice_range cs i j → out ≡ filter (λ c. (c.file == file) && is_share c.what) cs
+shares_section file cs out i j n e ordered a b is = section_is (n ∷ 0 ∷ []) (λ c. (c.file == file) && is_share c.what) cs out i j (λ c. starts_shares n c ∙ ap (λ (m : ℕ). (c.file == m) && is_share c.what) e) ordered a b is
+
+pub caches_section : (file : ℕ) (cs out : List Claim) (i j n : ℕ) → n ≡ file → Pairwise goes_first cs → i ≡ prefix_len (is_before (n ∷ 2 ∷ [])) cs → j ≡ prefix_len (is_upto (n ∷ 2 ∷ [])) cs → out ≡ slice_range cs i j → out ≡ filter (λ c. (c.file == file) && is_cache c.what) cs
+caches_section file cs out i j n e ordered a b is = section_is (n ∷ 2 ∷ []) (λ c. (c.file == file) && is_cache c.what) cs out i j (λ c. starts_caches n c ∙ ap (λ (m : ℕ). (c.file == m) && is_cache c.what) e) ordered a b is
+
 pub share_section : (file : ℕ) (owner : Owner) (cs out : List Claim) (i j : ℕ) → Pairwise goes_first cs → i ≡ prefix_len (is_before (group file 0 owner)) cs → j ≡ prefix_len (is_upto (group file 0 owner)) cs → out ≡ slice_range cs i j → out ≡ filter (is_share_of file owner) cs
 share_section file owner cs out i j ordered a b is = section_is (group file 0 owner) (is_share_of file owner) cs out i j (starts_share file owner) ordered a b is
 
@@ -294,10 +316,6 @@ any_within p q (c ∷ cs) out =
       | inr past ↦ rw (past, out c past) (any_within p q cs out)
     ]
 
-pub filter_and : (p q : Claim → Bool) (cs : List Claim) → filter p (filter q cs) ≡ filter (λ c. q c && p c) cs
-filter_and p q [] = refl
-filter_and p q (c ∷ cs) = elim (cases_Bool (q c)) [ inl h ↦ rw (h, filter_and p q cs) refl | inr h ↦ rw h (filter_and p q cs) ]
-
 -- a claim on another file blocks nothing
 blocks_there : (ask c : Claim) → (c.file == ask.file) ≡ false → blocks ask c ≡ false
 unfolding blocks compat
@@ -310,12 +328,6 @@ blocks_on_file ask cs out list e is = e ∙ ap (λ (ds : List Claim). filter (λ
 
 pub blocked_on_file : (ask : Claim) (cs out : List Claim) → out ≡ filter (λ c. c.file == ask.file) cs → is_blocked out ask ≡ is_blocked cs ask
 blocked_on_file ask cs out is = ap (λ (ds : List Claim). is_blocked ds ask) is ∙ any_within (λ held. blocks ask held) (λ c. c.file == ask.file) cs (blocks_there ask)
-
-pub shares_on_file : (file : ℕ) (cs out list : List Claim) → list ≡ filter (λ held. is_share held.what) out → out ≡ filter (λ c. c.file == file) cs → list ≡ filter (λ held. (held.file == file) && is_share held.what) cs
-shares_on_file file cs out list e is = e ∙ ap (λ (ds : List Claim). filter (λ held. is_share held.what) ds) is ∙ filter_and (λ held. is_share held.what) (λ c. c.file == file) cs
-
-pub caches_on_file : (file : ℕ) (cs out list : List Claim) → list ≡ filter (λ held. is_cache held.what) out → out ≡ filter (λ c. c.file == file) cs → list ≡ filter (λ held. (held.file == file) && is_cache held.what) cs
-caches_on_file file cs out list e is = e ∙ ap (λ (ds : List Claim). filter (λ held. is_cache held.what) ds) is ∙ filter_and (λ held. is_cache held.what) (λ c. c.file == file) cs
 
 -- the owner's spans are those of its ranges
 spans_of-section : (file : ℕ) (owner : Owner) (cs : List Claim) → spans_in (filter (is_range_of file owner) cs) ≡ spans_of file owner cs

@@ -146,7 +146,7 @@ is_own : (c : Claim) → is_of c.file c.owner c ≡ true
 is_own c = and_from _ (same_owners c.owner c.owner) (eq-eqb c.file c.file refl) (same_owners-self c.owner)
 
 -- a share stays one when it is united with others
-united_one : (w v : What) → is_share w ≡ true → is_share (united_what w v) ≡ true
+pub united_one : (w v : What) → is_share w ≡ true → is_share (united_what w v) ≡ true
 united_one (Share access deny) (Share rights denied) h = refl
 united_one (Share access deny) (Range extent exclusive) h = refl
 united_one (Share access deny) (Cache kind running) h = refl

@@ -271,7 +271,7 @@ length_split p (c ∷ cs) =
       | inr fails ↦ rw fails (omega (arith, length_split p cs))
     ]
 
-length_new : (file : ℕ) (owner : Owner) (party : Party) (xs : List Span) → length (map (range_claim file owner party) xs) ≡ length xs
+pub length_new : (file : ℕ) (owner : Owner) (party : Party) (xs : List Span) → length (map (range_claim file owner party) xs) ≡ length xs
 length_new file owner party [] = refl
 length_new file owner party (x ∷ xs) = omega (arith, length_new file owner party xs)
 

@@ -1,8 +1,9 @@
 //! Parts of the flat list, found by bisection.
-ghost use Rattle.std.specs.Prelude.{◌≡◌, ℕ, ◌≤◌, ◌==◌, length, slice_range, true};
+ghost use Rattle.std.specs.Prelude.{◌≡◌, ◌≤◌, ◌==◌, ◌&&◌, length, slice_range};
 ghost use Rattle.std.specs.List.{filter, find, prefix_len};
 ghost use Rattle.xl_base.specs.Lists.{Pairwise};
 ghost use Rattle.xl_table.specs.Order.{goes_first};
+ghost use Rattle.xl_table.specs.Held.{is_cache, is_share};
 ghost use Rattle.xl_table.specs.Relock.{is_share_of, is_range_of};
 ghost use Rattle.xl_table.specs.Sections.{group, is_no_later_than, is_before, is_upto};
 
@@ -80,6 +81,24 @@ pub(crate) fn on_file(claims: &[Claim], file: u32) -> &[Claim]
     ensures { result.now ≡ filter (λ c. c.file == file) claims.now }
 {
     let (start, end) = places(claims, &[u64::from(file)]);
+    between(claims, start, end)
+}
+
+/// The shares on the file.
+pub(crate) fn shares_on(claims: &[Claim], file: u32) -> &[Claim]
+    requires { Pairwise goes_first claims.now }
+    ensures { result.now ≡ filter (λ c. (c.file == file) && is_share c.what) claims.now }
+{
+    let (start, end) = places(claims, &[u64::from(file), 0]);
+    between(claims, start, end)
+}
+
+/// The caches on the file.
+pub(crate) fn caches_on(claims: &[Claim], file: u32) -> &[Claim]
+    requires { Pairwise goes_first claims.now }
+    ensures { result.now ≡ filter (λ c. (c.file == file) && is_cache c.what) claims.now }
+{
+    let (start, end) = places(claims, &[u64::from(file), 2]);
     between(claims, start, end)
 }
 
