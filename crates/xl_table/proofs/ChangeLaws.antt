@@ -1,5 +1,5 @@
 -- A change that is made by places in the list is what the definition says.
-use Rattle.std.proofs.Common.{◌≡◌, ℕ, ◌+◌, ◌-◌, ◌<◌, ◌≤◌, Bool, true, false, not, ◌&&◌, nat_le, nat_lt, List, [], ◌∷◌, ◌++◌, length, map, take, drop, zero, suc, ◌==◌, if◌then◌else◌, Option, refl, sym, ap, subst, ◌∙◌, inl, inr, append_assoc, arith}
+use Rattle.std.proofs.Common.{◌≡◌, ℕ, ◌+◌, ◌-◌, ◌<◌, ◌≤◌, Bool, true, false, nat_le, List, [], ◌∷◌, ◌++◌, length, map, take, drop, zero, suc, ◌==◌, if◌then◌else◌, Option, refl, sym, ap, subst, ◌∙◌, inl, inr, append_assoc, arith}
 use Rattle.std.proofs.Math.Seq.{take-append-add, drop-append-add}
 use Rattle.std.proofs.lemmas.List.{take-append-drop, take-append-le, drop-append-le, take-map, drop-map, map-append, length-append, length-drop, length-take-le}
 use Rattle.std.proofs.lemmas.List.Folds.{drop_split}
@@ -9,8 +9,8 @@ use Rattle.std.proofs.lemmas.Bool.{cases_Bool, both_ways, and_from, not-true, lt
 use Rattle.std.proofs.lemmas.Bool.Decides.{nat_tests}
 use Rattle.xl_base.specs.declared.name.Owner.{Owner}
 use Rattle.xl_base.specs.declared.name.Party.{Party}
-use Rattle.xl_base.specs.Lists.{IsIn, Pairwise}
-use Rattle.xl_base.proofs.Members.{all_from, all_in, all_weaker, in_map_from}
+use Rattle.xl_base.specs.Lists.{Pairwise}
+use Rattle.xl_base.proofs.Members.{all_weaker}
 use Rattle.xl_matrix.specs.declared.claim.Claim.{Claim}
 use Rattle.xl_matrix.specs.declared.claim.Extent.TheVariants.{Bytes, Empty}
 use Rattle.xl_matrix.specs.declared.claim.What.{What}
@@ -192,7 +192,7 @@ pub are_runs : (file : ℕ) (owner : Owner) (party : Party) (first last : ℕ) (
 are_runs file owner party first last ss out is c ends =
     let rc = range_claim file owner party in
     let parts : (i j : ℕ) → spans_in (slice_range (map rc ss) i j) ≡ slice_range ss i j =
-        λ i j. ap (λ (ds : List Claim). spans_in (take (j - i) ds)) (drop-map rc i ss) ∙ ap spans_in (take-map rc (j - i) (drop i ss)) ∙ spans_in-map file owner party (slice_range ss i j) in
+    λ i j. ap (λ (ds : List Claim). spans_in (take (j - i) ds)) (drop-map rc i ss) ∙ ap spans_in (take-map rc (j - i) (drop i ss)) ∙ spans_in-map file owner party (slice_range ss i j) in
     subst (λ (ds : List Claim). AreRuns file owner party first last ss ds) (sym is)
     (record {
       ending = ends_parted file owner party (first - 1) ss c;
@@ -241,8 +241,8 @@ relocked_there file owner party first last mode cs kept p ends =
     relocked_is file owner party first last mode cs
     ∙ ap (λ (ds : List Claim). all_inserted ns ds) (sym (section_rest fs (is_range_of file owner) cs (starts_range file owner) kept.ordered))
     ∙ entered_between ns front back
-      (runs_ordered file owner party new p (relocked_canonical (spans_of file owner cs) first last mode ends (kept.sound.canonical file owner p)))
-      (are_between fs ns front back (runs_start file owner party new) cut.before cut.behind)
+    (runs_ordered file owner party new p (relocked_canonical (spans_of file owner cs) first last mode ends (kept.sound.canonical file owner p)))
+    (are_between fs ns front back (runs_start file owner party new) cut.before cut.behind)
 
 joined_parts : (front a b c back : List Claim) → (front ++ a) ++ (b ++ (c ++ back)) ≡ front ++ ((a ++ (b ++ c)) ++ back)
 joined_parts front a b c back =
@@ -276,11 +276,11 @@ relock_is file owner party first last mode cs out entered lo hi i j kept p ends 
     let fresh : entered ≡ map rc part = new ∙ ap (λ (xs : List Span). map rc (relocked xs first last mode)) ((are_runs file owner party first last ss out runs canonical ends).part i j) in
     let far : IsChain (last + 2) (drop (prefix_len (begins_by (last + 1)) ss) ss) = subst (λ (n : ℕ). IsChain n (drop (prefix_len (begins_by (last + 1)) ss) ss)) (omega arith) (chain_rest (last + 1) 0 ss (canonical_chain_all ss canonical)) in
     let in_place : relocked ss first last mode ≡ take i ss ++ (part ++ drop j ss) =
-        relocked_in_place ss first last (last + 1) mode ends (omega arith) canonical far
-        ∙ ap (λ (n : ℕ). take n ss ++ (relocked (slice_range ss n (prefix_len (begins_by (last + 1)) ss)) first last mode ++ drop (prefix_len (begins_by (last + 1)) ss) ss)) (sym i_is)
-        ∙ ap (λ (n : ℕ). take i ss ++ (relocked (slice_range ss i n) first last mode ++ drop n ss)) (sym j_is) in
+    relocked_in_place ss first last (last + 1) mode ends (omega arith) canonical far
+    ∙ ap (λ (n : ℕ). take n ss ++ (relocked (slice_range ss n (prefix_len (begins_by (last + 1)) ss)) first last mode ++ drop (prefix_len (begins_by (last + 1)) ss) ss)) (sym i_is)
+    ∙ ap (λ (n : ℕ). take i ss ++ (relocked (slice_range ss i n) first last mode ++ drop n ss)) (sym j_is) in
     let mapped : map rc (take i ss) ++ (map rc part ++ map rc (drop j ss)) ≡ map rc (relocked ss first last mode) =
-        ap (λ (ds : List Claim). map rc (take i ss) ++ ds) (sym (map-append rc part (drop j ss))) ∙ sym (map-append rc (take i ss) (part ++ drop j ss)) ∙ ap (map rc) (sym in_place) in
+    ap (λ (ds : List Claim). map rc (take i ss) ++ ds) (sym (map-append rc part (drop j ss))) ∙ sym (map-append rc (take i ss) (part ++ drop j ss)) ∙ ap (map rc) (sym in_place) in
     ap (λ (ds : List Claim). ds ++ (entered ++ drop (lo + j) cs)) taken
     ∙ ap (λ (ds : List Claim). (front ++ map rc (take i ss)) ++ (ds ++ drop (lo + j) cs)) fresh
     ∙ ap (λ (ds : List Claim). (front ++ map rc (take i ss)) ++ (map rc part ++ ds)) dropped

@@ -1,12 +1,12 @@
 -- What bisection finds in the flat list: a file's claims, an owner's shares, its ranges.
-use Rattle.std.proofs.Common.{◌≡◌, ℕ, ◌+◌, ◌-◌, ◌<◌, ◌≤◌, suc, zero, Bool, true, false, not, ◌&&◌, ◌||◌, ◌==◌, nat_lt, if◌then◌else◌, List, [], ◌∷◌, ◌++◌, length, take, drop, get_or, Option, Some, None, IfSome, refl, sym, ap, subst, ◌∙◌, inl, inr, arith}
+use Rattle.std.proofs.Common.{◌≡◌, ℕ, ◌<◌, ◌≤◌, suc, zero, Bool, true, false, not, ◌&&◌, ◌||◌, ◌==◌, nat_lt, List, [], ◌∷◌, ◌++◌, length, take, drop, get_or, Option, Some, None, IfSome, refl, sym, ap, subst, ◌∙◌, inl, inr, arith}
 use Rattle.std.proofs.Math.Numerals.{one-add}
-use Rattle.std.proofs.Math.Nat.{suc-add, suc-sub-suc, sub-zero}
+use Rattle.std.proofs.Math.Nat.{suc-sub-suc, sub-zero}
 use Rattle.std.specs.List.{AllByRecursion, filter, find, list_any, prefix_len, slice_get, slice_range}
 use Rattle.std.specs.List.Sorted.{IsPartitionPoint, IsPartitionedBy}
 use Rattle.std.proofs.lemmas.List.Sums.{prefix_len_is}
 use Rattle.std.proofs.lemmas.Option.{same_Some}
-use Rattle.std.proofs.lemmas.Bool.{cases_Bool, both_ways, and_parts, and_from, and_left, and_right, not-true, not-false, not_from_false, false_from_ne_true, eqb-true, eq-eqb, or_cases}
+use Rattle.std.proofs.lemmas.Bool.{cases_Bool, both_ways, not-true, not_from_false, false_from_ne_true}
 use Rattle.std.proofs.lemmas.Bool.Decides.{nat_tests}
 use Rattle.xl_base.specs.declared.name.Owner.{Owner}
 use Rattle.xl_base.specs.declared.name.Owner.TheVariants as owners
@@ -14,7 +14,7 @@ use Rattle.xl_base.specs.declared.name.Protocol.TheVariants.{Nlm, Nfs, Smb}
 use Rattle.xl_base.specs.declared.name.Party.TheVariants as parties
 use Rattle.xl_base.specs.Lists.{IsIn, Pairwise}
 use Rattle.xl_matrix.specs.declared.claim.Claim.{Claim}
-use Rattle.xl_matrix.specs.declared.claim.Extent.TheVariants.{Bytes, Empty}
+use Rattle.xl_matrix.specs.declared.claim.Extent.TheVariants.{Empty}
 use Rattle.xl_matrix.specs.declared.claim.What.{What}
 use Rattle.xl_matrix.specs.declared.claim.What.TheVariants.{Share, Range, Cache}
 use Rattle.xl_matrix.specs.Equal.{same_owners}

@@ -25,11 +25,7 @@ pub(crate) fn list_blockers(
     Ok(blockers_among(alloc, on_file(claims, ask.file), ask)?)
 }
 
-fn blockers_among(
-    alloc: Global,
-    claims: &[Claim],
-    ask: &Claim,
-) -> Result<Vec<Claim>, AllocError>
+fn blockers_among(alloc: Global, claims: &[Claim], ask: &Claim) -> Result<Vec<Claim>, AllocError>
     ensures { IfOk result (λ v. v.items ≡ filter (λ held. blocks ask.now held) claims.now) }
 {
     claims

@@ -110,12 +110,7 @@ fn group_of(file: u32, class: u64, owner: Owner) -> [u64; 5]
 }
 
 /// Where the owner's shares on the file (class 0), or its ranges there (class 1), begin and end.
-pub(crate) fn group_places(
-    claims: &[Claim],
-    file: u32,
-    class: u64,
-    owner: Owner,
-) -> (usize, usize)
+pub(crate) fn group_places(claims: &[Claim], file: u32, class: u64, owner: Owner) -> (usize, usize)
     requires { Pairwise goes_first claims.now }
     ensures start { result.0 ≡ prefix_len (is_before (group file class owner)) claims.now }
     ensures end { result.1 ≡ prefix_len (is_upto (group file class owner)) claims.now }

@@ -1,4 +1,4 @@
-use Rattle.std.proofs.Common.{sym, ap, subst, map, ◌≡◌, ◌∙◌, ◌+◌, ◌≤◌, List, ℕ, length, slice_range, arith}
+use Rattle.std.proofs.Common.{sym, ap, subst, map, ◌≡◌, ◌∙◌, ◌+◌, ◌≤◌, List, length, arith}
 use Rattle.xl_matrix.specs.declared.claim.Claim.{Claim}
 use Rattle.xl_spans.specs.Spans.{IsCanonical, relocked}
 use Rattle.xl_table.specs.Changes.{written}
@@ -30,11 +30,11 @@ returns-clause-claims c =
     let claims = c.args.claims.now in
     let one = of_party c.args.ask.now claims c.requires.range c.requires.party in
     let is : written c.make_change.result claims ≡ relocked_in file owner party c.args.first c.args.last c.args.mode claims =
-        written_is c.make_change.result claims c.in_ok-entered.entered.items (c.group_places-start.result.0 + c.touched_places-near.result.0) (c.group_places-start.result.0 + c.touched_places-near.result.1) c.make_change.ensures.start c.make_change.ensures.end c.make_change.ensures.entered
-        ∙ relock_is file owner party c.args.first c.args.last c.args.mode claims c.between-group.result.now c.in_ok-entered.entered.items _ _ _ _
-          c.requires.kept c.requires.posix c.requires.ends one c.group_places-start.ensures.start c.group_places-start.ensures.end c.group_places-start.ensures.within c.between-group.ensures
-          c.touched_places-near.ensures.start c.touched_places-near.ensures.end
-          (c.in_ok-entered.ensures ∙ ap (λ (ds : List Claim). map (range_claim file owner party) (relocked (spans_in ds) c.args.first c.args.last c.args.mode)) c.between-touched.ensures) in
+    written_is c.make_change.result claims c.in_ok-entered.entered.items (c.group_places-start.result.0 + c.touched_places-near.result.0) (c.group_places-start.result.0 + c.touched_places-near.result.1) c.make_change.ensures.start c.make_change.ensures.end c.make_change.ensures.entered
+    ∙ relock_is file owner party c.args.first c.args.last c.args.mode claims c.between-group.result.now c.in_ok-entered.entered.items _ _ _ _
+    c.requires.kept c.requires.posix c.requires.ends one c.group_places-start.ensures.start c.group_places-start.ensures.end c.group_places-start.ensures.within c.between-group.ensures
+    c.touched_places-near.ensures.start c.touched_places-near.ensures.end
+    (c.in_ok-entered.ensures ∙ ap (λ (ds : List Claim). map (range_claim file owner party) (relocked (spans_in ds) c.args.first c.args.last c.args.mode)) c.between-touched.ensures) in
     is
 
 pub returns-clause-fits : goal.returns-clause-fits
@@ -45,13 +45,13 @@ returns-clause-fits c =
     let claims = c.args.claims.now in
     let one = of_party c.args.ask.now claims c.requires.range c.requires.party in
     let is : written c.make_change.result claims ≡ relocked_in file owner party c.args.first c.args.last c.args.mode claims =
-        written_is c.make_change.result claims c.in_ok-entered.entered.items (c.group_places-start.result.0 + c.touched_places-near.result.0) (c.group_places-start.result.0 + c.touched_places-near.result.1) c.make_change.ensures.start c.make_change.ensures.end c.make_change.ensures.entered
-        ∙ relock_is file owner party c.args.first c.args.last c.args.mode claims c.between-group.result.now c.in_ok-entered.entered.items _ _ _ _
-          c.requires.kept c.requires.posix c.requires.ends one c.group_places-start.ensures.start c.group_places-start.ensures.end c.group_places-start.ensures.within c.between-group.ensures
-          c.touched_places-near.ensures.start c.touched_places-near.ensures.end
-          (c.in_ok-entered.ensures ∙ ap (λ (ds : List Claim). map (range_claim file owner party) (relocked (spans_in ds) c.args.first c.args.last c.args.mode)) c.between-touched.ensures) in
+    written_is c.make_change.result claims c.in_ok-entered.entered.items (c.group_places-start.result.0 + c.touched_places-near.result.0) (c.group_places-start.result.0 + c.touched_places-near.result.1) c.make_change.ensures.start c.make_change.ensures.end c.make_change.ensures.entered
+    ∙ relock_is file owner party c.args.first c.args.last c.args.mode claims c.between-group.result.now c.in_ok-entered.entered.items _ _ _ _
+    c.requires.kept c.requires.posix c.requires.ends one c.group_places-start.ensures.start c.group_places-start.ensures.end c.group_places-start.ensures.within c.between-group.ensures
+    c.touched_places-near.ensures.start c.touched_places-near.ensures.end
+    (c.in_ok-entered.ensures ∙ ap (λ (ds : List Claim). map (range_claim file owner party) (relocked (spans_in ds) c.args.first c.args.last c.args.mode)) c.between-touched.ensures) in
     let ends_within : c.group_places-start.result.0 + c.touched_places-near.result.1 ≤ length claims =
-        within_parts claims c.between-group.result.now _ _ _ c.group_places-start.ensures.order c.group_places-start.ensures.within c.between-group.ensures c.touched_places-near.ensures.within in
+    within_parts claims c.between-group.result.now _ _ _ c.group_places-start.ensures.order c.group_places-start.ensures.within c.between-group.ensures c.touched_places-near.ensures.within in
     may_be_written c.make_change.result claims _ is
     (omega (arith, c.make_change.ensures.start, c.make_change.ensures.end, c.touched_places-near.ensures.order))
     (omega (arith, c.make_change.ensures.end, ends_within))

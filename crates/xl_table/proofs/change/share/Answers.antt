@@ -13,9 +13,9 @@ returns-clause-claims c =
     let places = c.group_places-start.ensures in
     let one = united_is claim c.united.result claims c.between.result.now _ _ c.requires.kept places.start places.end c.between.ensures c.united.ensures in
     let is : written c.make_change.result claims ≡ shared_in claim claims =
-        written_is c.make_change.result claims c.in_ok-entered.entered.items c.group_places-start.result.0 c.group_places-start.result.1 c.make_change.ensures.start c.make_change.ensures.end c.make_change.ensures.entered
-        ∙ share_is claim claims c.in_ok-entered.entered.items _ _ c.requires.kept c.requires.share places.start places.end
-          (c.in_ok-entered.ensures ∙ ap (λ (d : Claim). d ∷ []) one) in
+    written_is c.make_change.result claims c.in_ok-entered.entered.items c.group_places-start.result.0 c.group_places-start.result.1 c.make_change.ensures.start c.make_change.ensures.end c.make_change.ensures.entered
+    ∙ share_is claim claims c.in_ok-entered.entered.items _ _ c.requires.kept c.requires.share places.start places.end
+    (c.in_ok-entered.ensures ∙ ap (λ (d : Claim). d ∷ []) one) in
     is
 
 pub returns-clause-fits : goal.returns-clause-fits
@@ -25,9 +25,9 @@ returns-clause-fits c =
     let places = c.group_places-start.ensures in
     let one = united_is claim c.united.result claims c.between.result.now _ _ c.requires.kept places.start places.end c.between.ensures c.united.ensures in
     let is : written c.make_change.result claims ≡ shared_in claim claims =
-        written_is c.make_change.result claims c.in_ok-entered.entered.items c.group_places-start.result.0 c.group_places-start.result.1 c.make_change.ensures.start c.make_change.ensures.end c.make_change.ensures.entered
-        ∙ share_is claim claims c.in_ok-entered.entered.items _ _ c.requires.kept c.requires.share places.start places.end
-          (c.in_ok-entered.ensures ∙ ap (λ (d : Claim). d ∷ []) one) in
+    written_is c.make_change.result claims c.in_ok-entered.entered.items c.group_places-start.result.0 c.group_places-start.result.1 c.make_change.ensures.start c.make_change.ensures.end c.make_change.ensures.entered
+    ∙ share_is claim claims c.in_ok-entered.entered.items _ _ c.requires.kept c.requires.share places.start places.end
+    (c.in_ok-entered.ensures ∙ ap (λ (d : Claim). d ∷ []) one) in
     may_be_written c.make_change.result claims _ is
     (omega (arith, c.make_change.ensures.start, c.make_change.ensures.end, places.order))
     (omega (arith, c.make_change.ensures.end, places.within))
