@@ -1,4 +1,7 @@
 pub mod Order
 pub mod Flat
 pub mod Held
-pub mod Trials
+pub mod Sections
+pub mod Relock
+pub mod Changes
+pub mod Least
