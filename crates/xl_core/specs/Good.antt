@@ -1,5 +1,5 @@
 -- What the core's state keeps at each free moment.
-use Rattle.std.specs.Prelude.{◌≡◌, ℕ, ◌≤◌, Bool, true, false, not, ◌&&◌, ◌==◌, List, [], ◌∷◌, length, Option, Some, None}
+use Rattle.std.specs.Prelude.{◌≡◌, ℕ, ◌≤◌, Bool, true, false, not, ◌&&◌, ◌||◌, ◌==◌, List, [], ◌∷◌, length, Option, Some, None}
 use Rattle.std.specs.List.{AllByRecursion, list_any, slice_get}
 use Rattle.xl_base.specs.Lists.{Pairwise}
 use Rattle.xl_base.specs.Stable.{same_protocol}
@@ -22,6 +22,8 @@ use Rattle.xl_table.specs.Held.{IsKept}
 use Rattle.xl_wait.specs.declared.waiter.Waiter.{Waiter}
 use Rattle.xl_core.specs.State.{CoreState}
 use Rattle.xl_core.specs.Asking.{client_of, is_name}
+use Rattle.xl_core.specs.Limits.{most_waiters}
+use Rattle.xl_core.specs.Relock.{granted_claims}
 
 -- ---- the claims
 
@@ -69,15 +71,15 @@ is_single a b = not (a.file == b.file && not (is_single_by a b a.what b.what))
 abbrev pub are_apart : Waiter → Waiter → Bool
 are_apart v w = not (v.id == w.id)
 
--- one who waits for shares or real ranges, under a number that was given out
+-- one who waits, under a number that was given out, for one share or real range, and for as long as it takes
 abbrev pub IsWaiter : List Name → ℕ → Waiter → Type 0
-IsWaiter names counter w = (w.id ≤ counter) × AllByRecursion (IsKnown names) w.asked
+IsWaiter names counter w = (w.id ≤ counter) × AllByRecursion (IsKnown names) w.asked × (length w.asked ≡ 1) × (w.blocking ≡ true)
 
 -- ---- the state
 
 -- The claims stand in the table's order, each POSIX owner's ranges on a file as sorted maximal runs (kept); any two may
 -- be held together by the matrix; an owner has one share on a file and a party one cache; all are of clients known by
--- name. The waiters are known too, and have numbers of their own.
+-- name. The waiters are known too, have numbers of their own, and are 1,024 at most.
 pub record IsGood (s : CoreState) : Type 0 where
   pub kept : IsKept s.claims
   pub compatible : Pairwise compat s.claims
@@ -85,6 +87,7 @@ pub record IsGood (s : CoreState) : Type 0 where
   pub known : AllByRecursion (IsKnown s.names) s.claims
   pub waiters : AllByRecursion (IsWaiter s.names s.counter) s.waiters
   pub apart : Pairwise are_apart s.waiters
+  pub crowd : length s.waiters ≤ most_waiters
   pub distinct : AreDistinct s.names
   pub few : length s.names ≤ most_names
 
@@ -94,10 +97,11 @@ pub record IsGood (s : CoreState) : Type 0 where
 abbrev pub is_blocked : List Claim → Claim → Bool
 is_blocked held claim = list_any (λ c. blocks claim c) held
 
-abbrev pub is_still_blocked : List Claim → Option Claim → Bool
-is_still_blocked held None = true
-is_still_blocked held (Some claim) = is_blocked held claim
+-- something held stands in the way of these, each behind those before it
+abbrev pub stands_in_the_way : List Claim → List Claim → Bool
+stands_in_the_way held [] = false
+stands_in_the_way held (c ∷ cs) = is_blocked held c || stands_in_the_way (granted_claims c held) cs
 
--- each waiter has something held against what it asks for
+-- each waiter has something in the way of what it asks for
 abbrev pub IsSettled : CoreState → Type 0
-IsSettled s = AllByRecursion (λ w. is_still_blocked s.claims (slice_get w.asked 0) ≡ true) s.waiters
+IsSettled s = AllByRecursion (λ w. stands_in_the_way s.claims w.asked ≡ true) s.waiters
