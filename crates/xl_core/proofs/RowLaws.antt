@@ -5,18 +5,20 @@ use Rattle.xl_matrix.specs.declared.claim.Claim.{Claim}
 use Rattle.xl_wait.specs.declared.waiter.Rooms.{Rooms}
 use Rattle.xl_wait.specs.declared.waiter.Waiter.{Waiter}
 use Rattle.xl_core.specs.State.{CoreState}
-use Rattle.xl_core.specs.Blockers.{least, blockers}
-use Rattle.xl_core.specs.Good.{is_blocked, stands_in_the_way}
+use Rattle.xl_core.specs.Blockers.{blockers}
+use Rattle.xl_core.specs.Good.{stands_in_the_way}
 use Rattle.xl_core.specs.Judge.{Ruled, Step, followed, after, all_granted, held_with, check_grace, waits, stopped, held_by, check_held, start_breaks, room_by, check_room, record_name, enter_all, each, judged}
 use Rattle.xl_core.specs.Limits.{grant_limits, first_passed}
-use Rattle.xl_core.specs.Relock.{granted_claims}
+use Rattle.xl_table.specs.Flat.{is_blocked}
+use Rattle.xl_table.specs.Least.{least}
+use Rattle.xl_table.specs.Relock.{granted_claims}
 use Rattle.xl_core.specs.declared.ask.Answer.{Answer}
 use Rattle.xl_core.specs.declared.ask.Answer.TheVariants.{Granted, Queued, NoGrace, Conflict, Full}
 use Rattle.xl_core.specs.declared.ask.Effect.{Effect}
 use Rattle.xl_core.specs.declared.judge.Plea.{Plea}
 use Rattle.xl_core.specs.declared.judge.Ruling.{Ruling}
 use Rattle.xl_core.specs.declared.judge.Ruling.TheVariants.{Gets, Waits, Told}
-use Rattle.xl_core.proofs.DecideLaws.{blockers_none, blockers_some, some_blocks}
+use Rattle.xl_core.proofs.DecideLaws.{blockers_none, some_blocks, blocks_some}
 
 -- ---- a row
 
@@ -74,7 +76,7 @@ IsYet s told t = (told ≡ []) × (t ≡ s)
 grace_passes : (left : Rooms) (p : Plea) (asked : List Claim) (s : CoreState) → Steps (IsYet s) (IsRuled left p asked s) (check_grace p) [] s
 unfolding check_grace
 grace_passes left p asked s = by p.reclaim where
-  by : (b : Bool) → (let r = if b then (Some (Told (NoGrace s.clock)), [], s) else (None, [], s) in Passes (IsYet s) (IsRuled left p asked s) r.0 r.1 r.2)
+  by : (b : Bool) → (let r : Option Ruling × List Effect × CoreState = if b then (Some (Told (NoGrace s.clock)), [], s) else (None, [], s) in Passes (IsYet s) (IsRuled left p asked s) r.0 r.1 r.2)
   by true = (refl, refl, refl)
   by false = (refl, refl)
 
@@ -128,7 +130,7 @@ end_passes n left p asked s held = (refl, refl, tt)
 -- what stands once more counts as held, stands before
 ruled_before : (left : Rooms) (p : Plea) (asked : List Claim) (s : CoreState) (held : List Claim) (c : Claim) (rest : List Claim) → is_blocked held c ≡ false → first_passed (grant_limits left p.rows (length (granted_claims c held)) p.kept) ≡ None
     → (ruling : Ruling) (told : List Effect) (t : CoreState) → IsRuledFrom left p asked s (granted_claims c held) rest ruling told t → IsRuledFrom left p asked s held (c ∷ rest) ruling told t
-ruled_before left p asked s held c rest free room Gets told t is = (is.0, is.1, free, room, is.2)
+ruled_before left p asked s held c rest free room Gets told t is = (is.0, is.1, (free, room, is.2))
 ruled_before left p asked s held c rest free room Waits told t is = (is.0, is.1, is.2, is.3, or_right (is_blocked held c) (stands_in_the_way (granted_claims c held) rest) is.4)
 ruled_before left p asked s held c rest free room (Told answer) told t is = is
 
@@ -138,7 +140,8 @@ each_passes n earlier left p asked s before [] = end_passes n left p asked s (al
 each_passes n earlier left p asked s before (c ∷ cs) =
     after_passes (IsFreeYet s held c) E (check_held earlier p before c) _ [] s (held_passes earlier left p asked s before c cs) (λ told t yet.
     after_passes (IsFreeYet s held c) E (start_breaks p before c) _ told t (breaks_pass E p s held before c told t yet) (λ more u free. at more u free.0 (λ more u. Ends E (after (check_room left p before c) rest) more u)
-    (after_passes (HasRoomYet left p s held c) E (check_room left p before c) rest [] s (room_passes left p asked s before c cs free.1) (λ last v room. at last v room.0.0 (λ last v. Ends E rest last v) (later room)))))
+    (after_passes (HasRoomYet left p s held c) E (check_room left p before c) rest [] s (room_passes left p asked s before c cs free.1) (λ last v room. at last v room.0.0 (λ last v. Ends E rest last v)
+    (later last v room (each_passes n earlier left p asked s (before ++ c ∷ []) cs))))))
   where
     held : List Claim
     held = all_granted before s.claims
@@ -152,10 +155,10 @@ each_passes n earlier left p asked s before (c ∷ cs) =
     at : (told : List Effect) (t : CoreState) → IsYet s told t → (P : List Effect → CoreState → Type 0) → P [] s → P told t
     at told t yet P h = subst (λ (x : List Effect). P x t) (sym yet.0) (subst (λ (x : CoreState). P [] x) (sym yet.1) h)
 
-    later : {told : List Effect} {t : CoreState} → HasRoomYet left p s held c told t → Ends E rest [] s
-    later room =
+    later : (told : List Effect) (t : CoreState) → HasRoomYet left p s held c told t → Ends (IsRuledFrom left p asked s (all_granted (before ++ c ∷ []) s.claims) cs) rest [] s → Ends E rest [] s
+    later told t room behind =
         ruled_before left p asked s held c cs room.0.1 room.1 (rest s).0 (rest s).1 (rest s).2
-        (subst (λ (x : List Claim). Ends (IsRuledFrom left p asked s x cs) rest [] s) (granted_behind before c s.claims) (each_passes n earlier left p asked s (before ++ c ∷ []) cs))
+        (subst (λ (x : List Claim). Ends (IsRuledFrom left p asked s x cs) rest [] s) (granted_behind before c s.claims) behind)
 
 -- each ruling has its cause, tells nothing, and leaves what it says
 pub judged_ruled : (n : ℕ) (earlier : List Waiter) (left : Rooms) (p : Plea) (asked : List Claim) (s : CoreState) → Ends (IsRuled left p asked s) (judged n earlier left p asked) [] s
@@ -164,3 +167,28 @@ judged_ruled n earlier left p asked s =
     after_passes (IsYet s) (IsRuled left p asked s) (check_grace p) _ [] s (grace_passes left p asked s) (λ told t yet.
     subst (λ (x : List Effect). Ends (IsRuled left p asked s) (each earlier left p [] asked (after (record_name n p) (enter_all asked))) x t) (sym yet.0)
     (subst (λ (x : CoreState). Ends (IsRuled left p asked s) (each earlier left p [] asked (after (record_name n p) (enter_all asked))) [] x) (sym yet.1) (each_passes n earlier left p asked s [] asked)))
+
+-- ---- one claim: the ruling is a function of what is looked at
+
+abbrev pub ruled_by : Plea → CoreState → Claim → Option Claim → Option ℕ → Ruled
+ruled_by p s c (Some d) passed = (stopped p d, [], s)
+ruled_by p s c None (Some limit) = (Told (Full limit), [], s)
+ruled_by p s c None None = (Gets, [], held_with (c ∷ []) s)
+
+abbrev pub least_blocker : List Waiter → CoreState → Claim → Option Claim
+least_blocker earlier s c = least s.names (blockers earlier s c)
+
+abbrev pub passed_by : Rooms → Plea → CoreState → Claim → Option ℕ
+passed_by left p s c = first_passed (grant_limits left p.rows (length (granted_claims c s.claims)) p.kept)
+
+pub late : (n : ℕ) (earlier : List Waiter) (left : Rooms) (p : Plea) (asked : List Claim) (s : CoreState) → p.reclaim ≡ true → judged n earlier left p asked s ≡ (Told (NoGrace s.clock), [], s)
+unfolding judged check_grace
+late n earlier left p asked s e = rw e refl
+
+pub judged_is : (n : ℕ) (earlier : List Waiter) (left : Rooms) (p : Plea) (c : Claim) (s : CoreState) → p.reclaim ≡ false → judged n earlier left p (c ∷ []) s ≡ ruled_by p s c (least_blocker earlier s c) (passed_by left p s c)
+unfolding judged check_grace check_held start_breaks check_room record_name enter_all held_with
+judged_is n earlier left p c s timely = go (least_blocker earlier s c) (passed_by left p s c) refl refl where
+  go : (o : Option Claim) (l : Option ℕ) → least_blocker earlier s c ≡ o → passed_by left p s c ≡ l → judged n earlier left p (c ∷ []) s ≡ ruled_by p s c o l
+  go (Some d) l e k = rw (timely, e) refl
+  go None (Some limit) e k = rw (timely, e, k) refl
+  go None None e k = rw (timely, e, k) refl

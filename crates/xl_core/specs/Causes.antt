@@ -7,15 +7,17 @@ use Rattle.xl_matrix.specs.declared.claim.Claim.{Claim}
 use Rattle.xl_names.specs.declared.name.Name.{Name}
 use Rattle.xl_spans.specs.Spans.{within, mode_at}
 use Rattle.xl_table.specs.Flat.{blocks}
-use Rattle.xl_table.specs.Held.{is_range, spans_of}
+use Rattle.xl_table.specs.Held.{is_range, is_share, spans_of}
 use Rattle.xl_wait.specs.declared.waiter.Rooms.{Rooms}
 use Rattle.xl_wait.specs.declared.waiter.Waiter.{Waiter}
 use Rattle.xl_core.specs.State.{CoreState}
 use Rattle.xl_core.specs.Asking.{asker, both_entered}
-use Rattle.xl_core.specs.Blockers.{least, blockers, test_blockers}
+use Rattle.xl_table.specs.Least.{least}
+use Rattle.xl_core.specs.Blockers.{blockers, test_blockers}
 use Rattle.xl_core.specs.Limits.{grant_limits, wait_limits, IsRoom, IsLeastPassed}
-use Rattle.xl_core.specs.Good.{is_blocked, stands_in_the_way}
-use Rattle.xl_core.specs.Relock.{most_claims, is_share, shares_of, relocked_in, granted_claims}
+use Rattle.xl_table.specs.Flat.{is_blocked}
+use Rattle.xl_core.specs.Good.{stands_in_the_way}
+use Rattle.xl_table.specs.Relock.{most_claims, shares_of, relocked_in, granted_claims}
 use Rattle.xl_core.specs.declared.ask.Act.{Act}
 use Rattle.xl_core.specs.declared.ask.Act.TheVariants.{Share}
 use Rattle.xl_core.specs.declared.ask.Answer.{Answer}
@@ -125,3 +127,17 @@ pub record IsOwn (s : CoreState) (a : Ask) (answer : Answer) (new : CoreState) :
   pub shares : (file : ℕ) (owner : Owner) → ((file ≡ a.file) × (owner ≡ asker a s.names) × (asks_share a.act ≡ true) → ⊥) → shares_of file owner new.claims ≡ shares_of file owner s.claims
   pub stay : (w : Waiter) → IsIn w s.waiters → IsIn w new.waiters
   pub names : (number : ℕ) (name : Name) → slice_get s.names number ≡ Some name → slice_get new.names number ≡ Some name
+
+-- ---- a test and the lock that it foretells
+
+-- both are asked by the same owner of the same client on the same file, and are reclaims or not
+pub record IsSameAsker (a b : Ask) : Type 0 where
+  pub file : a.file ≡ b.file
+  pub owner : a.owner ≡ b.owner
+  pub party : a.party ≡ b.party
+  pub reclaim : a.reclaim ≡ b.reclaim
+
+-- something held is told
+abbrev pub IsConflict : Answer → Type 0
+IsConflict (Conflict c) = Unit {0}
+IsConflict _ = ⊥

@@ -7,10 +7,11 @@ use Rattle.xl_wait.specs.declared.waiter.Rooms.{Rooms}
 use Rattle.xl_wait.specs.declared.waiter.Waiter.{Waiter}
 use Rattle.xl_core.specs.State.{CoreState}
 use Rattle.xl_core.specs.Asking.{both_entered, asked_whats, asked_claims, known_claim}
-use Rattle.xl_core.specs.Blockers.{least, test_blockers}
+use Rattle.xl_table.specs.Least.{least}
+use Rattle.xl_core.specs.Blockers.{test_blockers}
 use Rattle.xl_core.specs.Judge.{judged}
 use Rattle.xl_core.specs.Limits.{wait_limits, first_passed}
-use Rattle.xl_core.specs.Relock.{most_claims, relocked_in, holds_byte}
+use Rattle.xl_table.specs.Relock.{most_claims, relocked_in, holds_byte}
 use Rattle.xl_core.specs.declared.ask.Act.{Act}
 use Rattle.xl_core.specs.declared.ask.Act.TheVariants.{Share, Ranges, Test, Unlock}
 use Rattle.xl_core.specs.declared.ask.Answer.{Answer}

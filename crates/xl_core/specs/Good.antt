@@ -1,6 +1,6 @@
 -- What the core's state keeps at each free moment.
 use Rattle.std.specs.Prelude.{◌≡◌, ℕ, ◌≤◌, Bool, true, false, not, ◌&&◌, ◌||◌, ◌==◌, List, [], ◌∷◌, length, Option, Some, None}
-use Rattle.std.specs.List.{AllByRecursion, list_any, slice_get}
+use Rattle.std.specs.List.{AllByRecursion, slice_get}
 use Rattle.xl_base.specs.Lists.{Pairwise}
 use Rattle.xl_base.specs.Stable.{same_protocol}
 use Rattle.xl_base.specs.declared.name.Owner.{Owner}
@@ -17,13 +17,13 @@ use Rattle.xl_matrix.specs.declared.claim.What.{What}
 use Rattle.xl_matrix.specs.declared.claim.What.TheVariants.{Share, Range, Cache}
 use Rattle.xl_names.specs.Names.{protocol_of, AreDistinct, most_names}
 use Rattle.xl_names.specs.declared.name.Name.{Name}
-use Rattle.xl_table.specs.Flat.{blocks}
-use Rattle.xl_table.specs.Held.{IsKept}
+use Rattle.xl_table.specs.Flat.{is_blocked}
+use Rattle.xl_table.specs.Held.{IsKept, IsPosix}
 use Rattle.xl_wait.specs.declared.waiter.Waiter.{Waiter}
 use Rattle.xl_core.specs.State.{CoreState}
 use Rattle.xl_core.specs.Asking.{client_of, is_name}
 use Rattle.xl_core.specs.Limits.{most_waiters}
-use Rattle.xl_core.specs.Relock.{granted_claims}
+use Rattle.xl_table.specs.Relock.{granted_claims}
 
 -- ---- the claims
 
@@ -34,15 +34,6 @@ IsRangeBy _ = ⊥
 
 abbrev pub IsRange : Claim → Type 0
 IsRange c = IsRangeBy c.what × (posix c.owner ≡ true)
-
--- a share, or such a range, of a POSIX owner
-abbrev pub IsPosixBy : What → Type 0
-IsPosixBy (Share access deny) = Unit {0}
-IsPosixBy (Range (Bytes first last) exclusive) = first ≤ last
-IsPosixBy _ = ⊥
-
-abbrev pub IsPosix : Claim → Type 0
-IsPosix c = IsPosixBy c.what × (posix c.owner ≡ true)
 
 abbrev pub agree : Protocol → Protocol → Option Name → Option Name → Bool
 agree protocol other (Some owner) (Some party) = same_protocol protocol (protocol_of owner) && (same_protocol other (protocol_of party) && is_name (client_of owner) party)
@@ -92,10 +83,6 @@ pub record IsGood (s : CoreState) : Type 0 where
   pub few : length s.names ≤ most_names
 
 -- ---- nobody is forgotten
-
--- something held blocks the claim
-abbrev pub is_blocked : List Claim → Claim → Bool
-is_blocked held claim = list_any (λ c. blocks claim c) held
 
 -- something held stands in the way of these, each behind those before it
 abbrev pub stands_in_the_way : List Claim → List Claim → Bool

@@ -4,9 +4,10 @@ use Rattle.xl_matrix.specs.declared.claim.Claim.{Claim}
 use Rattle.xl_wait.specs.declared.waiter.Rooms.{Rooms}
 use Rattle.xl_wait.specs.declared.waiter.Waiter.{Waiter}
 use Rattle.xl_core.specs.State.{CoreState}
-use Rattle.xl_core.specs.Blockers.{least, blockers}
+use Rattle.xl_table.specs.Least.{least}
+use Rattle.xl_core.specs.Blockers.{blockers}
 use Rattle.xl_core.specs.Limits.{grant_limits, first_passed}
-use Rattle.xl_core.specs.Relock.{granted_claims}
+use Rattle.xl_table.specs.Relock.{granted_claims}
 use Rattle.xl_core.specs.declared.ask.Answer.TheVariants.{Conflict, NoGrace, Full}
 use Rattle.xl_core.specs.declared.ask.Effect.{Effect}
 use Rattle.xl_core.specs.declared.judge.Plea.{Plea}

@@ -1,7 +1,6 @@
 pub mod State
 pub mod Asking
 pub mod Blockers
-pub mod Relock
 pub mod Limits
 pub mod Judge
 pub mod Decide

@@ -3,7 +3,7 @@ use Rattle.std.specs.Prelude.{◌≡◌, ℕ, ◌≤◌, Bool, true, false, ◌&
 use Rattle.std.specs.List.{list_any}
 use Rattle.xl_names.specs.Names.{most_names}
 use Rattle.xl_wait.specs.declared.waiter.Rooms.{Rooms}
-use Rattle.xl_core.specs.Relock.{most_claims}
+use Rattle.xl_table.specs.Relock.{most_claims}
 
 abbrev pub most_hosts : ℕ
 most_hosts = 256

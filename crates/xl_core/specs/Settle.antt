@@ -4,7 +4,7 @@ use Rattle.std.specs.List.{filter, list_any}
 use Rattle.xl_base.specs.declared.name.Party.{Party}
 use Rattle.xl_matrix.specs.Equal.{same_parties}
 use Rattle.xl_matrix.specs.declared.claim.Claim.{Claim}
-use Rattle.xl_table.specs.Flat.{removed}
+use Rattle.xl_table.specs.Flat.{removed, is_blocked}
 use Rattle.xl_wait.specs.Waiting.{cancelled}
 use Rattle.xl_wait.specs.declared.waiter.Rooms.{Rooms}
 use Rattle.xl_wait.specs.declared.waiter.Waiter.{Waiter}
@@ -15,6 +15,7 @@ use Rattle.xl_core.specs.declared.ask.Answer.TheVariants.{Granted, NotHeld}
 use Rattle.xl_core.specs.declared.ask.Effect.{Effect}
 use Rattle.xl_core.specs.declared.ask.Effect.TheVariants.{Served, Cancelled}
 use Rattle.xl_core.specs.declared.judge.Plea.{Plea}
+use Rattle.xl_core.specs.declared.settling.Called.{Called}
 use Rattle.xl_core.specs.declared.judge.Ruling.{Ruling}
 use Rattle.xl_core.specs.declared.judge.Ruling.TheVariants.{Gets, Waits, Told}
 
@@ -63,6 +64,21 @@ settle n left s = first_turn n left s [] s.waiters
 abbrev pub AllRest : ℕ → Rooms → CoreState → List Waiter → List Waiter → Type 0
 AllRest n left s earlier [] = Unit {0}
 AllRest n left s earlier (w ∷ ws) = (again n left s earlier w ≡ (Waits, [], s)) × AllRest n left s (earlier ++ w ∷ []) ws
+
+-- ---- how the first that has a turn is found, among those who wait for one claim each
+
+-- a waiter that nothing held blocks
+abbrev pub called_by : CoreState → Waiter → List Claim → Option Called
+called_by s w (c ∷ []) = if is_blocked s.claims c then None else Some (record { id = w.id; claim = c; plea = plea_again s w })
+called_by s w _ = None
+
+abbrev pub first_some : Option Called → Option Called → Option Called
+first_some (Some called) later = Some called
+first_some None later = later
+
+abbrev pub first_called : CoreState → List Waiter → Option Called
+first_called s [] = None
+first_called s (w ∷ ws) = first_some (called_by s w w.asked) (first_called s ws)
 
 -- ---- who leaves
 

@@ -4,7 +4,6 @@
 
 mod ask;
 mod asking;
-mod blocking;
 mod decide;
 mod doors;
 mod judge;
@@ -12,8 +11,8 @@ pub mod law;
 mod leaving;
 mod limits;
 mod parts;
-mod relock;
 mod settling;
 
 pub use ask::{Act, Answer, Ask, Effect, Who};
 pub use doors::Core;
+pub use limits::{MOST_HOSTS, MOST_OPENS, MOST_OWNERS};
