@@ -5,4 +5,9 @@ pub mod KeptLaws
 pub mod HolderLaws
 pub mod FitLaws
 pub mod InsertLaws
+pub mod SectionLaws
+pub mod WriteBack
+pub mod ShareLaws
+pub mod LeastLaws
+pub mod ChangeLaws
 pub mod TrialLaws

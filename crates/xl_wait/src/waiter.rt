@@ -25,7 +25,7 @@ pub struct Waiter {
     pub asked: Sequence<Claim>,
     /// The caches that it wishes for once it is served, the first choice first.
     pub wish: Sequence<CacheKind>,
-    /// Whether it goes on waiting where something held stands against it.
+    /// Whether it asked to wait where something stands in its way; a request that waits for grace may not have.
     pub blocking: bool,
     /// Whether its party's name is to be recorded before it is granted.
     pub monitored: bool,
