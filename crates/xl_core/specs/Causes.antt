@@ -139,5 +139,4 @@ pub record IsSameAsker (a b : Ask) : Type 0 where
 
 -- something held is told
 abbrev pub IsConflict : Answer → Type 0
-IsConflict (Conflict c) = Unit {0}
-IsConflict _ = ⊥
+IsConflict answer = (c : Claim) × (answer ≡ Conflict c)
