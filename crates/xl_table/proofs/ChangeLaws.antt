@@ -1,5 +1,5 @@
 -- A change that is made by places in the list is what the definition says.
-use Rattle.std.proofs.Common.{◌≡◌, ℕ, ◌+◌, ◌-◌, ◌<◌, ◌≤◌, Bool, true, false, not, ◌&&◌, nat_le, nat_lt, List, [], ◌∷◌, ◌++◌, length, map, take, drop, zero, suc, ◌==◌, Option, refl, sym, ap, subst, ◌∙◌, inl, inr, append_assoc, arith}
+use Rattle.std.proofs.Common.{◌≡◌, ℕ, ◌+◌, ◌-◌, ◌<◌, ◌≤◌, Bool, true, false, nat_le, List, [], ◌∷◌, ◌++◌, length, map, take, drop, zero, suc, ◌==◌, if◌then◌else◌, Option, refl, sym, ap, subst, ◌∙◌, inl, inr, append_assoc, arith}
 use Rattle.std.proofs.Math.Seq.{take-append-add, drop-append-add}
 use Rattle.std.proofs.lemmas.List.{take-append-drop, take-append-le, drop-append-le, take-map, drop-map, map-append, length-append, length-drop, length-take-le}
 use Rattle.std.proofs.lemmas.List.Folds.{drop_split}
@@ -9,8 +9,8 @@ use Rattle.std.proofs.lemmas.Bool.{cases_Bool, both_ways, and_from, not-true, lt
 use Rattle.std.proofs.lemmas.Bool.Decides.{nat_tests}
 use Rattle.xl_base.specs.declared.name.Owner.{Owner}
 use Rattle.xl_base.specs.declared.name.Party.{Party}
-use Rattle.xl_base.specs.Lists.{IsIn, Pairwise}
-use Rattle.xl_base.proofs.Members.{all_from, all_in, all_weaker, in_map_from}
+use Rattle.xl_base.specs.Lists.{Pairwise}
+use Rattle.xl_base.proofs.Members.{all_weaker}
 use Rattle.xl_matrix.specs.declared.claim.Claim.{Claim}
 use Rattle.xl_matrix.specs.declared.claim.Extent.TheVariants.{Bytes, Empty}
 use Rattle.xl_matrix.specs.declared.claim.What.{What}
@@ -21,10 +21,10 @@ use Rattle.xl_spans.specs.declared.span.Mode.{Mode}
 use Rattle.xl_spans.specs.declared.span.Span.{Span}
 use Rattle.xl_spans.proofs.Chains.{IsChain, canonical_chain_all, canonical_rest, relocked_canonical}
 use Rattle.xl_spans.proofs.InPlace.{chain_rest, places_in_order, relocked_in_place}
-use Rattle.xl_table.specs.Flat.{inserted}
+use Rattle.xl_table.specs.Flat.{inserted, with_what}
 use Rattle.xl_table.specs.Held.{is_of, is_range, is_share, is_real_by, is_real, has_one_party, with_span, mode_of, spans_of, IsSound, IsKept}
 use Rattle.xl_table.specs.Order.{key, goes_first}
-use Rattle.xl_table.specs.Relock.{is_exclusive, range_claim, is_range_of, unranged, all_inserted, relocked_in, is_share_of, unshared, old_shares, united, shared_in}
+use Rattle.xl_table.specs.Relock.{is_exclusive, range_claim, is_range_of, unranged, all_inserted, relocked_in, is_share_of, unshared, old_shares, united_by, united, shared_in}
 use Rattle.xl_table.specs.declared.change.Change.{Change}
 use Rattle.xl_table.specs.Changes.{written, MayBeWritten}
 use Rattle.xl_matrix.specs.Equal.{same_owners}
@@ -32,8 +32,8 @@ use Rattle.xl_matrix.proofs.EqualLaws.{same_owners-self}
 use Rattle.xl_table.proofs.InsertLaws.{range_order}
 use Rattle.xl_table.proofs.ShareLaws.{united_share}
 use Rattle.xl_table.specs.Sections.{group, starts, is_before, is_upto, range_ends_before, range_begins_by, IsParted, spans_in}
-use Rattle.xl_table.proofs.SectionLaws.{section_cut, section_is, section_rest, before_section, behind_section, starts_share, starts_range}
-use Rattle.xl_table.proofs.WriteBack.{is_of-self, mode_exclusive, is_of-true, later_spans, relocked_is, IsOfParty}
+use Rattle.xl_table.proofs.SectionLaws.{section_cut, section_is, section_rest, range_section, share_section, before_section, behind_section, starts_share, starts_range}
+use Rattle.xl_table.proofs.WriteBack.{is_of-self, mode_exclusive, is_of-true, later_spans, relocked_is, IsOfParty, of_party}
 
 -- ---- claims entered between two parts of a list
 
@@ -90,6 +90,10 @@ drop_within cs front mid back lo j is at within =
     ∙ ap (λ (n : ℕ). drop (n + j) (front ++ (mid ++ back))) (sym at)
     ∙ drop-append-add front (mid ++ back) j
     ∙ drop-append-le j mid back within
+
+pub within_parts : (cs mid : List Claim) (lo hi j : ℕ) → lo ≤ hi → hi ≤ length cs → mid ≡ slice_range cs lo hi → j ≤ length mid → lo + j ≤ length cs
+within_parts cs mid lo hi j order within is j_in =
+    omega (arith, order, within, j_in, ap (λ (ds : List Claim). length ds) is, length-take-le (hi - lo) (drop lo cs) (omega (arith, order, within, length-drop lo cs)))
 
 -- ---- an owner's ranges as claims of their spans
 
@@ -188,7 +192,7 @@ pub are_runs : (file : ℕ) (owner : Owner) (party : Party) (first last : ℕ) (
 are_runs file owner party first last ss out is c ends =
     let rc = range_claim file owner party in
     let parts : (i j : ℕ) → spans_in (slice_range (map rc ss) i j) ≡ slice_range ss i j =
-        λ i j. ap (λ (ds : List Claim). spans_in (take (j - i) ds)) (drop-map rc i ss) ∙ ap spans_in (take-map rc (j - i) (drop i ss)) ∙ spans_in-map file owner party (slice_range ss i j) in
+    λ i j. ap (λ (ds : List Claim). spans_in (take (j - i) ds)) (drop-map rc i ss) ∙ ap spans_in (take-map rc (j - i) (drop i ss)) ∙ spans_in-map file owner party (slice_range ss i j) in
     subst (λ (ds : List Claim). AreRuns file owner party first last ss ds) (sym is)
     (record {
       ending = ends_parted file owner party (first - 1) ss c;
@@ -197,6 +201,14 @@ are_runs file owner party first last ss out is c ends =
       part = parts;
       canonical = λ i j. subst (λ (xs : List Span). IsCanonical xs) (sym (parts i j)) (canonical_take (j - i) (drop i ss) (canonical_drop i ss c));
     })
+
+pub runs_of : (ask : Claim) (first last : ℕ) (cs out : List Claim) (lo hi : ℕ) → IsKept cs → posix ask.owner ≡ true → is_range ask.what ≡ true → first ≤ last → AllByRecursion (λ c. has_one_party ask c ≡ true) cs
+    → lo ≡ prefix_len (is_before (group ask.file 1 ask.owner)) cs → hi ≡ prefix_len (is_upto (group ask.file 1 ask.owner)) cs → out ≡ slice_range cs lo hi
+    → AreRuns ask.file ask.owner ask.party first last (spans_of ask.file ask.owner cs) out
+runs_of ask first last cs out lo hi kept p range ends one at_lo at_hi is =
+    are_runs ask.file ask.owner ask.party first last (spans_of ask.file ask.owner cs) out
+    (range_section ask.file ask.owner cs out lo hi kept.ordered at_lo at_hi is ∙ ranges_are ask.file ask.owner ask.party cs p kept.sound.real (of_party ask cs range one))
+    (kept.sound.canonical ask.file ask.owner p) ends
 
 -- ---- a range is locked or unlocked
 
@@ -229,8 +241,8 @@ relocked_there file owner party first last mode cs kept p ends =
     relocked_is file owner party first last mode cs
     ∙ ap (λ (ds : List Claim). all_inserted ns ds) (sym (section_rest fs (is_range_of file owner) cs (starts_range file owner) kept.ordered))
     ∙ entered_between ns front back
-      (runs_ordered file owner party new p (relocked_canonical (spans_of file owner cs) first last mode ends (kept.sound.canonical file owner p)))
-      (are_between fs ns front back (runs_start file owner party new) cut.before cut.behind)
+    (runs_ordered file owner party new p (relocked_canonical (spans_of file owner cs) first last mode ends (kept.sound.canonical file owner p)))
+    (are_between fs ns front back (runs_start file owner party new) cut.before cut.behind)
 
 joined_parts : (front a b c back : List Claim) → (front ++ a) ++ (b ++ (c ++ back)) ≡ front ++ ((a ++ (b ++ c)) ++ back)
 joined_parts front a b c back =
@@ -264,11 +276,11 @@ relock_is file owner party first last mode cs out entered lo hi i j kept p ends 
     let fresh : entered ≡ map rc part = new ∙ ap (λ (xs : List Span). map rc (relocked xs first last mode)) ((are_runs file owner party first last ss out runs canonical ends).part i j) in
     let far : IsChain (last + 2) (drop (prefix_len (begins_by (last + 1)) ss) ss) = subst (λ (n : ℕ). IsChain n (drop (prefix_len (begins_by (last + 1)) ss) ss)) (omega arith) (chain_rest (last + 1) 0 ss (canonical_chain_all ss canonical)) in
     let in_place : relocked ss first last mode ≡ take i ss ++ (part ++ drop j ss) =
-        relocked_in_place ss first last (last + 1) mode ends (omega arith) canonical far
-        ∙ ap (λ (n : ℕ). take n ss ++ (relocked (slice_range ss n (prefix_len (begins_by (last + 1)) ss)) first last mode ++ drop (prefix_len (begins_by (last + 1)) ss) ss)) (sym i_is)
-        ∙ ap (λ (n : ℕ). take i ss ++ (relocked (slice_range ss i n) first last mode ++ drop n ss)) (sym j_is) in
+    relocked_in_place ss first last (last + 1) mode ends (omega arith) canonical far
+    ∙ ap (λ (n : ℕ). take n ss ++ (relocked (slice_range ss n (prefix_len (begins_by (last + 1)) ss)) first last mode ++ drop (prefix_len (begins_by (last + 1)) ss) ss)) (sym i_is)
+    ∙ ap (λ (n : ℕ). take i ss ++ (relocked (slice_range ss i n) first last mode ++ drop n ss)) (sym j_is) in
     let mapped : map rc (take i ss) ++ (map rc part ++ map rc (drop j ss)) ≡ map rc (relocked ss first last mode) =
-        ap (λ (ds : List Claim). map rc (take i ss) ++ ds) (sym (map-append rc part (drop j ss))) ∙ sym (map-append rc (take i ss) (part ++ drop j ss)) ∙ ap (map rc) (sym in_place) in
+    ap (λ (ds : List Claim). map rc (take i ss) ++ ds) (sym (map-append rc part (drop j ss))) ∙ sym (map-append rc (take i ss) (part ++ drop j ss)) ∙ ap (map rc) (sym in_place) in
     ap (λ (ds : List Claim). ds ++ (entered ++ drop (lo + j) cs)) taken
     ∙ ap (λ (ds : List Claim). (front ++ map rc (take i ss)) ++ (ds ++ drop (lo + j) cs)) fresh
     ∙ ap (λ (ds : List Claim). (front ++ map rc (take i ss)) ++ (map rc part ++ ds)) dropped
@@ -297,7 +309,28 @@ share_is c cs entered lo hi kept share at_lo at_hi new =
     ∙ sym (entered_between (one ∷ []) front back (tt, tt) (are_between fs (one ∷ []) front back (starts_share c.file c.owner one ∙ mine, tt) cut.before cut.behind))
     ∙ ap (λ (ds : List Claim). inserted one ds) (section_rest fs (is_share_of c.file c.owner) cs (starts_share c.file c.owner) kept.ordered)
 
+pub united_is : (c one : Claim) (cs out : List Claim) (lo hi : ℕ) → IsKept cs
+    → lo ≡ prefix_len (is_before (group c.file 0 c.owner)) cs → hi ≡ prefix_len (is_upto (group c.file 0 c.owner)) cs → out ≡ slice_range cs lo hi
+    → one ≡ with_what c (united_by c.owner c.what out) → one ≡ united c cs
+unfolding old_shares
+united_is c one cs out lo hi kept at_lo at_hi is e =
+    e ∙ ap (λ (ds : List Claim). with_what c (united_by c.owner c.what ds)) (share_section c.file c.owner cs out lo hi kept.ordered at_lo at_hi is)
+
 -- ---- the change may be written
+
+counted : (change : Change) (cs : List Claim) → change.start ≤ change.end → change.end ≤ length cs → change.held + (change.end - change.start) ≡ length cs + length change.entered.items → change.held ≡ length (written change cs)
+unfolding written
+counted change cs order within count =
+    omega (
+      arith,
+      order,
+      within,
+      count,
+      length-append (take change.start cs) (change.entered.items ++ drop change.end cs),
+      length-append change.entered.items (drop change.end cs),
+      length-take-le change.start cs (omega (arith, order, within)),
+      length-drop change.end cs,
+    )
 
 pub may_be_written : (change : Change) (cs after : List Claim) → written change cs ≡ after → change.start ≤ change.end → change.end ≤ length cs → change.held + (change.end - change.start) ≡ length cs + length change.entered.items → IsSound after → Pairwise goes_first after → MayBeWritten change cs
 may_be_written change cs after is order within count sound ordered = record {
@@ -306,17 +339,9 @@ may_be_written change cs after is order within count sound ordered = record {
   sound = subst (λ (ds : List Claim). IsSound ds) (sym is) sound;
   ordered = subst (λ (ds : List Claim). Pairwise goes_first ds) (sym is) ordered;
   count = counted change cs order within count;
-} where
-  counted : (change : Change) (cs : List Claim) → change.start ≤ change.end → change.end ≤ length cs → change.held + (change.end - change.start) ≡ length cs + length change.entered.items → change.held ≡ length (written change cs)
-  unfolding written
-  counted change cs order within count =
-      omega (
-        arith,
-        order,
-        within,
-        count,
-        length-append (take change.start cs) (change.entered.items ++ drop change.end cs),
-        length-append change.entered.items (drop change.end cs),
-        length-take-le change.start cs (omega (arith, order, within)),
-        length-drop change.end cs,
-      )
+}
+
+pub written_is : (change : Change) (cs entered : List Claim) (start end : ℕ) → change.start ≡ start → change.end ≡ end → change.entered.items ≡ entered → written change cs ≡ take start cs ++ (entered ++ drop end cs)
+unfolding written
+written_is change cs entered start end a b e =
+    ap (λ (n : ℕ). take n cs ++ (change.entered.items ++ drop change.end cs)) a ∙ ap (λ (n : ℕ). take start cs ++ (change.entered.items ++ drop n cs)) b ∙ ap (λ (ds : List Claim). take start cs ++ (ds ++ drop end cs)) e

@@ -9,5 +9,7 @@ pub mod SectionLaws
 pub mod WriteBack
 pub mod ShareLaws
 pub mod LeastLaws
+pub mod UnionLaws
+pub mod RoomLaws
 pub mod ChangeLaws
 pub mod TrialLaws

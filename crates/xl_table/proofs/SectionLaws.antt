@@ -1,12 +1,12 @@
 -- What bisection finds in the flat list: a file's claims, an owner's shares, its ranges.
-use Rattle.std.proofs.Common.{◌≡◌, ℕ, ◌+◌, ◌-◌, ◌<◌, ◌≤◌, suc, zero, Bool, true, false, not, ◌&&◌, ◌||◌, ◌==◌, nat_lt, if◌then◌else◌, List, [], ◌∷◌, ◌++◌, length, take, drop, get_or, Option, Some, None, IfSome, refl, sym, ap, subst, ◌∙◌, inl, inr, arith}
+use Rattle.std.proofs.Common.{◌≡◌, ℕ, ◌<◌, ◌≤◌, suc, zero, Bool, true, false, not, ◌&&◌, ◌||◌, ◌==◌, nat_lt, List, [], ◌∷◌, ◌++◌, length, take, drop, get_or, Option, Some, None, IfSome, refl, sym, ap, subst, ◌∙◌, inl, inr, arith}
 use Rattle.std.proofs.Math.Numerals.{one-add}
-use Rattle.std.proofs.Math.Nat.{suc-add, suc-sub-suc, sub-zero}
+use Rattle.std.proofs.Math.Nat.{suc-sub-suc, sub-zero}
 use Rattle.std.specs.List.{AllByRecursion, filter, find, list_any, prefix_len, slice_get, slice_range}
 use Rattle.std.specs.List.Sorted.{IsPartitionPoint, IsPartitionedBy}
 use Rattle.std.proofs.lemmas.List.Sums.{prefix_len_is}
 use Rattle.std.proofs.lemmas.Option.{same_Some}
-use Rattle.std.proofs.lemmas.Bool.{cases_Bool, both_ways, and_parts, and_from, and_left, and_right, not-true, not-false, not_from_false, false_from_ne_true, eqb-true, eq-eqb, or_cases}
+use Rattle.std.proofs.lemmas.Bool.{cases_Bool, both_ways, not-true, not_from_false, false_from_ne_true}
 use Rattle.std.proofs.lemmas.Bool.Decides.{nat_tests}
 use Rattle.xl_base.specs.declared.name.Owner.{Owner}
 use Rattle.xl_base.specs.declared.name.Owner.TheVariants as owners
@@ -14,7 +14,7 @@ use Rattle.xl_base.specs.declared.name.Protocol.TheVariants.{Nlm, Nfs, Smb}
 use Rattle.xl_base.specs.declared.name.Party.TheVariants as parties
 use Rattle.xl_base.specs.Lists.{IsIn, Pairwise}
 use Rattle.xl_matrix.specs.declared.claim.Claim.{Claim}
-use Rattle.xl_matrix.specs.declared.claim.Extent.TheVariants.{Bytes, Empty}
+use Rattle.xl_matrix.specs.declared.claim.Extent.TheVariants.{Empty}
 use Rattle.xl_matrix.specs.declared.claim.What.{What}
 use Rattle.xl_matrix.specs.declared.claim.What.TheVariants.{Share, Range, Cache}
 use Rattle.xl_matrix.specs.Equal.{same_owners}
@@ -23,7 +23,7 @@ use Rattle.xl_matrix.specs.Matrix.{compat}
 use Rattle.xl_matrix.proofs.EqualLaws.{eqb-sym}
 use Rattle.xl_table.specs.Order.{no_later, owner_key, place_in_group, key_by, key, goes_first}
 use Rattle.xl_table.specs.Flat.{is_own, blocks, is_blocked}
-use Rattle.xl_table.specs.Held.{is_range, is_share, is_of, with_span, spans_of}
+use Rattle.xl_table.specs.Held.{is_range, is_share, is_cache, is_of, with_span, spans_of}
 use Rattle.xl_table.specs.Relock.{is_range_of, is_share_of}
 use Rattle.xl_table.specs.Sections.{group, starts, is_no_later_than, is_before, is_upto, IsParted, spans_in}
 use Rattle.xl_table.proofs.OrderLaws.{no_later-on}
@@ -230,6 +230,22 @@ starts_file file c = by c.what where
   by (Range extent exclusive) = and_true (c.file == file)
   by (Cache kind running) = and_true (c.file == file)
 
+starts_shares : (file : ℕ) (c : Claim) → starts (file ∷ 0 ∷ []) (key c) ≡ ((c.file == file) && is_share c.what)
+unfolding key
+starts_shares file c = by c.what where
+  by : (w : What) → starts (file ∷ 0 ∷ []) (key_by c w) ≡ ((c.file == file) && is_share w)
+  by (Share access deny) = refl
+  by (Range extent exclusive) = refl
+  by (Cache kind running) = refl
+
+starts_caches : (file : ℕ) (c : Claim) → starts (file ∷ 2 ∷ []) (key c) ≡ ((c.file == file) && is_cache c.what)
+unfolding key
+starts_caches file c = by c.what where
+  by : (w : What) → starts (file ∷ 2 ∷ []) (key_by c w) ≡ ((c.file == file) && is_cache w)
+  by (Share access deny) = refl
+  by (Range extent exclusive) = refl
+  by (Cache kind running) = refl
+
 same_key : (owner who : Owner) (rest : List ℕ) → starts (owner_key owner) (owner_key who ++ rest) ≡ same_owners who owner
 same_key (owners.Open n) (owners.Open m) rest = and_true (m == n)
 same_key (owners.Open n) (owners.Name Nlm m) rest = refl
@@ -267,8 +283,14 @@ starts_range file owner c = by c.what where
 
 -- ---- what bisection gives
 
-pub file_section : (file : ℕ) (cs out : List Claim) (i j : ℕ) → Pairwise goes_first cs → i ≡ prefix_len (is_before (file ∷ [])) cs → j ≡ prefix_len (is_upto (file ∷ [])) cs → out ≡ slice_range cs i j → out ≡ filter (λ c. c.file == file) cs
-file_section file cs out i j ordered a b is = section_is (file ∷ []) (λ c. c.file == file) cs out i j (starts_file file) ordered a b is
+pub file_section : (file : ℕ) (cs out : List Claim) (i j n : ℕ) → n ≡ file → Pairwise goes_first cs → i ≡ prefix_len (is_before (n ∷ [])) cs → j ≡ prefix_len (is_upto (n ∷ [])) cs → out ≡ slice_range cs i j → out ≡ filter (λ c. c.file == file) cs
+file_section file cs out i j n e ordered a b is = section_is (n ∷ []) (λ c. c.file == file) cs out i j (λ c. starts_file n c ∙ ap (λ (m : ℕ). c.file == m) e) ordered a b is
+
+pub shares_section : (file : ℕ) (cs out : List Claim) (i j n : ℕ) → n ≡ file → Pairwise goes_first cs → i ≡ prefix_len (is_before (n ∷ 0 ∷ [])) cs → j ≡ prefix_len (is_upto (n ∷ 0 ∷ [])) cs → out ≡ slice_range cs i j → out ≡ filter (λ c. (c.file == file) && is_share c.what) cs
+shares_section file cs out i j n e ordered a b is = section_is (n ∷ 0 ∷ []) (λ c. (c.file == file) && is_share c.what) cs out i j (λ c. starts_shares n c ∙ ap (λ (m : ℕ). (c.file == m) && is_share c.what) e) ordered a b is
+
+pub caches_section : (file : ℕ) (cs out : List Claim) (i j n : ℕ) → n ≡ file → Pairwise goes_first cs → i ≡ prefix_len (is_before (n ∷ 2 ∷ [])) cs → j ≡ prefix_len (is_upto (n ∷ 2 ∷ [])) cs → out ≡ slice_range cs i j → out ≡ filter (λ c. (c.file == file) && is_cache c.what) cs
+caches_section file cs out i j n e ordered a b is = section_is (n ∷ 2 ∷ []) (λ c. (c.file == file) && is_cache c.what) cs out i j (λ c. starts_caches n c ∙ ap (λ (m : ℕ). (c.file == m) && is_cache c.what) e) ordered a b is
 
 pub share_section : (file : ℕ) (owner : Owner) (cs out : List Claim) (i j : ℕ) → Pairwise goes_first cs → i ≡ prefix_len (is_before (group file 0 owner)) cs → j ≡ prefix_len (is_upto (group file 0 owner)) cs → out ≡ slice_range cs i j → out ≡ filter (is_share_of file owner) cs
 share_section file owner cs out i j ordered a b is = section_is (group file 0 owner) (is_share_of file owner) cs out i j (starts_share file owner) ordered a b is
@@ -294,10 +316,6 @@ any_within p q (c ∷ cs) out =
       | inr past ↦ rw (past, out c past) (any_within p q cs out)
     ]
 
-pub filter_and : (p q : Claim → Bool) (cs : List Claim) → filter p (filter q cs) ≡ filter (λ c. q c && p c) cs
-filter_and p q [] = refl
-filter_and p q (c ∷ cs) = elim (cases_Bool (q c)) [ inl h ↦ rw (h, filter_and p q cs) refl | inr h ↦ rw h (filter_and p q cs) ]
-
 -- a claim on another file blocks nothing
 blocks_there : (ask c : Claim) → (c.file == ask.file) ≡ false → blocks ask c ≡ false
 unfolding blocks compat
@@ -305,14 +323,11 @@ blocks_there ask c other =
     let apart : (ask.file == c.file) ≡ false = eqb-sym ask.file c.file ∙ other in
     rw apart (and_false (not (is_own ask c)))
 
-pub blocks_on_file : (ask : Claim) (cs out : List Claim) → out ≡ filter (λ c. c.file == ask.file) cs → filter (λ held. blocks ask held) out ≡ filter (λ held. blocks ask held) cs
-blocks_on_file ask cs out is = ap (λ (ds : List Claim). filter (λ held. blocks ask held) ds) is ∙ filter_within (λ held. blocks ask held) (λ c. c.file == ask.file) cs (blocks_there ask)
+pub blocks_on_file : (ask : Claim) (cs out list : List Claim) → list ≡ filter (λ held. blocks ask held) out → out ≡ filter (λ c. c.file == ask.file) cs → list ≡ filter (λ held. blocks ask held) cs
+blocks_on_file ask cs out list e is = e ∙ ap (λ (ds : List Claim). filter (λ held. blocks ask held) ds) is ∙ filter_within (λ held. blocks ask held) (λ c. c.file == ask.file) cs (blocks_there ask)
 
 pub blocked_on_file : (ask : Claim) (cs out : List Claim) → out ≡ filter (λ c. c.file == ask.file) cs → is_blocked out ask ≡ is_blocked cs ask
 blocked_on_file ask cs out is = ap (λ (ds : List Claim). is_blocked ds ask) is ∙ any_within (λ held. blocks ask held) (λ c. c.file == ask.file) cs (blocks_there ask)
-
-pub kind_on_file : (p : What → Bool) (file : ℕ) (cs out : List Claim) → out ≡ filter (λ c. c.file == file) cs → filter (λ held. p held.what) out ≡ filter (λ held. (held.file == file) && p held.what) cs
-kind_on_file p file cs out is = ap (λ (ds : List Claim). filter (λ held. p held.what) ds) is ∙ filter_and (λ held. p held.what) (λ c. c.file == file) cs
 
 -- the owner's spans are those of its ranges
 spans_of-section : (file : ℕ) (owner : Owner) (cs : List Claim) → spans_in (filter (is_range_of file owner) cs) ≡ spans_of file owner cs

@@ -1,11 +1,10 @@
 -- What a share that is granted leaves: its owner has it alone, and all else stands as it stood.
-use Rattle.std.proofs.Common.{◌≡◌, ℕ, ◌+◌, Bool, true, false, not, ◌&&◌, nat_le, if◌then◌else◌, inl, inr, List, [], ◌∷◌, length, map, Option, refl, sym, ap, subst, ◌∙◌, arith}
-use Rattle.std.specs.List.{AllByRecursion, filter}
-use Rattle.std.proofs.lemmas.Bool.{cases_Bool, both_ways, and_parts, and_right, eq-eqb, and_from}
+use Rattle.std.proofs.Common.{◌≡◌, ℕ, ◌+◌, Bool, true, false, not, ◌&&◌, if◌then◌else◌, inl, inr, List, [], ◌∷◌, length, map, Option, refl, sym, ap, ◌∙◌}
+use Rattle.std.specs.List.{filter}
+use Rattle.std.proofs.lemmas.Bool.{cases_Bool, both_ways, and_parts, eq-eqb, and_from}
 use Rattle.xl_base.specs.declared.name.Owner.{Owner}
 use Rattle.xl_base.specs.declared.name.Party.{Party}
 use Rattle.xl_matrix.specs.declared.claim.Claim.{Claim}
-use Rattle.xl_matrix.specs.declared.claim.Extent.TheVariants.{Bytes, Empty}
 use Rattle.xl_matrix.specs.declared.claim.Rwd.{Rwd}
 use Rattle.xl_matrix.specs.declared.claim.What.{What}
 use Rattle.xl_matrix.specs.declared.claim.What.TheVariants.{Share, Range, Cache}
@@ -146,7 +145,7 @@ is_own : (c : Claim) → is_of c.file c.owner c ≡ true
 is_own c = and_from _ (same_owners c.owner c.owner) (eq-eqb c.file c.file refl) (same_owners-self c.owner)
 
 -- a share stays one when it is united with others
-united_one : (w v : What) → is_share w ≡ true → is_share (united_what w v) ≡ true
+pub united_one : (w v : What) → is_share w ≡ true → is_share (united_what w v) ≡ true
 united_one (Share access deny) (Share rights denied) h = refl
 united_one (Share access deny) (Range extent exclusive) h = refl
 united_one (Share access deny) (Cache kind running) h = refl

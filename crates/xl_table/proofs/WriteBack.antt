@@ -1,5 +1,5 @@
 -- What a lock or unlock of a range leaves: the owner's ranges are the new runs, and all else stands as it stood.
-use Rattle.std.proofs.Common.{◌≡◌, ℕ, ◌+◌, ◌<◌, ◌≤◌, Bool, true, false, not, ◌&&◌, ◌||◌, ◌==◌, nat_le, if◌then◌else◌, ◌⊎◌, inl, inr, List, [], ◌∷◌, length, map, Option, refl, sym, ap, subst, ◌∙◌, arith}
+use Rattle.std.proofs.Common.{◌≡◌, ℕ, ◌+◌, ◌≤◌, Bool, true, false, not, ◌&&◌, ◌==◌, nat_le, if◌then◌else◌, ◌⊎◌, inl, inr, List, [], ◌∷◌, length, map, Option, refl, sym, ap, subst, ◌∙◌, arith}
 use Rattle.std.specs.List.{AllByRecursion, filter}
 use Rattle.std.proofs.lemmas.Bool.{cases_Bool, both_ways, and_parts, and_from, and_right, or_left, or_right, or_cases, false_from_ne_true, not-true, not_from_false, eqb-true, eq-eqb, le-leb}
 use Rattle.xl_base.specs.Lists.{IsIn, Pairwise, placed}
@@ -271,7 +271,7 @@ length_split p (c ∷ cs) =
       | inr fails ↦ rw fails (omega (arith, length_split p cs))
     ]
 
-length_new : (file : ℕ) (owner : Owner) (party : Party) (xs : List Span) → length (map (range_claim file owner party) xs) ≡ length xs
+pub length_new : (file : ℕ) (owner : Owner) (party : Party) (xs : List Span) → length (map (range_claim file owner party) xs) ≡ length xs
 length_new file owner party [] = refl
 length_new file owner party (x ∷ xs) = omega (arith, length_new file owner party xs)
 

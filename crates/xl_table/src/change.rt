@@ -8,7 +8,7 @@ ghost use Rattle.xl_table.specs.Relock.{relocked_in, shared_in, granted_claims};
 ghost use Rattle.xl_table.specs.Changes.{written, MayBeWritten};
 
 use crate::relock::{fresh_claims, mode_of, touched_places, united};
-use crate::section::{between, group_of, places};
+use crate::section::{between, group_places};
 use std::alloc::{AllocError, Global};
 use xl_matrix::{Claim, Extent, What};
 use xl_spans::Mode;
@@ -59,12 +59,20 @@ pub(crate) fn relock(
     ensures claims { IfOk result (λ change. written change claims.now ≡ relocked_in ask.now.file ask.now.owner ask.now.party first last mode claims.now) }
     ensures fits { IfOk result (λ change. MayBeWritten change claims.now) }
 {
-    let (start, end) = places(claims, &group_of(ask.file, 1, ask.owner));
+    let (start, end) = group_places(claims, ask.file, 1, ask.owner);
     let group = between(claims, start, end);
     let (near, far) = touched_places(group, first, last);
     let touched = between(group, near, far);
     let entered = fresh_claims(alloc, ask, touched, first, last, mode)?;
     Ok(make_change(claims, start + near, start + far, entered))
+}
+
+fn one(alloc: Global, claim: Claim) -> Result<Vec<Claim>, AllocError>
+    ensures { IfOk result (λ v. v.items ≡ claim ∷ []) }
+{
+    let mut claims = Vec::new(alloc);
+    claims.push(claim)?;
+    Ok(claims)
 }
 
 /// A share in the place of its owner's, or united with it.
@@ -74,9 +82,8 @@ pub(crate) fn share(alloc: Global, claims: &[Claim], claim: &Claim) -> Result<Ch
     ensures claims { IfOk result (λ change. written change claims.now ≡ shared_in claim.now claims.now) }
     ensures fits { IfOk result (λ change. MayBeWritten change claims.now) }
 {
-    let (start, end) = places(claims, &group_of(claim.file, 0, claim.owner));
-    let mut entered = Vec::new(alloc);
-    entered.push(united(claim, between(claims, start, end)))?;
+    let (start, end) = group_places(claims, claim.file, 0, claim.owner);
+    let entered = one(alloc, united(claim, between(claims, start, end)))?;
     Ok(make_change(claims, start, end, entered))
 }
 

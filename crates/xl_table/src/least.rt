@@ -80,7 +80,11 @@ fn lesser(
 
 /// The least of these claims.
 #[tactic(auto, unfolding(crate::specs::Least::least))]
-pub(crate) fn least(alloc: Global, names: &Names, claims: &[Claim]) -> Result<Option<Claim>, AllocError>
+pub(crate) fn least(
+    alloc: Global,
+    names: &Names,
+    claims: &[Claim],
+) -> Result<Option<Claim>, AllocError>
     ensures { IfOk result (λ c. c ≡ least names.now claims.now) }
 {
     let mut least = None;

@@ -15,5 +15,7 @@ mod table;
 
 pub use block::{is_answer_due, is_blocked_by};
 pub use change::Change;
-pub use law::{stays_compatible, stays_sound};
+pub use law::{
+    stays_compatible, stays_sound, united_shares_stay_compatible, unlocks_grow_only_by_a_cut,
+};
 pub use table::{CLAIMS, Table, TableErr};

@@ -1,11 +1,11 @@
 //! The claims that pass a test, in their order.
-ghost use Rattle.std.specs.Prelude.{◌≡◌, ◌==◌, ◌&&◌, not, IfOk};
+ghost use Rattle.std.specs.Prelude.{◌≡◌, ◌==◌, not, IfOk};
 ghost use Rattle.std.specs.List.{filter, list_any};
 ghost use Rattle.xl_base.specs.Lists.{Pairwise};
 ghost use Rattle.xl_matrix.specs.Equal.{same_parties};
 ghost use Rattle.xl_table.specs.Order.{goes_first};
 ghost use Rattle.xl_table.specs.Flat.{blocks, is_blocked, is_due};
-ghost use Rattle.xl_table.specs.Held.{is_cache, is_range, is_share};
+ghost use Rattle.xl_table.specs.Held.{is_range};
 
 use crate::block::{is_answer_due, is_blocked_by};
 use crate::section::on_file;
@@ -14,7 +14,6 @@ use xl_base::{Moment, Party};
 use xl_matrix::{Claim, What, same_party};
 
 /// Those that block the ask.
-#[tactic(auto, using(crate::proofs::SectionLaws::blocks_on_file))]
 pub(crate) fn list_blockers(
     alloc: Global,
     claims: &[Claim],
@@ -23,7 +22,13 @@ pub(crate) fn list_blockers(
     requires { Pairwise goes_first claims.now }
     ensures { IfOk result (λ v. v.items ≡ filter (λ held. blocks ask.now held) claims.now) }
 {
-    on_file(claims, ask.file)
+    Ok(blockers_among(alloc, on_file(claims, ask.file), ask)?)
+}
+
+fn blockers_among(alloc: Global, claims: &[Claim], ask: &Claim) -> Result<Vec<Claim>, AllocError>
+    ensures { IfOk result (λ v. v.items ≡ filter (λ held. blocks ask.now held) claims.now) }
+{
+    claims
         .iter()
         .filter(|held| is_blocked_by(ask, held))
         .copied()
@@ -70,52 +75,6 @@ pub(crate) fn list_party(
     claims
         .iter()
         .filter(|held| same_party(held.party, party))
-        .copied()
-        .collect(alloc)
-}
-
-/// Those on the file.
-pub(crate) fn list_file(
-    alloc: Global,
-    claims: &[Claim],
-    file: u32,
-) -> Result<Vec<Claim>, AllocError>
-    requires { Pairwise goes_first claims.now }
-    ensures { IfOk result (λ v. v.items ≡ filter (λ held. held.file == file) claims.now) }
-{
-    Vec::from_slice(alloc, on_file(claims, file))
-}
-
-/// The shares on the file.
-#[tactic(auto, using(crate::proofs::SectionLaws::kind_on_file))]
-pub(crate) fn list_shares(
-    alloc: Global,
-    claims: &[Claim],
-    file: u32,
-) -> Result<Vec<Claim>, AllocError>
-    requires { Pairwise goes_first claims.now }
-    ensures { IfOk result (λ v. v.items ≡ filter (λ held. (held.file == file) && is_share held.what) claims.now) }
-{
-    on_file(claims, file)
-        .iter()
-        .filter(|held| matches!(held.what, What::Share(_, _)))
-        .copied()
-        .collect(alloc)
-}
-
-/// The caches on the file.
-#[tactic(auto, using(crate::proofs::SectionLaws::kind_on_file))]
-pub(crate) fn list_caches(
-    alloc: Global,
-    claims: &[Claim],
-    file: u32,
-) -> Result<Vec<Claim>, AllocError>
-    requires { Pairwise goes_first claims.now }
-    ensures { IfOk result (λ v. v.items ≡ filter (λ held. (held.file == file) && is_cache held.what) claims.now) }
-{
-    on_file(claims, file)
-        .iter()
-        .filter(|held| matches!(held.what, What::Cache(_, _)))
         .copied()
         .collect(alloc)
 }

@@ -140,7 +140,10 @@ fn range_claim(ask: &Claim, span: &Span) -> Claim
 fn range_claims(alloc: Global, ask: &Claim, spans: &[Span]) -> Result<Vec<Claim>, AllocError>
     ensures { IfOk result (λ v. v.items ≡ map (range_claim ask.now.file ask.now.owner ask.now.party) spans.now) }
 {
-    spans.iter().map(|span| range_claim(ask, span)).collect(alloc)
+    spans
+        .iter()
+        .map(|span| range_claim(ask, span))
+        .collect(alloc)
 }
 
 /// What the touched ranges give way to.

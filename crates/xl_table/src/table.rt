@@ -6,13 +6,10 @@ ghost use Rattle.xl_table.specs.declared.table.TableErr.TheVariants.{NoMemory};
 use crate::change::{Change, grant, relock, write};
 use crate::holding::find_holder;
 use crate::least::least;
-use crate::listing::{
-    drop_party, is_blocked, keep_ranges, list_blockers, list_caches, list_due, list_file, list_party,
-    list_shares,
-};
+use crate::listing::{drop_party, is_blocked, keep_ranges, list_blockers, list_due, list_party};
 use crate::placing::{is_held, put, replace, take_out};
 use crate::relock::{has_byte_in, spans_in};
-use crate::section::{ranges_by, shares_by};
+use crate::section::{caches_on, find_share, on_file, ranges_by, shares_on};
 use std::alloc::{AllocError, AllocFailed, Global};
 use std::marker::Model;
 use thiserror::Error;
@@ -172,26 +169,25 @@ impl Table {
     }
 
     /// The owner's share on the file, of which it has one at most; the first where there are more. It takes no memory.
-    #[tactic(auto, using(crate::proofs::SectionLaws::first_share))]
     pub fn share_of(&self, file: u32, owner: Owner) -> Option<Claim>
         ensures share { result ≡ find (is_share_of file owner) self.now }
         ensures held { IfSome result (λ c. IsIn c self.now) }
     {
-        shares_by(&self.claims, file, owner).first().copied()
+        find_share(&self.claims, file, owner)
     }
 
     /// The shares on a file, in the table's order.
     pub fn shares_on(&self, alloc: Global, file: u32) -> Result<Vec<Claim>, AllocError>
         ensures { IfOk result (λ v. v.items ≡ filter (λ held. (held.file == file) && is_share held.what) self.now) }
     {
-        list_shares(alloc, &self.claims, file)
+        Vec::from_slice(alloc, shares_on(&self.claims, file))
     }
 
     /// The caches on a file, in the table's order.
     pub fn caches_on(&self, alloc: Global, file: u32) -> Result<Vec<Claim>, AllocError>
         ensures { IfOk result (λ v. v.items ≡ filter (λ held. (held.file == file) && is_cache held.what) self.now) }
     {
-        list_caches(alloc, &self.claims, file)
+        Vec::from_slice(alloc, caches_on(&self.claims, file))
     }
 
     /// What a grant of the claim changes, once nothing stands in its way: a share takes the place of its owner's on the
@@ -291,7 +287,7 @@ impl Table {
     pub fn of_file(&self, alloc: Global, file: u32) -> Result<Vec<Claim>, AllocError>
         ensures { IfOk result (λ v. v.items ≡ filter (λ held. held.file == file) self.now) }
     {
-        list_file(alloc, &self.claims, file)
+        Vec::from_slice(alloc, on_file(&self.claims, file))
     }
 
     /// The caches whose break runs with a deadline at or before now, in the table's order.
