@@ -1,5 +1,5 @@
 -- Each answer of an ask is given exactly where its cause stands.
-use Rattle.std.proofs.Common.{◌≡◌, ℕ, ◌+◌, ◌≤◌, Bool, true, false, not, if◌then◌else◌, ◌&&◌, nat_le, leb, max, ◌⊎◌, inl, inr, List, [], ◌∷◌, length, map, Option, Some, None, refl, sym, ap, subst, ◌∙◌, ◌↔◌, arith}
+use Rattle.std.proofs.Common.{◌≡◌, ℕ, ◌+◌, ◌≤◌, Bool, true, false, not, if◌then◌else◌, ◌&&◌, nat_le, leb, max, ◌⊎◌, inl, inr, List, [], ◌∷◌, length, Option, Some, None, refl, sym, ap, subst, ◌∙◌, ◌↔◌, arith}
 use Rattle.std.specs.List.{filter, list_any}
 use Rattle.std.proofs.lemmas.Bool.Decides.{nat_tests}
 use Rattle.std.proofs.lemmas.Bool.{cases_Bool, both_ways, and_from, and_right, or_parts, leb-true, le-leb, lt-leb, leb-false}
@@ -19,23 +19,21 @@ use Rattle.xl_spans.proofs.Chains.{canonical_ranges}
 use Rattle.xl_table.specs.Flat.{blocks, is_blocked}
 use Rattle.xl_table.specs.Held.{is_range, spans_of, IsPosixBy}
 use Rattle.xl_table.specs.Least.{least}
-use Rattle.xl_table.specs.Relock.{most_claims, relocked_in, holds_byte, granted_claims}
+use Rattle.xl_table.specs.Relock.{most_claims, holds_byte, granted_claims}
 use Rattle.xl_wait.specs.declared.waiter.Rooms.{Rooms}
 use Rattle.xl_core.specs.State.{CoreState}
 use Rattle.xl_core.specs.Asking.{both_entered, asked_whats, alone, asked_what, asked_claim, asked_claims, known_claim, is_client, IsRealExtent, IsFitAct, IsFit}
-use Rattle.xl_core.specs.Blockers.{blockers, test_blockers}
+use Rattle.xl_core.specs.Blockers.{test_blockers}
 use Rattle.xl_core.specs.Causes.{limits_of_grant, limits_of_wait, IsClaimDue, stands_against, IsTestDue, HasNoByte, HasByte, left_by_unlock, IsUnlockDue}
-use Rattle.xl_core.specs.Decide.{Answered, plea_of, waiting, named, answered, claims_asked, test_answered, tested, unlocked_claims, unlocked_bytes, unlocked, acted, ask}
+use Rattle.xl_core.specs.Decide.{Answered, plea_of, answered, claims_asked, test_answered, tested, unlocked_claims, unlocked_bytes, unlocked, acted, ask}
 use Rattle.xl_core.specs.Good.{IsGood}
-use Rattle.xl_core.specs.Judge.{Ruled, waits, stopped, held_with, judged}
+use Rattle.xl_core.specs.Judge.{Ruled, judged}
 use Rattle.xl_core.specs.Limits.{first_passed, IsRoom}
 use Rattle.xl_core.specs.declared.ask.Act.{Act}
 use Rattle.xl_core.specs.declared.ask.Act.TheVariants.{Share, Ranges, Test, Unlock}
 use Rattle.xl_core.specs.declared.ask.Answer.{Answer}
 use Rattle.xl_core.specs.declared.ask.Answer.TheVariants as answers
 use Rattle.xl_core.specs.declared.ask.Ask.{Ask}
-use Rattle.xl_core.specs.declared.ask.Effect.{Effect}
-use Rattle.xl_core.specs.declared.judge.Ruling.TheVariants.{Told}
 use Rattle.xl_table.proofs.LeastLaws.{least_in, least_none, least_empty}
 use Rattle.xl_core.proofs.DecideLaws.{blockers_none, none_blockers, blockers_some, some_blocks, blocks_some}
 use Rattle.xl_core.proofs.KnownLaws.{known_posix}
@@ -183,7 +181,7 @@ stands_none claim (c ∷ cs) e =
       ]
     ]
 
-test_none : (s : CoreState) (claim : Claim) → least s.names (test_blockers s claim) ≡ None → list_any (stands_against claim) s.claims ≡ false
+pub test_none : (s : CoreState) (claim : Claim) → least s.names (test_blockers s claim) ≡ None → list_any (stands_against claim) s.claims ≡ false
 unfolding test_blockers
 test_none s claim e = none_stands claim s.claims (least_none s.names (filter (λ c. is_range c.what) (filter (λ c. blocks claim c) s.claims)) e)
 
@@ -191,7 +189,7 @@ none_test : (s : CoreState) (claim : Claim) → list_any (stands_against claim) 
 unfolding test_blockers
 none_test s claim e = least_empty s.names (filter (λ c. is_range c.what) (filter (λ c. blocks claim c) s.claims)) (stands_none claim s.claims e)
 
-test_some : (s : CoreState) (claim c : Claim) → least s.names (test_blockers s claim) ≡ Some c → IsIn c s.claims × (stands_against claim c ≡ true)
+pub test_some : (s : CoreState) (claim c : Claim) → least s.names (test_blockers s claim) ≡ Some c → IsIn c s.claims × (stands_against claim c ≡ true)
 unfolding test_blockers
 test_some s claim c e =
     let ranges = in_filter_from (λ d. is_range d.what) c (filter (λ d. blocks claim d) s.claims) (least_in s.names (filter (λ d. is_range d.what) (filter (λ d. blocks claim d) s.claims)) c e) in
@@ -206,7 +204,7 @@ test_late : (s : CoreState) (a : Ask) (claim : Claim) → a.reclaim ≡ true →
 unfolding tested
 test_late s a claim e = ap (λ (b : Bool). if b then answers.NoGrace s.clock else test_answered claim (least s.names (test_blockers s claim))) e
 
-option_cases : (o : Option Claim) → (o ≡ None) ⊎ ((c : Claim) × (o ≡ Some c))
+pub option_cases : (o : Option Claim) → (o ≡ None) ⊎ ((c : Claim) × (o ≡ Some c))
 option_cases None = inl refl
 option_cases (Some c) = inr (c, refl)
 

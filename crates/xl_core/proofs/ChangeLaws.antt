@@ -1,5 +1,5 @@
 -- An ask changes only what its owner has on its file, and only where it is granted.
-use Rattle.std.proofs.Common.{◌≡◌, ℕ, ◌+◌, ◌≤◌, Bool, true, false, if◌then◌else◌, List, [], ◌∷◌, ◌++◌, map, Option, Some, None, refl, sym, ap, subst, ◌∙◌, slice_get, nat_le}
+use Rattle.std.proofs.Common.{◌≡◌, ℕ, ◌+◌, ◌≤◌, Bool, true, false, if◌then◌else◌, List, [], ◌∷◌, ◌++◌, map, Option, Some, None, refl, sym, ap, subst, ◌∙◌, nat_le}
 use Rattle.std.specs.List.{AllByRecursion}
 use Rattle.std.proofs.lemmas.Bool.{both_ways}
 use Rattle.xl_base.proofs.Members.{in_append_left}
@@ -14,16 +14,15 @@ use Rattle.xl_matrix.specs.declared.claim.What.TheVariants.{Share, Range, Cache}
 use Rattle.xl_spans.specs.Spans.{relocked}
 use Rattle.xl_table.specs.Held.{mode_of, is_share, spans_of, IsKept}
 use Rattle.xl_table.specs.Least.{least}
-use Rattle.xl_table.specs.Relock.{most_claims, holds_byte, with_share, shares_of, old_shares, unites, united_by, united, granted_by, granted_claims}
+use Rattle.xl_table.specs.Relock.{most_claims, holds_byte, with_share, shares_of, old_shares, unites, united_by, granted_by, granted_claims}
 use Rattle.xl_table.proofs.ShareLaws.{not_united, shares_of-shared, shares_of-shared_apart, spans_of-shared, shares_of-relocked}
 use Rattle.xl_table.proofs.WriteBack.{spans_of-relocked, spans_of-relocked_apart}
 use Rattle.xl_wait.specs.declared.waiter.Rooms.{Rooms}
-use Rattle.xl_wait.specs.declared.waiter.Waiter.{Waiter}
 use Rattle.xl_core.specs.State.{CoreState}
 use Rattle.xl_core.specs.Asking.{asker, range_what, asked_whats, asked_what, asked_claim, asked_claims, known_claim, is_client}
 use Rattle.xl_core.specs.Blockers.{test_blockers}
 use Rattle.xl_core.specs.Causes.{asks_share, left_by_unlock, IsOwn}
-use Rattle.xl_core.specs.Decide.{Answered, waiter_of, waiting, named, claims_asked, test_answered, tested, unlocked_claims, unlocked_bytes, unlocked, acted, ask}
+use Rattle.xl_core.specs.Decide.{Answered, waiter_of, waiting, named, claims_asked, test_answered, tested, unlocked_claims, unlocked, acted, ask}
 use Rattle.xl_core.specs.Frames.{asks_to_hold}
 use Rattle.xl_core.specs.Good.{IsGood}
 use Rattle.xl_core.specs.Judge.{all_granted, held_with}
@@ -33,7 +32,6 @@ use Rattle.xl_core.specs.declared.ask.Act.TheVariants as acts
 use Rattle.xl_core.specs.declared.ask.Answer.{Answer}
 use Rattle.xl_core.specs.declared.ask.Answer.TheVariants as answers
 use Rattle.xl_core.specs.declared.ask.Ask.{Ask}
-use Rattle.xl_core.specs.declared.ask.Effect.{Effect}
 use Rattle.xl_core.proofs.CauseLaws.{same_list, left_so, unlock_by, unlock_is}
 use Rattle.xl_core.proofs.GoodLaws.{AskCase, Goes, Queues, Refuses, ask_case, holder_kept}
 use Rattle.xl_core.proofs.KnownLaws.{both_go_on, known_owner_is, known_posix, asked_known}

@@ -1,7 +1,7 @@
 -- Claims of known clients stay so, and stay compatible, when a claim that nothing blocks is granted, and when a range is
 -- unlocked.
 use Rattle.std.proofs.Common.{◌≡◌, ℕ, ◌+◌, ◌<◌, ◌≤◌, Bool, true, false, not, cond, eqb, leb, ◌&&◌, ◌||◌, ◌⊎◌, inl, inr, List, [], ◌∷◌, length, map, Option, Some, None, refl, sym, ap, subst, ◌∙◌, arith}
-use Rattle.std.specs.List.{AllByRecursion, filter, list_any}
+use Rattle.std.specs.List.{AllByRecursion, list_any}
 use Rattle.std.proofs.lemmas.Bool.{cases_Bool, and_parts, and_from, and_left, and_right, and_cases, or_left, or_right, or_parts, not-true, not-false, not_from_false, or_cases, eqb-true, eq-eqb, leb-true, lt-leb, both_ways}
 use Rattle.xl_base.specs.Lists.{IsIn, Pairwise}
 use Rattle.xl_base.proofs.Members.{all_in, all_from, in_map_from, in_filter_from, pairwise_filter}
@@ -22,17 +22,14 @@ use Rattle.xl_matrix.proofs.PartLaws.{compat_bytes}
 use Rattle.xl_matrix.proofs.SideLaws.{and-sym, compat-sym}
 use Rattle.xl_names.specs.Names.{AreDistinct}
 use Rattle.xl_names.specs.declared.name.Name.{Name}
-use Rattle.xl_spans.specs.Spans.{within, mode_at, IsCanonical, relocked, touches}
+use Rattle.xl_spans.specs.Spans.{within, mode_at, IsCanonical, relocked}
 use Rattle.xl_spans.specs.declared.span.Mode.{Mode}
 use Rattle.xl_spans.specs.declared.span.Span.{Span}
 use Rattle.xl_spans.proofs.Bytes.{relocked_mode, AreRanges}
 use Rattle.xl_spans.proofs.Chains.{canonical_ranges, canonical_rest, relocked_canonical, IsChain}
-use Rattle.xl_spans.proofs.Untouched.{canonical_filter, relocked_untouched}
 use Rattle.xl_table.specs.Flat.{blocks, is_blocked, is_own, is_met_by_own}
 use Rattle.xl_table.specs.Held.{IsPosixBy, IsPosix, is_share, mode_of, is_range, with_span, is_of, spans_of, IsKept}
 use Rattle.xl_table.proofs.FlatLaws.{all_inserted as all_put, pairwise_into}
-use Rattle.xl_table.proofs.InsertLaws.{sound_inserted_other}
-use Rattle.xl_table.proofs.KeptLaws.{kept_inserted}
 use Rattle.xl_core.specs.Good.{IsRangeBy, IsRange, are_kept, IsKnown, is_single_by, is_single}
 use Rattle.xl_table.specs.Relock.{most_claims, all_inserted, is_exclusive, range_claim, is_range_of, unranged, relocked_in, is_share_of, unshared, old_shares, either_right, united_what, united_with, unites, united_by, united, shared_in, granted_by, granted_claims}
 use Rattle.xl_core.proofs.KnownLaws.{one_party}

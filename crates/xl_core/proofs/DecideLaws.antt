@@ -1,5 +1,5 @@
 -- What blocks an ask, by the least that does.
-use Rattle.std.proofs.Common.{◌≡◌, ℕ, true, false, List, Option, Some, None, refl}
+use Rattle.std.proofs.Common.{◌≡◌, true, false, List, Option, Some, None, refl}
 use Rattle.std.specs.List.{filter}
 use Rattle.std.proofs.lemmas.Bool.{both_ways}
 use Rattle.xl_base.specs.Lists.{IsIn}

@@ -1,8 +1,8 @@
 -- What each call leaves alone, and who leaves the queue by it.
 use Rattle.std.proofs.Common.{◌≡◌, ℕ, ◌+◌, Bool, true, false, if◌then◌else◌, ◌==◌, inl, inr, List, [], ◌∷◌, ◌++◌, map, Option, Some, None, IfSome, refl, sym, ap, subst, ◌∙◌, append-nil, arith}
 use Rattle.std.specs.List.{AllByRecursion, filter}
-use Rattle.std.proofs.lemmas.Bool.{cases_Bool, both_ways, eq-eqb, not-true}
-use Rattle.xl_base.specs.Lists.{IsIn, Pairwise}
+use Rattle.std.proofs.lemmas.Bool.{cases_Bool, both_ways, eq-eqb}
+use Rattle.xl_base.specs.Lists.{Pairwise}
 use Rattle.xl_base.specs.declared.name.Party.{Party}
 use Rattle.xl_matrix.specs.declared.claim.Claim.{Claim}
 use Rattle.xl_names.specs.declared.name.Name.{Name}
@@ -10,19 +10,17 @@ use Rattle.xl_wait.specs.Waiting.{is_waiting, cancelled}
 use Rattle.xl_wait.specs.declared.waiter.Rooms.{Rooms}
 use Rattle.xl_wait.specs.declared.waiter.Waiter.{Waiter}
 use Rattle.xl_core.specs.State.{CoreState, drawn}
-use Rattle.xl_core.specs.Asking.{both_entered, asked_whats, asked_claims, is_client, IsFit}
+use Rattle.xl_core.specs.Asking.{both_entered, is_client}
 use Rattle.xl_core.specs.Decide.{Answered, waiter_of, ask}
 use Rattle.xl_core.specs.Frames.{who_left, AllLeave, IsFrame, drawn_by, asks_to_hold, names_after, come_by}
 use Rattle.xl_core.specs.Good.{are_apart, IsGood}
 use Rattle.xl_core.specs.Judge.{held_with}
-use Rattle.xl_core.specs.Limits.{first_passed}
 use Rattle.xl_core.specs.Settle.{settle, waits_for, numbers_for, all_told, cancel, give_back, end_party, all_cancelled}
 use Rattle.xl_core.specs.declared.ask.Answer.{Answer}
 use Rattle.xl_core.specs.declared.ask.Answer.TheVariants as answers
 use Rattle.xl_core.specs.declared.ask.Ask.{Ask}
-use Rattle.xl_core.specs.declared.ask.Effect.{Effect}
 use Rattle.xl_core.proofs.ChangeLaws.{AskWay, Stays, Tests, Holds, Waits, Frees, ask_way}
-use Rattle.xl_core.proofs.GoodLaws.{Turned, turn_by, turn_limits, IsFirst, each_turn}
+use Rattle.xl_core.proofs.GoodLaws.{Turned, turn_by, each_turn}
 use Rattle.xl_core.proofs.RowLaws.{is_refusal}
 use Rattle.xl_core.proofs.SettleLaws.{apart_ids, all_out}
 

@@ -1,7 +1,7 @@
 -- Names that are kept: claims of known clients stay known, an owner has one client, and who asks is known.
-use Rattle.std.proofs.Common.{◌≡◌, ℕ, zero, suc, ◌+◌, ◌≤◌, Bool, true, false, if◌then◌else◌, nat_le, ◌&&◌, ◌||◌, List, [], ◌∷◌, ◌++◌, length, Option, Some, None, inl, inr, refl, sym, ap, ◌∙◌, slice_get, arith}
+use Rattle.std.proofs.Common.{◌≡◌, ℕ, zero, suc, ◌+◌, ◌≤◌, Bool, true, false, if◌then◌else◌, ◌&&◌, ◌||◌, List, [], ◌∷◌, ◌++◌, length, Option, Some, None, inl, inr, refl, sym, ap, ◌∙◌, slice_get, arith}
 use Rattle.std.specs.List.{AllByRecursion}
-use Rattle.std.proofs.lemmas.Bool.{cases_Bool, both_ways, and_parts, and_from, or_left, leb-true}
+use Rattle.std.proofs.lemmas.Bool.{cases_Bool, both_ways, and_parts, and_from}
 use Rattle.std.proofs.lemmas.List.{length-append}
 use Rattle.std.proofs.lemmas.List.Folds.{list_any-append}
 use Rattle.std.proofs.lemmas.Option.{same_Some}
@@ -15,15 +15,13 @@ use Rattle.xl_base.specs.declared.name.Protocol.TheVariants.{Nlm, Nfs, Smb}
 use Rattle.xl_base.proofs.Members.{all_weaker}
 use Rattle.xl_matrix.specs.Owners.{posix}
 use Rattle.xl_matrix.specs.declared.claim.Claim.{Claim}
-use Rattle.xl_matrix.specs.declared.claim.Extent.{Extent}
-use Rattle.xl_matrix.specs.declared.claim.Extent.TheVariants.{Bytes, Empty}
 use Rattle.xl_matrix.specs.declared.claim.What.{What}
 use Rattle.xl_names.specs.Names.{protocol_of, same_name, number_of, place_of, is_kept, entered, AreDistinct, most_names}
 use Rattle.xl_names.specs.declared.name.Name.{Name}
 use Rattle.xl_names.specs.declared.name.Name.TheVariants.{NlmRange, NlmShare, NlmParty, NfsRange, NfsShare, NfsParty, SmbLease}
 use Rattle.xl_names.proofs.NameLaws.{same_name_is, same_name_self, kept_from_number, number_at, name_at, number_entered, distinct_entered}
 use Rattle.xl_wait.specs.declared.waiter.Waiter.{Waiter}
-use Rattle.xl_core.specs.Asking.{owner_in, party_in, who_entered, asker, asking_party, both_entered, coming, asked_claim, no_number, number_or, known_owner, known_party, client_of, is_name, is_client, IsRealExtent}
+use Rattle.xl_core.specs.Asking.{owner_in, party_in, who_entered, asker, asking_party, both_entered, coming, asked_claim, no_number, number_or, known_owner, known_party, client_of, is_name, is_client}
 use Rattle.xl_table.specs.Held.{IsPosixBy}
 use Rattle.xl_core.specs.Good.{agree, are_kept, IsKnown, IsWaiter}
 use Rattle.xl_core.specs.declared.ask.Ask.{Ask}
@@ -170,7 +168,7 @@ one_party names owner p q distinct h k =
 
 -- ---- who asks is known
 
-is_client_is : (owner party : Who) → is_client owner party ≡ true → (name : Name) × (client : Name) × (owner ≡ Named name) × (party ≡ Named client) × (client_of name ≡ Some client)
+pub is_client_is : (owner party : Who) → is_client owner party ≡ true → (name : Name) × (client : Name) × (owner ≡ Named name) × (party ≡ Named client) × (client_of name ≡ Some client)
 is_client_is (Named name) (Named client) h = (name, client, refl, refl, is_name_is (client_of name) client h)
 is_client_is (Named name) (Open number) h = absurd (both_ways false refl h)
 is_client_is (Open number) party h = absurd (both_ways false refl h)
@@ -198,7 +196,7 @@ asker_kept a names h =
     ∙ ap (λ (w : Who). are_kept (who_entered w (who_entered (Named is.0) names)) (owner_in (Named is.0) names) (party_in w (who_entered (Named is.0) names))) is.3
     ∙ kept_from _ _ _ (names_entered names is.0 is.1 is.4)
 
-client_posix : (name client : Name) → client_of name ≡ Some client → (number : ℕ) → posix (owners.Name (protocol_of name) number) ≡ true
+pub client_posix : (name client : Name) → client_of name ≡ Some client → (number : ℕ) → posix (owners.Name (protocol_of name) number) ≡ true
 client_posix (NlmRange caller svid oh) client is number = refl
 client_posix (NfsRange owner name) client is number = refl
 client_posix (NlmShare caller oh) client is number = refl
@@ -218,7 +216,7 @@ asked_known a what names h posix_what =
 
 -- ---- who asks, where no name is entered
 
-get_none : (names : List Name) (number : ℕ) (name : Name) → length names ≤ number → slice_get names number ≡ Some name → ⊥
+pub get_none : (names : List Name) (number : ℕ) (name : Name) → length names ≤ number → slice_get names number ≡ Some name → ⊥
 get_none [] number name h e = cc
 get_none (n ∷ ns) zero name h e = omega (arith, h)
 get_none (n ∷ ns) (suc number) name h e = get_none ns number name (omega (arith, h)) e

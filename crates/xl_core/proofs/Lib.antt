@@ -11,3 +11,4 @@ pub mod ChangeLaws
 pub mod SettleLaws
 pub mod FrameLaws
 pub mod DoorLaws
+pub mod TestLaws

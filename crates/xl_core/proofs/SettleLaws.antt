@@ -1,7 +1,7 @@
 -- A turn is the first waiter's that nothing held blocks, nobody else's, and comes while there is one. Who leaves.
 use Rattle.std.proofs.Common.{◌≡◌, ℕ, ◌+◌, Bool, true, false, not, cond, ◌==◌, inl, inr, List, [], ◌∷◌, ◌++◌, map, length, Option, Some, None, IfSome, refl, sym, ap, subst, ◌∙◌, ◌↔◌, arith}
 use Rattle.std.specs.List.{AllByRecursion, filter}
-use Rattle.std.proofs.lemmas.Bool.{cases_Bool, both_ways, eq-eqb, not-true, not_from_false}
+use Rattle.std.proofs.lemmas.Bool.{cases_Bool, eq-eqb, not-true, not_from_false}
 use Rattle.std.proofs.lemmas.List.{length-append}
 use Rattle.xl_base.specs.Lists.{IsIn, Pairwise}
 use Rattle.xl_base.proofs.Members.{all_in, in_filter, in_filter_from, in_append_right}
@@ -13,14 +13,12 @@ use Rattle.xl_wait.specs.Waiting.{cancelled}
 use Rattle.xl_wait.specs.declared.waiter.Rooms.{Rooms}
 use Rattle.xl_wait.specs.declared.waiter.Waiter.{Waiter}
 use Rattle.xl_core.specs.State.{CoreState}
-use Rattle.xl_core.specs.Causes.{IsTurnDue, IsTurn}
+use Rattle.xl_core.specs.Causes.{IsTurn}
 use Rattle.xl_core.specs.Good.{are_apart, IsGood, IsWaiter, stands_in_the_way, IsSettled}
 use Rattle.xl_core.specs.Judge.{Ruled}
 use Rattle.xl_core.specs.Limits.{first_passed}
 use Rattle.xl_core.specs.Settle.{rests, turned, again, turn_or, first_turn, settle, AllRest, waits_for, numbers_for, all_cancelled, cancel, give_back, end_party}
 use Rattle.xl_core.specs.declared.ask.Answer.TheVariants.{Granted, Full}
-use Rattle.xl_core.specs.declared.ask.Effect.TheVariants.{Served}
-use Rattle.xl_core.specs.declared.judge.Ruling.TheVariants.{Waits}
 use Rattle.xl_core.proofs.ChangeLaws.{spans_apart, shares_apart}
 use Rattle.xl_core.proofs.GoodLaws.{Turned, turn_by, turn_limits, IsFirst, each_turn}
 use Rattle.xl_core.proofs.LimitLaws.{grant_found}

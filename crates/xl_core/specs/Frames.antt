@@ -1,6 +1,5 @@
 -- What each call of the core leaves alone, what it may raise, and who leaves the queue by it.
 use Rattle.std.specs.Prelude.{◌≡◌, ℕ, ◌+◌, Bool, true, false, if◌then◌else◌, List, [], ◌∷◌, ◌++◌}
-use Rattle.xl_matrix.specs.declared.claim.Claim.{Claim}
 use Rattle.xl_names.specs.declared.name.Name.{Name}
 use Rattle.xl_wait.specs.Waiting.{is_waiting, cancelled}
 use Rattle.xl_wait.specs.declared.waiter.Waiter.{Waiter}

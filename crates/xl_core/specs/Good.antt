@@ -1,5 +1,5 @@
 -- What the core's state keeps at each free moment.
-use Rattle.std.specs.Prelude.{◌≡◌, ℕ, ◌≤◌, Bool, true, false, not, ◌&&◌, ◌||◌, ◌==◌, List, [], ◌∷◌, length, Option, Some, None}
+use Rattle.std.specs.Prelude.{◌≡◌, ℕ, ◌≤◌, Bool, true, false, not, ◌&&◌, ◌||◌, ◌==◌, List, [], ◌∷◌, length, Option, Some}
 use Rattle.std.specs.List.{AllByRecursion, slice_get}
 use Rattle.xl_base.specs.Lists.{Pairwise}
 use Rattle.xl_base.specs.Stable.{same_protocol}

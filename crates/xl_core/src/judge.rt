@@ -76,10 +76,12 @@ fn check_held(
 ) -> Result<Option<Ruling>, AllocError>
     ensures { (earlier : List Waiter) → IfOk result (λ r. check_held earlier plea.now [] claim.now (state_of parts.now) ≡ (r, [], state_of parts.now)) }
 {
-    Ok(match parts.table.least_blocker(alloc, &parts.names, claim)? {
-        Some(blocker) => Some(stopped(plea, blocker)),
-        None => None,
-    })
+    Ok(
+        match parts.table.least_blocker(alloc, &parts.names, claim)? {
+            Some(blocker) => Some(stopped(plea, blocker)),
+            None => None,
+        },
+    )
 }
 
 /// The least limit that the claim passes.

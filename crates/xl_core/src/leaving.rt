@@ -9,7 +9,6 @@ ghost use Rattle.xl_core.specs.Whole.{state_of};
 
 use crate::ask::Effect;
 use crate::parts::Parts;
-
 use std::alloc::{AllocError, Global};
 use xl_base::{Party, Sequence};
 use xl_matrix::{Claim, same_party};
