@@ -11,3 +11,7 @@ pub mod LimitLaws
 pub mod CauseLaws
 pub mod ChangeLaws
 pub mod SettleLaws
+pub mod DeedCalls
+pub mod DeedLeaves
+pub mod DeedLaws
+pub mod DeedLists

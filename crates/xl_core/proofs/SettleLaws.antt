@@ -118,7 +118,7 @@ first_is n left s earlier (w ∷ ws) turn e =
           }
     ]
 
-without : (before : List Waiter) (w : Waiter) (behind : List Waiter) → Pairwise are_apart (before ++ w ∷ behind) → cancelled w.id (before ++ w ∷ behind) ≡ before ++ behind
+pub without : (before : List Waiter) (w : Waiter) (behind : List Waiter) → Pairwise are_apart (before ++ w ∷ behind) → cancelled w.id (before ++ w ∷ behind) ≡ before ++ behind
 without [] w behind apart = let same : (w.id == w.id) ≡ true = eq-eqb w.id w.id refl in rw same refl
 without (v ∷ vs) w behind apart =
     let other : (v.id == w.id) ≡ false = not-true (v.id == w.id) (all_in (λ x. are_apart v x ≡ true) w (vs ++ w ∷ behind) apart.0 (in_append_right w vs (w ∷ behind) (inl refl))) in

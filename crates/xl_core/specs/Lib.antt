@@ -7,3 +7,6 @@ pub mod Settle
 pub mod Good
 pub mod Whole
 pub mod Causes
+pub mod Deeds
+pub mod Places
+pub mod Dues

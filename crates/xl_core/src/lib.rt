@@ -6,6 +6,7 @@ mod ask;
 mod asking;
 mod blocking;
 mod decide;
+pub mod deeds;
 mod doors;
 pub mod law;
 mod leaving;

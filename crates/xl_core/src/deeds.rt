@@ -1,0 +1,21 @@
+//! Laws of what is done to the core, whatever protocol it comes by: its calls as values, one after another. The functions
+//! do nothing; what they ensure holds of every state and every list of such calls.
+ghost use Rattle.std.specs.Prelude.{◌≡◌, ℕ, List};
+ghost use Rattle.xl_core.specs.State.{CoreState};
+ghost use Rattle.xl_core.specs.Deeds.{Deed, all_done, AreFit, queue_after, KeepNames};
+ghost use Rattle.xl_core.specs.Dues.{AreDue};
+ghost use Rattle.xl_core.specs.Good.{IsGood};
+ghost use Rattle.xl_core.specs.Places.{IsChangedBy};
+
+/// The state stays good. At each place there is what the last deed that reaches it made of it, else what was there. Who
+/// waits is who waited, but for those whom the deeds queued, took out, ended or served, in order. Each name keeps its
+/// number. Each deed is given what is due to it in the state in which it stands: what nothing stands against is granted,
+/// and each answer and each turn has its cause.
+#[tactic(auto, using(crate::proofs::DeedLists::deeds_good, crate::proofs::DeedLists::deeds_make, crate::proofs::DeedLists::deeds_queue, crate::proofs::DeedLists::deeds_names, crate::proofs::DeedLists::deeds_due))]
+pub fn deeds_are_all_that_changes()
+    ensures good { (n : ℕ) (s : CoreState) (ds : List Deed) → IsGood s → AreFit n s ds → IsGood (all_done n s ds) }
+    ensures places { (n : ℕ) (s : CoreState) (ds : List Deed) → IsGood s → AreFit n s ds → IsChangedBy n s ds (all_done n s ds) }
+    ensures waiting { (n : ℕ) (s : CoreState) (ds : List Deed) → IsGood s → AreFit n s ds → (all_done n s ds).waiters ≡ queue_after n s ds s.waiters }
+    ensures names { (n : ℕ) (s : CoreState) (ds : List Deed) → IsGood s → AreFit n s ds → KeepNames s.names (all_done n s ds).names }
+    ensures due { (n : ℕ) (s : CoreState) (ds : List Deed) → IsGood s → AreFit n s ds → AreDue n s ds }
+{}
