@@ -10,3 +10,4 @@ pub mod Causes
 pub mod Deeds
 pub mod Places
 pub mod Dues
+pub mod Rows
