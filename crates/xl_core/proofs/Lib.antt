@@ -15,4 +15,4 @@ pub mod DeedCalls
 pub mod DeedLeaves
 pub mod DeedLaws
 pub mod DeedLists
-pub mod RowLaws
+pub mod DeedRows
