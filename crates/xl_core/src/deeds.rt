@@ -23,7 +23,7 @@ pub fn deeds_are_all_that_changes()
 
 /// Operations in a row, each in the state that those before it left, leave what their deeds leave, where each one does;
 /// and the core takes these deeds, where it takes those of each.
-#[tactic(auto, using(crate::proofs::DeedRows::row_does, crate::proofs::RowLaws::row_takes))]
+#[tactic(auto, using(crate::proofs::DeedRows::row_does, crate::proofs::DeedRows::row_takes))]
 pub fn rows_are_their_deeds<F, Op>()
     ensures done { (run : ℕ → F → CoreState → Op → Ran F) (does : ℕ → F → CoreState → Op → List Deed) (n : ℕ) → ((f : F) (s : CoreState) (op : Op) → (run n f s op).2 ≡ all_done n s (does n f s op)) → (f : F) (s : CoreState) (ops : List Op) → (all_ran run n f s ops).2 ≡ all_done n s (all_deeds run does n f s ops) }
     ensures fit { (run : ℕ → F → CoreState → Op → Ran F) (does : ℕ → F → CoreState → Op → List Deed) (n : ℕ) → ((f : F) (s : CoreState) (op : Op) → (run n f s op).2 ≡ all_done n s (does n f s op)) → ((f : F) (s : CoreState) (op : Op) → IsGood s → AreFit n s (does n f s op)) → (f : F) (s : CoreState) (ops : List Op) → IsGood s → AreFit n s (all_deeds run does n f s ops) }

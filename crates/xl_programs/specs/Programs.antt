@@ -7,6 +7,7 @@ use Rattle.xl_rpc.specs.declared.reply.Verdict.{Verdict}
 use Rattle.xl_rpc.specs.declared.reply.Verdict.TheVariants.{ProgUnavail, ProgMismatch, ProcUnavail, RpcMismatch}
 use Rattle.xl_programs.specs.declared.incoming.Incoming.{Incoming}
 use Rattle.xl_programs.specs.declared.incoming.Incoming.TheVariants as ways
+use Rattle.xl_programs.specs.declared.incoming.Request.{Request}
 use Rattle.xl_programs.specs.declared.program.Program.{Program}
 use Rattle.xl_programs.specs.declared.program.Program.TheVariants.{Nlm}
 
@@ -40,10 +41,13 @@ pub data IncomingItem : Type 0 where
   Refused : ℕ → Verdict → IncomingItem
   Asked : RequestItem → IncomingItem
 
+abbrev pub shown_request : Request → RequestItem
+shown_request r = record { program = r.program; xid = r.xid; procedure = r.procedure; arguments = r.arguments.rest.now }
+
 abbrev pub shown_incoming : Incoming → IncomingItem
 shown_incoming ways.Unanswered = Unanswered
 shown_incoming (ways.Refused xid verdict) = Refused xid verdict
-shown_incoming (ways.Asked r) = Asked (record { program = r.program; xid = r.xid; procedure = r.procedure; arguments = r.arguments.rest.now })
+shown_incoming (ways.Asked r) = Asked (shown_request r)
 
 abbrev pub IsServed : Incoming → Type 0
 IsServed (ways.Asked r) = serves r.program r.procedure ≡ true
