@@ -16,3 +16,4 @@ pub mod DeedLeaves
 pub mod DeedLaws
 pub mod DeedLists
 pub mod DeedRows
+pub mod DeedClients

@@ -11,3 +11,4 @@ pub mod Deeds
 pub mod Places
 pub mod Dues
 pub mod Rows
+pub mod Clients

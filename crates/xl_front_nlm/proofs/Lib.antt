@@ -10,3 +10,4 @@ pub mod StandLaws
 pub mod StepLaws
 pub mod AimLaws
 pub mod DoesLaws
+pub mod OwnLaws

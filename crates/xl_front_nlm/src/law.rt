@@ -12,6 +12,8 @@ ghost use Rattle.xl_programs.specs.Programs.{RequestItem};
 ghost use Rattle.xl_rpc.specs.Replies.{reply};
 ghost use Rattle.xl_rpc.specs.Xdr.{UnsignedFits};
 ghost use Rattle.xl_rpc.specs.declared.reply.Verdict.TheVariants.{Success};
+ghost use Rattle.xl_core.specs.Clients.{AreOfSome};
+ghost use Rattle.xl_core.specs.Good.{IsGood};
 ghost use Rattle.xl_core.specs.Deeds.{Asks, all_done, all_told_of, answers_of, AreFit};
 ghost use Rattle.xl_core.specs.State.{CoreState, drawn};
 ghost use Rattle.xl_core.specs.declared.ask.Answer.TheVariants.{Granted};
@@ -19,7 +21,7 @@ ghost use Rattle.xl_core.specs.declared.ask.Effect.{Effect};
 ghost use Rattle.xl_core.specs.declared.ask.Effect.TheVariants.{Served};
 ghost use Rattle.xl_front_nlm.specs.Answers.{is_granted, refuses, called_deeds, nlm_called};
 ghost use Rattle.xl_front_nlm.specs.Asks.{refusal_ask};
-ghost use Rattle.xl_front_nlm.specs.FrontNlm.{nlm_deeds, nlm_reply, sent_to, nlm_step};
+ghost use Rattle.xl_front_nlm.specs.FrontNlm.{nlm_client, nlm_deeds, nlm_reply, sent_to, nlm_step};
 ghost use Rattle.xl_front_nlm.specs.Grants.{grant_of, address_of, call_of, shown, shown_deeds};
 ghost use Rattle.xl_front_nlm.specs.Hosts.{rooms};
 ghost use Rattle.xl_front_nlm.specs.State.{FrontState, awaited};
@@ -43,6 +45,12 @@ pub fn deeds_are_taken()
     ensures requests { (n : ℕ) (exports : Exports) (f : FrontState) (s : CoreState) (r : RequestItem) → AreFit n s (nlm_deeds exports f s r) }
     ensures answers { (n : ℕ) (f : FrontState) (s : CoreState) (number : ℕ) (bytes : Option (List ℕ)) → AreFit n s (called_deeds f s number bytes) }
     ensures tellings { (n : ℕ) (exports : Exports) (s : CoreState) (effect : Effect) → AreFit n s (shown_deeds exports s effect) }
+{}
+
+/// Each deed of a request is of the client that it names; where it names none it does nothing.
+#[tactic(auto, using(crate::proofs::OwnLaws::step_own))]
+pub fn deeds_are_the_clients()
+    ensures { (n : ℕ) (exports : Exports) (f : FrontState) (s : CoreState) (r : RequestItem) → IsGood s → AreOfSome n s (nlm_client r) (nlm_deeds exports f s r) }
 {}
 
 /// A request is answered by one message, which goes back to the connection that it came from: a function of its call and
