@@ -292,7 +292,7 @@ none_is : (s : CoreState) (claim : Claim) (first last : ℕ) → holds_byte clai
 unfolding holds_byte
 none_is s claim first last e = no_byte first last (spans_of claim.file claim.owner s.claims) e
 
-is_holds : (s : CoreState) (claim : Claim) (first last : ℕ) → HasByte s claim.file claim.owner first last → holds_byte claim.file claim.owner first last s.claims ≡ true
+pub is_holds : (s : CoreState) (claim : Claim) (first last : ℕ) → HasByte s claim.file claim.owner first last → holds_byte claim.file claim.owner first last s.claims ≡ true
 is_holds s claim first last has =
     elim (cases_Bool (holds_byte claim.file claim.owner first last s.claims)) [
       | inl holds ↦ holds

@@ -213,7 +213,7 @@ refused_not : (answer : Answer) (c : Claim) → is_refusal answer ≡ true → a
 refused_not answer c refused e = both_ways (is_refusal answer) (ap is_refusal e) refused
 
 -- an ask for one thing that is granted leaves it held
-granted_way : (s : CoreState) (a : Ask) (what : What) (c : Claim) (r : Answered) → asked_what a.act ≡ Some what → asks_to_hold a.act ≡ true → AskWay s a r → r.0 ≡ answers.Granted c → r.2.claims ≡ granted_claims (asked_claim a what s.names) s.claims
+pub granted_way : (s : CoreState) (a : Ask) (what : What) (c : Claim) (r : Answered) → asked_what a.act ≡ Some what → asks_to_hold a.act ≡ true → AskWay s a r → r.0 ≡ answers.Granted c → r.2.claims ≡ granted_claims (asked_claim a what s.names) s.claims
 unfolding held_with
 granted_way s a what c r act holds (Stays answer refused e) at = absurd (refused_not answer c refused (sym (ap (λ (x : Answered). x.0) e) ∙ at))
 granted_way s a what c r act holds (Tests d nothing e) at = absurd (both_ways (asks_to_hold a.act) nothing holds)

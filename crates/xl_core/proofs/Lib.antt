@@ -12,3 +12,9 @@ pub mod SettleLaws
 pub mod FrameLaws
 pub mod DoorLaws
 pub mod TestLaws
+pub mod DeedCalls
+pub mod DeedLeaves
+pub mod DeedLaws
+pub mod DeedLists
+pub mod DeedRows
+pub mod DeedClients

@@ -12,9 +12,10 @@ use Rattle.xl_table.specs.Flat.{removed, is_blocked}
 use Rattle.xl_wait.specs.Waiting.{cancelled}
 use Rattle.xl_wait.specs.declared.waiter.Rooms.{Rooms}
 use Rattle.xl_wait.specs.declared.waiter.Waiter.{Waiter}
+use Rattle.xl_core.specs.declared.ask.Effect.{Effect}
 use Rattle.xl_core.specs.State.{CoreState}
 use Rattle.xl_core.specs.Causes.{IsTurn}
-use Rattle.xl_core.specs.Good.{are_apart, IsGood, IsWaiter, stands_in_the_way, IsSettled}
+use Rattle.xl_core.specs.Good.{are_apart, IsKnown, IsGood, IsWaiter, stands_in_the_way, IsSettled}
 use Rattle.xl_core.specs.Judge.{Ruled}
 use Rattle.xl_core.specs.Limits.{first_passed}
 use Rattle.xl_core.specs.Settle.{rests, turned, again, turn_or, first_turn, settle, AllRest, waits_for, numbers_for, all_cancelled, cancel, give_back, end_party}
@@ -70,7 +71,7 @@ settled_none n left s good is = (settle_rests n left s).1 ((settled_is n left s 
 
 -- ---- what a turn is
 
-without : (before : List Waiter) (w : Waiter) (behind : List Waiter) → Pairwise are_apart (before ++ w ∷ behind) → cancelled w.id (before ++ w ∷ behind) ≡ before ++ behind
+pub without : (before : List Waiter) (w : Waiter) (behind : List Waiter) → Pairwise are_apart (before ++ w ∷ behind) → cancelled w.id (before ++ w ∷ behind) ≡ before ++ behind
 without [] w behind apart = let same : (w.id == w.id) ≡ true = eq-eqb w.id w.id refl in rw same refl
 without (v ∷ vs) w behind apart =
     let other : (v.id == w.id) ≡ false = not-true (v.id == w.id) (all_in (λ x. are_apart v x ≡ true) w (vs ++ w ∷ behind) apart.0 (in_append_right w vs (w ∷ behind) (inl refl))) in
@@ -124,6 +125,12 @@ first_turn_is left s turn good first =
 
 pub turn_is : (n : ℕ) (left : Rooms) (s : CoreState) → IsGood s → IfSome (settle n left s) (λ r. IsTurn left s r.0 r.1)
 turn_is n left s good = each_turn n left s (λ r. IsTurn left s r.0 r.1) good (λ turn first. first_turn_is left s turn good first)
+
+-- who is served waited for a claim that is known
+pub turn_is_known : (left : Rooms) (s : CoreState) (effects : List Effect) (t : CoreState) → IsGood s → (turn : IsTurn left s effects t) → IsKnown s.names turn.claim
+turn_is_known left s effects t good turn =
+    let is = all_in (IsWaiter s.names s.counter) turn.waiter s.waiters good.waiters (subst (λ (ws : List Waiter). IsIn turn.waiter ws) (sym turn.stood) (in_append_right turn.waiter turn.before (turn.waiter ∷ turn.behind) (inl refl))) in
+    (subst (λ (cs : List Claim). AllByRecursion (IsKnown s.names) cs) turn.asked is.1).0
 
 -- each turn leaves one waiter less
 fewer_by : (left : Rooms) (s : CoreState) (r : Turned) → IsTurn left s r.0 r.1 → length r.1.waiters + 1 ≡ length s.waiters

@@ -9,3 +9,8 @@ pub mod Good
 pub mod Whole
 pub mod Causes
 pub mod Frames
+pub mod Deeds
+pub mod Places
+pub mod Dues
+pub mod Rows
+pub mod Clients

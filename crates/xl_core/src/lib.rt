@@ -5,6 +5,7 @@
 mod ask;
 mod asking;
 mod decide;
+pub mod deeds;
 mod doors;
 mod judge;
 pub mod law;

@@ -28,14 +28,14 @@ use Rattle.xl_core.specs.declared.ask.Who.TheVariants.{Named, Open}
 use Rattle.xl_core.specs.Decide.{most_hosts}
 use Rattle.xl_nlm.specs.Items.{LockArgsItem, ShareArgsItem, CallItem}
 use Rattle.xl_rpc.specs.declared.fault.RpcBad.{RpcBad}
-use Rattle.xl_front_nlm.specs.FrontNlm.{with_results, replied_by}
+use Rattle.xl_nlm.specs.Arguments.{arguments_at}
+use Rattle.xl_programs.specs.Programs.{RequestItem}
+use Rattle.xl_front_nlm.specs.FrontNlm.{whole_call, call_in}
 use Rattle.xl_front_nlm.specs.Asks.{lock_ask, refusal_ask, rights_of, share_ask}
-use Rattle.xl_front_nlm.specs.Serving.{served}
-use Rattle.xl_front_nlm.specs.State.{FrontState}
 use Rattle.xl_front_nlm.specs.Hosts.{is_host, rooms, host_rows, makes_host}
 use Rattle.xl_front_nlm.specs.declared.aim.Aim.{Aim}
 use Rattle.xl_front_nlm.specs.declared.grant.Grant.{Grant}
-use Rattle.xl_front_nlm.specs.Short.{IsShort, AreShort, IsShortWho, IsShortAsk, Grows, IsStill}
+use Rattle.xl_front_nlm.specs.Short.{IsShort, AreShort, IsShortWho, IsShortAsk, Grows, IsReady, Leaves}
 
 -- ---- nothing changes
 
@@ -44,6 +44,9 @@ goes_on_self s = record { made = omega arith; failed = λ f. (f, refl) }
 
 pub grows_self : (s : CoreState) → AreShort s.names → Grows s s
 grows_self s short = record { counter = omega arith; waiters = omega arith; short = short }
+
+pub leaves_self : (s : CoreState) → IsReady s → Leaves s s
+leaves_self s ready = record { on = goes_on_self s; good = ready.good; grows = grows_self s ready.short }
 
 pub may_be_made : (s : CoreState) → MayBe s.made s
 may_be_made s = record { enough = omega arith; spent = λ _. refl }
@@ -124,31 +127,6 @@ unfolding ask
 ask_grows n left s new a answer effects e short small =
     subst (λ (t : CoreState). Grows s t) (ap (λ (r : Answer × List Effect × CoreState). r.2) e) (acted_grows n left s a a.act short small)
 
--- ---- an unlock changes claims alone
-
-pub still_self : (s : CoreState) → IsStill s s
-still_self s = record { counter = refl; waiters = refl; names = refl }
-
-bytes_still : (s : CoreState) (c : Claim) (first last : ℕ) → IsStill s (unlocked_bytes s c first last).2
-bytes_still s c first last =
-    elim (cases_Bool (holds_byte c.file c.owner first last s.claims)) [
-      | inr e ↦ rw e (still_self s)
-      | inl e ↦
-          elim (cases_Bool (relock_fits c.file c.owner first last None s.claims)) [
-            | inr k ↦ rw (e, k) (still_self s)
-            | inl k ↦ rw (e, k) (record { counter = refl; waiters = refl; names = refl })
-          ]
-    ]
-
-refusal_still : (n : ℕ) (left : Rooms) (s : CoreState) (g : Grant) → IsStill s (ask n left s (refusal_ask g)).2
-unfolding ask unlocked
-refusal_still n left s g = bytes_still s (known_claim (refusal_ask g) (Bytes g.first g.last) false s.names) g.first g.last
-
-pub refused_still : (n : ℕ) (left : Rooms) (s new : CoreState) (g : Grant) (request : Ask) (answer : Answer) (effects : List Effect) → request ≡ refusal_ask g → ask n left s request ≡ (answer, effects, new) → IsStill s new
-refused_still n left s new g request answer effects e is =
-    let done : (ask n left s (refusal_ask g)).2 ≡ new = ap (λ (q : Ask). (ask n left s q).2) (sym e) ∙ ap (λ (r : Answer × List Effect × CoreState). r.2) is in
-    subst (λ (t : CoreState). IsStill s t) done (refusal_still n left s g)
-
 -- ---- a grant and a wait have room for their hosts
 
 abbrev HasRoom : Rooms → Rooms → Type 0
@@ -228,8 +206,8 @@ share_room_to_note n hosts s new caller rows a file request answer effects e k i
 
 -- ---- the arguments of a call were read, and nothing stands behind them
 
-pub replied_with : (n count : ℕ) (f : FrontState) (s : CoreState) (xid : ℕ) (read : Result (CallItem × List ℕ) RpcBad) (call : CallItem) (rest left : List ℕ) (r : List ℕ × List Effect × FrontState × CoreState)
-    → read ≡ Ok (call, rest) → left ≡ rest → (length left == 0) ≡ true → with_results xid call (served n count f s call) ≡ r → replied_by n count f s xid read ≡ r
-replied_with n count f s xid read call rest left r e k none is =
+pub call_is_read : (r : RequestItem) (call : CallItem) (rest left : List ℕ) → arguments_at r.procedure r.arguments ≡ Ok (call, rest) → left ≡ rest → (length left == 0) ≡ true → call_in r ≡ Some call
+unfolding call_in
+call_is_read r call rest left e k none =
     let empty : (length rest == 0) ≡ true = ap (λ (x : List ℕ). length x == 0) (sym k) ∙ none in
-    ap (replied_by n count f s xid) e ∙ rw empty is
+    ap whole_call e ∙ rw empty refl
