@@ -12,4 +12,5 @@ pub mod LeastLaws
 pub mod UnionLaws
 pub mod RoomLaws
 pub mod ChangeLaws
+pub mod PlaceLaws
 pub mod TrialLaws

@@ -152,7 +152,7 @@ upto_before (f ∷ fs) (k ∷ ks) h = step f k (no_later fs ks) (is_no_later_tha
   step f k true q h both = grind (arith, nat_tests)
   step f k false q h both = let e = both refl in rw e (grind (arith, nat_tests))
 
-starts_is : (fs ks : List ℕ) → (is_no_later_than fs ks && not (not (no_later fs ks))) ≡ starts fs ks
+pub starts_is : (fs ks : List ℕ) → (is_no_later_than fs ks && not (not (no_later fs ks))) ≡ starts fs ks
 starts_is [] ks = refl
 starts_is (f ∷ fs) [] = refl
 starts_is (f ∷ fs) (k ∷ ks) = step f k (no_later fs ks) (is_no_later_than fs ks) (starts fs ks) (starts_is fs ks) where
@@ -222,7 +222,7 @@ and_false : (b : Bool) → (b && false) ≡ false
 and_false true = refl
 and_false false = refl
 
-starts_file : (file : ℕ) (c : Claim) → starts (file ∷ []) (key c) ≡ (c.file == file)
+pub starts_file : (file : ℕ) (c : Claim) → starts (file ∷ []) (key c) ≡ (c.file == file)
 unfolding key
 starts_file file c = by c.what where
   by : (w : What) → starts (file ∷ []) (key_by c w) ≡ (c.file == file)
@@ -283,8 +283,8 @@ starts_range file owner c = by c.what where
 
 -- ---- what bisection gives
 
-pub file_section : (file : ℕ) (cs out : List Claim) (i j n : ℕ) → n ≡ file → Pairwise goes_first cs → i ≡ prefix_len (is_before (n ∷ [])) cs → j ≡ prefix_len (is_upto (n ∷ [])) cs → out ≡ slice_range cs i j → out ≡ filter (λ c. c.file == file) cs
-file_section file cs out i j n e ordered a b is = section_is (n ∷ []) (λ c. c.file == file) cs out i j (λ c. starts_file n c ∙ ap (λ (m : ℕ). c.file == m) e) ordered a b is
+pub file_section : (file : ℕ) (cs out : List Claim) (i j : ℕ) → Pairwise goes_first cs → i ≡ prefix_len (is_before (file ∷ [])) cs → j ≡ prefix_len (is_upto (file ∷ [])) cs → out ≡ slice_range cs i j → out ≡ filter (λ c. c.file == file) cs
+file_section file cs out i j ordered a b is = section_is (file ∷ []) (λ c. c.file == file) cs out i j (starts_file file) ordered a b is
 
 pub shares_section : (file : ℕ) (cs out : List Claim) (i j n : ℕ) → n ≡ file → Pairwise goes_first cs → i ≡ prefix_len (is_before (n ∷ 0 ∷ [])) cs → j ≡ prefix_len (is_upto (n ∷ 0 ∷ [])) cs → out ≡ slice_range cs i j → out ≡ filter (λ c. (c.file == file) && is_share c.what) cs
 shares_section file cs out i j n e ordered a b is = section_is (n ∷ 0 ∷ []) (λ c. (c.file == file) && is_share c.what) cs out i j (λ c. starts_shares n c ∙ ap (λ (m : ℕ). (c.file == m) && is_share c.what) e) ordered a b is
@@ -308,7 +308,7 @@ filter_within p q (c ∷ cs) out =
       | inr past ↦ rw (past, out c past) (filter_within p q cs out)
     ]
 
-any_within : (p q : Claim → Bool) (cs : List Claim) → ((c : Claim) → q c ≡ false → p c ≡ false) → list_any p (filter q cs) ≡ list_any p cs
+pub any_within : (p q : Claim → Bool) (cs : List Claim) → ((c : Claim) → q c ≡ false → p c ≡ false) → list_any p (filter q cs) ≡ list_any p cs
 any_within p q [] out = refl
 any_within p q (c ∷ cs) out =
     elim (cases_Bool (q c)) [

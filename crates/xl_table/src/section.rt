@@ -1,5 +1,5 @@
 //! Parts of the flat list, found by bisection.
-ghost use Rattle.std.specs.Prelude.{◌≡◌, ◌≤◌, ◌==◌, ◌&&◌, length, slice_range};
+ghost use Rattle.std.specs.Prelude.{◌≡◌, ◌≤◌, ◌==◌, ◌&&◌, ◌∷◌, [], length, slice_range};
 ghost use Rattle.std.specs.List.{filter, find, prefix_len};
 ghost use Rattle.xl_base.specs.Lists.{Pairwise};
 ghost use Rattle.xl_table.specs.Order.{goes_first};
@@ -75,12 +75,24 @@ pub(crate) fn between(claims: &[Claim], start: usize, end: usize) -> &[Claim]
     &claims[start..end]
 }
 
+/// Where the file's claims begin and end.
+pub(crate) fn file_places(claims: &[Claim], file: u32) -> (usize, usize)
+    requires { Pairwise goes_first claims.now }
+    ensures start { result.0 ≡ prefix_len (is_before (file ∷ [])) claims.now }
+    ensures end { result.1 ≡ prefix_len (is_upto (file ∷ [])) claims.now }
+    ensures order { result.0 ≤ result.1 }
+    ensures within { result.1 ≤ length claims.now }
+{
+    places(claims, &[u64::from(file)])
+}
+
 /// The claims on the file.
+#[tactic(auto, using(crate::proofs::SectionLaws::file_section))]
 pub(crate) fn on_file(claims: &[Claim], file: u32) -> &[Claim]
     requires { Pairwise goes_first claims.now }
     ensures { result.now ≡ filter (λ c. c.file == file) claims.now }
 {
-    let (start, end) = places(claims, &[u64::from(file)]);
+    let (start, end) = file_places(claims, file);
     between(claims, start, end)
 }
 
