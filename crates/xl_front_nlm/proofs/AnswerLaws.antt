@@ -1,5 +1,5 @@
 -- What the answer to a call of GRANTED does.
-use Rattle.std.proofs.Common.{◌≡◌, ℕ, Bool, true, false, not, cond, List, [], ◌++◌, Option, Some, None, Ok, refl, ap, ◌∙◌}
+use Rattle.std.proofs.Common.{◌≡◌, ℕ, Bool, true, false, not, ◌≤◌, List, [], ◌∷◌, ◌++◌, Option, Some, None, Ok, refl, sym, ap, ◌∙◌, append-nil}
 use Rattle.std.specs.Bool.{◌==◌}
 use Rattle.std.specs.List.{find}
 use Rattle.xl_nlm.specs.Items.{ResItem, Answer as ResAnswer}
@@ -9,34 +9,69 @@ use Rattle.xl_rpc.specs.Replies.{reply}
 use Rattle.xl_rpc.specs.Xdr.{UnsignedFits}
 use Rattle.xl_rpc.specs.declared.reply.Verdict.TheVariants.{Success}
 use Rattle.xl_core.specs.Decide.{ask}
+use Rattle.xl_core.specs.Deeds.{Asks, all_done, all_told_of, AreFit}
+use Rattle.xl_front_nlm.proofs.AskLaws.{own_client}
+use Rattle.xl_front_nlm.proofs.AimLaws.{grant_real}
 use Rattle.xl_core.specs.State.{CoreState}
-use Rattle.xl_core.specs.declared.ask.Effect.{Effect}
-use Rattle.xl_front_nlm.specs.Answers.{is_granted, refuses_with, refuses_by, refuses, asked_back, given_up, called_with, called_by, nlm_called}
+use Rattle.xl_front_nlm.specs.Answers.{is_granted, refuses_with, refuses_by, refuses, refused_grant, refusal_deeds, called_deeds, given_up, called_by, nlm_called}
 use Rattle.xl_front_nlm.specs.Asks.{refusal_ask}
 use Rattle.xl_front_nlm.specs.Grants.{grant_of}
 use Rattle.xl_front_nlm.specs.Hosts.{rooms}
-use Rattle.xl_front_nlm.specs.State.{FrontState, taken}
+use Rattle.xl_front_nlm.specs.State.{FrontState}
 use Rattle.xl_front_nlm.specs.declared.call.GrantedCall.{GrantedCall}
 use Rattle.xl_front_nlm.specs.declared.grant.Grant.{Grant}
 
--- the call is known, and the reply's meaning too
-known : (n : ℕ) (f : FrontState) (s : CoreState) (number : ℕ) (bytes : Option (List ℕ)) (call : GrantedCall) (refused : Bool) → find (λ (c : GrantedCall). c.number == number) f.calls ≡ Some call → refuses bytes ≡ refused
-    → nlm_called n f s number bytes ≡ called_with n (taken f number) s call refused
+-- ---- what it does
+
+given_does : (n : ℕ) (hosts : List (List ℕ)) (s : CoreState) (o : Option Grant) → ((given_up n hosts s o).1 ≡ all_done n s (refusal_deeds hosts o)) × ((given_up n hosts s o).0 ≡ all_told_of n s (refusal_deeds hosts o))
+given_does n hosts s None = (refl, refl)
+given_does n hosts s (Some g) = (refl, sym (append-nil (ask n (rooms hosts) s (refusal_ask g)).1))
+
+by_call : (n : ℕ) (f : FrontState) (s : CoreState) (number : ℕ) (refused : Bool) (o : Option GrantedCall) → ((called_by n f s number refused o).2 ≡ all_done n s (refusal_deeds f.hosts (refused_grant s refused o))) × ((called_by n f s number refused o).0 ≡ all_told_of n s (refusal_deeds f.hosts (refused_grant s refused o)))
+by_call n f s number refused None = (refl, refl)
+by_call n f s number refused (Some call) = given_does n f.hosts s (refused_grant s refused (Some call))
+
+pub answer_does : (n : ℕ) (f : FrontState) (s : CoreState) (number : ℕ) (reply : Option (List ℕ)) → (nlm_called n f s number reply).2 ≡ all_done n s (called_deeds f s number reply)
 unfolding nlm_called
-known n f s number bytes call refused e k = ap (called_by n f s number (refuses bytes)) e ∙ ap (called_with n (taken f number) s call) k
+answer_does n f s number reply = (by_call n f s number (refuses reply) (find (λ (c : GrantedCall). c.number == number) f.calls)).0
 
-pub refused_unlocks : (n : ℕ) (f : FrontState) (s : CoreState) (number : ℕ) (bytes : Option (List ℕ)) (call : GrantedCall) (g : Grant)
-    → find (λ (c : GrantedCall). c.number == number) f.calls ≡ Some call → refuses bytes ≡ true → grant_of s.names call.claim ≡ Some g
-    → nlm_called n f s number bytes ≡ asked_back (taken f number) (ask n (rooms f.hosts) s (refusal_ask g))
-refused_unlocks n f s number bytes call g e k grant = known n f s number bytes call true e k ∙ ap (given_up n (taken f number) s) grant
-
-pub lost_keeps : (n : ℕ) (f : FrontState) (s : CoreState) (number : ℕ) (bytes : Option (List ℕ)) (call : GrantedCall)
-    → find (λ (c : GrantedCall). c.number == number) f.calls ≡ Some call → refuses bytes ≡ false → nlm_called n f s number bytes ≡ ([], taken f number, s)
-lost_keeps n f s number bytes call e k = known n f s number bytes call false e k
-
-pub unknown_keeps : (n : ℕ) (f : FrontState) (s : CoreState) (number : ℕ) (bytes : Option (List ℕ)) → find (λ (c : GrantedCall). c.number == number) f.calls ≡ None → nlm_called n f s number bytes ≡ ([], f, s)
+pub answer_tells : (n : ℕ) (f : FrontState) (s : CoreState) (number : ℕ) (reply : Option (List ℕ)) → (nlm_called n f s number reply).0 ≡ all_told_of n s (called_deeds f s number reply)
 unfolding nlm_called
-unknown_keeps n f s number bytes e = ap (called_by n f s number (refuses bytes)) e
+answer_tells n f s number reply = (by_call n f s number (refuses reply) (find (λ (c : GrantedCall). c.number == number) f.calls)).1
+
+refusal_takes : (n : ℕ) (hosts : List (List ℕ)) (s : CoreState) (o : Option Grant) → ((g : Grant) → o ≡ Some g → g.first ≤ g.last) → AreFit n s (refusal_deeds hosts o)
+refusal_takes n hosts s None real = tt
+refusal_takes n hosts s (Some g) real = (record { act = real g refl; party = own_client g.caller }, tt)
+
+refused_real : (s : CoreState) (refused : Bool) (o : Option GrantedCall) (g : Grant) → refused_grant s refused o ≡ Some g → g.first ≤ g.last
+refused_real s refused None g e = absurd cc
+refused_real s true (Some call) g e = grant_real s.names call.claim g e
+refused_real s false (Some call) g e = absurd cc
+
+pub answer_takes : (n : ℕ) (f : FrontState) (s : CoreState) (number : ℕ) (reply : Option (List ℕ)) → AreFit n s (called_deeds f s number reply)
+answer_takes n f s number reply =
+    let o = refused_grant s (refuses reply) (find (λ (c : GrantedCall). c.number == number) f.calls) in
+    refusal_takes n f.hosts s o (λ g e. refused_real s (refuses reply) (find (λ (c : GrantedCall). c.number == number) f.calls) g e)
+
+-- a refusal of a call that awaits its answer unlocks what the call told, any other end does nothing
+pub refused_unlocks : (f : FrontState) (s : CoreState) (number : ℕ) (reply : Option (List ℕ)) (call : GrantedCall) (g : Grant)
+    → find (λ (c : GrantedCall). c.number == number) f.calls ≡ Some call → refuses reply ≡ true → grant_of s.names call.claim ≡ Some g → called_deeds f s number reply ≡ Asks (rooms f.hosts) (refusal_ask g) ∷ []
+refused_unlocks f s number reply call g e k grant =
+    ap (λ (o : Option GrantedCall). refusal_deeds f.hosts (refused_grant s (refuses reply) o)) e
+    ∙ ap (λ (b : Bool). refusal_deeds f.hosts (refused_grant s b (Some call))) k
+    ∙ ap (λ (o : Option Grant). refusal_deeds f.hosts o) grant
+
+not_refused : (s : CoreState) (o : Option GrantedCall) → refused_grant s false o ≡ None
+not_refused s None = refl
+not_refused s (Some call) = refl
+
+pub lost_keeps : (f : FrontState) (s : CoreState) (number : ℕ) (reply : Option (List ℕ)) → refuses reply ≡ false → called_deeds f s number reply ≡ []
+lost_keeps f s number reply k =
+    let o = find (λ (c : GrantedCall). c.number == number) f.calls in
+    ap (λ (b : Bool). refusal_deeds f.hosts (refused_grant s b o)) k ∙ ap (λ (g : Option Grant). refusal_deeds f.hosts g) (not_refused s o)
+
+pub unknown_keeps : (f : FrontState) (s : CoreState) (number : ℕ) (reply : Option (List ℕ)) → find (λ (c : GrantedCall). c.number == number) f.calls ≡ None → called_deeds f s number reply ≡ []
+unknown_keeps f s number reply e = ap (λ (o : Option GrantedCall). refusal_deeds f.hosts (refused_grant s (refuses reply) o)) e
 
 -- ---- what a reply says
 

@@ -1,7 +1,7 @@
 -- A grant is told by one call, to the granted owner's caller.
 use Rattle.std.proofs.Common.{◌≡◌, ℕ, ◌+◌, ◌≤◌, Bool, true, false, cond, List, [], ◌∷◌, length, Option, Some, None, refl, ap, subst, ◌∙◌, inl, inr, arith}
 use Rattle.std.proofs.lemmas.Bool.{cases_Bool}
-use Rattle.std.specs.Prelude.{nat_le}
+use Rattle.std.specs.Prelude.{nat_le, option_map}
 use Rattle.xl_base.specs.declared.event.Out.{Out}
 use Rattle.xl_base.specs.declared.journal.Exports.{Exports}
 use Rattle.xl_matrix.specs.declared.claim.Claim.{Claim}
@@ -11,22 +11,27 @@ use Rattle.xl_matrix.specs.declared.claim.What.TheVariants.{Share, Range, Cache}
 use Rattle.xl_names.specs.declared.name.Name.{Name}
 use Rattle.xl_names.specs.declared.name.Name.TheVariants.{NlmRange, NlmShare, NlmParty, NfsRange, NfsShare, NfsParty, SmbLease}
 use Rattle.xl_core.specs.State.{CoreState, drawn}
+use Rattle.xl_core.specs.Deeds.{all_done, AreFit}
 use Rattle.xl_core.specs.declared.ask.Answer.TheVariants as answers
 use Rattle.xl_core.specs.declared.ask.Effect.{Effect}
-use Rattle.xl_core.specs.declared.ask.Effect.TheVariants.{Begun, Served, Cancelled, Expired}
-use Rattle.xl_front_nlm.specs.Grants.{bytes_of, name_of, grant_by, grant_of, address_of, call_of, told_to, told_of, told_grant, shown}
+use Rattle.xl_core.specs.declared.ask.Effect.TheVariants.{Served}
+use Rattle.xl_front_nlm.specs.Grants.{bytes_of, name_of, grant_by, grant_of, address_of, call_of, with_address, addressed, news, told_by, shown, drawn_for, shown_deeds}
 use Rattle.xl_front_nlm.specs.State.{FrontState, awaited}
 use Rattle.xl_front_nlm.specs.declared.grant.Grant.{Grant}
 
 pub grant_is_told : (exports : Exports) (f : FrontState) (s : CoreState) (id : ℕ) (claim : Claim) (g : Grant) (to : List ℕ) → grant_of s.names claim ≡ Some g → address_of exports.addresses g.caller ≡ Some to
     → shown exports f s (Served id (answers.Granted claim)) ≡ (call_of (s.counter + 1) to g ∷ [], awaited f (record { number = s.counter + 1; claim = claim }), drawn s)
-unfolding told_grant
-grant_is_told exports f s id claim g to e at = ap (told_of exports f s claim) e ∙ ap (told_to f s claim g) at
+unfolding shown
+grant_is_told exports f s id claim g to e at =
+    ap (λ (o : Option Grant). told_by f s (option_map (λ told. (claim, told.0, told.1)) (addressed exports o))) e
+    ∙ ap (λ (o : Option (List ℕ)). told_by f s (option_map (λ told. (claim, told.0, told.1)) (with_address g o))) at
 
 pub grant_untold : (exports : Exports) (f : FrontState) (s : CoreState) (id : ℕ) (claim : Claim) (g : Grant) → grant_of s.names claim ≡ Some g → address_of exports.addresses g.caller ≡ None
     → shown exports f s (Served id (answers.Granted claim)) ≡ ([], f, s)
-unfolding told_grant
-grant_untold exports f s id claim g e at = ap (told_of exports f s claim) e ∙ ap (told_to f s claim g) at
+unfolding shown
+grant_untold exports f s id claim g e at =
+    ap (λ (o : Option Grant). told_by f s (option_map (λ told. (claim, told.0, told.1)) (addressed exports o))) e
+    ∙ ap (λ (o : Option (List ℕ)). told_by f s (option_map (λ told. (claim, told.0, told.1)) (with_address g o))) at
 
 -- ---- the range that is told is the claim's
 
@@ -59,28 +64,27 @@ pub grant_is_the_claim : (names : List Name) (claim : Claim) (g : Grant) → gra
 unfolding grant_of
 grant_is_the_claim names claim g e = subst (IsOf claim.file claim.what) e (by_what claim.file claim.what (name_of names claim.owner))
 
--- ---- one message at most
+-- ---- what telling does
 
-few_to : (f : FrontState) (s : CoreState) (claim : Claim) (g : Grant) (to : Option (List ℕ)) → length (told_to f s claim g to).0 ≤ 1
-few_to f s claim g None = omega arith
-few_to f s claim g (Some to) = omega arith
-
-few_of : (exports : Exports) (f : FrontState) (s : CoreState) (claim : Claim) (g : Option Grant) → length (told_of exports f s claim g).0 ≤ 1
-few_of exports f s claim None = omega arith
-few_of exports f s claim (Some g) = few_to f s claim g (address_of exports.addresses g.caller)
+few : (f : FrontState) (s : CoreState) (o : Option (Claim × Grant × List ℕ)) → length (told_by f s o).0 ≤ 1
+few f s None = omega arith
+few f s (Some told) = omega arith
 
 pub one_call : (exports : Exports) (f : FrontState) (s : CoreState) (effect : Effect) → length (shown exports f s effect).0 ≤ 1
-unfolding told_grant
-one_call exports f s (Begun claim kind call) = omega arith
-one_call exports f s (Served id (answers.Granted claim)) = few_of exports f s claim (grant_of s.names claim)
-one_call exports f s (Served id (answers.Conflict claim)) = omega arith
-one_call exports f s (Served id (answers.Queued number)) = omega arith
-one_call exports f s (Served id (answers.Recall claim)) = omega arith
-one_call exports f s (Served id (answers.Grace until)) = omega arith
-one_call exports f s (Served id (answers.NoGrace clock)) = omega arith
-one_call exports f s (Served id answers.NotRecorded) = omega arith
-one_call exports f s (Served id (answers.Full limit)) = omega arith
-one_call exports f s (Served id answers.NotHeld) = omega arith
-one_call exports f s (Served id answers.StoreFailed) = omega arith
-one_call exports f s (Cancelled id) = omega arith
-one_call exports f s (Expired client) = omega arith
+unfolding shown
+one_call exports f s effect = few f s (news exports s effect)
+
+does : (n : ℕ) (f : FrontState) (s : CoreState) (o : Option (Claim × Grant × List ℕ)) → (told_by f s o).2 ≡ all_done n s (drawn_for o)
+does n f s None = refl
+does n f s (Some told) = refl
+
+pub telling_does : (n : ℕ) (exports : Exports) (f : FrontState) (s : CoreState) (effect : Effect) → (shown exports f s effect).2 ≡ all_done n s (shown_deeds exports s effect)
+unfolding shown
+telling_does n exports f s effect = does n f s (news exports s effect)
+
+takes : (n : ℕ) (s : CoreState) (o : Option (Claim × Grant × List ℕ)) → AreFit n s (drawn_for o)
+takes n s None = tt
+takes n s (Some told) = (tt, tt)
+
+pub telling_takes : (n : ℕ) (exports : Exports) (s : CoreState) (effect : Effect) → AreFit n s (shown_deeds exports s effect)
+telling_takes n exports s effect = takes n s (news exports s effect)

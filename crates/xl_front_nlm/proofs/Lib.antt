@@ -5,10 +5,9 @@ pub mod GrantLaws
 pub mod HostLaws
 pub mod LeaveLaws
 pub mod ReplyLaws
-pub mod SentLaws
-pub mod ServeLaws
-pub mod ShareLaws
 pub mod ShortLaws
 pub mod StandLaws
 pub mod StepLaws
-pub mod WaitLaws
+pub mod AimLaws
+pub mod DoesLaws
+pub mod OwnLaws

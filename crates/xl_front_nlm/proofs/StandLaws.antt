@@ -6,7 +6,15 @@ use Rattle.std.specs.Bool.{◌==◌}
 use Rattle.std.specs.List.{AllByRecursion, find}
 use Rattle.std.specs.Prelude.{IfSome, option_map}
 use Rattle.xl_base.specs.Lists.{IsIn, Pairwise}
-use Rattle.xl_core.specs.Good.{are_apart}
+use Rattle.xl_base.specs.declared.name.Owner.TheVariants as owners
+use Rattle.xl_base.specs.declared.name.Protocol.TheVariants.{Nlm}
+use Rattle.xl_names.specs.Names.{number_of}
+use Rattle.xl_nlm.specs.Items.{LockItem}
+use Rattle.xl_core.specs.Good.{IsGood, are_apart}
+use Rattle.xl_core.specs.State.{CoreState}
+use Rattle.xl_front_nlm.specs.Asks.{owner_of}
+use Rattle.xl_front_nlm.specs.Standing.{waits_for, waiter_by, waiter_for}
+use Rattle.xl_front_nlm.specs.declared.aim.Aim.{Aim}
 use Rattle.xl_matrix.specs.declared.claim.Claim.{Claim}
 use Rattle.xl_wait.specs.Waiting.{is_waiting}
 use Rattle.xl_wait.specs.declared.waiter.Waiter.{Waiter}
@@ -104,3 +112,10 @@ claim_found p (c ∷ cs) =
 
 pub found_is_in : (found : Option Claim) (p : Claim → Bool) (cs : List Claim) → found ≡ find p cs → IfSome found (λ claim. IsIn claim cs)
 found_is_in found p cs e = subst (AreIn cs) (sym e) (claim_found p cs)
+
+-- ---- the waiter that a CANCEL takes out
+
+pub that_waits : (s : CoreState) (l : LockItem) (exclusive : Bool) (at : Aim) (number id : ℕ) (w : Waiter) → IsGood s → number_of (owner_of l) s.names ≡ Some number → waiter_for s l exclusive at ≡ Some id
+    → IsIn w s.waiters → w.id ≡ id → waits_for (owners.Name Nlm number) at exclusive w ≡ true
+that_waits s l exclusive at number id w good known e h k =
+    found_is_the_one (waits_for (owners.Name Nlm number) at exclusive) s.waiters id w good.apart (sym (ap (waiter_by s.waiters at exclusive) known) ∙ e) h k

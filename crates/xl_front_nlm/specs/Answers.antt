@@ -1,5 +1,5 @@
 -- What the answer to a call of GRANTED does (XNFS C702, NLM_GRANTED).
-use Rattle.std.specs.Prelude.{ℕ, Bool, true, false, not, ◌==◌, if◌then◌else◌, List, [], Option, Some, None, Result, Ok, Err}
+use Rattle.std.specs.Prelude.{ℕ, Bool, true, false, not, ◌==◌, if◌then◌else◌, List, [], ◌∷◌, Option, Some, None, Result, Ok, Err}
 use Rattle.std.specs.List.{find}
 use Rattle.xl_nlm.specs.Items.{ReplyItem, Answer as ResAnswer}
 use Rattle.xl_nlm.specs.Replies.{results_at}
@@ -11,7 +11,7 @@ use Rattle.xl_rpc.specs.declared.reply.Verdict.{Verdict}
 use Rattle.xl_rpc.specs.declared.reply.Verdict.TheVariants.{Success}
 use Rattle.xl_core.specs.State.{CoreState}
 use Rattle.xl_core.specs.Decide.{ask}
-use Rattle.xl_core.specs.declared.ask.Answer.{Answer}
+use Rattle.xl_core.specs.Deeds.{Deed, Asks}
 use Rattle.xl_core.specs.declared.ask.Effect.{Effect}
 use Rattle.xl_front_nlm.specs.Asks.{refusal_ask}
 use Rattle.xl_front_nlm.specs.Grants.{grant_of}
@@ -43,24 +43,32 @@ refuses None = false
 
 -- ---- what it does
 
--- the effects and the core, behind the answer
-abbrev pub asked_back : FrontState → Answer × List Effect × CoreState → List Effect × FrontState × CoreState
-asked_back f done = (done.1, f, done.2)
+-- what the call told, where it awaits an answer and is refused
+abbrev pub refused_grant : CoreState → Bool → Option GrantedCall → Option Grant
+refused_grant s refused None = None
+refused_grant s refused (Some call) = if refused then grant_of s.names call.claim else None
 
--- the range is unlocked, at this time and whatever its owner locked since; where that finds no room it stays
-abbrev pub given_up : ℕ → FrontState → CoreState → Option Grant → List Effect × FrontState × CoreState
-given_up n f s None = ([], f, s)
-given_up n f s (Some g) = asked_back f (ask n (rooms f.hosts) s (refusal_ask g))
+abbrev pub refusal_deeds : List (List ℕ) → Option Grant → List Deed
+refusal_deeds hosts None = []
+refusal_deeds hosts (Some grant) = Asks (rooms hosts) (refusal_ask grant) ∷ []
 
-abbrev pub called_with : ℕ → FrontState → CoreState → GrantedCall → Bool → List Effect × FrontState × CoreState
-called_with n f s call refused = if refused then given_up n f s (grant_of s.names call.claim) else ([], f, s)
+-- What the end of the server's call of this number does to the core, with its reply or without one: a refusal unlocks the
+-- range that the call told, at this time and whatever its owner locked since; all else does nothing.
+abbrev pub called_deeds : FrontState → CoreState → ℕ → Option (List ℕ) → List Deed
+called_deeds f s number reply = refusal_deeds f.hosts (refused_grant s (refuses reply) (find (λ c. c.number == number) f.calls))
+
+abbrev pub given_up : ℕ → List (List ℕ) → CoreState → Option Grant → List Effect × CoreState
+given_up n hosts s None = ([], s)
+given_up n hosts s (Some grant) = ((ask n (rooms hosts) s (refusal_ask grant)).1, (ask n (rooms hosts) s (refusal_ask grant)).2)
+
+abbrev pub with_front : FrontState → List Effect × CoreState → List Effect × FrontState × CoreState
+with_front f r = (r.0, f, r.1)
 
 abbrev pub called_by : ℕ → FrontState → CoreState → ℕ → Bool → Option GrantedCall → List Effect × FrontState × CoreState
 called_by n f s number refused None = ([], f, s)
-called_by n f s number refused (Some call) = called_with n (taken f number) s call refused
+called_by n f s number refused (Some call) = with_front (taken f number) (given_up n f.hosts s (refused_grant s refused (Some call)))
 
--- What the end of the server's call of this number does, with its reply or without one, and the front and the core
--- afterwards, where n stores succeed in the step. A call that awaits no answer does nothing; the others await none from
--- then on.
+-- What it tells of besides, and the front and the core afterwards, where n stores succeed in the step. A call that awaits
+-- no answer does nothing; the others await none from then on.
 unfoldable pub nlm_called : ℕ → FrontState → CoreState → ℕ → Option (List ℕ) → List Effect × FrontState × CoreState
 nlm_called n f s number reply = called_by n f s number (refuses reply) (find (λ c. c.number == number) f.calls)

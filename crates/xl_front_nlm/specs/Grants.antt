@@ -17,6 +17,7 @@ use Rattle.xl_names.specs.declared.name.Name.TheVariants.{NlmRange}
 use Rattle.xl_nlm.specs.Granted.{granted_record}
 use Rattle.xl_nlm.specs.Items.{LockItem}
 use Rattle.xl_core.specs.State.{CoreState, drawn}
+use Rattle.xl_core.specs.Deeds.{Deed, Draws}
 use Rattle.xl_core.specs.declared.ask.Answer.TheVariants.{Granted}
 use Rattle.xl_core.specs.declared.ask.Effect.{Effect}
 use Rattle.xl_core.specs.declared.ask.Effect.TheVariants.{Served}
@@ -60,21 +61,34 @@ address_of addresses caller = option_map (λ entry. entry.1) (find (λ entry. by
 abbrev pub call_of : ℕ → List ℕ → Grant → Out
 call_of number to g = record { dest = Back number; to = to; bytes = granted_record number g.exclusive (lock_of g) }
 
+-- the grant, and the address to which it is told, where its caller has one
+abbrev pub with_address : Grant → Option (List ℕ) → Option (Grant × List ℕ)
+with_address g None = None
+with_address g (Some to) = Some (g, to)
+
+abbrev pub addressed : Exports → Option Grant → Option (Grant × List ℕ)
+addressed exports None = None
+addressed exports (Some g) = with_address g (address_of exports.addresses g.caller)
+
+-- what there is to tell of an effect, and to whom: a grant of one who waited. One who waited and found no room is told
+-- nothing, and so is one who was cancelled.
+abbrev pub news : Exports → CoreState → Effect → Option (Claim × Grant × List ℕ)
+news exports s (Served id (Granted claim)) = option_map (λ told. (claim, told.0, told.1)) (addressed exports (grant_of s.names claim))
+news exports s _ = None
+
 -- the call takes the next number, and awaits its answer from then on
-abbrev pub told_to : FrontState → CoreState → Claim → Grant → Option (List ℕ) → List Out × FrontState × CoreState
-told_to f s claim g None = ([], f, s)
-told_to f s claim g (Some to) = (call_of (s.counter + 1) to g ∷ [], awaited f (record { number = s.counter + 1; claim = claim }), drawn s)
+abbrev pub told_by : FrontState → CoreState → Option (Claim × Grant × List ℕ) → List Out × FrontState × CoreState
+told_by f s None = ([], f, s)
+told_by f s (Some told) = (call_of (s.counter + 1) told.2 told.1 ∷ [], awaited f (record { number = s.counter + 1; claim = told.0 }), drawn s)
 
-abbrev pub told_of : Exports → FrontState → CoreState → Claim → Option Grant → List Out × FrontState × CoreState
-told_of exports f s claim None = ([], f, s)
-told_of exports f s claim (Some g) = told_to f s claim g (address_of exports.addresses g.caller)
+-- what is sent for an effect of the core, and the front and the core afterwards
+unfoldable pub shown : Exports → FrontState → CoreState → Effect → List Out × FrontState × CoreState
+shown exports f s effect = told_by f s (news exports s effect)
 
--- one who waited is told of its grant, where its caller has an address
-unfoldable pub told_grant : Exports → FrontState → CoreState → Claim → List Out × FrontState × CoreState
-told_grant exports f s claim = told_of exports f s claim (grant_of s.names claim)
+abbrev pub drawn_for : Option (Claim × Grant × List ℕ) → List Deed
+drawn_for None = []
+drawn_for (Some told) = Draws ∷ []
 
--- What is sent for an effect of the core, and the front and the core afterwards: a grant is told. One who waited and found
--- no room is told nothing, and so is one who was cancelled.
-abbrev pub shown : Exports → FrontState → CoreState → Effect → List Out × FrontState × CoreState
-shown exports f s (Served id (Granted claim)) = told_grant exports f s claim
-shown exports f s _ = ([], f, s)
+-- what telling of an effect does to the core: a call that is made takes a number
+abbrev pub shown_deeds : Exports → CoreState → Effect → List Deed
+shown_deeds exports s effect = drawn_for (news exports s effect)

@@ -1,14 +1,13 @@
--- What becomes of a call (XNFS C702, chapter 14).
-use Rattle.std.specs.Prelude.{ℕ, if◌then◌else◌, List, [], Option, Some, None, Result, Ok, Err}
+-- What becomes of a call (XNFS C702, chapter 14): it is told so at once, or one deed is done to the core.
+use Rattle.std.specs.Prelude.{ℕ, if◌then◌else◌, List, [], ◌∷◌, Option, Some, None, Result, Ok, Err}
 use Rattle.xl_base.specs.declared.name.Party.TheVariants as parties
 use Rattle.xl_base.specs.declared.name.Protocol.TheVariants.{Nlm}
-use Rattle.xl_matrix.specs.declared.claim.Claim.{Claim}
 use Rattle.xl_names.specs.Names.{number_of}
+use Rattle.xl_names.specs.declared.name.Name.{Name}
 use Rattle.xl_names.specs.declared.name.Name.TheVariants.{NlmParty}
-use Rattle.xl_nlm.specs.Items.{TestArgsItem, LockArgsItem, CancelArgsItem, UnlockArgsItem, ShareArgsItem, NotifyItem, CallItem, Test, Lock, Cancel, Unlock, Share, Unshare, NmLock, FreeAll}
+use Rattle.xl_nlm.specs.Items.{LockArgsItem, CallItem, Test, Lock, Cancel, Unlock, Share, Unshare, NmLock, FreeAll}
 use Rattle.xl_core.specs.State.{CoreState}
-use Rattle.xl_core.specs.Decide.{ask}
-use Rattle.xl_core.specs.Settle.{cancel, give_back, end_party}
+use Rattle.xl_core.specs.Deeds.{Deed, Asks, GivesBack, Cancels, Ends, Given, given}
 use Rattle.xl_core.specs.declared.ask.Answer.{Answer}
 use Rattle.xl_core.specs.declared.ask.Effect.{Effect}
 use Rattle.xl_front_nlm.specs.Aims.{exported, aimed}
@@ -20,108 +19,101 @@ use Rattle.xl_front_nlm.specs.declared.aim.Aim.{Aim}
 use Rattle.xl_front_nlm.specs.declared.outcome.Outcome.{Outcome}
 use Rattle.xl_front_nlm.specs.declared.outcome.Outcome.TheVariants.{NoFile, Waits, NotWaiting, Answered, Ended, Nothing}
 
--- ---- what becomes of a call: its outcome, the effects, and the front and the core afterwards
+-- ---- the table
 
-abbrev pub refused : Outcome → FrontState → CoreState → Outcome × List Effect × FrontState × CoreState
-refused outcome f s = (outcome, [], f, s)
+-- it is told so, and nothing is done; or this is done
+pub data Plan : Type 0 where
+  Tells : Outcome → Plan
+  Does : Deed → Plan
 
--- the core was asked, and the front stays as it is
-abbrev pub answered : FrontState → Answer × List Effect × CoreState → Outcome × List Effect × FrontState × CoreState
-answered f done = (Answered done.0, done.1, f, done.2)
+-- for the bytes that a lock names, where it names some
+abbrev pub at_bytes : (Aim → Plan) → Result Aim Outcome → Plan
+at_bytes plan (Err outcome) = Tells outcome
+at_bytes plan (Ok at) = plan at
 
--- the core was asked for this caller, who may be a host from now on
-abbrev pub answered_for : List ℕ → FrontState → Answer × List Effect × CoreState → Outcome × List Effect × FrontState × CoreState
-answered_for caller f done = (Answered done.0, done.1, noted done.0 caller f, done.2)
+-- on the file that a handle names, where it names one
+abbrev pub on_file : (ℕ → Plan) → Option ℕ → Plan
+on_file plan None = Tells NoFile
+on_file plan (Some file) = plan file
 
--- something was given up, and the front stays as it is
-abbrev pub ended : FrontState → List Effect × CoreState → Outcome × List Effect × FrontState × CoreState
-ended f done = (Ended, done.0, f, done.1)
+-- for what is found, if it is
+abbrev pub if_found : {A : Type 0} → Outcome → (A → Deed) → Option A → Plan
+if_found none does None = Tells none
+if_found none does (Some found) = Does (does found)
 
--- ---- TEST, LOCK, NM_LOCK and UNLOCK
+-- one who asks for the same again waits on, whether it blocks or not, and also where it reclaims
+abbrev pub lock_plan : List (List ℕ) → CoreState → LockArgsItem → Aim → Plan
+lock_plan hosts s a at = if does_wait s a at then Tells Waits else Does (Asks (rooms hosts) (lock_ask (host_rows a.lock.caller_name hosts) a at))
 
-abbrev pub test_at : ℕ → FrontState → CoreState → TestArgsItem → Result Aim Outcome → Outcome × List Effect × FrontState × CoreState
-test_at n f s a (Err outcome) = refused outcome f s
-test_at n f s a (Ok at) = answered f (ask n (rooms f.hosts) s (test_ask a at))
+-- What each call does, where so many files are exported. TEST, LOCK, UNLOCK and SHARE ask. CANCEL takes out the waiter of
+-- the same owner, file, range and mode, whether it was said to block or not. UNSHARE gives back the owner's share on the
+-- file. FREE_ALL ends its caller as a party. NM_LOCK does what LOCK does, as callers aren't recorded yet.
+unfoldable pub planned : ℕ → List (List ℕ) → CoreState → CallItem → Plan
+planned count hosts s (Test a) = at_bytes (λ at. Does (Asks (rooms hosts) (test_ask a at))) (aimed count a.lock)
+planned count hosts s (Lock a) = at_bytes (λ at. lock_plan hosts s a at) (aimed count a.lock)
+planned count hosts s (Cancel a) = at_bytes (λ at. if_found NotWaiting (λ id. Cancels id) (waiter_for s a.lock a.exclusive at)) (aimed count a.lock)
+planned count hosts s (Unlock a) = at_bytes (λ at. Does (Asks (rooms hosts) (unlock_ask a at))) (aimed count a.lock)
+planned count hosts s (Share a) = on_file (λ file. Does (Asks (rooms hosts) (share_ask (host_rows a.caller_name hosts) a file))) (exported count a.fh)
+planned count hosts s (Unshare a) = on_file (λ file. if_found Ended (λ claim. GivesBack claim) (share_held s a file)) (exported count a.fh)
+planned count hosts s (NmLock a) = at_bytes (λ at. lock_plan hosts s a at) (aimed count a.lock)
+planned count hosts s (FreeAll a) = if_found Ended (λ number. Ends (parties.Name Nlm number)) (number_of (NlmParty a.name) s.names)
+planned count hosts s _ = Tells Nothing
 
--- TEST: whether the range could be locked
-unfoldable pub test_done : ℕ → ℕ → FrontState → CoreState → TestArgsItem → Outcome × List Effect × FrontState × CoreState
-test_done n count f s a = test_at n f s a (aimed count a.lock)
+abbrev pub deeds_of : Plan → List Deed
+deeds_of (Tells outcome) = []
+deeds_of (Does deed) = deed ∷ []
 
-abbrev pub lock_at : ℕ → FrontState → CoreState → LockArgsItem → Result Aim Outcome → Outcome × List Effect × FrontState × CoreState
-lock_at n f s a (Err outcome) = refused outcome f s
-lock_at n f s a (Ok at) =
-    if does_wait s a at then refused Waits f s
-    else answered_for a.lock.caller_name f (ask n (rooms f.hosts) s (lock_ask (host_rows a.lock.caller_name f.hosts) a at))
+-- ---- what is told
 
--- LOCK and NM_LOCK, as callers aren't recorded yet: one who asks for the same again waits on, whether it blocks or not,
--- and also where it reclaims
-unfoldable pub lock_done : ℕ → ℕ → FrontState → CoreState → LockArgsItem → Outcome × List Effect × FrontState × CoreState
-lock_done n count f s a = lock_at n f s a (aimed count a.lock)
+abbrev pub outcome_of : Option Answer → Outcome
+outcome_of None = Ended
+outcome_of (Some answer) = Answered answer
 
-abbrev pub unlock_at : ℕ → FrontState → CoreState → UnlockArgsItem → Result Aim Outcome → Outcome × List Effect × FrontState × CoreState
-unlock_at n f s a (Err outcome) = refused outcome f s
-unlock_at n f s a (Ok at) = answered f (ask n (rooms f.hosts) s (unlock_ask a at))
+abbrev pub first_outcome : List Answer → Outcome
+first_outcome [] = Ended
+first_outcome (answer ∷ answers) = Answered answer
 
--- UNLOCK
-unfoldable pub unlock_done : ℕ → ℕ → FrontState → CoreState → UnlockArgsItem → Outcome × List Effect × FrontState × CoreState
-unlock_done n count f s a = unlock_at n f s a (aimed count a.lock)
-
--- ---- CANCEL
-
-abbrev pub cancel_by : FrontState → CoreState → Option ℕ → Outcome × List Effect × FrontState × CoreState
-cancel_by f s None = refused NotWaiting f s
-cancel_by f s (Some id) = ended f (cancel s id)
-
-abbrev pub cancel_at : FrontState → CoreState → CancelArgsItem → Result Aim Outcome → Outcome × List Effect × FrontState × CoreState
-cancel_at f s a (Err outcome) = refused outcome f s
-cancel_at f s a (Ok at) = cancel_by f s (waiter_for s a.lock a.exclusive at)
-
--- CANCEL: the waiter of the same owner, file, range and mode is taken out, whether it was said to block or not
-unfoldable pub cancel_done : ℕ → FrontState → CoreState → CancelArgsItem → Outcome × List Effect × FrontState × CoreState
-cancel_done count f s a = cancel_at f s a (aimed count a.lock)
-
--- ---- SHARE and UNSHARE
-
-abbrev pub share_at : ℕ → FrontState → CoreState → ShareArgsItem → Option ℕ → Outcome × List Effect × FrontState × CoreState
-share_at n f s a None = refused NoFile f s
-share_at n f s a (Some file) = answered_for a.caller_name f (ask n (rooms f.hosts) s (share_ask (host_rows a.caller_name f.hosts) a file))
-
--- SHARE
-unfoldable pub share_done : ℕ → ℕ → FrontState → CoreState → ShareArgsItem → Outcome × List Effect × FrontState × CoreState
-share_done n count f s a = share_at n f s a (exported count a.fh)
-
-abbrev pub unshare_by : FrontState → CoreState → Option Claim → Outcome × List Effect × FrontState × CoreState
-unshare_by f s None = refused Ended f s
-unshare_by f s (Some claim) = ended f (give_back s claim)
-
-abbrev pub unshare_at : FrontState → CoreState → ShareArgsItem → Option ℕ → Outcome × List Effect × FrontState × CoreState
-unshare_at f s a None = refused NoFile f s
-unshare_at f s a (Some file) = unshare_by f s (share_held s a file)
-
--- UNSHARE: the owner's share on the file is given back, if it has one
-unfoldable pub unshare_done : ℕ → FrontState → CoreState → ShareArgsItem → Outcome × List Effect × FrontState × CoreState
-unshare_done count f s a = unshare_at f s a (exported count a.fh)
-
--- ---- FREE_ALL
-
-abbrev pub freed_by : FrontState → CoreState → Option ℕ → Outcome × List Effect × FrontState × CoreState
-freed_by f s None = refused Ended f s
-freed_by f s (Some number) = ended f (end_party s (parties.Name Nlm number))
-
--- FREE_ALL: all claims and waiters of the caller leave; it stays a host, and its names stay
-unfoldable pub freed : FrontState → CoreState → NotifyItem → Outcome × List Effect × FrontState × CoreState
-freed f s a = freed_by f s (number_of (NlmParty a.name) s.names)
+-- what becomes of the call is a function of the plan and of what its deeds are answered
+abbrev pub outcome_told : Plan → List Answer → Outcome
+outcome_told (Tells outcome) answers = outcome
+outcome_told (Does deed) answers = first_outcome answers
 
 -- ---- a call
 
--- what becomes of a call, where so many files are exported and n stores succeed in the step
+-- who is a host from then on where it is granted a lock or a share, or waits for a lock
+abbrev pub host_of : CallItem → Option (List ℕ)
+host_of (Lock a) = Some a.lock.caller_name
+host_of (NmLock a) = Some a.lock.caller_name
+host_of (Share a) = Some a.caller_name
+host_of _ = None
+
+abbrev pub hosted : Option (List ℕ) → Option Answer → FrontState → FrontState
+hosted None answer f = f
+hosted (Some caller) None f = f
+hosted (Some caller) (Some answer) f = noted answer caller f
+
+abbrev pub done_with : Option (List ℕ) → FrontState → Given → Outcome × List Effect × FrontState × CoreState
+done_with host f r = (outcome_of r.0, r.1, hosted host r.0 f, r.2)
+
+abbrev pub served_by : ℕ → FrontState → CoreState → Option (List ℕ) → Plan → Outcome × List Effect × FrontState × CoreState
+served_by n f s host (Tells outcome) = (outcome, [], f, s)
+served_by n f s host (Does deed) = done_with host f (given n s deed)
+
+-- what becomes of a call: its outcome, the effects, and the front and the core afterwards, where n stores succeed in the
+-- step
 unfoldable pub served : ℕ → ℕ → FrontState → CoreState → CallItem → Outcome × List Effect × FrontState × CoreState
-served n count f s (Test a) = test_done n count f s a
-served n count f s (Lock a) = lock_done n count f s a
-served n count f s (Cancel a) = cancel_done count f s a
-served n count f s (Unlock a) = unlock_done n count f s a
-served n count f s (Share a) = share_done n count f s a
-served n count f s (Unshare a) = unshare_done count f s a
-served n count f s (NmLock a) = lock_done n count f s a
-served n count f s (FreeAll a) = freed f s a
-served n count f s _ = refused Nothing f s
+served n count f s call = served_by n f s (host_of call) (planned count f.hosts s call)
+
+-- ---- whose call it is
+
+-- the client that a call names
+abbrev pub client_of : CallItem → Option Name
+client_of (Test a) = Some (NlmParty a.lock.caller_name)
+client_of (Lock a) = Some (NlmParty a.lock.caller_name)
+client_of (Cancel a) = Some (NlmParty a.lock.caller_name)
+client_of (Unlock a) = Some (NlmParty a.lock.caller_name)
+client_of (Share a) = Some (NlmParty a.caller_name)
+client_of (Unshare a) = Some (NlmParty a.caller_name)
+client_of (NmLock a) = Some (NlmParty a.lock.caller_name)
+client_of (FreeAll a) = Some (NlmParty a.name)
+client_of _ = None

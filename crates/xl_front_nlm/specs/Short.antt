@@ -1,12 +1,13 @@
 -- Names whose parts fit the messages that tell them, and what a step adds to the core at most.
-use Rattle.std.specs.Prelude.{◌≡◌, ◌+◌, ◌≤◌, List, length}
+use Rattle.std.specs.Prelude.{◌+◌, ◌<◌, ◌≤◌, ◌^◌, List, length}
 use Rattle.std.specs.List.{AllByRecursion}
 use Rattle.xl_base.specs.declared.event.Dest.{Dest}
 use Rattle.xl_base.specs.declared.event.Dest.TheVariants.{Conn, Back}
 use Rattle.xl_base.specs.declared.event.Out.{Out}
 use Rattle.xl_names.specs.declared.name.Name.{Name}
 use Rattle.xl_names.specs.declared.name.Name.TheVariants.{NlmRange}
-use Rattle.xl_core.specs.State.{CoreState}
+use Rattle.xl_core.specs.State.{CoreState, GoesOn}
+use Rattle.xl_core.specs.Good.{IsGood}
 use Rattle.xl_core.specs.declared.ask.Ask.{Ask}
 use Rattle.xl_core.specs.declared.ask.Who.{Who}
 use Rattle.xl_core.specs.declared.ask.Who.TheVariants.{Named, Open}
@@ -44,8 +45,16 @@ pub record Grows (old new : CoreState) : Type 0 where
   pub waiters : length new.waiters ≤ length old.waiters + 1
   pub short : AreShort new.names
 
--- no number was given out, nobody came to wait or waits no more, and no name came
-pub record IsStill (old new : CoreState) : Type 0 where
-  pub counter : new.counter ≡ old.counter
-  pub waiters : new.waiters ≡ old.waiters
-  pub names : new.names ≡ old.names
+-- ---- what each function of the front needs of the core, and what it leaves
+
+-- the state is good, numbers are left to give out, and the names fit the messages that tell them
+pub record IsReady (s : CoreState) : Type 0 where
+  pub good : IsGood s
+  pub numbers : s.counter + 65536 < 2 ^ 32
+  pub short : AreShort s.names
+
+-- the state is good, the stores of the step go on, and little was added
+pub record Leaves (old new : CoreState) : Type 0 where
+  pub on : GoesOn old new
+  pub good : IsGood new
+  pub grows : Grows old new

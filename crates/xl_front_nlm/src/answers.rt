@@ -2,9 +2,9 @@
 ghost use Rattle.std.specs.Prelude.{◌≡◌, ℕ, ◌+◌, ◌≤◌, ◌<◌, ◌^◌, Some, option_map, IfOk, OnOk};
 ghost use Rattle.xl_core.specs.Good.{IsGood};
 ghost use Rattle.xl_core.specs.State.{MayBe, GoesOn};
-ghost use Rattle.xl_front_nlm.specs.Answers.{is_granted, refuses_with, refuses_by, refuses, given_up, called_with, nlm_called};
+ghost use Rattle.xl_front_nlm.specs.Answers.{is_granted, refuses_with, refuses_by, refuses, refused_grant, given_up, with_front, nlm_called};
 ghost use Rattle.xl_front_nlm.specs.Grants.{grant_of};
-ghost use Rattle.xl_front_nlm.specs.Short.{AreShort, IsShortGrant, Grows, IsStill};
+ghost use Rattle.xl_front_nlm.specs.Short.{IsShortGrant, IsReady, Leaves};
 ghost use Rattle.xl_nlm.specs.Replies.{results_at};
 ghost use Rattle.xl_rpc.specs.Replies.{reply_at};
 
@@ -67,14 +67,9 @@ fn unlock<K: Keeper>(
 ) -> Result<Sequence<Effect>, AllocError>
     requires ends { grant.now.first ≤ grant.now.last }
     requires small { IsShortGrant grant.now }
-    requires good { IsGood core.old }
-    requires numbers { core.old.counter + 65536 < 2 ^ 32 }
-    requires short { AreShort core.old.names }
-    ensures done { (n : ℕ) → IfOk result (λ effects. MayBe n core.new → given_up n front.now core.old (Some grant.now) ≡ (effects, front.now, core.new)) }
-    ensures on { OnOk result (GoesOn core.old core.new) }
-    ensures good { OnOk result (IsGood core.new) }
-    ensures grows { OnOk result (Grows core.old core.new) }
-    ensures still { OnOk result (IsStill core.old core.new) }
+    requires ready { IsReady core.old }
+    ensures done { (n : ℕ) → IfOk result (λ effects. MayBe n core.new → given_up n front.now.hosts core.old (Some grant.now) ≡ (effects, core.new)) }
+    ensures leaves { OnOk result (Leaves core.old core.new) }
     ensures keeper { keeper.new ≡ keeper.old }
 {
     let request = refusal_ask(alloc, grant)?;
@@ -83,7 +78,7 @@ fn unlock<K: Keeper>(
 }
 
 /// Unlocks the range that a call told.
-#[tactic(auto, using(crate::proofs::StepLaws::goes_on_self, crate::proofs::StepLaws::grows_self, crate::proofs::StepLaws::still_self))]
+#[tactic(auto, using(crate::proofs::StepLaws::leaves_self))]
 fn give_up<K: Keeper>(
     alloc: Global,
     front: &Front,
@@ -91,14 +86,9 @@ fn give_up<K: Keeper>(
     keeper: &mut K,
     call: &GrantedCall,
 ) -> Result<Sequence<Effect>, AllocError>
-    requires good { IsGood core.old }
-    requires numbers { core.old.counter + 65536 < 2 ^ 32 }
-    requires short { AreShort core.old.names }
-    ensures done { (n : ℕ) → IfOk result (λ effects. MayBe n core.new → given_up n front.now core.old (grant_of core.old.names call.now.claim) ≡ (effects, front.now, core.new)) }
-    ensures on { OnOk result (GoesOn core.old core.new) }
-    ensures good { OnOk result (IsGood core.new) }
-    ensures grows { OnOk result (Grows core.old core.new) }
-    ensures still { OnOk result (IsStill core.old core.new) }
+    requires ready { IsReady core.old }
+    ensures done { (n : ℕ) → IfOk result (λ effects. MayBe n core.new → given_up n front.now.hosts core.old (grant_of core.old.names call.now.claim) ≡ (effects, core.new)) }
+    ensures leaves { OnOk result (Leaves core.old core.new) }
     ensures keeper { keeper.new ≡ keeper.old }
 {
     match grant_of(alloc, core.names(), &call.claim)? {
@@ -108,7 +98,7 @@ fn give_up<K: Keeper>(
 }
 
 /// What the end of a call does that awaited its answer, where the client refused the lock or didn't.
-#[tactic(auto, using(crate::proofs::StepLaws::goes_on_self, crate::proofs::StepLaws::grows_self, crate::proofs::StepLaws::still_self))]
+#[tactic(auto, using(crate::proofs::StepLaws::leaves_self))]
 fn answered<K: Keeper>(
     alloc: Global,
     front: &Front,
@@ -117,21 +107,16 @@ fn answered<K: Keeper>(
     call: &GrantedCall,
     refused: bool,
 ) -> Result<Sequence<Effect>, AllocError>
-    requires good { IsGood core.old }
-    requires numbers { core.old.counter + 65536 < 2 ^ 32 }
-    requires short { AreShort core.old.names }
-    ensures done { (n : ℕ) → IfOk result (λ effects. MayBe n core.new → called_with n front.now core.old call.now refused ≡ (effects, front.now, core.new)) }
-    ensures on { OnOk result (GoesOn core.old core.new) }
-    ensures good { OnOk result (IsGood core.new) }
-    ensures grows { OnOk result (Grows core.old core.new) }
-    ensures still { OnOk result (IsStill core.old core.new) }
+    requires ready { IsReady core.old }
+    ensures done { (n : ℕ) → IfOk result (λ effects. MayBe n core.new → with_front front.now (given_up n front.now.hosts core.old (refused_grant core.old refused (Some call.now))) ≡ (effects, front.now, core.new)) }
+    ensures leaves { OnOk result (Leaves core.old core.new) }
     ensures keeper { keeper.new ≡ keeper.old }
 {
-    if refused {
-        give_up(alloc, front, core, keeper, call)
-    } else {
-        Ok(Sequence::new(alloc))
+    if !refused {
+        return Ok(Sequence::new(alloc));
     }
+    let effects = give_up(alloc, front, core, keeper, call)?;
+    Ok(effects)
 }
 
 /// The end of the server's call of this number, with its reply or without one. A call of GRANTED that awaited its answer
@@ -139,7 +124,7 @@ fn answered<K: Keeper>(
 /// GRANTED (XNFS C702, nlm4_res), the range is unlocked as the owner's UNLOCK would at this time; where that finds no
 /// room the owner keeps it, as it does after any other reply or none. At least 65,536 numbers must be left to give out;
 /// none is. After an error nothing is known of the front and the core.
-#[tactic(auto, unfolding(crate::specs::Answers::nlm_called), using(crate::proofs::StepLaws::goes_on_self, crate::proofs::StepLaws::grows_self, crate::proofs::StepLaws::still_self))]
+#[tactic(auto, unfolding(crate::specs::Answers::nlm_called), using(crate::proofs::StepLaws::leaves_self))]
 pub fn nlm_called<K: Keeper>(
     alloc: Global,
     front: &mut Front,
@@ -148,14 +133,9 @@ pub fn nlm_called<K: Keeper>(
     number: u64,
     reply: Option<&[u8]>,
 ) -> Result<Sequence<Effect>, AllocError>
-    requires good { IsGood core.old }
-    requires numbers { core.old.counter + 65536 < 2 ^ 32 }
-    requires short { AreShort core.old.names }
+    requires ready { IsReady core.old }
     ensures state { (n : ℕ) → IfOk result (λ effects. MayBe n core.new → nlm_called n front.old core.old number (option_map (λ bytes. bytes.now) reply.entry) ≡ (effects, front.new, core.new)) }
-    ensures on { OnOk result (GoesOn core.old core.new) }
-    ensures good { OnOk result (IsGood core.new) }
-    ensures short { OnOk result (AreShort core.new.names) }
-    ensures still { OnOk result (IsStill core.old core.new) }
+    ensures leaves { OnOk result (Leaves core.old core.new) }
     ensures hosts { front.new.hosts ≡ front.old.hosts }
     ensures keeper { keeper.new ≡ keeper.old }
 {

@@ -5,7 +5,7 @@ ghost use Rattle.xl_core.specs.Decide.{ask};
 ghost use Rattle.xl_core.specs.Good.{IsGood};
 ghost use Rattle.xl_core.specs.State.{MayBe, GoesOn};
 ghost use Rattle.xl_front_nlm.specs.Hosts.{rooms};
-ghost use Rattle.xl_front_nlm.specs.Short.{AreShort, IsShortAsk, Grows};
+ghost use Rattle.xl_front_nlm.specs.Short.{IsShortAsk, IsReady, Leaves};
 
 use crate::front::Front;
 use std::alloc::{AllocError, Global};
@@ -13,7 +13,7 @@ use xl_base::{Keeper, Sequence};
 use xl_core::{Answer, Ask, Core, Effect};
 
 /// Asks the core.
-#[tactic(auto, using(crate::proofs::StepLaws::may_be_made, crate::proofs::StepLaws::ask_grows))]
+#[tactic(auto, using(crate::proofs::StepLaws::may_be_made))]
 pub(crate) fn asked<K: Keeper>(
     alloc: Global,
     front: &Front,
@@ -23,15 +23,12 @@ pub(crate) fn asked<K: Keeper>(
 ) -> Result<(Answer, Sequence<Effect>), AllocError>
     requires fit { IsFit request.now }
     requires small { IsShortAsk request.now }
-    requires good { IsGood core.old }
-    requires numbers { core.old.counter + 65536 < 2 ^ 32 }
-    requires short { AreShort core.old.names }
+    requires ready { IsReady core.old }
     ensures state { (n : ℕ) → IfOk result (λ r. MayBe n core.new → ask n (rooms front.now.hosts) core.old request.now ≡ (r.0, r.1, core.new)) }
-    ensures on { OnOk result (GoesOn core.old core.new) }
-    ensures good { OnOk result (IsGood core.new) }
-    ensures grows { OnOk result (Grows core.old core.new) }
+    ensures leaves { OnOk result (Leaves core.old core.new) }
     ensures now { IfOk result (λ r. ask core.new.made (rooms front.now.hosts) core.old request.now ≡ (r.0, r.1, core.new)) }
     ensures keeper { keeper.new ≡ keeper.old }
 {
-    core.ask(alloc, keeper, request, &front.rooms())
+    let (answer, effects) = core.ask(alloc, keeper, request, &front.rooms())?;
+    Ok((answer, effects))
 }

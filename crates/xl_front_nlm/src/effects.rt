@@ -1,10 +1,10 @@
 //! What an effect sends.
-ghost use Rattle.std.specs.Prelude.{◌≡◌, ◌+◌, ◌≤◌, ◌<◌, ◌^◌, Some, IfOk, OnOk};
+ghost use Rattle.std.specs.Prelude.{◌≡◌, Some, option_map, IfOk, OnOk};
 ghost use Rattle.std.specs.List.{AllByRecursion};
 ghost use Rattle.xl_core.specs.Good.{IsGood, IsRangeBy};
 ghost use Rattle.xl_core.specs.State.{GoesOn};
-ghost use Rattle.xl_front_nlm.specs.Grants.{told_to, told_grant, shown};
-ghost use Rattle.xl_front_nlm.specs.Short.{AreShort, IsShortGrant, FitsFrame};
+ghost use Rattle.xl_front_nlm.specs.Grants.{grant_of, addressed, told_by, shown};
+ghost use Rattle.xl_front_nlm.specs.Short.{IsShortGrant, IsReady, Leaves, FitsFrame};
 
 use crate::call::GrantedCall;
 use crate::front::Front;
@@ -26,13 +26,9 @@ fn tell(
 ) -> Result<Sequence<Out>, AllocError>
     requires range { IsRangeBy claim.now.what }
     requires small { IsShortGrant grant.now }
-    requires good { IsGood core.old }
-    requires numbers { core.old.counter + 65536 < 2 ^ 32 }
-    ensures state { IfOk result (λ outs. told_to front.old core.old claim.now grant.now (Some to.now) ≡ (outs, front.new, core.new)) }
-    ensures on { OnOk result (GoesOn core.old core.new) }
-    ensures good { OnOk result (IsGood core.new) }
-    ensures names { OnOk result (core.new.names ≡ core.old.names) }
-    ensures counter { OnOk result (core.new.counter ≤ core.old.counter + 1) }
+    requires ready { IsReady core.old }
+    ensures state { IfOk result (λ outs. told_by front.old core.old (Some (claim.now, grant.now, to.now)) ≡ (outs, front.new, core.new)) }
+    ensures leaves { OnOk result (Leaves core.old core.new) }
     ensures little { IfOk result (λ outs. AllByRecursion FitsFrame outs) }
 {
     let number = core.draw();
@@ -46,7 +42,7 @@ fn tell(
 }
 
 /// Tells of a grant, where its caller has an address.
-#[tactic(auto, unfolding(crate::specs::Grants::told_grant), using(crate::proofs::StepLaws::goes_on_self))]
+#[tactic(auto, using(crate::proofs::StepLaws::leaves_self))]
 fn tell_grant(
     alloc: Global,
     exports: &Exports,
@@ -54,14 +50,9 @@ fn tell_grant(
     core: &mut Core,
     claim: &Claim,
 ) -> Result<Sequence<Out>, AllocError>
-    requires good { IsGood core.old }
-    requires numbers { core.old.counter + 65536 < 2 ^ 32 }
-    requires short { AreShort core.old.names }
-    ensures state { IfOk result (λ outs. told_grant exports.now front.old core.old claim.now ≡ (outs, front.new, core.new)) }
-    ensures on { OnOk result (GoesOn core.old core.new) }
-    ensures good { OnOk result (IsGood core.new) }
-    ensures short { OnOk result (AreShort core.new.names) }
-    ensures counter { OnOk result (core.new.counter ≤ core.old.counter + 1) }
+    requires ready { IsReady core.old }
+    ensures state { IfOk result (λ outs. told_by front.old core.old (option_map (λ told. (claim.now, told.0, told.1)) (addressed exports.now (grant_of core.old.names claim.now))) ≡ (outs, front.new, core.new)) }
+    ensures leaves { OnOk result (Leaves core.old core.new) }
     ensures little { IfOk result (λ outs. AllByRecursion FitsFrame outs) }
 {
     let Some(grant) = grant_of(alloc, core.names(), claim)? else {
@@ -77,7 +68,7 @@ fn tell_grant(
 /// C702), where its caller has an address; the call takes the next number, and awaits its answer from then on. All else
 /// sends nothing. At least 65,536 numbers must be left to give out. After an error nothing is known of the front and the
 /// core.
-#[tactic(auto, using(crate::proofs::StepLaws::goes_on_self))]
+#[tactic(auto, unfolding(crate::specs::Grants::shown), using(crate::proofs::StepLaws::leaves_self))]
 pub fn shown(
     alloc: Global,
     exports: &Exports,
@@ -85,14 +76,9 @@ pub fn shown(
     core: &mut Core,
     effect: &Effect,
 ) -> Result<Sequence<Out>, AllocError>
-    requires good { IsGood core.old }
-    requires numbers { core.old.counter + 65536 < 2 ^ 32 }
-    requires short { AreShort core.old.names }
+    requires ready { IsReady core.old }
     ensures state { IfOk result (λ outs. shown exports.now front.old core.old effect.now ≡ (outs, front.new, core.new)) }
-    ensures on { OnOk result (GoesOn core.old core.new) }
-    ensures good { OnOk result (IsGood core.new) }
-    ensures short { OnOk result (AreShort core.new.names) }
-    ensures counter { OnOk result (core.new.counter ≤ core.old.counter + 1) }
+    ensures leaves { OnOk result (Leaves core.old core.new) }
     ensures little { IfOk result (λ outs. AllByRecursion FitsFrame outs) }
 {
     match effect {

@@ -2,12 +2,12 @@
 ghost use Rattle.std.specs.Prelude.{◌≡◌, ℕ, ◌+◌, ◌<◌, ◌^◌, IfOk, OnOk};
 ghost use Rattle.xl_names.specs.Names.{number_of};
 ghost use Rattle.xl_names.specs.declared.name.Name.TheVariants.{NlmParty};
-ghost use Rattle.xl_nlm.specs.Items.{shown_notify, shown_call};
+ghost use Rattle.xl_nlm.specs.Items.{shown_notify, shown_call, FreeAll};
 ghost use Rattle.xl_nlm.specs.Arguments.{CallFits};
 ghost use Rattle.xl_core.specs.Good.{IsGood};
 ghost use Rattle.xl_core.specs.State.{MayBe, GoesOn};
-ghost use Rattle.xl_front_nlm.specs.Serving.{freed, served};
-ghost use Rattle.xl_front_nlm.specs.Short.{AreShort, Grows};
+ghost use Rattle.xl_front_nlm.specs.Serving.{served};
+ghost use Rattle.xl_front_nlm.specs.Short.{IsReady, Leaves};
 
 use crate::front::Front;
 use crate::outcome::Outcome;
@@ -27,19 +27,16 @@ fn party_number(alloc: Global, core: &Core, caller: &[u8]) -> Result<Option<u32>
 }
 
 /// FREE_ALL.
-#[tactic(auto, unfolding(crate::specs::Serving::freed), using(crate::proofs::StepLaws::goes_on_self, crate::proofs::StepLaws::grows_self))]
+#[tactic(auto, unfolding(crate::specs::Serving::served, crate::specs::Serving::planned), using(crate::proofs::StepLaws::leaves_self))]
 fn free_all(
     alloc: Global,
     front: &Front,
     core: &mut Core,
     args: &Notify,
 ) -> Result<(Outcome, Sequence<Effect>), AllocError>
-    requires good { IsGood core.old }
-    requires short { AreShort core.old.names }
-    ensures done { IfOk result (λ r. freed front.now core.old (shown_notify args.now) ≡ (r.0, r.1, front.now, core.new)) }
-    ensures on { OnOk result (GoesOn core.old core.new) }
-    ensures good { OnOk result (IsGood core.new) }
-    ensures grows { OnOk result (Grows core.old core.new) }
+    requires ready { IsReady core.old }
+    ensures done { (n count : ℕ) → IfOk result (λ r. MayBe n core.new → served n count front.now core.old (FreeAll (shown_notify args.now)) ≡ (r.0, r.1, front.now, core.new)) }
+    ensures leaves { OnOk result (Leaves core.old core.new) }
 {
     let Some(number) = party_number(alloc, core, args.name)? else {
         return Ok((Outcome::Ended, Sequence::new(alloc)));
@@ -49,7 +46,7 @@ fn free_all(
 }
 
 /// What becomes of a call, where so many files are exported.
-#[tactic(auto, unfolding(crate::specs::Serving::served), using(crate::proofs::StepLaws::goes_on_self, crate::proofs::StepLaws::grows_self))]
+#[tactic(auto, using(crate::proofs::StepLaws::leaves_self, crate::proofs::DoesLaws::nm_lock_is_lock, crate::proofs::DoesLaws::null_does_nothing, crate::proofs::DoesLaws::granted_does_nothing))]
 pub(crate) fn serve<K: Keeper>(
     alloc: Global,
     count: usize,
@@ -59,24 +56,19 @@ pub(crate) fn serve<K: Keeper>(
     call: &NlmCall,
 ) -> Result<(Outcome, Sequence<Effect>), AllocError>
     requires fits { CallFits (shown_call call.now) }
-    requires good { IsGood core.old }
-    requires numbers { core.old.counter + 65536 < 2 ^ 32 }
-    requires short { AreShort core.old.names }
+    requires ready { IsReady core.old }
     ensures done { (n : ℕ) → IfOk result (λ r. MayBe n core.new → served n count front.old core.old (shown_call call.now) ≡ (r.0, r.1, front.new, core.new)) }
-    ensures on { OnOk result (GoesOn core.old core.new) }
-    ensures good { OnOk result (IsGood core.new) }
-    ensures grows { OnOk result (Grows core.old core.new) }
+    ensures leaves { OnOk result (Leaves core.old core.new) }
     ensures keeper { keeper.new ≡ keeper.old }
 {
     match call {
         NlmCall::Test(args) => ranges::test(alloc, count, front, core, keeper, args),
-        NlmCall::Lock(args) | NlmCall::NmLock(args) => {
-            ranges::lock(alloc, count, front, core, keeper, args)
-        }
+        NlmCall::Lock(args) => ranges::lock(alloc, count, front, core, keeper, args),
         NlmCall::Cancel(args) => ranges::cancel(alloc, count, front, core, args),
         NlmCall::Unlock(args) => ranges::unlock(alloc, count, front, core, keeper, args),
         NlmCall::Share(args) => shares::share(alloc, count, front, core, keeper, args),
         NlmCall::Unshare(args) => shares::unshare(alloc, count, front, core, args),
+        NlmCall::NmLock(args) => ranges::lock(alloc, count, front, core, keeper, args),
         NlmCall::FreeAll(args) => free_all(alloc, front, core, args),
         NlmCall::Null | NlmCall::Granted(_) => Ok((Outcome::Nothing, Sequence::new(alloc))),
     }

@@ -1,15 +1,15 @@
 //! TEST, LOCK, UNLOCK and CANCEL.
 ghost use Rattle.std.specs.Prelude.{◌≡◌, ℕ, ◌+◌, ◌≤◌, ◌<◌, ◌^◌, IfOk, OnOk};
-ghost use Rattle.xl_nlm.specs.Items.{shown_test_args, shown_lock_args, shown_cancel_args, shown_unlock_args};
+ghost use Rattle.xl_nlm.specs.Items.{shown_test_args, shown_lock_args, shown_cancel_args, shown_unlock_args, Test, Lock, Cancel, Unlock};
 ghost use Rattle.xl_nlm.specs.Arguments.{TestArgsFits, LockArgsFits, CancelArgsFits, UnlockArgsFits};
-ghost use Rattle.xl_core.specs.Decide.{ask};
+ghost use Rattle.xl_core.specs.Deeds.{Asks, given};
 ghost use Rattle.xl_core.specs.Good.{IsGood};
 ghost use Rattle.xl_core.specs.State.{MayBe, GoesOn};
 ghost use Rattle.xl_front_nlm.specs.Asks.{lock_ask};
 ghost use Rattle.xl_front_nlm.specs.Hosts.{rooms, host_rows};
-ghost use Rattle.xl_front_nlm.specs.Serving.{answered_for, test_done, lock_done, unlock_done, cancel_done};
+ghost use Rattle.xl_front_nlm.specs.Serving.{done_with, served};
 ghost use Rattle.xl_front_nlm.specs.declared.outcome.Outcome.TheVariants.{Answered};
-ghost use Rattle.xl_front_nlm.specs.Short.{AreShort, Grows};
+ghost use Rattle.xl_front_nlm.specs.Short.{IsReady, Leaves};
 
 use crate::aim::{Aim, aimed};
 use crate::asking::asked;
@@ -24,7 +24,7 @@ use xl_core::{Answer, Core, Effect};
 use xl_nlm::{CancelArgs, LockArgs, TestArgs, UnlockArgs};
 
 /// TEST.
-#[tactic(auto, unfolding(crate::specs::Serving::test_done, xl_nlm::specs::Arguments::test_args, xl_nlm::specs::Arguments::lock), using(crate::proofs::StepLaws::goes_on_self, crate::proofs::StepLaws::grows_self))]
+#[tactic(auto, unfolding(crate::specs::Serving::served, crate::specs::Serving::planned, xl_nlm::specs::Arguments::test_args, xl_nlm::specs::Arguments::lock), using(crate::proofs::StepLaws::leaves_self))]
 pub(crate) fn test<K: Keeper>(
     alloc: Global,
     count: usize,
@@ -34,13 +34,9 @@ pub(crate) fn test<K: Keeper>(
     args: &TestArgs,
 ) -> Result<(Outcome, Sequence<Effect>), AllocError>
     requires fits { TestArgsFits (shown_test_args args.now) }
-    requires good { IsGood core.old }
-    requires numbers { core.old.counter + 65536 < 2 ^ 32 }
-    requires short { AreShort core.old.names }
-    ensures done { (n : ℕ) → IfOk result (λ r. MayBe n core.new → test_done n count front.now core.old (shown_test_args args.now) ≡ (r.0, r.1, front.now, core.new)) }
-    ensures on { OnOk result (GoesOn core.old core.new) }
-    ensures good { OnOk result (IsGood core.new) }
-    ensures grows { OnOk result (Grows core.old core.new) }
+    requires ready { IsReady core.old }
+    ensures done { (n : ℕ) → IfOk result (λ r. MayBe n core.new → served n count front.now core.old (Test (shown_test_args args.now)) ≡ (r.0, r.1, front.now, core.new)) }
+    ensures leaves { OnOk result (Leaves core.old core.new) }
     ensures keeper { keeper.new ≡ keeper.old }
 {
     let at = match aimed(count, &args.lock) {
@@ -64,13 +60,9 @@ fn lock_at<K: Keeper>(
 ) -> Result<(Answer, Sequence<Effect>), AllocError>
     requires fits { LockArgsFits (shown_lock_args args.now) }
     requires ends { at.now.first ≤ at.now.last }
-    requires good { IsGood core.old }
-    requires numbers { core.old.counter + 65536 < 2 ^ 32 }
-    requires short { AreShort core.old.names }
-    ensures done { (n : ℕ) → IfOk result (λ r. MayBe n core.new → answered_for args.now.lock.caller_name.now front.old (ask n (rooms front.old.hosts) core.old (lock_ask (host_rows args.now.lock.caller_name.now front.old.hosts) (shown_lock_args args.now) at.now)) ≡ (Answered r.0, r.1, front.new, core.new)) }
-    ensures on { OnOk result (GoesOn core.old core.new) }
-    ensures good { OnOk result (IsGood core.new) }
-    ensures grows { OnOk result (Grows core.old core.new) }
+    requires ready { IsReady core.old }
+    ensures done { (n : ℕ) → IfOk result (λ r. MayBe n core.new → done_with (Some args.now.lock.caller_name.now) front.old (given n core.old (Asks (rooms front.old.hosts) (lock_ask (host_rows args.now.lock.caller_name.now front.old.hosts) (shown_lock_args args.now) at.now))) ≡ (Answered r.0, r.1, front.new, core.new)) }
+    ensures leaves { OnOk result (Leaves core.old core.new) }
     ensures keeper { keeper.new ≡ keeper.old }
 {
     let caller = Sequence::from_slice(alloc, args.lock.caller_name)?;
@@ -82,7 +74,7 @@ fn lock_at<K: Keeper>(
 }
 
 /// LOCK and NM_LOCK.
-#[tactic(auto, unfolding(crate::specs::Serving::lock_done), using(crate::proofs::StepLaws::goes_on_self, crate::proofs::StepLaws::grows_self))]
+#[tactic(auto, unfolding(crate::specs::Serving::served, crate::specs::Serving::planned), using(crate::proofs::StepLaws::leaves_self))]
 pub(crate) fn lock<K: Keeper>(
     alloc: Global,
     count: usize,
@@ -92,13 +84,9 @@ pub(crate) fn lock<K: Keeper>(
     args: &LockArgs,
 ) -> Result<(Outcome, Sequence<Effect>), AllocError>
     requires fits { LockArgsFits (shown_lock_args args.now) }
-    requires good { IsGood core.old }
-    requires numbers { core.old.counter + 65536 < 2 ^ 32 }
-    requires short { AreShort core.old.names }
-    ensures done { (n : ℕ) → IfOk result (λ r. MayBe n core.new → lock_done n count front.old core.old (shown_lock_args args.now) ≡ (r.0, r.1, front.new, core.new)) }
-    ensures on { OnOk result (GoesOn core.old core.new) }
-    ensures good { OnOk result (IsGood core.new) }
-    ensures grows { OnOk result (Grows core.old core.new) }
+    requires ready { IsReady core.old }
+    ensures done { (n : ℕ) → IfOk result (λ r. MayBe n core.new → served n count front.old core.old (Lock (shown_lock_args args.now)) ≡ (r.0, r.1, front.new, core.new)) }
+    ensures leaves { OnOk result (Leaves core.old core.new) }
     ensures keeper { keeper.new ≡ keeper.old }
 {
     let at = match aimed(count, &args.lock) {
@@ -113,7 +101,7 @@ pub(crate) fn lock<K: Keeper>(
 }
 
 /// UNLOCK.
-#[tactic(auto, unfolding(crate::specs::Serving::unlock_done, xl_nlm::specs::Arguments::unlock_args, xl_nlm::specs::Arguments::lock), using(crate::proofs::StepLaws::goes_on_self, crate::proofs::StepLaws::grows_self))]
+#[tactic(auto, unfolding(crate::specs::Serving::served, crate::specs::Serving::planned, xl_nlm::specs::Arguments::unlock_args, xl_nlm::specs::Arguments::lock), using(crate::proofs::StepLaws::leaves_self))]
 pub(crate) fn unlock<K: Keeper>(
     alloc: Global,
     count: usize,
@@ -123,13 +111,9 @@ pub(crate) fn unlock<K: Keeper>(
     args: &UnlockArgs,
 ) -> Result<(Outcome, Sequence<Effect>), AllocError>
     requires fits { UnlockArgsFits (shown_unlock_args args.now) }
-    requires good { IsGood core.old }
-    requires numbers { core.old.counter + 65536 < 2 ^ 32 }
-    requires short { AreShort core.old.names }
-    ensures done { (n : ℕ) → IfOk result (λ r. MayBe n core.new → unlock_done n count front.now core.old (shown_unlock_args args.now) ≡ (r.0, r.1, front.now, core.new)) }
-    ensures on { OnOk result (GoesOn core.old core.new) }
-    ensures good { OnOk result (IsGood core.new) }
-    ensures grows { OnOk result (Grows core.old core.new) }
+    requires ready { IsReady core.old }
+    ensures done { (n : ℕ) → IfOk result (λ r. MayBe n core.new → served n count front.now core.old (Unlock (shown_unlock_args args.now)) ≡ (r.0, r.1, front.now, core.new)) }
+    ensures leaves { OnOk result (Leaves core.old core.new) }
     ensures keeper { keeper.new ≡ keeper.old }
 {
     let at = match aimed(count, &args.lock) {
@@ -142,7 +126,7 @@ pub(crate) fn unlock<K: Keeper>(
 }
 
 /// CANCEL.
-#[tactic(auto, unfolding(crate::specs::Serving::cancel_done), using(crate::proofs::StepLaws::goes_on_self, crate::proofs::StepLaws::grows_self))]
+#[tactic(auto, unfolding(crate::specs::Serving::served, crate::specs::Serving::planned), using(crate::proofs::StepLaws::leaves_self))]
 pub(crate) fn cancel(
     alloc: Global,
     count: usize,
@@ -150,12 +134,9 @@ pub(crate) fn cancel(
     core: &mut Core,
     args: &CancelArgs,
 ) -> Result<(Outcome, Sequence<Effect>), AllocError>
-    requires good { IsGood core.old }
-    requires short { AreShort core.old.names }
-    ensures done { IfOk result (λ r. cancel_done count front.now core.old (shown_cancel_args args.now) ≡ (r.0, r.1, front.now, core.new)) }
-    ensures on { OnOk result (GoesOn core.old core.new) }
-    ensures good { OnOk result (IsGood core.new) }
-    ensures grows { OnOk result (Grows core.old core.new) }
+    requires ready { IsReady core.old }
+    ensures done { (n : ℕ) → IfOk result (λ r. MayBe n core.new → served n count front.now core.old (Cancel (shown_cancel_args args.now)) ≡ (r.0, r.1, front.now, core.new)) }
+    ensures leaves { OnOk result (Leaves core.old core.new) }
 {
     let at = match aimed(count, &args.lock) {
         Ok(at) => at,

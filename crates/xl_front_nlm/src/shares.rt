@@ -1,14 +1,14 @@
 //! SHARE and UNSHARE.
 ghost use Rattle.std.specs.Prelude.{◌≡◌, ℕ, ◌+◌, ◌<◌, ◌^◌, IfOk, OnOk};
-ghost use Rattle.xl_nlm.specs.Items.{shown_share_args};
-ghost use Rattle.xl_core.specs.Decide.{ask};
+ghost use Rattle.xl_nlm.specs.Items.{shown_share_args, Share, Unshare};
+ghost use Rattle.xl_core.specs.Deeds.{Asks, given};
 ghost use Rattle.xl_core.specs.Good.{IsGood};
 ghost use Rattle.xl_core.specs.State.{MayBe, GoesOn};
 ghost use Rattle.xl_front_nlm.specs.Asks.{share_ask};
 ghost use Rattle.xl_front_nlm.specs.Hosts.{rooms, host_rows};
-ghost use Rattle.xl_front_nlm.specs.Serving.{answered_for, share_done, unshare_done};
+ghost use Rattle.xl_front_nlm.specs.Serving.{done_with, served};
 ghost use Rattle.xl_front_nlm.specs.declared.outcome.Outcome.TheVariants.{Answered};
-ghost use Rattle.xl_front_nlm.specs.Short.{AreShort, Grows};
+ghost use Rattle.xl_front_nlm.specs.Short.{IsReady, Leaves};
 
 use crate::aim::exported;
 use crate::asking::asked;
@@ -32,13 +32,9 @@ fn share_at<K: Keeper>(
     args: &ShareArgs,
     file: u32,
 ) -> Result<(Answer, Sequence<Effect>), AllocError>
-    requires good { IsGood core.old }
-    requires numbers { core.old.counter + 65536 < 2 ^ 32 }
-    requires short { AreShort core.old.names }
-    ensures done { (n : ℕ) → IfOk result (λ r. MayBe n core.new → answered_for args.now.caller_name.now front.old (ask n (rooms front.old.hosts) core.old (share_ask (host_rows args.now.caller_name.now front.old.hosts) (shown_share_args args.now) file)) ≡ (Answered r.0, r.1, front.new, core.new)) }
-    ensures on { OnOk result (GoesOn core.old core.new) }
-    ensures good { OnOk result (IsGood core.new) }
-    ensures grows { OnOk result (Grows core.old core.new) }
+    requires ready { IsReady core.old }
+    ensures done { (n : ℕ) → IfOk result (λ r. MayBe n core.new → done_with (Some args.now.caller_name.now) front.old (given n core.old (Asks (rooms front.old.hosts) (share_ask (host_rows args.now.caller_name.now front.old.hosts) (shown_share_args args.now) file))) ≡ (Answered r.0, r.1, front.new, core.new)) }
+    ensures leaves { OnOk result (Leaves core.old core.new) }
     ensures keeper { keeper.new ≡ keeper.old }
 {
     let caller = Sequence::from_slice(alloc, args.caller_name)?;
@@ -50,7 +46,7 @@ fn share_at<K: Keeper>(
 }
 
 /// SHARE.
-#[tactic(auto, unfolding(crate::specs::Serving::share_done), using(crate::proofs::StepLaws::goes_on_self, crate::proofs::StepLaws::grows_self))]
+#[tactic(auto, unfolding(crate::specs::Serving::served, crate::specs::Serving::planned), using(crate::proofs::StepLaws::leaves_self))]
 pub(crate) fn share<K: Keeper>(
     alloc: Global,
     count: usize,
@@ -59,13 +55,9 @@ pub(crate) fn share<K: Keeper>(
     keeper: &mut K,
     args: &ShareArgs,
 ) -> Result<(Outcome, Sequence<Effect>), AllocError>
-    requires good { IsGood core.old }
-    requires numbers { core.old.counter + 65536 < 2 ^ 32 }
-    requires short { AreShort core.old.names }
-    ensures done { (n : ℕ) → IfOk result (λ r. MayBe n core.new → share_done n count front.old core.old (shown_share_args args.now) ≡ (r.0, r.1, front.new, core.new)) }
-    ensures on { OnOk result (GoesOn core.old core.new) }
-    ensures good { OnOk result (IsGood core.new) }
-    ensures grows { OnOk result (Grows core.old core.new) }
+    requires ready { IsReady core.old }
+    ensures done { (n : ℕ) → IfOk result (λ r. MayBe n core.new → served n count front.old core.old (Share (shown_share_args args.now)) ≡ (r.0, r.1, front.new, core.new)) }
+    ensures leaves { OnOk result (Leaves core.old core.new) }
     ensures keeper { keeper.new ≡ keeper.old }
 {
     let Some(file) = exported(count, args.fh) else {
@@ -76,7 +68,7 @@ pub(crate) fn share<K: Keeper>(
 }
 
 /// UNSHARE.
-#[tactic(auto, unfolding(crate::specs::Serving::unshare_done), using(crate::proofs::StepLaws::goes_on_self, crate::proofs::StepLaws::grows_self))]
+#[tactic(auto, unfolding(crate::specs::Serving::served, crate::specs::Serving::planned), using(crate::proofs::StepLaws::leaves_self))]
 pub(crate) fn unshare(
     alloc: Global,
     count: usize,
@@ -84,12 +76,9 @@ pub(crate) fn unshare(
     core: &mut Core,
     args: &ShareArgs,
 ) -> Result<(Outcome, Sequence<Effect>), AllocError>
-    requires good { IsGood core.old }
-    requires short { AreShort core.old.names }
-    ensures done { IfOk result (λ r. unshare_done count front.now core.old (shown_share_args args.now) ≡ (r.0, r.1, front.now, core.new)) }
-    ensures on { OnOk result (GoesOn core.old core.new) }
-    ensures good { OnOk result (IsGood core.new) }
-    ensures grows { OnOk result (Grows core.old core.new) }
+    requires ready { IsReady core.old }
+    ensures done { (n : ℕ) → IfOk result (λ r. MayBe n core.new → served n count front.now core.old (Unshare (shown_share_args args.now)) ≡ (r.0, r.1, front.now, core.new)) }
+    ensures leaves { OnOk result (Leaves core.old core.new) }
 {
     let Some(file) = exported(count, args.fh) else {
         return Ok((Outcome::NoFile, Sequence::new(alloc)));

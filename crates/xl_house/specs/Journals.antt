@@ -1,5 +1,5 @@
 -- Journals: what entries a list of events makes, which journals are legal, and the state that a journal leads to.
-use Rattle.std.specs.Prelude.{◌≡◌, ℕ, ◌+◌, nat_lt, if◌then◌else◌, Bool, true, false, List, [], ◌∷◌, ◌++◌}
+use Rattle.std.specs.Prelude.{◌≡◌, ℕ, ◌+◌, not, ◌==◌, nat_lt, if◌then◌else◌, Bool, true, false, List, [], ◌∷◌, ◌++◌, length, filter}
 use Rattle.std.specs.List.{AllByRecursion}
 use Rattle.xl_base.specs.Lists.{IsIn}
 use Rattle.xl_base.specs.declared.event.Dest.{Dest}
@@ -7,7 +7,7 @@ use Rattle.xl_base.specs.declared.event.Dest.TheVariants.{Conn, Back}
 use Rattle.xl_base.specs.declared.event.Event.{Event}
 use Rattle.xl_base.specs.declared.event.Event.TheVariants.{Open, End, Restart}
 use Rattle.xl_base.specs.declared.journal.Entry.{Entry}
-use Rattle.xl_house.specs.Machine.{Whole, step}
+use Rattle.xl_house.specs.Machine.{Whole, most_connections, step}
 
 -- the state after these entries
 abbrev pub replay : Whole → List Entry → Whole
@@ -42,25 +42,20 @@ is_restart _ = false
 
 -- ---- no out before its connection's opening or after its end
 
--- the connections opened before the next place
-unfoldable pub opened_after : List ℕ → ℕ → Event → List ℕ
-opened_after opened place (Open kind) = place ∷ opened
-opened_after opened place _ = opened
+-- the connections that are open after the event at this place, of those that were: an opening where 64 are open opens
+-- none, and a restart ends all
+abbrev pub open_after : List ℕ → ℕ → Event → List ℕ
+open_after open place (Open kind) = if nat_lt (length open) most_connections then open ++ place ∷ [] else open
+open_after open place (End number) = filter (λ c. not (c == number)) open
+open_after open place Restart = []
+open_after open place _ = open
 
--- the connections that ended after their opening; a restart ends all
-unfoldable pub ended_after : List ℕ → List ℕ → ℕ → Event → List ℕ
-ended_after opened ended place (End number) = if nat_lt number place then number ∷ ended else ended
-ended_after opened ended place Restart = opened ++ ended
-ended_after opened ended place _ = ended
-
--- an out to a connection goes to one that was opened and has not ended
+-- an out to a connection goes to one that is open before the entry and after it
 abbrev pub IsTimely : List ℕ → List ℕ → Dest → Type 0
-IsTimely opened ended (Conn number) = IsIn number opened × (IsIn number ended → ⊥)
-IsTimely opened ended (Back call) = Unit {0}
+IsTimely before after (Conn number) = IsIn number before × IsIn number after
+IsTimely before after (Back call) = Unit {0}
 
 -- no out to a connection stands before its opening or after its end
-abbrev pub IsOrderly : List ℕ → List ℕ → ℕ → List Entry → Type 0
-IsOrderly opened ended place [] = Unit {0}
-IsOrderly opened ended place (e ∷ es) =
-    AllByRecursion (λ o. IsTimely opened (ended_after opened ended place e.event) o.dest) e.outs
-    × IsOrderly (opened_after opened place e.event) (ended_after opened ended place e.event) (place + 1) es
+abbrev pub IsOrderly : List ℕ → ℕ → List Entry → Type 0
+IsOrderly open place [] = Unit {0}
+IsOrderly open place (e ∷ es) = AllByRecursion (λ o. IsTimely open (open_after open place e.event) o.dest) e.outs × IsOrderly (open_after open place e.event) (place + 1) es

@@ -1,8 +1,9 @@
 pub mod Machine
 pub mod Shown
+pub mod Done
+pub mod Lawful
 pub mod Journals
 pub mod Free
 pub mod Housed
 pub mod Starts
 pub mod Whole
-pub mod Lawful

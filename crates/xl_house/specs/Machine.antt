@@ -11,6 +11,10 @@ use Rattle.xl_base.specs.declared.event.Out.{Out}
 use Rattle.xl_base.specs.declared.journal.Exports.{Exports}
 use Rattle.xl_base.specs.declared.journal.Head.{Head}
 use Rattle.xl_frame.specs.Frames.{wrapped}
+use Rattle.xl_programs.specs.Programs.{RequestItem, IncomingItem, Unanswered, Refused, Asked, incoming_at}
+use Rattle.xl_programs.specs.declared.program.Program.{Program}
+use Rattle.xl_programs.specs.declared.program.Program.TheVariants.{Nlm}
+use Rattle.xl_rpc.specs.Replies.{reply}
 use Rattle.xl_core.specs.State.{CoreState, started, step_begun}
 use Rattle.xl_core.specs.Settle.{settle}
 use Rattle.xl_core.specs.declared.ask.Answer.TheVariants.{Granted}
@@ -18,7 +22,7 @@ use Rattle.xl_core.specs.declared.ask.Effect.{Effect}
 use Rattle.xl_core.specs.declared.ask.Effect.TheVariants.{Served}
 use Rattle.xl_front_nlm.specs.Hosts.{rooms}
 use Rattle.xl_front_nlm.specs.Answers.{nlm_called}
-use Rattle.xl_front_nlm.specs.FrontNlm.{nlm_step}
+use Rattle.xl_front_nlm.specs.FrontNlm.{sent_to, nlm_step}
 use Rattle.xl_front_nlm.specs.Grants.{shown}
 use Rattle.xl_front_nlm.specs.State.{FrontState, empty_front}
 use Rattle.xl_house.specs.declared.connections.Connection.{Connection}
@@ -122,13 +126,23 @@ settled n exports f s = settled_for (length s.waiters) n exports f s
 
 -- ---- an event
 
--- what the front gave for a message: what it shows for the effects comes before the reply
+-- what a front gave for a message: what it shows for the effects comes before the reply
 abbrev pub front_done : Exports → List Out × List Effect × FrontState × CoreState → Sent
 front_done exports r = before (all_shown exports r.2 r.3 r.1) (map (framed Rpc) r.0)
 
+-- what a request of a program that is served gives
+abbrev pub program_heard : ℕ → Exports → FrontState → CoreState → ℕ → RequestItem → Program → Sent
+program_heard n exports f s number r Nlm = front_done exports (nlm_step n exports f s number r)
+
+-- what a record of ONC RPC gives
+abbrev pub record_heard : ℕ → Exports → FrontState → CoreState → ℕ → IncomingItem → Sent
+record_heard n exports f s number Unanswered = ([], f, s)
+record_heard n exports f s number (Refused xid verdict) = (map (framed Rpc) (sent_to number (reply xid verdict)), f, s)
+record_heard n exports f s number (Asked r) = program_heard n exports f s number r r.program
+
 -- what a message from a connection of this kind gives; only ONC RPC is served
 abbrev pub heard_by : ℕ → Exports → FrontState → CoreState → Option Kind → ℕ → List ℕ → Sent
-heard_by n exports f s (Some Rpc) number bytes = front_done exports (nlm_step n exports f s number bytes)
+heard_by n exports f s (Some Rpc) number bytes = record_heard n exports f s number (incoming_at bytes)
 heard_by n exports f s (Some Smb) number bytes = ([], f, s)
 heard_by n exports f s None number bytes = ([], f, s)
 

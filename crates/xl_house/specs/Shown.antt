@@ -1,9 +1,24 @@
--- What telling of effects changes of the core: numbers are given out, and nothing else.
-use Rattle.std.specs.Prelude.{◌≡◌, ℕ, ◌+◌, ◌≤◌}
-use Rattle.xl_core.specs.State.{CoreState, with_parts}
+-- What the house's functions need of the core, and what they leave.
+use Rattle.std.specs.Prelude.{◌≡◌, ℕ, ◌+◌, ◌<◌, ◌≤◌, ◌^◌, length}
+use Rattle.xl_core.specs.State.{CoreState, GoesOn}
+use Rattle.xl_core.specs.Good.{IsGood}
+use Rattle.xl_front_nlm.specs.Short.{AreShort}
 
--- so many numbers at most
+-- telling of effects gives out so many numbers at most, and changes nothing else
 pub record IsShown (bound : ℕ) (s t : CoreState) : Type 0 where
   pub rises : s.counter ≤ t.counter
   pub most : t.counter ≤ s.counter + bound
-  pub parts : t ≡ with_parts s s.claims s.waiters s.names t.counter
+  pub parts : t ≡ record s { counter = t.counter }
+
+-- the state is good, so many numbers may be given out before the last 65,536, and the names fit the messages that tell them
+pub record IsReadyFor (more : ℕ) (s : CoreState) : Type 0 where
+  pub good : IsGood s
+  pub numbers : s.counter + more + 65536 < 2 ^ 32
+  pub short : AreShort s.names
+
+-- the state is good, the stores of the step go on, the names fit, and so many numbers and waiters came at most
+pub record LeavesBy (more : ℕ) (old new : CoreState) : Type 0 where
+  pub on : GoesOn old new
+  pub good : IsGood new
+  pub short : AreShort new.names
+  pub counter : new.counter + length new.waiters ≤ old.counter + length old.waiters + more

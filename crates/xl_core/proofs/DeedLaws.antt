@@ -1,0 +1,333 @@
+-- What one deed makes of each place, and who waits after it.
+use Rattle.std.proofs.Common.{◌≡◌, ℕ, ◌≤◌, Bool, true, false, cond, if◌then◌else◌, ◌==◌, ◌⊎◌, inl, inr, List, [], ◌∷◌, ◌++◌, map, Option, Some, None, IfSome, refl, sym, ap, subst, ◌∙◌, slice_get}
+use Rattle.std.proofs.lemmas.Bool.{cases_Bool, both_ways, and_from, eq-eqb}
+use Rattle.std.specs.List.{list_any}
+use Rattle.xl_base.specs.Lists.{IsIn, Pairwise}
+use Rattle.xl_base.specs.declared.name.Owner.{Owner}
+use Rattle.xl_base.specs.declared.name.Party.{Party}
+use Rattle.xl_matrix.proofs.EqualLaws.{same_owners-self}
+use Rattle.xl_matrix.specs.Equal.{same_owners, same_parties}
+use Rattle.xl_matrix.specs.Owners.{posix}
+use Rattle.xl_matrix.specs.declared.claim.Claim.{Claim}
+use Rattle.xl_matrix.specs.declared.claim.Extent.TheVariants.{Bytes, Empty}
+use Rattle.xl_matrix.specs.declared.claim.Rwd.{Rwd}
+use Rattle.xl_matrix.specs.declared.claim.What.{What}
+use Rattle.xl_matrix.specs.declared.claim.What.TheVariants.{Share, Range, Cache}
+use Rattle.xl_names.specs.declared.name.Name.{Name}
+use Rattle.xl_spans.proofs.Bytes.{relocked_mode}
+use Rattle.xl_spans.proofs.Chains.{canonical_ranges}
+use Rattle.xl_spans.specs.Spans.{within, mode_at, relocked}
+use Rattle.xl_spans.specs.declared.span.Mode.{Mode}
+use Rattle.xl_spans.specs.declared.span.Span.{Span}
+use Rattle.xl_table.specs.Flat.{removed}
+use Rattle.xl_table.specs.Held.{IsPosixBy, IsPosix, is_share, mode_of, is_of, spans_of, IsKept}
+use Rattle.xl_wait.specs.Waiting.{cancelled}
+use Rattle.xl_wait.specs.declared.waiter.Rooms.{Rooms}
+use Rattle.xl_wait.specs.declared.waiter.Waiter.{Waiter}
+use Rattle.xl_core.specs.State.{CoreState, drawn}
+use Rattle.xl_core.specs.Asking.{asker, asked_what, asked_claim, known_claim, is_client, IsFit, IsFitAct, IsRealExtent}
+use Rattle.xl_core.specs.Causes.{asks_share, IsTurn, IsTurnDue, IsClaimDue, IsUnlockDue}
+use Rattle.xl_core.specs.Deeds.{Deed, Asks, GivesBack, Cancels, Ends, Serves, Draws, turned, given, done, IsFitDeed, with_waiter, queue_with, queue_without, waits_after, KeepNames}
+use Rattle.xl_core.specs.Decide.{ask}
+use Rattle.xl_core.specs.Dues.{IsGrantDue, IsAnswerDue, IsTurnOwed, IsDue}
+use Rattle.xl_core.specs.Good.{IsGood, are_apart}
+use Rattle.xl_core.specs.Places.{Place, ByteOf, ShareOf, byte_held, share_held, held_in, held_at, part_by, part_of, held_as, entered_by, entered_at, cleared_by, cleared_at, entered_for, cleared_for, answered_at, ended_at, told_at, made, else_was}
+use Rattle.xl_table.specs.Relock.{is_share_of, with_share, shares_of, old_shares, united_by, granted_claims}
+use Rattle.xl_table.proofs.ShareLaws.{united_share}
+use Rattle.xl_core.specs.Settle.{settle, cancel, give_back, end_party}
+use Rattle.xl_core.specs.declared.ask.Act.{Act}
+use Rattle.xl_core.specs.declared.ask.Act.TheVariants as acts
+use Rattle.xl_core.specs.declared.ask.Answer.{Answer}
+use Rattle.xl_core.specs.declared.ask.Answer.TheVariants as answers
+use Rattle.xl_core.specs.declared.ask.Ask.{Ask}
+use Rattle.xl_core.specs.declared.ask.Effect.{Effect}
+use Rattle.xl_core.specs.declared.ask.Effect.TheVariants.{Served}
+use Rattle.xl_core.proofs.CauseLaws.{test_leaves}
+use Rattle.xl_core.proofs.ChangeLaws.{spans_apart, shares_apart, granted_share, granted_spans}
+use Rattle.xl_core.proofs.DeedCalls.{Clears, ask_enters, ask_keeps_claims, ask_clears, turn_known, answer_is_due, ask_queue, ask_names}
+use Rattle.xl_core.proofs.DeedLeaves.{spans_of-given, shares_of-given_apart, shares_of-given, has_of, Ended, ended_is}
+use Rattle.xl_core.proofs.GoodLaws.{ask_good, settle_good, cancel_good, give_back_good, drawn_good, end_party_good}
+use Rattle.xl_core.proofs.SettleLaws.{none_settled, turn_is, without}
+use Rattle.xl_table.proofs.WriteBack.{is_of-true}
+
+-- ---- a claim that is entered
+
+is_of_from : (file : ℕ) (owner : Owner) (c : Claim) → file ≡ c.file → owner ≡ c.owner → is_of file owner c ≡ true
+is_of_from file owner c e f = and_from (c.file == file) (same_owners c.owner owner) (eq-eqb c.file file (sym e)) (subst (λ (o : Owner). same_owners c.owner o ≡ true) (sym f) (same_owners-self c.owner))
+
+locked_byte : (byte : ℕ) (inside exclusive : Bool) (mode : Option Mode) → byte_held byte (cond inside (Some (mode_of exclusive)) mode) ≡ else_was (entered_by (if inside then Range (Bytes byte byte) exclusive ∷ [] else [])) (byte_held byte mode)
+locked_byte byte true true mode = refl
+locked_byte byte true false mode = refl
+locked_byte byte false exclusive mode = refl
+
+no_byte_of : (file : ℕ) (owner : Owner) (byte : ℕ) (w : What) → is_share w ≡ true → part_by w (ByteOf file owner byte) ≡ []
+no_byte_of file owner byte (Share access deny) h = refl
+no_byte_of file owner byte (Range extent exclusive) h = absurd (both_ways false refl h)
+no_byte_of file owner byte (Cache kind running) h = absurd (both_ways false refl h)
+
+byte_made : (c : Claim) (w : What) (cs : List Claim) (byte : ℕ) → c.what ≡ w → IsKept cs → IsPosixBy w → posix c.owner ≡ true → byte_held byte (mode_at (spans_of c.file c.owner (granted_claims c cs)) byte) ≡ else_was (entered_by (part_by (held_as cs c w) (ByteOf c.file c.owner byte))) (byte_held byte (mode_at (spans_of c.file c.owner cs) byte))
+byte_made c (Range (Bytes first last) exclusive) cs byte is kept real own =
+    let old = spans_of c.file c.owner cs in
+    ap (λ (ss : List Span). byte_held byte (mode_at ss byte)) (granted_spans c first last exclusive cs kept is own real)
+    ∙ ap (λ (m : Option Mode). byte_held byte m) (relocked_mode old first last (Some (mode_of exclusive)) byte real (canonical_ranges old (kept.sound.canonical c.file c.owner own)))
+    ∙ locked_byte byte (within first last byte) exclusive (mode_at old byte)
+byte_made c (Range (Empty offset) exclusive) cs byte is kept real own = absurd real
+byte_made c (Share access deny) cs byte is kept real own =
+    ap (λ (ss : List Span). byte_held byte (mode_at ss byte)) (spans_apart c cs c.file c.owner (λ at. absurd (both_ways (is_share c.what) at.2 (ap is_share is))))
+    ∙ ap (λ (part : List What). else_was (entered_by part) (byte_held byte (mode_at (spans_of c.file c.owner cs) byte))) (sym (no_byte_of c.file c.owner byte (held_as cs c (Share access deny)) (united_share c.owner (Share access deny) (old_shares c.file c.owner cs) refl)))
+byte_made c (Cache kind running) cs byte is kept real own = absurd real
+
+held_share : (file : ℕ) (owner : Owner) (w : What) (had : List What) → is_share w ≡ true → map share_held (with_share w []) ≡ else_was (entered_by (part_by w (ShareOf file owner))) had
+held_share file owner (Share access deny) had h = refl
+held_share file owner (Range extent exclusive) had h = absurd (both_ways false refl h)
+held_share file owner (Cache kind running) had h = absurd (both_ways false refl h)
+
+share_made : (c : Claim) (w : What) (cs : List Claim) → c.what ≡ w → IsPosixBy w → map share_held (shares_of c.file c.owner (granted_claims c cs)) ≡ else_was (entered_by (part_by (held_as cs c w) (ShareOf c.file c.owner))) (map share_held (shares_of c.file c.owner cs))
+share_made c (Share access deny) cs is real =
+    let old = old_shares c.file c.owner cs in
+    ap (λ (shares : List (Rwd × Rwd)). map share_held shares) (granted_share c access deny cs is)
+    ∙ ap (λ (w : What). map share_held (with_share (united_by c.owner w old) [])) is
+    ∙ held_share c.file c.owner (united_by c.owner (Share access deny) old) (map share_held (shares_of c.file c.owner cs)) (united_share c.owner (Share access deny) old refl)
+share_made c (Range (Bytes first last) exclusive) cs is real = ap (λ (shares : List (Rwd × Rwd)). map share_held shares) (shares_apart c cs c.file c.owner (λ at. absurd (both_ways (is_share c.what) (ap is_share is) at.2)))
+share_made c (Range (Empty offset) exclusive) cs is real = absurd real
+share_made c (Cache kind running) cs is real = absurd real
+
+pub entered_made : (c : Claim) (cs : List Claim) (p : Place) → IsKept cs → IsPosix c → held_in (granted_claims c cs) p ≡ else_was (entered_at cs c p) (held_in cs p)
+entered_made c cs (ByteOf file owner byte) kept real =
+    elim (cases_Bool (is_of file owner c)) [
+      | inr other ↦ rw other (ap (λ (ss : List Span). byte_held byte (mode_at ss byte)) (spans_apart c cs file owner (λ at. absurd (both_ways (is_of file owner c) other (is_of_from file owner c at.0 at.1)))))
+      | inl own ↦
+          let here = is_of-true file owner c own in
+          rw own (subst (λ (f : ℕ). byte_held byte (mode_at (spans_of f owner (granted_claims c cs)) byte) ≡ else_was (entered_by (part_by (held_as cs c c.what) (ByteOf f owner byte))) (byte_held byte (mode_at (spans_of f owner cs) byte))) here.0
+          (subst (λ (o : Owner). byte_held byte (mode_at (spans_of c.file o (granted_claims c cs)) byte) ≡ else_was (entered_by (part_by (held_as cs c c.what) (ByteOf c.file o byte))) (byte_held byte (mode_at (spans_of c.file o cs) byte))) here.1
+          (byte_made c c.what cs byte refl kept real.0 real.1)))
+    ]
+entered_made c cs (ShareOf file owner) kept real =
+    elim (cases_Bool (is_of file owner c)) [
+      | inr other ↦ rw other (ap (λ (shares : List (Rwd × Rwd)). map share_held shares) (shares_apart c cs file owner (λ at. absurd (both_ways (is_of file owner c) other (is_of_from file owner c at.0 at.1)))))
+      | inl own ↦
+          let here = is_of-true file owner c own in
+          rw own (subst (λ (f : ℕ). map share_held (shares_of f owner (granted_claims c cs)) ≡ else_was (entered_by (part_by (held_as cs c c.what) (ShareOf f owner))) (map share_held (shares_of f owner cs))) here.0
+          (subst (λ (o : Owner). map share_held (shares_of c.file o (granted_claims c cs)) ≡ else_was (entered_by (part_by (held_as cs c c.what) (ShareOf c.file o))) (map share_held (shares_of c.file o cs))) here.1
+          (share_made c c.what cs refl real.0)))
+    ]
+
+-- ---- answers
+
+-- the answer grants, or makes nothing of any place
+pub data Grants (answer : Answer) : Type 0 where
+  Does : (c : Claim) → answer ≡ answers.Granted c → Grants answer
+  Doesnt : ((c : Claim) → answer ≡ answers.Granted c → ⊥) → ((held : List Claim) (p : Place) → (entered_for held answer p ≡ None) × (cleared_for answer p ≡ None)) → Grants answer
+
+pub grants_or : (answer : Answer) → Grants answer
+grants_or (answers.Granted c) = Does c refl
+grants_or (answers.Conflict c) = Doesnt (λ d e. absurd cc) (λ held p. (refl, refl))
+grants_or (answers.Queued id) = Doesnt (λ d e. absurd cc) (λ held p. (refl, refl))
+grants_or (answers.Recall c) = Doesnt (λ d e. absurd cc) (λ held p. (refl, refl))
+grants_or (answers.Grace until) = Doesnt (λ d e. absurd cc) (λ held p. (refl, refl))
+grants_or (answers.NoGrace clock) = Doesnt (λ d e. absurd cc) (λ held p. (refl, refl))
+grants_or answers.NotRecorded = Doesnt (λ d e. absurd cc) (λ held p. (refl, refl))
+grants_or (answers.Full limit) = Doesnt (λ d e. absurd cc) (λ held p. (refl, refl))
+grants_or answers.NotHeld = Doesnt (λ d e. absurd cc) (λ held p. (refl, refl))
+grants_or answers.StoreFailed = Doesnt (λ d e. absurd cc) (λ held p. (refl, refl))
+
+-- ---- an ask
+
+claim_made : (n : ℕ) (left : Rooms) (s : CoreState) (a : Ask) (what : What) (p : Place) → IsGood s → IsFit a → asked_what a.act ≡ Some what → held_at (ask n left s a).2 p ≡ else_was (entered_for s.claims (ask n left s a).0 p) (held_at s p)
+claim_made n left s a what p good fit act =
+    let r = ask n left s a in
+    elim (grants_or r.0) [
+      | Does c e ↦
+          let is = ask_enters n left s a what c good fit act e in
+          ap (λ (cs : List Claim). held_in cs p) is.1 ∙ entered_made c s.claims p good.kept is.0 ∙ ap (λ (answer : Answer). else_was (entered_for s.claims answer p) (held_at s p)) (sym e)
+      | Doesnt none nothing ↦ ap (λ (cs : List Claim). held_in cs p) (ask_keeps_claims n left s a good fit none) ∙ ap (λ (o : Option (List What)). else_was o (held_at s p)) (sym (nothing s.claims p).0)
+    ]
+
+unlocked_byte : (byte : ℕ) (inside exclusive : Bool) (mode : Option Mode) → byte_held byte (cond inside None mode) ≡ else_was (cleared_by (if inside then Range (Bytes byte byte) exclusive ∷ [] else [])) (byte_held byte mode)
+unlocked_byte byte true exclusive mode = refl
+unlocked_byte byte false exclusive mode = refl
+
+clears_byte : (c : Claim) (first last : ℕ) (old new : List Claim) (byte : ℕ) → IsKept old → Clears c first last old new → byte_held byte (mode_at (spans_of c.file c.owner new) byte) ≡ else_was (cleared_by (part_by c.what (ByteOf c.file c.owner byte))) (byte_held byte (mode_at (spans_of c.file c.owner old) byte))
+clears_byte c first last old new byte kept is =
+    let ss = spans_of c.file c.owner old in
+    ap (λ (x : List Span). byte_held byte (mode_at x byte)) is.spans
+    ∙ ap (λ (m : Option Mode). byte_held byte m) (relocked_mode ss first last None byte is.ends (canonical_ranges ss (kept.sound.canonical c.file c.owner is.own)))
+    ∙ unlocked_byte byte (within first last byte) false (mode_at ss byte)
+    ∙ ap (λ (w : What). else_was (cleared_by (part_by w (ByteOf c.file c.owner byte))) (byte_held byte (mode_at ss byte))) (sym is.what)
+
+cleared_made : (c : Claim) (first last : ℕ) (old new : List Claim) (p : Place) → IsKept old → Clears c first last old new → held_in new p ≡ else_was (cleared_at c p) (held_in old p)
+cleared_made c first last old new (ByteOf file owner byte) kept is =
+    elim (cases_Bool (is_of file owner c)) [
+      | inr other ↦ rw other (ap (λ (ss : List Span). byte_held byte (mode_at ss byte)) (is.apart file owner (λ at. absurd (both_ways (is_of file owner c) other (is_of_from file owner c at.0 at.1)))))
+      | inl own ↦
+          let here = is_of-true file owner c own in
+          rw own (subst (λ (f : ℕ). byte_held byte (mode_at (spans_of f owner new) byte) ≡ else_was (cleared_by (part_by c.what (ByteOf f owner byte))) (byte_held byte (mode_at (spans_of f owner old) byte))) here.0
+          (subst (λ (o : Owner). byte_held byte (mode_at (spans_of c.file o new) byte) ≡ else_was (cleared_by (part_by c.what (ByteOf c.file o byte))) (byte_held byte (mode_at (spans_of c.file o old) byte))) here.1
+          (clears_byte c first last old new byte kept is)))
+    ]
+cleared_made c first last old new (ShareOf file owner) kept is =
+    ap (λ (shares : List (Rwd × Rwd)). map share_held shares) (is.shares file owner)
+    ∙ ap (λ (o : Option (List What)). else_was o (map share_held (shares_of file owner old))) (sym (no_share_cleared (is_of file owner c)))
+  where
+    no_share_cleared : (b : Bool) → cleared_by (if b then part_by c.what (ShareOf file owner) else []) ≡ None
+    no_share_cleared true = ap (λ (w : What). cleared_by (part_by w (ShareOf file owner))) is.what
+    no_share_cleared false = refl
+
+unlock_made : (n : ℕ) (left : Rooms) (s : CoreState) (a : Ask) (first last : ℕ) (p : Place) → IsGood s → IsFit a → a.act ≡ acts.Unlock (Bytes first last) → held_at (ask n left s a).2 p ≡ else_was (cleared_for (ask n left s a).0 p) (held_at s p)
+unlock_made n left s a first last p good fit act =
+    let r = ask n left s a in
+    elim (grants_or r.0) [
+      | Does c e ↦
+          cleared_made c first last s.claims r.2.claims p good.kept (ask_clears n left s a first last c good fit act e)
+          ∙ ap (λ (answer : Answer). else_was (cleared_for answer p) (held_at s p)) (sym e)
+      | Doesnt none nothing ↦ ap (λ (cs : List Claim). held_in cs p) (ask_keeps_claims n left s a good fit none) ∙ ap (λ (o : Option (List What)). else_was o (held_at s p)) (sym (nothing s.claims p).1)
+    ]
+
+act_made : (n : ℕ) (left : Rooms) (s : CoreState) (a : Ask) (act : Act) (p : Place) → a.act ≡ act → IsFitAct act → IsGood s → IsFit a → held_at (ask n left s a).2 p ≡ else_was (answered_at s.claims act (ask n left s a).0 p) (held_at s p)
+act_made n left s a (acts.Share access deny) p is real good fit = claim_made n left s a (Share access deny) p good fit (ap asked_what is)
+act_made n left s a (acts.Ranges []) p is real good fit = absurd real
+act_made n left s a (acts.Ranges (range ∷ [])) p is real good fit = claim_made n left s a (Range range.0 range.1) p good fit (ap asked_what is)
+act_made n left s a (acts.Ranges (range ∷ more ∷ rest)) p is real good fit = absurd real
+act_made n left s a (acts.Test extent exclusive) p is real good fit = ap (λ (t : CoreState). held_at t p) (test_leaves n left s a extent exclusive is)
+act_made n left s a (acts.Unlock (Bytes first last)) p is real good fit = unlock_made n left s a first last p good fit is
+act_made n left s a (acts.Unlock (Empty offset)) p is real good fit = absurd real
+
+-- ---- a claim given back, a party ended
+
+given_made : (claim : Claim) (w : What) (s : CoreState) (p : Place) → claim.what ≡ w → IsGood s → IsIn claim s.claims → is_share w ≡ true → held_in (removed claim s.claims) p ≡ else_was (cleared_at claim p) (held_in s.claims p)
+given_made claim (Share access deny) s (ByteOf file owner byte) is good there share =
+    ap (λ (ss : List Span). byte_held byte (mode_at ss byte)) (spans_of-given file owner claim s.claims (ap is_share is))
+    ∙ ap (λ (o : Option (List What)). else_was o (held_at s (ByteOf file owner byte))) (sym (no_byte_cleared (is_of file owner claim)))
+  where
+    no_byte_cleared : (b : Bool) → cleared_by (if b then part_by claim.what (ByteOf file owner byte) else []) ≡ None
+    no_byte_cleared true = ap (λ (w : What). cleared_by (part_by w (ByteOf file owner byte))) is
+    no_byte_cleared false = refl
+given_made claim (Share access deny) s (ShareOf file owner) is good there share =
+    elim (cases_Bool (is_of file owner claim)) [
+      | inr other ↦ rw other (ap (λ (shares : List (Rwd × Rwd)). map share_held shares) (shares_of-given_apart file owner claim s.claims other))
+      | inl own ↦
+          rw own (ap (λ (shares : List (Rwd × Rwd)). map share_held shares) (shares_of-given file owner claim s.claims good.single there (and_from (is_of file owner claim) (is_share claim.what) own (ap is_share is)))
+          ∙ ap (λ (w : What). else_was (cleared_by (part_by w (ShareOf file owner))) (held_at s (ShareOf file owner))) (sym is))
+    ]
+given_made claim (Range extent exclusive) s p is good there share = absurd (both_ways false refl share)
+given_made claim (Cache kind running) s p is good there share = absurd (both_ways false refl share)
+
+give_back_made : (s : CoreState) (claim : Claim) (p : Place) → IsGood s → IsIn claim s.claims → is_share claim.what ≡ true → held_at (give_back s claim).1 p ≡ else_was (cleared_at claim p) (held_at s p)
+unfolding give_back
+give_back_made s claim p good there share = given_made claim claim.what s p refl good there share
+
+by_ended : (b : Bool) (s t : CoreState) (p : Place) (file : ℕ) (owner : Owner) → Ended b s t file owner → ((byte : ℕ) → held_at t (ByteOf file owner byte) ≡ else_was (if b then Some [] else None) (held_at s (ByteOf file owner byte))) × (held_at t (ShareOf file owner) ≡ else_was (if b then Some [] else None) (held_at s (ShareOf file owner)))
+by_ended true s t p file owner is = (λ byte. ap (λ (ss : List Span). byte_held byte (mode_at ss byte)) is.0, ap (λ (shares : List (Rwd × Rwd)). map share_held shares) is.1)
+by_ended false s t p file owner is = (λ byte. ap (λ (ss : List Span). byte_held byte (mode_at ss byte)) is.0, ap (λ (shares : List (Rwd × Rwd)). map share_held shares) is.1)
+
+end_party_made : (s : CoreState) (party : Party) (p : Place) → IsGood s → held_at (end_party s party).1 p ≡ else_was (ended_at s.claims party p) (held_at s p)
+end_party_made s party (ByteOf file owner byte) good = (by_ended (has_of file owner party s.claims) s (end_party s party).1 (ByteOf file owner byte) file owner (ended_is s party file owner good)).0 byte
+end_party_made s party (ShareOf file owner) good = (by_ended (has_of file owner party s.claims) s (end_party s party).1 (ShareOf file owner) file owner (ended_is s party file owner good)).1
+
+-- ---- a turn
+
+-- what a turn makes of each place, and who waits after it
+due_made : (left : Rooms) (s t : CoreState) (w : Waiter) (claim : Claim) (answer : Answer) (p : Place) → IsGood s → IsPosix claim → IsTurnDue left s w claim answer t.claims → held_at t p ≡ else_was (entered_for s.claims answer p) (held_at s p)
+due_made left s t w claim (answers.Granted c) p good real due =
+    ap (λ (cs : List Claim). held_in cs p) due.2 ∙ entered_made claim s.claims p good.kept real ∙ ap (λ (x : Claim). else_was (entered_at s.claims x p) (held_at s p)) (sym due.0)
+due_made left s t w claim (answers.Full limit) p good real due = ap (λ (cs : List Claim). held_in cs p) due.1
+due_made left s t w claim (answers.Conflict c) p good real due = absurd due
+due_made left s t w claim (answers.Queued id) p good real due = absurd due
+due_made left s t w claim (answers.Recall c) p good real due = absurd due
+due_made left s t w claim (answers.Grace until) p good real due = absurd due
+due_made left s t w claim (answers.NoGrace clock) p good real due = absurd due
+due_made left s t w claim answers.NotRecorded p good real due = absurd due
+due_made left s t w claim answers.NotHeld p good real due = absurd due
+due_made left s t w claim answers.StoreFailed p good real due = absurd due
+
+turn_made : (left : Rooms) (s : CoreState) (o : Option (List Effect × CoreState)) (p : Place) → IsGood s → IfSome o (λ r. IsTurn left s r.0 r.1) → held_at (turned s o).2 p ≡ else_was (told_at s.claims (turned s o).1 p) (held_at s p)
+turn_made left s None p good turn = refl
+turn_made left s (Some r) p good turn =
+    due_made left s r.1 turn.waiter turn.claim turn.answer p good (turn_known left s r.0 r.1 good turn) turn.due
+    ∙ ap (λ (effects : List Effect). else_was (told_at s.claims effects p) (held_at s p)) (sym turn.told)
+
+turn_queue : (left : Rooms) (s : CoreState) (o : Option (List Effect × CoreState)) → IsGood s → IfSome o (λ r. IsTurn left s r.0 r.1) → (turned s o).2.waiters ≡ queue_without (turned s o).1 s.waiters
+turn_queue left s None good turn = refl
+turn_queue left s (Some r) good turn =
+    turn.waiters
+    ∙ sym (without turn.before turn.waiter turn.behind (subst (λ (ws : List Waiter). Pairwise are_apart ws) turn.stood good.apart))
+    ∙ ap (λ (ws : List Waiter). cancelled turn.waiter.id ws) (sym turn.stood)
+    ∙ ap (λ (effects : List Effect). queue_without effects s.waiters) (sym turn.told)
+
+turn_names : (left : Rooms) (s : CoreState) (o : Option (List Effect × CoreState)) → IfSome o (λ r. IsTurn left s r.0 r.1) → KeepNames s.names (turned s o).2.names
+turn_names left s None turn = λ number name h. h
+turn_names left s (Some r) turn = λ number name h. subst (λ (names : List Name). slice_get names number ≡ Some name) (sym turn.names) h
+
+turn_good : (s : CoreState) (o : Option (List Effect × CoreState)) → IsGood s → IfSome o (λ r. IsGood r.1) → IsGood (turned s o).2
+turn_good s None good each = good
+turn_good s (Some r) good each = each
+
+-- ---- one deed
+
+drawn_is : (s : CoreState) → ((drawn s).claims ≡ s.claims) × ((drawn s).waiters ≡ s.waiters) × ((drawn s).names ≡ s.names)
+unfolding drawn
+drawn_is s = (refl, refl, refl)
+
+cancel_is : (s : CoreState) (id : ℕ) → ((cancel s id).1.claims ≡ s.claims) × ((cancel s id).1.waiters ≡ cancelled id s.waiters) × ((cancel s id).1.names ≡ s.names)
+unfolding cancel
+cancel_is s id = (refl, refl, refl)
+
+pub deed_good : (n : ℕ) (s : CoreState) (d : Deed) → IsGood s → IsFitDeed s d → IsGood (done n s d)
+deed_good n s (Asks left a) good fit = ask_good n left s a good fit
+deed_good n s (GivesBack claim) good fit = give_back_good s claim good
+deed_good n s (Cancels id) good fit = cancel_good s id good
+deed_good n s (Ends party) good fit = end_party_good s party good
+deed_good n s (Serves left) good fit = turn_good s (settle n left s) good (settle_good n left s good)
+deed_good n s Draws good fit = drawn_good s good
+
+-- at each place there is what the deed made of it
+pub deed_makes : (n : ℕ) (s : CoreState) (d : Deed) (p : Place) → IsGood s → IsFitDeed s d → held_at (done n s d) p ≡ else_was (made n s d p) (held_at s p)
+deed_makes n s (Asks left a) p good fit = act_made n left s a a.act p refl fit.act good fit
+deed_makes n s (GivesBack claim) p good fit = give_back_made s claim p good fit.0 fit.1
+deed_makes n s (Cancels id) p good fit = ap (λ (cs : List Claim). held_in cs p) (cancel_is s id).0
+deed_makes n s (Ends party) p good fit = end_party_made s party p good
+deed_makes n s (Serves left) p good fit = turn_made left s (settle n left s) p good (turn_is n left s good)
+deed_makes n s Draws p good fit = ap (λ (cs : List Claim). held_in cs p) (drawn_is s).0
+
+ended_queue : (s : CoreState) (party : Party) → (end_party s party).1.waiters ≡ waits_after 0 s (Ends party) s.waiters
+unfolding end_party
+ended_queue s party = refl
+
+given_queue : (s : CoreState) (claim : Claim) → (give_back s claim).1.waiters ≡ s.waiters
+unfolding give_back
+given_queue s claim = refl
+
+pub deed_queues : (n : ℕ) (s : CoreState) (d : Deed) → IsGood s → IsFitDeed s d → (done n s d).waiters ≡ waits_after n s d s.waiters
+deed_queues n s (Asks left a) good fit = ask_queue n left s a good fit
+deed_queues n s (GivesBack claim) good fit = given_queue s claim
+deed_queues n s (Cancels id) good fit = (cancel_is s id).1
+deed_queues n s (Ends party) good fit = ended_queue s party
+deed_queues n s (Serves left) good fit = turn_queue left s (settle n left s) good (turn_is n left s good)
+deed_queues n s Draws good fit = (drawn_is s).1
+
+ended_names : (s : CoreState) (party : Party) → (end_party s party).1.names ≡ s.names
+unfolding end_party
+ended_names s party = refl
+
+given_names : (s : CoreState) (claim : Claim) → (give_back s claim).1.names ≡ s.names
+unfolding give_back
+given_names s claim = refl
+
+same_names : (old new : List Name) → new ≡ old → KeepNames old new
+same_names old new e = subst (λ (names : List Name). KeepNames old names) (sym e) (λ number name h. h)
+
+pub deed_names : (n : ℕ) (s : CoreState) (d : Deed) → IsGood s → IsFitDeed s d → KeepNames s.names (done n s d).names
+deed_names n s (Asks left a) good fit = ask_names n left s a good fit
+deed_names n s (GivesBack claim) good fit = same_names s.names (give_back s claim).1.names (given_names s claim)
+deed_names n s (Cancels id) good fit = same_names s.names (cancel s id).1.names (cancel_is s id).2
+deed_names n s (Ends party) good fit = same_names s.names (end_party s party).1.names (ended_names s party)
+deed_names n s (Serves left) good fit = turn_names left s (settle n left s) (turn_is n left s good)
+deed_names n s Draws good fit = same_names s.names (drawn s).names (drawn_is s).2
+
+pub deed_due : (n : ℕ) (s : CoreState) (d : Deed) → IsGood s → IsFitDeed s d → IsDue n s d
+deed_due n s (Asks left a) good fit = answer_is_due n left s a good fit
+deed_due n s (GivesBack claim) good fit = tt
+deed_due n s (Cancels id) good fit = tt
+deed_due n s (Ends party) good fit = tt
+deed_due n s (Serves left) good fit = record { none = none_settled n left s; first = turn_is n left s good }
+deed_due n s Draws good fit = tt

@@ -1,0 +1,127 @@
+-- What is done to the core: its calls as values, what each gives, and who waits after them.
+use Rattle.std.specs.Prelude.{◌≡◌, ℕ, true, not, List, [], ◌∷◌, ◌++◌, Option, Some, None}
+use Rattle.std.specs.List.{filter, slice_get}
+use Rattle.xl_base.specs.Lists.{IsIn}
+use Rattle.xl_base.specs.declared.name.Party.{Party}
+use Rattle.xl_matrix.specs.declared.claim.Claim.{Claim}
+use Rattle.xl_matrix.specs.declared.claim.What.{What}
+use Rattle.xl_names.specs.declared.name.Name.{Name}
+use Rattle.xl_wait.specs.Waiting.{is_waiting, cancelled}
+use Rattle.xl_wait.specs.declared.waiter.Rooms.{Rooms}
+use Rattle.xl_wait.specs.declared.waiter.Waiter.{Waiter}
+use Rattle.xl_core.specs.State.{CoreState, drawn}
+use Rattle.xl_core.specs.Asking.{asked_what, asked_claim, IsFit}
+use Rattle.xl_core.specs.Decide.{waiter_of, ask}
+use Rattle.xl_table.specs.Held.{is_share}
+use Rattle.xl_core.specs.Settle.{settle, waits_for, cancel, give_back, end_party}
+use Rattle.xl_core.specs.declared.ask.Answer.{Answer}
+use Rattle.xl_core.specs.declared.ask.Answer.TheVariants.{Queued}
+use Rattle.xl_core.specs.declared.ask.Ask.{Ask}
+use Rattle.xl_core.specs.declared.ask.Effect.{Effect}
+use Rattle.xl_core.specs.declared.ask.Effect.TheVariants.{Served}
+
+-- ---- a call of the core as a value
+
+-- an ask, with the room left in the fronts' tables; a claim given back; the waiter of this number taken out; a party
+-- ended; a turn; a number given out
+pub data Deed : Type 0 where
+  Asks : Rooms → Ask → Deed
+  GivesBack : Claim → Deed
+  Cancels : ℕ → Deed
+  Ends : Party → Deed
+  Serves : Rooms → Deed
+  Draws : Deed
+
+-- the answer, where the call has one, what is told besides, and the state that is left
+abbrev pub Given : Type 0
+Given = Option Answer × List Effect × CoreState
+
+abbrev pub answered : Answer × List Effect × CoreState → Given
+answered r = (Some r.0, r.1, r.2)
+
+abbrev pub unanswered : List Effect × CoreState → Given
+unanswered r = (None, r.0, r.1)
+
+-- where no waiter has a turn nothing happens
+abbrev pub turned : CoreState → Option (List Effect × CoreState) → Given
+turned s None = (None, [], s)
+turned s (Some r) = unanswered r
+
+-- what each deed gives, of whose step n stores succeed: what the call's own definition gives
+abbrev pub given : ℕ → CoreState → Deed → Given
+given n s (Asks left a) = answered (ask n left s a)
+given n s (GivesBack claim) = unanswered (give_back s claim)
+given n s (Cancels id) = unanswered (cancel s id)
+given n s (Ends party) = unanswered (end_party s party)
+given n s (Serves left) = turned s (settle n left s)
+given n s Draws = (None, [], drawn s)
+
+-- the state after one deed, and after these in a row
+abbrev pub done : ℕ → CoreState → Deed → CoreState
+done n s d = (given n s d).2
+
+abbrev pub all_done : ℕ → CoreState → List Deed → CoreState
+all_done n s [] = s
+all_done n s (d ∷ ds) = all_done n (done n s d) ds
+
+-- what these tell besides, in order
+abbrev pub all_told_of : ℕ → CoreState → List Deed → List Effect
+all_told_of n s [] = []
+all_told_of n s (d ∷ ds) = (given n s d).1 ++ all_told_of n (done n s d) ds
+
+abbrev pub with_answer : Option Answer → List Answer → List Answer
+with_answer None answers = answers
+with_answer (Some answer) answers = answer ∷ answers
+
+-- what these are answered, in order
+abbrev pub answers_of : ℕ → CoreState → List Deed → List Answer
+answers_of n s [] = []
+answers_of n s (d ∷ ds) = with_answer (given n s d).0 (answers_of n (done n s d) ds)
+
+-- ---- which deeds the core takes
+
+-- an ask that is fit, a share that is held, and a waiter who stands; claims of other kinds are not given back yet
+abbrev pub IsFitDeed : CoreState → Deed → Type 0
+IsFitDeed s (Asks left a) = IsFit a
+IsFitDeed s (GivesBack claim) = IsIn claim s.claims × (is_share claim.what ≡ true)
+IsFitDeed s (Cancels id) = is_waiting id s.waiters ≡ true
+IsFitDeed s _ = Unit {0}
+
+abbrev pub AreFit : ℕ → CoreState → List Deed → Type 0
+AreFit n s [] = Unit {0}
+AreFit n s (d ∷ ds) = IsFitDeed s d × AreFit n (done n s d) ds
+
+-- ---- who waits
+
+abbrev pub with_waiter : CoreState → Ask → ℕ → Option What → List Waiter → List Waiter
+with_waiter s a id None waiters = waiters
+with_waiter s a id (Some what) waiters = waiters ++ waiter_of id a (asked_claim a what s.names ∷ []) ∷ []
+
+-- one who is told to wait comes last
+abbrev pub queue_with : CoreState → Ask → Answer → List Waiter → List Waiter
+queue_with s a (Queued id) waiters = with_waiter s a id (asked_what a.act) waiters
+queue_with s a answer waiters = waiters
+
+-- one who is served waits no more
+abbrev pub queue_without : List Effect → List Waiter → List Waiter
+queue_without (Served id answer ∷ effects) waiters = cancelled id waiters
+queue_without effects waiters = waiters
+
+-- who waits after one deed, of those who waited
+abbrev pub waits_after : ℕ → CoreState → Deed → List Waiter → List Waiter
+waits_after n s (Asks left a) waiters = queue_with s a (ask n left s a).0 waiters
+waits_after n s (Cancels id) waiters = cancelled id waiters
+waits_after n s (Ends party) waiters = filter (λ w. not (waits_for party w)) waiters
+waits_after n s (Serves left) waiters = queue_without (given n s (Serves left)).1 waiters
+waits_after n s _ waiters = waiters
+
+-- who waits after these: who waited, but for those that each of them queued, took out, ended or served, in order
+abbrev pub queue_after : ℕ → CoreState → List Deed → List Waiter → List Waiter
+queue_after n s [] waiters = waiters
+queue_after n s (d ∷ ds) waiters = queue_after n (done n s d) ds (waits_after n s d waiters)
+
+-- ---- names
+
+-- each name that is kept stands at its number
+abbrev pub KeepNames : List Name → List Name → Type 0
+KeepNames old new = (number : ℕ) (name : Name) → slice_get old number ≡ Some name → slice_get new number ≡ Some name

@@ -1,0 +1,52 @@
+-- What is due to a deed: the answer that its cause gives, and what nothing stands against.
+use Rattle.std.specs.Prelude.{◌≡◌, ℕ, false, List, [], ◌∷◌, Option, Some, None, IfSome}
+use Rattle.xl_matrix.specs.declared.claim.Extent.TheVariants as extents
+use Rattle.xl_matrix.specs.declared.claim.What.{What}
+use Rattle.xl_wait.specs.declared.waiter.Rooms.{Rooms}
+use Rattle.xl_core.specs.State.{CoreState}
+use Rattle.xl_core.specs.Asking.{asked_what, asked_claim, known_claim}
+use Rattle.xl_core.specs.Limits.{IsRoom}
+use Rattle.xl_core.specs.Causes.{limits_of_grant, IsClaimDue, IsTestDue, IsUnlockDue, IsTurn}
+use Rattle.xl_core.specs.Decide.{ask}
+use Rattle.xl_core.specs.Deeds.{Deed, Asks, Serves, done}
+use Rattle.xl_table.specs.Flat.{is_blocked}
+use Rattle.xl_core.specs.Good.{IsSettled}
+use Rattle.xl_core.specs.Settle.{settle}
+use Rattle.xl_core.specs.declared.ask.Act.{Act}
+use Rattle.xl_core.specs.declared.ask.Act.TheVariants as acts
+use Rattle.xl_core.specs.declared.ask.Answer.{Answer}
+use Rattle.xl_core.specs.declared.ask.Answer.TheVariants.{Granted}
+use Rattle.xl_core.specs.declared.ask.Ask.{Ask}
+
+-- a share or a lock is granted where it is no reclaim, nothing held stands against it and no limit is passed; and each
+-- answer has its cause
+pub record IsGrantDue (left : Rooms) (s : CoreState) (a : Ask) (what : What) (answer : Answer) : Type 0 where
+  pub free : a.reclaim ≡ false → is_blocked s.claims (asked_claim a what s.names) ≡ false → IsRoom (limits_of_grant left s a (asked_claim a what s.names)) → answer ≡ Granted (asked_claim a what s.names)
+  pub cause : IsClaimDue left s a (asked_claim a what s.names) answer
+
+abbrev pub IsWhatDue : Rooms → CoreState → Ask → Option What → Answer → Type 0
+IsWhatDue left s a None answer = Unit {0}
+IsWhatDue left s a (Some what) answer = IsGrantDue left s a what answer
+
+-- what an ask is answered is what is due to it
+abbrev pub IsAnswerDue : Rooms → CoreState → Ask → Act → Answer → Type 0
+IsAnswerDue left s a (acts.Share access deny) answer = IsWhatDue left s a (asked_what (acts.Share access deny)) answer
+IsAnswerDue left s a (acts.Ranges ranges) answer = IsWhatDue left s a (asked_what (acts.Ranges ranges)) answer
+IsAnswerDue left s a (acts.Test extent exclusive) answer = IsTestDue s a (known_claim a extent exclusive s.names) answer
+IsAnswerDue left s a (acts.Unlock (extents.Bytes first last)) answer = IsUnlockDue s (known_claim a (extents.Bytes first last) false s.names) first last answer
+IsAnswerDue left s a (acts.Unlock (extents.Empty offset)) answer = Unit {0}
+
+-- there is a turn unless each waiter is blocked, and it is the turn of the first who is not
+pub record IsTurnOwed (n : ℕ) (left : Rooms) (s : CoreState) : Type 0 where
+  pub none : settle n left s ≡ None → IsSettled s
+  pub first : IfSome (settle n left s) (λ r. IsTurn left s r.0 r.1)
+
+abbrev pub IsDue : ℕ → CoreState → Deed → Type 0
+IsDue n s (Asks left a) = IsAnswerDue left s a a.act (ask n left s a).0
+IsDue n s (Serves left) = IsTurnOwed n left s
+IsDue n s _ = Unit {0}
+
+-- each of these deeds, in the state that those before it left
+abbrev pub AreDue : ℕ → CoreState → List Deed → Type 0
+AreDue n s [] = Unit {0}
+AreDue n s (d ∷ ds) = IsDue n s d × AreDue n (done n s d) ds

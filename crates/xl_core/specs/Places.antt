@@ -1,0 +1,130 @@
+-- Places where something is held, and what a deed makes of each.
+use Rattle.std.specs.Prelude.{◌≡◌, ℕ, Bool, false, if◌then◌else◌, List, [], ◌∷◌, map, Option, Some, None}
+use Rattle.std.specs.List.{list_any}
+use Rattle.xl_base.specs.declared.name.Owner.{Owner}
+use Rattle.xl_base.specs.declared.name.Party.{Party}
+use Rattle.xl_matrix.specs.Equal.{same_parties}
+use Rattle.xl_matrix.specs.declared.claim.Claim.{Claim}
+use Rattle.xl_matrix.specs.declared.claim.Extent.TheVariants.{Bytes}
+use Rattle.xl_matrix.specs.declared.claim.Rwd.{Rwd}
+use Rattle.xl_matrix.specs.declared.claim.What.{What}
+use Rattle.xl_matrix.specs.declared.claim.What.TheVariants as whats
+use Rattle.xl_spans.specs.Spans.{within, mode_at}
+use Rattle.xl_spans.specs.declared.span.Mode.{Mode}
+use Rattle.xl_table.specs.Held.{is_of, spans_of}
+use Rattle.xl_core.specs.State.{CoreState}
+use Rattle.xl_core.specs.Decide.{ask}
+use Rattle.xl_core.specs.Deeds.{Deed, Asks, GivesBack, Ends, Serves, given, done}
+use Rattle.xl_table.specs.Relock.{is_exclusive, shares_of, old_shares, united_by}
+use Rattle.xl_core.specs.declared.ask.Act.{Act}
+use Rattle.xl_core.specs.declared.ask.Act.TheVariants as acts
+use Rattle.xl_core.specs.declared.ask.Answer.{Answer}
+use Rattle.xl_core.specs.declared.ask.Answer.TheVariants.{Granted}
+use Rattle.xl_core.specs.declared.ask.Effect.{Effect}
+use Rattle.xl_core.specs.declared.ask.Effect.TheVariants.{Served}
+
+-- ---- places
+
+-- a byte of a file as its owner may have it locked; an owner's share of a file
+pub data Place : Type 0 where
+  ByteOf : ℕ → Owner → ℕ → Place
+  ShareOf : ℕ → Owner → Place
+
+abbrev pub byte_held : ℕ → Option Mode → List What
+byte_held byte None = []
+byte_held byte (Some mode) = whats.Range (Bytes byte byte) (is_exclusive mode) ∷ []
+
+abbrev pub share_held : Rwd × Rwd → What
+share_held share = whats.Share share.0 share.1
+
+abbrev pub held_in : List Claim → Place → List What
+held_in claims (ByteOf file owner byte) = byte_held byte (mode_at (spans_of file owner claims) byte)
+held_in claims (ShareOf file owner) = map share_held (shares_of file owner claims)
+
+-- what is held there: nothing, the lock of that one byte, or the share
+abbrev pub held_at : CoreState → Place → List What
+held_at s p = held_in s.claims p
+
+-- ---- a claim at a place
+
+-- the claim is one of the place's owner, on its file
+abbrev pub is_at : Place → Claim → Bool
+is_at (ByteOf file owner byte) c = is_of file owner c
+is_at (ShareOf file owner) c = is_of file owner c
+
+abbrev pub part_by : What → Place → List What
+part_by (whats.Range (Bytes first last) exclusive) (ByteOf file owner byte) = if within first last byte then whats.Range (Bytes byte byte) exclusive ∷ [] else []
+part_by (whats.Share access deny) (ShareOf file owner) = whats.Share access deny ∷ []
+part_by _ _ = []
+
+-- what of the claim is held at the place
+abbrev pub part_of : Claim → Place → List What
+part_of c p = if is_at p c then part_by c.what p else []
+
+abbrev pub entered_by : List What → Option (List What)
+entered_by [] = None
+entered_by (what ∷ rest) = Some (what ∷ rest)
+
+-- a share as it is held once it is entered among these: united with its owner's where it is NFSv4's
+abbrev pub held_as : List Claim → Claim → What → What
+held_as held c (whats.Share access deny) = united_by c.owner (whats.Share access deny) (old_shares c.file c.owner held)
+held_as held c what = what
+
+-- a claim that is entered is held then at each place that it reaches, whatever was there but for a share that it is united with
+abbrev pub entered_at : List Claim → Claim → Place → Option (List What)
+entered_at held c p = entered_by (if is_at p c then part_by (held_as held c c.what) p else [])
+
+abbrev pub cleared_by : List What → Option (List What)
+cleared_by [] = None
+cleared_by (what ∷ rest) = Some []
+
+-- a claim that is taken out leaves nothing there
+abbrev pub cleared_at : Claim → Place → Option (List What)
+cleared_at c p = cleared_by (part_of c p)
+
+-- ---- what a deed makes of a place, or none where it leaves it
+
+abbrev pub entered_for : List Claim → Answer → Place → Option (List What)
+entered_for held (Granted c) p = entered_at held c p
+entered_for held answer p = None
+
+abbrev pub cleared_for : Answer → Place → Option (List What)
+cleared_for (Granted c) p = cleared_at c p
+cleared_for answer p = None
+
+-- a granted share or lock is entered, a granted unlock clears its range; a test and any other answer leave all
+abbrev pub answered_at : List Claim → Act → Answer → Place → Option (List What)
+answered_at held (acts.Share access deny) answer p = entered_for held answer p
+answered_at held (acts.Ranges ranges) answer p = entered_for held answer p
+answered_at held (acts.Test extent exclusive) answer p = None
+answered_at held (acts.Unlock extent) answer p = cleared_for answer p
+
+-- a party that ends leaves nothing at a place where it has something
+abbrev pub ended_at : List Claim → Party → Place → Option (List What)
+ended_at claims party p = if list_any (λ c. if is_at p c then same_parties c.party party else false) claims then Some [] else None
+
+-- a waiter that is granted what it waited for has that
+abbrev pub told_at : List Claim → List Effect → Place → Option (List What)
+told_at held (Served id answer ∷ effects) p = entered_for held answer p
+told_at held effects p = None
+
+-- what the deed makes of the place
+abbrev pub made : ℕ → CoreState → Deed → Place → Option (List What)
+made n s (Asks left a) p = answered_at s.claims a.act (ask n left s a).0 p
+made n s (GivesBack claim) p = cleared_at claim p
+made n s (Ends party) p = ended_at s.claims party p
+made n s (Serves left) p = told_at s.claims (given n s (Serves left)).1 p
+made n s d p = None
+
+abbrev pub else_was : Option (List What) → List What → List What
+else_was None had = had
+else_was (Some has) had = has
+
+-- what stands at the place after these deeds, where this stood before: what the last that reaches it made of it
+abbrev pub stands : ℕ → CoreState → List Deed → Place → List What → List What
+stands n s [] p had = had
+stands n s (d ∷ ds) p had = stands n (done n s d) ds p (else_was (made n s d p) had)
+
+-- at each place there is what the deeds made of it
+abbrev pub IsChangedBy : ℕ → CoreState → List Deed → CoreState → Type 0
+IsChangedBy n s ds t = (p : Place) → held_at t p ≡ stands n s ds p (held_at s p)

@@ -1,0 +1,30 @@
+//! Laws of what is done to the core, whatever protocol it comes by: its calls as values, one after another. The functions
+//! do nothing; what they ensure holds of every state and every list of such calls.
+ghost use Rattle.std.specs.Prelude.{◌≡◌, ℕ, List};
+ghost use Rattle.xl_core.specs.State.{CoreState};
+ghost use Rattle.xl_core.specs.Deeds.{Deed, all_done, AreFit, queue_after, KeepNames};
+ghost use Rattle.xl_core.specs.Dues.{AreDue};
+ghost use Rattle.xl_core.specs.Good.{IsGood};
+ghost use Rattle.xl_core.specs.Places.{IsChangedBy};
+ghost use Rattle.xl_core.specs.Rows.{Ran, all_ran, all_deeds};
+
+/// The state stays good. At each place there is what the last deed that reaches it made of it, else what was there. Who
+/// waits is who waited, but for those whom the deeds queued, took out, ended or served, in order. Each name keeps its
+/// number. Each deed is given what is due to it in the state in which it stands: what nothing stands against is granted,
+/// and each answer and each turn has its cause.
+#[tactic(auto, using(crate::proofs::DeedLists::deeds_good, crate::proofs::DeedLists::deeds_make, crate::proofs::DeedLists::deeds_queue, crate::proofs::DeedLists::deeds_names, crate::proofs::DeedLists::deeds_due))]
+pub fn deeds_are_all_that_changes()
+    ensures good { (n : ℕ) (s : CoreState) (ds : List Deed) → IsGood s → AreFit n s ds → IsGood (all_done n s ds) }
+    ensures places { (n : ℕ) (s : CoreState) (ds : List Deed) → IsGood s → AreFit n s ds → IsChangedBy n s ds (all_done n s ds) }
+    ensures waiting { (n : ℕ) (s : CoreState) (ds : List Deed) → IsGood s → AreFit n s ds → (all_done n s ds).waiters ≡ queue_after n s ds s.waiters }
+    ensures names { (n : ℕ) (s : CoreState) (ds : List Deed) → IsGood s → AreFit n s ds → KeepNames s.names (all_done n s ds).names }
+    ensures due { (n : ℕ) (s : CoreState) (ds : List Deed) → IsGood s → AreFit n s ds → AreDue n s ds }
+{}
+
+/// Operations in a row, each in the state that those before it left, leave what their deeds leave, where each one does;
+/// and the core takes these deeds, where it takes those of each.
+#[tactic(auto, using(crate::proofs::DeedRows::row_does, crate::proofs::DeedRows::row_takes))]
+pub fn rows_are_their_deeds<F, Op>()
+    ensures done { (run : ℕ → F → CoreState → Op → Ran F) (does : ℕ → F → CoreState → Op → List Deed) (n : ℕ) → ((f : F) (s : CoreState) (op : Op) → (run n f s op).2 ≡ all_done n s (does n f s op)) → (f : F) (s : CoreState) (ops : List Op) → (all_ran run n f s ops).2 ≡ all_done n s (all_deeds run does n f s ops) }
+    ensures fit { (run : ℕ → F → CoreState → Op → Ran F) (does : ℕ → F → CoreState → Op → List Deed) (n : ℕ) → ((f : F) (s : CoreState) (op : Op) → (run n f s op).2 ≡ all_done n s (does n f s op)) → ((f : F) (s : CoreState) (op : Op) → IsGood s → AreFit n s (does n f s op)) → (f : F) (s : CoreState) (ops : List Op) → IsGood s → AreFit n s (all_deeds run does n f s ops) }
+{}

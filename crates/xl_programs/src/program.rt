@@ -1,0 +1,54 @@
+//! The programs that are served.
+ghost use Rattle.std.specs.Prelude.{◌≡◌, Some, None, option_map};
+ghost use Rattle.xl_programs.specs.Programs.{number_of, version_of, serves, program_at};
+
+/// A program that is served.
+#[derive(Clone, Copy)]
+pub enum Program {
+    /// The Network Lock Manager (XNFS C702), program 100021 in version 4.
+    Nlm,
+}
+
+/// The number of the Network Lock Manager.
+const NLM: u32 = 100_021;
+
+impl Program {
+    /// The program of this number, where it is served in some version.
+    pub fn at(number: u32) -> Option<Program>
+        ensures { result ≡ program_at number }
+    {
+        if number == NLM {
+            Some(Program::Nlm)
+        } else {
+            None
+        }
+    }
+
+    /// Its number.
+    pub fn number(self) -> u32
+        ensures { result ≡ number_of self }
+    {
+        match self {
+            Program::Nlm => NLM,
+        }
+    }
+
+    /// The one version in which it is served.
+    pub fn version(self) -> u32
+        ensures { result ≡ version_of self }
+    {
+        match self {
+            Program::Nlm => 4,
+        }
+    }
+
+    /// Whether this procedure of it is served. Of NLM these are NULL, TEST, LOCK, CANCEL and UNLOCK, and SHARE, UNSHARE,
+    /// NM_LOCK and FREE_ALL; GRANTED is called by the server alone.
+    pub fn serves(self, procedure: u32) -> bool
+        ensures { result ≡ serves self procedure }
+    {
+        match self {
+            Program::Nlm => procedure <= 4 || (20 <= procedure && procedure <= 23),
+        }
+    }
+}
