@@ -1,12 +1,11 @@
-pub mod StillLaws
-pub mod ShownLaws
-pub mod QuietLaws
-pub mod FrontLaws
-pub mod SettleLaws
-pub mod MachineLaws
+mod StillLaws
+mod Stores
+mod QuietLaws
+mod ShownLaws
+mod SettleLaws
+mod HearLaws
+mod DoneLaws
+mod MachineLaws
 pub mod JournalLaws
-pub mod OrderLaws
-pub mod LeaveLaws
-pub mod ChangeLaws
-pub mod LawfulLaws
-pub mod CompleteLaws
+mod OrderLaws
+mod LawfulLaws
