@@ -1,11 +1,11 @@
-mod StillLaws
-mod Stores
-mod QuietLaws
-mod ShownLaws
-mod SettleLaws
-mod HearLaws
-mod DoneLaws
-mod MachineLaws
+pub mod StillLaws
+pub mod Stores
+pub mod QuietLaws
+pub mod ShownLaws
+pub mod SettleLaws
+pub mod HearLaws
+pub mod DoneLaws
+pub mod MachineLaws
 pub mod JournalLaws
-mod OrderLaws
-mod LawfulLaws
+pub mod OrderLaws
+pub mod LawfulLaws
