@@ -1,33 +1,41 @@
 -- An ask changes only what its owner has on its file, and only where it is granted.
-use Rattle.std.proofs.Common.{◌≡◌, ℕ, ◌+◌, ◌≤◌, Bool, true, false, List, [], ◌∷◌, ◌++◌, Option, Some, None, option_map, refl, sym, ap, subst, ◌∙◌, slice_get}
+use Rattle.std.proofs.Common.{◌≡◌, ℕ, ◌+◌, ◌≤◌, Bool, true, false, if◌then◌else◌, List, [], ◌∷◌, ◌++◌, map, Option, Some, None, refl, sym, ap, subst, ◌∙◌, nat_le}
+use Rattle.std.specs.List.{AllByRecursion}
+use Rattle.std.proofs.lemmas.Bool.{both_ways}
 use Rattle.xl_base.proofs.Members.{in_append_left}
 use Rattle.xl_base.specs.declared.name.Owner.{Owner}
 use Rattle.xl_matrix.specs.Owners.{posix}
 use Rattle.xl_matrix.specs.declared.claim.Claim.{Claim}
 use Rattle.xl_matrix.specs.declared.claim.Extent.{Extent}
 use Rattle.xl_matrix.specs.declared.claim.Extent.TheVariants.{Bytes, Empty}
+use Rattle.xl_matrix.specs.declared.claim.Rwd.{Rwd}
 use Rattle.xl_matrix.specs.declared.claim.What.{What}
 use Rattle.xl_matrix.specs.declared.claim.What.TheVariants.{Share, Range, Cache}
 use Rattle.xl_spans.specs.Spans.{relocked}
-use Rattle.xl_table.specs.Held.{mode_of, spans_of, IsKept}
+use Rattle.xl_table.specs.Held.{mode_of, is_share, spans_of, IsKept}
+use Rattle.xl_table.specs.Least.{least}
+use Rattle.xl_table.specs.Relock.{most_claims, holds_byte, with_share, shares_of, old_shares, unites, united_by, granted_by, granted_claims}
+use Rattle.xl_table.proofs.ShareLaws.{not_united, shares_of-shared, shares_of-shared_apart, spans_of-shared, shares_of-relocked}
+use Rattle.xl_table.proofs.WriteBack.{spans_of-relocked, spans_of-relocked_apart}
 use Rattle.xl_wait.specs.declared.waiter.Rooms.{Rooms}
 use Rattle.xl_core.specs.State.{CoreState}
-use Rattle.xl_core.specs.Asking.{asker, range_what, asked_what, asked_claim, known_claim, is_client}
-use Rattle.xl_core.specs.Causes.{asks_share, IsOwn}
-use Rattle.xl_core.specs.Decide.{waiter_of, claim_asked, unlocked_bytes, unlocked, acted, ask}
+use Rattle.xl_core.specs.Asking.{asker, range_what, asked_whats, asked_what, asked_claim, asked_claims, known_claim, is_client}
+use Rattle.xl_core.specs.Blockers.{test_blockers}
+use Rattle.xl_core.specs.Causes.{asks_share, left_by_unlock, IsOwn}
+use Rattle.xl_core.specs.Decide.{Answered, waiter_of, waiting, named, claims_asked, test_answered, tested, unlocked_claims, unlocked, acted, ask}
+use Rattle.xl_core.specs.Frames.{asks_to_hold}
 use Rattle.xl_core.specs.Good.{IsGood}
-use Rattle.xl_core.specs.Relock.{most_claims, holds_byte, is_share, shares_of, granted_by, granted_claims}
+use Rattle.xl_core.specs.Judge.{all_granted, held_with}
 use Rattle.xl_core.specs.declared.ask.Act.{Act}
 use Rattle.xl_core.specs.declared.ask.Act.TheVariants.{Ranges, Test, Unlock}
 use Rattle.xl_core.specs.declared.ask.Act.TheVariants as acts
-use Rattle.xl_matrix.specs.declared.claim.Rwd.{Rwd}
-use Rattle.xl_core.proofs.ShareLaws.{shares_of-shared, shares_of-shared_apart, spans_of-shared, shares_of-relocked}
+use Rattle.xl_core.specs.declared.ask.Answer.{Answer}
 use Rattle.xl_core.specs.declared.ask.Answer.TheVariants as answers
 use Rattle.xl_core.specs.declared.ask.Ask.{Ask}
-use Rattle.xl_core.proofs.CauseLaws.{Answered, same_what, lock_result, LockCase, Late, Conflicts, Crowded, Waits, NoRoom, Goes, lock_case, lock_is, UnlockCase, Nothing, Splits, Leaves, unlock_case, unlock_is}
-use Rattle.xl_core.proofs.GoodLaws.{holder_kept}
+use Rattle.xl_core.proofs.CauseLaws.{same_list, left_so, unlock_by, unlock_is}
+use Rattle.xl_core.proofs.GoodLaws.{AskCase, Goes, Queues, Refuses, ask_case, holder_kept}
 use Rattle.xl_core.proofs.KnownLaws.{both_go_on, known_owner_is, known_posix, asked_known}
-use Rattle.xl_core.proofs.WriteBack.{spans_of-relocked, spans_of-relocked_apart}
+use Rattle.xl_core.proofs.RowLaws.{is_refusal}
 
 -- ---- what a grant leaves to each owner
 
@@ -55,75 +63,31 @@ pub shares_apart : (c : Claim) (cs : List Claim) (file : ℕ) (owner : Owner) �
 unfolding granted_claims
 shares_apart c cs file owner apart = shares_by c c.what cs file owner refl apart
 
-pub granted_share : (c : Claim) (access deny : Rwd) (cs : List Claim) → c.what ≡ Share access deny → shares_of c.file c.owner (granted_claims c cs) ≡ (access, deny) ∷ []
+-- the owner has its share, or the one that it is united with
+pub granted_share : (c : Claim) (access deny : Rwd) (cs : List Claim) → c.what ≡ Share access deny → shares_of c.file c.owner (granted_claims c cs) ≡ with_share (united_by c.owner c.what (old_shares c.file c.owner cs)) []
 unfolding granted_claims
-granted_share c access deny cs is = ap (λ (w : What). shares_of c.file c.owner (granted_by c w cs)) is ∙ shares_of-shared c access deny cs is
+granted_share c access deny cs is = ap (λ (w : What). shares_of c.file c.owner (granted_by c w cs)) is ∙ shares_of-shared c cs (ap is_share is)
 
 pub granted_spans : (c : Claim) (first last : ℕ) (exclusive : Bool) (cs : List Claim) → IsKept cs → c.what ≡ Range (Bytes first last) exclusive → posix c.owner ≡ true → first ≤ last → spans_of c.file c.owner (granted_claims c cs) ≡ relocked (spans_of c.file c.owner cs) first last (Some (mode_of exclusive))
 unfolding granted_claims
 granted_spans c first last exclusive cs kept is own ends =
     ap (λ (w : What). spans_of c.file c.owner (granted_by c w cs)) is ∙ spans_of-relocked c.file c.owner c.party first last (Some (mode_of exclusive)) cs kept own ends
 
--- ---- what an ask changes
+-- each of these is of this owner on this file, and a share or not
+abbrev AreAt : ℕ → Owner → Bool → List Claim → Type 0
+AreAt file owner share cs = AllByRecursion (λ c. (c.file ≡ file) × (c.owner ≡ owner) × (is_share c.what ≡ share)) cs
 
-nothing_own : (s : CoreState) (a : Ask) (r : Answered) → r.2 ≡ s → IsOwn s a r.0 r.2
-nothing_own s a r e =
-    subst (λ (t : CoreState). IsOwn s a r.0 t) (sym e)
-    (record { claims = λ none. refl; waiters = λ none. refl; refused = λ none nobody. refl; spans = λ file owner apart. refl; shares = λ file owner apart. refl; stay = λ w h. h; names = λ number name h. h })
+all_spans_apart : (file : ℕ) (owner : Owner) (share : Bool) (cs held : List Claim) (at : ℕ) (who : Owner) → AreAt file owner share cs → ((at ≡ file) × (who ≡ owner) × (share ≡ false) → ⊥) → spans_of at who (all_granted cs held) ≡ spans_of at who held
+all_spans_apart file owner share [] held at who are apart = refl
+all_spans_apart file owner share (c ∷ cs) held at who are apart =
+    all_spans_apart file owner share cs (granted_claims c held) at who are.1 apart ∙ spans_apart c held at who (λ same. apart (same.0 ∙ are.0.0, same.1 ∙ are.0.1, sym are.0.2 ∙ same.2))
 
-not_queued : (n : ℕ) → ((number : ℕ) → answers.Queued n ≡ answers.Queued number → ⊥) → ⊥
-not_queued n none = none n refl
+all_shares_apart : (file : ℕ) (owner : Owner) (share : Bool) (cs held : List Claim) (at : ℕ) (who : Owner) → AreAt file owner share cs → ((at ≡ file) × (who ≡ owner) × (share ≡ true) → ⊥) → shares_of at who (all_granted cs held) ≡ shares_of at who held
+all_shares_apart file owner share [] held at who are apart = refl
+all_shares_apart file owner share (c ∷ cs) held at who are apart =
+    all_shares_apart file owner share cs (granted_claims c held) at who are.1 apart ∙ shares_apart c held at who (λ same. apart (same.0 ∙ are.0.0, same.1 ∙ are.0.1, sym are.0.2 ∙ same.2))
 
-not_granted : (c : Claim) → ((claim : Claim) → answers.Granted c ≡ answers.Granted claim → ⊥) → ⊥
-not_granted c none = none c refl
-
-lock_own : (left : Rooms) (s : CoreState) (a : Ask) (claim : Claim) (r : Answered) → claim.file ≡ a.file → claim.owner ≡ asker a s.names → is_share claim.what ≡ asks_share a.act → LockCase left s a claim r → IsOwn s a r.0 r.2
-lock_own left s a claim r file owner what (Late reclaim e) = nothing_own s a r (ap (λ (x : Answered). x.2) e)
-lock_own left s a claim r file owner what (Conflicts c timely hurries is e) = nothing_own s a r (ap (λ (x : Answered). x.2) e)
-lock_own left s a claim r file owner what (Crowded c limit timely blocks is passes e) = nothing_own s a r (ap (λ (x : Answered). x.2) e)
-lock_own left s a claim r file owner what (NoRoom limit timely is passes e) = nothing_own s a r (ap (λ (x : Answered). x.2) e)
-lock_own left s a claim r file owner what (Waits c timely blocks is passes e) =
-    subst (λ (x : Answered). IsOwn s a x.0 x.2) (sym e)
-    (record {
-      claims = λ none. refl;
-      waiters = λ none. absurd (not_queued (s.counter + 1) none);
-      refused = λ none nobody. absurd (not_queued (s.counter + 1) nobody);
-      spans = λ at who apart. refl;
-      shares = λ at who apart. refl;
-      stay = λ w h. in_append_left w s.waiters (waiter_of (s.counter + 1) a claim ∷ []) h;
-      names = both_go_on a s.names;
-    })
-lock_own left s a claim r file owner what (Goes timely is passes e) =
-    subst (λ (x : Answered). IsOwn s a x.0 x.2) (sym e)
-    (record {
-      claims = λ none. absurd (not_granted claim none);
-      waiters = λ none. refl;
-      refused = λ none nobody. absurd (not_granted claim none);
-      spans = λ at who apart. spans_apart claim s.claims at who (λ same. apart (same.0 ∙ file, same.1 ∙ owner, sym what ∙ same.2));
-      shares = λ at who apart. shares_apart claim s.claims at who (λ same. apart (same.0 ∙ file, same.1 ∙ owner, sym what ∙ same.2));
-      stay = λ w h. h;
-      names = both_go_on a s.names;
-    })
-
-unlock_own : (s : CoreState) (a : Ask) (claim : Claim) (first last : ℕ) (r : Answered) → asks_share a.act ≡ false → claim.file ≡ a.file → (holds_byte claim.file claim.owner first last s.claims ≡ true → claim.owner ≡ asker a s.names) → UnlockCase s claim first last r → IsOwn s a r.0 r.2
-unlock_own s a claim first last r act file owner (Nothing none e) = nothing_own s a r (ap (λ (x : Answered). x.2) e)
-unlock_own s a claim first last r act file owner (Splits holds full e) = nothing_own s a r (ap (λ (x : Answered). x.2) e)
-unlock_own s a claim first last r act file owner (Leaves holds fits e) =
-    subst (λ (x : Answered). IsOwn s a x.0 x.2) (sym e)
-    (record {
-      claims = λ none. absurd (not_granted claim none);
-      waiters = λ none. refl;
-      refused = λ none nobody. absurd (not_granted claim none);
-      spans = λ at who apart. spans_of-relocked_apart claim.file claim.owner claim.party first last None s.claims at who (λ same. apart (same.0 ∙ file, same.1 ∙ owner holds, act));
-      shares = λ at who apart. shares_of-relocked claim.file claim.owner claim.party first last None s.claims at who;
-      stay = λ w h. h;
-      names = λ number name h. h;
-    })
-
-asked_own : (n : ℕ) (left : Rooms) (s : CoreState) (a : Ask) (o : Option What) → ((what : What) → o ≡ Some what → is_share what ≡ asks_share a.act) → IsOwn s a (claim_asked n left s a o).0 (claim_asked n left s a o).2
-asked_own n left s a None kind = nothing_own s a (answers.NotHeld, [], s) refl
-asked_own n left s a (Some what) kind =
-    lock_own left s a (asked_claim a what s.names) (lock_result n left s a (asked_claim a what s.names)) refl refl (kind what refl) (lock_case n left s a (asked_claim a what s.names))
+-- ---- the ways in which an ask goes
 
 -- who holds a byte is the asker
 holder_is : (s : CoreState) (a : Ask) (extent : Extent) (first last : ℕ) → IsGood s → is_client a.owner a.party ≡ true
@@ -132,105 +96,186 @@ holder_is s a extent first last good client holds =
     let claim = known_claim a extent false s.names in
     known_owner_is a s.names claim.party good.few client (holder_kept s a extent false first last good client holds)
 
-unlocked_own : (s : CoreState) (a : Ask) (extent : Extent) → asks_share a.act ≡ false → IsGood s → is_client a.owner a.party ≡ true → (let r = unlocked s (known_claim a extent false s.names) extent in IsOwn s a r.0 r.2)
+-- an ask is refused, finds a test free, has what it asks for, waits, or unlocks what its owner has
+pub data AskWay (s : CoreState) (a : Ask) (r : Answered) : Type 0 where
+  Stays : (answer : Answer) → is_refusal answer ≡ true → r ≡ (answer, [], s) → AskWay s a r
+  Tests : (c : Claim) → asks_to_hold a.act ≡ false → r ≡ (answers.Granted c, [], s) → AskWay s a r
+  Holds : (c : Claim) (claims : List Claim) → claims ≡ asked_claims a (asked_whats a.act) s.names → asks_to_hold a.act ≡ true → r ≡ (answers.Granted c, [], named a (held_with claims s)) → AskWay s a r
+  Waits : (claims : List Claim) → claims ≡ asked_claims a (asked_whats a.act) s.names → r ≡ (answers.Queued (s.counter + 1), [], waiting a claims s) → AskWay s a r
+  Frees : (claim : Claim) (first last : ℕ) → asks_to_hold a.act ≡ false → asks_share a.act ≡ false → claim.file ≡ a.file → claim.owner ≡ asker a s.names → r ≡ (answers.Granted claim, [], record s { claims = unlocked_claims claim first last s.claims }) → AskWay s a r
+
+asked_way : (n : ℕ) (left : Rooms) (s : CoreState) (a : Ask) (claims : List Claim) → claims ≡ asked_claims a (asked_whats a.act) s.names → asks_to_hold a.act ≡ true → AskWay s a (claims_asked n left s a claims)
+unfolding claims_asked
+asked_way n left s a [] e holds = Stays answers.NotHeld refl refl
+asked_way n left s a (c ∷ cs) e holds = by (claims_asked n left s a (c ∷ cs)) (ask_case n left s a c cs) where
+  by : (r : Answered) → AskCase left s a (c ∷ cs) c r → AskWay s a r
+  by r (Goes pass is) = Holds c (c ∷ cs) e holds is
+  by r (Queues may room is) = Waits (c ∷ cs) e is
+  by r (Refuses answer refused is) = Stays answer refused is
+
+tested_way : (s : CoreState) (a : Ask) (claim : Claim) → asks_to_hold a.act ≡ false → AskWay s a (tested s a claim, [], s)
+unfolding tested
+tested_way s a claim holds = by a.reclaim (least s.names (test_blockers s claim)) where
+  by : (b : Bool) (o : Option Claim) → AskWay s a (if b then answers.NoGrace s.clock else test_answered claim o, [], s)
+  by true o = Stays (answers.NoGrace s.clock) refl refl
+  by false None = Tests claim holds refl
+  by false (Some c) = Stays (answers.Conflict c) refl refl
+
+unlocked_way : (s : CoreState) (a : Ask) (extent : Extent) → a.act ≡ Unlock extent → IsGood s → is_client a.owner a.party ≡ true → AskWay s a (unlocked s (known_claim a extent false s.names) extent)
 unfolding unlocked
-unlocked_own s a (Bytes first last) act good client =
-    let claim = known_claim a (Bytes first last) false s.names in
-    unlock_own s a claim first last (unlocked_bytes s claim first last) act refl (holder_is s a (Bytes first last) first last good client) (unlock_case s claim first last)
-unlocked_own s a (Empty offset) act good client = nothing_own s a (answers.NotHeld, [], s) refl
+unlocked_way s a (Empty offset) act good client = Stays answers.NotHeld refl refl
+unlocked_way s a (Bytes first last) act good client = by (holds_byte claim.file claim.owner first last s.claims) (nat_le (left_by_unlock s claim first last) most_claims) refl where
+  claim : Claim
+  claim = known_claim a (Bytes first last) false s.names
 
--- what is asked for is a share where a share is asked for
-share_asked : (a : Ask) (access deny : Rwd) (what : What) → a.act ≡ acts.Share access deny → asked_what (acts.Share access deny) ≡ Some what → is_share what ≡ asks_share a.act
-share_asked a access deny what act e = ap is_share (same_what what (Share access deny) (sym e)) ∙ sym (ap asks_share act)
+  by : (h f : Bool) → holds_byte claim.file claim.owner first last s.claims ≡ h → AskWay s a (left_so s claim first last h f)
+  by false f none = Stays answers.NotHeld refl refl
+  by true false holds = Stays (answers.Full most_claims) refl refl
+  by true true holds = Frees claim first last (ap asks_to_hold act) (ap asks_share act) refl (holder_is s a (Bytes first last) first last good client holds) refl
 
-range_asked : (a : Ask) (o : Option (Extent × Bool)) (what : What) → asks_share a.act ≡ false → option_map range_what o ≡ Some what → is_share what ≡ asks_share a.act
-range_asked a None what act e = absurd cc
-range_asked a (Some range) what act e = ap is_share (same_what what (Range range.0 range.1) (sym e)) ∙ sym act
+acted_way : (n : ℕ) (left : Rooms) (s : CoreState) (a : Ask) (act : Act) → a.act ≡ act → IsGood s → is_client a.owner a.party ≡ true → AskWay s a (acted n left s a act)
+acted_way n left s a (acts.Share access deny) is good client = asked_way n left s a _ (ap (λ (x : Act). asked_claims a (asked_whats x) s.names) (sym is)) (ap asks_to_hold is)
+acted_way n left s a (Ranges ranges) is good client = asked_way n left s a _ (ap (λ (x : Act). asked_claims a (asked_whats x) s.names) (sym is)) (ap asks_to_hold is)
+acted_way n left s a (Test extent exclusive) is good client = tested_way s a (known_claim a extent exclusive s.names) (ap asks_to_hold is)
+acted_way n left s a (Unlock extent) is good client = unlocked_way s a extent is good client
 
-acted_own : (n : ℕ) (left : Rooms) (s : CoreState) (a : Ask) (act : Act) → a.act ≡ act → IsGood s → is_client a.owner a.party ≡ true → IsOwn s a (acted n left s a act).0 (acted n left s a act).2
-acted_own n left s a (acts.Share access deny) is good client = asked_own n left s a (asked_what (acts.Share access deny)) (λ what e. share_asked a access deny what is e)
-acted_own n left s a (Ranges ranges) is good client = asked_own n left s a (asked_what (Ranges ranges)) (λ what e. range_asked a (slice_get ranges 0) what (ap asks_share is) e)
-acted_own n left s a (Test extent exclusive) is good client = nothing_own s a (acted n left s a (Test extent exclusive)) refl
-acted_own n left s a (Unlock extent) is good client = unlocked_own s a extent (ap asks_share is) good client
+pub ask_way : (n : ℕ) (left : Rooms) (s : CoreState) (a : Ask) → IsGood s → is_client a.owner a.party ≡ true → AskWay s a (ask n left s a)
+unfolding ask
+ask_way n left s a good client = acted_way n left s a a.act refl good client
+
+-- ---- what an ask changes
+
+not_queued : (n : ℕ) → ((number : ℕ) → answers.Queued n ≡ answers.Queued number → ⊥) → ⊥
+not_queued n none = none n refl
+
+not_granted : (c : Claim) → ((claim : Claim) → answers.Granted c ≡ answers.Granted claim → ⊥) → ⊥
+not_granted c none = none c refl
+
+-- all that is asked for is of the asker on its file, and of one kind
+asked_at : (a : Ask) (s : CoreState) (act : Act) → AreAt a.file (asker a s.names) (asks_share act) (asked_claims a (asked_whats act) s.names)
+asked_at a s (acts.Share access deny) = ((refl, refl, refl), tt)
+asked_at a s (Ranges ranges) = each ranges where
+  each : (ranges : List (Extent × Bool)) → AreAt a.file (asker a s.names) false (asked_claims a (map range_what ranges) s.names)
+  each [] = tt
+  each (r ∷ rs) = ((refl, refl, refl), each rs)
+asked_at a s (Test extent exclusive) = tt
+asked_at a s (Unlock extent) = tt
+
+same_own : (s : CoreState) (a : Ask) (answer : Answer) → IsOwn s a answer s
+same_own s a answer = record { claims = λ none. refl; waiters = λ none. refl; refused = λ none nobody. refl; spans = λ file owner apart. refl; shares = λ file owner apart. refl; stay = λ w h. h; names = λ number name h. h }
+
+way_own : (s : CoreState) (a : Ask) (r : Answered) → AskWay s a r → IsOwn s a r.0 r.2
+unfolding held_with
+way_own s a r (Stays answer refused e) = subst (λ (x : Answered). IsOwn s a x.0 x.2) (sym e) (same_own s a answer)
+way_own s a r (Tests c holds e) = subst (λ (x : Answered). IsOwn s a x.0 x.2) (sym e) (same_own s a (answers.Granted c))
+way_own s a r (Holds c claims is holds e) =
+    let are : AreAt a.file (asker a s.names) (asks_share a.act) claims = subst (λ (cs : List Claim). AreAt a.file (asker a s.names) (asks_share a.act) cs) (sym is) (asked_at a s a.act) in
+    subst (λ (x : Answered). IsOwn s a x.0 x.2) (sym e)
+    (record {
+      claims = λ none. absurd (not_granted c none);
+      waiters = λ none. refl;
+      refused = λ none nobody. absurd (not_granted c none);
+      spans = λ at who apart. all_spans_apart a.file (asker a s.names) (asks_share a.act) claims s.claims at who are apart;
+      shares = λ at who apart. all_shares_apart a.file (asker a s.names) (asks_share a.act) claims s.claims at who are apart;
+      stay = λ w h. h;
+      names = both_go_on a s.names;
+    })
+way_own s a r (Waits claims is e) =
+    subst (λ (x : Answered). IsOwn s a x.0 x.2) (sym e)
+    (record {
+      claims = λ none. refl;
+      waiters = λ none. absurd (not_queued (s.counter + 1) none);
+      refused = λ none nobody. absurd (not_queued (s.counter + 1) nobody);
+      spans = λ at who apart. refl;
+      shares = λ at who apart. refl;
+      stay = λ w h. in_append_left w s.waiters (waiter_of (s.counter + 1) a claims ∷ []) h;
+      names = both_go_on a s.names;
+    })
+way_own s a r (Frees claim first last holds act file owner e) =
+    subst (λ (x : Answered). IsOwn s a x.0 x.2) (sym e)
+    (record {
+      claims = λ none. absurd (not_granted claim none);
+      waiters = λ none. refl;
+      refused = λ none nobody. absurd (not_granted claim none);
+      spans = λ at who apart. spans_of-relocked_apart claim.file claim.owner claim.party first last None s.claims at who (λ same. apart (same.0 ∙ file, same.1 ∙ owner, act));
+      shares = λ at who apart. shares_of-relocked claim.file claim.owner claim.party first last None s.claims at who;
+      stay = λ w h. h;
+      names = λ number name h. h;
+    })
 
 pub ask_own : (n : ℕ) (left : Rooms) (s : CoreState) (a : Ask) → IsGood s → is_client a.owner a.party ≡ true → IsOwn s a (ask n left s a).0 (ask n left s a).2
-unfolding ask
-ask_own n left s a good client = acted_own n left s a a.act refl good client
+ask_own n left s a good client = way_own s a (ask n left s a) (ask_way n left s a good client)
 
 -- ---- what is granted is held
 
-lock_held : (left : Rooms) (s : CoreState) (a : Ask) (claim c : Claim) (first last : ℕ) (exclusive : Bool) (r : Answered) → IsKept s.claims → claim.what ≡ Range (Bytes first last) exclusive → posix claim.owner ≡ true → first ≤ last → LockCase left s a claim r → r.0 ≡ answers.Granted c
-    → spans_of claim.file claim.owner r.2.claims ≡ relocked (spans_of claim.file claim.owner s.claims) first last (Some (mode_of exclusive))
-lock_held left s a claim c first last exclusive r kept is own ends (Late reclaim e) at = let two : answers.NoGrace s.clock ≡ answers.Granted c = sym (ap (λ (x : Answered). x.0) e) ∙ at in absurd cc
-lock_held left s a claim c first last exclusive r kept is own ends (Conflicts d timely hurries blocks e) at = let two : answers.Conflict d ≡ answers.Granted c = sym (ap (λ (x : Answered). x.0) e) ∙ at in absurd cc
-lock_held left s a claim c first last exclusive r kept is own ends (Crowded d limit timely waits blocks passes e) at = let two : answers.Full limit ≡ answers.Granted c = sym (ap (λ (x : Answered). x.0) e) ∙ at in absurd cc
-lock_held left s a claim c first last exclusive r kept is own ends (NoRoom limit timely blocks passes e) at = let two : answers.Full limit ≡ answers.Granted c = sym (ap (λ (x : Answered). x.0) e) ∙ at in absurd cc
-lock_held left s a claim c first last exclusive r kept is own ends (Waits d timely waits blocks passes e) at = let two : answers.Queued (s.counter + 1) ≡ answers.Granted c = sym (ap (λ (x : Answered). x.0) e) ∙ at in absurd cc
-lock_held left s a claim c first last exclusive r kept is own ends (Goes timely blocks passes e) at =
-    ap (λ (x : Answered). spans_of claim.file claim.owner x.2.claims) e ∙ granted_spans claim first last exclusive s.claims kept is own ends
+-- what is refused isn't granted
+refused_not : (answer : Answer) (c : Claim) → is_refusal answer ≡ true → answer ≡ answers.Granted c → ⊥
+refused_not answer c refused e = both_ways (is_refusal answer) (ap is_refusal e) refused
+
+-- an ask for one thing that is granted leaves it held
+pub granted_way : (s : CoreState) (a : Ask) (what : What) (c : Claim) (r : Answered) → asked_what a.act ≡ Some what → asks_to_hold a.act ≡ true → AskWay s a r → r.0 ≡ answers.Granted c → r.2.claims ≡ granted_claims (asked_claim a what s.names) s.claims
+unfolding held_with
+granted_way s a what c r act holds (Stays answer refused e) at = absurd (refused_not answer c refused (sym (ap (λ (x : Answered). x.0) e) ∙ at))
+granted_way s a what c r act holds (Tests d nothing e) at = absurd (both_ways (asks_to_hold a.act) nothing holds)
+granted_way s a what c r act holds (Holds d claims is held e) at =
+    ap (λ (x : Answered). x.2.claims) e ∙ ap (λ (cs : List Claim). all_granted cs s.claims) (is ∙ ap (λ (w : List What). asked_claims a w s.names) (same_list what (asked_whats a.act) act))
+granted_way s a what c r act holds (Waits claims is e) at = let two : answers.Queued (s.counter + 1) ≡ answers.Granted c = sym (ap (λ (x : Answered). x.0) e) ∙ at in absurd cc
+granted_way s a what c r act holds (Frees claim first last nothing share file owner e) at = absurd (both_ways (asks_to_hold a.act) nothing holds)
 
 -- the owner has what it was granted
 pub ask_held : (n : ℕ) (left : Rooms) (s : CoreState) (a : Ask) (first last : ℕ) (exclusive : Bool) (c : Claim) → IsGood s → is_client a.owner a.party ≡ true → first ≤ last → a.act ≡ Ranges ((Bytes first last, exclusive) ∷ []) → (ask n left s a).0 ≡ answers.Granted c
     → spans_of a.file (asker a s.names) (ask n left s a).2.claims ≡ relocked (spans_of a.file (asker a s.names) s.claims) first last (Some (mode_of exclusive))
 ask_held n left s a first last exclusive c good client ends act at =
-    let claim = asked_claim a (Range (Bytes first last) exclusive) s.names in
-    let is = lock_is n left s a (Range (Bytes first last) exclusive) (ap asked_what act) in
-    let own = (asked_known a (Range (Bytes first last) exclusive) s.names client ends).0.1 in
-    ap (λ (x : Answered). spans_of a.file (asker a s.names) x.2.claims) is
-    ∙ lock_held left s a claim c first last exclusive (lock_result n left s a claim) good.kept refl own ends (lock_case n left s a claim) (sym (ap (λ (x : Answered). x.0) is) ∙ at)
+    let what = Range (Bytes first last) exclusive in
+    ap (λ (cs : List Claim). spans_of a.file (asker a s.names) cs) (granted_way s a what c (ask n left s a) (ap asked_what act) (ap asks_to_hold act) (ask_way n left s a good client) at)
+    ∙ granted_spans (asked_claim a what s.names) first last exclusive s.claims good.kept refl (asked_known a what s.names client ends).0.1 ends
 
-share_held : (left : Rooms) (s : CoreState) (a : Ask) (claim c : Claim) (access deny : Rwd) (r : Answered) → claim.what ≡ Share access deny → LockCase left s a claim r → r.0 ≡ answers.Granted c → shares_of claim.file claim.owner r.2.claims ≡ (access, deny) ∷ []
-share_held left s a claim c access deny r is (Late reclaim e) at = let two : answers.NoGrace s.clock ≡ answers.Granted c = sym (ap (λ (x : Answered). x.0) e) ∙ at in absurd cc
-share_held left s a claim c access deny r is (Conflicts d timely hurries blocks e) at = let two : answers.Conflict d ≡ answers.Granted c = sym (ap (λ (x : Answered). x.0) e) ∙ at in absurd cc
-share_held left s a claim c access deny r is (Crowded d limit timely waits blocks passes e) at = let two : answers.Full limit ≡ answers.Granted c = sym (ap (λ (x : Answered). x.0) e) ∙ at in absurd cc
-share_held left s a claim c access deny r is (NoRoom limit timely blocks passes e) at = let two : answers.Full limit ≡ answers.Granted c = sym (ap (λ (x : Answered). x.0) e) ∙ at in absurd cc
-share_held left s a claim c access deny r is (Waits d timely waits blocks passes e) at = let two : answers.Queued (s.counter + 1) ≡ answers.Granted c = sym (ap (λ (x : Answered). x.0) e) ∙ at in absurd cc
-share_held left s a claim c access deny r is (Goes timely blocks passes e) at =
-    ap (λ (x : Answered). shares_of claim.file claim.owner x.2.claims) e ∙ granted_share claim access deny s.claims is
+-- and the share, united with the one that it had where it is NFSv4's
+pub ask_shares : (n : ℕ) (left : Rooms) (s : CoreState) (a : Ask) (access deny : Rwd) (c : Claim) → IsGood s → is_client a.owner a.party ≡ true → a.act ≡ acts.Share access deny → (ask n left s a).0 ≡ answers.Granted c
+    → shares_of a.file (asker a s.names) (ask n left s a).2.claims ≡ with_share (united_by (asker a s.names) (Share access deny) (old_shares a.file (asker a s.names) s.claims)) []
+ask_shares n left s a access deny c good client act at =
+    ap (λ (cs : List Claim). shares_of a.file (asker a s.names) cs) (granted_way s a (Share access deny) c (ask n left s a) (ap asked_what act) (ap asks_to_hold act) (ask_way n left s a good client) at)
+    ∙ granted_share (asked_claim a (Share access deny) s.names) access deny s.claims refl
 
--- and the share, in the place of the one that it had
-pub ask_shared : (n : ℕ) (left : Rooms) (s : CoreState) (a : Ask) (access deny : Rwd) (c : Claim) → a.act ≡ acts.Share access deny → (ask n left s a).0 ≡ answers.Granted c → shares_of a.file (asker a s.names) (ask n left s a).2.claims ≡ (access, deny) ∷ []
-ask_shared n left s a access deny c act at =
-    let claim = asked_claim a (Share access deny) s.names in
-    let is = lock_is n left s a (Share access deny) (ap asked_what act) in
-    ap (λ (x : Answered). shares_of a.file (asker a s.names) x.2.claims) is
-    ∙ share_held left s a claim c access deny (lock_result n left s a claim) refl (lock_case n left s a claim) (sym (ap (λ (x : Answered). x.0) is) ∙ at)
-
-unlock_held : (s : CoreState) (claim c : Claim) (first last : ℕ) (r : Answered) → IsKept s.claims → posix claim.owner ≡ true → first ≤ last → UnlockCase s claim first last r → r.0 ≡ answers.Granted c
-    → (holds_byte claim.file claim.owner first last s.claims ≡ true) × (spans_of claim.file claim.owner r.2.claims ≡ relocked (spans_of claim.file claim.owner s.claims) first last None)
-unlock_held s claim c first last r kept own ends (Nothing none e) at = let two : answers.NotHeld ≡ answers.Granted c = sym (ap (λ (x : Answered). x.0) e) ∙ at in absurd cc
-unlock_held s claim c first last r kept own ends (Splits holds full e) at = let two : answers.Full most_claims ≡ answers.Granted c = sym (ap (λ (x : Answered). x.0) e) ∙ at in absurd cc
-unlock_held s claim c first last r kept own ends (Leaves holds fits e) at =
-    (holds, ap (λ (x : Answered). spans_of claim.file claim.owner x.2.claims) e ∙ spans_of-relocked claim.file claim.owner claim.party first last None s.claims kept own ends)
+-- else in the place of the one that it had
+pub ask_shared : (n : ℕ) (left : Rooms) (s : CoreState) (a : Ask) (access deny : Rwd) (c : Claim) → IsGood s → is_client a.owner a.party ≡ true → unites (asker a s.names) ≡ false → a.act ≡ acts.Share access deny → (ask n left s a).0 ≡ answers.Granted c
+    → shares_of a.file (asker a s.names) (ask n left s a).2.claims ≡ (access, deny) ∷ []
+ask_shared n left s a access deny c good client alone act at =
+    ask_shares n left s a access deny c good client act at
+    ∙ ap (λ (d : Claim). with_share d.what []) (not_united (asked_claim a (Share access deny) s.names) s.claims alone)
 
 -- and no more what it gave up
 pub ask_left : (n : ℕ) (left : Rooms) (s : CoreState) (a : Ask) (first last : ℕ) (c : Claim) → IsGood s → is_client a.owner a.party ≡ true → first ≤ last → a.act ≡ Unlock (Bytes first last) → (ask n left s a).0 ≡ answers.Granted c
     → spans_of a.file (asker a s.names) (ask n left s a).2.claims ≡ relocked (spans_of a.file (asker a s.names) s.claims) first last None
-ask_left n left s a first last c good client ends act at =
-    let claim = known_claim a (Bytes first last) false s.names in
-    let is = unlock_is n left s a first last act in
-    let found = unlock_held s claim c first last (unlocked_bytes s claim first last) good.kept (known_posix a s.names client) ends (unlock_case s claim first last) (sym (ap (λ (x : Answered). x.0) is) ∙ at) in
-    let same = holder_is s a (Bytes first last) first last good client found.0 in
-    ap (λ (x : Answered). spans_of a.file (asker a s.names) x.2.claims) is
-    ∙ subst (λ (o : Owner). spans_of a.file o (unlocked_bytes s claim first last).2.claims ≡ relocked (spans_of a.file o s.claims) first last None) same found.1
+ask_left n left s a first last c good client ends act at = by (holds_byte claim.file claim.owner first last s.claims) (nat_le (left_by_unlock s claim first last) most_claims) refl refl where
+  claim : Claim
+  claim = known_claim a (Bytes first last) false s.names
+
+  is : (h f : Bool) → holds_byte claim.file claim.owner first last s.claims ≡ h → nat_le (left_by_unlock s claim first last) most_claims ≡ f → ask n left s a ≡ left_so s claim first last h f
+  is h f e k = unlock_is n left s a first last act ∙ unlock_by s claim first last h f e k
+
+  by : (h f : Bool) → holds_byte claim.file claim.owner first last s.claims ≡ h → nat_le (left_by_unlock s claim first last) most_claims ≡ f
+      → spans_of a.file (asker a s.names) (ask n left s a).2.claims ≡ relocked (spans_of a.file (asker a s.names) s.claims) first last None
+  by false f e k = let two : answers.NotHeld ≡ answers.Granted c = sym (ap (λ (x : Answered). x.0) (is false f e k)) ∙ at in absurd cc
+  by true false e k = let two : answers.Full most_claims ≡ answers.Granted c = sym (ap (λ (x : Answered). x.0) (is true false e k)) ∙ at in absurd cc
+  by true true e k =
+      ap (λ (x : Answered). spans_of a.file (asker a s.names) x.2.claims) (is true true e k)
+      ∙ subst (λ (o : Owner). spans_of a.file o (unlocked_claims claim first last s.claims) ≡ relocked (spans_of a.file o s.claims) first last None) (holder_is s a (Bytes first last) first last good client e)
+      (spans_of-relocked claim.file claim.owner claim.party first last None s.claims good.kept (known_posix a s.names client) ends)
 
 -- ---- who waits stands in the queue
 
-lock_waits : (left : Rooms) (s : CoreState) (a : Ask) (claim : Claim) (number : ℕ) (r : Answered) → LockCase left s a claim r → r.0 ≡ answers.Queued number → r.2.waiters ≡ s.waiters ++ waiter_of number a claim ∷ []
-lock_waits left s a claim number r (Late reclaim e) at = let two : answers.NoGrace s.clock ≡ answers.Queued number = sym (ap (λ (x : Answered). x.0) e) ∙ at in absurd cc
-lock_waits left s a claim number r (Conflicts d timely hurries blocks e) at = let two : answers.Conflict d ≡ answers.Queued number = sym (ap (λ (x : Answered). x.0) e) ∙ at in absurd cc
-lock_waits left s a claim number r (Crowded d limit timely waits blocks passes e) at = let two : answers.Full limit ≡ answers.Queued number = sym (ap (λ (x : Answered). x.0) e) ∙ at in absurd cc
-lock_waits left s a claim number r (NoRoom limit timely blocks passes e) at = let two : answers.Full limit ≡ answers.Queued number = sym (ap (λ (x : Answered). x.0) e) ∙ at in absurd cc
-lock_waits left s a claim number r (Goes timely blocks passes e) at = let two : answers.Granted claim ≡ answers.Queued number = sym (ap (λ (x : Answered). x.0) e) ∙ at in absurd cc
-lock_waits left s a claim number r (Waits d timely waits blocks passes e) at =
-    ap (λ (x : Answered). x.2.waiters) e ∙ ap (λ (n : ℕ). s.waiters ++ waiter_of n a claim ∷ []) (same_number (s.counter + 1) number (sym (ap (λ (x : Answered). x.0) e) ∙ at))
+waits_way : (s : CoreState) (a : Ask) (number : ℕ) (r : Answered) → AskWay s a r → r.0 ≡ answers.Queued number → r.2.waiters ≡ s.waiters ++ waiter_of number a (asked_claims a (asked_whats a.act) s.names) ∷ []
+waits_way s a number r (Stays answer refused e) at = absurd (both_ways (is_refusal answer) (ap is_refusal (sym (ap (λ (x : Answered). x.0) e) ∙ at)) refused)
+waits_way s a number r (Tests c holds e) at = let two : answers.Granted c ≡ answers.Queued number = sym (ap (λ (x : Answered). x.0) e) ∙ at in absurd cc
+waits_way s a number r (Holds c claims is holds e) at = let two : answers.Granted c ≡ answers.Queued number = sym (ap (λ (x : Answered). x.0) e) ∙ at in absurd cc
+waits_way s a number r (Frees c first last holds act file owner e) at = let two : answers.Granted c ≡ answers.Queued number = sym (ap (λ (x : Answered). x.0) e) ∙ at in absurd cc
+waits_way s a number r (Waits claims is e) at =
+    ap (λ (x : Answered). x.2.waiters) e ∙ (λ i. s.waiters ++ waiter_of (same_number (s.counter + 1) number (sym (ap (λ (x : Answered). x.0) e) ∙ at) i) a (is i) ∷ [])
   where
     same_number : (x y : ℕ) → answers.Queued x ≡ answers.Queued y → x ≡ y
     same_number x y e = cc
 
-pub ask_waits : (n : ℕ) (left : Rooms) (s : CoreState) (a : Ask) (what : What) (number : ℕ) → asked_what a.act ≡ Some what → (ask n left s a).0 ≡ answers.Queued number
-    → (ask n left s a).2.waiters ≡ s.waiters ++ waiter_of number a (asked_claim a what s.names) ∷ []
-ask_waits n left s a what number act at =
-    let claim = asked_claim a what s.names in
-    let is = lock_is n left s a what act in
-    ap (λ (x : Answered). x.2.waiters) is ∙ lock_waits left s a claim number (lock_result n left s a claim) (lock_case n left s a claim) (sym (ap (λ (x : Answered). x.0) is) ∙ at)
+pub ask_waits : (n : ℕ) (left : Rooms) (s : CoreState) (a : Ask) (number : ℕ) → IsGood s → is_client a.owner a.party ≡ true → (ask n left s a).0 ≡ answers.Queued number
+    → (ask n left s a).2.waiters ≡ s.waiters ++ waiter_of number a (asked_claims a (asked_whats a.act) s.names) ∷ []
+ask_waits n left s a number good client at = waits_way s a number (ask n left s a) (ask_way n left s a good client) at

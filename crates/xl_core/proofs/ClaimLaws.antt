@@ -1,8 +1,8 @@
 -- Claims of known clients stay so, and stay compatible, when a claim that nothing blocks is granted, and when a range is
 -- unlocked.
 use Rattle.std.proofs.Common.{◌≡◌, ℕ, ◌+◌, ◌<◌, ◌≤◌, Bool, true, false, not, cond, eqb, leb, ◌&&◌, ◌||◌, ◌⊎◌, inl, inr, List, [], ◌∷◌, length, map, Option, Some, None, refl, sym, ap, subst, ◌∙◌, arith}
-use Rattle.std.specs.List.{AllByRecursion, filter, list_any}
-use Rattle.std.proofs.lemmas.Bool.{cases_Bool, and_parts, and_from, and_left, and_right, and_cases, or_left, or_right, or_parts, not-true, not-false, not_from_false, eqb-true, eq-eqb, leb-true, lt-leb, both_ways}
+use Rattle.std.specs.List.{AllByRecursion, list_any}
+use Rattle.std.proofs.lemmas.Bool.{cases_Bool, and_parts, and_from, and_left, and_right, and_cases, or_left, or_right, or_parts, not-true, not-false, not_from_false, or_cases, eqb-true, eq-eqb, leb-true, lt-leb, both_ways}
 use Rattle.xl_base.specs.Lists.{IsIn, Pairwise}
 use Rattle.xl_base.proofs.Members.{all_in, all_from, in_map_from, in_filter_from, pairwise_filter}
 use Rattle.xl_base.specs.declared.name.Owner.{Owner}
@@ -10,6 +10,7 @@ use Rattle.xl_base.specs.declared.name.Party.{Party}
 use Rattle.xl_matrix.specs.Equal.{same_owners}
 use Rattle.xl_matrix.specs.Matrix.{compat, fit_by, lock_by, lock_on, locks_agree}
 use Rattle.xl_matrix.specs.Owners.{posix}
+use Rattle.xl_matrix.specs.Rights.{common}
 use Rattle.xl_matrix.specs.declared.claim.Claim.{Claim}
 use Rattle.xl_matrix.specs.declared.claim.Extent.{Extent}
 use Rattle.xl_matrix.specs.declared.claim.Extent.TheVariants.{Bytes, Empty}
@@ -18,25 +19,22 @@ use Rattle.xl_matrix.specs.declared.claim.What.TheVariants.{Share, Range, Cache}
 use Rattle.xl_matrix.proofs.EqualLaws.{eqb-sym, same_owners-sym, same_parties-sym}
 use Rattle.xl_matrix.specs.declared.claim.Rwd.{Rwd}
 use Rattle.xl_matrix.proofs.PartLaws.{compat_bytes}
-use Rattle.xl_matrix.proofs.SideLaws.{compat-sym}
+use Rattle.xl_matrix.proofs.SideLaws.{and-sym, compat-sym}
 use Rattle.xl_names.specs.Names.{AreDistinct}
 use Rattle.xl_names.specs.declared.name.Name.{Name}
-use Rattle.xl_spans.specs.Spans.{within, mode_at, IsCanonical, relocked, touches}
+use Rattle.xl_spans.specs.Spans.{within, mode_at, IsCanonical, relocked}
 use Rattle.xl_spans.specs.declared.span.Mode.{Mode}
 use Rattle.xl_spans.specs.declared.span.Span.{Span}
 use Rattle.xl_spans.proofs.Bytes.{relocked_mode, AreRanges}
 use Rattle.xl_spans.proofs.Chains.{canonical_ranges, canonical_rest, relocked_canonical, IsChain}
-use Rattle.xl_spans.proofs.Untouched.{canonical_filter, relocked_untouched}
-use Rattle.xl_table.specs.Flat.{blocks, is_own, is_met_by_own}
-use Rattle.xl_table.specs.Held.{mode_of, is_range, with_span, is_of, spans_of, IsKept}
+use Rattle.xl_table.specs.Flat.{blocks, is_blocked, is_own, is_met_by_own}
+use Rattle.xl_table.specs.Held.{IsPosixBy, IsPosix, is_share, mode_of, is_range, with_span, is_of, spans_of, IsKept}
 use Rattle.xl_table.proofs.FlatLaws.{all_inserted as all_put, pairwise_into}
-use Rattle.xl_table.proofs.InsertLaws.{sound_inserted_other}
-use Rattle.xl_table.proofs.KeptLaws.{kept_inserted}
-use Rattle.xl_core.specs.Good.{IsRangeBy, IsRange, IsPosixBy, IsPosix, are_kept, IsKnown, is_single_by, is_single}
-use Rattle.xl_core.specs.Relock.{most_claims, is_exclusive, range_claim, untouched, fresh, relocked_in, relock_fits, is_share, is_share_of, unshared, old_shares, shared_in, share_fits, granted_by, granted_claims, grant_fits_by, grant_fits}
+use Rattle.xl_core.specs.Good.{IsRangeBy, IsRange, are_kept, IsKnown, is_single_by, is_single}
+use Rattle.xl_table.specs.Relock.{most_claims, all_inserted, is_exclusive, range_claim, is_range_of, unranged, relocked_in, is_share_of, unshared, old_shares, either_right, united_what, united_with, unites, united_by, united, shared_in, granted_by, granted_claims}
 use Rattle.xl_core.proofs.KnownLaws.{one_party}
-use Rattle.xl_core.proofs.ShareLaws.{kept_unshared, length_unshared}
-use Rattle.xl_core.proofs.WriteBack.{is_of-true, IsOfParty, relocked_is, spans_of-untouched, left_in, left_all, left_pairwise, all_all_inserted, pairwise_all_inserted, kept_relocked}
+use Rattle.xl_table.proofs.ShareLaws.{united_share, sound_shared, ordered_shared}
+use Rattle.xl_table.proofs.WriteBack.{is_of-true, IsOfParty, relocked_is, left_all, left_pairwise, all_all_inserted, pairwise_all_inserted, kept_relocked}
 
 -- ---- what the claims of an owner do to a byte
 
@@ -84,41 +82,6 @@ locked_by file owner (c ∷ cs) x m e =
       | inr other ↦ later file owner c cs x m (locked_by file owner cs x m (rw other at e))
     ]
 
--- a claim of the owner that locks a byte has a span with it
-abbrev HasSpan : List Span → ℕ → Type 0
-HasSpan ss x = (s : Span) × IsIn s ss × (within s.first s.last x ≡ true)
-
-span_by : (w : What) (rest : List Span) (x : ℕ) (b : Bool) → lock_by w x ≡ Some b → HasSpan (with_span w rest) x
-span_by (Range (Bytes first last) exclusive) rest x b e =
-    elim (cases_Bool (within first last x)) [
-      | inl inside ↦ (record { first = first; last = last; mode = mode_of exclusive }, inl refl, inside)
-      | inr outside ↦ let none : None ≡ some_flag b = rw outside at e in absurd cc
-    ]
-span_by (Range (Empty offset) exclusive) rest x b e = absurd cc
-span_by (Share access deny) rest x b e = absurd cc
-span_by (Cache kind running) rest x b e = absurd cc
-
-more_spans : (w : What) (rest : List Span) (x : ℕ) → HasSpan rest x → HasSpan (with_span w rest) x
-more_spans (Range (Bytes first last) exclusive) rest x found = (found.0, inr found.1, found.2)
-more_spans (Range (Empty offset) exclusive) rest x found = found
-more_spans (Share access deny) rest x found = found
-more_spans (Cache kind running) rest x found = found
-
-has_span : (file : ℕ) (owner : Owner) (cs : List Claim) (c : Claim) (x : ℕ) (b : Bool) → IsIn c cs → is_of file owner c ≡ true → lock_on c x ≡ Some b → HasSpan (spans_of file owner cs) x
-has_span file owner [] c x b h own e = absurd h
-has_span file owner (d ∷ ds) c x b h own e =
-    elim h [
-      | inl same ↦
-          let mine : is_of file owner d ≡ true = ap (is_of file owner) same ∙ own in
-          rw mine (span_by d.what (spans_of file owner ds) x b (ap (λ (k : Claim). lock_on k x) same ∙ e))
-      | inr there ↦
-          let rest = has_span file owner ds c x b there own e in
-          elim (cases_Bool (is_of file owner d)) [
-            | inl mine ↦ rw mine (more_spans d.what (spans_of file owner ds) x rest)
-            | inr other ↦ rw other rest
-          ]
-    ]
-
 -- ---- spans in order
 
 chain_in : (lo : ℕ) (s : Span) (ss : List Span) → IsChain lo ss → IsIn s ss → lo ≤ s.first
@@ -142,22 +105,6 @@ mode_of_span s (t ∷ ts) x canonical h inside =
           let past : t.last + 1 ≤ s.first = chain_in (t.last + 1) s ts (canonical_rest t ts canonical) more in
           let far : leb x t.last ≡ false = lt-leb x t.last (omega (arith, past, (inside_ends s x inside).0)) in
           rw (and_right (leb t.first x) (leb x t.last) far) (mode_of_span s ts x canonical.2 more inside)
-    ]
-
--- a byte lies in one span alone
-one_span : (s t : Span) (ss : List Span) (x : ℕ) → IsCanonical ss → IsIn s ss → IsIn t ss → within s.first s.last x ≡ true → within t.first t.last x ≡ true → s ≡ t
-one_span s t [] x canonical h k inside within_t = absurd h
-one_span s t (u ∷ us) x canonical h k inside within_t =
-    let past : (v : Span) → IsIn v us → u.last < v.first = λ v there. omega (arith, chain_in (u.last + 1) v us (canonical_rest u us canonical) there) in
-    elim h [
-      | inl e ↦ elim k [
-        | inl f ↦ sym e ∙ f
-        | inr there ↦ absurd (omega (arith, past t there, (inside_ends t x within_t).0, (inside_ends u x (rw e inside)).1))
-      ]
-      | inr here ↦ elim k [
-        | inl f ↦ absurd (omega (arith, past s here, (inside_ends s x inside).0, (inside_ends u x (rw f within_t)).1))
-        | inr there ↦ one_span s t us x canonical.2 here there inside within_t
-      ]
     ]
 
 -- ---- two claims of ranges, by their bytes
@@ -330,52 +277,34 @@ new_agrees names file owner party first last asked cs c x m is there range other
         let same : exclusive ≡ is_exclusive m = sym (exclusive_mode exclusive) ∙ ap is_exclusive (same_some (mode_of exclusive) m at) in
         subst (λ (b : Bool). locks_agree owner (Some b) c.owner (lock_on c x) ≡ true) same locked
 
--- a new span that is touched has no byte of a claim that is left to the owner
-new_apart : (file : ℕ) (owner : Owner) (first last : ℕ) (mode : Option Mode) (cs : List Claim) (s : Span) (c : Claim) (x : ℕ)
-    → IsCanonical (spans_of file owner cs) → first ≤ last → IsIn s (fresh file owner first last mode cs) → IsIn c (untouched file owner first last cs) → is_of file owner c ≡ true → within s.first s.last x ≡ true → (b : Bool) → lock_on c x ≡ Some b → ⊥
-unfolding fresh
-new_apart file owner first last mode cs s c x canonical ends new there own inside b locks =
-    let spans = relocked (spans_of file owner cs) first last mode in
-    let found = has_span file owner (untouched file owner first last cs) c x b there own locks in
-    let far : IsIn found.0 (filter (λ t. not (touches first last t)) spans) =
-    subst (λ (ss : List Span). IsIn found.0 ss) (spans_of-untouched file owner first last cs ∙ sym (relocked_untouched (spans_of file owner cs) first last mode ends canonical)) found.1 in
-    let left = in_filter_from (λ t. not (touches first last t)) found.0 spans far in
-    let fresh_one = in_filter_from (touches first last) s spans new in
-    let same = one_span s found.0 spans x (relocked_canonical (spans_of file owner cs) first last mode ends canonical) fresh_one.0 left.0 inside found.2 in
-    both_ways (touches first last found.0) (not-true (touches first last found.0) left.1) (ap (touches first last) (sym same) ∙ fresh_one.1)
+-- what is left is held, and is no range of the owner on the file
+left_of : (file : ℕ) (owner : Owner) (cs : List Claim) (c : Claim) → IsIn c (unranged file owner cs) → IsIn c cs × (is_range_of file owner c ≡ false)
+unfolding unranged
+left_of file owner cs c h = let found = in_filter_from (λ (d : Claim). not (is_range_of file owner d)) c cs h in (found.0, not-true (is_range_of file owner c) found.1)
 
-agree_none : (owner other : Owner) (a b : Option Bool) → ((l : Bool) → b ≡ Some l → ⊥) → locks_agree owner a other b ≡ true
-agree_none owner other None b none = refl
-agree_none owner other (Some m) None none = refl
-agree_none owner other (Some m) (Some l) none = absurd (none l refl)
-
-fresh_in : (file : ℕ) (owner : Owner) (first last : ℕ) (mode : Option Mode) (cs : List Claim) (s : Span) → IsIn s (fresh file owner first last mode cs) → IsIn s (relocked (spans_of file owner cs) first last mode)
-unfolding fresh
-fresh_in file owner first last mode cs s h = (in_filter_from (touches first last) s (relocked (spans_of file owner cs) first last mode) h).0
+ranged : (w : What) → IsRangeBy w → is_range w ≡ true
+ranged (Range extent exclusive) h = refl
+ranged (Share access deny) h = absurd h
+ranged (Cache kind running) h = absurd h
 
 -- a new span stands beside each claim that is left
 new_fits : (names : List Name) (file : ℕ) (owner : Owner) (party : Party) (first last : ℕ) (asked : Option Bool) (cs : List Claim) (s : Span) (c : Claim)
-    → IsRelock names file owner party first last asked cs → IsIn s (fresh file owner first last (mode_asked asked) cs) → IsRange (range_claim file owner party s) → IsIn c (untouched file owner first last cs) → compat (range_claim file owner party s) c ≡ true
+    → IsRelock names file owner party first last asked cs → IsIn s (new_spans file owner first last asked cs) → IsRange (range_claim file owner party s) → IsIn c (unranged file owner cs) → compat (range_claim file owner party s) c ≡ true
 new_fits names file owner party first last asked cs s c is new real there =
-    fits_known (range_claim file owner party s) c c.what refl real (all_in (IsKnown names) c cs is.good.known held).0 (λ range one x. at x range one (cases_Bool (within s.first s.last x)))
+    fits_known (range_claim file owner party s) c c.what refl real (all_in (IsKnown names) c cs is.good.known held.0).0 (λ range one x. at x range one (cases_Bool (within s.first s.last x)))
   where
-    held : IsIn c cs
-    held = left_in file owner first last cs c there
+    held : IsIn c cs × (is_range_of file owner c ≡ false)
+    held = left_of file owner cs c there
 
-    canonical : IsCanonical (spans_of file owner cs)
-    canonical = is.good.kept.sound.canonical file owner is.own
-
-    modes : (x : ℕ) → within s.first s.last x ≡ true → mode_at (new_spans file owner first last asked cs) x ≡ Some s.mode
-    modes x inside =
-        mode_of_span s (new_spans file owner first last asked cs) x (relocked_canonical (spans_of file owner cs) first last (mode_asked asked) is.ends canonical)
-        (fresh_in file owner first last (mode_asked asked) cs s new) inside
+    canonical : IsCanonical (new_spans file owner first last asked cs)
+    canonical = relocked_canonical (spans_of file owner cs) first last (mode_asked asked) is.ends (is.good.kept.sound.canonical file owner is.own)
 
     at : (x : ℕ) → IsRange c → file ≡ c.file → (within s.first s.last x ≡ true) ⊎ (within s.first s.last x ≡ false) → locks_agree owner (lock_on (range_claim file owner party s) x) c.owner (lock_on c x) ≡ true
     at x range one (inr outside) = rw outside refl
     at x range one (inl inside) =
         elim (cases_Bool (is_of file owner c)) [
-          | inl own ↦ agree_none owner c.owner (lock_on (range_claim file owner party s) x) (lock_on c x) (new_apart file owner first last (mode_asked asked) cs s c x canonical is.ends new there own inside)
-          | inr other ↦ rw inside (new_agrees names file owner party first last asked cs c x s.mode is held range other one (modes x inside))
+          | inl own ↦ absurd (both_ways (is_range_of file owner c) held.1 (and_from (is_of file owner c) (is_range c.what) own (ranged c.what range.0)))
+          | inr other ↦ rw inside (new_agrees names file owner party first last asked cs c x s.mode is held.0 range other one (mode_of_span s (new_spans file owner first last asked cs) x canonical new inside))
         ]
 
 -- two spans of one owner do not meet
@@ -409,11 +338,6 @@ new_ranges : (file : ℕ) (owner : Owner) (party : Party) (ss : List Span) → p
 new_ranges file owner party [] own ranges = tt
 new_ranges file owner party (s ∷ ss) own ranges = ((ranges.0, own), new_ranges file owner party ss own ranges.1)
 
-fresh_canonical : (file : ℕ) (owner : Owner) (first last : ℕ) (mode : Option Mode) (cs : List Claim) → IsCanonical (spans_of file owner cs) → first ≤ last → IsCanonical (fresh file owner first last mode cs)
-unfolding fresh
-fresh_canonical file owner first last mode cs canonical ends =
-    canonical_filter (touches first last) (relocked (spans_of file owner cs) first last mode) (relocked_canonical (spans_of file owner cs) first last mode ends canonical)
-
 of_one_party : (names : List Name) (file : ℕ) (owner : Owner) (party : Party) (cs : List Claim) → AreDistinct names → AllByRecursion (IsKnown names) cs → are_kept names owner party ≡ true → IsOfParty file owner party cs
 of_one_party names file owner party cs distinct known kept c h own range =
     let is = all_in (IsKnown names) c cs known h in
@@ -421,31 +345,34 @@ of_one_party names file owner party cs distinct known kept c h own range =
 
 -- the claims stay so where nothing stands against the lock, or where it is an unlock
 pub relocked_good : (names : List Name) (file : ℕ) (owner : Owner) (party : Party) (first last : ℕ) (asked : Option Bool) (cs : List Claim)
-    → AreDistinct names → AreGood names cs → first ≤ last → posix owner ≡ true → are_kept names owner party ≡ true → IsFree file owner party first last asked cs → relock_fits file owner first last (mode_asked asked) cs ≡ true
-    → AreGood names (relocked_in file owner party first last (mode_asked asked) cs)
+    → AreDistinct names → AreGood names cs → first ≤ last → posix owner ≡ true → are_kept names owner party ≡ true → IsFree file owner party first last asked cs
+    → length (relocked_in file owner party first last (mode_asked asked) cs) ≤ most_claims → AreGood names (relocked_in file owner party first last (mode_asked asked) cs)
 relocked_good names file owner party first last asked cs distinct good ends own kept free fits = record {
   kept = kept_relocked file owner party first last (mode_asked asked) cs good.kept own ends (of_one_party names file owner party cs distinct good.known kept) fits;
-  compatible = subst (λ (ds : List Claim). Pairwise compat ds) (sym (relocked_is file owner party first last (mode_asked asked) cs))
-      (pairwise_all_inserted compat compat-sym new left (new_pairwise file owner party spans canonical ranges) (left_pairwise compat file owner first last cs good.compatible) across);
-  single = subst (λ (ds : List Claim). Pairwise is_single ds) (sym (relocked_is file owner party first last (mode_asked asked) cs))
-      (pairwise_all_inserted is_single is_single-sym new left (all_single new ranges) (left_pairwise is_single file owner first last cs good.single) (λ c d h k. single_range c d (all_in IsRange c new ranges h)));
-  known = subst (λ (ds : List Claim). AllByRecursion (IsKnown names) ds) (sym (relocked_is file owner party first last (mode_asked asked) cs))
-      (all_all_inserted (IsKnown names) new left known (left_all (IsKnown names) file owner first last cs good.known));
+  compatible = subst (λ (ds : List Claim). Pairwise compat ds) same
+      (pairwise_all_inserted compat compat-sym new left (new_pairwise file owner party spans canonical ranges) (left_pairwise compat file owner cs good.compatible) across);
+  single = subst (λ (ds : List Claim). Pairwise is_single ds) same
+      (pairwise_all_inserted is_single is_single-sym new left (all_single new ranges) (left_pairwise is_single file owner cs good.single) (λ c d h k. single_range c d (all_in IsRange c new ranges h)));
+  known = subst (λ (ds : List Claim). AllByRecursion (IsKnown names) ds) same
+      (all_all_inserted (IsKnown names) new left known (left_all (IsKnown names) file owner cs good.known));
 } where
   spans : List Span
-  spans = fresh file owner first last (mode_asked asked) cs
+  spans = new_spans file owner first last asked cs
 
   new : List Claim
   new = map (range_claim file owner party) spans
 
   left : List Claim
-  left = untouched file owner first last cs
+  left = unranged file owner cs
+
+  same : all_inserted new left ≡ relocked_in file owner party first last (mode_asked asked) cs
+  same = sym (relocked_is file owner party first last (mode_asked asked) cs)
 
   is : IsRelock names file owner party first last asked cs
   is = record { distinct = distinct; good = good; ends = ends; own = own; client = kept; free = free }
 
   canonical : IsCanonical spans
-  canonical = fresh_canonical file owner first last (mode_asked asked) cs (good.kept.sound.canonical file owner own) ends
+  canonical = relocked_canonical (spans_of file owner cs) first last (mode_asked asked) ends (good.kept.sound.canonical file owner own)
 
   known : AllByRecursion (IsKnown names) new
   known = new_known names file owner party spans own kept (canonical_ranges spans canonical)
@@ -489,23 +416,85 @@ free_from ask (d ∷ ds) free c h other =
 
 -- ---- a share
 
-share_beside : (a b : Claim) (w v : What) (access deny : Rwd) → w ≡ Share access deny → IsPosixBy v → is_share v ≡ false → fit_by a b w v ≡ true
+share_beside : (a b : Claim) (w v : What) → is_share w ≡ true → IsPosixBy v → is_share v ≡ false → fit_by a b w v ≡ true
 unfolding fit_by
-share_beside a b w (Range extent exclusive) access deny is known other = ap (λ (x : What). fit_by a b x (Range extent exclusive)) is
-share_beside a b w (Share rights denied) access deny is known other = absurd (both_ways true other refl)
-share_beside a b w (Cache kind running) access deny is known other = absurd known
+share_beside a b (Share access deny) (Range extent exclusive) h known other = refl
+share_beside a b (Share access deny) (Share rights denied) h known other = absurd (both_ways true other refl)
+share_beside a b (Share access deny) (Cache kind running) h known other = absurd known
+share_beside a b (Range extent exclusive) v h known other = absurd (both_ways false refl h)
+share_beside a b (Cache kind running) v h known other = absurd (both_ways false refl h)
 
--- a share that nothing blocks stands beside each claim that isn't its owner's share
-share_fits_held : (c : Claim) (access deny : Rwd) (cs : List Claim) (d : Claim) → c.what ≡ Share access deny → list_any (λ e. blocks c e) cs ≡ false → IsIn d cs → IsPosix d → is_share_of c.file c.owner d ≡ false → compat c d ≡ true
+fit_of : (a b : Claim) → a.file ≡ b.file → compat a b ≡ true → fit_by a b a.what b.what ≡ true
 unfolding compat
-share_fits_held c access deny cs d is free there known other =
-    elim (cases_Bool (is_of c.file c.owner d)) [
-      | inr apart ↦ free_from c cs free d there apart
-      | inl own ↦ beside (rw own at other)
+fit_of a b one fits =
+    elim (or_cases (not (eqb a.file b.file)) (fit_by a b a.what b.what) fits) [
+      | inr fit ↦ fit
+      | inl two ↦ absurd (both_ways (eqb a.file b.file) (not-true (eqb a.file b.file) two) (eq-eqb a.file b.file one))
     ]
-  where
-    beside : is_share d.what ≡ false → compat c d ≡ true
-    beside no_share = or_right (not (eqb c.file d.file)) (fit_by c d c.what d.what) (share_beside c d c.what d.what access deny is known.0 no_share)
+
+-- a share that nothing blocks fits each claim on its file that isn't its owner's share
+share_fits_held : (c : Claim) (cs : List Claim) (d : Claim) → is_share c.what ≡ true → list_any (λ e. blocks c e) cs ≡ false → IsIn d cs → IsPosix d → is_share_of c.file c.owner d ≡ false → c.file ≡ d.file → fit_by c d c.what d.what ≡ true
+share_fits_held c cs d share free there known other one =
+    elim (cases_Bool (is_of c.file c.owner d)) [
+      | inr apart ↦ fit_of c d one (free_from c cs free d there apart)
+      | inl own ↦ share_beside c d c.what d.what share known.0 (rw own at other)
+    ]
+
+fits_of : (a b : Claim) → fit_by a b a.what b.what ≡ true → compat a b ≡ true
+unfolding compat
+fits_of a b fit = or_right (not (eqb a.file b.file)) (fit_by a b a.what b.what) fit
+
+-- ---- a share that is united with its owner's
+
+no_common : (p q r : Bool) → (p && r) ≡ false → (q && r) ≡ false → ((p || q) && r) ≡ false
+no_common true q r e f = e
+no_common false q r e f = f
+
+common_either : (p q r : Rwd) → common p r ≡ false → common q r ≡ false → common (either_right p q) r ≡ false
+common_either p q r e f =
+    let a = or_parts (p.r && r.r) ((p.w && r.w) || (p.d && r.d)) e in
+    let b = or_parts (p.w && r.w) (p.d && r.d) a.1 in
+    let c = or_parts (q.r && r.r) ((q.w && r.w) || (q.d && r.d)) f in
+    let d = or_parts (q.w && r.w) (q.d && r.d) c.1 in
+    rw (no_common p.r q.r r.r a.0 c.0, no_common p.w q.w r.w b.0 d.0, no_common p.d q.d r.d b.1 d.1) refl
+
+common-sym : (p q : Rwd) → common p q ≡ common q p
+common-sym p q = λ i. and-sym p.r q.r i || (and-sym p.w q.w i || and-sym p.d q.d i)
+
+united_fits : (a b : Claim) (w u v : What) → IsPosixBy v → fit_by a b w v ≡ true → fit_by a b u v ≡ true → fit_by a b (united_what w u) v ≡ true
+unfolding fit_by
+united_fits a b (Share access deny) (Share more less) (Share rights denied) known e f =
+    let x = and_parts (not (common access denied)) (not (common rights deny)) e in
+    let y = and_parts (not (common more denied)) (not (common rights less)) f in
+    and_from _ _ (not_from_false _ (common_either access more denied (not-true _ x.0) (not-true _ y.0)))
+    (not_from_false _ (common-sym rights (either_right deny less) ∙ common_either deny less rights (common-sym deny rights ∙ not-true _ x.1) (common-sym less rights ∙ not-true _ y.1)))
+united_fits a b (Share access deny) (Share more less) (Range extent exclusive) known e f = refl
+united_fits a b (Share access deny) (Share more less) (Cache kind running) known e f = absurd known
+united_fits a b (Share access deny) (Range extent exclusive) v known e f = e
+united_fits a b (Share access deny) (Cache kind running) v known e f = e
+united_fits a b (Range extent exclusive) u v known e f = e
+united_fits a b (Cache kind running) u v known e f = e
+
+all_united : (a b : Claim) (w : What) (old : List Claim) (v : What) → IsPosixBy v → fit_by a b w v ≡ true → AllByRecursion (λ o. fit_by a b o.what v ≡ true) old → fit_by a b (united_with w old) v ≡ true
+all_united a b w [] v known e all = e
+all_united a b w (o ∷ os) v known e all = all_united a b (united_what w o.what) os v known (united_fits a b w o.what v known e all.0) all.1
+
+same_fit : (a b d : Claim) (w v : What) → is_share w ≡ true → IsPosixBy v → fit_by a d w v ≡ true → fit_by b d w v ≡ true
+unfolding fit_by
+same_fit a b d (Share access deny) (Share rights denied) h known e = e
+same_fit a b d (Share access deny) (Range extent exclusive) h known e = refl
+same_fit a b d (Share access deny) (Cache kind running) h known e = absurd known
+same_fit a b d (Range extent exclusive) v h known e = absurd (both_ways false refl h)
+same_fit a b d (Cache kind running) v h known e = absurd (both_ways false refl h)
+
+united_by_fits : (a b : Claim) (owner : Owner) (w : What) (old : List Claim) (v : What) → IsPosixBy v → fit_by a b w v ≡ true → AllByRecursion (λ o. fit_by a b o.what v ≡ true) old → fit_by a b (united_by owner w old) v ≡ true
+unfolding united_by
+united_by_fits a b owner w old v known e all = elim (cases_Bool (unites owner)) [ inl k ↦ rw k (all_united a b w old v known e all) | inr k ↦ rw k e ]
+
+-- the owner's old share is held, and is one
+old_of : (file : ℕ) (owner : Owner) (cs : List Claim) (o : Claim) → IsIn o (old_shares file owner cs) → IsIn o cs × (is_share_of file owner o ≡ true)
+unfolding old_shares
+old_of file owner cs o h = in_filter_from (is_share_of file owner) o cs h
 
 single_share : (c d : Claim) (w v : What) → is_share_of c.file c.owner d ≡ false → c.file ≡ d.file → d.what ≡ v → is_share w ≡ true → is_single_by c d w v ≡ true
 single_share c d (Share access deny) (Share rights denied) other one is h =
@@ -531,38 +520,63 @@ share_single c d share other =
     ]
 
 -- a claim that is left is one that is held, and isn't the owner's share
-left_of : (file : ℕ) (owner : Owner) (cs : List Claim) (d : Claim) → IsIn d (unshared file owner cs) → IsIn d cs × (is_share_of file owner d ≡ false)
+unshared_of : (file : ℕ) (owner : Owner) (cs : List Claim) (d : Claim) → IsIn d (unshared file owner cs) → IsIn d cs × (is_share_of file owner d ≡ false)
 unfolding unshared
-left_of file owner cs d h = let found = in_filter_from (λ (e : Claim). not (is_share_of file owner e)) d cs h in (found.0, not-true (is_share_of file owner d) found.1)
+unshared_of file owner cs d h = let found = in_filter_from (λ (e : Claim). not (is_share_of file owner e)) d cs h in (found.0, not-true (is_share_of file owner d) found.1)
 
 left_two : (test : Claim → Claim → Bool) (file : ℕ) (owner : Owner) (cs : List Claim) → Pairwise test cs → Pairwise test (unshared file owner cs)
 unfolding unshared
 left_two test file owner cs all = pairwise_filter test (λ c. not (is_share_of file owner c)) cs all
 
-share_room : (c : Claim) (cs : List Claim) → share_fits c cs ≡ true → length (unshared c.file c.owner cs) < 16384
-unfolding share_fits
-share_room c cs fits = omega (arith, leb-true (length cs + 1) (most_claims + length (old_shares c.file c.owner cs)) fits, length_unshared c.file c.owner cs)
+posix_share : (w : What) → is_share w ≡ true → IsPosixBy w
+posix_share (Share access deny) h = tt
+posix_share (Range extent exclusive) h = absurd (both_ways false refl h)
+posix_share (Cache kind running) h = absurd (both_ways false refl h)
 
-shared_good : (names : List Name) (c : Claim) (access deny : Rwd) (cs : List Claim) → c.what ≡ Share access deny → posix c.owner ≡ true → are_kept names c.owner c.party ≡ true
-    → AreGood names cs → list_any (λ d. blocks c d) cs ≡ false → share_fits c cs ≡ true → AreGood names (shared_in c cs)
+shared_good : (names : List Name) (c : Claim) (cs : List Claim) → is_share c.what ≡ true → posix c.owner ≡ true → are_kept names c.owner c.party ≡ true
+    → AreGood names cs → list_any (λ d. blocks c d) cs ≡ false → length (shared_in c cs) ≤ most_claims → AreGood names (shared_in c cs)
 unfolding shared_in
-shared_good names c access deny cs is own kept good free fits = record {
-  kept = kept_inserted c left (kept_unshared c.file c.owner cs good.kept) (sound_inserted_other c left (kept_unshared c.file c.owner cs good.kept).sound (ap is_range is)) (share_room c cs fits);
-  compatible = pairwise_into compat compat-sym c left (all_from (λ d. compat c d ≡ true) left beside) (left_two compat c.file c.owner cs good.compatible);
-  single = pairwise_into is_single is_single-sym c left (all_from (λ d. is_single c d ≡ true) left (λ d h. share_single c d share (left_of c.file c.owner cs d h).1)) (left_two is_single c.file c.owner cs good.single);
-  known = all_put (IsKnown names) c left ((subst (λ (w : What). IsPosixBy w) (sym is) tt, own), kept) (all_from (IsKnown names) left (λ d h. all_in (IsKnown names) d cs good.known (left_of c.file c.owner cs d h).0));
+shared_good names c cs share own kept good free fits = record {
+  kept = record { sound = sound_shared c cs good.kept share; ordered = ordered_shared c cs good.kept; room = fits };
+  compatible = pairwise_into compat compat-sym whole left (all_from (λ d. compat whole d ≡ true) left beside) (left_two compat c.file c.owner cs good.compatible);
+  single = pairwise_into is_single is_single-sym whole left (all_from (λ d. is_single whole d ≡ true) left (λ d h. share_single whole d one (unshared_of c.file c.owner cs d h).1)) (left_two is_single c.file c.owner cs good.single);
+  known = all_put (IsKnown names) whole left ((posix_share whole.what one, own), kept) (all_from (IsKnown names) left (λ d h. all_in (IsKnown names) d cs good.known (unshared_of c.file c.owner cs d h).0));
 } where
+  whole : Claim
+  whole = united c cs
+
   left : List Claim
   left = unshared c.file c.owner cs
 
-  share : is_share c.what ≡ true
-  share = ap is_share is
+  old : List Claim
+  old = old_shares c.file c.owner cs
 
-  beside : (d : Claim) → IsIn d left → compat c d ≡ true
-  beside d h = let found = left_of c.file c.owner cs d h in share_fits_held c access deny cs d is free found.0 (all_in (IsKnown names) d cs good.known found.0).0 found.1
+  one : is_share whole.what ≡ true
+  one = united_share c.owner c.what old share
+
+  -- the old share fits each claim that is left
+  before : (d : Claim) → IsIn d cs → is_share_of c.file c.owner d ≡ false → IsPosix d → c.file ≡ d.file → (o : Claim) → IsIn o old → fit_by whole d o.what d.what ≡ true
+  before d there other known same o h =
+      let mine = old_of c.file c.owner cs o h in
+      let parts = and_parts (is_of c.file c.owner o) (is_share o.what) mine.1 in
+      same_fit o whole d o.what d.what parts.1 known.0
+      (fit_of o d ((is_of-true c.file c.owner o parts.0).0 ∙ same) (pairwise_two cs o d good.compatible mine.0 there (λ e. both_ways (is_share_of c.file c.owner d) other (ap (is_share_of c.file c.owner) (sym e) ∙ mine.1))))
+
+  beside : (d : Claim) → IsIn d left → compat whole d ≡ true
+  beside d h =
+      let found = unshared_of c.file c.owner cs d h in
+      let known = (all_in (IsKnown names) d cs good.known found.0).0 in
+      elim (cases_Bool (eqb c.file d.file)) [
+        | inr two ↦ other_file whole d two
+        | inl e ↦
+            let same = eqb-true c.file d.file e in
+            fits_of whole d
+            (united_by_fits whole d c.owner c.what old d.what known.0 (same_fit c whole d c.what d.what share known.0 (share_fits_held c cs d share free found.0 known found.1 same))
+            (all_from (λ o. fit_by whole d o.what d.what ≡ true) old (λ o k. before d found.0 found.1 known same o k)))
+      ]
 
 granted_by_good : (names : List Name) (c : Claim) (w : What) (cs : List Claim) → c.what ≡ w → IsPosixBy w → posix c.owner ≡ true → are_kept names c.owner c.party ≡ true
-    → AreDistinct names → AreGood names cs → list_any (λ d. blocks c d) cs ≡ false → grant_fits_by c w cs ≡ true → AreGood names (granted_by c w cs)
+    → AreDistinct names → AreGood names cs → list_any (λ d. blocks c d) cs ≡ false → length (granted_by c w cs) ≤ most_claims → AreGood names (granted_by c w cs)
 granted_by_good names c (Range (Bytes first last) exclusive) cs is ends own kept distinct good free fits =
     relocked_good names c.file c.owner c.party first last (Some exclusive) cs distinct good ends own kept
     (λ d h other. subst (λ (e : Claim). compat e d ≡ true) (is_lock c first last exclusive is) (free_from c cs free d h other)) fits
@@ -570,10 +584,10 @@ granted_by_good names c (Range (Bytes first last) exclusive) cs is ends own kept
     is_lock : (c : Claim) (first last : ℕ) (exclusive : Bool) → c.what ≡ Range (Bytes first last) exclusive → c ≡ lock_claim c.file c.owner c.party first last exclusive
     is_lock c first last exclusive is = λ i. record { file = c.file; owner = c.owner; party = c.party; what = is i }
 granted_by_good names c (Range (Empty offset) exclusive) cs is ends own kept distinct good free fits = absurd ends
-granted_by_good names c (Share access deny) cs is ends own kept distinct good free fits = shared_good names c access deny cs is own kept good free fits
+granted_by_good names c (Share access deny) cs is ends own kept distinct good free fits = shared_good names c cs (ap is_share is) own kept good free fits
 granted_by_good names c (Cache kind running) cs is ends own kept distinct good free fits = absurd ends
 
 -- the claims stay so where one is granted that nothing blocks
-pub granted_good : (names : List Name) (c : Claim) (cs : List Claim) → AreDistinct names → AreGood names cs → IsKnown names c → list_any (λ d. blocks c d) cs ≡ false → grant_fits c cs ≡ true → AreGood names (granted_claims c cs)
-unfolding granted_claims grant_fits
+pub granted_good : (names : List Name) (c : Claim) (cs : List Claim) → AreDistinct names → AreGood names cs → IsKnown names c → is_blocked cs c ≡ false → length (granted_claims c cs) ≤ most_claims → AreGood names (granted_claims c cs)
+unfolding granted_claims
 granted_good names c cs distinct good known free fits = granted_by_good names c c.what cs refl known.0.0 known.0.1 known.1 distinct good free fits

@@ -1,6 +1,6 @@
 -- What the deeds' laws need of one ask and of one turn.
 use Rattle.std.proofs.Common.{◌≡◌, ℕ, ◌+◌, ◌≤◌, Bool, true, false, inl, inr, List, [], ◌∷◌, ◌++◌, Option, Some, None, refl, sym, ap, subst, ◌∙◌, slice_get}
-use Rattle.std.proofs.lemmas.Bool.{both_ways}
+use Rattle.std.proofs.lemmas.Bool.{both_ways, le-leb}
 use Rattle.xl_base.specs.Lists.{IsIn}
 use Rattle.xl_base.proofs.Members.{all_in, in_append_right}
 use Rattle.xl_base.specs.declared.name.Owner.{Owner}
@@ -14,48 +14,44 @@ use Rattle.xl_table.specs.Held.{spans_of}
 use Rattle.xl_wait.specs.declared.waiter.Rooms.{Rooms}
 use Rattle.xl_wait.specs.declared.waiter.Waiter.{Waiter}
 use Rattle.xl_core.specs.State.{CoreState}
-use Rattle.xl_core.specs.Asking.{asked_what, asked_claim, known_claim, IsFit, IsFitAct}
-use Rattle.xl_core.specs.Causes.{IsTurn}
+use Rattle.xl_core.specs.Asking.{asked_whats, asked_what, asked_claim, asked_claims, known_claim, IsFit, IsFitAct}
+use Rattle.xl_core.specs.Causes.{left_by_unlock, IsTurn}
 use Rattle.xl_core.specs.Deeds.{with_waiter, queue_with, KeepNames}
-use Rattle.xl_core.specs.Decide.{waiter_of, unlocked_bytes, ask}
+use Rattle.xl_core.specs.Decide.{Answered, waiter_of, unlocked_claims, ask}
 use Rattle.xl_core.specs.Dues.{IsGrantDue, IsAnswerDue}
-use Rattle.xl_core.specs.Good.{IsPosix, IsGood}
-use Rattle.xl_core.specs.Relock.{most_claims, shares_of, granted_claims}
+use Rattle.xl_table.specs.Held.{IsPosix}
+use Rattle.xl_core.specs.Good.{IsGood}
+use Rattle.xl_core.specs.Frames.{asks_to_hold}
+use Rattle.xl_table.specs.Relock.{most_claims, shares_of, granted_claims}
 use Rattle.xl_core.specs.declared.ask.Act.{Act}
 use Rattle.xl_core.specs.declared.ask.Act.TheVariants as acts
 use Rattle.xl_core.specs.declared.ask.Answer.{Answer}
 use Rattle.xl_core.specs.declared.ask.Answer.TheVariants as answers
 use Rattle.xl_core.specs.declared.ask.Ask.{Ask}
 use Rattle.xl_core.specs.declared.ask.Effect.{Effect}
-use Rattle.xl_core.proofs.CauseLaws.{Answered, lock_result, LockCase, Late, Conflicts, Crowded, Waits, NoRoom, Goes, lock_case, lock_is, UnlockCase, Nothing, Splits, Leaves, unlock_case, unlock_is, lock_due, lock_free, test_due, test_leaves, unlock_due, fit_what}
-use Rattle.xl_core.proofs.ChangeLaws.{ask_own, ask_waits}
-use Rattle.xl_core.proofs.GoodLaws.{waiter_known}
+use Rattle.xl_core.proofs.CauseLaws.{same_list, unlock_by, unlock_is, is_holds, lock_due, lock_free, test_due, unlock_due, fit_what}
+use Rattle.xl_core.proofs.ChangeLaws.{ask_way, granted_way, ask_own, ask_waits}
+use Rattle.xl_core.proofs.SettleLaws.{turn_is_known}
 use Rattle.xl_core.proofs.KnownLaws.{asked_known, known_posix}
-use Rattle.xl_core.proofs.ShareLaws.{shares_of-relocked}
-use Rattle.xl_core.proofs.WriteBack.{spans_of-relocked, spans_of-relocked_apart}
+use Rattle.xl_table.proofs.ShareLaws.{shares_of-relocked}
+use Rattle.xl_table.proofs.WriteBack.{spans_of-relocked, spans_of-relocked_apart}
 
 -- ---- what an ask leaves of the claims
 
-same_claim : (c d : Claim) → answers.Granted c ≡ answers.Granted d → c ≡ d
-same_claim c d e = cc
-
-case_enters : (left : Rooms) (s : CoreState) (a : Ask) (claim c : Claim) (r : Answered) → LockCase left s a claim r → r.0 ≡ answers.Granted c → (c ≡ claim) × (r.2.claims ≡ granted_claims claim s.claims)
-case_enters left s a claim c r (Late reclaim e) at = let two : answers.NoGrace s.clock ≡ answers.Granted c = sym (ap (λ (x : Answered). x.0) e) ∙ at in absurd cc
-case_enters left s a claim c r (Conflicts d timely hurries blocks e) at = let two : answers.Conflict d ≡ answers.Granted c = sym (ap (λ (x : Answered). x.0) e) ∙ at in absurd cc
-case_enters left s a claim c r (Crowded d limit timely waits blocks passes e) at = let two : answers.Full limit ≡ answers.Granted c = sym (ap (λ (x : Answered). x.0) e) ∙ at in absurd cc
-case_enters left s a claim c r (NoRoom limit timely blocks passes e) at = let two : answers.Full limit ≡ answers.Granted c = sym (ap (λ (x : Answered). x.0) e) ∙ at in absurd cc
-case_enters left s a claim c r (Waits d timely waits blocks passes e) at = let two : answers.Queued (s.counter + 1) ≡ answers.Granted c = sym (ap (λ (x : Answered). x.0) e) ∙ at in absurd cc
-case_enters left s a claim c r (Goes timely blocks passes e) at = (same_claim c claim (sym at ∙ ap (λ (x : Answered). x.0) e), ap (λ (x : Answered). x.2.claims) e)
+what_holds : (act : Act) (what : What) → asked_what act ≡ Some what → asks_to_hold act ≡ true
+what_holds (acts.Share access deny) what e = refl
+what_holds (acts.Ranges ranges) what e = refl
+what_holds (acts.Test extent exclusive) what e = absurd cc
+what_holds (acts.Unlock extent) what e = absurd cc
 
 -- a granted share or lock is entered
 pub ask_enters : (n : ℕ) (left : Rooms) (s : CoreState) (a : Ask) (what : What) (c : Claim) → IsGood s → IsFit a → asked_what a.act ≡ Some what → (ask n left s a).0 ≡ answers.Granted c → IsPosix c × ((ask n left s a).2.claims ≡ granted_claims c s.claims)
 ask_enters n left s a what c good fit act at =
     let claim = asked_claim a what s.names in
-    let is = lock_is n left s a what act in
-    let found = case_enters left s a claim c (lock_result n left s a claim) (lock_case n left s a claim) (sym (ap (λ (x : Answered). x.0) is) ∙ at) in
+    let same : c ≡ claim = ((lock_due n left s a what (answers.Granted c) act).0 at).0 in
     let real : IsPosix claim = (asked_known a what s.names fit.party (fit_what a what fit act)).0 in (
-      subst (λ (x : Claim). IsPosix x) (sym found.0) real,
-      ap (λ (x : Answered). x.2.claims) is ∙ found.1 ∙ ap (λ (x : Claim). granted_claims x s.claims) (sym found.0),
+      subst (λ (x : Claim). IsPosix x) (sym same) real,
+      granted_way s a what c (ask n left s a) act (what_holds a.act what act) (ask_way n left s a good fit.party) at ∙ ap (λ (x : Claim). granted_claims x s.claims) (sym same),
     )
 
 -- one that isn't granted leaves all
@@ -71,29 +67,24 @@ pub record Clears (c : Claim) (first last : ℕ) (old new : List Claim) : Type 0
   pub apart : (file : ℕ) (owner : Owner) → ((file ≡ c.file) × (owner ≡ c.owner) → ⊥) → spans_of file owner new ≡ spans_of file owner old
   pub shares : (file : ℕ) (owner : Owner) → shares_of file owner new ≡ shares_of file owner old
 
-case_clears : (s : CoreState) (a : Ask) (c : Claim) (first last : ℕ) (r : Answered) → IsGood s → IsFit a → first ≤ last → (let claim = known_claim a (Bytes first last) false s.names in UnlockCase s claim first last r) → r.0 ≡ answers.Granted c → Clears c first last s.claims r.2.claims
-case_clears s a c first last r good fit ends (Nothing none e) at = let two : answers.NotHeld ≡ answers.Granted c = sym (ap (λ (x : Answered). x.0) e) ∙ at in absurd cc
-case_clears s a c first last r good fit ends (Splits holds full e) at = let two : answers.Full most_claims ≡ answers.Granted c = sym (ap (λ (x : Answered). x.0) e) ∙ at in absurd cc
-case_clears s a c first last r good fit ends (Leaves holds fits e) at =
+pub ask_clears : (n : ℕ) (left : Rooms) (s : CoreState) (a : Ask) (first last : ℕ) (c : Claim) → IsGood s → IsFit a → a.act ≡ acts.Unlock (Bytes first last) → (ask n left s a).0 ≡ answers.Granted c → Clears c first last s.claims (ask n left s a).2.claims
+ask_clears n left s a first last c good fit act at =
     let claim = known_claim a (Bytes first last) false s.names in
+    let ends : first ≤ last = subst (λ (x : Act). IsFitAct x) act fit.act in
     let own = known_posix a s.names fit.party in
-    let is : Clears claim first last s.claims r.2.claims = subst (λ (cs : List Claim). Clears claim first last s.claims cs) (sym (ap (λ (x : Answered). x.2.claims) e)) (record {
+    let due = (unlock_due n left s a first last (answers.Granted c) act fit.party ends good).0 at in
+    let left_so : (ask n left s a).2.claims ≡ unlocked_claims claim first last s.claims =
+    ap (λ (x : Answered). x.2.claims) (unlock_is n left s a first last act ∙ unlock_by s claim first last true true (is_holds s claim first last due.1) (le-leb (left_by_unlock s claim first last) most_claims due.2)) in
+    subst (λ (x : Claim). Clears x first last s.claims (ask n left s a).2.claims) (sym due.0)
+    (subst (λ (cs : List Claim). Clears claim first last s.claims cs) (sym left_so)
+    (record {
       what = refl;
       own = own;
       ends = ends;
       spans = spans_of-relocked claim.file claim.owner claim.party first last None s.claims good.kept own ends;
       apart = λ file owner apart. spans_of-relocked_apart claim.file claim.owner claim.party first last None s.claims file owner apart;
       shares = λ file owner. shares_of-relocked claim.file claim.owner claim.party first last None s.claims file owner;
-    }) in
-    subst (λ (x : Claim). Clears x first last s.claims r.2.claims) (sym (same_claim c claim (sym at ∙ ap (λ (x : Answered). x.0) e))) is
-
-pub ask_clears : (n : ℕ) (left : Rooms) (s : CoreState) (a : Ask) (first last : ℕ) (c : Claim) → IsGood s → IsFit a → a.act ≡ acts.Unlock (Bytes first last) → (ask n left s a).0 ≡ answers.Granted c → Clears c first last s.claims (ask n left s a).2.claims
-ask_clears n left s a first last c good fit act at =
-    let claim = known_claim a (Bytes first last) false s.names in
-    let is = unlock_is n left s a first last act in
-    let ends : first ≤ last = subst (λ (x : Act). IsFitAct x) act fit.act in
-    subst (λ (x : Answered). Clears c first last s.claims x.2.claims) (sym is)
-    (case_clears s a c first last (unlocked_bytes s claim first last) good fit ends (unlock_case s claim first last) (sym (ap (λ (x : Answered). x.0) is) ∙ at))
+    }))
 
 -- ---- who waits, and the names
 
@@ -115,7 +106,7 @@ queues_or s a answers.NotHeld = Doesnt (λ d e. absurd cc) refl
 queues_or s a answers.StoreFailed = Doesnt (λ d e. absurd cc) refl
 
 what_queued : (n : ℕ) (left : Rooms) (s : CoreState) (a : Ask) (what : What) (id : ℕ) → IsGood s → IsFit a → asked_what a.act ≡ Some what → (ask n left s a).0 ≡ answers.Queued id → (ask n left s a).2.waiters ≡ with_waiter s a id (asked_what a.act) s.waiters
-what_queued n left s a what id good fit act at = ask_waits n left s a what id act at ∙ ap (λ (o : Option What). with_waiter s a id o s.waiters) (sym act)
+what_queued n left s a what id good fit act at = ask_waits n left s a id good fit.party at ∙ ap (λ (asked : List What). s.waiters ++ waiter_of id a (asked_claims a asked s.names) ∷ []) (same_list what (asked_whats a.act) act) ∙ ap (λ (o : Option What). with_waiter s a id o s.waiters) (sym act)
 
 act_queued : (n : ℕ) (left : Rooms) (s : CoreState) (a : Ask) (act : Act) (id : ℕ) → a.act ≡ act → IsFitAct act → IsGood s → IsFit a → (ask n left s a).0 ≡ answers.Queued id → (ask n left s a).2.waiters ≡ with_waiter s a id (asked_what a.act) s.waiters
 act_queued n left s a (acts.Share access deny) id is real good fit at = what_queued n left s a (Share access deny) id good fit (ap asked_what is) at
@@ -143,8 +134,8 @@ ask_names n left s a good fit = (ask_own n left s a good fit.party).names
 
 what_due : (n : ℕ) (left : Rooms) (s : CoreState) (a : Ask) (what : What) → IsFit a → asked_what a.act ≡ Some what → IsGrantDue left s a what (ask n left s a).0
 what_due n left s a what fit act = record {
-  free = λ timely free room. lock_free n left s a what fit act timely free room;
-  cause = (lock_due n left s a what (ask n left s a).0 act fit.party (fit_what a what fit act)).0 refl;
+  free = λ timely free room. lock_free n left s a what act timely free room;
+  cause = (lock_due n left s a what (ask n left s a).0 act).0 refl;
 }
 
 act_due : (n : ℕ) (left : Rooms) (s : CoreState) (a : Ask) (act : Act) → a.act ≡ act → IsFitAct act → IsGood s → IsFit a → IsAnswerDue left s a act (ask n left s a).0
@@ -163,5 +154,4 @@ answer_is_due n left s a good fit = act_due n left s a a.act refl fit.act good f
 
 -- who is served waited for a share or a real range
 pub turn_known : (left : Rooms) (s : CoreState) (effects : List Effect) (t : CoreState) → IsGood s → (turn : IsTurn left s effects t) → IsPosix turn.claim
-turn_known left s effects t good turn =
-    (waiter_known s turn.waiter turn.claim good (subst (λ (ws : List Waiter). IsIn turn.waiter ws) (sym turn.stood) (in_append_right turn.waiter turn.before (turn.waiter ∷ turn.behind) (inl refl))) turn.asked).0
+turn_known left s effects t good turn = (turn_is_known left s effects t good turn).0

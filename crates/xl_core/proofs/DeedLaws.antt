@@ -20,7 +20,7 @@ use Rattle.xl_spans.specs.Spans.{within, mode_at, relocked}
 use Rattle.xl_spans.specs.declared.span.Mode.{Mode}
 use Rattle.xl_spans.specs.declared.span.Span.{Span}
 use Rattle.xl_table.specs.Flat.{removed}
-use Rattle.xl_table.specs.Held.{mode_of, is_of, spans_of, IsKept}
+use Rattle.xl_table.specs.Held.{IsPosixBy, IsPosix, is_share, mode_of, is_of, spans_of, IsKept}
 use Rattle.xl_wait.specs.Waiting.{cancelled}
 use Rattle.xl_wait.specs.declared.waiter.Rooms.{Rooms}
 use Rattle.xl_wait.specs.declared.waiter.Waiter.{Waiter}
@@ -30,9 +30,10 @@ use Rattle.xl_core.specs.Causes.{asks_share, IsTurn, IsTurnDue, IsClaimDue, IsUn
 use Rattle.xl_core.specs.Deeds.{Deed, Asks, GivesBack, Cancels, Ends, Serves, Draws, turned, given, done, IsFitDeed, with_waiter, queue_with, queue_without, waits_after, KeepNames}
 use Rattle.xl_core.specs.Decide.{ask}
 use Rattle.xl_core.specs.Dues.{IsGrantDue, IsAnswerDue, IsTurnOwed, IsDue}
-use Rattle.xl_core.specs.Good.{IsPosixBy, IsPosix, IsGood, are_apart}
-use Rattle.xl_core.specs.Places.{Place, ByteOf, ShareOf, byte_held, share_held, held_in, held_at, part_by, part_of, entered_by, entered_at, cleared_by, cleared_at, entered_for, cleared_for, answered_at, ended_at, told_at, made, else_was}
-use Rattle.xl_core.specs.Relock.{is_share, is_share_of, shares_of, granted_claims}
+use Rattle.xl_core.specs.Good.{IsGood, are_apart}
+use Rattle.xl_core.specs.Places.{Place, ByteOf, ShareOf, byte_held, share_held, held_in, held_at, part_by, part_of, held_as, entered_by, entered_at, cleared_by, cleared_at, entered_for, cleared_for, answered_at, ended_at, told_at, made, else_was}
+use Rattle.xl_table.specs.Relock.{is_share_of, with_share, shares_of, old_shares, united_by, granted_claims}
+use Rattle.xl_table.proofs.ShareLaws.{united_share}
 use Rattle.xl_core.specs.Settle.{settle, cancel, give_back, end_party}
 use Rattle.xl_core.specs.declared.ask.Act.{Act}
 use Rattle.xl_core.specs.declared.ask.Act.TheVariants as acts
@@ -46,8 +47,8 @@ use Rattle.xl_core.proofs.ChangeLaws.{spans_apart, shares_apart, granted_share, 
 use Rattle.xl_core.proofs.DeedCalls.{Clears, ask_enters, ask_keeps_claims, ask_clears, turn_known, answer_is_due, ask_queue, ask_names}
 use Rattle.xl_core.proofs.DeedLeaves.{spans_of-given, shares_of-given_apart, shares_of-given, has_of, Ended, ended_is}
 use Rattle.xl_core.proofs.GoodLaws.{ask_good, settle_good, cancel_good, give_back_good, drawn_good, end_party_good}
-use Rattle.xl_core.proofs.SettleLaws.{settled_is, turn_is, without}
-use Rattle.xl_core.proofs.WriteBack.{is_of-true}
+use Rattle.xl_core.proofs.SettleLaws.{none_settled, turn_is, without}
+use Rattle.xl_table.proofs.WriteBack.{is_of-true}
 
 -- ---- a claim that is entered
 
@@ -59,30 +60,46 @@ locked_byte byte true true mode = refl
 locked_byte byte true false mode = refl
 locked_byte byte false exclusive mode = refl
 
-byte_made : (c : Claim) (w : What) (cs : List Claim) (byte : ℕ) → c.what ≡ w → IsKept cs → IsPosixBy w → posix c.owner ≡ true → byte_held byte (mode_at (spans_of c.file c.owner (granted_claims c cs)) byte) ≡ else_was (entered_by (part_by w (ByteOf c.file c.owner byte))) (byte_held byte (mode_at (spans_of c.file c.owner cs) byte))
+no_byte_of : (file : ℕ) (owner : Owner) (byte : ℕ) (w : What) → is_share w ≡ true → part_by w (ByteOf file owner byte) ≡ []
+no_byte_of file owner byte (Share access deny) h = refl
+no_byte_of file owner byte (Range extent exclusive) h = absurd (both_ways false refl h)
+no_byte_of file owner byte (Cache kind running) h = absurd (both_ways false refl h)
+
+byte_made : (c : Claim) (w : What) (cs : List Claim) (byte : ℕ) → c.what ≡ w → IsKept cs → IsPosixBy w → posix c.owner ≡ true → byte_held byte (mode_at (spans_of c.file c.owner (granted_claims c cs)) byte) ≡ else_was (entered_by (part_by (held_as cs c w) (ByteOf c.file c.owner byte))) (byte_held byte (mode_at (spans_of c.file c.owner cs) byte))
 byte_made c (Range (Bytes first last) exclusive) cs byte is kept real own =
     let old = spans_of c.file c.owner cs in
     ap (λ (ss : List Span). byte_held byte (mode_at ss byte)) (granted_spans c first last exclusive cs kept is own real)
     ∙ ap (λ (m : Option Mode). byte_held byte m) (relocked_mode old first last (Some (mode_of exclusive)) byte real (canonical_ranges old (kept.sound.canonical c.file c.owner own)))
     ∙ locked_byte byte (within first last byte) exclusive (mode_at old byte)
 byte_made c (Range (Empty offset) exclusive) cs byte is kept real own = absurd real
-byte_made c (Share access deny) cs byte is kept real own = ap (λ (ss : List Span). byte_held byte (mode_at ss byte)) (spans_apart c cs c.file c.owner (λ at. absurd (both_ways (is_share c.what) at.2 (ap is_share is))))
+byte_made c (Share access deny) cs byte is kept real own =
+    ap (λ (ss : List Span). byte_held byte (mode_at ss byte)) (spans_apart c cs c.file c.owner (λ at. absurd (both_ways (is_share c.what) at.2 (ap is_share is))))
+    ∙ ap (λ (part : List What). else_was (entered_by part) (byte_held byte (mode_at (spans_of c.file c.owner cs) byte))) (sym (no_byte_of c.file c.owner byte (held_as cs c (Share access deny)) (united_share c.owner (Share access deny) (old_shares c.file c.owner cs) refl)))
 byte_made c (Cache kind running) cs byte is kept real own = absurd real
 
-share_made : (c : Claim) (w : What) (cs : List Claim) → c.what ≡ w → IsPosixBy w → map share_held (shares_of c.file c.owner (granted_claims c cs)) ≡ else_was (entered_by (part_by w (ShareOf c.file c.owner))) (map share_held (shares_of c.file c.owner cs))
-share_made c (Share access deny) cs is real = ap (λ (shares : List (Rwd × Rwd)). map share_held shares) (granted_share c access deny cs is)
+held_share : (file : ℕ) (owner : Owner) (w : What) (had : List What) → is_share w ≡ true → map share_held (with_share w []) ≡ else_was (entered_by (part_by w (ShareOf file owner))) had
+held_share file owner (Share access deny) had h = refl
+held_share file owner (Range extent exclusive) had h = absurd (both_ways false refl h)
+held_share file owner (Cache kind running) had h = absurd (both_ways false refl h)
+
+share_made : (c : Claim) (w : What) (cs : List Claim) → c.what ≡ w → IsPosixBy w → map share_held (shares_of c.file c.owner (granted_claims c cs)) ≡ else_was (entered_by (part_by (held_as cs c w) (ShareOf c.file c.owner))) (map share_held (shares_of c.file c.owner cs))
+share_made c (Share access deny) cs is real =
+    let old = old_shares c.file c.owner cs in
+    ap (λ (shares : List (Rwd × Rwd)). map share_held shares) (granted_share c access deny cs is)
+    ∙ ap (λ (w : What). map share_held (with_share (united_by c.owner w old) [])) is
+    ∙ held_share c.file c.owner (united_by c.owner (Share access deny) old) (map share_held (shares_of c.file c.owner cs)) (united_share c.owner (Share access deny) old refl)
 share_made c (Range (Bytes first last) exclusive) cs is real = ap (λ (shares : List (Rwd × Rwd)). map share_held shares) (shares_apart c cs c.file c.owner (λ at. absurd (both_ways (is_share c.what) (ap is_share is) at.2)))
 share_made c (Range (Empty offset) exclusive) cs is real = absurd real
 share_made c (Cache kind running) cs is real = absurd real
 
-pub entered_made : (c : Claim) (cs : List Claim) (p : Place) → IsKept cs → IsPosix c → held_in (granted_claims c cs) p ≡ else_was (entered_at c p) (held_in cs p)
+pub entered_made : (c : Claim) (cs : List Claim) (p : Place) → IsKept cs → IsPosix c → held_in (granted_claims c cs) p ≡ else_was (entered_at cs c p) (held_in cs p)
 entered_made c cs (ByteOf file owner byte) kept real =
     elim (cases_Bool (is_of file owner c)) [
       | inr other ↦ rw other (ap (λ (ss : List Span). byte_held byte (mode_at ss byte)) (spans_apart c cs file owner (λ at. absurd (both_ways (is_of file owner c) other (is_of_from file owner c at.0 at.1)))))
       | inl own ↦
           let here = is_of-true file owner c own in
-          rw own (subst (λ (f : ℕ). byte_held byte (mode_at (spans_of f owner (granted_claims c cs)) byte) ≡ else_was (entered_by (part_by c.what (ByteOf f owner byte))) (byte_held byte (mode_at (spans_of f owner cs) byte))) here.0
-          (subst (λ (o : Owner). byte_held byte (mode_at (spans_of c.file o (granted_claims c cs)) byte) ≡ else_was (entered_by (part_by c.what (ByteOf c.file o byte))) (byte_held byte (mode_at (spans_of c.file o cs) byte))) here.1
+          rw own (subst (λ (f : ℕ). byte_held byte (mode_at (spans_of f owner (granted_claims c cs)) byte) ≡ else_was (entered_by (part_by (held_as cs c c.what) (ByteOf f owner byte))) (byte_held byte (mode_at (spans_of f owner cs) byte))) here.0
+          (subst (λ (o : Owner). byte_held byte (mode_at (spans_of c.file o (granted_claims c cs)) byte) ≡ else_was (entered_by (part_by (held_as cs c c.what) (ByteOf c.file o byte))) (byte_held byte (mode_at (spans_of c.file o cs) byte))) here.1
           (byte_made c c.what cs byte refl kept real.0 real.1)))
     ]
 entered_made c cs (ShareOf file owner) kept real =
@@ -90,8 +107,8 @@ entered_made c cs (ShareOf file owner) kept real =
       | inr other ↦ rw other (ap (λ (shares : List (Rwd × Rwd)). map share_held shares) (shares_apart c cs file owner (λ at. absurd (both_ways (is_of file owner c) other (is_of_from file owner c at.0 at.1)))))
       | inl own ↦
           let here = is_of-true file owner c own in
-          rw own (subst (λ (f : ℕ). map share_held (shares_of f owner (granted_claims c cs)) ≡ else_was (entered_by (part_by c.what (ShareOf f owner))) (map share_held (shares_of f owner cs))) here.0
-          (subst (λ (o : Owner). map share_held (shares_of c.file o (granted_claims c cs)) ≡ else_was (entered_by (part_by c.what (ShareOf c.file o))) (map share_held (shares_of c.file o cs))) here.1
+          rw own (subst (λ (f : ℕ). map share_held (shares_of f owner (granted_claims c cs)) ≡ else_was (entered_by (part_by (held_as cs c c.what) (ShareOf f owner))) (map share_held (shares_of f owner cs))) here.0
+          (subst (λ (o : Owner). map share_held (shares_of c.file o (granted_claims c cs)) ≡ else_was (entered_by (part_by (held_as cs c c.what) (ShareOf c.file o))) (map share_held (shares_of c.file o cs))) here.1
           (share_made c c.what cs refl real.0)))
     ]
 
@@ -100,30 +117,30 @@ entered_made c cs (ShareOf file owner) kept real =
 -- the answer grants, or makes nothing of any place
 pub data Grants (answer : Answer) : Type 0 where
   Does : (c : Claim) → answer ≡ answers.Granted c → Grants answer
-  Doesnt : ((c : Claim) → answer ≡ answers.Granted c → ⊥) → ((p : Place) → (entered_for answer p ≡ None) × (cleared_for answer p ≡ None)) → Grants answer
+  Doesnt : ((c : Claim) → answer ≡ answers.Granted c → ⊥) → ((held : List Claim) (p : Place) → (entered_for held answer p ≡ None) × (cleared_for answer p ≡ None)) → Grants answer
 
 pub grants_or : (answer : Answer) → Grants answer
 grants_or (answers.Granted c) = Does c refl
-grants_or (answers.Conflict c) = Doesnt (λ d e. absurd cc) (λ p. (refl, refl))
-grants_or (answers.Queued id) = Doesnt (λ d e. absurd cc) (λ p. (refl, refl))
-grants_or (answers.Recall c) = Doesnt (λ d e. absurd cc) (λ p. (refl, refl))
-grants_or (answers.Grace until) = Doesnt (λ d e. absurd cc) (λ p. (refl, refl))
-grants_or (answers.NoGrace clock) = Doesnt (λ d e. absurd cc) (λ p. (refl, refl))
-grants_or answers.NotRecorded = Doesnt (λ d e. absurd cc) (λ p. (refl, refl))
-grants_or (answers.Full limit) = Doesnt (λ d e. absurd cc) (λ p. (refl, refl))
-grants_or answers.NotHeld = Doesnt (λ d e. absurd cc) (λ p. (refl, refl))
-grants_or answers.StoreFailed = Doesnt (λ d e. absurd cc) (λ p. (refl, refl))
+grants_or (answers.Conflict c) = Doesnt (λ d e. absurd cc) (λ held p. (refl, refl))
+grants_or (answers.Queued id) = Doesnt (λ d e. absurd cc) (λ held p. (refl, refl))
+grants_or (answers.Recall c) = Doesnt (λ d e. absurd cc) (λ held p. (refl, refl))
+grants_or (answers.Grace until) = Doesnt (λ d e. absurd cc) (λ held p. (refl, refl))
+grants_or (answers.NoGrace clock) = Doesnt (λ d e. absurd cc) (λ held p. (refl, refl))
+grants_or answers.NotRecorded = Doesnt (λ d e. absurd cc) (λ held p. (refl, refl))
+grants_or (answers.Full limit) = Doesnt (λ d e. absurd cc) (λ held p. (refl, refl))
+grants_or answers.NotHeld = Doesnt (λ d e. absurd cc) (λ held p. (refl, refl))
+grants_or answers.StoreFailed = Doesnt (λ d e. absurd cc) (λ held p. (refl, refl))
 
 -- ---- an ask
 
-claim_made : (n : ℕ) (left : Rooms) (s : CoreState) (a : Ask) (what : What) (p : Place) → IsGood s → IsFit a → asked_what a.act ≡ Some what → held_at (ask n left s a).2 p ≡ else_was (entered_for (ask n left s a).0 p) (held_at s p)
+claim_made : (n : ℕ) (left : Rooms) (s : CoreState) (a : Ask) (what : What) (p : Place) → IsGood s → IsFit a → asked_what a.act ≡ Some what → held_at (ask n left s a).2 p ≡ else_was (entered_for s.claims (ask n left s a).0 p) (held_at s p)
 claim_made n left s a what p good fit act =
     let r = ask n left s a in
     elim (grants_or r.0) [
       | Does c e ↦
           let is = ask_enters n left s a what c good fit act e in
-          ap (λ (cs : List Claim). held_in cs p) is.1 ∙ entered_made c s.claims p good.kept is.0 ∙ ap (λ (answer : Answer). else_was (entered_for answer p) (held_at s p)) (sym e)
-      | Doesnt none nothing ↦ ap (λ (cs : List Claim). held_in cs p) (ask_keeps_claims n left s a good fit none) ∙ ap (λ (o : Option (List What)). else_was o (held_at s p)) (sym (nothing p).0)
+          ap (λ (cs : List Claim). held_in cs p) is.1 ∙ entered_made c s.claims p good.kept is.0 ∙ ap (λ (answer : Answer). else_was (entered_for s.claims answer p) (held_at s p)) (sym e)
+      | Doesnt none nothing ↦ ap (λ (cs : List Claim). held_in cs p) (ask_keeps_claims n left s a good fit none) ∙ ap (λ (o : Option (List What)). else_was o (held_at s p)) (sym (nothing s.claims p).0)
     ]
 
 unlocked_byte : (byte : ℕ) (inside exclusive : Bool) (mode : Option Mode) → byte_held byte (cond inside None mode) ≡ else_was (cleared_by (if inside then Range (Bytes byte byte) exclusive ∷ [] else [])) (byte_held byte mode)
@@ -163,10 +180,10 @@ unlock_made n left s a first last p good fit act =
       | Does c e ↦
           cleared_made c first last s.claims r.2.claims p good.kept (ask_clears n left s a first last c good fit act e)
           ∙ ap (λ (answer : Answer). else_was (cleared_for answer p) (held_at s p)) (sym e)
-      | Doesnt none nothing ↦ ap (λ (cs : List Claim). held_in cs p) (ask_keeps_claims n left s a good fit none) ∙ ap (λ (o : Option (List What)). else_was o (held_at s p)) (sym (nothing p).1)
+      | Doesnt none nothing ↦ ap (λ (cs : List Claim). held_in cs p) (ask_keeps_claims n left s a good fit none) ∙ ap (λ (o : Option (List What)). else_was o (held_at s p)) (sym (nothing s.claims p).1)
     ]
 
-act_made : (n : ℕ) (left : Rooms) (s : CoreState) (a : Ask) (act : Act) (p : Place) → a.act ≡ act → IsFitAct act → IsGood s → IsFit a → held_at (ask n left s a).2 p ≡ else_was (answered_at act (ask n left s a).0 p) (held_at s p)
+act_made : (n : ℕ) (left : Rooms) (s : CoreState) (a : Ask) (act : Act) (p : Place) → a.act ≡ act → IsFitAct act → IsGood s → IsFit a → held_at (ask n left s a).2 p ≡ else_was (answered_at s.claims act (ask n left s a).0 p) (held_at s p)
 act_made n left s a (acts.Share access deny) p is real good fit = claim_made n left s a (Share access deny) p good fit (ap asked_what is)
 act_made n left s a (acts.Ranges []) p is real good fit = absurd real
 act_made n left s a (acts.Ranges (range ∷ [])) p is real good fit = claim_made n left s a (Range range.0 range.1) p good fit (ap asked_what is)
@@ -210,9 +227,9 @@ end_party_made s party (ShareOf file owner) good = (by_ended (has_of file owner 
 -- ---- a turn
 
 -- what a turn makes of each place, and who waits after it
-due_made : (left : Rooms) (s t : CoreState) (w : Waiter) (claim : Claim) (answer : Answer) (p : Place) → IsGood s → IsPosix claim → IsTurnDue left s w claim answer t.claims → held_at t p ≡ else_was (entered_for answer p) (held_at s p)
+due_made : (left : Rooms) (s t : CoreState) (w : Waiter) (claim : Claim) (answer : Answer) (p : Place) → IsGood s → IsPosix claim → IsTurnDue left s w claim answer t.claims → held_at t p ≡ else_was (entered_for s.claims answer p) (held_at s p)
 due_made left s t w claim (answers.Granted c) p good real due =
-    ap (λ (cs : List Claim). held_in cs p) due.2 ∙ entered_made claim s.claims p good.kept real ∙ ap (λ (x : Claim). else_was (entered_at x p) (held_at s p)) (sym due.0)
+    ap (λ (cs : List Claim). held_in cs p) due.2 ∙ entered_made claim s.claims p good.kept real ∙ ap (λ (x : Claim). else_was (entered_at s.claims x p) (held_at s p)) (sym due.0)
 due_made left s t w claim (answers.Full limit) p good real due = ap (λ (cs : List Claim). held_in cs p) due.1
 due_made left s t w claim (answers.Conflict c) p good real due = absurd due
 due_made left s t w claim (answers.Queued id) p good real due = absurd due
@@ -223,11 +240,11 @@ due_made left s t w claim answers.NotRecorded p good real due = absurd due
 due_made left s t w claim answers.NotHeld p good real due = absurd due
 due_made left s t w claim answers.StoreFailed p good real due = absurd due
 
-turn_made : (left : Rooms) (s : CoreState) (o : Option (List Effect × CoreState)) (p : Place) → IsGood s → IfSome o (λ r. IsTurn left s r.0 r.1) → held_at (turned s o).2 p ≡ else_was (told_at (turned s o).1 p) (held_at s p)
+turn_made : (left : Rooms) (s : CoreState) (o : Option (List Effect × CoreState)) (p : Place) → IsGood s → IfSome o (λ r. IsTurn left s r.0 r.1) → held_at (turned s o).2 p ≡ else_was (told_at s.claims (turned s o).1 p) (held_at s p)
 turn_made left s None p good turn = refl
 turn_made left s (Some r) p good turn =
     due_made left s r.1 turn.waiter turn.claim turn.answer p good (turn_known left s r.0 r.1 good turn) turn.due
-    ∙ ap (λ (effects : List Effect). else_was (told_at effects p) (held_at s p)) (sym turn.told)
+    ∙ ap (λ (effects : List Effect). else_was (told_at s.claims effects p) (held_at s p)) (sym turn.told)
 
 turn_queue : (left : Rooms) (s : CoreState) (o : Option (List Effect × CoreState)) → IsGood s → IfSome o (λ r. IsTurn left s r.0 r.1) → (turned s o).2.waiters ≡ queue_without (turned s o).1 s.waiters
 turn_queue left s None good turn = refl
@@ -312,5 +329,5 @@ deed_due n s (Asks left a) good fit = answer_is_due n left s a good fit
 deed_due n s (GivesBack claim) good fit = tt
 deed_due n s (Cancels id) good fit = tt
 deed_due n s (Ends party) good fit = tt
-deed_due n s (Serves left) good fit = record { none = (settled_is n left s).0; first = turn_is n left s good }
+deed_due n s (Serves left) good fit = record { none = none_settled n left s; first = turn_is n left s good }
 deed_due n s Draws good fit = tt

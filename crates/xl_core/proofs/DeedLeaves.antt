@@ -17,11 +17,12 @@ use Rattle.xl_spans.specs.declared.span.Span.{Span}
 use Rattle.xl_table.specs.Flat.{removed}
 use Rattle.xl_table.specs.Held.{is_of, with_span, spans_of}
 use Rattle.xl_core.specs.Good.{are_kept, IsKnown, is_single_by, is_single, IsGood}
-use Rattle.xl_core.specs.Relock.{is_share, is_share_of, with_share, shares_of}
+use Rattle.xl_table.specs.Held.{is_share}
+use Rattle.xl_table.specs.Relock.{is_share_of, with_share, shares_of}
 use Rattle.xl_core.specs.Settle.{end_party}
 use Rattle.xl_core.specs.State.{CoreState}
 use Rattle.xl_core.proofs.KnownLaws.{one_party}
-use Rattle.xl_core.proofs.WriteBack.{is_of-true}
+use Rattle.xl_table.proofs.WriteBack.{is_of-true}
 
 -- ---- a share is given back
 

@@ -1,7 +1,8 @@
 -- The state stays good: by each ask, each turn, each cancel, and when a party leaves.
-use Rattle.std.proofs.Common.{◌≡◌, ℕ, ◌+◌, ◌≤◌, Bool, true, false, not, if◌then◌else◌, ◌==◌, nat_le, nat_lt, ◌⊎◌, inl, inr, List, [], ◌∷◌, ◌++◌, length, Option, Some, None, IfSome, option_map, refl, sym, subst, ◌∙◌, slice_get, arith}
+use Rattle.std.proofs.Common.{◌≡◌, ℕ, ◌+◌, ◌≤◌, Bool, true, false, not, ◌==◌, nat_le, inl, inr, List, [], ◌∷◌, ◌++◌, length, Option, Some, None, IfSome, refl, sym, ap, subst, ◌∙◌, arith}
 use Rattle.std.specs.List.{AllByRecursion, filter, list_any}
-use Rattle.std.proofs.lemmas.Bool.{cases_Bool, both_ways, ne_eqb, not_from_false}
+use Rattle.std.proofs.lemmas.Bool.{cases_Bool, both_ways, ne_eqb, not_from_false, leb-true}
+use Rattle.std.proofs.lemmas.List.{length-append}
 use Rattle.xl_base.specs.Lists.{IsIn, Pairwise}
 use Rattle.xl_base.proofs.Members.{all_in, all_from, all_append, in_filter_from, pairwise_append, pairwise_filter}
 use Rattle.xl_base.specs.Stable.{Stable}
@@ -10,7 +11,6 @@ use Rattle.xl_base.specs.declared.name.Owner.{Owner}
 use Rattle.xl_base.specs.declared.name.Party.{Party}
 use Rattle.xl_matrix.specs.Equal.{same_parties}
 use Rattle.xl_matrix.specs.Matrix.{compat}
-use Rattle.xl_core.specs.Good.{is_single}
 use Rattle.xl_matrix.specs.declared.claim.Claim.{Claim}
 use Rattle.xl_matrix.specs.declared.claim.Extent.{Extent}
 use Rattle.xl_matrix.specs.declared.claim.Extent.TheVariants.{Bytes, Empty}
@@ -20,32 +20,40 @@ use Rattle.xl_names.specs.Names.{AreDistinct, most_names}
 use Rattle.xl_names.specs.declared.name.Name.{Name}
 use Rattle.xl_spans.specs.Spans.{meets}
 use Rattle.xl_spans.specs.declared.span.Span.{Span}
-use Rattle.xl_table.specs.Flat.{removed}
-use Rattle.xl_table.specs.Held.{is_of, spans_of, has_one_party}
+use Rattle.xl_table.specs.Flat.{removed, is_blocked}
+use Rattle.xl_table.specs.Held.{is_of, spans_of, has_one_party, IsPosixBy}
+use Rattle.xl_table.specs.Relock.{most_claims, holds_byte, granted_claims}
 use Rattle.xl_table.proofs.FlatLaws.{all_removed, pairwise_removed}
 use Rattle.xl_table.proofs.KeptLaws.{kept_empty, kept_removed}
+use Rattle.xl_table.proofs.WriteBack.{is_of-true, all_one_party, kept_filter}
 use Rattle.xl_wait.specs.Waiting.{cancelled}
 use Rattle.xl_wait.specs.declared.waiter.Rooms.{Rooms}
 use Rattle.xl_wait.specs.declared.waiter.Waiter.{Waiter}
-use Rattle.xl_core.specs.State.{CoreState, started, step_begun, drawn, with_parts}
-use Rattle.xl_core.specs.Asking.{both_entered, names_fit, asked_what, asked_claim, known_claim, is_client, IsRealExtent, IsFitAct, IsFit}
-use Rattle.xl_core.specs.Decide.{most_hosts, most_waiters, passed_by_grant, passed_by_wait, decide, waiter_of, waiting, queued, claim_answered, claim_decided, claim_asked, unlocked_bytes, unlocked, acted, ask}
-use Rattle.xl_core.specs.Good.{IsPosixBy, are_kept, IsKnown, are_apart, IsWaiter, IsGood, is_blocked}
-use Rattle.xl_core.specs.Relock.{relocked_in, relock_fits, holds_byte, granted_claims, grant_fits}
-use Rattle.xl_core.specs.Settle.{turn_with, turn_by, turn_of, first_some, first_turn, served_by, served, settle, waits_for, cancel, give_back, end_party}
+use Rattle.xl_core.specs.State.{CoreState, started, step_begun, drawn}
+use Rattle.xl_core.specs.Asking.{both_entered, asked_claim, asked_claims, known_claim, is_client, IsRealExtent, IsFitAct, IsFit}
+use Rattle.xl_core.specs.Causes.{limits_of_wait, left_by_unlock}
+use Rattle.xl_core.specs.Decide.{Answered, plea_of, waiter_of, waiting, named, answered, claims_asked, unlocked_claims, unlocked_bytes, unlocked, acted, ask}
+use Rattle.xl_core.specs.Good.{are_kept, IsKnown, is_single, are_apart, IsWaiter, IsGood, stands_in_the_way}
+use Rattle.xl_core.specs.Judge.{Ruled, all_granted, held_with, judged}
+use Rattle.xl_core.specs.Limits.{most_waiters, grant_limits, first_passed}
+use Rattle.xl_core.specs.Settle.{plea_again, rests, all_of, turned, again, turn_or, first_turn, settle, waits_for, cancel, give_back, end_party}
 use Rattle.xl_core.specs.declared.ask.Act.{Act}
 use Rattle.xl_core.specs.declared.ask.Act.TheVariants.{Share, Ranges, Test, Unlock}
 use Rattle.xl_core.specs.declared.ask.Answer.{Answer}
-use Rattle.xl_core.specs.declared.ask.Answer.TheVariants.{NoGrace}
+use Rattle.xl_core.specs.declared.ask.Answer.TheVariants as answers
 use Rattle.xl_core.specs.declared.ask.Ask.{Ask}
 use Rattle.xl_core.specs.declared.ask.Effect.{Effect}
-use Rattle.xl_core.specs.declared.decide.Verdict.{Verdict}
-use Rattle.xl_core.specs.declared.decide.Verdict.TheVariants as verdict
-use Rattle.xl_core.specs.declared.settling.Turn.{Turn}
-use Rattle.xl_core.proofs.KnownLaws.{both_few, GoOn, both_go_on, both_distinct, known_on, waiters_on, one_party, asker_kept, asked_known, kept_on, kept_posix, known_party_is}
+use Rattle.xl_core.specs.declared.ask.Effect.TheVariants.{Served}
+use Rattle.xl_core.specs.declared.judge.Plea.{Plea}
+use Rattle.xl_core.specs.declared.judge.Ruling.{Ruling}
+use Rattle.xl_core.specs.declared.judge.Ruling.TheVariants.{Gets, Waits, Told}
+use Rattle.xl_core.proofs.CauseLaws.{left_so, real_range}
 use Rattle.xl_core.proofs.ClaimLaws.{AreGood, relocked_good, granted_good}
-use Rattle.xl_core.proofs.DecideLaws.{decide_is, blockers_none, passed_none}
-use Rattle.xl_core.proofs.WriteBack.{is_of-true, all_one_party, kept_filter}
+use Rattle.xl_core.proofs.DecideLaws.{none_blockers}
+use Rattle.xl_core.proofs.KnownLaws.{GoOn, both_go_on, both_distinct, known_on, waiters_on, one_party, asker_kept, asked_known, kept_on, kept_posix, known_party_is}
+use Rattle.xl_core.proofs.LimitLaws.{grant_room, wait_room}
+use Rattle.xl_core.proofs.RowLaws.{AllPass, is_refusal, IsRuled, judged_ruled, ruled_by, passed_by, judged_is}
+use Rattle.xl_core.proofs.TurnLaws.{alone, blocked_rests, rests_blocked, free_moves, move_first}
 
 -- ---- a good state, part by part
 
@@ -55,15 +63,15 @@ good_claims s good = record { kept = good.kept; compatible = good.compatible; si
 claims_on : (names more : List Name) (cs : List Claim) → GoOn names more → AreGood names cs → AreGood more cs
 claims_on names more cs on good = record { kept = good.kept; compatible = good.compatible; single = good.single; known = known_on names more cs on good.known }
 
--- the state with these parts
-with_good : (s : CoreState) (claims : List Claim) (waiters : List Waiter) (names : List Name) (counter : ℕ) → AreDistinct names → length names ≤ most_names → AreGood names claims → AllByRecursion (IsWaiter names counter) waiters → Pairwise are_apart waiters → IsGood (with_parts s claims waiters names counter)
-with_good s claims waiters names counter distinct few good waits apart = record {
+good_from : (t : CoreState) → AreGood t.names t.claims → AreDistinct t.names → length t.names ≤ most_names → AllByRecursion (IsWaiter t.names t.counter) t.waiters → Pairwise are_apart t.waiters → length t.waiters ≤ most_waiters → IsGood t
+good_from t good distinct few waits apart crowd = record {
   kept = good.kept;
   compatible = good.compatible;
   single = good.single;
   known = good.known;
   waiters = waits;
   apart = apart;
+  crowd = crowd;
   distinct = distinct;
   few = few;
 }
@@ -71,11 +79,16 @@ with_good s claims waiters names counter distinct few good waits apart = record 
 -- ---- at a start, and at the beginning of a step
 
 pub started_good : (stable : Stable) (clock : Moment) → IsGood (started stable clock)
-started_good stable clock = record { kept = kept_empty; compatible = tt; single = tt; known = tt; waiters = tt; apart = tt; distinct = tt; few = omega arith }
+started_good stable clock = record { kept = kept_empty; compatible = tt; single = tt; known = tt; waiters = tt; apart = tt; crowd = omega arith; distinct = tt; few = omega arith }
 
 pub begun_good : (s : CoreState) → IsGood s → IsGood (step_begun s)
 unfolding step_begun
-begun_good s good = record { kept = good.kept; compatible = good.compatible; single = good.single; known = good.known; waiters = good.waiters; apart = good.apart; distinct = good.distinct; few = good.few }
+begun_good s good = good_from (record s { made = 0; failed = false }) (good_claims s good) good.distinct good.few good.waiters good.apart good.crowd
+
+pub drawn_good : (s : CoreState) → IsGood s → IsGood (drawn s)
+unfolding drawn
+drawn_good s good =
+    good_from (record s { counter = s.counter + 1 }) (good_claims s good) good.distinct good.few (waiters_on s.names s.names s.counter (s.counter + 1) s.waiters (λ number name h. h) (omega arith) good.waiters) good.apart good.crowd
 
 -- ---- a party for each owner
 
@@ -104,59 +117,67 @@ unlocked_one_party s a extent exclusive good client =
 
 -- ---- a share or a lock
 
-waiting_good : (s : CoreState) (a : Ask) (claim : Claim) → IsGood s → names_fit a s.names ≡ true → IsKnown (both_entered a s.names) claim → IsGood (waiting s a claim)
-waiting_good s a claim good fit known =
+-- what becomes of an ask for these claims: it has all of them, it waits, or it is refused
+pub data AskCase (left : Rooms) (s : CoreState) (a : Ask) (claims : List Claim) (first : Claim) (r : Answered) : Type 0 where
+  Goes : AllPass left (plea_of left s a) s.claims claims → r ≡ (answers.Granted first, [], named a (held_with claims s)) → AskCase left s a claims first r
+  Queues : a.blocking ≡ true → first_passed (limits_of_wait left s a) ≡ None → r ≡ (answers.Queued (s.counter + 1), [], waiting a claims s) → AskCase left s a claims first r
+  Refuses : (answer : Answer) → is_refusal answer ≡ true → r ≡ (answer, [], s) → AskCase left s a claims first r
+
+pub ask_case : (n : ℕ) (left : Rooms) (s : CoreState) (a : Ask) (c : Claim) (cs : List Claim) → AskCase left s a (c ∷ cs) c (claims_asked n left s a (c ∷ cs))
+unfolding claims_asked plea_of
+ask_case n left s a c cs = by r.0 r.1 r.2 (judged_ruled n s.waiters left (plea_of left s a) (c ∷ cs) s) where
+  r : Ruled
+  r = judged n s.waiters left (plea_of left s a) (c ∷ cs) s
+
+  by : (ruling : Ruling) (told : List Effect) (t : CoreState) → IsRuled left (plea_of left s a) (c ∷ cs) s ruling told t → AskCase left s a (c ∷ cs) c (answered a (c ∷ cs) c ruling told t)
+  by Gets told t is = Goes is.2 (λ i. answered a (c ∷ cs) c Gets (is.0 i) (is.1 i))
+  by Waits told t is = Queues is.2 is.3 (λ i. answered a (c ∷ cs) c Waits (is.0 i) (is.1 i))
+  by (Told answer) told t is = Refuses answer is.2 (λ i. answered a (c ∷ cs) c (Told answer) (is.0 i) (is.1 i))
+
+-- claims that pass, one behind another, leave the claims good
+pub all_granted_good : (left : Rooms) (p : Plea) (names : List Name) (asked held : List Claim) → AreDistinct names → AreGood names held → AllByRecursion (IsKnown names) asked → AllPass left p held asked → AreGood names (all_granted asked held)
+all_granted_good left p names [] held distinct good known pass = good
+all_granted_good left p names (c ∷ cs) held distinct good known pass =
+    all_granted_good left p names cs (granted_claims c held) distinct
+    (granted_good names c held distinct good known.0 pass.0 (grant_room left p.rows (length (granted_claims c held)) p.kept pass.1).1) known.1 pass.2
+
+goes_good : (left : Rooms) (s : CoreState) (a : Ask) (c : Claim) (cs : List Claim) → IsGood s → AllByRecursion (IsKnown (both_entered a s.names)) (c ∷ cs) → AllPass left (plea_of left s a) s.claims (c ∷ cs) → IsGood (named a (held_with (c ∷ cs) s))
+unfolding held_with plea_of
+goes_good left s a c cs good known pass =
+    let more = both_entered a s.names in
+    let on = both_go_on a s.names in
+    let distinct = both_distinct a s.names good.distinct in
+    good_from (record s { claims = all_granted (c ∷ cs) s.claims; names = more }) (all_granted_good left (plea_of left s a) more (c ∷ cs) s.claims distinct (claims_on s.names more s.claims on (good_claims s good)) known pass) distinct
+    (grant_room left a.rows (length (granted_claims c s.claims)) (length more) pass.1).2 (waiters_on s.names more s.counter s.counter s.waiters on (omega arith) good.waiters) good.apart good.crowd
+
+waiting_good : (left : Rooms) (s : CoreState) (a : Ask) (c : Claim) → IsGood s → AllByRecursion (IsKnown (both_entered a s.names)) (c ∷ []) → a.blocking ≡ true → first_passed (limits_of_wait left s a) ≡ None → IsGood (waiting a (c ∷ []) s)
+waiting_good left s a c good known waits room =
     let more = both_entered a s.names in
     let next = s.counter + 1 in
-    let new = waiter_of next a claim in
+    let new = waiter_of next a (c ∷ []) in
     let on = both_go_on a s.names in
-    with_good s s.claims (s.waiters ++ new ∷ []) more next (both_distinct a s.names good.distinct) (both_few a s.names fit) (claims_on s.names more s.claims on (good_claims s good))
-    (all_append (IsWaiter more next) s.waiters (new ∷ []) (waiters_on s.names more s.counter next s.waiters on (omega arith) good.waiters) ((omega arith, (known, tt)), tt))
+    let fits = wait_room left a.rows (length s.waiters) (length more) room in
+    good_from (waiting a (c ∷ []) s) (claims_on s.names more s.claims on (good_claims s good)) (both_distinct a s.names good.distinct) fits.2
+    (all_append (IsWaiter more next) s.waiters (new ∷ []) (waiters_on s.names more s.counter next s.waiters on (omega arith) good.waiters) ((omega arith, known, refl, waits), tt))
     (pairwise_append are_apart s.waiters (new ∷ []) good.apart (tt, tt)
     (λ v w h k. elim k [
       | inl e ↦ subst (λ (x : Waiter). are_apart v x ≡ true) e (not_from_false (v.id == next) (ne_eqb v.id next (λ same. omega (arith, same, (all_in (IsWaiter s.names s.counter) v s.waiters good.waiters h).0))))
       | inr none ↦ absurd none
     ]))
+    (omega (arith, fits.1, length-append s.waiters (new ∷ [])))
 
-abbrev some_limit : ℕ → Option ℕ
-some_limit n = Some n
+claim_good : (n : ℕ) (left : Rooms) (s : CoreState) (a : Ask) (what : What) → IsGood s → is_client a.owner a.party ≡ true → IsPosixBy what → IsGood (claims_asked n left s a (asked_claims a (what ∷ []) s.names)).2
+claim_good n left s a what good client real = by (claims_asked n left s a (c ∷ [])) (ask_case n left s a c []) where
+  c : Claim
+  c = asked_claim a what s.names
 
-passed_wait : (left rows : Rooms) (waiting : ℕ) (names : Bool) → passed_by_wait left rows waiting names ≡ None → names ≡ true
-unfolding passed_by_wait
-passed_wait left rows waiting true e = refl
-passed_wait left rows waiting false e =
-    elim (cases_Bool (nat_lt left.hosts rows.hosts)) [
-      | inl h ↦ let two : some_limit most_hosts ≡ None = rw h at e in absurd cc
-      | inr h ↦ elim (cases_Bool (nat_le most_waiters waiting)) [
-        | inl w ↦ let two : some_limit most_waiters ≡ None = rw (h, w) at e in absurd cc
-        | inr w ↦ let two : some_limit most_names ≡ None = rw (h, w) at e in absurd cc
-      ]
-    ]
+  known : AllByRecursion (IsKnown (both_entered a s.names)) (c ∷ [])
+  known = (asked_known a what s.names client real, tt)
 
-queued_good : (s : CoreState) (a : Ask) (claim : Claim) (o : Option ℕ) → IsGood s → (o ≡ None → names_fit a s.names ≡ true) → IsKnown (both_entered a s.names) claim → IsGood (queued s a claim o).2
-queued_good s a claim (Some limit) good fit known = good
-queued_good s a claim None good fit known = waiting_good s a claim good (fit refl) known
-
-claim_answered_good : (n : ℕ) (left : Rooms) (s : CoreState) (a : Ask) (claim : Claim) (v : Verdict) → decide n s.waiters s left a.rows (names_fit a s.names) claim ≡ v → IsGood s → IsKnown (both_entered a s.names) claim → IsGood (claim_answered left s a claim v).2
-claim_answered_good n left s a claim (verdict.Blocked c) e good known =
-    elim (cases_Bool a.blocking) [
-      | inl waits ↦ rw waits (queued_good s a claim (passed_by_wait left a.rows (length s.waiters) (names_fit a s.names)) good (passed_wait left a.rows (length s.waiters) (names_fit a s.names)) known)
-      | inr hurries ↦ rw hurries good
-    ]
-claim_answered_good n left s a claim (verdict.Full limit) e good known = good
-claim_answered_good n left s a claim verdict.Free e good known =
-    let free = decide_is n s.waiters s left a.rows (names_fit a s.names) claim verdict.Free e in
-    let fits = passed_none left a.rows (grant_fits claim s.claims) (names_fit a s.names) free.1 in
-    let more = both_entered a s.names in
-    let on = both_go_on a s.names in
-    let distinct = both_distinct a s.names good.distinct in
-    with_good s (granted_claims claim s.claims) s.waiters more s.counter distinct (both_few a s.names fits.1)
-    (granted_good more claim s.claims distinct (claims_on s.names more s.claims on (good_claims s good)) known (blockers_none s.waiters s claim free.0) fits.0)
-    (waiters_on s.names more s.counter s.counter s.waiters on (omega arith) good.waiters) good.apart
-
-pub lock_good : (n : ℕ) (left : Rooms) (s : CoreState) (a : Ask) (claim : Claim) → IsGood s → IsKnown (both_entered a s.names) claim → IsGood (claim_decided n left s a claim).2
-unfolding claim_decided
-lock_good n left s a claim good known = claim_answered_good n left s a claim (decide n s.waiters s left a.rows (names_fit a s.names) claim) refl good known
+  by : (r : Answered) → AskCase left s a (c ∷ []) c r → IsGood r.2
+  by r (Goes pass e) = subst (λ (x : Answered). IsGood x.2) (sym e) (goes_good left s a c [] good known pass)
+  by r (Queues waits room e) = subst (λ (x : Answered). IsGood x.2) (sym e) (waiting_good left s a c good known waits room)
+  by r (Refuses answer refused e) = subst (λ (x : Answered). IsGood x.2) (sym e) good
 
 -- ---- an unlock
 
@@ -179,43 +200,26 @@ holder_kept s a extent exclusive first last good client holds =
     subst (λ (p : Party). are_kept s.names claim.owner p ≡ true) (known_party_is a s.names found.0.party good.distinct good.few client kept) kept
 
 unlocked_bytes_good : (s : CoreState) (claim : Claim) (first last : ℕ) → IsGood s → first ≤ last → (holds_byte claim.file claim.owner first last s.claims ≡ true → are_kept s.names claim.owner claim.party ≡ true) → IsGood (unlocked_bytes s claim first last).2
-unlocked_bytes_good s claim first last good ends kept =
-    elim (cases_Bool (holds_byte claim.file claim.owner first last s.claims)) [
-      | inr none ↦ rw none good
-      | inl holds ↦ elim (cases_Bool (relock_fits claim.file claim.owner first last None s.claims)) [
-        | inr full ↦ rw (holds, full) good
-        | inl fits ↦
-            rw (holds, fits)
-            (with_good s (relocked_in claim.file claim.owner claim.party first last None s.claims) s.waiters s.names s.counter good.distinct good.few
-            (relocked_good s.names claim.file claim.owner claim.party first last None s.claims good.distinct (good_claims s good) ends (kept_posix s.names claim.owner claim.party (kept holds)) (kept holds) tt fits)
-            good.waiters good.apart)
-      ]
-    ]
+unlocked_bytes_good s claim first last good ends kept = go (holds_byte claim.file claim.owner first last s.claims) (nat_le (left_by_unlock s claim first last) most_claims) refl refl where
+  go : (h f : Bool) → holds_byte claim.file claim.owner first last s.claims ≡ h → nat_le (left_by_unlock s claim first last) most_claims ≡ f → IsGood (left_so s claim first last h f).2
+  go false f none e = good
+  go true false holds full = good
+  go true true holds fits =
+      good_from (record s { claims = unlocked_claims claim first last s.claims })
+      (relocked_good s.names claim.file claim.owner claim.party first last None s.claims good.distinct (good_claims s good) ends (kept_posix s.names claim.owner claim.party (kept holds)) (kept holds) tt (leb-true (left_by_unlock s claim first last) most_claims fits))
+      good.distinct good.few good.waiters good.apart good.crowd
 
-pub unlock_good : (s : CoreState) (a : Ask) (extent : Extent) → IsGood s → is_client a.owner a.party ≡ true → IsRealExtent extent → IsGood (unlocked s (known_claim a extent false s.names) extent).2
+unlock_good : (s : CoreState) (a : Ask) (extent : Extent) → IsGood s → is_client a.owner a.party ≡ true → IsRealExtent extent → IsGood (unlocked s (known_claim a extent false s.names) extent).2
 unfolding unlocked
 unlock_good s a (Bytes first last) good client ends = unlocked_bytes_good s (known_claim a (Bytes first last) false s.names) first last good ends (holder_kept s a (Bytes first last) false first last good client)
 unlock_good s a (Empty offset) good client ends = absurd ends
 
 -- ---- an ask
 
-asked_good : (n : ℕ) (left : Rooms) (s : CoreState) (a : Ask) (what : What) → IsGood s → is_client a.owner a.party ≡ true → IsPosixBy what → IsGood (claim_asked n left s a (Some what)).2
-asked_good n left s a what good client posix_what =
-    either_good a.reclaim (NoGrace s.clock, [], s) (claim_decided n left s a (asked_claim a what s.names)) good
-    (lock_good n left s a (asked_claim a what s.names) good (asked_known a what s.names client posix_what))
-  where
-    either_good : (b : Bool) (x y : Answer × List Effect × CoreState) → IsGood x.2 → IsGood y.2 → IsGood (if b then x else y).2
-    either_good true x y good later = good
-    either_good false x y good later = later
-
-real_range : (extent : Extent) (exclusive : Bool) → IsRealExtent extent → IsPosixBy (whats.Range extent exclusive)
-real_range (Bytes first last) exclusive h = h
-real_range (Empty offset) exclusive h = absurd h
-
 acted_good : (n : ℕ) (left : Rooms) (s : CoreState) (a : Ask) (act : Act) → IsGood s → is_client a.owner a.party ≡ true → IsFitAct act → IsGood (acted n left s a act).2
-acted_good n left s a (Share access deny) good client fit = asked_good n left s a (whats.Share access deny) good client tt
+acted_good n left s a (Share access deny) good client fit = claim_good n left s a (whats.Share access deny) good client tt
 acted_good n left s a (Ranges []) good client fit = absurd fit
-acted_good n left s a (Ranges (range ∷ [])) good client fit = asked_good n left s a (whats.Range range.0 range.1) good client (real_range range.0 range.1 fit)
+acted_good n left s a (Ranges (range ∷ [])) good client fit = claim_good n left s a (whats.Range range.0 range.1) good client (real_range range.0 range.1 fit)
 acted_good n left s a (Ranges (range ∷ more ∷ rest)) good client fit = absurd fit
 acted_good n left s a (Test extent exclusive) good client fit = good
 acted_good n left s a (Unlock extent) good client fit = unlock_good s a extent good client fit
@@ -227,46 +231,85 @@ ask_good n left s a good fit = acted_good n left s a a.act good fit.party fit.ac
 
 -- ---- a turn
 
--- the waiter's turn: nothing held blocks what it asks for first, and a limit stands against it exactly where its grant would pass one
-pub record IsTurnOf (left : Rooms) (s : CoreState) (w : Waiter) (turn : Turn) : Type 0 where
-  pub id : turn.id ≡ w.id
-  pub claim : slice_get w.asked 0 ≡ Some turn.claim
-  pub free : is_blocked s.claims turn.claim ≡ false
-  pub full : turn.full ≡ passed_by_grant left w.rows (grant_fits turn.claim s.claims) true
+abbrev pub Turned : Type 0
+Turned = List Effect × CoreState
 
-same_turn : (a b : Turn) → Some a ≡ Some b → a ≡ b
+-- what a turn gives the waiter of this claim, by the limit that its grant passes
+abbrev pub turn_by : CoreState → Waiter → Claim → Option ℕ → Turned
+turn_by s w c (Some limit) = (Served w.id (answers.Full limit) ∷ [], record s { waiters = cancelled w.id s.waiters })
+turn_by s w c None = (Served w.id (answers.Granted c) ∷ [], record s { claims = granted_claims c s.claims; waiters = cancelled w.id s.waiters })
+
+-- the limits of a waiter's grant; its names are kept already
+abbrev pub turn_limits : Rooms → CoreState → Waiter → Claim → List (ℕ × Bool)
+turn_limits left s w c = grant_limits left w.rows (length (granted_claims c s.claims)) (length s.names)
+
+-- the first waiter that has a turn
+pub record IsFirst (left : Rooms) (s : CoreState) (ws : List Waiter) (turn : Turned) : Type 0 where
+  pub before : List Waiter
+  pub waiter : Waiter
+  pub behind : List Waiter
+  pub claim : Claim
+  pub stood : ws ≡ before ++ waiter ∷ behind
+  pub blocked : AllByRecursion (λ w. stands_in_the_way s.claims w.asked ≡ true) before
+  pub is : IsWaiter s.names s.counter waiter
+  pub asked : waiter.asked ≡ claim ∷ []
+  pub free : is_blocked s.claims claim ≡ false
+  pub turn_is : turn ≡ turn_by s waiter claim (first_passed (turn_limits left s waiter claim))
+
+moved : (n : ℕ) (left : Rooms) (s : CoreState) (earlier : List Waiter) (w : Waiter) (c : Claim) → w.asked ≡ c ∷ [] → is_blocked s.claims c ≡ false
+    → (let r = again n left s earlier w in turned w r.0 r.1 r.2 ≡ turn_by s w c (first_passed (turn_limits left s w c)))
+unfolding plea_again held_with
+moved n left s earlier w c asked free =
+    ap (λ (r : Ruled). turned w r.0 r.1 r.2)
+    (ap (λ (cs : List Claim). judged n earlier left p cs s) asked
+    ∙ judged_is n earlier left p c s refl
+    ∙ ap (λ (o : Option Claim). ruled_by p s c o (passed_by left p s c)) (none_blockers earlier s c free))
+    ∙ by (first_passed (turn_limits left s w c))
+  where
+    p : Plea
+    p = plea_again s w
+
+    by : (o : Option ℕ) → (let r = ruled_by p s c None o in turned w r.0 r.1 r.2 ≡ turn_by s w c o)
+    by None = ap (λ (cs : List Claim). (Served w.id (all_of cs) ∷ [], record s { claims = granted_claims c s.claims; waiters = cancelled w.id s.waiters })) asked
+    by (Some limit) = refl
+
+same_turn : (a b : Turned) → Some a ≡ Some b → a ≡ b
 same_turn a b e = cc
 
-turn_with_is : (n : ℕ) (left : Rooms) (s : CoreState) (earlier : List Waiter) (w : Waiter) (claim : Claim) (v : Verdict) (turn : Turn) → slice_get w.asked 0 ≡ Some claim → decide n earlier s left w.rows true claim ≡ v → turn_with w claim v ≡ Some turn → IsTurnOf left s w turn
-turn_with_is n left s earlier w claim (verdict.Blocked c) turn at e is = absurd cc
-turn_with_is n left s earlier w claim (verdict.Full limit) turn at e is =
-    let why = decide_is n earlier s left w.rows true claim (verdict.Full limit) e in
-    subst (λ (t : Turn). IsTurnOf left s w t) (same_turn (record { id = w.id; claim = claim; full = Some limit }) turn is)
-    (record { id = refl; claim = at; free = blockers_none earlier s claim why.0; full = sym why.1 })
-turn_with_is n left s earlier w claim verdict.Free turn at e is =
-    let why = decide_is n earlier s left w.rows true claim verdict.Free e in
-    subst (λ (t : Turn). IsTurnOf left s w t) (same_turn (record { id = w.id; claim = claim; full = None }) turn is)
-    (record { id = refl; claim = at; free = blockers_none earlier s claim why.0; full = sym why.1 })
-
-turn_by_is : (n : ℕ) (left : Rooms) (s : CoreState) (earlier : List Waiter) (w : Waiter) (o : Option Claim) (turn : Turn) → slice_get w.asked 0 ≡ o → turn_by n left s earlier w o ≡ Some turn → IsTurnOf left s w turn
-turn_by_is n left s earlier w None turn at is = absurd cc
-turn_by_is n left s earlier w (Some claim) turn at is = turn_with_is n left s earlier w claim (decide n earlier s left w.rows true claim) turn at refl is
-
-pub turn_of_is : (n : ℕ) (left : Rooms) (s : CoreState) (earlier : List Waiter) (w : Waiter) (turn : Turn) → turn_of n left s earlier w ≡ Some turn → IsTurnOf left s w turn
-unfolding turn_of
-turn_of_is n left s earlier w turn is = turn_by_is n left s earlier w (slice_get w.asked 0) turn refl is
-
-pub first_some_cases : (a b : Option Turn) (turn : Turn) → first_some a b ≡ Some turn → (a ≡ Some turn) ⊎ ((a ≡ None) × (b ≡ Some turn))
-first_some_cases (Some t) b turn e = inl e
-first_some_cases None b turn e = inr (refl, e)
-
--- a turn is one of those who wait
-pub first_turn_is : (n : ℕ) (left : Rooms) (s : CoreState) (earlier ws : List Waiter) (turn : Turn) → first_turn n left s earlier ws ≡ Some turn → (w : Waiter) × IsIn w ws × IsTurnOf left s w turn
-first_turn_is n left s earlier [] turn e = absurd cc
-first_turn_is n left s earlier (w ∷ ws) turn e =
-    elim (first_some_cases (turn_of n left s earlier w) (first_turn n left s (earlier ++ w ∷ []) ws) turn e) [
-      | inl own ↦ (w, inl refl, turn_of_is n left s earlier w turn own)
-      | inr later ↦ let rest = first_turn_is n left s (earlier ++ w ∷ []) ws turn later.1 in (rest.0, inr rest.1, rest.2)
+pub first_is : (n : ℕ) (left : Rooms) (s : CoreState) (earlier ws : List Waiter) (turn : Turned) → AllByRecursion (IsWaiter s.names s.counter) ws → first_turn n left s earlier ws ≡ Some turn → IsFirst left s ws turn
+first_is n left s earlier [] turn all e = absurd cc
+first_is n left s earlier (w ∷ ws) turn all e =
+    let one = alone w.asked all.0.2 in
+    let r = again n left s earlier w in
+    let later = first_turn n left s (earlier ++ w ∷ []) ws in
+    elim (cases_Bool (is_blocked s.claims one.0)) [
+      | inl blocked ↦
+          let rest = blocked_rests n left s earlier w one.0 one.1 all.0.3 blocked in
+          let found = first_is n left s (earlier ++ w ∷ []) ws turn all.1 (sym (ap (λ (x : Ruled). turn_or w x later) rest) ∙ e) in
+          record {
+            before = w ∷ found.before;
+            waiter = found.waiter;
+            behind = found.behind;
+            claim = found.claim;
+            stood = ap (λ (vs : List Waiter). w ∷ vs) found.stood;
+            blocked = ((rests_blocked n left s earlier w (ap (λ (x : Ruled). rests x.0 x.1) rest)).1, found.blocked);
+            is = found.is;
+            asked = found.asked;
+            free = found.free;
+            turn_is = found.turn_is;
+          }
+      | inr free ↦ record {
+        before = [];
+        waiter = w;
+        behind = ws;
+        claim = one.0;
+        stood = refl;
+        blocked = tt;
+        is = all.0;
+        asked = one.1;
+        free = free;
+        turn_is = sym (same_turn (turned w r.0 r.1 r.2) turn (sym (move_first w r later (free_moves n left s earlier w one.0 one.1 free)) ∙ e)) ∙ moved n left s earlier w one.0 one.1 free;
+      }
     ]
 
 pub cancelled_all : (P : Waiter → Type 0) (id : ℕ) (ws : List Waiter) → AllByRecursion P ws → AllByRecursion P (cancelled id ws)
@@ -285,80 +328,73 @@ cancelled_pairwise test id (w ∷ ws) all =
       | inr other ↦ rw other (cancelled_all (λ v. test w v ≡ true) id ws all.0, cancelled_pairwise test id ws all.1)
     ]
 
-asked_in : (asked : List Claim) (claim : Claim) → slice_get asked 0 ≡ Some claim → IsIn claim asked
-asked_in [] claim e = absurd cc
-asked_in (c ∷ cs) claim e = inl (same_claim c claim e)
-  where
-    same_claim : (a b : Claim) → Some a ≡ Some b → a ≡ b
-    same_claim a b e = cc
+pub fewer_cancelled : (id : ℕ) (ws : List Waiter) → length (cancelled id ws) ≤ length ws
+fewer_cancelled id [] = omega arith
+fewer_cancelled id (w ∷ ws) = elim (cases_Bool (w.id == id)) [ inl e ↦ rw e (omega arith) | inr e ↦ rw e (omega (arith, fewer_cancelled id ws)) ]
 
--- what a waiter asks for is known
-pub waiter_known : (s : CoreState) (w : Waiter) (claim : Claim) → IsGood s → IsIn w s.waiters → slice_get w.asked 0 ≡ Some claim → IsKnown s.names claim
-waiter_known s w claim good h e = all_in (IsKnown s.names) claim w.asked (all_in (IsWaiter s.names s.counter) w s.waiters good.waiters h).1 (asked_in w.asked claim e)
+fewer_crowd : (id : ℕ) (ws : List Waiter) → length ws ≤ most_waiters → length (cancelled id ws) ≤ most_waiters
+fewer_crowd id ws crowd = omega (arith, fewer_cancelled id ws, crowd)
 
-served_by_good : (left : Rooms) (s : CoreState) (w : Waiter) (turn : Turn) (o : Option ℕ) → IsGood s → IsIn w s.waiters → IsTurnOf left s w turn → turn.full ≡ o → IsGood (served_by s turn o).1
-served_by_good left s w turn (Some limit) good h is e =
-    with_good s s.claims (cancelled turn.id s.waiters) s.names s.counter good.distinct good.few (good_claims s good)
-    (cancelled_all (IsWaiter s.names s.counter) turn.id s.waiters good.waiters) (cancelled_pairwise are_apart turn.id s.waiters good.apart)
-served_by_good left s w turn None good h is e =
-    let fits = passed_none left w.rows (grant_fits turn.claim s.claims) true (sym is.full ∙ e) in
-    with_good s (granted_claims turn.claim s.claims) (cancelled turn.id s.waiters) s.names s.counter good.distinct good.few
-    (granted_good s.names turn.claim s.claims good.distinct (good_claims s good) (waiter_known s w turn.claim good h is.claim) is.free fits.0)
-    (cancelled_all (IsWaiter s.names s.counter) turn.id s.waiters good.waiters) (cancelled_pairwise are_apart turn.id s.waiters good.apart)
+turn_good : (left : Rooms) (s : CoreState) (w : Waiter) (c : Claim) (o : Option ℕ) → IsGood s → IsKnown s.names c → is_blocked s.claims c ≡ false → first_passed (turn_limits left s w c) ≡ o → IsGood (turn_by s w c o).1
+turn_good left s w c (Some limit) good known free e =
+    good_from (record s { waiters = cancelled w.id s.waiters }) (good_claims s good) good.distinct good.few (cancelled_all (IsWaiter s.names s.counter) w.id s.waiters good.waiters) (cancelled_pairwise are_apart w.id s.waiters good.apart) (fewer_crowd w.id s.waiters good.crowd)
+turn_good left s w c None good known free e =
+    good_from (record s { claims = granted_claims c s.claims; waiters = cancelled w.id s.waiters })
+    (granted_good s.names c s.claims good.distinct (good_claims s good) known free (grant_room left w.rows (length (granted_claims c s.claims)) (length s.names) e).1) good.distinct good.few
+    (cancelled_all (IsWaiter s.names s.counter) w.id s.waiters good.waiters) (cancelled_pairwise are_apart w.id s.waiters good.apart) (fewer_crowd w.id s.waiters good.crowd)
 
--- a waiter whose turn it is is served
-pub served_good : (left : Rooms) (s : CoreState) (w : Waiter) (turn : Turn) → IsGood s → IsIn w s.waiters → IsTurnOf left s w turn → IsGood (served s turn).1
-unfolding served
-served_good left s w turn good h is = served_by_good left s w turn turn.full good h is refl
+pub first_known : (left : Rooms) (s : CoreState) (ws : List Waiter) (turn : Turned) (first : IsFirst left s ws turn) → IsKnown s.names first.claim
+first_known left s ws turn first = (subst (λ (cs : List Claim). AllByRecursion (IsKnown s.names) cs) first.asked first.is.1).0
 
-pub mapped : (f : Turn → List Effect × CoreState) (P : List Effect × CoreState → Type 0) (o : Option Turn) → ((turn : Turn) → o ≡ Some turn → P (f turn)) → IfSome (option_map f o) P
-mapped f P None each = tt
-mapped f P (Some turn) each = each turn refl
+pub each_turn : (n : ℕ) (left : Rooms) (s : CoreState) (P : Turned → Type 0) → IsGood s → ((turn : Turned) → IsFirst left s s.waiters turn → P turn) → IfSome (settle n left s) P
+unfolding settle
+each_turn n left s P good holds = by (first_turn n left s [] s.waiters) refl where
+  by : (o : Option Turned) → first_turn n left s [] s.waiters ≡ o → IfSome o P
+  by None e = tt
+  by (Some turn) e = holds turn (first_is n left s [] s.waiters turn good.waiters e)
 
 -- each turn leaves the state good
 pub settle_good : (n : ℕ) (left : Rooms) (s : CoreState) → IsGood s → IfSome (settle n left s) (λ r. IsGood r.1)
-unfolding settle
 settle_good n left s good =
-    mapped (served s) (λ r. IsGood r.1) (first_turn n left s [] s.waiters)
-    (λ turn e. let found = first_turn_is n left s [] s.waiters turn e in served_good left s found.0 turn good found.1 found.2)
+    each_turn n left s (λ r. IsGood r.1) good
+    (λ turn first. subst (λ (x : Turned). IsGood x.1) (sym first.turn_is) (turn_good left s first.waiter first.claim _ good (first_known left s s.waiters turn first) first.free refl))
 
 -- ---- who leaves
 
 pub cancel_good : (s : CoreState) (id : ℕ) → IsGood s → IsGood (cancel s id).1
 unfolding cancel
 cancel_good s id good =
-    with_good s s.claims (cancelled id s.waiters) s.names s.counter good.distinct good.few (good_claims s good)
-    (cancelled_all (IsWaiter s.names s.counter) id s.waiters good.waiters) (cancelled_pairwise are_apart id s.waiters good.apart)
+    good_from (record s { waiters = cancelled id s.waiters }) (good_claims s good) good.distinct good.few
+    (cancelled_all (IsWaiter s.names s.counter) id s.waiters good.waiters) (cancelled_pairwise are_apart id s.waiters good.apart) (fewer_crowd id s.waiters good.crowd)
 
 pub give_back_good : (s : CoreState) (claim : Claim) → IsGood s → IsGood (give_back s claim).1
 unfolding give_back
 give_back_good s claim good =
-    with_good s (removed claim s.claims) s.waiters s.names s.counter good.distinct good.few
+    good_from (record s { claims = removed claim s.claims })
     (record {
       kept = kept_removed claim s.claims good.kept;
       compatible = pairwise_removed compat claim s.claims good.compatible;
       single = pairwise_removed is_single claim s.claims good.single;
       known = all_removed (IsKnown s.names) claim s.claims good.known;
     })
-    good.waiters good.apart
+    good.distinct good.few good.waiters good.apart good.crowd
 
-pub drawn_good : (s : CoreState) → IsGood s → IsGood (drawn s)
-unfolding drawn
-drawn_good s good =
-    with_good s s.claims s.waiters s.names (s.counter + 1) good.distinct good.few (good_claims s good)
-    (waiters_on s.names s.names s.counter (s.counter + 1) s.waiters (λ number name h. h) (omega arith) good.waiters) good.apart
+fewer_filtered : (keep : Waiter → Bool) (ws : List Waiter) → length (filter keep ws) ≤ length ws
+fewer_filtered keep [] = omega arith
+fewer_filtered keep (w ∷ ws) = elim (cases_Bool (keep w)) [ inl e ↦ rw e (omega (arith, fewer_filtered keep ws)) | inr e ↦ rw e (omega (arith, fewer_filtered keep ws)) ]
 
 pub end_party_good : (s : CoreState) (party : Party) → IsGood s → IsGood (end_party s party).1
 unfolding end_party
 end_party_good s party good =
     let stays : Claim → Bool = λ c. not (same_parties c.party party) in
     let waits : Waiter → Bool = λ w. not (waits_for party w) in
-    with_good s (filter stays s.claims) (filter waits s.waiters) s.names s.counter good.distinct good.few
+    good_from (record s { claims = filter stays s.claims; waiters = filter waits s.waiters })
     (record {
       kept = kept_filter stays s.claims good.kept;
       compatible = pairwise_filter compat stays s.claims good.compatible;
       single = pairwise_filter is_single stays s.claims good.single;
       known = all_from (IsKnown s.names) (filter stays s.claims) (λ c h. all_in (IsKnown s.names) c s.claims good.known (in_filter_from stays c s.claims h).0);
     })
+    good.distinct good.few
     (all_from (IsWaiter s.names s.counter) (filter waits s.waiters) (λ w h. all_in (IsWaiter s.names s.counter) w s.waiters good.waiters (in_filter_from waits w s.waiters h).0))
-    (pairwise_filter are_apart waits s.waiters good.apart)
+    (pairwise_filter are_apart waits s.waiters good.apart) (omega (arith, fewer_filtered waits s.waiters, good.crowd))

@@ -1,7 +1,7 @@
 -- Names that are kept: claims of known clients stay known, an owner has one client, and who asks is known.
-use Rattle.std.proofs.Common.{◌≡◌, ℕ, zero, suc, ◌+◌, ◌≤◌, Bool, true, false, if◌then◌else◌, nat_le, ◌&&◌, ◌||◌, List, [], ◌∷◌, ◌++◌, length, Option, Some, None, inl, inr, refl, sym, ap, ◌∙◌, slice_get, arith}
+use Rattle.std.proofs.Common.{◌≡◌, ℕ, zero, suc, ◌+◌, ◌≤◌, Bool, true, false, if◌then◌else◌, ◌&&◌, ◌||◌, List, [], ◌∷◌, ◌++◌, length, Option, Some, None, inl, inr, refl, sym, ap, ◌∙◌, slice_get, arith}
 use Rattle.std.specs.List.{AllByRecursion}
-use Rattle.std.proofs.lemmas.Bool.{cases_Bool, both_ways, and_parts, and_from, or_left, leb-true}
+use Rattle.std.proofs.lemmas.Bool.{cases_Bool, both_ways, and_parts, and_from}
 use Rattle.std.proofs.lemmas.List.{length-append}
 use Rattle.std.proofs.lemmas.List.Folds.{list_any-append}
 use Rattle.std.proofs.lemmas.Option.{same_Some}
@@ -15,16 +15,15 @@ use Rattle.xl_base.specs.declared.name.Protocol.TheVariants.{Nlm, Nfs, Smb}
 use Rattle.xl_base.proofs.Members.{all_weaker}
 use Rattle.xl_matrix.specs.Owners.{posix}
 use Rattle.xl_matrix.specs.declared.claim.Claim.{Claim}
-use Rattle.xl_matrix.specs.declared.claim.Extent.{Extent}
-use Rattle.xl_matrix.specs.declared.claim.Extent.TheVariants.{Bytes, Empty}
 use Rattle.xl_matrix.specs.declared.claim.What.{What}
 use Rattle.xl_names.specs.Names.{protocol_of, same_name, number_of, place_of, is_kept, entered, AreDistinct, most_names}
 use Rattle.xl_names.specs.declared.name.Name.{Name}
 use Rattle.xl_names.specs.declared.name.Name.TheVariants.{NlmRange, NlmShare, NlmParty, NfsRange, NfsShare, NfsParty, SmbLease}
 use Rattle.xl_names.proofs.NameLaws.{same_name_is, same_name_self, kept_from_number, number_at, name_at, number_entered, distinct_entered}
 use Rattle.xl_wait.specs.declared.waiter.Waiter.{Waiter}
-use Rattle.xl_core.specs.Asking.{owner_in, party_in, who_entered, asker, asking_party, both_entered, coming, names_fit, asked_what, asked_claim, no_number, number_or, known_owner, known_party, client_of, is_name, is_client, IsRealExtent}
-use Rattle.xl_core.specs.Good.{IsPosixBy, agree, are_kept, IsKnown, IsWaiter}
+use Rattle.xl_core.specs.Asking.{owner_in, party_in, who_entered, asker, asking_party, both_entered, coming, asked_claim, no_number, number_or, known_owner, known_party, client_of, is_name, is_client}
+use Rattle.xl_table.specs.Held.{IsPosixBy}
+use Rattle.xl_core.specs.Good.{agree, are_kept, IsKnown, IsWaiter}
 use Rattle.xl_core.specs.declared.ask.Ask.{Ask}
 use Rattle.xl_core.specs.declared.ask.Who.{Who}
 use Rattle.xl_core.specs.declared.ask.Who.TheVariants.{Named, Open}
@@ -151,7 +150,7 @@ pub known_on : (names more : List Name) (cs : List Claim) → GoOn names more �
 known_on names more cs on all = all_weaker (IsKnown names) (IsKnown more) cs (λ c h. (h.0, kept_on names more c.owner c.party on h.1)) all
 
 pub waiters_on : (names more : List Name) (counter next : ℕ) (ws : List Waiter) → GoOn names more → counter ≤ next → AllByRecursion (IsWaiter names counter) ws → AllByRecursion (IsWaiter more next) ws
-waiters_on names more counter next ws on h all = all_weaker (IsWaiter names counter) (IsWaiter more next) ws (λ w is. (omega (arith, h, is.0), known_on names more w.asked on is.1)) all
+waiters_on names more counter next ws on h all = all_weaker (IsWaiter names counter) (IsWaiter more next) ws (λ w is. (omega (arith, h, is.0), known_on names more w.asked on is.1, is.2, is.3)) all
 
 number_same : (x y : Protocol) (n m : ℕ) → owners.Name x n ≡ owners.Name y m → n ≡ m
 number_same x y n m e = cc
@@ -169,7 +168,7 @@ one_party names owner p q distinct h k =
 
 -- ---- who asks is known
 
-is_client_is : (owner party : Who) → is_client owner party ≡ true → (name : Name) × (client : Name) × (owner ≡ Named name) × (party ≡ Named client) × (client_of name ≡ Some client)
+pub is_client_is : (owner party : Who) → is_client owner party ≡ true → (name : Name) × (client : Name) × (owner ≡ Named name) × (party ≡ Named client) × (client_of name ≡ Some client)
 is_client_is (Named name) (Named client) h = (name, client, refl, refl, is_name_is (client_of name) client h)
 is_client_is (Named name) (Open number) h = absurd (both_ways false refl h)
 is_client_is (Open number) party h = absurd (both_ways false refl h)
@@ -197,7 +196,7 @@ asker_kept a names h =
     ∙ ap (λ (w : Who). are_kept (who_entered w (who_entered (Named is.0) names)) (owner_in (Named is.0) names) (party_in w (who_entered (Named is.0) names))) is.3
     ∙ kept_from _ _ _ (names_entered names is.0 is.1 is.4)
 
-client_posix : (name client : Name) → client_of name ≡ Some client → (number : ℕ) → posix (owners.Name (protocol_of name) number) ≡ true
+pub client_posix : (name client : Name) → client_of name ≡ Some client → (number : ℕ) → posix (owners.Name (protocol_of name) number) ≡ true
 client_posix (NlmRange caller svid oh) client is number = refl
 client_posix (NfsRange owner name) client is number = refl
 client_posix (NlmShare caller oh) client is number = refl
@@ -217,7 +216,7 @@ asked_known a what names h posix_what =
 
 -- ---- who asks, where no name is entered
 
-get_none : (names : List Name) (number : ℕ) (name : Name) → length names ≤ number → slice_get names number ≡ Some name → ⊥
+pub get_none : (names : List Name) (number : ℕ) (name : Name) → length names ≤ number → slice_get names number ≡ Some name → ⊥
 get_none [] number name h e = cc
 get_none (n ∷ ns) zero name h e = omega (arith, h)
 get_none (n ∷ ns) (suc number) name h e = get_none ns number name (omega (arith, h)) e
@@ -262,13 +261,6 @@ known_party_is a names party distinct room h kept =
 
 -- ---- names that come
 
-kept_later : (name other : Name) (names : List Name) → is_kept name names ≡ true → is_kept name (entered other names) ≡ true
-kept_later name other names h =
-    elim (cases_Bool (is_kept other names)) [
-      | inl old ↦ rw old h
-      | inr new ↦ rw new (list_any-append (same_name name) names (other ∷ []) ∙ or_left (is_kept name names) (is_kept name (other ∷ [])) h)
-    ]
-
 pub length_who : (who : Who) (names : List Name) → length (who_entered who names) ≡ length names + coming who names
 length_who (Open number) names = omega arith
 length_who (Named name) names =
@@ -276,29 +268,6 @@ length_who (Named name) names =
       | inl old ↦ rw old (omega arith)
       | inr new ↦ rw new (omega (arith, length-append names (name ∷ [])))
     ]
-
-pub coming_later : (who other : Who) (names : List Name) → coming who (who_entered other names) ≤ coming who names
-coming_later (Open number) other names = omega arith
-coming_later (Named name) (Open number) names = omega arith
-coming_later (Named name) (Named other) names =
-    elim (cases_Bool (is_kept name names)) [
-      | inl old ↦ rw (old, kept_later name other names old) (omega arith)
-      | inr new ↦ rw new (at_most (is_kept name (entered other names)))
-    ]
-  where
-    at_most : (b : Bool) → (if b then 0 else 1) ≤ 1
-    at_most true = omega arith
-    at_most false = omega arith
-
-pub both_few : (a : Ask) (names : List Name) → names_fit a names ≡ true → length (both_entered a names) ≤ most_names
-both_few a names h =
-    omega (
-      arith,
-      length_who a.party (who_entered a.owner names),
-      length_who a.owner names,
-      coming_later a.party a.owner names,
-      leb-true (length names + (coming a.owner names + coming a.party names)) most_names h,
-    )
 
 -- an owner's name is not its client's
 client_differs : (name client : Name) → client_of name ≡ Some client → same_name client name ≡ false
@@ -335,6 +304,3 @@ both_length a names h =
     ∙ ap (λ (w : Who). length (who_entered w (who_entered (Named is.0) names))) is.3
     ∙ named_length is.0 is.1 names is.4
     ∙ sym (ap (λ (w : Who). length names + (coming w names + coming a.party names)) is.2 ∙ ap (λ (w : Who). length names + (coming (Named is.0) names + coming w names)) is.3)
-
-pub names_fit_is : (a : Ask) (names : List Name) → is_client a.owner a.party ≡ true → names_fit a names ≡ nat_le (length (both_entered a names)) most_names
-names_fit_is a names h = ap (λ (n : ℕ). nat_le n most_names) (sym (both_length a names h))

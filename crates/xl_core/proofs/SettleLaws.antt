@@ -1,122 +1,75 @@
--- A turn is the first waiter's that nothing held blocks, nobody else's, and comes while there is one.
-use Rattle.std.proofs.Common.{◌≡◌, ℕ, ◌+◌, Bool, true, false, not, ◌==◌, nat_le, inl, inr, List, [], ◌∷◌, ◌++◌, length, Option, Some, None, IfSome, option_map, refl, sym, ap, subst, ◌∙◌, ◌↔◌, slice_get, arith}
-use Rattle.std.specs.List.{AllByRecursion}
-use Rattle.std.proofs.lemmas.Bool.{both_ways, le-leb, eq-eqb, not-true, not_from_false}
+-- A turn is the first waiter's that nothing held blocks, nobody else's, and comes while there is one. Who leaves.
+use Rattle.std.proofs.Common.{◌≡◌, ℕ, ◌+◌, Bool, true, false, not, cond, ◌==◌, inl, inr, List, [], ◌∷◌, ◌++◌, map, length, Option, Some, None, IfSome, refl, sym, ap, subst, ◌∙◌, ◌↔◌, arith}
+use Rattle.std.specs.List.{AllByRecursion, filter}
+use Rattle.std.proofs.lemmas.Bool.{cases_Bool, eq-eqb, not-true, not_from_false}
 use Rattle.std.proofs.lemmas.List.{length-append}
 use Rattle.xl_base.specs.Lists.{IsIn, Pairwise}
 use Rattle.xl_base.proofs.Members.{all_in, in_filter, in_filter_from, in_append_right}
 use Rattle.xl_base.specs.declared.name.Party.{Party}
 use Rattle.xl_matrix.specs.Equal.{same_parties}
 use Rattle.xl_matrix.specs.declared.claim.Claim.{Claim}
-use Rattle.xl_names.specs.Names.{most_names}
-use Rattle.xl_table.specs.Flat.{blocks, removed}
+use Rattle.xl_table.specs.Flat.{removed, is_blocked}
 use Rattle.xl_wait.specs.Waiting.{cancelled}
 use Rattle.xl_wait.specs.declared.waiter.Rooms.{Rooms}
 use Rattle.xl_wait.specs.declared.waiter.Waiter.{Waiter}
-use Rattle.xl_core.specs.State.{CoreState}
-use Rattle.xl_core.specs.Blockers.{least, blockers}
-use Rattle.xl_core.specs.Causes.{grant_limits, IsBlockedWaiter, IsTurn}
-use Rattle.xl_core.specs.Decide.{passed_by_grant, decide}
-use Rattle.xl_core.specs.Good.{are_apart, IsGood, is_blocked, is_still_blocked, IsSettled}
-use Rattle.xl_core.specs.Relock.{most_claims, granted_claims, grant_fits}
-use Rattle.xl_core.specs.Settle.{turn_with, turn_by, turn_of, first_some, first_turn, served_by, served, settle, waits_for, cancel, give_back, end_party}
-use Rattle.xl_core.specs.declared.ask.Answer.TheVariants.{Granted, Full}
 use Rattle.xl_core.specs.declared.ask.Effect.{Effect}
-use Rattle.xl_core.specs.declared.ask.Effect.TheVariants.{Served}
-use Rattle.xl_core.specs.declared.decide.Verdict.{Verdict}
-use Rattle.xl_core.specs.declared.decide.Verdict.TheVariants as verdict
-use Rattle.xl_core.specs.declared.settling.Turn.{Turn}
+use Rattle.xl_core.specs.State.{CoreState}
+use Rattle.xl_core.specs.Causes.{IsTurn}
+use Rattle.xl_core.specs.Good.{are_apart, IsKnown, IsGood, IsWaiter, stands_in_the_way, IsSettled}
+use Rattle.xl_core.specs.Judge.{Ruled}
+use Rattle.xl_core.specs.Limits.{first_passed}
+use Rattle.xl_core.specs.Settle.{rests, turned, again, turn_or, first_turn, settle, AllRest, waits_for, numbers_for, all_cancelled, cancel, give_back, end_party}
+use Rattle.xl_core.specs.declared.ask.Answer.TheVariants.{Granted, Full}
 use Rattle.xl_core.proofs.ChangeLaws.{spans_apart, shares_apart}
-use Rattle.xl_core.proofs.DecideLaws.{decide_is, decide_by, blockers_some, blockers_none, one_passes}
-use Rattle.xl_core.proofs.GoodLaws.{IsTurnOf, turn_of_is, first_some_cases, mapped, waiter_known}
-use Rattle.xl_core.proofs.LimitLaws.{IsFound, grant_found, fits_is}
+use Rattle.xl_core.proofs.GoodLaws.{Turned, turn_by, turn_limits, IsFirst, each_turn}
+use Rattle.xl_core.proofs.LimitLaws.{grant_found}
+use Rattle.xl_core.proofs.TurnLaws.{alone, one_in_the_way, blocked_rests, rests_blocked, move_first}
 
--- ---- a waiter without a turn is blocked
+-- ---- there is no turn exactly where each waiter rests
 
-with_none : (n : ℕ) (left : Rooms) (s : CoreState) (earlier : List Waiter) (w : Waiter) (claim : Claim) (v : Verdict) → decide n earlier s left w.rows true claim ≡ v → turn_with w claim v ≡ None → is_blocked s.claims claim ≡ true
-with_none n left s earlier w claim (verdict.Blocked c) e is =
-    let found = blockers_some earlier s claim c (decide_is n earlier s left w.rows true claim (verdict.Blocked c) e) in
-    one_passes (λ d. blocks claim d) s.claims c found.0 found.1
-with_none n left s earlier w claim (verdict.Full limit) e is = absurd cc
-with_none n left s earlier w claim verdict.Free e is = absurd cc
-
-by_none : (n : ℕ) (left : Rooms) (s : CoreState) (earlier : List Waiter) (w : Waiter) (o : Option Claim) → turn_by n left s earlier w o ≡ None → is_still_blocked s.claims o ≡ true
-by_none n left s earlier w None is = refl
-by_none n left s earlier w (Some claim) is = with_none n left s earlier w claim (decide n earlier s left w.rows true claim) refl is
-
-turn_none : (n : ℕ) (left : Rooms) (s : CoreState) (earlier : List Waiter) (w : Waiter) → turn_of n left s earlier w ≡ None → IsBlockedWaiter s w
-unfolding turn_of
-turn_none n left s earlier w is = by_none n left s earlier w (slice_get w.asked 0) is
-
-blocked_least : (earlier : List Waiter) (s : CoreState) (claim : Claim) → is_blocked s.claims claim ≡ true → (c : Claim) × (least s.names (blockers earlier s claim) ≡ Some c)
-blocked_least earlier s claim blocked = go (least s.names (blockers earlier s claim)) refl where
-  go : (o : Option Claim) → least s.names (blockers earlier s claim) ≡ o → (c : Claim) × (least s.names (blockers earlier s claim) ≡ Some c)
-  go None e = absurd (both_ways (is_blocked s.claims claim) (blockers_none earlier s claim e) blocked)
-  go (Some c) e = (c, e)
-
-none_by : (n : ℕ) (left : Rooms) (s : CoreState) (earlier : List Waiter) (w : Waiter) (o : Option Claim) → is_still_blocked s.claims o ≡ true → turn_by n left s earlier w o ≡ None
-none_by n left s earlier w None is = refl
-none_by n left s earlier w (Some claim) is =
-    let found = blocked_least earlier s claim is in
-    ap (λ (v : Verdict). turn_with w claim v) (decide_by n earlier s left w.rows true claim (Some found.0) (passed_by_grant left w.rows (grant_fits claim s.claims) true) found.1 refl)
-
-none_turn : (n : ℕ) (left : Rooms) (s : CoreState) (earlier : List Waiter) (w : Waiter) → IsBlockedWaiter s w → turn_of n left s earlier w ≡ None
-unfolding turn_of
-none_turn n left s earlier w is = none_by n left s earlier w (slice_get w.asked 0) is
-
-first_none : (a b : Option Turn) → first_some a b ≡ None → (a ≡ None) × (b ≡ None)
-first_none None b e = (refl, e)
-first_none (Some turn) b e = absurd cc
-
-all_blocked : (n : ℕ) (left : Rooms) (s : CoreState) (earlier ws : List Waiter) → first_turn n left s earlier ws ≡ None → AllByRecursion (IsBlockedWaiter s) ws
-all_blocked n left s earlier [] e = tt
-all_blocked n left s earlier (w ∷ ws) e =
-    let both = first_none (turn_of n left s earlier w) (first_turn n left s (earlier ++ w ∷ []) ws) e in
-    (turn_none n left s earlier w both.0, all_blocked n left s (earlier ++ w ∷ []) ws both.1)
-
-blocked_all : (n : ℕ) (left : Rooms) (s : CoreState) (earlier ws : List Waiter) → AllByRecursion (IsBlockedWaiter s) ws → first_turn n left s earlier ws ≡ None
-blocked_all n left s earlier [] all = refl
-blocked_all n left s earlier (w ∷ ws) all = rw (none_turn n left s earlier w all.0) (blocked_all n left s (earlier ++ w ∷ []) ws all.1)
-
-map_none : (f : Turn → List Effect × CoreState) (o : Option Turn) → option_map f o ≡ None → o ≡ None
-map_none f None e = refl
-map_none f (Some turn) e = absurd cc
-
--- there is no turn exactly where each waiter is blocked
-pub settled_is : (n : ℕ) (left : Rooms) (s : CoreState) → (settle n left s ≡ None) ↔ IsSettled s
-unfolding settle
-settled_is n left s = (
-  λ e. all_blocked n left s [] s.waiters (map_none (served s) (first_turn n left s [] s.waiters) e),
-  λ all. ap (λ (o : Option Turn). option_map (served s) o) (blocked_all n left s [] s.waiters all),
-)
-
--- ---- the first that has a turn
-
--- who stands where in the queue
-record IsFirst (left : Rooms) (s : CoreState) (ws : List Waiter) (turn : Turn) : Type 0 where
-  before : List Waiter
-  waiter : Waiter
-  behind : List Waiter
-  stood : ws ≡ before ++ waiter ∷ behind
-  blocked : AllByRecursion (IsBlockedWaiter s) before
-  is : IsTurnOf left s waiter turn
-
-first_is : (n : ℕ) (left : Rooms) (s : CoreState) (earlier ws : List Waiter) (turn : Turn) → first_turn n left s earlier ws ≡ Some turn → IsFirst left s ws turn
-first_is n left s earlier [] turn e = absurd cc
-first_is n left s earlier (w ∷ ws) turn e =
-    elim (first_some_cases (turn_of n left s earlier w) (first_turn n left s (earlier ++ w ∷ []) ws) turn e) [
-      | inl own ↦ record { before = []; waiter = w; behind = ws; stood = refl; blocked = tt; is = turn_of_is n left s earlier w turn own }
-      | inr later ↦
-          let rest = first_is n left s (earlier ++ w ∷ []) ws turn later.1 in
-          record {
-            before = w ∷ rest.before;
-            waiter = rest.waiter;
-            behind = rest.behind;
-            stood = ap (λ (vs : List Waiter). w ∷ vs) rest.stood;
-            blocked = (turn_none n left s earlier w later.0, rest.blocked);
-            is = rest.is;
-          }
+none_rests : (n : ℕ) (left : Rooms) (s : CoreState) (earlier ws : List Waiter) → first_turn n left s earlier ws ≡ None → AllRest n left s earlier ws
+none_rests n left s earlier [] e = tt
+none_rests n left s earlier (w ∷ ws) e =
+    let r = again n left s earlier w in
+    let later = first_turn n left s (earlier ++ w ∷ []) ws in
+    elim (cases_Bool (rests r.0 r.1)) [
+      | inl rest ↦ let is = (rests_blocked n left s earlier w rest).0 in (is, none_rests n left s (earlier ++ w ∷ []) ws (sym (ap (λ (x : Ruled). turn_or w x later) is) ∙ e))
+      | inr moves ↦ let two : Some (turned w r.0 r.1 r.2) ≡ None = sym (move_first w r later moves) ∙ e in absurd cc
     ]
+
+rests_none : (n : ℕ) (left : Rooms) (s : CoreState) (earlier ws : List Waiter) → AllRest n left s earlier ws → first_turn n left s earlier ws ≡ None
+rests_none n left s earlier [] all = refl
+rests_none n left s earlier (w ∷ ws) all = ap (λ (x : Ruled). turn_or w x (first_turn n left s (earlier ++ w ∷ []) ws)) all.0 ∙ rests_none n left s (earlier ++ w ∷ []) ws all.1
+
+pub settle_rests : (n : ℕ) (left : Rooms) (s : CoreState) → (settle n left s ≡ None) ↔ AllRest n left s [] s.waiters
+unfolding settle
+settle_rests n left s = (none_rests n left s [] s.waiters, rests_none n left s [] s.waiters)
+
+-- ---- who rests has something in its way
+
+pub rest_blocked : (n : ℕ) (left : Rooms) (s : CoreState) (earlier ws : List Waiter) → AllRest n left s earlier ws → AllByRecursion (λ w. stands_in_the_way s.claims w.asked ≡ true) ws
+rest_blocked n left s earlier [] all = tt
+rest_blocked n left s earlier (w ∷ ws) all =
+    ((rests_blocked n left s earlier w (ap (λ (x : Ruled). rests x.0 x.1) all.0)).1, rest_blocked n left s (earlier ++ w ∷ []) ws all.1)
+
+blocked_rest : (n : ℕ) (left : Rooms) (s : CoreState) (earlier ws : List Waiter) → AllByRecursion (IsWaiter s.names s.counter) ws → AllByRecursion (λ w. stands_in_the_way s.claims w.asked ≡ true) ws → AllRest n left s earlier ws
+blocked_rest n left s earlier [] good all = tt
+blocked_rest n left s earlier (w ∷ ws) good all =
+    let one = alone w.asked good.0.2 in
+    let blocked = one_in_the_way s.claims one.0 (subst (λ (cs : List Claim). stands_in_the_way s.claims cs ≡ true) one.1 all.0) in
+    (blocked_rests n left s earlier w one.0 one.1 good.0.3 blocked, blocked_rest n left s (earlier ++ w ∷ []) ws good.1 all.1)
+
+-- and who has something in its way rests
+pub settled_is : (n : ℕ) (left : Rooms) (s : CoreState) → IsGood s → AllRest n left s [] s.waiters ↔ IsSettled s
+settled_is n left s good = (rest_blocked n left s [] s.waiters, blocked_rest n left s [] s.waiters good.waiters)
+
+pub none_settled : (n : ℕ) (left : Rooms) (s : CoreState) → settle n left s ≡ None → IsSettled s
+none_settled n left s e = rest_blocked n left s [] s.waiters ((settle_rests n left s).0 e)
+
+pub settled_none : (n : ℕ) (left : Rooms) (s : CoreState) → IsGood s → IsSettled s → settle n left s ≡ None
+settled_none n left s good is = (settle_rests n left s).1 ((settled_is n left s good).1 is)
+
+-- ---- what a turn is
 
 pub without : (before : List Waiter) (w : Waiter) (behind : List Waiter) → Pairwise are_apart (before ++ w ∷ behind) → cancelled w.id (before ++ w ∷ behind) ≡ before ++ behind
 without [] w behind apart = let same : (w.id == w.id) ≡ true = eq-eqb w.id w.id refl in rw same refl
@@ -124,85 +77,101 @@ without (v ∷ vs) w behind apart =
     let other : (v.id == w.id) ≡ false = not-true (v.id == w.id) (all_in (λ x. are_apart v x ≡ true) w (vs ++ w ∷ behind) apart.0 (in_append_right w vs (w ∷ behind) (inl refl))) in
     rw other (ap (λ (xs : List Waiter). v ∷ xs) (without vs w behind apart.1))
 
--- ---- what a turn is
-
-abbrev turn_limits : Rooms → CoreState → Waiter → Claim → List (ℕ × Bool)
-turn_limits left s w claim = grant_limits left w.rows (length (granted_claims claim s.claims)) (length s.names)
-
-turn_found : (left : Rooms) (s : CoreState) (w : Waiter) (turn : Turn) → IsGood s → IsIn w s.waiters → IsTurnOf left s w turn → IsFound (turn_limits left s w turn.claim) turn.full
-turn_found left s w turn good h is =
-    let known = waiter_known s w turn.claim good h is.claim in
-    subst (λ (o : Option ℕ). IsFound (turn_limits left s w turn.claim) o) (sym is.full)
-    (subst (λ (b : Bool). IsFound (turn_limits left s w turn.claim) (passed_by_grant left w.rows b true)) (sym (fits_is turn.claim s.claims known.0))
-    (subst (λ (b : Bool). IsFound (turn_limits left s w turn.claim) (passed_by_grant left w.rows (nat_le (length (granted_claims turn.claim s.claims)) most_claims) b)) (le-leb (length s.names) most_names good.few)
-    (grant_found left w.rows (length (granted_claims turn.claim s.claims)) (length s.names))))
-
-waiters_left : (s : CoreState) (left : Rooms) (turn : Turn) (first : IsFirst left s s.waiters turn) → IsGood s → cancelled turn.id s.waiters ≡ first.before ++ first.behind
-waiters_left s left turn first good =
-    ap (λ (id : ℕ). cancelled id s.waiters) first.is.id
-    ∙ ap (λ (ws : List Waiter). cancelled first.waiter.id ws) first.stood
-    ∙ without first.before first.waiter first.behind (subst (λ (ws : List Waiter). Pairwise are_apart ws) first.stood good.apart)
-
-stands_in : (before : List Waiter) (w : Waiter) (behind : List Waiter) → IsIn w (before ++ w ∷ behind)
-stands_in before w behind = in_append_right w before (w ∷ behind) (inl refl)
-
-served_turn : (left : Rooms) (s : CoreState) (turn : Turn) (o : Option ℕ) → IsGood s → IsFirst left s s.waiters turn → turn.full ≡ o → IsTurn left s (served_by s turn o).0 (served_by s turn o).1
-served_turn left s turn (Some limit) good first e = record {
-  before = first.before;
-  waiter = first.waiter;
-  behind = first.behind;
-  claim = turn.claim;
+due_by : (left : Rooms) (s : CoreState) (w : Waiter) (c : Claim) (o : Option ℕ) → first_passed (turn_limits left s w c) ≡ o → (before behind : List Waiter) → cancelled w.id s.waiters ≡ before ++ behind
+    → s.waiters ≡ before ++ w ∷ behind → AllByRecursion (λ v. stands_in_the_way s.claims v.asked ≡ true) before → w.asked ≡ c ∷ [] → is_blocked s.claims c ≡ false → IsTurn left s (turn_by s w c o).0 (turn_by s w c o).1
+due_by left s w c (Some limit) e before behind left_by stood blocked asked free = record {
+  before = before;
+  waiter = w;
+  behind = behind;
+  claim = c;
   answer = Full limit;
-  stood = first.stood;
-  blocked = first.blocked;
-  asked = first.is.claim;
-  free = first.is.free;
-  due = (subst (λ (p : Option ℕ). IsFound (turn_limits left s first.waiter turn.claim) p) e (turn_found left s first.waiter turn good (subst (λ (ws : List Waiter). IsIn first.waiter ws) (sym first.stood) (stands_in first.before first.waiter first.behind)) first.is), refl);
-  told = ap (λ (id : ℕ). Served id (Full limit) ∷ []) first.is.id;
-  waiters = waiters_left s left turn first good;
+  stood = stood;
+  blocked = blocked;
+  asked = asked;
+  free = free;
+  due = (grant_found left w.rows _ _ (Some limit) e, refl);
+  told = refl;
+  waiters = left_by;
   names = refl;
   spans = λ file owner apart. refl;
   shares = λ file owner apart. refl;
 }
-served_turn left s turn None good first e = record {
-  before = first.before;
-  waiter = first.waiter;
-  behind = first.behind;
-  claim = turn.claim;
-  answer = Granted turn.claim;
-  stood = first.stood;
-  blocked = first.blocked;
-  asked = first.is.claim;
-  free = first.is.free;
-  due = (refl, subst (λ (p : Option ℕ). IsFound (turn_limits left s first.waiter turn.claim) p) e (turn_found left s first.waiter turn good (subst (λ (ws : List Waiter). IsIn first.waiter ws) (sym first.stood) (stands_in first.before first.waiter first.behind)) first.is), refl);
-  told = ap (λ (id : ℕ). Served id (Granted turn.claim) ∷ []) first.is.id;
-  waiters = waiters_left s left turn first good;
+due_by left s w c None e before behind left_by stood blocked asked free = record {
+  before = before;
+  waiter = w;
+  behind = behind;
+  claim = c;
+  answer = Granted c;
+  stood = stood;
+  blocked = blocked;
+  asked = asked;
+  free = free;
+  due = (refl, grant_found left w.rows _ _ None e, refl);
+  told = refl;
+  waiters = left_by;
   names = refl;
-  spans = λ file owner apart. spans_apart turn.claim s.claims file owner apart;
-  shares = λ file owner apart. shares_apart turn.claim s.claims file owner apart;
+  spans = λ file owner apart. spans_apart c s.claims file owner apart;
+  shares = λ file owner apart. shares_apart c s.claims file owner apart;
 }
 
-served_is : (left : Rooms) (s : CoreState) (turn : Turn) → IsGood s → IsFirst left s s.waiters turn → IsTurn left s (served s turn).0 (served s turn).1
-unfolding served
-served_is left s turn good first = served_turn left s turn turn.full good first refl
+pub waiters_left : (left : Rooms) (s : CoreState) (turn : Turned) (first : IsFirst left s s.waiters turn) → IsGood s → cancelled first.waiter.id s.waiters ≡ first.before ++ first.behind
+waiters_left left s turn first good =
+    ap (λ (ws : List Waiter). cancelled first.waiter.id ws) first.stood ∙ without first.before first.waiter first.behind (subst (λ (ws : List Waiter). Pairwise are_apart ws) first.stood good.apart)
+
+first_turn_is : (left : Rooms) (s : CoreState) (turn : Turned) → IsGood s → IsFirst left s s.waiters turn → IsTurn left s turn.0 turn.1
+first_turn_is left s turn good first =
+    subst (λ (x : Turned). IsTurn left s x.0 x.1) (sym first.turn_is)
+    (due_by left s first.waiter first.claim _ refl first.before first.behind (waiters_left left s turn first good) first.stood first.blocked first.asked first.free)
 
 pub turn_is : (n : ℕ) (left : Rooms) (s : CoreState) → IsGood s → IfSome (settle n left s) (λ r. IsTurn left s r.0 r.1)
-unfolding settle
-turn_is n left s good =
-    mapped (served s) (λ r. IsTurn left s r.0 r.1) (first_turn n left s [] s.waiters)
-    (λ turn e. served_is left s turn good (first_is n left s [] s.waiters turn e))
+turn_is n left s good = each_turn n left s (λ r. IsTurn left s r.0 r.1) good (λ turn first. first_turn_is left s turn good first)
+
+-- who is served waited for a claim that is known
+pub turn_is_known : (left : Rooms) (s : CoreState) (effects : List Effect) (t : CoreState) → IsGood s → (turn : IsTurn left s effects t) → IsKnown s.names turn.claim
+turn_is_known left s effects t good turn =
+    let is = all_in (IsWaiter s.names s.counter) turn.waiter s.waiters good.waiters (subst (λ (ws : List Waiter). IsIn turn.waiter ws) (sym turn.stood) (in_append_right turn.waiter turn.before (turn.waiter ∷ turn.behind) (inl refl))) in
+    (subst (λ (cs : List Claim). AllByRecursion (IsKnown s.names) cs) turn.asked is.1).0
 
 -- each turn leaves one waiter less
-fewer_by : (left : Rooms) (s : CoreState) (r : List Effect × CoreState) → IsTurn left s r.0 r.1 → length r.1.waiters + 1 ≡ length s.waiters
+fewer_by : (left : Rooms) (s : CoreState) (r : Turned) → IsTurn left s r.0 r.1 → length r.1.waiters + 1 ≡ length s.waiters
 fewer_by left s r turn =
     omega (arith, ap (λ (ws : List Waiter). length ws) turn.waiters, ap (λ (ws : List Waiter). length ws) turn.stood, length-append turn.before turn.behind, length-append turn.before (turn.waiter ∷ turn.behind))
 
-if_weaker : (P Q : List Effect × CoreState → Type 0) (o : Option (List Effect × CoreState)) → ((r : List Effect × CoreState) → P r → Q r) → IfSome o P → IfSome o Q
-if_weaker P Q None step h = tt
-if_weaker P Q (Some r) step h = step r h
-
 pub turn_fewer : (n : ℕ) (left : Rooms) (s : CoreState) → IsGood s → IfSome (settle n left s) (λ r. length r.1.waiters + 1 ≡ length s.waiters)
-turn_fewer n left s good = if_weaker (λ r. IsTurn left s r.0 r.1) (λ r. length r.1.waiters + 1 ≡ length s.waiters) (settle n left s) (fewer_by left s) (turn_is n left s good)
+turn_fewer n left s good = each_turn n left s (λ r. length r.1.waiters + 1 ≡ length s.waiters) good (λ turn first. fewer_by left s turn (first_turn_is left s turn good first))
+
+-- ---- a party's waiters leave
+
+cancelled_behind : (id : ℕ) (w : Waiter) (ws : List Waiter) → (w.id == id) ≡ false → cancelled id (w ∷ ws) ≡ w ∷ cancelled id ws
+cancelled_behind id w ws other = rw other refl
+
+all_behind : (ids : List ℕ) (w : Waiter) (ws : List Waiter) → AllByRecursion (λ id. (w.id == id) ≡ false) ids → all_cancelled ids (w ∷ ws) ≡ w ∷ all_cancelled ids ws
+all_behind [] w ws others = refl
+all_behind (id ∷ ids) w ws others = ap (λ (vs : List Waiter). all_cancelled ids vs) (cancelled_behind id w ws others.0) ∙ all_behind ids w (cancelled id ws) others.1
+
+pub apart_ids : (p : Waiter → Bool) (w : Waiter) (ws : List Waiter) → AllByRecursion (λ v. are_apart w v ≡ true) ws → AllByRecursion (λ id. (w.id == id) ≡ false) (map (λ v. v.id) (filter p ws))
+apart_ids p w [] apart = tt
+apart_ids p w (v ∷ vs) apart =
+    elim (cases_Bool (p v)) [
+      | inl e ↦ rw e (not-true (w.id == v.id) apart.0, apart_ids p w vs apart.1)
+      | inr e ↦ rw e (apart_ids p w vs apart.1)
+    ]
+
+first_gone : (w : Waiter) (ids : List ℕ) (ws : List Waiter) → all_cancelled (w.id ∷ ids) (w ∷ ws) ≡ all_cancelled ids ws
+first_gone w ids ws = ap (λ (b : Bool). all_cancelled ids (cond b ws (w ∷ cancelled w.id ws))) (eq-eqb w.id w.id refl)
+
+out : (p : Waiter → Bool) (ws : List Waiter) → Pairwise are_apart ws → all_cancelled (map (λ v. v.id) (filter p ws)) ws ≡ filter (λ v. not (p v)) ws
+out p [] apart = refl
+out p (w ∷ ws) apart =
+    elim (cases_Bool (p w)) [
+      | inl e ↦ rw e (first_gone w (map (λ v. v.id) (filter p ws)) ws ∙ out p ws apart.1)
+      | inr e ↦ rw e (all_behind (map (λ v. v.id) (filter p ws)) w ws (apart_ids p w ws apart.0) ∙ ap (λ (vs : List Waiter). w ∷ vs) (out p ws apart.1))
+    ]
+
+-- the waiters without those of a party
+pub all_out : (party : Party) (ws : List Waiter) → Pairwise are_apart ws → all_cancelled (numbers_for party ws) ws ≡ filter (λ w. not (waits_for party w)) ws
+unfolding numbers_for
+all_out party ws apart = out (waits_for party) ws apart
 
 -- ---- who leaves
 

@@ -1,128 +1,166 @@
--- What the code of a turn and of a leaving party rests on.
-use Rattle.std.proofs.Common.{◌≡◌, ℕ, Bool, true, false, not, cond, ◌==◌, List, [], ◌∷◌, ◌++◌, map, Option, Some, None, IfSome, option_map, inl, inr, refl, sym, ap, subst, ◌∙◌}
-use Rattle.std.specs.List.{AllByRecursion, filter, slice_get}
-use Rattle.std.proofs.lemmas.Bool.{cases_Bool, not-true, eq-eqb}
-use Rattle.xl_base.specs.Lists.{Pairwise}
-use Rattle.xl_base.specs.declared.name.Party.{Party}
+-- Whose turn comes: the first waiter that nothing held blocks is found, and each other rests.
+use Rattle.std.proofs.Common.{◌≡◌, ℕ, true, false, List, [], ◌∷◌, ◌++◌, ◌⊎◌, length, Option, Some, None, inl, inr, refl, sym, ap, subst, ◌∙◌}
+use Rattle.std.specs.List.{AllByRecursion}
+use Rattle.std.proofs.lemmas.Bool.{cases_Bool, both_ways}
 use Rattle.xl_matrix.specs.declared.claim.Claim.{Claim}
-use Rattle.xl_names.specs.declared.name.Name.{Name}
-use Rattle.xl_table.specs.Held.{has_one_party}
-use Rattle.xl_wait.specs.Waiting.{cancelled}
+use Rattle.xl_table.specs.Flat.{is_blocked}
 use Rattle.xl_wait.specs.declared.waiter.Rooms.{Rooms}
 use Rattle.xl_wait.specs.declared.waiter.Waiter.{Waiter}
 use Rattle.xl_core.specs.State.{CoreState}
-use Rattle.xl_core.specs.Blockers.{blockers}
-use Rattle.xl_core.specs.Decide.{decide}
-use Rattle.xl_core.specs.Good.{IsPosix, IsKnown, IsWaiter, IsGood, are_apart}
-use Rattle.xl_core.specs.Settle.{turn_by, turn_of, first_some, next_turn, first_turn, waits_for, numbers_for, all_cancelled}
-use Rattle.xl_core.specs.declared.settling.Turn.{Turn}
-use Rattle.xl_core.specs.Asking.{is_client, asked_claim, known_claim, IsFit}
-use Rattle.xl_core.specs.Decide.{ask}
-use Rattle.xl_core.specs.Settle.{settle}
-use Rattle.xl_core.specs.Whole.{state_of}
-use Rattle.xl_core.specs.declared.ask.Answer.{Answer}
-use Rattle.xl_core.specs.declared.ask.Ask.{Ask}
+use Rattle.xl_core.specs.Good.{IsKnown, IsWaiter, stands_in_the_way}
+use Rattle.xl_core.specs.Judge.{Ruled, stopped, judged}
+use Rattle.xl_core.specs.Settle.{plea_again, rests, turned, again, turn_or, first_turn, called_by, first_called}
 use Rattle.xl_core.specs.declared.ask.Effect.{Effect}
-use Rattle.xl_core.specs.declared.parts.Parts.{Parts}
-use Rattle.xl_matrix.specs.declared.claim.Extent.{Extent}
-use Rattle.xl_matrix.specs.declared.claim.What.{What}
-use Rattle.xl_core.proofs.GoodLaws.{ask_good, settle_good, asked_one_party, unlocked_one_party, first_turn_is, waiter_known, known_one_party}
+use Rattle.xl_core.specs.declared.judge.Plea.{Plea}
+use Rattle.xl_core.specs.declared.judge.Ruling.{Ruling}
+use Rattle.xl_core.specs.declared.judge.Ruling.TheVariants.{Gets, Waits, Told}
+use Rattle.xl_core.specs.declared.settling.Called.{Called}
+use Rattle.xl_core.proofs.DecideLaws.{blocks_some}
+use Rattle.xl_core.proofs.RowLaws.{judged_ruled, IsRuled, ruled_by, passed_by, judged_is}
 
--- ---- an ask
+-- ---- a waiter asks for one claim
 
-pub asked_alone : (p : Parts) (a : Ask) (what : What) (claim : Claim) → claim ≡ asked_claim a what p.names → IsGood (state_of p) → is_client a.owner a.party ≡ true → AllByRecursion (λ c. has_one_party claim c ≡ true) p.table
-asked_alone p a what claim e good client =
-    subst (λ (x : Claim). AllByRecursion (λ c. has_one_party x c ≡ true) p.table) (sym e) (asked_one_party (state_of p) a what good client)
+abbrev pub IsAlone : List Claim → Type 0
+IsAlone asked = (c : Claim) × (asked ≡ c ∷ [])
 
-pub known_alone : (p : Parts) (a : Ask) (extent : Extent) (exclusive : Bool) (claim : Claim) → claim ≡ known_claim a extent exclusive p.names → IsGood (state_of p) → is_client a.owner a.party ≡ true → AllByRecursion (λ c. has_one_party claim c ≡ true) p.table
-known_alone p a extent exclusive claim e good client =
-    subst (λ (x : Claim). AllByRecursion (λ c. has_one_party x c ≡ true) p.table) (sym e) (unlocked_one_party (state_of p) a extent exclusive good client)
+pub alone : (cs : List Claim) → length cs ≡ 1 → IsAlone cs
+alone [] e = absurd cc
+alone (c ∷ []) e = (c, refl)
+alone (c ∷ d ∷ cs) e = absurd cc
 
-pub ask_keeps : (left : Rooms) (s t : CoreState) (a : Ask) (answer : Answer) (effects : List Effect) → ((n : ℕ) → ask n left s a ≡ (answer, effects, t)) → IsGood s → IsFit a → IsGood t
-ask_keeps left s t a answer effects e good fit = subst (λ (r : Answer × List Effect × CoreState). IsGood r.2) (e 0) (ask_good 0 left s a good fit)
+-- ---- it rests exactly where something held stands in its way
 
-told_good : (s t : CoreState) (o : Option (List Effect × CoreState)) (r : Option (List Effect)) → IsGood s → o ≡ option_map (λ effects. (effects, t)) r → (r ≡ None → t ≡ s) → IfSome o (λ x. IsGood x.1) → IsGood t
-told_good s t o None good e same turned = subst (λ (x : CoreState). IsGood x) (sym (same refl)) good
-told_good s t o (Some effects) good e same turned = subst (λ (x : Option (List Effect × CoreState)). IfSome x (λ y. IsGood y.1)) e turned
+pub plea_is : (s : CoreState) (w : Waiter) → ((plea_again s w).blocking ≡ w.blocking) × ((plea_again s w).reclaim ≡ false) × ((plea_again s w).rows ≡ w.rows) × ((plea_again s w).kept ≡ length s.names) × ((plea_again s w).crowded ≡ None)
+unfolding plea_again
+plea_is s w = (refl, refl, refl, refl, refl)
 
-pub settle_keeps : (left : Rooms) (s t : CoreState) (r : Option (List Effect)) → ((n : ℕ) → settle n left s ≡ option_map (λ effects. (effects, t)) r) → (r ≡ None → t ≡ s) → IsGood s → IsGood t
-settle_keeps left s t r e same good = told_good s t (settle 0 left s) r good (e 0) same (settle_good 0 left s good)
+waits_by : (p : Plea) (d : Claim) → p.blocking ≡ true → p.crowded ≡ None → stopped p d ≡ Waits
+waits_by p d waits room = rw (waits, room) refl
 
--- ---- who waits, waits for a share or a range
+-- one that waits for a claim that is blocked
+pub blocked_rests : (n : ℕ) (left : Rooms) (s : CoreState) (earlier : List Waiter) (w : Waiter) (c : Claim) → w.asked ≡ c ∷ [] → w.blocking ≡ true → is_blocked s.claims c ≡ true → again n left s earlier w ≡ (Waits, [], s)
+blocked_rests n left s earlier w c asked waits blocked =
+    let found = blocks_some earlier s c blocked in
+    let p = plea_again s w in
+    ap (λ (cs : List Claim). judged n earlier left p cs s) asked
+    ∙ judged_is n earlier left p c s (plea_is s w).1
+    ∙ ap (λ (o : Option Claim). ruled_by p s c o (passed_by left p s c)) found.1
+    ∙ (λ i. (waits_by p found.0 ((plea_is s w).0 ∙ waits) (plea_is s w).4 i, [], s))
 
-first_known : (names : List Name) (cs : List Claim) → AllByRecursion (IsKnown names) cs → IfSome (slice_get cs 0) (λ c. IsKnown names c)
-first_known names [] all = tt
-first_known names (c ∷ cs) all = all.0
+rested : (ruling : Ruling) (told : List Effect) → rests ruling told ≡ true → (ruling ≡ Waits) × (told ≡ [])
+rested Waits [] e = (refl, refl)
+rested Waits (x ∷ xs) e = absurd (both_ways false refl e)
+rested Gets told e = absurd (both_ways false refl e)
+rested (Told answer) told e = absurd (both_ways false refl e)
 
-posix_of : (names : List Name) (o : Option Claim) → IfSome o (λ c. IsKnown names c) → IfSome o (λ c. IsPosix c)
-posix_of names None known = tt
-posix_of names (Some c) known = known.0
+waits_ruled : (left : Rooms) (p : Plea) (asked : List Claim) (s : CoreState) (ruling : Ruling) (told : List Effect) (t : CoreState) → IsRuled left p asked s ruling told t → ruling ≡ Waits → (told ≡ []) × (t ≡ s) × (stands_in_the_way s.claims asked ≡ true)
+waits_ruled left p asked s ruling told t is e = let all = subst (λ (r : Ruling). IsRuled left p asked s r told t) e is in (all.0, all.1, all.4)
 
-pub first_is_posix : (names : List Name) (counter : ℕ) (w : Waiter) → IsWaiter names counter w → IfSome (slice_get w.asked 0) (λ c. IsPosix c)
-first_is_posix names counter w waits = posix_of names (slice_get w.asked 0) (first_known names w.asked waits.1)
+same_ruled : (r : Ruled) (s : CoreState) → r.0 ≡ Waits → r.1 ≡ [] → r.2 ≡ s → r ≡ (Waits, [], s)
+same_ruled r s e f g = λ i. (e i, f i, g i)
 
-turn_known : (n : ℕ) (left : Rooms) (s : CoreState) (turn : Turn) → IsGood s → first_turn n left s [] s.waiters ≡ Some turn → IsKnown s.names turn.claim
-turn_known n left s turn good e =
-    let found = first_turn_is n left s [] s.waiters turn e in
-    waiter_known s found.0 turn.claim good found.1 found.2.claim
+-- who rests has something in its way, and then nothing changes
+pub rests_blocked : (n : ℕ) (left : Rooms) (s : CoreState) (earlier : List Waiter) (w : Waiter) → (let r = again n left s earlier w in rests r.0 r.1 ≡ true) → (again n left s earlier w ≡ (Waits, [], s)) × (stands_in_the_way s.claims w.asked ≡ true)
+rests_blocked n left s earlier w e =
+    let r = again n left s earlier w in
+    let at = rested r.0 r.1 e in
+    let why = waits_ruled left (plea_again s w) w.asked s r.0 r.1 r.2 (judged_ruled n earlier left (plea_again s w) w.asked s) at.0 in
+    (same_ruled r s at.0 at.1 why.1, why.2)
 
--- whose turn has come, asks for a share or a range, and has one party with its owner's ranges
-pub turn_is_posix : (left : Rooms) (p : Parts) (turn : Turn) → IsGood (state_of p) → ((n : ℕ) → Some turn ≡ first_turn n left (state_of p) [] p.queue) → IsPosix turn.claim
-turn_is_posix left p turn good e = (turn_known 0 left (state_of p) turn good (sym (e 0))).0
+pub one_in_the_way : (held : List Claim) (c : Claim) → stands_in_the_way held (c ∷ []) ≡ true → is_blocked held c ≡ true
+one_in_the_way held c e =
+    elim (cases_Bool (is_blocked held c)) [ inl blocked ↦ blocked | inr free ↦ let two : false ≡ true = rw free at e in absurd (both_ways false refl two) ]
 
-pub turn_has_one_party : (left : Rooms) (p : Parts) (turn : Turn) → IsGood (state_of p) → ((n : ℕ) → Some turn ≡ first_turn n left (state_of p) [] p.queue) → AllByRecursion (λ c. has_one_party turn.claim c ≡ true) p.table
-turn_has_one_party left p turn good e = known_one_party (state_of p) turn.claim good (turn_known 0 left (state_of p) turn good (sym (e 0)))
-
--- ---- the search for a turn
-
-by_any : (n m : ℕ) (left : Rooms) (s : CoreState) (earlier before : List Waiter) (w : Waiter) (o : Option Claim) → turn_by n left s earlier w o ≡ turn_by m left s before w o
-unfolding decide blockers
-by_any n m left s earlier before w None = refl
-by_any n m left s earlier before w (Some claim) = refl
-
--- who stands before doesn't count
-pub any_turn : (n m : ℕ) (left : Rooms) (s : CoreState) (earlier before ws : List Waiter) → first_turn n left s earlier ws ≡ first_turn m left s before ws
-unfolding turn_of
-any_turn n m left s earlier before [] = refl
-any_turn n m left s earlier before (w ∷ ws) =
-    ap (λ (t : Option Turn). first_some t (first_turn n left s (earlier ++ w ∷ []) ws)) (by_any n m left s earlier before w (slice_get w.asked 0))
-    ∙ ap (λ (t : Option Turn). first_some (turn_of m left s before w) t) (any_turn n m left s (earlier ++ w ∷ []) (before ++ w ∷ []) ws)
-
-pub next_is_first : (n : ℕ) (left : Rooms) (s : CoreState) (ws : List Waiter) → next_turn left s ws ≡ first_turn n left s [] ws
-next_is_first n left s [] = refl
-next_is_first n left s (w ∷ ws) =
-    ap (λ (t : Option Turn). first_some (turn_of 0 left s [] w) t) (next_is_first 0 left s ws ∙ any_turn 0 0 left s [] (w ∷ []) ws)
-    ∙ any_turn 0 n left s [] [] (w ∷ ws)
-
--- ---- a party's waiters leave
-
-cancelled_behind : (id : ℕ) (w : Waiter) (ws : List Waiter) → (w.id == id) ≡ false → cancelled id (w ∷ ws) ≡ w ∷ cancelled id ws
-cancelled_behind id w ws other = rw other refl
-
-all_behind : (ids : List ℕ) (w : Waiter) (ws : List Waiter) → AllByRecursion (λ id. (w.id == id) ≡ false) ids → all_cancelled ids (w ∷ ws) ≡ w ∷ all_cancelled ids ws
-all_behind [] w ws others = refl
-all_behind (id ∷ ids) w ws others = ap (λ (vs : List Waiter). all_cancelled ids vs) (cancelled_behind id w ws others.0) ∙ all_behind ids w (cancelled id ws) others.1
-
-apart_ids : (p : Waiter → Bool) (w : Waiter) (ws : List Waiter) → AllByRecursion (λ v. are_apart w v ≡ true) ws → AllByRecursion (λ id. (w.id == id) ≡ false) (map (λ v. v.id) (filter p ws))
-apart_ids p w [] apart = tt
-apart_ids p w (v ∷ vs) apart =
-    elim (cases_Bool (p v)) [
-      | inl e ↦ rw e (not-true (w.id == v.id) apart.0, apart_ids p w vs apart.1)
-      | inr e ↦ rw e (apart_ids p w vs apart.1)
+-- one that waits for a claim that nothing blocks doesn't rest
+pub free_moves : (n : ℕ) (left : Rooms) (s : CoreState) (earlier : List Waiter) (w : Waiter) (c : Claim) → w.asked ≡ c ∷ [] → is_blocked s.claims c ≡ false → (let r = again n left s earlier w in rests r.0 r.1 ≡ false)
+free_moves n left s earlier w c asked free =
+    let r = again n left s earlier w in
+    elim (cases_Bool (rests r.0 r.1)) [
+      | inr moves ↦ moves
+      | inl e ↦ absurd (both_ways (is_blocked s.claims c) free (one_in_the_way s.claims c (subst (λ (cs : List Claim). stands_in_the_way s.claims cs ≡ true) asked (rests_blocked n left s earlier w e).1)))
     ]
 
-first_gone : (w : Waiter) (ids : List ℕ) (ws : List Waiter) → all_cancelled (w.id ∷ ids) (w ∷ ws) ≡ all_cancelled ids ws
-first_gone w ids ws = ap (λ (b : Bool). all_cancelled ids (cond b ws (w ∷ cancelled w.id ws))) (eq-eqb w.id w.id refl)
+-- ---- the search
 
-out : (p : Waiter → Bool) (ws : List Waiter) → Pairwise are_apart ws → all_cancelled (map (λ v. v.id) (filter p ws)) ws ≡ filter (λ v. not (p v)) ws
-out p [] apart = refl
-out p (w ∷ ws) apart =
-    elim (cases_Bool (p w)) [
-      | inl e ↦ rw e (first_gone w (map (λ v. v.id) (filter p ws)) ws ∙ out p ws apart.1)
-      | inr e ↦ rw e (all_behind (map (λ v. v.id) (filter p ws)) w ws (apart_ids p w ws apart.0) ∙ ap (λ (vs : List Waiter). w ∷ vs) (out p ws apart.1))
+abbrev Given : Type 0
+Given = Option (List Effect × CoreState)
+
+same_called : (a b : Called) → Some a ≡ Some b → a ≡ b
+same_called a b e = cc
+
+found_by : (s : CoreState) (w : Waiter) (asked : List Claim) (called : Called) → called_by s w asked ≡ Some called → (c : Claim) × (asked ≡ c ∷ []) × (is_blocked s.claims c ≡ false) × (called ≡ record { id = w.id; claim = c; plea = plea_again s w })
+found_by s w [] called e = absurd cc
+found_by s w (c ∷ []) called e =
+    elim (cases_Bool (is_blocked s.claims c)) [
+      | inl blocked ↦ let none : None ≡ Some called = rw blocked at e in absurd cc
+      | inr free ↦ (c, refl, free, sym (same_called (record { id = w.id; claim = c; plea = plea_again s w }) called (rw free at e)))
+    ]
+found_by s w (c ∷ d ∷ cs) called e = absurd cc
+
+not_by : (s : CoreState) (w : Waiter) (c : Claim) → w.asked ≡ c ∷ [] → called_by s w w.asked ≡ None → is_blocked s.claims c ≡ true
+not_by s w c asked e =
+    elim (cases_Bool (is_blocked s.claims c)) [
+      | inl blocked ↦ blocked
+      | inr free ↦ let two : Some (record { id = w.id; claim = c; plea = plea_again s w }) ≡ None = rw free at (sym (ap (called_by s w) asked) ∙ e) in absurd cc
     ]
 
--- the waiters without those of a party
-pub all_out : (party : Party) (ws : List Waiter) → Pairwise are_apart ws → all_cancelled (numbers_for party ws) ws ≡ filter (λ w. not (waits_for party w)) ws
-unfolding numbers_for
-all_out party ws apart = out (waits_for party) ws apart
+rest_first : (n : ℕ) (left : Rooms) (s : CoreState) (earlier : List Waiter) (w : Waiter) (later : Given) → again n left s earlier w ≡ (Waits, [], s) → turn_or w (again n left s earlier w) later ≡ later
+rest_first n left s earlier w later e = ap (λ (r : Ruled). turn_or w r later) e
+
+pub move_first : (w : Waiter) (r : Ruled) (later : Given) → rests r.0 r.1 ≡ false → turn_or w r later ≡ Some (turned w r.0 r.1 r.2)
+move_first w r later e = rw e refl
+
+-- whoever was not called rests
+uncalled : (n : ℕ) (left : Rooms) (s : CoreState) (earlier : List Waiter) (w : Waiter) → IsWaiter s.names s.counter w → called_by s w w.asked ≡ None → again n left s earlier w ≡ (Waits, [], s)
+uncalled n left s earlier w is e =
+    let one = alone w.asked is.2 in
+    blocked_rests n left s earlier w one.0 one.1 is.3 (not_by s w one.0 one.1 e)
+
+some_cases : (a b : Option Called) → ((x : Called) × (a ≡ Some x)) ⊎ (a ≡ None)
+some_cases (Some x) b = inl (x, refl)
+some_cases None b = inr refl
+
+called_later : (s : CoreState) (w : Waiter) (ws : List Waiter) → called_by s w w.asked ≡ None → first_called s (w ∷ ws) ≡ first_called s ws
+called_later s w ws e = rw e refl
+
+called_here : (s : CoreState) (w : Waiter) (ws : List Waiter) (x : Called) → called_by s w w.asked ≡ Some x → first_called s (w ∷ ws) ≡ Some x
+called_here s w ws x e = rw e refl
+
+-- its turn is the first
+pub turn_is_found : (left : Rooms) (s t u : CoreState) (ws : List Waiter) (called : Called) (ruling : Ruling) (effects : List Effect) → AllByRecursion (IsWaiter s.names s.counter) ws → first_called s ws ≡ Some called
+    → ((n : ℕ) (earlier : List Waiter) → judged n earlier left called.plea (called.claim ∷ []) s ≡ (ruling, [], t)) → ((w : Waiter) → w.id ≡ called.id → w.asked ≡ called.claim ∷ [] → turned w ruling [] t ≡ (effects, u))
+    → (n : ℕ) (earlier : List Waiter) → first_turn n left s earlier ws ≡ Some (effects, u)
+turn_is_found left s t u [] called ruling effects all e judges turns n earlier = absurd cc
+turn_is_found left s t u (w ∷ ws) called ruling effects all e judges turns n earlier =
+    elim (some_cases (called_by s w w.asked) None) [
+      | inr none ↦
+          rest_first n left s earlier w _ (uncalled n left s earlier w all.0 none)
+          ∙ turn_is_found left s t u ws called ruling effects all.1 (sym (called_later s w ws none) ∙ e) judges turns n (earlier ++ w ∷ [])
+      | inl found ↦
+          let same = same_called found.0 called (sym (called_here s w ws found.0 found.1) ∙ e) in
+          let is = found_by s w w.asked called (found.1 ∙ ap (λ (x : Called). Some x) same) in
+          let ruled : again n left s earlier w ≡ (ruling, [], t) =
+          ap (λ (cs : List Claim). judged n earlier left (plea_again s w) cs s) is.1 ∙ ap (λ (x : Called). judged n earlier left x.plea (x.claim ∷ []) s) (sym is.3) ∙ judges n earlier in
+          move_first w (again n left s earlier w) _ (free_moves n left s earlier w is.0 is.1 is.2)
+          ∙ ap (λ (r : Ruled). Some (turned w r.0 r.1 r.2)) ruled
+          ∙ ap (λ (x : List Effect × CoreState). Some x) (turns w (ap (λ (x : Called). x.id) (sym is.3)) (is.1 ∙ ap (λ (x : Called). x.claim ∷ []) (sym is.3)))
+    ]
+
+pub none_is_found : (left : Rooms) (s : CoreState) (ws : List Waiter) → AllByRecursion (IsWaiter s.names s.counter) ws → first_called s ws ≡ None → (n : ℕ) (earlier : List Waiter) → first_turn n left s earlier ws ≡ None
+none_is_found left s [] all e n earlier = refl
+none_is_found left s (w ∷ ws) all e n earlier =
+    elim (some_cases (called_by s w w.asked) None) [
+      | inl found ↦ let two : Some found.0 ≡ None = sym (called_here s w ws found.0 found.1) ∙ e in absurd cc
+      | inr none ↦ rest_first n left s earlier w _ (uncalled n left s earlier w all.0 none) ∙ none_is_found left s ws all.1 (sym (called_later s w ws none) ∙ e) n (earlier ++ w ∷ [])
+    ]
+
+pub called_known : (s : CoreState) (ws : List Waiter) (called : Called) → AllByRecursion (IsWaiter s.names s.counter) ws → first_called s ws ≡ Some called → IsKnown s.names called.claim
+called_known s [] called all e = absurd cc
+called_known s (w ∷ ws) called all e =
+    elim (some_cases (called_by s w w.asked) None) [
+      | inr none ↦ called_known s ws called all.1 (sym (called_later s w ws none) ∙ e)
+      | inl found ↦
+          let same = same_called found.0 called (sym (called_here s w ws found.0 found.1) ∙ e) in
+          let is = found_by s w w.asked called (found.1 ∙ ap (λ (x : Called). Some x) same) in
+          subst (λ (x : Called). IsKnown s.names x.claim) (sym is.3) (subst (λ (cs : List Claim). AllByRecursion (IsKnown s.names) cs) is.1 all.0.1).0
+    ]

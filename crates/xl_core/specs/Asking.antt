@@ -1,6 +1,5 @@
 -- Who asks: the numbers of names, which may still have to come, and the claim that an ask is for.
-use Rattle.std.specs.Prelude.{◌≡◌, ℕ, ◌+◌, ◌≤◌, Bool, true, false, ◌&&◌, nat_le, if◌then◌else◌, List, [], ◌∷◌, length, Option, Some, None, option_map}
-use Rattle.std.specs.List.{slice_get}
+use Rattle.std.specs.Prelude.{◌≡◌, ℕ, ◌≤◌, Bool, true, false, if◌then◌else◌, List, [], ◌∷◌, map, Option, Some, None}
 use Rattle.xl_base.specs.declared.name.Owner.{Owner}
 use Rattle.xl_base.specs.declared.name.Owner.TheVariants as owners
 use Rattle.xl_base.specs.declared.name.Party.{Party}
@@ -10,9 +9,9 @@ use Rattle.xl_matrix.specs.declared.claim.Extent.{Extent}
 use Rattle.xl_matrix.specs.declared.claim.Extent.TheVariants.{Bytes, Empty}
 use Rattle.xl_matrix.specs.declared.claim.What.{What}
 use Rattle.xl_matrix.specs.declared.claim.What.TheVariants as whats
-use Rattle.xl_names.specs.Names.{protocol_of, same_name, number_of, place_of, is_kept, entered, most_names}
+use Rattle.xl_names.specs.Names.{protocol_of, same_name, number_of, place_of, is_kept, entered}
 use Rattle.xl_names.specs.declared.name.Name.{Name}
-use Rattle.xl_names.specs.declared.name.Name.TheVariants.{NlmRange, NlmShare, NlmParty, NfsRange, NfsShare, NfsParty, SmbLease}
+use Rattle.xl_names.specs.declared.name.Name.TheVariants.{NlmRange, NlmShare, NlmParty, NfsRange, NfsShare, NfsParty}
 use Rattle.xl_core.specs.declared.ask.Who.{Who}
 use Rattle.xl_core.specs.declared.ask.Who.TheVariants.{Named, Open}
 use Rattle.xl_core.specs.declared.ask.Act.{Act}
@@ -50,23 +49,30 @@ abbrev pub coming : Who → List Name → ℕ
 coming (Named name) names = if is_kept name names then 0 else 1
 coming (Open number) names = 0
 
--- the ask's names can be kept
-abbrev pub names_fit : Ask → List Name → Bool
-names_fit a names = nat_le (length names + (coming a.owner names + coming a.party names)) most_names
-
 abbrev pub range_what : Extent × Bool → What
 range_what range = whats.Range range.0 range.1
 
--- what is to be held once the ask is granted; nothing by a test or an unlock
+-- what is to be held once the ask is granted, in order; nothing by a test or an unlock
+abbrev pub asked_whats : Act → List What
+asked_whats (Share access deny) = whats.Share access deny ∷ []
+asked_whats (Ranges ranges) = map range_what ranges
+asked_whats (Test extent exclusive) = []
+asked_whats (Unlock extent) = []
+
+abbrev pub alone : List What → Option What
+alone (what ∷ []) = Some what
+alone _ = None
+
+-- the same, where it is one thing
 abbrev pub asked_what : Act → Option What
-asked_what (Share access deny) = Some (whats.Share access deny)
-asked_what (Ranges ranges) = option_map range_what (slice_get ranges 0)
-asked_what (Test extent exclusive) = None
-asked_what (Unlock extent) = None
+asked_what act = alone (asked_whats act)
 
 -- the claim that the ask is for
 abbrev pub asked_claim : Ask → What → List Name → Claim
 asked_claim a what names = record { file = a.file; owner = asker a names; party = asking_party a names; what = what }
+
+abbrev pub asked_claims : Ask → List What → List Name → List Claim
+asked_claims a whats names = map (λ what. asked_claim a what names) whats
 
 -- ---- an ask that enters no name
 

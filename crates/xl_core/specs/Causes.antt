@@ -1,22 +1,23 @@
 -- Why an ask or a turn is answered as it is, and what a turn leaves.
-use Rattle.std.specs.Prelude.{◌≡◌, ℕ, ◌+◌, ◌<◌, ◌≤◌, Bool, true, false, ◌&&◌, ◌==◌, nat_lt, ◌⊎◌, List, [], ◌∷◌, ◌++◌, length, Some, None}
+use Rattle.std.specs.Prelude.{◌≡◌, ℕ, ◌+◌, ◌<◌, ◌≤◌, Bool, true, false, ◌&&◌, ◌⊎◌, List, [], ◌∷◌, ◌++◌, length, Some, None}
 use Rattle.std.specs.List.{AllByRecursion, list_any, slice_get}
 use Rattle.xl_base.specs.Lists.{IsIn}
 use Rattle.xl_base.specs.declared.name.Owner.{Owner}
 use Rattle.xl_matrix.specs.declared.claim.Claim.{Claim}
-use Rattle.xl_names.specs.Names.{most_names}
 use Rattle.xl_names.specs.declared.name.Name.{Name}
 use Rattle.xl_spans.specs.Spans.{within, mode_at}
 use Rattle.xl_table.specs.Flat.{blocks}
-use Rattle.xl_table.specs.Held.{is_range, spans_of}
+use Rattle.xl_table.specs.Held.{is_range, is_share, spans_of}
 use Rattle.xl_wait.specs.declared.waiter.Rooms.{Rooms}
 use Rattle.xl_wait.specs.declared.waiter.Waiter.{Waiter}
 use Rattle.xl_core.specs.State.{CoreState}
 use Rattle.xl_core.specs.Asking.{asker, both_entered}
-use Rattle.xl_core.specs.Blockers.{least, blockers, test_blockers}
-use Rattle.xl_core.specs.Decide.{most_hosts, most_waiters, most_opens, most_owners}
-use Rattle.xl_core.specs.Good.{is_blocked, is_still_blocked}
-use Rattle.xl_core.specs.Relock.{most_claims, is_share, shares_of, relocked_in, granted_claims}
+use Rattle.xl_table.specs.Least.{least}
+use Rattle.xl_core.specs.Blockers.{blockers, test_blockers}
+use Rattle.xl_core.specs.Limits.{grant_limits, wait_limits, IsRoom, IsLeastPassed}
+use Rattle.xl_table.specs.Flat.{is_blocked}
+use Rattle.xl_core.specs.Good.{stands_in_the_way}
+use Rattle.xl_table.specs.Relock.{most_claims, shares_of, relocked_in, granted_claims}
 use Rattle.xl_core.specs.declared.ask.Act.{Act}
 use Rattle.xl_core.specs.declared.ask.Act.TheVariants.{Share}
 use Rattle.xl_core.specs.declared.ask.Answer.{Answer}
@@ -25,38 +26,12 @@ use Rattle.xl_core.specs.declared.ask.Ask.{Ask}
 use Rattle.xl_core.specs.declared.ask.Effect.{Effect}
 use Rattle.xl_core.specs.declared.ask.Effect.TheVariants.{Served}
 
--- ---- limits
-
--- each limit of a grant, and whether it is passed: so many rows are left and come, so many claims are held afterwards,
--- and so many names are kept
-abbrev pub grant_limits : Rooms → Rooms → ℕ → ℕ → List (ℕ × Bool)
-grant_limits left rows held kept =
-    (most_hosts, nat_lt left.hosts rows.hosts) ∷ (most_opens, nat_lt left.opens rows.opens) ∷ (most_owners, nat_lt left.owners rows.owners)
-    ∷ (most_claims, nat_lt most_claims held) ∷ (most_names, nat_lt most_names kept) ∷ []
-
--- each limit of a wait; so many wait afterwards
-abbrev pub wait_limits : Rooms → Rooms → ℕ → ℕ → List (ℕ × Bool)
-wait_limits left rows waiting kept =
-    (most_hosts, nat_lt left.hosts rows.hosts) ∷ (most_waiters, nat_lt most_waiters waiting) ∷ (most_names, nat_lt most_names kept) ∷ []
-
--- the limit is among these, and passed
-abbrev pub is_passed : List (ℕ × Bool) → ℕ → Bool
-is_passed limits n = list_any (λ limit. (limit.0 == n) && limit.1) limits
-
--- none of the limits is passed
-abbrev pub IsRoom : List (ℕ × Bool) → Type 0
-IsRoom limits = (n : ℕ) → is_passed limits n ≡ false
-
--- this limit is passed, and no lesser one
-abbrev pub IsLeastPassed : List (ℕ × Bool) → ℕ → Type 0
-IsLeastPassed limits n = (is_passed limits n ≡ true) × ((m : ℕ) → is_passed limits m ≡ true → n ≤ m)
-
 -- the limits of an ask's grant, and of its wait
 abbrev pub limits_of_grant : Rooms → CoreState → Ask → Claim → List (ℕ × Bool)
 limits_of_grant left s a claim = grant_limits left a.rows (length (granted_claims claim s.claims)) (length (both_entered a s.names))
 
 abbrev pub limits_of_wait : Rooms → CoreState → Ask → List (ℕ × Bool)
-limits_of_wait left s a = wait_limits left a.rows (length s.waiters + 1) (length (both_entered a s.names))
+limits_of_wait left s a = wait_limits left a.rows (length s.waiters) (length (both_entered a s.names))
 
 -- ---- why an ask is answered so
 
@@ -114,7 +89,7 @@ IsTurnDue left s w claim _ claims = ⊥
 
 -- something held blocks what the waiter asks for
 abbrev pub IsBlockedWaiter : CoreState → Waiter → Type 0
-IsBlockedWaiter s w = is_still_blocked s.claims (slice_get w.asked 0) ≡ true
+IsBlockedWaiter s w = stands_in_the_way s.claims w.asked ≡ true
 
 -- The first waiter that nothing held blocks is answered and waits no more; the others wait on. Only what its owner has
 -- on its file changes.
@@ -126,7 +101,7 @@ pub record IsTurn (left : Rooms) (s : CoreState) (effects : List Effect) (new : 
   pub answer : Answer
   pub stood : s.waiters ≡ before ++ waiter ∷ behind
   pub blocked : AllByRecursion (IsBlockedWaiter s) before
-  pub asked : slice_get waiter.asked 0 ≡ Some claim
+  pub asked : waiter.asked ≡ claim ∷ []
   pub free : is_blocked s.claims claim ≡ false
   pub due : IsTurnDue left s waiter claim answer new.claims
   pub told : effects ≡ Served waiter.id answer ∷ []
@@ -152,3 +127,16 @@ pub record IsOwn (s : CoreState) (a : Ask) (answer : Answer) (new : CoreState) :
   pub shares : (file : ℕ) (owner : Owner) → ((file ≡ a.file) × (owner ≡ asker a s.names) × (asks_share a.act ≡ true) → ⊥) → shares_of file owner new.claims ≡ shares_of file owner s.claims
   pub stay : (w : Waiter) → IsIn w s.waiters → IsIn w new.waiters
   pub names : (number : ℕ) (name : Name) → slice_get s.names number ≡ Some name → slice_get new.names number ≡ Some name
+
+-- ---- a test and the lock that it foretells
+
+-- both are asked by the same owner of the same client on the same file, and are reclaims or not
+pub record IsSameAsker (a b : Ask) : Type 0 where
+  pub file : a.file ≡ b.file
+  pub owner : a.owner ≡ b.owner
+  pub party : a.party ≡ b.party
+  pub reclaim : a.reclaim ≡ b.reclaim
+
+-- something held is told
+abbrev pub IsConflict : Answer → Type 0
+IsConflict answer = (c : Claim) × (answer ≡ Conflict c)

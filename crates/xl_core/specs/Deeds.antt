@@ -12,7 +12,7 @@ use Rattle.xl_wait.specs.declared.waiter.Waiter.{Waiter}
 use Rattle.xl_core.specs.State.{CoreState, drawn}
 use Rattle.xl_core.specs.Asking.{asked_what, asked_claim, IsFit}
 use Rattle.xl_core.specs.Decide.{waiter_of, ask}
-use Rattle.xl_core.specs.Relock.{is_share}
+use Rattle.xl_table.specs.Held.{is_share}
 use Rattle.xl_core.specs.Settle.{settle, waits_for, cancel, give_back, end_party}
 use Rattle.xl_core.specs.declared.ask.Answer.{Answer}
 use Rattle.xl_core.specs.declared.ask.Answer.TheVariants.{Queued}
@@ -95,7 +95,7 @@ AreFit n s (d ∷ ds) = IsFitDeed s d × AreFit n (done n s d) ds
 
 abbrev pub with_waiter : CoreState → Ask → ℕ → Option What → List Waiter → List Waiter
 with_waiter s a id None waiters = waiters
-with_waiter s a id (Some what) waiters = waiters ++ waiter_of id a (asked_claim a what s.names) ∷ []
+with_waiter s a id (Some what) waiters = waiters ++ waiter_of id a (asked_claim a what s.names ∷ []) ∷ []
 
 -- one who is told to wait comes last
 abbrev pub queue_with : CoreState → Ask → Answer → List Waiter → List Waiter

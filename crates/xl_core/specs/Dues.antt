@@ -5,10 +5,12 @@ use Rattle.xl_matrix.specs.declared.claim.What.{What}
 use Rattle.xl_wait.specs.declared.waiter.Rooms.{Rooms}
 use Rattle.xl_core.specs.State.{CoreState}
 use Rattle.xl_core.specs.Asking.{asked_what, asked_claim, known_claim}
-use Rattle.xl_core.specs.Causes.{IsRoom, limits_of_grant, IsClaimDue, IsTestDue, IsUnlockDue, IsTurn}
+use Rattle.xl_core.specs.Limits.{IsRoom}
+use Rattle.xl_core.specs.Causes.{limits_of_grant, IsClaimDue, IsTestDue, IsUnlockDue, IsTurn}
 use Rattle.xl_core.specs.Decide.{ask}
 use Rattle.xl_core.specs.Deeds.{Deed, Asks, Serves, done}
-use Rattle.xl_core.specs.Good.{is_blocked, IsSettled}
+use Rattle.xl_table.specs.Flat.{is_blocked}
+use Rattle.xl_core.specs.Good.{IsSettled}
 use Rattle.xl_core.specs.Settle.{settle}
 use Rattle.xl_core.specs.declared.ask.Act.{Act}
 use Rattle.xl_core.specs.declared.ask.Act.TheVariants as acts

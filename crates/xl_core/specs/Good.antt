@@ -1,6 +1,6 @@
 -- What the core's state keeps at each free moment.
-use Rattle.std.specs.Prelude.{◌≡◌, ℕ, ◌≤◌, Bool, true, false, not, ◌&&◌, ◌==◌, List, [], ◌∷◌, length, Option, Some, None}
-use Rattle.std.specs.List.{AllByRecursion, list_any, slice_get}
+use Rattle.std.specs.Prelude.{◌≡◌, ℕ, ◌≤◌, Bool, true, false, not, ◌&&◌, ◌||◌, ◌==◌, List, [], ◌∷◌, length, Option, Some}
+use Rattle.std.specs.List.{AllByRecursion, slice_get}
 use Rattle.xl_base.specs.Lists.{Pairwise}
 use Rattle.xl_base.specs.Stable.{same_protocol}
 use Rattle.xl_base.specs.declared.name.Owner.{Owner}
@@ -17,11 +17,13 @@ use Rattle.xl_matrix.specs.declared.claim.What.{What}
 use Rattle.xl_matrix.specs.declared.claim.What.TheVariants.{Share, Range, Cache}
 use Rattle.xl_names.specs.Names.{protocol_of, AreDistinct, most_names}
 use Rattle.xl_names.specs.declared.name.Name.{Name}
-use Rattle.xl_table.specs.Flat.{blocks}
-use Rattle.xl_table.specs.Held.{IsKept}
+use Rattle.xl_table.specs.Flat.{is_blocked}
+use Rattle.xl_table.specs.Held.{IsKept, IsPosix}
 use Rattle.xl_wait.specs.declared.waiter.Waiter.{Waiter}
 use Rattle.xl_core.specs.State.{CoreState}
 use Rattle.xl_core.specs.Asking.{client_of, is_name}
+use Rattle.xl_core.specs.Limits.{most_waiters}
+use Rattle.xl_table.specs.Relock.{granted_claims}
 
 -- ---- the claims
 
@@ -32,15 +34,6 @@ IsRangeBy _ = ⊥
 
 abbrev pub IsRange : Claim → Type 0
 IsRange c = IsRangeBy c.what × (posix c.owner ≡ true)
-
--- a share, or such a range, of a POSIX owner
-abbrev pub IsPosixBy : What → Type 0
-IsPosixBy (Share access deny) = Unit {0}
-IsPosixBy (Range (Bytes first last) exclusive) = first ≤ last
-IsPosixBy _ = ⊥
-
-abbrev pub IsPosix : Claim → Type 0
-IsPosix c = IsPosixBy c.what × (posix c.owner ≡ true)
 
 abbrev pub agree : Protocol → Protocol → Option Name → Option Name → Bool
 agree protocol other (Some owner) (Some party) = same_protocol protocol (protocol_of owner) && (same_protocol other (protocol_of party) && is_name (client_of owner) party)
@@ -69,15 +62,15 @@ is_single a b = not (a.file == b.file && not (is_single_by a b a.what b.what))
 abbrev pub are_apart : Waiter → Waiter → Bool
 are_apart v w = not (v.id == w.id)
 
--- one who waits for shares or real ranges, under a number that was given out
+-- one who waits, under a number that was given out, for one share or real range, and for as long as it takes
 abbrev pub IsWaiter : List Name → ℕ → Waiter → Type 0
-IsWaiter names counter w = (w.id ≤ counter) × AllByRecursion (IsKnown names) w.asked
+IsWaiter names counter w = (w.id ≤ counter) × AllByRecursion (IsKnown names) w.asked × (length w.asked ≡ 1) × (w.blocking ≡ true)
 
 -- ---- the state
 
 -- The claims stand in the table's order, each POSIX owner's ranges on a file as sorted maximal runs (kept); any two may
 -- be held together by the matrix; an owner has one share on a file and a party one cache; all are of clients known by
--- name. The waiters are known too, and have numbers of their own.
+-- name. The waiters are known too, have numbers of their own, and are 1,024 at most.
 pub record IsGood (s : CoreState) : Type 0 where
   pub kept : IsKept s.claims
   pub compatible : Pairwise compat s.claims
@@ -85,19 +78,17 @@ pub record IsGood (s : CoreState) : Type 0 where
   pub known : AllByRecursion (IsKnown s.names) s.claims
   pub waiters : AllByRecursion (IsWaiter s.names s.counter) s.waiters
   pub apart : Pairwise are_apart s.waiters
+  pub crowd : length s.waiters ≤ most_waiters
   pub distinct : AreDistinct s.names
   pub few : length s.names ≤ most_names
 
 -- ---- nobody is forgotten
 
--- something held blocks the claim
-abbrev pub is_blocked : List Claim → Claim → Bool
-is_blocked held claim = list_any (λ c. blocks claim c) held
+-- something held stands in the way of these, each behind those before it
+abbrev pub stands_in_the_way : List Claim → List Claim → Bool
+stands_in_the_way held [] = false
+stands_in_the_way held (c ∷ cs) = is_blocked held c || stands_in_the_way (granted_claims c held) cs
 
-abbrev pub is_still_blocked : List Claim → Option Claim → Bool
-is_still_blocked held None = true
-is_still_blocked held (Some claim) = is_blocked held claim
-
--- each waiter has something held against what it asks for
+-- each waiter has something in the way of what it asks for
 abbrev pub IsSettled : CoreState → Type 0
-IsSettled s = AllByRecursion (λ w. is_still_blocked s.claims (slice_get w.asked 0) ≡ true) s.waiters
+IsSettled s = AllByRecursion (λ w. stands_in_the_way s.claims w.asked ≡ true) s.waiters

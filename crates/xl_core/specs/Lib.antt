@@ -1,12 +1,14 @@
 pub mod State
 pub mod Asking
 pub mod Blockers
-pub mod Relock
+pub mod Limits
+pub mod Judge
 pub mod Decide
 pub mod Settle
 pub mod Good
 pub mod Whole
 pub mod Causes
+pub mod Frames
 pub mod Deeds
 pub mod Places
 pub mod Dues

@@ -15,7 +15,7 @@ use Rattle.xl_table.specs.Held.{is_of, spans_of}
 use Rattle.xl_core.specs.State.{CoreState}
 use Rattle.xl_core.specs.Decide.{ask}
 use Rattle.xl_core.specs.Deeds.{Deed, Asks, GivesBack, Ends, Serves, given, done}
-use Rattle.xl_core.specs.Relock.{is_exclusive, shares_of}
+use Rattle.xl_table.specs.Relock.{is_exclusive, shares_of, old_shares, united_by}
 use Rattle.xl_core.specs.declared.ask.Act.{Act}
 use Rattle.xl_core.specs.declared.ask.Act.TheVariants as acts
 use Rattle.xl_core.specs.declared.ask.Answer.{Answer}
@@ -65,9 +65,14 @@ abbrev pub entered_by : List What → Option (List What)
 entered_by [] = None
 entered_by (what ∷ rest) = Some (what ∷ rest)
 
--- a claim that is entered is held then at each place that it reaches, whatever was there
-abbrev pub entered_at : Claim → Place → Option (List What)
-entered_at c p = entered_by (part_of c p)
+-- a share as it is held once it is entered among these: united with its owner's where it is NFSv4's
+abbrev pub held_as : List Claim → Claim → What → What
+held_as held c (whats.Share access deny) = united_by c.owner (whats.Share access deny) (old_shares c.file c.owner held)
+held_as held c what = what
+
+-- a claim that is entered is held then at each place that it reaches, whatever was there but for a share that it is united with
+abbrev pub entered_at : List Claim → Claim → Place → Option (List What)
+entered_at held c p = entered_by (if is_at p c then part_by (held_as held c c.what) p else [])
 
 abbrev pub cleared_by : List What → Option (List What)
 cleared_by [] = None
@@ -79,36 +84,36 @@ cleared_at c p = cleared_by (part_of c p)
 
 -- ---- what a deed makes of a place, or none where it leaves it
 
-abbrev pub entered_for : Answer → Place → Option (List What)
-entered_for (Granted c) p = entered_at c p
-entered_for answer p = None
+abbrev pub entered_for : List Claim → Answer → Place → Option (List What)
+entered_for held (Granted c) p = entered_at held c p
+entered_for held answer p = None
 
 abbrev pub cleared_for : Answer → Place → Option (List What)
 cleared_for (Granted c) p = cleared_at c p
 cleared_for answer p = None
 
 -- a granted share or lock is entered, a granted unlock clears its range; a test and any other answer leave all
-abbrev pub answered_at : Act → Answer → Place → Option (List What)
-answered_at (acts.Share access deny) answer p = entered_for answer p
-answered_at (acts.Ranges ranges) answer p = entered_for answer p
-answered_at (acts.Test extent exclusive) answer p = None
-answered_at (acts.Unlock extent) answer p = cleared_for answer p
+abbrev pub answered_at : List Claim → Act → Answer → Place → Option (List What)
+answered_at held (acts.Share access deny) answer p = entered_for held answer p
+answered_at held (acts.Ranges ranges) answer p = entered_for held answer p
+answered_at held (acts.Test extent exclusive) answer p = None
+answered_at held (acts.Unlock extent) answer p = cleared_for answer p
 
 -- a party that ends leaves nothing at a place where it has something
 abbrev pub ended_at : List Claim → Party → Place → Option (List What)
 ended_at claims party p = if list_any (λ c. if is_at p c then same_parties c.party party else false) claims then Some [] else None
 
 -- a waiter that is granted what it waited for has that
-abbrev pub told_at : List Effect → Place → Option (List What)
-told_at (Served id answer ∷ effects) p = entered_for answer p
-told_at effects p = None
+abbrev pub told_at : List Claim → List Effect → Place → Option (List What)
+told_at held (Served id answer ∷ effects) p = entered_for held answer p
+told_at held effects p = None
 
 -- what the deed makes of the place
 abbrev pub made : ℕ → CoreState → Deed → Place → Option (List What)
-made n s (Asks left a) p = answered_at a.act (ask n left s a).0 p
+made n s (Asks left a) p = answered_at s.claims a.act (ask n left s a).0 p
 made n s (GivesBack claim) p = cleared_at claim p
 made n s (Ends party) p = ended_at s.claims party p
-made n s (Serves left) p = told_at (given n s (Serves left)).1 p
+made n s (Serves left) p = told_at s.claims (given n s (Serves left)).1 p
 made n s d p = None
 
 abbrev pub else_was : Option (List What) → List What → List What

@@ -1,66 +1,84 @@
 -- Who waits, and whose turn comes.
-use Rattle.std.specs.Prelude.{◌≡◌, ℕ, Bool, true, false, not, List, [], ◌∷◌, ◌++◌, map, Option, Some, None, option_map}
-use Rattle.std.specs.List.{filter, list_any, slice_get}
+use Rattle.std.specs.Prelude.{◌≡◌, ℕ, Bool, true, false, not, if◌then◌else◌, List, [], ◌∷◌, ◌++◌, length, map, Option, Some, None}
+use Rattle.std.specs.List.{filter, list_any}
 use Rattle.xl_base.specs.declared.name.Party.{Party}
 use Rattle.xl_matrix.specs.Equal.{same_parties}
 use Rattle.xl_matrix.specs.declared.claim.Claim.{Claim}
-use Rattle.xl_table.specs.Flat.{removed}
+use Rattle.xl_table.specs.Flat.{removed, is_blocked}
 use Rattle.xl_wait.specs.Waiting.{cancelled}
 use Rattle.xl_wait.specs.declared.waiter.Rooms.{Rooms}
 use Rattle.xl_wait.specs.declared.waiter.Waiter.{Waiter}
-use Rattle.xl_core.specs.State.{CoreState, with_parts}
-use Rattle.xl_core.specs.Decide.{decide}
-use Rattle.xl_core.specs.Relock.{granted_claims}
-use Rattle.xl_core.specs.declared.ask.Answer.TheVariants.{Granted, Full}
+use Rattle.xl_core.specs.State.{CoreState}
+use Rattle.xl_core.specs.Judge.{Ruled, judged}
+use Rattle.xl_core.specs.declared.ask.Answer.{Answer}
+use Rattle.xl_core.specs.declared.ask.Answer.TheVariants.{Granted, NotHeld}
 use Rattle.xl_core.specs.declared.ask.Effect.{Effect}
 use Rattle.xl_core.specs.declared.ask.Effect.TheVariants.{Served, Cancelled}
-use Rattle.xl_core.specs.declared.decide.Verdict.{Verdict}
-use Rattle.xl_core.specs.declared.decide.Verdict.TheVariants as verdict
-use Rattle.xl_core.specs.declared.settling.Turn.{Turn}
+use Rattle.xl_core.specs.declared.judge.Plea.{Plea}
+use Rattle.xl_core.specs.declared.settling.Called.{Called}
+use Rattle.xl_core.specs.declared.judge.Ruling.{Ruling}
+use Rattle.xl_core.specs.declared.judge.Ruling.TheVariants.{Gets, Waits, Told}
 
 -- ---- whose turn comes
 
-abbrev pub turn_with : Waiter → Claim → Verdict → Option Turn
-turn_with w claim (verdict.Blocked c) = None
-turn_with w claim (verdict.Full limit) = Some (record { id = w.id; claim = claim; full = Some limit })
-turn_with w claim verdict.Free = Some (record { id = w.id; claim = claim; full = None })
+-- what a waiter pleads: its names are kept already, and its wait passes no limit
+unfoldable pub plea_again : CoreState → Waiter → Plea
+plea_again s w = record { blocking = w.blocking; reclaim = false; rows = w.rows; kept = length s.names; crowded = None }
 
-abbrev pub turn_by : ℕ → Rooms → CoreState → List Waiter → Waiter → Option Claim → Option Turn
-turn_by n left s earlier w None = None
-turn_by n left s earlier w (Some claim) = turn_with w claim (decide n earlier s left w.rows true claim)
+-- it waits on, and nothing begins
+abbrev pub rests : Ruling → List Effect → Bool
+rests Waits [] = true
+rests _ _ = false
 
--- the waiter's turn, where nothing blocks it behind these waiters; its names are kept already
-unfoldable pub turn_of : ℕ → Rooms → CoreState → List Waiter → Waiter → Option Turn
-turn_of n left s earlier w = turn_by n left s earlier w (slice_get w.asked 0)
+-- what is told of claims that are granted
+abbrev pub all_of : List Claim → Answer
+all_of [] = NotHeld
+all_of (c ∷ cs) = Granted c
 
-abbrev pub first_some : Option Turn → Option Turn → Option Turn
-first_some (Some turn) later = Some turn
-first_some None later = later
+-- the waiter is taken out, and told this behind what began
+abbrev pub served : Waiter → Answer → List Effect → CoreState → List Effect × CoreState
+served w answer told s = (told ++ Served w.id answer ∷ [], record s { waiters = cancelled w.id s.waiters })
+
+abbrev pub turned : Waiter → Ruling → List Effect → CoreState → List Effect × CoreState
+turned w Gets told s = served w (all_of w.asked) told s
+turned w Waits told s = (told, s)
+turned w (Told answer) told s = served w answer told s
+
+-- what is judged of a waiter behind these
+abbrev pub again : ℕ → Rooms → CoreState → List Waiter → Waiter → Ruled
+again n left s earlier w = judged n earlier left (plea_again s w) w.asked s
+
+abbrev pub turn_or : Waiter → Ruled → Option (List Effect × CoreState) → Option (List Effect × CoreState)
+turn_or w r later = if rests r.0 r.1 then later else Some (turned w r.0 r.1 r.2)
 
 -- the turn of the first of these that has one, behind earlier ones that have none
-abbrev pub first_turn : ℕ → Rooms → CoreState → List Waiter → List Waiter → Option Turn
+abbrev pub first_turn : ℕ → Rooms → CoreState → List Waiter → List Waiter → Option (List Effect × CoreState)
 first_turn n left s earlier [] = None
-first_turn n left s earlier (w ∷ ws) = first_some (turn_of n left s earlier w) (first_turn n left s (earlier ++ w ∷ []) ws)
+first_turn n left s earlier (w ∷ ws) = turn_or w (again n left s earlier w) (first_turn n left s (earlier ++ w ∷ []) ws)
 
--- the same, where those before don't count
-abbrev pub next_turn : Rooms → CoreState → List Waiter → Option Turn
-next_turn left s [] = None
-next_turn left s (w ∷ ws) = first_some (turn_of 0 left s [] w) (next_turn left s ws)
-
--- ---- a turn is served
-
-abbrev pub served_by : CoreState → Turn → Option ℕ → List Effect × CoreState
-served_by s turn (Some limit) = (Served turn.id (Full limit) ∷ [], with_parts s s.claims (cancelled turn.id s.waiters) s.names s.counter)
-served_by s turn None =
-    (Served turn.id (Granted turn.claim) ∷ [], with_parts s (granted_claims turn.claim s.claims) (cancelled turn.id s.waiters) s.names s.counter)
-
--- the waiter is taken out, and has what it asked for where there is room
-unfoldable pub served : CoreState → Turn → List Effect × CoreState
-served s turn = served_by s turn turn.full
-
--- One turn: the first waiter that nothing blocks is served. None where each of them is blocked.
+-- One turn: the first waiter is served that doesn't wait on with nothing begun. None where there is no such.
 unfoldable pub settle : ℕ → Rooms → CoreState → Option (List Effect × CoreState)
-settle n left s = option_map (served s) (first_turn n left s [] s.waiters)
+settle n left s = first_turn n left s [] s.waiters
+
+-- each of these waits on, behind those before it, and nothing begins or changes
+abbrev pub AllRest : ℕ → Rooms → CoreState → List Waiter → List Waiter → Type 0
+AllRest n left s earlier [] = Unit {0}
+AllRest n left s earlier (w ∷ ws) = (again n left s earlier w ≡ (Waits, [], s)) × AllRest n left s (earlier ++ w ∷ []) ws
+
+-- ---- how the first that has a turn is found, among those who wait for one claim each
+
+-- a waiter that nothing held blocks
+abbrev pub called_by : CoreState → Waiter → List Claim → Option Called
+called_by s w (c ∷ []) = if is_blocked s.claims c then None else Some (record { id = w.id; claim = c; plea = plea_again s w })
+called_by s w _ = None
+
+abbrev pub first_some : Option Called → Option Called → Option Called
+first_some (Some called) later = Some called
+first_some None later = later
+
+abbrev pub first_called : CoreState → List Waiter → Option Called
+first_called s [] = None
+first_called s (w ∷ ws) = first_some (called_by s w w.asked) (first_called s ws)
 
 -- ---- who leaves
 
@@ -78,17 +96,17 @@ all_told (id ∷ ids) = Cancelled id ∷ all_told ids
 
 -- one waiter is taken out; no claim changes
 unfoldable pub cancel : CoreState → ℕ → List Effect × CoreState
-cancel s id = (Cancelled id ∷ [], with_parts s s.claims (cancelled id s.waiters) s.names s.counter)
+cancel s id = (Cancelled id ∷ [], record s { waiters = cancelled id s.waiters })
 
 -- one claim is taken out
 unfoldable pub give_back : CoreState → Claim → List Effect × CoreState
-give_back s claim = ([], with_parts s (removed claim s.claims) s.waiters s.names s.counter)
+give_back s claim = ([], record s { claims = removed claim s.claims })
 
 -- all claims and waiters of a party are taken out; its name stays
 unfoldable pub end_party : CoreState → Party → List Effect × CoreState
 end_party s party = (
   all_told (numbers_for party s.waiters),
-  with_parts s (filter (λ c. not (same_parties c.party party)) s.claims) (filter (λ w. not (waits_for party w)) s.waiters) s.names s.counter,
+  record s { claims = filter (λ c. not (same_parties c.party party)) s.claims; waiters = filter (λ w. not (waits_for party w)) s.waiters },
 )
 
 -- the waiters without those of these numbers, taken out one after another

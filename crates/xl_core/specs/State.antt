@@ -24,16 +24,11 @@ started stable clock = record { claims = []; waiters = []; names = []; stable = 
 
 -- the state at the beginning of a step
 unfoldable pub step_begun : CoreState → CoreState
-step_begun s = record { claims = s.claims; waiters = s.waiters; names = s.names; stable = s.stable; clock = s.clock; counter = s.counter; made = 0; failed = false }
-
--- the state with these claims, waiters, names and last number
-abbrev pub with_parts : CoreState → List Claim → List Waiter → List Name → ℕ → CoreState
-with_parts s claims waiters names counter =
-    record { claims = claims; waiters = waiters; names = names; stable = s.stable; clock = s.clock; counter = counter; made = s.made; failed = s.failed }
+step_begun s = record s { made = 0; failed = false }
 
 -- the state once the next number is given out
 unfoldable pub drawn : CoreState → CoreState
-drawn s = with_parts s s.claims s.waiters s.names (s.counter + 1)
+drawn s = record s { counter = s.counter + 1 }
 
 -- as far as the state tells, n stores succeed in this step
 pub record MayBe (n : ℕ) (s : CoreState) : Type 0 where

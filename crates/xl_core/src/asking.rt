@@ -1,13 +1,13 @@
 //! The numbers of those who ask.
-ghost use Rattle.std.specs.Prelude.{◌≡◌, ◌≤◌, ◌+◌, length, IfSome, OnOk, IfOk};
-ghost use Rattle.xl_names.specs.Names.{same_name, place_of, is_kept, entered, most_names};
-ghost use Rattle.xl_core.specs.Asking.{owner_in, party_in, who_entered, asker, asking_party, both_entered, coming, names_fit, asked_claim, number_or, known_owner, known_party, known_claim};
+ghost use Rattle.std.specs.Prelude.{◌≡◌, ◌≤◌, true, length, OnOk};
+ghost use Rattle.xl_names.specs.Names.{same_name, place_of, is_kept, entered};
+ghost use Rattle.xl_core.specs.Asking.{owner_in, party_in, who_entered, asker, asking_party, both_entered, coming, is_client, asked_claim, number_or, known_owner, known_party, known_claim};
 
 use crate::ask::{Ask, Who};
 use std::alloc::AllocError;
 use xl_base::{Owner, Party};
 use xl_matrix::{Claim, Extent, What};
-use xl_names::{MOST_NAMES, Name, Names};
+use xl_names::{Name, Names};
 
 /// What stands for the number of a name that has none.
 const NO_NUMBER: u32 = u32::MAX;
@@ -59,12 +59,13 @@ fn coming(names: &Names, who: &Who) -> usize
     }
 }
 
-/// Whether the names of an ask can be kept.
-pub(crate) fn do_names_fit(names: &Names, ask: &Ask) -> bool
-    ensures { result ≡ names_fit ask.now names.now }
+/// How many names are kept once those of an ask are.
+#[tactic(auto, using(crate::proofs::KnownLaws::both_length))]
+pub(crate) fn count_names(names: &Names, ask: &Ask) -> usize
+    requires { is_client ask.now.owner ask.now.party ≡ true }
+    ensures { result ≡ length (both_entered ask.now names.now) }
 {
     names.as_slice().len() + (coming(names, &ask.owner) + coming(names, &ask.party))
-        <= MOST_NAMES as usize
 }
 
 fn owner_in(names: &Names, who: &Who) -> Owner

@@ -1,109 +1,44 @@
-//! The order of decisions.
-ghost use Rattle.std.specs.Prelude.{◌≡◌, ℕ, ◌+◌, ◌<◌, ◌≤◌, ◌^◌, true, List, [], length, Some, None, IfOk, IfSome};
+//! What an ask is answered.
+ghost use Rattle.std.specs.Prelude.{◌≡◌, ℕ, ◌+◌, ◌<◌, ◌≤◌, ◌^◌, true, [], ◌∷◌, None, IfOk, IfSome};
 ghost use Rattle.std.specs.List.{AllByRecursion};
 ghost use Rattle.xl_matrix.specs.Owners.{posix};
-ghost use Rattle.xl_table.specs.Held.{is_range, has_one_party};
-ghost use Rattle.xl_wait.specs.declared.waiter.Waiter.{Waiter};
-ghost use Rattle.xl_core.specs.Asking.{asked_what, IsFitAct, IsFit, IsRealExtent, is_client, names_fit};
-ghost use Rattle.xl_core.specs.Good.{IsPosixBy, IsPosix, IsGood};
-ghost use Rattle.xl_core.specs.Decide.{passed_by_grant, passed_by_wait, decide, waiter_of, queued, claim_decided, claim_asked, tested, unlocked_bytes, unlocked, ask};
+ghost use Rattle.xl_table.specs.Held.{is_range, has_one_party, IsPosixBy, IsPosix};
+ghost use Rattle.xl_core.specs.Asking.{asked_whats, asked_claims, IsFitAct, IsFit, IsRealExtent, is_client};
+ghost use Rattle.xl_core.specs.Decide.{plea_of, waiter_of, waiting, claims_asked, tested, unlocked_bytes, unlocked, ask};
+ghost use Rattle.xl_core.specs.Good.{IsGood};
 ghost use Rattle.xl_core.specs.Whole.{state_of};
 ghost use Rattle.xl_core.specs.declared.ask.Act.TheVariants.{Ranges};
 
 use crate::ask::{Act, Answer, Ask};
-use crate::asking::{asked_claim, do_names_fit, enter_both, known_claim};
-use crate::blocking::{least_blocker, least_for_test};
+use crate::asking::{asked_claim, count_names, enter_both, known_claim};
+use crate::judge::{Plea, Ruling, judge};
+use crate::limits::passed_by_wait;
 use crate::parts::Parts;
-use crate::relock::{Bytes, do_fit, does_grant_fit, grant, holds_byte, relock};
 use std::alloc::{AllocError, Global};
 use xl_base::Sequence;
 use xl_matrix::{Claim, Extent, What};
-use xl_names::MOST_NAMES;
 use xl_table::CLAIMS;
-use xl_wait::{Rooms, WAITERS, Waiter};
+use xl_wait::{Rooms, Waiter};
 
-/// How many NLM hosts are kept.
-const MOST_HOSTS: u32 = 256;
-
-/// How many opens there are, of NFSv4 and SMB together.
-const MOST_OPENS: u32 = 4_096;
-
-/// How many NFSv4 owners are kept.
-const MOST_OWNERS: u32 = 8_192;
-
-/// What stands against a claim that is asked for.
-#[derive(Clone, Copy)]
-pub(crate) enum Verdict {
-    /// The held claim that blocks it; of several the least.
-    Blocked(Claim),
-    /// The limit that its grant would pass; of several the least.
-    Full(u32),
-    /// Nothing.
-    Free,
-}
-
-/// The least limit that a grant would pass.
-#[tactic(auto, unfolding(crate::specs::Decide::passed_by_grant))]
-fn passed_by_grant(left: &Rooms, rows: &Rooms, claims: bool, names: bool) -> Option<u32>
-    ensures { result ≡ passed_by_grant left.now rows.now claims names }
+/// What an ask pleads.
+#[tactic(auto, unfolding(crate::specs::Decide::plea_of))]
+fn plea_of(parts: &Parts, left: &Rooms, ask: &Ask) -> Plea
+    requires { is_client ask.now.owner ask.now.party ≡ true }
+    ensures { result ≡ plea_of left.now (state_of parts.now) ask.now }
 {
-    if left.hosts < rows.hosts {
-        Some(MOST_HOSTS)
-    } else if left.opens < rows.opens {
-        Some(MOST_OPENS)
-    } else if left.owners < rows.owners {
-        Some(MOST_OWNERS)
-    } else if !claims {
-        Some(CLAIMS as u32)
-    } else if !names {
-        Some(MOST_NAMES)
-    } else {
-        None
+    let kept = count_names(&parts.names, ask);
+    Plea {
+        blocking: ask.blocking,
+        reclaim: ask.reclaim,
+        rows: ask.rows,
+        kept,
+        crowded: passed_by_wait(left, &ask.rows, parts.queue.len(), kept),
     }
-}
-
-/// The least limit that a wait would pass.
-#[tactic(auto, unfolding(crate::specs::Decide::passed_by_wait))]
-fn passed_by_wait(left: &Rooms, rows: &Rooms, waiting: usize, names: bool) -> Option<u32>
-    ensures { result ≡ passed_by_wait left.now rows.now waiting names }
-{
-    if left.hosts < rows.hosts {
-        Some(MOST_HOSTS)
-    } else if WAITERS <= waiting {
-        Some(WAITERS as u32)
-    } else if !names {
-        Some(MOST_NAMES)
-    } else {
-        None
-    }
-}
-
-/// What stands against a claim: first what is held, then the limits.
-#[tactic(auto, unfolding(crate::specs::Decide::decide))]
-pub(crate) fn decide(
-    alloc: Global,
-    parts: &Parts,
-    left: &Rooms,
-    rows: &Rooms,
-    names: bool,
-    claim: &Claim,
-) -> Result<Verdict, AllocError>
-    requires { IsPosix claim.now }
-    ensures { (n : ℕ) (earlier : List Waiter) → IfOk result (λ v. v ≡ decide n earlier (state_of parts.now) left.now rows.now names claim.now) }
-{
-    if let Some(blocker) = least_blocker(alloc, parts, claim)? {
-        return Ok(Verdict::Blocked(blocker));
-    }
-    let claims = does_grant_fit(alloc, &parts.table, claim)?;
-    Ok(match passed_by_grant(left, rows, claims, names) {
-        Some(limit) => Verdict::Full(limit),
-        None => Verdict::Free,
-    })
 }
 
 /// One who waits for a claim.
 fn waiter_of(alloc: Global, id: u32, ask: &Ask, claim: &Claim) -> Result<Waiter, AllocError>
-    ensures { IfOk result (λ w. w ≡ waiter_of id ask.now claim.now) }
+    ensures { IfOk result (λ w. w ≡ waiter_of id ask.now (claim.now ∷ [])) }
 {
     let asked = [*claim];
     Ok(Waiter {
@@ -111,6 +46,7 @@ fn waiter_of(alloc: Global, id: u32, ask: &Ask, claim: &Claim) -> Result<Waiter,
         conn: ask.conn,
         asked: Sequence::from_slice(alloc, &asked)?,
         wish: Sequence::from_slice(alloc, ask.wish.as_slice())?,
+        blocking: ask.blocking,
         monitored: ask.monitored,
         rows: Rooms {
             hosts: 0,
@@ -120,24 +56,14 @@ fn waiter_of(alloc: Global, id: u32, ask: &Ask, claim: &Claim) -> Result<Waiter,
     })
 }
 
-/// Lets the asker wait, where there is room.
-fn wait(
-    alloc: Global,
-    parts: &mut Parts,
-    left: &Rooms,
-    ask: &Ask,
-    claim: &Claim,
-    names: bool,
-) -> Result<Answer, AllocError>
-    requires names { names ≡ names_fit ask.now parts.old.names }
-    requires room { parts.old.counter + 65536 < 2 ^ 32 }
-    ensures answer { IfOk result (λ answer. queued (state_of parts.old) ask.now claim.now (passed_by_wait left.now ask.now.rows (length parts.old.queue) names) ≡ (answer, [], state_of parts.new)) }
+/// Lets the asker wait, for which there is room.
+fn wait(alloc: Global, parts: &mut Parts, ask: &Ask, claim: &Claim) -> Result<Answer, AllocError>
+    requires numbers { parts.old.counter + 65536 < 2 ^ 32 }
+    ensures state { IfOk result (λ answer. state_of parts.new ≡ waiting ask.now (claim.now ∷ []) (state_of parts.old)) }
+    ensures answer { IfOk result (λ answer. answer ≡ Answer.Queued (parts.old.counter + 1)) }
     ensures made { parts.new.made ≡ parts.old.made }
     ensures failed { parts.new.failed ≡ parts.old.failed }
 {
-    if let Some(limit) = passed_by_wait(left, &ask.rows, parts.queue.len(), names) {
-        return Ok(Answer::Full(limit));
-    }
     let id = parts.counter + 1;
     let waiter = waiter_of(alloc, id, ask, claim)?;
     enter_both(&mut parts.names, ask)?;
@@ -149,48 +75,42 @@ fn wait(
 }
 
 /// Answers an ask for a claim.
-#[tactic(auto, unfolding(crate::specs::Decide::claim_decided))]
-fn decide_claim(
+#[tactic(auto, unfolding(crate::specs::Decide::claims_asked))]
+fn ask_claim(
     alloc: Global,
     parts: &mut Parts,
     left: &Rooms,
     ask: &Ask,
     claim: &Claim,
 ) -> Result<Answer, AllocError>
+    requires client { is_client ask.now.owner ask.now.party ≡ true }
     requires posix { IsPosix claim.now }
     requires party { AllByRecursion (λ c. has_one_party claim.now c ≡ true) parts.old.table }
-    requires room { parts.old.counter + 65536 < 2 ^ 32 }
-    ensures answer { (n : ℕ) → IfOk result (λ answer. claim_decided n left.now (state_of parts.old) ask.now claim.now ≡ (answer, [], state_of parts.new)) }
+    requires numbers { parts.old.counter + 65536 < 2 ^ 32 }
+    ensures answer { (n : ℕ) → IfOk result (λ answer. claims_asked n left.now (state_of parts.old) ask.now (claim.now ∷ []) ≡ (answer, [], state_of parts.new)) }
     ensures made { parts.new.made ≡ parts.old.made }
     ensures failed { parts.new.failed ≡ parts.old.failed }
 {
-    let names = do_names_fit(&parts.names, ask);
-    match decide(alloc, parts, left, &ask.rows, names, claim)? {
-        Verdict::Blocked(blocker) => {
-            if ask.blocking {
-                wait(alloc, parts, left, ask, claim, names)
-            } else {
-                Ok(Answer::Conflict(blocker))
-            }
-        }
-        Verdict::Full(limit) => Ok(Answer::Full(limit)),
-        Verdict::Free => {
+    let plea = plea_of(parts, left, ask);
+    match judge(alloc, parts, left, &plea, claim)? {
+        Ruling::Gets => {
             enter_both(&mut parts.names, ask)?;
-            grant(alloc, &mut parts.table, claim)?;
             Ok(Answer::Granted(*claim))
         }
+        Ruling::Waits => wait(alloc, parts, ask, claim),
+        Ruling::Told(answer) => Ok(answer),
     }
 }
 
 /// Answers a test of a range.
-#[tactic(auto, unfolding(crate::specs::Decide::tested))]
+#[tactic(auto, unfolding(crate::specs::Decide::tested, crate::specs::Blockers::test_blockers))]
 fn test(alloc: Global, parts: &Parts, ask: &Ask, claim: &Claim) -> Result<Answer, AllocError>
     ensures { IfOk result (λ answer. answer ≡ tested (state_of parts.now) ask.now claim.now) }
 {
     if ask.reclaim {
         return Ok(Answer::NoGrace(parts.clock));
     }
-    Ok(match least_for_test(alloc, parts, claim)? {
+    Ok(match parts.table.least_range(alloc, &parts.names, claim)? {
         Some(blocker) => Answer::Conflict(blocker),
         None => Answer::Granted(*claim),
     })
@@ -212,19 +132,14 @@ fn unlock_bytes(
     ensures made { parts.new.made ≡ parts.old.made }
     ensures failed { parts.new.failed ≡ parts.old.failed }
 {
-    let bytes = Bytes {
-        file: claim.file,
-        owner: claim.owner,
-        first,
-        last,
-    };
-    if !holds_byte(alloc, &parts.table, &bytes)? {
+    if !parts.table.holds_byte(claim.file, claim.owner, first, last) {
         return Ok(Answer::NotHeld);
     }
-    if !do_fit(alloc, &parts.table, &bytes, None)? {
+    let change = parts.table.unlocked(alloc, claim, first, last)?;
+    if change.held > CLAIMS {
         return Ok(Answer::Full(CLAIMS as u32));
     }
-    relock(alloc, &mut parts.table, claim, &bytes, None)?;
+    parts.table.write(&change)?;
     Ok(Answer::Granted(*claim))
 }
 
@@ -251,45 +166,61 @@ fn unlock(
 }
 
 /// Answers an ask for what is to be held.
-#[tactic(auto, using(crate::proofs::TurnLaws::asked_alone))]
-fn claim(
+fn ask_for(
     alloc: Global,
     parts: &mut Parts,
     left: &Rooms,
     ask: &Ask,
-    what: Option<What>,
+    what: What,
 ) -> Result<Answer, AllocError>
     requires client { is_client ask.now.owner ask.now.party ≡ true }
-    requires posix { IfSome what (λ w. IsPosixBy w) }
+    requires posix { IsPosixBy what }
     requires good { IsGood (state_of parts.old) }
-    requires room { parts.old.counter + 65536 < 2 ^ 32 }
-    ensures answer { (n : ℕ) → IfOk result (λ answer. claim_asked n left.now (state_of parts.old) ask.now what ≡ (answer, [], state_of parts.new)) }
+    requires numbers { parts.old.counter + 65536 < 2 ^ 32 }
+    ensures answer { (n : ℕ) → IfOk result (λ answer. claims_asked n left.now (state_of parts.old) ask.now (asked_claims ask.now (what ∷ []) parts.old.names) ≡ (answer, [], state_of parts.new)) }
     ensures made { parts.new.made ≡ parts.old.made }
     ensures failed { parts.new.failed ≡ parts.old.failed }
 {
-    let Some(what) = what else {
-        return Ok(Answer::NotHeld);
-    };
-    if ask.reclaim {
-        return Ok(Answer::NoGrace(parts.clock));
-    }
     let claim = asked_claim(&parts.names, ask, what);
-    decide_claim(alloc, parts, left, ask, &claim)
+    ask_claim(alloc, parts, left, ask, &claim)
 }
 
-/// The first of these ranges.
-fn first_range(ranges: &[(Extent, bool)]) -> Option<What>
-    ensures what { result ≡ asked_what (Ranges ranges.now) }
-    ensures posix { IsFitAct (Ranges ranges.now) → IfSome result (λ w. IsPosixBy w) }
+/// The range, where there is one alone.
+fn only_range(ranges: &[(Extent, bool)]) -> Option<What>
+    requires { IsFitAct (Ranges ranges.now) }
+    ensures one { IfSome result (λ what. (asked_whats (Ranges ranges.now) ≡ what ∷ []) × IsPosixBy what) }
+    ensures none { result ≡ None → asked_whats (Ranges ranges.now) ≡ [] }
 {
-    match ranges.first() {
-        Some((extent, exclusive)) => Some(What::Range(*extent, *exclusive)),
-        None => None,
+    match ranges {
+        [(extent, exclusive)] => Some(What::Range(*extent, *exclusive)),
+        _ => None,
+    }
+}
+
+/// Answers an ask for ranges.
+fn ask_ranges(
+    alloc: Global,
+    parts: &mut Parts,
+    left: &Rooms,
+    ask: &Ask,
+    ranges: &[(Extent, bool)],
+) -> Result<Answer, AllocError>
+    requires fit { IsFitAct (Ranges ranges.now) }
+    requires client { is_client ask.now.owner ask.now.party ≡ true }
+    requires good { IsGood (state_of parts.old) }
+    requires numbers { parts.old.counter + 65536 < 2 ^ 32 }
+    ensures answer { (n : ℕ) → IfOk result (λ answer. claims_asked n left.now (state_of parts.old) ask.now (asked_claims ask.now (asked_whats (Ranges ranges.now)) parts.old.names) ≡ (answer, [], state_of parts.new)) }
+    ensures made { parts.new.made ≡ parts.old.made }
+    ensures failed { parts.new.failed ≡ parts.old.failed }
+{
+    match only_range(ranges) {
+        Some(what) => ask_for(alloc, parts, left, ask, what),
+        None => Ok(Answer::NotHeld),
     }
 }
 
 /// Answers an ask.
-#[tactic(auto, unfolding(crate::specs::Decide::ask), using(crate::proofs::TurnLaws::known_alone))]
+#[tactic(auto, unfolding(crate::specs::Decide::ask))]
 pub(crate) fn answer(
     alloc: Global,
     parts: &mut Parts,
@@ -298,20 +229,16 @@ pub(crate) fn answer(
 ) -> Result<Answer, AllocError>
     requires fit { IsFit request.now }
     requires good { IsGood (state_of parts.old) }
-    requires room { parts.old.counter + 65536 < 2 ^ 32 }
+    requires numbers { parts.old.counter + 65536 < 2 ^ 32 }
     ensures answer { (n : ℕ) → IfOk result (λ answer. ask n left.now (state_of parts.old) request.now ≡ (answer, [], state_of parts.new)) }
     ensures made { parts.new.made ≡ parts.old.made }
     ensures failed { parts.new.failed ≡ parts.old.failed }
 {
     match &request.act {
         Act::Share(access, deny) => {
-            let what = Some(What::Share(*access, *deny));
-            claim(alloc, parts, left, request, what)
+            ask_for(alloc, parts, left, request, What::Share(*access, *deny))
         }
-        Act::Ranges(ranges) => {
-            let what = first_range(ranges.as_slice());
-            claim(alloc, parts, left, request, what)
-        }
+        Act::Ranges(ranges) => ask_ranges(alloc, parts, left, request, ranges.as_slice()),
         Act::Test(extent, exclusive) => {
             let claim = known_claim(&parts.names, request, *extent, *exclusive);
             test(alloc, parts, request, &claim)

@@ -89,7 +89,7 @@ impl Core {
 
     /// Answers an ask, where this room is left in the tables of the fronts, and tells what happened besides. At least
     /// 65,536 numbers must be left to give out. No ask stores the record yet.
-    #[tactic(auto, using(crate::proofs::TurnLaws::ask_keeps))]
+    #[tactic(auto, using(crate::proofs::DoorLaws::ask_keeps))]
     pub fn ask<K: Keeper>(
         &mut self,
         alloc: Global,
@@ -110,8 +110,8 @@ impl Core {
     }
 
     /// One turn: serves the first waiter that nothing blocks, and tells so. None comes exactly where each of them is
-    /// blocked; then nothing changed.
-    #[tactic(auto, using(crate::proofs::TurnLaws::settle_keeps))]
+    /// blocked; then nothing changed. At least 65,536 numbers must be left to give out.
+    #[tactic(auto, using(crate::proofs::DoorLaws::settle_keeps))]
     pub fn settle<K: Keeper>(
         &mut self,
         alloc: Global,
@@ -119,6 +119,7 @@ impl Core {
         left: &Rooms,
     ) -> Result<Option<Sequence<Effect>>, AllocError>
         requires good { IsGood self.old }
+        requires numbers { self.old.counter + 65536 < 2 ^ 32 }
         ensures state { (n : ℕ) → IfOk result (λ r. MayBe n self.new → settle n left.now self.old ≡ option_map (λ effects. (effects, self.new)) r) }
         ensures none { result ≡ Ok None → self.new ≡ self.old }
         ensures on { OnOk result (GoesOn self.old self.new) }

@@ -12,20 +12,23 @@ ghost use Rattle.xl_matrix.specs.declared.claim.Extent.{Extent};
 ghost use Rattle.xl_matrix.specs.declared.claim.Rwd.{Rwd};
 ghost use Rattle.xl_matrix.specs.declared.claim.What.{What};
 ghost use Rattle.xl_table.specs.Flat.{removed};
-ghost use Rattle.xl_core.specs.Relock.{shares_of};
+ghost use Rattle.xl_table.specs.Least.{range_before, least};
+ghost use Rattle.xl_table.specs.Flat.{is_blocked};
+ghost use Rattle.xl_table.specs.Relock.{with_share, shares_of, old_shares, unites, united_by};
 ghost use Rattle.xl_names.specs.declared.name.Name.{Name};
 ghost use Rattle.xl_spans.specs.Spans.{relocked};
 ghost use Rattle.xl_table.specs.Held.{mode_of, spans_of};
-ghost use Rattle.xl_wait.specs.Waiting.{cancelled};
+ghost use Rattle.xl_wait.specs.Waiting.{is_waiting, cancelled};
 ghost use Rattle.xl_wait.specs.declared.waiter.Rooms.{Rooms};
 ghost use Rattle.xl_wait.specs.declared.waiter.Waiter.{Waiter};
 ghost use Rattle.xl_core.specs.State.{CoreState, started, step_begun, drawn};
-ghost use Rattle.xl_core.specs.Asking.{asker, asked_what, asked_claim, known_claim, IsFit};
-ghost use Rattle.xl_core.specs.Blockers.{range_before, least};
-ghost use Rattle.xl_core.specs.Causes.{IsRoom, limits_of_grant, IsClaimDue, IsTestDue, IsUnlockDue, IsTurn, IsOwn};
+ghost use Rattle.xl_core.specs.Asking.{asker, asked_whats, asked_what, asked_claim, asked_claims, known_claim, IsFit};
+ghost use Rattle.xl_core.specs.Causes.{IsSameAsker, IsConflict, limits_of_grant, IsClaimDue, IsTestDue, IsUnlockDue, IsTurn, IsOwn};
 ghost use Rattle.xl_core.specs.Decide.{waiter_of, ask};
-ghost use Rattle.xl_core.specs.Good.{IsGood, is_blocked, IsSettled};
-ghost use Rattle.xl_core.specs.Settle.{settle, waits_for, cancel, give_back, end_party};
+ghost use Rattle.xl_core.specs.Frames.{drawn_by, names_after, come_by, IsFrame};
+ghost use Rattle.xl_core.specs.Good.{IsGood, IsSettled};
+ghost use Rattle.xl_core.specs.Limits.{IsRoom};
+ghost use Rattle.xl_core.specs.Settle.{settle, AllRest, waits_for, cancel, give_back, end_party};
 ghost use Rattle.xl_core.specs.declared.ask.Act.{Act};
 ghost use Rattle.xl_core.specs.declared.ask.Answer.{Answer};
 ghost use Rattle.xl_core.specs.declared.ask.Ask.{Ask};
@@ -47,18 +50,20 @@ pub fn stays_good()
 /// several limits the least is told. Of the claims that block an ask the one that is told is held, and none of the
 /// others comes before it.
 pub fn answers_have_causes()
-    ensures claims { (n : ℕ) (left : Rooms) (s : CoreState) (a : Ask) (what : What) (answer : Answer) → IsFit a → asked_what a.act ≡ Some what → ((ask n left s a).0 ≡ answer) ↔ IsClaimDue left s a (asked_claim a what s.names) answer }
+    ensures claims { (n : ℕ) (left : Rooms) (s : CoreState) (a : Ask) (what : What) (answer : Answer) → asked_what a.act ≡ Some what → ((ask n left s a).0 ≡ answer) ↔ IsClaimDue left s a (asked_claim a what s.names) answer }
     ensures tests { (n : ℕ) (left : Rooms) (s : CoreState) (a : Ask) (extent : Extent) (exclusive : Bool) (answer : Answer) → a.act ≡ Act.Test extent exclusive → ((ask n left s a).0 ≡ answer) ↔ IsTestDue s a (known_claim a extent exclusive s.names) answer }
     ensures unlocks { (n : ℕ) (left : Rooms) (s : CoreState) (a : Ask) (first last : ℕ) (answer : Answer) → IsGood s → IsFit a → a.act ≡ Act.Unlock (Extent.Bytes first last) → ((ask n left s a).0 ≡ answer) ↔ IsUnlockDue s (known_claim a (Extent.Bytes first last) false s.names) first last answer }
     ensures least { (names : List Name) (claims : List Claim) (c : Claim) → least names claims ≡ Some c → IsIn c claims × AllByRecursion (λ d. range_before names d c ≡ false) claims }
 {}
 
 /// A share or a lock that is no reclaim, that nothing held blocks and that passes no limit is granted. What is granted is
-/// held then, whatever the owner had in the range before, or shared; what is unlocked no more.
+/// held then, whatever the owner had in the range before, or shared, united with the share that an NFSv4 owner had; what is
+/// unlocked no more.
 pub fn free_asks_are_granted()
-    ensures granted { (n : ℕ) (left : Rooms) (s : CoreState) (a : Ask) (what : What) → IsFit a → asked_what a.act ≡ Some what → a.reclaim ≡ false → is_blocked s.claims (asked_claim a what s.names) ≡ false → IsRoom (limits_of_grant left s a (asked_claim a what s.names)) → (ask n left s a).0 ≡ Answer.Granted (asked_claim a what s.names) }
+    ensures granted { (n : ℕ) (left : Rooms) (s : CoreState) (a : Ask) (what : What) → asked_what a.act ≡ Some what → a.reclaim ≡ false → is_blocked s.claims (asked_claim a what s.names) ≡ false → IsRoom (limits_of_grant left s a (asked_claim a what s.names)) → (ask n left s a).0 ≡ Answer.Granted (asked_claim a what s.names) }
     ensures held { (n : ℕ) (left : Rooms) (s : CoreState) (a : Ask) (first last : ℕ) (exclusive : Bool) (c : Claim) → IsGood s → IsFit a → a.act ≡ Act.Ranges ((Extent.Bytes first last, exclusive) ∷ []) → (ask n left s a).0 ≡ Answer.Granted c → spans_of a.file (asker a s.names) (ask n left s a).2.claims ≡ relocked (spans_of a.file (asker a s.names) s.claims) first last (Some (mode_of exclusive)) }
-    ensures shared { (n : ℕ) (left : Rooms) (s : CoreState) (a : Ask) (access deny : Rwd) (c : Claim) → IsFit a → a.act ≡ Act.Share access deny → (ask n left s a).0 ≡ Answer.Granted c → shares_of a.file (asker a s.names) (ask n left s a).2.claims ≡ (access, deny) ∷ [] }
+    ensures shared { (n : ℕ) (left : Rooms) (s : CoreState) (a : Ask) (access deny : Rwd) (c : Claim) → IsGood s → IsFit a → unites (asker a s.names) ≡ false → a.act ≡ Act.Share access deny → (ask n left s a).0 ≡ Answer.Granted c → shares_of a.file (asker a s.names) (ask n left s a).2.claims ≡ (access, deny) ∷ [] }
+    ensures united { (n : ℕ) (left : Rooms) (s : CoreState) (a : Ask) (access deny : Rwd) (c : Claim) → IsGood s → IsFit a → a.act ≡ Act.Share access deny → (ask n left s a).0 ≡ Answer.Granted c → shares_of a.file (asker a s.names) (ask n left s a).2.claims ≡ with_share (united_by (asker a s.names) (What.Share access deny) (old_shares a.file (asker a s.names) s.claims)) [] }
     ensures given_up { (n : ℕ) (left : Rooms) (s : CoreState) (a : Ask) (first last : ℕ) (c : Claim) → IsGood s → IsFit a → a.act ≡ Act.Unlock (Extent.Bytes first last) → (ask n left s a).0 ≡ Answer.Granted c → spans_of a.file (asker a s.names) (ask n left s a).2.claims ≡ relocked (spans_of a.file (asker a s.names) s.claims) first last None }
 {}
 
@@ -71,12 +76,14 @@ pub fn nothing_else_changes()
 {}
 
 /// An asker that is told to wait stands at the end of the queue, under the number that it is told. There is no turn
-/// exactly where each waiter is blocked. A turn is that of the first waiter that nothing held blocks:
+/// exactly where each waiter, judged behind those before it, waits on with nothing begun or changed; and that is where
+/// something held stands in the way of each. A turn is that of the first waiter that nothing held blocks:
 /// it has what it asked for, or is told the least limit that this would pass, and waits no more; all others wait on,
 /// and have what they had. So turns end, with nobody left whom nothing blocks.
 pub fn nobody_is_forgotten()
-    ensures waits { (n : ℕ) (left : Rooms) (s : CoreState) (a : Ask) (what : What) (number : ℕ) → asked_what a.act ≡ Some what → (ask n left s a).0 ≡ Answer.Queued number → (ask n left s a).2.waiters ≡ s.waiters ++ waiter_of number a (asked_claim a what s.names) ∷ [] }
-    ensures settled { (n : ℕ) (left : Rooms) (s : CoreState) → (settle n left s ≡ None) ↔ IsSettled s }
+    ensures waits { (n : ℕ) (left : Rooms) (s : CoreState) (a : Ask) (number : ℕ) → IsGood s → IsFit a → (ask n left s a).0 ≡ Answer.Queued number → (ask n left s a).2.waiters ≡ s.waiters ++ waiter_of number a (asked_claims a (asked_whats a.act) s.names) ∷ [] }
+    ensures settled { (n : ℕ) (left : Rooms) (s : CoreState) → (settle n left s ≡ None) ↔ AllRest n left s [] s.waiters }
+    ensures blocked { (n : ℕ) (left : Rooms) (s : CoreState) → IsGood s → AllRest n left s [] s.waiters ↔ IsSettled s }
     ensures turns { (n : ℕ) (left : Rooms) (s : CoreState) → IsGood s → IfSome (settle n left s) (λ r. IsTurn left s r.0 r.1) }
     ensures fewer { (n : ℕ) (left : Rooms) (s : CoreState) → IsGood s → IfSome (settle n left s) (λ r. length r.1.waiters + 1 ≡ length s.waiters) }
 {}
@@ -88,4 +95,28 @@ pub fn only_a_party_leaves()
     ensures given_back { (s : CoreState) (claim : Claim) → ((give_back s claim).1.claims ≡ removed claim s.claims) × ((give_back s claim).1.waiters ≡ s.waiters) }
     ensures claims { (s : CoreState) (party : Party) (c : Claim) → IsIn c (end_party s party).1.claims ↔ (IsIn c s.claims × (same_parties c.party party ≡ false)) }
     ensures waiters { (s : CoreState) (party : Party) (w : Waiter) → IsIn w (end_party s party).1.waiters ↔ (IsIn w s.waiters × (waits_for party w ≡ false)) }
+{}
+
+/// What each call leaves alone, what it may raise, and who leaves the queue by it (see `IsFrame`): an ask that is told to
+/// wait draws one number and comes to wait, one that is granted what it is to hold or waits has its names kept, and nobody
+/// leaves; of a turn, a cancel and a party's end those leave who are told of, each once; nothing else comes or goes.
+pub fn calls_have_frames()
+    ensures asks { (n : ℕ) (left : Rooms) (s : CoreState) (a : Ask) → IsGood s → IsFit a → IsFrame s (ask n left s a).1 (ask n left s a).2 (drawn_by (ask n left s a).0) (names_after a (ask n left s a).0 s.names) (come_by a (ask n left s a).0 s.names) }
+    ensures tells { (n : ℕ) (left : Rooms) (s : CoreState) (a : Ask) → IsGood s → IsFit a → (ask n left s a).1 ≡ [] }
+    ensures turns { (n : ℕ) (left : Rooms) (s : CoreState) → IsGood s → IfSome (settle n left s) (λ r. IsFrame s r.0 r.1 0 s.names []) }
+    ensures cancels { (s : CoreState) (id : ℕ) → is_waiting id s.waiters ≡ true → IsFrame s (cancel s id).0 (cancel s id).1 0 s.names [] }
+    ensures gives_back { (s : CoreState) (claim : Claim) → IsFrame s (give_back s claim).0 (give_back s claim).1 0 s.names [] }
+    ensures ends { (s : CoreState) (party : Party) → IsGood s → IsFrame s (end_party s party).0 (end_party s party).1 0 s.names [] }
+    ensures draws { (s : CoreState) → IsFrame s [] (drawn s) 1 s.names [] }
+{}
+
+/// A test foretells the lock: it is denied exactly where the same lock of the same asker, not blocking, would meet a
+/// conflict.
+pub fn a_test_foretells()
+    ensures { (n : ℕ) (left : Rooms) (s : CoreState) (test lock : Ask) (first last : ℕ) (exclusive : Bool) → IsGood s → IsFit lock → IsSameAsker test lock → test.act ≡ Act.Test (Extent.Bytes first last) exclusive → lock.act ≡ Act.Ranges ((Extent.Bytes first last, exclusive) ∷ []) → lock.blocking ≡ false → IsConflict (ask n left s test).0 ↔ IsConflict (ask n left s lock).0 }
+{}
+
+/// A granted ask leaves the record, the clock and the last number that was given out.
+pub fn a_grant_leaves_the_clock()
+    ensures { (n : ℕ) (left : Rooms) (s : CoreState) (a : Ask) (c : Claim) → IsGood s → IsFit a → (ask n left s a).0 ≡ Answer.Granted c → ((ask n left s a).2.clock ≡ s.clock) × ((ask n left s a).2.stable ≡ s.stable) × ((ask n left s a).2.counter ≡ s.counter) }
 {}

@@ -9,7 +9,6 @@ ghost use Rattle.xl_core.specs.Whole.{state_of};
 
 use crate::ask::Effect;
 use crate::parts::Parts;
-use crate::relock::take_out;
 use std::alloc::{AllocError, Global};
 use xl_base::{Party, Sequence};
 use xl_matrix::{Claim, same_party};
@@ -83,7 +82,7 @@ fn cancel_all(queue: &mut Queue, numbers: &[u32])
 }
 
 /// Takes out all claims and waiters of a party.
-#[tactic(auto, unfolding(crate::specs::Settle::end_party), using(crate::proofs::WriteBack::all_removed_is, crate::proofs::TurnLaws::all_out))]
+#[tactic(auto, unfolding(crate::specs::Settle::end_party), using(crate::proofs::SettleLaws::all_out))]
 pub(crate) fn end_party(
     alloc: Global,
     parts: &mut Parts,
@@ -92,10 +91,9 @@ pub(crate) fn end_party(
     requires good { IsGood (state_of parts.old) }
     ensures { IfOk result (λ effects. end_party (state_of parts.old) party ≡ (effects, state_of parts.new)) }
 {
-    let claims = parts.table.of_party(alloc, party)?;
     let numbers = numbers_for(alloc, party, parts.queue.waiters())?;
     let effects = told(alloc, &numbers)?;
-    take_out(&mut parts.table, &claims);
+    parts.table.remove_party(party);
     cancel_all(&mut parts.queue, &numbers);
     Ok(effects)
 }

@@ -4,15 +4,16 @@
 
 mod ask;
 mod asking;
-mod blocking;
 mod decide;
 pub mod deeds;
 mod doors;
+mod judge;
 pub mod law;
 mod leaving;
+mod limits;
 mod parts;
-mod relock;
 mod settling;
 
 pub use ask::{Act, Answer, Ask, Effect, Who};
 pub use doors::Core;
+pub use limits::{MOST_HOSTS, MOST_OPENS, MOST_OWNERS};

@@ -1,16 +1,13 @@
 //! Whose turn comes, and what it gets.
-ghost use Rattle.std.specs.Prelude.{◌≡◌, ℕ, true, List, [], Option, Some, None, Ok, option_map, IfOk, IfSome};
-ghost use Rattle.std.specs.List.{AllByRecursion, slice_get};
-ghost use Rattle.xl_table.specs.Held.{has_one_party};
+ghost use Rattle.std.specs.Prelude.{◌≡◌, ℕ, [], ◌∷◌, Ok, None, option_map, IfOk};
 ghost use Rattle.xl_wait.specs.declared.waiter.Waiter.{Waiter};
-ghost use Rattle.xl_core.specs.Good.{IsPosix, IsWaiter, IsGood};
-ghost use Rattle.xl_core.specs.Settle.{turn_by, turn_of, next_turn, first_turn, served, settle};
+ghost use Rattle.xl_core.specs.Good.{IsGood};
+ghost use Rattle.xl_core.specs.Settle.{plea_again, turned, settle, called_by, first_called};
 ghost use Rattle.xl_core.specs.Whole.{state_of};
 
 use crate::ask::{Answer, Effect};
-use crate::decide::{Verdict, decide};
+use crate::judge::{Plea, Ruling, judge};
 use crate::parts::Parts;
-use crate::relock::grant;
 use std::alloc::{AllocError, Global};
 use xl_base::Sequence;
 use xl_matrix::Claim;
@@ -18,107 +15,84 @@ use xl_wait::{Rooms, Waiter};
 
 /// A waiter whose turn has come.
 #[derive(Clone, Copy)]
-pub(crate) struct Turn {
+pub(crate) struct Called {
     /// The waiter's number.
     pub id: u32,
     /// The claim that it asks for.
     pub claim: Claim,
-    /// The limit that its grant would pass, if it passes one.
-    pub full: Option<u32>,
+    /// What it pleads.
+    pub plea: Plea,
 }
 
-fn turn_by(
-    alloc: Global,
-    parts: &Parts,
-    left: &Rooms,
-    waiter: &Waiter,
-    claim: Option<Claim>,
-) -> Result<Option<Turn>, AllocError>
-    requires { IfSome claim (λ c. IsPosix c) }
-    ensures { (n : ℕ) (earlier : List Waiter) → IfOk result (λ t. t ≡ turn_by n left.now (state_of parts.now) earlier waiter.now claim) }
+/// What a waiter pleads.
+#[tactic(auto, unfolding(crate::specs::Settle::plea_again))]
+fn plea_again(parts: &Parts, waiter: &Waiter) -> Plea
+    ensures { result ≡ plea_again (state_of parts.now) waiter.now }
 {
-    let Some(claim) = claim else {
-        return Ok(None);
-    };
-    let full = match decide(alloc, parts, left, &waiter.rows, true, &claim)? {
-        Verdict::Blocked(_) => return Ok(None),
-        Verdict::Full(limit) => Some(limit),
-        Verdict::Free => None,
-    };
-    Ok(Some(Turn {
-        id: waiter.id,
-        claim,
-        full,
-    }))
+    Plea {
+        blocking: waiter.blocking,
+        reclaim: false,
+        rows: waiter.rows,
+        kept: parts.names.as_slice().len(),
+        crowded: None,
+    }
 }
 
-/// The waiter's turn, where nothing blocks it.
-#[tactic(auto, unfolding(crate::specs::Settle::turn_of), using(crate::proofs::TurnLaws::first_is_posix))]
-fn turn_of(
-    alloc: Global,
-    parts: &Parts,
-    left: &Rooms,
-    waiter: &Waiter,
-) -> Result<Option<Turn>, AllocError>
-    requires { IsWaiter parts.now.names parts.now.counter waiter.now }
-    ensures { (n : ℕ) (earlier : List Waiter) → IfOk result (λ t. t ≡ turn_of n left.now (state_of parts.now) earlier waiter.now) }
+/// The waiter, where nothing held blocks it.
+fn called_by(parts: &Parts, waiter: &Waiter) -> Option<Called>
+    ensures { result ≡ called_by (state_of parts.now) waiter.now waiter.now.asked }
 {
-    let first = waiter.asked.as_slice().first().copied();
-    turn_by(alloc, parts, left, waiter, first)
+    match waiter.asked.as_slice() {
+        [claim] => {
+            if parts.table.is_blocked(claim) {
+                return None;
+            }
+            Some(Called {
+                id: waiter.id,
+                claim: *claim,
+                plea: plea_again(parts, waiter),
+            })
+        }
+        _ => None,
+    }
 }
 
-/// The turn of the first of these that has one.
-fn next_turn(
-    alloc: Global,
-    parts: &Parts,
-    left: &Rooms,
-    waiters: &[Waiter],
-) -> Result<Option<Turn>, AllocError>
-    requires { AllByRecursion (IsWaiter parts.now.names parts.now.counter) waiters.now }
-    ensures { IfOk result (λ t. t ≡ next_turn left.now (state_of parts.now) waiters.now) }
+/// The first of these that nothing held blocks.
+fn first_called(parts: &Parts, waiters: &[Waiter]) -> Option<Called>
+    ensures { result ≡ first_called (state_of parts.now) waiters.now }
 {
     for waiter in waiters {
-        if let Some(turn) = turn_of(alloc, parts, left, waiter)? {
-            return Ok(Some(turn));
+        if let Some(called) = called_by(parts, waiter) {
+            return Some(called);
         }
     }
-    Ok(None)
+    None
 }
 
-/// The turn of the first waiter that has one.
-#[tactic(auto, using(crate::proofs::TurnLaws::next_is_first))]
-fn first_turn(alloc: Global, parts: &Parts, left: &Rooms) -> Result<Option<Turn>, AllocError>
-    requires { AllByRecursion (IsWaiter parts.now.names parts.now.counter) parts.now.queue }
-    ensures { (n : ℕ) → IfOk result (λ t. t ≡ first_turn n left.now (state_of parts.now) [] parts.now.queue) }
-{
-    let turn = next_turn(alloc, parts, left, parts.queue.waiters())?;
-    Ok(turn)
-}
-
-/// Takes the waiter out, and gives it what it asked for where there is room.
-#[tactic(auto, unfolding(crate::specs::Settle::served))]
-fn serve(alloc: Global, parts: &mut Parts, turn: &Turn) -> Result<Sequence<Effect>, AllocError>
-    requires posix { IsPosix turn.now.claim }
-    requires party { AllByRecursion (λ c. has_one_party turn.now.claim c ≡ true) parts.old.table }
-    ensures served { IfOk result (λ effects. served (state_of parts.old) turn.now ≡ (effects, state_of parts.new)) }
+/// Takes the waiter out and tells what was ruled, unless it waits on.
+fn serve(
+    alloc: Global,
+    parts: &mut Parts,
+    called: &Called,
+    ruling: Ruling,
+) -> Result<Sequence<Effect>, AllocError>
+    ensures turned { (w : Waiter) → w.id ≡ called.now.id → w.asked ≡ called.now.claim ∷ [] → IfOk result (λ effects. turned w ruling [] (state_of parts.old) ≡ (effects, state_of parts.new)) }
     ensures made { parts.new.made ≡ parts.old.made }
     ensures failed { parts.new.failed ≡ parts.old.failed }
 {
-    let answer = match turn.full {
-        Some(limit) => Answer::Full(limit),
-        None => {
-            grant(alloc, &mut parts.table, &turn.claim)?;
-            Answer::Granted(turn.claim)
-        }
-    };
-    parts.queue.cancel(turn.id);
     let mut effects = Sequence::new(alloc);
-    effects.push(Effect::Served(turn.id, answer))?;
+    let answer = match ruling {
+        Ruling::Gets => Answer::Granted(called.claim),
+        Ruling::Waits => return Ok(effects),
+        Ruling::Told(answer) => answer,
+    };
+    parts.queue.cancel(called.id);
+    effects.push(Effect::Served(called.id, answer))?;
     Ok(effects)
 }
 
 /// One turn, where a waiter has one.
-#[tactic(auto, unfolding(crate::specs::Settle::settle), using(crate::proofs::TurnLaws::turn_is_posix, crate::proofs::TurnLaws::turn_has_one_party))]
+#[tactic(auto, unfolding(crate::specs::Settle::settle))]
 pub(crate) fn settle(
     alloc: Global,
     parts: &mut Parts,
@@ -130,8 +104,9 @@ pub(crate) fn settle(
     ensures made { parts.new.made ≡ parts.old.made }
     ensures failed { parts.new.failed ≡ parts.old.failed }
 {
-    let Some(turn) = first_turn(alloc, parts, left)? else {
+    let Some(called) = first_called(parts, parts.queue.waiters()) else {
         return Ok(None);
     };
-    Ok(Some(serve(alloc, parts, &turn)?))
+    let ruling = judge(alloc, parts, left, &called.plea, &called.claim)?;
+    Ok(Some(serve(alloc, parts, &called, ruling)?))
 }

@@ -19,7 +19,8 @@ use Rattle.xl_wait.specs.declared.waiter.Waiter.{Waiter}
 use Rattle.xl_core.specs.State.{CoreState}
 use Rattle.xl_core.specs.Deeds.{Deed, Asks, GivesBack, Cancels, Ends, given, all_done, all_told_of, with_answer, answers_of, IsFitDeed, AreFit}
 use Rattle.xl_core.specs.Good.{IsGood}
-use Rattle.xl_core.specs.Relock.{is_share, is_share_of}
+use Rattle.xl_table.specs.Relock.{is_share_of}
+use Rattle.xl_table.specs.Held.{is_share}
 use Rattle.xl_table.specs.Held.{is_of}
 use Rattle.xl_core.specs.declared.ask.Answer.{Answer}
 use Rattle.xl_core.proofs.DeedLeaves.{found_in}

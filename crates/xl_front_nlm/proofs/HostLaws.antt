@@ -6,7 +6,7 @@ use Rattle.std.proofs.lemmas.Bool.{cases_Bool, or_parts, false_from_ne_true, tru
 use Rattle.std.proofs.lemmas.List.{length-append}
 use Rattle.xl_base.proofs.Members.{all_append}
 use Rattle.xl_base.specs.Lists.{Pairwise}
-use Rattle.xl_core.specs.Decide.{most_hosts}
+use Rattle.xl_core.specs.Limits.{most_hosts}
 use Rattle.xl_front_nlm.specs.Hosts.{is_host, host_entered, are_apart, AreHosts}
 
 apart : (h caller : List ℕ) → bytes_eq caller h ≡ false → are_apart h caller ≡ true

@@ -9,6 +9,7 @@ use Rattle.xl_wait.specs.Waiting.{cancelled}
 use Rattle.xl_wait.specs.declared.waiter.Waiter.{Waiter}
 use Rattle.xl_core.specs.State.{CoreState, GoesOn, drawn}
 use Rattle.xl_core.specs.Settle.{waits_for, cancel, give_back, end_party}
+use Rattle.xl_core.specs.Asking.{IsFit}
 use Rattle.xl_core.specs.Decide.{ask}
 use Rattle.xl_core.specs.Good.{IsGood}
 use Rattle.xl_core.specs.declared.ask.Answer.{Answer}
@@ -86,5 +87,5 @@ drawn_by s ready good = record { on = record { made = omega arith; failed = λ f
 pub drawn_leaves : (s new : CoreState) → new ≡ drawn s → IsReady s → IsGood new → Leaves s new
 drawn_leaves s new e ready good = subst (λ (t : CoreState). Leaves s t) (sym e) (drawn_by s ready (subst (λ (t : CoreState). IsGood t) e good))
 
-pub ask_leaves : (n : ℕ) (left : Rooms) (s new : CoreState) (a : Ask) (answer : Answer) (effects : List Effect) → ask n left s a ≡ (answer, effects, new) → GoesOn s new → IsReady s → IsGood new → IsShortAsk a → Leaves s new
-ask_leaves n left s new a answer effects e on ready good small = record { on = on; good = good; grows = ask_grows n left s new a answer effects e ready.short small }
+pub ask_leaves : (n : ℕ) (left : Rooms) (s new : CoreState) (a : Ask) (answer : Answer) (effects : List Effect) → ask n left s a ≡ (answer, effects, new) → GoesOn s new → IsFit a → IsReady s → IsGood new → IsShortAsk a → Leaves s new
+ask_leaves n left s new a answer effects e on fit ready good small = record { on = on; good = good; grows = ask_grows n left s new a answer effects e fit ready small }

@@ -24,12 +24,13 @@ use Rattle.xl_wait.specs.declared.waiter.Waiter.{Waiter}
 use Rattle.xl_core.proofs.DeedClients.{party_of_owner}
 use Rattle.xl_core.proofs.DeedLeaves.{found_in}
 use Rattle.xl_core.proofs.GoodLaws.{waiter_known}
-use Rattle.xl_core.proofs.WriteBack.{is_of-true}
+use Rattle.xl_table.proofs.WriteBack.{is_of-true}
 use Rattle.xl_core.specs.Asking.{client_of as belongs_to}
 use Rattle.xl_core.specs.Clients.{party_named, IsOf, AreOf, AreOfSome}
 use Rattle.xl_core.specs.Deeds.{Deed, GivesBack, Cancels, Ends}
 use Rattle.xl_core.specs.Good.{are_kept, IsKnown, IsGood}
-use Rattle.xl_core.specs.Relock.{is_share, is_share_of}
+use Rattle.xl_table.specs.Relock.{is_share_of}
+use Rattle.xl_table.specs.Held.{is_share}
 use Rattle.xl_core.specs.State.{CoreState}
 use Rattle.xl_front_nlm.proofs.StandLaws.{that_waits}
 use Rattle.xl_front_nlm.specs.Aims.{exported, aimed}

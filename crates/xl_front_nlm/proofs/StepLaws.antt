@@ -1,5 +1,5 @@
 -- What an ask changes of the core.
-use Rattle.std.proofs.Common.{◌≡◌, ℕ, ◌+◌, ◌≤◌, ◌<◌, Bool, true, false, cond, List, [], ◌∷◌, ◌++◌, length, Option, Some, None, Result, Ok, refl, sym, ap, subst, ◌∙◌, inl, inr, arith}
+use Rattle.std.proofs.Common.{◌≡◌, ℕ, ◌+◌, ◌≤◌, ◌<◌, Bool, true, false, if◌then◌else◌, cond, List, [], ◌∷◌, ◌++◌, length, Option, Some, None, Result, Ok, refl, sym, ap, subst, ◌∙◌, inl, inr, arith}
 use Rattle.std.proofs.lemmas.Bool.{cases_Bool, false≢true}
 use Rattle.std.proofs.lemmas.Bool.Decides.{nat_tests}
 use Rattle.std.proofs.lemmas.List.{length-append}
@@ -13,19 +13,23 @@ use Rattle.xl_matrix.specs.declared.claim.What.TheVariants as whats
 use Rattle.xl_names.specs.Names.{is_kept}
 use Rattle.xl_names.specs.declared.name.Name.{Name}
 use Rattle.xl_wait.specs.declared.waiter.Rooms.{Rooms}
+use Rattle.xl_wait.specs.declared.waiter.Waiter.{Waiter}
 use Rattle.xl_core.specs.State.{CoreState, MayBe, GoesOn}
-use Rattle.xl_core.specs.Asking.{who_entered, both_entered, asked_what, asked_claim, known_claim, names_fit}
-use Rattle.xl_core.specs.Relock.{holds_byte, relock_fits, grant_fits}
-use Rattle.xl_core.specs.Blockers.{least, blockers}
-use Rattle.xl_core.specs.Decide.{passed_by_grant, passed_by_wait, decided, decide, queued, claim_answered, claim_decided, claim_asked, unlocked_bytes, unlocked, acted, ask, waiter_of}
-use Rattle.xl_core.specs.declared.ask.Act.{Act}
-use Rattle.xl_core.specs.declared.ask.Act.TheVariants.{Share, Ranges, Test, Unlock}
+use Rattle.xl_core.specs.Asking.{who_entered, both_entered, asked_claim, IsFit}
+use Rattle.xl_core.specs.Causes.{IsClaimDue}
+use Rattle.xl_core.specs.Decide.{ask}
+use Rattle.xl_core.specs.Frames.{who_left, IsFrame, drawn_by, asks_to_hold, names_after, come_by}
+use Rattle.xl_core.specs.Limits.{most_hosts}
+use Rattle.xl_core.specs.Settle.{all_cancelled}
+use Rattle.xl_core.proofs.CauseLaws.{lock_due}
+use Rattle.xl_core.proofs.FrameLaws.{ask_frame, ask_quiet}
+use Rattle.xl_core.proofs.LimitLaws.{grant_least, grant_room, wait_least, wait_room}
+use Rattle.xl_core.specs.declared.ask.Answer.TheVariants as answers
 use Rattle.xl_core.specs.declared.ask.Answer.{Answer}
 use Rattle.xl_core.specs.declared.ask.Ask.{Ask}
 use Rattle.xl_core.specs.declared.ask.Effect.{Effect}
 use Rattle.xl_core.specs.declared.ask.Who.{Who}
 use Rattle.xl_core.specs.declared.ask.Who.TheVariants.{Named, Open}
-use Rattle.xl_core.specs.Decide.{most_hosts}
 use Rattle.xl_nlm.specs.Items.{LockArgsItem, ShareArgsItem, CallItem}
 use Rattle.xl_rpc.specs.declared.fault.RpcBad.{RpcBad}
 use Rattle.xl_nlm.specs.Arguments.{arguments_at}
@@ -70,118 +74,67 @@ both_short a names short small = who_short a.party (who_entered a.owner names) (
 
 -- ---- an ask takes one number and one place in the queue at most
 
-queued_grows : (s : CoreState) (a : Ask) (claim : Claim) (passed : Option ℕ) → AreShort s.names → IsShortAsk a → Grows s (queued s a claim passed).2
-queued_grows s a claim (Some limit) short small = grows_self s short
-queued_grows s a claim None short small = record {
-  counter = omega arith;
-  waiters = omega (arith, length-append s.waiters (waiter_of (s.counter + 1) a claim ∷ []));
-  short = both_short a s.names short small;
-}
+-- what an answer draws, brings to the queue and leaves of the names
+small_by : (a : Ask) (names : List Name) (answer : Answer) → AreShort names → IsShortAsk a → (drawn_by answer ≤ 1) × (length (come_by a answer names) ≤ 1) × AreShort (names_after a answer names)
+small_by a names (answers.Granted c) short small = (omega arith, omega arith, either (asks_to_hold a.act)) where
+  either : (b : Bool) → AreShort (if b then both_entered a names else names)
+  either true = both_short a names short small
+  either false = short
+small_by a names (answers.Queued id) short small = (omega arith, omega arith, both_short a names short small)
+small_by a names (answers.Conflict c) short small = (omega arith, omega arith, short)
+small_by a names (answers.Recall c) short small = (omega arith, omega arith, short)
+small_by a names (answers.Grace until) short small = (omega arith, omega arith, short)
+small_by a names (answers.NoGrace clock) short small = (omega arith, omega arith, short)
+small_by a names answers.NotRecorded short small = (omega arith, omega arith, short)
+small_by a names (answers.Full limit) short small = (omega arith, omega arith, short)
+small_by a names answers.NotHeld short small = (omega arith, omega arith, short)
+small_by a names answers.StoreFailed short small = (omega arith, omega arith, short)
 
-choice_grows : (s : CoreState) (b : Bool) (x y : Answer × List Effect × CoreState) → Grows s x.2 → Grows s y.2 → Grows s (cond b x y).2
-choice_grows s true x y first second = first
-choice_grows s false x y first second = second
+framed_grows : (s new : CoreState) (a : Ask) (answer : Answer) (told : List Effect) → told ≡ [] → IsFrame s told new (drawn_by answer) (names_after a answer s.names) (come_by a answer s.names) → AreShort s.names → IsShortAsk a → Grows s new
+framed_grows s new a answer told quiet frame short small =
+    let by = small_by a s.names answer short small in
+    let queue : new.waiters ≡ s.waiters ++ come_by a answer s.names = frame.waiters ∙ ap (λ (x : List Effect). all_cancelled (who_left x) s.waiters ++ come_by a answer s.names) quiet in
+    record {
+      counter = omega (arith, frame.counter, by.0);
+      waiters = omega (arith, ap (λ (ws : List Waiter). length ws) queue, length-append s.waiters (come_by a answer s.names), by.1);
+      short = subst (λ (names : List Name). AreShort names) (sym frame.names) by.2;
+    }
 
-blocked_grows : (left : Rooms) (s : CoreState) (a : Ask) (claim c : Claim) (passed : Option ℕ) → AreShort s.names → IsShortAsk a → Grows s (claim_answered left s a claim (decided (Some c) passed)).2
-blocked_grows left s a claim c passed short small =
-    choice_grows s a.blocking _ _ (queued_grows s a claim (passed_by_wait left a.rows (length s.waiters) (names_fit a s.names)) short small) (grows_self s short)
-
-answered_grows : (left : Rooms) (s : CoreState) (a : Ask) (claim : Claim) (least : Option Claim) (passed : Option ℕ) → AreShort s.names → IsShortAsk a → Grows s (claim_answered left s a claim (decided least passed)).2
-answered_grows left s a claim (Some c) passed short small = blocked_grows left s a claim c passed short small
-answered_grows left s a claim None (Some limit) short small = grows_self s short
-answered_grows left s a claim None None short small = record { counter = omega arith; waiters = omega arith; short = both_short a s.names short small }
-
-claim_grows : (n : ℕ) (left : Rooms) (s : CoreState) (a : Ask) (claim : Claim) → AreShort s.names → IsShortAsk a → Grows s (claim_decided n left s a claim).2
-unfolding claim_decided decide
-claim_grows n left s a claim short small =
-    answered_grows left s a claim (least s.names (blockers s.waiters s claim)) (passed_by_grant left a.rows (grant_fits claim s.claims) (names_fit a s.names)) short small
-
-asked_grows : (n : ℕ) (left : Rooms) (s : CoreState) (a : Ask) (what : Option What) → AreShort s.names → IsShortAsk a → Grows s (claim_asked n left s a what).2
-asked_grows n left s a None short small = grows_self s short
-asked_grows n left s a (Some what) short small = choice_grows s a.reclaim _ _ (grows_self s short) (claim_grows n left s a (asked_claim a what s.names) short small)
-
-bytes_grow : (s : CoreState) (c : Claim) (first last : ℕ) → AreShort s.names → Grows s (unlocked_bytes s c first last).2
-bytes_grow s c first last short =
-    elim (cases_Bool (holds_byte c.file c.owner first last s.claims)) [
-      | inr e ↦ rw e (grows_self s short)
-      | inl e ↦
-          elim (cases_Bool (relock_fits c.file c.owner first last None s.claims)) [
-            | inr k ↦ rw (e, k) (grows_self s short)
-            | inl k ↦ rw (e, k) (record { counter = omega arith; waiters = omega arith; short = short })
-          ]
-    ]
-
-unlock_grows : (s : CoreState) (c : Claim) (extent : Extent) → AreShort s.names → Grows s (unlocked s c extent).2
-unfolding unlocked
-unlock_grows s c (Bytes first last) short = bytes_grow s c first last short
-unlock_grows s c (Empty offset) short = grows_self s short
-
-acted_grows : (n : ℕ) (left : Rooms) (s : CoreState) (a : Ask) (act : Act) → AreShort s.names → IsShortAsk a → Grows s (acted n left s a act).2
-acted_grows n left s a (Share access deny) short small = asked_grows n left s a (asked_what (Share access deny)) short small
-acted_grows n left s a (Ranges ranges) short small = asked_grows n left s a (asked_what (Ranges ranges)) short small
-acted_grows n left s a (Test extent exclusive) short small = grows_self s short
-acted_grows n left s a (Unlock extent) short small = unlock_grows s (known_claim a extent false s.names) extent short
-
-pub ask_grows : (n : ℕ) (left : Rooms) (s new : CoreState) (a : Ask) (answer : Answer) (effects : List Effect) → ask n left s a ≡ (answer, effects, new) → AreShort s.names → IsShortAsk a → Grows s new
-unfolding ask
-ask_grows n left s new a answer effects e short small =
-    subst (λ (t : CoreState). Grows s t) (ap (λ (r : Answer × List Effect × CoreState). r.2) e) (acted_grows n left s a a.act short small)
+pub ask_grows : (n : ℕ) (left : Rooms) (s new : CoreState) (a : Ask) (answer : Answer) (effects : List Effect) → ask n left s a ≡ (answer, effects, new) → IsFit a → IsReady s → IsShortAsk a → Grows s new
+ask_grows n left s new a answer effects e fit ready small =
+    let r = ask n left s a in
+    subst (λ (t : CoreState). Grows s t) (ap (λ (x : Answer × List Effect × CoreState). x.2) e)
+    (framed_grows s r.2 a r.0 r.1 (ask_quiet n left s a ready.good fit.party) (ask_frame n left s a ready.good fit.party) ready.short small)
 
 -- ---- a grant and a wait have room for their hosts
 
 abbrev HasRoom : Rooms → Rooms → Type 0
 HasRoom left rows = rows.hosts ≤ left.hosts
 
-grant_room : (left rows : Rooms) (claims names : Bool) → passed_by_grant left rows claims names ≡ None → HasRoom left rows
-unfolding passed_by_grant
-grant_room left rows claims names e = grind (arith, nat_tests)
-
-wait_room : (left rows : Rooms) (waiting : ℕ) (names : Bool) → passed_by_wait left rows waiting names ≡ None → HasRoom left rows
-unfolding passed_by_wait
-wait_room left rows waiting names e = grind (arith, nat_tests)
-
 -- where the answer makes its asker a host, there was room for the ask's rows
-abbrev HasRoomFor : Rooms → Ask → Answer → Type 0
-HasRoomFor left a answer = makes_host answer ≡ true → HasRoom left a.rows
+room_for : (left : Rooms) (s : CoreState) (a : Ask) (claim : Claim) (answer : Answer) → IsClaimDue left s a claim answer → makes_host answer ≡ true → HasRoom left a.rows
+room_for left s a claim (answers.Granted c) due makes = (grant_room left a.rows _ _ (grant_least left a.rows _ _ None due.3)).0
+room_for left s a claim (answers.Queued id) due makes = (wait_room left a.rows _ _ (wait_least left a.rows _ _ None due.4)).0
+room_for left s a claim (answers.Conflict c) due makes = absurd (false≢true makes)
+room_for left s a claim (answers.NoGrace clock) due makes = absurd (false≢true makes)
+room_for left s a claim (answers.Full limit) due makes = absurd (false≢true makes)
+room_for left s a claim (answers.Recall c) due makes = absurd due
+room_for left s a claim (answers.Grace until) due makes = absurd due
+room_for left s a claim answers.NotRecorded due makes = absurd due
+room_for left s a claim answers.NotHeld due makes = absurd due
+room_for left s a claim answers.StoreFailed due makes = absurd due
 
-queued_room : (left : Rooms) (s : CoreState) (a : Ask) (claim : Claim) (passed : Option ℕ) → (passed ≡ None → HasRoom left a.rows) → HasRoomFor left a (queued s a claim passed).0
-queued_room left s a claim (Some limit) room = λ made. absurd (false≢true made)
-queued_room left s a claim None room = λ _. room refl
+lock_has_room : (n : ℕ) (left rows : Rooms) (s : CoreState) (a : LockArgsItem) (at : Aim) → makes_host (ask n left s (lock_ask rows a at)).0 ≡ true → HasRoom left rows
+lock_has_room n left rows s a at makes =
+    let request = lock_ask rows a at in
+    let what = whats.Range (Bytes at.first at.last) a.exclusive in
+    room_for left s request (asked_claim request what s.names) (ask n left s request).0 ((lock_due n left s request what (ask n left s request).0 refl).0 refl) makes
 
-choice_room : (left : Rooms) (a : Ask) (b : Bool) (x y : Answer × List Effect × CoreState) → HasRoomFor left a x.0 → HasRoomFor left a y.0 → HasRoomFor left a (cond b x y).0
-choice_room left a true x y first second = first
-choice_room left a false x y first second = second
-
-blocked_room : (left : Rooms) (s : CoreState) (a : Ask) (claim c : Claim) (passed : Option ℕ) → HasRoomFor left a (claim_answered left s a claim (decided (Some c) passed)).0
-blocked_room left s a claim c passed =
-    choice_room left a a.blocking _ _
-    (queued_room left s a claim (passed_by_wait left a.rows (length s.waiters) (names_fit a s.names)) (wait_room left a.rows (length s.waiters) (names_fit a s.names)))
-    (λ made. absurd (false≢true made))
-
-answered_room : (left : Rooms) (s : CoreState) (a : Ask) (claim : Claim) (least : Option Claim) (passed : Option ℕ) → (passed ≡ None → HasRoom left a.rows) → HasRoomFor left a (claim_answered left s a claim (decided least passed)).0
-answered_room left s a claim (Some c) passed room = blocked_room left s a claim c passed
-answered_room left s a claim None (Some limit) room = λ made. absurd (false≢true made)
-answered_room left s a claim None None room = λ _. room refl
-
-claim_room : (n : ℕ) (left : Rooms) (s : CoreState) (a : Ask) (claim : Claim) → HasRoomFor left a (claim_decided n left s a claim).0
-unfolding claim_decided decide
-claim_room n left s a claim =
-    let names = names_fit a s.names in
-    let fits = grant_fits claim s.claims in
-    answered_room left s a claim (least s.names (blockers s.waiters s claim)) (passed_by_grant left a.rows fits names) (grant_room left a.rows fits names)
-
-asked_room : (n : ℕ) (left : Rooms) (s : CoreState) (a : Ask) (what : Option What) → HasRoomFor left a (claim_asked n left s a what).0
-asked_room n left s a None = λ made. absurd (false≢true made)
-asked_room n left s a (Some what) =
-    choice_room left a a.reclaim _ _ (λ made. absurd (false≢true made)) (claim_room n left s a (asked_claim a what s.names))
-
-lock_has_room : (n : ℕ) (left rows : Rooms) (s : CoreState) (a : LockArgsItem) (at : Aim) → HasRoomFor left (lock_ask rows a at) (ask n left s (lock_ask rows a at)).0
-unfolding ask
-lock_has_room n left rows s a at = asked_room n left s (lock_ask rows a at) (Some (whats.Range (Bytes at.first at.last) a.exclusive))
-
-share_has_room : (n : ℕ) (left rows : Rooms) (s : CoreState) (a : ShareArgsItem) (file : ℕ) → HasRoomFor left (share_ask rows a file) (ask n left s (share_ask rows a file)).0
-unfolding ask
-share_has_room n left rows s a file = asked_room n left s (share_ask rows a file) (Some (whats.Share (rights_of a.access) (rights_of a.mode)))
+share_has_room : (n : ℕ) (left rows : Rooms) (s : CoreState) (a : ShareArgsItem) (file : ℕ) → makes_host (ask n left s (share_ask rows a file)).0 ≡ true → HasRoom left rows
+share_has_room n left rows s a file makes =
+    let request = share_ask rows a file in
+    let what = whats.Share (rights_of a.access) (rights_of a.mode) in
+    room_for left s request (asked_claim request what s.names) (ask n left s request).0 ((lock_due n left s request what (ask n left s request).0 refl).0 refl) makes
 
 fresh_room : (caller : List ℕ) (hosts : List (List ℕ)) (rows : Rooms) → rows ≡ host_rows caller hosts → HasRoom (rooms hosts) rows → is_host caller hosts ≡ false → length hosts < most_hosts
 fresh_room caller hosts rows e room fresh =

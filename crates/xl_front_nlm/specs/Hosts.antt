@@ -3,7 +3,7 @@ use Rattle.std.specs.Prelude.{ℕ, ◌-◌, ◌≤◌, Bool, true, false, not, b
 use Rattle.std.specs.List.{list_any}
 use Rattle.xl_base.specs.Lists.{Pairwise}
 use Rattle.xl_wait.specs.declared.waiter.Rooms.{Rooms}
-use Rattle.xl_core.specs.Decide.{most_hosts, most_opens, most_owners}
+use Rattle.xl_core.specs.Limits.{most_hosts, most_opens, most_owners}
 use Rattle.xl_core.specs.declared.ask.Answer.{Answer}
 use Rattle.xl_core.specs.declared.ask.Answer.TheVariants.{Granted, Queued}
 

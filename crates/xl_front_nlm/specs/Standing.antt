@@ -12,7 +12,7 @@ use Rattle.xl_matrix.specs.declared.claim.What.TheVariants.{Range}
 use Rattle.xl_names.specs.Names.{number_of}
 use Rattle.xl_nlm.specs.Items.{LockItem, LockArgsItem, ShareArgsItem}
 use Rattle.xl_wait.specs.declared.waiter.Waiter.{Waiter}
-use Rattle.xl_core.specs.Relock.{is_share_of}
+use Rattle.xl_table.specs.Relock.{is_share_of}
 use Rattle.xl_core.specs.State.{CoreState}
 use Rattle.xl_front_nlm.specs.Asks.{owner_of, share_owner}
 use Rattle.xl_front_nlm.specs.declared.aim.Aim.{Aim}

@@ -1,7 +1,7 @@
 //! What the front keeps: its hosts, and the calls that await an answer.
 ghost use Rattle.std.specs.Prelude.{◌≡◌, ◌==◌, ◌≤◌, ◌<◌, [], ◌∷◌, ◌++◌, true, false, length, None, IfSome, OnOk, OnErr};
 ghost use Rattle.std.specs.List.{AllByRecursion, find};
-ghost use Rattle.xl_core.specs.Decide.{most_hosts};
+ghost use Rattle.xl_core.specs.Limits.{most_hosts};
 ghost use Rattle.xl_core.specs.Good.{IsRangeBy};
 ghost use Rattle.xl_front_nlm.specs.Hosts.{is_host, host_entered, AreHosts, rooms, host_rows, makes_host, hosts_after};
 ghost use Rattle.xl_front_nlm.specs.State.{empty_front, IsCall, IsFront, noted, awaited, without, taken};
@@ -11,17 +11,8 @@ use indexmap::IndexSet;
 use std::alloc::{AllocError, AllocFailed, Global};
 use std::marker::Model;
 use xl_base::Sequence;
-use xl_core::Answer;
+use xl_core::{Answer, MOST_HOSTS, MOST_OPENS, MOST_OWNERS};
 use xl_wait::Rooms;
-
-/// How many hosts there are at most.
-pub const MOST_HOSTS: u32 = 256;
-
-/// How many owners of opens and locks the NFSv4 front has room for.
-const OWNERS: u32 = 8_192;
-
-/// How many opens the NFSv4 and SMB fronts have room for together.
-const OPENS: u32 = 4_096;
 
 /// What the front keeps: its hosts, at most 256, each once, in order of arrival; and the calls of GRANTED that await an
 /// answer, in the order in which they were made. A host is the name of a caller (XNFS C702, `caller_name`) that was
@@ -136,8 +127,8 @@ fn rooms_of(hosts: &IndexSet<Sequence<u8>>) -> Rooms
 {
     Rooms {
         hosts: MOST_HOSTS - hosts.len() as u32,
-        owners: OWNERS,
-        opens: OPENS,
+        owners: MOST_OWNERS,
+        opens: MOST_OPENS,
     }
 }
 

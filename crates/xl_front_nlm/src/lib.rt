@@ -23,7 +23,7 @@ pub use aim::Aim;
 pub use answers::nlm_called;
 pub use call::GrantedCall;
 pub use effects::shown;
-pub use front::{Front, MOST_HOSTS};
+pub use front::Front;
 pub use grant::Grant;
 pub use outcome::Outcome;
 pub use step::nlm_step;

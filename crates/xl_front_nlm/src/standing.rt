@@ -3,7 +3,6 @@ ghost use Rattle.std.specs.Prelude.{◌≡◌, true, IfOk, IfSome, option_map, o
 ghost use Rattle.std.specs.List.{find, slice_get};
 ghost use Rattle.xl_base.specs.Lists.{IsIn};
 ghost use Rattle.xl_nlm.specs.Items.{shown_lock, shown_lock_args, shown_share_args};
-ghost use Rattle.xl_core.specs.Relock.{is_share, is_share_of};
 ghost use Rattle.xl_wait.specs.Waiting.{is_waiting};
 ghost use Rattle.xl_front_nlm.specs.Standing.{is_aimed, is_same, waits_for, waiter_by, waiter_for, does_wait, share_by, share_held};
 
@@ -14,6 +13,7 @@ use xl_base::{Owner, Protocol};
 use xl_core::Core;
 use xl_matrix::{Claim, Extent, What, same_owner};
 use xl_nlm::{Lock, LockArgs, ShareArgs};
+use xl_table::Table;
 use xl_wait::Waiter;
 
 fn is_aimed(what: What, at: &Aim, exclusive: bool) -> bool
@@ -93,36 +93,12 @@ pub(crate) fn does_wait(
     Ok(waiter.is_some())
 }
 
-fn is_share(what: What) -> bool
-    ensures { result ≡ is_share what }
-{
-    matches!(what, What::Share(_, _))
-}
-
-/// Whether the claim is a share of this owner on this file.
-fn is_share_of(file: u32, owner: Owner, claim: &Claim) -> bool
-    ensures { result ≡ is_share_of file owner claim.now }
-{
-    claim.file == file && same_owner(claim.owner, owner) && is_share(claim.what)
-}
-
-/// The first share of this owner on the file.
-fn find_share(claims: &[Claim], file: u32, owner: Owner) -> Option<Claim>
-    ensures value { result ≡ find (is_share_of file owner) claims.now }
-    ensures held { IfSome result (λ claim. IsIn claim claims.now) }
-{
-    claims
-        .iter()
-        .find(|claim| is_share_of(file, owner, claim))
-        .copied()
-}
-
-fn share_by(claims: &[Claim], file: u32, number: Option<u32>) -> Option<Claim>
-    ensures value { result ≡ share_by claims.now file number }
-    ensures held { IfSome result (λ claim. IsIn claim claims.now) }
+fn share_by(table: &Table, file: u32, number: Option<u32>) -> Option<Claim>
+    ensures value { result ≡ share_by table.now file number }
+    ensures held { IfSome result (λ claim. IsIn claim table.now) }
 {
     match number {
-        Some(number) => find_share(claims, file, Owner::Name(Protocol::Nlm, number)),
+        Some(number) => table.share_of(file, Owner::Name(Protocol::Nlm, number)),
         None => None,
     }
 }
@@ -138,5 +114,5 @@ pub(crate) fn share_held(
     ensures held { IfOk result (λ claim. IfSome claim (λ share. IsIn share core.now.claims)) }
 {
     let number = core.names().find(&share_owner(alloc, args)?);
-    Ok(share_by(core.table().claims(), file, number))
+    Ok(share_by(core.table(), file, number))
 }

@@ -1,7 +1,8 @@
 -- The texts of owners and parties, as transcripts and the order of blockers have them.
-use Rattle.std.specs.Prelude.{ℕ, List, [], ◌∷◌, ◌++◌, slice_get, Option, Some, None, codes}
+use Rattle.std.specs.Prelude.{ℕ, ◌<◌, ◌^◌, List, [], ◌∷◌, ◌++◌, slice_get, Option, Some, None, codes}
 use Rattle.std.specs.Fmt.{decimal, signed_decimal}
-use Rattle.hex.specs.Hex.{encode_lower}
+use Rattle.std.specs.Int.Signed.{mag}
+use Rattle.hex.specs.Hex.{IsBytes, encode_lower}
 use Rattle.xl_base.specs.declared.name.Owner.{Owner}
 use Rattle.xl_base.specs.declared.name.Owner.TheVariants as owner
 use Rattle.xl_base.specs.declared.name.Party.{Party}
@@ -48,3 +49,18 @@ owner_text names (owner.Open number) = open_text number
 abbrev pub party_text : List Name → Party → List ℕ
 party_text names (party.Name protocol number) = text_at (slice_get names number)
 party_text names (party.Open number) = open_text number
+
+-- the words of a name as a client sends them: bytes, and an svid below 2^63 in size
+abbrev pub IsOfBytes : Name → Type 0
+IsOfBytes (NlmRange caller svid oh) = IsBytes caller × (mag svid < 2 ^ 63) × IsBytes oh
+IsOfBytes (NlmShare caller oh) = IsBytes caller × IsBytes oh
+IsOfBytes (NlmParty caller) = IsBytes caller
+IsOfBytes (NfsRange client owner) = IsBytes client × IsBytes owner
+IsOfBytes (NfsShare client owner) = IsBytes client × IsBytes owner
+IsOfBytes (NfsParty client) = IsBytes client
+IsOfBytes (SmbLease guid key) = IsBytes guid × IsBytes key
+
+-- a name as its text tells it: an NFSv4 owner of ranges and one of shares have texts of one form
+abbrev pub text_form : Name → Name
+text_form (NfsShare client owner) = NfsRange client owner
+text_form name = name

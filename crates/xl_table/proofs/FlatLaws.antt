@@ -125,3 +125,7 @@ test_from_held claim (c ∷ cs) h =
 
 pub held_iff : (test : Bool) (claim : Claim) (held : List Claim) → test ≡ list_any (λ c. same_claims c claim) held → IsTrue test ↔ IsIn claim held
 held_iff test claim held h = ((λ t. held_from_test claim held (sym h ∙ t)), (λ i. h ∙ test_from_held claim held i))
+
+-- without one claim the order is as it was
+pub pairwise_gone : (test : Claim → Claim → Bool) (claim : Claim) (held less : List Claim) → Pairwise test held → removed claim held ≡ less → Pairwise test less
+pairwise_gone test claim held less all e = subst (λ (ds : List Claim). Pairwise test ds) e (pairwise_removed test claim held all)

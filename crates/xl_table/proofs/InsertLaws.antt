@@ -69,7 +69,7 @@ range_key_is c first last exclusive is p =
     ap (λ (w : What). key_by c w) is ∙ ap (λ (b : Bool). key_from c.file 1 (owner_key c.owner) (if b then first else 0)) p
 
 -- the ranges of one POSIX owner on one file stand by their first bytes
-range_order : (a b : Claim) (first last start end : ℕ) (exclusive alone : Bool) → a.file ≡ b.file → a.owner ≡ b.owner → posix b.owner ≡ true → a.what ≡ Range (Bytes first last) exclusive → b.what ≡ Range (Bytes start end) alone → goes_first a b ≡ nat_le first start
+pub range_order : (a b : Claim) (first last start end : ℕ) (exclusive alone : Bool) → a.file ≡ b.file → a.owner ≡ b.owner → posix b.owner ≡ true → a.what ≡ Range (Bytes first last) exclusive → b.what ≡ Range (Bytes start end) alone → goes_first a b ≡ nat_le first start
 range_order a b first last start end exclusive alone file owner p is are =
     ap (λ (k : List ℕ). no_later k (key b)) (range_key_is a first last exclusive is (ap (λ (o : Owner). posix o) owner ∙ p))
     ∙ ap (λ (k : List ℕ). no_later (a.file ∷ 1 ∷ (owner_key a.owner ++ first ∷ [])) k) (range_key_is b start end alone are p)
@@ -134,7 +134,7 @@ spans_of-inserted_own file owner claim first last exclusive held own p is ordere
         | inr later ↦ rw later (front (c ∷ cs) ∙ sym (before (c ∷ cs) (later, all_later c cs later ordered.0)))
       ]
 
-one_party-sym : (a b : Claim) → has_one_party a b ≡ has_one_party b a
+pub one_party-sym : (a b : Claim) → has_one_party a b ≡ has_one_party b a
 one_party-sym a b = rw (same_parties-sym a.party b.party, eqb-sym a.file b.file, same_owners-sym a.owner b.owner) (ap (λ (t : Bool). not t || same_parties b.party a.party) (flip (is_range a.what) (is_range b.what) ((b.file == a.file) && same_owners b.owner a.owner))) where
   flip : (x y z : Bool) → (x && (y && z)) ≡ (y && (x && z))
   flip true true z = refl

@@ -1,10 +1,12 @@
 -- What a table keeps when a claim is put in, changed or taken out.
-use Rattle.std.proofs.Common.{◌≡◌, ◌<◌, true, List, [], length, arith}
+use Rattle.std.proofs.Common.{◌≡◌, ◌<◌, ◌≤◌, true, List, [], length, arith}
 use Rattle.xl_base.specs.Lists.{IsIn}
 use Rattle.xl_matrix.specs.declared.claim.What.{What}
 use Rattle.xl_matrix.specs.declared.claim.Claim.{Claim}
 use Rattle.xl_table.specs.Order.{goes_first}
 use Rattle.xl_table.specs.Flat.{inserted, removed, changed, with_what}
+use Rattle.xl_table.specs.declared.change.Change.{Change}
+use Rattle.xl_table.specs.Changes.{written, MayBeWritten}
 use Rattle.xl_table.specs.Held.{is_real, has_one_party, IsSound, IsKept}
 use Rattle.xl_table.proofs.FlatLaws.{removed_shorter, length_removed, all_removed, pairwise_removed, length_inserted}
 use Rattle.xl_table.proofs.OrderLaws.{inserted_ordered}
@@ -41,3 +43,7 @@ kept_changed claim to held is held_one sound = record {
 
 pub kept_empty : IsKept []
 kept_empty = record { sound = record { real = tt; parties = tt; canonical = λ file owner p. tt }; ordered = tt; room = omega arith }
+
+-- a change is written where there is room for what it leaves
+pub kept_written : (change : Change) (held : List Claim) → MayBeWritten change held → change.held ≤ 16384 → IsKept (written change held)
+kept_written change held fits room = record { sound = fits.sound; ordered = fits.ordered; room = omega (arith, room, fits.count) }

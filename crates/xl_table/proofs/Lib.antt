@@ -5,4 +5,12 @@ pub mod KeptLaws
 pub mod HolderLaws
 pub mod FitLaws
 pub mod InsertLaws
+pub mod SectionLaws
+pub mod WriteBack
+pub mod ShareLaws
+pub mod LeastLaws
+pub mod UnionLaws
+pub mod RoomLaws
+pub mod ChangeLaws
+pub mod PlaceLaws
 pub mod TrialLaws

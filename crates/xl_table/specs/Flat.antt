@@ -1,5 +1,6 @@
 -- What a table of claims answers, on the flat list of its claims.
 use Rattle.std.specs.Prelude.{ℕ, Bool, true, false, not, ◌&&◌, ◌||◌, ◌==◌, nat_le, List, [], ◌∷◌, Option, Some, None, if◌then◌else◌}
+use Rattle.std.specs.List.{list_any}
 use Rattle.xl_base.specs.Lists.{placed}
 use Rattle.xl_base.specs.declared.event.Moment.{Moment}
 use Rattle.xl_base.specs.declared.name.Owner.{Owner}
@@ -53,6 +54,10 @@ is_met_by_own ask held = (ask.file == held.file) && (same_owners ask.owner held.
 -- has one; but what the ask replaces doesn't
 unfoldable pub blocks : Claim → Claim → Bool
 blocks ask held = not (is_own ask held) && (not (compat ask held) || is_met_by_own ask held)
+
+-- something held blocks the claim
+abbrev pub is_blocked : List Claim → Claim → Bool
+is_blocked held claim = list_any (λ c. blocks claim c) held
 
 -- the claim's break runs, and its answer is due
 abbrev pub due_by : What → ℕ → Bool

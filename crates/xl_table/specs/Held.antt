@@ -5,7 +5,7 @@ use Rattle.xl_base.specs.Lists.{Pairwise}
 use Rattle.xl_base.specs.declared.name.Owner.{Owner}
 use Rattle.xl_matrix.specs.declared.claim.Extent.TheVariants.{Bytes, Empty}
 use Rattle.xl_matrix.specs.declared.claim.What.{What}
-use Rattle.xl_matrix.specs.declared.claim.What.TheVariants.{Range}
+use Rattle.xl_matrix.specs.declared.claim.What.TheVariants.{Share, Range, Cache}
 use Rattle.xl_matrix.specs.declared.claim.Claim.{Claim}
 use Rattle.xl_matrix.specs.Owners.{posix}
 use Rattle.xl_matrix.specs.Equal.{same_owners, same_parties}
@@ -28,6 +28,23 @@ is_real claim = is_real_by claim.owner claim.what
 abbrev pub is_range : What → Bool
 is_range (Range extent exclusive) = true
 is_range _ = false
+
+abbrev pub is_share : What → Bool
+is_share (Share access deny) = true
+is_share _ = false
+
+abbrev pub is_cache : What → Bool
+is_cache (Cache kind running) = true
+is_cache _ = false
+
+-- a share, or a range with its bytes in order, of a POSIX owner
+abbrev pub IsPosixBy : What → Type 0
+IsPosixBy (Share access deny) = Unit {0}
+IsPosixBy (Range (Bytes first last) exclusive) = first ≤ last
+IsPosixBy _ = ⊥
+
+abbrev pub IsPosix : Claim → Type 0
+IsPosix c = IsPosixBy c.what × (posix c.owner ≡ true)
 
 -- two ranges of one owner on one file have one party
 abbrev pub has_one_party : Claim → Claim → Bool

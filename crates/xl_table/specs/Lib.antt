@@ -1,4 +1,8 @@
 pub mod Order
 pub mod Flat
 pub mod Held
+pub mod Sections
+pub mod Relock
+pub mod Changes
+pub mod Least
 pub mod Trials

@@ -1,8 +1,11 @@
 //! Who has a byte.
 ghost use Rattle.std.specs.Prelude.{◌≡◌};
+ghost use Rattle.xl_base.specs.Lists.{Pairwise};
+ghost use Rattle.xl_table.specs.Order.{goes_first};
 ghost use Rattle.xl_table.specs.Flat.{locks_by, locks, range_key_by, lesser, holder_from, holder};
 
 use crate::ordering::is_no_later;
+use crate::section::on_file;
 use xl_matrix::{Claim, Extent, What, covers};
 
 fn locks_byte(what: What, byte: u64) -> bool
@@ -48,8 +51,16 @@ fn lesser_of(least: Option<Claim>, claim: Claim) -> Claim
 }
 
 /// The least range on the file that has the byte.
-#[tactic(auto, unfolding(crate::specs::Flat::holder))]
+#[tactic(auto, using(crate::proofs::PlaceLaws::holder_on_file))]
 pub(crate) fn find_holder(claims: &[Claim], file: u32, byte: u64) -> Option<Claim>
+    requires { Pairwise goes_first claims.now }
+    ensures { result ≡ holder file byte claims.now }
+{
+    holder_among(on_file(claims, file), file, byte)
+}
+
+#[tactic(auto, unfolding(crate::specs::Flat::holder))]
+fn holder_among(claims: &[Claim], file: u32, byte: u64) -> Option<Claim>
     ensures { result ≡ holder file byte claims.now }
 {
     let mut least = None;

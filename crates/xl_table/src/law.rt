@@ -1,8 +1,9 @@
 //! Laws of the flat list. The functions do nothing; what they ensure holds of every list of claims.
-ghost use Rattle.std.specs.Prelude.{◌≡◌, ℕ, Bool, true, false, List, []};
-ghost use Rattle.std.specs.List.{AllByRecursion, filter};
+ghost use Rattle.std.specs.Prelude.{◌≡◌, ℕ, ◌<◌, Bool, true, false, List, [], length, None};
+ghost use Rattle.std.specs.List.{AllByRecursion, filter, list_any};
 ghost use Rattle.xl_base.specs.Lists.{IsIn, Pairwise, placed};
 ghost use Rattle.xl_base.specs.declared.name.Owner.{Owner};
+ghost use Rattle.xl_base.specs.declared.name.Party.{Party};
 ghost use Rattle.xl_matrix.specs.declared.claim.Extent.{Extent};
 ghost use Rattle.xl_matrix.specs.declared.claim.What.{What};
 ghost use Rattle.xl_matrix.specs.declared.claim.Claim.{Claim};
@@ -12,7 +13,8 @@ ghost use Rattle.xl_matrix.specs.Weaker.{weaker};
 ghost use Rattle.xl_spans.specs.Spans.{IsCanonical};
 ghost use Rattle.xl_table.specs.Order.{goes_first};
 ghost use Rattle.xl_table.specs.Flat.{inserted, removed, changed, with_what, is_own, blocks};
-ghost use Rattle.xl_table.specs.Held.{is_range, is_real, has_one_party, mode_of, is_of, spans_of, begins_first, IsSound};
+ghost use Rattle.xl_table.specs.Held.{is_range, is_real, is_share, has_one_party, mode_of, is_of, spans_of, begins_first, IsSound};
+ghost use Rattle.xl_table.specs.Relock.{is_share_of, united, relocked_in, is_cut};
 
 /// Claims stay pairwise compatible: when one that nothing blocks is entered, where what it replaces is gone; when one
 /// is taken out; and when one is made weaker.
@@ -32,4 +34,16 @@ pub fn stays_sound()
     ensures taken { (claim : Claim) (held : List Claim) → IsSound held → IsSound (removed claim held) }
     ensures spans { (file : ℕ) (owner : Owner) (claim : Claim) (first last : ℕ) (exclusive : Bool) (held : List Claim) → is_of file owner claim ≡ true → posix owner ≡ true → claim.what ≡ What.Range (Extent.Bytes first last) exclusive → Pairwise goes_first held → spans_of file owner (inserted claim held) ≡ placed begins_first (record { first = first; last = last; mode = mode_of exclusive }) (spans_of file owner held) }
     ensures apart { (file : ℕ) (owner : Owner) (claim : Claim) (held : List Claim) → is_of file owner claim ≡ false → spans_of file owner (inserted claim held) ≡ spans_of file owner held }
+{}
+
+/// A share that is united with its owner's on the file goes with each claim that both it and what the owner held go with.
+#[tactic(auto, using(crate::proofs::UnionLaws::united_fits))]
+pub fn united_shares_stay_compatible()
+    ensures { (asked third : Claim) (held : List Claim) → is_share asked.what ≡ true → compat asked third ≡ true → AllByRecursion (λ d. is_share_of asked.file asked.owner d ≡ true → (d.party ≡ asked.party) × (compat d third ≡ true)) held → compat (united asked held) third ≡ true }
+{}
+
+/// An unlock leaves more claims than there were, so that room may be missing, only where it cuts a range in two.
+#[tactic(auto, using(crate::proofs::RoomLaws::unlock_grows))]
+pub fn unlocks_grow_only_by_a_cut()
+    ensures { (file : ℕ) (owner : Owner) (party : Party) (first last : ℕ) (held : List Claim) → IsSound held → posix owner ≡ true → length held < length (relocked_in file owner party first last None held) → list_any (is_cut first last) (spans_of file owner held) ≡ true }
 {}

@@ -2,13 +2,20 @@
 #![tactic(auto)]
 
 mod block;
+mod change;
 mod holding;
 mod law;
+mod least;
 mod listing;
 mod ordering;
 mod placing;
+mod relock;
+mod section;
 mod table;
 
 pub use block::{is_answer_due, is_blocked_by};
-pub use law::{stays_compatible, stays_sound};
+pub use change::Change;
+pub use law::{
+    stays_compatible, stays_sound, united_shares_stay_compatible, unlocks_grow_only_by_a_cut,
+};
 pub use table::{CLAIMS, Table, TableErr};

@@ -28,7 +28,7 @@ fn protocol_rank(protocol: Protocol) -> u64
     }
 }
 
-fn key_of_owner(owner: Owner) -> [u64; 3]
+pub(crate) fn key_of_owner(owner: Owner) -> [u64; 3]
     ensures { result ≡ owner_key owner }
 {
     match owner {
@@ -68,7 +68,7 @@ fn group_place(owner: Owner, extent: Extent) -> u64
 /// The numbers by which claims stand in order: the file, then shares, ranges and caches, then the owner of a share or a
 /// range, or the party of a cache, by protocol and number, then the place in that group.
 #[tactic(auto, unfolding(crate::specs::Order::key))]
-fn key_of(claim: &Claim) -> [u64; 6]
+pub(crate) fn key_of(claim: &Claim) -> [u64; 6]
     ensures { result ≡ key claim.now }
 {
     let file = u64::from(claim.file);

@@ -1,16 +1,22 @@
 //! The table of claims.
-ghost use Rattle.std.specs.Prelude.{◌≡◌, ℕ, ◌<◌, ◌==◌, true, false, List, [], length, IsTrue, ◌↔◌, IfOk, IfSome, OnOk, OnErr};
-ghost use Rattle.std.specs.List.{AllByRecursion, filter};
+ghost use Rattle.std.specs.Prelude.{◌≡◌, ℕ, ◌≤◌, ◌==◌, ◌&&◌, not, true, false, List, [], length, None, IsTrue, ◌↔◌, IfOk, IfSome, OnOk, OnErr};
+ghost use Rattle.std.specs.List.{AllByRecursion, filter, find};
 ghost use Rattle.xl_table.specs.declared.table.TableErr.TheVariants.{NoMemory};
 
+use crate::change::{Change, grant, relock, write};
 use crate::holding::find_holder;
-use crate::listing::{list_blockers, list_due, list_file, list_party};
+use crate::least::least;
+use crate::listing::{drop_party, is_blocked, keep_ranges, list_blockers, list_due, list_party};
 use crate::placing::{is_held, put, replace, take_out};
+use crate::relock::{has_byte_in, spans_in};
+use crate::section::{caches_on, find_share, on_file, ranges_by, shares_on};
 use std::alloc::{AllocError, AllocFailed, Global};
 use std::marker::Model;
 use thiserror::Error;
-use xl_base::{Moment, Party};
+use xl_base::{Moment, Owner, Party};
 use xl_matrix::{Claim, What};
+use xl_names::Names;
+use xl_spans::Span;
 
 /// How many claims a table holds.
 pub const CLAIMS: usize = 16_384;
@@ -59,8 +65,12 @@ impl Table {
     ghost use Rattle.xl_base.specs.Lists.{IsIn};
     ghost use Rattle.xl_matrix.specs.Equal.{same_parties};
     ghost use Rattle.xl_table.specs.Order.{no_later};
-    ghost use Rattle.xl_table.specs.Flat.{inserted, removed, changed, blocks, is_due, locks, range_key, holder};
-    ghost use Rattle.xl_table.specs.Held.{IsSound, IsKept};
+    ghost use Rattle.xl_matrix.specs.Owners.{posix};
+    ghost use Rattle.xl_table.specs.Flat.{inserted, removed, changed, blocks, is_blocked, is_due, locks, range_key, holder};
+    ghost use Rattle.xl_table.specs.Held.{is_range, is_share, is_cache, has_one_party, spans_of, IsPosix, IsSound, IsKept};
+    ghost use Rattle.xl_table.specs.Relock.{is_share_of, holds_byte, relocked_in, granted_claims};
+    ghost use Rattle.xl_table.specs.Changes.{written, MayBeWritten};
+    ghost use Rattle.xl_table.specs.Least.{least};
 
     /// The table without claims; it takes no memory.
     pub fn new(alloc: Global) -> Table
@@ -71,17 +81,17 @@ impl Table {
         }
     }
 
-    /// The claims in their order, and what a table keeps of them.
-    pub fn claims(&self) -> &[Claim]
-        ensures claims { result.now ≡ self.now }
-        ensures kept { IsKept self.now }
+    /// A list of the claims in their order, for who shows them all.
+    pub fn claims(&self, alloc: Global) -> Result<Vec<Claim>, AllocError>
+        ensures { IfOk result (λ v. v.items ≡ self.now) }
     {
-        &self.claims
+        Vec::from_slice(alloc, &self.claims)
     }
 
-    /// How many claims there are.
+    /// How many claims there are; and what a table keeps of them.
     pub fn len(&self) -> usize
-        ensures { result ≡ length self.now }
+        ensures len { result ≡ length self.now }
+        ensures kept { IsKept self.now }
     {
         self.claims.len()
     }
@@ -105,6 +115,129 @@ impl Table {
         ensures { IfOk result (λ v. v.items ≡ filter (λ held. blocks ask.now held) self.now) }
     {
         list_blockers(alloc, &self.claims, ask)
+    }
+
+    /// Whether something held blocks the ask. It takes no memory.
+    pub fn is_blocked(&self, ask: &Claim) -> bool
+        ensures { result ≡ is_blocked self.now ask.now }
+    {
+        is_blocked(&self.claims, ask)
+    }
+
+    /// The least of the held claims that block the ask: by first byte, then by last (a range without bytes before all
+    /// that begin there), then exclusive before shared, then by the text of the owner.
+    pub fn least_blocker(
+        &self,
+        alloc: Global,
+        names: &Names,
+        ask: &Claim,
+    ) -> Result<Option<Claim>, AllocError>
+        ensures { IfOk result (λ c. c ≡ least names.now (filter (λ held. blocks ask.now held) self.now)) }
+    {
+        let blockers = list_blockers(alloc, &self.claims, ask)?;
+        Ok(least(alloc, names, &blockers)?)
+    }
+
+    /// The least of the held ranges that block the ask, which a test is told of.
+    pub fn least_range(
+        &self,
+        alloc: Global,
+        names: &Names,
+        ask: &Claim,
+    ) -> Result<Option<Claim>, AllocError>
+        ensures { IfOk result (λ c. c ≡ least names.now (filter (λ held. is_range held.what) (filter (λ held. blocks ask.now held) self.now))) }
+    {
+        let mut blockers = list_blockers(alloc, &self.claims, ask)?;
+        keep_ranges(&mut blockers);
+        Ok(least(alloc, names, &blockers)?)
+    }
+
+    /// The spans of an NLM or NFSv4 owner's ranges on a file: maximal runs of one mode, in the order of their bytes.
+    #[tactic(auto, using(crate::proofs::SectionLaws::spans_on_file))]
+    pub fn spans_of(&self, alloc: Global, file: u32, owner: Owner) -> Result<Vec<Span>, AllocError>
+        ensures { IfOk result (λ v. v.items ≡ spans_of file owner self.now) }
+    {
+        spans_in(alloc, ranges_by(&self.claims, file, owner))
+    }
+
+    /// Whether the owner has a byte of the range on the file. It takes no memory.
+    #[tactic(auto, using(crate::proofs::SectionLaws::spans_on_file), unfolding(crate::specs::Relock::holds_byte))]
+    pub fn holds_byte(&self, file: u32, owner: Owner, first: u64, last: u64) -> bool
+        ensures { result ≡ holds_byte file owner first last self.now }
+    {
+        has_byte_in(ranges_by(&self.claims, file, owner), first, last)
+    }
+
+    /// The owner's share on the file, of which it has one at most; the first where there are more. It takes no memory.
+    pub fn share_of(&self, file: u32, owner: Owner) -> Option<Claim>
+        ensures share { result ≡ find (is_share_of file owner) self.now }
+        ensures held { IfSome result (λ c. IsIn c self.now) }
+    {
+        find_share(&self.claims, file, owner)
+    }
+
+    /// The shares on a file, in the table's order.
+    pub fn shares_on(&self, alloc: Global, file: u32) -> Result<Vec<Claim>, AllocError>
+        ensures { IfOk result (λ v. v.items ≡ filter (λ held. (held.file == file) && is_share held.what) self.now) }
+    {
+        Vec::from_slice(alloc, shares_on(&self.claims, file))
+    }
+
+    /// The caches on a file, in the table's order.
+    pub fn caches_on(&self, alloc: Global, file: u32) -> Result<Vec<Claim>, AllocError>
+        ensures { IfOk result (λ v. v.items ≡ filter (λ held. (held.file == file) && is_cache held.what) self.now) }
+    {
+        Vec::from_slice(alloc, caches_on(&self.claims, file))
+    }
+
+    /// What a grant of the claim changes, once nothing stands in its way: a share takes the place of its owner's on the
+    /// file, or is united with it (NFSv4); a range of an NLM or NFSv4 owner gets its mode, in place of those it had.
+    pub fn granted(&self, alloc: Global, claim: &Claim) -> Result<Change, AllocError>
+        requires posix { IsPosix claim.now }
+        requires party { AllByRecursion (λ c. has_one_party claim.now c ≡ true) self.now }
+        ensures claims { IfOk result (λ change. written change self.now ≡ granted_claims claim.now self.now) }
+        ensures fits { IfOk result (λ change. MayBeWritten change self.now) }
+    {
+        Ok(grant(alloc, &self.claims, claim)?)
+    }
+
+    /// What an unlock of this range of an NLM or NFSv4 owner changes. `ask` is a range of the owner on the file.
+    pub fn unlocked(
+        &self,
+        alloc: Global,
+        ask: &Claim,
+        first: u64,
+        last: u64,
+    ) -> Result<Change, AllocError>
+        requires posix { posix ask.now.owner ≡ true }
+        requires range { is_range ask.now.what ≡ true }
+        requires ends { first ≤ last }
+        requires party { AllByRecursion (λ c. has_one_party ask.now c ≡ true) self.now }
+        ensures claims { IfOk result (λ change. written change self.now ≡ relocked_in ask.now.file ask.now.owner ask.now.party first last None self.now) }
+        ensures fits { IfOk result (λ change. MayBeWritten change self.now) }
+    {
+        Ok(relock(alloc, &self.claims, ask, first, last, None)?)
+    }
+
+    /// Writes a change that was worked out on these claims, where there is room for what it leaves. After an error the
+    /// table is as it was.
+    #[tactic(auto, using(crate::proofs::KeptLaws::kept_written))]
+    pub fn write(&mut self, change: &Change) -> Result<(), AllocError>
+        requires fits { MayBeWritten change.now self.old }
+        requires room { change.now.held ≤ 16384 }
+        ensures ok { OnOk result (self.new ≡ written change.now self.old) }
+        ensures err { OnErr result (self.new ≡ self.old) }
+    {
+        write(&mut self.claims, change)?;
+        Ok(())
+    }
+
+    /// Takes out the claims of a party. It takes no memory.
+    #[tactic(auto, using(crate::proofs::WriteBack::kept_filter))]
+    pub fn remove_party(&mut self, party: Party)
+        ensures { self.new ≡ filter (λ held. not (same_parties held.party party)) self.old }
+    {
+        drop_party(&mut self.claims, party);
     }
 
     /// Enters a claim at its place: behind all that stand no later. Full comes exactly where the table holds 16,384.
@@ -154,7 +287,7 @@ impl Table {
     pub fn of_file(&self, alloc: Global, file: u32) -> Result<Vec<Claim>, AllocError>
         ensures { IfOk result (λ v. v.items ≡ filter (λ held. held.file == file) self.now) }
     {
-        list_file(alloc, &self.claims, file)
+        Vec::from_slice(alloc, on_file(&self.claims, file))
     }
 
     /// The caches whose break runs with a deadline at or before now, in the table's order.

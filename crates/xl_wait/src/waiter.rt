@@ -25,6 +25,8 @@ pub struct Waiter {
     pub asked: Sequence<Claim>,
     /// The caches that it wishes for once it is served, the first choice first.
     pub wish: Sequence<CacheKind>,
+    /// Whether it asked to wait where something stands in its way; a request that waits for grace may not have.
+    pub blocking: bool,
     /// Whether its party's name is to be recorded before it is granted.
     pub monitored: bool,
     /// The rows of the fronts' tables that its grant adds.

@@ -19,6 +19,7 @@ fn waiter(alloc: Global, id: u32, conn: Option<u64>) -> Result<Waiter, AllocErro
         conn,
         asked,
         wish: Sequence::new(alloc),
+        blocking: true,
         monitored: true,
         rows: Rooms {
             hosts: 1,

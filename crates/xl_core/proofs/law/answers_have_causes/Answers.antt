@@ -1,9 +1,9 @@
-use Rattle.xl_core.proofs.CauseLaws.{lock_due, test_due, unlock_due, fit_what, real_unlock}
-use Rattle.xl_core.proofs.DecideLaws.{least_first}
+use Rattle.xl_core.proofs.CauseLaws.{lock_due, test_due, unlock_due, real_unlock}
+use Rattle.xl_table.proofs.LeastLaws.{least_first}
 use Rattle.xl_core.proofs.law.answers_have_causes.Goals as goal
 
 pub returns-clause-claims : goal.returns-clause-claims
-returns-clause-claims c = λ n left s a what answer fit act. lock_due n left s a what answer act fit.party (fit_what a what fit act)
+returns-clause-claims c = lock_due
 
 pub returns-clause-tests : goal.returns-clause-tests
 returns-clause-tests c = test_due

@@ -1,12 +1,15 @@
 use Rattle.xl_core.proofs.ChangeLaws.{ask_waits}
-use Rattle.xl_core.proofs.SettleLaws.{settled_is, turn_is, turn_fewer}
+use Rattle.xl_core.proofs.SettleLaws.{settle_rests, settled_is, turn_is, turn_fewer}
 use Rattle.xl_core.proofs.law.nobody_is_forgotten.Goals as goal
 
 pub returns-clause-waits : goal.returns-clause-waits
-returns-clause-waits c = ask_waits
+returns-clause-waits c = λ n left s a number good fit at. ask_waits n left s a number good fit.party at
 
 pub returns-clause-settled : goal.returns-clause-settled
-returns-clause-settled c = settled_is
+returns-clause-settled c = settle_rests
+
+pub returns-clause-blocked : goal.returns-clause-blocked
+returns-clause-blocked c = settled_is
 
 pub returns-clause-turns : goal.returns-clause-turns
 returns-clause-turns c = turn_is

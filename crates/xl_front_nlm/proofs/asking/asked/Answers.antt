@@ -4,4 +4,4 @@ use Rattle.xl_front_nlm.proofs.asking.asked.Goals as goal
 
 pub returns-clause-leaves : goal.returns-clause-leaves
 returns-clause-leaves g c =
-    ask_leaves c.ask.new.self.made _ _ _ _ _ _ (c.in_ok-answer.ensures.state c.ask.new.self.made (may_be_made c.ask.new.self)) c.in_ok-answer.ensures.on c.requires.ready c.in_ok-answer.ensures.good c.requires.small
+    ask_leaves c.ask.new.self.made _ _ _ _ _ _ (c.in_ok-answer.ensures.state c.ask.new.self.made (may_be_made c.ask.new.self)) c.in_ok-answer.ensures.on c.requires.fit c.requires.ready c.in_ok-answer.ensures.good c.requires.small

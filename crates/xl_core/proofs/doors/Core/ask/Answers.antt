@@ -1,6 +1,6 @@
 use Rattle.std.proofs.Common.{[]}
 use Rattle.xl_core.specs.Whole.{state_of}
-use Rattle.xl_core.proofs.TurnLaws.{ask_keeps}
+use Rattle.xl_core.proofs.DoorLaws.{ask_keeps}
 use Rattle.xl_core.proofs.doors.Core.ask.Goals as goal
 
 pub returns-clause-good : goal.returns-clause-good

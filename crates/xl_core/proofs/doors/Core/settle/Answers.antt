@@ -1,7 +1,7 @@
 use Rattle.std.proofs.Common.{Option, List, Ok, ap}
 use Rattle.xl_core.specs.declared.ask.Effect.{Effect}
 use Rattle.xl_core.specs.Whole.{state_of}
-use Rattle.xl_core.proofs.TurnLaws.{settle_keeps}
+use Rattle.xl_core.proofs.DoorLaws.{settle_keeps}
 use Rattle.xl_core.proofs.doors.Core.settle.Goals as goal
 
 pub returns-clause-good : goal.returns-clause-good

@@ -1,0 +1,194 @@
+-- A row of steps: what each step keeps, the row keeps. Why a ruling is what it is, and what it leaves.
+use Rattle.std.proofs.Common.{◌≡◌, ℕ, Bool, true, false, if◌then◌else◌, List, [], ◌∷◌, ◌++◌, length, Option, Some, None, refl, sym, ap, subst, append_assoc}
+use Rattle.std.proofs.lemmas.Bool.{or_left, or_right}
+use Rattle.xl_matrix.specs.declared.claim.Claim.{Claim}
+use Rattle.xl_wait.specs.declared.waiter.Rooms.{Rooms}
+use Rattle.xl_wait.specs.declared.waiter.Waiter.{Waiter}
+use Rattle.xl_core.specs.State.{CoreState}
+use Rattle.xl_core.specs.Blockers.{blockers}
+use Rattle.xl_core.specs.Good.{stands_in_the_way}
+use Rattle.xl_core.specs.Judge.{Ruled, Step, followed, after, all_granted, held_with, check_grace, waits, stopped, held_by, check_held, start_breaks, room_by, check_room, record_name, enter_all, each, judged}
+use Rattle.xl_core.specs.Limits.{grant_limits, first_passed}
+use Rattle.xl_table.specs.Flat.{is_blocked}
+use Rattle.xl_table.specs.Least.{least}
+use Rattle.xl_table.specs.Relock.{granted_claims}
+use Rattle.xl_core.specs.declared.ask.Answer.{Answer}
+use Rattle.xl_core.specs.declared.ask.Answer.TheVariants.{Granted, Queued, NoGrace, Conflict, Full}
+use Rattle.xl_core.specs.declared.ask.Effect.{Effect}
+use Rattle.xl_core.specs.declared.judge.Plea.{Plea}
+use Rattle.xl_core.specs.declared.judge.Ruling.{Ruling}
+use Rattle.xl_core.specs.declared.judge.Ruling.TheVariants.{Gets, Waits, Told}
+use Rattle.xl_core.proofs.DecideLaws.{blockers_none, some_blocks}
+
+-- ---- a row
+
+-- what holds between two steps, and at the end, of what was told and of the state
+abbrev pub Between : Type 1
+Between = List Effect → CoreState → Type 0
+
+abbrev pub Ending : Type 1
+Ending = Ruling → List Effect → CoreState → Type 0
+
+abbrev pub Passes : Between → Ending → Option Ruling → List Effect → CoreState → Type 0
+Passes Q E (Some ruling) told s = E ruling told s
+Passes Q E None told s = Q told s
+
+-- the step ends well, or goes on well; and the row ends well; behind what was told before
+abbrev pub Steps : Between → Ending → Step → List Effect → CoreState → Type 0
+Steps Q E step told s = Passes Q E (step s).0 (told ++ (step s).1) (step s).2
+
+abbrev pub Ends : Ending → (CoreState → Ruled) → List Effect → CoreState → Type 0
+Ends E row told s = E (row s).0 (told ++ (row s).1) (row s).2
+
+pub after_passes : (Q : Between) (E : Ending) (step : Step) (rest : CoreState → Ruled) (told : List Effect) (s : CoreState) → Steps Q E step told s → ((more : List Effect) (t : CoreState) → Q more t → Ends E rest more t) → Ends E (after step rest) told s
+after_passes Q E step rest told s passes goes = by (step s).0 (step s).1 (step s).2 passes where
+  by : (o : Option Ruling) (more : List Effect) (t : CoreState) → Passes Q E o (told ++ more) t → (let r = followed o more t rest in E r.0 (told ++ r.1) r.2)
+  by (Some ruling) more t p = p
+  by None more t p = subst (λ (x : List Effect). E (rest t).0 x (rest t).2) (append_assoc told more (rest t).1) (goes (told ++ more) t p)
+
+-- ---- why a ruling is, and what it leaves
+
+-- nothing held blocks these and they pass no limit, each behind those before it
+abbrev pub AllPass : Rooms → Plea → List Claim → List Claim → Type 0
+AllPass left p held [] = Unit {0}
+AllPass left p held (c ∷ cs) =
+    (is_blocked held c ≡ false) × (first_passed (grant_limits left p.rows (length (granted_claims c held)) p.kept) ≡ None) × AllPass left p (granted_claims c held) cs
+
+-- an answer that grants nothing and lets nobody wait
+abbrev pub is_refusal : Answer → Bool
+is_refusal (Granted c) = false
+is_refusal (Queued number) = false
+is_refusal _ = true
+
+-- of a plea for all of these, of which the rest is still to be judged beside what counts as held
+abbrev IsRuledFrom : Rooms → Plea → List Claim → CoreState → List Claim → List Claim → Ending
+IsRuledFrom left p asked s held rest Gets told t = (told ≡ []) × (t ≡ held_with asked s) × AllPass left p held rest
+IsRuledFrom left p asked s held rest Waits told t = (told ≡ []) × (t ≡ s) × (p.blocking ≡ true) × (p.crowded ≡ None) × (stands_in_the_way held rest ≡ true)
+IsRuledFrom left p asked s held rest (Told answer) told t = (told ≡ []) × (t ≡ s) × (is_refusal answer ≡ true)
+
+abbrev pub IsRuled : Rooms → Plea → List Claim → CoreState → Ending
+IsRuled left p asked s ruling told t = IsRuledFrom left p asked s s.claims asked ruling told t
+
+-- nothing was told, and nothing changed
+abbrev IsYet : CoreState → Between
+IsYet s told t = (told ≡ []) × (t ≡ s)
+
+grace_passes : (left : Rooms) (p : Plea) (asked : List Claim) (s : CoreState) → Steps (IsYet s) (IsRuled left p asked s) (check_grace p) [] s
+unfolding check_grace
+grace_passes left p asked s = by p.reclaim where
+  by : (b : Bool) → (let r : Option Ruling × List Effect × CoreState = if b then (Some (Told (NoGrace s.clock)), [], s) else (None, [], s) in Passes (IsYet s) (IsRuled left p asked s) r.0 r.1 r.2)
+  by true = (refl, refl, refl)
+  by false = (refl, refl)
+
+granted_behind : (before : List Claim) (c : Claim) (held : List Claim) → all_granted (before ++ c ∷ []) held ≡ granted_claims c (all_granted before held)
+granted_behind [] c held = refl
+granted_behind (b ∷ bs) c held = granted_behind bs c (granted_claims b held)
+
+-- nothing was told or changed, and this claim is free beside what counts as held
+abbrev IsFreeYet : CoreState → List Claim → Claim → Between
+IsFreeYet s held c told t = IsYet s told t × (is_blocked held c ≡ false)
+
+held_passes : (earlier : List Waiter) (left : Rooms) (p : Plea) (asked : List Claim) (s : CoreState) (before : List Claim) (c : Claim) (rest : List Claim)
+    → Steps (IsFreeYet s (all_granted before s.claims) c) (IsRuledFrom left p asked s (all_granted before s.claims) (c ∷ rest)) (check_held earlier p before c) [] s
+unfolding check_held held_with
+held_passes earlier left p asked s before c rest = by (least s.names (blockers earlier there c)) refl where
+  there : CoreState
+  there = record s { claims = all_granted before s.claims }
+
+  stops : (d : Claim) → is_blocked there.claims c ≡ true → (b : Bool) (o : Option ℕ) → p.blocking ≡ b → p.crowded ≡ o → IsRuledFrom left p asked s there.claims (c ∷ rest) (if b then waits o else Told (Conflict d)) [] s
+  stops d blocked true None waits room = (refl, refl, waits, room, or_left (is_blocked there.claims c) (stands_in_the_way (granted_claims c there.claims) rest) blocked)
+  stops d blocked true (Some limit) waits room = (refl, refl, refl)
+  stops d blocked false o waits room = (refl, refl, refl)
+
+  by : (o : Option Claim) → least s.names (blockers earlier there c) ≡ o → (let r = held_by p o s in Passes (IsFreeYet s there.claims c) (IsRuledFrom left p asked s there.claims (c ∷ rest)) r.0 r.1 r.2)
+  by None e = ((refl, refl), blockers_none earlier there c e)
+  by (Some d) e = stops d (some_blocks earlier there c d e) p.blocking p.crowded refl refl
+
+breaks_pass : (E : Ending) (p : Plea) (s : CoreState) (held before : List Claim) (c : Claim) (told : List Effect) (t : CoreState) → IsFreeYet s held c told t → Steps (IsFreeYet s held c) E (start_breaks p before c) told t
+unfolding start_breaks
+breaks_pass E p s held before c told t yet = ((ap (λ (x : List Effect). x ++ []) yet.0.0, yet.0.1), yet.1)
+
+-- and passes no limit
+abbrev HasRoomYet : Rooms → Plea → CoreState → List Claim → Claim → Between
+HasRoomYet left p s held c told t = IsFreeYet s held c told t × (first_passed (grant_limits left p.rows (length (granted_claims c held)) p.kept) ≡ None)
+
+room_passes : (left : Rooms) (p : Plea) (asked : List Claim) (s : CoreState) (before : List Claim) (c : Claim) (rest : List Claim) → is_blocked (all_granted before s.claims) c ≡ false
+    → Steps (HasRoomYet left p s (all_granted before s.claims) c) (IsRuledFrom left p asked s (all_granted before s.claims) (c ∷ rest)) (check_room left p before c) [] s
+unfolding check_room held_with
+room_passes left p asked s before c rest free = by (first_passed (grant_limits left p.rows (length (granted_claims c held)) p.kept)) refl where
+  held : List Claim
+  held = all_granted before s.claims
+
+  by : (o : Option ℕ) → first_passed (grant_limits left p.rows (length (granted_claims c held)) p.kept) ≡ o → (let r = room_by o s in Passes (HasRoomYet left p s held c) (IsRuledFrom left p asked s held (c ∷ rest)) r.0 r.1 r.2)
+  by None e = (((refl, refl), free), e)
+  by (Some limit) e = (refl, refl, refl)
+
+end_passes : (n : ℕ) (left : Rooms) (p : Plea) (asked : List Claim) (s : CoreState) (held : List Claim) → Ends (IsRuledFrom left p asked s held []) (after (record_name n p) (enter_all asked)) [] s
+unfolding record_name enter_all
+end_passes n left p asked s held = (refl, refl, tt)
+
+-- what stands once more counts as held, stands before
+ruled_before : (left : Rooms) (p : Plea) (asked : List Claim) (s : CoreState) (held : List Claim) (c : Claim) (rest : List Claim) → is_blocked held c ≡ false → first_passed (grant_limits left p.rows (length (granted_claims c held)) p.kept) ≡ None
+    → (ruling : Ruling) (told : List Effect) (t : CoreState) → IsRuledFrom left p asked s (granted_claims c held) rest ruling told t → IsRuledFrom left p asked s held (c ∷ rest) ruling told t
+ruled_before left p asked s held c rest free room Gets told t is = (is.0, is.1, (free, room, is.2))
+ruled_before left p asked s held c rest free room Waits told t is = (is.0, is.1, is.2, is.3, or_right (is_blocked held c) (stands_in_the_way (granted_claims c held) rest) is.4)
+ruled_before left p asked s held c rest free room (Told answer) told t is = is
+
+each_passes : (n : ℕ) (earlier : List Waiter) (left : Rooms) (p : Plea) (asked : List Claim) (s : CoreState) (before rest : List Claim)
+    → Ends (IsRuledFrom left p asked s (all_granted before s.claims) rest) (each earlier left p before rest (after (record_name n p) (enter_all asked))) [] s
+each_passes n earlier left p asked s before [] = end_passes n left p asked s (all_granted before s.claims)
+each_passes n earlier left p asked s before (c ∷ cs) =
+    after_passes (IsFreeYet s held c) E (check_held earlier p before c) _ [] s (held_passes earlier left p asked s before c cs) (λ told t yet.
+    after_passes (IsFreeYet s held c) E (start_breaks p before c) _ told t (breaks_pass E p s held before c told t yet) (λ more u free. at more u free.0 (λ more u. Ends E (after (check_room left p before c) rest) more u)
+    (after_passes (HasRoomYet left p s held c) E (check_room left p before c) rest [] s (room_passes left p asked s before c cs free.1) (λ last v room. at last v room.0.0 (λ last v. Ends E rest last v)
+    (later last v room (each_passes n earlier left p asked s (before ++ c ∷ []) cs))))))
+  where
+    held : List Claim
+    held = all_granted before s.claims
+
+    E : Ending
+    E = IsRuledFrom left p asked s held (c ∷ cs)
+
+    rest : CoreState → Ruled
+    rest = each earlier left p (before ++ c ∷ []) cs (after (record_name n p) (enter_all asked))
+
+    at : (told : List Effect) (t : CoreState) → IsYet s told t → (P : List Effect → CoreState → Type 0) → P [] s → P told t
+    at told t yet P h = subst (λ (x : List Effect). P x t) (sym yet.0) (subst (λ (x : CoreState). P [] x) (sym yet.1) h)
+
+    later : (told : List Effect) (t : CoreState) → HasRoomYet left p s held c told t → Ends (IsRuledFrom left p asked s (all_granted (before ++ c ∷ []) s.claims) cs) rest [] s → Ends E rest [] s
+    later told t room behind =
+        ruled_before left p asked s held c cs room.0.1 room.1 (rest s).0 (rest s).1 (rest s).2
+        (subst (λ (x : List Claim). Ends (IsRuledFrom left p asked s x cs) rest [] s) (granted_behind before c s.claims) behind)
+
+-- each ruling has its cause, tells nothing, and leaves what it says
+pub judged_ruled : (n : ℕ) (earlier : List Waiter) (left : Rooms) (p : Plea) (asked : List Claim) (s : CoreState) → Ends (IsRuled left p asked s) (judged n earlier left p asked) [] s
+unfolding judged
+judged_ruled n earlier left p asked s =
+    after_passes (IsYet s) (IsRuled left p asked s) (check_grace p) _ [] s (grace_passes left p asked s) (λ told t yet.
+    subst (λ (x : List Effect). Ends (IsRuled left p asked s) (each earlier left p [] asked (after (record_name n p) (enter_all asked))) x t) (sym yet.0)
+    (subst (λ (x : CoreState). Ends (IsRuled left p asked s) (each earlier left p [] asked (after (record_name n p) (enter_all asked))) [] x) (sym yet.1) (each_passes n earlier left p asked s [] asked)))
+
+-- ---- one claim: the ruling is a function of what is looked at
+
+abbrev pub ruled_by : Plea → CoreState → Claim → Option Claim → Option ℕ → Ruled
+ruled_by p s c (Some d) passed = (stopped p d, [], s)
+ruled_by p s c None (Some limit) = (Told (Full limit), [], s)
+ruled_by p s c None None = (Gets, [], held_with (c ∷ []) s)
+
+abbrev pub least_blocker : List Waiter → CoreState → Claim → Option Claim
+least_blocker earlier s c = least s.names (blockers earlier s c)
+
+abbrev pub passed_by : Rooms → Plea → CoreState → Claim → Option ℕ
+passed_by left p s c = first_passed (grant_limits left p.rows (length (granted_claims c s.claims)) p.kept)
+
+pub late : (n : ℕ) (earlier : List Waiter) (left : Rooms) (p : Plea) (asked : List Claim) (s : CoreState) → p.reclaim ≡ true → judged n earlier left p asked s ≡ (Told (NoGrace s.clock), [], s)
+unfolding judged check_grace
+late n earlier left p asked s e = rw e refl
+
+pub judged_is : (n : ℕ) (earlier : List Waiter) (left : Rooms) (p : Plea) (c : Claim) (s : CoreState) → p.reclaim ≡ false → judged n earlier left p (c ∷ []) s ≡ ruled_by p s c (least_blocker earlier s c) (passed_by left p s c)
+unfolding judged check_grace check_held start_breaks check_room record_name enter_all held_with
+judged_is n earlier left p c s timely = go (least_blocker earlier s c) (passed_by left p s c) refl refl where
+  go : (o : Option Claim) (l : Option ℕ) → least_blocker earlier s c ≡ o → passed_by left p s c ≡ l → judged n earlier left p (c ∷ []) s ≡ ruled_by p s c o l
+  go (Some d) l e k = rw (timely, e) refl
+  go None (Some limit) e k = rw (timely, e, k) refl
+  go None None e k = rw (timely, e, k) refl

@@ -1,0 +1,143 @@
+-- A test foretells the lock.
+use Rattle.std.proofs.Common.{◌≡◌, ℕ, ◌<◌, ◌≤◌, Bool, true, false, not, ◌&&◌, ◌||◌, ◌==◌, eqb, List, [], ◌∷◌, length, Option, Some, None, inl, inr, refl, sym, ap, ◌∙◌, ◌↔◌, arith, slice_get}
+use Rattle.std.specs.List.{list_any}
+use Rattle.std.proofs.lemmas.Bool.{both_ways, and_right, ne_eqb, cases_lt}
+use Rattle.xl_base.specs.Lists.{IsIn}
+use Rattle.xl_base.proofs.Members.{all_in}
+use Rattle.xl_base.specs.Stable.{same_protocol}
+use Rattle.xl_base.specs.declared.name.Owner.{Owner}
+use Rattle.xl_base.specs.declared.name.Owner.TheVariants as owners
+use Rattle.xl_base.specs.declared.name.Party.{Party}
+use Rattle.xl_base.specs.declared.name.Protocol.{Protocol}
+use Rattle.xl_matrix.specs.Equal.{same_owners}
+use Rattle.xl_matrix.specs.Extents.{meeting}
+use Rattle.xl_matrix.specs.Matrix.{compat, fit_by, ranges_meet}
+use Rattle.xl_matrix.specs.Owners.{posix}
+use Rattle.xl_matrix.specs.declared.claim.Claim.{Claim}
+use Rattle.xl_matrix.specs.declared.claim.Extent.TheVariants.{Bytes, Empty}
+use Rattle.xl_matrix.specs.declared.claim.What.{What}
+use Rattle.xl_matrix.specs.declared.claim.What.TheVariants.{Share, Range, Cache}
+use Rattle.xl_names.specs.Names.{protocol_of, number_of, place_of, most_names}
+use Rattle.xl_names.specs.declared.name.Name.{Name}
+use Rattle.xl_names.proofs.NameLaws.{kept_from_number, new_from_none, place_new}
+use Rattle.xl_table.specs.Flat.{is_met, blocks}
+use Rattle.xl_table.specs.Held.{IsPosixBy}
+use Rattle.xl_table.specs.Least.{least}
+use Rattle.xl_table.proofs.LeastLaws.{one_passes}
+use Rattle.xl_wait.specs.declared.waiter.Rooms.{Rooms}
+use Rattle.xl_core.specs.State.{CoreState}
+use Rattle.xl_core.specs.Asking.{asked_claim, asked_what, known_claim, known_owner, number_or, no_number, is_client, owner_in}
+use Rattle.xl_core.specs.Blockers.{test_blockers}
+use Rattle.xl_core.specs.Causes.{stands_against, IsSameAsker, IsConflict}
+use Rattle.xl_core.specs.Decide.{ask}
+use Rattle.xl_core.specs.Frames.{drawn_by}
+use Rattle.xl_core.specs.Good.{are_kept, IsKnown, IsGood}
+use Rattle.xl_core.specs.declared.ask.Act.TheVariants.{Ranges, Test}
+use Rattle.xl_core.specs.declared.ask.Answer.TheVariants.{Granted, Conflict}
+use Rattle.xl_core.specs.declared.ask.Ask.{Ask}
+use Rattle.xl_core.specs.declared.ask.Who.{Who}
+use Rattle.xl_core.specs.declared.ask.Who.TheVariants.{Named}
+use Rattle.xl_core.proofs.CauseLaws.{lock_due, test_due, test_none, test_some, option_cases}
+use Rattle.xl_core.proofs.DecideLaws.{blocks_some, blockers_some}
+use Rattle.xl_core.proofs.FrameLaws.{ask_frame}
+use Rattle.xl_core.proofs.KnownLaws.{kept_parts, is_client_is, client_posix, get_none}
+
+-- ---- only ranges block a range, and by their owners alone
+
+met : (e : Bool) (p q o : Owner) (first last start end : ℕ) (alone : Bool) → ranges_meet p (Bytes first last) o (Bytes start end) ≡ ranges_meet q (Bytes first last) o (Bytes start end)
+    → is_met p (Range (Bytes first last) e) o (Range (Bytes start end) alone) ≡ is_met q (Range (Bytes first last) e) o (Range (Bytes start end) alone)
+met true p q o first last start end alone meet = meet
+met false p q o first last start end alone meet = refl
+
+by_none : (own apart file same : Bool) → (own && (not (apart || true) || (file && (same && false)))) ≡ false
+by_none true true file same = and_right file (same && false) (and_right same false refl)
+by_none true false file same = and_right file (same && false) (and_right same false refl)
+by_none false apart file same = refl
+
+blocks_by : (a b d : Claim) (first last : ℕ) (exclusive : Bool) (w : What) → d.what ≡ w → IsPosixBy w → a.file ≡ b.file → a.what ≡ Range (Bytes first last) exclusive → b.what ≡ Range (Bytes first last) exclusive → posix a.owner ≡ posix b.owner → same_owners a.owner d.owner ≡ same_owners b.owner d.owner
+    → stands_against a d ≡ blocks b d
+unfolding blocks compat fit_by
+blocks_by a b d first last exclusive (Range (Bytes start end) alone) is real file what other posix_is same =
+    let meet : ranges_meet a.owner (Bytes first last) d.owner (Bytes start end) ≡ ranges_meet b.owner (Bytes first last) d.owner (Bytes start end) = ap (λ (p : Bool). meeting (not p && not (posix d.owner)) (Bytes first last) (Bytes start end)) posix_is in
+    rw (is, what, other, file, same, met exclusive a.owner b.owner d.owner first last start end alone meet, meet, posix_is) refl
+blocks_by a b d first last exclusive (Range (Empty offset) alone) is real file what other posix_is same = absurd real
+blocks_by a b d first last exclusive (Cache kind running) is real file what other posix_is same = absurd real
+blocks_by a b d first last true (Share access deny) is real file what other posix_is same = rw (is, other) (sym (by_none (not (same_owners b.owner d.owner && true)) (not (eqb b.file d.file)) (eqb b.file d.file) (same_owners b.owner d.owner)))
+blocks_by a b d first last false (Share access deny) is real file what other posix_is same = rw (is, other) (sym (by_none (not (same_owners b.owner d.owner && true)) (not (eqb b.file d.file)) (eqb b.file d.file) (same_owners b.owner d.owner)))
+
+-- ---- who asks, with and without its name entered
+
+apart_number : (protocol other : Protocol) (n m : ℕ) → ((n ≡ m) → ⊥) → same_owners (owners.Name protocol n) (owners.Name other m) ≡ false
+apart_number protocol other n m apart = and_right (same_protocol protocol other) (n == m) (ne_eqb n m apart)
+
+-- a number that a name has is less than how many there are
+number_within : (names : List Name) (number : ℕ) (name : Name) → slice_get names number ≡ Some name → number < length names
+number_within names number name e = elim (cases_lt number (length names)) [ inl h ↦ h | inr h ↦ absurd (get_none names number name h e) ]
+
+same_to : (name : Name) (names : List Name) (d : Owner) (party : Party) (o : Option ℕ) → number_of name names ≡ o → length names ≤ most_names → are_kept names d party ≡ true
+    → same_owners (owners.Name (protocol_of name) (number_or o)) d ≡ same_owners (owners.Name (protocol_of name) (place_of name names)) d
+same_to name names d party (Some number) e few kept = ap (λ (n : ℕ). same_owners (owners.Name (protocol_of name) n) d) (sym (kept_from_number name names number e).1)
+same_to name names d party None e few kept =
+    let is = kept_parts names d party kept in
+    let small = number_within names is.number is.name is.owner_at in
+    let place = place_new name names (new_from_none name names e) in
+    ap (λ (x : Owner). same_owners (owners.Name (protocol_of name) no_number) x) is.owner_is
+    ∙ apart_number (protocol_of name) (protocol_of is.name) no_number is.number (λ same. omega (arith, same, small, few))
+    ∙ sym (apart_number (protocol_of name) (protocol_of is.name) (place_of name names) is.number (λ same. omega (arith, same, small, place)))
+    ∙ ap (λ (x : Owner). same_owners (owners.Name (protocol_of name) (place_of name names)) x) (sym is.owner_is)
+
+-- what the claim of a test meets, that of the lock does
+meets_both : (s : CoreState) (test lock : Ask) (first last : ℕ) (exclusive : Bool) (d : Claim) → IsGood s → is_client lock.owner lock.party ≡ true → IsSameAsker test lock → IsIn d s.claims
+    → stands_against (known_claim test (Bytes first last) exclusive s.names) d ≡ blocks (asked_claim lock (Range (Bytes first last) exclusive) s.names) d
+meets_both s test lock first last exclusive d good client same h =
+    let known = all_in (IsKnown s.names) d s.claims good.known h in
+    let is = is_client_is lock.owner lock.party client in
+    let named : test.owner ≡ Named is.0 = same.owner ∙ is.2 in
+    blocks_by (known_claim test (Bytes first last) exclusive s.names) (asked_claim lock (Range (Bytes first last) exclusive) s.names) d first last exclusive d.what refl known.0.0 same.file refl refl
+    (ap (λ (w : Who). posix (known_owner w s.names)) named ∙ client_posix is.0 is.1 is.4 (number_or (number_of is.0 s.names)) ∙ sym (ap (λ (w : Who). posix (owner_in w s.names)) is.2 ∙ client_posix is.0 is.1 is.4 (place_of is.0 s.names)))
+    (ap (λ (w : Who). same_owners (known_owner w s.names) d.owner) named ∙ same_to is.0 s.names d.owner d.party (number_of is.0 s.names) refl good.few known.1 ∙ sym (ap (λ (w : Who). same_owners (owner_in w s.names) d.owner) is.2))
+
+-- ---- a test foretells the lock
+
+pub test_foretells : (n : ℕ) (left : Rooms) (s : CoreState) (test lock : Ask) (first last : ℕ) (exclusive : Bool) → IsGood s → is_client lock.owner lock.party ≡ true → IsSameAsker test lock
+    → test.act ≡ Test (Bytes first last) exclusive → lock.act ≡ Ranges ((Bytes first last, exclusive) ∷ []) → lock.blocking ≡ false → IsConflict (ask n left s test).0 ↔ IsConflict (ask n left s lock).0
+test_foretells n left s test lock first last exclusive good client same tests locks hurries = (forth, back) where
+  what : What
+  what = Range (Bytes first last) exclusive
+
+  known : Claim
+  known = known_claim test (Bytes first last) exclusive s.names
+
+  asked : Claim
+  asked = asked_claim lock what s.names
+
+  alike : (d : Claim) → IsIn d s.claims → stands_against known d ≡ blocks asked d
+  alike d h = meets_both s test lock first last exclusive d good client same h
+
+  forth : IsConflict (ask n left s test).0 → IsConflict (ask n left s lock).0
+  forth told =
+      let due = (test_due n left s test (Bytes first last) exclusive (Conflict told.0) tests).0 told.1 in
+      let blocked = one_passes (λ d. blocks asked d) s.claims told.0 due.2 (sym (alike told.0 due.2) ∙ due.3) in
+      let found = blocks_some s.waiters s asked blocked in
+      let held = blockers_some s.waiters s asked found.0 found.1 in
+      (found.0, (lock_due n left s lock what (Conflict found.0) (ap asked_what locks)).1 (sym same.reclaim ∙ due.0, hurries, found.1, held.0, held.1))
+
+  back : IsConflict (ask n left s lock).0 → IsConflict (ask n left s test).0
+  back told =
+      let due = (lock_due n left s lock what (Conflict told.0) (ap asked_what locks)).0 told.1 in
+      let stands = alike told.0 due.3 ∙ due.4 in
+      elim (option_cases (least s.names (test_blockers s known))) [
+        | inl none ↦ absurd (both_ways (list_any (stands_against known) s.claims) (test_none s known none) (one_passes (stands_against known) s.claims told.0 due.3 stands))
+        | inr found ↦
+            let held = test_some s known found.0 found.1 in
+            (found.0, (test_due n left s test (Bytes first last) exclusive (Conflict found.0) tests).1 (same.reclaim ∙ due.0, found.1, held.0, held.1))
+      ]
+
+-- ---- what is granted leaves the record, the clock and the counter
+
+pub grant_leaves : (n : ℕ) (left : Rooms) (s : CoreState) (a : Ask) (c : Claim) → IsGood s → is_client a.owner a.party ≡ true → (ask n left s a).0 ≡ Granted c
+    → ((ask n left s a).2.clock ≡ s.clock) × ((ask n left s a).2.stable ≡ s.stable) × ((ask n left s a).2.counter ≡ s.counter)
+grant_leaves n left s a c good client at =
+    let frame = ask_frame n left s a good client in
+    let none : drawn_by (ask n left s a).0 ≡ 0 = ap drawn_by at in
+    (frame.clock, frame.stable, omega (arith, frame.counter, none))

@@ -1,0 +1,72 @@
+-- What each call of the core leaves alone, what it may raise, and who leaves the queue by it.
+use Rattle.std.specs.Prelude.{◌≡◌, ℕ, ◌+◌, Bool, true, false, if◌then◌else◌, List, [], ◌∷◌, ◌++◌}
+use Rattle.xl_names.specs.declared.name.Name.{Name}
+use Rattle.xl_wait.specs.Waiting.{is_waiting, cancelled}
+use Rattle.xl_wait.specs.declared.waiter.Waiter.{Waiter}
+use Rattle.xl_core.specs.State.{CoreState}
+use Rattle.xl_core.specs.Asking.{both_entered, asked_whats, asked_claims}
+use Rattle.xl_core.specs.Decide.{waiter_of}
+use Rattle.xl_core.specs.Settle.{all_cancelled}
+use Rattle.xl_core.specs.declared.ask.Act.{Act}
+use Rattle.xl_core.specs.declared.ask.Act.TheVariants.{Share, Ranges, Test, Unlock}
+use Rattle.xl_core.specs.declared.ask.Answer.{Answer}
+use Rattle.xl_core.specs.declared.ask.Answer.TheVariants.{Granted, Queued}
+use Rattle.xl_core.specs.declared.ask.Ask.{Ask}
+use Rattle.xl_core.specs.declared.ask.Effect.{Effect}
+use Rattle.xl_core.specs.declared.ask.Effect.TheVariants.{Served, Cancelled}
+
+-- ---- who leaves the queue
+
+abbrev pub with_told : Effect → List ℕ → List ℕ
+with_told (Served id answer) ids = id ∷ ids
+with_told (Cancelled id) ids = id ∷ ids
+with_told _ ids = ids
+
+-- the numbers of the waiters that these tell of, in order: they wait no more
+abbrev pub who_left : List Effect → List ℕ
+who_left [] = []
+who_left (effect ∷ effects) = with_told effect (who_left effects)
+
+-- each of these waits, where those before it left; so each leaves once
+abbrev pub AllLeave : List ℕ → List Waiter → Type 0
+AllLeave [] ws = Unit {0}
+AllLeave (id ∷ ids) ws = (is_waiting id ws ≡ true) × AllLeave ids (cancelled id ws)
+
+-- ---- a call
+
+-- A call that tells these effects: the record, the clock and the stores of the step stand, so many numbers are given out,
+-- these names are kept then, who leaves the queue is told of once, and these come behind those who stay.
+pub record IsFrame (s : CoreState) (told : List Effect) (t : CoreState) (given : ℕ) (known : List Name) (come : List Waiter) : Type 0 where
+  pub stable : t.stable ≡ s.stable
+  pub clock : t.clock ≡ s.clock
+  pub made : t.made ≡ s.made
+  pub failed : t.failed ≡ s.failed
+  pub counter : t.counter ≡ s.counter + given
+  pub names : t.names ≡ known
+  pub leave : AllLeave (who_left told) s.waiters
+  pub waiters : t.waiters ≡ all_cancelled (who_left told) s.waiters ++ come
+
+-- ---- an ask, by its answer
+
+-- how many numbers it draws
+abbrev pub drawn_by : Answer → ℕ
+drawn_by (Queued number) = 1
+drawn_by _ = 0
+
+-- it asks for something that is held then
+abbrev pub asks_to_hold : Act → Bool
+asks_to_hold (Share access deny) = true
+asks_to_hold (Ranges ranges) = true
+asks_to_hold (Test extent exclusive) = false
+asks_to_hold (Unlock extent) = false
+
+-- the names that are kept then: those of one that was granted what it holds, or that waits, with the others
+abbrev pub names_after : Ask → Answer → List Name → List Name
+names_after a (Granted claim) names = if asks_to_hold a.act then both_entered a names else names
+names_after a (Queued number) names = both_entered a names
+names_after a _ names = names
+
+-- who comes to wait
+abbrev pub come_by : Ask → Answer → List Name → List Waiter
+come_by a (Queued number) names = waiter_of number a (asked_claims a (asked_whats a.act) names) ∷ []
+come_by a _ names = []

@@ -1,0 +1,98 @@
+-- The order of decisions: one judgement of those who ask and of those who wait, as a row of steps.
+use Rattle.std.specs.Prelude.{ℕ, if◌then◌else◌, List, [], ◌∷◌, ◌++◌, length, Option, Some, None}
+use Rattle.xl_matrix.specs.declared.claim.Claim.{Claim}
+use Rattle.xl_wait.specs.declared.waiter.Rooms.{Rooms}
+use Rattle.xl_wait.specs.declared.waiter.Waiter.{Waiter}
+use Rattle.xl_core.specs.State.{CoreState}
+use Rattle.xl_table.specs.Least.{least}
+use Rattle.xl_core.specs.Blockers.{blockers}
+use Rattle.xl_core.specs.Limits.{grant_limits, first_passed}
+use Rattle.xl_table.specs.Relock.{granted_claims}
+use Rattle.xl_core.specs.declared.ask.Answer.TheVariants.{Conflict, NoGrace, Full}
+use Rattle.xl_core.specs.declared.ask.Effect.{Effect}
+use Rattle.xl_core.specs.declared.judge.Plea.{Plea}
+use Rattle.xl_core.specs.declared.judge.Ruling.{Ruling}
+use Rattle.xl_core.specs.declared.judge.Ruling.TheVariants.{Gets, Waits, Told}
+
+-- ---- a row of steps
+
+-- a ruling, what is told besides, and the state that is left
+abbrev pub Ruled : Type 0
+Ruled = Ruling × List Effect × CoreState
+
+-- a step ends with a ruling, or goes on at None
+abbrev pub Step : Type 0
+Step = CoreState → Option Ruling × List Effect × CoreState
+
+abbrev pub followed : Option Ruling → List Effect → CoreState → (CoreState → Ruled) → Ruled
+followed (Some ruling) told s rest = (ruling, told, s)
+followed None told s rest = ((rest s).0, told ++ (rest s).1, (rest s).2)
+
+-- the step, and the rest of the row where it goes on
+abbrev pub after : Step → (CoreState → Ruled) → CoreState → Ruled
+after step rest s = followed (step s).0 (step s).1 (step s).2 rest
+
+-- ---- claims that count as held
+
+-- the claims once these are granted, one after another
+abbrev pub all_granted : List Claim → List Claim → List Claim
+all_granted [] held = held
+all_granted (c ∷ cs) held = all_granted cs (granted_claims c held)
+
+unfoldable pub held_with : List Claim → CoreState → CoreState
+held_with claims s = record s { claims = all_granted claims s.claims }
+
+-- ---- the steps
+
+-- no grace runs, so a reclaim comes too late
+unfoldable pub check_grace : Plea → Step
+check_grace p s = if p.reclaim then (Some (Told (NoGrace s.clock)), [], s) else (None, [], s)
+
+-- who is stopped waits, where it may and its wait passes no limit
+abbrev pub waits : Option ℕ → Ruling
+waits None = Waits
+waits (Some limit) = Told (Full limit)
+
+abbrev pub stopped : Plea → Claim → Ruling
+stopped p c = if p.blocking then waits p.crowded else Told (Conflict c)
+
+abbrev pub held_by : Plea → Option Claim → Step
+held_by p None s = (None, [], s)
+held_by p (Some c) s = (Some (stopped p c), [], s)
+
+-- what is held against the claim, where those before it are held too
+unfoldable pub check_held : List Waiter → Plea → List Claim → Claim → Step
+check_held earlier p before c s = held_by p (least s.names (blockers earlier (held_with before s) c)) s
+
+-- there are no caches yet, so no break begins
+unfoldable pub start_breaks : Plea → List Claim → Claim → Step
+start_breaks p before c s = (None, [], s)
+
+abbrev pub room_by : Option ℕ → Step
+room_by None s = (None, [], s)
+room_by (Some limit) s = (Some (Told (Full limit)), [], s)
+
+-- the least limit that the claim passes, where those before it are held too
+unfoldable pub check_room : Rooms → Plea → List Claim → Claim → Step
+check_room left p before c s = room_by (first_passed (grant_limits left p.rows (length (granted_claims c (held_with before s).claims)) p.kept)) s
+
+-- no record is kept yet, so no store is made
+unfoldable pub record_name : ℕ → Plea → Step
+record_name n p s = (None, [], s)
+
+-- all claims are held, and only now
+unfoldable pub enter_all : List Claim → CoreState → Ruled
+enter_all asked s = (Gets, [], held_with asked s)
+
+-- ---- the judgement
+
+-- each claim behind those before it, and the rest once all have passed
+abbrev pub each : List Waiter → Rooms → Plea → List Claim → List Claim → (CoreState → Ruled) → CoreState → Ruled
+each earlier left p before [] rest = rest
+each earlier left p before (c ∷ cs) rest =
+    after (check_held earlier p before c) (after (start_breaks p before c) (after (check_room left p before c) (each earlier left p (before ++ c ∷ []) cs rest)))
+
+-- What comes of a plea for these claims, behind these waiters, where this room is left in the fronts' tables and n stores
+-- succeed in the step: all of them are granted, or none.
+unfoldable pub judged : ℕ → List Waiter → Rooms → Plea → List Claim → CoreState → Ruled
+judged n earlier left p asked = after (check_grace p) (each earlier left p [] asked (after (record_name n p) (enter_all asked)))

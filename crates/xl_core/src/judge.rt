@@ -1,0 +1,136 @@
+//! The order of decisions, read for those who ask and for those who wait.
+ghost use Rattle.std.specs.Prelude.{◌≡◌, ℕ, ◌≤◌, List, [], ◌∷◌, length, true, None, IfOk};
+ghost use Rattle.std.specs.List.{AllByRecursion};
+ghost use Rattle.xl_table.specs.Changes.{written, MayBeWritten};
+ghost use Rattle.xl_table.specs.Held.{has_one_party, IsPosix};
+ghost use Rattle.xl_table.specs.Relock.{granted_claims};
+ghost use Rattle.xl_wait.specs.declared.waiter.Waiter.{Waiter};
+ghost use Rattle.xl_core.specs.Judge.{check_grace, stopped, check_held, check_room, judged};
+ghost use Rattle.xl_core.specs.Whole.{state_of};
+
+use crate::ask::Answer;
+use crate::limits::passed_by_grant;
+use crate::parts::Parts;
+use std::alloc::{AllocError, Global};
+use xl_matrix::Claim;
+use xl_table::Change;
+use xl_wait::Rooms;
+
+/// What comes of a plea.
+#[derive(Clone, Copy)]
+pub(crate) enum Ruling {
+    /// It has what it pleads for.
+    Gets,
+    /// It waits.
+    Waits,
+    /// It is refused, and told so.
+    Told(Answer),
+}
+
+/// What is judged besides the claims: of one who asks, or of one who waits already.
+#[derive(Clone, Copy)]
+pub(crate) struct Plea {
+    /// Whether it waits where something held stands against it.
+    pub blocking: bool,
+    /// Whether it claims again what it had before a restart.
+    pub reclaim: bool,
+    /// The rows of the fronts' tables that its grant adds.
+    pub rows: Rooms,
+    /// How many names are kept once it is granted or waits.
+    pub kept: usize,
+    /// The least limit that its wait would pass; None of one who waits already.
+    pub crowded: Option<u32>,
+}
+
+/// No grace runs, so a reclaim comes too late.
+#[tactic(auto, unfolding(crate::specs::Judge::check_grace))]
+fn check_grace(parts: &Parts, plea: &Plea) -> Option<Ruling>
+    ensures { check_grace plea.now (state_of parts.now) ≡ (result, [], state_of parts.now) }
+{
+    if plea.reclaim {
+        return Some(Ruling::Told(Answer::NoGrace(parts.clock)));
+    }
+    None
+}
+
+/// Who is stopped by a held claim waits, where it may and its wait passes no limit.
+fn stopped(plea: &Plea, blocker: Claim) -> Ruling
+    ensures { result ≡ stopped plea.now blocker }
+{
+    if !plea.blocking {
+        return Ruling::Told(Answer::Conflict(blocker));
+    }
+    match plea.crowded {
+        Some(limit) => Ruling::Told(Answer::Full(limit)),
+        None => Ruling::Waits,
+    }
+}
+
+/// What is held against the claim.
+#[tactic(auto, unfolding(crate::specs::Judge::check_held, crate::specs::Judge::held_with, crate::specs::Blockers::blockers))]
+fn check_held(
+    alloc: Global,
+    parts: &Parts,
+    plea: &Plea,
+    claim: &Claim,
+) -> Result<Option<Ruling>, AllocError>
+    ensures { (earlier : List Waiter) → IfOk result (λ r. check_held earlier plea.now [] claim.now (state_of parts.now) ≡ (r, [], state_of parts.now)) }
+{
+    Ok(
+        match parts.table.least_blocker(alloc, &parts.names, claim)? {
+            Some(blocker) => Some(stopped(plea, blocker)),
+            None => None,
+        },
+    )
+}
+
+/// The least limit that the claim passes.
+#[tactic(auto, unfolding(crate::specs::Judge::check_room, crate::specs::Judge::held_with))]
+fn check_room(
+    parts: &Parts,
+    left: &Rooms,
+    plea: &Plea,
+    claim: &Claim,
+    change: &Change,
+) -> Option<Ruling>
+    requires change { change.now.held ≡ length (granted_claims claim.now parts.now.table) }
+    ensures room { check_room left.now plea.now [] claim.now (state_of parts.now) ≡ (result, [], state_of parts.now) }
+    ensures fits { result ≡ None → change.now.held ≤ 16384 }
+{
+    match passed_by_grant(left, &plea.rows, change.held, plea.kept) {
+        Some(limit) => Some(Ruling::Told(Answer::Full(limit))),
+        None => None,
+    }
+}
+
+/// What comes of a plea for one claim. Only what is held changes.
+#[tactic(auto, unfolding(crate::specs::Judge::judged, crate::specs::Judge::start_breaks, crate::specs::Judge::record_name, crate::specs::Judge::enter_all, crate::specs::Judge::held_with))]
+pub(crate) fn judge(
+    alloc: Global,
+    parts: &mut Parts,
+    left: &Rooms,
+    plea: &Plea,
+    claim: &Claim,
+) -> Result<Ruling, AllocError>
+    requires posix { IsPosix claim.now }
+    requires party { AllByRecursion (λ c. has_one_party claim.now c ≡ true) parts.old.table }
+    ensures judged { (n : ℕ) (earlier : List Waiter) → IfOk result (λ r. judged n earlier left.now plea.now (claim.now ∷ []) (state_of parts.old) ≡ (r, [], state_of parts.new)) }
+    ensures queue { parts.new.queue ≡ parts.old.queue }
+    ensures names { parts.new.names ≡ parts.old.names }
+    ensures counter { parts.new.counter ≡ parts.old.counter }
+    ensures made { parts.new.made ≡ parts.old.made }
+    ensures failed { parts.new.failed ≡ parts.old.failed }
+{
+    if let Some(ruling) = check_grace(parts, plea) {
+        return Ok(ruling);
+    }
+    if let Some(ruling) = check_held(alloc, parts, plea, claim)? {
+        return Ok(ruling);
+    }
+    let change = parts.table.granted(alloc, claim)?;
+    if let Some(ruling) = check_room(parts, left, plea, claim, &change) {
+        return Ok(ruling);
+    }
+    parts.table.write(&change)?;
+    Ok(Ruling::Gets)
+}

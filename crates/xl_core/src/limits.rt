@@ -1,0 +1,52 @@
+//! The limits that a grant or a wait may pass.
+ghost use Rattle.std.specs.Prelude.{◌≡◌};
+ghost use Rattle.xl_core.specs.Limits.{grant_limits, wait_limits, first_passed};
+
+use xl_names::MOST_NAMES;
+use xl_table::CLAIMS;
+use xl_wait::{Rooms, WAITERS};
+
+/// How many NLM hosts are kept.
+pub const MOST_HOSTS: u32 = 256;
+
+/// How many opens there are, of NFSv4 and SMB together.
+pub const MOST_OPENS: u32 = 4_096;
+
+/// How many NFSv4 owners are kept.
+pub const MOST_OWNERS: u32 = 8_192;
+
+/// The first of these limits that is passed.
+fn first_passed(limits: &[(u32, bool)]) -> Option<u32>
+    ensures { result ≡ first_passed limits.now }
+{
+    for (limit, passed) in limits {
+        if *passed {
+            return Some(*limit);
+        }
+    }
+    None
+}
+
+/// The least limit that a grant passes, where so many claims are held and names kept afterwards.
+pub(crate) fn passed_by_grant(left: &Rooms, rows: &Rooms, held: usize, kept: usize) -> Option<u32>
+    ensures { result ≡ first_passed (grant_limits left.now rows.now held kept) }
+{
+    first_passed(&[
+        (MOST_HOSTS, left.hosts < rows.hosts),
+        (MOST_OPENS, left.opens < rows.opens),
+        (MOST_OWNERS, left.owners < rows.owners),
+        (CLAIMS as u32, CLAIMS < held),
+        (MOST_NAMES, (MOST_NAMES as usize) < kept),
+    ])
+}
+
+/// The least limit that a wait passes, where so many wait already and names are kept afterwards.
+pub(crate) fn passed_by_wait(left: &Rooms, rows: &Rooms, waiting: usize, kept: usize) -> Option<u32>
+    ensures { result ≡ first_passed (wait_limits left.now rows.now waiting kept) }
+{
+    first_passed(&[
+        (MOST_HOSTS, left.hosts < rows.hosts),
+        (WAITERS as u32, WAITERS <= waiting),
+        (MOST_NAMES, (MOST_NAMES as usize) < kept),
+    ])
+}

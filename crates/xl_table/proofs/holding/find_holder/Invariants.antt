@@ -1,6 +1,0 @@
-use Rattle.std.proofs.Common.{◌≡◌, drop, None}
-use Rattle.xl_table.specs.Flat.{holder_from}
-use Rattle.xl_table.proofs.holding.find_holder.Given as goal
-
-abbrev pub invariant-claims : goal.invariant-claims
-invariant-claims l = holder_from l.least l.file l.byte (drop l.claim-index l.claims) ≡ holder_from None l.file l.byte l.claims

@@ -1,0 +1,5 @@
+use Rattle.xl_table.proofs.SectionLaws.{blocks_on_file}
+use Rattle.xl_table.proofs.listing.list_blockers.Goals as goal
+
+pub returns : goal.returns
+returns c = blocks_on_file c.args.ask.now c.args.claims.now c.on_file.result.now _ c.in_ok-blockers_among.ensures c.on_file.ensures

@@ -1,0 +1,37 @@
+-- The least of some claims, as a blocker is reported.
+use Rattle.std.specs.Prelude.{ℕ, Bool, ◌==◌, nat_lt, if◌then◌else◌, List, [], ◌∷◌, Option, Some, None}
+use Rattle.std.specs.Ordering.{nat_cmp, is_lt}
+use Rattle.std.specs.Cmp.Lexicographic.{slice_cmp}
+use Rattle.xl_matrix.specs.declared.claim.Claim.{Claim}
+use Rattle.xl_matrix.specs.declared.claim.Extent.TheVariants.{Bytes, Empty}
+use Rattle.xl_matrix.specs.declared.claim.What.{What}
+use Rattle.xl_matrix.specs.declared.claim.What.TheVariants.{Range}
+use Rattle.xl_names.specs.Texts.{owner_text}
+use Rattle.xl_names.specs.declared.name.Name.{Name}
+
+-- how ranges are told apart: the first byte, whether there are bytes, the last, and exclusive before shared
+abbrev pub range_key : What → ℕ × ℕ × ℕ × ℕ
+range_key (Range (Bytes first last) exclusive) = (first, 1, last, if exclusive then 0 else 1)
+range_key (Range (Empty offset) exclusive) = (offset, 0, 0, if exclusive then 0 else 1)
+range_key _ = (0, 0, 0, 0)
+
+abbrev pub before_by : ℕ × ℕ × ℕ × ℕ → ℕ × ℕ × ℕ × ℕ → Bool → Bool
+before_by a b text =
+    if a.0 == b.0 then (if a.1 == b.1 then (if a.2 == b.2 then (if a.3 == b.3 then text else nat_lt a.3 b.3) else nat_lt a.2 b.2) else nat_lt a.1 b.1) else nat_lt a.0 b.0
+
+-- the first range comes before the second; where nothing else parts them, by the text of their owners
+abbrev pub range_before : List Name → Claim → Claim → Bool
+range_before names a b = before_by (range_key a.what) (range_key b.what) (is_lt (slice_cmp nat_cmp (owner_text names a.owner) (owner_text names b.owner)))
+
+-- the lesser of the least so far and one more
+abbrev pub lesser : List Name → Option Claim → Claim → Option Claim
+lesser names None c = Some c
+lesser names (Some least) c = if range_before names c least then Some c else Some least
+
+abbrev pub least_from : List Name → Option Claim → List Claim → Option Claim
+least_from names least [] = least
+least_from names least (c ∷ cs) = least_from names (lesser names least c) cs
+
+-- the least of these
+unfoldable pub least : List Name → List Claim → Option Claim
+least names cs = least_from names None cs

@@ -1,0 +1,53 @@
+-- Parts of the flat list that bisection finds: a file's claims, an owner's share or its ranges, those that a range touches.
+use Rattle.std.specs.Prelude.{◌≡◌, ℕ, ◌-◌, Bool, true, false, not, ◌&&◌, ◌||◌, ◌==◌, nat_lt, nat_le, List, [], ◌∷◌}
+use Rattle.std.specs.List.{AllByRecursion}
+use Rattle.xl_base.specs.declared.name.Owner.{Owner}
+use Rattle.xl_matrix.specs.declared.claim.Extent.TheVariants.{Bytes}
+use Rattle.xl_matrix.specs.declared.claim.What.{What}
+use Rattle.xl_matrix.specs.declared.claim.What.TheVariants.{Range}
+use Rattle.xl_matrix.specs.declared.claim.Claim.{Claim}
+use Rattle.xl_spans.specs.declared.span.Span.{Span}
+use Rattle.xl_table.specs.Held.{with_span}
+use Rattle.xl_table.specs.Order.{no_later, owner_key, key}
+
+-- the numbers with which those of a file's claims begin, and those of an owner's shares (class 0) or ranges (class 1) there
+abbrev pub group : ℕ → ℕ → Owner → List ℕ
+group file class owner = file ∷ class ∷ owner_key owner
+
+-- a claim's numbers begin with these
+abbrev pub starts : List ℕ → List ℕ → Bool
+starts [] ks = true
+starts (f ∷ fs) [] = false
+starts (f ∷ fs) (k ∷ ks) = (k == f) && starts fs ks
+
+-- a claim's numbers are no later than all that begin with these
+abbrev pub is_no_later_than : List ℕ → List ℕ → Bool
+is_no_later_than [] ks = true
+is_no_later_than (f ∷ fs) [] = true
+is_no_later_than (f ∷ fs) (k ∷ ks) = nat_lt k f || (k == f) && is_no_later_than fs ks
+
+-- the claim stands before those whose numbers begin with these, or at most among them
+abbrev pub is_before : List ℕ → Claim → Bool
+is_before front c = not (no_later front (key c))
+
+abbrev pub is_upto : List ℕ → Claim → Bool
+is_upto front c = is_no_later_than front (key c)
+
+-- a range with bytes that ends before a byte, and one that begins by the byte past this one
+abbrev pub range_ends_before : ℕ → What → Bool
+range_ends_before byte (Range (Bytes first last) exclusive) = nat_lt last byte
+range_ends_before byte _ = false
+
+abbrev pub range_begins_by : ℕ → What → Bool
+range_begins_by byte (Range (Bytes first last) exclusive) = nat_le (first - 1) byte
+range_begins_by byte _ = false
+
+-- once a claim fails the test, so do all behind it
+abbrev pub IsParted : (Claim → Bool) → List Claim → Type 0
+IsParted p [] = Unit {0}
+IsParted p (c ∷ cs) = (p c ≡ false → AllByRecursion (λ d. p d ≡ false) cs) × IsParted p cs
+
+-- the spans of these claims, whoever's they are
+abbrev pub spans_in : List Claim → List Span
+spans_in [] = []
+spans_in (c ∷ cs) = with_span c.what (spans_in cs)

@@ -1,0 +1,95 @@
+//! The least of some claims, as a blocker is reported.
+ghost use Rattle.std.specs.Prelude.{◌≡◌, IfOk};
+ghost use Rattle.std.specs.Ordering.{nat_cmp, is_lt};
+ghost use Rattle.std.specs.Cmp.Lexicographic.{slice_cmp};
+ghost use Rattle.xl_names.specs.Texts.{owner_text};
+ghost use Rattle.xl_table.specs.Least.{range_key, range_before, lesser, least};
+
+use std::alloc::{AllocError, Global};
+use xl_base::Owner;
+use xl_matrix::{Claim, Extent, What};
+use xl_names::{Names, owner_text};
+
+/// What orders ranges: the first byte, whether there are bytes, the last, and 0 where it is exclusive.
+fn range_key(claim: &Claim) -> (u64, u8, u64, u8)
+    ensures { (result.0, result.1, result.2, result.3) ≡ range_key claim.now.what }
+{
+    match claim.what {
+        What::Range(Extent::Bytes(first, last), exclusive) => (
+            first,
+            1,
+            last,
+            if exclusive { 0 } else { 1 },
+        ),
+        What::Range(Extent::Empty(offset), exclusive) => (
+            offset,
+            0,
+            0,
+            if exclusive { 0 } else { 1 },
+        ),
+        _ => (0, 0, 0, 0),
+    }
+}
+
+/// Whether the first owner's text comes before the second's.
+fn text_before(alloc: Global, names: &Names, a: Owner, b: Owner) -> Result<bool, AllocError>
+    ensures { IfOk result (λ before. before ≡ is_lt (slice_cmp nat_cmp (owner_text names.now a) (owner_text names.now b))) }
+{
+    let first = owner_text(alloc, names, a)?;
+    let second = owner_text(alloc, names, b)?;
+    Ok(first.as_bytes().cmp(second.as_bytes()).is_lt())
+}
+
+/// Whether the first range comes before the second.
+fn range_before(alloc: Global, names: &Names, a: &Claim, b: &Claim) -> Result<bool, AllocError>
+    ensures { IfOk result (λ before. before ≡ range_before names.now a.now b.now) }
+{
+    let first = range_key(a);
+    let second = range_key(b);
+    if first.0 != second.0 {
+        return Ok(first.0 < second.0);
+    }
+    if first.1 != second.1 {
+        return Ok(first.1 < second.1);
+    }
+    if first.2 != second.2 {
+        return Ok(first.2 < second.2);
+    }
+    if first.3 != second.3 {
+        return Ok(first.3 < second.3);
+    }
+    text_before(alloc, names, a.owner, b.owner)
+}
+
+/// The lesser of the least so far and one more.
+fn lesser(
+    alloc: Global,
+    names: &Names,
+    least: Option<Claim>,
+    claim: &Claim,
+) -> Result<Option<Claim>, AllocError>
+    ensures { IfOk result (λ c. c ≡ lesser names.now least claim.now) }
+{
+    if let Some(before) = least {
+        if !range_before(alloc, names, claim, &before)? {
+            return Ok(least);
+        }
+    }
+    Ok(Some(*claim))
+}
+
+/// The least of these claims.
+#[tactic(auto, unfolding(crate::specs::Least::least))]
+pub(crate) fn least(
+    alloc: Global,
+    names: &Names,
+    claims: &[Claim],
+) -> Result<Option<Claim>, AllocError>
+    ensures { IfOk result (λ c. c ≡ least names.now claims.now) }
+{
+    let mut least = None;
+    for claim in claims {
+        least = lesser(alloc, names, least, claim)?;
+    }
+    Ok(least)
+}
