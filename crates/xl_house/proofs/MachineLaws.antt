@@ -11,7 +11,9 @@ use Rattle.xl_base.specs.declared.event.Out.{Out}
 use Rattle.xl_base.specs.declared.journal.Entry.{Entry}
 use Rattle.xl_base.specs.declared.journal.Exports.{Exports}
 use Rattle.xl_base.specs.declared.journal.Head.{Head}
-use Rattle.xl_core.specs.State.{CoreState, MayBe, GoesOn, started, step_begun}
+use Rattle.xl_core.specs.State.{CoreState, MayBe, GoesOn, started, step_begun, drawn}
+use Rattle.xl_core.specs.Deeds.{Deed, Asks, GivesBack, Cancels, Ends, Serves, Draws, turned, done, all_done}
+use Rattle.xl_core.proofs.DeedLists.{deeds_good}
 use Rattle.xl_core.specs.Good.{IsGood, IsSettled, is_still_blocked}
 use Rattle.xl_core.specs.Settle.{settle}
 use Rattle.xl_core.specs.declared.ask.Effect.{Effect}
@@ -27,10 +29,10 @@ use Rattle.xl_house.specs.Journals.{is_restart}
 use Rattle.xl_house.specs.Machine.{Whole, Turn, Sent, begin, kind_of, behind, and_then, grants, all_shown, after_turn, settled_for, settled, heard_by, heard, connected, onward, turn_of, settled_turn, restarted, step}
 use Rattle.xl_house.specs.Shown.{IsShown}
 use Rattle.xl_house.specs.declared.connections.Connection.{Connection}
-use Rattle.xl_house.proofs.StillLaws.{IsStill, IsAfterTurn, still, still_on, turn_still}
-use Rattle.xl_house.proofs.FrontLaws.{front_good, front_still, answer_good, answer_still}
+use Rattle.xl_house.proofs.StillLaws.{IsStill, IsAfterTurn, still, still_on, ask_still, cancel_still, give_back_still, end_party_still, turn_still}
+use Rattle.xl_house.proofs.DoneLaws.{own_and_told, heard_does, heard_takes, left_by}
 use Rattle.xl_house.proofs.ShownLaws.{all_shown_is, all_shown_good, shown_waiters}
-use Rattle.xl_house.proofs.SettleLaws.{may_be_made, may_be_before}
+use Rattle.xl_house.proofs.Stores.{may_be_made, may_be_before}
 
 -- ---- an event other than a restart
 
@@ -107,41 +109,31 @@ settling_still n exports f s =
 
 -- ---- what an event gives before the table is settled
 
-by_good : (n : ℕ) (exports : Exports) (f : FrontState) (s : CoreState) (kind : Option Kind) (number : ℕ) (bytes : List ℕ) → IsGood s → IsGood (heard_by n exports f s kind number bytes).2
-by_good n exports f s None number bytes good = good
-by_good n exports f s (Some Smb) number bytes good = good
-by_good n exports f s (Some Rpc) number bytes good =
-    let r = nlm_step n exports f s number bytes in
-    all_shown_good exports r.2 r.3 r.1 (front_good n exports f s number bytes good)
-
 pub heard_good : (n : ℕ) (s : Whole) (e : Event) → IsGood s.core → IsGood (heard n s e).2
-unfolding heard
-heard_good n s (Open kind) good = begun_good s.core good
-heard_good n s (Message number bytes) good = by_good n s.exports s.front (step_begun s.core) (kind_of s.connections number) number bytes (begun_good s.core good)
-heard_good n s (End number) good = begun_good s.core good
-heard_good n s (Called call reply) good =
-    let r = nlm_called n s.front (step_begun s.core) call reply in
-    all_shown_good s.exports r.1 r.2 r.0 (answer_good n s.front (step_begun s.core) call reply (begun_good s.core good))
-heard_good n s (Tick moment) good = begun_good s.core good
-heard_good n s Restart good = begun_good s.core good
+heard_good n s e good =
+    let begun = step_begun s.core in
+    let ds = own_and_told n s e in
+    subst (λ (t : CoreState). IsGood t) (sym (heard_does n s e)) (deeds_good n begun ds (begun_good s.core good) (heard_takes n s e))
 
-by_still : (n : ℕ) (exports : Exports) (f : FrontState) (s : CoreState) (kind : Option Kind) (number : ℕ) (bytes : List ℕ) → IsStill s (heard_by n exports f s kind number bytes).2
-by_still n exports f s None number bytes = still s
-by_still n exports f s (Some Smb) number bytes = still s
-by_still n exports f s (Some Rpc) number bytes =
-    let r = nlm_step n exports f s number bytes in
-    still_on s r.3 (all_shown exports r.2 r.3 r.1).2 (front_still n exports f s number bytes) (told_still exports r.2 r.3 r.1)
+served_still : (s : CoreState) (o : Option (List Effect × CoreState)) → IfSome o (λ r. IsAfterTurn s r.1) → IsStill s (turned s o).2
+served_still s None each = still s
+served_still s (Some r) each = each.still
+
+deed_still : (n : ℕ) (s : CoreState) (d : Deed) → IsStill s (done n s d)
+unfolding drawn
+deed_still n s (Asks left a) = ask_still n left s a
+deed_still n s (GivesBack claim) = give_back_still s claim
+deed_still n s (Cancels id) = cancel_still s id
+deed_still n s (Ends party) = end_party_still s party
+deed_still n s (Serves left) = served_still s (settle n left s) (turn_still n left s)
+deed_still n s Draws = record { stable = refl; clock = refl; made = refl; failed = refl }
+
+deeds_still : (n : ℕ) (s : CoreState) (ds : List Deed) → IsStill s (all_done n s ds)
+deeds_still n s [] = still s
+deeds_still n s (d ∷ ds) = still_on s (done n s d) (all_done n (done n s d) ds) (deed_still n s d) (deeds_still n (done n s d) ds)
 
 heard_still : (n : ℕ) (s : Whole) (e : Event) → IsStill (step_begun s.core) (heard n s e).2
-unfolding heard
-heard_still n s (Open kind) = still (step_begun s.core)
-heard_still n s (Message number bytes) = by_still n s.exports s.front (step_begun s.core) (kind_of s.connections number) number bytes
-heard_still n s (End number) = still (step_begun s.core)
-heard_still n s (Called call reply) =
-    let r = nlm_called n s.front (step_begun s.core) call reply in
-    still_on (step_begun s.core) r.2 (all_shown s.exports r.1 r.2 r.0).2 (answer_still n s.front (step_begun s.core) call reply) (told_still s.exports r.1 r.2 r.0)
-heard_still n s (Tick moment) = still (step_begun s.core)
-heard_still n s Restart = still (step_begun s.core)
+heard_still n s e = subst (λ (t : CoreState). IsStill (step_begun s.core) t) (sym (heard_does n s e)) (deeds_still n (step_begun s.core) (own_and_told n s e))
 
 -- ---- free moments
 
@@ -152,10 +144,6 @@ begun_still s = (refl, refl)
 begun_settled : (s : CoreState) → IsSettled s → IsSettled (step_begun s)
 unfolding step_begun
 begun_settled s settled = settled
-
--- the core at the end of a step
-abbrev pub left_by : ℕ → Whole → Event → CoreState
-left_by n s e = (settled n s.exports (heard n s e).1 (heard n s e).2).2
 
 pub free_from : (s : Whole) (connections : List Connection) (front : FrontState) (core : CoreState) → IsGood core → IsSettled core → IsFree (onward s connections front core)
 free_from s connections front core good settled = record {

@@ -5,6 +5,7 @@ mod connections;
 mod house;
 mod machine;
 mod outs;
+mod parts;
 mod settling;
 mod start;
 
