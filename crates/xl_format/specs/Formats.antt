@@ -55,7 +55,7 @@ seen to from f back forth = record { at = as_at to f.at; spell = λ b. f.spell (
 abbrev pub marked : {A : Type 0} (n : ℕ) → RpcBad → nat_lt n (2 ^ 32) ≡ true → Format A RpcBad → Format A RpcBad
 marked n fault small f = record { at = exactly_at n fault unsigned_at f.at; spell = λ a. unsigned n ++ f.spell a; Fit = f.Fit; codec = exactly_codec n fault unsigned_codec (ltb-true n (2 ^ 32) small) f.codec }
 
--- nothing at all, this value without any bytes, and what is never there
+-- nothing at all
 unfoldable pub nothing : Format (Unit {0}) RpcBad
 nothing = record { at = nothing_at; spell = λ _. void; Fit = λ _. Unit {0}; codec = void_codec }
 
@@ -63,9 +63,14 @@ pub nothing_fits : nothing.Fit tt
 unfolding nothing
 nothing_fits = tt
 
-abbrev pub just : {A : Type 0} → A → Format A RpcBad
-just a = record { at = as_at (λ _. a) nothing.at; spell = λ _. nothing.spell tt; Fit = λ x. a ≡ x; codec = view_codec (λ _. a) (λ _. nothing.spell tt) (λ x. a ≡ x) nothing.codec (λ _ _. (refl, refl)) (λ x same. (tt, same, nothing_fits)) }
+-- this value, which is told by what has no parts
+abbrev pub giving : {A : Type 0} → A → (f : Format (Unit {0}) RpcBad) → f.Fit tt → Format A RpcBad
+giving a f fits = record { at = as_at (λ _. a) f.at; spell = λ _. f.spell tt; Fit = λ x. a ≡ x; codec = view_codec (λ _. a) (λ _. f.spell tt) (λ x. a ≡ x) f.codec (λ _ _. (refl, refl)) (λ x same. (tt, same, fits)) }
 
+abbrev pub just : {A : Type 0} → A → Format A RpcBad
+just a = giving a nothing nothing_fits
+
+-- what is never there
 abbrev pub never : {A : Type 0} → RpcBad → Format A RpcBad
 never fault = record { at = never_at fault; spell = λ _. []; Fit = λ _. ⊥; codec = never_codec fault (λ _. []) (λ _. ⊥) (λ _ none. none) }
 
@@ -88,9 +93,12 @@ otherwise fault = others (λ _. never fault)
 abbrev pub none_else : {K A : Type 0} (choose : A → Chosen K A RpcBad) (before : K → Bool) (fault : RpcBad) → AreSeen choose before (otherwise fault)
 none_else choose before fault = (λ k unknown a none. absurd none, tt)
 
--- the value that stands without any bytes at this key where the condition holds
+-- the value that is told at this key by what has no parts, where the condition holds
+abbrev pub standing_by : {K A : Type 0} → K → A → (f : Format (Unit {0}) RpcBad) → f.Fit tt → Type 0 → Chosen K A RpcBad
+standing_by {K} {A} key a f fits Condition = record { key = key; Part = Unit {0}; make = λ _. a; format = f; part = tt; Fit = Condition; fits = λ _. fits }
+
 abbrev pub standing : {K A : Type 0} → K → A → Type 0 → Chosen K A RpcBad
-standing {K} {A} key a Condition = record { key = key; Part = Unit {0}; make = λ _. a; format = nothing; part = tt; Fit = Condition; fits = λ _. nothing_fits }
+standing key a Condition = standing_by key a nothing nothing_fits Condition
 
 -- the form at a key that is known before
 abbrev pub choice : {K A E : Type 0} (cases : Cases K A E) (choose : A → Chosen K A E) → AreSeen choose (λ _. false) cases → ((a : A) → IsMade cases a (choose a)) → K → Format A E
@@ -121,3 +129,12 @@ abbrev pub optional : {A : Type 0} → Bool → Format A RpcBad → Format (Opti
 optional {A} test f = choice (there_if f) (chosen_part f)
     (λ _. refl, (λ k absent o same. subst (λ (x : Option A). (spelled (chosen_part f x) ≡ nothing.spell tt) × (((chosen_part f x).key ≡ k) × (chosen_part f x).Fit)) same (refl, (sym absent, tt)), tt))
     (part_made f) test
+
+-- ---- tests
+
+abbrev IsFalse : Bool → Type 0
+IsFalse true = ⊥
+IsFalse false = Unit {0}
+
+pub contradiction : {A : Type 0} → false ≡ true → A
+contradiction e = absurd (subst IsFalse e tt)

@@ -128,6 +128,14 @@ length_is n bytes x e =
     let two = subst (λ (y : List ℕ × List ℕ). length (take n y.0) ≡ n) (ok_is {E = RpcBad} b.0 a.0 g.1) one in
     subst (λ (y : List ℕ × List ℕ). length y.0 ≡ n) (ok_is {E = RpcBad} _ x a.2) two
 
+pub fixed_length : (n : ℕ) (bytes taken rest : List ℕ) → opaque_fixed_at n bytes ≡ Ok (taken, rest) → length taken ≡ n
+fixed_length n bytes taken rest e = length_is n bytes (taken, rest) e
+
+-- whole words have no padding
+pub fixed_words : (bytes : List ℕ) → length bytes % 4 ≡ 0 → fixed bytes ≡ bytes
+unfolding fixed pad
+fixed_words bytes whole = rw whole (append-nil bytes)
+
 -- ---- writing
 
 pub keeps_front : {E : Type 0} (result : Result (Unit {0}) E) (old new text front : List ℕ) → OnOk result (new ≡ old ++ text) → OnErr result (new ≡ old) → Begins front old → Begins front new

@@ -1,6 +1,6 @@
 //! A writer of XDR items (RFC 4506).
 ghost use Rattle.std.specs.Prelude.{◌≡◌, ◌<◌, ◌≤◌, ◌^◌, [], ◌++◌, length, take, OnOk, OnErr};
-ghost use Rattle.xl_rpc.specs.Xdr.{Keeps, unsigned, hyper, signed, boolean, fixed, opaque};
+ghost use Rattle.xl_rpc.specs.Xdr.{Keeps, WordsFit, unsigned, hyper, signed, boolean, fixed, opaque, words};
 
 use crate::xdr::padding;
 use std::alloc::{AllocError, Global};
@@ -133,6 +133,18 @@ impl XdrOut {
         put_units(&mut self.bytes, &[], value)
     }
 
+    /// Writes an array of unsigned integers (RFC 4506 4.13), given as the bytes of its words: their count, and the words.
+    #[tactic(auto, unfolding(crate::specs::Xdr::words, xl_base::specs::Codec::big_endian), using(crate::proofs::XdrLaws::keeps_front, crate::proofs::XdrLaws::fixed_words))]
+    pub fn words(&mut self, value: &[u8]) -> Result<(), AllocError>
+        requires { WordsFit value.now }
+        ensures ok { OnOk result (self.new ≡ self.old ++ words value.now) }
+        ensures err { OnErr result (self.new ≡ self.old) }
+        ensures kept { Keeps self.old self.new }
+    {
+        let count = (value.len() / 4) as u32;
+        put_units(&mut self.bytes, &count.to_be_bytes(), value)
+    }
+
     /// Writes what another writer wrote, behind what was written before.
     pub fn append(&mut self, written: &XdrOut) -> Result<(), AllocError>
         ensures ok { OnOk result (self.new ≡ self.old ++ written.now) }
@@ -175,7 +187,7 @@ fn put_u64(bytes: &mut Vec<u8>, value: u64) -> Result<(), AllocError>
 /// Writes the front, and behind it the data with its padding.
 #[tactic(auto, unfolding(crate::specs::Xdr::fixed))]
 fn put_units(bytes: &mut Vec<u8>, front: &[u8], value: &[u8]) -> Result<(), AllocError>
-    requires { (length front.now ≤ 4) × (length value.now < 2 ^ 32) }
+    requires { length front.now ≤ 4 }
     ensures ok { OnOk result (bytes.new.items ≡ bytes.old.items ++ (front.now ++ fixed value.now)) }
     ensures err { OnErr result (bytes.new.items ≡ bytes.old.items) }
 {
