@@ -1,0 +1,4 @@
+pub mod FiledLaws
+pub mod RowLaws
+pub mod LinkLaws
+pub mod LeaseLaws
