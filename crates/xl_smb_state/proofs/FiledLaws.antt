@@ -1,12 +1,13 @@
 -- Laws of rows that stand in numbered slots.
-use Rattle.std.proofs.Common.{◌≡◌, ℕ, suc, ◌+◌, ◌-◌, ◌<◌, ◌≤◌, ◌≢◌, Bool, true, false, eqb, not, ◌&&◌, ◌||◌, cond, List, [], ◌∷◌, ◌++◌, Option, Some, None, is_some, length, get_or, set, refl, sym, ap, subst, ◌∙◌, inl, inr, arith}
+use Rattle.std.proofs.Common.{◌≡◌, ℕ, suc, ◌+◌, ◌-◌, ◌<◌, ◌≤◌, ◌≢◌, Bool, true, false, eqb, not, ◌&&◌, ◌||◌, cond, List, [], ◌∷◌, ◌++◌, Option, Some, None, is_some, count_by, length, get_or, set, refl, sym, ap, subst, ◌∙◌, inl, inr, arith}
 use Rattle.std.specs.Prelude.{nat_eq}
-use Rattle.std.specs.List.{AllByRecursion, list_any}
+use Rattle.std.specs.List.{AllByRecursion, IsDistinct, list_any}
 use Rattle.std.specs.Option.{option_and_then, IsSome}
 use Rattle.std.specs.Map.{keys_of, values_of, lookup, remove_entry, set_value}
 use Rattle.std.proofs.lemmas.Bool.{cases_Bool, false≢true, true≢false}
 use Rattle.std.proofs.lemmas.Bool.Decides.{nat_tests}
-use Rattle.std.proofs.lemmas.List.{get_or-set_same, get_or-set_other, get_or_past}
+use Rattle.std.proofs.lemmas.List.Sums.{sum_by-set}
+use Rattle.std.proofs.lemmas.List.{length-append, get_or-set_same, get_or-set_other, get_or_past}
 use Rattle.xl_smb_state.specs.State.{keys_where}
 use Rattle.xl_smb_state.specs.Filed.{in_front, passes, filed, AreApart, IsFiled}
 
@@ -68,6 +69,14 @@ named t (e ∷ es) k j h apart =
     elim (cases_Bool (t e.0)) [
       | inl here ↦ λ same. differs j e.1 parts.0 (same_number (rw here at h) ∙ sym same)
       | inr later ↦ named t es k j (rw later at h) parts.1
+    ]
+
+length_removed : (n k : ℕ) (es : List (ℕ × ℕ)) → lookup (nat_eq n) es ≡ Some k → length (remove_entry (nat_eq n) es) + 1 ≡ length es
+length_removed n k [] at = absurd (cc)
+length_removed n k (e ∷ es) at =
+    elim (cases_Bool (eqb n e.0)) [
+      | inl here ↦ rw here (omega arith)
+      | inr later ↦ rw later (omega (arith, length_removed n k es (rw later at at)))
     ]
 
 module _ {A : Type 0} where
@@ -170,12 +179,13 @@ module _ {A : Type 0} where
   there_push n k [] slots there h = (h, tt)
   there_push n k (e ∷ es) slots there h = (there.0, there_push n k es slots there.1 h)
 
-  pub is_filed_added : (n k : ℕ) (row : A) (es fs : List (ℕ × ℕ)) (old new : List (Option A)) → IsFiled es old → get_or old k None ≡ None → fs ≡ es ++ (n, k) ∷ [] → get_or new k None ≡ Some row → AreOthersKept k old new → IsFiled fs new
-  is_filed_added n k row es fs old new ok vacant is changed others =
+  pub is_filed_added : (n k : ℕ) (row : A) (es fs : List (ℕ × ℕ)) (old new : List (Option A)) → IsFiled es old → get_or old k None ≡ None → fs ≡ es ++ (n, k) ∷ [] → get_or new k None ≡ Some row → AreOthersKept k old new → count_by is_some new ≡ count_by is_some old + 1 → IsFiled fs new
+  is_filed_added n k row es fs old new ok vacant is changed others more =
       let apart = fresh k es old ok.there vacant in
       subst (λ gs. IsFiled gs new) (sym is) (record {
         there = there_push n k es new (there_kept k es old new apart others ok.there) (ap is_some changed);
         apart = apart_push n k es apart ok.apart;
+        whole = omega (arith, more, ok.whole, length-append es ((n, k) ∷ []));
       })
 
   -- ---- a row is changed
@@ -206,6 +216,13 @@ module _ {A : Type 0} where
   slot_set : (k : ℕ) (row : A) (slots : List (Option A)) → is_some (get_or slots k None) ≡ true → get_or (set slots k (Some row)) k None ≡ Some row
   slot_set k row slots h = get_or-set_same slots k (Some row) None (grind (arith, get_or_past))
 
+  count_set : (k : ℕ) (row : A) (slots : List (Option A)) → is_some (get_or slots k None) ≡ true → count_by is_some (set slots k (Some row)) ≡ count_by is_some slots
+  count_set k row slots h =
+      let within : k < length slots = grind (arith, get_or_past) in
+      let sums = sum_by-set (λ o. cond (is_some o) 1 0) slots k (Some row) None within in
+      let was : cond {A = ℕ} (is_some (get_or slots k None)) 1 0 ≡ 1 = rw h refl in
+      omega (arith, sums, was)
+
   others_set : (k : ℕ) (row : A) (slots : List (Option A)) → AreOthersKept k slots (set slots k (Some row))
   others_set k row slots j apart = get_or-set_other slots k j (Some row) None apart
 
@@ -219,17 +236,18 @@ module _ {A : Type 0} where
     still_there k row es old new there.1 changed others,
   )
 
-  pub is_filed_changed : (k : ℕ) (row : A) (es : List (ℕ × ℕ)) (old new : List (Option A)) → IsFiled es old → get_or new k None ≡ Some row → AreOthersKept k old new → IsFiled es new
-  is_filed_changed k row es old new ok changed others = record {
+  pub is_filed_changed : (k : ℕ) (row : A) (es : List (ℕ × ℕ)) (old new : List (Option A)) → IsFiled es old → get_or new k None ≡ Some row → AreOthersKept k old new → count_by is_some new ≡ count_by is_some old → IsFiled es new
+  is_filed_changed k row es old new ok changed others same = record {
     there = still_there k row es old new ok.there changed others;
     apart = ok.apart;
+    whole = same ∙ ok.whole;
   }
 
   pub filed_set : (n k : ℕ) (row : A) (es : List (ℕ × ℕ)) (slots : List (Option A)) → IsFiled es slots → lookup (nat_eq n) es ≡ Some k → filed es (set slots k (Some row)) ≡ set_value (nat_eq n) (filed es slots) row
   filed_set n k row es slots ok at = filed_changed n k row es slots (set slots k (Some row)) ok at (slot_set k row slots (slot_there n k es slots ok at)) (others_set k row slots)
 
   pub is_filed_set : (n k : ℕ) (row : A) (es : List (ℕ × ℕ)) (slots : List (Option A)) → IsFiled es slots → lookup (nat_eq n) es ≡ Some k → IsFiled es (set slots k (Some row))
-  is_filed_set n k row es slots ok at = is_filed_changed k row es slots (set slots k (Some row)) ok (slot_set k row slots (slot_there n k es slots ok at)) (others_set k row slots)
+  is_filed_set n k row es slots ok at = is_filed_changed k row es slots (set slots k (Some row)) ok (slot_set k row slots (slot_there n k es slots ok at)) (others_set k row slots) (count_set k row slots (slot_there n k es slots ok at))
 
   -- ---- a row is taken out
 
@@ -256,11 +274,12 @@ module _ {A : Type 0} where
   pub filed_removed : (n k : ℕ) (es fs : List (ℕ × ℕ)) (old new : List (Option A)) → IsFiled es old → lookup (nat_eq n) es ≡ Some k → fs ≡ remove_entry (nat_eq n) es → AreOthersKept k old new → filed fs new ≡ remove_entry (nat_eq n) (filed es old)
   filed_removed n k es fs old new ok at is others = ap (λ gs. filed gs new) is ∙ removed_there n k es old new ok.there ok.apart at others
 
-  pub is_filed_removed : (n k : ℕ) (es fs : List (ℕ × ℕ)) (old new : List (Option A)) → IsFiled es old → lookup (nat_eq n) es ≡ Some k → fs ≡ remove_entry (nat_eq n) es → AreOthersKept k old new → IsFiled fs new
-  is_filed_removed n k es fs old new ok at is others =
+  pub is_filed_removed : (n k : ℕ) (es fs : List (ℕ × ℕ)) (old new : List (Option A)) → IsFiled es old → lookup (nat_eq n) es ≡ Some k → fs ≡ remove_entry (nat_eq n) es → AreOthersKept k old new → count_by is_some new + 1 ≡ count_by is_some old → IsFiled fs new
+  is_filed_removed n k es fs old new ok at is others fewer =
       subst (λ gs. IsFiled gs new) (sym is) (record {
         there = there_removed es ok.there ok.apart at;
         apart = apart_removed (nat_eq n) es ok.apart;
+        whole = omega (arith, fewer, ok.whole, length_removed n k es at);
       })
     where
       there_removed : (es : List (ℕ × ℕ)) → AreThere es old → AreApart (values_of es) → lookup (nat_eq n) es ≡ Some k → AreThere (remove_entry (nat_eq n) es) new
@@ -305,3 +324,6 @@ module _ {A : Type 0} where
   -- the rows' keys are those of the index
   pub keys_are : (es : List (ℕ × ℕ)) (slots : List (Option A)) → IsFiled es slots → keys_of (filed es slots) ≡ keys_of es
   keys_are es slots ok = keys_there es slots ok.there
+
+  pub distinct_filed : (es : List (ℕ × ℕ)) (slots : List (Option A)) → IsFiled es slots → IsDistinct nat_eq (keys_of es) → IsDistinct nat_eq (keys_of (filed es slots))
+  distinct_filed es slots ok distinct = subst (IsDistinct nat_eq) (sym (keys_are es slots ok)) distinct

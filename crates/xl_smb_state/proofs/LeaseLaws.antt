@@ -1,18 +1,23 @@
 -- An open that leaves its lease.
-use Rattle.std.proofs.Common.{◌≡◌, ℕ, Bool, true, false, eqb, cond, not, ◌||◌, List, [], ◌∷◌, Option, Some, None, refl, sym, ap, subst, ◌∙◌, inl, inr, arith}
-use Rattle.std.specs.Prelude.{nat_eq}
+use Rattle.std.proofs.Common.{◌≡◌, ℕ, Bool, true, false, eqb, cond, not, ◌||◌, List, [], ◌∷◌, Option, Some, None, Result, Ok, Err, refl, sym, ap, subst, ◌∙◌, inl, inr, arith}
+use Rattle.std.specs.Prelude.{nat_eq, bytes_eq}
 use Rattle.std.specs.List.{AllByRecursion, IsDistinct, list_any, filter_map, filter}
-use Rattle.std.specs.Option.{IfSome, IfNone}
+use Rattle.std.specs.Option.{IfSome, IfNone, option_map}
 use Rattle.std.specs.Map.{keys_of, lookup, remove_entry, set_value}
-use Rattle.std.proofs.lemmas.Bool.{cases_Bool, false≢true, true≢false}
+use Rattle.std.proofs.lemmas.Bool.{cases_Bool, false≢true, true≢false, and_parts}
 use Rattle.std.proofs.lemmas.Bool.Decides.{nat_tests}
+use Rattle.std.specs.Result.{OnOk, OnErr, is_ok}
+use Rattle.std.proofs.lemmas.Map.Steps.{set_value_same}
+use Rattle.std.proofs.lemmas.Slice.Eq.{bytes_eq-Decides}
+use Rattle.xl_base.proofs.Members.{all_weaker}
 use Rattle.std.proofs.lemmas.Map.Keys.{IsDistinct-head, IsDistinct-tail}
 use Rattle.xl_smb_state.specs.declared.row.LeaseKey.{LeaseKey}
 use Rattle.xl_smb_state.specs.declared.row.Lease.{Lease}
-use Rattle.xl_smb_state.specs.State.{Lists, is_empty, same_lease, without, left_row, kept_lease, lease_left, is_listed}
-use Rattle.xl_smb_state.specs.Links.{ListsOnly}
+use Rattle.xl_smb_state.specs.declared.row.Open.{Open}
+use Rattle.xl_smb_state.specs.State.{Lists, is_key, key_of, is_empty, same_lease, without, left_row, grown_row, joined, kept_lease, lease_left, is_listed}
+use Rattle.xl_smb_state.specs.Links.{ListsOnly, IsLeaseLinked, is_under, only_opens}
 use Rattle.xl_smb_state.proofs.LinkLaws.{same_lease_is}
-use Rattle.xl_smb_state.proofs.RowLaws.{none_some}
+use Rattle.xl_smb_state.proofs.RowLaws.{none_some, equal_from}
 
 without_absent : (number : ℕ) (ns : List ℕ) → list_any (nat_eq number) ns ≡ false → without number ns ≡ ns
 without_absent number [] h = refl
@@ -123,3 +128,84 @@ unlisted_in number (e ∷ es) =
 
 pub unlisted : (number : ℕ) (s : Lists) → is_listed number (lease_left number s) ≡ false
 unlisted number s = unlisted_in number s.leases
+
+-- ---- by the open's own row
+
+bytes_self : (a : List ℕ) → bytes_eq a a ≡ true
+bytes_self a = (bytes_eq-Decides a a).1 refl
+
+same_lease_self : (a : LeaseKey) → same_lease a a ≡ true
+same_lease_self a = rw (bytes_self a.client, bytes_self a.key) refl
+
+key_under : (key mine : LeaseKey) (file : ℕ) (found : Option Open) → is_under key file found ≡ true → key_of found ≡ Some mine → same_lease mine key ≡ true
+key_under key mine file None h k = absurd (false≢true h)
+key_under key mine file (Some row) h k = by row.lease (and_parts (eqb row.file file) (is_key key row.client row.lease) h).1 k
+  where
+    by : (name : Option (List ℕ)) → is_key key row.client name ≡ true → option_map (λ n. record { client = row.client; key = n }) name ≡ Some mine → same_lease mine key ≡ true
+    by None h k = absurd (false≢true h)
+    by (Some name) h k =
+        let both = and_parts (bytes_eq key.client row.client) (bytes_eq key.key name) h in
+        let client = (bytes_eq-Decides key.client row.client).0 both.0 in
+        let inside = (bytes_eq-Decides key.key name).0 both.1 in
+        let mine_is : record { client = row.client; key = name } ≡ mine = same_key k in
+        subst (λ m. same_lease m key ≡ true) mine_is (rw (← client, ← inside) (same_lease_self key))
+      where
+        same_key : {a b : LeaseKey} → Some a ≡ Some b → a ≡ b
+        same_key h = cc
+
+key_none : (key : LeaseKey) (file : ℕ) (found : Option Open) → is_under key file found ≡ true → key_of found ≡ None → ⊥
+key_none key file None h k = false≢true h
+key_none key file (Some row) h k = by row.lease (and_parts (eqb row.file file) (is_key key row.client row.lease) h).1 k
+  where
+    by : (name : Option (List ℕ)) → is_key key row.client name ≡ true → option_map {U = LeaseKey} (λ n. record { client = row.client; key = n }) name ≡ None → ⊥
+    by None h k = false≢true h
+    by (Some name) h k = none_some (sym k)
+
+-- an open that a lease lists is under it
+listed_under : (P : ℕ → Type 0) (number : ℕ) (ns : List ℕ) → AllByRecursion P ns → list_any (nat_eq number) ns ≡ true → P number
+listed_under P number [] all h = absurd (false≢true h)
+listed_under P number (n ∷ ns) all h =
+    elim (cases_Bool (eqb number n)) [
+      | inl same ↦ subst P (equal_from number n same) all.0
+      | inr apart ↦ listed_under P number ns all.1 (rw apart at h)
+    ]
+
+unlisted_here : (number : ℕ) (ns : List ℕ) → (list_any (nat_eq number) ns ≡ true → ⊥) → list_any (nat_eq number) ns ≡ false
+unlisted_here number ns never = elim (cases_Bool (list_any (nat_eq number) ns)) [ inl h ↦ absurd (never h) | inr h ↦ h ]
+
+pub lists_only : (opens : List (ℕ × Open)) (key : LeaseKey) (number : ℕ) (es : List (LeaseKey × Lease)) → AllByRecursion (λ e. IsLeaseLinked (only_opens opens) e.0 e.1) es → key_of (lookup (nat_eq number) opens) ≡ Some key → AllByRecursion (ListsOnly key number) es
+lists_only opens key number es all mine =
+    all_weaker (λ e. IsLeaseLinked (only_opens opens) e.0 e.1) (ListsOnly key number) es
+    (λ e h. (
+      λ apart. unlisted_here number e.1.opens (λ listed. true≢false (sym (key_under e.0 key e.1.file (lookup (nat_eq number) opens) (listed_under (λ n. is_under e.0 e.1.file (lookup (nat_eq n) opens) ≡ true) number e.1.opens h.1 listed) mine) ∙ apart)),
+      h.0,
+    ))
+    all
+
+pub listed_nowhere : (opens : List (ℕ × Open)) (number : ℕ) (es : List (LeaseKey × Lease)) → AllByRecursion (λ e. IsLeaseLinked (only_opens opens) e.0 e.1) es → key_of (lookup (nat_eq number) opens) ≡ None → filter_map (kept_lease number) es ≡ es
+listed_nowhere opens number [] all mine = refl
+listed_nowhere opens number (e ∷ es) all mine =
+    let absent = unlisted_here number e.1.opens (λ listed. key_none e.0 e.1.file (lookup (nat_eq number) opens) (listed_under (λ n. is_under e.0 e.1.file (lookup (nat_eq n) opens) ≡ true) number e.1.opens all.0.1 listed) mine) in
+    rw (kept_whole number e absent all.0.0) (ap (λ fs. e ∷ fs) (listed_nowhere opens number es all.1 mine))
+
+-- ---- an open that joins a lease
+
+module _ {A E : Type 0} where
+  abbrev Grows : LeaseKey → ℕ → List (LeaseKey × Lease) → List (LeaseKey × Lease) → Result A E → Option Lease → Type 0
+  Grows key number es mid r found = IfSome found (λ row. mid ≡ set_value (same_lease key) es (cond (is_ok r) (grown_row number row) row))
+
+  pub grown_ok : (key : LeaseKey) (number : ℕ) (es mid : List (LeaseKey × Lease)) (r : Result A E) → Grows key number es mid r (lookup (same_lease key) es) → IfNone (lookup (same_lease key) es) (mid ≡ es) → OnOk r (mid ≡ joined number (lookup (same_lease key) es) key es)
+  grown_ok key number es mid (Err e) some none = tt
+  grown_ok key number es mid (Ok x) some none = by (lookup (same_lease key) es) some none
+    where
+      by : (found : Option Lease) → IfSome found (λ row. mid ≡ set_value (same_lease key) es (grown_row number row)) → IfNone found (mid ≡ es) → mid ≡ joined number found key es
+      by None h k = k
+      by (Some row) h k = h
+
+  pub grown_err : (key : LeaseKey) (number : ℕ) (es mid : List (LeaseKey × Lease)) (r : Result A E) → Grows key number es mid r (lookup (same_lease key) es) → IfNone (lookup (same_lease key) es) (mid ≡ es) → OnErr r (mid ≡ es)
+  grown_err key number es mid (Ok x) some none = tt
+  grown_err key number es mid (Err e) some none = by (lookup (same_lease key) es) refl some none
+    where
+      by : (found : Option Lease) → lookup (same_lease key) es ≡ found → IfSome found (λ row. mid ≡ set_value (same_lease key) es row) → IfNone found (mid ≡ es) → mid ≡ es
+      by None at h k = k
+      by (Some row) at h k = h ∙ set_value_same (same_lease key) es row at

@@ -3,7 +3,7 @@ use Rattle.std.proofs.Common.{◌≡◌, ℕ, ◌+◌, ◌<◌, ◌≤◌, Bool,
 use Rattle.std.specs.Prelude.{nat_eq, bytes_eq}
 use Rattle.std.specs.List.{AllByRecursion, list_any, filter_map, filter}
 use Rattle.std.specs.Map.{lookup, remove_entry, set_value}
-use Rattle.std.specs.Option.{option_and_then, IsSome}
+use Rattle.std.specs.Option.{option_and_then, IsSome, IfSome}
 use Rattle.std.proofs.lemmas.Bool.{cases_Bool, false≢true, true≢false, and_parts}
 use Rattle.std.proofs.lemmas.Bool.Decides.{nat_tests}
 use Rattle.std.proofs.lemmas.List.{length-append}
@@ -23,7 +23,7 @@ use Rattle.xl_smb_state.specs.declared.row.Lease.{Lease}
 use Rattle.xl_smb_state.specs.declared.row.Waiting.{Waiting}
 use Rattle.xl_smb_state.specs.declared.row.Scope.TheVariants as scope
 use Rattle.xl_smb_state.specs.State
-use Rattle.xl_smb_state.specs.State.{Lists, keys_where, is_empty, same_lease, connection_of, client_of, connection_added, connection_changed, connection_dropped, session_of, session_added, session_changed, session_dropped, sessions_on, tree_of, tree_added, tree_changed, tree_dropped, trees_of, trees_on, open_of, open_added, open_changed, open_dropped, covers, covers_holder, opens_under, lease_of, lease_added, lease_changed, lease_dropped, without, kept_lease, lease_left, is_listed, waiting_of, waiting_added, waiting_changed, waiting_dropped, is_key}
+use Rattle.xl_smb_state.specs.State.{Lists, keys_where, is_empty, same_lease, connection_of, client_of, connection_added, connection_changed, connection_dropped, session_of, session_added, session_changed, session_dropped, sessions_on, tree_of, tree_added, tree_changed, tree_dropped, trees_of, trees_on, open_of, open_added, open_changed, open_dropped, covers, covers_holder, opens_under, lease_of, lease_added, lease_changed, lease_dropped, without, kept_lease, lease_left, joined, lease_joined, is_listed, waiting_of, waiting_added, waiting_changed, waiting_dropped, is_key}
 use Rattle.xl_smb_state.specs.Links.{most_connections, most_sessions, most_trees, most_opens, most_waiting, IsSessionLinked, IsTreeLinked, IsPlace, IsHolderLinked, IsOpenLinked, is_under, IsLeaseLinked, KeepsLease, IsSound}
 use Rattle.xl_smb_state.proofs.RowLaws.{none_some, equal_from, unequal_both, row_kept, all_both, none_any, all_removed, all_set, all_mapped, lookup_all, none_where, lookup_added, count, count_added, count_removed, count_set, length_removed, found_apart, lookup_removed, lookup_set, lookup_set_same}
 
@@ -83,6 +83,9 @@ here n ns = rw (eqb_self n) refl
 
 further : (m n : ℕ) (ns : List ℕ) → list_any (nat_eq m) ns ≡ true → list_any (nat_eq m) (n ∷ ns) ≡ true
 further m n ns h = elim (cases_Bool (eqb m n)) [ inl k ↦ rw k refl | inr k ↦ rw k h ]
+
+pub place_client : (s : Lists) (place : Place) → IsSound s → IsPlace s place → is_some (client_of place.connection s) ≡ true
+place_client s place ok h = session_client s place.session place.connection ok (place_session s place ok h)
 
 -- ---- connections
 
@@ -422,6 +425,31 @@ lease_left_sound number s ok = record {
   opens_most = ok.opens_most;
   waiting_most = ok.waiting_most;
 }
+
+joined_linked : (s : Lists) (key : LeaseKey) (number : ℕ) (row : Lease) → IsLeaseLinked s key row → is_under key row.file (open_of number s) ≡ true → IsLeaseLinked s key (record { file = row.file; opens = row.opens ++ number ∷ [] })
+joined_linked s key number row h new = (filled row.opens, all_append (λ n. is_under key row.file (open_of n s) ≡ true) row.opens (number ∷ []) h.1 (new, tt))
+  where
+    filled : (ns : List ℕ) → is_empty (ns ++ number ∷ []) ≡ false
+    filled [] = refl
+    filled (n ∷ ns) = refl
+
+lease_linked : (key : LeaseKey) (row : Lease) (s : Lists) → IsSound s → lease_of key s ≡ Some row → IsLeaseLinked s key row
+lease_linked key row s ok at = by s.leases ok.leases at
+  where
+    by : (es : List (LeaseKey × Lease)) → AllByRecursion (λ e. IsLeaseLinked s e.0 e.1) es → lookup (same_lease key) es ≡ Some row → IsLeaseLinked s key row
+    by [] all h = absurd (none_some h)
+    by (e ∷ es) all h =
+        elim (cases_Bool (same_lease key e.0)) [
+          | inl same ↦ subst (λ k. IsLeaseLinked s k row) (sym (same_lease_is key e.0 same)) (subst (IsLeaseLinked s e.0) (same_Some (rw same at h)) all.0)
+          | inr apart ↦ by es all.1 (rw apart at h)
+        ]
+
+pub lease_joined_sound : (key : LeaseKey) (number : ℕ) (s : Lists) → IfSome (lease_of key s) (λ row. is_under key row.file (open_of number s) ≡ true) → IsSound s → IsSound (lease_joined key number s)
+lease_joined_sound key number s link ok = by (lease_of key s) refl link
+  where
+    by : (found : Option Lease) → lease_of key s ≡ found → IfSome found (λ row. is_under key row.file (open_of number s) ≡ true) → IsSound (lease_joined key number s)
+    by None at h = subst (λ o. IsSound (record s { leases = joined number o key s.leases })) (sym at) ok
+    by (Some row) at h = subst (λ o. IsSound (record s { leases = joined number o key s.leases })) (sym at) (lease_changed_sound key (record { file = row.file; opens = row.opens ++ number ∷ [] }) s (joined_linked s key number row (lease_linked key row s ok at) h) ok)
 
 -- ---- requests that wait
 

@@ -1,5 +1,5 @@
 -- Rows that stand in numbered slots, with an index from each row's key to its slot. The order is the index's.
-use Rattle.std.specs.Prelude.{◌≡◌, ℕ, nat_eq, Bool, true, false, List, [], ◌∷◌, Option, Some, None, is_some, slice_index_or}
+use Rattle.std.specs.Prelude.{◌≡◌, ℕ, nat_eq, Bool, true, false, List, [], ◌∷◌, Option, Some, None, is_some, count_by, length, slice_index_or}
 use Rattle.std.specs.List.{AllByRecursion, IsDistinct, list_any}
 use Rattle.std.specs.Map.{keys_of, values_of}
 
@@ -23,7 +23,8 @@ abbrev pub AreApart : List ℕ → Type 0
 AreApart [] = Unit {0}
 AreApart (k ∷ ks) = (list_any (nat_eq k) ks ≡ false) × AreApart ks
 
--- each slot of the index has a row, and no two keys have one slot
+-- each slot of the index has a row, no two keys have one slot, and there is no other row
 pub record IsFiled {A : Type 0} (es : List (ℕ × ℕ)) (slots : List (Option A)) : Type 0 where
   pub there : AllByRecursion (λ e. is_some (slice_index_or slots e.1 None) ≡ true) es
   pub apart : AreApart (values_of es)
+  pub whole : count_by is_some slots ≡ length es

@@ -10,7 +10,7 @@ use Rattle.xl_smb_state.specs.declared.row.Holder.TheVariants as holder
 use Rattle.xl_smb_state.specs.declared.row.Open.{Open}
 use Rattle.xl_smb_state.specs.declared.row.LeaseKey.{LeaseKey}
 use Rattle.xl_smb_state.specs.declared.row.Lease.{Lease}
-use Rattle.xl_smb_state.specs.State.{Lists, same_lease, is_empty, client_of, session_of, sessions_on, tree_of, trees_on, open_of, is_key}
+use Rattle.xl_smb_state.specs.State.{Lists, nothing, same_lease, is_empty, client_of, session_of, sessions_on, tree_of, trees_on, open_of, is_key}
 
 -- most rows of a list, and most sessions and tree connects of one connection
 abbrev pub most_connections : ℕ
@@ -56,6 +56,10 @@ is_under key file (Some row) = row.file == file && is_key key row.client row.lea
 -- the lease has an open, and each of its opens is there, under it and on its file
 abbrev pub IsLeaseLinked : Lists → LeaseKey → Lease → Type 0
 IsLeaseLinked s key row = (is_empty row.opens ≡ false) × AllByRecursion (λ n. is_under key row.file (open_of n s) ≡ true) row.opens
+
+-- these opens and nothing else
+abbrev pub only_opens : List (ℕ × Open) → Lists
+only_opens opens = record nothing { opens = opens }
 
 -- no lease but that of the key lists the open, and each has one
 abbrev pub ListsOnly : LeaseKey → ℕ → LeaseKey × Lease → Type 0

@@ -144,13 +144,16 @@ lease_changed key row s = record s { leases = set_value (same_lease key) s.lease
 abbrev pub lease_dropped : LeaseKey → Lists → Lists
 lease_dropped key s = record s { leases = remove_entry (same_lease key) s.leases }
 
--- the open comes under a lease that is there, behind the others
-abbrev pub joined : ℕ → Option Lease → LeaseKey → Lists → Lists
-joined number None key s = s
-joined number (Some row) key s = lease_changed key (record { file = row.file; opens = row.opens ++ number ∷ [] }) s
+abbrev pub grown_row : ℕ → Lease → Lease
+grown_row number row = record { file = row.file; opens = row.opens ++ number ∷ [] }
+
+-- the leases once an open came behind the others of the one of this key, if there is one
+abbrev pub joined : ℕ → Option Lease → LeaseKey → List (LeaseKey × Lease) → List (LeaseKey × Lease)
+joined number None key leases = leases
+joined number (Some row) key leases = set_value (same_lease key) leases (grown_row number row)
 
 abbrev pub lease_joined : LeaseKey → ℕ → Lists → Lists
-lease_joined key number s = joined number (lease_of key s) key s
+lease_joined key number s = record s { leases = joined number (lease_of key s) key s.leases }
 
 -- the opens of a lease without one
 abbrev pub without : ℕ → List ℕ → List ℕ
@@ -166,6 +169,10 @@ kept_lease number e = if is_empty (without number e.1.opens) then None else Some
 -- the open leaves its lease, which goes with its last open
 abbrev pub lease_left : ℕ → Lists → Lists
 lease_left number s = record s { leases = filter_map (kept_lease number) s.leases }
+
+-- the open leaves its lease, and goes
+abbrev pub closed : ℕ → Lists → Lists
+closed number s = open_dropped number (lease_left number s)
 
 -- some lease has the open among its own
 abbrev pub is_listed : ℕ → Lists → Bool

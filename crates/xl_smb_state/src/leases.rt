@@ -1,10 +1,11 @@
 //! Leases.
-ghost use Rattle.std.specs.Prelude.{◌≡◌, nat_eq, true, false, None, Some, IsSome, OnOk, OnErr, IfSome, IfNone, option_copied, if◌then◌else◌};
+ghost use Rattle.std.specs.Prelude.{◌≡◌, nat_eq, true, false, None, Some, IsSome, OnOk, OnErr, is_ok, IfSome, IfNone, option_copied, if◌then◌else◌};
 ghost use Rattle.std.specs.List.{AllByRecursion, IsDistinct, filter_map};
 ghost use Rattle.std.specs.Map.{keys_of, lookup, set_value};
-ghost use Rattle.xl_smb_state.specs.State.{same_lease, is_empty, without, left_row, kept_lease, open_of, lease_of, lease_added, lease_changed, lease_dropped, lease_joined, lease_left, lowest_open, is_listed, key_file};
-ghost use Rattle.xl_smb_state.specs.Links.{IsLeaseLinked, ListsOnly, is_under};
+ghost use Rattle.xl_smb_state.specs.State.{same_lease, is_empty, without, left_row, grown_row, kept_lease, open_of, lease_of, lease_added, lease_changed, lease_dropped, joined, lease_joined, lease_left, closed, lowest_open, is_listed, key_file};
+ghost use Rattle.xl_smb_state.specs.Links.{IsLeaseLinked, ListsOnly, is_under, only_opens};
 
+use crate::opens::Opens;
 use crate::listing::{key_of, lowest_held, waiting_file};
 use crate::row::{Lease, LeaseKey};
 use crate::rows::{add, change, remove};
@@ -59,6 +60,51 @@ fn leave(alloc: Global, leases: &mut IndexMap<LeaseKey, Lease>, key: &LeaseKey, 
     }
 }
 
+/// Takes an open out of the lease that lists it, which goes where none is left.
+fn leave_any(alloc: Global, opens: &Opens, leases: &mut IndexMap<LeaseKey, Lease>, number: u32)
+    requires { AllByRecursion (λ e. IsLeaseLinked (only_opens opens.now) e.0 e.1) leases.old.entries }
+    ensures { leases.new.entries ≡ filter_map (kept_lease number) leases.old.entries }
+{
+    if let Some(key) = key_of(opens.find(number)) {
+        leave(alloc, leases, &key, number);
+    }
+}
+
+/// Puts an open behind a lease's others.
+fn put_open(lease: &mut Lease, number: u32) -> Result<(), AllocError>
+    ensures { lease.new ≡ (if is_ok result then grown_row number lease.old else lease.old) }
+{
+    lease.opens.push(number)?;
+    Ok(())
+}
+
+/// Puts an open behind the others of the lease of this key, if there is one.
+fn grow(
+    leases: &mut IndexMap<LeaseKey, Lease>,
+    key: &LeaseKey,
+    number: u32,
+) -> Result<(), AllocError>
+    ensures found { IfSome (lookup (same_lease key.now) leases.old.entries) (λ row. leases.new.entries ≡ set_value (same_lease key.now) leases.old.entries (if is_ok result then grown_row number row else row)) }
+    ensures none { IfNone (lookup (same_lease key.now) leases.old.entries) (leases.new.entries ≡ leases.old.entries) }
+{
+    match leases.get_mut(key) {
+        Some(lease) => put_open(lease, number),
+        None => Ok(()),
+    }
+}
+
+/// The same, by what the leases are afterwards.
+fn join(
+    leases: &mut IndexMap<LeaseKey, Lease>,
+    key: &LeaseKey,
+    number: u32,
+) -> Result<(), AllocError>
+    ensures ok { OnOk result (leases.new.entries ≡ joined number (lookup (same_lease key.now) leases.old.entries) key.now leases.old.entries) }
+    ensures err { OnErr result (leases.new.entries ≡ leases.old.entries) }
+{
+    grow(leases, key, number)
+}
+
 impl SmbState {
     /// The lease of this key; None exactly where there is none. A key that only a waiting CREATE has is of no lease.
     pub fn find_lease(&self, key: &LeaseKey) -> Option<&Lease>
@@ -85,6 +131,34 @@ impl SmbState {
         ensures { self.new ≡ lease_changed key.now row self.old }
     {
         change(&mut self.leases, key, row);
+    }
+
+    /// Puts an open that is there, under the key and on the lease's file, behind the others of the lease of this key. Where
+    /// there is no such lease nothing changes. Want of memory changes nothing.
+    pub fn join_lease(&mut self, key: &LeaseKey, number: u32) -> Result<(), AllocError>
+        requires { IfSome (lease_of key.now self.old) (λ row. is_under key.now row.file (open_of number self.old) ≡ true) }
+        ensures ok { OnOk result (self.new ≡ lease_joined key.now number self.old) }
+        ensures err { OnErr result (self.new ≡ self.old) }
+    {
+        join(&mut self.leases, key, number)
+    }
+
+    /// Takes an open out of the lease that has it among its own, if one has; the lease goes with its last open. It takes
+    /// no memory.
+    pub fn leave_lease(&mut self, alloc: Global, number: u32)
+        ensures left { self.new ≡ lease_left number self.old }
+        ensures unlisted { is_listed number self.new ≡ false }
+    {
+        leave_any(alloc, &self.opens, &mut self.leases, number);
+    }
+
+    /// Closes an open: takes it out of its lease, which goes with its last open, and then out of the opens.
+    pub fn close(&mut self, alloc: Global, number: u32)
+        requires { IsSome (open_of number self.old) }
+        ensures { self.new ≡ closed number self.old }
+    {
+        self.leave_lease(alloc, number);
+        self.drop_open(number);
     }
 
     /// Takes out a lease; its opens stay.

@@ -2,6 +2,7 @@
 //! leases, and the requests that wait.
 #![tactic(auto)]
 
+pub mod laws;
 mod leases;
 mod listing;
 mod open_calls;
@@ -16,4 +17,4 @@ pub use row::{
     Connection, Header, Holder, Lease, LeaseKey, Open, Place, Request, Scope, Session, Tree,
     Waiting,
 };
-pub use state::SmbState;
+pub use state::{CONNECTIONS, OPENS, SESSIONS, SmbState, TREES, WAITING};

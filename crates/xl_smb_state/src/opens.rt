@@ -1,7 +1,8 @@
 //! The opens under their numbers. The rows stand in a slab, whose slots are used again, and an index leads from an open's
 //! number to its slot, in the order in which the opens came.
 ghost use Rattle.std.specs.Prelude.{◌≡◌, nat_eq, ◌∷◌, [], ◌++◌, None, IsSome, OnOk, OnErr, IfOk, length, option_copied};
-ghost use Rattle.std.specs.Map.{lookup, remove_entry, set_value};
+ghost use Rattle.std.specs.List.{IsDistinct};
+ghost use Rattle.std.specs.Map.{keys_of, lookup, remove_entry, set_value};
 ghost use Rattle.slab.specs.Slab.{get};
 ghost use Rattle.xl_smb_state.specs.Filed.{passes, filed, IsFiled};
 ghost use Rattle.xl_smb_state.specs.State.{keys_where, covers_holder};
@@ -45,7 +46,8 @@ impl Opens {
 
     /// How many opens there are.
     pub(crate) fn len(&self) -> usize
-        ensures { result ≡ length self.now }
+        ensures len { result ≡ length self.now }
+        ensures distinct { IsDistinct nat_eq (keys_of self.now) }
     {
         length_filed(&self.places, &self.rows)
     }
@@ -117,10 +119,11 @@ fn list_filed(
     Ok(numbers)
 }
 
-#[tactic(auto, using(crate::proofs::FiledLaws::length_is))]
+#[tactic(auto, using(crate::proofs::FiledLaws::length_is, crate::proofs::FiledLaws::distinct_filed))]
 fn length_filed(places: &IndexMap<u32, usize>, rows: &Slab<Open>) -> usize
     requires { IsFiled places.now.entries rows.now.slots }
-    ensures { result ≡ length (filed places.now.entries rows.now.slots) }
+    ensures len { result ≡ length (filed places.now.entries rows.now.slots) }
+    ensures distinct { IsDistinct nat_eq (keys_of (filed places.now.entries rows.now.slots)) }
 {
     let _ = rows;
     places.len()
@@ -173,6 +176,6 @@ fn take_out(places: &mut IndexMap<u32, usize>, rows: &mut Slab<Open>, number: u3
     ensures filed { IsFiled places.new.entries rows.new.slots }
 {
     if let Some(slot) = places.shift_remove(&number) {
-        let _ = rows.try_remove(slot);
+        let _ = rows.remove(slot);
     }
 }

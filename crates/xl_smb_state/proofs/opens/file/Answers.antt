@@ -17,4 +17,4 @@ pub returns-clause-ok : goal.returns-clause-ok
 returns-clause-ok c = filed_added c.args.number c.in_ok-slot.slot c.args.row c.args.places.now.entries c.insert-2.new.self.entries c.args.rows.now.slots c.insert.new.self.slots c.requires.filed c.in_ok-slot.ensures.was_vacant (placed c) c.in_ok-slot.ensures.updates.changed c.in_ok-slot.ensures.updates.others
 
 pub returns-clause-filed : goal.returns-clause-filed
-returns-clause-filed c = is_filed_added c.args.number c.in_ok-slot.slot c.args.row c.args.places.now.entries c.insert-2.new.self.entries c.args.rows.now.slots c.insert.new.self.slots c.requires.filed c.in_ok-slot.ensures.was_vacant (placed c) c.in_ok-slot.ensures.updates.changed c.in_ok-slot.ensures.updates.others
+returns-clause-filed c = is_filed_added c.args.number c.in_ok-slot.slot c.args.row c.args.places.now.entries c.insert-2.new.self.entries c.args.rows.now.slots c.insert.new.self.slots c.requires.filed c.in_ok-slot.ensures.was_vacant (placed c) c.in_ok-slot.ensures.updates.changed c.in_ok-slot.ensures.updates.others c.in_ok-slot.ensures.len
