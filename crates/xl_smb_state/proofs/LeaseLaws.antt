@@ -1,7 +1,7 @@
 -- An open that leaves its lease.
-use Rattle.std.proofs.Common.{◌≡◌, ℕ, Bool, true, false, eqb, cond, not, ◌||◌, List, [], ◌∷◌, Option, Some, None, Result, Ok, Err, refl, sym, ap, subst, ◌∙◌, inl, inr, arith}
+use Rattle.std.proofs.Common.{◌≡◌, ℕ, Bool, true, false, eqb, cond, List, [], ◌∷◌, Option, Some, None, Result, Ok, Err, refl, sym, ap, subst, ◌∙◌, inl, inr, arith}
 use Rattle.std.specs.Prelude.{nat_eq, bytes_eq}
-use Rattle.std.specs.List.{AllByRecursion, IsDistinct, list_any, filter_map, filter}
+use Rattle.std.specs.List.{AllByRecursion, IsDistinct, list_any, filter_map}
 use Rattle.std.specs.Option.{IfSome, IfNone, option_map}
 use Rattle.std.specs.Map.{keys_of, lookup, remove_entry, set_value}
 use Rattle.std.proofs.lemmas.Bool.{cases_Bool, false≢true, true≢false, and_parts}

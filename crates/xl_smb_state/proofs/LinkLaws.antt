@@ -1,9 +1,9 @@
 -- Each change keeps what holds between the lists.
-use Rattle.std.proofs.Common.{◌≡◌, ℕ, ◌+◌, ◌<◌, ◌≤◌, Bool, true, false, eqb, cond, ◌&&◌, ◌||◌, List, [], ◌∷◌, ◌++◌, Option, Some, None, is_some, length, refl, sym, ap, subst, ◌∙◌, inl, inr, arith}
+use Rattle.std.proofs.Common.{◌≡◌, ℕ, ◌+◌, ◌<◌, ◌≤◌, true, false, eqb, cond, ◌&&◌, List, [], ◌∷◌, ◌++◌, Option, Some, None, is_some, length, refl, sym, ap, subst, ◌∙◌, inl, inr, arith}
 use Rattle.std.specs.Prelude.{nat_eq, bytes_eq}
-use Rattle.std.specs.List.{AllByRecursion, list_any, filter_map, filter}
-use Rattle.std.specs.Map.{lookup, remove_entry, set_value}
-use Rattle.std.specs.Option.{option_and_then, IsSome, IfSome}
+use Rattle.std.specs.List.{AllByRecursion, list_any}
+use Rattle.std.specs.Map.{lookup}
+use Rattle.std.specs.Option.{option_and_then, IfSome}
 use Rattle.std.proofs.lemmas.Bool.{cases_Bool, false≢true, true≢false, and_parts}
 use Rattle.std.proofs.lemmas.Bool.Decides.{nat_tests}
 use Rattle.std.proofs.lemmas.List.{length-append}
@@ -22,10 +22,9 @@ use Rattle.xl_smb_state.specs.declared.row.LeaseKey.{LeaseKey}
 use Rattle.xl_smb_state.specs.declared.row.Lease.{Lease}
 use Rattle.xl_smb_state.specs.declared.row.Waiting.{Waiting}
 use Rattle.xl_smb_state.specs.declared.row.Scope.TheVariants as scope
-use Rattle.xl_smb_state.specs.State
-use Rattle.xl_smb_state.specs.State.{Lists, keys_where, is_empty, same_lease, connection_of, client_of, connection_added, connection_changed, connection_dropped, session_of, session_added, session_changed, session_dropped, sessions_on, tree_of, tree_added, tree_changed, tree_dropped, trees_of, trees_on, open_of, open_added, open_changed, open_dropped, covers, covers_holder, opens_under, lease_of, lease_added, lease_changed, lease_dropped, without, kept_lease, lease_left, joined, lease_joined, is_listed, waiting_of, waiting_added, waiting_changed, waiting_dropped, is_key}
-use Rattle.xl_smb_state.specs.Links.{most_connections, most_sessions, most_trees, most_opens, most_waiting, IsSessionLinked, IsTreeLinked, IsPlace, IsHolderLinked, IsOpenLinked, is_under, IsLeaseLinked, KeepsLease, IsSound}
-use Rattle.xl_smb_state.proofs.RowLaws.{none_some, equal_from, unequal_both, row_kept, all_both, none_any, all_removed, all_set, all_mapped, lookup_all, none_where, lookup_added, count, count_added, count_removed, count_set, length_removed, found_apart, lookup_removed, lookup_set, lookup_set_same}
+use Rattle.xl_smb_state.specs.State.{Lists, is_empty, same_lease, client_of, connection_added, connection_changed, connection_dropped, session_of, session_added, session_changed, session_dropped, sessions_on, tree_of, tree_added, tree_changed, tree_dropped, trees_of, trees_on, open_of, open_added, open_changed, open_dropped, covers_holder, opens_under, lease_of, lease_added, lease_changed, lease_dropped, without, kept_lease, lease_left, joined, lease_joined, is_listed, waiting_added, waiting_changed, waiting_dropped, is_key}
+use Rattle.xl_smb_state.specs.Links.{most_connections, most_sessions, most_trees, most_opens, most_waiting, IsSessionLinked, IsTreeLinked, IsPlace, is_tree_at, is_client, has_place, IsHolderLinked, IsOpenLinked, is_under, IsLeaseLinked, KeepsLease, IsSound}
+use Rattle.xl_smb_state.proofs.RowLaws.{none_some, equal_from, unequal_both, row_kept, all_both, none_any, all_removed, all_set, all_mapped, lookup_all, none_where, lookup_added, count, count_added, count_removed, count_set, length_removed, lookup_removed, lookup_set, lookup_set_same}
 
 -- ---- what depends on what
 
@@ -86,6 +85,23 @@ further m n ns h = elim (cases_Bool (eqb m n)) [ inl k ↦ rw k refl | inr k ↦
 
 pub place_client : (s : Lists) (place : Place) → IsSound s → IsPlace s place → is_some (client_of place.connection s) ≡ true
 place_client s place ok h = session_client s place.session place.connection ok (place_session s place ok h)
+
+tree_at : (place : Place) (found : Option Tree) → is_tree_at place found ≡ true → found ≡ Some (record { connection = place.connection; session = place.session })
+tree_at place None h = absurd (false≢true h)
+tree_at place (Some row) h =
+    let both = and_parts (eqb row.connection place.connection) (eqb row.session place.session) h in
+    let connection : row.connection ≡ place.connection = sym (equal_from row.connection place.connection both.0) in
+    let session : row.session ≡ place.session = sym (equal_from row.session place.session both.1) in
+    λ i. Some (record { connection = connection i; session = session i })
+
+client_at : (client : List ℕ) (found : Option (List ℕ)) → is_client client found ≡ true → found ≡ Some client
+client_at client None h = absurd (false≢true h)
+client_at client (Some guid) h = ap Some ((bytes_eq-Decides guid client).0 h)
+
+pub place_linked : (place : Place) (client : List ℕ) (s : Lists) → has_place place client s ≡ true → IsHolderLinked s client (holder.Tree place)
+place_linked place client s h =
+    let both = and_parts (is_tree_at place (tree_of place.tree s)) (is_client client (client_of place.connection s)) h in
+    (tree_at place (tree_of place.tree s) both.0, client_at client (client_of place.connection s) both.1)
 
 -- ---- connections
 

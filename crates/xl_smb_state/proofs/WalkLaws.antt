@@ -1,10 +1,10 @@
 -- Taking out rows one after the other.
-use Rattle.std.proofs.Common.{◌≡◌, ℕ, ◌≤◌, min, Bool, true, false, eqb, leb, cond, ◌||◌, List, [], ◌∷◌, Option, Some, None, refl, sym, ap, subst, ◌∙◌, ◌⊎◌, inl, inr, arith}
+use Rattle.std.proofs.Common.{◌≡◌, ℕ, ◌≤◌, min, Bool, true, false, eqb, leb, cond, List, [], ◌∷◌, Option, Some, None, refl, sym, ap, subst, ◌∙◌, ◌⊎◌, inl, inr, arith}
 use Rattle.std.specs.Prelude.{nat_eq, fold}
 use Rattle.std.specs.List.{AllByRecursion, IsDistinct, list_any, filter}
 use Rattle.std.specs.Option.{IfSome}
-use Rattle.std.specs.Map.{keys_of, lookup, remove_entry}
-use Rattle.std.proofs.lemmas.Bool.{cases_Bool, false≢true, true≢false}
+use Rattle.std.specs.Map.{keys_of, remove_entry}
+use Rattle.std.proofs.lemmas.Bool.{cases_Bool, true≢false}
 use Rattle.std.proofs.lemmas.Bool.Decides.{nat_tests}
 use Rattle.std.proofs.lemmas.Map.Keys.{IsDistinct-head, IsDistinct-tail}
 use Rattle.xl_base.specs.Lists.{IsIn}
@@ -19,7 +19,7 @@ use Rattle.xl_smb_state.specs.declared.row.Scope.{Scope}
 use Rattle.xl_smb_state.specs.declared.row.Scope.TheVariants as scope
 use Rattle.xl_smb_state.specs.State.{Lists, keys_where, sessions_on, session_dropped, tree_of, trees_of, tree_dropped, covers, covers_holder, opens_under, closed, waiting_under, waiting_dropped, lower, lowest}
 use Rattle.xl_smb_state.specs.Links.{IsHolderLinked, IsOpenLinked, IsSound, AreDistinct}
-use Rattle.xl_smb_state.proofs.RowLaws.{none_some, equal_from, unequal_both, all_both, none_where}
+use Rattle.xl_smb_state.proofs.RowLaws.{none_some, equal_from, all_both, none_where}
 
 same_number : {n m : ℕ} → Some n ≡ Some m → n ≡ m
 same_number h = cc
@@ -152,6 +152,7 @@ least_from o (n ∷ ns) =
     old : (p : Option ℕ) (m k : ℕ) → ((i : ℕ) → lower p n ≡ Some i → m ≤ i) → p ≡ Some k → m ≤ k
     old None m k below e = absurd (none_some e)
     old (Some i) m k below e = let same : i ≡ k = same_number e in let low = below (min i n) refl in omega (arith, low, same)
+
     new : (p : Option ℕ) (m : ℕ) → ((i : ℕ) → lower p n ≡ Some i → m ≤ i) → m ≤ n
     new None m below = below n refl
     new (Some i) m below = let low = below (min i n) refl in omega (arith, low)

@@ -1,7 +1,7 @@
 -- Rows that stand in numbered slots, with an index from each row's key to its slot. The order is the index's.
 use Rattle.std.specs.Prelude.{◌≡◌, ℕ, nat_eq, Bool, true, false, List, [], ◌∷◌, Option, Some, None, is_some, count_by, length, slice_index_or}
-use Rattle.std.specs.List.{AllByRecursion, IsDistinct, list_any}
-use Rattle.std.specs.Map.{keys_of, values_of}
+use Rattle.std.specs.List.{AllByRecursion, list_any}
+use Rattle.std.specs.Map.{values_of}
 
 -- the row with its key, where there is one, in front of others
 abbrev pub in_front : {A : Type 0} → ℕ → Option A → List (ℕ × A) → List (ℕ × A)

@@ -40,6 +40,20 @@ IsTreeLinked s row = session_of row.session s ≡ Some (record { connection = ro
 abbrev pub IsPlace : Lists → Place → Type 0
 IsPlace s place = tree_of place.tree s ≡ Some (record { connection = place.connection; session = place.session })
 
+-- the tree connect of the place, as it is found
+abbrev pub is_tree_at : Place → Option Tree → Bool
+is_tree_at place None = false
+is_tree_at place (Some row) = row.connection == place.connection && row.session == place.session
+
+-- the client, as it is found
+abbrev pub is_client : List ℕ → Option (List ℕ) → Bool
+is_client client None = false
+is_client client (Some guid) = bytes_eq guid client
+
+-- the place is there, on a connection of the client
+abbrev pub has_place : Place → List ℕ → Lists → Bool
+has_place place client s = is_tree_at place (tree_of place.tree s) && is_client client (client_of place.connection s)
+
 -- what holds an open of the client is there: its tree connect, on a connection of the client
 abbrev pub IsHolderLinked : Lists → List ℕ → Holder → Type 0
 IsHolderLinked s client (holder.Tree place) = IsPlace s place × (client_of place.connection s ≡ Some client)

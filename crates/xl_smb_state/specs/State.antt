@@ -1,5 +1,5 @@
 -- The lists of an SMB server (MS-SMB2 3.3.1), each in the order in which its rows came, and what changes them.
-use Rattle.std.specs.Prelude.{ℕ, ◌==◌, nat_eq, nat_lt, min, Bool, true, false, not, ◌&&◌, bytes_eq, if◌then◌else◌, List, [], ◌∷◌, ◌++◌, length, filter, Option, Some, None, is_some, option_map, fold}
+use Rattle.std.specs.Prelude.{ℕ, ◌==◌, nat_eq, min, Bool, true, false, not, ◌&&◌, bytes_eq, if◌then◌else◌, List, [], ◌∷◌, ◌++◌, filter, Option, Some, None, option_map, fold}
 use Rattle.std.specs.List.{list_any, filter_map, find}
 use Rattle.std.specs.Map.{keys_of, lookup, remove_entry, set_value}
 use Rattle.std.specs.Option.{option_and_then}

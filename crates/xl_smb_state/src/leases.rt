@@ -5,8 +5,8 @@ ghost use Rattle.std.specs.Map.{keys_of, lookup, set_value};
 ghost use Rattle.xl_smb_state.specs.State.{same_lease, is_empty, without, left_row, grown_row, kept_lease, open_of, lease_of, lease_added, lease_changed, lease_dropped, joined, lease_joined, lease_left, closed, lowest_open, is_listed, key_file};
 ghost use Rattle.xl_smb_state.specs.Links.{IsLeaseLinked, ListsOnly, is_under, only_opens};
 
+use crate::listing::{is_key, key_of, lowest_held, waiting_file};
 use crate::opens::Opens;
-use crate::listing::{key_of, lowest_held, waiting_file};
 use crate::row::{Lease, LeaseKey};
 use crate::rows::{add, change, remove};
 use crate::state::SmbState;
@@ -111,6 +111,16 @@ impl SmbState {
         ensures { option_copied result ≡ lease_of key.now self.now }
     {
         self.leases.get(key)
+    }
+
+    /// Whether the open of this number is there, under the lease key and on the file.
+    pub fn is_under(&self, key: &LeaseKey, file: u32, number: u32) -> bool
+        ensures { result ≡ is_under key.now file (open_of number self.now) }
+    {
+        match self.opens.find(number) {
+            Some(row) => row.file == file && is_key(key, &row.client, &row.lease),
+            None => false,
+        }
     }
 
     /// Adds a lease behind the others; it has at least one open, and each of its opens is there, under this key and on its

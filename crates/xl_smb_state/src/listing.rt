@@ -6,9 +6,13 @@ ghost use Rattle.xl_smb_state.specs.declared.row.Session.{Session};
 ghost use Rattle.xl_smb_state.specs.declared.row.Tree.{Tree};
 ghost use Rattle.xl_smb_state.specs.declared.row.Waiting.{Waiting};
 ghost use Rattle.xl_smb_state.specs.State.{keys_where, covers, covers_holder, is_held, lower, lowest, key_of, is_message, is_key, file_for, waiting_file};
+ghost use Rattle.xl_smb_state.specs.Links.{is_tree_at, is_client};
+ghost use Rattle.std.specs.Option.{option_and_then};
 
 use crate::opens::Opens;
-use crate::row::{Holder, LeaseKey, Open, Place, Request, Scope, Session, Tree, Waiting};
+use crate::row::{
+    Connection, Holder, LeaseKey, Open, Place, Request, Scope, Session, Tree, Waiting,
+};
 use indexmap::IndexMap;
 use std::alloc::{AllocError, Global};
 
@@ -30,6 +34,29 @@ pub(crate) fn covers_holder(scope: Scope, holder: &Holder) -> bool
     match holder {
         Holder::Tree(place) => covers(scope, place),
         Holder::Nobody(_) => false,
+    }
+}
+
+/// Whether this is the tree connect of the place.
+pub(crate) fn is_tree_at(place: &Place, found: Option<&Tree>) -> bool
+    ensures { result ≡ is_tree_at place.now (option_copied found.entry) }
+{
+    match found {
+        Some(row) => row.connection == place.connection && row.session == place.session,
+        None => false,
+    }
+}
+
+/// Whether this is a connection of the client.
+pub(crate) fn is_client(client: &[u8; 16], found: Option<&Connection>) -> bool
+    ensures { result ≡ is_client client.now (option_and_then (λ c. c.client) (option_copied found.entry)) }
+{
+    match found {
+        Some(row) => match row.client {
+            Some(guid) => guid == *client,
+            None => false,
+        },
+        None => false,
     }
 }
 
@@ -99,7 +126,7 @@ pub(crate) fn waiting_by_message(
 }
 
 /// Whether an open of the client, with this lease key or none, is under the lease.
-fn is_key(key: &LeaseKey, client: &[u8; 16], name: &Option<[u8; 16]>) -> bool
+pub(crate) fn is_key(key: &LeaseKey, client: &[u8; 16], name: &Option<[u8; 16]>) -> bool
     ensures { result ≡ is_key key.now client.now name.now }
 {
     match name {

@@ -1,11 +1,12 @@
 //! Connections, sessions and tree connects.
-ghost use Rattle.std.specs.Prelude.{◌≡◌, nat_eq, ◌<◌, [], None, Some, is_some, true, IsSome, OnOk, OnErr, IfOk, length, option_copied};
+ghost use Rattle.std.specs.Prelude.{◌≡◌, nat_eq, ◌<◌, [], None, Some, is_some, true, IsSome, OnOk, OnErr, IfOk, IsTrue, length, option_copied};
 ghost use Rattle.xl_smb_state.specs.State.{connection_of, client_of, connection_added, connection_changed, connection_dropped, session_of, session_added, session_changed, session_dropped, sessions_on, tree_of, tree_added, tree_changed, tree_dropped, trees_of, trees_on, opens_under};
-ghost use Rattle.xl_smb_state.specs.Links.{most_connections, most_sessions, most_trees, IsSessionLinked, IsTreeLinked};
+ghost use Rattle.xl_smb_state.specs.Links.{most_connections, most_sessions, most_trees, IsSessionLinked, IsTreeLinked, IsHolderLinked, has_place};
+ghost use Rattle.xl_smb_state.specs.declared.row.Holder.TheVariants as holder;
 ghost use Rattle.xl_smb_state.specs.declared.row.Scope.TheVariants as scope;
 
-use crate::listing::{sessions_on, trees_of, trees_on};
-use crate::row::{Connection, Session, Tree};
+use crate::listing::{is_client, is_tree_at, sessions_on, trees_of, trees_on};
+use crate::row::{Connection, Place, Session, Tree};
 use crate::rows::{add, change, remove};
 use crate::state::SmbState;
 use std::alloc::{AllocError, Global};
@@ -143,5 +144,15 @@ impl SmbState {
         ensures { IfOk result (λ v. v.items ≡ trees_on connection self.now) }
     {
         trees_on(alloc, &self.trees, connection)
+    }
+
+    /// Whether a tree connect is there at the place, on a connection of the client: what an open needs to be held.
+    #[tactic(auto, using(crate::proofs::LinkLaws::place_linked))]
+    pub fn has_place(&self, place: &Place, client: &[u8; 16]) -> bool
+        ensures value { result ≡ has_place place.now client.now self.now }
+        ensures linked { IsTrue result → IsHolderLinked self.now client.now (holder.Tree place.now) }
+    {
+        is_tree_at(place, self.trees.get(&place.tree))
+            && is_client(client, self.connections.get(&place.connection))
     }
 }

@@ -7,6 +7,7 @@ mod base;
 mod exact;
 mod matrix;
 mod names;
+mod smb_state;
 mod spans;
 mod table;
 mod wait;

@@ -1,5 +1,4 @@
 use Rattle.std.proofs.Common.{◌≡◌, ◌++◌}
-use Rattle.std.specs.Prelude.{◌==◌}
 use Rattle.xl_smb_state.specs.declared.row.Waiting.{Waiting}
 use Rattle.xl_smb_state.specs.State.{keys_where, covers}
 use Rattle.xl_smb_state.proofs.listing.waiting_under.Given as goal

@@ -1,8 +1,6 @@
-use Rattle.std.proofs.Common.{◌≡◌, ◌<◌, [], ◌∷◌, ◌++◌, None, length, false, sym, subst}
-use Rattle.std.specs.Option.{IsSome}
-use Rattle.xl_smb_state.specs.declared.row.Scope.TheVariants as scope
-use Rattle.xl_smb_state.specs.State.{Lists, client_of, connection_of, session_of, session_dropped, sessions_on, tree_of, tree_dropped, trees_of, trees_on, open_of, opens_under, lease_of, is_listed, waiting_of}
-use Rattle.xl_smb_state.specs.Links.{IsSound, IsSessionLinked, IsTreeLinked, IsOpenLinked, IsLeaseLinked, KeepsLease, most_connections, most_sessions, most_trees, most_opens, most_waiting}
+use Rattle.std.proofs.Common.{◌<◌, [], ◌∷◌, ◌++◌, length, sym, subst}
+use Rattle.xl_smb_state.specs.State.{Lists, sessions_on}
+use Rattle.xl_smb_state.specs.Links.{IsSound, IsSessionLinked, most_sessions}
 use Rattle.xl_smb_state.specs.contracts.state.SmbState.{the_view}
 use Rattle.xl_smb_state.proofs.RowLaws.{on_result}
 use Rattle.xl_smb_state.proofs.LinkLaws.{session_added_sound}

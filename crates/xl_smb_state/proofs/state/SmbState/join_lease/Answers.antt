@@ -1,6 +1,6 @@
 use Rattle.std.proofs.Common.{◌≡◌, true, sym, subst}
 use Rattle.std.specs.Option.{IfSome}
-use Rattle.xl_smb_state.specs.State.{Lists, open_of, lease_of, joined, is_listed, lease_left}
+use Rattle.xl_smb_state.specs.State.{Lists, open_of, lease_of, joined}
 use Rattle.xl_smb_state.specs.Links.{IsSound, is_under}
 use Rattle.xl_smb_state.specs.contracts.state.SmbState.{the_view}
 use Rattle.xl_smb_state.proofs.RowLaws.{on_result}

@@ -1,9 +1,6 @@
-use Rattle.std.proofs.Common.{◌≡◌, true, sym, ap, subst, ◌∙◌}
-use Rattle.std.specs.Option.{IfSome}
-use Rattle.xl_smb_state.specs.State.{Lists, open_of, lease_of, joined, is_listed, lease_left}
-use Rattle.xl_smb_state.specs.Links.{IsSound, is_under}
+use Rattle.std.proofs.Common.{ap, ◌∙◌}
+use Rattle.xl_smb_state.specs.State.{Lists, is_listed}
 use Rattle.xl_smb_state.specs.contracts.state.SmbState.{the_view}
-use Rattle.xl_smb_state.proofs.RowLaws.{on_result}
 use Rattle.xl_smb_state.proofs.LeaseLaws.{unlisted}
 use Rattle.xl_smb_state.proofs.LinkLaws.{lease_left_sound}
 use Rattle.xl_smb_state.proofs.state.SmbState.leave_lease.Goals as goal
