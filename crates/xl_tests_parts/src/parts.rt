@@ -8,6 +8,7 @@ mod caches;
 mod exact;
 mod matrix;
 mod names;
+mod smb_state;
 mod spans;
 mod table;
 mod wait;
