@@ -1,0 +1,10 @@
+//! What an NFSv4.0 server remembers of its clients: their records, the owners of opens and locks, the stateids, and the
+//! results that are kept for requests that come again (RFC 7530 9.1, 9.10, 10.4, 16.33).
+#![tactic(auto)]
+
+mod filed;
+mod rows;
+
+pub use rows::{
+    Callback, ClientRow, Holder, KeptRow, OwnerKind, OwnerName, OwnerRow, Standing, StateidRow, Turn,
+};
