@@ -1,13 +1,14 @@
 -- Rows in a slab that two maps lead to are a list: found, entered, changed and dropped as in a list.
-use Rattle.std.proofs.Common.{◌≡◌, ℕ, ◌≢◌, Bool, true, false, cond, not, List, [], ◌∷◌, ◌++◌, map, Option, Some, None, is_some, MutBor, get_or, zero, suc, ◌+◌, if◌then◌else◌, refl, sym, ap, subst, ◌∙◌, inl, inr, true≢false}
+use Rattle.std.proofs.Common.{◌≡◌, ℕ, ◌≢◌, Bool, true, false, cond, not, List, [], ◌∷◌, ◌++◌, map, Option, Some, None, is_some, MutBor, get_or, zero, suc, ◌+◌, ◌==◌, length, eqb-true, eq-eqb, if◌then◌else◌, refl, sym, ap, subst, ◌∙◌, inl, inr, true≢false}
 use Rattle.std.specs.List.{AllByRecursion, filter, find, IsDistinct}
 use Rattle.std.specs.Map.{lookup}
 use Rattle.std.specs.Option.{option_and_then}
 use Rattle.std.proofs.lemmas.Bool.{cases_Bool}
+use Rattle.std.proofs.lemmas.Option.{same_Some}
 use Rattle.xl_base.proofs.Members.{all_append}
 use Rattle.slab.specs.Slab.{Slab, get, Updates, RetainsFrom, CalledAt}
 use Rattle.indexmap.specs.IndexMap.{insert_entry}
-use Rattle.xl_nfs_state.specs.Filed.{front, rows_at, left, places, found, entered, indexed, filed, IsFiled, changed}
+use Rattle.xl_nfs_state.specs.Filed.{front, rows_at, left, places, found, entered, indexed, filed, IsFiled, written, changed}
 
 none_or : {A : Type 0} (o : Option A) → is_some o ≡ true → o ≡ None → ⊥
 none_or o h e = true≢false (sym h ∙ ap is_some e)
@@ -230,3 +231,171 @@ module _ {T F : Type 0} (step : F → ℕ → MutBor T → Bool → MutBor T →
       let called = h.3 in
       let told = says key called.shown h.0 called.left h.2 called.called in
       ap (λ ss. get_or ss (suc at) None) h.5 ∙ retained_left slots h.4 (key + 1) (subst (λ g. RetainsFrom step g (key + 1) slots h.4) told.2 h.6) at
+
+-- the keys of a map are those of the rows
+module _ {R K : Type 0} (key : R → K) (slab : Slab R) where
+  keys_at : (ats : List ℕ) → map (λ e. e.0) (indexed key slab ats) ≡ map key (rows_at slab ats)
+  keys_at [] = refl
+  keys_at (at ∷ ats) = by (get slab at) (keys_at ats)
+    where
+      by : (o : Option R) → map (λ e. e.0) (indexed key slab ats) ≡ map key (rows_at slab ats) → map (λ e. e.0) (entered key at o (indexed key slab ats)) ≡ map key (front o (rows_at slab ats))
+      by None rest = rest
+      by (Some row) rest = ap (λ ks. key row ∷ ks) rest
+
+  length_at : (ats : List ℕ) → length (indexed key slab ats) ≡ length (rows_at slab ats)
+  length_at [] = refl
+  length_at (at ∷ ats) = by (get slab at) (length_at ats)
+    where
+      by : (o : Option R) → length (indexed key slab ats) ≡ length (rows_at slab ats) → length (entered key at o (indexed key slab ats)) ≡ length (front o (rows_at slab ats))
+      by None rest = rest
+      by (Some row) rest = ap suc rest
+
+module _ {R K N : Type 0} (number : R → K) (name : R → N) (slab : Slab R) (ns : List (K × ℕ)) (ms : List (N × ℕ)) (sound : IsFiled number name slab ns ms) where
+  pub length_filed : length ns ≡ length (filed slab ns)
+  length_filed = ap length sound.numbers ∙ length_at number slab (places ns)
+
+  pub distinct_numbers : (eq : K → K → Bool) → IsDistinct eq (map (λ e. e.0) ns) → IsDistinct eq (map number (filed slab ns))
+  distinct_numbers eq h = subst (IsDistinct eq) (ap (map (λ e. e.0)) sound.numbers ∙ keys_at number slab (places ns)) h
+
+  pub distinct_names : (eq : N → N → Bool) → IsDistinct eq (map (λ e. e.0) ms) → IsDistinct eq (map name (filed slab ns))
+  distinct_names eq h = subst (IsDistinct eq) (ap (map (λ e. e.0)) sound.names ∙ keys_at name slab (places ns)) h
+
+  -- rows and maps that stay
+  pub same_filed : (new : Slab R) (ns' : List (K × ℕ)) (ms' : List (N × ℕ)) → ((at : ℕ) → get new at ≡ get slab at) → ns' ≡ ns → ms' ≡ ms → IsFiled number name new ns' ms' × (filed new ns' ≡ filed slab ns)
+  same_filed new ns' ms' rows numbered named =
+      let stay = all_stay (places ns) in (
+        filed_by number name new ns' ms' (places ns) (ap places numbered)
+        (numbered ∙ sound.numbers ∙ sym (indexed_stay number slab new (places ns) stay))
+        (named ∙ sound.names ∙ sym (indexed_stay name slab new (places ns) stay))
+        (held_stay slab new (places ns) stay sound.held),
+        ap (filed new) numbered ∙ rows_stay slab new (places ns) stay,
+      )
+    where
+      all_stay : (ats : List ℕ) → Stays slab new ats
+      all_stay [] = tt
+      all_stay (at ∷ ats) = (rows at, all_stay ats)
+
+-- A row is changed where it stands.
+module _ {R : Type 0} (to : R → R) (old new : Slab R) where
+  same_key : {K : Type 0} (key : R → K) (keeps : (r : R) → key (to r) ≡ key r) (place : Option ℕ) (at : ℕ) (o : Option R) (es : List (K × ℕ)) → entered key at (written to place at o) es ≡ entered key at o es
+  same_key key keeps None at o es = refl
+  same_key key keeps (Some v) at None es = refl
+  same_key key keeps (Some v) at (Some r) es =
+      elim (cases_Bool (v == at)) [
+        | inl h ↦ rw h (ap (λ k. (k, at) ∷ es) (keeps r))
+        | inr h ↦ rw h refl
+      ]
+
+  none_written : (place : Option ℕ) (at : ℕ) → written to place at None ≡ None
+  none_written None at = refl
+  none_written (Some v) at = refl
+
+  same_held : (place : Option ℕ) (at : ℕ) (o : Option R) → is_some (written to place at o) ≡ is_some o
+  same_held None at o = refl
+  same_held (Some v) at None = refl
+  same_held (Some v) at (Some r) = refl
+
+  module _ (place : Option ℕ) (rows : (at : ℕ) → get new at ≡ written to place at (get old at)) where
+    indexed_written : {K : Type 0} (key : R → K) (keeps : (r : R) → key (to r) ≡ key r) (ats : List ℕ) → indexed key new ats ≡ indexed key old ats
+    indexed_written key keeps [] = refl
+    indexed_written key keeps (at ∷ ats) =
+        (λ i. entered key at (rows at i) (indexed_written key keeps ats i)) ∙ same_key key keeps place at (get old at) (indexed key old ats)
+
+    held_written : (ats : List ℕ) → AllByRecursion (λ at. is_some (get old at) ≡ true) ats → AllByRecursion (λ at. is_some (get new at) ≡ true) ats
+    held_written [] h = tt
+    held_written (at ∷ ats) h = (ap is_some (rows at) ∙ same_held place at (get old at) ∙ h.0, held_written ats h.1)
+
+  module _ {K : Type 0} (number : R → K) (test : K → Bool) (eq : K → K → Bool) (eq_self : (k : K) → eq k k ≡ true) where
+    abbrev Written : Option ℕ → Type 0
+    Written place = (at : ℕ) → get new at ≡ written to place at (get old at)
+
+    abbrev Apart : K → List (K × ℕ) → Type 0
+    Apart k es = AllByRecursion (λ l. eq k l ≡ false) (map (λ e. e.0) es)
+
+    written_other : (v at : ℕ) (o : Option R) → (v == at) ≡ false → written to (Some v) at o ≡ o
+    written_other v at None h = refl
+    written_other v at (Some r) h = rw h refl
+
+    apart_later : (k : K) (at : ℕ) (o : Option R) (es : List (K × ℕ)) → Apart k (entered number at o es) → Apart k es
+    apart_later k at None es apart = apart
+    apart_later k at (Some r) es apart = apart.1
+
+    -- no later place is that of a row with this number
+    beside : (v : ℕ) (row : R) → get old v ≡ Some row → (ats : List ℕ) → Apart (number row) (indexed number old ats) → Written (Some v) → Stays old new ats
+    beside v row is [] apart rows = tt
+    beside v row is (at ∷ ats) apart rows =
+        elim (cases_Bool (v == at)) [
+          | inl h ↦
+              let here : get old at ≡ Some row = ap (get old) (sym (eqb-true v at h)) ∙ is in
+              let first = subst (λ o. Apart (number row) (entered number at o (indexed number old ats))) here apart in
+              absurd (true≢false (sym (eq_self (number row)) ∙ first.0))
+          | inr h ↦ (rows at ∙ written_other v at (get old at) h, beside v row is ats (apart_later (number row) at (get old at) (indexed number old ats) apart) rows)
+        ]
+
+    -- what is found passes the test
+    looked_up : (ats : List ℕ) (v : ℕ) → lookup test (indexed number old ats) ≡ Some v → (row : R) × (get old v ≡ Some row) × (test (number row) ≡ true)
+    looked_up [] v h = absurd (true≢false (sym (ap is_some h)))
+    looked_up (at ∷ ats) v h = by (get old at) refl h (looked_up ats v)
+      where
+        by : (o : Option R) → get old at ≡ o → lookup test (entered number at o (indexed number old ats)) ≡ Some v → (lookup test (indexed number old ats) ≡ Some v → (row : R) × (get old v ≡ Some row) × (test (number row) ≡ true)) → (row : R) × (get old v ≡ Some row) × (test (number row) ≡ true)
+        by None e h later = later h
+        by (Some r) e h later =
+            elim (cases_Bool (test (number r))) [
+              | inl t ↦
+                  let same : Some at ≡ Some v = rw t at h in
+                  (r, ap (get old) (sym (same_Some at v same)) ∙ e, t)
+              | inr t ↦ later (rw t at h)
+            ]
+
+    -- a place that isn't found stays
+    passed_over : (ats : List ℕ) (at : ℕ) (row : R) → get old at ≡ Some row → test (number row) ≡ false → written to (lookup test (indexed number old ats)) at (Some row) ≡ Some row
+    passed_over ats at row is fails = by (lookup test (indexed number old ats)) refl
+      where
+        by : (place : Option ℕ) → lookup test (indexed number old ats) ≡ place → written to place at (Some row) ≡ Some row
+        by None e = refl
+        by (Some v) e =
+            elim (cases_Bool (v == at)) [
+              | inl h ↦
+                  let there = looked_up ats v e in
+                  let same : Some there.0 ≡ Some row = sym there.1 ∙ ap (get old) (eqb-true v at h) ∙ is in
+                  absurd (true≢false (sym there.2 ∙ ap (λ r. test (number r)) (same_Some there.0 row same) ∙ fails))
+              | inr h ↦ rw h refl
+            ]
+
+    changed_at : (ats : List ℕ) → IsDistinct eq (map (λ e. e.0) (indexed number old ats)) → Written (lookup test (indexed number old ats)) → rows_at new ats ≡ changed (λ row. test (number row)) to (rows_at old ats)
+    unfolding IsDistinct
+    changed_at [] distinct rows = refl
+    changed_at (at ∷ ats) distinct rows = by (get old at) refl distinct rows (changed_at ats)
+      where
+        by : (o : Option R) → get old at ≡ o → IsDistinct eq (map (λ e. e.0) (entered number at o (indexed number old ats))) → Written (lookup test (entered number at o (indexed number old ats)))
+            → (IsDistinct eq (map (λ e. e.0) (indexed number old ats)) → Written (lookup test (indexed number old ats)) → rows_at new ats ≡ changed (λ row. test (number row)) to (rows_at old ats))
+            → rows_at new (at ∷ ats) ≡ changed (λ row. test (number row)) to (front o (rows_at old ats))
+        by None e distinct rows later =
+            let place = lookup test (indexed number old ats) in
+            let gone : get new at ≡ None = rows at ∙ ap (written to place at) e ∙ none_written place at in
+            ap (λ o. front o (rows_at new ats)) gone ∙ later distinct rows
+        by (Some row) e distinct rows later =
+            elim (cases_Bool (test (number row))) [
+              | inl t ↦
+                  let found : Written (Some at) = rw t at rows in
+                  let self : (at == at) ≡ true = eq-eqb at at refl in
+                  let here : get new at ≡ Some (to row) = found at ∙ ap (written to (Some at) at) e ∙ rw self refl in
+                  let stay = beside at row e ats distinct.0 found in
+                  rw t (λ i. front (here i) (rows_stay old new ats stay i))
+              | inr t ↦
+                  let rest : Written (lookup test (indexed number old ats)) = rw t at rows in
+                  let here : get new at ≡ Some row = rest at ∙ ap (written to (lookup test (indexed number old ats)) at) e ∙ passed_over ats at row e t in
+                  rw t (λ i. front (here i) (later distinct.1 rest i))
+            ]
+
+    module _ {N : Type 0} (name : R → N) (keeps_number : (r : R) → number (to r) ≡ number r) (keeps_name : (r : R) → name (to r) ≡ name r) (ns : List (K × ℕ)) (ms : List (N × ℕ)) (sound : IsFiled number name old ns ms) (rows : Written (lookup test ns)) where
+      pub changed_filed : IsFiled number name new ns ms
+      changed_filed =
+          filed_by number name new ns ms (places ns) refl
+          (sound.numbers ∙ sym (indexed_written (lookup test ns) rows number keeps_number (places ns)))
+          (sound.names ∙ sym (indexed_written (lookup test ns) rows name keeps_name (places ns)))
+          (held_written (lookup test ns) rows (places ns) sound.held)
+
+      pub changed_rows : IsDistinct eq (map (λ e. e.0) ns) → filed new ns ≡ changed (λ row. test (number row)) to (filed old ns)
+      changed_rows distinct =
+          changed_at (places ns) (subst (λ es. IsDistinct eq (map (λ e. e.0) es)) sound.numbers distinct) (subst (λ es. Written (lookup test es)) sound.numbers rows)

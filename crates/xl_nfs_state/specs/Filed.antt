@@ -1,8 +1,8 @@
 -- Rows in a slab, of which each is found by two keys: a map leads from a key to the row's place in the slab.
-use Rattle.std.specs.Prelude.{◌≡◌, ℕ, Bool, true, cond, List, [], ◌∷◌, map, Option, Some, None, is_some}
+use Rattle.std.specs.Prelude.{◌≡◌, ℕ, Bool, true, cond, ◌==◌, List, [], ◌∷◌, map, Option, Some, None, is_some}
 use Rattle.std.specs.List.{AllByRecursion}
 use Rattle.std.specs.Map.{lookup}
-use Rattle.std.specs.Option.{option_and_then}
+use Rattle.std.specs.Option.{option_and_then, option_map}
 use Rattle.slab.specs.Slab.{Slab, get}
 
 -- the places that a map leads to, in its order
@@ -24,6 +24,11 @@ module _ {R : Type 0} where
   abbrev pub left : (R → Bool) → Option R → Option R
   left drops None = None
   left drops (Some row) = cond (drops row) None (Some row)
+
+  -- the row, changed where it stands at the place that was found
+  abbrev pub written : (R → R) → Option ℕ → ℕ → Option R → Option R
+  written to None at row = row
+  written to (Some place) at row = option_map (λ r. cond (place == at) (to r) r) row
 
   module _ {K : Type 0} where
     -- the row that a map finds by a test of its key

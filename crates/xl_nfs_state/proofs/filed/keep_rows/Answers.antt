@@ -3,4 +3,4 @@ use Rattle.xl_nfs_state.proofs.FiledLaws.{retained_left}
 use Rattle.xl_nfs_state.proofs.filed.keep_rows.Goals as goal
 
 pub returns : goal.returns
-returns g c = retained_left _ (g.D.Drops.drops c.args.which.now) _ (λ at x keep y next h. search rules) _ _ 0 c.retain.ensures.retained
+returns g c = retained_left _ (g.P.Picks.picks c.args.which.now) _ (λ at x keep y next h. search rules) _ _ 0 c.retain.ensures.retained
