@@ -1,5 +1,5 @@
 -- Rows in a slab that two maps lead to are a list: found, entered, changed and dropped as in a list.
-use Rattle.std.proofs.Common.{◌≡◌, ℕ, ◌≢◌, Bool, true, false, cond, not, List, [], ◌∷◌, ◌++◌, map, Option, Some, None, is_some, MutBor, get_or, zero, suc, ◌+◌, ◌==◌, length, eqb-true, eq-eqb, if◌then◌else◌, refl, sym, ap, subst, ◌∙◌, inl, inr, true≢false}
+use Rattle.std.proofs.Common.{◌≡◌, ℕ, ◌≢◌, Bool, true, false, cond, not, List, [], ◌∷◌, ◌++◌, map, Option, Some, None, is_some, MutBor, get_or, zero, suc, ◌+◌, ◌==◌, length, eqb-true, eq-eqb, slice_get, if◌then◌else◌, refl, sym, ap, subst, ◌∙◌, inl, inr, true≢false}
 use Rattle.std.specs.List.{AllByRecursion, filter, find, IsDistinct}
 use Rattle.std.specs.Map.{lookup}
 use Rattle.std.specs.Option.{option_and_then}
@@ -399,3 +399,13 @@ module _ {R : Type 0} (to : R → R) (old new : Slab R) where
       pub changed_rows : IsDistinct eq (map (λ e. e.0) ns) → filed new ns ≡ changed (λ row. test (number row)) to (filed old ns)
       changed_rows distinct =
           changed_at (places ns) (subst (λ es. IsDistinct eq (map (λ e. e.0) es)) sound.numbers distinct) (subst (λ es. Written (lookup test es)) sound.numbers rows)
+
+-- the row at a place of the list
+pub row_at_place : {R : Type 0} (slab : Slab R) (ats : List ℕ) (i : ℕ) → AllByRecursion (λ at. is_some (get slab at) ≡ true) ats → option_and_then (get slab) (slice_get ats i) ≡ slice_get (rows_at slab ats) i
+row_at_place slab [] i held = refl
+row_at_place {R} slab (at ∷ ats) i held = by (get slab at) refl held.0 i (λ j. row_at_place slab ats j held.1)
+  where
+    by : (o : Option R) → get slab at ≡ o → is_some o ≡ true → (i : ℕ) → ((j : ℕ) → option_and_then (get slab) (slice_get ats j) ≡ slice_get (rows_at slab ats) j) → option_and_then (get slab) (slice_get (at ∷ ats) i) ≡ slice_get (front o (rows_at slab ats)) i
+    by None e some i later = absurd (true≢false (sym some))
+    by (Some row) e some zero later = e
+    by (Some row) e some (suc j) later = later j

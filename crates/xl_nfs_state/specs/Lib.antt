@@ -1,1 +1,4 @@
+pub mod Alike
 pub mod Filed
+pub mod Keys
+pub mod Rows

@@ -1,10 +1,11 @@
 //! Rows in a slab, of which each is found by two keys.
-ghost use Rattle.std.specs.Prelude.{◌≡◌, ℕ, ◌++◌, ◌∷◌, [], Bool, not, is_some, Some, None, length, map, IfOk, OnOk, OnErr, option_copied, filter};
+ghost use Rattle.std.specs.Prelude.{◌≡◌, ℕ, ◌++◌, ◌∷◌, [], Bool, not, is_some, Some, None, length, map, IfOk, OnOk, OnErr, option_copied, filter, slice_get};
 ghost use Rattle.std.specs.List.{find, IsDistinct};
+ghost use Rattle.std.specs.Option.{option_and_then};
 ghost use Rattle.std.specs.Map.{lookup};
 ghost use Rattle.slab.specs.Slab.{Slab, get, Updates};
 ghost use Rattle.indexmap.specs.IndexMap.{insert_entry};
-ghost use Rattle.xl_nfs_state.specs.Filed.{found, left, written, changed};
+ghost use Rattle.xl_nfs_state.specs.Filed.{found, left, written, changed, places};
 
 use indexmap::{Equivalent, IndexMap};
 use slab::Slab;
@@ -112,6 +113,13 @@ impl<R: Row> Filed<R> {
         find(&self.rows, &self.names, name)
     }
 
+    /// The row at this place in the order of arrival, counted from 0.
+    pub(crate) fn at(&self, place: usize) -> Option<&R>
+        ensures { option_copied result ≡ slice_get self.now place }
+    {
+        row_at(&self.rows, &self.numbers, place)
+    }
+
     /// Adds a row behind the others. Want of memory changes nothing.
     pub(crate) fn add(&mut self, alloc: Global, row: R) -> Result<(), AllocError>
         where
@@ -159,6 +167,18 @@ fn find<'a, R, K: Eq + Hash, Q: Equivalent<K>>(
     ensures { option_copied result ≡ found (Q.equivalent key) rows.now keys.now.entries }
 {
     let at = keys.get(key)?;
+    rows.get(*at)
+}
+
+/// The row that the entry at this place leads to.
+fn row_at<'a, R, K: Eq + Hash>(
+    rows: &'a Slab<R>,
+    numbers: &IndexMap<K, usize>,
+    place: usize,
+) -> Option<&'a R>
+    ensures { option_copied result ≡ option_and_then (get rows.now) (slice_get (places numbers.now.entries) place) }
+{
+    let (_, at) = numbers.get_index(place)?;
     rows.get(*at)
 }
 

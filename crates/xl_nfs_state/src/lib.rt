@@ -2,9 +2,11 @@
 //! results that are kept for requests that come again (RFC 7530 9.1, 9.10, 10.4, 16.33).
 #![tactic(auto)]
 
+mod client;
 mod filed;
-mod rows;
+mod owner;
+mod stateid;
 
-pub use rows::{
-    Callback, ClientRow, Holder, KeptRow, OwnerKind, OwnerName, OwnerRow, Standing, StateidRow, Turn,
-};
+pub use client::{Callback, ClientDetails, ClientRow};
+pub use owner::{OwnerKind, OwnerName, OwnerNamed, OwnerRow, Turn};
+pub use stateid::{Holder, Standing, StateidRow};
