@@ -81,7 +81,7 @@ module _ {R : Type 0} where
   stays_beside old new v slot (at ∷ ats) vacant updates all =
       (updates.others at (λ e. none_or (get old at) all.0 (ap (get old) e ∙ vacant)), stays_beside old new v slot ats vacant updates all.1)
 
-pub insert_new : {K : Type 0} (eq : K → K → Bool) (es : List (K × ℕ)) (k : K) (v : ℕ) → lookup (eq k) es ≡ None → insert_entry eq es k v ≡ es ++ (k, v) ∷ []
+pub insert_new : {K V : Type 0} (eq : K → K → Bool) (es : List (K × V)) (k : K) (v : V) → lookup (eq k) es ≡ None → insert_entry eq es k v ≡ es ++ (k, v) ∷ []
 insert_new eq [] k v h = refl
 insert_new eq (e ∷ es) k v h =
     elim (cases_Bool (eq k e.0)) [

@@ -1,1 +1,4 @@
+pub mod AnyLaws
 pub mod FiledLaws
+pub mod KeptLaws
+pub mod SoundLaws

@@ -2,3 +2,4 @@ pub mod Alike
 pub mod Filed
 pub mod Keys
 pub mod Rows
+pub mod State

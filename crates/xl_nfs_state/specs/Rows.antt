@@ -1,8 +1,9 @@
 -- Rows with a part changed.
-use Rattle.std.specs.Prelude.{ℕ}
+use Rattle.std.specs.Prelude.{ℕ, List}
 use Rattle.xl_base.specs.declared.event.Moment.{Moment}
 use Rattle.xl_nfs_state.specs.declared.client.ClientRow.{ClientRow}
 use Rattle.xl_nfs_state.specs.declared.client.ClientDetails.{ClientDetails}
+use Rattle.xl_nfs_state.specs.declared.kept.KeptRow.{KeptRow}
 use Rattle.xl_nfs_state.specs.declared.owner.OwnerRow.{OwnerRow}
 use Rattle.xl_nfs_state.specs.declared.owner.Turn.{Turn}
 use Rattle.xl_nfs_state.specs.declared.stateid.StateidRow.{StateidRow}
@@ -19,3 +20,9 @@ with_turn turn r = record { number = r.number; name = r.name; turn = turn }
 
 abbrev pub with_standing : Standing → StateidRow → StateidRow
 with_standing standing r = record { number = r.number; client = r.client; file = r.file; holder = r.holder; standing = standing }
+
+abbrev pub kept_row : ℕ × List ℕ → KeptRow
+kept_row e = record { owner = e.0; result = e.1 }
+
+abbrev pub with_result : List ℕ → KeptRow → KeptRow
+with_result result k = record { owner = k.owner; result = result }

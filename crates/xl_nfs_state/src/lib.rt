@@ -4,9 +4,11 @@
 
 mod client;
 mod filed;
+mod kept;
 mod owner;
 mod stateid;
 
 pub use client::{Callback, ClientDetails, ClientRow};
+pub use kept::KeptRow;
 pub use owner::{OwnerKind, OwnerName, OwnerNamed, OwnerRow, Turn};
-pub use stateid::{Holder, Standing, StateidRow};
+pub use stateid::{Holder, Standing, StateidRow, Whose};

@@ -56,6 +56,19 @@ pub struct StateidRow {
     pub standing: Standing,
 }
 
+/// Which stateids are meant.
+#[derive(Clone, Copy)]
+pub enum Whose {
+    /// What hangs on the owner of this number: the owner's own, and of an open owner the locks under its opens too.
+    Owner(u64),
+    /// The locks under the open of this number.
+    Under(u64),
+    /// All of the client of this number.
+    Client(u32),
+    /// All of the client, the first number, on the file, the second.
+    ClientFile(u32, u32),
+}
+
 /// Where a stateid stands: an owner has one on a file, and of delegations a client.
 #[derive(Clone, Copy, PartialEq, Eq, Hash)]
 pub(crate) enum Place {
