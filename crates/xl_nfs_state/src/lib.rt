@@ -5,7 +5,9 @@
 mod client;
 mod filed;
 mod kept;
+mod listing;
 mod owner;
+mod picks;
 mod stateid;
 
 pub use client::{Callback, ClientDetails, ClientRow};
