@@ -1,6 +1,6 @@
 -- A map from owners to results, as a list of rows.
-use Rattle.std.proofs.Common.{◌≡◌, ℕ, Bool, true, false, cond, not, ◌==◌, List, [], ◌∷◌, ◌++◌, map, Option, Some, None, Result, Ok, Err, OnOk, OnErr, IsSome, is_some, Bor, option_copied, refl, sym, ap, ◌∙◌, inl, inr, true≢false}
-use Rattle.std.specs.List.{filter, find, list_any}
+use Rattle.std.proofs.Common.{◌≡◌, ℕ, Bool, true, false, cond, not, ◌==◌, List, [], ◌∷◌, ◌++◌, map, Option, Some, None, Result, Ok, Err, OnOk, OnErr, IsSome, is_some, Bor, option_copied, refl, sym, ap, subst, ◌∙◌, inl, inr, true≢false}
+use Rattle.std.specs.List.{IsDistinct, filter, find, list_any}
 use Rattle.std.specs.Map.{lookup}
 use Rattle.std.specs.Option.{option_map}
 use Rattle.std.proofs.lemmas.Bool.{cases_Bool}
@@ -73,3 +73,10 @@ some_found test (x ∷ xs) =
 pub some_copied : {A : Type 0} (o : Option (Bor A)) → is_some o ≡ is_some (option_copied o)
 some_copied None = refl
 some_copied (Some x) = refl
+
+owners_of : (es : Entries) → map (λ e. e.0) es ≡ map (λ k. k.owner) (map kept_row es)
+owners_of [] = refl
+owners_of (e ∷ es) = ap (λ os. e.0 ∷ os) (owners_of es)
+
+pub kept_distinct : (es : Entries) → IsDistinct ◌==◌ (map (λ e. e.0) es) → IsDistinct ◌==◌ (map (λ k. k.owner) (map kept_row es))
+kept_distinct es h = subst (IsDistinct ◌==◌) (owners_of es) h

@@ -1,5 +1,5 @@
 -- What hangs on a row hangs on one that is there, and there is room, after each change.
-use Rattle.std.proofs.Common.{◌≡◌, ℕ, ◌<◌, ◌≤◌, ◌+◌, Bool, true, false, not, ◌&&◌, ◌||◌, ◌==◌, List, [], ◌∷◌, ◌++◌, length, Option, None, Some, is_some, nat_lt, ltb-true, cond, if◌then◌else◌, ◌^◌, eqb-true, eq-eqb, suc, refl, sym, ap, subst, ◌∙◌, inl, inr, true≢false, arith}
+use Rattle.std.proofs.Common.{◌≡◌, ℕ, ◌<◌, ◌≤◌, ◌+◌, Bool, true, false, not, ◌&&◌, ◌||◌, ◌==◌, List, [], ◌∷◌, ◌++◌, length, Option, None, Some, is_some, nat_lt, slice_get, ◌-◌, ltb-true, cond, if◌then◌else◌, ◌^◌, eqb-true, eq-eqb, suc, refl, sym, ap, subst, ◌∙◌, inl, inr, true≢false, arith}
 use Rattle.std.specs.List.{AllByRecursion, filter, find, list_any}
 use Rattle.std.specs.Bool.{beq}
 use Rattle.std.specs.Cmp.{booleans_Decides}
@@ -223,6 +223,32 @@ next_parts os n h =
           (ltb-true (length os) st.most_owners (and_parts (nat_lt (length os) st.most_owners) (nat_lt (st.last_number os + 1) (2 ^ 64)) e).0, same_Some (st.last_number os + 1) n is)
       | inr e ↦ let none : None ≡ Some n = rw e at h in absurd (true≢false (sym (ap is_some none)))
     ]
+
+-- the next number is no owner's
+pub fresh_number : (os : List OwnerRow) (n : ℕ) → IsRising os → st.next_owner os ≡ Some n → find (is_owner n) os ≡ None
+fresh_number os n rising next =
+    let parts = next_parts os n next in
+    none_found os (all_weaker _ _ os (λ o h. let below : o.number < n = omega (arith, h, parts.1) in below) (rising_last os rising))
+  where
+    none_found : (ps : List OwnerRow) → AllByRecursion (λ o. o.number < n) ps → find (is_owner n) ps ≡ None
+    none_found [] all = refl
+    none_found (p ∷ ps) all =
+        let other : (n == p.number) ≡ false = false_from_ne_true (n == p.number) (λ e. let same = eqb-true n p.number e in omega (arith, same, all.0)) in
+        rw other (none_found ps all.1)
+
+pub last_at : (os : List OwnerRow) (o : OwnerRow) → slice_get os (length os - 1) ≡ Some o → o.number ≡ st.last_number os
+last_at [] o h = absurd (true≢false (sym (ap is_some h)))
+last_at (p ∷ []) o h = ap (λ (q : OwnerRow). q.number) (sym (same_Some p o h))
+last_at (p ∷ q ∷ os) o h =
+    let place : length (p ∷ q ∷ os) - 1 ≡ suc (length (q ∷ os) - 1) = omega arith in
+    last_at (q ∷ os) o (sym (ap (slice_get (p ∷ q ∷ os)) place) ∙ h)
+
+pub last_none : (os : List OwnerRow) → slice_get os (length os - 1) ≡ None → 0 ≡ st.last_number os
+last_none [] h = refl
+last_none (p ∷ []) h = absurd (true≢false (ap is_some h))
+last_none (p ∷ q ∷ os) h =
+    let place : length (p ∷ q ∷ os) - 1 ≡ suc (length (q ∷ os) - 1) = omega arith in
+    last_none (q ∷ os) (sym (ap (slice_get (p ∷ q ∷ os)) place) ∙ h)
 
 pub owner_added : (l : NfsLists) (row : OwnerRow) → IsSound l → st.next_owner l.owners ≡ Some row.number → has_client row.name.client l.clients ≡ true → IsSound (with_owners l (l.owners ++ row ∷ []))
 owner_added l row sound next client =
@@ -490,3 +516,33 @@ kept_dropped l drops sound =
       stateids = sound.stateids;
       kept = all_left _ _ drops l.kept (λ k e h. h) sound.kept;
     }
+
+-- how many opens there are after a change of a stateid that is there, of which a closed one stays closed
+pub recounted : (ss : List StateidRow) (number : ℕ) (standing : Standing) (closes : Bool) → is_some (find (st.is_stateid number) ss) ≡ true
+    → ((row : StateidRow) → find (st.is_stateid number) ss ≡ Some row → row.standing.closed ≡ true → standing.closed ≡ true)
+    → ((row : StateidRow) → find (st.is_stateid number) ss ≡ Some row → closes ≡ (is_live row && standing.closed))
+    → opens (changed (st.is_stateid number) (with_standing standing) ss) + (if closes then 1 else 0) ≡ opens ss
+recounted ss number standing closes there closing is = by (find (st.is_stateid number) ss) refl there
+  where
+    told : (o a b w : Bool) (new old : ℕ) → (a ≡ true → b ≡ true) → w ≡ ((o && not a) && b) → new + (if o && not a then 1 else 0) ≡ old + (if o && not b then 1 else 0) → new + (if w then 1 else 0) ≡ old
+    told o a b w new old closing is so = rw is (by_cases o a b new old closing so)
+      where
+        by_cases : (o a b : Bool) (new old : ℕ) → (a ≡ true → b ≡ true) → new + (if o && not a then 1 else 0) ≡ old + (if o && not b then 1 else 0) → new + (if (o && not a) && b then 1 else 0) ≡ old
+        by_cases true true true new old closing so = omega (arith, so)
+        by_cases true true false new old closing so = absurd (true≢false (sym (closing refl)))
+        by_cases true false true new old closing so = omega (arith, so)
+        by_cases true false false new old closing so = omega (arith, so)
+        by_cases false a b new old closing so = omega (arith, so)
+
+    by : (o : Option StateidRow) → find (st.is_stateid number) ss ≡ o → is_some o ≡ true → opens (changed (st.is_stateid number) (with_standing standing) ss) + (if closes then 1 else 0) ≡ opens ss
+    by None e h = absurd (true≢false (sym h))
+    by (Some r) e h = told (st.is_open r.holder) r.standing.closed standing.closed closes _ _ (closing r e) (is r e) (opens_changed (st.is_stateid number) (with_standing standing) ss r e)
+
+pub stateid_changed_there : (l : NfsLists) (number : ℕ) (standing : Standing) → IsSound l → is_some (find (st.is_stateid number) l.stateids) ≡ true
+    → ((row : StateidRow) → find (st.is_stateid number) l.stateids ≡ Some row → row.standing.closed ≡ true → standing.closed ≡ true)
+    → IsSound (with_stateids l (changed (st.is_stateid number) (with_standing standing) l.stateids))
+stateid_changed_there l number standing sound there closing = by (find (st.is_stateid number) l.stateids) refl there
+  where
+    by : (o : Option StateidRow) → find (st.is_stateid number) l.stateids ≡ o → is_some o ≡ true → IsSound (with_stateids l (changed (st.is_stateid number) (with_standing standing) l.stateids))
+    by None e h = absurd (true≢false (sym h))
+    by (Some r) e h = stateid_changed l (st.is_stateid number) standing r sound e (closing r e)

@@ -3,3 +3,4 @@ pub mod Filed
 pub mod Keys
 pub mod Rows
 pub mod State
+pub mod Verdict

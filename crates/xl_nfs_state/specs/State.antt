@@ -12,6 +12,7 @@ use Rattle.xl_nfs_state.specs.declared.owner.OwnerKind.TheVariants.{Open as Open
 use Rattle.xl_nfs_state.specs.declared.owner.OwnerRow.{OwnerRow}
 use Rattle.xl_nfs_state.specs.declared.stateid.Holder.{Holder}
 use Rattle.xl_nfs_state.specs.declared.stateid.Holder.TheVariants.{Open, Lock, Delegation}
+use Rattle.xl_nfs_state.specs.declared.stateid.Place.TheVariants.{Owned, Delegated}
 use Rattle.xl_nfs_state.specs.declared.stateid.StateidRow.{StateidRow}
 use Rattle.xl_nfs_state.specs.declared.stateid.Whose.{Whose}
 use Rattle.xl_nfs_state.specs.declared.stateid.Whose.TheVariants as whose
@@ -60,6 +61,13 @@ is_owner_named client kind bytes o = same_owner_name (record { client = client; 
 
 abbrev pub is_stateid : ℕ → StateidRow → Bool
 is_stateid number s = number == s.number
+
+-- what the owner has on the file, and the client's delegation there
+abbrev pub owned_on : ℕ → ℕ → StateidRow → Bool
+owned_on owner file s = same_place (Owned owner file) (place_of s)
+
+abbrev pub delegated_on : ℕ → ℕ → StateidRow → Bool
+delegated_on client file s = same_place (Delegated client file) (place_of s)
 
 abbrev pub is_kept : ℕ → KeptRow → Bool
 is_kept owner k = owner == k.owner

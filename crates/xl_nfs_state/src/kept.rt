@@ -1,6 +1,6 @@
 //! The results that are kept for requests that come again.
-ghost use Rattle.std.specs.Prelude.{◌≡◌, ◌++◌, ◌∷◌, [], ◌==◌, not, length, None, is_some, IsSome, OnOk, OnErr, option_copied, filter};
-ghost use Rattle.std.specs.List.{find, list_any};
+ghost use Rattle.std.specs.Prelude.{◌≡◌, ◌++◌, ◌∷◌, [], ◌==◌, not, length, map, None, is_some, IsSome, OnOk, OnErr, option_copied, filter};
+ghost use Rattle.std.specs.List.{IsDistinct, find, list_any};
 ghost use Rattle.std.specs.Option.{option_map};
 ghost use Rattle.xl_nfs_state.specs.Filed.{changed};
 ghost use Rattle.xl_nfs_state.specs.State.{is_kept, is_owner, without};
@@ -49,9 +49,10 @@ impl Kept {
         }
     }
 
-    /// How many results there are.
+    /// How many results there are, no two of one owner.
     pub(crate) fn len(&self) -> usize
-        ensures { result ≡ length self.now }
+        ensures len { result ≡ length self.now }
+        ensures owners { IsDistinct ◌==◌ (map (λ k. k.owner) self.now) }
     {
         self.results.len()
     }

@@ -8,9 +8,14 @@ mod kept;
 mod listing;
 mod owner;
 mod picks;
+mod seqid;
+mod state;
 mod stateid;
+
 
 pub use client::{Callback, ClientDetails, ClientRow};
 pub use kept::KeptRow;
 pub use owner::{OwnerKind, OwnerName, OwnerNamed, OwnerRow, Turn};
+pub use state::{NfsState, NfsStateErr};
 pub use stateid::{Holder, Standing, StateidRow, Whose};
+pub use seqid::{SeqidVerdict, accepted_seqids_are_not_next, verdict};

@@ -18,6 +18,7 @@ impl Picks<ClientRow> for ClientKey {
 }
 
 /// The records that aren't confirmed, and whose time has come.
+#[derive(Clone, Copy)]
 pub(crate) struct Due(pub(crate) Moment);
 
 impl Picks<ClientRow> for Due {
@@ -29,6 +30,7 @@ impl Picks<ClientRow> for Due {
 }
 
 /// The owner of this number.
+#[derive(Clone, Copy)]
 pub(crate) struct OneOwner(pub(crate) u64);
 
 impl Picks<OwnerRow> for OneOwner {
@@ -40,6 +42,7 @@ impl Picks<OwnerRow> for OneOwner {
 }
 
 /// The owners of the client of this number.
+#[derive(Clone, Copy)]
 pub(crate) struct OwnersOf(pub(crate) u32);
 
 impl Picks<OwnerRow> for OwnersOf {
@@ -51,6 +54,7 @@ impl Picks<OwnerRow> for OwnersOf {
 }
 
 /// The stateid of this number.
+#[derive(Clone, Copy)]
 pub(crate) struct OneStateid(pub(crate) u64);
 
 impl Picks<StateidRow> for OneStateid {
