@@ -546,3 +546,27 @@ stateid_changed_there l number standing sound there closing = by (find (st.is_st
     by : (o : Option StateidRow) → find (st.is_stateid number) l.stateids ≡ o → is_some o ≡ true → IsSound (with_stateids l (changed (st.is_stateid number) (with_standing standing) l.stateids))
     by None e h = absurd (true≢false (sym h))
     by (Some r) e h = stateid_changed l (st.is_stateid number) standing r sound e (closing r e)
+
+-- All that belongs to an owner, and to a client.
+
+none_left : {A : Type 0} (test : A → Bool) (xs : List A) → list_any test (without test xs) ≡ false
+none_left test [] = refl
+none_left test (x ∷ xs) =
+    elim (cases_Bool (test x)) [
+      | inl gone ↦ rw gone (none_left test xs)
+      | inr stays ↦ rw stays (rw stays (none_left test xs))
+    ]
+
+pub owner_forgotten : (l : NfsLists) (number : ℕ) → IsSound l → IsSound (st.without_owner number l)
+owner_forgotten l number sound =
+    let first = with_stateids l (without (λ s. st.hangs_on number s.holder) l.stateids) in
+    let second = with_kept first (without (is_kept number) l.kept) in
+    let ok = kept_dropped first (is_kept number) (stateids_dropped l (whose.Owner number) sound) in
+    owner_dropped second number ok (none_left (λ s. st.hangs_on number s.holder) l.stateids, none_left (is_kept number) l.kept)
+
+pub client_forgotten : (l : NfsLists) (client : ℕ) → IsSound l → IsSound (st.without_client client l)
+client_forgotten l client sound =
+    let first = with_stateids l (without (λ s. client == s.client) l.stateids) in
+    let none = none_left (λ (s : StateidRow). client == s.client) l.stateids in
+    let ok = owners_dropped first client (stateids_dropped l (whose.Client client) sound) none in
+    client_dropped (st.without_owners client first) client true ok (λ on. (none_left (λ (o : OwnerRow). client == o.name.client) l.owners, none))

@@ -7,6 +7,7 @@ mod clients;
 mod owners;
 mod results;
 mod stateids;
+mod whole;
 
 use crate::client::ClientRow;
 use crate::filed::Filed;

@@ -1,16 +1,13 @@
-//! The kept results among the lists, and all that belongs to an owner or to a client.
+//! The kept results among the lists.
 ghost use Rattle.std.specs.Prelude.{◌≡◌, ◌++◌, ◌∷◌, [], ◌==◌, true, length, map, None, IsSome, OnOk, OnErr, option_copied};
 ghost use Rattle.std.specs.List.{AllByRecursion, IsDistinct, find, list_any};
 ghost use Rattle.std.specs.Option.{option_map};
 ghost use Rattle.xl_nfs_state.specs.Filed.{changed};
 ghost use Rattle.xl_nfs_state.specs.Rows.{with_result};
-ghost use Rattle.xl_nfs_state.specs.State.{is_client, is_kept, is_owner, with_kept, without, without_client, without_owner};
+ghost use Rattle.xl_nfs_state.specs.State.{is_kept, is_owner, with_kept, without};
 
 use super::{NfsState, NfsStateErr};
-use crate::client::ClientKey;
 use crate::kept::KeptRow;
-use crate::picks::OwnersOf;
-use crate::stateid::Whose;
 use xl_base::Sequence;
 
 impl NfsState {

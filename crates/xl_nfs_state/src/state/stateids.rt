@@ -164,7 +164,7 @@ fn is_closed_by(stateids: &Filed<StateidRow>, number: u64, standing: Standing) -
 }
 
 /// Drops the chosen stateids, and counts the others.
-fn drop<P: Picks<StateidRow>>(stateids: &mut Filed<StateidRow>, live: &mut usize, which: &P)
+pub(super) fn drop<P: Picks<StateidRow>>(stateids: &mut Filed<StateidRow>, live: &mut usize, which: &P)
     ensures dropped { stateids.new ≡ without (P.picks which.now) stateids.old }
     ensures count { live.new ≡ opens stateids.new }
 {
