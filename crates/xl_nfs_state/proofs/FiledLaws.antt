@@ -111,11 +111,23 @@ module _ {R K N : Type 0} (number : R → K) (name : R → N) where
   pub found_name : (slab : Slab R) (numbers : List (K × ℕ)) (names : List (N × ℕ)) (test : N → Bool) → IsFiled number name slab numbers names → found test slab names ≡ find (λ row. test (name row)) (filed slab numbers)
   found_name slab numbers names test sound = ap (found test slab) sound.names ∙ found_at name slab test (places numbers)
 
-  -- a row that is entered at a vacant place comes behind the others
-  module _ (old new : Slab R) (ns ns' : List (K × ℕ)) (ms ms' : List (N × ℕ)) (same_number : K → K → Bool) (same_name : N → N → Bool) (v : ℕ) (row : R)
-      (sound : IsFiled number name old ns ms) (vacant : get old v ≡ None) (updates : Updates old new v (Some row))
-      (numbered : ns' ≡ insert_entry same_number ns (number row) v) (named : ms' ≡ insert_entry same_name ms (name row) v)
-      (no_number : find (λ r. same_number (number row) (number r)) (filed old ns) ≡ None) (no_name : find (λ r. same_name (name row) (name r)) (filed old ns) ≡ None) where
+  -- a row that is entered at a vacant place, under its keys, comes behind the others
+  module _ (old new : Slab R) (ns ns' : List (K × ℕ)) (ms ms' : List (N × ℕ)) (same_number : K → K → Bool) (same_name : N → N → Bool) (v : ℕ) (row : R) (k : K) (m : N)
+      (k-is : k ≡ number row) (m-is : m ≡ name row) (sound : IsFiled number name old ns ms) (vacant : get old v ≡ None) (updates : Updates old new v (Some row))
+      (under_number : ns' ≡ insert_entry same_number ns k v) (under_name : ms' ≡ insert_entry same_name ms m v) (lists : List R) (lists-are : filed old ns ≡ lists)
+      (new_number : find (λ r. same_number (number row) (number r)) lists ≡ None) (new_name : find (λ r. same_name (name row) (name r)) lists ≡ None) where
+    numbered : ns' ≡ insert_entry same_number ns (number row) v
+    numbered = under_number ∙ ap (λ l. insert_entry same_number ns l v) k-is
+
+    named : ms' ≡ insert_entry same_name ms (name row) v
+    named = under_name ∙ ap (λ l. insert_entry same_name ms l v) m-is
+
+    no_number : find (λ r. same_number (number row) (number r)) (filed old ns) ≡ None
+    no_number = ap (find (λ r. same_number (number row) (number r))) lists-are ∙ new_number
+
+    no_name : find (λ r. same_name (name row) (name r)) (filed old ns) ≡ None
+    no_name = ap (find (λ r. same_name (name row) (name r))) lists-are ∙ new_name
+
     stay : Stays old new (places ns)
     stay = stays_beside old new v (Some row) (places ns) vacant updates sound.held
 
@@ -135,8 +147,8 @@ module _ {R K N : Type 0} (number : R → K) (name : R → N) where
         (more_names ∙ ap (λ es. es ++ (name row, v) ∷ []) (sound.names ∙ sym (indexed_stay name old new (places ns) stay)) ∙ sym (indexed_more name new v row updates.changed (places ns)))
         (all_append (λ at. is_some (get new at) ≡ true) (places ns) (v ∷ []) (held_stay old new (places ns) stay sound.held) (ap is_some updates.changed, tt))
 
-    pub entered_rows : filed new ns' ≡ filed old ns ++ row ∷ []
-    entered_rows = ap (rows_at new) order ∙ rows_more number new v row updates.changed (places ns) ∙ ap (λ rs. rs ++ row ∷ []) (rows_stay old new (places ns) stay)
+    pub entered_rows : filed new ns' ≡ lists ++ row ∷ []
+    entered_rows = ap (rows_at new) order ∙ rows_more number new v row updates.changed (places ns) ∙ ap (λ rs. rs ++ row ∷ []) (rows_stay old new (places ns) stay ∙ lists-are)
 
 -- Rows are dropped.
 module _ {R : Type 0} (drops : R → Bool) (old new : Slab R) (rest : (at : ℕ) → get new at ≡ left drops (get old at)) where

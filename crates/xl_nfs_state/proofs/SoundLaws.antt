@@ -3,7 +3,7 @@ use Rattle.std.proofs.Common.{◌≡◌, ℕ, ◌<◌, ◌≤◌, ◌+◌, Bool,
 use Rattle.std.specs.List.{AllByRecursion, filter, find, list_any}
 use Rattle.std.specs.Bool.{beq}
 use Rattle.std.specs.Cmp.{booleans_Decides}
-use Rattle.std.proofs.lemmas.Bool.{cases_Bool, and_parts, and_from, or_parts, false_from_ne_true}
+use Rattle.std.proofs.lemmas.Bool.{cases_Bool, and_parts, and_from, or_parts, or_from, false_from_ne_true}
 use Rattle.std.proofs.lemmas.Option.{same_Some}
 use Rattle.std.proofs.lemmas.List.{length-append}
 use Rattle.xl_base.specs.declared.event.Moment.{Moment}
@@ -435,6 +435,11 @@ hung_opener owner under opener (Lock by number other) e u =
     rw (sym (eqb-true opener other parts.1)) at (or_parts (owner == by) (owner == other) e).1
 hung_opener owner under opener (Delegation write) e u = absurd (true≢false (sym u))
 
+hung_under : (number under opener : ℕ) (h : Holder) → st.is_under number h ≡ false → is_lock_under under opener h ≡ true → (number == under) ≡ false
+hung_under number under opener (Open by) e u = absurd (true≢false (sym u))
+hung_under number under opener (Lock by other owner) e u = rw (sym (eqb-true under other (and_parts (under == other) (opener == owner) u).0)) at e
+hung_under number under opener (Delegation write) e u = absurd (true≢false (sym u))
+
 pub stateids_dropped : (l : NfsLists) (which : Whose) → IsSound l → IsSound (with_stateids l (without (st.is_whose which) l.stateids))
 stateids_dropped l which sound = stateids_left l (st.is_whose which) sound (keeps which)
   where
@@ -443,6 +448,11 @@ stateids_dropped l which sound = stateids_left l (st.is_whose which) sound (keep
         let told = and_parts (under == x.number) (st.is_open_by opener x.holder && (s.client == x.client && s.file == x.file)) f in
         let is = open_of opener x.holder (and_parts (st.is_open_by opener x.holder) (s.client == x.client && s.file == x.file) told.1).0 in
         ap (st.hangs_on owner) is ∙ hung_opener owner under opener s.holder e u
+    keeps (whose.Stateid number) s x under opener e u f =
+        let told = and_parts (under == x.number) (st.is_open_by opener x.holder && (s.client == x.client && s.file == x.file)) f in
+        let is = open_of opener x.holder (and_parts (st.is_open_by opener x.holder) (s.client == x.client && s.file == x.file) told.1).0 in
+        let apart = hung_under number under opener s.holder (or_parts (number == s.number) (st.is_under number s.holder) e).1 u in
+        or_from (number == x.number) (st.is_under number x.holder) (ap (λ n. number == n) (sym (eqb-true under x.number told.0)) ∙ apart) (ap (st.is_under number) is)
     keeps (whose.Under number) s x under opener e u f =
         let told = and_parts (under == x.number) (st.is_open_by opener x.holder && (s.client == x.client && s.file == x.file)) f in
         let is = open_of opener x.holder (and_parts (st.is_open_by opener x.holder) (s.client == x.client && s.file == x.file) told.1).0 in

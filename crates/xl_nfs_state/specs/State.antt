@@ -185,6 +185,7 @@ pub record IsSound (l : NfsLists) : Type 0 where
 -- which stateids are meant
 abbrev pub is_whose : Whose → StateidRow → Bool
 is_whose (whose.Owner owner) s = hangs_on owner s.holder
+is_whose (whose.Stateid number) s = number == s.number || is_under number s.holder
 is_whose (whose.Under number) s = is_under number s.holder
 is_whose (whose.Client client) s = client == s.client
 is_whose (whose.ClientFile client file) s = client == s.client && file == s.file

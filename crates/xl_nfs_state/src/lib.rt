@@ -16,6 +16,6 @@ mod stateid;
 pub use client::{Callback, ClientDetails, ClientRow};
 pub use kept::KeptRow;
 pub use owner::{OwnerKind, OwnerName, OwnerNamed, OwnerRow, Turn};
-pub use state::{NfsState, NfsStateErr};
+pub use state::{MOST_CLIENTS, MOST_OPENS, MOST_OWNERS, NfsState, NfsStateErr};
 pub use stateid::{Holder, Standing, StateidRow, Whose};
 pub use seqid::{SeqidVerdict, accepted_seqids_are_not_next, verdict};

@@ -94,6 +94,7 @@ impl Picks<StateidRow> for Whose {
     fn picks(&self, row: &StateidRow) -> bool {
         match *self {
             Whose::Owner(owner) => hangs_on(owner, row.holder),
+            Whose::Stateid(number) => number == row.number || is_under(number, row.holder),
             Whose::Under(number) => is_under(number, row.holder),
             Whose::Client(client) => client == row.client,
             Whose::ClientFile(client, file) => client == row.client && file == row.file,

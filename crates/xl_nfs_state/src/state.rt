@@ -9,6 +9,10 @@ mod results;
 mod stateids;
 mod whole;
 
+pub use clients::MOST_CLIENTS;
+pub use owners::MOST_OWNERS;
+pub use stateids::MOST_OPENS;
+
 use crate::client::ClientRow;
 use crate::filed::Filed;
 use crate::kept::Kept;

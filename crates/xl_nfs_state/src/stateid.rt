@@ -61,6 +61,8 @@ pub struct StateidRow {
 pub enum Whose {
     /// What hangs on the owner of this number: the owner's own, and of an open owner the locks under its opens too.
     Owner(u64),
+    /// The stateid of this number and the locks under it.
+    Stateid(u64),
     /// The locks under the open of this number.
     Under(u64),
     /// All of the client of this number.

@@ -4,7 +4,7 @@ ghost use Rattle.std.specs.List.{AllByRecursion, IsDistinct, find};
 ghost use Rattle.xl_nfs_state.specs.Filed.{changed};
 ghost use Rattle.xl_nfs_state.specs.Keys.{stateid_key, place_of, same_place};
 ghost use Rattle.xl_nfs_state.specs.Rows.{with_standing};
-ghost use Rattle.xl_nfs_state.specs.State.{IsIdleStateid, hangs, is_live, is_stateid, is_whose, most_opens, opens, owned_on, delegated_on, with_stateids, without};
+ghost use Rattle.xl_nfs_state.specs.State.{IsIdleStateid, IsSound, hangs, is_live, is_stateid, is_whose, most_opens, opens, owned_on, delegated_on, with_stateids, without};
 
 use super::{NfsState, NfsStateErr};
 use crate::filed::{Filed, Picks};
@@ -29,10 +29,11 @@ impl NfsState {
         self.stateids.len()
     }
 
-    /// How many opens there are, closed ones aside.
+    /// How many opens there are, closed ones aside. What holds of the lists at all times is told with it.
     pub fn open_count(&self) -> usize
         ensures count { result ≡ opens self.now.stateids }
         ensures room { result ≤ most_opens }
+        ensures sound { IsSound self.now }
     {
         self.live
     }
