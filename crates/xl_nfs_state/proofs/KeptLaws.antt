@@ -80,3 +80,10 @@ owners_of (e ∷ es) = ap (λ os. e.0 ∷ os) (owners_of es)
 
 pub kept_distinct : (es : Entries) → IsDistinct ◌==◌ (map (λ e. e.0) es) → IsDistinct ◌==◌ (map (λ k. k.owner) (map kept_row es))
 kept_distinct es h = subst (IsDistinct ◌==◌) (owners_of es) h
+
+some_mapped : {A B : Type 0} (f : A → B) (o : Option A) → is_some (option_map f o) ≡ is_some o
+some_mapped f None = refl
+some_mapped f (Some x) = refl
+
+pub kept_there : (o : Option (Bor (List ℕ))) (n : ℕ) (ks : List KeptRow) → option_copied o ≡ option_map (λ k. k.result) (find (is_kept n) ks) → is_some o ≡ list_any (is_kept n) ks
+kept_there o n ks h = some_copied o ∙ ap is_some h ∙ some_mapped (λ k. k.result) (find (is_kept n) ks) ∙ some_found (is_kept n) ks

@@ -1,6 +1,6 @@
 -- Steps of walks over a list, row by row.
 use Rattle.std.proofs.Common.{◌≡◌, ℕ, ◌+◌, ◌-◌, ◌<◌, ◌≤◌, Bool, true, false, List, [], ◌∷◌, ◌++◌, zero, suc, Bor, map, take, drop, insert, length, slice_get, get_or, Option, Some, None, is_some, refl, sym, ap, subst, ◌∙◌, inl, inr, true≢false, arith, append_assoc, add-one, zero-add, if◌then◌else◌}
-use Rattle.std.specs.List.{filter}
+use Rattle.std.specs.List.{filter, list_any}
 use Rattle.std.proofs.lemmas.Bool.{cases_Bool}
 use Rattle.std.proofs.lemmas.List.{drop_more, drop_all, append-nil}
 use Rattle.std.proofs.lemmas.Option.{slice_get_within, get_or_from_slice_get, slice_get-get_or}
@@ -108,3 +108,13 @@ seen_map f (r ∷ rs) = ap (λ ys. f r.now ∷ ys) (seen_map f rs)
 -- a walk that came to the end has it all
 pub walked : {A B : Type 0} (f : A → B) (ys : List A) (i : ℕ) (out whole : List B) → length ys ≤ i → out ++ map f (drop i ys) ≡ whole → out ≡ whole
 walked f ys i out whole past is = sym (append-nil out) ∙ ap (λ zs. out ++ map f zs) (sym (drop_all i ys past)) ∙ is
+
+pub any_here : {A : Type 0} (test : A → Bool) (xs : List A) (i : ℕ) (x : A) → slice_get xs i ≡ Some x → test x ≡ true → list_any test xs ≡ list_any test (drop i xs) → true ≡ list_any test xs
+any_here test xs i x at passes so =
+    let left : list_any test (drop i xs) ≡ list_any test (x ∷ drop (i + 1) xs) = ap (list_any test) (drop_at xs i x at) in
+    sym (so ∙ left ∙ rw passes refl)
+
+pub any_later : {A : Type 0} (test : A → Bool) (xs : List A) (i : ℕ) (x : A) → slice_get xs i ≡ Some x → test x ≡ false → list_any test xs ≡ list_any test (drop i xs) → list_any test xs ≡ list_any test (drop (i + 1) xs)
+any_later test xs i x at fails so =
+    let left : list_any test (drop i xs) ≡ list_any test (x ∷ drop (i + 1) xs) = ap (list_any test) (drop_at xs i x at) in
+    so ∙ left ∙ rw fails refl

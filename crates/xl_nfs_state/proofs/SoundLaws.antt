@@ -8,6 +8,7 @@ use Rattle.std.proofs.lemmas.Option.{same_Some}
 use Rattle.std.proofs.lemmas.List.{length-append}
 use Rattle.xl_base.specs.declared.event.Moment.{Moment}
 use Rattle.xl_base.proofs.Members.{all_append, all_weaker}
+use Rattle.xl_nfs_state.proofs.KeptLaws.{some_found}
 use Rattle.xl_nfs_state.proofs.AnyLaws.{any_more, any_left, any_changed, all_left, all_changed}
 use Rattle.xl_nfs_state.specs.Filed.{changed}
 use Rattle.xl_nfs_state.specs.Keys.{same_kind}
@@ -580,3 +581,33 @@ client_forgotten l client sound =
     let none = none_left (λ (s : StateidRow). client == s.client) l.stateids in
     let ok = owners_dropped first client (stateids_dropped l (whose.Client client) sound) none in
     client_dropped (st.without_owners client first) client true ok (λ on. (none_left (λ (o : OwnerRow). client == o.name.client) l.owners, none))
+
+-- A stateid hangs on what was found.
+
+owner_there : (number client : ℕ) (kind : OwnerKind) (os : List OwnerRow) → st.owner_fits client kind (find (is_owner number) os) ≡ true → has_owner number client kind os ≡ true
+owner_there number client kind [] h = absurd (true≢false (sym h))
+owner_there number client kind (o ∷ os) h =
+    elim (cases_Bool (number == o.number)) [
+      | inl e ↦ let fits : (client == o.name.client && same_kind kind o.name.kind) ≡ true = rw e at h in rw e (rw fits refl)
+      | inr e ↦ rw e (owner_there number client kind os (rw e at h))
+    ]
+
+open_there : (number owner client file : ℕ) (ss : List StateidRow) → st.open_fits owner client file (find (st.is_stateid number) ss) ≡ true → has_open number owner client file ss ≡ true
+open_there number owner client file [] h = absurd (true≢false (sym h))
+open_there number owner client file (s ∷ ss) h =
+    elim (cases_Bool (number == s.number)) [
+      | inl e ↦ let fits : (st.is_open_by owner s.holder && (client == s.client && file == s.file)) ≡ true = rw e at h in rw e (rw fits refl)
+      | inr e ↦ rw e (open_there number owner client file ss (rw e at h))
+    ]
+
+pub found_hangs : (l : NfsLists) (s : StateidRow) → st.can_hang l s ≡ true → hangs l s ≡ true
+found_hangs l s h =
+    let parts = and_parts (is_some (find (is_client s.client true) l.clients)) (st.holder_can_hang l s.client s.file s.holder) h in
+    and_from (has_client s.client l.clients) (holder_hangs l s.client s.file s.holder) (sym (some_found (is_client s.client true) l.clients) ∙ parts.0) (by s.client s.file s.holder parts.1)
+  where
+    by : (client file : ℕ) (holder : Holder) → st.holder_can_hang l client file holder ≡ true → holder_hangs l client file holder ≡ true
+    by client file (Open owner) h = owner_there owner client Opens l.owners h
+    by client file (Lock owner under opener) h =
+        let parts = and_parts (st.owner_fits client Locks (find (is_owner owner) l.owners)) (st.open_fits opener client file (find (st.is_stateid under) l.stateids)) h in
+        and_from (has_owner owner client Locks l.owners) (has_open under opener client file l.stateids) (owner_there owner client Locks l.owners parts.0) (open_there under opener client file l.stateids parts.1)
+    by client file (Delegation write) h = refl

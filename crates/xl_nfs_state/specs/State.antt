@@ -165,6 +165,23 @@ IsIdleOwner number l = (list_any (λ s. hangs_on number s.holder) l.stateids ≡
 abbrev pub IsIdleStateid : ℕ → NfsLists → Type 0
 IsIdleStateid number l = list_any (λ s. is_under number s.holder) l.stateids ≡ false
 
+-- the same of a stateid that comes, by what is found: the owner of that number, and the open
+abbrev pub owner_fits : ℕ → OwnerKind → Option OwnerRow → Bool
+owner_fits client kind None = false
+owner_fits client kind (Some o) = client == o.name.client && same_kind kind o.name.kind
+
+abbrev pub open_fits : ℕ → ℕ → ℕ → Option StateidRow → Bool
+open_fits owner client file None = false
+open_fits owner client file (Some s) = is_open_by owner s.holder && (client == s.client && file == s.file)
+
+abbrev pub holder_can_hang : NfsLists → ℕ → ℕ → Holder → Bool
+holder_can_hang l client file (Open owner) = owner_fits client Opens (find (is_owner owner) l.owners)
+holder_can_hang l client file (Lock owner under opener) = owner_fits client Locks (find (is_owner owner) l.owners) && open_fits opener client file (find (is_stateid under) l.stateids)
+holder_can_hang l client file (Delegation write) = true
+
+abbrev pub can_hang : NfsLists → StateidRow → Bool
+can_hang l s = is_some (find (is_client s.client true) l.clients) && holder_can_hang l s.client s.file s.holder
+
 -- each number is above those before it
 abbrev pub IsRising : List OwnerRow → Type 0
 IsRising [] = Unit {0}

@@ -64,6 +64,13 @@ impl Kept {
         self.results.get(&owner)
     }
 
+    /// Whether a result is kept for the owner.
+    pub(crate) fn has(&self, owner: u64) -> bool
+        ensures { result ≡ list_any (is_kept owner) self.now }
+    {
+        self.find(owner).is_some()
+    }
+
     /// Keeps a result for an owner that has none. Want of memory changes nothing.
     pub(crate) fn add(&mut self, row: KeptRow) -> Result<(), AllocError>
         requires { find (is_kept row.owner) self.old ≡ None }

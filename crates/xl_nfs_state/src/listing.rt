@@ -1,10 +1,11 @@
 //! Walks over the lists.
 ghost use Rattle.std.specs.Prelude.{◌≡◌, ◌≤◌, map, filter, length, insert, IfOk};
+ghost use Rattle.std.specs.List.{list_any};
 ghost use Rattle.xl_base.specs.Lists.{placed, sorted};
 ghost use Rattle.xl_nfs_state.specs.State.{is_live, is_open, opens, is_whose, is_ended, id_below, ended};
 
 use crate::client::ClientRow;
-use crate::filed::{Filed, Picks};
+use crate::filed::{Filed, Picks, Row};
 use crate::stateid::{Holder, StateidRow, Whose};
 use std::alloc::{AllocError, Global};
 use xl_base::Moment;
@@ -32,6 +33,20 @@ pub(crate) fn count_opens(stateids: &Filed<StateidRow>) -> usize
         }
     }
     count
+}
+
+/// Whether a row is chosen.
+pub(crate) fn has_any<R: Row, P: Picks<R>>(rows: &Filed<R>, which: &P) -> bool
+    ensures { result ≡ list_any (P.picks which.now) rows.now }
+{
+    'rows: for place in 0..rows.len() {
+        if let Some(row) = rows.at(place) {
+            if which.picks(row) {
+                return true;
+            }
+        }
+    }
+    false
 }
 
 /// The stateids that are meant, in order of arrival.

@@ -1,5 +1,5 @@
 //! The clients among the lists.
-ghost use Rattle.std.specs.Prelude.{◌≡◌, ◌<◌, ◌≤◌, ◌++◌, ◌∷◌, [], true, length, map, None, IsSome, IfOk, OnOk, OnErr, option_copied};
+ghost use Rattle.std.specs.Prelude.{◌≡◌, ◌<◌, ◌≤◌, ◌++◌, ◌∷◌, [], true, length, map, None, IsSome, IsTrue, ◌↔◌, IfOk, OnOk, OnErr, option_copied};
 ghost use Rattle.std.specs.List.{IsDistinct, find};
 ghost use Rattle.xl_nfs_state.specs.Filed.{changed};
 ghost use Rattle.xl_nfs_state.specs.Keys.{client_key, client_name, same_client_key, same_client_name};
@@ -8,8 +8,9 @@ ghost use Rattle.xl_nfs_state.specs.State.{IsIdleClient, ended, is_client, is_cl
 
 use super::{NfsState, NfsStateErr};
 use crate::client::{ClientDetails, ClientKey, ClientNamed, ClientRow, Renewal};
-use crate::listing::list_ended;
-use crate::picks::Due;
+use crate::listing::{has_any, list_ended};
+use crate::picks::{Due, OwnersOf};
+use crate::stateid::Whose;
 use std::alloc::Global;
 use xl_base::Moment;
 
@@ -72,6 +73,13 @@ impl NfsState {
             confirmed: true,
         };
         self.clients.change(&key, Renewal(time));
+    }
+
+    /// Whether the client of this number has no owner and no stateid. It walks over both lists.
+    pub fn is_client_idle(&self, number: u32) -> bool
+        ensures { IsTrue result ↔ IsIdleClient number self.now }
+    {
+        !has_any(&self.owners, &OwnersOf(number)) && !has_any(&self.stateids, &Whose::Client(number))
     }
 
     /// Drops the record of this number, which is there, confirmed or not. A confirmed client has no owner and no stateid.

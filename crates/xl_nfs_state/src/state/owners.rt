@@ -1,15 +1,17 @@
 //! The owners among the lists.
-ghost use Rattle.std.specs.Prelude.{◌≡◌, ◌≤◌, ◌++◌, ◌∷◌, [], ◌==◌, true, length, map, None, Some, IsSome, OnOk, OnErr, option_copied};
+ghost use Rattle.std.specs.Prelude.{◌≡◌, ◌≤◌, ◌++◌, ◌∷◌, [], ◌==◌, true, length, map, None, Some, IsSome, IsTrue, ◌↔◌, OnOk, OnErr, option_copied};
 ghost use Rattle.std.specs.List.{AllByRecursion, IsDistinct, find};
 ghost use Rattle.xl_nfs_state.specs.Filed.{changed};
 ghost use Rattle.xl_nfs_state.specs.Keys.{owner_key, owner_name, same_owner_name};
 ghost use Rattle.xl_nfs_state.specs.Rows.{with_turn};
-ghost use Rattle.xl_nfs_state.specs.State.{IsIdleOwner, has_client, is_owner, is_owner_named, most_owners, last_number, next_owner, with_owners, without};
+ghost use Rattle.xl_nfs_state.specs.State.{IsIdleOwner, has_client, is_client, is_kept, is_owner, hangs_on, is_owner_named, most_owners, last_number, next_owner, with_owners, without};
 
 use super::{NfsState, NfsStateErr};
 use crate::filed::Filed;
+use crate::listing::has_any;
 use crate::owner::{OwnerNamed, OwnerRow, Turn};
 use crate::picks::OneOwner;
+use crate::stateid::Whose;
 use std::alloc::Global;
 
 /// How many owners of opens and locks there are at most, together.
@@ -55,7 +57,7 @@ impl NfsState {
     pub fn add_owner(&mut self, alloc: Global, row: OwnerRow) -> Result<(), NfsStateErr>
         requires room { next_owner self.old.owners ≡ Some row.number }
         requires name { find (is_owner_named row.name.client row.name.kind row.name.owner) self.old.owners ≡ None }
-        requires client { has_client row.name.client self.old.clients ≡ true }
+        requires client { IsSome (find (is_client row.name.client true) self.old.clients) }
         ensures ok { OnOk result (self.new ≡ with_owners self.old (self.old.owners ++ row ∷ [])) }
         ensures err { OnErr result (self.new ≡ self.old) }
     {
@@ -69,6 +71,13 @@ impl NfsState {
         ensures { self.new ≡ with_owners self.old (changed (is_owner number) (with_turn turn) self.old.owners) }
     {
         self.owners.change(&number, turn);
+    }
+
+    /// Whether no stateid hangs on the owner of this number, and no result is kept for it. It walks over the stateids.
+    pub fn is_owner_idle(&self, number: u64) -> bool
+        ensures { IsTrue result ↔ IsIdleOwner number self.now }
+    {
+        !has_any(&self.stateids, &Whose::Owner(number)) && !self.kept.has(number)
     }
 
     /// Drops the owner of this number, which is there and has no stateid and no kept result.

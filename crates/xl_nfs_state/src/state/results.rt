@@ -30,7 +30,7 @@ impl NfsState {
     /// Keeps a result for an owner that is there and has none. Want of memory changes nothing.
     pub fn add_kept(&mut self, row: KeptRow) -> Result<(), NfsStateErr>
         requires new { find (is_kept row.owner) self.old.kept ≡ None }
-        requires owner { list_any (is_owner row.owner) self.old.owners ≡ true }
+        requires owner { IsSome (find (is_owner row.owner) self.old.owners) }
         ensures ok { OnOk result (self.new ≡ with_kept self.old (self.old.kept ++ row ∷ [])) }
         ensures err { OnErr result (self.new ≡ self.old) }
     {

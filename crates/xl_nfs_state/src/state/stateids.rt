@@ -1,16 +1,17 @@
 //! The stateids among the lists.
-ghost use Rattle.std.specs.Prelude.{◌≡◌, ◌<◌, ◌≤◌, ◌++◌, ◌∷◌, [], ◌==◌, ◌&&◌, true, length, map, filter, None, Some, IfSome, IfOk, OnOk, OnErr, IsSome, option_copied};
+ghost use Rattle.std.specs.Prelude.{◌≡◌, ◌<◌, ◌≤◌, ◌++◌, ◌∷◌, [], ◌==◌, ◌&&◌, true, length, map, filter, None, Some, IfSome, IfOk, OnOk, OnErr, IsSome, IsTrue, ◌↔◌, option_copied};
 ghost use Rattle.std.specs.List.{AllByRecursion, IsDistinct, find};
 ghost use Rattle.xl_nfs_state.specs.Filed.{changed};
 ghost use Rattle.xl_nfs_state.specs.Keys.{stateid_key, place_of, same_place};
 ghost use Rattle.xl_nfs_state.specs.Rows.{with_standing};
-ghost use Rattle.xl_nfs_state.specs.State.{IsIdleStateid, IsSound, hangs, is_live, is_stateid, is_whose, most_opens, opens, owned_on, delegated_on, with_stateids, without};
+ghost use Rattle.xl_nfs_state.specs.State.{IsIdleStateid, IsSound, can_hang, hangs, is_live, is_open_by, is_stateid, is_whose, most_opens, open_fits, opens, owner_fits, owned_on, delegated_on, with_stateids, without};
 
 use super::{NfsState, NfsStateErr};
 use crate::filed::{Filed, Picks};
-use crate::listing::{count_opens, is_live, list_stateids};
+use crate::listing::{count_opens, has_any, is_live, list_stateids};
+use crate::owner::{OwnerKind, OwnerRow};
 use crate::picks::OneStateid;
-use crate::stateid::{Place, Standing, StateidRow, Whose};
+use crate::stateid::{Holder, Place, Standing, StateidRow, Whose};
 use std::alloc::{AllocError, Global};
 
 /// How many opens there are at most, closed ones aside. Those of SMB count among them.
@@ -60,13 +61,36 @@ impl NfsState {
         self.stateids.find_name(&Place::Delegated(client, file))
     }
 
+    /// Whether what the stateid hangs on is there: its client, confirmed; its owner, which is the client's and of its kind;
+    /// and for locks their open, which is the client's, on their file and of the owner that is named.
+    pub fn can_hang(&self, row: &StateidRow) -> bool
+        ensures { result ≡ can_hang self.now row.now }
+    {
+        self.find_client(row.client, true).is_some() && match row.holder {
+            Holder::Open(owner) => owner_fits(
+                row.client,
+                OwnerKind::Open,
+                self.find_owner(owner),
+            ),
+            Holder::Lock {
+                owner,
+                under,
+                opener,
+            } => {
+                owner_fits(row.client, OwnerKind::Lock, self.find_owner(owner))
+                    && open_fits(opener, row.client, row.file, self.find_stateid(under))
+            }
+            Holder::Delegation { write: _ } => true,
+        }
+    }
+
     /// Adds a stateid behind the others. None has its number; its owner has none on that file, or its client no delegation
     /// there; what it hangs on is there; and of opens that aren't closed there are fewer than 4,096. Want of memory changes
     /// nothing.
     pub fn add_stateid(&mut self, alloc: Global, row: StateidRow) -> Result<(), NfsStateErr>
         requires number { find (is_stateid row.number) self.old.stateids ≡ None }
         requires place { find (λ s. same_place (place_of row) (place_of s)) self.old.stateids ≡ None }
-        requires hanging { hangs self.old row ≡ true }
+        requires hanging { can_hang self.old row ≡ true }
         requires room { is_live row ≡ true → opens self.old.stateids < most_opens }
         ensures ok { OnOk result (self.new ≡ with_stateids self.old (self.old.stateids ++ row ∷ [])) }
         ensures err { OnErr result (self.new ≡ self.old) }
@@ -82,6 +106,13 @@ impl NfsState {
         ensures { self.new ≡ with_stateids self.old (changed (is_stateid number) (with_standing standing) self.old.stateids) }
     {
         change(&mut self.stateids, &mut self.live, number, standing);
+    }
+
+    /// Whether no locks hang under the stateid of this number. It walks over the list.
+    pub fn is_stateid_idle(&self, number: u64) -> bool
+        ensures { IsTrue result ↔ IsIdleStateid number self.now }
+    {
+        !has_any(&self.stateids, &Whose::Under(number))
     }
 
     /// Drops the stateid of this number, which is there and has no locks under it.
@@ -109,6 +140,33 @@ impl NfsState {
         ensures { self.new ≡ with_stateids self.old (without (is_whose whose) self.old.stateids) }
     {
         drop(&mut self.stateids, &mut self.live, &whose);
+    }
+}
+
+fn owner_fits(client: u32, kind: OwnerKind, owner: Option<&OwnerRow>) -> bool
+    ensures { result ≡ owner_fits client kind (option_copied owner.entry) }
+{
+    match owner {
+        Some(row) => client == row.name.client && kind == row.name.kind,
+        None => false,
+    }
+}
+
+fn is_open_by(owner: u64, holder: Holder) -> bool
+    ensures { result ≡ is_open_by owner holder }
+{
+    match holder {
+        Holder::Open(by) => owner == by,
+        _ => false,
+    }
+}
+
+fn open_fits(owner: u64, client: u32, file: u32, at: Option<&StateidRow>) -> bool
+    ensures { result ≡ open_fits owner client file (option_copied at.entry) }
+{
+    match at {
+        Some(row) => is_open_by(owner, row.holder) && client == row.client && file == row.file,
+        None => false,
     }
 }
 
