@@ -7,7 +7,10 @@ use Rattle.xl_table.specs.Flat.{is_blocked}
 use Rattle.xl_wait.specs.declared.waiter.Rooms.{Rooms}
 use Rattle.xl_wait.specs.declared.waiter.Waiter.{Waiter}
 use Rattle.xl_core.specs.State.{CoreState}
-use Rattle.xl_core.specs.Good.{IsKnown, IsWaiter, stands_in_the_way}
+use Rattle.xl_core.specs.Good.{IsKnown, IsWaiter, IsGood, stands_in_the_way}
+use Rattle.xl_base.specs.Lists.{IsIn}
+use Rattle.xl_base.proofs.Members.{all_in}
+use Rattle.std.specs.List.{slice_get}
 use Rattle.xl_core.specs.Judge.{Ruled, stopped, judged}
 use Rattle.xl_core.specs.Settle.{plea_again, rests, turned, again, turn_or, first_turn, called_by, first_called}
 use Rattle.xl_core.specs.declared.ask.Effect.{Effect}
@@ -85,6 +88,9 @@ free_moves n left s earlier w c asked free =
 abbrev Given : Type 0
 Given = Option (List Effect × CoreState)
 
+abbrev some_called : Called → Option Called
+some_called called = Some called
+
 same_called : (a b : Called) → Some a ≡ Some b → a ≡ b
 same_called a b e = cc
 
@@ -101,7 +107,7 @@ not_by : (s : CoreState) (w : Waiter) (c : Claim) → w.asked ≡ c ∷ [] → c
 not_by s w c asked e =
     elim (cases_Bool (is_blocked s.claims c)) [
       | inl blocked ↦ blocked
-      | inr free ↦ let two : Some (record { id = w.id; claim = c; plea = plea_again s w }) ≡ None = rw free at (sym (ap (called_by s w) asked) ∙ e) in absurd cc
+      | inr free ↦ let two : some_called (record { id = w.id; claim = c; plea = plea_again s w }) ≡ None = rw free at (sym (ap (called_by s w) asked) ∙ e) in absurd cc
     ]
 
 rest_first : (n : ℕ) (left : Rooms) (s : CoreState) (earlier : List Waiter) (w : Waiter) (later : Given) → again n left s earlier w ≡ (Waits, [], s) → turn_or w (again n left s earlier w) later ≡ later
@@ -164,3 +170,13 @@ called_known s (w ∷ ws) called all e =
           let is = found_by s w w.asked called (found.1 ∙ ap (λ (x : Called). Some x) same) in
           subst (λ (x : Called). IsKnown s.names x.claim) (sym is.3) (subst (λ (cs : List Claim). AllByRecursion (IsKnown s.names) cs) is.1 all.0.1).0
     ]
+
+-- what a waiter asks for first is known
+pub waiter_known : (s : CoreState) (w : Waiter) (claim : Claim) → IsGood s → IsIn w s.waiters → slice_get w.asked 0 ≡ Some claim → IsKnown s.names claim
+waiter_known s w claim good h e = by w.asked (all_in (IsWaiter s.names s.counter) w s.waiters good.waiters h).1 e where
+  same_claim : (a b : Claim) → Some a ≡ Some b → a ≡ b
+  same_claim a b e = cc
+
+  by : (asked : List Claim) → AllByRecursion (IsKnown s.names) asked → slice_get asked 0 ≡ Some claim → IsKnown s.names claim
+  by [] all e = absurd cc
+  by (c ∷ cs) all e = subst (λ (x : Claim). IsKnown s.names x) (same_claim c claim e) all.0

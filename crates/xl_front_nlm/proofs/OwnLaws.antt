@@ -23,7 +23,7 @@ use Rattle.xl_table.specs.Held.{is_of}
 use Rattle.xl_wait.specs.declared.waiter.Waiter.{Waiter}
 use Rattle.xl_core.proofs.DeedClients.{party_of_owner}
 use Rattle.xl_core.proofs.DeedLeaves.{found_in}
-use Rattle.xl_core.proofs.GoodLaws.{waiter_known}
+use Rattle.xl_core.proofs.TurnLaws.{waiter_known}
 use Rattle.xl_table.proofs.WriteBack.{is_of-true}
 use Rattle.xl_core.specs.Asking.{client_of as belongs_to}
 use Rattle.xl_core.specs.Clients.{party_named, IsOf, AreOf, AreOfSome}

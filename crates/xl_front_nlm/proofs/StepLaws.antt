@@ -14,6 +14,7 @@ use Rattle.xl_names.specs.Names.{is_kept}
 use Rattle.xl_names.specs.declared.name.Name.{Name}
 use Rattle.xl_wait.specs.declared.waiter.Rooms.{Rooms}
 use Rattle.xl_wait.specs.declared.waiter.Waiter.{Waiter}
+use Rattle.xl_table.specs.Relock.{granted_claims}
 use Rattle.xl_core.specs.State.{CoreState, MayBe, GoesOn}
 use Rattle.xl_core.specs.Asking.{who_entered, both_entered, asked_claim, IsFit}
 use Rattle.xl_core.specs.Causes.{IsClaimDue}
@@ -113,8 +114,8 @@ HasRoom left rows = rows.hosts ≤ left.hosts
 
 -- where the answer makes its asker a host, there was room for the ask's rows
 room_for : (left : Rooms) (s : CoreState) (a : Ask) (claim : Claim) (answer : Answer) → IsClaimDue left s a claim answer → makes_host answer ≡ true → HasRoom left a.rows
-room_for left s a claim (answers.Granted c) due makes = (grant_room left a.rows _ _ (grant_least left a.rows _ _ None due.3)).0
-room_for left s a claim (answers.Queued id) due makes = (wait_room left a.rows _ _ (wait_least left a.rows _ _ None due.4)).0
+room_for left s a claim (answers.Granted c) due makes = (grant_room left a.rows (length (granted_claims claim s.claims)) (length (both_entered a s.names)) (grant_least left a.rows (length (granted_claims claim s.claims)) (length (both_entered a s.names)) None due.3)).0
+room_for left s a claim (answers.Queued id) due makes = (wait_room left a.rows (length s.waiters) (length (both_entered a s.names)) (wait_least left a.rows (length s.waiters) (length (both_entered a s.names)) None due.4)).0
 room_for left s a claim (answers.Conflict c) due makes = absurd (false≢true makes)
 room_for left s a claim (answers.NoGrace clock) due makes = absurd (false≢true makes)
 room_for left s a claim (answers.Full limit) due makes = absurd (false≢true makes)

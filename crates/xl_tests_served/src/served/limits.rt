@@ -94,3 +94,86 @@ fn most_bytes(rt: HostRuntime) -> Result<(), Fail> {
     assert!(rt; is_read(rt.alloc(), 268_435_457, "4 1 0\n")?);
     Ok(())
 }
+
+/// How many claims there are at most.
+const MOST: u64 = 16_384;
+
+/// The rows of calls behind those that lock each its own bytes: the procedure, its block, the caller, the svid, the offset,
+/// the length, and the status that is told.
+const BEHIND: [(u32, u32, u8, u64, u64, u64, u32); 6] = [
+    // one range more: no room
+    (2, 0, b'a', 0, 1_000_000, 1, 2),
+    // the byte in the middle of the first range, which would be cut in two: no room
+    (4, 0, b'a', 0, 1, 1, 2),
+    // another caller waits for the first byte
+    (2, 1, b'b', 0, 0, 1, 3),
+    // which is unlocked, as the range stays one; the waiter's turn finds no room, and it is told of no grant
+    (4, 0, b'a', 0, 0, 1, 0),
+    // so it waits no more, and the byte is free: no room
+    (2, 1, b'b', 0, 0, 1, 2),
+    // a whole range is unlocked
+    (4, 0, b'a', 1, 4, 1, 0),
+];
+
+/// A LOCK (2) or an UNLOCK (4) of the file with handle 1, exclusive.
+fn put_call(
+    text: &mut String,
+    xid: u64,
+    procedure: u32,
+    block: u32,
+    caller: u8,
+    svid: u64,
+    first: u64,
+    count: u64,
+) -> Result<(), AllocError> {
+    let whole = if procedure == 2 { 0x68 } else { 0x58 };
+    write!(text, "B 0 800000{whole:02x}{xid:08x}0000000000000002000186b500000004{procedure:08x}")?;
+    write!(text, "0000000000000000000000000000000000000000")?;
+    if procedure == 2 {
+        write!(text, "{block:08x}00000001")?;
+    }
+    write!(text, "00000001{caller:02x}00000000000008584c4b310000000100000000")?;
+    write!(text, "{svid:08x}{first:016x}{count:016x}")?;
+    if procedure == 2 {
+        write!(text, "0000000000000000")?;
+    }
+    writeln!(text, "")?;
+    Ok(())
+}
+
+/// What a call with this number is told, at the place of its event.
+fn put_told(text: &mut String, xid: u64, status: u32) -> Result<(), AllocError> {
+    writeln!(text, "{xid} c0 80000020{xid:08x}0000000100000000000000000000000000000000{status:016x}")?;
+    Ok(())
+}
+
+/// So many owners lock a range each, then come the rows behind, and the first caller's are freed.
+fn most_locked(alloc: Global) -> Result<(String, String), AllocError> {
+    let mut lines = String::from_str(alloc, "F a.txt\nO rpc\n")?;
+    let mut wanted = String::new(alloc);
+    let mut xid = 0;
+    writeln!(wanted, "0 0 {}", MOST + BEHIND.len() as u64 + 2)?;
+    for owner in 0..MOST {
+        xid += 1;
+        let count = if owner == 0 { 3 } else { 1 };
+        put_call(&mut lines, xid, 2, 0, b'a', owner, 4 * owner, count)?;
+        put_told(&mut wanted, xid, 0)?;
+    }
+    for (procedure, block, caller, svid, first, count, status) in BEHIND {
+        xid += 1;
+        put_call(&mut lines, xid, procedure, block, caller, svid, first, count)?;
+        put_told(&mut wanted, xid, status)?;
+    }
+    xid += 1;
+    write!(lines, "B 0 80000034{xid:08x}0000000000000002000186b50000000400000017")?;
+    writeln!(lines, "00000000000000000000000000000000000000016100000000000000")?;
+    writeln!(wanted, "{xid} c0 80000018{xid:08x}0000000100000000000000000000000000000000")?;
+    Ok((lines, wanted))
+}
+
+#[test]
+fn most_claims(rt: HostRuntime) -> Result<(), Fail> {
+    let (lines, wanted) = most_locked(rt.alloc())?;
+    assert!(rt; is_told(rt.alloc(), &lines, &wanted)?);
+    Ok(())
+}
