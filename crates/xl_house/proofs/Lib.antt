@@ -9,3 +9,4 @@ pub mod MachineLaws
 pub mod JournalLaws
 pub mod OrderLaws
 pub mod LawfulLaws
+pub mod HollowLaws

@@ -6,8 +6,9 @@ use Rattle.xl_core.specs.Good.{IsGood, IsSettled}
 use Rattle.xl_core.specs.Settle.{settle}
 use Rattle.xl_core.specs.declared.ask.Effect.{Effect}
 use Rattle.xl_core.specs.Causes.{IsTurn}
-use Rattle.xl_core.proofs.SettleLaws.{settled_is, turn_is, turn_fewer}
-use Rattle.xl_house.proofs.StillLaws.{IsAfterTurn, turn_still}
+use Rattle.xl_core.proofs.SettleLaws.{none_settled, turn_is, turn_fewer}
+use Rattle.xl_core.proofs.FrameLaws.{turn_frame}
+use Rattle.xl_core.specs.Frames.{IsFrame}
 use Rattle.xl_house.proofs.QuietLaws.{turn_grants}
 use Rattle.xl_house.proofs.Stores.{may_be_made, may_be_before, goes_on_self, goes_further}
 use Rattle.xl_house.proofs.ShownLaws.{all_shown_is, shown_waiters, shown_names}
@@ -82,13 +83,13 @@ gives_some f s t r effects gives e = subst (λ (x : Option (List Effect)). Gives
 a_turn : (f : FrontState) (s t : CoreState) (effects : List Effect) → IsGood s → Gives f s t (Some effects) → IsTurn (rooms f.hosts) s effects t
 a_turn f s t effects good gives = subst (λ (r : Turned). IfSome r (λ x. IsTurn (rooms f.hosts) s x.0 x.1)) (gives t.made (may_be_made t)) (turn_is t.made (rooms f.hosts) s good)
 
-after_turn_is : (f : FrontState) (s t : CoreState) (effects : List Effect) → Gives f s t (Some effects) → IsAfterTurn s t
-after_turn_is f s t effects gives = subst (λ (r : Turned). IfSome r (λ x. IsAfterTurn s x.1)) (gives t.made (may_be_made t)) (turn_still t.made (rooms f.hosts) s)
+framed_turn : (f : FrontState) (s t : CoreState) (effects : List Effect) → IsGood s → Gives f s t (Some effects) → IsFrame s effects t 0 s.names []
+framed_turn f s t effects good gives = subst (λ (r : Turned). IfSome r (λ x. IsFrame s x.0 x.1 0 s.names [])) (gives t.made (may_be_made t)) (turn_frame t.made (rooms f.hosts) s good)
 
 -- a turn gives out one number at most, and takes one waiter out
 turn_room : (f : FrontState) (s t : CoreState) (effects : List Effect) → IsGood s → Gives f s t (Some effects) → t.counter + length t.waiters + grants effects ≤ s.counter + length s.waiters
 turn_room f s t effects good gives =
-    omega (arith, (after_turn_is f s t effects gives).counter, fewer t.made f s t effects good (gives t.made (may_be_made t)), turn_grants (rooms f.hosts) s t effects (a_turn f s t effects good gives))
+    omega (arith, (framed_turn f s t effects good gives).counter, fewer t.made f s t effects good (gives t.made (may_be_made t)), turn_grants (rooms f.hosts) s t effects (a_turn f s t effects good gives))
 
 turn_names : (f : FrontState) (s t : CoreState) (effects : List Effect) → IsGood s → Gives f s t (Some effects) → t.names ≡ s.names
 turn_names f s t effects good gives = (a_turn f s t effects good gives).names
@@ -97,6 +98,9 @@ turn_good : (f : FrontState) (s t : CoreState) (effects : List Effect) → IsGoo
 turn_good f s t effects good gives = subst (λ (r : Turned). IfSome r (λ x. IsGood x.1)) (gives t.made (may_be_made t)) (settle_good t.made (rooms f.hosts) s good)
 
 -- so what a turn tells may be told
+pub settling_numbers : (exports : Exports) (before : FrontState) (first : CoreState) (sent : List Out) (f : FrontState) (s : CoreState) (outs : List Out) → IsSettling exports before first sent f s outs → IsReadyFor (length first.waiters) first → s.counter + 65536 < 2 ^ 32
+settling_numbers exports before first sent f s outs settling ready = omega (arith, settling.counter, ready.numbers)
+
 pub turn_ready : (exports : Exports) (before : FrontState) (first : CoreState) (sent : List Out) (f : FrontState) (s t : CoreState) (outs : List Out) (r : Option (List Effect)) (effects : List Effect)
     → IsSettling exports before first sent f s outs → IsGood s → Gives f s t r → r ≡ Some effects → IsReadyFor (length first.waiters) first → IsReadyFor (grants effects) t
 turn_ready exports before first sent f s t outs r effects settling good gives e ready =
@@ -151,7 +155,7 @@ ended_state exports before first sent f s t outs r settling gives e same n may =
 
 pub ended_settled : (f : FrontState) (s t : CoreState) (r : Option (List Effect)) → Gives f s t r → r ≡ None → t ≡ s → IsSettled t
 ended_settled f s t r gives e same =
-    subst (λ (x : CoreState). IsSettled x) (sym same) ((settled_is t.made (rooms f.hosts) s).0 (gives_none f s t r gives e t.made (may_be_made t)))
+    subst (λ (x : CoreState). IsSettled x) (sym same) (none_settled t.made (rooms f.hosts) s (gives_none f s t r gives e t.made (may_be_made t)))
 
 pub ended_leaves : (exports : Exports) (before : FrontState) (first : CoreState) (sent : List Out) (f : FrontState) (s t : CoreState) (outs : List Out) → IsSettling exports before first sent f s outs → IsGood s → t ≡ s → IsReadyFor (length first.waiters) first → LeavesBy 0 first t
 ended_leaves exports before first sent f s t outs settling good same ready =

@@ -3,6 +3,7 @@
 
 mod connections;
 mod house;
+pub mod law;
 mod machine;
 mod outs;
 mod parts;

@@ -1,7 +1,13 @@
 use Rattle.std.proofs.Common.{◌≡◌, List, Option, Ok, ap, ◌∙◌}
 use Rattle.xl_core.specs.declared.ask.Effect.{Effect}
-use Rattle.xl_house.proofs.SettleLaws.{turn_ready, turn_smaller, turn_preserves, ended_state, ended_settled, ended_leaves}
+use Rattle.xl_house.proofs.SettleLaws.{settling_numbers, turn_ready, turn_smaller, turn_preserves, ended_state, ended_settled, ended_leaves}
 use Rattle.xl_house.proofs.settling.settle.Goals as goal
+
+pub settle-requires : goal.settle-requires
+settle-requires g c = record {
+  good = c.turns.invariant.1.0;
+  numbers = settling_numbers c.args.exports.now c.args.parts.now.front c.args.parts.now.core c.args.outs.now c.turns.parts.front c.turns.parts.core c.turns.outs c.turns.invariant.0 c.requires.ready;
+}
 
 pub show_all-requires : goal.show_all-requires
 show_all-requires g c =
