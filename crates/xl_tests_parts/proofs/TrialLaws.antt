@@ -15,8 +15,8 @@ use Rattle.xl_spans.specs.Spans.{IsCanonical}
 use Rattle.xl_table.specs.Order.{goes_first}
 use Rattle.xl_table.specs.Flat.{inserted, changed}
 use Rattle.xl_table.specs.Held.{mode_of, with_span, is_of, spans_of, is_real_by, is_real, is_range, has_one_party, begins_first, IsSound, IsKept}
-use Rattle.xl_table.specs.Trials.{is_beside, is_simple}
-use Rattle.xl_table.proofs.InsertLaws.{spans_of-inserted_own, spans_of-inserted_other, sound_inserted, sound_changed_other, not_range}
+use Rattle.xl_tests_parts.specs.Trials.{is_beside, is_simple}
+use Rattle.xl_table.proofs.InsertLaws.{spans_of-inserted_own, spans_of-inserted_other, sound_inserted, sound_changed_other, not_range, party_other}
 
 all_from : (p : Claim → Bool) (cs : List Claim) → list_all p cs ≡ true → AllByRecursion (λ c. p c ≡ true) cs
 all_from p [] h = tt
@@ -84,3 +84,7 @@ sound_simple claim held h kept =
 
 pub sound_change : (claim : Claim) (to : What) (held : List Claim) → is_range to ≡ false → IsKept held → IsSound (changed claim to held)
 sound_change claim to held h kept = sound_changed_other claim to held kept.sound h
+
+-- a share may be of any party
+pub share_of_any_party : (claim : Claim) (held : List Claim) → is_range claim.what ≡ false → AllByRecursion (λ c. has_one_party claim c ≡ true) held
+share_of_any_party claim held h = party_other claim held h
