@@ -18,3 +18,4 @@ pub mod DeedLaws
 pub mod DeedLists
 pub mod DeedRows
 pub mod DeedClients
+pub mod HollowLaws

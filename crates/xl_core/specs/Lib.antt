@@ -14,3 +14,4 @@ pub mod Places
 pub mod Dues
 pub mod Rows
 pub mod Clients
+pub mod Smallest

@@ -1,8 +1,16 @@
 //! Laws of what is done to the core, whatever protocol it comes by: its calls as values, one after another. The functions
 //! do nothing; what they ensure holds of every state and every list of such calls.
-ghost use Rattle.std.specs.Prelude.{◌≡◌, ℕ, List};
-ghost use Rattle.xl_core.specs.State.{CoreState};
-ghost use Rattle.xl_core.specs.Deeds.{Deed, all_done, AreFit, queue_after, KeepNames};
+ghost use Rattle.std.specs.Prelude.{◌≡◌, ℕ, Bool, List, [], ◌∷◌};
+ghost use Rattle.xl_base.specs.Stable.{Stable};
+ghost use Rattle.xl_base.specs.declared.event.Moment.{Moment};
+ghost use Rattle.xl_matrix.specs.declared.claim.Extent.{Extent};
+ghost use Rattle.xl_wait.specs.declared.waiter.Rooms.{Rooms};
+ghost use Rattle.xl_wait.specs.declared.waiter.Waiter.{Waiter};
+ghost use Rattle.xl_core.specs.State.{CoreState, started};
+ghost use Rattle.xl_core.specs.Smallest.{all_room, smallest_lock};
+ghost use Rattle.xl_core.specs.declared.ask.Act.{Act};
+ghost use Rattle.xl_core.specs.declared.ask.Ask.{Ask};
+ghost use Rattle.xl_core.specs.Deeds.{Deed, Asks, all_done, AreFit, queue_after, KeepNames};
 ghost use Rattle.xl_core.specs.Dues.{AreDue};
 ghost use Rattle.xl_core.specs.Good.{IsGood};
 ghost use Rattle.xl_core.specs.Places.{IsChangedBy};
@@ -27,4 +35,12 @@ pub fn deeds_are_all_that_changes()
 pub fn rows_are_their_deeds<F, Op>()
     ensures done { (run : ℕ → F → CoreState → Op → Ran F) (does : ℕ → F → CoreState → Op → List Deed) (n : ℕ) → ((f : F) (s : CoreState) (op : Op) → (run n f s op).2 ≡ all_done n s (does n f s op)) → (f : F) (s : CoreState) (ops : List Op) → (all_ran run n f s ops).2 ≡ all_done n s (all_deeds run does n f s ops) }
     ensures fit { (run : ℕ → F → CoreState → Op → Ran F) (does : ℕ → F → CoreState → Op → List Deed) (n : ℕ) → ((f : F) (s : CoreState) (op : Op) → (run n f s op).2 ≡ all_done n s (does n f s op)) → ((f : F) (s : CoreState) (op : Op) → IsGood s → AreFit n s (does n f s op)) → (f : F) (s : CoreState) (ops : List Op) → IsGood s → AreFit n s (all_deeds run does n f s ops) }
+{}
+
+/// Neither a machine that tells a lock granted and keeps nothing meets the law of places, at a start and for a lock of one
+/// byte; nor does one that drops a waiter at another's test meet the law of those who wait.
+#[tactic(auto, using(crate::proofs::HollowLaws::nothing_kept, crate::proofs::HollowLaws::waiter_dropped))]
+pub fn hollow_machines_are_refused()
+    ensures kept { (n : ℕ) (stable : Stable) (clock : Moment) (t : CoreState) → t.claims ≡ [] → IsChangedBy n (started stable clock) (Asks all_room smallest_lock ∷ []) t → ⊥ }
+    ensures dropped { (n : ℕ) (left : Rooms) (s t : CoreState) (a : Ask) (w : Waiter) (extent : Extent) (exclusive : Bool) → a.act ≡ Act.Test extent exclusive → s.waiters ≡ w ∷ [] → t.waiters ≡ [] → t.waiters ≡ queue_after n s (Asks left a ∷ []) s.waiters → ⊥ }
 {}

@@ -11,3 +11,4 @@ pub mod StepLaws
 pub mod AimLaws
 pub mod DoesLaws
 pub mod OwnLaws
+pub mod StatusLaws

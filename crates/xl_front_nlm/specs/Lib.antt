@@ -9,3 +9,4 @@ pub mod Serving
 pub mod Grants
 pub mod Answers
 pub mod FrontNlm
+pub mod Statuses

@@ -15,9 +15,9 @@ pub replay_entry : (s : Whole) (es : List Entry) (event : Event) → replay s (e
 replay_entry s [] event = refl
 replay_entry s (e ∷ es) event = replay_entry (step e.stores s e.event).next es event
 
-pub legal_entry : (s : Whole) (es : List Entry) (event : Event) → is_restart event ≡ false → IsLegal s es → IsLegal s (es ++ entry 0 (replay s es) event ∷ [])
-legal_entry s [] event other legal = ((sym (none_made 0 s event other), refl), tt)
-legal_entry s (e ∷ es) event other legal = (legal.0, legal_entry (step e.stores s e.event).next es event other legal.1)
+pub legal_entry : (s : Whole) (es : List Entry) (event : Event) → (step 0 (replay s es) event).made ≡ 0 → IsLegal s es → IsLegal s (es ++ entry 0 (replay s es) event ∷ [])
+legal_entry s [] event none legal = ((sym none, refl), tt)
+legal_entry s (e ∷ es) event none legal = (legal.0, legal_entry (step e.stores s e.event).next es event none legal.1)
 
 -- the events that are left, after one more is stepped
 pub stepped : (s : Whole) (es : List Entry) (event : Event) (rest : List Event) → (es ++ entry 0 (replay s es) event ∷ []) ++ entries_of (replay s (es ++ entry 0 (replay s es) event ∷ [])) rest ≡ es ++ entries_of (replay s es) (event ∷ rest)
@@ -41,7 +41,9 @@ some_left s t es old event rest events e =
 -- ---- the house stands for the replay of its entries
 
 pub legal_next : (start : Whole) (es : List Entry) (old : Whole) (event : Event) → Stands start es old → is_restart event ≡ false → IsLegal start es → IsLegal start (es ++ entry 0 old event ∷ [])
-legal_next start es old event stands other legal = subst (λ (s : Whole). IsLegal start (es ++ entry 0 s event ∷ [])) (sym stands.replayed) (legal_entry start es event other legal)
+legal_next start es old event stands other legal =
+    subst (λ (s : Whole). IsLegal start (es ++ entry 0 s event ∷ [])) (sym stands.replayed)
+    (legal_entry start es event (subst (λ (s : Whole). (step 0 s event).made ≡ 0) stands.replayed (none_made 0 old event other stands.free.good)) legal)
 
 pub stands_next : (start : Whole) (es : List Entry) (old new : Whole) (event : Event) → Stands start es old → new ≡ (step 0 old event).next → new.core.counter + length new.core.waiters ≤ old.core.counter + length old.core.waiters + 2 → AreShort new.core.names → Stands start (es ++ entry 0 old event ∷ []) new
 stands_next start es old new event stands e counter short =
@@ -55,9 +57,9 @@ stands_next start es old new event stands e counter short =
     }
 
 -- the keeper still holds the machine's record, as nothing is stored
-pub holds_next : (held : Option Stable) (old new : Whole) (event : Event) → Holds held old.core.stable → is_restart event ≡ false → new ≡ (step 0 old event).next → Holds held new.core.stable
-holds_next held old new event holds other e =
-    subst (λ (stable : Stable). Holds held stable) (sym (ap (λ (s : Whole). s.core.stable) e ∙ step_still 0 old event other)) holds
+pub holds_next : (held : Option Stable) (old new : Whole) (event : Event) → IsFree old → Holds held old.core.stable → is_restart event ≡ false → new ≡ (step 0 old event).next → Holds held new.core.stable
+holds_next held old new event free holds other e =
+    subst (λ (stable : Stable). Holds held stable) (sym (ap (λ (s : Whole). s.core.stable) e ∙ step_still 0 old event other free.good)) holds
 
 pub holds_after : (held : Option Stable) (start : Whole) (es : List Entry) (old new : Whole) (event : Event) → Stands start es old → new ≡ (step 0 old event).next → Holds held new.core.stable → Holds held (replay start (es ++ entry 0 old event ∷ [])).core.stable
 holds_after held start es old new event stands e holds =

@@ -1,12 +1,12 @@
 pub mod StillLaws
-pub mod ShownLaws
+pub mod Stores
 pub mod QuietLaws
-pub mod FrontLaws
+pub mod ShownLaws
 pub mod SettleLaws
+pub mod HearLaws
+pub mod DoneLaws
 pub mod MachineLaws
 pub mod JournalLaws
 pub mod OrderLaws
-pub mod LeaveLaws
-pub mod ChangeLaws
 pub mod LawfulLaws
-pub mod CompleteLaws
+pub mod HollowLaws

@@ -1,6 +1,6 @@
 -- What each event keeps.
 use Rattle.std.proofs.Common.{◌≡◌, ℕ, zero, suc, ◌+◌, true, false, Option, Some, None, IfSome, List, [], ◌∷◌, ◌++◌, length, refl, sym, ap, subst, ◌∙◌, arith}
-use Rattle.std.specs.List.{AllByRecursion, slice_get}
+use Rattle.std.specs.List.{AllByRecursion}
 use Rattle.xl_base.specs.Stable.{Stable, raised}
 use Rattle.xl_base.specs.declared.event.Event.{Event}
 use Rattle.xl_base.specs.declared.event.Event.TheVariants.{Open, Message, End, Called, Tick, Restart}
@@ -11,12 +11,14 @@ use Rattle.xl_base.specs.declared.event.Out.{Out}
 use Rattle.xl_base.specs.declared.journal.Entry.{Entry}
 use Rattle.xl_base.specs.declared.journal.Exports.{Exports}
 use Rattle.xl_base.specs.declared.journal.Head.{Head}
-use Rattle.xl_core.specs.State.{CoreState, MayBe, GoesOn, started, step_begun}
-use Rattle.xl_core.specs.Good.{IsGood, IsSettled, is_still_blocked}
+use Rattle.xl_core.specs.State.{CoreState, MayBe, GoesOn, started, step_begun, drawn}
+use Rattle.xl_core.specs.Deeds.{Deed, Asks, GivesBack, Cancels, Ends, Serves, Draws, turned, done, all_done}
+use Rattle.xl_core.proofs.DeedLists.{deeds_good}
+use Rattle.xl_core.specs.Good.{IsGood, IsSettled, stands_in_the_way}
 use Rattle.xl_core.specs.Settle.{settle}
 use Rattle.xl_core.specs.declared.ask.Effect.{Effect}
 use Rattle.xl_core.proofs.GoodLaws.{started_good, begun_good, settle_good}
-use Rattle.xl_core.proofs.SettleLaws.{settled_is, turn_fewer}
+use Rattle.xl_core.proofs.SettleLaws.{none_settled, turn_fewer}
 use Rattle.xl_wait.specs.declared.waiter.Waiter.{Waiter}
 use Rattle.xl_front_nlm.specs.Answers.{nlm_called}
 use Rattle.xl_front_nlm.specs.FrontNlm.{nlm_step}
@@ -27,10 +29,11 @@ use Rattle.xl_house.specs.Journals.{is_restart}
 use Rattle.xl_house.specs.Machine.{Whole, Turn, Sent, begin, kind_of, behind, and_then, grants, all_shown, after_turn, settled_for, settled, heard_by, heard, connected, onward, turn_of, settled_turn, restarted, step}
 use Rattle.xl_house.specs.Shown.{IsShown}
 use Rattle.xl_house.specs.declared.connections.Connection.{Connection}
-use Rattle.xl_house.proofs.StillLaws.{IsStill, IsAfterTurn, still, still_on, turn_still}
-use Rattle.xl_house.proofs.FrontLaws.{front_good, front_still, answer_good, answer_still}
+use Rattle.xl_house.proofs.StillLaws.{IsStill, deeds_still}
+use Rattle.xl_house.specs.Done.{deeds}
+use Rattle.xl_house.proofs.DoneLaws.{own_and_told, heard_does, heard_takes, left_by, left_is, deeds_taken}
 use Rattle.xl_house.proofs.ShownLaws.{all_shown_is, all_shown_good, shown_waiters}
-use Rattle.xl_house.proofs.SettleLaws.{may_be_made, may_be_before}
+use Rattle.xl_house.proofs.Stores.{may_be_made, may_be_before}
 
 -- ---- an event other than a restart
 
@@ -45,24 +48,6 @@ step_is n s Restart other = absurd cc
 
 -- ---- settling
 
-keeps_by : (P : FrontState → CoreState → Type 0) (exports : Exports) (rest : FrontState → CoreState → Sent) (f : FrontState) (s : CoreState) (o : Option (List Effect × CoreState)) → P f s → ((g : FrontState) (t : CoreState) → P g t → P (rest g t).1 (rest g t).2)
-    → IfSome o (λ r. (let done = all_shown exports f r.1 r.0 in P done.1 done.2)) → (let r = after_turn exports rest f s o in P r.1 r.2)
-keeps_by P exports rest f s None holds rests each = holds
-keeps_by P exports rest f s (Some turn) holds rests each = let done = all_shown exports f turn.1 turn.0 in rests done.1 done.2 each
-
-keeps_for : (P : FrontState → CoreState → Type 0) (fuel n : ℕ) (exports : Exports) (f : FrontState) (s : CoreState) → ((g : FrontState) (t : CoreState) → P g t → IfSome (settle n (rooms g.hosts) t) (λ r. (let done = all_shown exports g r.1 r.0 in P done.1 done.2))) → P f s → (let r = settled_for fuel n exports f s in P r.1 r.2)
-keeps_for P zero n exports f s turns holds = holds
-keeps_for P (suc fuel) n exports f s turns holds = keeps_by P exports (settled_for fuel n exports) f s (settle n (rooms f.hosts) s) holds (λ g t h. keeps_for P fuel n exports g t turns h) (turns f s holds)
-
--- what each turn keeps, with what is told of it, settling keeps
-pub settling_keeps : (P : FrontState → CoreState → Type 0) (n : ℕ) (exports : Exports) (f : FrontState) (s : CoreState) → ((g : FrontState) (t : CoreState) → P g t → IfSome (settle n (rooms g.hosts) t) (λ r. (let done = all_shown exports g r.1 r.0 in P done.1 done.2))) → P f s → (let r = settled n exports f s in P r.1 r.2)
-unfolding settled
-settling_keeps P n exports f s turns holds = keeps_for P (length s.waiters) n exports f s turns holds
-
-if_some : (P Q : List Effect × CoreState → Type 0) (o : Option (List Effect × CoreState)) → ((r : List Effect × CoreState) → P r → Q r) → IfSome o P → IfSome o Q
-if_some P Q None each holds = tt
-if_some P Q (Some r) each holds = each r holds
-
 none_waits : (P : Waiter → Type 0) (ws : List Waiter) → length ws ≡ 0 → AllByRecursion P ws
 none_waits P [] e = tt
 none_waits P (w ∷ ws) e = absurd (omega (arith, e))
@@ -72,13 +57,13 @@ told_waiters exports f t effects = ap length (shown_waiters (grants effects) t (
 
 ends_by : (fuel n : ℕ) (exports : Exports) (f : FrontState) (s : CoreState) (o : Option (List Effect × CoreState)) → settle n (rooms f.hosts) s ≡ o → IfSome o (λ r. length r.1.waiters + 1 ≡ length s.waiters) → IfSome o (λ r. IsGood r.1) → length s.waiters ≡ suc fuel
     → ((g : FrontState) (t : CoreState) → IsGood t → length t.waiters ≡ fuel → IsSettled (settled_for fuel n exports g t).2) → IsSettled (after_turn exports (settled_for fuel n exports) f s o).2
-ends_by fuel n exports f s None is fewer good e rests = (settled_is n (rooms f.hosts) s).0 is
+ends_by fuel n exports f s None is fewer good e rests = none_settled n (rooms f.hosts) s is
 ends_by fuel n exports f s (Some turn) is fewer good e rests =
     let done = all_shown exports f turn.1 turn.0 in
     rests done.1 done.2 (all_shown_good exports f turn.1 turn.0 good) (omega (arith, fewer, e, told_waiters exports f turn.1 turn.0))
 
 ends_for : (fuel n : ℕ) (exports : Exports) (f : FrontState) (s : CoreState) → IsGood s → length s.waiters ≡ fuel → IsSettled (settled_for fuel n exports f s).2
-ends_for zero n exports f s good e = none_waits (λ w. is_still_blocked s.claims (slice_get w.asked 0) ≡ true) s.waiters e
+ends_for zero n exports f s good e = none_waits (λ w. stands_in_the_way s.claims w.asked ≡ true) s.waiters e
 ends_for (suc fuel) n exports f s good e =
     ends_by fuel n exports f s (settle n (rooms f.hosts) s) refl (turn_fewer n (rooms f.hosts) s good) (settle_good n (rooms f.hosts) s good) e (λ g t h k. ends_for fuel n exports g t h k)
 
@@ -87,61 +72,22 @@ pub settling_ends : (n : ℕ) (exports : Exports) (f : FrontState) (s : CoreStat
 unfolding settled
 settling_ends n exports f s good = ends_for (length s.waiters) n exports f s good refl
 
-pub settling_good : (n : ℕ) (exports : Exports) (f : FrontState) (s : CoreState) → IsGood s → IsGood (settled n exports f s).2
-settling_good n exports f s good =
-    settling_keeps (λ g t. IsGood t) n exports f s
-    (λ g t holds. if_some (λ r. IsGood r.1) (λ r. IsGood (all_shown exports g r.1 r.0).2) (settle n (rooms g.hosts) t) (λ r h. all_shown_good exports g r.1 r.0 h) (settle_good n (rooms g.hosts) t holds))
-    good
-
-told_still : (exports : Exports) (f : FrontState) (s : CoreState) (effects : List Effect) → IsStill s (all_shown exports f s effects).2
-told_still exports f s effects =
-    let is = all_shown_is exports f s effects in
-    record { stable = ap (λ (t : CoreState). t.stable) is.parts; clock = ap (λ (t : CoreState). t.clock) is.parts; made = ap (λ (t : CoreState). t.made) is.parts; failed = ap (λ (t : CoreState). t.failed) is.parts }
-
-pub settling_still : (n : ℕ) (exports : Exports) (f : FrontState) (s : CoreState) → IsStill s (settled n exports f s).2
-settling_still n exports f s =
-    settling_keeps (λ g t. IsStill s t) n exports f s
-    (λ g t holds. if_some (λ r. IsAfterTurn t r.1) (λ r. IsStill s (all_shown exports g r.1 r.0).2) (settle n (rooms g.hosts) t)
-    (λ r turned. still_on s r.1 (all_shown exports g r.1 r.0).2 (still_on s t r.1 holds turned.still) (told_still exports g r.1 r.0)) (turn_still n (rooms g.hosts) t))
-    (still s)
-
 -- ---- what an event gives before the table is settled
 
-by_good : (n : ℕ) (exports : Exports) (f : FrontState) (s : CoreState) (kind : Option Kind) (number : ℕ) (bytes : List ℕ) → IsGood s → IsGood (heard_by n exports f s kind number bytes).2
-by_good n exports f s None number bytes good = good
-by_good n exports f s (Some Smb) number bytes good = good
-by_good n exports f s (Some Rpc) number bytes good =
-    let r = nlm_step n exports f s number bytes in
-    all_shown_good exports r.2 r.3 r.1 (front_good n exports f s number bytes good)
-
 pub heard_good : (n : ℕ) (s : Whole) (e : Event) → IsGood s.core → IsGood (heard n s e).2
-unfolding heard
-heard_good n s (Open kind) good = begun_good s.core good
-heard_good n s (Message number bytes) good = by_good n s.exports s.front (step_begun s.core) (kind_of s.connections number) number bytes (begun_good s.core good)
-heard_good n s (End number) good = begun_good s.core good
-heard_good n s (Called call reply) good =
-    let r = nlm_called n s.front (step_begun s.core) call reply in
-    all_shown_good s.exports r.1 r.2 r.0 (answer_good n s.front (step_begun s.core) call reply (begun_good s.core good))
-heard_good n s (Tick moment) good = begun_good s.core good
-heard_good n s Restart good = begun_good s.core good
+heard_good n s e good =
+    let begun = step_begun s.core in
+    let ds = own_and_told n s e in
+    subst (λ (t : CoreState). IsGood t) (sym (heard_does n s e)) (deeds_good n begun ds (begun_good s.core good) (heard_takes n s e))
 
-by_still : (n : ℕ) (exports : Exports) (f : FrontState) (s : CoreState) (kind : Option Kind) (number : ℕ) (bytes : List ℕ) → IsStill s (heard_by n exports f s kind number bytes).2
-by_still n exports f s None number bytes = still s
-by_still n exports f s (Some Smb) number bytes = still s
-by_still n exports f s (Some Rpc) number bytes =
-    let r = nlm_step n exports f s number bytes in
-    still_on s r.3 (all_shown exports r.2 r.3 r.1).2 (front_still n exports f s number bytes) (told_still exports r.2 r.3 r.1)
+-- the core at the end of a step
+left_good : (n : ℕ) (s : Whole) (e : Event) → is_restart e ≡ false → IsGood s.core → IsGood (left_by n s e)
+left_good n s e other good =
+    subst (λ (t : CoreState). IsGood t) (sym (left_is n s e other)) (deeds_good n (step_begun s.core) (deeds n s e) (begun_good s.core good) (deeds_taken n s e other))
 
-heard_still : (n : ℕ) (s : Whole) (e : Event) → IsStill (step_begun s.core) (heard n s e).2
-unfolding heard
-heard_still n s (Open kind) = still (step_begun s.core)
-heard_still n s (Message number bytes) = by_still n s.exports s.front (step_begun s.core) (kind_of s.connections number) number bytes
-heard_still n s (End number) = still (step_begun s.core)
-heard_still n s (Called call reply) =
-    let r = nlm_called n s.front (step_begun s.core) call reply in
-    still_on (step_begun s.core) r.2 (all_shown s.exports r.1 r.2 r.0).2 (answer_still n s.front (step_begun s.core) call reply) (told_still s.exports r.1 r.2 r.0)
-heard_still n s (Tick moment) = still (step_begun s.core)
-heard_still n s Restart = still (step_begun s.core)
+left_still : (n : ℕ) (s : Whole) (e : Event) → is_restart e ≡ false → IsGood s.core → IsStill (step_begun s.core) (left_by n s e)
+left_still n s e other good =
+    subst (λ (t : CoreState). IsStill (step_begun s.core) t) (sym (left_is n s e other)) (deeds_still n (step_begun s.core) (deeds n s e) (begun_good s.core good) (deeds_taken n s e other))
 
 -- ---- free moments
 
@@ -153,10 +99,6 @@ begun_settled : (s : CoreState) → IsSettled s → IsSettled (step_begun s)
 unfolding step_begun
 begun_settled s settled = settled
 
--- the core at the end of a step
-abbrev pub left_by : ℕ → Whole → Event → CoreState
-left_by n s e = (settled n s.exports (heard n s e).1 (heard n s e).2).2
-
 pub free_from : (s : Whole) (connections : List Connection) (front : FrontState) (core : CoreState) → IsGood core → IsSettled core → IsFree (onward s connections front core)
 free_from s connections front core good settled = record {
   good = begun_good core good;
@@ -165,10 +107,10 @@ free_from s connections front core good settled = record {
   failed = (begun_still core).1;
 }
 
-turn_free : (n : ℕ) (s : Whole) (e : Event) (connections : List Connection) → IsFree s → IsFree (settled_turn n s connections (heard n s e)).next
-turn_free n s e connections free =
+turn_free : (n : ℕ) (s : Whole) (e : Event) (connections : List Connection) → is_restart e ≡ false → IsFree s → IsFree (settled_turn n s connections (heard n s e)).next
+turn_free n s e connections other free =
     free_from s connections (settled n s.exports (heard n s e).1 (heard n s e).2).1 (left_by n s e)
-    (settling_good n s.exports (heard n s e).1 (heard n s e).2 (heard_good n s e free.good))
+    (left_good n s e other free.good)
     (settling_ends n s.exports (heard n s e).1 (heard n s e).2 (heard_good n s e free.good))
 
 pub started_free : (s : Whole) (stable : Stable) (clock : Moment) → s.core ≡ started stable clock → IsFree s
@@ -181,11 +123,11 @@ started_free s stable clock e = record {
 
 pub step_free : (n : ℕ) (s : Whole) (e : Event) → IsFree s → IsFree (step n s e).next
 unfolding step
-step_free n s (Open kind) free = turn_free n s (Open kind) (connected s.connections s.place (Open kind)) free
-step_free n s (Message number bytes) free = turn_free n s (Message number bytes) (connected s.connections s.place (Message number bytes)) free
-step_free n s (End number) free = turn_free n s (End number) (connected s.connections s.place (End number)) free
-step_free n s (Called call reply) free = turn_free n s (Called call reply) (connected s.connections s.place (Called call reply)) free
-step_free n s (Tick moment) free = turn_free n s (Tick moment) (connected s.connections s.place (Tick moment)) free
+step_free n s (Open kind) free = turn_free n s (Open kind) (connected s.connections s.place (Open kind)) refl free
+step_free n s (Message number bytes) free = turn_free n s (Message number bytes) (connected s.connections s.place (Message number bytes)) refl free
+step_free n s (End number) free = turn_free n s (End number) (connected s.connections s.place (End number)) refl free
+step_free n s (Called call reply) free = turn_free n s (Called call reply) (connected s.connections s.place (Called call reply)) refl free
+step_free n s (Tick moment) free = turn_free n s (Tick moment) (connected s.connections s.place (Tick moment)) refl free
 step_free n s Restart free = started_free (restarted s).next (raised s.core.stable) s.core.clock refl
 
 pub begin_free : (head : Head) → IsFree (begin head)
@@ -201,12 +143,12 @@ begun_free head es = free_always (begin head) es (begin_free head)
 
 -- ---- stores and places
 
-pub left_none : (n : ℕ) (s : Whole) (e : Event) → (left_by n s e).made ≡ 0
-left_none n s e = (settling_still n s.exports (heard n s e).1 (heard n s e).2).made ∙ (heard_still n s e).made ∙ (begun_still s.core).0
+left_none : (n : ℕ) (s : Whole) (e : Event) → is_restart e ≡ false → IsGood s.core → (left_by n s e).made ≡ 0
+left_none n s e other good = (left_still n s e other good).made ∙ (begun_still s.core).0
 
 -- no event but a restart stores
-pub none_made : (n : ℕ) (s : Whole) (e : Event) → is_restart e ≡ false → (step n s e).made ≡ 0
-none_made n s e other = ap (λ (t : Turn). t.made) (step_is n s e other) ∙ left_none n s e
+pub none_made : (n : ℕ) (s : Whole) (e : Event) → is_restart e ≡ false → IsGood s.core → (step n s e).made ≡ 0
+none_made n s e other good = ap (λ (t : Turn). t.made) (step_is n s e other) ∙ left_none n s e other good
 
 pub next_place : (n : ℕ) (s : Whole) (e : Event) → (step n s e).next.place ≡ s.place + 1
 unfolding step
@@ -218,23 +160,11 @@ next_place n s (Tick moment) = refl
 next_place n s Restart = refl
 
 -- no event but a restart changes the record or the clock
-pub step_still : (n : ℕ) (s : Whole) (e : Event) → is_restart e ≡ false → (step n s e).next.core.stable ≡ s.core.stable
+pub step_still : (n : ℕ) (s : Whole) (e : Event) → is_restart e ≡ false → IsGood s.core → (step n s e).next.core.stable ≡ s.core.stable
 unfolding step_begun
-step_still n s e other = ap (λ (t : Turn). t.next.core.stable) (step_is n s e other) ∙ (settling_still n s.exports (heard n s e).1 (heard n s e).2).stable ∙ (heard_still n s e).stable
+step_still n s e other good = ap (λ (t : Turn). t.next.core.stable) (step_is n s e other) ∙ (left_still n s e other good).stable
 
 -- ---- as the code acts
-
-pub begun_counter : (s : CoreState) → (step_begun s).counter ≡ s.counter
-unfolding step_begun
-begun_counter s = refl
-
-pub begun_waiters : (s : CoreState) → (step_begun s).waiters ≡ s.waiters
-unfolding step_begun
-begun_waiters s = refl
-
-pub begun_names : (s : CoreState) → (step_begun s).names ≡ s.names
-unfolding step_begun
-begun_names s = refl
 
 pub record IsActed (s : Whole) (e : Event) (outs : List Out) (f : FrontState) (mid : CoreState) (sent : List Out) (g : FrontState) (last : CoreState) : Type 0 where
   pub heard : (n : ℕ) → MayBe n mid → heard n s e ≡ (outs, f, mid)
@@ -246,18 +176,18 @@ acted_all : (s : Whole) (e : Event) (outs : List Out) (f : FrontState) (mid : Co
 acted_all s e outs f mid sent g last acted n may =
     ap (λ (r : Sent). and_then (settled n s.exports) r) (acted.heard n (may_be_before n mid last acted.on may)) ∙ acted.told n may
 
-no_store : (s : Whole) (e : Event) (outs : List Out) (f : FrontState) (mid : CoreState) (sent : List Out) (g : FrontState) (last : CoreState) → IsActed s e outs f mid sent g last → last.made ≡ 0
-no_store s e outs f mid sent g last acted =
-    ap (λ (r : Sent). r.2.made) (sym (acted_all s e outs f mid sent g last acted last.made (may_be_made last))) ∙ left_none last.made s e
+no_store : (s : Whole) (e : Event) (outs : List Out) (f : FrontState) (mid : CoreState) (sent : List Out) (g : FrontState) (last : CoreState) → is_restart e ≡ false → IsGood s.core → IsActed s e outs f mid sent g last → last.made ≡ 0
+no_store s e outs f mid sent g last other good acted =
+    ap (λ (r : Sent). r.2.made) (sym (acted_all s e outs f mid sent g last acted last.made (may_be_made last))) ∙ left_none last.made s e other good
 
 may_be_none : (s : CoreState) → s.made ≡ 0 → MayBe 0 s
 may_be_none s e = subst (λ n. MayBe n s) e (may_be_made s)
 
 pub acted_step : (s : Whole) (e : Event) (outs : List Out) (f : FrontState) (mid : CoreState) (sent : List Out) (g : FrontState) (last next : CoreState) (connections : List Connection)
-    → is_restart e ≡ false → IsActed s e outs f mid sent g last → connections ≡ connected s.connections s.place e → next ≡ step_begun last
+    → is_restart e ≡ false → IsGood s.core → IsActed s e outs f mid sent g last → connections ≡ connected s.connections s.place e → next ≡ step_begun last
     → step 0 s e ≡ record { next = record { exports = s.exports; place = s.place + 1; connections = connections; front = g; core = next }; made = 0; outs = sent }
-acted_step s e outs f mid sent g last next connections other acted links begun =
-    let none = no_store s e outs f mid sent g last acted in
+acted_step s e outs f mid sent g last next connections other good acted links begun =
+    let none = no_store s e outs f mid sent g last other good acted in
     let built : List Connection → CoreState → ℕ → Turn = λ cs core made. record { next = record { exports = s.exports; place = s.place + 1; connections = cs; front = g; core = core }; made = made; outs = sent } in
     step_is 0 s e other
     ∙ ap (λ (r : Sent). turn_of s (connected s.connections s.place e) r) (acted_all s e outs f mid sent g last acted 0 (may_be_none last none))

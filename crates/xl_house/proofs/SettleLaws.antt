@@ -6,36 +6,25 @@ use Rattle.xl_core.specs.Good.{IsGood, IsSettled}
 use Rattle.xl_core.specs.Settle.{settle}
 use Rattle.xl_core.specs.declared.ask.Effect.{Effect}
 use Rattle.xl_core.specs.Causes.{IsTurn}
-use Rattle.xl_core.proofs.SettleLaws.{settled_is, turn_is, turn_fewer}
-use Rattle.xl_house.proofs.StillLaws.{IsAfterTurn, turn_still}
+use Rattle.xl_core.proofs.SettleLaws.{none_settled, turn_is, turn_fewer}
+use Rattle.xl_core.proofs.FrameLaws.{turn_frame}
+use Rattle.xl_core.specs.Frames.{IsFrame}
 use Rattle.xl_house.proofs.QuietLaws.{turn_grants}
-use Rattle.xl_house.proofs.ShownLaws.{all_shown_is, all_shown_good, all_shown_hosts, shown_waiters, shown_names}
+use Rattle.xl_house.proofs.Stores.{may_be_made, may_be_before, goes_on_self, goes_further}
+use Rattle.xl_house.proofs.ShownLaws.{all_shown_is, shown_waiters, shown_names}
 use Rattle.xl_base.specs.declared.journal.Exports.{Exports}
 use Rattle.xl_front_nlm.specs.State.{FrontState}
-use Rattle.xl_house.specs.Shown.{IsShown}
+use Rattle.xl_names.specs.declared.name.Name.{Name}
+use Rattle.xl_core.proofs.GoodLaws.{settle_good}
+use Rattle.xl_front_nlm.specs.Short.{AreShort}
+use Rattle.xl_house.specs.Shown.{IsShown, IsReadyFor, LeavesBy}
 use Rattle.xl_front_nlm.specs.Hosts.{rooms}
 use Rattle.xl_house.specs.Machine.{Sent, grants, behind, and_then, all_shown, after_turn, settled_for, settled}
 
--- ---- the stores of a step
+-- ---- what is left
 
-pub may_be_made : (s : CoreState) → MayBe s.made s
-may_be_made s = record { enough = omega arith; spent = λ _. refl }
-
--- how many stores succeed may have been told before
-pub may_be_before : (n : ℕ) (old new : CoreState) → GoesOn old new → MayBe n new → MayBe n old
-may_be_before n old new on may = record {
-  enough = omega (arith, on.made, may.enough);
-  spent = λ failed. let after = on.failed failed in sym after.1 ∙ may.spent after.0;
-}
-
-pub goes_on_self : (s : CoreState) → GoesOn s s
-goes_on_self s = record { made = omega arith; failed = λ f. (f, refl) }
-
-pub goes_further : (a b c : CoreState) → GoesOn a b → GoesOn b c → GoesOn a c
-goes_further a b c first next = record {
-  made = omega (arith, first.made, next.made);
-  failed = λ f. let one = first.failed f in let two = next.failed one.0 in (two.0, two.1 ∙ one.1);
-}
+pub leaves_self : (m k : ℕ) (s : CoreState) → IsReadyFor m s → LeavesBy k s s
+leaves_self m k s ready = record { on = goes_on_self s; good = ready.good; short = ready.short; counter = omega arith }
 
 -- ---- settling
 
@@ -94,22 +83,33 @@ gives_some f s t r effects gives e = subst (λ (x : Option (List Effect)). Gives
 a_turn : (f : FrontState) (s t : CoreState) (effects : List Effect) → IsGood s → Gives f s t (Some effects) → IsTurn (rooms f.hosts) s effects t
 a_turn f s t effects good gives = subst (λ (r : Turned). IfSome r (λ x. IsTurn (rooms f.hosts) s x.0 x.1)) (gives t.made (may_be_made t)) (turn_is t.made (rooms f.hosts) s good)
 
-after_turn_is : (f : FrontState) (s t : CoreState) (effects : List Effect) → Gives f s t (Some effects) → IsAfterTurn s t
-after_turn_is f s t effects gives = subst (λ (r : Turned). IfSome r (λ x. IsAfterTurn s x.1)) (gives t.made (may_be_made t)) (turn_still t.made (rooms f.hosts) s)
+framed_turn : (f : FrontState) (s t : CoreState) (effects : List Effect) → IsGood s → Gives f s t (Some effects) → IsFrame s effects t 0 s.names []
+framed_turn f s t effects good gives = subst (λ (r : Turned). IfSome r (λ x. IsFrame s x.0 x.1 0 s.names [])) (gives t.made (may_be_made t)) (turn_frame t.made (rooms f.hosts) s good)
 
 -- a turn gives out one number at most, and takes one waiter out
 turn_room : (f : FrontState) (s t : CoreState) (effects : List Effect) → IsGood s → Gives f s t (Some effects) → t.counter + length t.waiters + grants effects ≤ s.counter + length s.waiters
 turn_room f s t effects good gives =
-    omega (arith, (after_turn_is f s t effects gives).counter, fewer t.made f s t effects good (gives t.made (may_be_made t)), turn_grants (rooms f.hosts) s t effects (a_turn f s t effects good gives))
+    omega (arith, (framed_turn f s t effects good gives).counter, fewer t.made f s t effects good (gives t.made (may_be_made t)), turn_grants (rooms f.hosts) s t effects (a_turn f s t effects good gives))
 
--- so there are numbers for what a turn tells
-pub turn_numbers : (exports : Exports) (before : FrontState) (first : CoreState) (sent : List Out) (f : FrontState) (s t : CoreState) (outs : List Out) (r : Option (List Effect)) (effects : List Effect)
-    → IsSettling exports before first sent f s outs → IsGood s → Gives f s t r → r ≡ Some effects → first.counter + length first.waiters + 65536 < 2 ^ 32 → t.counter + grants effects + 65536 < 2 ^ 32
-turn_numbers exports before first sent f s t outs r effects settling good gives e room =
-    omega (arith, settling.counter, turn_room f s t effects good (gives_some f s t r effects gives e), room)
+turn_names : (f : FrontState) (s t : CoreState) (effects : List Effect) → IsGood s → Gives f s t (Some effects) → t.names ≡ s.names
+turn_names f s t effects good gives = (a_turn f s t effects good gives).names
 
-pub turn_names : (f : FrontState) (s t : CoreState) (r : Option (List Effect)) (effects : List Effect) → IsGood s → Gives f s t r → r ≡ Some effects → t.names ≡ s.names
-turn_names f s t r effects good gives e = (a_turn f s t effects good (gives_some f s t r effects gives e)).names
+turn_good : (f : FrontState) (s t : CoreState) (effects : List Effect) → IsGood s → Gives f s t (Some effects) → IsGood t
+turn_good f s t effects good gives = subst (λ (r : Turned). IfSome r (λ x. IsGood x.1)) (gives t.made (may_be_made t)) (settle_good t.made (rooms f.hosts) s good)
+
+-- so what a turn tells may be told
+pub settling_numbers : (exports : Exports) (before : FrontState) (first : CoreState) (sent : List Out) (f : FrontState) (s : CoreState) (outs : List Out) → IsSettling exports before first sent f s outs → IsReadyFor (length first.waiters) first → s.counter + 65536 < 2 ^ 32
+settling_numbers exports before first sent f s outs settling ready = omega (arith, settling.counter, ready.numbers)
+
+pub turn_ready : (exports : Exports) (before : FrontState) (first : CoreState) (sent : List Out) (f : FrontState) (s t : CoreState) (outs : List Out) (r : Option (List Effect)) (effects : List Effect)
+    → IsSettling exports before first sent f s outs → IsGood s → Gives f s t r → r ≡ Some effects → IsReadyFor (length first.waiters) first → IsReadyFor (grants effects) t
+turn_ready exports before first sent f s t outs r effects settling good gives e ready =
+    let given = gives_some f s t r effects gives e in
+    record {
+      good = turn_good f s t effects good given;
+      numbers = omega (arith, settling.counter, turn_room f s t effects good given, ready.numbers);
+      short = subst (λ (names : List Name). AreShort names) (sym (turn_names f s t effects good given ∙ settling.names)) ready.short;
+    }
 
 pub turn_smaller : (exports : Exports) (f g : FrontState) (s t u : CoreState) (r : Option (List Effect)) (effects : List Effect) (outs new : List Out) → IsGood s → Gives f s t r → r ≡ Some effects → behind outs (all_shown exports f t effects) ≡ (new, g, u) → suc (length u.waiters) ≤ length s.waiters
 turn_smaller exports f g s t u r effects outs new good gives e shown =
@@ -133,7 +133,7 @@ turn_preserves exports before first sent f g s t u outs new r effects settling g
     let further : GoesOn t u = parts_on (grants effects) t u is in
     record {
       on = goes_further first s u settling.on (goes_further s t u on further);
-      names = shown_names (grants effects) t u is ∙ (a_turn f s t effects good given).names ∙ settling.names;
+      names = shown_names (grants effects) t u is ∙ turn_names f s t effects good given ∙ settling.names;
       counter = omega (arith, settling.counter, turn_room f s t effects good given, is.most, ap length (shown_waiters (grants effects) t u is));
       told = λ n may.
           ap (λ (x : Sent). and_then (settled n exports) x) (sym shown)
@@ -155,4 +155,9 @@ ended_state exports before first sent f s t outs r settling gives e same n may =
 
 pub ended_settled : (f : FrontState) (s t : CoreState) (r : Option (List Effect)) → Gives f s t r → r ≡ None → t ≡ s → IsSettled t
 ended_settled f s t r gives e same =
-    subst (λ (x : CoreState). IsSettled x) (sym same) ((settled_is t.made (rooms f.hosts) s).0 (gives_none f s t r gives e t.made (may_be_made t)))
+    subst (λ (x : CoreState). IsSettled x) (sym same) (none_settled t.made (rooms f.hosts) s (gives_none f s t r gives e t.made (may_be_made t)))
+
+pub ended_leaves : (exports : Exports) (before : FrontState) (first : CoreState) (sent : List Out) (f : FrontState) (s t : CoreState) (outs : List Out) → IsSettling exports before first sent f s outs → IsGood s → t ≡ s → IsReadyFor (length first.waiters) first → LeavesBy 0 first t
+ended_leaves exports before first sent f s t outs settling good same ready =
+    subst (λ (x : CoreState). LeavesBy 0 first x) (sym same)
+    (record { on = settling.on; good = good; short = subst (λ (names : List Name). AreShort names) (sym settling.names) ready.short; counter = omega (arith, settling.counter) })

@@ -1,22 +1,26 @@
 -- Telling of effects gives out numbers, and changes nothing else of the core, and no host.
-use Rattle.std.proofs.Common.{◌≡◌, ℕ, ◌+◌, ◌≤◌, Bool, true, false, if◌then◌else◌, inl, inr, Option, Some, None, List, [], ◌∷◌, ◌++◌, length, map, refl, sym, ap, subst, ◌∙◌, arith}
+use Rattle.std.proofs.Common.{◌≡◌, ℕ, ◌+◌, ◌<◌, ◌≤◌, Bool, true, false, if◌then◌else◌, inl, inr, Option, Some, None, List, [], ◌∷◌, ◌++◌, length, map, refl, sym, ap, subst, ◌∙◌, arith, append_assoc, drop}
+use Rattle.std.proofs.Math.ListN.{get_or}
+use Rattle.std.proofs.lemmas.List.{drop_more}
 use Rattle.std.proofs.lemmas.Bool.{cases_Bool}
 use Rattle.xl_base.specs.declared.event.Kind.TheVariants.{Rpc}
 use Rattle.xl_base.specs.declared.event.Out.{Out}
 use Rattle.xl_base.specs.declared.journal.Exports.{Exports}
 use Rattle.xl_matrix.specs.declared.claim.Claim.{Claim}
-use Rattle.xl_core.specs.State.{CoreState, with_parts, drawn}
+use Rattle.xl_core.specs.State.{CoreState, drawn}
 use Rattle.xl_core.specs.Good.{IsGood, IsSettled}
 use Rattle.xl_core.specs.declared.ask.Answer.{Answer}
 use Rattle.xl_core.specs.declared.ask.Answer.TheVariants as answers
 use Rattle.xl_core.specs.declared.ask.Effect.{Effect}
 use Rattle.xl_core.specs.declared.ask.Effect.TheVariants.{Begun, Served, Cancelled, Expired}
 use Rattle.xl_core.proofs.GoodLaws.{drawn_good}
-use Rattle.xl_front_nlm.specs.Grants.{grant_of, address_of, told_to, told_of, told_grant, shown}
+use Rattle.xl_front_nlm.specs.Grants.{news, told_by, shown}
 use Rattle.xl_front_nlm.specs.State.{FrontState}
 use Rattle.xl_front_nlm.specs.declared.grant.Grant.{Grant}
-use Rattle.xl_house.specs.Machine.{Sent, is_grant, grants, behind, all_shown}
-use Rattle.xl_house.specs.Shown.{IsShown}
+use Rattle.xl_house.specs.Machine.{Sent, is_grant, grants, behind, and_then, in_frames, framed, all_shown}
+use Rattle.xl_names.specs.declared.name.Name.{Name}
+use Rattle.xl_front_nlm.specs.Short.{AreShort}
+use Rattle.xl_house.specs.Shown.{IsShown, IsReadyFor, LeavesBy}
 
 -- ---- one after another
 
@@ -27,7 +31,7 @@ pub shown_on : (p q : ℕ) (s t u : CoreState) → IsShown p s t → IsShown q t
 shown_on p q s t u first next = record {
   rises = omega (arith, first.rises, next.rises);
   most = omega (arith, first.most, next.most);
-  parts = next.parts ∙ ap (λ (x : CoreState). with_parts x x.claims x.waiters x.names u.counter) first.parts;
+  parts = next.parts ∙ ap (λ (x : CoreState). record x { counter = u.counter }) first.parts;
 }
 
 pub shown_less : (p q : ℕ) (s t : CoreState) → p ≤ q → IsShown p s t → IsShown q s t
@@ -39,65 +43,42 @@ shown_less p q s t h is = record { rises = is.rises; most = omega (arith, h, is.
 abbrev Holds : (FrontState → CoreState → Type 0) → FrontState → CoreState → Type 0
 Holds P f s = P f s × ((g : FrontState) → g.hosts ≡ f.hosts → P g (drawn s))
 
-told_to_holds : (P : FrontState → CoreState → Type 0) (f : FrontState) (s : CoreState) (claim : Claim) (g : Grant) (o : Option (List ℕ)) → Holds P f s → (let r = told_to f s claim g o in P r.1 r.2)
-told_to_holds P f s claim g None holds = holds.0
-told_to_holds P f s claim g (Some to) holds = holds.1 _ refl
-
-told_of_holds : (P : FrontState → CoreState → Type 0) (exports : Exports) (f : FrontState) (s : CoreState) (claim : Claim) (o : Option Grant) → Holds P f s → (let r = told_of exports f s claim o in P r.1 r.2)
-told_of_holds P exports f s claim None holds = holds.0
-told_of_holds P exports f s claim (Some g) holds = told_to_holds P f s claim g (address_of exports.addresses g.caller) holds
-
-grant_holds : (P : FrontState → CoreState → Type 0) (exports : Exports) (f : FrontState) (s : CoreState) (claim : Claim) → Holds P f s → (let r = told_grant exports f s claim in P r.1 r.2)
-unfolding told_grant
-grant_holds P exports f s claim holds = told_of_holds P exports f s claim (grant_of s.names claim) holds
-
-served_holds : (P : FrontState → CoreState → Type 0) (exports : Exports) (f : FrontState) (s : CoreState) (id : ℕ) (answer : Answer) → Holds P f s → (let r = shown exports f s (Served id answer) in P r.1 r.2)
-served_holds P exports f s id (answers.Granted claim) holds = grant_holds P exports f s claim holds
-served_holds P exports f s id (answers.Conflict c) holds = holds.0
-served_holds P exports f s id (answers.Queued number) holds = holds.0
-served_holds P exports f s id (answers.Recall c) holds = holds.0
-served_holds P exports f s id (answers.Grace until) holds = holds.0
-served_holds P exports f s id (answers.NoGrace clock) holds = holds.0
-served_holds P exports f s id answers.NotRecorded holds = holds.0
-served_holds P exports f s id (answers.Full limit) holds = holds.0
-served_holds P exports f s id answers.NotHeld holds = holds.0
-served_holds P exports f s id answers.StoreFailed holds = holds.0
+by_news : (P : FrontState → CoreState → Type 0) (f : FrontState) (s : CoreState) (o : Option (Claim × Grant × List ℕ)) → Holds P f s → (let r = told_by f s o in P r.1 r.2)
+by_news P f s None holds = holds.0
+by_news P f s (Some told) holds = holds.1 _ refl
 
 shown_holds : (P : FrontState → CoreState → Type 0) (exports : Exports) (f : FrontState) (s : CoreState) (effect : Effect) → Holds P f s → (let r = shown exports f s effect in P r.1 r.2)
-shown_holds P exports f s (Served id answer) holds = served_holds P exports f s id answer holds
-shown_holds P exports f s (Begun c to number) holds = holds.0
-shown_holds P exports f s (Cancelled id) holds = holds.0
-shown_holds P exports f s (Expired id) holds = holds.0
+unfolding shown
+shown_holds P exports f s effect holds = by_news P f s (news exports s effect) holds
 
 -- an effect that tells of no grant shows nothing
-quiet_served : (exports : Exports) (f : FrontState) (s : CoreState) (id : ℕ) (answer : Answer) → is_grant (Served id answer) ≡ false → shown exports f s (Served id answer) ≡ ([], f, s)
-quiet_served exports f s id (answers.Granted claim) h = absurd cc
-quiet_served exports f s id (answers.Conflict c) h = refl
-quiet_served exports f s id (answers.Queued number) h = refl
-quiet_served exports f s id (answers.Recall c) h = refl
-quiet_served exports f s id (answers.Grace until) h = refl
-quiet_served exports f s id (answers.NoGrace clock) h = refl
-quiet_served exports f s id answers.NotRecorded h = refl
-quiet_served exports f s id (answers.Full limit) h = refl
-quiet_served exports f s id answers.NotHeld h = refl
-quiet_served exports f s id answers.StoreFailed h = refl
+no_news : (exports : Exports) (s : CoreState) (effect : Effect) → is_grant effect ≡ false → news exports s effect ≡ None
+no_news exports s (Served id (answers.Granted claim)) h = absurd cc
+no_news exports s (Served id (answers.Conflict c)) h = refl
+no_news exports s (Served id (answers.Queued number)) h = refl
+no_news exports s (Served id (answers.Recall c)) h = refl
+no_news exports s (Served id (answers.Grace until)) h = refl
+no_news exports s (Served id (answers.NoGrace clock)) h = refl
+no_news exports s (Served id answers.NotRecorded) h = refl
+no_news exports s (Served id (answers.Full limit)) h = refl
+no_news exports s (Served id answers.NotHeld) h = refl
+no_news exports s (Served id answers.StoreFailed) h = refl
+no_news exports s (Begun c to number) h = refl
+no_news exports s (Cancelled id) h = refl
+no_news exports s (Expired id) h = refl
 
-pub quiet_shown : (exports : Exports) (f : FrontState) (s : CoreState) (effect : Effect) → is_grant effect ≡ false → shown exports f s effect ≡ ([], f, s)
-quiet_shown exports f s (Served id answer) h = quiet_served exports f s id answer h
-quiet_shown exports f s (Begun c to number) h = refl
-quiet_shown exports f s (Cancelled id) h = refl
-quiet_shown exports f s (Expired id) h = refl
+quiet_shown : (exports : Exports) (f : FrontState) (s : CoreState) (effect : Effect) → is_grant effect ≡ false → shown exports f s effect ≡ ([], f, s)
+unfolding shown
+quiet_shown exports f s effect h = ap (λ (o : Option (Claim × Grant × List ℕ)). told_by f s o) (no_news exports s effect h)
 
 drawn_shown : (s : CoreState) → IsShown 1 s (drawn s)
 unfolding drawn
 drawn_shown s = record { rises = omega arith; most = omega arith; parts = refl }
 
-shown_one : (exports : Exports) (f : FrontState) (s : CoreState) (effect : Effect) → (let r = shown exports f s effect in IsShown 1 s r.2 × (r.1.hosts ≡ f.hosts))
-shown_one exports f s effect =
-    shown_holds (λ g t. IsShown 1 s t × (g.hosts ≡ f.hosts)) exports f s effect
-    ((shown_less 0 1 s s (omega arith) (shown_self s), refl), λ g same. (drawn_shown s, same))
+shown_one : (exports : Exports) (f : FrontState) (s : CoreState) (effect : Effect) → IsShown 1 s (shown exports f s effect).2
+shown_one exports f s effect = shown_holds (λ g t. IsShown 1 s t) exports f s effect (shown_less 0 1 s s (omega arith) (shown_self s), λ g same. drawn_shown s)
 
-pub shown_good : (exports : Exports) (f : FrontState) (s : CoreState) (effect : Effect) → IsGood s → IsGood (shown exports f s effect).2
+shown_good : (exports : Exports) (f : FrontState) (s : CoreState) (effect : Effect) → IsGood s → IsGood (shown exports f s effect).2
 shown_good exports f s effect good = shown_holds (λ g t. IsGood t) exports f s effect (good, λ g same. drawn_good s good)
 
 -- ---- effects in order
@@ -112,7 +93,7 @@ one_more false n = omega arith
 shown_most : (exports : Exports) (f : FrontState) (s : CoreState) (effect : Effect) → IsShown (number_of (is_grant effect)) s (shown exports f s effect).2
 shown_most exports f s effect =
     elim (cases_Bool (is_grant effect)) [
-      | inl grant ↦ rw grant (shown_one exports f s effect).0
+      | inl grant ↦ rw grant (shown_one exports f s effect)
       | inr quiet ↦ rw (quiet, quiet_shown exports f s effect quiet) (shown_self s)
     ]
 
@@ -123,33 +104,45 @@ all_shown_is exports f s (effect ∷ effects) =
     subst (λ (n : ℕ). IsShown n s (all_shown exports r.1 r.2 effects).2) (sym (one_more (is_grant effect) (grants effects)))
     (shown_on (number_of (is_grant effect)) (grants effects) s r.2 (all_shown exports r.1 r.2 effects).2 (shown_most exports f s effect) (all_shown_is exports r.1 r.2 effects))
 
--- no host comes or goes
-pub all_shown_hosts : (exports : Exports) (f : FrontState) (s : CoreState) (effects : List Effect) → (all_shown exports f s effects).1.hosts ≡ f.hosts
-all_shown_hosts exports f s [] = refl
-all_shown_hosts exports f s (effect ∷ effects) = let r = shown exports f s effect in all_shown_hosts exports r.1 r.2 effects ∙ (shown_one exports f s effect).1
-
 pub all_shown_good : (exports : Exports) (f : FrontState) (s : CoreState) (effects : List Effect) → IsGood s → IsGood (all_shown exports f s effects).2
 all_shown_good exports f s [] good = good
 all_shown_good exports f s (effect ∷ effects) good = let r = shown exports f s effect in all_shown_good exports r.1 r.2 effects (shown_good exports f s effect good)
-
--- where none tells of a grant nothing is sent, and nothing changes
-pub all_quiet : (exports : Exports) (f : FrontState) (s : CoreState) (effects : List Effect) → grants effects ≡ 0 → all_shown exports f s effects ≡ ([], f, s)
-all_quiet exports f s [] none = refl
-all_quiet exports f s (effect ∷ effects) none =
-    elim (cases_Bool (is_grant effect)) [
-      | inl grant ↦ absurd (omega (arith, rw grant at none))
-      | inr quiet ↦ rw (quiet_shown exports f s effect quiet) (ap (λ (r : Sent). behind [] r) (all_quiet exports f s effects (rw quiet at none)))
-    ]
 
 -- ---- as the code tells it
 
 pub all_is_shown : (exports : Exports) (f g : FrontState) (s t : CoreState) (effects : List Effect) (old outs : List Out) → behind old (all_shown exports f s effects) ≡ (outs, g, t) → IsShown (grants effects) s t
 all_is_shown exports f g s t effects old outs e = subst (λ (x : CoreState). IsShown (grants effects) s x) (ap (λ (r : Sent). r.2) e) (all_shown_is exports f s effects)
 
--- ---- what stands still
+pub all_leaves : (exports : Exports) (f g : FrontState) (s t : CoreState) (effects : List Effect) (old outs : List Out) → behind old (all_shown exports f s effects) ≡ (outs, g, t) → IsReadyFor (grants effects) s → LeavesBy (grants effects) s t
+all_leaves exports f g s t effects old outs e ready =
+    let is = all_is_shown exports f g s t effects old outs e in
+    record {
+      on = record {
+        made = omega (arith, ap (λ (x : CoreState). x.made) is.parts);
+        failed = λ h. (ap (λ (x : CoreState). x.failed) is.parts ∙ h, ap (λ (x : CoreState). x.made) is.parts);
+      };
+      good = subst (λ (x : CoreState). IsGood x) (ap (λ (r : Sent). r.2) e) (all_shown_good exports f s effects ready.good);
+      short = subst (λ (names : List Name). AreShort names) (sym (ap (λ (x : CoreState). x.names) is.parts)) ready.short;
+      counter = omega (arith, is.most, ap (λ (x : CoreState). length x.waiters) is.parts);
+    }
 
-pub shown_claims : (most : ℕ) (s t : CoreState) → IsShown most s t → t.claims ≡ s.claims
-shown_claims most s t is = ap (λ (x : CoreState). x.claims) is.parts
+-- one more effect of those that are left
+pub show_next : (exports : Exports) (f g : FrontState) (s t : CoreState) (effects : List Effect) (i : ℕ) (effect : Effect) (sent outs new : List Out) → i < length effects → effect ≡ get_or effects i effect → shown exports f s effect ≡ (sent, g, t) → new ≡ outs ++ map (framed Rpc) sent
+    → (behind new (all_shown exports g t (drop (i + 1) effects)) ≡ behind outs (all_shown exports f s (drop i effects))) × (t.counter + grants (drop (i + 1) effects) ≤ s.counter + grants (drop i effects))
+show_next exports f g s t effects i effect sent outs new there at is joined =
+    let rest = drop (i + 1) effects in
+    let all : drop i effects ≡ effect ∷ rest = drop_more effects i effect there ∙ ap (λ (x : Effect). x ∷ rest) (sym at) in
+    let more = all_shown exports g t rest in
+    let counted : grants (effect ∷ rest) ≡ number_of (is_grant effect) + grants rest = one_more (is_grant effect) (grants rest) in
+    let most = (subst (λ (x : CoreState). IsShown (number_of (is_grant effect)) s x) (ap (λ (r : Sent). r.2) is) (shown_most exports f s effect)).most in (
+      (λ j. (joined j ++ more.0, more.1, more.2))
+      ∙ (λ j. (append_assoc outs (map (framed Rpc) sent) more.0 j, more.1, more.2))
+      ∙ ap (λ (r : Sent). behind outs (and_then (λ h u. all_shown exports h u rest) (in_frames r))) (sym is)
+      ∙ ap (λ (x : List Effect). behind outs (all_shown exports f s x)) (sym all),
+      omega (arith, most, counted, ap (λ (x : List Effect). grants x) all),
+    )
+
+-- ---- what stands still
 
 pub shown_waiters : (most : ℕ) (s t : CoreState) → IsShown most s t → t.waiters ≡ s.waiters
 shown_waiters most s t is = ap (λ (x : CoreState). x.waiters) is.parts

@@ -44,11 +44,11 @@ is_restart _ = false
 
 -- the connections that are open after the event at this place, of those that were: an opening where 64 are open opens
 -- none, and a restart ends all
-abbrev pub open_after : List ℕ → ℕ → Event → List ℕ
-open_after open place (Open kind) = if nat_lt (length open) most_connections then open ++ place ∷ [] else open
-open_after open place (End number) = filter (λ c. not (c == number)) open
-open_after open place Restart = []
-open_after open place _ = open
+abbrev pub opened_after : List ℕ → ℕ → Event → List ℕ
+opened_after opened place (Open kind) = if nat_lt (length opened) most_connections then opened ++ place ∷ [] else opened
+opened_after opened place (End number) = filter (λ c. not (c == number)) opened
+opened_after opened place Restart = []
+opened_after opened place _ = opened
 
 -- an out to a connection goes to one that is open before the entry and after it
 abbrev pub IsTimely : List ℕ → List ℕ → Dest → Type 0
@@ -57,5 +57,5 @@ IsTimely before after (Back call) = Unit {0}
 
 -- no out to a connection stands before its opening or after its end
 abbrev pub IsOrderly : List ℕ → ℕ → List Entry → Type 0
-IsOrderly open place [] = Unit {0}
-IsOrderly open place (e ∷ es) = AllByRecursion (λ o. IsTimely open (open_after open place e.event) o.dest) e.outs × IsOrderly (open_after open place e.event) (place + 1) es
+IsOrderly opened place [] = Unit {0}
+IsOrderly opened place (e ∷ es) = AllByRecursion (λ o. IsTimely opened (opened_after opened place e.event) o.dest) e.outs × IsOrderly (opened_after opened place e.event) (place + 1) es

@@ -5,11 +5,12 @@ ghost use Rattle.xl_front_nlm.specs.Short.{AreShort};
 ghost use Rattle.xl_house.specs.Free.{IsFree, AlwaysFree};
 ghost use Rattle.xl_house.specs.Housed.{Housed, is_spoiled, Holds, Stands};
 ghost use Rattle.xl_house.specs.Journals.{replay, IsLegal, IsOrderly, entry, is_restart};
-ghost use Rattle.xl_house.specs.Lawful.{AlwaysLawful, AlwaysComplete};
+ghost use Rattle.xl_house.specs.Lawful.{Always, IsLawful, IsWaiting, IsComplete, IsCaused, IsTold};
 ghost use Rattle.xl_house.specs.Machine.{begin, step};
 ghost use Rattle.xl_house.specs.Whole.{whole_of};
 
 use crate::machine::{Machine, act};
+use crate::parts::Parts;
 use std::alloc::{AllocError, Global};
 use std::marker::Model;
 use xl_base::{Entry, Event, Exports, Halt, Head, Journal, Keeper, Record, Sequence};
@@ -45,7 +46,7 @@ impl<K: Keeper> Model for House<K> {
 
     ghost invariant = { λ h. record {
       stands : is_spoiled h.halt ≡ false → Stands (begin h.head) h.entries (whole_of h.head.exports h.machine);
-      holds : is_spoiled h.halt ≡ false → Holds (K.held h.keeper) h.machine.core.stable;
+      holds : is_spoiled h.halt ≡ false → Holds (K.held h.keeper) h.machine.parts.core.stable;
       few : length h.entries ≤ 1048576;
       legal : IsLegal (begin h.head) h.entries;
     } };
@@ -63,13 +64,13 @@ fn act_and_enter<K: Keeper>(
     requires place { machine.old.place ≡ length entries.old }
     requires few { length entries.old ≤ 1048576 }
     requires free { IsFree (whole_of exports.now machine.old) }
-    requires counter { machine.old.core.counter + length machine.old.core.waiters ≤ length entries.old + length entries.old }
-    requires short { AreShort machine.old.core.names }
+    requires counter { machine.old.parts.core.counter + length machine.old.parts.core.waiters ≤ length entries.old + length entries.old }
+    requires short { AreShort machine.old.parts.core.names }
     requires goes_on { is_restart event ≡ false }
     ensures place { IfOk result (λ place. place ≡ length entries.old) }
     ensures few { length entries.new ≤ 1048576 }
-    ensures short { OnOk result (AreShort machine.new.core.names) }
-    ensures counter { OnOk result (machine.new.core.counter + length machine.new.core.waiters ≤ machine.old.core.counter + length machine.old.core.waiters + 2) }
+    ensures short { OnOk result (AreShort machine.new.parts.core.names) }
+    ensures counter { OnOk result (machine.new.parts.core.counter + length machine.new.parts.core.waiters ≤ machine.old.parts.core.counter + length machine.old.parts.core.waiters + 2) }
     ensures entered { OnOk result (entries.new ≡ entries.old ++ entry 0 (whole_of exports.now machine.old) event ∷ []) }
     ensures next { OnOk result (whole_of exports.now machine.new ≡ (step 0 (whole_of exports.now machine.old) event).next) }
     ensures err { OnErr result (entries.new ≡ entries.old) }
@@ -110,8 +111,10 @@ impl<K: Keeper> House<K> {
             machine: Machine {
                 place: 0,
                 connections: Vec::new(alloc),
-                front: Front::new(alloc),
-                core,
+                parts: Parts {
+                    front: Front::new(alloc),
+                    core,
+                },
             },
             keeper,
             halt: None,
@@ -179,7 +182,7 @@ impl<K: Keeper> House<K> {
         requires { is_spoiled self.now.halt ≡ false }
         ensures { IfOk result (λ v. v.items ≡ (replay (begin self.now.head) self.now.entries).core.claims) }
     {
-        Vec::from_slice(alloc, self.machine.core.table().claims())
+        Vec::from_slice(alloc, self.machine.parts.core.table().claims())
     }
 
     /// The names that are kept. A house that found no memory has none to tell.
@@ -187,23 +190,27 @@ impl<K: Keeper> House<K> {
         requires { is_spoiled self.now.halt ≡ false }
         ensures { result.now ≡ (replay (begin self.now.head) self.now.entries).core.names }
     {
-        self.machine.core.names()
+        self.machine.parts.core.names()
     }
 
     /// The journal, and the keeper. The journal is legal: each entry has the stores and the outs that the machine's step
-    /// gives at its place. At each free moment any two claims may be held together, and nobody is forgotten. Each byte
-    /// that an owner lost or gained has its cause in the entry, and a lock that nothing stands against was granted. No
-    /// out to a connection stands before its opening or after its end. It has at most 1,048,576 entries. The keeper holds
-    /// the machine's record.
-    #[tactic(auto, using(crate::proofs::OrderLaws::legal_orderly, crate::proofs::MachineLaws::begun_free, crate::proofs::LawfulLaws::lawful_always, crate::proofs::CompleteLaws::complete_always))]
+    /// gives at its place. At each free moment any two claims may be held together, and nobody is forgotten. In each
+    /// entry what is held at each place is what the entry's deeds made of it, who waits is who waited but for those whom
+    /// they queued, took out, ended or served, what nothing stands against was granted, the deeds are those that its event
+    /// may cause, and what is sent is what the fronts say of the answers. No out to a connection stands before its opening
+    /// or after its end. It has at most 1,048,576 entries. The keeper holds the machine's record.
+    #[tactic(auto, using(crate::proofs::OrderLaws::legal_orderly, crate::proofs::MachineLaws::begun_free, crate::proofs::LawfulLaws::always_lawful, crate::proofs::LawfulLaws::always_waiting, crate::proofs::LawfulLaws::always_complete, crate::proofs::LawfulLaws::always_caused, crate::proofs::LawfulLaws::always_told))]
     pub fn end(self) -> (Journal, K)
         ensures journal { (result.0.head ≡ self.head) × (result.0.entries ≡ self.entries) }
         ensures keeper { result.1 ≡ self.keeper }
         ensures legal { IsLegal (begin result.0.head) result.0.entries }
         ensures free { AlwaysFree (begin result.0.head) result.0.entries }
-        ensures lawful { AlwaysLawful (begin result.0.head) result.0.entries }
-        ensures complete { AlwaysComplete (begin result.0.head) result.0.entries }
-        ensures orderly { IsOrderly [] [] 0 result.0.entries }
+        ensures lawful { Always IsLawful (begin result.0.head) result.0.entries }
+        ensures waiting { Always IsWaiting (begin result.0.head) result.0.entries }
+        ensures complete { Always IsComplete (begin result.0.head) result.0.entries }
+        ensures caused { Always IsCaused (begin result.0.head) result.0.entries }
+        ensures told { Always IsTold (begin result.0.head) result.0.entries }
+        ensures orderly { IsOrderly [] 0 result.0.entries }
         ensures most { length result.0.entries ≤ 1048576 }
         ensures holds { is_spoiled self.halt ≡ false → Holds (K.held result.1) (replay (begin result.0.head) result.0.entries).core.stable }
     {

@@ -3,8 +3,10 @@
 
 mod connections;
 mod house;
+pub mod law;
 mod machine;
 mod outs;
+mod parts;
 mod settling;
 mod start;
 

@@ -1,16 +1,16 @@
 //! What is sent, in its frames.
-ghost use Rattle.std.specs.Prelude.{◌≡◌, ◌+◌, ◌<◌, ◌≤◌, ◌++◌, ◌^◌, map, OnOk, IfOk};
+ghost use Rattle.std.specs.Prelude.{◌≡◌, ◌++◌, map, OnOk, IfOk};
 ghost use Rattle.std.specs.List.{AllByRecursion};
-ghost use Rattle.xl_core.specs.Good.{IsGood};
-ghost use Rattle.xl_front_nlm.specs.Short.{AreShort, FitsFrame};
+ghost use Rattle.xl_front_nlm.specs.Short.{FitsFrame};
 ghost use Rattle.xl_house.specs.Machine.{framed, grants, behind, all_shown};
-ghost use Rattle.xl_house.specs.Shown.{IsShown};
+ghost use Rattle.xl_house.specs.Shown.{IsReadyFor, LeavesBy};
 
+use crate::parts::Parts;
 use std::alloc::{AllocError, Global};
 use xl_base::{Dest, Exports, Kind, Out, Sequence};
-use xl_core::{Core, Effect};
+use xl_core::Effect;
 use xl_frame::wrap;
-use xl_front_nlm::{Front, shown};
+use xl_front_nlm::shown;
 
 /// An out in its frame, where it goes to a connection of this kind; a call has none.
 fn framed(alloc: Global, kind: Kind, out: Out) -> Result<Out, AllocError>
@@ -45,41 +45,33 @@ pub(crate) fn send_all(
 fn show_each(
     alloc: Global,
     exports: &Exports,
-    front: &mut Front,
-    core: &mut Core,
+    parts: &mut Parts,
     effects: &[Effect],
     outs: &mut Sequence<Out>,
 ) -> Result<(), AllocError>
-    requires good { IsGood core.old }
-    requires numbers { core.old.counter + grants effects.now + 65536 < 2 ^ 32 }
-    requires short { AreShort core.old.names }
-    ensures sent { OnOk result (behind outs.old (all_shown exports.now front.old core.old effects.now) ≡ (outs.new, front.new, core.new)) }
-    ensures good { OnOk result (IsGood core.new) }
+    requires ready { IsReadyFor (grants effects.now) parts.old.core }
+    ensures { OnOk result (behind outs.old (all_shown exports.now parts.old.front parts.old.core effects.now) ≡ (outs.new, parts.new.front, parts.new.core)) }
 {
     for effect in effects {
-        let sent = shown(alloc, exports, front, core, effect)?;
+        let sent = shown(alloc, exports, &mut parts.front, &mut parts.core, effect)?;
         send_all(alloc, Kind::Rpc, sent, outs)?;
     }
     Ok(())
 }
 
 /// Adds what the NLM front sends for these effects, in order. Numbers are given out to what tells of a grant.
-#[tactic(auto, using(crate::proofs::ShownLaws::all_is_shown))]
+#[tactic(auto, using(crate::proofs::ShownLaws::all_leaves))]
 pub(crate) fn show_all(
     alloc: Global,
     exports: &Exports,
-    front: &mut Front,
-    core: &mut Core,
+    parts: &mut Parts,
     effects: &[Effect],
     outs: &mut Sequence<Out>,
 ) -> Result<(), AllocError>
-    requires good { IsGood core.old }
-    requires numbers { core.old.counter + grants effects.now + 65536 < 2 ^ 32 }
-    requires short { AreShort core.old.names }
-    ensures sent { OnOk result (behind outs.old (all_shown exports.now front.old core.old effects.now) ≡ (outs.new, front.new, core.new)) }
-    ensures good { OnOk result (IsGood core.new) }
-    ensures same { OnOk result (IsShown (grants effects.now) core.old core.new) }
+    requires ready { IsReadyFor (grants effects.now) parts.old.core }
+    ensures sent { OnOk result (behind outs.old (all_shown exports.now parts.old.front parts.old.core effects.now) ≡ (outs.new, parts.new.front, parts.new.core)) }
+    ensures leaves { OnOk result (LeavesBy (grants effects.now) parts.old.core parts.new.core) }
 {
-    show_each(alloc, exports, front, core, effects, outs)?;
+    show_each(alloc, exports, parts, effects, outs)?;
     Ok(())
 }

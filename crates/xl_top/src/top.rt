@@ -3,7 +3,7 @@ ghost use Rattle.std.specs.Prelude.{◌≡◌, ◌≢◌, ℕ, ◌+◌, ◌<◌,
 ghost use Rattle.std.specs.Result.{result_ok};
 ghost use Rattle.xl_base.specs.Outside.{Rose, Took, Ended, Added, Began};
 ghost use Rattle.xl_capture.specs.Capture.{captured, most_bytes};
-ghost use Rattle.xl_house.specs.Lawful.{AlwaysLawful, AlwaysComplete};
+ghost use Rattle.xl_house.specs.Lawful.{Always, IsLawful, IsWaiting, IsComplete, IsCaused, IsTold};
 ghost use Rattle.xl_house.specs.Free.{AlwaysFree};
 ghost use Rattle.xl_house.specs.Housed.{Housed, is_spoiled};
 ghost use Rattle.xl_house.specs.Journals.{replay, IsLegal, IsOrderly, entries_of, most_entries};
@@ -239,7 +239,7 @@ fn replay<O: Sink>(alloc: Global, capture: Capture, out: &mut O) -> Done
     ensures began { Began (O.held out.old) (whole_transcript result.journal) (O.held out.new) }
     ensures failed { result.status ≡ 3 → Rose (O.faults out.old) (O.faults out.new) }
     ensures legal { IsLegal (begin result.journal.head) result.journal.entries }
-    ensures orderly { IsOrderly [] [] 0 result.journal.entries }
+    ensures orderly { IsOrderly [] 0 result.journal.entries }
     ensures most { length result.journal.entries ≤ most_entries }
 {
     let Some((house, ended)) = step_capture(alloc, capture) else {
@@ -281,7 +281,7 @@ fn replay_text<O: Sink>(alloc: Global, text: &[u8], out: &mut O) -> Done
     ensures failed { result.status ≡ 3 → Rose (O.faults out.old) (O.faults out.new) }
     ensures idle { result.status ≡ 4 → (result.journal ≡ no_journal) × (O.held out.new ≡ O.held out.old) × (O.faults out.new ≡ O.faults out.old) }
     ensures legal { IsLegal (begin result.journal.head) result.journal.entries }
-    ensures orderly { IsOrderly [] [] 0 result.journal.entries }
+    ensures orderly { IsOrderly [] 0 result.journal.entries }
     ensures most { length result.journal.entries ≤ most_entries }
 {
     match read_capture(alloc, text) {
@@ -308,7 +308,7 @@ fn replay_input<I: Source, O: Sink>(alloc: Global, input: &mut I, out: &mut O) -
     ensures began { Began (O.held out.old) (whole_transcript result.journal) (O.held out.new) }
     ensures idle { is_idle result.status ≡ true → (result.journal ≡ no_journal) × (O.held out.new ≡ O.held out.old) × (O.faults out.new ≡ O.faults out.old) }
     ensures legal { IsLegal (begin result.journal.head) result.journal.entries }
-    ensures orderly { IsOrderly [] [] 0 result.journal.entries }
+    ensures orderly { IsOrderly [] 0 result.journal.entries }
     ensures most { length result.journal.entries ≤ most_entries }
 {
     let text = match read_all(alloc, input) {
@@ -365,7 +365,7 @@ fn show_input<I: Source, O: Sink>(alloc: Global, input: &mut I, out: &mut O) -> 
 }
 
 /// Does what the words ask for, from the input to the output.
-#[tactic(auto, using(xl_house::proofs::MachineLaws::begun_free, xl_house::proofs::LawfulLaws::lawful_always, xl_house::proofs::CompleteLaws::complete_always))]
+#[tactic(auto, using(xl_house::proofs::MachineLaws::begun_free, xl_house::proofs::LawfulLaws::always_lawful, xl_house::proofs::LawfulLaws::always_waiting, xl_house::proofs::LawfulLaws::always_complete, xl_house::proofs::LawfulLaws::always_caused, xl_house::proofs::LawfulLaws::always_told))]
 pub fn run<I: Source, O: Sink>(alloc: Global, words: &[String], input: &mut I, out: &mut O) -> Done
     ensures known { is_status result.status ≡ true }
 
@@ -396,7 +396,7 @@ pub fn run<I: Source, O: Sink>(alloc: Global, words: &[String], input: &mut I, o
 
     // The journal is the machine's, and nothing is sent to a connection before its opening or after its end.
     ensures legal { IsLegal (begin result.journal.head) result.journal.entries }
-    ensures orderly { IsOrderly [] [] 0 result.journal.entries }
+    ensures orderly { IsOrderly [] 0 result.journal.entries }
     ensures most { length result.journal.entries ≤ most_entries }
 
     // At every free moment the claims are pairwise compatible, each owner's ranges are sorted maximal runs, and nobody
@@ -405,8 +405,11 @@ pub fn run<I: Source, O: Sink>(alloc: Global, words: &[String], input: &mut I, o
 
     // Each byte of each owner stands as it stood before an entry, but for what its owner did in it, or was granted after
     // a wait. A lock that nothing stands against is granted; one that is blocked is denied, or waits.
-    ensures lawful { AlwaysLawful (begin result.journal.head) result.journal.entries }
-    ensures complete { AlwaysComplete (begin result.journal.head) result.journal.entries }
+    ensures lawful { Always IsLawful (begin result.journal.head) result.journal.entries }
+    ensures waiting { Always IsWaiting (begin result.journal.head) result.journal.entries }
+    ensures complete { Always IsComplete (begin result.journal.head) result.journal.entries }
+    ensures caused { Always IsCaused (begin result.journal.head) result.journal.entries }
+    ensures told { Always IsTold (begin result.journal.head) result.journal.entries }
 {
     match parse(alloc, words) {
         Ok(Job::Replay) => replay_input(alloc, input, out),

@@ -1,19 +1,18 @@
-use Rattle.std.proofs.Common.{◌≡◌, arith, ap, ◌∙◌, length, option_map, List}
+use Rattle.std.proofs.Common.{◌≡◌, List, ap, ◌∙◌, option_map}
 use Rattle.xl_core.specs.declared.ask.Effect.{Effect}
+use Rattle.xl_house.proofs.HearLaws.{tell_ready, tell_leaves}
+use Rattle.xl_house.proofs.QuietLaws.{answer_quiet}
 use Rattle.xl_house.specs.Machine.{grants}
-use Rattle.xl_house.proofs.FrontLaws.{called_quiet}
-use Rattle.xl_house.proofs.ShownLaws.{shown_waiters}
 use Rattle.xl_house.proofs.machine.hear_answer.Goals as goal
 
-pub show_all-requires-clause-numbers : goal.show_all-requires-clause-numbers
-show_all-requires-clause-numbers g c =
-    let quiet = called_quiet c.args.front.now c.nlm_called.new.front c.args.core.now c.nlm_called.new.core c.args.call (option_map (λ bytes. bytes.now) c.bytes_of.result) c.in_ok-effects.effects c.in_ok-effects.ensures.state in
+pub show_all-requires : goal.show_all-requires
+show_all-requires g c =
+    let quiet = answer_quiet c.args.parts.now.front c.nlm_called.new.front c.args.parts.now.core c.nlm_called.new.core c.args.call (option_map (λ bytes. bytes.now) c.bytes_of.result) c.in_ok-effects.effects c.requires.ready.good c.in_ok-effects.ensures.state in
     let none : grants c.as_slice.result.now ≡ 0 = ap (λ (effects : List Effect). grants effects) c.as_slice.ensures ∙ quiet in
-    omega (arith, none, c.in_ok-effects.ensures.still.counter, c.requires.numbers)
+    record { ready = tell_ready _ _ c.as_slice.result.now none c.requires.ready c.in_ok-effects.ensures.leaves }
 
-pub returns-clause-counter : goal.returns-clause-counter
-returns-clause-counter g c =
-    let quiet = called_quiet c.args.front.now c.nlm_called.new.front c.args.core.now c.nlm_called.new.core c.args.call (option_map (λ bytes. bytes.now) c.bytes_of.result) c.in_ok-effects.effects c.in_ok-effects.ensures.state in
+pub returns-clause-leaves : goal.returns-clause-leaves
+returns-clause-leaves g c =
+    let quiet = answer_quiet c.args.parts.now.front c.nlm_called.new.front c.args.parts.now.core c.nlm_called.new.core c.args.call (option_map (λ bytes. bytes.now) c.bytes_of.result) c.in_ok-effects.effects c.requires.ready.good c.in_ok-effects.ensures.state in
     let none : grants c.as_slice.result.now ≡ 0 = ap (λ (effects : List Effect). grants effects) c.as_slice.ensures ∙ quiet in
-    let same = c.in_ok-show_all.ensures.same in
-    omega (arith, none, same.most, ap length (shown_waiters (grants c.as_slice.result.now) c.nlm_called.new.core c.show_all.new.core same), c.in_ok-effects.ensures.still.counter, ap length c.in_ok-effects.ensures.still.waiters)
+    tell_leaves _ _ _ c.as_slice.result.now none c.in_ok-effects.ensures.leaves c.in_ok-show_all.ensures.leaves

@@ -5,5 +5,5 @@ use Rattle.xl_house.specs.Machine.{grants, behind, all_shown}
 use Rattle.xl_house.proofs.outs.show_each.Given as goal
 
 abbrev pub invariant-loop-effect : goal.invariant-loop-effect
-invariant-loop-effect l = (behind l.outs (all_shown l.exports l.front l.core (drop l.effect-index l.effects)) ≡ behind l.fn.outs (all_shown l.exports l.fn.front l.fn.core l.effects))
-    × (IsGood l.core × (AreShort l.core.names × (l.core.counter + grants (drop l.effect-index l.effects) ≤ l.fn.core.counter + grants l.effects)))
+invariant-loop-effect l = (behind l.outs (all_shown l.exports l.parts.front l.parts.core (drop l.effect-index l.effects)) ≡ behind l.fn.outs (all_shown l.exports l.fn.parts.front l.fn.parts.core l.effects))
+    × (IsGood l.parts.core × (AreShort l.parts.core.names × (l.parts.core.counter + grants (drop l.effect-index l.effects) ≤ l.fn.parts.core.counter + grants l.effects)))

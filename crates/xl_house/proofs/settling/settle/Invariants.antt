@@ -4,7 +4,7 @@ use Rattle.xl_house.proofs.SettleLaws.{IsSettling}
 use Rattle.xl_house.proofs.settling.settle.Given as goal
 
 abbrev pub invariant-turns : goal.invariant-turns
-invariant-turns g l = IsSettling l.exports l.fn.front l.fn.core l.fn.outs l.front l.core l.outs × (IsGood l.core × (l.keeper ≡ l.fn.keeper))
+invariant-turns g l = IsSettling l.exports l.fn.parts.front l.fn.parts.core l.fn.outs l.parts.front l.parts.core l.outs × (IsGood l.parts.core × (l.keeper ≡ l.fn.keeper))
 
 abbrev pub decreases-turns : goal.decreases-turns
-decreases-turns g l = length l.core.waiters
+decreases-turns g l = length l.parts.core.waiters

@@ -1,0 +1,74 @@
+-- Machines that keep nothing, or drop who waits, don't do what their deeds say.
+use Rattle.std.proofs.Common.{◌≡◌, ℕ, pos, ◌==◌, ◌&&◌, ◌||◌, Bool, true, false, List, [], ◌∷◌, Option, Some, None, refl, sym, ap, subst, ◌∙◌}
+use Rattle.std.specs.List.{AllByRecursion, list_any}
+use Rattle.std.proofs.lemmas.Bool.{and_right}
+use Rattle.xl_base.specs.Stable.{Stable}
+use Rattle.xl_base.specs.declared.event.Moment.{Moment}
+use Rattle.xl_matrix.specs.declared.claim.Claim.{Claim}
+use Rattle.xl_matrix.specs.declared.claim.Extent.{Extent}
+use Rattle.xl_matrix.specs.declared.claim.Extent.TheVariants.{Bytes}
+use Rattle.xl_matrix.specs.declared.claim.What.{What}
+use Rattle.xl_matrix.specs.declared.claim.What.TheVariants.{Range}
+use Rattle.xl_table.specs.Relock.{granted_claims, relocked_in, fresh, untouched}
+use Rattle.xl_wait.specs.declared.waiter.Rooms.{Rooms}
+use Rattle.xl_wait.specs.declared.waiter.Waiter.{Waiter}
+use Rattle.xl_core.specs.State.{CoreState, started}
+use Rattle.xl_core.specs.Asking.{asker, asked_claim}
+use Rattle.xl_core.specs.Causes.{limits_of_grant}
+use Rattle.xl_core.specs.Deeds.{Deed, Asks, queue_with, queue_after}
+use Rattle.xl_core.specs.Decide.{ask}
+use Rattle.xl_core.specs.Limits.{is_passed, IsRoom}
+use Rattle.xl_core.specs.Places.{Place, ByteOf, held_in, held_at, entered_for, else_was, stands, IsChangedBy}
+use Rattle.xl_core.specs.Smallest.{all_room, smallest_lock}
+use Rattle.xl_core.specs.declared.ask.Act.TheVariants.{Test}
+use Rattle.xl_core.specs.declared.ask.Answer.{Answer}
+use Rattle.xl_core.specs.declared.ask.Answer.TheVariants as answers
+use Rattle.xl_core.specs.declared.ask.Ask.{Ask}
+use Rattle.xl_core.proofs.CauseLaws.{lock_free, test_due}
+
+-- ---- one that keeps nothing
+
+no_limit : (limits : List (ℕ × Bool)) → AllByRecursion (λ limit. limit.1 ≡ false) limits → IsRoom limits
+no_limit [] each = λ n. refl
+no_limit (limit ∷ limits) each = λ n. rw (each.0, and_right (limit.0 == n) false refl) (no_limit limits each.1 n)
+
+abbrev first_claim : Claim
+first_claim = asked_claim smallest_lock (Range (Bytes 0 0) true) []
+
+has_room : (stable : Stable) (clock : Moment) → IsRoom (limits_of_grant all_room (started stable clock) smallest_lock first_claim)
+unfolding granted_claims relocked_in fresh untouched
+has_room stable clock = no_limit (limits_of_grant all_room (started stable clock) smallest_lock first_claim) (refl, refl, refl, refl, refl, tt)
+
+first_granted : (n : ℕ) (stable : Stable) (clock : Moment) → (ask n all_room (started stable clock) smallest_lock).0 ≡ answers.Granted first_claim
+first_granted n stable clock = lock_free n all_room (started stable clock) smallest_lock (Range (Bytes 0 0) true) refl refl refl (has_room stable clock)
+
+abbrev first_place : Place
+first_place = ByteOf 1 (asker smallest_lock []) 0
+
+first_held : (n : ℕ) (stable : Stable) (clock : Moment) → stands n (started stable clock) (Asks all_room smallest_lock ∷ []) first_place [] ≡ Range (Bytes 0 0) true ∷ []
+first_held n stable clock = ap (λ (answer : Answer). else_was (entered_for [] answer first_place) []) (first_granted n stable clock)
+
+pub nothing_kept : (n : ℕ) (stable : Stable) (clock : Moment) (t : CoreState) → t.claims ≡ [] → IsChangedBy n (started stable clock) (Asks all_room smallest_lock ∷ []) t → ⊥
+nothing_kept n stable clock t none changed =
+    let two : held_in [] first_place ≡ Range (Bytes 0 0) true ∷ [] = sym (ap (λ (cs : List Claim). held_in cs first_place) none) ∙ changed first_place ∙ first_held n stable clock in
+    absurd cc
+
+-- ---- one that drops who waits
+
+not_queued : (s : CoreState) (a : Ask) (ws : List Waiter) (answer : Answer) → ((id : ℕ) → answer ≡ answers.Queued id → ⊥) → queue_with s a answer ws ≡ ws
+not_queued s a ws (answers.Queued id) none = absurd (none id refl)
+not_queued s a ws (answers.Granted c) none = refl
+not_queued s a ws (answers.Conflict c) none = refl
+not_queued s a ws (answers.Recall c) none = refl
+not_queued s a ws (answers.Grace until) none = refl
+not_queued s a ws (answers.NoGrace clock) none = refl
+not_queued s a ws answers.NotRecorded none = refl
+not_queued s a ws (answers.Full limit) none = refl
+not_queued s a ws answers.NotHeld none = refl
+not_queued s a ws answers.StoreFailed none = refl
+
+pub waiter_dropped : (n : ℕ) (left : Rooms) (s t : CoreState) (a : Ask) (w : Waiter) (extent : Extent) (exclusive : Bool) → a.act ≡ Test extent exclusive → s.waiters ≡ w ∷ [] → t.waiters ≡ [] → t.waiters ≡ queue_after n s (Asks left a ∷ []) s.waiters → ⊥
+waiter_dropped n left s t a w extent exclusive act one none waiting =
+    let stays = not_queued s a s.waiters (ask n left s a).0 (λ id e. (test_due n left s a extent exclusive (answers.Queued id) act).0 e) in
+    let two : (let empty : List Waiter = [] in empty ≡ w ∷ []) = sym none ∙ waiting ∙ stays ∙ one in
+    absurd cc

@@ -1,0 +1,204 @@
+-- Each status of NLM has its cause, exactly.
+use Rattle.std.proofs.Common.{◌≡◌, ℕ, ◌+◌, ◌≤◌, Bool, true, false, ◌⊎◌, inl, inr, List, [], ◌∷◌, Option, Some, None, refl, sym, ap, subst, ◌∙◌, ◌↔◌}
+use Rattle.std.proofs.lemmas.Bool.{both_ways}
+use Rattle.xl_matrix.specs.declared.claim.Claim.{Claim}
+use Rattle.xl_matrix.specs.declared.claim.Extent.TheVariants.{Bytes}
+use Rattle.xl_matrix.specs.declared.claim.What.{What}
+use Rattle.xl_matrix.specs.declared.claim.What.TheVariants as whats
+use Rattle.xl_nlm.specs.Items.{LockItem, TestArgsItem, LockArgsItem, CancelArgsItem, UnlockArgsItem, ShareArgsItem, CallItem, Null, Test, Lock, Cancel, Unlock, Granted, Share, Unshare, NmLock, FreeAll}
+use Rattle.xl_nlm.specs.declared.item.NlmStatus.{NlmStatus}
+use Rattle.xl_nlm.specs.declared.item.NlmStatus.TheVariants as stats
+use Rattle.xl_table.specs.Relock.{most_claims}
+use Rattle.xl_wait.specs.declared.waiter.Rooms.{Rooms}
+use Rattle.xl_core.proofs.CauseLaws.{lock_due, test_due, unlock_due}
+use Rattle.xl_core.specs.Asking.{asked_what, asked_claim, known_claim, IsFit}
+use Rattle.xl_core.specs.Causes.{IsClaimDue, IsTestDue, IsUnlockDue}
+use Rattle.xl_core.specs.Decide.{ask}
+use Rattle.xl_core.specs.Deeds.{Deed, Asks, Cancels, GivesBack}
+use Rattle.xl_core.specs.Good.{IsGood}
+use Rattle.xl_core.specs.State.{CoreState}
+use Rattle.xl_core.specs.declared.ask.Act.TheVariants as acts
+use Rattle.xl_core.specs.declared.ask.Answer.{Answer}
+use Rattle.xl_core.specs.declared.ask.Answer.TheVariants as answers
+use Rattle.xl_core.specs.declared.ask.Ask.{Ask}
+use Rattle.xl_front_nlm.proofs.AimLaws.{last_real}
+use Rattle.xl_front_nlm.proofs.AskLaws.{own_client}
+use Rattle.xl_front_nlm.specs.Aims.{exported, last_of, aimed, aimed_at, aimed_in}
+use Rattle.xl_front_nlm.specs.Asks.{test_ask, lock_ask, unlock_ask, rights_of, share_ask}
+use Rattle.xl_front_nlm.specs.Hosts.{rooms, host_rows}
+use Rattle.xl_front_nlm.specs.Results.{answer_status, status_of, test_answer_status, test_status}
+use Rattle.xl_front_nlm.specs.Serving.{Plan, Tells, Does, at_bytes, on_file, if_found, lock_plan, planned, host_of, served_by, served}
+use Rattle.xl_front_nlm.specs.Standing.{waiter_for, does_wait, share_held}
+use Rattle.xl_front_nlm.specs.State.{FrontState}
+use Rattle.xl_front_nlm.specs.Statuses.{status_told, IsClaimTold, IsTestTold, IsUnlockTold, IsLastTold, IsRangeTold, IsFileTold, IsLockTold, IsCancelTold, lock_claim, IsLockingTold, IsStatusDue}
+use Rattle.xl_front_nlm.specs.declared.aim.Aim.{Aim}
+use Rattle.xl_front_nlm.specs.declared.outcome.Outcome.{Outcome}
+use Rattle.xl_front_nlm.specs.declared.outcome.Outcome.TheVariants.{NoFile, TooBig, NotWaiting, Ended}
+
+-- ---- a lock or a share
+
+claim_forth : (left : Rooms) (s : CoreState) (a : Ask) (claim : Claim) (answer : Answer) → IsClaimDue left s a claim answer → IsClaimTold left s a claim (answer_status answer)
+claim_forth left s a claim (answers.Granted c) due = (refl, due.1, due.2, due.3)
+claim_forth left s a claim (answers.Conflict c) due = (c, due)
+claim_forth left s a claim (answers.Queued number) due = (refl, due.1, due.2, due.3, due.4)
+claim_forth left s a claim (answers.NoGrace clock) due = (refl, due.1)
+claim_forth left s a claim (answers.Full limit) due = (limit, due)
+claim_forth left s a claim (answers.Recall c) due = absurd due
+claim_forth left s a claim (answers.Grace until) due = absurd due
+claim_forth left s a claim answers.NotRecorded due = absurd due
+claim_forth left s a claim answers.NotHeld due = absurd due
+claim_forth left s a claim answers.StoreFailed due = absurd due
+
+claim_back : (left : Rooms) (s : CoreState) (a : Ask) (claim : Claim) (r : Answer) → ((answer : Answer) → IsClaimDue left s a claim answer → r ≡ answer) → (status : NlmStatus) → IsClaimTold left s a claim status → answer_status r ≡ status
+claim_back left s a claim r exact stats.Granted told = ap answer_status (exact (answers.Granted claim) told)
+claim_back left s a claim r exact stats.Denied told = ap answer_status (exact (answers.Conflict told.0) told.1)
+claim_back left s a claim r exact stats.DeniedNolocks told = ap answer_status (exact (answers.Full told.0) told.1)
+claim_back left s a claim r exact stats.Blocked told = ap answer_status (exact (answers.Queued (s.counter + 1)) told)
+claim_back left s a claim r exact stats.DeniedGracePeriod told = ap answer_status (exact (answers.NoGrace s.clock) told)
+claim_back left s a claim r exact stats.Deadlck told = absurd told
+claim_back left s a claim r exact stats.Rofs told = absurd told
+claim_back left s a claim r exact stats.StaleFh told = absurd told
+claim_back left s a claim r exact stats.Fbig told = absurd told
+claim_back left s a claim r exact stats.Failed told = absurd told
+
+-- this is told exactly where that is due
+abbrev Exactly : NlmStatus → (NlmStatus → Type 0) → Type 0
+Exactly told due = (status : NlmStatus) → (told ≡ status) ↔ due status
+
+claim_exactly : (n : ℕ) (left : Rooms) (s : CoreState) (a : Ask) (what : What) → asked_what a.act ≡ Some what → Exactly (answer_status (ask n left s a).0) (IsClaimTold left s a (asked_claim a what s.names))
+claim_exactly n left s a what act = λ status.
+    let claim = asked_claim a what s.names in (
+      λ e. subst (λ (x : NlmStatus). IsClaimTold left s a claim x) e (claim_forth left s a claim (ask n left s a).0 ((lock_due n left s a what (ask n left s a).0 act).0 refl)),
+      λ told. claim_back left s a claim (ask n left s a).0 (λ answer due. (lock_due n left s a what answer act).1 due) status told,
+    )
+
+-- ---- a test
+
+test_forth : (s : CoreState) (a : Ask) (claim : Claim) (answer : Answer) → a.reclaim ≡ false → IsTestDue s a claim answer → IsTestTold s a claim (test_answer_status answer)
+test_forth s a claim (answers.Granted c) timely due = (refl, due.1, due.2)
+test_forth s a claim (answers.Conflict c) timely due = (c, due)
+test_forth s a claim (answers.NoGrace clock) timely due = absurd (both_ways a.reclaim timely due.1)
+test_forth s a claim (answers.Queued number) timely due = absurd due
+test_forth s a claim (answers.Full limit) timely due = absurd due
+test_forth s a claim (answers.Recall c) timely due = absurd due
+test_forth s a claim (answers.Grace until) timely due = absurd due
+test_forth s a claim answers.NotRecorded timely due = absurd due
+test_forth s a claim answers.NotHeld timely due = absurd due
+test_forth s a claim answers.StoreFailed timely due = absurd due
+
+test_back : (s : CoreState) (a : Ask) (claim : Claim) (r : Answer) → ((answer : Answer) → IsTestDue s a claim answer → r ≡ answer) → (status : NlmStatus) → IsTestTold s a claim status → test_answer_status r ≡ status
+test_back s a claim r exact stats.Granted told = ap test_answer_status (exact (answers.Granted claim) told)
+test_back s a claim r exact stats.Denied told = ap test_answer_status (exact (answers.Conflict told.0) told.1)
+test_back s a claim r exact stats.DeniedNolocks told = absurd told
+test_back s a claim r exact stats.Blocked told = absurd told
+test_back s a claim r exact stats.DeniedGracePeriod told = absurd told
+test_back s a claim r exact stats.Deadlck told = absurd told
+test_back s a claim r exact stats.Rofs told = absurd told
+test_back s a claim r exact stats.StaleFh told = absurd told
+test_back s a claim r exact stats.Fbig told = absurd told
+test_back s a claim r exact stats.Failed told = absurd told
+
+test_exactly : (n : ℕ) (left : Rooms) (s : CoreState) (a : TestArgsItem) (at : Aim) → Exactly (test_answer_status (ask n left s (test_ask a at)).0) (IsTestTold s (test_ask a at) (known_claim (test_ask a at) (Bytes at.first at.last) a.exclusive s.names))
+test_exactly n left s a at = λ status.
+    let request = test_ask a at in
+    let claim = known_claim request (Bytes at.first at.last) a.exclusive s.names in (
+      λ e. subst (λ (x : NlmStatus). IsTestTold s request claim x) e (test_forth s request claim (ask n left s request).0 refl ((test_due n left s request (Bytes at.first at.last) a.exclusive (ask n left s request).0 refl).0 refl)),
+      λ told. test_back s request claim (ask n left s request).0 (λ answer due. (test_due n left s request (Bytes at.first at.last) a.exclusive answer refl).1 due) status told,
+    )
+
+-- ---- an unlock
+
+unlock_forth : (s : CoreState) (claim : Claim) (first last : ℕ) (answer : Answer) → IsUnlockDue s claim first last answer → IsUnlockTold s claim first last (answer_status answer)
+unlock_forth s claim first last (answers.Granted c) due = inl (refl, due.1, due.2)
+unlock_forth s claim first last answers.NotHeld due = inr due
+unlock_forth s claim first last (answers.Full limit) due = (refl, due.1, due.2)
+unlock_forth s claim first last (answers.Conflict c) due = absurd due
+unlock_forth s claim first last (answers.Queued number) due = absurd due
+unlock_forth s claim first last (answers.NoGrace clock) due = absurd due
+unlock_forth s claim first last (answers.Recall c) due = absurd due
+unlock_forth s claim first last (answers.Grace until) due = absurd due
+unlock_forth s claim first last answers.NotRecorded due = absurd due
+unlock_forth s claim first last answers.StoreFailed due = absurd due
+
+unlock_back : (s : CoreState) (claim : Claim) (first last : ℕ) (r : Answer) → ((answer : Answer) → IsUnlockDue s claim first last answer → r ≡ answer) → (status : NlmStatus) → IsUnlockTold s claim first last status → answer_status r ≡ status
+unlock_back s claim first last r exact stats.Granted (inl due) = ap answer_status (exact (answers.Granted claim) due)
+unlock_back s claim first last r exact stats.Granted (inr due) = ap answer_status (exact answers.NotHeld due)
+unlock_back s claim first last r exact stats.DeniedNolocks told = ap answer_status (exact (answers.Full most_claims) told)
+unlock_back s claim first last r exact stats.Denied told = absurd told
+unlock_back s claim first last r exact stats.Blocked told = absurd told
+unlock_back s claim first last r exact stats.DeniedGracePeriod told = absurd told
+unlock_back s claim first last r exact stats.Deadlck told = absurd told
+unlock_back s claim first last r exact stats.Rofs told = absurd told
+unlock_back s claim first last r exact stats.StaleFh told = absurd told
+unlock_back s claim first last r exact stats.Fbig told = absurd told
+unlock_back s claim first last r exact stats.Failed told = absurd told
+
+unlock_exactly : (n : ℕ) (left : Rooms) (s : CoreState) (a : UnlockArgsItem) (at : Aim) → IsGood s → at.first ≤ at.last → Exactly (answer_status (ask n left s (unlock_ask a at)).0) (IsUnlockTold s (known_claim (unlock_ask a at) (Bytes at.first at.last) false s.names) at.first at.last)
+unlock_exactly n left s a at good ends = λ status.
+    let request = unlock_ask a at in
+    let claim = known_claim request (Bytes at.first at.last) false s.names in
+    let client = own_client a.lock.caller_name in (
+      λ e. subst (λ (x : NlmStatus). IsUnlockTold s claim at.first at.last x) e (unlock_forth s claim at.first at.last (ask n left s request).0 ((unlock_due n left s request at.first at.last (ask n left s request).0 refl client ends good).0 refl)),
+      λ told. unlock_back s claim at.first at.last (ask n left s request).0 (λ answer due. (unlock_due n left s request at.first at.last answer refl client ends good).1 due) status told,
+    )
+
+-- ---- what is named
+
+-- the status itself
+itself : (told : NlmStatus) → Exactly told (λ status. status ≡ told)
+itself told = λ status. (λ e. sym e, λ e. sym e)
+
+last_exactly : (tell : Outcome → NlmStatus) (n : ℕ) (f : FrontState) (s : CoreState) (host : Option (List ℕ)) (l : LockItem) (plan : Aim → Plan) (due : Aim → NlmStatus → Type 0) (file : ℕ) (o : Option ℕ) → last_of l.l_offset l.l_len ≡ o → tell TooBig ≡ stats.Fbig
+    → ((at : Aim) → at.first ≤ at.last → Exactly (tell (served_by n f s host (plan at)).0) (due at)) → Exactly (tell (served_by n f s host (at_bytes plan (aimed_at l file o))).0) (IsLastTold l file due o)
+last_exactly tell n f s host l plan due file None e big each = subst (λ (x : NlmStatus). Exactly (tell TooBig) (λ status. status ≡ x)) big (itself (tell TooBig))
+last_exactly tell n f s host l plan due file (Some last) e big each = each (record { file = file; first = l.l_offset; last = last }) (last_real l.l_offset l.l_len last e)
+
+range_exactly : (tell : Outcome → NlmStatus) (n : ℕ) (f : FrontState) (s : CoreState) (host : Option (List ℕ)) (l : LockItem) (plan : Aim → Plan) (due : Aim → NlmStatus → Type 0) (o : Option ℕ) → tell NoFile ≡ stats.StaleFh → tell TooBig ≡ stats.Fbig
+    → ((at : Aim) → at.first ≤ at.last → Exactly (tell (served_by n f s host (plan at)).0) (due at)) → Exactly (tell (served_by n f s host (at_bytes plan (aimed_in l o))).0) (IsRangeTold l due o)
+range_exactly tell n f s host l plan due None stale big each = subst (λ (x : NlmStatus). Exactly (tell NoFile) (λ status. status ≡ x)) stale (itself (tell NoFile))
+range_exactly tell n f s host l plan due (Some file) stale big each = last_exactly tell n f s host l plan due file (last_of l.l_offset l.l_len) refl big each
+
+file_exactly : (n : ℕ) (f : FrontState) (s : CoreState) (host : Option (List ℕ)) (plan : ℕ → Plan) (due : ℕ → NlmStatus → Type 0) (o : Option ℕ)
+    → ((file : ℕ) → Exactly (status_of (served_by n f s host (plan file)).0) (due file)) → Exactly (status_of (served_by n f s host (on_file plan o)).0) (IsFileTold due o)
+file_exactly n f s host plan due None each = itself stats.StaleFh
+file_exactly n f s host plan due (Some file) each = each file
+
+lock_exactly : (n : ℕ) (f : FrontState) (s : CoreState) (host : Option (List ℕ)) (hosts : List (List ℕ)) (a : LockArgsItem) (at : Aim) (b : Bool) → does_wait s a at ≡ b → Exactly (status_of (served_by n f s host (lock_plan hosts s a at)).0) (IsLockTold b (rooms hosts) s (lock_ask (host_rows a.lock.caller_name hosts) a at) (lock_claim hosts s a at))
+lock_exactly n f s host hosts a at true e = rw e (itself stats.Blocked)
+lock_exactly n f s host hosts a at false e = rw e (claim_exactly n (rooms hosts) s (lock_ask (host_rows a.lock.caller_name hosts) a at) (whats.Range (Bytes at.first at.last) a.exclusive) refl)
+
+cancel_exactly : (n : ℕ) (f : FrontState) (s : CoreState) (host : Option (List ℕ)) (o : Option ℕ) → Exactly (status_of (served_by n f s host (if_found NotWaiting (λ id. Cancels id) o)).0) (IsCancelTold o)
+cancel_exactly n f s host None = itself stats.Denied
+cancel_exactly n f s host (Some id) = itself stats.Granted
+
+unshare_exactly : (n : ℕ) (f : FrontState) (s : CoreState) (host : Option (List ℕ)) (o : Option Claim) → Exactly (status_of (served_by n f s host (if_found Ended (λ claim. GivesBack claim) o)).0) (λ told. told ≡ stats.Granted)
+unshare_exactly n f s host None = itself stats.Granted
+unshare_exactly n f s host (Some claim) = itself stats.Granted
+
+-- ---- a call
+
+some_same : (x y : NlmStatus) → (let some : Option NlmStatus = Some x in some ≡ Some y) → x ≡ y
+some_same x y e = cc
+
+told_some : (told : NlmStatus) (due : NlmStatus → Type 0) → Exactly told due → (status : NlmStatus) → ((let some : Option NlmStatus = Some told in some ≡ Some status) ↔ due status)
+told_some told due exactly status = (λ e. (exactly status).0 (some_same told status e), λ is. ap Some ((exactly status).1 is))
+
+pub status_due : (n count : ℕ) (f : FrontState) (s : CoreState) (call : CallItem) (status : NlmStatus) → IsGood s → (status_told call (served n count f s call).0 ≡ Some status) ↔ IsStatusDue count f.hosts s call status
+unfolding served planned aimed
+status_due n count f s Null status good = (λ e. absurd cc, λ due. absurd due)
+status_due n count f s (Granted a) status good = (λ e. absurd cc, λ due. absurd due)
+status_due n count f s (FreeAll a) status good = (λ e. absurd cc, λ due. absurd due)
+status_due n count f s (Test a) status good =
+    told_some _ _ (range_exactly test_status n f s None a.lock _ _ (exported count a.lock.fh) refl refl (λ at ends. test_exactly n (rooms f.hosts) s a at)) status
+status_due n count f s (Lock a) status good =
+    told_some _ _ (range_exactly status_of n f s (Some a.lock.caller_name) a.lock _ _ (exported count a.lock.fh) refl refl (λ at ends. lock_exactly n f s (Some a.lock.caller_name) f.hosts a at (does_wait s a at) refl)) status
+status_due n count f s (NmLock a) status good =
+    told_some _ _ (range_exactly status_of n f s (Some a.lock.caller_name) a.lock _ _ (exported count a.lock.fh) refl refl (λ at ends. lock_exactly n f s (Some a.lock.caller_name) f.hosts a at (does_wait s a at) refl)) status
+status_due n count f s (Cancel a) status good =
+    told_some _ _ (range_exactly status_of n f s None a.lock _ _ (exported count a.lock.fh) refl refl (λ at ends. cancel_exactly n f s None (waiter_for s a.lock a.exclusive at))) status
+status_due n count f s (Unlock a) status good =
+    told_some _ _ (range_exactly status_of n f s None a.lock _ _ (exported count a.lock.fh) refl refl (λ at ends. unlock_exactly n (rooms f.hosts) s a at good ends)) status
+status_due n count f s (Share a) status good =
+    told_some _ _ (file_exactly n f s (Some a.caller_name) _ _ (exported count a.fh) (λ file. claim_exactly n (rooms f.hosts) s (share_ask (host_rows a.caller_name f.hosts) a file) (whats.Share (rights_of a.access) (rights_of a.mode)) refl)) status
+status_due n count f s (Unshare a) status good =
+    told_some _ _ (file_exactly n f s None _ _ (exported count a.fh) (λ file. unshare_exactly n f s None (share_held s a file))) status

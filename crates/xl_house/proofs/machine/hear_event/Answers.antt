@@ -1,0 +1,8 @@
+use Rattle.xl_house.proofs.HearLaws.{ready_begun}
+use Rattle.xl_house.proofs.machine.hear_event.Goals as goal
+
+pub hear-requires : goal.hear-requires
+hear-requires g c = record { ready = ready_begun 1 _ _ c.begin_step.ensures.state c.requires.ready }
+
+pub hear_answer-requires : goal.hear_answer-requires
+hear_answer-requires g c = record { ready = ready_begun 1 _ _ c.begin_step.ensures.state c.requires.ready }
