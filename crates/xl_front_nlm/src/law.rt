@@ -1,12 +1,13 @@
 //! Laws of the front. The functions do nothing: each has laws as its clauses.
-ghost use Rattle.std.specs.Prelude.{◌≡◌, ℕ, ◌+◌, ◌≤◌, ◌==◌, true, false, not, List, [], ◌∷◌, ◌++◌, length, Option, Some, None};
+ghost use Rattle.std.specs.Prelude.{◌≡◌, ℕ, ◌+◌, ◌≤◌, ◌==◌, true, false, not, List, [], ◌∷◌, ◌++◌, length, Option, Some, None, ◌↔◌};
 ghost use Rattle.std.specs.List.{find};
 ghost use Rattle.xl_base.specs.declared.journal.Exports.{Exports};
 ghost use Rattle.xl_matrix.specs.declared.claim.Claim.{Claim};
 ghost use Rattle.xl_matrix.specs.declared.claim.Extent.TheVariants.{Bytes};
 ghost use Rattle.xl_matrix.specs.declared.claim.What.TheVariants.{Range};
 ghost use Rattle.xl_names.specs.declared.name.Name.{Name};
-ghost use Rattle.xl_nlm.specs.Items.{ResItem};
+ghost use Rattle.xl_nlm.specs.Items.{CallItem, ResItem};
+ghost use Rattle.xl_nlm.specs.declared.item.NlmStatus.{NlmStatus};
 ghost use Rattle.xl_nlm.specs.Replies.{res, ResFits};
 ghost use Rattle.xl_programs.specs.Programs.{RequestItem};
 ghost use Rattle.xl_rpc.specs.Replies.{reply};
@@ -24,7 +25,9 @@ ghost use Rattle.xl_front_nlm.specs.Asks.{refusal_ask};
 ghost use Rattle.xl_front_nlm.specs.FrontNlm.{nlm_client, nlm_deeds, nlm_reply, sent_to, nlm_step};
 ghost use Rattle.xl_front_nlm.specs.Grants.{grant_of, address_of, call_of, shown, shown_deeds};
 ghost use Rattle.xl_front_nlm.specs.Hosts.{rooms};
+ghost use Rattle.xl_front_nlm.specs.Serving.{served};
 ghost use Rattle.xl_front_nlm.specs.State.{FrontState, awaited};
+ghost use Rattle.xl_front_nlm.specs.Statuses.{status_told, IsStatusDue};
 ghost use Rattle.xl_front_nlm.specs.declared.call.GrantedCall.{GrantedCall};
 ghost use Rattle.xl_front_nlm.specs.declared.grant.Grant.{Grant};
 
@@ -58,6 +61,14 @@ pub fn deeds_are_the_clients()
 #[tactic(auto, using(crate::proofs::DoesLaws::step_replies))]
 pub fn replies_follow_the_answers()
     ensures { (n : ℕ) (exports : Exports) (f : FrontState) (s : CoreState) (conn : ℕ) (r : RequestItem) → (nlm_step n exports f s conn r).0 ≡ sent_to conn (nlm_reply exports f s (all_done n s (nlm_deeds exports f s r)).names r (answers_of n s (nlm_deeds exports f s r))) }
+{}
+
+/// Each call is told its status exactly where that has its cause: STALE_FH where the handle names no exported file, FBIG
+/// where the range passes the last byte, BLOCKED where the owner waits for the same already or comes to wait, DENIED,
+/// DENIED_NOLOCKS, DENIED_GRACE_PERIOD and GRANTED where the core is due to answer so.
+#[tactic(auto, using(crate::proofs::StatusLaws::status_due))]
+pub fn statuses_have_causes()
+    ensures { (n count : ℕ) (f : FrontState) (s : CoreState) (call : CallItem) (status : NlmStatus) → IsGood s → (status_told call (served n count f s call).0 ≡ Some status) ↔ IsStatusDue count f.hosts s call status }
 {}
 
 /// A grant of one who waited is told by one call, to the address of the granted owner's caller; the call tells that very
