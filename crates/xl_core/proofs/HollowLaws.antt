@@ -9,7 +9,9 @@ use Rattle.xl_matrix.specs.declared.claim.Extent.{Extent}
 use Rattle.xl_matrix.specs.declared.claim.Extent.TheVariants.{Bytes}
 use Rattle.xl_matrix.specs.declared.claim.What.{What}
 use Rattle.xl_matrix.specs.declared.claim.What.TheVariants.{Range}
-use Rattle.xl_table.specs.Relock.{granted_claims, relocked_in, fresh, untouched}
+use Rattle.xl_spans.specs.Spans.{relocked}
+use Rattle.xl_table.specs.Flat.{inserted}
+use Rattle.xl_table.specs.Relock.{granted_claims, relocked_in, unranged}
 use Rattle.xl_wait.specs.declared.waiter.Rooms.{Rooms}
 use Rattle.xl_wait.specs.declared.waiter.Waiter.{Waiter}
 use Rattle.xl_core.specs.State.{CoreState, started}
@@ -36,8 +38,8 @@ abbrev first_claim : Claim
 first_claim = asked_claim smallest_lock (Range (Bytes 0 0) true) []
 
 has_room : (stable : Stable) (clock : Moment) → IsRoom (limits_of_grant all_room (started stable clock) smallest_lock first_claim)
-unfolding granted_claims relocked_in fresh untouched
-has_room stable clock = no_limit (limits_of_grant all_room (started stable clock) smallest_lock first_claim) (refl, refl, refl, refl, refl, tt)
+unfolding granted_claims relocked_in unranged inserted relocked
+has_room stable clock = no_limit (limits_of_grant all_room (started stable clock) smallest_lock first_claim) (refl, (refl, (refl, (refl, (refl, tt)))))
 
 first_granted : (n : ℕ) (stable : Stable) (clock : Moment) → (ask n all_room (started stable clock) smallest_lock).0 ≡ answers.Granted first_claim
 first_granted n stable clock = lock_free n all_room (started stable clock) smallest_lock (Range (Bytes 0 0) true) refl refl refl (has_room stable clock)
