@@ -6,6 +6,8 @@ mod asks;
 mod base;
 mod matrix;
 mod names;
+mod nfs_clients;
+mod nfs_stateids;
 mod spans;
 mod table;
 mod wait;
