@@ -9,6 +9,8 @@ mod exact;
 mod matrix;
 mod names;
 mod smb_state;
+mod nfs_clients;
+mod nfs_stateids;
 mod spans;
 mod table;
 mod wait;
