@@ -9,16 +9,11 @@ use Rattle.std.proofs.lemmas.Bool.Decides.{nat_tests}
 use Rattle.std.proofs.lemmas.List.Sums.{sum_by-set}
 use Rattle.std.proofs.lemmas.List.{length-append, get_or-set_same, get_or-set_other, get_or_past}
 use Rattle.xl_smb_state.specs.State.{keys_where}
+use Rattle.xl_smb_state.proofs.RowLaws.{equal_from, unequal_both, same_Some, some_none}
 use Rattle.xl_smb_state.specs.Filed.{in_front, passes, filed, AreApart, IsFiled}
-
-equal_from : (k j : ℕ) → eqb k j ≡ true → j ≡ k
-equal_from k j h = grind (arith, nat_tests)
 
 differs : (k j : ℕ) → eqb k j ≡ false → j ≢ k
 differs k j h e = grind (arith, nat_tests)
-
-apart_both : (k j : ℕ) → eqb k j ≡ false → eqb j k ≡ false
-apart_both k j h = grind (arith, nat_tests)
 
 or_both : (a b : Bool) → (a || b) ≡ false → (a ≡ false) × (b ≡ false)
 or_both true b h = absurd (true≢false h)
@@ -26,9 +21,6 @@ or_both false b h = (refl, h)
 
 or_neither : (a b : Bool) → a ≡ false → b ≡ false → (a || b) ≡ false
 or_neither a b h k = rw h k
-
-same_number : {k j : ℕ} → Some k ≡ Some j → k ≡ j
-same_number h = cc
 
 apart_value : (k j : ℕ) (es : List (ℕ × ℕ)) → list_any (nat_eq j) (values_of es) ≡ false → eqb j k ≡ false → (n : ℕ) → list_any (nat_eq j) (values_of (es ++ (n, k) ∷ [])) ≡ false
 apart_value k j [] h other n = or_neither (eqb j k) false other refl
@@ -40,10 +32,7 @@ apart_push : (n k : ℕ) (es : List (ℕ × ℕ)) → list_any (nat_eq k) (value
 apart_push n k [] h apart = (refl, tt)
 apart_push n k (e ∷ es) h apart =
     let parts = or_both (eqb k e.1) (list_any (nat_eq k) (values_of es)) h in
-    (apart_value k e.1 es apart.0 (apart_both k e.1 parts.0) n, apart_push n k es parts.1 apart.1)
-
-some_none : {B : Type 0} {x : B} → Some x ≡ None → ⊥
-some_none h = cc
+    (apart_value k e.1 es apart.0 (unequal_both k e.1 parts.0) n, apart_push n k es parts.1 apart.1)
 
 apart_from_removed : (t : ℕ → Bool) (j : ℕ) (es : List (ℕ × ℕ)) → list_any (nat_eq j) (values_of es) ≡ false → list_any (nat_eq j) (values_of (remove_entry t es)) ≡ false
 apart_from_removed t j [] h = refl
@@ -67,7 +56,7 @@ named t [] k j h apart = absurd (cc)
 named t (e ∷ es) k j h apart =
     let parts = or_both (eqb j e.1) (list_any (nat_eq j) (values_of es)) apart in
     elim (cases_Bool (t e.0)) [
-      | inl here ↦ λ same. differs j e.1 parts.0 (same_number (rw here at h) ∙ sym same)
+      | inl here ↦ λ same. differs j e.1 parts.0 (same_Some (rw here at h) ∙ sym same)
       | inr later ↦ named t es k j (rw later at h) parts.1
     ]
 
@@ -80,9 +69,6 @@ length_removed n k (e ∷ es) at =
     ]
 
 module _ {A : Type 0} where
-  same_Some : (x y : A) → Some x ≡ Some y → x ≡ y
-  same_Some x y h = cc
-
   -- each slot of the index has a row
   abbrev pub AreThere : List (ℕ × ℕ) → List (Option A) → Type 0
   AreThere es slots = AllByRecursion (λ e. is_some (get_or slots e.1 None) ≡ true) es
@@ -116,7 +102,7 @@ module _ {A : Type 0} where
   slot_in n k [] slots there at = absurd (cc)
   slot_in n k (e ∷ es) slots there at =
       elim (cases_Bool (eqb n e.0)) [
-        | inl here ↦ subst (λ j. is_some (get_or slots j None) ≡ true) (same_number (rw here at at)) there.0
+        | inl here ↦ subst (λ j. is_some (get_or slots j None) ≡ true) (same_Some (rw here at at)) there.0
         | inr later ↦ slot_in n k es slots there.1 (rw later at at)
       ]
 
@@ -199,7 +185,7 @@ module _ {A : Type 0} where
   changed_there n k row (e ∷ es) old new there apart at changed others =
       elim (cases_Bool (eqb n e.0)) [
         | inl here ↦
-            let same : e.1 ≡ k = same_number (rw here at at) in
+            let same : e.1 ≡ k = same_Some (rw here at at) in
             ap (λ j. in_front e.0 (get_or new j None) (filed es new)) same
             ∙ ap (λ o. in_front e.0 o (filed es new)) changed
             ∙ ap (λ rest. (e.0, row) ∷ rest) (kept k es old new (subst (λ j. list_any (nat_eq j) (values_of es) ≡ false) same apart.0) others)
@@ -260,7 +246,7 @@ module _ {A : Type 0} where
   removed_there n k (e ∷ es) old new there apart at others =
       elim (cases_Bool (eqb n e.0)) [
         | inl here ↦
-            let same : e.1 ≡ k = same_number (rw here at at) in
+            let same : e.1 ≡ k = same_Some (rw here at at) in
             ap (λ b. filed (cond b es (e ∷ remove_entry (nat_eq n) es)) new) here
             ∙ kept k es old new (subst (λ j. list_any (nat_eq j) (values_of es) ≡ false) same apart.0) others
             ∙ sym (remove_front n e.0 (get_or old e.1 None) (filed es old) there.0 ∙ rw here refl)
@@ -287,7 +273,7 @@ module _ {A : Type 0} where
       there_removed (e ∷ es) there apart at =
           elim (cases_Bool (eqb n e.0)) [
             | inl here ↦
-                let same : e.1 ≡ k = same_number (rw here at at) in
+                let same : e.1 ≡ k = same_Some (rw here at at) in
                 subst (λ b. AreThere (cond b es (e ∷ remove_entry (nat_eq n) es)) new) (sym here) (there_kept k es old new (subst (λ j. list_any (nat_eq j) (values_of es) ≡ false) same apart.0) others there.1)
             | inr later ↦
                 subst (λ b. AreThere (cond b es (e ∷ remove_entry (nat_eq n) es)) new) (sym later) (

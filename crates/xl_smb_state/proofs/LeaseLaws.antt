@@ -17,7 +17,7 @@ use Rattle.xl_smb_state.specs.declared.row.Open.{Open}
 use Rattle.xl_smb_state.specs.State.{Lists, is_key, key_of, is_empty, same_lease, without, left_row, grown_row, joined, kept_lease, lease_left, is_listed}
 use Rattle.xl_smb_state.specs.Links.{ListsOnly, IsLeaseLinked, is_under, only_opens}
 use Rattle.xl_smb_state.proofs.LinkLaws.{same_lease_is}
-use Rattle.xl_smb_state.proofs.RowLaws.{none_some, equal_from}
+use Rattle.xl_smb_state.proofs.RowLaws.{none_some, equal_from, same_Some}
 
 without_absent : (number : ℕ) (ns : List ℕ) → list_any (nat_eq number) ns ≡ false → without number ns ≡ ns
 without_absent number [] h = refl
@@ -61,7 +61,7 @@ left_one key number row [] distinct h only = absurd (none_some h)
 left_one key number row (e ∷ es) distinct h only =
     elim (cases_Bool (same_lease key e.0)) [
       | inl same ↦
-          let found : e.1 ≡ row = same_row (rw same at h) in
+          let found : e.1 ≡ row = same_Some (rw same at h) in
           let rest = none_left key number es (others_apart key e.0 es same (IsDistinct-head same_lease e.0 (keys_of es) distinct)) only.1 in
           subst (λ r. filter_map (kept_lease number) (e ∷ es) ≡ cond (is_empty (without number r.opens)) (remove_entry (same_lease key) (e ∷ es)) (set_value (same_lease key) (e ∷ es) (left_row number r))) found
           (elim (cases_Bool (is_empty (without number e.1.opens))) [
@@ -73,9 +73,6 @@ left_one key number row (e ∷ es) distinct h only =
           rw (kept_whole number e (only.0.0 apart) only.0.1, apart) (ap (λ fs. e ∷ fs) rest ∙ behind (is_empty (without number row.opens)))
     ]
   where
-    same_row : {r q : Lease} → Some r ≡ Some q → r ≡ q
-    same_row h = cc
-
     behind : (b : Bool) → e ∷ cond b (remove_entry (same_lease key) es) (set_value (same_lease key) es (left_row number row)) ≡ cond b (e ∷ remove_entry (same_lease key) es) (e ∷ set_value (same_lease key) es (left_row number row))
     behind true = refl
     behind false = refl
@@ -147,11 +144,8 @@ key_under key mine file (Some row) h k = by row.lease (and_parts (eqb row.file f
         let both = and_parts (bytes_eq key.client row.client) (bytes_eq key.key name) h in
         let client = (bytes_eq-Decides key.client row.client).0 both.0 in
         let inside = (bytes_eq-Decides key.key name).0 both.1 in
-        let mine_is : record { client = row.client; key = name } ≡ mine = same_key k in
+        let mine_is : record { client = row.client; key = name } ≡ mine = same_Some k in
         subst (λ m. same_lease m key ≡ true) mine_is (rw (← client, ← inside) (same_lease_self key))
-      where
-        same_key : {a b : LeaseKey} → Some a ≡ Some b → a ≡ b
-        same_key h = cc
 
 key_none : (key : LeaseKey) (file : ℕ) (found : Option Open) → is_under key file found ≡ true → key_of found ≡ None → ⊥
 key_none key file None h k = false≢true h

@@ -5,7 +5,6 @@ use Rattle.std.specs.List.{AllByRecursion, list_any}
 use Rattle.std.specs.Map.{lookup}
 use Rattle.std.specs.Option.{option_and_then, IfSome}
 use Rattle.std.proofs.lemmas.Bool.{cases_Bool, false≢true, true≢false, and_parts}
-use Rattle.std.proofs.lemmas.Bool.Decides.{nat_tests}
 use Rattle.std.proofs.lemmas.List.{length-append}
 use Rattle.std.proofs.lemmas.Slice.Eq.{bytes_eq-Decides}
 use Rattle.std.proofs.lemmas.Map.{length-set_value}
@@ -24,7 +23,7 @@ use Rattle.xl_smb_state.specs.declared.row.Waiting.{Waiting}
 use Rattle.xl_smb_state.specs.declared.row.Scope.TheVariants as scope
 use Rattle.xl_smb_state.specs.State.{Lists, is_empty, same_lease, client_of, connection_added, connection_changed, connection_dropped, session_of, session_added, session_changed, session_dropped, sessions_on, tree_of, tree_added, tree_changed, tree_dropped, trees_of, trees_on, open_of, open_added, open_changed, open_dropped, covers_holder, opens_under, lease_of, lease_added, lease_changed, lease_dropped, without, kept_lease, lease_left, joined, lease_joined, is_listed, waiting_added, waiting_changed, waiting_dropped, is_key}
 use Rattle.xl_smb_state.specs.Links.{most_connections, most_sessions, most_trees, most_opens, most_waiting, IsSessionLinked, IsTreeLinked, IsPlace, is_tree_at, is_client, has_place, IsHolderLinked, IsOpenLinked, is_under, IsLeaseLinked, KeepsLease, IsSound}
-use Rattle.xl_smb_state.proofs.RowLaws.{none_some, equal_from, unequal_both, row_kept, all_both, none_any, all_removed, all_set, all_mapped, lookup_all, none_where, lookup_added, count, count_added, count_removed, count_set, length_removed, lookup_removed, lookup_set, lookup_set_same}
+use Rattle.xl_smb_state.proofs.RowLaws.{none_some, equal_from, unequal_both, row_kept, all_both, none_any, all_removed, all_set, all_mapped, lookup_all, none_where, lookup_added, count, count_added, count_removed, count_set, length_removed, lookup_removed, lookup_set, lookup_set_same, same_Some, equal_self}
 
 -- ---- what depends on what
 
@@ -71,14 +70,8 @@ one_other count own c now before most is less room h =
       | inr apart ↦ let n : now ≤ count c + 0 = rw apart at is in omega arith
     ]
 
-same_Some : {A : Type 0} {x y : A} → Some x ≡ Some y → x ≡ y
-same_Some h = cc
-
-eqb_self : (n : ℕ) → eqb n n ≡ true
-eqb_self n = grind (arith, nat_tests)
-
 here : (n : ℕ) (ns : List ℕ) → list_any (nat_eq n) (n ∷ ns) ≡ true
-here n ns = rw (eqb_self n) refl
+here n ns = rw (equal_self n) refl
 
 further : (m n : ℕ) (ns : List ℕ) → list_any (nat_eq m) ns ≡ true → list_any (nat_eq m) (n ∷ ns) ≡ true
 further m n ns h = elim (cases_Bool (eqb m n)) [ inl k ↦ rw k refl | inr k ↦ rw k h ]

@@ -8,6 +8,12 @@ use Rattle.std.proofs.lemmas.Bool.{cases_Bool, true≢false}
 use Rattle.std.proofs.lemmas.Bool.Decides.{nat_tests}
 use Rattle.xl_smb_state.specs.State.{keys_where}
 
+pub some_none : {A : Type 0} {x : A} → Some x ≡ None → ⊥
+some_none h = cc
+
+pub same_Some : {A : Type 0} {x y : A} → Some x ≡ Some y → x ≡ y
+same_Some h = cc
+
 pub none_some : {A : Type 0} {x : A} → None ≡ Some x → ⊥
 none_some h = cc
 
@@ -17,7 +23,7 @@ equal_from k j h = grind (arith, nat_tests)
 pub unequal_both : (k j : ℕ) → eqb k j ≡ false → eqb j k ≡ false
 unequal_both k j h = grind (arith, nat_tests)
 
-equal_self : (k : ℕ) → eqb k k ≡ true
+pub equal_self : (k : ℕ) → eqb k k ≡ true
 equal_self k = grind (arith, nat_tests)
 
 -- what holds of both results of a call holds of what it left
@@ -64,12 +70,9 @@ module _ {K X : Type 0} where
   lookup_all P t [] x all h = absurd (none_some h)
   lookup_all P t (e ∷ es) x all h =
       elim (cases_Bool (t e.0)) [
-        | inl k ↦ subst P (same (rw k at h)) all.0
+        | inl k ↦ subst P (same_Some (rw k at h)) all.0
         | inr k ↦ lookup_all P t es x all.1 (rw k at h)
       ]
-    where
-      same : {y z : X} → Some y ≡ Some z → y ≡ z
-      same e = cc
 
   pub none_where : (test : X → Bool) (es : List (K × X)) → keys_where test es ≡ [] → AllByRecursion (λ e. test e.1 ≡ false) es
   none_where test [] h = tt

@@ -19,10 +19,7 @@ use Rattle.xl_smb_state.specs.declared.row.Scope.{Scope}
 use Rattle.xl_smb_state.specs.declared.row.Scope.TheVariants as scope
 use Rattle.xl_smb_state.specs.State.{Lists, keys_where, sessions_on, session_dropped, tree_of, trees_of, tree_dropped, covers, covers_holder, opens_under, closed, waiting_under, waiting_dropped, lower, lowest}
 use Rattle.xl_smb_state.specs.Links.{IsHolderLinked, IsOpenLinked, IsSound, AreDistinct}
-use Rattle.xl_smb_state.proofs.RowLaws.{none_some, equal_from, all_both, none_where}
-
-same_number : {n m : ℕ} → Some n ≡ Some m → n ≡ m
-same_number h = cc
+use Rattle.xl_smb_state.proofs.RowLaws.{none_some, equal_from, all_both, none_where, same_Some, equal_self}
 
 cons_head : {n m : ℕ} {ns ms : List ℕ} → n ∷ ns ≡ m ∷ ms → n ≡ m
 cons_head h = cc
@@ -32,9 +29,6 @@ cons_tail h = cc
 
 no_cons : {n : ℕ} {ns : List ℕ} → [] ≡ n ∷ ns → ⊥
 no_cons h = cc
-
-equal_self : (n : ℕ) → eqb n n ≡ true
-equal_self n = grind (arith, nat_tests)
 
 apart_any : (k : ℕ) (ks : List ℕ) → AllByRecursion (λ y. eqb k y ≡ false) ks → list_any (nat_eq k) ks ≡ false
 apart_any k [] all = refl
@@ -87,15 +81,12 @@ waiting_walk under s n ns ok h = walk (λ (r : Waiting). covers under r.place) s
 
 -- ---- the opens of a tree connect are those of its session and connection
 
-same_row : {a b : Tree} → Some a ≡ Some b → a ≡ b
-same_row h = cc
-
 tree_free : (s : Lists) (number : ℕ) (row : Tree) (client : List ℕ) (by : Holder) (under : Scope) → ((t : ℕ) → covers under (record { connection = row.connection; session = row.session; tree = t }) ≡ true) → tree_of number s ≡ Some row → covers_holder under by ≡ false → IsHolderLinked s client by → covers_holder (scope.Tree number) by ≡ false
 tree_free s number row client (Nobody until) under all at free link = refl
 tree_free s number row client (holder.Tree place) under all at free link =
     elim (cases_Bool (eqb place.tree number)) [
       | inl same ↦
-          let one : record { connection = place.connection; session = place.session } ≡ row = same_row (sym link.0 ∙ ap (λ n. tree_of n s) (sym (equal_from place.tree number same)) ∙ at) in
+          let one : record { connection = place.connection; session = place.session } ≡ row = same_Some (sym link.0 ∙ ap (λ n. tree_of n s) (sym (equal_from place.tree number same)) ∙ at) in
           absurd (true≢false (sym (subst (λ (r : Tree). covers under (record { connection = r.connection; session = r.session; tree = place.tree }) ≡ true) (sym one) (all place.tree)) ∙ free))
       | inr apart ↦ apart
     ]
@@ -120,11 +111,11 @@ some_weaker None P Q step h = tt
 some_weaker (Some m) P Q step h = step m h
 
 one_of : (o : Option ℕ) (n m : ℕ) → lower o n ≡ Some m → (o ≡ Some m) ⊎ (n ≡ m)
-one_of None n m h = inr (same_number h)
+one_of None n m h = inr (same_Some h)
 one_of (Some k) n m h =
     elim (cases_Bool (leb k n)) [
-      | inl le ↦ let is : min k n ≡ k = grind (arith, nat_tests) in inl (ap Some (sym is ∙ same_number h))
-      | inr gt ↦ let is : min k n ≡ n = grind (arith, nat_tests) in inr (sym is ∙ same_number h)
+      | inl le ↦ let is : min k n ≡ k = grind (arith, nat_tests) in inl (ap Some (sym is ∙ same_Some h))
+      | inr gt ↦ let is : min k n ≡ n = grind (arith, nat_tests) in inr (sym is ∙ same_Some h)
     ]
 
 in_from : (o : Option ℕ) (ns : List ℕ) → IfSome (fold lower o ns) (λ m. (o ≡ Some m) ⊎ IsIn m ns)
@@ -143,7 +134,7 @@ lowest_in ns = some_weaker (lowest ns) (λ m. (None ≡ Some m) ⊎ IsIn m ns) (
 
 least_from : (o : Option ℕ) (ns : List ℕ) → IfSome (fold lower o ns) (λ m. ((k : ℕ) → o ≡ Some k → m ≤ k) × ((n : ℕ) → IsIn n ns → m ≤ n))
 least_from None [] = tt
-least_from (Some k) [] = (λ j e. let same : k ≡ j = same_number e in omega (arith, same), λ n h. absurd h)
+least_from (Some k) [] = (λ j e. let same : k ≡ j = same_Some e in omega (arith, same), λ n h. absurd h)
 least_from o (n ∷ ns) =
     some_weaker (fold lower (lower o n) ns) (λ m. ((k : ℕ) → lower o n ≡ Some k → m ≤ k) × ((j : ℕ) → IsIn j ns → m ≤ j)) (λ m. ((k : ℕ) → o ≡ Some k → m ≤ k) × ((j : ℕ) → IsIn j (n ∷ ns) → m ≤ j))
     (λ m h. (λ k e. old o m k h.0 e, λ j within. elim within [ inl e ↦ let low = new o m h.0 in let same : n ≡ j = e in omega (arith, low, same) | inr later ↦ h.1 j later ]))
@@ -151,7 +142,7 @@ least_from o (n ∷ ns) =
   where
     old : (p : Option ℕ) (m k : ℕ) → ((i : ℕ) → lower p n ≡ Some i → m ≤ i) → p ≡ Some k → m ≤ k
     old None m k below e = absurd (none_some e)
-    old (Some i) m k below e = let same : i ≡ k = same_number e in let low = below (min i n) refl in omega (arith, low, same)
+    old (Some i) m k below e = let same : i ≡ k = same_Some e in let low = below (min i n) refl in omega (arith, low, same)
 
     new : (p : Option ℕ) (m : ℕ) → ((i : ℕ) → lower p n ≡ Some i → m ≤ i) → m ≤ n
     new None m below = below n refl
