@@ -9,7 +9,8 @@ that of one that prepares alone, over the number of pairs. The first column has 
 
 - one owner: so many ranges of the owner that locks, in the same file, with free bytes between;
 - as many owners: each with one range, in the same file;
-- other files: as many ranges of as many owners, in the other files;
+- files before, files behind: as many ranges of as many owners, in other files, whose claims stand before or behind in
+  the table's list;
 - waiters: so many who wait for a range of another file, with 1 claim, and with 10,000 in other files.
 """
 import argparse
@@ -36,16 +37,21 @@ def held_by_many(count):
     return calls, (1, 1, STEP * (count // 2) + STEP // 2)
 
 
-def held_elsewhere(count):
+def held_behind(count):
     calls = [(LOCK, 2 + at % (FILES - 1), 2 + at, STEP * at, 1, True, False) for at in range(count)]
     return calls, (1, 1, STEP // 2)
+
+
+def held_before(count):
+    calls = [(LOCK, 1 + at % (FILES - 1), 2 + at, STEP * at, 1, True, False) for at in range(count)]
+    return calls, (FILES, 1, STEP // 2)
 
 
 def waiting(held):
     """Waiters for a range of another file, beside as many ranges in other files."""
 
     def prepare(count):
-        calls, place = held_elsewhere(held)
+        calls, place = held_before(held)
         calls += [(LOCK, 2, 0, 10**9, 1, True, False)]
         return calls + [(LOCK, 2, 2 + 10**6 + at, 10**9, 1, True, True) for at in range(count)], place
 
@@ -87,7 +93,7 @@ def main():
     parser = argparse.ArgumentParser(description=__doc__, formatter_class=form)
     parser.add_argument("binary", metavar="BINARY", help="a built xlockd, as crates/xlockd/out/xlockd")
     binary = parser.parse_args().binary
-    held = [("one owner", held_by_one), ("as many owners", held_by_many), ("other files", held_elsewhere)]
+    held = [("one owner", held_by_one), ("as many owners", held_by_many), ("files before", held_before), ("files behind", held_behind)]
     table(binary, "a LOCK and UNLOCK with so many ranges held by", HELD, held)
     waits = [("1 claim", waiting(1)), ("10,000 claims in other files", waiting(10_000))]
     table(binary, "with so many who wait elsewhere, and", WAITERS, waits)
