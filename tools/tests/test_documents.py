@@ -107,7 +107,9 @@ class Examples(unittest.TestCase):
             program = folder / "program"
             program.write_text("#!/bin/sh\ncat >/dev/null\necho 1 c0 00\n")
             program.chmod(0o755)
-            self.assertIn("examples/null.transcript isn't", next(example_faults(folder, str(program))))
+            found = list(example_faults(folder, str(program)))
+            self.assertIn("the words [] end with (0, '')", found)
+            self.assertIn("examples/null.transcript isn't", " ".join(found))
 
 
 class Commands(unittest.TestCase):
