@@ -1,14 +1,13 @@
 -- A reader and a spelling that are put together of codecs are a codec.
-use Rattle.std.proofs.Common.{◌≡◌, ℕ, zero, suc, ◌+◌, ◌-◌, ◌^◌, ◌<◌, ◌≤◌, ◌==◌, Bool, true, false, cond, ltb, eqb, List, [], ◌∷◌, ◌++◌, length, take, drop, Result, Ok, Err, refl, sym, ap, subst, ◌∙◌, append_assoc, arith, inl, inr}
+use Rattle.std.proofs.Common.{◌≡◌, ℕ, ◌+◌, ◌^◌, ◌<◌, ◌≤◌, ◌==◌, Bool, true, false, cond, ltb, eqb, List, [], ◌++◌, length, take, drop, Result, Ok, Err, refl, sym, ap, subst, ◌∙◌, append_assoc, arith, inl, inr}
 use Rattle.std.specs.Prelude.{IfOk}
-use Rattle.std.specs.Int.{Width, w16, w32, w64, byte_len, from_be_bytes, to_be_bytes, from_le_bytes, to_le_bytes}
-use Rattle.std.specs.List.{flat_map, AllByRecursion}
+use Rattle.std.specs.Int.{Width, w32, w64, byte_len, from_be_bytes, to_be_bytes}
 use Rattle.std.proofs.lemmas.Bool.{cases_Bool, cases_lt, eqb-true, ltb-false, le-ltb}
 use Rattle.std.proofs.lemmas.Bool.Decides.{nat_tests}
-use Rattle.std.proofs.lemmas.List.{take_at, drop_at, take-append-drop, length-append, length-take, get_or-drop, get_or-take, get_or_past, append-nil}
-use Rattle.std.proofs.lemmas.Nat.{be_bytes_2, be_bytes_4, be_bytes_8, le_bytes_2, le_bytes_4, le_bytes_8, from_be_bytes-to_be_bytes_2, from_be_bytes-to_be_bytes_4, from_be_bytes-to_be_bytes_8, from_le_bytes-to_le_bytes_2, from_le_bytes-to_le_bytes_4, from_le_bytes-to_le_bytes_8}
+use Rattle.std.proofs.lemmas.List.{take_at, drop_at, take-append-drop, length-append, length-take, get_or-drop, get_or-take, get_or_past}
+use Rattle.std.proofs.lemmas.Nat.{be_bytes_4, be_bytes_8, from_be_bytes-to_be_bytes_4, from_be_bytes-to_be_bytes_8}
 use Rattle.xl_base.specs.Results.{Gives}
-use Rattle.xl_base.specs.Codec.{big_endian, little_endian, ◌>>=◌, pair_at, as_at, guard_at, exactly_at, tagged_at, if_at, choose_at, nothing_at, never_at, fixed_at, big_endian_at, little_endian_at, items_at, list_at, with_front, IsBytes, Takes, IsCodec, Advances}
+use Rattle.xl_base.specs.Codec.{big_endian, ◌>>=◌, pair_at, as_at, guard_at, exactly_at, tagged_at, if_at, choose_at, nothing_at, never_at, fixed_at, big_endian_at, IsBytes, Takes, IsCodec, Advances}
 
 -- ---- bytes
 
@@ -145,19 +144,19 @@ never_codec fault spell Fit none = record {
 }
 
 -- what stands behind a tag: tag_of is the tag of a value
-pub tagged_codec : {A E : Type 0} {number : List ℕ → Result (ℕ × List ℕ) E} {spell_number : ℕ → List ℕ} {Fit_number : ℕ → Type 0} {at : ℕ → List ℕ → Result (A × List ℕ) E} {spell : A → List ℕ} {Fit : A → Type 0} (tag_of : A → ℕ)
-    → IsCodec number spell_number Fit_number → ((tag : ℕ) → IsCodec (at tag) spell (λ v. (tag_of v ≡ tag) × Fit v))
-    → IsCodec (tagged_at number at) (λ v. spell_number (tag_of v) ++ spell v) (λ v. Fit_number (tag_of v) × Fit v)
-tagged_codec {A} {E} {number} {spell_number} {Fit_number} {at} {spell} {Fit} tag_of f g = record {
+pub tagged_codec : {K A E : Type 0} {key : List ℕ → Result (K × List ℕ) E} {spell_key : K → List ℕ} {Fit_key : K → Type 0} {at : K → List ℕ → Result (A × List ℕ) E} {spell : A → List ℕ} {Fit : A → Type 0} (tag_of : A → K)
+    → IsCodec key spell_key Fit_key → ((tag : K) → IsCodec (at tag) spell (λ v. (tag_of v ≡ tag) × Fit v))
+    → IsCodec (tagged_at key at) (λ v. spell_key (tag_of v) ++ spell v) (λ v. Fit_key (tag_of v) × Fit v)
+tagged_codec {K} {A} {E} {key} {spell_key} {Fit_key} {at} {spell} {Fit} tag_of f g = record {
   takes = λ bytes x is e.
-      let tag = bind_ok (number bytes) (λ tag. at tag.0 tag.1) x e in
+      let tag = bind_ok (key bytes) (λ tag. at tag.0 tag.1) x e in
       let one = f.takes bytes tag.0 is tag.1 in
       let two = (g tag.0.0).takes tag.0.1 x one.0.rest_is tag.2 in
       let same : tag.0.0 ≡ tag_of x.0 = sym two.1.0 in
-      let both = Takes-then bytes (spell_number tag.0.0) tag.0.1 (spell x.0) x.1 one.0 two.0 in
-      (subst (λ (k : ℕ). Takes bytes (spell_number k ++ spell x.0) x.1) same both, (subst Fit_number same one.1, two.1.1));
+      let both = Takes-then bytes (spell_key tag.0.0) tag.0.1 (spell x.0) x.1 one.0 two.0 in
+      (subst (λ (k : K). Takes bytes (spell_key k ++ spell x.0) x.1) same both, (subst Fit_key same one.1, two.1.1));
   again = λ v rest fit.
-      ap (tagged_at number at) (append_assoc (spell_number (tag_of v)) (spell v) rest)
+      ap (tagged_at key at) (append_assoc (spell_key (tag_of v)) (spell v) rest)
       ∙ rw (f.again (tag_of v) (spell v ++ rest) fit.0) ((g (tag_of v)).again v rest (refl, fit.1));
 }
 
@@ -248,15 +247,6 @@ wide_codec {E} short w limit spelled read wide = record {
       rw (long, take_at (spelled n) rest (byte_len w) len, drop_at (spelled n) rest (byte_len w) len, wide.again n lt) refl;
 }
 
-pub big_endian_16 : {E : Type 0} (short : E) → IsCodec (big_endian_at short w16) (big_endian w16) (λ n. n < 2 ^ 16)
-unfolding big_endian
-big_endian_16 short = wide_codec short w16 (2 ^ 16) (to_be_bytes w16) (from_be_bytes w16) record {
-  len = λ n. refl;
-  back = λ bytes len is. be_bytes_2 bytes _ len is refl;
-  again = λ n lt. from_be_bytes-to_be_bytes_2 n lt;
-  below = λ bytes is. omega (arith, is 0, is 1);
-}
-
 pub big_endian_32 : {E : Type 0} (short : E) → IsCodec (big_endian_at short w32) (big_endian w32) (λ n. n < 2 ^ 32)
 unfolding big_endian
 big_endian_32 short = wide_codec short w32 (2 ^ 32) (to_be_bytes w32) (from_be_bytes w32) record {
@@ -273,83 +263,6 @@ big_endian_64 short = wide_codec short w64 (2 ^ 64) (to_be_bytes w64) (from_be_b
   back = λ bytes len is. be_bytes_8 bytes _ len is refl;
   again = λ n lt. from_be_bytes-to_be_bytes_8 n lt;
   below = λ bytes is. omega (arith, is 0, is 1, is 2, is 3, is 4, is 5, is 6, is 7);
-}
-
-pub little_endian_16 : {E : Type 0} (short : E) → IsCodec (little_endian_at short w16) (little_endian w16) (λ n. n < 2 ^ 16)
-unfolding little_endian
-little_endian_16 short = wide_codec short w16 (2 ^ 16) (to_le_bytes w16) (from_le_bytes w16) record {
-  len = λ n. refl;
-  back = λ bytes len is. le_bytes_2 bytes _ len is refl;
-  again = λ n lt. from_le_bytes-to_le_bytes_2 n lt;
-  below = λ bytes is. omega (arith, is 0, is 1);
-}
-
-pub little_endian_32 : {E : Type 0} (short : E) → IsCodec (little_endian_at short w32) (little_endian w32) (λ n. n < 2 ^ 32)
-unfolding little_endian
-little_endian_32 short = wide_codec short w32 (2 ^ 32) (to_le_bytes w32) (from_le_bytes w32) record {
-  len = λ n. refl;
-  back = λ bytes len is. le_bytes_4 bytes _ len is refl;
-  again = λ n lt. from_le_bytes-to_le_bytes_4 n lt;
-  below = λ bytes is. omega (arith, is 0, is 1, is 2, is 3);
-}
-
-pub little_endian_64 : {E : Type 0} (short : E) → IsCodec (little_endian_at short w64) (little_endian w64) (λ n. n < 2 ^ 64)
-unfolding little_endian
-little_endian_64 short = wide_codec short w64 (2 ^ 64) (to_le_bytes w64) (from_le_bytes w64) record {
-  len = λ n. refl;
-  back = λ bytes len is. le_bytes_8 bytes _ len is refl;
-  again = λ n lt. from_le_bytes-to_le_bytes_8 n lt;
-  below = λ bytes is. omega (arith, is 0, is 1, is 2, is 3, is 4, is 5, is 6, is 7);
-}
-
--- ---- counted lists
-
-items_take : {A E : Type 0} {at : List ℕ → Result (A × List ℕ) E} {spell : A → List ℕ} {Fit : A → Type 0} → IsCodec at spell Fit
-    → (n : ℕ) (bytes : List ℕ) (x : List A × List ℕ) → IsBytes bytes → items_at at n bytes ≡ Ok x → Takes bytes (flat_map spell x.0) x.1 × ((length x.0 ≡ n) × AllByRecursion Fit x.0)
-unfolding items_at
-items_take {A} {E} {at} {spell} {Fit} f zero bytes x is e =
-    subst (λ (y : List A × List ℕ). Takes bytes (flat_map spell y.0) y.1 × ((length y.0 ≡ 0) × AllByRecursion Fit y.0)) (ok_is {E = E} ([], bytes) x e) (Takes-none bytes is, (refl, tt))
-items_take {A} {E} {at} {spell} {Fit} f (suc n) bytes x is e =
-    let a = bind_ok (at bytes) (λ a. items_at at n a.1 >>= λ others. Ok (a.0 ∷ others.0, others.1)) x e in
-    let b = bind_ok (items_at at n a.0.1) (λ others. Ok (a.0.0 ∷ others.0, others.1)) x a.2 in
-    let one = f.takes bytes a.0 is a.1 in
-    let two = items_take f n a.0.1 b.0 one.0.rest_is b.1 in
-    let both = Takes-then bytes (spell a.0.0) a.0.1 (flat_map spell b.0.0) b.0.1 one.0 two.0 in
-    let made : List A × List ℕ = (a.0.0 ∷ b.0.0, b.0.1) in
-    subst (λ (y : List A × List ℕ). Takes bytes (flat_map spell y.0) y.1 × ((length y.0 ≡ suc n) × AllByRecursion Fit y.0)) (ok_is {E = E} made x b.2) (both, (ap suc two.1.0, (one.1, two.1.1)))
-
-items_again : {A E : Type 0} {at : List ℕ → Result (A × List ℕ) E} {spell : A → List ℕ} {Fit : A → Type 0} → IsCodec at spell Fit
-    → (n : ℕ) (xs : List A) (rest : List ℕ) → length xs ≡ n → AllByRecursion Fit xs → items_at at n (flat_map spell xs ++ rest) ≡ Ok (xs, rest)
-unfolding items_at
-items_again f zero [] rest len fit = refl
-items_again f zero (x ∷ xs) rest len fit = absurd (omega arith)
-items_again f (suc n) [] rest len fit = absurd (omega arith)
-items_again {A} {E} {at} {spell} {Fit} f (suc n) (x ∷ xs) rest len fit =
-    let fewer : length xs ≡ n = omega arith in
-    ap (items_at at (suc n)) (append_assoc (spell x) (flat_map spell xs) rest)
-    ∙ rw (f.again x (flat_map spell xs ++ rest) fit.0, items_again f n xs rest fewer fit.1) refl
-
-pub items_codec : {A E : Type 0} {at : List ℕ → Result (A × List ℕ) E} {spell : A → List ℕ} {Fit : A → Type 0} (n : ℕ)
-    → IsCodec at spell Fit → IsCodec (items_at at n) (flat_map spell) (λ xs. (length xs ≡ n) × AllByRecursion Fit xs)
-items_codec n f = record {
-  takes = λ bytes x is e. items_take f n bytes x is e;
-  again = λ v rest fit. items_again f n v rest fit.0 fit.1;
-}
-
-pub list_codec : {A E : Type 0} {count : List ℕ → Result (ℕ × List ℕ) E} {spell_count : ℕ → List ℕ} {Fit_count : ℕ → Type 0} {at : List ℕ → Result (A × List ℕ) E} {spell : A → List ℕ} {Fit : A → Type 0}
-    → IsCodec count spell_count Fit_count → IsCodec at spell Fit
-    → IsCodec (list_at count at) (λ xs. spell_count (length xs) ++ flat_map spell xs) (λ xs. Fit_count (length xs) × AllByRecursion Fit xs)
-list_codec {A} {E} {count} {spell_count} {Fit_count} {at} {spell} {Fit} c f = record {
-  takes = λ bytes x is e.
-      let n = bind_ok (count bytes) (λ n. items_at at n.0 n.1) x e in
-      let one = c.takes bytes n.0 is n.1 in
-      let two = items_take f n.0.0 n.0.1 x one.0.rest_is n.2 in
-      let same : n.0.0 ≡ length x.0 = sym two.1.0 in
-      let both = Takes-then bytes (spell_count n.0.0) n.0.1 (flat_map spell x.0) x.1 one.0 two.0 in
-      (subst (λ (k : ℕ). Takes bytes (spell_count k ++ flat_map spell x.0) x.1) same both, (subst Fit_count same one.1, two.1.1));
-  again = λ v rest fit.
-      ap (list_at count at) (append_assoc (spell_count (length v)) (flat_map spell v) rest)
-      ∙ rw (c.again (length v) (flat_map spell v ++ rest) fit.0) (items_again f (length v) v rest refl fit.1);
 }
 
 -- ---- what a reader's clauses say, from the one that it gives what its definition gives
@@ -387,33 +300,3 @@ pub one_spelling : {A E : Type 0} {at : List ℕ → Result (A × List ℕ) E} {
 one_spelling {A} {E} {at} {spell} {Fit} f v w x y fit_v fit_w same =
     let both : (v, x) ≡ (w, y) = ok_is {E = E} (v, x) (w, y) (sym (f.again v x fit_v) ∙ ap at same ∙ f.again w y fit_w) in
     (ap (λ (p : A × List ℕ). p.0) both, ap (λ (p : A × List ℕ). p.1) both)
-
--- ---- reading things one after the other, as a loop over a count does
-
-regroup : {A E : Type 0} (front : List A) (a : A) (read : Result (List A × List ℕ) E) → with_front front (read >>= λ x. Ok (a ∷ x.0, x.1)) ≡ with_front (front ++ a ∷ []) read
-regroup {A} front a (Ok x) = ap (λ (xs : List A). Ok (xs, x.1)) (simp append_assoc)
-regroup front a (Err f) = refl
-
-pub items_go_on : {A E : Type 0} (at : List ℕ → Result (A × List ℕ) E) (front : List A) (count i : ℕ) (bytes : List ℕ) (a : A) (after : List ℕ) (total : Result (List A × List ℕ) E) → i < count → at bytes ≡ Ok (a, after)
-    → with_front front (items_at at (count - i) bytes) ≡ total → with_front (front ++ a ∷ []) (items_at at (count - (i + 1)) after) ≡ total
-unfolding items_at
-items_go_on {A} {E} at front count i bytes a after total lt h so_far =
-    let k : count - i ≡ suc (count - (i + 1)) = omega arith in
-    let one : with_front front (items_at at (count - i) bytes) ≡ with_front (front ++ a ∷ []) (items_at at (count - (i + 1)) after) = rw (k, h) (regroup front a (items_at at (count - (i + 1)) after)) in
-    sym one ∙ so_far
-
-pub items_end : {A E : Type 0} (at : List ℕ → Result (A × List ℕ) E) (front : List A) (count i : ℕ) (bytes : List ℕ) (fault : E) (total : Result (List A × List ℕ) E) → i < count → at bytes ≡ Err fault
-    → with_front front (items_at at (count - i) bytes) ≡ total → total ≡ Err fault
-unfolding items_at
-items_end {A} {E} at front count i bytes fault total lt h so_far =
-    let k : count - i ≡ suc (count - (i + 1)) = omega arith in
-    let one : with_front front (items_at at (count - i) bytes) ≡ Err fault = rw (k, h) refl in
-    sym so_far ∙ one
-
-pub items_are : {A E : Type 0} (at : List ℕ → Result (A × List ℕ) E) (front : List A) (count i : ℕ) (bytes : List ℕ) (total : Result (List A × List ℕ) E) → count ≤ i
-    → with_front front (items_at at (count - i) bytes) ≡ total → total ≡ Ok (front, bytes)
-unfolding items_at
-items_are {A} {E} at front count i bytes total le so_far =
-    let k : count - i ≡ 0 = omega arith in
-    let one : with_front front (items_at at (count - i) bytes) ≡ Ok (front, bytes) = rw k (ap (λ (xs : List A). Ok (xs, bytes)) (append-nil front)) in
-    sym so_far ∙ one

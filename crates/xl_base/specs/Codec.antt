@@ -1,7 +1,7 @@
 -- Formats of many fields: how a value is spelled, and how it is read from the front of bytes with the first fault met.
 -- A reader is a function on lists: it gives a value and the bytes after it, or a fault.
-use Rattle.std.specs.Prelude.{◌≡◌, ℕ, zero, suc, ◌<◌, ◌==◌, Bool, List, [], ◌∷◌, ◌++◌, length, take, drop, get_or, Result, Ok, Err, nat_lt, if◌then◌else◌}
-use Rattle.std.specs.Int.{Width, byte_len, to_be_bytes, from_be_bytes, to_le_bytes, from_le_bytes}
+use Rattle.std.specs.Prelude.{◌≡◌, ℕ, ◌<◌, ◌==◌, Bool, List, ◌++◌, length, take, drop, get_or, Result, Ok, Err, nat_lt, if◌then◌else◌}
+use Rattle.std.specs.Int.{Width, byte_len, to_be_bytes, from_be_bytes, to_le_bytes}
 
 -- ---- spelling
 
@@ -36,9 +36,9 @@ guard_at test fault at bytes = at bytes >>= λ a. if test a.0 then Ok a else Err
 abbrev pub exactly_at : {A E : Type 0} → ℕ → E → (List ℕ → Result (ℕ × List ℕ) E) → (List ℕ → Result (A × List ℕ) E) → List ℕ → Result (A × List ℕ) E
 exactly_at n fault number at bytes = number bytes >>= λ m. if m.0 == n then at m.1 else Err fault
 
--- a number, and what it says stands behind it
-abbrev pub tagged_at : {A E : Type 0} → (List ℕ → Result (ℕ × List ℕ) E) → (ℕ → List ℕ → Result (A × List ℕ) E) → List ℕ → Result (A × List ℕ) E
-tagged_at number at bytes = number bytes >>= λ tag. at tag.0 tag.1
+-- a tag, and what it says stands behind it
+abbrev pub tagged_at : {K A E : Type 0} → (List ℕ → Result (K × List ℕ) E) → (K → List ℕ → Result (A × List ℕ) E) → List ℕ → Result (A × List ℕ) E
+tagged_at key at bytes = key bytes >>= λ tag. at tag.0 tag.1
 
 -- one thing where the tag is n, and another where it isn't
 abbrev pub if_at : {A E : Type 0} → ℕ → ℕ → (List ℕ → Result (A × List ℕ) E) → (List ℕ → Result (A × List ℕ) E) → List ℕ → Result (A × List ℕ) E
@@ -62,21 +62,6 @@ fixed_at short n bytes = if nat_lt (length bytes) n then Err short else Ok (take
 -- a number in so many bits
 abbrev pub big_endian_at : {E : Type 0} → E → Width → List ℕ → Result (ℕ × List ℕ) E
 big_endian_at short w bytes = if nat_lt (length bytes) (byte_len w) then Err short else Ok (from_be_bytes w (take (byte_len w) bytes), drop (byte_len w) bytes)
-
-abbrev pub little_endian_at : {E : Type 0} → E → Width → List ℕ → Result (ℕ × List ℕ) E
-little_endian_at short w bytes = if nat_lt (length bytes) (byte_len w) then Err short else Ok (from_le_bytes w (take (byte_len w) bytes), drop (byte_len w) bytes)
-
--- so many things in a row, and a count with as many things behind it
-unfoldable pub items_at : {A E : Type 0} → (List ℕ → Result (A × List ℕ) E) → ℕ → List ℕ → Result (List A × List ℕ) E
-items_at at zero bytes = Ok ([], bytes)
-items_at at (suc n) bytes = at bytes >>= λ a. items_at at n a.1 >>= λ others. Ok (a.0 ∷ others.0, others.1)
-
-abbrev pub list_at : {A E : Type 0} → (List ℕ → Result (ℕ × List ℕ) E) → (List ℕ → Result (A × List ℕ) E) → List ℕ → Result (List A × List ℕ) E
-list_at count at bytes = count bytes >>= λ n. items_at at n.0 n.1
-
--- the things that were read before, in front of those that are still read
-abbrev pub with_front : {A E : Type 0} → List A → Result (List A × List ℕ) E → Result (List A × List ℕ) E
-with_front front read = read >>= λ x. Ok (front ++ x.0, x.1)
 
 -- ---- what a reader and a spelling are to each other
 

@@ -1,4 +1,4 @@
--- File handles: opaque to clients (RFC 7530 4.1, XNFS C702), here a mark and the file's number.
+-- File handles: opaque to clients (RFC 7530 4.2.1, XNFS C702), here a mark and the file's number.
 use Rattle.std.specs.Prelude.{ℕ, ◌==◌, ◌&&◌, if◌then◌else◌, List, ◌++◌, length, take, drop, codes, bytes_eq, Option, Some, None}
 use Rattle.std.specs.Int.{w32, to_be_bytes, from_be_bytes}
 

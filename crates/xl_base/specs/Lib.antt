@@ -1,4 +1,5 @@
 pub mod Codec
+pub mod Formats
 pub mod Handles
 pub mod Lists
 pub mod Memory

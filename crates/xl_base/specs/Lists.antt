@@ -17,7 +17,7 @@ abbrev pub placed : {A : Type 0} → (A → A → Bool) → A → List A → Lis
 placed below x [] = x ∷ []
 placed below x (y ∷ ys) = if below y x then y ∷ placed below x ys else x ∷ y ∷ ys
 
--- the elements in order; of equal ones the later stands first
+-- the elements in order; those of which neither stands below the other stay as they stood
 abbrev pub sorted : {A : Type 0} → (A → A → Bool) → List A → List A
 sorted below [] = []
 sorted below (x ∷ xs) = placed below x (sorted below xs)

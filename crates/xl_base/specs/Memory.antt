@@ -2,6 +2,10 @@
 use Rattle.std.specs.Prelude.{ℕ, ◌+◌, ◌-◌, ◌^◌, min, Bool, ◌==◌, List, [], ◌∷◌, ◌++◌}
 use Rattle.std.specs.List.{list_any}
 use Rattle.xl_base.specs.Stable.{Stable}
+use Rattle.xl_base.specs.declared.source.ReadOutcome.{ReadOutcome}
+use Rattle.xl_base.specs.declared.source.ReadOutcome.TheVariants.{Failed}
+use Rattle.xl_base.specs.declared.sink.WriteOutcome.{WriteOutcome}
+use Rattle.xl_base.specs.declared.sink.WriteOutcome.TheVariants as write
 use Rattle.xl_base.specs.declared.keeper.LoadOutcome.{LoadOutcome}
 use Rattle.xl_base.specs.declared.keeper.LoadOutcome.TheVariants as load
 use Rattle.xl_base.specs.declared.keeper.StoreOutcome.{StoreOutcome}
@@ -39,6 +43,16 @@ pub record MemoryStorage : Type 0 where
 -- a count of 64 bits after one more; it stops at its last value
 abbrev pub counted : ℕ → ℕ
 counted count = min (count + 1) (2 ^ 64 - 1)
+
+-- a source in memory after a read that leaves these bytes
+abbrev pub after_read : ReadOutcome → List ℕ → MemoryInput → MemoryInput
+after_read Failed left s = record { left = left; failing = s.failing; calls = counted s.calls; faults = counted s.faults }
+after_read _ left s = record { left = left; failing = s.failing; calls = counted s.calls; faults = s.faults }
+
+-- a sink in memory after a write that leaves these bytes written
+abbrev pub after_write : WriteOutcome → List ℕ → MemoryOutput → MemoryOutput
+after_write write.Failed held s = record { held = held; failing = s.failing; calls = counted s.calls; faults = counted s.faults }
+after_write write.Wrote held s = record { held = held; failing = s.failing; calls = counted s.calls; faults = s.faults }
 
 -- a keeper in memory after a load
 abbrev pub after_load : LoadOutcome → MemoryStorage → MemoryStorage

@@ -14,6 +14,24 @@ use Rattle.xl_base.specs.declared.sink.WriteOutcome.TheVariants as write
 abbrev pub Rose : ℕ → ℕ → Type 0
 Rose before now = now < 2 ^ 64 - 1 → before < now
 
+-- What one call of a source, a sink or a keeper says of the count of its faults: it rose where the call failed, and
+-- stands where it didn't.
+abbrev pub ReadCounts : ReadOutcome → ℕ → ℕ → Type 0
+ReadCounts Failed before now = Rose before now
+ReadCounts _ before now = now ≡ before
+
+abbrev pub WriteCounts : WriteOutcome → ℕ → ℕ → Type 0
+WriteCounts write.Failed before now = Rose before now
+WriteCounts write.Wrote before now = now ≡ before
+
+abbrev pub LoadCounts : LoadOutcome → ℕ → ℕ → Type 0
+LoadCounts load.Failed before now = Rose before now
+LoadCounts _ before now = now ≡ before
+
+abbrev pub StoreCounts : StoreOutcome → ℕ → ℕ → Type 0
+StoreCounts store.Failed before now = Rose before now
+StoreCounts _ before now = now ≡ before
+
 -- These bytes were taken from the front of what was left, where that is told.
 abbrev pub Took : Option (List ℕ) → List ℕ → Option (List ℕ) → Type 0
 Took None bytes new = Unit {0}

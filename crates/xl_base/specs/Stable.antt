@@ -14,6 +14,7 @@ pub record Stable : Type 0 where
 abbrev pub raised : Stable → Stable
 raised stable = record { epoch = if stable.epoch == 2 ^ 32 - 1 then 1 else stable.epoch + 1; names = stable.names }
 
+-- two protocols are the same one
 abbrev pub same_protocol : Protocol → Protocol → Bool
 same_protocol Nlm Nlm = true
 same_protocol Nfs Nfs = true

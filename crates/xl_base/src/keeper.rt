@@ -1,7 +1,7 @@
 //! Where the record is kept on stable storage (RFC 7530 9.6.2).
 ghost use Rattle.std.specs.Prelude.{◌≡◌, ℕ, ◌≤◌, List, [], Option, Some, IsTrue, ◌↔◌, true, false};
 ghost use Rattle.xl_base.specs.Memory.{is_failing, after_load, after_store};
-ghost use Rattle.xl_base.specs.Outside.{Loads, Rose, held_after, given_after};
+ghost use Rattle.xl_base.specs.Outside.{Loads, LoadCounts, StoreCounts, held_after, given_after};
 ghost use Rattle.xl_base.specs.Stable.{Stable};
 
 use crate::source::is_failing;
@@ -49,23 +49,22 @@ pub trait Keeper {
     fn faults(&self) -> u64
         ensures { result ≡ faults self.now };
 
-    /// Loads the record that is held, which changes nothing but the count. Failed comes only where the count rose.
+    /// Loads the record that is held, which changes nothing but the count. That rises where the answer is Failed, and
+    /// nowhere else.
     fn load(&mut self, alloc: Global) -> LoadOutcome
         ensures loaded { Loads result (held self.old) }
         ensures held { held self.new ≡ held self.old }
         ensures given { given self.new ≡ given self.old }
         ensures later { faults self.old ≤ faults self.new }
-        ensures cause { result ≡ LoadOutcome.Failed → Rose (faults self.old) (faults self.new) }
-        ensures unasked { result ≡ LoadOutcome.NoMemory → faults self.new ≡ faults self.old };
+        ensures counts { LoadCounts result (faults self.old) (faults self.new) };
 
-    /// Stores the record in place of the one that is held. Failed comes only where the count rose; want of memory
-    /// changes nothing.
+    /// Stores the record in place of the one that is held. The count rises where the answer is Failed, and nowhere
+    /// else; want of memory changes nothing.
     fn store(&mut self, alloc: Global, stable: &Record) -> StoreOutcome
         ensures held { held self.new ≡ held_after result stable.now (held self.old) }
         ensures given { given self.new ≡ given_after result stable.now (given self.old) }
         ensures later { faults self.old ≤ faults self.new }
-        ensures cause { result ≡ StoreOutcome.Failed → Rose (faults self.old) (faults self.new) }
-        ensures unasked { result ≡ StoreOutcome.NoMemory → faults self.new ≡ faults self.old };
+        ensures counts { StoreCounts result (faults self.old) (faults self.new) };
 }
 
 /// A keeper in memory, whose calls numbered in its list fail; loads and stores are counted together, and the first
@@ -132,8 +131,7 @@ impl Keeper for MemoryKeeper {
         ensures held { Some self.new.held ≡ Some self.old.held }
         ensures given { Some self.new.given ≡ Some self.old.given }
         ensures later { self.old.faults ≤ self.new.faults }
-        ensures cause { result ≡ LoadOutcome.Failed → Rose self.old.faults self.new.faults }
-        ensures unasked { result ≡ LoadOutcome.NoMemory → self.new.faults ≡ self.old.faults }
+        ensures counts { LoadCounts result self.old.faults self.new.faults }
         ensures after { self.new ≡ after_load result self.old }
         // Just the calls of its list fail.
         ensures fails { (result ≡ LoadOutcome.Failed) ↔ IsTrue (is_failing self.old.failing self.new.calls) }
@@ -153,8 +151,7 @@ impl Keeper for MemoryKeeper {
         ensures held { Some self.new.held ≡ held_after result stable.now (Some self.old.held) }
         ensures given { Some self.new.given ≡ given_after result stable.now (Some self.old.given) }
         ensures later { self.old.faults ≤ self.new.faults }
-        ensures cause { result ≡ StoreOutcome.Failed → Rose self.old.faults self.new.faults }
-        ensures unasked { result ≡ StoreOutcome.NoMemory → self.new.faults ≡ self.old.faults }
+        ensures counts { StoreCounts result self.old.faults self.new.faults }
         ensures after { self.new ≡ after_store result stable.now self.old }
         // Just the calls of its list fail; memory is looked at first.
         ensures fails { result ≡ StoreOutcome.Failed → is_failing self.old.failing self.new.calls ≡ true }

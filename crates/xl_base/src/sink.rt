@@ -1,7 +1,7 @@
 //! Where a program's output goes.
 ghost use Rattle.std.specs.Prelude.{◌≡◌, ℕ, ◌+◌, ◌≤◌, List, [], Option, Some, IsTrue};
-ghost use Rattle.xl_base.specs.Memory.{is_failing};
-ghost use Rattle.xl_base.specs.Outside.{Writes, Rose};
+ghost use Rattle.xl_base.specs.Memory.{is_failing, after_write};
+ghost use Rattle.xl_base.specs.Outside.{Writes, WriteCounts};
 
 use crate::source::is_failing;
 use std::alloc::Global;
@@ -28,11 +28,11 @@ pub trait Sink {
     fn faults(&self) -> u64
         ensures { result ≡ faults self.now };
 
-    /// Writes the bytes behind those before them. Failed comes only where the count rose.
+    /// Writes the bytes behind those before them. The count rises where the answer is Failed, and nowhere else.
     fn write(&mut self, bytes: &[u8]) -> WriteOutcome
         ensures bytes { Writes result bytes.now (held self.old) (held self.new) }
         ensures later { faults self.old ≤ faults self.new }
-        ensures cause { result ≡ WriteOutcome.Failed → Rose (faults self.old) (faults self.new) };
+        ensures counts { WriteCounts result (faults self.old) (faults self.new) };
 }
 
 /// A sink in memory, whose writes numbered in its list fail; the first write has number 1. A failed write writes
@@ -86,7 +86,8 @@ impl Sink for MemorySink {
     fn write(&mut self, bytes: &[u8]) -> WriteOutcome
         ensures bytes { Writes result bytes.now (Some self.old.held) (Some self.new.held) }
         ensures later { self.old.faults ≤ self.new.faults }
-        ensures cause { result ≡ WriteOutcome.Failed → Rose self.old.faults self.new.faults }
+        ensures counts { WriteCounts result self.old.faults self.new.faults }
+        ensures after { self.new ≡ after_write result self.new.held self.old }
         // The writes of its list fail; another does only where memory runs out.
         ensures fails { IsTrue (is_failing self.old.failing self.new.calls) → result ≡ WriteOutcome.Failed }
     {

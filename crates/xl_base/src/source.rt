@@ -1,7 +1,7 @@
 //! Where a program's input comes from.
 ghost use Rattle.std.specs.Prelude.{◌≡◌, ℕ, ◌+◌, ◌<◌, ◌≤◌, List, length, take, Option, Some, IsTrue, ◌↔◌};
-ghost use Rattle.xl_base.specs.Memory.{is_failing};
-ghost use Rattle.xl_base.specs.Outside.{Reads, Rose};
+ghost use Rattle.xl_base.specs.Memory.{is_failing, after_read};
+ghost use Rattle.xl_base.specs.Outside.{Reads, ReadCounts};
 
 use std::marker::Model;
 
@@ -28,12 +28,13 @@ pub trait Source {
     fn faults(&self) -> u64
         ensures { result ≡ faults self.now };
 
-    /// Reads into the front of the buffer. End comes only where nothing is left, Failed only where the count rose.
+    /// Reads into the front of the buffer. End comes only where nothing is left. The count rises where the answer is
+    /// Failed, and nowhere else.
     fn read(&mut self, buffer: &mut [u8]) -> ReadOutcome
         requires { 0 < length buffer.old }
         ensures bytes { Reads result buffer.new (left self.old) (left self.new) }
         ensures later { faults self.old ≤ faults self.new }
-        ensures cause { result ≡ ReadOutcome.Failed → Rose (faults self.old) (faults self.new) };
+        ensures counts { ReadCounts result (faults self.old) (faults self.new) };
 }
 
 /// A source in memory, whose reads numbered in its list fail; the first read has number 1.
@@ -86,7 +87,8 @@ impl Source for MemorySource {
         requires { 0 < length buffer.old }
         ensures bytes { Reads result buffer.new (Some self.old.left) (Some self.new.left) }
         ensures later { self.old.faults ≤ self.new.faults }
-        ensures cause { result ≡ ReadOutcome.Failed → Rose self.old.faults self.new.faults }
+        ensures counts { ReadCounts result self.old.faults self.new.faults }
+        ensures after { self.new ≡ after_read result self.new.left self.old }
         // Just the reads of its list fail.
         ensures fails { (result ≡ ReadOutcome.Failed) ↔ IsTrue (is_failing self.old.failing self.new.calls) }
     {

@@ -2,7 +2,8 @@
 use Rattle.std.proofs.Common.{◌≡◌, ℕ, ◌+◌, ◌≤◌, inl, inr, Bool, true, false, ltb, Result, Ok, Err, refl, [], ◌∷◌, List, length, Option, Some, None, sym, ◌∙◌, arith}
 use Rattle.std.specs.Option.{option_map_or}
 use Rattle.std.proofs.lemmas.Bool.{cases_lt, lt-ltb, ne_eqb, true≢false}
-use Rattle.xl_capture.specs.Capture.{most_bytes, captured, capture_in, no_reading, with_lines, with_line, lines_of, is_last}
+use Rattle.std.proofs.lemmas.List.{length-take}
+use Rattle.xl_capture.specs.Capture.{most_bytes, looked_at, captured, capture_in, no_reading, with_lines, with_line, lines_of, is_last}
 use Rattle.xl_capture.specs.declared.capture.Capture.{Capture}
 use Rattle.xl_capture.specs.declared.capture.Reading.{Reading}
 use Rattle.xl_capture.proofs.LineLaws.{is_last_line}
@@ -34,7 +35,7 @@ read_ended text d e =
     elim (cases_lt most_bytes (length text)) [
       | inr few ↦ few
       | inl past ↦
-          let some : is_last (lines_of text) ≡ false = is_last_line text ∙ ne_eqb (length text) 0 (λ none. absurd (omega (arith, none, past))) in
-          let read = read_as (with_lines (ltb most_bytes (length text)) no_reading 0 (lines_of text)) d e in
-          absurd (refused (ltb most_bytes (length text)) no_reading (lines_of text) read.0 (lt-ltb most_bytes (length text) past) some read.1)
+          let some : is_last (lines_of (looked_at text)) ≡ false = is_last_line (looked_at text) ∙ ne_eqb (length (looked_at text)) 0 (λ none. absurd (omega (arith, none, past, length-take (most_bytes + 1) text))) in
+          let read = read_as (with_lines (ltb most_bytes (length text)) no_reading 0 (lines_of (looked_at text))) d e in
+          absurd (refused (ltb most_bytes (length text)) no_reading (lines_of (looked_at text)) read.0 (lt-ltb most_bytes (length text) past) some read.1)
     ]

@@ -1,3 +1,4 @@
+pub mod AddressLaws
 pub mod CutLaws
 pub mod EndLaws
 pub mod LineLaws

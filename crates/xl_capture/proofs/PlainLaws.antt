@@ -9,7 +9,7 @@ use Rattle.xl_base.specs.declared.event.Kind.TheVariants.{Rpc}
 use Rattle.xl_base.proofs.Members.{all_append}
 use Rattle.xl_frame.specs.Frames.{Framed}
 use Rattle.xl_frame.specs.declared.fault.FrameBad.{FrameBad}
-use Rattle.xl_capture.specs.Capture.{words_of, bytes_of, takes_file, with_name, with_file, takes_address, with_caller, with_address, with_host, with_events, with_link, with_open, with_stream, with_piece, with_bytes, with_last, with_ended, with_end, with_called, with_reply, with_no_reply, with_words, is_passed_over, with_line, is_last, most_bytes, with_lines, no_reading, lines_of, capture_in, captured}
+use Rattle.xl_capture.specs.Capture.{words_of, bytes_of, takes_file, with_name, with_file, takes_address, with_caller, with_address, with_host, with_events, with_link, with_open, with_stream, with_piece, with_bytes, with_last, with_ended, with_end, with_called, with_reply, with_no_reply, with_words, is_passed_over, with_line, is_last, most_bytes, looked_at, with_lines, no_reading, lines_of, capture_in, captured}
 use Rattle.xl_capture.specs.Links.{Link, link_of, without, framed, end_of, events_of}
 use Rattle.xl_capture.specs.Numbers.{number_of}
 use Rattle.xl_capture.specs.declared.capture.Capture.{Capture}
@@ -166,4 +166,4 @@ read_plain (Err line) c e plain = absurd cc
 -- a capture that was read has no other events
 pub captured_plain : (text : List ℕ) (c : Capture) → captured text ≡ Ok c → ArePlain c.events
 unfolding captured
-captured_plain text c e = read_plain (with_lines (nat_lt most_bytes (length text)) no_reading 0 (lines_of text)) c e (lines_plain (nat_lt most_bytes (length text)) no_reading 0 (lines_of text) tt)
+captured_plain text c e = read_plain (with_lines (nat_lt most_bytes (length text)) no_reading 0 (lines_of (looked_at text))) c e (lines_plain (nat_lt most_bytes (length text)) no_reading 0 (lines_of (looked_at text)) tt)

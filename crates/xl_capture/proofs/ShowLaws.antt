@@ -4,7 +4,8 @@ use Rattle.std.specs.Option.{option_map_or}
 use Rattle.std.proofs.lemmas.Bool.{cases_lt, lt-ltb, ne_eqb, true≢false}
 use Rattle.xl_rpc.specs.declared.fault.RpcBad.{RpcBad}
 use Rattle.xl_nfs.specs.Ops.{OpItem, op_number, op_at}
-use Rattle.xl_capture.specs.Capture.{most_bytes, lines_of, is_last}
+use Rattle.std.proofs.lemmas.List.{length-take}
+use Rattle.xl_capture.specs.Capture.{most_bytes, looked_at, lines_of, is_last}
 use Rattle.xl_capture.specs.Show.{is_unlisted, ops_from, show_words, show_line, show_lines, shown}
 use Rattle.xl_capture.proofs.LineLaws.{is_last_line}
 
@@ -60,6 +61,6 @@ shown_ended text lines e =
     elim (cases_lt most_bytes (length text)) [
       | inr few ↦ few
       | inl past ↦
-          let some : is_last (lines_of text) ≡ false = is_last_line text ∙ ne_eqb (length text) 0 (λ none. absurd (omega (arith, none, past))) in
-          absurd (refused (ltb most_bytes (length text)) (lines_of text) lines (lt-ltb most_bytes (length text) past) some e)
+          let some : is_last (lines_of (looked_at text)) ≡ false = is_last_line (looked_at text) ∙ ne_eqb (length (looked_at text)) 0 (λ none. absurd (omega (arith, none, past, length-take (most_bytes + 1) text))) in
+          absurd (refused (ltb most_bytes (length text)) (lines_of (looked_at text)) lines (lt-ltb most_bytes (length text) past) some e)
     ]

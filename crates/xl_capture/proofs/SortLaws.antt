@@ -1,22 +1,16 @@
--- Sorting by insertion, from the last element on.
-use Rattle.std.proofs.Common.{◌≡◌, Bool, List, [], ◌∷◌, ◌++◌, refl, sym, ap, ◌∙◌}
-use Rattle.xl_base.specs.Lists.{placed, sorted}
+-- The order of rows is one, so std's sort gives them in it.
+use Rattle.std.specs.Cmp.{IsStrictWeakOrder, IsTotalOrder}
+use Rattle.std.proofs.lemmas.Cmp.{nat_cmp_total, nat_list_cmp_total, on_total, then_total}
+use Rattle.std.proofs.lemmas.List.MinMax.{ranks_by}
+use Rattle.xl_capture.specs.Rows.{class_of, range_key, row_cmp, row_before}
+use Rattle.xl_capture.specs.declared.rows.Row.{Row}
 
--- these elements placed into others that are in order
-abbrev pub sorted_onto : {A : Type 0} → (A → A → Bool) → List A → List A → List A
-sorted_onto below [] out = out
-sorted_onto below (x ∷ xs) out = placed below x (sorted_onto below xs out)
+row_cmp_total : IsTotalOrder row_cmp
+unfolding row_cmp
+row_cmp_total =
+    then_total (on_total (λ (r : Row). r.file) nat_cmp_total)
+    (then_total (on_total (λ (r : Row). class_of r.what) nat_cmp_total)
+    (then_total (on_total (λ (r : Row). r.holder) nat_list_cmp_total) (on_total (λ (r : Row). range_key r.what) nat_list_cmp_total)))
 
-pub sorted_onto-push : {A : Type 0} (below : A → A → Bool) (xs : List A) (x : A) (out : List A) → sorted_onto below (xs ++ x ∷ []) out ≡ sorted_onto below xs (placed below x out)
-sorted_onto-push below [] x out = refl
-sorted_onto-push below (y ∷ ys) x out = ap (placed below y) (sorted_onto-push below ys x out)
-
-pub sorted_onto-nil : {A : Type 0} (below : A → A → Bool) (xs : List A) → sorted_onto below xs [] ≡ sorted below xs
-sorted_onto-nil below [] = refl
-sorted_onto-nil below (x ∷ xs) = ap (placed below x) (sorted_onto-nil below xs)
-
-pub sorted_pushed : {A : Type 0} (below : A → A → Bool) (xs ys out whole : List A) (x : A) → ys ≡ xs ++ x ∷ [] → sorted_onto below ys out ≡ whole → sorted_onto below xs (placed below x out) ≡ whole
-sorted_pushed {A} below xs ys out whole x e is = sym (sorted_onto-push below xs x out) ∙ ap (λ (zs : List A). sorted_onto below zs out) (sym e) ∙ is
-
-pub sorted_begun : {A : Type 0} (below : A → A → Bool) (xs out : List A) → out ≡ [] → sorted_onto below xs out ≡ sorted below xs
-sorted_begun below xs out e = ap (sorted_onto below xs) e ∙ sorted_onto-nil below xs
+pub rows_ranked : IsStrictWeakOrder row_before
+rows_ranked = ranks_by row_cmp_total (λ (r : Row). r)

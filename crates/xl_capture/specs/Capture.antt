@@ -1,5 +1,5 @@
 -- The text of a capture.
-use Rattle.std.specs.Prelude.{◌≡◌, ℕ, ◌+◌, Bool, true, false, not, ◌==◌, ◌&&◌, ◌||◌, nat_le, nat_lt, if◌then◌else◌, List, [], ◌∷◌, ◌++◌, length, codes, bytes_eq, Option, Some, None, Result, Ok, Err}
+use Rattle.std.specs.Prelude.{◌≡◌, ℕ, ◌+◌, Bool, true, false, not, ◌==◌, ◌&&◌, ◌||◌, nat_le, nat_lt, if◌then◌else◌, List, [], ◌∷◌, ◌++◌, length, take, codes, bytes_eq, Option, Some, None, Result, Ok, Err}
 use Rattle.std.specs.List.{slice_split, list_all, list_any}
 use Rattle.std.specs.Option.{option_map, option_map_or, option_and_then, option_to_list}
 use Rattle.std.specs.Result.{result_ok}
@@ -8,6 +8,7 @@ use Rattle.xl_base.specs.declared.event.Event.{Event}
 use Rattle.xl_base.specs.declared.event.Event.TheVariants.{Open, End, Called}
 use Rattle.xl_base.specs.declared.event.Kind.TheVariants.{Rpc}
 use Rattle.xl_frame.specs.Frames.{Framed}
+use Rattle.xl_capture.specs.Addresses.{has_address}
 use Rattle.xl_capture.specs.Links.{Link, opened, link_of, without, framed, events_of, still_open, AreDistinct, AreBelow}
 use Rattle.xl_capture.specs.Numbers.{number_of}
 use Rattle.xl_capture.specs.declared.capture.Capture.{Capture}
@@ -28,6 +29,7 @@ whole_lines [] = []
 whole_lines (part ∷ []) = last_line part
 whole_lines (part ∷ next ∷ parts) = part ∷ whole_lines (next ∷ parts)
 
+-- a line feed
 abbrev pub is_line_end : ℕ → Bool
 is_line_end b = b == 10
 
@@ -47,6 +49,7 @@ words_of text = slice_split is_blank text
 abbrev pub is_name_byte : ℕ → Bool
 is_name_byte b = (nat_le 97 b && nat_le b 122) || (nat_le 48 b && nat_le b 57) || b == 46 || b == 95 || b == 45
 
+-- 1 to 64 such letters
 abbrev pub is_file_name : List ℕ → Bool
 is_file_name name = nat_le 1 (length name) && nat_le (length name) 64 && list_all is_name_byte name
 
@@ -54,6 +57,7 @@ is_file_name name = nat_le 1 (length name) && nat_le (length name) 64 && list_al
 abbrev pub is_graphic : ℕ → Bool
 is_graphic b = nat_le 33 b && nat_le b 126
 
+-- 1 to 64 such bytes
 abbrev pub is_address : List ℕ → Bool
 is_address address = nat_le 1 (length address) && nat_le (length address) 64 && list_all is_graphic address
 
@@ -62,12 +66,9 @@ abbrev pub bytes_of : List ℕ → Option (List ℕ)
 bytes_of [] = None
 bytes_of (c ∷ cs) = if bytes_eq (c ∷ cs) (codes "-") then Some [] else result_ok (decode_of (c ∷ cs))
 
+-- the file's name is taken
 abbrev pub is_named : List ℕ → List (List ℕ) → Bool
 is_named name names = list_any (λ held. bytes_eq held name) names
-
--- the caller of this name has an address
-abbrev pub has_address : List ℕ → List (List ℕ × List ℕ) → Bool
-has_address caller addresses = list_any (λ held. bytes_eq held.0 caller) addresses
 
 -- the most bytes of a capture, the most files, and the most connections that are open at once
 abbrev pub most_bytes : ℕ
@@ -95,6 +96,7 @@ pub record IsNumbered (r : Reading) : Type 0 where
 abbrev pub takes_file : Reading → List ℕ → Bool
 takes_file r name = not r.begun && nat_lt (length r.capture.files) most_files && is_file_name name && not (is_named name r.capture.files)
 
+-- with a file more
 abbrev pub with_name : Reading → List ℕ → Reading
 with_name r name = record { capture = record { files = r.capture.files ++ name ∷ []; addresses = r.capture.addresses; events = r.capture.events }; links = r.links; begun = r.begun }
 
@@ -106,6 +108,7 @@ with_file r name = if takes_file r name then Some (with_name r name) else None
 abbrev pub takes_address : Reading → List ℕ → List ℕ → Bool
 takes_address r caller address = is_address address && not r.begun && not (has_address caller r.capture.addresses)
 
+-- with the address of a caller more
 abbrev pub with_caller : Reading → List ℕ → List ℕ → Reading
 with_caller r caller address = record { capture = record { files = r.capture.files; addresses = r.capture.addresses ++ (caller, address) ∷ []; events = r.capture.events }; links = r.links; begun = r.begun }
 
@@ -151,6 +154,7 @@ abbrev pub with_last : Reading → List Link → Option Link → Reading
 with_last r others None = with_events r [] others
 with_last r others (Some l) = with_events r (End l.conn ∷ []) others
 
+-- with the end of the connection of this number, where it is open
 unfoldable pub with_ended : Reading → ℕ → Reading
 with_ended r conn = with_last r (without conn r.links) (link_of conn r.links)
 
@@ -194,6 +198,7 @@ is_passed_over (b ∷ bs) = b == 35
 unfoldable pub with_line : Reading → List ℕ → Option Reading
 with_line r line = if is_passed_over line then Some r else with_words r (words_of line)
 
+-- no line follows
 abbrev pub is_last : List (List ℕ) → Bool
 is_last [] = true
 is_last (l ∷ ls) = false
@@ -211,9 +216,13 @@ abbrev pub capture_in : Result Reading ℕ → Result Capture ℕ
 capture_in (Ok r) = Ok r.capture
 capture_in (Err line) = Err line
 
--- the capture that a text is, of which no more than one byte past the most is given
+-- what is looked at of a text: no more than one byte past the most
+abbrev pub looked_at : List ℕ → List ℕ
+looked_at text = take (most_bytes + 1) text
+
+-- the capture that a text is; where the text goes past the most bytes, the line with the byte past them is bad
 unfoldable pub captured : List ℕ → Result Capture ℕ
-captured text = capture_in (with_lines (nat_lt most_bytes (length text)) no_reading 0 (lines_of text))
+captured text = capture_in (with_lines (nat_lt most_bytes (length text)) no_reading 0 (lines_of (looked_at text)))
 
 -- the line that an error names, none for want of memory
 abbrev pub bad_line : CaptureError → Option ℕ

@@ -1,3 +1,4 @@
+pub mod Addresses
 pub mod Capture
 pub mod Links
 pub mod Numbers

@@ -19,7 +19,7 @@ use Rattle.xl_smb.specs.Heads.{command_of}
 use Rattle.xl_smb.specs.Messages.{MessageItem, Call, Reply, Told, message_at}
 use Rattle.xl_smb.specs.declared.fault.SmbBad.{SmbBad}
 use Rattle.xl_smb.specs.declared.head.SmbHead.{SmbHead}
-use Rattle.xl_capture.specs.Capture.{lines_of, words_of, bytes_of, is_passed_over, is_last, most_bytes}
+use Rattle.xl_capture.specs.Capture.{lines_of, words_of, bytes_of, is_passed_over, is_last, most_bytes, looked_at}
 
 -- a message that can't be read, by its fault's number
 abbrev pub bad_text : ℕ → List ℕ
@@ -41,6 +41,7 @@ arguments_word (Err fault) = codes "bad"
 abbrev pub is_nlm_shown : ℕ → Bool
 is_nlm_shown proc = nat_le proc 4 || (nat_le 20 proc && nat_le proc 23)
 
+-- the word of a call of NLM
 unfoldable pub nlm_word : ℕ → List ℕ → List ℕ
 nlm_word proc bytes = if is_nlm_shown proc then arguments_word (arguments_at proc bytes) else codes "other"
 
@@ -72,6 +73,7 @@ abbrev pub ops_text : List ℕ → List ℕ
 ops_text [] = []
 ops_text (n ∷ ns) = codes " " ++ decimal n ++ more_ops ns
 
+-- the word of a COMPOUND's operations
 abbrev pub ops_word : Option (List ℕ) → List ℕ
 ops_word None = codes "bad"
 ops_word (Some numbers) = codes "ok" ++ ops_text numbers
@@ -94,9 +96,11 @@ call_word h bytes =
 
 -- ---- ONC RPC
 
+-- what is told of a call
 unfoldable pub call_text : HeadItem → List ℕ → List ℕ
 call_text h bytes = codes "call " ++ decimal h.xid ++ codes " " ++ decimal h.prog ++ codes " " ++ decimal h.vers ++ codes " " ++ decimal h.proc ++ codes " " ++ call_word h bytes
 
+-- the same of bytes that are read as one
 abbrev pub call_told : Result (HeadItem × List ℕ) RpcBad → List ℕ
 call_told (Ok x) = call_text x.0 x.1
 call_told (Err fault) = bad_text (number_of fault)
@@ -105,6 +109,7 @@ call_told (Err fault) = bad_text (number_of fault)
 unfoldable pub reply_text : ℕ → Verdict → List ℕ
 reply_text xid v = if is_denied v then codes "denied " ++ decimal xid else codes "reply " ++ decimal xid ++ codes " " ++ decimal (stat v)
 
+-- the same of bytes that are read as a reply
 abbrev pub reply_told : Result ((ℕ × Verdict) × List ℕ) RpcBad → List ℕ
 reply_told (Ok x) = reply_text x.0.0 x.0.1
 reply_told (Err fault) = bad_text (number_of fault)
@@ -114,6 +119,7 @@ abbrev pub is_one : Result (ℕ × List ℕ) RpcBad → Bool
 is_one (Ok x) = x.0 == 1
 is_one (Err fault) = false
 
+-- the number behind the one that was read is 1
 abbrev pub is_one_behind : Result (ℕ × List ℕ) RpcBad → Bool
 is_one_behind (Ok x) = is_one (unsigned_at x.1)
 is_one_behind (Err fault) = false
@@ -147,6 +153,7 @@ message_text (Call h c) = head_text h.command h.status h.message_id (is_other h)
 message_text (Reply h r) = head_text h.command h.status h.message_id (is_other_reply h)
 message_text (Told n) = head_text 18 0 (2 ^ 64 - 1) false
 
+-- the same of bytes that are read as one
 abbrev pub message_told : Result MessageItem SmbBad → List ℕ
 message_told (Ok m) = message_text m
 message_told (Err fault) = bad_text (number_of_fault fault)
@@ -161,6 +168,7 @@ smb_text bytes = message_told (message_at bytes)
 abbrev pub rpc_line : List ℕ → List ℕ
 rpc_line bytes = rpc_text bytes ++ codes "\n"
 
+-- the same of SMB
 abbrev pub smb_line : List ℕ → List ℕ
 smb_line bytes = smb_text bytes ++ codes "\n"
 
@@ -184,6 +192,6 @@ show_lines past before n (l ∷ ls) =
     if past && is_last ls then Err (n + 1)
     else option_map_or (λ line. show_lines past (before ++ line) (n + 1) ls) (show_line l) (Err (n + 1))
 
--- what is shown of a text, of which no more than one byte past the most of a capture is given
+-- what is shown of a text, which has no more bytes than a capture
 unfoldable pub shown : List ℕ → Result (List ℕ) ℕ
-shown text = show_lines (nat_lt most_bytes (length text)) [] 0 (lines_of text)
+shown text = show_lines (nat_lt most_bytes (length text)) [] 0 (lines_of (looked_at text))

@@ -21,6 +21,7 @@ dest_words (Back call) to = codes " b" ++ decimal call ++ codes " " ++ hex_word 
 unfoldable pub out_line : ℕ → Out → List ℕ
 out_line place o = decimal place ++ dest_words o.dest o.to ++ codes " " ++ hex_word o.bytes ++ codes "\n"
 
+-- the lines of outs, in their order
 abbrev pub out_lines : ℕ → List Out → List ℕ
 out_lines place [] = []
 out_lines place (o ∷ os) = out_line place o ++ out_lines place os
@@ -30,6 +31,7 @@ abbrev pub entry_lines : ℕ → List Entry → List ℕ
 entry_lines place [] = []
 entry_lines place (e ∷ es) = out_lines place e.outs ++ entry_lines (place + 1) es
 
+-- the lines of rows, in their order
 abbrev pub row_lines : List Row → List ℕ
 row_lines [] = []
 row_lines (r ∷ rs) = row_line r ++ row_lines rs

@@ -5,6 +5,7 @@ ghost use Rattle.xl_base.specs.Results.{GivesUnless};
 ghost use Rattle.xl_capture.specs.declared.capture.CaptureError.TheVariants.{NoMemory as capture_no_memory};
 ghost use Rattle.xl_capture.specs.declared.capture.LineError.TheVariants.{NoMemory as line_no_memory};
 
+use crate::addresses::Addresses;
 use crate::links::{Link, Links};
 use crate::numbers::number_of;
 use hex::FromHexError;
@@ -27,7 +28,7 @@ pub struct Capture {
     pub files: Sequence<Sequence<u8>>,
     /// The callback addresses of NLM callers, in order: a caller's name, which no other has, and 1 to 64 graphic bytes
     /// of ASCII.
-    pub addresses: Sequence<(Sequence<u8>, Sequence<u8>)>,
+    pub addresses: Addresses,
     /// The events in order.
     pub events: Sequence<Event>,
 }
@@ -75,7 +76,7 @@ impl<T: Drop> From<AllocFailed<T>> for LineError {
     }
 }
 
-ghost use Rattle.xl_capture.specs.Capture.{is_line_end, lines_of, words_of, is_name_byte, is_file_name, is_graphic, is_address, bytes_of, is_named, has_address, takes_file, with_file, takes_address, with_address, with_host, with_open, with_piece, with_bytes, with_ended, with_end, with_called, with_reply, with_no_reply, with_words, is_passed_over, with_line, with_lines, captured, bad_line, Follows, ReadsAs};
+ghost use Rattle.xl_capture.specs.Capture.{is_line_end, lines_of, words_of, is_name_byte, is_file_name, is_graphic, is_address, bytes_of, is_named, takes_file, with_file, takes_address, with_address, with_host, with_open, with_piece, with_bytes, with_ended, with_end, with_called, with_reply, with_no_reply, with_words, is_passed_over, with_line, with_lines, looked_at, captured, bad_line, Follows, ReadsAs};
 ghost use Rattle.xl_capture.specs.Numbers.{number_of};
 
 #[tactic(auto, using(crate::proofs::LineLaws::first_line, crate::proofs::LineLaws::only_line))]
@@ -149,14 +150,6 @@ fn is_named(name: &[u8], names: &[Sequence<u8>]) -> bool
     names.iter().any(|held| is_text(held.as_slice(), name))
 }
 
-fn has_address(caller: &[u8], addresses: &[(Sequence<u8>, Sequence<u8>)]) -> bool
-    ensures { result ≡ has_address caller.now addresses.now }
-{
-    addresses
-        .iter()
-        .any(|held| is_text(held.0.as_slice(), caller))
-}
-
 /// The bytes of a hex word.
 pub(crate) fn bytes_of(alloc: Global, word: &[u8]) -> Result<Vec<u8>, LineError>
     ensures { ReadsAs (λ v. v.items) result (bytes_of word.now) }
@@ -198,12 +191,10 @@ fn add_file(alloc: Global, reading: &mut Reading, name: &[u8]) -> Result<(), Lin
 }
 
 /// Whether this address of this caller may be added.
-fn takes_address(reading: &Reading, caller: &[u8], address: &[u8]) -> bool
+fn takes_address(reading: &Reading, caller: &Sequence<u8>, address: &[u8]) -> bool
     ensures { result ≡ takes_address reading.now caller.now address.now }
 {
-    is_address(address)
-        && !reading.begun
-        && !has_address(caller, reading.capture.addresses.as_slice())
+    is_address(address) && !reading.begun && !reading.capture.addresses.has(caller)
 }
 
 /// Adds the address of a caller.
@@ -211,17 +202,16 @@ fn takes_address(reading: &Reading, caller: &[u8], address: &[u8]) -> bool
 fn add_address(
     alloc: Global,
     reading: &mut Reading,
-    caller: Vec<u8>,
+    caller: Sequence<u8>,
     address: &[u8],
 ) -> Result<(), LineError>
-    ensures { Follows result (with_address reading.old caller.items address.now) reading.new }
+    ensures { Follows result (with_address reading.old caller address.now) reading.new }
 {
     if !takes_address(reading, &caller, address) {
         return Err(LineError::Bad);
     }
     let address = Sequence::from_slice(alloc, address)?;
-    let caller = Sequence::from_vec(caller);
-    reading.capture.addresses.push((caller, address))?;
+    reading.capture.addresses.push(alloc, caller, address)?;
     Ok(())
 }
 
@@ -235,7 +225,7 @@ fn add_host(
 ) -> Result<(), LineError>
     ensures { Follows result (with_host reading.old hex.now address.now) reading.new }
 {
-    let caller = bytes_of(alloc, hex)?;
+    let caller = Sequence::from_vec(bytes_of(alloc, hex)?);
     add_address(alloc, reading, caller, address)
 }
 
@@ -385,8 +375,15 @@ fn add_line(alloc: Global, reading: &mut Reading, line: &[u8]) -> Result<(), Lin
     add_words(alloc, reading, &words)
 }
 
+/// What is looked at of a text: no more than one byte past `MOST_BYTES`.
+pub(crate) fn looked_at(text: &[u8]) -> &[u8]
+    ensures { result.now ≡ looked_at text.now }
+{
+    &text[..text.len().min(MOST_BYTES + 1)]
+}
+
 #[tactic(auto, using(crate::proofs::LineLaws::is_last_line), unfolding(crate::specs::Capture::with_lines, crate::specs::Capture::captured))]
-/// Reads a capture. Of a text past `MOST_BYTES` one byte more is given, and the line with that byte is bad.
+/// Reads a capture. Of a text past `MOST_BYTES` the line with the byte past them is bad, if none before it is.
 pub fn read_capture(alloc: Global, text: &[u8]) -> Result<Capture, CaptureError>
     ensures { GivesUnless bad_line (λ c. c) result (captured text.now) }
 {
@@ -394,13 +391,14 @@ pub fn read_capture(alloc: Global, text: &[u8]) -> Result<Capture, CaptureError>
     let mut reading = Reading {
         capture: Capture {
             files: Sequence::new(alloc),
-            addresses: Sequence::new(alloc),
+            addresses: Addresses::new(alloc),
             events: Sequence::new(alloc),
         },
         links: Links::new(alloc),
         begun: false,
     };
-    let mut rest = text;
+    let head = looked_at(text);
+    let mut rest = head;
     let mut number = 0u64;
     'lines: while let Some((line, after)) = next_line(rest) {
         number += 1;

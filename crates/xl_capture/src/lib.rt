@@ -1,6 +1,7 @@
 //! The texts of captures and transcripts, and what `show` tells of messages.
 #![tactic(auto)]
 
+mod addresses;
 mod capture;
 mod law;
 mod links;
@@ -9,6 +10,7 @@ mod rows;
 mod show;
 mod transcripts;
 
+pub use addresses::Addresses;
 pub use capture::{Capture, CaptureError, MOST_BYTES, read_capture};
 pub use law::streams_may_be_cut_anywhere;
 pub use show::{show_line, show_text};

@@ -9,7 +9,7 @@ ghost use Rattle.xl_capture.specs.Links.{Link as OpenLink, opened, link_of, with
 use std::alloc::{AllocError, AllocFailed, Global};
 use std::marker::Model;
 use xl_base::{Event, Kind, Sequence};
-use xl_frame::{Cutter, FeedError};
+use xl_frame::{Cutter, FeedErr};
 
 /// An open connection, which speaks ONC RPC (RFC 5531 11).
 #[derive(Drop)]
@@ -60,8 +60,8 @@ fn cut(alloc: Global, cutter: &mut Cutter, bytes: &[u8]) -> Result<bool, AllocEr
 {
     match cutter.feed(alloc, bytes) {
         Ok(()) => Ok(true),
-        Err(FeedError::Bad(_)) => Ok(false),
-        Err(FeedError::NoMemory) => Err(AllocError),
+        Err(FeedErr::Bad(_)) => Ok(false),
+        Err(FeedErr::NoMemory) => Err(AllocError),
     }
 }
 

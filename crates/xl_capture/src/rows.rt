@@ -1,6 +1,6 @@
 //! Claims as the transcript tells them.
 ghost use Rattle.std.specs.Prelude.{◌≡◌, ◌++◌, OnOk, IfOk, string_bytes};
-ghost use Rattle.xl_capture.specs.Rows.{holder_text, row_of, class_of, first_of, is_same_end, ends_before, range_before, what_before, claimed_before, row_before, class_word, letters, extent_words, kind_word, target_word, break_words, what_words, row_line};
+ghost use Rattle.xl_capture.specs.Rows.{holder_text, row_of, class_of, range_key, row_cmp, class_word, letters, extent_words, kind_word, target_word, break_words, what_words, row_line};
 
 use std::alloc::{AllocError, Global};
 use std::cmp::Ordering;
@@ -53,86 +53,34 @@ fn class_of(what: What) -> u8
     }
 }
 
-fn first_of(extent: Extent) -> u64
-    ensures { result ≡ first_of extent }
+/// What parts two ranges of one holder: the first byte, whether there are bytes, the last, and the mode.
+fn range_key(what: What) -> [u64; 4]
+    ensures { result ≡ range_key what }
 {
-    match extent {
-        Extent::Bytes(first, _) => first,
-        Extent::Empty(offset) => offset,
+    match what {
+        What::Range(Extent::Bytes(first, last), exclusive) => [
+            first,
+            1,
+            last,
+            u64::from(!exclusive),
+        ],
+        What::Range(Extent::Empty(offset), exclusive) => [offset, 0, 0, u64::from(!exclusive)],
+        _ => [0; 4],
     }
 }
 
-/// Whether two ranges end at one byte, or neither has a byte.
-fn is_same_end(a: Extent, b: Extent) -> bool
-    ensures { result ≡ is_same_end a b }
+/// How a row stands to another: by file, then shares, ranges, caches, then by the holder's text, then ranges by their
+/// bytes and modes.
+#[tactic(auto, unfolding(crate::specs::Rows::row_cmp))]
+pub fn row_cmp(a: &Row, b: &Row) -> Ordering
+    ensures { result ≡ row_cmp a.now b.now }
 {
-    match (a, b) {
-        (Extent::Bytes(_, last), Extent::Bytes(_, end)) => last == end,
-        (Extent::Empty(_), Extent::Empty(_)) => true,
-        _ => false,
-    }
-}
-
-/// Whether the first range ends before the second; one without a byte ends before one with some.
-fn ends_before(a: Extent, b: Extent) -> bool
-    ensures { result ≡ ends_before a b }
-{
-    match (a, b) {
-        (Extent::Bytes(_, last), Extent::Bytes(_, end)) => last < end,
-        (Extent::Empty(_), Extent::Bytes(..)) => true,
-        _ => false,
-    }
-}
-
-/// Whether a range stands before another of its owner.
-#[tactic(auto, unfolding(crate::specs::Rows::range_before))]
-fn range_before(a: Extent, x: bool, b: Extent, y: bool) -> bool
-    ensures { result ≡ range_before a x b y }
-{
-    let (first, other) = (first_of(a), first_of(b));
-    if first != other {
-        first < other
-    } else if is_same_end(a, b) {
-        x && !y
-    } else {
-        ends_before(a, b)
-    }
-}
-
-fn what_before(a: What, b: What) -> bool
-    ensures { result ≡ what_before a b }
-{
-    match (a, b) {
-        (What::Range(a, x), What::Range(b, y)) => range_before(a, x, b, y),
-        _ => false,
-    }
-}
-
-/// Whether the first row stands before the second, where both are of one file.
-#[tactic(auto, unfolding(crate::specs::Rows::claimed_before))]
-fn claimed_before(a: &Row, b: &Row) -> bool
-    ensures { result ≡ claimed_before a.now b.now }
-{
-    let (class, other) = (class_of(a.what), class_of(b.what));
-    if class != other {
-        return class < other;
-    }
-    match a.holder.as_slice().cmp(b.holder.as_slice()) {
-        Ordering::Less => true,
-        Ordering::Equal => what_before(a.what, b.what),
-        Ordering::Greater => false,
-    }
-}
-
-/// Whether the first row stands before the second.
-#[tactic(auto, unfolding(crate::specs::Rows::row_before))]
-pub fn row_before(a: &Row, b: &Row) -> bool
-    ensures { result ≡ row_before a.now b.now }
-{
-    if a.file != b.file {
-        return a.file < b.file;
-    }
-    claimed_before(a, b)
+    let by_holder = a.holder.as_slice().cmp(b.holder.as_slice());
+    let by_range = range_key(a.what).cmp(&range_key(b.what));
+    let by_class = class_of(a.what).cmp(&class_of(b.what));
+    a.file
+        .cmp(&b.file)
+        .then(by_class.then(by_holder.then(by_range)))
 }
 
 fn class_word(what: What) -> &'static str

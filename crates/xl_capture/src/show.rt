@@ -11,7 +11,8 @@ ghost use Rattle.xl_capture.specs.Show.{bad_text, whole_word, is_nlm_shown, nlm_
 ghost use Rattle.xl_nfs.specs.Compounds.{compound_head_at};
 
 use crate::capture::{
-    CaptureError, LineError, MOST_BYTES, bytes_of, is_passed_over, is_text, next_line, words_of,
+    CaptureError, LineError, MOST_BYTES, bytes_of, is_passed_over, is_text, looked_at, next_line,
+    words_of,
 };
 use std::alloc::{AllocError, Global};
 use std::fmt::Write;
@@ -371,14 +372,15 @@ pub fn show_line(alloc: Global, line: &[u8]) -> Result<Option<Vec<u8>>, AllocErr
 }
 
 #[tactic(auto, using(crate::proofs::LineLaws::is_last_line), unfolding(crate::specs::Show::show_lines, crate::specs::Show::shown))]
-/// The lines out of a text's lines. Of a text past `MOST_BYTES` one byte more is given, and the line with that byte is
-/// bad. BadLine is the number of the first line that isn't in the grammar, counted from 1.
+/// The lines out of a text's lines. BadLine is the number of the first line that isn't in the grammar, counted from 1; of
+/// a text past `MOST_BYTES` the line with the byte past them isn't.
 pub fn show_text(alloc: Global, text: &[u8]) -> Result<Vec<u8>, CaptureError>
     ensures { GivesUnless bad_line (λ v. v.items) result (shown text.now) }
 {
     let past = text.len() > MOST_BYTES;
     let mut out = Vec::new(alloc);
-    let mut rest = text;
+    let head = looked_at(text);
+    let mut rest = head;
     let mut number = 0u64;
     'lines: while let Some((line, after)) = next_line(rest) {
         number += 1;

@@ -1,10 +1,10 @@
 //! The transcript of a journal.
-ghost use Rattle.std.specs.Prelude.{◌≡◌, ◌≤◌, ◌++◌, length, map, insert, OnOk, IfOk, string_bytes};
-ghost use Rattle.xl_base.specs.Lists.{placed, sorted};
+ghost use Rattle.std.specs.Prelude.{◌≡◌, ◌++◌, map, OnOk, IfOk, string_bytes};
+ghost use Rattle.xl_base.specs.Lists.{sorted};
 ghost use Rattle.xl_capture.specs.Rows.{row_of, row_before};
 ghost use Rattle.xl_capture.specs.Transcript.{dest_words, out_line, out_lines, entry_lines, row_lines, transcript};
 
-use crate::rows::{Row, put_row, row_before, row_of};
+use crate::rows::{Row, put_row, row_cmp, row_of};
 use std::alloc::{AllocError, Global};
 use std::fmt::Write;
 use xl_base::{Dest, Entry, Out};
@@ -70,30 +70,13 @@ fn rows_of(alloc: Global, names: &Names, claims: &[Claim]) -> Result<Vec<Row>, A
     Ok(rows)
 }
 
-/// How many rows in order stand before the row.
-fn place(row: &Row, rows: &[Row]) -> usize
-    ensures within { result ≤ length rows.now }
-    ensures place { placed row_before row.now rows.now ≡ insert rows.now result row.now }
-{
-    let mut at = 0;
-    'rows: while at < rows.len() && row_before(&rows[at], row) {
-        at += 1;
-    }
-    at
-}
-
 /// The rows in order.
-#[tactic(auto, using(crate::proofs::SortLaws::sorted_pushed, crate::proofs::SortLaws::sorted_begun))]
-fn in_order(alloc: Global, rows: Vec<Row>) -> Result<Vec<Row>, AllocError>
+fn in_order(rows: Vec<Row>) -> Result<Vec<Row>, AllocError>
     ensures { IfOk result (λ v. v.items ≡ sorted row_before rows.items) }
 {
-    let mut left = rows;
-    let mut out = Vec::new(alloc);
-    'rows: while let Some(row) = left.pop() {
-        let at = place(&row, &out);
-        out.insert(at, row)?;
-    }
-    Ok(out)
+    let mut rows = rows;
+    rows.sort_by(|a, b| row_cmp(a, b))?;
+    Ok(rows)
 }
 
 /// Adds the lines of rows.
@@ -122,7 +105,7 @@ pub fn transcript(
     let mut text = String::new(alloc);
     put_entries(alloc, &mut text, entries)?;
     let mut bytes = text.into_bytes();
-    let rows = in_order(alloc, rows_of(alloc, names, claims)?)?;
+    let rows = in_order(rows_of(alloc, names, claims)?)?;
     put_rows(alloc, &mut bytes, &rows)?;
     Ok(bytes)
 }

@@ -1,17 +1,17 @@
 -- What is spelled as a record is cut out, and what is cut out is spelled so.
 use Rattle.std.proofs.Common.{◌≡◌, ℕ, zero, suc, ◌+◌, ◌-◌, ◌^◌, ◌<◌, ◌≤◌, Bool, true, false, not, ◌&&◌, if◌then◌else◌, ltb, eqb, List, [], ◌∷◌, ◌++◌, length, take, drop, get_or, Option, Some, None, refl, sym, ap, subst, ◌∙◌, append_assoc, arith, inl, inr}
-use Rattle.std.specs.Int.{w32, to_be_bytes, from_be_bytes}
+use Rattle.std.specs.Int.{w32, to_be_bytes, from_be_bytes, bytes_high_first}
 use Rattle.std.specs.List.{AllByRecursion}
-use Rattle.std.proofs.lemmas.Bool.{cases_Bool, le-ltb, ltb-false}
+use Rattle.std.proofs.lemmas.Bool.{cases_Bool, eqb-true, le-ltb, ltb-false, true≢false}
 use Rattle.std.proofs.lemmas.Bool.Decides.{nat_tests}
 use Rattle.std.proofs.lemmas.List.{take_at, drop_at, take-append-drop, length-append, length-take}
 use Rattle.std.proofs.lemmas.Nat.{be_bytes_4, from_be_bytes-to_be_bytes_4}
 use Rattle.xl_base.specs.Codec.{IsBytes}
 use Rattle.xl_base.proofs.CodecLaws.{IsBytes-take, IsBytes-drop}
-use Rattle.xl_base.specs.declared.event.Kind.TheVariants.{Rpc}
+use Rattle.xl_base.specs.declared.event.Kind.TheVariants.{Rpc, Smb}
 use Rattle.xl_frame.specs.declared.fault.FrameBad.{FrameBad}
-use Rattle.xl_frame.specs.declared.fault.FrameBad.TheVariants.{Empty, Fragments, Long}
-use Rattle.xl_frame.specs.Frames.{is_last, count_of, long_fault, record_fault, fault_of, Fragment, Short, Faulty, More, Last, judged, under, fragment_at, Front, Whole, Part, Broken, joined, beyond, message_at, front_of, Framed, with_frames, cut, frames}
+use Rattle.xl_frame.specs.declared.fault.FrameBad.TheVariants.{Empty, Fragments, Long, Marker}
+use Rattle.xl_frame.specs.Frames.{header, wrapped, is_last, count_of, long_fault, record_fault, fault_of, Fragment, Short, Faulty, More, Last, judged, under, fragment_at, Front, Whole, Part, Broken, joined, beyond, message_at, front_of, Framed, with_frames, cut, frames}
 use Rattle.xl_frame.specs.Records.{fragment, spelled, message_in, IsRecord, Begins}
 use Rattle.xl_frame.proofs.Growth.{message_last, message_more}
 use Rattle.xl_frame.proofs.FrameLaws.{frames_whole, frames_step}
@@ -211,3 +211,74 @@ cut_are_records stream message more fits is =
     let step = frames_step Rpc stream in
     let found = first_found stream message more fits (front_of Rpc stream) refl (sym (ap (λ (f : Framed). f.frames) step) ∙ is) in
     (found.0, found.1, step ∙ found.2)
+
+-- ---- what is read of SMB is in a frame of its own
+
+no_fault : (first number : ℕ) → fault_of Smb 64 0 first number ≡ None → (first ≡ 0) × (number ≤ 65536)
+no_fault first number is =
+    elim (cases_Bool (eqb first 0)) [
+      | inr other ↦ absurd (let never : Some (Marker first) ≡ None = rw other at is in cc)
+      | inl none ↦
+          let is : long_fault number ≡ None = rw none at is in
+          elim (cases_Bool (ltb 65536 number)) [
+            | inl long ↦ absurd (let never : Some (Long number) ≡ None = rw long at is in cc)
+            | inr short ↦ (eqb-true first 0 none, ltb-false _ _ short)
+          ]
+    ]
+
+-- four bytes of which the first is zero are the header of the number that they make
+smb_header : (head : List ℕ) (number : ℕ) → length head ≡ 4 → IsBytes head → number ≡ from_be_bytes w32 head → get_or head 0 0 ≡ 0 → head ≡ header Smb number
+smb_header head number len fits is first =
+    let spelled : to_be_bytes w32 number ≡ head = be_bytes_4 head number len fits is in
+    let low : get_or (to_be_bytes w32 number) 0 0 ≡ 0 = ap (λ (h : List ℕ). get_or h 0 0) spelled ∙ first in
+    sym spelled ∙ ap (λ (b : ℕ). b ∷ bytes_high_first 3 number) low
+
+packet_found : (stream body rest : List ℕ) (last : Bool) → IsBytes stream → fragment_at Smb 64 0 stream ≡ ended last body rest → (last ≡ true) × (length body ≤ 65536) × (stream ≡ wrapped Smb body ++ rest)
+unfolding fragment_at
+packet_found stream body rest last fits e =
+    elim (cases_Bool (ltb (length stream) 4)) [
+      | inl short ↦ absurd (not_short last body rest (rw short at e))
+      | inr long ↦
+          let head = take 4 stream in
+          let number = from_be_bytes w32 head in
+          let within : 4 ≤ length stream = ltb-false _ _ long in
+          let p = judged_found (fault_of Smb 64 0 (get_or head 0 0) number) true last number (drop 4 stream) body rest (rw long at e) in
+          let plain = no_fault (get_or head 0 0) number p.0 in
+          let len : length body ≡ number = ap length (sym p.3) ∙ omega (arith, length-take number (drop 4 stream), p.2) in
+          let is : head ≡ header Smb number = smb_header head number (omega (arith, length-take 4 stream, within)) (IsBytes-take 4 stream fits) refl plain.0 in
+          let tail : body ++ rest ≡ drop 4 stream = ap (λ (b : List ℕ). b ++ rest) (sym p.3) ∙ ap (λ (r : List ℕ). take number (drop 4 stream) ++ r) (sym p.4) ∙ take-append-drop number (drop 4 stream) in (
+            sym p.1,
+            omega (arith, len, plain.1),
+            sym (append_assoc (header Smb (length body)) body rest ∙ ap (λ (n : ℕ). header Smb n ++ (body ++ rest)) len ∙ ap (λ (h : List ℕ). h ++ (body ++ rest)) (sym is) ∙ ap (λ (t : List ℕ). head ++ t) tail ∙ take-append-drop 4 stream),
+          )
+    ]
+
+smb_step : (stream message rest : List ℕ) → IsBytes stream → (x : Fragment) → fragment_at Smb 64 0 stream ≡ x → beyond (message_at Smb 63) 0 x ≡ Whole message rest → (length message ≤ 65536) × (stream ≡ wrapped Smb message ++ rest)
+smb_step stream message rest fits Short e w = absurd cc
+smb_step stream message rest fits (Faulty fault) e w = absurd cc
+smb_step stream message rest fits (More body behind) e w = absurd (true≢false (sym (packet_found stream body behind false fits e).0))
+smb_step stream message rest fits (Last body behind) e w =
+    let p = whole_parts body behind message rest w in
+    let found = packet_found stream body behind true fits e in
+    (subst (λ (m : List ℕ). length m ≤ 65536) p.0 found.1, found.2 ∙ ap (λ (m : List ℕ). wrapped Smb m ++ behind) p.0 ∙ ap (λ (r : List ℕ). wrapped Smb message ++ r) p.1)
+
+smb_whole : (stream message rest : List ℕ) → IsBytes stream → front_of Smb stream ≡ Whole message rest → (length message ≤ 65536) × (stream ≡ wrapped Smb message ++ rest)
+unfolding message_at
+smb_whole stream message rest fits w = smb_step stream message rest fits (fragment_at Smb 64 0 stream) refl w
+
+smb_first : (stream message : List ℕ) (more : List (List ℕ)) → IsBytes stream → (x : Front) → front_of Smb stream ≡ x → (cut (frames Smb) stream x).frames ≡ message ∷ more
+    → (behind : List ℕ) × (length message ≤ 65536) × (stream ≡ wrapped Smb message ++ behind) × (cut (frames Smb) stream x ≡ with_frames (message ∷ []) (frames Smb behind))
+smb_first stream message more fits (Whole m rest) e is =
+    let same : m ≡ message = cc in
+    let found = smb_whole stream m rest fits e in
+    (rest, subst (λ (n : List ℕ). length n ≤ 65536) same found.0, found.1 ∙ ap (λ (n : List ℕ). wrapped Smb n ++ rest) same, ap (λ (n : List ℕ). with_frames (n ∷ []) (frames Smb rest)) same)
+smb_first stream message more fits Part e is = absurd cc
+smb_first stream message more fits (Broken fault) e is = absurd cc
+
+-- the first message that is cut out of SMB's stream stands at the front in its frame, and the others are those behind it
+pub cut_are_packets : (stream message : List ℕ) (more : List (List ℕ)) → IsBytes stream → (frames Smb stream).frames ≡ message ∷ more
+    → (behind : List ℕ) × (length message ≤ 65536) × (stream ≡ wrapped Smb message ++ behind) × (frames Smb stream ≡ with_frames (message ∷ []) (frames Smb behind))
+cut_are_packets stream message more fits is =
+    let step = frames_step Smb stream in
+    let found = smb_first stream message more fits (front_of Smb stream) refl (sym (ap (λ (f : Framed). f.frames) step) ∙ is) in
+    (found.0, found.1, found.2, step ∙ found.3)

@@ -3,8 +3,8 @@ use Rattle.std.specs.Prelude.{List, [], ◌∷◌, ◌++◌, Option, Some, None,
 use Rattle.std.specs.Prelude.{Result, Ok, Err}
 use Rattle.xl_base.specs.declared.event.Kind.{Kind}
 use Rattle.xl_frame.specs.declared.fault.FrameBad.{FrameBad}
-use Rattle.xl_frame.specs.declared.fault.FeedError.{FeedError}
-use Rattle.xl_frame.specs.declared.fault.FeedError.TheVariants.{NoMemory, Bad}
+use Rattle.xl_frame.specs.declared.fault.FeedErr.{FeedErr}
+use Rattle.xl_frame.specs.declared.fault.FeedErr.TheVariants.{NoMemory, Bad}
 use Rattle.xl_frame.specs.Frames.{Framed, with_frames, frames}
 
 -- the old one where it has a fault, else the new one
@@ -24,9 +24,11 @@ pub record Cutting : Type 0 where
   pub rest : List ℕ
   pub bad : Option FrameBad
 
+-- a cutter that has been fed what was cut so, and has handed out nothing
 abbrev pub cutting : Kind → Framed → Cutting
 cutting kind framed = record { kind = kind; ready = framed.frames; rest = framed.rest; bad = framed.bad }
 
+-- what a cutter would still hand out, and what it holds
 abbrev pub framed_of : Cutting → Framed
 framed_of c = record { frames = c.ready; rest = c.rest; bad = c.bad }
 
@@ -36,7 +38,7 @@ fed c piece = cutting c.kind (then_piece c.kind (framed_of c) piece)
 
 -- What feeding a piece answers and leaves: Ok where no bad place is met, else its fault, and after want of memory what
 -- was there before.
-abbrev pub Feeds : Cutting → List ℕ → Result (Unit {0}) FeedError → Cutting → Type 0
+abbrev pub Feeds : Cutting → List ℕ → Result (Unit {0}) FeedErr → Cutting → Type 0
 Feeds old piece (Ok done) new = (new ≡ fed old piece) × (new.bad ≡ None)
 Feeds old piece (Err NoMemory) new = new ≡ old
 Feeds old piece (Err (Bad fault)) new = (new ≡ fed old piece) × (new.bad ≡ Some fault)
@@ -61,10 +63,12 @@ pub record Run : Type 0 where
 abbrev pub begun : Kind → Run
 begun kind = record { handed = []; cutter = record { kind = kind; ready = []; rest = []; bad = None } }
 
+-- after one call more
 abbrev pub called : Run → Call → Run
 called run (Feed piece) = record { handed = run.handed; cutter = fed run.cutter piece }
 called run Next = record { handed = run.handed ++ take 1 run.cutter.ready; cutter = without_first run.cutter }
 
+-- after these calls, in order
 abbrev pub after : Run → List Call → Run
 after run [] = run
 after run (call ∷ calls) = after (called run call) calls

@@ -4,7 +4,7 @@ ghost use Rattle.xl_frame.specs.Frames.{Framed, frames};
 ghost use Rattle.xl_frame.specs.Progress.{Resumes};
 
 use crate::cutting::{Cut, cut_frames};
-use crate::fault::{FeedError, FrameBad};
+use crate::fault::{FeedErr, FrameBad};
 use crate::fragment::behind;
 use crate::message::{Progress, beginning};
 use std::alloc::{AllocError, Global};
@@ -38,7 +38,7 @@ impl Model for Cutter {
 
 impl Cutter {
     ghost use Rattle.xl_frame.specs.Cutting.{Cutting, fed, Feeds, without_first};
-    ghost use Rattle.xl_frame.specs.declared.fault.FeedError.TheVariants.{Bad};
+    ghost use Rattle.xl_frame.specs.declared.fault.FeedErr.TheVariants.{Bad};
     ghost use Rattle.std.specs.Prelude.{Err, slice_get};
 
     /// A cutter of a stream of this kind, before its first byte; it takes no memory.
@@ -56,12 +56,12 @@ impl Cutter {
 
     /// Takes the next piece of the stream. Bad comes from the first bad place on, with the same fault ever after; the
     /// messages before it are still handed out. After want of memory the cutter is as it was.
-    pub fn feed(&mut self, alloc: Global, piece: &[u8]) -> Result<(), FeedError>
+    pub fn feed(&mut self, alloc: Global, piece: &[u8]) -> Result<(), FeedErr>
         ensures feeds { Feeds self.old piece.now result self.new }
         ensures stays { IfSome self.old.bad (λ fault. result ≡ Err (Bad fault)) }
     {
         if let Some(fault) = self.bad {
-            return Err(FeedError::Bad(fault));
+            return Err(FeedErr::Bad(fault));
         }
         let kind = self.kind;
         let taken = take_in(
@@ -75,7 +75,7 @@ impl Cutter {
         self.bad = taken;
         match taken {
             None => Ok(()),
-            Some(fault) => Err(FeedError::Bad(fault)),
+            Some(fault) => Err(FeedErr::Bad(fault)),
         }
     }
 

@@ -1,6 +1,6 @@
 //! Why a stream is no stream of frames.
 ghost use Rattle.std.specs.Prelude.{◌≡◌};
-ghost use Rattle.xl_frame.specs.declared.fault.FeedError.TheVariants.{NoMemory};
+ghost use Rattle.xl_frame.specs.declared.fault.FeedErr.TheVariants.{NoMemory};
 
 use std::alloc::{AllocError, AllocFailed};
 use thiserror::Error;
@@ -25,7 +25,7 @@ pub enum FrameBad {
 
 /// Why a piece of a stream could not be taken.
 #[derive(Clone, Copy, Debug, Error)]
-pub enum FeedError {
+pub enum FeedErr {
     /// Memory ran out; nothing of the piece is taken.
     #[error("no memory")]
     NoMemory,
@@ -34,10 +34,10 @@ pub enum FeedError {
     Bad(FrameBad),
 }
 
-impl From<AllocError> for FeedError {
+impl From<AllocError> for FeedErr {
     ghost from_gives = { λ _ e. e ≡ NoMemory };
 
-    fn from(_e: AllocError) -> FeedError {
-        FeedError::NoMemory
+    fn from(_e: AllocError) -> FeedErr {
+        FeedErr::NoMemory
     }
 }

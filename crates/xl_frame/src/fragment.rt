@@ -4,11 +4,8 @@ ghost use Rattle.xl_frame.specs.Frames.{is_last, count_of, long_fault, record_fa
 ghost use Rattle.xl_frame.specs.Shown.{shown_fragment, IfMore, IfBody};
 
 use crate::fault::FrameBad;
-use crate::wrapping::MOST_BYTES;
+use crate::wrapping::{LAST, MOST_BYTES};
 use xl_base::Kind;
-
-/// The mark of the last fragment of a record.
-const LAST: u32 = 1 << 31;
 
 /// How many fragments a record has at most.
 pub(crate) const MOST_FRAGMENTS: u32 = 64;

@@ -1,7 +1,7 @@
 //! Laws of frames, each as the contract of a function that does nothing.
 ghost use Rattle.std.specs.Prelude.{◌≡◌, ℕ, ◌≤◌, List, [], ◌∷◌, ◌++◌, length, Some};
 ghost use Rattle.xl_base.specs.declared.event.Kind.{Kind};
-ghost use Rattle.xl_base.specs.declared.event.Kind.TheVariants.{Rpc};
+ghost use Rattle.xl_base.specs.declared.event.Kind.TheVariants.{Rpc, Smb};
 ghost use Rattle.xl_frame.specs.Frames.{wrapped, frames, with_frames};
 ghost use Rattle.xl_frame.specs.Records.{spelled, message_in, IsRecord, Begins};
 ghost use Rattle.xl_base.specs.Codec.{IsBytes};
@@ -20,6 +20,13 @@ pub fn records_are_cut_out()
     ensures spelled { (bodies : List (List ℕ)) (ending rest : List ℕ) → IsRecord bodies ending → frames Rpc (spelled bodies ending ++ rest) ≡ with_frames (message_in bodies ending ∷ []) (frames Rpc rest) }
     ensures cut { (stream message : List ℕ) (more : List (List ℕ)) → IsBytes stream → (frames Rpc stream).frames ≡ message ∷ more →
         (behind : List ℕ) × Begins stream message behind × (frames Rpc stream ≡ with_frames (message ∷ []) (frames Rpc behind)) }
+{}
+
+/// What is cut out of the bytes of an SMB connection stands there, each message of at most 65,536 bytes in a frame of its
+/// own behind the other (MS-SMB2 2.1).
+pub fn packets_are_cut_out()
+    ensures { (stream message : List ℕ) (more : List (List ℕ)) → IsBytes stream → (frames Smb stream).frames ≡ message ∷ more →
+        (behind : List ℕ) × (length message ≤ 65536) × (stream ≡ wrapped Smb message ++ behind) × (frames Smb stream ≡ with_frames (message ∷ []) (frames Smb behind)) }
 {}
 
 /// A stream may be cut at any place: its frames are those before the place, and then those of what these leave and what

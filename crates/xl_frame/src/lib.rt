@@ -11,9 +11,9 @@ mod message;
 mod wrapping;
 
 pub use cutter::Cutter;
-pub use fault::{FeedError, FrameBad};
+pub use fault::{FeedErr, FrameBad};
 pub use law::{
-    handed_messages_are_the_streams, records_are_cut_out, streams_are_cut_anywhere,
-    wrapped_messages_are_cut_out,
+    handed_messages_are_the_streams, packets_are_cut_out, records_are_cut_out,
+    streams_are_cut_anywhere, wrapped_messages_are_cut_out,
 };
 pub use wrapping::{MOST_BYTES, wrap};

@@ -9,7 +9,7 @@ use xl_base::Kind;
 pub const MOST_BYTES: usize = 65536;
 
 /// The mark of the last fragment of a record.
-const LAST: u32 = 1 << 31;
+pub(crate) const LAST: u32 = 1 << 31;
 
 /// The message of at most 65,536 bytes in one frame: for ONC RPC a record of one fragment, which is the last
 /// (RFC 5531 11), for SMB 2 a packet of its transport (MS-SMB2 2.1).

@@ -3,8 +3,7 @@ use Rattle.std.proofs.Common.{◌≡◌, ℕ, Bool, true, false, not, ◌≤◌,
 use Rattle.std.specs.Bool.{◌==◌}
 use Rattle.std.specs.List.{find}
 use Rattle.xl_nlm.specs.Items.{ResItem, Answer as ResAnswer}
-use Rattle.xl_nlm.proofs.ReplyLaws.{results_codec}
-use Rattle.xl_nlm.specs.Replies.{res, ResFits, results_at}
+use Rattle.xl_nlm.specs.Replies.{res, ResFits, results_at, results_of}
 use Rattle.xl_rpc.proofs.ReplyLaws.{reply_codec}
 use Rattle.xl_rpc.specs.Replies.{reply}
 use Rattle.xl_rpc.specs.Xdr.{UnsignedFits}
@@ -77,9 +76,10 @@ unknown_keeps f s number reply e = ap (λ (o : Option GrantedCall). refusal_deed
 -- ---- what a reply says
 
 -- the results behind an accepted reply
-body_says : (r : ResItem) (rest : List ℕ) → ResFits r → refuses_with (results_at 5 (res r ++ rest)) ≡ not (is_granted r.stat)
-body_says r rest fits = ap refuses_with ((results_codec 5).again (ResAnswer r) rest (refl, fits))
+body_says : (r : ResItem) (rest : List ℕ) → ResFits r → refuses_with (results_at 5 (res.spell r ++ rest)) ≡ not (is_granted r.stat)
+unfolding results_of
+body_says r rest fits = ap refuses_with ((results_of 5).codec.again (ResAnswer r) rest (refl, fits))
 
-pub refusals_are_read : (xid : ℕ) (r : ResItem) (rest : List ℕ) → UnsignedFits xid → ResFits r → refuses (Some (reply xid Success ++ (res r ++ rest))) ≡ not (is_granted r.stat)
+pub refusals_are_read : (xid : ℕ) (r : ResItem) (rest : List ℕ) → UnsignedFits xid → ResFits r → refuses (Some (reply xid Success ++ (res.spell r ++ rest))) ≡ not (is_granted r.stat)
 unfolding refuses
-refusals_are_read xid r rest small fits = ap refuses_by (reply_codec.again (xid, Success) (res r ++ rest) (small, tt)) ∙ body_says r rest fits
+refusals_are_read xid r rest small fits = ap refuses_by (reply_codec.again (xid, Success) (res.spell r ++ rest) (small, tt)) ∙ body_says r rest fits

@@ -99,6 +99,7 @@ pub(crate) fn address_of<'a>(
 }
 
 /// The call of this number, to this address, that tells of a grant.
+#[tactic(auto, unfolding(xl_nlm::specs::Arguments::lock))]
 pub(crate) fn call_of(
     alloc: Global,
     number: u32,

@@ -92,5 +92,5 @@ pub fn refused_locks_are_unlocked()
         → called_deeds f s number bytes ≡ Asks (rooms f.hosts) (refusal_ask g) ∷ [] }
     ensures lost { (f : FrontState) (s : CoreState) (number : ℕ) (bytes : Option (List ℕ)) → refuses bytes ≡ false → called_deeds f s number bytes ≡ [] }
     ensures unknown { (f : FrontState) (s : CoreState) (number : ℕ) (bytes : Option (List ℕ)) → find (λ c. c.number == number) f.calls ≡ None → called_deeds f s number bytes ≡ [] }
-    ensures read { (xid : ℕ) (r : ResItem) (rest : List ℕ) → UnsignedFits xid → ResFits r → refuses (Some (reply xid Success ++ (res r ++ rest))) ≡ not (is_granted r.stat) }
+    ensures read { (xid : ℕ) (r : ResItem) (rest : List ℕ) → UnsignedFits xid → ResFits r → refuses (Some (reply xid Success ++ (res.spell r ++ rest))) ≡ not (is_granted r.stat) }
 {}

@@ -24,7 +24,7 @@ use xl_core::{Answer, Core, Effect};
 use xl_nlm::{CancelArgs, LockArgs, TestArgs, UnlockArgs};
 
 /// TEST.
-#[tactic(auto, unfolding(crate::specs::Serving::served, crate::specs::Serving::planned), using(crate::proofs::StepLaws::leaves_self))]
+#[tactic(auto, unfolding(crate::specs::Serving::served, crate::specs::Serving::planned, xl_nlm::specs::Arguments::test_args, xl_nlm::specs::Arguments::lock), using(crate::proofs::StepLaws::leaves_self))]
 pub(crate) fn test<K: Keeper>(
     alloc: Global,
     count: usize,
@@ -49,7 +49,7 @@ pub(crate) fn test<K: Keeper>(
 }
 
 /// A lock that nobody waits for already. The caller may be a host from then on.
-#[tactic(auto, using(crate::proofs::StepLaws::lock_room_to_note))]
+#[tactic(auto, unfolding(xl_nlm::specs::Arguments::lock_args, xl_nlm::specs::Arguments::lock), using(crate::proofs::StepLaws::lock_room_to_note))]
 fn lock_at<K: Keeper>(
     alloc: Global,
     front: &mut Front,
@@ -101,7 +101,7 @@ pub(crate) fn lock<K: Keeper>(
 }
 
 /// UNLOCK.
-#[tactic(auto, unfolding(crate::specs::Serving::served, crate::specs::Serving::planned), using(crate::proofs::StepLaws::leaves_self))]
+#[tactic(auto, unfolding(crate::specs::Serving::served, crate::specs::Serving::planned, xl_nlm::specs::Arguments::unlock_args, xl_nlm::specs::Arguments::lock), using(crate::proofs::StepLaws::leaves_self))]
 pub(crate) fn unlock<K: Keeper>(
     alloc: Global,
     count: usize,

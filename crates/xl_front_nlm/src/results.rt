@@ -2,8 +2,11 @@
 ghost use Rattle.std.specs.Prelude.{◌≡◌, ◌≤◌, length, option_map};
 ghost use Rattle.xl_nlm.specs.Arguments.{CallFits};
 ghost use Rattle.xl_nlm.specs.Items.{shown_call, shown_holder, shown_test_res, shown_reply};
-ghost use Rattle.xl_nlm.specs.Replies.{IsShortReply};
-ghost use Rattle.xl_front_nlm.specs.Results.{answer_status, status_of, test_answer_status, test_status, owner_parts, holder_of, test_holder, test_result, res_of, share_res_of, reply_of};
+ghost use Rattle.xl_nlm.specs.Replies.{holder, test_res, ReplyFits};
+ghost use Rattle.xl_format.specs.Formats.{chosen_part};
+ghost use Rattle.xl_matrix.specs.declared.claim.What.TheVariants.{Range};
+ghost use Rattle.xl_matrix.specs.declared.claim.Extent.TheVariants.{Bytes};
+ghost use Rattle.xl_front_nlm.specs.Results.{answer_status, status_of, test_answer_status, test_status, owner_parts, holder_by, holder_of, test_holder, test_result, res_of, share_res_of, reply_of};
 ghost use Rattle.xl_front_nlm.specs.Short.{AreShort};
 
 use crate::aim::length_of;
@@ -66,8 +69,11 @@ fn test_status(outcome: Outcome) -> NlmStatus
 }
 
 /// The svid and oh of an owner of NLM ranges; of another 0 and none.
+#[tactic(auto, using(crate::proofs::ShortLaws::owner_short))]
 fn owner_parts(names: &Names, owner: Owner) -> (i32, &[u8])
-    ensures { (result.0, result.1.now) ≡ owner_parts names.now owner }
+    requires { AreShort names.now }
+    ensures value { (result.0, result.1.now) ≡ owner_parts names.now owner }
+    ensures fits { length result.1.now ≤ 1024 }
 {
     let Owner::Name(_, number) = owner else {
         return (0, &[]);
@@ -78,15 +84,13 @@ fn owner_parts(names: &Names, owner: Owner) -> (i32, &[u8])
     }
 }
 
-/// A held range as TEST tells it.
-fn holder_of<'a>(names: &'a Names, claim: &Claim) -> Holder<'a>
-    ensures { shown_holder result ≡ holder_of names.now claim.now }
+/// Bytes that an owner holds, as TEST tells them.
+#[tactic(auto, unfolding(xl_nlm::specs::Replies::holder))]
+fn holder_by(exclusive: bool, svid: i32, oh: &[u8], first: u64, last: u64) -> Holder<'_>
+    requires { length oh.now ≤ 1024 }
+    ensures value { shown_holder result ≡ holder_by (svid, oh.now) (Range (Bytes first last) exclusive) }
+    ensures fits { holder.Fit (shown_holder result) }
 {
-    let (first, last, exclusive) = match claim.what {
-        What::Range(Extent::Bytes(first, last), exclusive) => (first, last, exclusive),
-        _ => (0, 0, false),
-    };
-    let (svid, oh) = owner_parts(names, claim.owner);
     Holder {
         exclusive,
         svid,
@@ -96,9 +100,26 @@ fn holder_of<'a>(names: &'a Names, claim: &Claim) -> Holder<'a>
     }
 }
 
+/// A held range as TEST tells it.
+fn holder_of<'a>(names: &'a Names, claim: &Claim) -> Holder<'a>
+    requires { AreShort names.now }
+    ensures value { shown_holder result ≡ holder_of names.now claim.now }
+    ensures fits { holder.Fit (shown_holder result) }
+{
+    let (svid, oh) = owner_parts(names, claim.owner);
+    match claim.what {
+        What::Range(Extent::Bytes(first, last), exclusive) => {
+            holder_by(exclusive, svid, oh, first, last)
+        }
+        _ => holder_by(false, svid, oh, 0, 0),
+    }
+}
+
 /// The holder, where one is told.
 fn test_holder(names: &Names, outcome: Outcome) -> Option<Holder<'_>>
-    ensures { option_map shown_holder result ≡ test_holder names.now outcome }
+    requires { AreShort names.now }
+    ensures value { option_map shown_holder result ≡ test_holder names.now outcome }
+    ensures fits { (chosen_part holder (option_map shown_holder result)).Fit }
 {
     match outcome {
         Outcome::Answered(Answer::Conflict(claim)) => Some(holder_of(names, &claim)),
@@ -107,8 +128,12 @@ fn test_holder(names: &Names, outcome: Outcome) -> Option<Holder<'_>>
 }
 
 /// The results of TEST.
+#[tactic(auto, unfolding(xl_nlm::specs::Replies::test_res, xl_nlm::specs::Replies::status), using(crate::proofs::ShortLaws::told_as_denied))]
 fn test_result<'a>(names: &'a Names, cookie: &'a [u8], outcome: Outcome) -> TestRes<'a>
-    ensures { shown_test_res result ≡ test_result cookie.now names.now outcome }
+    requires cookie { length cookie.now ≤ 1024 }
+    requires names { AreShort names.now }
+    ensures value { shown_test_res result ≡ test_result cookie.now names.now outcome }
+    ensures fits { test_res.Fit (shown_test_res result) }
 {
     TestRes {
         cookie,
@@ -118,8 +143,11 @@ fn test_result<'a>(names: &'a Names, cookie: &'a [u8], outcome: Outcome) -> Test
 }
 
 /// The results of LOCK, CANCEL, UNLOCK and NM_LOCK.
+#[tactic(auto, unfolding(xl_nlm::specs::Replies::res, xl_nlm::specs::Replies::status))]
 fn res_of(cookie: &[u8], outcome: Outcome) -> NlmReply<'_>
-    ensures { shown_reply result ≡ res_of cookie.now outcome }
+    requires { length cookie.now ≤ 1024 }
+    ensures value { shown_reply result ≡ res_of cookie.now outcome }
+    ensures fits { ReplyFits (shown_reply result) }
 {
     NlmReply::Res(Res {
         cookie,
@@ -128,8 +156,11 @@ fn res_of(cookie: &[u8], outcome: Outcome) -> NlmReply<'_>
 }
 
 /// The results of SHARE and UNSHARE.
+#[tactic(auto, unfolding(xl_nlm::specs::Replies::share_res, xl_nlm::specs::Replies::status))]
 fn share_res_of(cookie: &[u8], outcome: Outcome) -> NlmReply<'_>
-    ensures { shown_reply result ≡ share_res_of cookie.now outcome }
+    requires { length cookie.now ≤ 1024 }
+    ensures value { shown_reply result ≡ share_res_of cookie.now outcome }
+    ensures fits { ReplyFits (shown_reply result) }
 {
     NlmReply::Share(ShareRes {
         cookie,
@@ -138,10 +169,13 @@ fn share_res_of(cookie: &[u8], outcome: Outcome) -> NlmReply<'_>
     })
 }
 
-/// The results of a call.
-#[tactic(auto, unfolding(crate::specs::Results::reply_of))]
-fn results_of<'a>(names: &'a Names, call: &NlmCall<'a>, outcome: Outcome) -> NlmReply<'a>
-    ensures { shown_reply result ≡ reply_of names.now (shown_call call.now) outcome }
+/// The results of a call, which have a spelling.
+#[tactic(auto, unfolding(crate::specs::Results::reply_of, xl_format::specs::Formats::nothing, xl_nlm::specs::Arguments::test_args, xl_nlm::specs::Arguments::lock_args, xl_nlm::specs::Arguments::cancel_args, xl_nlm::specs::Arguments::unlock_args, xl_nlm::specs::Arguments::share_args))]
+pub(crate) fn reply_of<'a>(names: &'a Names, call: &NlmCall<'a>, outcome: Outcome) -> NlmReply<'a>
+    requires fits { CallFits (shown_call call.now) }
+    requires short { AreShort names.now }
+    ensures value { shown_reply result ≡ reply_of names.now (shown_call call.now) outcome }
+    ensures fits { ReplyFits (shown_reply result) }
 {
     match call {
         NlmCall::Test(args) => NlmReply::Test(test_result(names, args.cookie, outcome)),
@@ -151,15 +185,4 @@ fn results_of<'a>(names: &'a Names, call: &NlmCall<'a>, outcome: Outcome) -> Nlm
         NlmCall::Share(args) | NlmCall::Unshare(args) => share_res_of(args.cookie, outcome),
         NlmCall::Null | NlmCall::Granted(_) | NlmCall::FreeAll(_) => NlmReply::Void,
     }
-}
-
-/// The results of a call, which are short.
-#[tactic(auto, using(crate::proofs::ShortLaws::reply_is_short))]
-pub(crate) fn reply_of<'a>(names: &'a Names, call: &NlmCall<'a>, outcome: Outcome) -> NlmReply<'a>
-    requires fits { CallFits (shown_call call.now) }
-    requires short { AreShort names.now }
-    ensures value { shown_reply result ≡ reply_of names.now (shown_call call.now) outcome }
-    ensures short { IsShortReply (shown_reply result) }
-{
-    results_of(names, call, outcome)
 }

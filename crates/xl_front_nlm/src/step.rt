@@ -3,7 +3,7 @@ ghost use Rattle.std.specs.Prelude.{◌≡◌, ℕ, ◌≤◌, true, [], ◌++�
 ghost use Rattle.std.specs.List.{AllByRecursion};
 ghost use Rattle.xl_nlm.specs.Arguments.{arguments_at, CallFits};
 ghost use Rattle.xl_nlm.specs.Items.{shown_call, shown_reply};
-ghost use Rattle.xl_nlm.specs.Replies.{results, IsShortReply};
+ghost use Rattle.xl_nlm.specs.Replies.{results, ReplyFits};
 ghost use Rattle.xl_programs.specs.Programs.{serves, shown_request};
 ghost use Rattle.xl_rpc.specs.Replies.{reply};
 ghost use Rattle.xl_rpc.specs.declared.reply.Verdict.TheVariants.{Success, GarbageArgs};
@@ -25,7 +25,7 @@ use xl_rpc::{Verdict, XdrOut, write_reply};
 /// A reply with results, which are short.
 #[tactic(auto, using(crate::proofs::ReplyLaws::whole_short))]
 fn with_results(alloc: Global, xid: u32, told: &NlmReply) -> Result<Vec<u8>, AllocError>
-    requires { IsShortReply (shown_reply told.now) }
+    requires { ReplyFits (shown_reply told.now) }
     ensures reply { IfOk result (λ v. v.items ≡ reply xid Success ++ results (shown_reply told.now)) }
     ensures little { IfOk result (λ v. length v.items ≤ 65536) }
 {

@@ -182,7 +182,7 @@ impl<K: Keeper> House<K> {
         requires { is_spoiled self.now.halt ≡ false }
         ensures { IfOk result (λ v. v.items ≡ (replay (begin self.now.head) self.now.entries).core.claims) }
     {
-        Vec::from_slice(alloc, self.machine.parts.core.table().claims())
+        self.machine.parts.core.table().claims(alloc)
     }
 
     /// The names that are kept. A house that found no memory has none to tell.

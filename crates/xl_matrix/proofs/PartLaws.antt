@@ -1,9 +1,9 @@
 -- Ranges of NLM and NFSv4 owners are compatible by their bytes, and so is what is made of compatible parts.
-use Rattle.std.proofs.Common.{◌≡◌, ℕ, ◌≤◌, Bool, true, false, not, ◌&&◌, ◌||◌, ◌==◌, Option, Some, None, List, [], ◌∷◌, inl, inr, refl, nat_le, sym, ap, subst, ◌∙◌, arith, ◌↔◌}
-use Rattle.std.specs.List.{AllByRecursion, list_any}
+use Rattle.std.proofs.Common.{◌≡◌, ℕ, ◌≤◌, Bool, true, false, not, ◌&&◌, ◌||◌, ◌==◌, Option, Some, None, List, inl, inr, refl, nat_le, sym, ap, subst, ◌∙◌, arith, ◌↔◌}
+use Rattle.std.specs.List.{AllByRecursion}
 use Rattle.std.proofs.lemmas.Bool.{cases_Bool, and_parts, or_cases, or_left, or_right, eqb-true, eq-eqb, not-true, not_from_false, both_ways, leb-true}
-use Rattle.xl_base.specs.Lists.{IsIn}
 use Rattle.xl_base.proofs.Members.{all_in}
+use Rattle.xl_base.proofs.Searches.{any_found}
 use Rattle.xl_base.specs.declared.name.Owner.{Owner}
 use Rattle.xl_base.specs.declared.name.Party.{Party}
 use Rattle.xl_matrix.specs.declared.claim.Extent.{Extent}
@@ -89,14 +89,6 @@ compat_bytes a b extent place exclusive alone is are one p = (forth, back) where
 
   back : ((byte : ℕ) → locks_agree a.owner (lock_on a byte) b.owner (lock_on b byte) ≡ true) → compat a b ≡ true
   back each = whole ∙ bytes_fit a.owner extent exclusive b.owner place alone p (λ byte. sym (same byte) ∙ each byte)
-
-any_found : (p : Claim → Bool) (cs : List Claim) → list_any p cs ≡ true → (c : Claim) × IsIn c cs × (p c ≡ true)
-any_found p [] h = absurd (both_ways false refl h)
-any_found p (c ∷ cs) h =
-    elim (or_cases (p c) (list_any p cs) h) [
-      | inl here ↦ (c, inl refl, here)
-      | inr later ↦ let found = any_found p cs later in (found.0, inr found.1, found.2)
-    ]
 
 -- what a part is: a range of the whole's names that has the byte
 strong_what : (w : What) (exclusive : Bool) (byte : ℕ) → is_as_strong exclusive (lock_by w byte) ≡ true → (extent : Extent) × (alone : Bool) × (w ≡ Range extent alone) × (has_byte extent byte ≡ true) × (implies exclusive alone ≡ true)

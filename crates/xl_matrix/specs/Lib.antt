@@ -5,3 +5,4 @@ pub mod Kinds
 pub mod Equal
 pub mod Matrix
 pub mod Weaker
+pub mod Blocks

@@ -1,6 +1,7 @@
 //! Claims on files (shares, byte ranges, caches) and the matrix that says which two may be held together.
 #![tactic(auto)]
 
+mod block;
 mod claim;
 mod equal;
 mod extent;
@@ -10,6 +11,7 @@ mod owner;
 mod right;
 mod weaker;
 
+pub use block::{is_a_cache, is_a_range, is_a_share, is_blocked_by};
 pub use claim::{Break, CacheKind, Claim, Extent, Rwd, What};
 pub use equal::{same_claim, same_owner, same_party};
 pub use extent::{covers, extent_within, meet};

@@ -1,11 +1,1 @@
-pub mod BasicLaws
-pub mod LockLaws
-pub mod OpenLaws
-pub mod OpenedLaws
-pub mod ClientLaws
-pub mod StatusLaws
-pub mod CompoundLaws
-pub mod OpLaws
-pub mod OutcomeLaws
-pub mod ResultLaws
-pub mod CallbackLaws
+pub mod AgainLaws

@@ -1,75 +1,60 @@
--- The call that asks a client for a delegation, and the client's reply: their spelling, and the reply's reading (RFC 7531).
+-- The call that asks a client for a delegation, and the client's reply (RFC 7531).
 use Rattle.std.specs.Prelude.{◌++◌, [], ℕ, false, List, Option, Some, None, Result, option_map}
-use Rattle.xl_base.specs.Codec.{pair_at, as_at, tagged_at, if_at, nothing_at, never_at}
-use Rattle.xl_rpc.specs.Xdr.{unsigned, boolean, opaque, unsigned_at}
-use Rattle.xl_rpc.specs.declared.fault.RpcBad.{RpcBad}
+use Rattle.std.proofs.Common.{refl}
+use Rattle.xl_base.specs.Formats.{Format, Cases, case, Chosen, chosen, IsMade}
 use Rattle.xl_base.specs.Handles.{handle}
+use Rattle.xl_rpc.specs.declared.fault.RpcBad.{RpcBad}
+use Rattle.xl_rpc.specs.declared.fault.RpcBad.TheVariants as bad
 use Rattle.xl_rpc.specs.Calls.{AuthItem, HeadItem, call}
-use Rattle.xl_nfs.specs.Basics.{TextFits, text_at, stateid}
+use Rattle.xl_rpc.specs.Xdr.{unsigned, boolean, opaque}
+use Rattle.xl_format.specs.Formats.{u32, ◌⋆◌, seen, nothing, otherwise, none_else, tagged}
+use Rattle.xl_nfs.specs.Basics.{identifier, stateid}
 use Rattle.xl_nfs.specs.declared.basics.Stateid.{Stateid}
 use Rattle.xl_nfs.specs.declared.status.NfsStatus.{NfsStatus}
-use Rattle.xl_nfs.specs.Statuses.{status, StatusFits, status_at}
+use Rattle.xl_nfs.specs.Statuses.{status}
 use Rattle.xl_nfs.specs.declared.callback.RecallResult.{RecallResult}
+use Rattle.xl_nfs.specs.declared.callback.RecallResult.TheVariants as wire
 use Rattle.xl_nfs.specs.declared.callback.RecallReply.{RecallReply}
-use Rattle.xl_rpc.specs.declared.fault.RpcBad.TheVariants as bad
-use Rattle.xl_nfs.specs.declared.callback.RecallResult.TheVariants as recall_result_wire
 
--- ---- nfs_cb_resop4
-
+-- nfs_cb_resop4
 pub data RecallResultItem : Type 0 where
   Recall : NfsStatus → RecallResultItem
   IllegalRecall : NfsStatus → RecallResultItem
 
 abbrev pub shown_recall_result : RecallResult → RecallResultItem
-shown_recall_result (recall_result_wire.Recall x) = Recall x
-shown_recall_result (recall_result_wire.Illegal x) = IllegalRecall x
+shown_recall_result (wire.Recall x) = Recall x
+shown_recall_result (wire.Illegal x) = IllegalRecall x
 
-abbrev pub recall_result_number : RecallResultItem → ℕ
-recall_result_number (Recall x) = 4
-recall_result_number (IllegalRecall x) = 10044
+abbrev pub recall_results : Cases ℕ RecallResultItem RpcBad
+recall_results = case 4 Recall status (case 10044 IllegalRecall status (otherwise bad.Value))
 
-abbrev pub recall_result_part : RecallResultItem → List ℕ
-recall_result_part (Recall x) = status x
-recall_result_part (IllegalRecall x) = status x
+abbrev pub recall_result_case : RecallResultItem → Chosen ℕ RecallResultItem RpcBad
+recall_result_case (Recall x) = chosen 4 Recall status x
+recall_result_case (IllegalRecall x) = chosen 10044 IllegalRecall status x
 
-abbrev pub recall_result : RecallResultItem → List ℕ
-recall_result x = unsigned (recall_result_number x) ++ recall_result_part x
+pub recall_result_made : (x : RecallResultItem) → IsMade recall_results x (recall_result_case x)
+recall_result_made (Recall x) = (refl, λ _ _. refl)
+recall_result_made _ = (refl, λ _ _. refl)
 
-abbrev pub RecallResultFits : RecallResultItem → Type 0
-RecallResultFits (Recall x) = StatusFits x
-RecallResultFits (IllegalRecall x) = StatusFits x
+unfoldable pub recall_result : Format RecallResultItem RpcBad
+recall_result = tagged u32 recall_results recall_result_case (λ _. refl, (λ _. refl, none_else recall_result_case _ bad.Value)) recall_result_made
 
-unfoldable pub recall_result_part_at : ℕ → List ℕ → Result (RecallResultItem × List ℕ) RpcBad
-recall_result_part_at n bytes = if_at n 4 (as_at Recall status_at) (if_at n 10044 (as_at IllegalRecall status_at) (never_at bad.Value)) bytes
+-- at most one result
+abbrev pub result_lists : Cases ℕ (Option RecallResultItem) RpcBad
+result_lists = case 0 (λ _. None) nothing (case 1 Some recall_result (otherwise bad.Value))
 
-unfoldable pub recall_result_at : List ℕ → Result (RecallResultItem × List ℕ) RpcBad
-recall_result_at bytes = tagged_at unsigned_at recall_result_part_at bytes
+abbrev pub result_list_case : Option RecallResultItem → Chosen ℕ (Option RecallResultItem) RpcBad
+result_list_case None = chosen 0 (λ _. None) nothing tt
+result_list_case (Some x) = chosen 1 Some recall_result x
 
--- ---- at most one result
+pub result_list_made : (x : Option RecallResultItem) → IsMade result_lists x (result_list_case x)
+result_list_made None = (refl, λ _ _. refl)
+result_list_made (Some x) = (refl, λ _ _. refl)
 
-abbrev pub result_count : Option RecallResultItem → ℕ
-result_count None = 0
-result_count (Some x) = 1
+unfoldable pub result_list : Format (Option RecallResultItem) RpcBad
+result_list = tagged u32 result_lists result_list_case (λ _. refl, (λ _. refl, none_else result_list_case _ bad.Value)) result_list_made
 
-abbrev pub results_part : Option RecallResultItem → List ℕ
-results_part None = []
-results_part (Some x) = recall_result x
-
-abbrev pub results : Option RecallResultItem → List ℕ
-results x = unsigned (result_count x) ++ results_part x
-
-abbrev pub ResultsFit : Option RecallResultItem → Type 0
-ResultsFit None = Unit {0}
-ResultsFit (Some x) = RecallResultFits x
-
-unfoldable pub results_part_at : ℕ → List ℕ → Result (Option RecallResultItem × List ℕ) RpcBad
-results_part_at n bytes = if_at n 0 (as_at (λ _. None) nothing_at) (if_at n 1 (as_at Some recall_result_at) (never_at bad.Value)) bytes
-
-unfoldable pub results_at : List ℕ → Result (Option RecallResultItem × List ℕ) RpcBad
-results_at bytes = tagged_at unsigned_at results_part_at bytes
-
--- ---- CB_COMPOUND4res
-
+-- CB_COMPOUND4res
 pub record RecallReplyItem : Type 0 where
   pub status : NfsStatus
   pub tag : List ℕ
@@ -78,19 +63,13 @@ pub record RecallReplyItem : Type 0 where
 abbrev pub shown_recall_reply : RecallReply → RecallReplyItem
 shown_recall_reply x = record { status = x.status; tag = x.tag.now; results = option_map shown_recall_result x.results }
 
-unfoldable pub recall_reply : RecallReplyItem → List ℕ
-recall_reply x = status x.status ++ (opaque x.tag ++ results x.results)
+unfoldable pub recall_reply : Format RecallReplyItem RpcBad
+recall_reply = seen (λ x. record { status = x.0; tag = x.1.0; results = x.1.1 }) (λ x. (x.status, (x.tag, x.results))) (status ⋆ identifier ⋆ result_list) (λ _. refl) (λ _. refl)
 
-abbrev pub RecallReplyFits : RecallReplyItem → Type 0
-RecallReplyFits x = StatusFits x.status × (TextFits x.tag × ResultsFit x.results)
+abbrev pub recall_reply_at : List ℕ → Result (RecallReplyItem × List ℕ) RpcBad
+recall_reply_at bytes = recall_reply.at bytes
 
-abbrev pub made_recall_reply : NfsStatus × (List ℕ × Option RecallResultItem) → RecallReplyItem
-made_recall_reply x = record { status = x.0; tag = x.1.0; results = x.1.1 }
-
-unfoldable pub recall_reply_at : List ℕ → Result (RecallReplyItem × List ℕ) RpcBad
-recall_reply_at bytes = as_at made_recall_reply (pair_at status_at (λ _. pair_at text_at (λ _. results_at))) bytes
-
--- ---- the call: the procedure CB_COMPOUND of the client's program, with an empty tag, minor version 0 and the one operation CB_RECALL
+-- the call: the procedure CB_COMPOUND of the client's program, with an empty tag, minor version 0 and the one operation CB_RECALL
 
 -- AUTH_NONE without a body
 abbrev pub no_auth : AuthItem
@@ -101,7 +80,7 @@ recall_head number program = record { xid = number; prog = program; vers = 1; pr
 
 -- CB_RECALL4args: the delegation, truncate false, the handle of the file
 unfoldable pub recall_args : Stateid → ℕ → List ℕ
-recall_args s file = stateid s ++ (boolean false ++ opaque (handle file))
+recall_args s file = stateid.spell s ++ (boolean false ++ opaque (handle file))
 
 -- CB_COMPOUND4args
 unfoldable pub recall_compound : ℕ → Stateid → ℕ → List ℕ

@@ -1,23 +1,25 @@
--- The operations of a COMPOUND: their spelling, and their reading (RFC 7531).
-use Rattle.std.specs.Prelude.{◌≡◌, ◌==◌, ◌&&◌, ◌||◌, ◌++◌, [], if◌then◌else◌, ℕ, Bool, true, false, List, Result, nat_le}
-use Rattle.xl_base.specs.Codec.{as_at, tagged_at, if_at, nothing_at}
-use Rattle.xl_rpc.specs.Xdr.{unsigned, hyper, opaque, UnsignedFits, HyperFits, unsigned_at, hyper_at}
+-- The operations of a COMPOUND (RFC 7531).
+use Rattle.std.specs.Prelude.{◌≡◌, ℕ, ◌&&◌, Bool, true, false, List, Result, nat_le, if◌then◌else◌}
+use Rattle.std.proofs.Common.{refl, subst, ap, ◌∙◌}
+use Rattle.xl_base.specs.Codec.{as_at}
+use Rattle.xl_base.specs.Formats.{Format, Cases, others, case, cases_at, Chosen, chosen, spelled, is_listed, IsMade}
+use Rattle.xl_base.proofs.FormatLaws.{read_unlisted}
 use Rattle.xl_rpc.specs.declared.fault.RpcBad.{RpcBad}
-use Rattle.xl_nfs.specs.Basics.{HandleFits, NameFits, handle_at, name_at, stateid, StateidFits, stateid_at, OwnerItem, shown_owner, owner, OwnerFits, IsShortOwner, owner_at}
+use Rattle.xl_format.specs.Formats.{u32, u64, nothing, just, standing, tagged}
+use Rattle.xl_nfs.specs.Basics.{handle, name, stateid, OwnerItem, shown_owner, owner}
 use Rattle.xl_nfs.specs.declared.basics.Stateid.{Stateid}
 use Rattle.xl_nfs.specs.declared.locks.UnlockArgs.{UnlockArgs}
-use Rattle.xl_nfs.specs.Locks.{LockArgsItem, shown_lock_args, lock_args, LockArgsFits, IsShortLockArgs, lock_args_at, LockTestArgsItem, shown_lock_test_args, lock_test_args, LockTestArgsFits, IsShortLockTestArgs, lock_test_args_at, unlock_args, UnlockArgsFits, unlock_args_at}
+use Rattle.xl_nfs.specs.Locks.{LockArgsItem, shown_lock_args, lock_args, LockTestArgsItem, shown_lock_test_args, lock_test_args, unlock_args}
 use Rattle.xl_nfs.specs.declared.opens.CloseArgs.{CloseArgs}
 use Rattle.xl_nfs.specs.declared.opens.OpenConfirmArgs.{OpenConfirmArgs}
 use Rattle.xl_nfs.specs.declared.opens.OpenDowngradeArgs.{OpenDowngradeArgs}
-use Rattle.xl_nfs.specs.Opens.{close_args, CloseArgsFits, close_args_at, open_confirm_args, OpenConfirmArgsFits, open_confirm_args_at, open_downgrade_args, OpenDowngradeArgsFits, open_downgrade_args_at, OpenArgsItem, shown_open_args, open_args, OpenArgsFits, IsShortOpenArgs, open_args_at}
+use Rattle.xl_nfs.specs.Opens.{close_args, open_confirm_args, open_downgrade_args, OpenArgsItem, shown_open_args, open_args}
 use Rattle.xl_nfs.specs.declared.clients.ClientConfirm.{ClientConfirm}
-use Rattle.xl_nfs.specs.Clients.{SetClientIdArgsItem, shown_set_client_id_args, set_client_id_args, SetClientIdArgsFits, IsShortSetClientIdArgs, set_client_id_args_at, client_confirm, ClientConfirmFits, client_confirm_at}
+use Rattle.xl_nfs.specs.Clients.{SetClientIdArgsItem, shown_set_client_id_args, set_client_id_args, client_confirm}
 use Rattle.xl_nfs.specs.declared.op.NfsOp.{NfsOp}
 use Rattle.xl_nfs.specs.declared.op.NfsOp.TheVariants as op_wire
 
--- ---- nfs_argop4
-
+-- nfs_argop4
 pub data OpItem : Type 0 where
   Close : CloseArgs → OpItem
   DelegReturn : Stateid → OpItem
@@ -58,123 +60,68 @@ shown_op (op_wire.ReleaseLockOwner x) = ReleaseLockOwner (shown_owner x)
 shown_op (op_wire.NotSupported n) = NotSupported n
 shown_op (op_wire.Illegal n) = Illegal n
 
-abbrev pub op_number : OpItem → ℕ
-op_number (Close x) = 4
-op_number (DelegReturn x) = 8
-op_number GetFh = 10
-op_number (Lock x) = 12
-op_number (LockT x) = 13
-op_number (LockU x) = 14
-op_number (Lookup x) = 15
-op_number (Open x) = 18
-op_number (OpenConfirm x) = 20
-op_number (OpenDowngrade x) = 21
-op_number (PutFh x) = 22
-op_number PutRootFh = 24
-op_number (Renew x) = 30
-op_number (SetClientId x) = 35
-op_number (SetClientIdConfirm x) = 36
-op_number (ReleaseLockOwner x) = 39
-op_number (NotSupported n) = n
-op_number (Illegal n) = n
-
--- the numbers of the operations whose arguments are read, and of all operations of the minor version
-unfoldable pub is_read : ℕ → Bool
-is_read n = (n == 4) || (n == 8) || (n == 10) || (n == 12) || (n == 13) || (n == 14) || (n == 15) || (n == 18) || (n == 20) || (n == 21) || (n == 22) || (n == 24) || (n == 30) || (n == 35) || (n == 36) || (n == 39)
-
+-- the numbers of all operations of the minor version
 abbrev pub is_numbered : ℕ → Bool
 is_numbered n = nat_le 3 n && nat_le n 39
 
-abbrev pub op_part : OpItem → List ℕ
-op_part (Close x) = close_args x
-op_part (DelegReturn x) = stateid x
-op_part GetFh = []
-op_part (Lock x) = lock_args x
-op_part (LockT x) = lock_test_args x
-op_part (LockU x) = unlock_args x
-op_part (Lookup x) = opaque x
-op_part (Open x) = open_args x
-op_part (OpenConfirm x) = open_confirm_args x
-op_part (OpenDowngrade x) = open_downgrade_args x
-op_part (PutFh x) = opaque x
-op_part PutRootFh = []
-op_part (Renew x) = hyper x
-op_part (SetClientId x) = set_client_id_args x
-op_part (SetClientIdConfirm x) = client_confirm x
-op_part (ReleaseLockOwner x) = owner x
-op_part (NotSupported n) = []
-op_part (Illegal n) = []
+-- an operation whose arguments are not read
+abbrev pub other_op : ℕ → OpItem
+other_op n = if is_numbered n then NotSupported n else Illegal n
 
-abbrev pub op : OpItem → List ℕ
-op x = unsigned (op_number x) ++ op_part x
+abbrev pub ops : Cases ℕ OpItem RpcBad
+ops =
+    case 4 Close close_args (case 8 DelegReturn stateid (case 10 (λ _. GetFh) nothing (case 12 Lock lock_args (
+    case 13 LockT lock_test_args (case 14 LockU unlock_args (case 15 Lookup name (case 18 Open open_args (
+    case 20 OpenConfirm open_confirm_args (case 21 OpenDowngrade open_downgrade_args (case 22 PutFh handle (case 24 (λ _. PutRootFh) nothing (
+    case 30 Renew u64 (case 35 SetClientId set_client_id_args (case 36 SetClientIdConfirm client_confirm (case 39 ReleaseLockOwner owner (
+    others (λ n. just (other_op n))))))))))))))))))
 
-abbrev pub OpPartFits : OpItem → Type 0
-OpPartFits (Close x) = CloseArgsFits x
-OpPartFits (DelegReturn x) = StateidFits x
-OpPartFits GetFh = Unit {0}
-OpPartFits (Lock x) = LockArgsFits x
-OpPartFits (LockT x) = LockTestArgsFits x
-OpPartFits (LockU x) = UnlockArgsFits x
-OpPartFits (Lookup x) = NameFits x
-OpPartFits (Open x) = OpenArgsFits x
-OpPartFits (OpenConfirm x) = OpenConfirmArgsFits x
-OpPartFits (OpenDowngrade x) = OpenDowngradeArgsFits x
-OpPartFits (PutFh x) = HandleFits x
-OpPartFits PutRootFh = Unit {0}
-OpPartFits (Renew x) = HyperFits x
-OpPartFits (SetClientId x) = SetClientIdArgsFits x
-OpPartFits (SetClientIdConfirm x) = ClientConfirmFits x
-OpPartFits (ReleaseLockOwner x) = OwnerFits x
-OpPartFits (NotSupported n) = (is_read n ≡ false) × (is_numbered n ≡ true)
-OpPartFits (Illegal n) = is_numbered n ≡ false
+-- an operation that is not served has none of these numbers
+abbrev pub op_case : OpItem → Chosen ℕ OpItem RpcBad
+op_case (Close x) = chosen 4 Close close_args x
+op_case (DelegReturn x) = chosen 8 DelegReturn stateid x
+op_case GetFh = chosen 10 (λ _. GetFh) nothing tt
+op_case (Lock x) = chosen 12 Lock lock_args x
+op_case (LockT x) = chosen 13 LockT lock_test_args x
+op_case (LockU x) = chosen 14 LockU unlock_args x
+op_case (Lookup x) = chosen 15 Lookup name x
+op_case (Open x) = chosen 18 Open open_args x
+op_case (OpenConfirm x) = chosen 20 OpenConfirm open_confirm_args x
+op_case (OpenDowngrade x) = chosen 21 OpenDowngrade open_downgrade_args x
+op_case (PutFh x) = chosen 22 PutFh handle x
+op_case PutRootFh = chosen 24 (λ _. PutRootFh) nothing tt
+op_case (Renew x) = chosen 30 Renew u64 x
+op_case (SetClientId x) = chosen 35 SetClientId set_client_id_args x
+op_case (SetClientIdConfirm x) = chosen 36 SetClientIdConfirm client_confirm x
+op_case (ReleaseLockOwner x) = chosen 39 ReleaseLockOwner owner x
+op_case (NotSupported n) = standing n (NotSupported n) ((is_listed ops n ≡ false) × (is_numbered n ≡ true))
+op_case (Illegal n) = standing n (Illegal n) ((is_listed ops n ≡ false) × (is_numbered n ≡ false))
 
-abbrev pub OpFits : OpItem → Type 0
-OpFits x = UnsignedFits (op_number x) × OpPartFits x
+pub op_made : (x : OpItem) → IsMade ops x (op_case x)
+op_made (NotSupported n) = (refl, λ fit bytes. read_unlisted ops n fit.0 bytes ∙ ap (λ (b : Bool). as_at (λ _. if b then NotSupported n else Illegal n) nothing.at bytes) fit.1)
+op_made (Illegal n) = (refl, λ fit bytes. read_unlisted ops n fit.0 bytes ∙ ap (λ (b : Bool). as_at (λ _. if b then NotSupported n else Illegal n) nothing.at bytes) fit.1)
+op_made (Close x) = (refl, λ _ _. refl)
+op_made _ = (refl, λ _ _. refl)
 
--- what a writer asks for
-abbrev pub IsShortOp : OpItem → Type 0
-IsShortOp (Close x) = Unit {0}
-IsShortOp (DelegReturn x) = Unit {0}
-IsShortOp GetFh = Unit {0}
-IsShortOp (Lock x) = IsShortLockArgs x
-IsShortOp (LockT x) = IsShortLockTestArgs x
-IsShortOp (LockU x) = Unit {0}
-IsShortOp (Lookup x) = NameFits x
-IsShortOp (Open x) = IsShortOpenArgs x
-IsShortOp (OpenConfirm x) = Unit {0}
-IsShortOp (OpenDowngrade x) = Unit {0}
-IsShortOp (PutFh x) = HandleFits x
-IsShortOp PutRootFh = Unit {0}
-IsShortOp (Renew x) = Unit {0}
-IsShortOp (SetClientId x) = IsShortSetClientIdArgs x
-IsShortOp (SetClientIdConfirm x) = Unit {0}
-IsShortOp (ReleaseLockOwner x) = IsShortOwner x
-IsShortOp (NotSupported n) = (is_read n ≡ false) × (is_numbered n ≡ true)
-IsShortOp (Illegal n) = is_numbered n ≡ false
+pub other_seen : (b : Bool) (n : ℕ) → is_numbered n ≡ b → is_listed ops n ≡ false
+    → (spelled (op_case (if b then NotSupported n else Illegal n)) ≡ nothing.spell tt) × (((op_case (if b then NotSupported n else Illegal n)).key ≡ n) × (op_case (if b then NotSupported n else Illegal n)).Fit)
+other_seen true n is unlisted = (refl, (refl, (unlisted, is)))
+other_seen false n is unlisted = (refl, (refl, (unlisted, is)))
 
--- the arguments of an operation; of one that is not served, and of a number of none, nothing
-abbrev pub other_at : ℕ → List ℕ → Result (OpItem × List ℕ) RpcBad
-other_at n bytes = as_at (λ _. if is_numbered n then NotSupported n else Illegal n) nothing_at bytes
+unfoldable pub op : Format OpItem RpcBad
+op = tagged u32 ops op_case
+    (λ _. refl, (λ _. refl, (λ _. refl, (λ _. refl, (λ _. refl, (λ _. refl, (λ _. refl, (λ _. refl, (λ _. refl, (λ _. refl, (λ _. refl, (λ _. refl, (λ _. refl, (λ _. refl, (λ _. refl, (λ _. refl, (λ n unlisted x same. subst (λ (y : OpItem). (spelled (op_case y) ≡ nothing.spell tt) × (((op_case y).key ≡ n) × (op_case y).Fit)) same (other_seen (is_numbered n) n refl unlisted), tt)))))))))))))))))
+    op_made
+
+-- its number, and what stands behind a number
+abbrev pub op_number : OpItem → ℕ
+op_number x = (op_case x).key
 
 unfoldable pub op_part_at : ℕ → List ℕ → Result (OpItem × List ℕ) RpcBad
-op_part_at n bytes =
-    if_at n 4 (as_at Close close_args_at)
-    (if_at n 8 (as_at DelegReturn stateid_at)
-    (if_at n 10 (as_at (λ _. GetFh) nothing_at)
-    (if_at n 12 (as_at Lock lock_args_at)
-    (if_at n 13 (as_at LockT lock_test_args_at)
-    (if_at n 14 (as_at LockU unlock_args_at)
-    (if_at n 15 (as_at Lookup name_at)
-    (if_at n 18 (as_at Open open_args_at)
-    (if_at n 20 (as_at OpenConfirm open_confirm_args_at)
-    (if_at n 21 (as_at OpenDowngrade open_downgrade_args_at)
-    (if_at n 22 (as_at PutFh handle_at)
-    (if_at n 24 (as_at (λ _. PutRootFh) nothing_at)
-    (if_at n 30 (as_at Renew hyper_at)
-    (if_at n 35 (as_at SetClientId set_client_id_args_at)
-    (if_at n 36 (as_at SetClientIdConfirm client_confirm_at)
-    (if_at n 39 (as_at ReleaseLockOwner owner_at)
-    (other_at n)))))))))))))))) bytes
+op_part_at n bytes = cases_at ops n bytes
 
-unfoldable pub op_at : List ℕ → Result (OpItem × List ℕ) RpcBad
-op_at bytes = tagged_at unsigned_at op_part_at bytes
+abbrev pub op_at : List ℕ → Result (OpItem × List ℕ) RpcBad
+op_at bytes = op.at bytes
+
+abbrev pub OpFits : OpItem → Type 0
+OpFits x = op.Fit x

@@ -1,24 +1,26 @@
--- The results of operations: their spelling, and their reading (RFC 7531).
-use Rattle.std.specs.Prelude.{◌≡◌, ◌++◌, [], ℕ, true, false, List, Result}
-use Rattle.xl_base.specs.Codec.{as_at, exactly_at, tagged_at, if_at, choose_at, nothing_at, never_at}
-use Rattle.xl_rpc.specs.Xdr.{unsigned, opaque, UnsignedFits, unsigned_at}
+-- The results of operations (RFC 7531).
+use Rattle.std.specs.Prelude.{◌≡◌, ℕ, ◌==◌, Bool, true, false, List, Result}
+use Rattle.std.proofs.Common.{refl, sym, subst, ap, ◌∙◌}
+use Rattle.std.proofs.lemmas.Bool.{eqb-true}
+use Rattle.xl_base.specs.Formats.{Format, Cases, others, case, cases_at, Chosen, chosen, spelled, is_listed, IsMade}
+use Rattle.xl_base.proofs.FormatLaws.{read_unlisted}
 use Rattle.xl_rpc.specs.declared.fault.RpcBad.{RpcBad}
-use Rattle.xl_nfs.specs.Basics.{HandleFits, handle_at, stateid, StateidFits, stateid_at}
-use Rattle.xl_nfs.specs.declared.basics.Stateid.{Stateid}
-use Rattle.xl_nfs.specs.Opened.{OpenResultItem, shown_open_result, open_result, OpenResultFits, IsShortOpenResult, open_result_at}
-use Rattle.xl_nfs.specs.declared.clients.ClientConfirm.{ClientConfirm}
-use Rattle.xl_nfs.specs.Clients.{client_confirm, ClientConfirmFits, client_confirm_at}
-use Rattle.xl_nfs.specs.declared.status.NfsStatus.{NfsStatus}
-use Rattle.xl_nfs.specs.Statuses.{status_number, status, StatusFits, status_at}
-use Rattle.xl_nfs.specs.Ops.{is_read, is_numbered}
-use Rattle.xl_nfs.specs.Outcomes.{shown_outcome, outcome_status, outcome, OutcomeFits, IsShortOutcome, outcome_at, LockFaultItem, shown_lock_outcome, lock_outcome_status, lock_outcome, LockOutcomeFits, IsShortLockOutcome, lock_outcome_at}
-use Rattle.xl_nfs.specs.declared.result.NfsResult.{NfsResult}
 use Rattle.xl_rpc.specs.declared.fault.RpcBad.TheVariants as bad
+use Rattle.xl_format.specs.Formats.{u32, marked, nothing, nothing_fits, giving, never, standing_by, tagged}
+use Rattle.xl_nfs.specs.Basics.{handle, stateid}
+use Rattle.xl_nfs.specs.declared.basics.Stateid.{Stateid}
+use Rattle.xl_nfs.specs.Opened.{OpenResultItem, shown_open_result, open_result}
+use Rattle.xl_nfs.specs.declared.clients.ClientConfirm.{ClientConfirm}
+use Rattle.xl_nfs.specs.Clients.{client_confirm}
+use Rattle.xl_nfs.specs.declared.status.NfsStatus.{NfsStatus}
 use Rattle.xl_nfs.specs.declared.status.NfsStatus.TheVariants as statuses
+use Rattle.xl_nfs.specs.Statuses.{status_number, status_made, status}
+use Rattle.xl_nfs.specs.Ops.{is_numbered}
+use Rattle.xl_nfs.specs.Outcomes.{shown_outcome, outcome_status, outcome, LockFaultItem, shown_lock_outcome, lock_outcome_status, lock_outcome}
+use Rattle.xl_nfs.specs.declared.result.NfsResult.{NfsResult}
 use Rattle.xl_nfs.specs.declared.result.NfsResult.TheVariants as result_wire
 
--- ---- nfs_resop4
-
+-- nfs_resop4
 pub data ResultItem : Type 0 where
   CloseAnswer : Result Stateid NfsStatus → ResultItem
   DelegReturnAnswer : NfsStatus → ResultItem
@@ -59,26 +61,6 @@ shown_result (result_wire.ReleaseLockOwner x) = ReleaseLockOwnerAnswer x
 shown_result (result_wire.NotSupported n) = NotSupportedAnswer n
 shown_result result_wire.Illegal = IllegalAnswer
 
-abbrev pub result_number : ResultItem → ℕ
-result_number (CloseAnswer x) = 4
-result_number (DelegReturnAnswer x) = 8
-result_number (GetFhAnswer x) = 10
-result_number (LockAnswer x) = 12
-result_number (LockTAnswer x) = 13
-result_number (LockUAnswer x) = 14
-result_number (LookupAnswer x) = 15
-result_number (OpenAnswer x) = 18
-result_number (OpenConfirmAnswer x) = 20
-result_number (OpenDowngradeAnswer x) = 21
-result_number (PutFhAnswer x) = 22
-result_number (PutRootFhAnswer x) = 24
-result_number (RenewAnswer x) = 30
-result_number (SetClientIdAnswer x) = 35
-result_number (SetClientIdConfirmAnswer x) = 36
-result_number (ReleaseLockOwnerAnswer x) = 39
-result_number (NotSupportedAnswer n) = n
-result_number IllegalAnswer = 10044
-
 abbrev pub result_status : ResultItem → NfsStatus
 result_status (CloseAnswer x) = outcome_status x
 result_status (DelegReturnAnswer x) = x
@@ -99,100 +81,74 @@ result_status (ReleaseLockOwnerAnswer x) = x
 result_status (NotSupportedAnswer n) = statuses.NotSupp
 result_status IllegalAnswer = statuses.OpIllegal
 
-abbrev pub result_part : ResultItem → List ℕ
-result_part (CloseAnswer x) = outcome stateid x
-result_part (DelegReturnAnswer x) = status x
-result_part (GetFhAnswer x) = outcome opaque x
-result_part (LockAnswer x) = lock_outcome stateid x
-result_part (LockTAnswer x) = lock_outcome (λ _. []) x
-result_part (LockUAnswer x) = outcome stateid x
-result_part (LookupAnswer x) = status x
-result_part (OpenAnswer x) = outcome open_result x
-result_part (OpenConfirmAnswer x) = outcome stateid x
-result_part (OpenDowngradeAnswer x) = outcome stateid x
-result_part (PutFhAnswer x) = status x
-result_part (PutRootFhAnswer x) = status x
-result_part (RenewAnswer x) = status x
-result_part (SetClientIdAnswer x) = outcome client_confirm x
-result_part (SetClientIdConfirmAnswer x) = status x
-result_part (ReleaseLockOwnerAnswer x) = status x
-result_part (NotSupportedAnswer n) = status statuses.NotSupp
-result_part IllegalAnswer = status statuses.OpIllegal
-
-abbrev pub nfs_result : ResultItem → List ℕ
-nfs_result x = unsigned (result_number x) ++ result_part x
-
-abbrev pub ResultPartFits : ResultItem → Type 0
-ResultPartFits (CloseAnswer x) = OutcomeFits StateidFits x
-ResultPartFits (DelegReturnAnswer x) = StatusFits x
-ResultPartFits (GetFhAnswer x) = OutcomeFits HandleFits x
-ResultPartFits (LockAnswer x) = LockOutcomeFits StateidFits x
-ResultPartFits (LockTAnswer x) = LockOutcomeFits (λ _. Unit {0}) x
-ResultPartFits (LockUAnswer x) = OutcomeFits StateidFits x
-ResultPartFits (LookupAnswer x) = StatusFits x
-ResultPartFits (OpenAnswer x) = OutcomeFits OpenResultFits x
-ResultPartFits (OpenConfirmAnswer x) = OutcomeFits StateidFits x
-ResultPartFits (OpenDowngradeAnswer x) = OutcomeFits StateidFits x
-ResultPartFits (PutFhAnswer x) = StatusFits x
-ResultPartFits (PutRootFhAnswer x) = StatusFits x
-ResultPartFits (RenewAnswer x) = StatusFits x
-ResultPartFits (SetClientIdAnswer x) = OutcomeFits ClientConfirmFits x
-ResultPartFits (SetClientIdConfirmAnswer x) = StatusFits x
-ResultPartFits (ReleaseLockOwnerAnswer x) = StatusFits x
-ResultPartFits (NotSupportedAnswer n) = (is_read n ≡ false) × (is_numbered n ≡ true)
-ResultPartFits IllegalAnswer = Unit {0}
-
-abbrev pub ResultFits : ResultItem → Type 0
-ResultFits x = UnsignedFits (result_number x) × ResultPartFits x
-
--- what a writer asks for
-abbrev pub IsShortResult : ResultItem → Type 0
-IsShortResult (CloseAnswer x) = IsShortOutcome (λ _. Unit {0}) x
-IsShortResult (DelegReturnAnswer x) = Unit {0}
-IsShortResult (GetFhAnswer x) = IsShortOutcome HandleFits x
-IsShortResult (LockAnswer x) = IsShortLockOutcome x
-IsShortResult (LockTAnswer x) = IsShortLockOutcome x
-IsShortResult (LockUAnswer x) = IsShortOutcome (λ _. Unit {0}) x
-IsShortResult (LookupAnswer x) = Unit {0}
-IsShortResult (OpenAnswer x) = IsShortOutcome IsShortOpenResult x
-IsShortResult (OpenConfirmAnswer x) = IsShortOutcome (λ _. Unit {0}) x
-IsShortResult (OpenDowngradeAnswer x) = IsShortOutcome (λ _. Unit {0}) x
-IsShortResult (PutFhAnswer x) = Unit {0}
-IsShortResult (PutRootFhAnswer x) = Unit {0}
-IsShortResult (RenewAnswer x) = Unit {0}
-IsShortResult (SetClientIdAnswer x) = IsShortOutcome (λ _. Unit {0}) x
-IsShortResult (SetClientIdConfirmAnswer x) = Unit {0}
-IsShortResult (ReleaseLockOwnerAnswer x) = Unit {0}
-IsShortResult (NotSupportedAnswer n) = (is_read n ≡ false) × (is_numbered n ≡ true)
-IsShortResult IllegalAnswer = Unit {0}
-
 -- a status that has to be this one
-abbrev pub just_at : NfsStatus → List ℕ → Result (Unit {0} × List ℕ) RpcBad
-just_at s bytes = exactly_at (status_number s) bad.Value unsigned_at nothing_at bytes
+unfoldable pub told : NfsStatus → Format (Unit {0}) RpcBad
+told s = marked (status_number s) bad.Value (status_made s).1 nothing
 
--- what stands behind the number of an operation whose arguments are not read
-abbrev pub other_result_at : ℕ → List ℕ → Result (ResultItem × List ℕ) RpcBad
-other_result_at n bytes = if_at n 10044 (as_at (λ _. IllegalAnswer) (just_at statuses.OpIllegal)) (choose_at (is_numbered n) (as_at (λ _. NotSupportedAnswer n) (just_at statuses.NotSupp)) (never_at bad.Value)) bytes
+pub told_fits : (s : NfsStatus) → (told s).Fit tt
+unfolding told
+told_fits s = nothing_fits
+
+-- what stands behind the number of an operation whose arguments are not read, and behind 10,044
+abbrev pub other_result : Bool → Bool → ℕ → Format ResultItem RpcBad
+other_result true illegal n = giving (NotSupportedAnswer n) (told statuses.NotSupp) (told_fits statuses.NotSupp)
+other_result false true n = giving IllegalAnswer (told statuses.OpIllegal) (told_fits statuses.OpIllegal)
+other_result false false n = never bad.Value
+
+abbrev pub results : Cases ℕ ResultItem RpcBad
+results =
+    case 4 CloseAnswer (outcome stateid) (case 8 DelegReturnAnswer status (case 10 GetFhAnswer (outcome handle) (case 12 LockAnswer (lock_outcome stateid) (
+    case 13 LockTAnswer (lock_outcome nothing) (case 14 LockUAnswer (outcome stateid) (case 15 LookupAnswer status (case 18 OpenAnswer (outcome open_result) (
+    case 20 OpenConfirmAnswer (outcome stateid) (case 21 OpenDowngradeAnswer (outcome stateid) (case 22 PutFhAnswer status (case 24 PutRootFhAnswer status (
+    case 30 RenewAnswer status (case 35 SetClientIdAnswer (outcome client_confirm) (case 36 SetClientIdConfirmAnswer status (case 39 ReleaseLockOwnerAnswer status (
+    others (λ n. other_result (is_numbered n) (n == 10044) n)))))))))))))))))
+
+-- an operation that is not served has none of these numbers
+abbrev pub result_case : ResultItem → Chosen ℕ ResultItem RpcBad
+result_case (CloseAnswer x) = chosen 4 CloseAnswer (outcome stateid) x
+result_case (DelegReturnAnswer x) = chosen 8 DelegReturnAnswer status x
+result_case (GetFhAnswer x) = chosen 10 GetFhAnswer (outcome handle) x
+result_case (LockAnswer x) = chosen 12 LockAnswer (lock_outcome stateid) x
+result_case (LockTAnswer x) = chosen 13 LockTAnswer (lock_outcome nothing) x
+result_case (LockUAnswer x) = chosen 14 LockUAnswer (outcome stateid) x
+result_case (LookupAnswer x) = chosen 15 LookupAnswer status x
+result_case (OpenAnswer x) = chosen 18 OpenAnswer (outcome open_result) x
+result_case (OpenConfirmAnswer x) = chosen 20 OpenConfirmAnswer (outcome stateid) x
+result_case (OpenDowngradeAnswer x) = chosen 21 OpenDowngradeAnswer (outcome stateid) x
+result_case (PutFhAnswer x) = chosen 22 PutFhAnswer status x
+result_case (PutRootFhAnswer x) = chosen 24 PutRootFhAnswer status x
+result_case (RenewAnswer x) = chosen 30 RenewAnswer status x
+result_case (SetClientIdAnswer x) = chosen 35 SetClientIdAnswer (outcome client_confirm) x
+result_case (SetClientIdConfirmAnswer x) = chosen 36 SetClientIdConfirmAnswer status x
+result_case (ReleaseLockOwnerAnswer x) = chosen 39 ReleaseLockOwnerAnswer status x
+result_case (NotSupportedAnswer n) = standing_by n (NotSupportedAnswer n) (told statuses.NotSupp) (told_fits statuses.NotSupp) ((is_listed results n ≡ false) × (is_numbered n ≡ true))
+result_case IllegalAnswer = chosen 10044 (λ _. IllegalAnswer) (told statuses.OpIllegal) tt
+
+pub result_made : (x : ResultItem) → IsMade results x (result_case x)
+result_made (NotSupportedAnswer n) = (refl, λ fit bytes. read_unlisted results n fit.0 bytes ∙ ap (λ (b : Bool). (other_result b (n == 10044) n).at bytes) fit.1)
+result_made (CloseAnswer x) = (refl, λ _ _. refl)
+result_made _ = (refl, λ _ _. refl)
+
+pub other_result_seen : (b c : Bool) (n : ℕ) → is_numbered n ≡ b → (n == 10044) ≡ c → is_listed results n ≡ false → (x : ResultItem) → (other_result b c n).Fit x
+    → (spelled (result_case x) ≡ (other_result b c n).spell x) × (((result_case x).key ≡ n) × (result_case x).Fit)
+other_result_seen true c n is e unlisted x same = subst (λ (y : ResultItem). (spelled (result_case y) ≡ (told statuses.NotSupp).spell tt) × (((result_case y).key ≡ n) × (result_case y).Fit)) same (refl, (refl, (unlisted, is)))
+other_result_seen false true n is e unlisted x same = subst (λ (y : ResultItem). (spelled (result_case y) ≡ (told statuses.OpIllegal).spell tt) × (((result_case y).key ≡ n) × (result_case y).Fit)) same (refl, (sym (eqb-true n 10044 e), told_fits statuses.OpIllegal))
+other_result_seen false false n is e unlisted x none = absurd none
+
+unfoldable pub nfs_result : Format ResultItem RpcBad
+nfs_result = tagged u32 results result_case
+    (λ _. refl, (λ _. refl, (λ _. refl, (λ _. refl, (λ _. refl, (λ _. refl, (λ _. refl, (λ _. refl, (λ _. refl, (λ _. refl, (λ _. refl, (λ _. refl, (λ _. refl, (λ _. refl, (λ _. refl, (λ _. refl, (λ n unlisted x fit. other_result_seen (is_numbered n) (n == 10044) n refl refl unlisted x fit, tt)))))))))))))))))
+    result_made
+
+-- its number, and what stands behind a number
+abbrev pub result_number : ResultItem → ℕ
+result_number x = (result_case x).key
 
 unfoldable pub result_part_at : ℕ → List ℕ → Result (ResultItem × List ℕ) RpcBad
-result_part_at n bytes =
-    if_at n 4 (as_at CloseAnswer (outcome_at stateid_at))
-    (if_at n 8 (as_at DelegReturnAnswer status_at)
-    (if_at n 10 (as_at GetFhAnswer (outcome_at handle_at))
-    (if_at n 12 (as_at LockAnswer (lock_outcome_at stateid_at))
-    (if_at n 13 (as_at LockTAnswer (lock_outcome_at nothing_at))
-    (if_at n 14 (as_at LockUAnswer (outcome_at stateid_at))
-    (if_at n 15 (as_at LookupAnswer status_at)
-    (if_at n 18 (as_at OpenAnswer (outcome_at open_result_at))
-    (if_at n 20 (as_at OpenConfirmAnswer (outcome_at stateid_at))
-    (if_at n 21 (as_at OpenDowngradeAnswer (outcome_at stateid_at))
-    (if_at n 22 (as_at PutFhAnswer status_at)
-    (if_at n 24 (as_at PutRootFhAnswer status_at)
-    (if_at n 30 (as_at RenewAnswer status_at)
-    (if_at n 35 (as_at SetClientIdAnswer (outcome_at client_confirm_at))
-    (if_at n 36 (as_at SetClientIdConfirmAnswer status_at)
-    (if_at n 39 (as_at ReleaseLockOwnerAnswer status_at)
-    (other_result_at n)))))))))))))))) bytes
+result_part_at n bytes = cases_at results n bytes
 
-unfoldable pub result_at : List ℕ → Result (ResultItem × List ℕ) RpcBad
-result_at bytes = tagged_at unsigned_at result_part_at bytes
+abbrev pub result_at : List ℕ → Result (ResultItem × List ℕ) RpcBad
+result_at bytes = nfs_result.at bytes
+
+abbrev pub ResultFits : ResultItem → Type 0
+ResultFits x = nfs_result.Fit x

@@ -1,10 +1,11 @@
--- How an operation ended (nfsstat4): the statuses of this server, their spelling, and their reading (RFC 7531).
-use Rattle.std.specs.Prelude.{◌==◌, if◌then◌else◌, ℕ, Bool, List, Result}
-use Rattle.xl_base.specs.Codec.{as_at, guard_at}
-use Rattle.xl_rpc.specs.Xdr.{unsigned, unsigned_at}
+-- How an operation ended (nfsstat4): the statuses of this server (RFC 7531).
+use Rattle.std.specs.Prelude.{◌≡◌, ℕ, ◌^◌, ◌==◌, true, nat_lt, if◌then◌else◌}
+use Rattle.std.proofs.Common.{refl}
+use Rattle.xl_base.specs.Formats.{Format}
 use Rattle.xl_rpc.specs.declared.fault.RpcBad.{RpcBad}
-use Rattle.xl_nfs.specs.declared.status.NfsStatus.{NfsStatus}
 use Rattle.xl_rpc.specs.declared.fault.RpcBad.TheVariants as bad
+use Rattle.xl_format.specs.Formats.{numbered}
+use Rattle.xl_nfs.specs.declared.status.NfsStatus.{NfsStatus}
 use Rattle.xl_nfs.specs.declared.status.NfsStatus.TheVariants as statuses
 
 unfoldable pub status_number : NfsStatus → ℕ
@@ -37,13 +38,6 @@ status_number statuses.LocksHeld = 10037
 status_number statuses.OpenMode = 10038
 status_number statuses.OpIllegal = 10044
 
-abbrev pub status : NfsStatus → List ℕ
-status s = unsigned (status_number s)
-
--- each has a spelling
-abbrev pub StatusFits : NfsStatus → Type 0
-StatusFits s = Unit {0}
-
 -- the status of a number; of a number of none, the last
 unfoldable pub made_status : ℕ → NfsStatus
 made_status n =
@@ -55,9 +49,10 @@ made_status n =
     if n == 10026 then statuses.BadSeqid else if n == 10033 then statuses.NoGrace else if n == 10034 then statuses.ReclaimBad else if n == 10035 then statuses.ReclaimConflict else
     if n == 10036 then statuses.BadXdr else if n == 10037 then statuses.LocksHeld else if n == 10038 then statuses.OpenMode else statuses.OpIllegal
 
--- a number of one of them
-abbrev pub is_status : ℕ → Bool
-is_status n = status_number (made_status n) == n
+pub status_made : (s : NfsStatus) → (made_status (status_number s) ≡ s) × (nat_lt (status_number s) (2 ^ 32) ≡ true)
+unfolding made_status status_number
+status_made statuses.Ok = (refl, refl)
+status_made _ = (refl, refl)
 
-unfoldable pub status_at : List ℕ → Result (NfsStatus × List ℕ) RpcBad
-status_at bytes = as_at made_status (guard_at is_status bad.Value unsigned_at) bytes
+unfoldable pub status : Format NfsStatus RpcBad
+status = numbered bad.Value made_status status_number status_made

@@ -1,10 +1,12 @@
 //! What the arguments and results of several operations share.
-ghost use Rattle.std.specs.Prelude.{◌≡◌, ◌++◌, ◌%◌, length, OnOk};
+ghost use Rattle.std.specs.Prelude.{◌≡◌, length};
 ghost use Rattle.xl_base.specs.Codec.{Advances};
-ghost use Rattle.xl_rpc.specs.Xdr.{fixed, opaque_fixed_at};
-ghost use Rattle.xl_nfs.specs.Basics.{BitmapFits, IsShortOwner, shown_owner, text_at, name_at, handle_at, stateid, stateid_at, owner, owner_at, lock_type_number, lock_type, made_lock_type, lock_type_at, bitmap, bitmap_at, word_at};
+ghost use Rattle.xl_rpc.specs.Xdr.{Puts};
+ghost use Rattle.xl_format.specs.Formats.{bytes, array};
+ghost use Rattle.xl_nfs.specs.Basics.{identifier, handle, name, verifier, stateid, shown_owner, owner, lock_type, word_at};
 
 use std::alloc::AllocError;
+use xl_format::{put_record, read_record};
 use xl_rpc::{RpcBad, Xdr, XdrOut};
 
 /// What names an open, the locks of an owner or a delegation (stateid4, RFC 7530 9.1.4).
@@ -63,33 +65,48 @@ const MAX_TEXT_BYTES: u32 = 1024;
 const MAX_HANDLE_BYTES: u32 = 128;
 
 /// A tag, an owner or a client's id.
-#[tactic(auto, unfolding(crate::specs::Basics::text_at))]
 pub(crate) fn read_text<'a>(xdr: &mut Xdr<'a>) -> Result<&'a [u8], RpcBad>
-    ensures { Advances (λ s. s.now) result xdr.old.rest.now xdr.new.rest.now (text_at xdr.old.rest.now) }
+    ensures { Advances (λ s. s.now) result xdr.old.rest.now xdr.new.rest.now (identifier.at xdr.old.rest.now) }
 {
     xdr.opaque(MAX_TEXT_BYTES)
 }
 
 /// A name or another opaque without a bound of its own.
-#[tactic(auto, unfolding(crate::specs::Basics::name_at))]
+#[tactic(auto, unfolding(crate::specs::Basics::name))]
 pub(crate) fn read_name<'a>(xdr: &mut Xdr<'a>) -> Result<&'a [u8], RpcBad>
-    ensures { Advances (λ s. s.now) result xdr.old.rest.now xdr.new.rest.now (name_at xdr.old.rest.now) }
+    ensures { Advances (λ s. s.now) result xdr.old.rest.now xdr.new.rest.now (name.at xdr.old.rest.now) }
 {
     xdr.opaque(u32::MAX)
 }
 
+#[tactic(auto, unfolding(crate::specs::Basics::name))]
+pub(crate) fn put_name(out: &mut XdrOut, value: &[u8]) -> Result<(), AllocError>
+    requires { name.Fit value.now }
+    ensures { Puts result out.old out.new (name.spell value.now) }
+{
+    out.opaque(value)
+}
+
 /// A file handle.
-#[tactic(auto, unfolding(crate::specs::Basics::handle_at))]
+#[tactic(auto, unfolding(crate::specs::Basics::handle))]
 pub(crate) fn read_handle<'a>(xdr: &mut Xdr<'a>) -> Result<&'a [u8], RpcBad>
-    ensures { Advances (λ s. s.now) result xdr.old.rest.now xdr.new.rest.now (handle_at xdr.old.rest.now) }
+    ensures { Advances (λ s. s.now) result xdr.old.rest.now xdr.new.rest.now (handle.at xdr.old.rest.now) }
 {
     xdr.opaque(MAX_HANDLE_BYTES)
 }
 
+#[tactic(auto, unfolding(crate::specs::Basics::handle))]
+pub(crate) fn put_handle(out: &mut XdrOut, value: &[u8]) -> Result<(), AllocError>
+    requires { handle.Fit value.now }
+    ensures { Puts result out.old out.new (handle.spell value.now) }
+{
+    out.opaque(value)
+}
+
 /// Eight bytes as they stand.
-#[tactic(auto, using(crate::proofs::BasicLaws::fixed_length))]
+#[tactic(auto, using(xl_rpc::proofs::XdrLaws::fixed_length))]
 pub(crate) fn read_verifier(xdr: &mut Xdr) -> Result<[u8; 8], RpcBad>
-    ensures { Advances (λ v. v) result xdr.old.rest.now xdr.new.rest.now (opaque_fixed_at 8 xdr.old.rest.now) }
+    ensures { Advances (λ v. v) result xdr.old.rest.now xdr.new.rest.now (verifier.at xdr.old.rest.now) }
 {
     let bytes = xdr.fixed(8)?;
     Ok(eight(bytes))
@@ -104,9 +121,9 @@ fn eight(bytes: &[u8]) -> [u8; 8]
 }
 
 /// Twelve bytes as they stand.
-#[tactic(auto, using(crate::proofs::BasicLaws::fixed_length))]
+#[tactic(auto, using(xl_rpc::proofs::XdrLaws::fixed_length))]
 fn read_other(xdr: &mut Xdr) -> Result<[u8; 12], RpcBad>
-    ensures { Advances (λ v. v) result xdr.old.rest.now xdr.new.rest.now (opaque_fixed_at 12 xdr.old.rest.now) }
+    ensures { Advances (λ v. v) result xdr.old.rest.now xdr.new.rest.now ((bytes 12).at xdr.old.rest.now) }
 {
     let bytes = xdr.fixed(12)?;
     Ok(twelve(bytes))
@@ -120,128 +137,75 @@ fn twelve(bytes: &[u8]) -> [u8; 12]
     *front
 }
 
-#[tactic(auto, unfolding(crate::specs::Basics::stateid_at))]
+#[tactic(auto, unfolding(crate::specs::Basics::stateid))]
 pub(crate) fn read_stateid(xdr: &mut Xdr) -> Result<Stateid, RpcBad>
-    ensures { Advances (λ s. s) result xdr.old.rest.now xdr.new.rest.now (stateid_at xdr.old.rest.now) }
+    ensures { Advances (λ x. x) result xdr.old.rest.now xdr.new.rest.now (stateid.at xdr.old.rest.now) }
 {
-    let mut at = *xdr;
-    let seqid = at.u32()?;
-    let other = read_other(&mut at)?;
-    *xdr = at;
-    Ok(Stateid { seqid, other })
-}
-
-#[tactic(auto, unfolding(crate::specs::Basics::owner_at))]
-pub(crate) fn read_owner<'a>(xdr: &mut Xdr<'a>) -> Result<Owner<'a>, RpcBad>
-    ensures { Advances shown_owner result xdr.old.rest.now xdr.new.rest.now (owner_at xdr.old.rest.now) }
-{
-    let mut at = *xdr;
-    let clientid = at.u64()?;
-    let owner = read_text(&mut at)?;
-    *xdr = at;
-    Ok(Owner { clientid, owner })
-}
-
-/// The type of a number from 1 to 4.
-fn lock_type_of(number: u32) -> LockType
-    ensures { result ≡ made_lock_type number }
-{
-    match number {
-        1 => LockType::Read,
-        2 => LockType::Write,
-        3 => LockType::ReadWaiting,
-        _ => LockType::WriteWaiting,
-    }
-}
-
-#[tactic(auto, unfolding(crate::specs::Basics::lock_type_at))]
-pub(crate) fn read_lock_type(xdr: &mut Xdr) -> Result<LockType, RpcBad>
-    ensures { Advances (λ t. t) result xdr.old.rest.now xdr.new.rest.now (lock_type_at xdr.old.rest.now) }
-{
-    let mut at = *xdr;
-    let number = at.u32()?;
-    if 1 <= number && number <= 4 {
-        *xdr = at;
-        Ok(lock_type_of(number))
-    } else {
-        Err(RpcBad::Value)
-    }
-}
-
-/// The words of a bitmap, behind their count.
-#[tactic(auto, unfolding(crate::specs::Basics::bitmap_at))]
-pub(crate) fn read_bitmap<'a>(xdr: &mut Xdr<'a>) -> Result<Bitmap<'a>, RpcBad>
-    ensures { Advances (λ b. b.words.now) result xdr.old.rest.now xdr.new.rest.now (bitmap_at xdr.old.rest.now) }
-{
-    let mut at = *xdr;
-    let count = at.u32()?;
-    let bytes = at.left();
-    let whole = count as usize * 4;
-    if bytes.len() < whole {
-        return Err(RpcBad::Short);
-    }
-    let (words, rest) = bytes.split_at(whole);
-    *xdr = Xdr::new(rest);
-    Ok(Bitmap { words })
+    read_record!(xdr; Stateid { seqid: Xdr::u32, other: read_other })
 }
 
 #[tactic(auto, unfolding(crate::specs::Basics::stateid))]
 pub(crate) fn put_stateid(out: &mut XdrOut, value: &Stateid) -> Result<(), AllocError>
-    ensures { OnOk result (out.new ≡ out.old ++ stateid value.now) }
+    ensures { Puts result out.old out.new (stateid.spell value.now) }
 {
-    out.u32(value.seqid)?;
-    out.fixed(&value.other)?;
-    Ok(())
+    put_record!(out; XdrOut::u32: value.seqid, XdrOut::fixed: &value.other)
+}
+
+#[tactic(auto, unfolding(crate::specs::Basics::owner))]
+pub(crate) fn read_owner<'a>(xdr: &mut Xdr<'a>) -> Result<Owner<'a>, RpcBad>
+    ensures { Advances shown_owner result xdr.old.rest.now xdr.new.rest.now (owner.at xdr.old.rest.now) }
+{
+    read_record!(xdr; Owner { clientid: Xdr::u64, owner: read_text })
 }
 
 #[tactic(auto, unfolding(crate::specs::Basics::owner))]
 pub(crate) fn put_owner(out: &mut XdrOut, value: &Owner) -> Result<(), AllocError>
-    requires { IsShortOwner (shown_owner value.now) }
-    ensures { OnOk result (out.new ≡ out.old ++ owner (shown_owner value.now)) }
+    requires { owner.Fit (shown_owner value.now) }
+    ensures { Puts result out.old out.new (owner.spell (shown_owner value.now)) }
 {
-    out.u64(value.clientid)?;
-    out.opaque(value.owner)?;
-    Ok(())
+    put_record!(out; XdrOut::u64: value.clientid, XdrOut::opaque: value.owner)
 }
 
-/// The number of a type.
-fn number_of_lock_type(value: LockType) -> u32
-    ensures { result ≡ lock_type_number value }
+#[tactic(auto, unfolding(crate::specs::Basics::lock_type))]
+pub(crate) fn read_lock_type(xdr: &mut Xdr) -> Result<LockType, RpcBad>
+    ensures { Advances (λ t. t) result xdr.old.rest.now xdr.new.rest.now (lock_type.at xdr.old.rest.now) }
 {
-    match value {
+    let mut at = *xdr;
+    let value = match at.u32()? {
+        1 => LockType::Read,
+        2 => LockType::Write,
+        3 => LockType::ReadWaiting,
+        4 => LockType::WriteWaiting,
+        _ => return Err(RpcBad::Value),
+    };
+    *xdr = at;
+    Ok(value)
+}
+
+#[tactic(auto, unfolding(crate::specs::Basics::lock_type))]
+pub(crate) fn put_lock_type(out: &mut XdrOut, value: LockType) -> Result<(), AllocError>
+    ensures { Puts result out.old out.new (lock_type.spell value) }
+{
+    out.u32(match value {
         LockType::Read => 1,
         LockType::Write => 2,
         LockType::ReadWaiting => 3,
         LockType::WriteWaiting => 4,
-    }
+    })
 }
 
-pub(crate) fn put_lock_type(out: &mut XdrOut, value: LockType) -> Result<(), AllocError>
-    ensures { OnOk result (out.new ≡ out.old ++ lock_type value) }
+/// The words of a bitmap, behind their count.
+pub(crate) fn read_bitmap<'a>(xdr: &mut Xdr<'a>) -> Result<Bitmap<'a>, RpcBad>
+    ensures { Advances (λ b. b.words.now) result xdr.old.rest.now xdr.new.rest.now (array.at xdr.old.rest.now) }
 {
-    out.u32(number_of_lock_type(value))
+    Ok(Bitmap {
+        words: xdr.words()?,
+    })
 }
 
-/// Whole words, four bytes each.
-#[tactic(auto, using(crate::proofs::BasicLaws::fixed_words))]
-fn put_words(out: &mut XdrOut, words: &[u8]) -> Result<(), AllocError>
-    requires { length words.now % 4 ≡ 0 }
-    ensures { OnOk result (out.new ≡ out.old ++ words.now) }
-{
-    let mut rest = words;
-    'words: while let Some((word, after)) = rest.split_first_chunk::<4>() {
-        out.fixed(word)?;
-        rest = after;
-    }
-    Ok(())
-}
-
-#[tactic(auto, unfolding(crate::specs::Basics::bitmap))]
 pub(crate) fn put_bitmap(out: &mut XdrOut, value: &Bitmap) -> Result<(), AllocError>
-    requires { BitmapFits value.now.words.now }
-    ensures { OnOk result (out.new ≡ out.old ++ bitmap value.now.words.now) }
+    requires { array.Fit value.now.words.now }
+    ensures { Puts result out.old out.new (array.spell value.now.words.now) }
 {
-    out.u32((value.words.len() / 4) as u32)?;
-    put_words(out, value.words)?;
-    Ok(())
+    out.words(value.words)
 }

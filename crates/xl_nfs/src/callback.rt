@@ -1,15 +1,14 @@
 //! The call that asks a client for a delegation, and the client's reply.
 ghost use Rattle.std.specs.Prelude.{◌≡◌, ◌++◌, ℕ, List, Ok, OnOk, IfOk, option_map};
 ghost use Rattle.xl_base.specs.Codec.{Advances};
-ghost use Rattle.xl_nfs.specs.Basics.{stateid};
-ghost use Rattle.xl_nfs.specs.Opened.{delegation};
-ghost use Rattle.xl_nfs.specs.Callbacks.{shown_recall_result, recall_result_part_at, recall_result_at, results_at, RecallReplyItem, shown_recall_reply, recall_reply, RecallReplyFits, recall_reply_at, recall_args, recall_compound, recall_record};
+ghost use Rattle.xl_nfs.specs.Callbacks.{shown_recall_result, recall_result, result_list, RecallReplyItem, shown_recall_reply, recall_reply, recall_reply_at, recall_args, recall_compound, recall_record};
 
 use crate::basics::{Stateid, put_stateid, read_text};
 use crate::operation;
 use crate::status::{NfsStatus, read_status};
 use std::alloc::{AllocError, Global};
 use xl_base::handle_of;
+use xl_format::read_record;
 use xl_rpc::{Auth, CallHead, RpcBad, Xdr, XdrOut, write_call};
 
 /// How a client answers the one operation of the call (nfs_cb_resop4).
@@ -32,57 +31,39 @@ pub struct RecallReply<'a> {
     pub results: Option<RecallResult>,
 }
 
-/// What stands behind the number.
-#[tactic(auto, unfolding(crate::specs::Callbacks::recall_result_part_at))]
-fn read_recall_result_part(number: u32, xdr: &mut Xdr) -> Result<RecallResult, RpcBad>
-    ensures { Advances shown_recall_result result xdr.old.rest.now xdr.new.rest.now (recall_result_part_at number xdr.old.rest.now) }
-{
-    match number {
-        4 => Ok(RecallResult::Recall(read_status(xdr)?)),
-        10044 => Ok(RecallResult::Illegal(read_status(xdr)?)),
-        _ => Err(RpcBad::Value),
-    }
-}
-
-#[tactic(auto, unfolding(crate::specs::Callbacks::recall_result_at))]
+#[tactic(auto, unfolding(crate::specs::Callbacks::recall_result))]
 fn read_recall_result(xdr: &mut Xdr) -> Result<RecallResult, RpcBad>
-    ensures { Advances shown_recall_result result xdr.old.rest.now xdr.new.rest.now (recall_result_at xdr.old.rest.now) }
+    ensures { Advances shown_recall_result result xdr.old.rest.now xdr.new.rest.now (recall_result.at xdr.old.rest.now) }
 {
     let mut at = *xdr;
-    let number = at.u32()?;
-    let value = read_recall_result_part(number, &mut at)?;
+    let value = match at.u32()? {
+        4 => RecallResult::Recall(read_status(&mut at)?),
+        10044 => RecallResult::Illegal(read_status(&mut at)?),
+        _ => return Err(RpcBad::Value),
+    };
     *xdr = at;
     Ok(value)
 }
 
-#[tactic(auto, unfolding(crate::specs::Callbacks::results_part_at, crate::specs::Callbacks::results_at))]
+#[tactic(auto, unfolding(crate::specs::Callbacks::result_list, xl_format::specs::Formats::nothing))]
 fn read_results(xdr: &mut Xdr) -> Result<Option<RecallResult>, RpcBad>
-    ensures { Advances (option_map shown_recall_result) result xdr.old.rest.now xdr.new.rest.now (results_at xdr.old.rest.now) }
+    ensures { Advances (option_map shown_recall_result) result xdr.old.rest.now xdr.new.rest.now (result_list.at xdr.old.rest.now) }
 {
     let mut at = *xdr;
-    let results = match at.u32()? {
+    let value = match at.u32()? {
         0 => None,
         1 => Some(read_recall_result(&mut at)?),
         _ => return Err(RpcBad::Value),
     };
     *xdr = at;
-    Ok(results)
+    Ok(value)
 }
 
-#[tactic(auto, unfolding(crate::specs::Callbacks::recall_reply_at))]
+#[tactic(auto, unfolding(crate::specs::Callbacks::recall_reply))]
 fn read_whole<'a>(xdr: &mut Xdr<'a>) -> Result<RecallReply<'a>, RpcBad>
-    ensures { Advances shown_recall_reply result xdr.old.rest.now xdr.new.rest.now (recall_reply_at xdr.old.rest.now) }
+    ensures { Advances shown_recall_reply result xdr.old.rest.now xdr.new.rest.now (recall_reply.at xdr.old.rest.now) }
 {
-    let mut at = *xdr;
-    let status = read_status(&mut at)?;
-    let tag = read_text(&mut at)?;
-    let results = read_results(&mut at)?;
-    *xdr = at;
-    Ok(RecallReply {
-        status,
-        tag,
-        results,
-    })
+    read_record!(xdr; RecallReply { status: read_status, tag: read_text, results: read_results })
 }
 
 /// A client's reply to the call that asks it for a delegation, read from the front; what stands behind it is left. A fault
@@ -91,9 +72,9 @@ fn read_whole<'a>(xdr: &mut Xdr<'a>) -> Result<RecallReply<'a>, RpcBad>
 /// is more than one result. It leaves the reader as it was.
 pub fn read_recall_reply<'a>(body: &mut Xdr<'a>) -> Result<RecallReply<'a>, RpcBad>
     // What is read is spelled so.
-    ensures found { IfOk result (λ r. (body.old.rest.now ≡ recall_reply (shown_recall_reply r) ++ body.new.rest.now) × RecallReplyFits (shown_recall_reply r)) }
+    ensures found { IfOk result (λ r. (body.old.rest.now ≡ recall_reply.spell (shown_recall_reply r) ++ body.new.rest.now) × recall_reply.Fit (shown_recall_reply r)) }
     // What is spelled so is read, whatever follows.
-    ensures only { (r : RecallReplyItem) (rest : List ℕ) → RecallReplyFits r → body.old.rest.now ≡ recall_reply r ++ rest → Advances shown_recall_reply result body.old.rest.now body.new.rest.now (Ok (r, rest)) }
+    ensures only { (r : RecallReplyItem) (rest : List ℕ) → recall_reply.Fit r → body.old.rest.now ≡ recall_reply.spell r ++ rest → Advances shown_recall_reply result body.old.rest.now body.new.rest.now (Ok (r, rest)) }
     // Which fault it is.
     ensures exact { Advances shown_recall_reply result body.old.rest.now body.new.rest.now (recall_reply_at body.old.rest.now) }
 {
@@ -131,6 +112,7 @@ fn put_recall_compound(
 /// The record of the call of this number that asks a client for a delegation of a file: CB_RECALL as the one operation of
 /// a CB_COMPOUND (RFC 7530 18.2), of the program and with the ident that the client's SETCLIENTID gave. Its xid is the
 /// number, its tag is empty, truncate is false, and its credential and verifier are AUTH_NONE.
+#[tactic(auto, unfolding(xl_rpc::specs::Calls::HeadFits))]
 pub fn recall_call(
     alloc: Global,
     number: u32,

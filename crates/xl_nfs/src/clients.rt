@@ -1,10 +1,11 @@
 //! Clients: the arguments of SETCLIENTID and SETCLIENTID_CONFIRM.
-ghost use Rattle.std.specs.Prelude.{◌≡◌, ◌++◌, OnOk};
 ghost use Rattle.xl_base.specs.Codec.{Advances};
-ghost use Rattle.xl_nfs.specs.Clients.{label_at, shown_set_client_id_args, set_client_id_args, IsShortSetClientIdArgs, set_client_id_args_at, client_confirm, client_confirm_at};
+ghost use Rattle.xl_rpc.specs.Xdr.{Puts};
+ghost use Rattle.xl_nfs.specs.Clients.{label, shown_set_client_id_args, set_client_id_args, client_confirm};
 
 use crate::basics::{read_text, read_verifier};
 use std::alloc::AllocError;
+use xl_format::{put_record, read_record};
 use xl_rpc::{RpcBad, Xdr, XdrOut};
 
 /// The arguments of SETCLIENTID (SETCLIENTID4args).
@@ -36,32 +37,19 @@ pub struct ClientConfirm {
 const MAX_LABEL_BYTES: u32 = 64;
 
 /// A transport's name or an address.
-#[tactic(auto, unfolding(crate::specs::Clients::label_at))]
 fn read_label<'a>(xdr: &mut Xdr<'a>) -> Result<&'a [u8], RpcBad>
-    ensures { Advances (λ s. s.now) result xdr.old.rest.now xdr.new.rest.now (label_at xdr.old.rest.now) }
+    ensures { Advances (λ s. s.now) result xdr.old.rest.now xdr.new.rest.now (label.at xdr.old.rest.now) }
 {
     xdr.opaque(MAX_LABEL_BYTES)
 }
 
-#[tactic(auto, unfolding(crate::specs::Clients::set_client_id_args_at))]
+#[tactic(auto, unfolding(crate::specs::Clients::set_client_id_args))]
 pub(crate) fn read_set_client_id_args<'a>(xdr: &mut Xdr<'a>) -> Result<SetClientIdArgs<'a>, RpcBad>
-    ensures { Advances shown_set_client_id_args result xdr.old.rest.now xdr.new.rest.now (set_client_id_args_at xdr.old.rest.now) }
+    ensures { Advances shown_set_client_id_args result xdr.old.rest.now xdr.new.rest.now (set_client_id_args.at xdr.old.rest.now) }
 {
-    let mut at = *xdr;
-    let verifier = read_verifier(&mut at)?;
-    let id = read_text(&mut at)?;
-    let program = at.u32()?;
-    let netid = read_label(&mut at)?;
-    let address = read_label(&mut at)?;
-    let callback_ident = at.u32()?;
-    *xdr = at;
-    Ok(SetClientIdArgs {
-        verifier,
-        id,
-        program,
-        netid,
-        address,
-        callback_ident,
+    read_record!(xdr; SetClientIdArgs {
+        verifier: read_verifier, id: read_text, program: Xdr::u32, netid: read_label, address: read_label,
+        callback_ident: Xdr::u32
     })
 }
 
@@ -70,34 +58,25 @@ pub(crate) fn put_set_client_id_args(
     out: &mut XdrOut,
     value: &SetClientIdArgs,
 ) -> Result<(), AllocError>
-    requires { IsShortSetClientIdArgs (shown_set_client_id_args value.now) }
-    ensures { OnOk result (out.new ≡ out.old ++ set_client_id_args (shown_set_client_id_args value.now)) }
+    requires { set_client_id_args.Fit (shown_set_client_id_args value.now) }
+    ensures { Puts result out.old out.new (set_client_id_args.spell (shown_set_client_id_args value.now)) }
 {
-    out.fixed(&value.verifier)?;
-    out.opaque(value.id)?;
-    out.u32(value.program)?;
-    out.opaque(value.netid)?;
-    out.opaque(value.address)?;
-    out.u32(value.callback_ident)?;
-    Ok(())
+    put_record!(out;
+        XdrOut::fixed: &value.verifier, XdrOut::opaque: value.id, XdrOut::u32: value.program,
+        XdrOut::opaque: value.netid, XdrOut::opaque: value.address, XdrOut::u32: value.callback_ident
+    )
 }
 
-#[tactic(auto, unfolding(crate::specs::Clients::client_confirm_at))]
+#[tactic(auto, unfolding(crate::specs::Clients::client_confirm))]
 pub(crate) fn read_client_confirm(xdr: &mut Xdr) -> Result<ClientConfirm, RpcBad>
-    ensures { Advances (λ x. x) result xdr.old.rest.now xdr.new.rest.now (client_confirm_at xdr.old.rest.now) }
+    ensures { Advances (λ x. x) result xdr.old.rest.now xdr.new.rest.now (client_confirm.at xdr.old.rest.now) }
 {
-    let mut at = *xdr;
-    let clientid = at.u64()?;
-    let verifier = read_verifier(&mut at)?;
-    *xdr = at;
-    Ok(ClientConfirm { clientid, verifier })
+    read_record!(xdr; ClientConfirm { clientid: Xdr::u64, verifier: read_verifier })
 }
 
 #[tactic(auto, unfolding(crate::specs::Clients::client_confirm))]
 pub(crate) fn put_client_confirm(out: &mut XdrOut, value: &ClientConfirm) -> Result<(), AllocError>
-    ensures { OnOk result (out.new ≡ out.old ++ client_confirm (value.now)) }
+    ensures { Puts result out.old out.new (client_confirm.spell value.now) }
 {
-    out.u64(value.clientid)?;
-    out.fixed(&value.verifier)?;
-    Ok(())
+    put_record!(out; XdrOut::u64: value.clientid, XdrOut::fixed: &value.verifier)
 }

@@ -1,9 +1,10 @@
 //! What stands before a COMPOUND's operations.
 ghost use Rattle.std.specs.Prelude.{◌≡◌, ◌++◌, ℕ, List, Ok, IfOk};
 ghost use Rattle.xl_base.specs.Codec.{Advances};
-ghost use Rattle.xl_nfs.specs.Compounds.{CompoundHeadItem, shown_compound_head, compound_head, CompoundHeadFits, compound_head_at};
+ghost use Rattle.xl_nfs.specs.Compounds.{CompoundHeadItem, shown_compound_head, compound_head, compound_head_at};
 
 use crate::basics::read_text;
+use xl_format::read_record;
 use xl_rpc::{RpcBad, Xdr};
 
 /// What stands before a COMPOUND's operations (COMPOUND4args).
@@ -17,20 +18,11 @@ pub struct CompoundHead<'a> {
     pub count: u32,
 }
 
-#[tactic(auto, unfolding(crate::specs::Compounds::compound_head_at))]
+#[tactic(auto, unfolding(crate::specs::Compounds::compound_head))]
 fn read_compound_head<'a>(xdr: &mut Xdr<'a>) -> Result<CompoundHead<'a>, RpcBad>
-    ensures { Advances shown_compound_head result xdr.old.rest.now xdr.new.rest.now (compound_head_at xdr.old.rest.now) }
+    ensures { Advances shown_compound_head result xdr.old.rest.now xdr.new.rest.now (compound_head.at xdr.old.rest.now) }
 {
-    let mut at = *xdr;
-    let tag = read_text(&mut at)?;
-    let minorversion = at.u32()?;
-    let count = at.u32()?;
-    *xdr = at;
-    Ok(CompoundHead {
-        tag,
-        minorversion,
-        count,
-    })
+    read_record!(xdr; CompoundHead { tag: read_text, minorversion: Xdr::u32, count: Xdr::u32 })
 }
 
 /// The head of a COMPOUND's arguments, read from the front; the operations behind it are left. A fault is the first in
@@ -38,9 +30,9 @@ fn read_compound_head<'a>(xdr: &mut Xdr<'a>) -> Result<CompoundHead<'a>, RpcBad>
 /// padding is not zero. It leaves the reader as it was.
 pub fn read_head<'a>(args: &mut Xdr<'a>) -> Result<CompoundHead<'a>, RpcBad>
     // What is read is spelled so.
-    ensures found { IfOk result (λ h. (args.old.rest.now ≡ compound_head (shown_compound_head h) ++ args.new.rest.now) × CompoundHeadFits (shown_compound_head h)) }
+    ensures found { IfOk result (λ h. (args.old.rest.now ≡ compound_head.spell (shown_compound_head h) ++ args.new.rest.now) × compound_head.Fit (shown_compound_head h)) }
     // What is spelled so is read, whatever follows.
-    ensures only { (h : CompoundHeadItem) (rest : List ℕ) → CompoundHeadFits h → args.old.rest.now ≡ compound_head h ++ rest → Advances shown_compound_head result args.old.rest.now args.new.rest.now (Ok (h, rest)) }
+    ensures only { (h : CompoundHeadItem) (rest : List ℕ) → compound_head.Fit h → args.old.rest.now ≡ compound_head.spell h ++ rest → Advances shown_compound_head result args.old.rest.now args.new.rest.now (Ok (h, rest)) }
     // Which fault it is.
     ensures exact { Advances shown_compound_head result args.old.rest.now args.new.rest.now (compound_head_at args.old.rest.now) }
 {

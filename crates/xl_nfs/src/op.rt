@@ -1,10 +1,13 @@
 //! The operations of a COMPOUND.
-ghost use Rattle.std.specs.Prelude.{◌≡◌, ◌++◌, if◌then◌else◌, ℕ, List, Ok, OnOk, OnErr, IfOk};
+ghost use Rattle.std.specs.Prelude.{◌≡◌, ◌++◌, ℕ, List, Ok, OnOk, OnErr, IfOk};
 ghost use Rattle.xl_base.specs.Codec.{Advances};
-ghost use Rattle.xl_nfs.specs.Ops.{OpItem, shown_op, op_number, is_read, is_numbered, op_part, op, OpFits, IsShortOp, op_part_at, op_at, NotSupported, Illegal};
+ghost use Rattle.xl_base.specs.Formats.{spelled};
+ghost use Rattle.xl_rpc.specs.Xdr.{Puts, IsReadAgain};
+ghost use Rattle.xl_nfs.specs.Ops.{OpItem, shown_op, other_op, op_case, op_number, op, OpFits, op_part_at, op_at};
 
 use crate::basics::{
-    Owner, Stateid, put_owner, put_stateid, read_handle, read_name, read_owner, read_stateid,
+    Owner, Stateid, put_handle, put_name, put_owner, put_stateid, read_handle, read_name,
+    read_owner, read_stateid,
 };
 use crate::clients::{
     ClientConfirm, SetClientIdArgs, put_client_confirm, put_set_client_id_args,
@@ -21,7 +24,8 @@ use crate::opens::{
 };
 use crate::operation;
 use std::alloc::AllocError;
-use xl_rpc::{RpcBad, Xdr, XdrOut};
+use xl_format::put_nothing;
+use xl_rpc::{RpcBad, Xdr, XdrOut, put_whole};
 
 /// An operation of a COMPOUND, with its arguments (nfs_argop4).
 #[derive(Clone, Copy)]
@@ -92,7 +96,7 @@ impl NfsOp<'_> {
 }
 
 /// The arguments of an operation.
-#[tactic(auto, unfolding(crate::specs::Ops::op_part_at))]
+#[tactic(auto, unfolding(crate::specs::Ops::op_part_at, xl_format::specs::Formats::nothing))]
 fn read_op_part<'a>(number: u32, xdr: &mut Xdr<'a>) -> Result<NfsOp<'a>, RpcBad>
     ensures { Advances shown_op result xdr.old.rest.now xdr.new.rest.now (op_part_at number xdr.old.rest.now) }
 {
@@ -100,52 +104,26 @@ fn read_op_part<'a>(number: u32, xdr: &mut Xdr<'a>) -> Result<NfsOp<'a>, RpcBad>
         operation::CLOSE => Ok(NfsOp::Close(read_close_args(xdr)?)),
         operation::DELEGRETURN => Ok(NfsOp::DelegReturn(read_stateid(xdr)?)),
         operation::GETFH => Ok(NfsOp::GetFh),
-        operation::LOCK => Ok(NfsOp::Lock(read_lock_args(xdr)?)),
-        operation::LOCKT => Ok(NfsOp::LockT(read_lock_test_args(xdr)?)),
+        operation::LOCK => read_lock_args(xdr).map(NfsOp::Lock),
+        operation::LOCKT => read_lock_test_args(xdr).map(NfsOp::LockT),
         operation::LOCKU => Ok(NfsOp::LockU(read_unlock_args(xdr)?)),
-        operation::LOOKUP => Ok(NfsOp::Lookup(read_name(xdr)?)),
-        operation::OPEN => Ok(NfsOp::Open(read_open_args(xdr)?)),
+        operation::LOOKUP => read_name(xdr).map(NfsOp::Lookup),
+        operation::OPEN => read_open_args(xdr).map(NfsOp::Open),
         operation::OPEN_CONFIRM => Ok(NfsOp::OpenConfirm(read_open_confirm_args(xdr)?)),
         operation::OPEN_DOWNGRADE => Ok(NfsOp::OpenDowngrade(read_open_downgrade_args(xdr)?)),
-        operation::PUTFH => Ok(NfsOp::PutFh(read_handle(xdr)?)),
+        operation::PUTFH => read_handle(xdr).map(NfsOp::PutFh),
         operation::PUTROOTFH => Ok(NfsOp::PutRootFh),
         operation::RENEW => Ok(NfsOp::Renew(xdr.u64()?)),
-        operation::SETCLIENTID => Ok(NfsOp::SetClientId(read_set_client_id_args(xdr)?)),
+        operation::SETCLIENTID => read_set_client_id_args(xdr).map(NfsOp::SetClientId),
         operation::SETCLIENTID_CONFIRM => Ok(NfsOp::SetClientIdConfirm(read_client_confirm(xdr)?)),
-        operation::RELEASE_LOCKOWNER => Ok(NfsOp::ReleaseLockOwner(read_owner(xdr)?)),
+        operation::RELEASE_LOCKOWNER => read_owner(xdr).map(NfsOp::ReleaseLockOwner),
         _ => Ok(other_op(number)),
     }
 }
 
-/// Whether the arguments of the operation of this number are read.
-#[tactic(auto, unfolding(crate::specs::Ops::is_read))]
-pub(crate) fn is_read(number: u32) -> bool
-    ensures { result ≡ is_read number }
-{
-    matches!(
-        number,
-        operation::CLOSE
-            | operation::DELEGRETURN
-            | operation::GETFH
-            | operation::LOCK
-            | operation::LOCKT
-            | operation::LOCKU
-            | operation::LOOKUP
-            | operation::OPEN
-            | operation::OPEN_CONFIRM
-            | operation::OPEN_DOWNGRADE
-            | operation::PUTFH
-            | operation::PUTROOTFH
-            | operation::RENEW
-            | operation::SETCLIENTID
-            | operation::SETCLIENTID_CONFIRM
-            | operation::RELEASE_LOCKOWNER
-    )
-}
-
 /// An operation whose arguments are not read.
 fn other_op<'a>(number: u32) -> NfsOp<'a>
-    ensures { shown_op result ≡ (if is_numbered number then NotSupported number else Illegal number) }
+    ensures { shown_op result ≡ other_op number }
 {
     if 3 <= number && number <= 39 {
         NfsOp::NotSupported(number)
@@ -154,7 +132,7 @@ fn other_op<'a>(number: u32) -> NfsOp<'a>
     }
 }
 
-#[tactic(auto, unfolding(crate::specs::Ops::op_at))]
+#[tactic(auto, unfolding(crate::specs::Ops::op, crate::specs::Ops::op_part_at))]
 fn read_op<'a>(xdr: &mut Xdr<'a>) -> Result<NfsOp<'a>, RpcBad>
     ensures { Advances shown_op result xdr.old.rest.now xdr.new.rest.now (op_at xdr.old.rest.now) }
 {
@@ -171,9 +149,9 @@ fn read_op<'a>(xdr: &mut Xdr<'a>) -> Result<NfsOp<'a>, RpcBad>
 /// type, an open's form, its claim or a delegation's type is none of its list. It leaves the reader as it was.
 pub fn next_op<'a>(args: &mut Xdr<'a>) -> Result<NfsOp<'a>, RpcBad>
     // What is read is spelled so.
-    ensures found { IfOk result (λ o. (args.old.rest.now ≡ op (shown_op o) ++ args.new.rest.now) × OpFits (shown_op o)) }
+    ensures found { IfOk result (λ o. (args.old.rest.now ≡ op.spell (shown_op o) ++ args.new.rest.now) × OpFits (shown_op o)) }
     // What is spelled so is read, whatever follows.
-    ensures only { (o : OpItem) (rest : List ℕ) → OpFits o → args.old.rest.now ≡ op o ++ rest → Advances shown_op result args.old.rest.now args.new.rest.now (Ok (o, rest)) }
+    ensures only { (o : OpItem) (rest : List ℕ) → OpFits o → args.old.rest.now ≡ op.spell o ++ rest → Advances shown_op result args.old.rest.now args.new.rest.now (Ok (o, rest)) }
     // Which fault it is.
     ensures exact { Advances shown_op result args.old.rest.now args.new.rest.now (op_at args.old.rest.now) }
 {
@@ -181,34 +159,34 @@ pub fn next_op<'a>(args: &mut Xdr<'a>) -> Result<NfsOp<'a>, RpcBad>
 }
 
 fn put_op_part(out: &mut XdrOut, value: &NfsOp) -> Result<(), AllocError>
-    requires { IsShortOp (shown_op value.now) }
-    ensures { OnOk result (out.new ≡ out.old ++ op_part (shown_op value.now)) }
+    requires { (op_case (shown_op value.now)).Fit }
+    ensures { Puts result out.old out.new (spelled (op_case (shown_op value.now))) }
 {
     match value {
-        NfsOp::Close(part) => put_close_args(out, part)?,
-        NfsOp::DelegReturn(part) => put_stateid(out, part)?,
-        NfsOp::GetFh => {}
-        NfsOp::Lock(part) => put_lock_args(out, part)?,
-        NfsOp::LockT(part) => put_lock_test_args(out, part)?,
-        NfsOp::LockU(part) => put_unlock_args(out, part)?,
-        NfsOp::Lookup(part) => out.opaque(part)?,
-        NfsOp::Open(part) => put_open_args(out, part)?,
-        NfsOp::OpenConfirm(part) => put_open_confirm_args(out, part)?,
-        NfsOp::OpenDowngrade(part) => put_open_downgrade_args(out, part)?,
-        NfsOp::PutFh(part) => out.opaque(part)?,
-        NfsOp::PutRootFh => {}
-        NfsOp::Renew(part) => out.u64(*part)?,
-        NfsOp::SetClientId(part) => put_set_client_id_args(out, part)?,
-        NfsOp::SetClientIdConfirm(part) => put_client_confirm(out, part)?,
-        NfsOp::ReleaseLockOwner(part) => put_owner(out, part)?,
-        NfsOp::NotSupported(_) | NfsOp::Illegal(_) => {}
+        NfsOp::Close(part) => put_close_args(out, part),
+        NfsOp::DelegReturn(part) => put_stateid(out, part),
+        NfsOp::Lock(part) => put_lock_args(out, part),
+        NfsOp::LockT(part) => put_lock_test_args(out, part),
+        NfsOp::LockU(part) => put_unlock_args(out, part),
+        NfsOp::Lookup(part) => put_name(out, part),
+        NfsOp::Open(part) => put_open_args(out, part),
+        NfsOp::OpenConfirm(part) => put_open_confirm_args(out, part),
+        NfsOp::OpenDowngrade(part) => put_open_downgrade_args(out, part),
+        NfsOp::PutFh(part) => put_handle(out, part),
+        NfsOp::Renew(part) => out.u64(*part),
+        NfsOp::SetClientId(part) => put_set_client_id_args(out, part),
+        NfsOp::SetClientIdConfirm(part) => put_client_confirm(out, part),
+        NfsOp::ReleaseLockOwner(part) => put_owner(out, part),
+        NfsOp::GetFh | NfsOp::PutRootFh | NfsOp::NotSupported(_) | NfsOp::Illegal(_) => {
+            put_nothing(out)
+        }
     }
-    Ok(())
 }
 
+#[tactic(auto, unfolding(crate::specs::Ops::op))]
 fn put_op(out: &mut XdrOut, value: &NfsOp) -> Result<(), AllocError>
-    requires { IsShortOp (shown_op value.now) }
-    ensures { OnOk result (out.new ≡ out.old ++ op (shown_op value.now)) }
+    requires { OpFits (shown_op value.now) }
+    ensures { Puts result out.old out.new (op.spell (shown_op value.now)) }
 {
     out.u32(value.number())?;
     put_op_part(out, value)?;
@@ -217,12 +195,13 @@ fn put_op(out: &mut XdrOut, value: &NfsOp) -> Result<(), AllocError>
 
 /// Writes an operation whose texts, handle and addresses are within their bounds, or a number alone of NotSupported and
 /// Illegal, which has to be of their numbers. Want of memory leaves what was written before as it was.
+#[tactic(auto, using(xl_rpc::proofs::XdrLaws::taken_back, crate::proofs::AgainLaws::op_again))]
 pub fn write_op(out: &mut XdrOut, value: &NfsOp) -> Result<(), AllocError>
-    requires { IsShortOp (shown_op value.now) }
-    ensures ok { OnOk result (out.new ≡ out.old ++ op (shown_op value.now)) }
+    requires { OpFits (shown_op value.now) }
+    ensures ok { OnOk result (out.new ≡ out.old ++ op.spell (shown_op value.now)) }
+    // What is written is read again, whatever follows.
+    ensures again { OnOk result (IsReadAgain op_at (shown_op value.now) out.old out.new) }
     ensures err { OnErr result (out.new ≡ out.old) }
 {
-    let mut written = out.new_beside();
-    put_op(&mut written, value)?;
-    out.append(&written)
+    put_whole!(out; put_op(out, value))
 }

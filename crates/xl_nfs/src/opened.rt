@@ -1,12 +1,13 @@
 //! The result of OPEN.
-ghost use Rattle.std.specs.Prelude.{◌≡◌, ◌++◌, OnOk};
 ghost use Rattle.xl_base.specs.Codec.{Advances};
-ghost use Rattle.xl_nfs.specs.Opened.{limit, limit_at, change_info, change_info_at, shown_ace, ace, IsShortAce, ace_at, shown_read_delegation, read_delegation, IsShortReadDelegation, read_delegation_at, shown_write_delegation, write_delegation, IsShortWriteDelegation, write_delegation_at, shown_delegation, delegation_number, delegation_part, delegation, IsShortDelegation, delegation_part_at, delegation_at, shown_open_result, open_result, IsShortOpenResult, open_result_at};
+ghost use Rattle.xl_rpc.specs.Xdr.{Puts};
+ghost use Rattle.xl_nfs.specs.Opened.{limit, change_info, shown_ace, ace, shown_read_delegation, read_delegation, shown_write_delegation, write_delegation, shown_delegation, delegation, shown_open_result, open_result};
 
 use crate::basics::{
-    Bitmap, Stateid, put_bitmap, put_stateid, read_bitmap, read_name, read_stateid,
+    Bitmap, Stateid, put_bitmap, put_name, put_stateid, read_bitmap, read_name, read_stateid,
 };
 use std::alloc::AllocError;
+use xl_format::{put_nothing, put_record, read_record};
 use xl_rpc::{RpcBad, Xdr, XdrOut};
 
 /// How the directory changed (change_info4).
@@ -85,9 +86,9 @@ pub struct OpenResult<'a> {
 
 const LIMIT_SIZE: u32 = 1;
 
-#[tactic(auto, unfolding(crate::specs::Opened::limit_at))]
+#[tactic(auto, unfolding(crate::specs::Opened::limit))]
 fn read_limit(xdr: &mut Xdr) -> Result<u64, RpcBad>
-    ensures { Advances (λ n. n) result xdr.old.rest.now xdr.new.rest.now (limit_at xdr.old.rest.now) }
+    ensures { Advances (λ n. n) result xdr.old.rest.now xdr.new.rest.now (limit.at xdr.old.rest.now) }
 {
     let mut at = *xdr;
     if at.u32()? != LIMIT_SIZE {
@@ -100,210 +101,129 @@ fn read_limit(xdr: &mut Xdr) -> Result<u64, RpcBad>
 
 #[tactic(auto, unfolding(crate::specs::Opened::limit))]
 fn put_limit(out: &mut XdrOut, value: u64) -> Result<(), AllocError>
-    ensures { OnOk result (out.new ≡ out.old ++ limit value) }
+    ensures { Puts result out.old out.new (limit.spell value) }
 {
-    out.u32(LIMIT_SIZE)?;
-    out.u64(value)?;
-    Ok(())
+    put_record!(out; XdrOut::u32: LIMIT_SIZE, XdrOut::u64: value)
 }
 
-#[tactic(auto, unfolding(crate::specs::Opened::change_info_at))]
+#[tactic(auto, unfolding(crate::specs::Opened::change_info))]
 fn read_change_info(xdr: &mut Xdr) -> Result<ChangeInfo, RpcBad>
-    ensures { Advances (λ x. x) result xdr.old.rest.now xdr.new.rest.now (change_info_at xdr.old.rest.now) }
+    ensures { Advances (λ x. x) result xdr.old.rest.now xdr.new.rest.now (change_info.at xdr.old.rest.now) }
 {
-    let mut at = *xdr;
-    let atomic = at.boolean()?;
-    let before = at.u64()?;
-    let after = at.u64()?;
-    *xdr = at;
-    Ok(ChangeInfo {
-        atomic,
-        before,
-        after,
-    })
+    read_record!(xdr; ChangeInfo { atomic: Xdr::boolean, before: Xdr::u64, after: Xdr::u64 })
 }
 
 #[tactic(auto, unfolding(crate::specs::Opened::change_info))]
 fn put_change_info(out: &mut XdrOut, value: &ChangeInfo) -> Result<(), AllocError>
-    ensures { OnOk result (out.new ≡ out.old ++ change_info (value.now)) }
+    ensures { Puts result out.old out.new (change_info.spell value.now) }
 {
-    out.boolean(value.atomic)?;
-    out.u64(value.before)?;
-    out.u64(value.after)?;
-    Ok(())
+    put_record!(out; XdrOut::boolean: value.atomic, XdrOut::u64: value.before, XdrOut::u64: value.after)
 }
 
-#[tactic(auto, unfolding(crate::specs::Opened::ace_at))]
+#[tactic(auto, unfolding(crate::specs::Opened::ace))]
 fn read_ace<'a>(xdr: &mut Xdr<'a>) -> Result<Ace<'a>, RpcBad>
-    ensures { Advances shown_ace result xdr.old.rest.now xdr.new.rest.now (ace_at xdr.old.rest.now) }
+    ensures { Advances shown_ace result xdr.old.rest.now xdr.new.rest.now (ace.at xdr.old.rest.now) }
 {
-    let mut at = *xdr;
-    let kind = at.u32()?;
-    let flag = at.u32()?;
-    let mask = at.u32()?;
-    let who = read_name(&mut at)?;
-    *xdr = at;
-    Ok(Ace {
-        kind,
-        flag,
-        mask,
-        who,
-    })
+    read_record!(xdr; Ace { kind: Xdr::u32, flag: Xdr::u32, mask: Xdr::u32, who: read_name })
 }
 
 #[tactic(auto, unfolding(crate::specs::Opened::ace))]
 fn put_ace(out: &mut XdrOut, value: &Ace) -> Result<(), AllocError>
-    requires { IsShortAce (shown_ace value.now) }
-    ensures { OnOk result (out.new ≡ out.old ++ ace (shown_ace value.now)) }
+    requires { ace.Fit (shown_ace value.now) }
+    ensures { Puts result out.old out.new (ace.spell (shown_ace value.now)) }
 {
-    out.u32(value.kind)?;
-    out.u32(value.flag)?;
-    out.u32(value.mask)?;
-    out.opaque(value.who)?;
-    Ok(())
+    put_record!(out; XdrOut::u32: value.kind, XdrOut::u32: value.flag, XdrOut::u32: value.mask, put_name: value.who)
 }
 
-#[tactic(auto, unfolding(crate::specs::Opened::read_delegation_at))]
+#[tactic(auto, unfolding(crate::specs::Opened::read_delegation))]
 fn read_read_delegation<'a>(xdr: &mut Xdr<'a>) -> Result<ReadDelegation<'a>, RpcBad>
-    ensures { Advances shown_read_delegation result xdr.old.rest.now xdr.new.rest.now (read_delegation_at xdr.old.rest.now) }
+    ensures { Advances shown_read_delegation result xdr.old.rest.now xdr.new.rest.now (read_delegation.at xdr.old.rest.now) }
 {
-    let mut at = *xdr;
-    let stateid = read_stateid(&mut at)?;
-    let recall = at.boolean()?;
-    let permissions = read_ace(&mut at)?;
-    *xdr = at;
-    Ok(ReadDelegation {
-        stateid,
-        recall,
-        permissions,
-    })
+    read_record!(xdr; ReadDelegation { stateid: read_stateid, recall: Xdr::boolean, permissions: read_ace })
 }
 
 #[tactic(auto, unfolding(crate::specs::Opened::read_delegation))]
 fn put_read_delegation(out: &mut XdrOut, value: &ReadDelegation) -> Result<(), AllocError>
-    requires { IsShortReadDelegation (shown_read_delegation value.now) }
-    ensures { OnOk result (out.new ≡ out.old ++ read_delegation (shown_read_delegation value.now)) }
+    requires { read_delegation.Fit (shown_read_delegation value.now) }
+    ensures { Puts result out.old out.new (read_delegation.spell (shown_read_delegation value.now)) }
 {
-    put_stateid(out, &value.stateid)?;
-    out.boolean(value.recall)?;
-    put_ace(out, &value.permissions)?;
-    Ok(())
+    put_record!(out; put_stateid: &value.stateid, XdrOut::boolean: value.recall, put_ace: &value.permissions)
 }
 
-#[tactic(auto, unfolding(crate::specs::Opened::write_delegation_at))]
+#[tactic(auto, unfolding(crate::specs::Opened::write_delegation))]
 fn read_write_delegation<'a>(xdr: &mut Xdr<'a>) -> Result<WriteDelegation<'a>, RpcBad>
-    ensures { Advances shown_write_delegation result xdr.old.rest.now xdr.new.rest.now (write_delegation_at xdr.old.rest.now) }
+    ensures { Advances shown_write_delegation result xdr.old.rest.now xdr.new.rest.now (write_delegation.at xdr.old.rest.now) }
 {
-    let mut at = *xdr;
-    let stateid = read_stateid(&mut at)?;
-    let recall = at.boolean()?;
-    let limit = read_limit(&mut at)?;
-    let permissions = read_ace(&mut at)?;
-    *xdr = at;
-    Ok(WriteDelegation {
-        stateid,
-        recall,
-        limit,
-        permissions,
+    read_record!(xdr; WriteDelegation {
+        stateid: read_stateid, recall: Xdr::boolean, limit: read_limit, permissions: read_ace
     })
 }
 
 #[tactic(auto, unfolding(crate::specs::Opened::write_delegation))]
 fn put_write_delegation(out: &mut XdrOut, value: &WriteDelegation) -> Result<(), AllocError>
-    requires { IsShortWriteDelegation (shown_write_delegation value.now) }
-    ensures { OnOk result (out.new ≡ out.old ++ write_delegation (shown_write_delegation value.now)) }
+    requires { write_delegation.Fit (shown_write_delegation value.now) }
+    ensures { Puts result out.old out.new (write_delegation.spell (shown_write_delegation value.now)) }
 {
-    put_stateid(out, &value.stateid)?;
-    out.boolean(value.recall)?;
-    put_limit(out, value.limit)?;
-    put_ace(out, &value.permissions)?;
-    Ok(())
+    put_record!(out;
+        put_stateid: &value.stateid, XdrOut::boolean: value.recall, put_limit: value.limit,
+        put_ace: &value.permissions
+    )
 }
 
-/// What stands behind the number.
-#[tactic(auto, unfolding(crate::specs::Opened::delegation_part_at))]
-fn read_delegation_part<'a>(number: u32, xdr: &mut Xdr<'a>) -> Result<Delegation<'a>, RpcBad>
-    ensures { Advances shown_delegation result xdr.old.rest.now xdr.new.rest.now (delegation_part_at number xdr.old.rest.now) }
-{
-    match number {
-        0 => Ok(Delegation::None),
-        1 => Ok(Delegation::Read(read_read_delegation(xdr)?)),
-        2 => Ok(Delegation::Write(read_write_delegation(xdr)?)),
-        _ => Err(RpcBad::Value),
-    }
-}
-
-#[tactic(auto, unfolding(crate::specs::Opened::delegation_at))]
-pub(crate) fn read_delegation<'a>(xdr: &mut Xdr<'a>) -> Result<Delegation<'a>, RpcBad>
-    ensures { Advances shown_delegation result xdr.old.rest.now xdr.new.rest.now (delegation_at xdr.old.rest.now) }
+#[tactic(auto, unfolding(crate::specs::Opened::delegation, xl_format::specs::Formats::nothing))]
+fn read_delegation<'a>(xdr: &mut Xdr<'a>) -> Result<Delegation<'a>, RpcBad>
+    ensures { Advances shown_delegation result xdr.old.rest.now xdr.new.rest.now (delegation.at xdr.old.rest.now) }
 {
     let mut at = *xdr;
-    let number = at.u32()?;
-    let value = read_delegation_part(number, &mut at)?;
+    let value = match at.u32()? {
+        0 => Delegation::None,
+        1 => Delegation::Read(read_read_delegation(&mut at)?),
+        2 => Delegation::Write(read_write_delegation(&mut at)?),
+        _ => return Err(RpcBad::Value),
+    };
     *xdr = at;
     Ok(value)
 }
 
-fn number_of_delegation(value: &Delegation) -> u32
-    ensures { result ≡ delegation_number (shown_delegation value.now) }
+#[tactic(auto, unfolding(crate::specs::Opened::delegation))]
+fn put_delegation(out: &mut XdrOut, value: &Delegation) -> Result<(), AllocError>
+    requires { delegation.Fit (shown_delegation value.now) }
+    ensures { Puts result out.old out.new (delegation.spell (shown_delegation value.now)) }
 {
     match value {
-        Delegation::None => 0,
-        Delegation::Read(_) => 1,
-        Delegation::Write(_) => 2,
-    }
-}
-
-fn put_delegation_part(out: &mut XdrOut, value: &Delegation) -> Result<(), AllocError>
-    requires { IsShortDelegation (shown_delegation value.now) }
-    ensures { OnOk result (out.new ≡ out.old ++ delegation_part (shown_delegation value.now)) }
-{
-    match value {
-        Delegation::None => {}
-        Delegation::Read(part) => put_read_delegation(out, part)?,
-        Delegation::Write(part) => put_write_delegation(out, part)?,
+        Delegation::None => {
+            out.u32(0)?;
+            put_nothing(out)?;
+        }
+        Delegation::Read(part) => {
+            out.u32(1)?;
+            put_read_delegation(out, part)?;
+        }
+        Delegation::Write(part) => {
+            out.u32(2)?;
+            put_write_delegation(out, part)?;
+        }
     }
     Ok(())
 }
 
-pub(crate) fn put_delegation(out: &mut XdrOut, value: &Delegation) -> Result<(), AllocError>
-    requires { IsShortDelegation (shown_delegation value.now) }
-    ensures { OnOk result (out.new ≡ out.old ++ delegation (shown_delegation value.now)) }
-{
-    out.u32(number_of_delegation(value))?;
-    put_delegation_part(out, value)?;
-    Ok(())
-}
-
-#[tactic(auto, unfolding(crate::specs::Opened::open_result_at))]
+#[tactic(auto, unfolding(crate::specs::Opened::open_result))]
 pub(crate) fn read_open_result<'a>(xdr: &mut Xdr<'a>) -> Result<OpenResult<'a>, RpcBad>
-    ensures { Advances shown_open_result result xdr.old.rest.now xdr.new.rest.now (open_result_at xdr.old.rest.now) }
+    ensures { Advances shown_open_result result xdr.old.rest.now xdr.new.rest.now (open_result.at xdr.old.rest.now) }
 {
-    let mut at = *xdr;
-    let stateid = read_stateid(&mut at)?;
-    let change = read_change_info(&mut at)?;
-    let flags = at.u32()?;
-    let attributes = read_bitmap(&mut at)?;
-    let delegation = read_delegation(&mut at)?;
-    *xdr = at;
-    Ok(OpenResult {
-        stateid,
-        change,
-        flags,
-        attributes,
-        delegation,
+    read_record!(xdr; OpenResult {
+        stateid: read_stateid, change: read_change_info, flags: Xdr::u32, attributes: read_bitmap,
+        delegation: read_delegation
     })
 }
 
 #[tactic(auto, unfolding(crate::specs::Opened::open_result))]
 pub(crate) fn put_open_result(out: &mut XdrOut, value: &OpenResult) -> Result<(), AllocError>
-    requires { IsShortOpenResult (shown_open_result value.now) }
-    ensures { OnOk result (out.new ≡ out.old ++ open_result (shown_open_result value.now)) }
+    requires { open_result.Fit (shown_open_result value.now) }
+    ensures { Puts result out.old out.new (open_result.spell (shown_open_result value.now)) }
 {
-    put_stateid(out, &value.stateid)?;
-    put_change_info(out, &value.change)?;
-    out.u32(value.flags)?;
-    put_bitmap(out, &value.attributes)?;
-    put_delegation(out, &value.delegation)?;
-    Ok(())
+    put_record!(out;
+        put_stateid: &value.stateid, put_change_info: &value.change, XdrOut::u32: value.flags,
+        put_bitmap: &value.attributes, put_delegation: &value.delegation
+    )
 }

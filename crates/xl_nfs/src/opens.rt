@@ -1,13 +1,14 @@
 //! Opens: the arguments of OPEN, OPEN_CONFIRM, OPEN_DOWNGRADE and CLOSE.
-ghost use Rattle.std.specs.Prelude.{◌≡◌, ◌++◌, OnOk};
 ghost use Rattle.xl_base.specs.Codec.{Advances};
-ghost use Rattle.xl_nfs.specs.Opens.{close_args, close_args_at, open_confirm_args, open_confirm_args_at, open_downgrade_args, open_downgrade_args_at, shown_attributes, attributes, IsShortAttributes, attributes_at, shown_create_how, create_how_number, create_how_part, create_how, IsShortCreateHow, create_how_part_at, create_how_at, shown_open_how, open_how_number, open_how_part, open_how, IsShortOpenHow, open_how_part_at, open_how_at, delegation_type_number, delegation_type, made_delegation_type, delegation_type_at, shown_named_delegation, named_delegation, IsShortNamedDelegation, named_delegation_at, shown_open_claim, open_claim_number, open_claim_part, open_claim, IsShortOpenClaim, open_claim_part_at, open_claim_at, shown_open_args, open_args, IsShortOpenArgs, open_args_at};
+ghost use Rattle.xl_rpc.specs.Xdr.{Puts};
+ghost use Rattle.xl_nfs.specs.Opens.{close_args, open_confirm_args, open_downgrade_args, shown_attributes, attributes, shown_create_how, create_how, shown_open_how, open_how, delegation_type, shown_named_delegation, named_delegation, shown_open_claim, open_claim, shown_open_args, open_args};
 
 use crate::basics::{
-    Bitmap, Owner, Stateid, put_bitmap, put_owner, put_stateid, read_bitmap, read_name, read_owner,
-    read_stateid, read_verifier,
+    Bitmap, Owner, Stateid, put_bitmap, put_name, put_owner, put_stateid, read_bitmap, read_name,
+    read_owner, read_stateid, read_verifier,
 };
 use std::alloc::AllocError;
+use xl_format::{put_nothing, put_record, read_record};
 use xl_rpc::{RpcBad, Xdr, XdrOut};
 
 /// The arguments of CLOSE (CLOSE4args).
@@ -120,77 +121,25 @@ pub enum DelegationType {
     Write,
 }
 
-#[tactic(auto, unfolding(crate::specs::Opens::delegation_type_at))]
-fn read_delegation_type(xdr: &mut Xdr) -> Result<DelegationType, RpcBad>
-    ensures { Advances (λ t. t) result xdr.old.rest.now xdr.new.rest.now (delegation_type_at xdr.old.rest.now) }
-{
-    let mut at = *xdr;
-    let number = at.u32()?;
-    if number < 3 {
-        *xdr = at;
-        Ok(delegation_type_of(number))
-    } else {
-        Err(RpcBad::Value)
-    }
-}
-
-/// The type of a number below 3.
-fn delegation_type_of(number: u32) -> DelegationType
-    ensures { result ≡ made_delegation_type number }
-{
-    match number {
-        0 => DelegationType::None,
-        1 => DelegationType::Read,
-        _ => DelegationType::Write,
-    }
-}
-
-fn number_of_delegation_type(value: DelegationType) -> u32
-    ensures { result ≡ delegation_type_number value }
-{
-    match value {
-        DelegationType::None => 0,
-        DelegationType::Read => 1,
-        DelegationType::Write => 2,
-    }
-}
-
-fn put_delegation_type(out: &mut XdrOut, value: DelegationType) -> Result<(), AllocError>
-    ensures { OnOk result (out.new ≡ out.old ++ delegation_type value) }
-{
-    out.u32(number_of_delegation_type(value))?;
-    Ok(())
-}
-
-#[tactic(auto, unfolding(crate::specs::Opens::close_args_at))]
+#[tactic(auto, unfolding(crate::specs::Opens::close_args))]
 pub(crate) fn read_close_args(xdr: &mut Xdr) -> Result<CloseArgs, RpcBad>
-    ensures { Advances (λ x. x) result xdr.old.rest.now xdr.new.rest.now (close_args_at xdr.old.rest.now) }
+    ensures { Advances (λ x. x) result xdr.old.rest.now xdr.new.rest.now (close_args.at xdr.old.rest.now) }
 {
-    let mut at = *xdr;
-    let seqid = at.u32()?;
-    let stateid = read_stateid(&mut at)?;
-    *xdr = at;
-    Ok(CloseArgs { seqid, stateid })
+    read_record!(xdr; CloseArgs { seqid: Xdr::u32, stateid: read_stateid })
 }
 
 #[tactic(auto, unfolding(crate::specs::Opens::close_args))]
 pub(crate) fn put_close_args(out: &mut XdrOut, value: &CloseArgs) -> Result<(), AllocError>
-    ensures { OnOk result (out.new ≡ out.old ++ close_args (value.now)) }
+    ensures { Puts result out.old out.new (close_args.spell value.now) }
 {
-    out.u32(value.seqid)?;
-    put_stateid(out, &value.stateid)?;
-    Ok(())
+    put_record!(out; XdrOut::u32: value.seqid, put_stateid: &value.stateid)
 }
 
-#[tactic(auto, unfolding(crate::specs::Opens::open_confirm_args_at))]
+#[tactic(auto, unfolding(crate::specs::Opens::open_confirm_args))]
 pub(crate) fn read_open_confirm_args(xdr: &mut Xdr) -> Result<OpenConfirmArgs, RpcBad>
-    ensures { Advances (λ x. x) result xdr.old.rest.now xdr.new.rest.now (open_confirm_args_at xdr.old.rest.now) }
+    ensures { Advances (λ x. x) result xdr.old.rest.now xdr.new.rest.now (open_confirm_args.at xdr.old.rest.now) }
 {
-    let mut at = *xdr;
-    let stateid = read_stateid(&mut at)?;
-    let seqid = at.u32()?;
-    *xdr = at;
-    Ok(OpenConfirmArgs { stateid, seqid })
+    read_record!(xdr; OpenConfirmArgs { stateid: read_stateid, seqid: Xdr::u32 })
 }
 
 #[tactic(auto, unfolding(crate::specs::Opens::open_confirm_args))]
@@ -198,29 +147,16 @@ pub(crate) fn put_open_confirm_args(
     out: &mut XdrOut,
     value: &OpenConfirmArgs,
 ) -> Result<(), AllocError>
-    ensures { OnOk result (out.new ≡ out.old ++ open_confirm_args (value.now)) }
+    ensures { Puts result out.old out.new (open_confirm_args.spell value.now) }
 {
-    put_stateid(out, &value.stateid)?;
-    out.u32(value.seqid)?;
-    Ok(())
+    put_record!(out; put_stateid: &value.stateid, XdrOut::u32: value.seqid)
 }
 
-#[tactic(auto, unfolding(crate::specs::Opens::open_downgrade_args_at))]
+#[tactic(auto, unfolding(crate::specs::Opens::open_downgrade_args))]
 pub(crate) fn read_open_downgrade_args(xdr: &mut Xdr) -> Result<OpenDowngradeArgs, RpcBad>
-    ensures { Advances (λ x. x) result xdr.old.rest.now xdr.new.rest.now (open_downgrade_args_at xdr.old.rest.now) }
+    ensures { Advances (λ x. x) result xdr.old.rest.now xdr.new.rest.now (open_downgrade_args.at xdr.old.rest.now) }
 {
-    let mut at = *xdr;
-    let stateid = read_stateid(&mut at)?;
-    let seqid = at.u32()?;
-    let access = at.u32()?;
-    let deny = at.u32()?;
-    *xdr = at;
-    Ok(OpenDowngradeArgs {
-        stateid,
-        seqid,
-        access,
-        deny,
-    })
+    read_record!(xdr; OpenDowngradeArgs { stateid: read_stateid, seqid: Xdr::u32, access: Xdr::u32, deny: Xdr::u32 })
 }
 
 #[tactic(auto, unfolding(crate::specs::Opens::open_downgrade_args))]
@@ -228,254 +164,197 @@ pub(crate) fn put_open_downgrade_args(
     out: &mut XdrOut,
     value: &OpenDowngradeArgs,
 ) -> Result<(), AllocError>
-    ensures { OnOk result (out.new ≡ out.old ++ open_downgrade_args (value.now)) }
+    ensures { Puts result out.old out.new (open_downgrade_args.spell value.now) }
 {
-    put_stateid(out, &value.stateid)?;
-    out.u32(value.seqid)?;
-    out.u32(value.access)?;
-    out.u32(value.deny)?;
-    Ok(())
+    put_record!(out;
+        put_stateid: &value.stateid, XdrOut::u32: value.seqid, XdrOut::u32: value.access, XdrOut::u32: value.deny
+    )
 }
 
-#[tactic(auto, unfolding(crate::specs::Opens::attributes_at))]
+#[tactic(auto, unfolding(crate::specs::Opens::attributes))]
 fn read_attributes<'a>(xdr: &mut Xdr<'a>) -> Result<Attributes<'a>, RpcBad>
-    ensures { Advances shown_attributes result xdr.old.rest.now xdr.new.rest.now (attributes_at xdr.old.rest.now) }
+    ensures { Advances shown_attributes result xdr.old.rest.now xdr.new.rest.now (attributes.at xdr.old.rest.now) }
 {
-    let mut at = *xdr;
-    let mask = read_bitmap(&mut at)?;
-    let values = read_name(&mut at)?;
-    *xdr = at;
-    Ok(Attributes { mask, values })
+    read_record!(xdr; Attributes { mask: read_bitmap, values: read_name })
 }
 
 #[tactic(auto, unfolding(crate::specs::Opens::attributes))]
 fn put_attributes(out: &mut XdrOut, value: &Attributes) -> Result<(), AllocError>
-    requires { IsShortAttributes (shown_attributes value.now) }
-    ensures { OnOk result (out.new ≡ out.old ++ attributes (shown_attributes value.now)) }
+    requires { attributes.Fit (shown_attributes value.now) }
+    ensures { Puts result out.old out.new (attributes.spell (shown_attributes value.now)) }
 {
-    put_bitmap(out, &value.mask)?;
-    out.opaque(value.values)?;
-    Ok(())
+    put_record!(out; put_bitmap: &value.mask, put_name: value.values)
 }
 
-/// What stands behind the number.
-#[tactic(auto, unfolding(crate::specs::Opens::create_how_part_at))]
-fn read_create_how_part<'a>(number: u32, xdr: &mut Xdr<'a>) -> Result<CreateHow<'a>, RpcBad>
-    ensures { Advances shown_create_how result xdr.old.rest.now xdr.new.rest.now (create_how_part_at number xdr.old.rest.now) }
-{
-    match number {
-        0 => Ok(CreateHow::Unchecked(read_attributes(xdr)?)),
-        1 => Ok(CreateHow::Guarded(read_attributes(xdr)?)),
-        2 => Ok(CreateHow::Exclusive(read_verifier(xdr)?)),
-        _ => Err(RpcBad::Value),
-    }
-}
-
-#[tactic(auto, unfolding(crate::specs::Opens::create_how_at))]
-pub(crate) fn read_create_how<'a>(xdr: &mut Xdr<'a>) -> Result<CreateHow<'a>, RpcBad>
-    ensures { Advances shown_create_how result xdr.old.rest.now xdr.new.rest.now (create_how_at xdr.old.rest.now) }
+#[tactic(auto, unfolding(crate::specs::Opens::create_how))]
+fn read_create_how<'a>(xdr: &mut Xdr<'a>) -> Result<CreateHow<'a>, RpcBad>
+    ensures { Advances shown_create_how result xdr.old.rest.now xdr.new.rest.now (create_how.at xdr.old.rest.now) }
 {
     let mut at = *xdr;
-    let number = at.u32()?;
-    let value = read_create_how_part(number, &mut at)?;
+    let value = match at.u32()? {
+        0 => CreateHow::Unchecked(read_attributes(&mut at)?),
+        1 => CreateHow::Guarded(read_attributes(&mut at)?),
+        2 => CreateHow::Exclusive(read_verifier(&mut at)?),
+        _ => return Err(RpcBad::Value),
+    };
     *xdr = at;
     Ok(value)
 }
 
-fn number_of_create_how(value: &CreateHow) -> u32
-    ensures { result ≡ create_how_number (shown_create_how value.now) }
+#[tactic(auto, unfolding(crate::specs::Opens::create_how))]
+fn put_create_how(out: &mut XdrOut, value: &CreateHow) -> Result<(), AllocError>
+    requires { create_how.Fit (shown_create_how value.now) }
+    ensures { Puts result out.old out.new (create_how.spell (shown_create_how value.now)) }
 {
     match value {
-        CreateHow::Unchecked(_) => 0,
-        CreateHow::Guarded(_) => 1,
-        CreateHow::Exclusive(_) => 2,
-    }
-}
-
-fn put_create_how_part(out: &mut XdrOut, value: &CreateHow) -> Result<(), AllocError>
-    requires { IsShortCreateHow (shown_create_how value.now) }
-    ensures { OnOk result (out.new ≡ out.old ++ create_how_part (shown_create_how value.now)) }
-{
-    match value {
-        CreateHow::Unchecked(part) => put_attributes(out, part)?,
-        CreateHow::Guarded(part) => put_attributes(out, part)?,
-        CreateHow::Exclusive(part) => out.fixed(part)?,
+        CreateHow::Unchecked(part) => {
+            out.u32(0)?;
+            put_attributes(out, part)?;
+        }
+        CreateHow::Guarded(part) => {
+            out.u32(1)?;
+            put_attributes(out, part)?;
+        }
+        CreateHow::Exclusive(part) => {
+            out.u32(2)?;
+            out.fixed(part)?;
+        }
     }
     Ok(())
 }
 
-pub(crate) fn put_create_how(out: &mut XdrOut, value: &CreateHow) -> Result<(), AllocError>
-    requires { IsShortCreateHow (shown_create_how value.now) }
-    ensures { OnOk result (out.new ≡ out.old ++ create_how (shown_create_how value.now)) }
-{
-    out.u32(number_of_create_how(value))?;
-    put_create_how_part(out, value)?;
-    Ok(())
-}
-
-/// What stands behind the number.
-#[tactic(auto, unfolding(crate::specs::Opens::open_how_part_at))]
-fn read_open_how_part<'a>(number: u32, xdr: &mut Xdr<'a>) -> Result<OpenHow<'a>, RpcBad>
-    ensures { Advances shown_open_how result xdr.old.rest.now xdr.new.rest.now (open_how_part_at number xdr.old.rest.now) }
-{
-    match number {
-        0 => Ok(OpenHow::NoCreate),
-        1 => Ok(OpenHow::Create(read_create_how(xdr)?)),
-        _ => Err(RpcBad::Value),
-    }
-}
-
-#[tactic(auto, unfolding(crate::specs::Opens::open_how_at))]
-pub(crate) fn read_open_how<'a>(xdr: &mut Xdr<'a>) -> Result<OpenHow<'a>, RpcBad>
-    ensures { Advances shown_open_how result xdr.old.rest.now xdr.new.rest.now (open_how_at xdr.old.rest.now) }
+#[tactic(auto, unfolding(crate::specs::Opens::open_how, xl_format::specs::Formats::nothing))]
+fn read_open_how<'a>(xdr: &mut Xdr<'a>) -> Result<OpenHow<'a>, RpcBad>
+    ensures { Advances shown_open_how result xdr.old.rest.now xdr.new.rest.now (open_how.at xdr.old.rest.now) }
 {
     let mut at = *xdr;
-    let number = at.u32()?;
-    let value = read_open_how_part(number, &mut at)?;
+    let value = match at.u32()? {
+        0 => OpenHow::NoCreate,
+        1 => OpenHow::Create(read_create_how(&mut at)?),
+        _ => return Err(RpcBad::Value),
+    };
     *xdr = at;
     Ok(value)
 }
 
-fn number_of_open_how(value: &OpenHow) -> u32
-    ensures { result ≡ open_how_number (shown_open_how value.now) }
+#[tactic(auto, unfolding(crate::specs::Opens::open_how))]
+fn put_open_how(out: &mut XdrOut, value: &OpenHow) -> Result<(), AllocError>
+    requires { open_how.Fit (shown_open_how value.now) }
+    ensures { Puts result out.old out.new (open_how.spell (shown_open_how value.now)) }
 {
     match value {
-        OpenHow::NoCreate => 0,
-        OpenHow::Create(_) => 1,
-    }
-}
-
-fn put_open_how_part(out: &mut XdrOut, value: &OpenHow) -> Result<(), AllocError>
-    requires { IsShortOpenHow (shown_open_how value.now) }
-    ensures { OnOk result (out.new ≡ out.old ++ open_how_part (shown_open_how value.now)) }
-{
-    match value {
-        OpenHow::NoCreate => {}
-        OpenHow::Create(part) => put_create_how(out, part)?,
+        OpenHow::NoCreate => {
+            out.u32(0)?;
+            put_nothing(out)?;
+        }
+        OpenHow::Create(part) => {
+            out.u32(1)?;
+            put_create_how(out, part)?;
+        }
     }
     Ok(())
 }
 
-pub(crate) fn put_open_how(out: &mut XdrOut, value: &OpenHow) -> Result<(), AllocError>
-    requires { IsShortOpenHow (shown_open_how value.now) }
-    ensures { OnOk result (out.new ≡ out.old ++ open_how (shown_open_how value.now)) }
+#[tactic(auto, unfolding(crate::specs::Opens::delegation_type))]
+fn read_delegation_type(xdr: &mut Xdr) -> Result<DelegationType, RpcBad>
+    ensures { Advances (λ t. t) result xdr.old.rest.now xdr.new.rest.now (delegation_type.at xdr.old.rest.now) }
 {
-    out.u32(number_of_open_how(value))?;
-    put_open_how_part(out, value)?;
-    Ok(())
+    let mut at = *xdr;
+    let value = match at.u32()? {
+        0 => DelegationType::None,
+        1 => DelegationType::Read,
+        2 => DelegationType::Write,
+        _ => return Err(RpcBad::Value),
+    };
+    *xdr = at;
+    Ok(value)
 }
 
-#[tactic(auto, unfolding(crate::specs::Opens::named_delegation_at))]
+#[tactic(auto, unfolding(crate::specs::Opens::delegation_type))]
+fn put_delegation_type(out: &mut XdrOut, value: DelegationType) -> Result<(), AllocError>
+    ensures { Puts result out.old out.new (delegation_type.spell value) }
+{
+    out.u32(match value {
+        DelegationType::None => 0,
+        DelegationType::Read => 1,
+        DelegationType::Write => 2,
+    })
+}
+
+#[tactic(auto, unfolding(crate::specs::Opens::named_delegation))]
 fn read_named_delegation<'a>(xdr: &mut Xdr<'a>) -> Result<NamedDelegation<'a>, RpcBad>
-    ensures { Advances shown_named_delegation result xdr.old.rest.now xdr.new.rest.now (named_delegation_at xdr.old.rest.now) }
+    ensures { Advances shown_named_delegation result xdr.old.rest.now xdr.new.rest.now (named_delegation.at xdr.old.rest.now) }
 {
-    let mut at = *xdr;
-    let stateid = read_stateid(&mut at)?;
-    let name = read_name(&mut at)?;
-    *xdr = at;
-    Ok(NamedDelegation { stateid, name })
+    read_record!(xdr; NamedDelegation { stateid: read_stateid, name: read_name })
 }
 
 #[tactic(auto, unfolding(crate::specs::Opens::named_delegation))]
 fn put_named_delegation(out: &mut XdrOut, value: &NamedDelegation) -> Result<(), AllocError>
-    requires { IsShortNamedDelegation (shown_named_delegation value.now) }
-    ensures { OnOk result (out.new ≡ out.old ++ named_delegation (shown_named_delegation value.now)) }
+    requires { named_delegation.Fit (shown_named_delegation value.now) }
+    ensures { Puts result out.old out.new (named_delegation.spell (shown_named_delegation value.now)) }
 {
-    put_stateid(out, &value.stateid)?;
-    out.opaque(value.name)?;
-    Ok(())
+    put_record!(out; put_stateid: &value.stateid, put_name: value.name)
 }
 
-/// What stands behind the number.
-#[tactic(auto, unfolding(crate::specs::Opens::open_claim_part_at))]
-fn read_open_claim_part<'a>(number: u32, xdr: &mut Xdr<'a>) -> Result<OpenClaim<'a>, RpcBad>
-    ensures { Advances shown_open_claim result xdr.old.rest.now xdr.new.rest.now (open_claim_part_at number xdr.old.rest.now) }
-{
-    match number {
-        0 => Ok(OpenClaim::Null(read_name(xdr)?)),
-        1 => Ok(OpenClaim::Previous(read_delegation_type(xdr)?)),
-        2 => Ok(OpenClaim::DelegateCurrent(read_named_delegation(xdr)?)),
-        3 => Ok(OpenClaim::DelegatePrevious(read_name(xdr)?)),
-        _ => Err(RpcBad::Value),
-    }
-}
-
-#[tactic(auto, unfolding(crate::specs::Opens::open_claim_at))]
-pub(crate) fn read_open_claim<'a>(xdr: &mut Xdr<'a>) -> Result<OpenClaim<'a>, RpcBad>
-    ensures { Advances shown_open_claim result xdr.old.rest.now xdr.new.rest.now (open_claim_at xdr.old.rest.now) }
+#[tactic(auto, unfolding(crate::specs::Opens::open_claim))]
+fn read_open_claim<'a>(xdr: &mut Xdr<'a>) -> Result<OpenClaim<'a>, RpcBad>
+    ensures { Advances shown_open_claim result xdr.old.rest.now xdr.new.rest.now (open_claim.at xdr.old.rest.now) }
 {
     let mut at = *xdr;
-    let number = at.u32()?;
-    let value = read_open_claim_part(number, &mut at)?;
+    let value = match at.u32()? {
+        0 => OpenClaim::Null(read_name(&mut at)?),
+        1 => OpenClaim::Previous(read_delegation_type(&mut at)?),
+        2 => OpenClaim::DelegateCurrent(read_named_delegation(&mut at)?),
+        3 => OpenClaim::DelegatePrevious(read_name(&mut at)?),
+        _ => return Err(RpcBad::Value),
+    };
     *xdr = at;
     Ok(value)
 }
 
-fn number_of_open_claim(value: &OpenClaim) -> u32
-    ensures { result ≡ open_claim_number (shown_open_claim value.now) }
+#[tactic(auto, unfolding(crate::specs::Opens::open_claim))]
+fn put_open_claim(out: &mut XdrOut, value: &OpenClaim) -> Result<(), AllocError>
+    requires { open_claim.Fit (shown_open_claim value.now) }
+    ensures { Puts result out.old out.new (open_claim.spell (shown_open_claim value.now)) }
 {
     match value {
-        OpenClaim::Null(_) => 0,
-        OpenClaim::Previous(_) => 1,
-        OpenClaim::DelegateCurrent(_) => 2,
-        OpenClaim::DelegatePrevious(_) => 3,
-    }
-}
-
-fn put_open_claim_part(out: &mut XdrOut, value: &OpenClaim) -> Result<(), AllocError>
-    requires { IsShortOpenClaim (shown_open_claim value.now) }
-    ensures { OnOk result (out.new ≡ out.old ++ open_claim_part (shown_open_claim value.now)) }
-{
-    match value {
-        OpenClaim::Null(part) => out.opaque(part)?,
-        OpenClaim::Previous(part) => put_delegation_type(out, *part)?,
-        OpenClaim::DelegateCurrent(part) => put_named_delegation(out, part)?,
-        OpenClaim::DelegatePrevious(part) => out.opaque(part)?,
+        OpenClaim::Null(part) => {
+            out.u32(0)?;
+            put_name(out, part)?;
+        }
+        OpenClaim::Previous(part) => {
+            out.u32(1)?;
+            put_delegation_type(out, *part)?;
+        }
+        OpenClaim::DelegateCurrent(part) => {
+            out.u32(2)?;
+            put_named_delegation(out, part)?;
+        }
+        OpenClaim::DelegatePrevious(part) => {
+            out.u32(3)?;
+            put_name(out, part)?;
+        }
     }
     Ok(())
 }
 
-pub(crate) fn put_open_claim(out: &mut XdrOut, value: &OpenClaim) -> Result<(), AllocError>
-    requires { IsShortOpenClaim (shown_open_claim value.now) }
-    ensures { OnOk result (out.new ≡ out.old ++ open_claim (shown_open_claim value.now)) }
-{
-    out.u32(number_of_open_claim(value))?;
-    put_open_claim_part(out, value)?;
-    Ok(())
-}
-
-#[tactic(auto, unfolding(crate::specs::Opens::open_args_at))]
+#[tactic(auto, unfolding(crate::specs::Opens::open_args))]
 pub(crate) fn read_open_args<'a>(xdr: &mut Xdr<'a>) -> Result<OpenArgs<'a>, RpcBad>
-    ensures { Advances shown_open_args result xdr.old.rest.now xdr.new.rest.now (open_args_at xdr.old.rest.now) }
+    ensures { Advances shown_open_args result xdr.old.rest.now xdr.new.rest.now (open_args.at xdr.old.rest.now) }
 {
-    let mut at = *xdr;
-    let seqid = at.u32()?;
-    let access = at.u32()?;
-    let deny = at.u32()?;
-    let owner = read_owner(&mut at)?;
-    let how = read_open_how(&mut at)?;
-    let claim = read_open_claim(&mut at)?;
-    *xdr = at;
-    Ok(OpenArgs {
-        seqid,
-        access,
-        deny,
-        owner,
-        how,
-        claim,
+    read_record!(xdr; OpenArgs {
+        seqid: Xdr::u32, access: Xdr::u32, deny: Xdr::u32, owner: read_owner, how: read_open_how,
+        claim: read_open_claim
     })
 }
 
 #[tactic(auto, unfolding(crate::specs::Opens::open_args))]
 pub(crate) fn put_open_args(out: &mut XdrOut, value: &OpenArgs) -> Result<(), AllocError>
-    requires { IsShortOpenArgs (shown_open_args value.now) }
-    ensures { OnOk result (out.new ≡ out.old ++ open_args (shown_open_args value.now)) }
+    requires { open_args.Fit (shown_open_args value.now) }
+    ensures { Puts result out.old out.new (open_args.spell (shown_open_args value.now)) }
 {
-    out.u32(value.seqid)?;
-    out.u32(value.access)?;
-    out.u32(value.deny)?;
-    put_owner(out, &value.owner)?;
-    put_open_how(out, &value.how)?;
-    put_open_claim(out, &value.claim)?;
-    Ok(())
+    put_record!(out;
+        XdrOut::u32: value.seqid, XdrOut::u32: value.access, XdrOut::u32: value.deny, put_owner: &value.owner,
+        put_open_how: &value.how, put_open_claim: &value.claim
+    )
 }

@@ -1,7 +1,10 @@
 //! The results of operations.
-ghost use Rattle.std.specs.Prelude.{◌≡◌, ◌++◌, ℕ, List, Ok, OnOk, OnErr, IfOk};
+ghost use Rattle.std.specs.Prelude.{◌≡◌, ◌++◌, ◌==◌, ℕ, List, Ok, OnOk, OnErr, IfOk};
 ghost use Rattle.xl_base.specs.Codec.{Advances};
-ghost use Rattle.xl_nfs.specs.Results.{ResultItem, shown_result, result_number, result_status, result_part, nfs_result, ResultFits, IsShortResult, just_at, other_result_at, result_part_at, result_at};
+ghost use Rattle.xl_base.specs.Formats.{spelled};
+ghost use Rattle.xl_rpc.specs.Xdr.{Puts, IsReadAgain};
+ghost use Rattle.xl_nfs.specs.Ops.{is_numbered};
+ghost use Rattle.xl_nfs.specs.Results.{ResultItem, shown_result, result_number, result_status, told, other_result, result_case, nfs_result, ResultFits, result_part_at, result_at};
 
 use crate::basics::Stateid;
 use crate::clients::ClientConfirm;
@@ -15,7 +18,8 @@ use crate::outcome::{
 };
 use crate::status::{NfsStatus, put_status, read_status};
 use std::alloc::AllocError;
-use xl_rpc::{RpcBad, Xdr, XdrOut};
+use xl_format::put_nothing;
+use xl_rpc::{RpcBad, Xdr, XdrOut, put_whole};
 
 /// The result of an operation: how it ended, and where it was done, or a LOCK or a LOCKT was denied, what it has to tell
 /// (nfs_resop4).
@@ -114,8 +118,9 @@ impl NfsResult<'_> {
 }
 
 /// Reads a status that has to be this one.
-fn read_just(wanted: NfsStatus, xdr: &mut Xdr) -> Result<(), RpcBad>
-    ensures { Advances (λ u. u) result xdr.old.rest.now xdr.new.rest.now (just_at wanted xdr.old.rest.now) }
+#[tactic(auto, unfolding(crate::specs::Results::told, xl_format::specs::Formats::nothing))]
+fn read_told(wanted: NfsStatus, xdr: &mut Xdr) -> Result<(), RpcBad>
+    ensures { Advances (λ u. u) result xdr.old.rest.now xdr.new.rest.now ((told wanted).at xdr.old.rest.now) }
 {
     let mut at = *xdr;
     if at.u32()? != wanted.number() {
@@ -127,14 +132,14 @@ fn read_just(wanted: NfsStatus, xdr: &mut Xdr) -> Result<(), RpcBad>
 
 /// What stands behind the number of an operation whose arguments are not read.
 fn read_other<'a>(number: u32, xdr: &mut Xdr<'a>) -> Result<NfsResult<'a>, RpcBad>
-    ensures { Advances shown_result result xdr.old.rest.now xdr.new.rest.now (other_result_at number xdr.old.rest.now) }
+    ensures { Advances shown_result result xdr.old.rest.now xdr.new.rest.now ((other_result (is_numbered number) (number == 10044) number).at xdr.old.rest.now) }
 {
-    if number == operation::ILLEGAL {
-        read_just(NfsStatus::OpIllegal, xdr)?;
-        Ok(NfsResult::Illegal)
-    } else if 3 <= number && number <= 39 {
-        read_just(NfsStatus::NotSupp, xdr)?;
+    if 3 <= number && number <= 39 {
+        read_told(NfsStatus::NotSupp, xdr)?;
         Ok(NfsResult::NotSupported(number))
+    } else if number == operation::ILLEGAL {
+        read_told(NfsStatus::OpIllegal, xdr)?;
+        Ok(NfsResult::Illegal)
     } else {
         Err(RpcBad::Value)
     }
@@ -148,12 +153,12 @@ fn read_result_part<'a>(number: u32, xdr: &mut Xdr<'a>) -> Result<NfsResult<'a>,
     match number {
         operation::CLOSE => Ok(NfsResult::Close(read_stateid_outcome(xdr)?)),
         operation::DELEGRETURN => Ok(NfsResult::DelegReturn(read_status(xdr)?)),
-        operation::GETFH => Ok(NfsResult::GetFh(read_handle_outcome(xdr)?)),
-        operation::LOCK => Ok(NfsResult::Lock(read_lock_outcome(xdr)?)),
-        operation::LOCKT => Ok(NfsResult::LockT(read_lock_test_outcome(xdr)?)),
+        operation::GETFH => read_handle_outcome(xdr).map(NfsResult::GetFh),
+        operation::LOCK => read_lock_outcome(xdr).map(NfsResult::Lock),
+        operation::LOCKT => read_lock_test_outcome(xdr).map(NfsResult::LockT),
         operation::LOCKU => Ok(NfsResult::LockU(read_stateid_outcome(xdr)?)),
         operation::LOOKUP => Ok(NfsResult::Lookup(read_status(xdr)?)),
-        operation::OPEN => Ok(NfsResult::Open(read_open_outcome(xdr)?)),
+        operation::OPEN => read_open_outcome(xdr).map(NfsResult::Open),
         operation::OPEN_CONFIRM => Ok(NfsResult::OpenConfirm(read_stateid_outcome(xdr)?)),
         operation::OPEN_DOWNGRADE => Ok(NfsResult::OpenDowngrade(read_stateid_outcome(xdr)?)),
         operation::PUTFH => Ok(NfsResult::PutFh(read_status(xdr)?)),
@@ -166,7 +171,7 @@ fn read_result_part<'a>(number: u32, xdr: &mut Xdr<'a>) -> Result<NfsResult<'a>,
     }
 }
 
-#[tactic(auto, unfolding(crate::specs::Results::result_at))]
+#[tactic(auto, unfolding(crate::specs::Results::nfs_result, crate::specs::Results::result_part_at))]
 fn read_whole<'a>(xdr: &mut Xdr<'a>) -> Result<NfsResult<'a>, RpcBad>
     ensures { Advances shown_result result xdr.old.rest.now xdr.new.rest.now (result_at xdr.old.rest.now) }
 {
@@ -183,45 +188,55 @@ fn read_whole<'a>(xdr: &mut Xdr<'a>) -> Result<NfsResult<'a>, RpcBad>
 /// was.
 pub fn read_result<'a>(body: &mut Xdr<'a>) -> Result<NfsResult<'a>, RpcBad>
     // What is read is spelled so.
-    ensures found { IfOk result (λ r. (body.old.rest.now ≡ nfs_result (shown_result r) ++ body.new.rest.now) × ResultFits (shown_result r)) }
+    ensures found { IfOk result (λ r. (body.old.rest.now ≡ nfs_result.spell (shown_result r) ++ body.new.rest.now) × ResultFits (shown_result r)) }
     // What is spelled so is read, whatever follows.
-    ensures only { (r : ResultItem) (rest : List ℕ) → ResultFits r → body.old.rest.now ≡ nfs_result r ++ rest → Advances shown_result result body.old.rest.now body.new.rest.now (Ok (r, rest)) }
+    ensures only { (r : ResultItem) (rest : List ℕ) → ResultFits r → body.old.rest.now ≡ nfs_result.spell r ++ rest → Advances shown_result result body.old.rest.now body.new.rest.now (Ok (r, rest)) }
     // Which fault it is.
     ensures exact { Advances shown_result result body.old.rest.now body.new.rest.now (result_at body.old.rest.now) }
 {
     read_whole(body)
 }
 
-fn put_result_part(out: &mut XdrOut, value: &NfsResult) -> Result<(), AllocError>
-    requires { IsShortResult (shown_result value.now) }
-    ensures { OnOk result (out.new ≡ out.old ++ result_part (shown_result value.now)) }
+/// Writes the status of what has no parts.
+#[tactic(auto, unfolding(crate::specs::Results::told))]
+fn put_told(out: &mut XdrOut, value: NfsStatus) -> Result<(), AllocError>
+    ensures { Puts result out.old out.new ((told value).spell tt) }
 {
-    match value {
-        NfsResult::Close(part) => put_stateid_outcome(out, part)?,
-        NfsResult::DelegReturn(part) => put_status(out, *part)?,
-        NfsResult::GetFh(part) => put_handle_outcome(out, part)?,
-        NfsResult::Lock(part) => put_lock_outcome(out, part)?,
-        NfsResult::LockT(part) => put_lock_test_outcome(out, part)?,
-        NfsResult::LockU(part) => put_stateid_outcome(out, part)?,
-        NfsResult::Lookup(part) => put_status(out, *part)?,
-        NfsResult::Open(part) => put_open_outcome(out, part)?,
-        NfsResult::OpenConfirm(part) => put_stateid_outcome(out, part)?,
-        NfsResult::OpenDowngrade(part) => put_stateid_outcome(out, part)?,
-        NfsResult::PutFh(part) => put_status(out, *part)?,
-        NfsResult::PutRootFh(part) => put_status(out, *part)?,
-        NfsResult::Renew(part) => put_status(out, *part)?,
-        NfsResult::SetClientId(part) => put_client_outcome(out, part)?,
-        NfsResult::SetClientIdConfirm(part) => put_status(out, *part)?,
-        NfsResult::ReleaseLockOwner(part) => put_status(out, *part)?,
-        NfsResult::NotSupported(_) => put_status(out, NfsStatus::NotSupp)?,
-        NfsResult::Illegal => put_status(out, NfsStatus::OpIllegal)?,
-    }
+    out.u32(value.number())?;
+    put_nothing(out)?;
     Ok(())
 }
 
+fn put_result_part(out: &mut XdrOut, value: &NfsResult) -> Result<(), AllocError>
+    requires { (result_case (shown_result value.now)).Fit }
+    ensures { Puts result out.old out.new (spelled (result_case (shown_result value.now))) }
+{
+    match value {
+        NfsResult::Close(part)
+        | NfsResult::LockU(part)
+        | NfsResult::OpenConfirm(part)
+        | NfsResult::OpenDowngrade(part) => put_stateid_outcome(out, part),
+        NfsResult::DelegReturn(part)
+        | NfsResult::Lookup(part)
+        | NfsResult::PutFh(part)
+        | NfsResult::PutRootFh(part)
+        | NfsResult::Renew(part)
+        | NfsResult::SetClientIdConfirm(part)
+        | NfsResult::ReleaseLockOwner(part) => put_status(out, *part),
+        NfsResult::GetFh(part) => put_handle_outcome(out, part),
+        NfsResult::Lock(part) => put_lock_outcome(out, part),
+        NfsResult::LockT(part) => put_lock_test_outcome(out, part),
+        NfsResult::Open(part) => put_open_outcome(out, part),
+        NfsResult::SetClientId(part) => put_client_outcome(out, part),
+        NfsResult::NotSupported(_) => put_told(out, NfsStatus::NotSupp),
+        NfsResult::Illegal => put_told(out, NfsStatus::OpIllegal),
+    }
+}
+
+#[tactic(auto, unfolding(crate::specs::Results::nfs_result))]
 fn put_result(out: &mut XdrOut, value: &NfsResult) -> Result<(), AllocError>
-    requires { IsShortResult (shown_result value.now) }
-    ensures { OnOk result (out.new ≡ out.old ++ nfs_result (shown_result value.now)) }
+    requires { ResultFits (shown_result value.now) }
+    ensures { Puts result out.old out.new (nfs_result.spell (shown_result value.now)) }
 {
     out.u32(value.number())?;
     put_result_part(out, value)?;
@@ -231,12 +246,13 @@ fn put_result(out: &mut XdrOut, value: &NfsResult) -> Result<(), AllocError>
 /// Writes the result of one operation. An error's status is not Ok, of LOCK and LOCKT nor Denied; a handle, an owner and
 /// others are within their bounds; the number of NotSupported is one of its numbers. Want of memory leaves what was written
 /// before as it was.
+#[tactic(auto, using(xl_rpc::proofs::XdrLaws::taken_back, crate::proofs::AgainLaws::result_again))]
 pub fn write_result(out: &mut XdrOut, value: &NfsResult) -> Result<(), AllocError>
-    requires { IsShortResult (shown_result value.now) }
-    ensures ok { OnOk result (out.new ≡ out.old ++ nfs_result (shown_result value.now)) }
+    requires { ResultFits (shown_result value.now) }
+    ensures ok { OnOk result (out.new ≡ out.old ++ nfs_result.spell (shown_result value.now)) }
+    // What is written is read again, whatever follows.
+    ensures again { OnOk result (IsReadAgain result_at (shown_result value.now) out.old out.new) }
     ensures err { OnErr result (out.new ≡ out.old) }
 {
-    let mut written = out.new_beside();
-    put_result(&mut written, value)?;
-    out.append(&written)
+    put_whole!(out; put_result(out, value))
 }

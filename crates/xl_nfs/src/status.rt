@@ -1,9 +1,9 @@
 //! How an operation ended (nfsstat4).
-ghost use Rattle.std.specs.Prelude.{◌≡◌, ◌++◌, OnOk};
+ghost use Rattle.std.specs.Prelude.{◌≡◌};
 ghost use Rattle.xl_base.specs.Codec.{Advances};
-ghost use Rattle.xl_nfs.specs.Statuses.{status_number, status, made_status, status_at};
+ghost use Rattle.xl_rpc.specs.Xdr.{Puts};
+ghost use Rattle.xl_nfs.specs.Statuses.{status_number, made_status, status};
 
-use crate::locks::Denied;
 use std::alloc::AllocError;
 use xl_rpc::{RpcBad, Xdr, XdrOut};
 
@@ -144,14 +144,14 @@ fn status_of(number: u32) -> NfsStatus
     }
 }
 
-#[tactic(auto, unfolding(crate::specs::Statuses::status_at))]
+#[tactic(auto, unfolding(crate::specs::Statuses::status))]
 pub(crate) fn read_status(xdr: &mut Xdr) -> Result<NfsStatus, RpcBad>
-    ensures { Advances (λ s. s) result xdr.old.rest.now xdr.new.rest.now (status_at xdr.old.rest.now) }
+    ensures { Advances (λ s. s) result xdr.old.rest.now xdr.new.rest.now (status.at xdr.old.rest.now) }
 {
     let mut at = *xdr;
     let number = at.u32()?;
     let status = status_of(number);
-    if status.number() == number {
+    if number == status.number() {
         *xdr = at;
         Ok(status)
     } else {
@@ -159,9 +159,9 @@ pub(crate) fn read_status(xdr: &mut Xdr) -> Result<NfsStatus, RpcBad>
     }
 }
 
+#[tactic(auto, unfolding(crate::specs::Statuses::status))]
 pub(crate) fn put_status(out: &mut XdrOut, value: NfsStatus) -> Result<(), AllocError>
-    ensures { OnOk result (out.new ≡ out.old ++ status value) }
+    ensures { Puts result out.old out.new (status.spell value) }
 {
-    out.u32(value.number())?;
-    Ok(())
+    out.u32(value.number())
 }

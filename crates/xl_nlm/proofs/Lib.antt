@@ -1,2 +1,1 @@
-pub mod ArgumentLaws
-pub mod ReplyLaws
+pub mod AgainLaws

@@ -15,4 +15,4 @@ granted_head number = record { xid = number; prog = 100021; vers = 4; proc = 5; 
 
 -- the cookie is the call's number in eight bytes
 abbrev pub granted_record : ℕ → Bool → LockItem → List ℕ
-granted_record number exclusive lock = call (granted_head number) ++ test_args (record { cookie = big_endian w64 number; exclusive = exclusive; lock = lock })
+granted_record number exclusive lock = call (granted_head number) ++ test_args.spell (record { cookie = big_endian w64 number; exclusive = exclusive; lock = lock })

@@ -3,7 +3,7 @@ ghost use Rattle.std.specs.Prelude.{◌≡◌, IfOk};
 ghost use Rattle.std.specs.Int.{w64};
 ghost use Rattle.xl_base.specs.Codec.{big_endian};
 ghost use Rattle.xl_nlm.specs.Items.{shown_lock};
-ghost use Rattle.xl_nlm.specs.Arguments.{IsShortLock};
+ghost use Rattle.xl_nlm.specs.Arguments.{LockFits};
 ghost use Rattle.xl_nlm.specs.Granted.{granted_record};
 
 use crate::item::{Lock, TestArgs};
@@ -14,14 +14,14 @@ use xl_rpc::{Auth, CallHead, XdrOut, write_call};
 
 /// The record of a call of GRANTED with this number, for a lock that is exclusive or not. Its xid is the number, its
 /// cookie the number in eight bytes, its credential and verifier are AUTH_NONE.
-#[tactic(auto, unfolding(xl_base::specs::Codec::big_endian))]
+#[tactic(auto, unfolding(xl_base::specs::Codec::big_endian, xl_rpc::specs::Calls::HeadFits, crate::specs::Arguments::test_args))]
 pub fn granted_call(
     alloc: Global,
     number: u32,
     exclusive: bool,
     lock: &Lock,
 ) -> Result<Vec<u8>, AllocError>
-    requires { IsShortLock (shown_lock lock.now) }
+    requires { LockFits (shown_lock lock.now) }
     ensures { IfOk result (λ bytes. bytes.items ≡ granted_record number exclusive (shown_lock lock.now)) }
 {
     let none = Auth {

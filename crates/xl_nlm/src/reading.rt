@@ -1,182 +1,113 @@
-//! Calls and results, read from XDR.
+//! Calls, read from XDR.
 ghost use Rattle.std.specs.Prelude.{◌≡◌, ℕ, List, ◌++◌, IfOk, Ok, IsTrue};
 ghost use Rattle.xl_base.specs.Codec.{Advances};
 ghost use Rattle.xl_nlm.specs.Items.{CallItem, shown_lock, shown_test_args, shown_lock_args, shown_cancel_args, shown_unlock_args, shown_share_args, shown_notify, shown_call};
-ghost use Rattle.xl_nlm.specs.Arguments.{is_known, procedure_of, arguments, CallFits, text_at, lock_at, test_args_at, lock_args_at, cancel_args_at, unlock_args_at, made_rights, rights_at, share_args_at, notify_at, arguments_at};
+ghost use Rattle.xl_nlm.specs.Arguments.{is_known, procedure_of, arguments, IsCallOf, CallFits, name, lock, test_args, lock_args, cancel_args, unlock_args, rights, share_args, notify, arguments_at};
 
 use crate::item::{
     CancelArgs, Lock, LockArgs, NlmCall, Notify, Rights, ShareArgs, TestArgs, UnlockArgs,
 };
 use crate::procedure;
+use xl_format::read_record;
 use xl_rpc::{RpcBad, Xdr};
 
 const MAX_TEXT_BYTES: u32 = 1024;
 
 /// A name or a netobj.
-#[tactic(auto, unfolding(crate::specs::Arguments::text_at))]
 pub(crate) fn read_text<'a>(xdr: &mut Xdr<'a>) -> Result<&'a [u8], RpcBad>
-    ensures { Advances (λ s. s.now) result xdr.old.rest.now xdr.new.rest.now (text_at xdr.old.rest.now) }
+    ensures { Advances (λ s. s.now) result xdr.old.rest.now xdr.new.rest.now (name.at xdr.old.rest.now) }
 {
     xdr.opaque(MAX_TEXT_BYTES)
 }
 
-#[tactic(auto, unfolding(crate::specs::Arguments::lock_at))]
+#[tactic(auto, unfolding(crate::specs::Arguments::lock))]
 fn read_lock<'a>(xdr: &mut Xdr<'a>) -> Result<Lock<'a>, RpcBad>
-    ensures { Advances shown_lock result xdr.old.rest.now xdr.new.rest.now (lock_at xdr.old.rest.now) }
+    ensures { Advances shown_lock result xdr.old.rest.now xdr.new.rest.now (lock.at xdr.old.rest.now) }
 {
-    let mut at = *xdr;
-    let caller_name = read_text(&mut at)?;
-    let fh = read_text(&mut at)?;
-    let oh = read_text(&mut at)?;
-    let svid = at.i32()?;
-    let l_offset = at.u64()?;
-    let l_len = at.u64()?;
-    *xdr = at;
-    Ok(Lock {
-        caller_name,
-        fh,
-        oh,
-        svid,
-        l_offset,
-        l_len,
+    read_record!(xdr; Lock {
+        caller_name: read_text, fh: read_text, oh: read_text, svid: Xdr::i32, l_offset: Xdr::u64, l_len: Xdr::u64
     })
 }
 
-#[tactic(auto, unfolding(crate::specs::Arguments::test_args_at))]
+#[tactic(auto, unfolding(crate::specs::Arguments::test_args))]
 fn read_test_args<'a>(xdr: &mut Xdr<'a>) -> Result<TestArgs<'a>, RpcBad>
-    ensures { Advances shown_test_args result xdr.old.rest.now xdr.new.rest.now (test_args_at xdr.old.rest.now) }
+    ensures { Advances shown_test_args result xdr.old.rest.now xdr.new.rest.now (test_args.at xdr.old.rest.now) }
 {
-    let mut at = *xdr;
-    let cookie = read_text(&mut at)?;
-    let exclusive = at.boolean()?;
-    let lock = read_lock(&mut at)?;
-    *xdr = at;
-    Ok(TestArgs {
-        cookie,
-        exclusive,
-        lock,
-    })
+    read_record!(xdr; TestArgs { cookie: read_text, exclusive: Xdr::boolean, lock: read_lock })
 }
 
-#[tactic(auto, unfolding(crate::specs::Arguments::lock_args_at))]
+#[tactic(auto, unfolding(crate::specs::Arguments::lock_args))]
 fn read_lock_args<'a>(xdr: &mut Xdr<'a>) -> Result<LockArgs<'a>, RpcBad>
-    ensures { Advances shown_lock_args result xdr.old.rest.now xdr.new.rest.now (lock_args_at xdr.old.rest.now) }
+    ensures { Advances shown_lock_args result xdr.old.rest.now xdr.new.rest.now (lock_args.at xdr.old.rest.now) }
 {
-    let mut at = *xdr;
-    let cookie = read_text(&mut at)?;
-    let block = at.boolean()?;
-    let exclusive = at.boolean()?;
-    let lock = read_lock(&mut at)?;
-    let reclaim = at.boolean()?;
-    let state = at.i32()?;
-    *xdr = at;
-    Ok(LockArgs {
-        cookie,
-        block,
-        exclusive,
-        lock,
-        reclaim,
-        state,
+    read_record!(xdr; LockArgs {
+        cookie: read_text, block: Xdr::boolean, exclusive: Xdr::boolean, lock: read_lock, reclaim: Xdr::boolean, state: Xdr::i32
     })
 }
 
-#[tactic(auto, unfolding(crate::specs::Arguments::cancel_args_at))]
+#[tactic(auto, unfolding(crate::specs::Arguments::cancel_args))]
 fn read_cancel_args<'a>(xdr: &mut Xdr<'a>) -> Result<CancelArgs<'a>, RpcBad>
-    ensures { Advances shown_cancel_args result xdr.old.rest.now xdr.new.rest.now (cancel_args_at xdr.old.rest.now) }
+    ensures { Advances shown_cancel_args result xdr.old.rest.now xdr.new.rest.now (cancel_args.at xdr.old.rest.now) }
 {
-    let mut at = *xdr;
-    let cookie = read_text(&mut at)?;
-    let block = at.boolean()?;
-    let exclusive = at.boolean()?;
-    let lock = read_lock(&mut at)?;
-    *xdr = at;
-    Ok(CancelArgs {
-        cookie,
-        block,
-        exclusive,
-        lock,
-    })
+    read_record!(xdr; CancelArgs { cookie: read_text, block: Xdr::boolean, exclusive: Xdr::boolean, lock: read_lock })
 }
 
-#[tactic(auto, unfolding(crate::specs::Arguments::unlock_args_at))]
+#[tactic(auto, unfolding(crate::specs::Arguments::unlock_args))]
 fn read_unlock_args<'a>(xdr: &mut Xdr<'a>) -> Result<UnlockArgs<'a>, RpcBad>
-    ensures { Advances shown_unlock_args result xdr.old.rest.now xdr.new.rest.now (unlock_args_at xdr.old.rest.now) }
+    ensures { Advances shown_unlock_args result xdr.old.rest.now xdr.new.rest.now (unlock_args.at xdr.old.rest.now) }
 {
-    let mut at = *xdr;
-    let cookie = read_text(&mut at)?;
-    let lock = read_lock(&mut at)?;
-    *xdr = at;
-    Ok(UnlockArgs { cookie, lock })
+    read_record!(xdr; UnlockArgs { cookie: read_text, lock: read_lock })
 }
 
 /// Reading 1, writing 2, both 3, neither 0.
-#[tactic(auto, unfolding(crate::specs::Arguments::rights_at))]
+#[tactic(auto, unfolding(crate::specs::Arguments::rights))]
 fn read_rights(xdr: &mut Xdr) -> Result<Rights, RpcBad>
-    ensures { Advances (λ r. r) result xdr.old.rest.now xdr.new.rest.now (rights_at xdr.old.rest.now) }
+    ensures { Advances (λ r. r) result xdr.old.rest.now xdr.new.rest.now (rights.at xdr.old.rest.now) }
 {
     let mut at = *xdr;
-    let number = at.u32()?;
-    if number < 4 {
-        *xdr = at;
-        Ok(Rights {
-            read: number == 1 || number == 3,
-            write: 2 <= number,
-        })
-    } else {
-        Err(RpcBad::Value)
-    }
+    let (read, write) = match at.u32()? {
+        0 => (false, false),
+        1 => (true, false),
+        2 => (false, true),
+        3 => (true, true),
+        _ => return Err(RpcBad::Value),
+    };
+    *xdr = at;
+    Ok(Rights { read, write })
 }
 
-#[tactic(auto, unfolding(crate::specs::Arguments::share_args_at))]
+#[tactic(auto, unfolding(crate::specs::Arguments::share_args))]
 fn read_share_args<'a>(xdr: &mut Xdr<'a>) -> Result<ShareArgs<'a>, RpcBad>
-    ensures { Advances shown_share_args result xdr.old.rest.now xdr.new.rest.now (share_args_at xdr.old.rest.now) }
+    ensures { Advances shown_share_args result xdr.old.rest.now xdr.new.rest.now (share_args.at xdr.old.rest.now) }
 {
-    let mut at = *xdr;
-    let cookie = read_text(&mut at)?;
-    let caller_name = read_text(&mut at)?;
-    let fh = read_text(&mut at)?;
-    let oh = read_text(&mut at)?;
-    let mode = read_rights(&mut at)?;
-    let access = read_rights(&mut at)?;
-    let reclaim = at.boolean()?;
-    *xdr = at;
-    Ok(ShareArgs {
-        cookie,
-        caller_name,
-        fh,
-        oh,
-        mode,
-        access,
-        reclaim,
+    read_record!(xdr; ShareArgs {
+        cookie: read_text, caller_name: read_text, fh: read_text, oh: read_text,
+        mode: read_rights, access: read_rights, reclaim: Xdr::boolean
     })
 }
 
-#[tactic(auto, unfolding(crate::specs::Arguments::notify_at))]
+#[tactic(auto, unfolding(crate::specs::Arguments::notify))]
 fn read_notify<'a>(xdr: &mut Xdr<'a>) -> Result<Notify<'a>, RpcBad>
-    ensures { Advances shown_notify result xdr.old.rest.now xdr.new.rest.now (notify_at xdr.old.rest.now) }
+    ensures { Advances shown_notify result xdr.old.rest.now xdr.new.rest.now (notify.at xdr.old.rest.now) }
 {
-    let mut at = *xdr;
-    let name = read_text(&mut at)?;
-    let state = at.i32()?;
-    *xdr = at;
-    Ok(Notify { name, state })
+    read_record!(xdr; Notify { name: read_text, state: Xdr::i32 })
 }
 
-#[tactic(auto, unfolding(crate::specs::Arguments::arguments_at))]
+#[tactic(auto, unfolding(crate::specs::Arguments::arguments_of, xl_format::specs::Formats::nothing))]
 fn read_arguments<'a>(proc: u32, args: &mut Xdr<'a>) -> Result<NlmCall<'a>, RpcBad>
     ensures { Advances shown_call result args.old.rest.now args.new.rest.now (arguments_at proc args.old.rest.now) }
 {
     match proc {
         procedure::NULL => Ok(NlmCall::Null),
-        procedure::TEST => Ok(NlmCall::Test(read_test_args(args)?)),
-        procedure::LOCK => Ok(NlmCall::Lock(read_lock_args(args)?)),
-        procedure::CANCEL => Ok(NlmCall::Cancel(read_cancel_args(args)?)),
-        procedure::UNLOCK => Ok(NlmCall::Unlock(read_unlock_args(args)?)),
-        procedure::GRANTED => Ok(NlmCall::Granted(read_test_args(args)?)),
-        procedure::SHARE => Ok(NlmCall::Share(read_share_args(args)?)),
-        procedure::UNSHARE => Ok(NlmCall::Unshare(read_share_args(args)?)),
-        procedure::NM_LOCK => Ok(NlmCall::NmLock(read_lock_args(args)?)),
-        procedure::FREE_ALL => Ok(NlmCall::FreeAll(read_notify(args)?)),
+        procedure::TEST => read_test_args(args).map(NlmCall::Test),
+        procedure::LOCK => read_lock_args(args).map(NlmCall::Lock),
+        procedure::CANCEL => read_cancel_args(args).map(NlmCall::Cancel),
+        procedure::UNLOCK => read_unlock_args(args).map(NlmCall::Unlock),
+        procedure::GRANTED => read_test_args(args).map(NlmCall::Granted),
+        procedure::SHARE => read_share_args(args).map(NlmCall::Share),
+        procedure::UNSHARE => read_share_args(args).map(NlmCall::Unshare),
+        procedure::NM_LOCK => read_lock_args(args).map(NlmCall::NmLock),
+        procedure::FREE_ALL => read_notify(args).map(NlmCall::FreeAll),
         _ => Err(RpcBad::Value),
     }
 }
@@ -195,7 +126,7 @@ pub fn is_known(proc: u32) -> bool
 pub fn read<'a>(proc: u32, args: &mut Xdr<'a>) -> Result<NlmCall<'a>, RpcBad>
     requires { IsTrue (is_known proc) }
     // What is read is spelled so.
-    ensures found { IfOk result (λ c. (args.old.rest.now ≡ arguments (shown_call c) ++ args.new.rest.now) × ((procedure_of (shown_call c) ≡ proc) × CallFits (shown_call c))) }
+    ensures found { IfOk result (λ c. (args.old.rest.now ≡ arguments (shown_call c) ++ args.new.rest.now) × IsCallOf proc (shown_call c)) }
     // What is spelled so is read, whatever follows.
     ensures only { (c : CallItem) (rest : List ℕ) → procedure_of c ≡ proc → CallFits c → args.old.rest.now ≡ arguments c ++ rest → Advances shown_call result args.old.rest.now args.new.rest.now (Ok (c, rest)) }
     // Which fault it is.

@@ -1,20 +1,22 @@
 //! Results, read from XDR.
-ghost use Rattle.std.specs.Prelude.{◌≡◌, ℕ, List, ◌++◌, option_map, IfOk, Ok, true, IsTrue};
+ghost use Rattle.std.specs.Prelude.{◌≡◌, ℕ, List, ◌++◌, IfOk, Ok, IsTrue};
 ghost use Rattle.xl_base.specs.Codec.{Advances};
 ghost use Rattle.xl_nlm.specs.Items.{ReplyItem, shown_holder, shown_test_res, shown_res, shown_share_res, shown_reply};
 ghost use Rattle.xl_nlm.specs.Arguments.{is_known};
-ghost use Rattle.xl_nlm.specs.Replies.{made_status, is_reply_to, results, ReplyFits, status_at, holder_at, holder_part_at, test_res_at, res_at, share_res_at, results_at};
+ghost use Rattle.xl_nlm.specs.Replies.{IsReplyTo, results, status, holder, test_res, res, share_res, results_at};
 
 use crate::item::{Holder, NlmReply, NlmStatus, Res, ShareRes, TestRes};
 use crate::procedure;
 use crate::reading::read_text;
+use xl_format::read_record;
 use xl_rpc::{RpcBad, Xdr};
 
-/// The status of a number below 10.
-fn status_of(number: u32) -> NlmStatus
-    ensures { result ≡ made_status number }
+#[tactic(auto, unfolding(crate::specs::Replies::status))]
+fn read_status(xdr: &mut Xdr) -> Result<NlmStatus, RpcBad>
+    ensures { Advances (λ s. s) result xdr.old.rest.now xdr.new.rest.now (status.at xdr.old.rest.now) }
 {
-    match number {
+    let mut at = *xdr;
+    let status = match at.u32()? {
         0 => NlmStatus::Granted,
         1 => NlmStatus::Denied,
         2 => NlmStatus::DeniedNolocks,
@@ -24,63 +26,32 @@ fn status_of(number: u32) -> NlmStatus
         6 => NlmStatus::Rofs,
         7 => NlmStatus::StaleFh,
         8 => NlmStatus::Fbig,
-        _ => NlmStatus::Failed,
-    }
-}
-
-#[tactic(auto, unfolding(crate::specs::Replies::status_at))]
-fn read_status(xdr: &mut Xdr) -> Result<NlmStatus, RpcBad>
-    ensures { Advances (λ s. s) result xdr.old.rest.now xdr.new.rest.now (status_at xdr.old.rest.now) }
-{
-    let mut at = *xdr;
-    let number = at.u32()?;
-    if number < 10 {
-        *xdr = at;
-        Ok(status_of(number))
-    } else {
-        Err(RpcBad::Value)
-    }
-}
-
-#[tactic(auto, unfolding(crate::specs::Replies::holder_at))]
-fn read_holder<'a>(xdr: &mut Xdr<'a>) -> Result<Holder<'a>, RpcBad>
-    ensures { Advances shown_holder result xdr.old.rest.now xdr.new.rest.now (holder_at xdr.old.rest.now) }
-{
-    let mut at = *xdr;
-    let exclusive = at.boolean()?;
-    let svid = at.i32()?;
-    let oh = read_text(&mut at)?;
-    let l_offset = at.u64()?;
-    let l_len = at.u64()?;
+        9 => NlmStatus::Failed,
+        _ => return Err(RpcBad::Value),
+    };
     *xdr = at;
-    Ok(Holder {
-        exclusive,
-        svid,
-        oh,
-        l_offset,
-        l_len,
-    })
+    Ok(status)
 }
 
-/// The holder, which stands just behind the status Denied.
-#[tactic(auto, unfolding(crate::specs::Replies::holder_part_at))]
-fn read_holder_part<'a>(stat: NlmStatus, xdr: &mut Xdr<'a>) -> Result<Option<Holder<'a>>, RpcBad>
-    ensures { Advances (option_map shown_holder) result xdr.old.rest.now xdr.new.rest.now (holder_part_at stat xdr.old.rest.now) }
+#[tactic(auto, unfolding(crate::specs::Replies::holder))]
+fn read_holder<'a>(xdr: &mut Xdr<'a>) -> Result<Holder<'a>, RpcBad>
+    ensures { Advances shown_holder result xdr.old.rest.now xdr.new.rest.now (holder.at xdr.old.rest.now) }
 {
-    match stat {
-        NlmStatus::Denied => Ok(Some(read_holder(xdr)?)),
-        _ => Ok(None),
-    }
+    read_record!(xdr; Holder { exclusive: Xdr::boolean, svid: Xdr::i32, oh: read_text, l_offset: Xdr::u64, l_len: Xdr::u64 })
 }
 
-#[tactic(auto, unfolding(crate::specs::Replies::test_res_at))]
+/// The holder stands just behind the status Denied.
+#[tactic(auto, unfolding(crate::specs::Replies::test_res, xl_format::specs::Formats::nothing))]
 fn read_test_res<'a>(xdr: &mut Xdr<'a>) -> Result<TestRes<'a>, RpcBad>
-    ensures { Advances shown_test_res result xdr.old.rest.now xdr.new.rest.now (test_res_at xdr.old.rest.now) }
+    ensures { Advances shown_test_res result xdr.old.rest.now xdr.new.rest.now (test_res.at xdr.old.rest.now) }
 {
     let mut at = *xdr;
     let cookie = read_text(&mut at)?;
     let stat = read_status(&mut at)?;
-    let holder = read_holder_part(stat, &mut at)?;
+    let holder = match stat {
+        NlmStatus::Denied => Some(read_holder(&mut at)?),
+        _ => None,
+    };
     *xdr = at;
     Ok(TestRes {
         cookie,
@@ -89,46 +60,33 @@ fn read_test_res<'a>(xdr: &mut Xdr<'a>) -> Result<TestRes<'a>, RpcBad>
     })
 }
 
-#[tactic(auto, unfolding(crate::specs::Replies::res_at))]
+#[tactic(auto, unfolding(crate::specs::Replies::res))]
 fn read_res<'a>(xdr: &mut Xdr<'a>) -> Result<Res<'a>, RpcBad>
-    ensures { Advances shown_res result xdr.old.rest.now xdr.new.rest.now (res_at xdr.old.rest.now) }
+    ensures { Advances shown_res result xdr.old.rest.now xdr.new.rest.now (res.at xdr.old.rest.now) }
 {
-    let mut at = *xdr;
-    let cookie = read_text(&mut at)?;
-    let stat = read_status(&mut at)?;
-    *xdr = at;
-    Ok(Res { cookie, stat })
+    read_record!(xdr; Res { cookie: read_text, stat: read_status })
 }
 
-#[tactic(auto, unfolding(crate::specs::Replies::share_res_at))]
+#[tactic(auto, unfolding(crate::specs::Replies::share_res))]
 fn read_share_res<'a>(xdr: &mut Xdr<'a>) -> Result<ShareRes<'a>, RpcBad>
-    ensures { Advances shown_share_res result xdr.old.rest.now xdr.new.rest.now (share_res_at xdr.old.rest.now) }
+    ensures { Advances shown_share_res result xdr.old.rest.now xdr.new.rest.now (share_res.at xdr.old.rest.now) }
 {
-    let mut at = *xdr;
-    let cookie = read_text(&mut at)?;
-    let stat = read_status(&mut at)?;
-    let sequence = at.i32()?;
-    *xdr = at;
-    Ok(ShareRes {
-        cookie,
-        stat,
-        sequence,
-    })
+    read_record!(xdr; ShareRes { cookie: read_text, stat: read_status, sequence: Xdr::i32 })
 }
 
-#[tactic(auto, unfolding(crate::specs::Replies::results_at))]
+#[tactic(auto, unfolding(crate::specs::Replies::results_of, xl_format::specs::Formats::nothing))]
 fn read_results<'a>(proc: u32, body: &mut Xdr<'a>) -> Result<NlmReply<'a>, RpcBad>
     ensures { Advances shown_reply result body.old.rest.now body.new.rest.now (results_at proc body.old.rest.now) }
 {
     match proc {
         procedure::NULL | procedure::FREE_ALL => Ok(NlmReply::Void),
-        procedure::TEST => Ok(NlmReply::Test(read_test_res(body)?)),
+        procedure::TEST => read_test_res(body).map(NlmReply::Test),
         procedure::LOCK
         | procedure::CANCEL
         | procedure::UNLOCK
         | procedure::GRANTED
-        | procedure::NM_LOCK => { Ok(NlmReply::Res(read_res(body)?)) }
-        procedure::SHARE | procedure::UNSHARE => Ok(NlmReply::Share(read_share_res(body)?)),
+        | procedure::NM_LOCK => read_res(body).map(NlmReply::Res),
+        procedure::SHARE | procedure::UNSHARE => read_share_res(body).map(NlmReply::Share),
         _ => Err(RpcBad::Value),
     }
 }
@@ -139,9 +97,9 @@ fn read_results<'a>(proc: u32, body: &mut Xdr<'a>) -> Result<NlmReply<'a>, RpcBa
 pub fn read_result<'a>(proc: u32, body: &mut Xdr<'a>) -> Result<NlmReply<'a>, RpcBad>
     requires { IsTrue (is_known proc) }
     // What is read is spelled so.
-    ensures found { IfOk result (λ r. (body.old.rest.now ≡ results (shown_reply r) ++ body.new.rest.now) × ((is_reply_to proc (shown_reply r) ≡ true) × ReplyFits (shown_reply r))) }
+    ensures found { IfOk result (λ r. (body.old.rest.now ≡ results (shown_reply r) ++ body.new.rest.now) × IsReplyTo proc (shown_reply r)) }
     // What is spelled so is read, whatever follows.
-    ensures only { (r : ReplyItem) (rest : List ℕ) → is_reply_to proc r ≡ true → ReplyFits r → body.old.rest.now ≡ results r ++ rest → Advances shown_reply result body.old.rest.now body.new.rest.now (Ok (r, rest)) }
+    ensures only { (r : ReplyItem) (rest : List ℕ) → IsReplyTo proc r → body.old.rest.now ≡ results r ++ rest → Advances shown_reply result body.old.rest.now body.new.rest.now (Ok (r, rest)) }
     // Which fault it is.
     ensures exact { Advances shown_reply result body.old.rest.now body.new.rest.now (results_at proc body.old.rest.now) }
 {

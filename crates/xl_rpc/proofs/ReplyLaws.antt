@@ -1,5 +1,5 @@
 -- A reply up to its results is a codec.
-use Rattle.std.proofs.Common.{◌≡◌, ℕ, ◌<◌, ◌^◌, ◌==◌, ◌++◌, false, refl, arith}
+use Rattle.std.proofs.Common.{◌≡◌, ℕ, ◌<◌, ◌^◌, ◌==◌, List, ◌++◌, length, drop, Ok, false, refl, arith}
 use Rattle.std.proofs.lemmas.Bool.Decides.{nat_tests}
 use Rattle.xl_base.specs.Codec.{IsCodec}
 use Rattle.xl_base.proofs.CodecLaws.{pair_codec, view_codec, exactly_codec, tagged_codec, if_codec, nothing_codec, never_codec, same_codec}
@@ -8,7 +8,7 @@ use Rattle.xl_rpc.specs.declared.reply.Verdict.{Verdict}
 use Rattle.xl_rpc.specs.declared.reply.Verdict.TheVariants.{Success, ProgUnavail, ProgMismatch, ProcUnavail, GarbageArgs, SystemErr, RpcMismatch, AuthError}
 use Rattle.xl_rpc.specs.Xdr.{unsigned}
 use Rattle.xl_rpc.specs.Replies.{reply_stat, stat, detail, denied, accepted, told, reply, VerdictFits, denied_with, accepted_with, denied_at, accepted_at, verdict_at, reply_at}
-use Rattle.xl_rpc.proofs.XdrLaws.{unsigned_codec}
+use Rattle.xl_rpc.proofs.XdrLaws.{read_again, unsigned_codec}
 
 abbrev IsAccepted : ℕ → Verdict → Type 0
 IsAccepted n v = (stat v ≡ n) × ((reply_stat v ≡ 0) × VerdictFits v)
@@ -132,3 +132,6 @@ verdict_codec = same_codec (λ v. unsigned (reply_stat v) ++ told v) VerdictFits
 pub reply_codec : IsCodec reply_at (λ r. reply r.0 r.1) (λ r. (r.0 < 2 ^ 32) × VerdictFits r.1)
 unfolding reply_at reply
 reply_codec = pair_codec unsigned_codec (λ _. exactly_codec 1 bad.NotCall unsigned_codec (omega arith) verdict_codec)
+
+pub reply_again : (xid : ℕ) (v : Verdict) (old new rest : List ℕ) → xid < 2 ^ 32 → VerdictFits v → new ≡ old ++ reply xid v → reply_at (drop (length old) new ++ rest) ≡ Ok ((xid, v), rest)
+reply_again xid v old new rest small fits is = read_again reply_codec (xid, v) old new (small, fits) is rest

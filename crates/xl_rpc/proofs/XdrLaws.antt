@@ -1,17 +1,19 @@
 -- What is read of an XDR item is the item that was written, and what was written is read again.
-use Rattle.std.proofs.Common.{◌≡◌, ℕ, zero, suc, ◌+◌, ◌^◌, ◌<◌, ◌≤◌, ◌==◌, Bool, true, false, cond, eqb, ltb, leb, List, [], ◌∷◌, ◌++◌, length, take, drop, replicate, refl, ap, ◌∙◌, arith, rules, Fits}
+use Rattle.std.proofs.Common.{◌≡◌, ℕ, zero, suc, ◌+◌, ◌*◌, ◌/◌, ◌%◌, ◌^◌, ◌<◌, ◌≤◌, ◌==◌, Bool, true, false, cond, eqb, ltb, leb, List, [], ◌∷◌, ◌++◌, length, take, drop, replicate, Result, Ok, Err, append_assoc, subst, sym, refl, ap, ◌∙◌, arith, rules, Fits}
 use Rattle.std.specs.Int.{w32, cast_signed, cast_unsigned}
 use Rattle.std.specs.Int.RustNames.{FitsSigned}
 use Rattle.std.specs.List.{list_all}
 use Rattle.std.proofs.Math.Facts.{sfits_to_z, Fits-of_z}
-use Rattle.std.proofs.lemmas.Bool.{eqb-true, ltb-true, leb-true, le-leb, and_parts}
+use Rattle.std.proofs.lemmas.Bool.{eqb-true, ltb-true, ltb-false, leb-true, le-leb, and_parts}
 use Rattle.std.proofs.lemmas.Bool.Decides.{nat_tests}
 use Rattle.std.proofs.lemmas.Int.{of_z-to_z, to_z-of_z}
-use Rattle.std.proofs.lemmas.List.{length-append, length-drop, length-replicate, length-take-le, take-append-drop, take_at, drop_at}
-use Rattle.xl_base.specs.Codec.{IsCodec}
-use Rattle.xl_base.proofs.CodecLaws.{view_codec, guard_codec, tagged_codec, same_codec, fixed_codec, big_endian_32, big_endian_64}
+use Rattle.std.proofs.lemmas.List.{length-append, length-drop, length-replicate, length-take-le, take-append-drop, take_at, drop_at, append-nil}
+use Rattle.xl_base.specs.Codec.{IsCodec, guard_at, fixed_at, nothing_at}
+use Rattle.xl_base.proofs.CodecLaws.{view_codec, guard_codec, tagged_codec, same_codec, fixed_codec, bind_ok, guard_ok, guard_not, ok_is, nothing_codec, big_endian_32, big_endian_64}
+use Rattle.std.specs.Prelude.{OnOk, OnErr}
+use Rattle.xl_rpc.specs.declared.fault.RpcBad.{RpcBad}
 use Rattle.xl_rpc.specs.declared.fault.RpcBad.TheVariants as bad
-use Rattle.xl_rpc.specs.Xdr.{unsigned, hyper, signed, boolean, pad, fixed, opaque, unsigned_at, hyper_at, signed_at, boolean_at, is_padded, opaque_fixed_at, opaque_at}
+use Rattle.xl_rpc.specs.Xdr.{void, words, words_at, WordsFit, Begins, Keeps, IsReadAgain, unsigned, hyper, signed, boolean, pad, fixed, opaque, unsigned_at, hyper_at, signed_at, boolean_at, is_padded, opaque_fixed_at, opaque_at}
 
 -- the front of four zeros
 pub zeros_are : (n : ℕ) → n < 4 → take {A = ℕ} n (0 ∷ 0 ∷ 0 ∷ 0 ∷ []) ≡ replicate n 0
@@ -99,3 +101,54 @@ opaque_codec most lt = same_codec opaque (λ bytes. length bytes ≤ most)
     (λ n. same_codec fixed (λ bytes. (length bytes ≡ n) × Unit {0}) (opaque_fixed_codec n) (λ bytes len. (refl, (len, tt))) (λ bytes fit. fit.0)))
     (λ bytes fit. (refl, leb-true (length bytes) most fit.0.1))
     (λ bytes le. ((omega arith, le-leb (length bytes) most le), tt))
+
+pub void_codec : IsCodec {E = RpcBad} nothing_at (λ _. void) (λ _. Unit {0})
+unfolding void
+void_codec = nothing_codec
+
+pub words_codec : IsCodec words_at words WordsFit
+unfolding words_at words
+words_codec = tagged_codec (λ bytes. length bytes / 4) unsigned_codec
+    (λ n. same_codec (λ bytes. bytes) (λ bytes. (length bytes / 4 ≡ n) × (length bytes % 4 ≡ 0)) (fixed_codec bad.Short (n * 4))
+    (λ bytes len. (refl, (omega (arith, len), omega (arith, len))))
+    (λ bytes fit. omega (arith, fit.0, fit.1)))
+
+-- what is read of a fixed length has it
+length_is : (n : ℕ) (bytes : List ℕ) (x : List ℕ × List ℕ) → opaque_fixed_at n bytes ≡ Ok x → length x.0 ≡ n
+unfolding opaque_fixed_at
+length_is n bytes x e =
+    let a = bind_ok (guard_at (is_padded n) bad.Pad (fixed_at bad.Short (n + pad n)) bytes) (λ a. Ok (take n a.0, a.1)) x e in
+    let b = bind_ok (fixed_at bad.Short (n + pad n) bytes) (λ b. cond (is_padded n b.0) (Ok b) (Err bad.Pad)) a.0 a.1 in
+    let g = guard_ok (is_padded n b.0.0) bad.Pad (Ok b.0) a.0 b.2 in
+    let f = guard_not (ltb (length bytes) (n + pad n)) bad.Short (Ok (take (n + pad n) bytes, drop (n + pad n) bytes)) b.0 b.1 in
+    let long : n + pad n ≤ length bytes = ltb-false _ _ f.0 in
+    let units : length (take (n + pad n) bytes) ≡ n + pad n = length-take-le (n + pad n) bytes long in
+    let whole : length (take n (take (n + pad n) bytes)) ≡ n = length-take-le n (take (n + pad n) bytes) (omega (arith, units)) in
+    let one = subst (λ (y : List ℕ × List ℕ). length (take n y.0) ≡ n) (ok_is {E = RpcBad} _ b.0 f.1) whole in
+    let two = subst (λ (y : List ℕ × List ℕ). length (take n y.0) ≡ n) (ok_is {E = RpcBad} b.0 a.0 g.1) one in
+    subst (λ (y : List ℕ × List ℕ). length y.0 ≡ n) (ok_is {E = RpcBad} _ x a.2) two
+
+pub fixed_length : (n : ℕ) (bytes taken rest : List ℕ) → opaque_fixed_at n bytes ≡ Ok (taken, rest) → length taken ≡ n
+fixed_length n bytes taken rest e = length_is n bytes (taken, rest) e
+
+-- whole words have no padding
+pub fixed_words : (bytes : List ℕ) → length bytes % 4 ≡ 0 → fixed bytes ≡ bytes
+unfolding fixed pad
+fixed_words bytes whole = rw whole (append-nil bytes)
+
+-- ---- writing
+
+pub keeps_front : {E : Type 0} (result : Result (Unit {0}) E) (old new text front : List ℕ) → OnOk result (new ≡ old ++ text) → OnErr result (new ≡ old) → Begins front old → Begins front new
+unfolding Begins
+keeps_front (Ok x) old new text front ok err begins = (begins.0 ++ text, ok ∙ ap (λ (t : List ℕ). t ++ text) begins.1 ∙ append_assoc front begins.0 text)
+keeps_front (Err e) old new text front ok err begins = (begins.0, err ∙ begins.1)
+
+-- what stood before a message stands there alone where all behind it is taken back
+pub taken_back : (old written : List ℕ) → Keeps old written → take (length old) written ≡ old
+unfolding Begins
+taken_back old written keeps =
+    let there = keeps old ([], sym (append-nil old)) in
+    rw (there.1) (take_at old there.0 (length old) refl)
+
+pub read_again : {A E : Type 0} {at : List ℕ → Result (A × List ℕ) E} {spell : A → List ℕ} {Fit : A → Type 0} → IsCodec at spell Fit → (v : A) (old new : List ℕ) → Fit v → new ≡ old ++ spell v → IsReadAgain at v old new
+read_again {A} {E} {at} {spell} f v old new fit is rest = rw (is, drop_at old (spell v) (length old) refl) (f.again v rest fit)

@@ -1,5 +1,5 @@
 -- The head of a call (RFC 5531 9): its spelling, and its reading.
-use Rattle.std.specs.Prelude.{ℕ, ◌<◌, ◌≤◌, ◌^◌, List, ◌++◌, length, Result}
+use Rattle.std.specs.Prelude.{ℕ, List, ◌++◌, Result}
 use Rattle.xl_base.specs.Codec.{pair_at, as_at, exactly_at}
 use Rattle.xl_rpc.specs.declared.call.Auth.{Auth}
 use Rattle.xl_rpc.specs.declared.call.CallHead.{CallHead}
@@ -37,7 +37,7 @@ AuthFits a = UnsignedFits a.flavor × OpaqueFits 400 a.body
 unfoldable pub call : HeadItem → List ℕ
 call h = unsigned h.xid ++ (unsigned 0 ++ (unsigned 2 ++ (unsigned h.prog ++ (unsigned h.vers ++ (unsigned h.proc ++ (auth h.cred ++ auth h.verf))))))
 
-abbrev pub HeadFits : HeadItem → Type 0
+unfoldable pub HeadFits : HeadItem → Type 0
 HeadFits h = UnsignedFits h.xid × (UnsignedFits h.prog × (UnsignedFits h.vers × (UnsignedFits h.proc × (AuthFits h.cred × AuthFits h.verf))))
 
 -- ---- reading

@@ -1,5 +1,5 @@
 -- Replies (RFC 5531 9): their spelling, and their reading up to what a successful one gives.
-use Rattle.std.specs.Prelude.{ℕ, ◌<◌, ◌^◌, Bool, true, false, List, [], ◌++◌, Result, if◌then◌else◌}
+use Rattle.std.specs.Prelude.{ℕ, Bool, true, false, List, [], ◌++◌, Result, if◌then◌else◌}
 use Rattle.xl_base.specs.Codec.{pair_at, as_at, exactly_at, tagged_at, if_at, nothing_at, never_at}
 use Rattle.xl_rpc.specs.declared.fault.RpcBad.{RpcBad}
 use Rattle.xl_rpc.specs.declared.fault.RpcBad.TheVariants as bad

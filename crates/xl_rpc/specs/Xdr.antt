@@ -1,5 +1,5 @@
 -- XDR (RFC 4506): the spelling of each item, and its reading with the first fault met.
-use Rattle.std.specs.Prelude.{ℕ, ℤ, ◌+◌, ◌-◌, ◌%◌, ◌^◌, ◌<◌, ◌≤◌, ◌==◌, Bool, List, ◌++◌, length, take, drop, replicate, Result, nat_lt, nat_le, if◌then◌else◌}
+use Rattle.std.specs.Prelude.{◌≡◌, ℕ, ℤ, ◌+◌, ◌-◌, ◌*◌, ◌/◌, ◌%◌, ◌^◌, ◌<◌, ◌≤◌, ◌==◌, Bool, List, [], ◌++◌, length, take, drop, replicate, Result, Ok, OnOk, nat_lt, nat_le, if◌then◌else◌}
 use Rattle.std.specs.Int.{w32, w64, cast_signed, cast_unsigned}
 use Rattle.std.specs.Int.RustNames.{FitsSigned}
 use Rattle.std.specs.List.{list_all}
@@ -22,6 +22,10 @@ signed z = unsigned (cast_unsigned w32 z)
 abbrev pub boolean : Bool → List ℕ
 boolean b = unsigned (if b then 1 else 0)
 
+-- nothing (4.16)
+unfoldable pub void : List ℕ
+void = []
+
 -- how many zero bytes fill n bytes to whole units of four (3)
 unfoldable pub pad : ℕ → ℕ
 pad n = (4 - n % 4) % 4
@@ -32,6 +36,10 @@ fixed bytes = bytes ++ replicate (pad (length bytes)) 0
 
 unfoldable pub opaque : List ℕ → List ℕ
 opaque bytes = unsigned (length bytes) ++ fixed bytes
+
+-- an array of unsigned integers (4.13), seen as the bytes of its words
+unfoldable pub words : List ℕ → List ℕ
+words bytes = unsigned (length bytes / 4) ++ bytes
 
 -- ---- what has a spelling
 
@@ -51,6 +59,10 @@ BooleanFits b = Unit {0}
 -- opaque data of at most so many bytes
 abbrev pub OpaqueFits : ℕ → List ℕ → Type 0
 OpaqueFits most bytes = length bytes ≤ most
+
+-- whole words, of which a count has a spelling
+abbrev pub WordsFit : List ℕ → Type 0
+WordsFit bytes = UnsignedFits (length bytes / 4) × (length bytes % 4 ≡ 0)
 
 -- ---- reading
 
@@ -76,3 +88,24 @@ opaque_fixed_at n bytes = as_at (take n) (guard_at (is_padded n) bad.Pad (fixed_
 -- opaque data of at most so many bytes
 unfoldable pub opaque_at : ℕ → List ℕ → Result (List ℕ × List ℕ) RpcBad
 opaque_at most bytes = tagged_at (guard_at (λ n. nat_le n most) bad.TooLong unsigned_at) opaque_fixed_at bytes
+
+unfoldable pub words_at : List ℕ → Result (List ℕ × List ℕ) RpcBad
+words_at bytes = tagged_at unsigned_at (λ n. fixed_at bad.Short (n * 4)) bytes
+
+-- ---- writing
+
+-- the bytes begin with this front
+unfoldable pub Begins : List ℕ → List ℕ → Type 0
+Begins front bytes = (rest : List ℕ) × (bytes ≡ front ++ rest)
+
+-- what stood in front stands there still
+abbrev pub Keeps : List ℕ → List ℕ → Type 0
+Keeps old new = (front : List ℕ) → Begins front old → Begins front new
+
+-- Behind what was written before, this was written; where memory ran out within it, all that stood before stands still.
+abbrev pub Puts : {E : Type 0} → Result (Unit {0}) E → List ℕ → List ℕ → List ℕ → Type 0
+Puts result old new text = OnOk result (new ≡ old ++ text) × Keeps old new
+
+-- behind what was written before stands what is read as this value, whatever follows
+abbrev pub IsReadAgain : {A E : Type 0} → (List ℕ → Result (A × List ℕ) E) → A → List ℕ → List ℕ → Type 0
+IsReadAgain at v old new = (rest : List ℕ) → at (drop (length old) new ++ rest) ≡ Ok (v, rest)

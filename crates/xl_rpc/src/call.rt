@@ -2,9 +2,11 @@
 ghost use Rattle.std.specs.Prelude.{◌≡◌, ℕ, ◌≤◌, List, ◌++◌, length, OnOk, OnErr, IfOk, Ok};
 ghost use Rattle.xl_base.specs.Codec.{Advances};
 ghost use Rattle.xl_base.specs.Results.{Gives};
-ghost use Rattle.xl_rpc.specs.Calls.{HeadItem, HeadFits, shown_auth, shown_head, auth, call, auth_at, call_at};
+ghost use Rattle.xl_rpc.specs.Xdr.{IsReadAgain, Keeps, Puts};
+ghost use Rattle.xl_rpc.specs.Calls.{HeadItem, AuthFits, HeadFits, shown_auth, shown_head, auth, call, auth_at, call_at};
 
 use crate::fault::RpcBad;
+use crate::put_whole;
 use crate::writer::XdrOut;
 use crate::xdr::Xdr;
 use std::alloc::AllocError;
@@ -105,19 +107,19 @@ pub fn read_call(bytes: &[u8]) -> Result<Call<'_>, RpcBad>
 
 #[tactic(auto, unfolding(crate::specs::Calls::auth))]
 fn put_auth(out: &mut XdrOut, value: &Auth) -> Result<(), AllocError>
-    requires { length value.now.body.now ≤ 400 }
-    ensures { OnOk result (out.new ≡ out.old ++ auth (shown_auth value.now)) }
+    requires { AuthFits (shown_auth value.now) }
+    ensures { Puts result out.old out.new (auth (shown_auth value.now)) }
 {
     out.u32(value.flavor)?;
     out.opaque(value.body)?;
     Ok(())
 }
 
-#[tactic(auto, unfolding(crate::specs::Calls::call))]
+#[tactic(auto, unfolding(crate::specs::Calls::call, crate::specs::Calls::HeadFits))]
 fn put_head(out: &mut XdrOut, head: &CallHead) -> Result<(), AllocError>
-    requires cred { length head.now.cred.body.now ≤ 400 }
-    requires verf { length head.now.verf.body.now ≤ 400 }
-    ensures { OnOk result (out.new ≡ out.old ++ call (shown_head head.now)) }
+    requires { HeadFits (shown_head head.now) }
+    ensures ok { OnOk result (out.new ≡ out.old ++ call (shown_head head.now)) }
+    ensures kept { Keeps out.old out.new }
 {
     out.u32(head.xid)?;
     out.u32(CALL)?;
@@ -130,14 +132,13 @@ fn put_head(out: &mut XdrOut, head: &CallHead) -> Result<(), AllocError>
     Ok(())
 }
 
-/// Writes the head of a call; the arguments follow it. Want of memory leaves what was written before as it was.
+/// Writes the head of a call, whose credential and verifier have at most 400 bytes; the arguments follow it. Want of memory leaves what was written before as it was.
+#[tactic(auto, using(crate::proofs::XdrLaws::taken_back, crate::proofs::CallLaws::call_again))]
 pub fn write_call(out: &mut XdrOut, head: &CallHead) -> Result<(), AllocError>
-    requires cred { length head.now.cred.body.now ≤ 400 }
-    requires verf { length head.now.verf.body.now ≤ 400 }
+    requires { HeadFits (shown_head head.now) }
     ensures ok { OnOk result (out.new ≡ out.old ++ call (shown_head head.now)) }
+    ensures again { OnOk result (IsReadAgain call_at (shown_head head.now) out.old out.new) }
     ensures err { OnErr result (out.new ≡ out.old) }
 {
-    let mut written = out.new_beside();
-    put_head(&mut written, head)?;
-    out.append(&written)
+    put_whole!(out; put_head(out, head))
 }

@@ -2,9 +2,10 @@
 ghost use Rattle.std.specs.Prelude.{◌≡◌, ℕ, ◌<◌, ◌≤◌, ◌^◌, List, ◌++◌, length};
 ghost use Rattle.std.specs.Int.{w32};
 ghost use Rattle.std.specs.Int.RustNames.{FitsSigned};
-ghost use Rattle.xl_base.specs.Codec.{IsCodec};
+ghost use Rattle.xl_base.specs.Codec.{IsCodec, nothing_at};
 ghost use Rattle.xl_rpc.specs.declared.reply.Verdict.{Verdict};
-ghost use Rattle.xl_rpc.specs.Xdr.{unsigned, hyper, signed, boolean, fixed, opaque, UnsignedFits, HyperFits, SignedFits, BooleanFits, OpaqueFits, unsigned_at, hyper_at, signed_at, boolean_at, opaque_fixed_at, opaque_at};
+ghost use Rattle.xl_rpc.specs.declared.fault.RpcBad.{RpcBad};
+ghost use Rattle.xl_rpc.specs.Xdr.{void, words, WordsFit, words_at, unsigned, hyper, signed, boolean, fixed, opaque, UnsignedFits, HyperFits, SignedFits, BooleanFits, OpaqueFits, unsigned_at, hyper_at, signed_at, boolean_at, opaque_fixed_at, opaque_at};
 ghost use Rattle.xl_rpc.specs.Calls.{HeadItem, HeadFits, call, call_at};
 ghost use Rattle.xl_rpc.specs.Replies.{VerdictFits, reply, reply_at};
 
@@ -16,6 +17,8 @@ pub fn spellings_are_read()
     ensures flag { IsCodec boolean_at boolean BooleanFits }
     ensures fixed_opaque { (n : ℕ) → IsCodec (opaque_fixed_at n) fixed (λ bytes. length bytes ≡ n) }
     ensures variable_opaque { (most : ℕ) → most < 2 ^ 32 → IsCodec (opaque_at most) opaque (OpaqueFits most) }
+    ensures words { IsCodec words_at words WordsFit }
+    ensures nothing { IsCodec {E = RpcBad} nothing_at (λ _. void) (λ _. Unit {0}) }
     ensures calls { IsCodec call_at call HeadFits }
     ensures replies { IsCodec reply_at (λ r. reply r.0 r.1) (λ r. UnsignedFits r.0 × VerdictFits r.1) }
 {}

@@ -3,10 +3,11 @@ ghost use Rattle.std.specs.Prelude.{◌≡◌, ℕ, ◌<◌, ◌^◌, List, ◌+
 ghost use Rattle.xl_base.specs.Codec.{Advances};
 ghost use Rattle.xl_base.specs.Results.{Gives};
 ghost use Rattle.xl_rpc.specs.declared.reply.Verdict.{Verdict};
-ghost use Rattle.xl_rpc.specs.Xdr.{unsigned, UnsignedFits};
+ghost use Rattle.xl_rpc.specs.Xdr.{IsReadAgain, Puts, unsigned, UnsignedFits};
 ghost use Rattle.xl_rpc.specs.Replies.{VerdictFits, is_denied, stat, detail, denied, accepted, told, reply_stat, reply, accepted_with, denied_with, accepted_at, denied_at, verdict_at, reply_at};
 
 use crate::fault::RpcBad;
+use crate::put_whole;
 use crate::writer::XdrOut;
 use crate::xdr::Xdr;
 use std::alloc::AllocError;
@@ -188,7 +189,7 @@ impl Verdict {
 }
 
 fn put_detail(out: &mut XdrOut, verdict: Verdict) -> Result<(), AllocError>
-    ensures { OnOk result (out.new ≡ out.old ++ detail verdict) }
+    ensures { Puts result out.old out.new (detail verdict) }
 {
     match verdict {
         Verdict::ProgMismatch(low, high) | Verdict::RpcMismatch(low, high) => {
@@ -202,7 +203,7 @@ fn put_detail(out: &mut XdrOut, verdict: Verdict) -> Result<(), AllocError>
 }
 
 fn put_told(out: &mut XdrOut, verdict: Verdict) -> Result<(), AllocError>
-    ensures { OnOk result (out.new ≡ out.old ++ (unsigned (reply_stat verdict) ++ told verdict)) }
+    ensures { Puts result out.old out.new (unsigned (reply_stat verdict) ++ told verdict) }
 {
     if verdict.is_denied() {
         out.u32(DENIED)?;
@@ -218,7 +219,7 @@ fn put_told(out: &mut XdrOut, verdict: Verdict) -> Result<(), AllocError>
 
 #[tactic(auto, unfolding(crate::specs::Replies::reply))]
 fn put_reply(out: &mut XdrOut, xid: u32, verdict: Verdict) -> Result<(), AllocError>
-    ensures { OnOk result (out.new ≡ out.old ++ reply xid verdict) }
+    ensures { Puts result out.old out.new (reply xid verdict) }
 {
     out.u32(xid)?;
     out.u32(REPLY)?;
@@ -228,11 +229,11 @@ fn put_reply(out: &mut XdrOut, xid: u32, verdict: Verdict) -> Result<(), AllocEr
 
 /// Writes a reply up to its results, which follow it where the verdict is Success. Want of memory leaves what was
 /// written before as it was.
+#[tactic(auto, using(crate::proofs::XdrLaws::taken_back, crate::proofs::ReplyLaws::reply_again))]
 pub fn write_reply(out: &mut XdrOut, xid: u32, verdict: Verdict) -> Result<(), AllocError>
     ensures ok { OnOk result (out.new ≡ out.old ++ reply xid verdict) }
+    ensures again { OnOk result (IsReadAgain reply_at (xid, verdict) out.old out.new) }
     ensures err { OnErr result (out.new ≡ out.old) }
 {
-    let mut written = out.new_beside();
-    put_reply(&mut written, xid, verdict)?;
-    out.append(&written)
+    put_whole!(out; put_reply(out, xid, verdict))
 }

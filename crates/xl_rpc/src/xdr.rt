@@ -3,7 +3,7 @@ ghost use Rattle.std.specs.Prelude.{◌≡◌, ◌+◌, ◌%◌, ◌<◌, ◌==�
 ghost use Rattle.std.specs.List.{list_all};
 ghost use Rattle.xl_base.specs.Codec.{Advances, IsBytes};
 ghost use Rattle.xl_base.specs.Results.{Gives};
-ghost use Rattle.xl_rpc.specs.Xdr.{unsigned_at, hyper_at, signed_at, boolean_at, opaque_fixed_at, opaque_at, pad};
+ghost use Rattle.xl_rpc.specs.Xdr.{unsigned_at, hyper_at, signed_at, boolean_at, opaque_fixed_at, opaque_at, words_at, pad};
 
 use crate::fault::RpcBad;
 
@@ -85,6 +85,15 @@ impl<'a> Xdr<'a> {
         *self = Xdr::new(rest);
         Ok(bytes)
     }
+
+    /// An array of unsigned integers (RFC 4506 4.13), as the bytes of its words. Short where the count or a word is cut.
+    pub fn words(&mut self) -> Result<&'a [u8], RpcBad>
+        ensures { Advances (λ s. s.now) result self.old.rest.now self.new.rest.now (words_at self.old.rest.now) }
+    {
+        let (bytes, rest) = words_of(self.rest)?;
+        *self = Xdr::new(rest);
+        Ok(bytes)
+    }
 }
 
 #[tactic(auto, unfolding(crate::specs::Xdr::unsigned_at))]
@@ -161,6 +170,18 @@ fn opaque_of(max: u32, bytes: &[u8]) -> Result<(&[u8], &[u8]), RpcBad>
     } else {
         Err(RpcBad::TooLong)
     }
+}
+
+#[tactic(auto, unfolding(crate::specs::Xdr::words_at))]
+fn words_of(bytes: &[u8]) -> Result<(&[u8], &[u8]), RpcBad>
+    ensures { Gives (λ x. (x.0.now, x.1.now)) result (words_at bytes.now) }
+{
+    let (count, rest) = u32_of(bytes)?;
+    let whole = count as usize * 4;
+    if rest.len() < whole {
+        return Err(RpcBad::Short);
+    }
+    Ok(rest.split_at(whole))
 }
 
 /// How many zero bytes fill so many bytes to whole units of four.

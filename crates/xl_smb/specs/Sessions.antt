@@ -142,7 +142,7 @@ pub record TreeReplyFits (r : TreeConnectReply) : Type 0 where
   pub capabilities : r.capabilities < 2 ^ 32
   pub maximal_access : r.maximal_access < 2 ^ 32
 
--- ---- messages without fields: 4 bytes (MS-SMB2 2.2.7, 2.2.8, 2.2.11, 2.2.12, 2.2.20, 2.2.28, 2.2.29, 2.2.30)
+-- ---- messages without fields: 4 bytes (MS-SMB2 2.2.7, 2.2.8, 2.2.11, 2.2.12, 2.2.27 to 2.2.30)
 
 unfoldable pub empty_at : Command → List ℕ → Result (Unit {0}) SmbBad
 empty_at command body = when_fixed (number_of command) 4 4 body (Ok tt)

@@ -20,6 +20,7 @@ abbrev pub mode_at : List Span → ℕ → Option Mode
 mode_at [] x = None
 mode_at (s ∷ ss) x = if within s.first s.last x then Some s.mode else mode_at ss x
 
+-- two modes are the same one
 abbrev pub same_mode : Mode → Mode → Bool
 same_mode Shared Shared = true
 same_mode Exclusive Exclusive = true

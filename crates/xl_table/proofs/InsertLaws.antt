@@ -174,7 +174,7 @@ real_other owner (Share access deny) h = refl
 real_other owner (Cache kind running) h = refl
 real_other owner (Range extent exclusive) h = absurd cc
 
-party_other : (claim : Claim) (held : List Claim) → is_range claim.what ≡ false → AllByRecursion (λ c. has_one_party claim c ≡ true) held
+pub party_other : (claim : Claim) (held : List Claim) → is_range claim.what ≡ false → AllByRecursion (λ c. has_one_party claim c ≡ true) held
 party_other claim [] h = tt
 party_other claim (c ∷ cs) h = (rw h refl, party_other claim cs h)
 

@@ -13,4 +13,3 @@ pub mod UnionLaws
 pub mod RoomLaws
 pub mod ChangeLaws
 pub mod PlaceLaws
-pub mod TrialLaws

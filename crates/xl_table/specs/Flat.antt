@@ -12,6 +12,8 @@ use Rattle.xl_matrix.specs.Owners.{posix}
 use Rattle.xl_matrix.specs.Extents.{has_byte}
 use Rattle.xl_matrix.specs.Equal.{same_owners, same_claims}
 use Rattle.xl_matrix.specs.Matrix.{ranges_meet, compat}
+pub use Rattle.xl_matrix.specs.Blocks.{is_replaced, is_own, is_met, is_met_by_own}
+unfoldable pub use Rattle.xl_matrix.specs.Blocks.{blocks}
 use Rattle.xl_table.specs.Order.{goes_first, no_later}
 
 -- the claim at its place: behind all that stand no later
@@ -30,30 +32,6 @@ with_what claim to = record { file = claim.file; owner = claim.owner; party = cl
 -- the first equal one taken out, and the changed claim at its place
 unfoldable pub changed : Claim → What → List Claim → List Claim
 changed claim to held = inserted (with_what claim to) (removed claim held)
-
--- what an ask of its owner replaces: a share, and the ranges of a POSIX owner
-abbrev pub is_replaced : Owner → What → Bool
-is_replaced owner (Share access deny) = true
-is_replaced owner (Range extent exclusive) = posix owner
-is_replaced owner (Cache kind running) = false
-
--- the held claim is the asker's own, and the ask replaces it
-abbrev pub is_own : Claim → Claim → Bool
-is_own ask held = same_owners ask.owner held.owner && is_replaced held.owner held.what
-
--- an exclusive range that is asked meets a range
-abbrev pub is_met : Owner → What → Owner → What → Bool
-is_met owner (Range extent true) other (Range place alone) = ranges_meet owner extent other place
-is_met owner _ other _ = false
-
--- an exclusive range is asked where its owner has one already
-abbrev pub is_met_by_own : Claim → Claim → Bool
-is_met_by_own ask held = (ask.file == held.file) && (same_owners ask.owner held.owner && is_met ask.owner ask.what held.owner held.what)
-
--- the held claim blocks the ask: both may not be held together, or an SMB open asks for an exclusive range where it
--- has one; but what the ask replaces doesn't
-unfoldable pub blocks : Claim → Claim → Bool
-blocks ask held = not (is_own ask held) && (not (compat ask held) || is_met_by_own ask held)
 
 -- something held blocks the claim
 abbrev pub is_blocked : List Claim → Claim → Bool

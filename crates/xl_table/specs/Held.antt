@@ -8,6 +8,7 @@ use Rattle.xl_matrix.specs.declared.claim.What.{What}
 use Rattle.xl_matrix.specs.declared.claim.What.TheVariants.{Share, Range, Cache}
 use Rattle.xl_matrix.specs.declared.claim.Claim.{Claim}
 use Rattle.xl_matrix.specs.Owners.{posix}
+pub use Rattle.xl_matrix.specs.Blocks.{is_share, is_range, is_cache}
 use Rattle.xl_matrix.specs.Equal.{same_owners, same_parties}
 use Rattle.xl_spans.specs.declared.span.Mode.{Mode}
 use Rattle.xl_spans.specs.declared.span.Mode.TheVariants.{Shared, Exclusive}
@@ -24,18 +25,6 @@ is_real_by owner _ = true
 
 abbrev pub is_real : Claim → Bool
 is_real claim = is_real_by claim.owner claim.what
-
-abbrev pub is_range : What → Bool
-is_range (Range extent exclusive) = true
-is_range _ = false
-
-abbrev pub is_share : What → Bool
-is_share (Share access deny) = true
-is_share _ = false
-
-abbrev pub is_cache : What → Bool
-is_cache (Cache kind running) = true
-is_cache _ = false
 
 -- a share, or a range with its bytes in order, of a POSIX owner
 abbrev pub IsPosixBy : What → Type 0

@@ -5,4 +5,3 @@ pub mod Sections
 pub mod Relock
 pub mod Changes
 pub mod Least
-pub mod Trials

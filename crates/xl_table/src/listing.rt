@@ -7,11 +7,11 @@ ghost use Rattle.xl_table.specs.Order.{goes_first};
 ghost use Rattle.xl_table.specs.Flat.{blocks, is_blocked, is_due};
 ghost use Rattle.xl_table.specs.Held.{is_range};
 
-use crate::block::{is_answer_due, is_blocked_by};
+use crate::block::is_answer_due;
 use crate::section::on_file;
 use std::alloc::{AllocError, Global};
 use xl_base::{Moment, Party};
-use xl_matrix::{Claim, What, same_party};
+use xl_matrix::{Claim, What, same_party, is_blocked_by};
 
 /// Those that block the ask.
 pub(crate) fn list_blockers(

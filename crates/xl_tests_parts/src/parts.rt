@@ -4,8 +4,11 @@ use std::str::Split;
 
 mod asks;
 mod base;
+mod caches;
+mod exact;
 mod matrix;
 mod names;
+mod smb_state;
 mod spans;
 mod table;
 mod wait;

@@ -20,7 +20,9 @@ use xl_base::{
     Event, Exports, Halt, Head, Journal, Moment, ReadOutcome, Record, Sequence, Sink, Source,
     WriteOutcome,
 };
-use xl_capture::{Capture, CaptureError, MOST_BYTES, read_capture, show_text, transcript};
+use xl_capture::{
+    Addresses, Capture, CaptureError, MOST_BYTES, read_capture, show_text, transcript,
+};
 use xl_house::House;
 
 /// How a run ended.
@@ -62,8 +64,8 @@ fn read_more<I: Source>(
     ensures took { (whole : Option (List ℕ)) → Took whole text.old.items (I.left input.old) → OnOk result (Took whole text.new.items (I.left input.new)) }
     ensures more { result ≡ Ok true → (length text.old.items < length text.new.items) × (length text.new.items ≤ length text.old.items + length buffer.old) }
     ensures ended { result ≡ Ok false → (text.new.items ≡ text.old.items) × Ended (I.left input.new) }
-    ensures later { I.faults input.old ≤ I.faults input.new }
     ensures failed { result ≡ Err Unread.Failed → Rose (I.faults input.old) (I.faults input.new) }
+    ensures still { result ≢ Err Unread.Failed → I.faults input.new ≡ I.faults input.old }
 {
     match input.read(buffer) {
         ReadOutcome::Got(count) => {
@@ -82,8 +84,8 @@ fn read_all<I: Source>(alloc: Global, input: &mut I) -> Result<Vec<u8>, Unread>
     ensures took { IfOk result (λ v. Took (I.left input.old) v.items (I.left input.new)) }
     ensures most { IfOk result (λ v. length v.items ≤ most_bytes + 1) }
     ensures ended { IfOk result (λ v. length v.items ≤ most_bytes → Ended (I.left input.new)) }
-    ensures later { I.faults input.old ≤ I.faults input.new }
     ensures failed { result ≡ Err Unread.Failed → Rose (I.faults input.old) (I.faults input.new) }
+    ensures still { result ≢ Err Unread.Failed → I.faults input.new ≡ I.faults input.old }
 {
     let mut text = Vec::new(alloc);
     let Ok(mut buffer) = chunk(alloc) else {
@@ -134,6 +136,7 @@ fn write_whole<O: Sink>(alloc: Global, house: &House<SureKeeper>, out: &mut O) -
     ensures all { result ≡ Written.All → Added (O.held out.old) (transcript_from house.now.head house.now.entries) (O.held out.new) }
     ensures began { Began (O.held out.old) (transcript_from house.now.head house.now.entries) (O.held out.new) }
     ensures failed { result ≡ Written.Failed → Rose (O.faults out.old) (O.faults out.new) }
+    ensures still { result ≢ Written.Failed → O.faults out.new ≡ O.faults out.old }
 {
     let Ok(claims) = house.dump(alloc) else {
         return Written::NoMemory;
@@ -188,12 +191,12 @@ fn idle(alloc: Global, status: u8, line: u64) -> Done
 fn start(
     alloc: Global,
     files: Sequence<Sequence<u8>>,
-    addresses: Sequence<(Sequence<u8>, Sequence<u8>)>,
+    addresses: Addresses,
 ) -> Option<House<SureKeeper>>
     ensures { IfSome result (λ h. (h.head ≡ head_with files addresses) × ((h.entries ≡ []) × (h.halt ≡ None))) }
 {
     let keeper = SureKeeper::new(alloc, Record::new(alloc));
-    let exports = exports_with(files, addresses);
+    let exports = exports_with(files, addresses.into_sequence());
     match House::start(alloc, exports, keeper, Moment(0)) {
         Ok(house) => Some(house),
         Err(ended) => match ended.halt {
@@ -238,6 +241,8 @@ fn replay<O: Sink>(alloc: Global, capture: Capture, out: &mut O) -> Done
     ensures written { result.status ≡ 0 → Added (O.held out.old) (whole_transcript result.journal) (O.held out.new) }
     ensures began { Began (O.held out.old) (whole_transcript result.journal) (O.held out.new) }
     ensures failed { result.status ≡ 3 → Rose (O.faults out.old) (O.faults out.new) }
+    ensures still { result.status ≢ 3 → result.status ≢ 7 → O.faults out.new ≡ O.faults out.old }
+    ensures written_full { result.status ≡ 7 → (Rose (O.faults out.old) (O.faults out.new) → ⊥) → Added (O.held out.old) (whole_transcript result.journal) (O.held out.new) }
     ensures legal { IsLegal (begin result.journal.head) result.journal.entries }
     ensures orderly { IsOrderly [] 0 result.journal.entries }
     ensures most { length result.journal.entries ≤ most_entries }
@@ -279,7 +284,9 @@ fn replay_text<O: Sink>(alloc: Global, text: &[u8], out: &mut O) -> Done
     ensures written { result.status ≡ 0 → Added (O.held out.old) (whole_transcript result.journal) (O.held out.new) }
     ensures began { Began (O.held out.old) (whole_transcript result.journal) (O.held out.new) }
     ensures failed { result.status ≡ 3 → Rose (O.faults out.old) (O.faults out.new) }
-    ensures idle { result.status ≡ 4 → (result.journal ≡ no_journal) × (O.held out.new ≡ O.held out.old) × (O.faults out.new ≡ O.faults out.old) }
+    ensures still { result.status ≢ 3 → result.status ≢ 7 → O.faults out.new ≡ O.faults out.old }
+    ensures written_full { result.status ≡ 7 → (Rose (O.faults out.old) (O.faults out.new) → ⊥) → Added (O.held out.old) (whole_transcript result.journal) (O.held out.new) }
+    ensures idle { result.status ≡ 4 → (result.journal ≡ no_journal) × (O.held out.new ≡ O.held out.old) }
     ensures legal { IsLegal (begin result.journal.head) result.journal.entries }
     ensures orderly { IsOrderly [] 0 result.journal.entries }
     ensures most { length result.journal.entries ≤ most_entries }
@@ -296,7 +303,10 @@ fn replay_text<O: Sink>(alloc: Global, text: &[u8], out: &mut O) -> Done
 fn replay_input<I: Source, O: Sink>(alloc: Global, input: &mut I, out: &mut O) -> Done
     ensures known { is_replay result.status ≡ true }
     ensures read { result.status ≡ 2 → Rose (I.faults input.old) (I.faults input.new) }
+    ensures read_still { result.status ≢ 2 → I.faults input.new ≡ I.faults input.old }
     ensures write { result.status ≡ 3 → Rose (O.faults out.old) (O.faults out.new) }
+    ensures write_still { result.status ≢ 3 → result.status ≢ 7 → O.faults out.new ≡ O.faults out.old }
+    ensures written_full { result.status ≡ 7 → (Rose (O.faults out.old) (O.faults out.new) → ⊥) → Added (O.held out.old) (whole_transcript result.journal) (O.held out.new) }
     ensures replayed { (all : List ℕ) → I.left input.old ≡ Some all → result.status ≡ 0 → IsReplayed (captured (capped all)) result.journal }
     ensures unwritten { (all : List ℕ) → I.left input.old ≡ Some all → result.status ≡ 3 → IsReplayed (captured (capped all)) result.journal }
     ensures full { (all : List ℕ) → I.left input.old ≡ Some all → result.status ≡ 7 → IsCutAt most_entries (captured (capped all)) result.journal }
@@ -306,7 +316,7 @@ fn replay_input<I: Source, O: Sink>(alloc: Global, input: &mut I, out: &mut O) -
     ensures ended { result.status ≡ 0 → Ended (I.left input.new) }
     ensures written { result.status ≡ 0 → Added (O.held out.old) (whole_transcript result.journal) (O.held out.new) }
     ensures began { Began (O.held out.old) (whole_transcript result.journal) (O.held out.new) }
-    ensures idle { is_idle result.status ≡ true → (result.journal ≡ no_journal) × (O.held out.new ≡ O.held out.old) × (O.faults out.new ≡ O.faults out.old) }
+    ensures idle { is_idle result.status ≡ true → (result.journal ≡ no_journal) × (O.held out.new ≡ O.held out.old) }
     ensures legal { IsLegal (begin result.journal.head) result.journal.entries }
     ensures orderly { IsOrderly [] 0 result.journal.entries }
     ensures most { length result.journal.entries ≤ most_entries }
@@ -330,7 +340,8 @@ fn show_given<O: Sink>(alloc: Global, text: &[u8], out: &mut O) -> Done
     ensures written { result.status ≡ 0 → AddsShown (O.held out.old) (shown text.now) (O.held out.new) }
     ensures began { result.status ≡ 3 → BeginsShown (O.held out.old) (shown text.now) (O.held out.new) }
     ensures failed { result.status ≡ 3 → Rose (O.faults out.old) (O.faults out.new) }
-    ensures idle { result.status ≢ 0 → result.status ≢ 3 → (O.held out.new ≡ O.held out.old) × (O.faults out.new ≡ O.faults out.old) }
+    ensures idle { result.status ≢ 0 → result.status ≢ 3 → O.held out.new ≡ O.held out.old }
+    ensures still { result.status ≢ 3 → O.faults out.new ≡ O.faults out.old }
 {
     match show_text(alloc, text) {
         Ok(lines) => match out.write(&lines) {
@@ -348,13 +359,15 @@ fn show_input<I: Source, O: Sink>(alloc: Global, input: &mut I, out: &mut O) -> 
     ensures known { is_show result.status ≡ true }
     ensures nothing { result.journal ≡ no_journal }
     ensures read { result.status ≡ 2 → Rose (I.faults input.old) (I.faults input.new) }
+    ensures read_still { result.status ≢ 2 → I.faults input.new ≡ I.faults input.old }
     ensures write { result.status ≡ 3 → Rose (O.faults out.old) (O.faults out.new) }
+    ensures write_still { result.status ≢ 3 → O.faults out.new ≡ O.faults out.old }
     ensures bad { (all : List ℕ) → I.left input.old ≡ Some all → result.status ≡ 4 → shown (capped all) ≡ Err result.line }
     ensures line { result.status ≢ 4 → result.line ≡ 0 }
     ensures ended { result.status ≡ 0 → Ended (I.left input.new) }
     ensures written { (all : List ℕ) → I.left input.old ≡ Some all → result.status ≡ 0 → AddsShown (O.held out.old) (shown (capped all)) (O.held out.new) }
     ensures began { (all : List ℕ) → I.left input.old ≡ Some all → result.status ≡ 3 → BeginsShown (O.held out.old) (shown (capped all)) (O.held out.new) }
-    ensures idle { result.status ≢ 0 → result.status ≢ 3 → (O.held out.new ≡ O.held out.old) × (O.faults out.new ≡ O.faults out.old) }
+    ensures idle { result.status ≢ 0 → result.status ≢ 3 → O.held out.new ≡ O.held out.old }
 {
     let text = match read_all(alloc, input) {
         Ok(text) => text,
@@ -369,22 +382,27 @@ fn show_input<I: Source, O: Sink>(alloc: Global, input: &mut I, out: &mut O) -> 
 pub fn run<I: Source, O: Sink>(alloc: Global, words: &[String], input: &mut I, out: &mut O) -> Done
     ensures known { is_status result.status ≡ true }
 
-    // The words ask for no job just at 1, unless memory runs out. At 2 the source failed, at 3 the sink did.
+    // The words ask for no job just at 1, unless memory runs out. At 2 and nowhere else the source failed; at 3 the sink
+    // did, which beside that may have failed at 7 alone.
     ensures words { (result.status ≡ 1 → job (map string_bytes words.now) ≡ None) × (job (map string_bytes words.now) ≡ None → result.status ≢ 6 → result.status ≡ 1) }
     ensures read { result.status ≡ 2 → Rose (I.faults input.old) (I.faults input.new) }
+    ensures read_still { result.status ≢ 2 → I.faults input.new ≡ I.faults input.old }
     ensures write { result.status ≡ 3 → Rose (O.faults out.old) (O.faults out.new) }
+    ensures write_still { result.status ≢ 3 → result.status ≢ 7 → O.faults out.new ≡ O.faults out.old }
     ensures line { result.status ≢ 4 → result.line ≡ 0 }
     ensures ended { result.status ≡ 0 → Ended (I.left input.new) }
-    ensures idle { is_idle result.status ≡ true → (result.journal ≡ no_journal) × (O.held out.new ≡ O.held out.old) × (O.faults out.new ≡ O.faults out.old) }
+    ensures idle { is_idle result.status ≡ true → (result.journal ≡ no_journal) × (O.held out.new ≡ O.held out.old) }
 
     // Of a replay, what was read is a capture at 0, 3 and 7, and isn't one at 4, whose line is the first that is bad. What
-    // was written: all of the transcript at 0, a beginning at 3, 6 and 7, nothing at 1, 2 and 4.
+    // was written: all of the transcript at 0, and at 7 unless the sink failed; a beginning at 3, 6 and 7; nothing at 1, 2
+    // and 4.
     ensures replayed { job (map string_bytes words.now) ≡ Some Job.Replay → (all : List ℕ) → I.left input.old ≡ Some all → result.status ≡ 0 → IsReplayed (captured (capped all)) result.journal }
     ensures unwritten { job (map string_bytes words.now) ≡ Some Job.Replay → (all : List ℕ) → I.left input.old ≡ Some all → result.status ≡ 3 → IsReplayed (captured (capped all)) result.journal }
     ensures full { job (map string_bytes words.now) ≡ Some Job.Replay → (all : List ℕ) → I.left input.old ≡ Some all → result.status ≡ 7 → IsCutAt most_entries (captured (capped all)) result.journal }
     ensures bad { job (map string_bytes words.now) ≡ Some Job.Replay → (all : List ℕ) → I.left input.old ≡ Some all → result.status ≡ 4 → captured (capped all) ≡ Err result.line }
     ensures begun { job (map string_bytes words.now) ≡ Some Job.Replay → (all : List ℕ) → I.left input.old ≡ Some all → result.status ≡ 6 → IsBegun (captured (capped all)) result.journal }
     ensures written { job (map string_bytes words.now) ≡ Some Job.Replay → result.status ≡ 0 → Added (O.held out.old) (whole_transcript result.journal) (O.held out.new) }
+    ensures written_full { result.status ≡ 7 → (Rose (O.faults out.old) (O.faults out.new) → ⊥) → Added (O.held out.old) (whole_transcript result.journal) (O.held out.new) }
     ensures began { job (map string_bytes words.now) ≡ Some Job.Replay → Began (O.held out.old) (whole_transcript result.journal) (O.held out.new) }
 
     // Of messages that are shown, the lines on them were written at 0, a beginning at 3, nothing else. At 4 the line is the

@@ -15,11 +15,22 @@ fn words(rt: &(impl Env + AllocGlobal)) -> io::Result<Vec<String>> {
     Ok(env::args(rt)?.collect(rt.alloc())?)
 }
 
+/// What words that could not be had ask for: a word that isn't UTF-8 is none of a command's.
+fn without_words(error: &io::Error) -> (u8, &'static str) {
+    match error.kind() {
+        io::ErrorKind::OutOfMemory => (6, "xlockd: no memory"),
+        _ => (1, USAGE),
+    }
+}
+
+/// What is said of words that ask for no job.
+const USAGE: &str = "xlockd: usage: replay, serve, show or make SEED COUNT";
+
 /// What is said of an ending on standard error.
 fn message(alloc: Global, done: &Done) -> Result<Option<String>, AllocError> {
     let text = match done.status {
         0 => return Ok(None),
-        1 => "xlockd: usage: replay, serve, show or make SEED COUNT",
+        1 => USAGE,
         2 => "xlockd: read fault",
         3 => "xlockd: write fault",
         4 => return Ok(Some(format!(in alloc; "xlockd: bad input at line {}", done.line)?)),
@@ -30,9 +41,13 @@ fn message(alloc: Global, done: &Done) -> Result<Option<String>, AllocError> {
 }
 
 fn main(rt: HostRuntime) -> ExitCode {
-    let Ok(words) = words(&rt) else {
-        let _ = eprintln!(rt; "xlockd: no memory");
-        return ExitCode::from(6);
+    let words = match words(&rt) {
+        Ok(words) => words,
+        Err(error) => {
+            let (status, text) = without_words(&error);
+            let _ = eprintln!(rt; "{text}");
+            return ExitCode::from(status);
+        }
     };
     let mut input = StandardInput::new(rt.reader());
     let mut out = StandardOutput::new(io::writer(&rt));

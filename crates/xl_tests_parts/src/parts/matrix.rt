@@ -95,7 +95,7 @@ fn rights(word: &str) -> Rwd {
     }
 }
 
-fn kind(word: &str) -> CacheKind {
+pub(super) fn kind(word: &str) -> CacheKind {
     match word {
         "R" => CacheKind::R,
         "RH" => CacheKind::RH,

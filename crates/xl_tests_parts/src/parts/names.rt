@@ -4,7 +4,7 @@ use super::{next, number};
 use std::alloc::{AllocError, Global};
 use std::str::Split;
 use xl_base::{Owner, Party, Protocol, Sequence};
-use xl_names::{Name, Names, owner_text, party_text, plain, put_hex_word, text_of};
+use xl_names::{Name, Names, laws, owner_text, party_text, plain, put_hex_word, text_of};
 
 fn half(bytes: &[u8]) -> [u8; 16] {
     match bytes {
@@ -163,4 +163,9 @@ fn numbers_agree_with_plain_programs(rt: HostRuntime) {
         assert!(rt; agree(rt.alloc(), &mut names, &mut list, draw / 65536));
     }
     assert!(rt; are_same(&names, &list));
+}
+
+#[test]
+fn laws_of_texts() {
+    laws::equal_texts_are_of_equal_names();
 }

@@ -3,13 +3,18 @@
 ghost use Rattle.std.specs.Prelude.{◌≡◌};
 ghost use Rattle.std.specs.List.{list_all};
 ghost use Rattle.xl_table.specs.Held.{is_real_by, is_range};
-ghost use Rattle.xl_table.specs.Trials.{is_beside, is_simple};
+ghost use Rattle.xl_tests_parts.specs.Trials.{is_beside, is_simple};
 
 use super::matrix::claim_in;
 use std::alloc::{AllocError, Global};
-use xl_base::{Moment, Owner, Party, Protocol};
-use xl_matrix::{Claim, Extent, What, is_posix, same_claim, same_owner, same_party};
-use xl_table::{Table, is_answer_due, is_blocked_by, stays_compatible, stays_sound};
+use xl_base::{Moment, Owner, Party, Protocol, Sequence};
+use xl_matrix::{Claim, Extent, Rwd, What, is_posix, same_claim, same_owner, same_party};
+use xl_names::{Name, Names};
+use xl_spans::{Mode, Span};
+use xl_table::{
+    CLAIMS, Table, TableErr, is_answer_due, is_blocked_by, stays_compatible, stays_sound,
+    united_shares_stay_compatible, unlocks_grow_only_by_a_cut,
+};
 
 fn is_real_range(owner: Owner, what: What) -> bool
     ensures { result ≡ is_real_by owner what }
@@ -48,18 +53,22 @@ fn is_simple_claim(claim: &Claim, held: &[Claim]) -> bool
 }
 
 /// Enters a real claim that is no second range of an NLM or NFSv4 owner on a file.
-#[tactic(auto, using(xl_table::proofs::TrialLaws::sound_simple))]
-fn enters(table: &mut Table, claim: Claim) -> bool {
-    is_simple_claim(&claim, table.claims()) && table.insert(claim).is_ok()
+#[tactic(auto, using(crate::proofs::TrialLaws::sound_simple))]
+fn enters(alloc: Global, table: &mut Table, claim: Claim) -> bool {
+    let _ = table.len();
+    match table.claims(alloc) {
+        Ok(held) => is_simple_claim(&claim, &held) && table.insert(claim).is_ok(),
+        Err(_) => false,
+    }
 }
 
 /// Gives a held claim a share or a cache to claim.
-#[tactic(auto, using(xl_table::proofs::TrialLaws::sound_change))]
+#[tactic(auto, using(crate::proofs::TrialLaws::sound_change))]
 fn changes(table: &mut Table, claim: &Claim, to: What) -> bool {
     if is_a_range(to) || !table.contains(claim) {
         return false;
     }
-    let _ = table.claims();
+    let _ = table.len();
     table.change(claim, to);
     true
 }
@@ -116,9 +125,9 @@ fn are_listed(claims: Result<Vec<Claim>, AllocError>, rows: &str) -> bool {
     }
 }
 
-fn fills(table: &mut Table) -> bool {
+fn fills(alloc: Global, table: &mut Table) -> bool {
     for row in ENTERED.lines() {
-        if !enters(table, claim_in(row)) {
+        if !enters(alloc, table, claim_in(row)) {
             return false;
         }
     }
@@ -140,9 +149,13 @@ fn is_due(alloc: Global, table: &Table, now: u64, rows: &str) -> bool {
     are_listed(table.due(alloc, Moment(now)), rows)
 }
 
-fn is_left(table: &mut Table, row: &str, rows: &str) -> bool {
+fn are_held(alloc: Global, table: &Table, rows: &str) -> bool {
+    are_listed(table.claims(alloc), rows)
+}
+
+fn is_left(alloc: Global, table: &mut Table, row: &str, rows: &str) -> bool {
     table.remove(&claim_in(row));
-    are(table.claims(), rows)
+    are_held(alloc, table, rows)
 }
 
 fn is_on(alloc: Global, table: &Table, file: u32, rows: &str) -> bool {
@@ -153,8 +166,43 @@ fn are_of_client(alloc: Global, table: &Table, rows: &str) -> bool {
     are_listed(table.of_party(alloc, Party::Name(Protocol::Nfs, 3)), rows)
 }
 
+fn has_share(table: &Table, file: u32, number: u32, row: &str) -> bool {
+    match table.share_of(file, Owner::Name(Protocol::Nfs, number)) {
+        Some(claim) => is_claim(&claim, row),
+        None => row.is_empty(),
+    }
+}
+
+fn are_sections(alloc: Global, table: &Table) -> bool {
+    are_listed(
+        table.shares_on(alloc, 1),
+        "client share r -\nlease share r -",
+    ) && are_listed(table.caches_on(alloc, 1), "lease cache RH -")
+        && are_listed(table.shares_on(alloc, 2), "")
+        && has_share(table, 1, 2, "client share r -")
+        && has_share(table, 1, 1, "")
+        && has_share(table, 2, 2, "")
+}
+
+/// Whether these are the caller's read lock alone.
+fn is_the_span(spans: &[Span]) -> bool {
+    match spans {
+        [span] => span.first == 20 && span.last == 29 && matches!(span.mode, Mode::Shared),
+        _ => false,
+    }
+}
+
+/// Whether the caller's spans on the file, and those bytes of them, are as its read lock has them.
+fn are_spans(alloc: Global, table: &Table) -> bool {
+    let caller = Owner::Name(Protocol::Nlm, 6);
+    matches!(table.spans_of(alloc, 1, caller), Ok(spans) if is_the_span(&spans))
+        && table.holds_byte(1, caller, 29, 40)
+        && !table.holds_byte(1, caller, 30, 40)
+        && !table.holds_byte(3, caller, 20, 29)
+}
+
 fn are_in_order(alloc: Global, table: &Table) -> bool {
-    are(table.claims(), HELD)
+    are_held(alloc, table, HELD)
         && table.len() == 8
         && is_on(alloc, table, 2, "moved lock 0 0")
         && are_of_client(alloc, table, "client share r -\nclient read 10 24")
@@ -162,6 +210,8 @@ fn are_in_order(alloc: Global, table: &Table) -> bool {
         && is_holder(table, 1, 29, "caller read 20 29")
         && is_holder(table, 1, 30, "")
         && is_holder(table, 2, 20, "")
+        && table.contains(&claim_in("moved lock 0 0"))
+        && !table.contains(&claim_in("moved lock 0 1"))
 }
 
 fn block_asks(alloc: Global, table: &Table) -> bool {
@@ -172,13 +222,16 @@ fn block_asks(alloc: Global, table: &Table) -> bool {
         "client read 10 24\nlease lock 40 44\nlease cache RH -",
     ) && is_blocked(alloc, table, "lease lock 40 41", "lease lock 40 44")
         && is_blocked(alloc, table, "lease read 40 41", "")
+        && table.is_blocked(&claim_in("lease lock 40 41"))
+        && !table.is_blocked(&claim_in("lease read 40 41"))
 }
 
 #[test]
 fn claims_stand_in_order_and_block_asks(rt: HostRuntime) {
     let mut table = Table::new(rt.alloc());
-    assert!(rt; table.is_empty() && fills(&mut table));
+    assert!(rt; table.is_empty() && fills(rt.alloc(), &mut table));
     assert!(rt; are_in_order(rt.alloc(), &table) && block_asks(rt.alloc(), &table));
+    assert!(rt; are_sections(rt.alloc(), &table) && are_spans(rt.alloc(), &table));
 }
 
 fn breaks(table: &mut Table, row: &str, to: &str) -> bool {
@@ -189,14 +242,173 @@ fn change_and_go(alloc: Global, table: &mut Table) -> bool {
     breaks(table, "lease cache RH -", "lease break RH 7")
         && is_due(alloc, table, 7, "lease break RH 7")
         && is_due(alloc, table, 6, "")
-        && is_left(table, "caller read 20 29", LEFT)
-        && is_left(table, "caller read 20 29", LEFT)
+        && is_left(alloc, table, "caller read 20 29", LEFT)
+        && is_left(alloc, table, "caller read 20 29", LEFT)
+        && party_goes(alloc, table)
+}
+
+/// The lease's party goes, and the others' claims stay.
+fn party_goes(alloc: Global, table: &mut Table) -> bool {
+    table.remove_party(Party::Name(Protocol::Smb, 5));
+    are_held(
+        alloc,
+        table,
+        "client share r -\nclient read 10 24\nmoved lock 0 0",
+    )
 }
 
 #[test]
 fn claims_change_and_go(rt: HostRuntime) {
     let mut table = Table::new(rt.alloc());
-    assert!(rt; fills(&mut table) && change_and_go(rt.alloc(), &mut table));
+    assert!(rt; fills(rt.alloc(), &mut table) && change_and_go(rt.alloc(), &mut table));
+}
+
+// ---- grants of shares
+
+/// Grants a share of a client's owner on file 1.
+#[tactic(auto, using(crate::proofs::TrialLaws::share_of_any_party))]
+fn shares(
+    alloc: Global,
+    table: &mut Table,
+    protocol: Protocol,
+    number: u32,
+    access: Rwd,
+    deny: Rwd,
+) -> bool {
+    if matches!(protocol, Protocol::Smb) {
+        return false;
+    }
+    let claim = Claim {
+        file: 1,
+        owner: Owner::Name(protocol, number),
+        party: Party::Name(protocol, number),
+        what: What::Share(access, deny),
+    };
+    match table.granted(alloc, &claim) {
+        Ok(change) => change.held <= CLAIMS && table.write(&change).is_ok(),
+        Err(_) => false,
+    }
+}
+
+const READ: Rwd = Rwd {
+    r: true,
+    w: false,
+    d: false,
+};
+
+const WRITE: Rwd = Rwd {
+    r: false,
+    w: true,
+    d: false,
+};
+
+fn has(claim: Option<Claim>, access: &[bool; 2], deny: &[bool; 2]) -> bool {
+    match claim {
+        Some(
+            Claim {
+                what: What::Share(rights, denied),
+                ..
+            },
+        ) => {
+            rights.r == access[0]
+                && rights.w == access[1]
+                && denied.r == deny[0]
+                && denied.w == deny[1]
+        }
+        _ => false,
+    }
+}
+
+fn grants_shares(alloc: Global, table: &mut Table) -> bool {
+    shares(alloc, table, Protocol::Nfs, 1, READ, WRITE)
+        && shares(alloc, table, Protocol::Nfs, 1, WRITE, READ)
+        && shares(alloc, table, Protocol::Nlm, 1, READ, WRITE)
+        && shares(alloc, table, Protocol::Nlm, 1, WRITE, READ)
+}
+
+/// A second share is united with the first of an NFSv4 open owner (RFC 7530 9.9), and takes the place of an NLM owner's.
+#[test]
+fn a_second_share(rt: HostRuntime) {
+    let mut table = Table::new(rt.alloc());
+    assert!(rt; grants_shares(rt.alloc(), &mut table) && table.len() == 2);
+    let united = table.share_of(1, Owner::Name(Protocol::Nfs, 1));
+    let replaced = table.share_of(1, Owner::Name(Protocol::Nlm, 1));
+    assert!(rt; has(united, &[true, true], &[true, true]));
+    assert!(rt; has(replaced, &[false, true], &[true, false]));
+}
+
+// ---- the limit
+
+/// Enters a share of an NLM owner on file 1.
+#[tactic(auto, using(xl_table::proofs::InsertLaws::sound_inserted_other))]
+fn share_enters(table: &mut Table, number: u32) -> Result<(), TableErr> {
+    let _ = table.len();
+    table.insert(Claim {
+        file: 1,
+        owner: Owner::Name(Protocol::Nlm, number),
+        party: Party::Name(Protocol::Nlm, number),
+        what: What::Share(READ, WRITE),
+    })
+}
+
+#[test]
+fn a_full_table(rt: HostRuntime) {
+    let mut table = Table::new(rt.alloc());
+    for number in 0..16_384u32 {
+        assert!(rt; share_enters(&mut table, number).is_ok());
+    }
+    assert!(rt;
+        matches!(
+            share_enters(&mut table, 20_000),
+            Err(TableErr::Full(16_384))
+        )
+    );
+    table.remove_party(Party::Name(Protocol::Nlm, 7));
+    assert!(rt; share_enters(&mut table, 20_000).is_ok() && table.len() == 16_384);
+}
+
+// ---- the least blocker
+
+/// The owner of NLM ranges with this byte as its last.
+fn owner_named(alloc: Global, last: u8) -> Result<Name, AllocError> {
+    let caller = Sequence::from_slice(alloc, b"a")?;
+    Ok(Name::NlmRange(caller, 7, Sequence::from_slice(alloc, &[1, last])?))
+}
+
+fn enters_name(alloc: Global, names: &mut Names, last: u8) -> bool {
+    match owner_named(alloc, last) {
+        Ok(name) => names.intern(&name).is_ok(),
+        Err(_) => false,
+    }
+}
+
+fn locks(alloc: Global, table: &mut Table, number: u32) -> bool {
+    enters(
+        alloc,
+        table,
+        Claim {
+            file: 1,
+            owner: Owner::Name(Protocol::Nlm, number),
+            party: Party::Name(Protocol::Nlm, 9),
+            what: What::Range(Extent::Bytes(0, 9), false),
+        },
+    )
+}
+
+fn is_least(found: Result<Option<Claim>, AllocError>, number: u32) -> bool {
+    matches!(found, Ok(Some(claim)) if same_owner(claim.owner, Owner::Name(Protocol::Nlm, number)))
+}
+
+/// Two shared locks of the same bytes, whose owners' texts differ in their last byte alone; the lesser text came later.
+#[test]
+fn the_least_text(rt: HostRuntime) {
+    let mut table = Table::new(rt.alloc());
+    let mut names = Names::new(rt.alloc());
+    assert!(rt; enters_name(rt.alloc(), &mut names, 6) && enters_name(rt.alloc(), &mut names, 5));
+    assert!(rt; locks(rt.alloc(), &mut table, 0) && locks(rt.alloc(), &mut table, 1));
+    let ask = claim_in("lease lock 9 9");
+    assert!(rt; is_least(table.least_blocker(rt.alloc(), &names, &ask), 1));
+    assert!(rt; is_least(table.least_range(rt.alloc(), &names, &ask), 1));
 }
 
 fn pairs() -> bool {
@@ -209,4 +421,6 @@ fn pairs_and_laws(rt: HostRuntime) {
     assert!(rt; pairs());
     stays_compatible();
     stays_sound();
+    united_shares_stay_compatible();
+    unlocks_grow_only_by_a_cut();
 }

@@ -17,9 +17,16 @@ fn files(alloc: Global, count: u64) -> Result<String, AllocError> {
     Ok(text)
 }
 
-/// One connection, and so many empty records in one line, each of which is an event without a reply.
-fn records(alloc: Global, count: u64) -> Result<String, AllocError> {
+/// A call of NLM's NULL, and what is sent as its reply at the first place behind the opening.
+const NULL: &str =
+    "80000028000000050000000000000002000186b5000000040000000000000000000000000000000000000000";
+
+const FULL: &str = "7 0 1048576\n1 c0 80000018000000050000000100000000000000000000000000000000\n";
+
+/// One connection, and this record before so many empty ones in one line, each of which is an event without a reply.
+fn records(alloc: Global, first: &str, count: u64) -> Result<String, AllocError> {
     let mut text = String::from_str(alloc, "O rpc\nB 0 ")?;
+    text.push_str(first)?;
     for _ in 0..count {
         text.push_str("80000000")?;
     }
@@ -40,20 +47,10 @@ fn most_files(rt: HostRuntime) -> Result<(), Fail> {
 
 #[test]
 fn most_entries(rt: HostRuntime) -> Result<(), Fail> {
-    assert!(rt;
-        is_told(
-            rt.alloc(),
-            &records(rt.alloc(), 1_048_575)?,
-            "0 0 1048576\n"
-        )?
-    );
-    assert!(rt;
-        is_told(
-            rt.alloc(),
-            &records(rt.alloc(), 1_048_576)?,
-            "7 0 1048576\n"
-        )?
-    );
+    let whole = records(rt.alloc(), "", 1_048_575)?;
+    assert!(rt; is_told(rt.alloc(), &whole, "0 0 1048576\n")?);
+    let past = records(rt.alloc(), NULL, 1_048_575)?;
+    assert!(rt; is_told(rt.alloc(), &past, FULL)?);
     Ok(())
 }
 

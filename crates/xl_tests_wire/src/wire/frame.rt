@@ -89,11 +89,11 @@ fn put_messages(told: &mut Vec<u8>, cutter: &mut Cutter) -> Result<(), Fail> {
 fn tell(alloc: Global, told: &mut Vec<u8>, cutter: &mut Cutter, piece: &[u8]) -> Result<(), Fail> {
     match cutter.feed(alloc, piece) {
         Ok(()) => put_messages(told, cutter),
-        Err(FeedError::Bad(fault)) => {
+        Err(FeedErr::Bad(fault)) => {
             put_messages(told, cutter)?;
             put_fault(told, fault)
         }
-        Err(FeedError::NoMemory) => Err("no memory")?,
+        Err(FeedErr::NoMemory) => Err("no memory")?,
     }
 }
 

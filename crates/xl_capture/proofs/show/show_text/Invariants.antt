@@ -5,8 +5,8 @@ use Rattle.xl_capture.proofs.show.show_text.Given as goal
 
 abbrev pub invariant-lines : goal.invariant-lines
 invariant-lines l = record {
-  few : l.number + length l.rest ≤ length l.text;
-  same : show_lines l.past l.out.items l.number (lines_of l.rest) ≡ show_lines l.past [] 0 (lines_of l.text);
+  few : l.number + length l.rest ≤ length l.head;
+  same : show_lines l.past l.out.items l.number (lines_of l.rest) ≡ show_lines l.past [] 0 (lines_of l.head);
 }
 
 abbrev pub decreases-lines : goal.decreases-lines

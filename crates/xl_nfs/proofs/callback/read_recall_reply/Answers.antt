@@ -1,10 +1,9 @@
 use Rattle.xl_base.proofs.CodecLaws.{found_on, only_on}
-use Rattle.xl_nfs.specs.Callbacks.{shown_recall_reply}
-use Rattle.xl_nfs.proofs.CallbackLaws.{recall_reply_codec}
+use Rattle.xl_nfs.specs.Callbacks.{shown_recall_reply, recall_reply}
 use Rattle.xl_nfs.proofs.callback.read_recall_reply.Goals as goal
 
 pub returns-clause-found : goal.returns-clause-found
-returns-clause-found c = found_on shown_recall_reply recall_reply_codec c.args.body.now.rest.now c.read_whole.new.xdr.rest.now c.read_whole.result c.args.body.now.bytes c.read_whole.ensures
+returns-clause-found c = found_on shown_recall_reply (recall_reply.codec) c.args.body.now.rest.now c.read_whole.new.xdr.rest.now c.read_whole.result c.args.body.now.bytes c.read_whole.ensures
 
 pub returns-clause-only : goal.returns-clause-only
-returns-clause-only c = only_on shown_recall_reply recall_reply_codec c.args.body.now.rest.now c.read_whole.new.xdr.rest.now c.read_whole.result c.read_whole.ensures
+returns-clause-only c = only_on shown_recall_reply (recall_reply.codec) c.args.body.now.rest.now c.read_whole.new.xdr.rest.now c.read_whole.result c.read_whole.ensures

@@ -1,6 +1,7 @@
-use Rattle.xl_nlm.proofs.ArgumentLaws.{arguments_codec}
-use Rattle.xl_nlm.proofs.ReplyLaws.{results_codec}
+use Rattle.xl_nlm.specs.Arguments.{arguments_of}
+use Rattle.xl_nlm.specs.Replies.{results_of}
 use Rattle.xl_nlm.proofs.law.spellings_are_read.Goals as goal
 
 pub returns : goal.returns
-returns c = record { of_calls = arguments_codec; of_replies = results_codec }
+unfolding arguments_of results_of
+returns c = record { of_calls = λ proc. (arguments_of proc).codec; of_replies = λ proc. (results_of proc).codec }

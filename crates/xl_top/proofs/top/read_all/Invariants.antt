@@ -8,7 +8,7 @@ invariant-reads g l = let left = g.I.Source.left in let faults = g.I.Source.faul
   took : Took (left l.fn.input) l.text.items (left l.input);
   most : length l.text.items ≤ most_bytes + 1;
   chunk : length l.buffer.items ≡ 65536;
-  later : faults l.fn.input ≤ faults l.input;
+  still : faults l.input ≡ faults l.fn.input;
 }
 
 abbrev pub decreases-reads : goal.decreases-reads

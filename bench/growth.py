@@ -1,0 +1,97 @@
+#!/usr/bin/env python3
+"""How the cost of a LOCK and its UNLOCK grows with what is held, and with who waits.
+
+    python3 bench/growth.py BINARY
+
+replays captures with a built xlockd and prints two tables. A pair is a LOCK of one byte that nothing stands against and
+its UNLOCK; its cost is the processor's time of a capture that prepares what is held and then makes many pairs, without
+that of one that prepares alone, over the number of pairs. The first column has microseconds, the others the ratio to it.
+
+- one owner: so many ranges of the owner that locks, in the same file, with free bytes between;
+- as many owners: each with one range, in the same file;
+- other files: as many ranges of as many owners, in the other files;
+- waiters: so many who wait for a range of another file, with 1 claim, and with 10,000 in other files.
+"""
+import argparse
+import os
+import tempfile
+
+from calls import LOCK, UNLOCK, record, replay, write_capture
+
+HELD = (1, 100, 1_000, 10_000)
+WAITERS = (0, 100, 1_000)
+FILES = 1_000
+STEP = 10
+# The processor's time that the pairs of one measure take at least, and how often it is taken.
+LEAST_SECONDS, TIMES = 0.5, 3
+
+
+def held_by_one(count):
+    """The preparing calls, the place of the pairs' byte, who makes them: file, svid, offset."""
+    return [(LOCK, 1, 1, STEP * at, 1, True, False) for at in range(count)], (1, 1, STEP * (count // 2) + STEP // 2)
+
+
+def held_by_many(count):
+    calls = [(LOCK, 1, 2 + at, STEP * at, 1, True, False) for at in range(count)]
+    return calls, (1, 1, STEP * (count // 2) + STEP // 2)
+
+
+def held_elsewhere(count):
+    calls = [(LOCK, 2 + at % (FILES - 1), 2 + at, STEP * at, 1, True, False) for at in range(count)]
+    return calls, (1, 1, STEP // 2)
+
+
+def waiting(held):
+    """Waiters for a range of another file, beside as many ranges in other files."""
+
+    def prepare(count):
+        calls, place = held_elsewhere(held)
+        calls += [(LOCK, 2, 0, 10**9, 1, True, False)]
+        return calls + [(LOCK, 2, 2 + 10**6 + at, 10**9, 1, True, True) for at in range(count)], place
+
+    return prepare
+
+
+def seconds(binary, calls):
+    """The least time of the replays of a capture."""
+    with tempfile.TemporaryDirectory() as folder:
+        path = os.path.join(folder, "capture")
+        write_capture(path, FILES, (record(xid % 2**32, *call) for xid, call in enumerate(calls, 1)))
+        return min(replay(binary, path)[0] for _ in range(TIMES))
+
+
+def microseconds(binary, prepare, count):
+    """What a pair costs."""
+    calls, (file, svid, offset) = prepare(count)
+    pair = [(LOCK, file, svid, offset, 1, True, False), (UNLOCK, file, svid, offset, 1)]
+    before, pairs = seconds(binary, calls), 64
+    while True:
+        spent = seconds(binary, calls + pair * pairs) - before
+        if spent >= max(LEAST_SECONDS, before / 20) or pairs >= 400_000:
+            return spent / pairs * 1e6
+        pairs *= 4
+
+
+def table(binary, title, columns, rows):
+    print(f"| {title} | {' | '.join(f'{column:,}' for column in columns)} |")
+    print("|---" * (1 + len(columns)) + "|")
+    for name, prepare in rows:
+        costs = [microseconds(binary, prepare, column) for column in columns]
+        ratios = [f"{cost / costs[0]:.1f}" for cost in costs[1:]]
+        print(f"| {name} | {costs[0]:.1f} us | {' | '.join(ratios)} |", flush=True)
+    print()
+
+
+def main():
+    form = argparse.RawDescriptionHelpFormatter
+    parser = argparse.ArgumentParser(description=__doc__, formatter_class=form)
+    parser.add_argument("binary", metavar="BINARY", help="a built xlockd, as crates/xlockd/out/xlockd")
+    binary = parser.parse_args().binary
+    held = [("one owner", held_by_one), ("as many owners", held_by_many), ("other files", held_elsewhere)]
+    table(binary, "a LOCK and UNLOCK with so many ranges held by", HELD, held)
+    waits = [("1 claim", waiting(1)), ("10,000 claims in other files", waiting(10_000))]
+    table(binary, "with so many who wait elsewhere, and", WAITERS, waits)
+
+
+if __name__ == "__main__":
+    main()

@@ -1,0 +1,5 @@
+pub mod TargetLaws
+pub mod LevelLaws
+pub mod PlanLaws
+pub mod BreakLaws
+pub mod WishLaws

@@ -1,0 +1,4 @@
+pub mod Targets
+pub mod Planning
+pub mod Wishing
+pub mod Levels

@@ -1,0 +1,18 @@
+//! Laws of breaks. The functions do nothing; what they ensure holds of every cache.
+ghost use Rattle.std.specs.Prelude.{◌≡◌, ℕ, Bool, true, false, ◌&&◌, Option, Some, None};
+ghost use Rattle.xl_matrix.specs.declared.claim.CacheKind.{CacheKind};
+ghost use Rattle.xl_cache.specs.declared.need.Need.{Need};
+ghost use Rattle.xl_cache.specs.Targets.{is_delegation, target_of, rest_lies_within, together};
+ghost use Rattle.xl_cache.specs.Levels.{state_of, kind_of_state};
+
+/// Several reasons leave what all leave: what may stay of a cache after a break for two reasons is what may stay after
+/// a break for each of them.
+pub fn leaves_what_all_leave()
+    ensures { (kind : CacheKind) (p q : Need) (left : Option CacheKind) → rest_lies_within left (target_of kind (together p q)) ≡ (rest_lies_within left (target_of kind p) && rest_lies_within left (target_of kind q)) }
+{}
+
+/// Lease states and kinds are the same thing, delegations aside.
+pub fn lease_kinds_have_states()
+    ensures read { (kind : CacheKind) → is_delegation kind ≡ false → kind_of_state (state_of (Some kind)) ≡ Some kind }
+    ensures shown { (state : ℕ) (kind : CacheKind) → kind_of_state state ≡ Some kind → state_of (Some kind) ≡ state }
+{}

@@ -1,0 +1,70 @@
+-- Facts on each element, and on some element, of a list that has more, fewer or changed elements.
+use Rattle.std.proofs.Common.{◌≡◌, Bool, true, false, not, ◌||◌, List, [], ◌∷◌, ◌++◌, Some, is_some, refl, sym, ap, ◌∙◌, inl, inr, true≢false}
+use Rattle.std.specs.List.{AllByRecursion, filter, find, list_any}
+use Rattle.std.proofs.lemmas.Bool.{cases_Bool, or_left, or_right}
+use Rattle.std.proofs.lemmas.Option.{same_Some}
+use Rattle.xl_nfs_state.specs.Filed.{changed}
+use Rattle.xl_nfs_state.specs.State.{without}
+
+module _ {A : Type 0} where
+  -- what is found by one test and passes another
+  pub any_found : (which test : A → Bool) (xs : List A) (x : A) → find which xs ≡ Some x → test x ≡ true → list_any test xs ≡ true
+  any_found which test [] x h passes = absurd (true≢false (sym (ap is_some h)))
+  any_found which test (y ∷ ys) x h passes =
+      elim (cases_Bool (which y)) [
+        | inl e ↦
+            let here : Some y ≡ Some x = rw e at h in
+            or_left (test y) (list_any test ys) (ap test (same_Some y x here) ∙ passes)
+        | inr e ↦ or_right (test y) (list_any test ys) (any_found which test ys x (rw e at h) passes)
+      ]
+
+  pub any_more : (test : A → Bool) (xs ys : List A) → list_any test xs ≡ true → list_any test (xs ++ ys) ≡ true
+  any_more test [] ys h = absurd (true≢false (sym h))
+  any_more test (x ∷ xs) ys h =
+      elim (cases_Bool (test x)) [
+        | inl here ↦ rw here refl
+        | inr later ↦ rw later (any_more test xs ys (rw later at h))
+      ]
+
+  -- where each element that passes is left
+  pub any_left : (test drops : A → Bool) (xs : List A) → ((x : A) → test x ≡ true → drops x ≡ false) → list_any test xs ≡ true → list_any test (without drops xs) ≡ true
+  any_left test drops [] keeps h = h
+  any_left test drops (x ∷ xs) keeps h =
+      elim (cases_Bool (test x)) [
+        | inl here ↦ let stays = keeps x here in rw stays (rw here refl)
+        | inr later ↦
+            let rest = any_left test drops xs keeps (rw later at h) in
+            elim (cases_Bool (drops x)) [
+              | inl gone ↦ rw gone rest
+              | inr stays ↦ rw stays (rw later rest)
+            ]
+      ]
+
+  -- where a change leaves the test
+  pub any_changed : (test which : A → Bool) (to : A → A) (xs : List A) → ((x : A) → test (to x) ≡ test x) → list_any test (changed which to xs) ≡ list_any test xs
+  any_changed test which to [] same = refl
+  any_changed test which to (x ∷ xs) same =
+      elim (cases_Bool (which x)) [
+        | inl h ↦ rw h (ap (λ b. b || list_any test xs) (same x))
+        | inr h ↦ rw h (ap (λ b. test x || b) (any_changed test which to xs same))
+      ]
+
+  pub all_left : (P Q : A → Type 0) (drops : A → Bool) (xs : List A) → ((x : A) → drops x ≡ false → P x → Q x) → AllByRecursion P xs → AllByRecursion Q (without drops xs)
+  all_left P Q drops [] step all = tt
+  all_left P Q drops (x ∷ xs) step all =
+      elim (cases_Bool (drops x)) [
+        | inl gone ↦ rw gone (all_left P Q drops xs step all.1)
+        | inr stays ↦ rw stays (step x stays all.0, all_left P Q drops xs step all.1)
+      ]
+
+  pub all_changed : (P Q : A → Type 0) (which : A → Bool) (to : A → A) (xs : List A) → ((x : A) → P x → Q x) → ((x : A) → P x → Q (to x)) → AllByRecursion P xs → AllByRecursion Q (changed which to xs)
+  all_changed P Q which to [] step turn all = tt
+  all_changed P Q which to (x ∷ xs) step turn all =
+      elim (cases_Bool (which x)) [
+        | inl h ↦ rw h (turn x all.0, all_steps xs step all.1)
+        | inr h ↦ rw h (step x all.0, all_changed P Q which to xs step turn all.1)
+      ]
+    where
+      all_steps : (ys : List A) → ((x : A) → P x → Q x) → AllByRecursion P ys → AllByRecursion Q ys
+      all_steps [] step all = tt
+      all_steps (y ∷ ys) step all = (step y all.0, all_steps ys step all.1)

@@ -1,0 +1,6 @@
+pub mod Alike
+pub mod Filed
+pub mod Keys
+pub mod Rows
+pub mod State
+pub mod Verdict

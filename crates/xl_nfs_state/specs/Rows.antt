@@ -1,0 +1,28 @@
+-- Rows with a part changed.
+use Rattle.std.specs.Prelude.{ℕ, List}
+use Rattle.xl_base.specs.declared.event.Moment.{Moment}
+use Rattle.xl_nfs_state.specs.declared.client.ClientRow.{ClientRow}
+use Rattle.xl_nfs_state.specs.declared.client.ClientDetails.{ClientDetails}
+use Rattle.xl_nfs_state.specs.declared.kept.KeptRow.{KeptRow}
+use Rattle.xl_nfs_state.specs.declared.owner.OwnerRow.{OwnerRow}
+use Rattle.xl_nfs_state.specs.declared.owner.Turn.{Turn}
+use Rattle.xl_nfs_state.specs.declared.stateid.StateidRow.{StateidRow}
+use Rattle.xl_nfs_state.specs.declared.stateid.Standing.{Standing}
+
+abbrev pub with_details : ClientDetails → ClientRow → ClientRow
+with_details details r = record { number = r.number; confirmed = r.confirmed; id = r.id; details = details }
+
+abbrev pub with_time : Moment → ClientRow → ClientRow
+with_time time r = with_details (record { verifier = r.details.verifier; confirm = r.details.confirm; callback = r.details.callback; time = time }) r
+
+abbrev pub with_turn : Turn → OwnerRow → OwnerRow
+with_turn turn r = record { number = r.number; name = r.name; turn = turn }
+
+abbrev pub with_standing : Standing → StateidRow → StateidRow
+with_standing standing r = record { number = r.number; client = r.client; file = r.file; holder = r.holder; standing = standing }
+
+abbrev pub kept_row : ℕ × List ℕ → KeptRow
+kept_row e = record { owner = e.0; result = e.1 }
+
+abbrev pub with_result : List ℕ → KeptRow → KeptRow
+with_result result k = record { owner = k.owner; result = result }

@@ -1,0 +1,57 @@
+//! Seqids of owners (RFC 7530 9.1.7 to 9.1.9).
+ghost use Rattle.std.specs.Prelude.{◌≡◌, ◌≢◌, ◌<◌, ◌^◌, ℕ, Some};
+ghost use Rattle.xl_nfs_state.specs.declared.owner.Turn.{Turn as OwnerTurn};
+ghost use Rattle.xl_nfs_state.specs.declared.seqid.SeqidVerdict.TheVariants.{Next, Repeat};
+ghost use Rattle.xl_nfs_state.specs.Verdict.{verdict, accepted};
+
+use crate::owner::Turn;
+
+/// What an owner's seqid says of a request.
+#[derive(Clone, Copy, Debug, PartialEq, Eq)]
+pub enum SeqidVerdict {
+    /// The owner is new, and may begin anywhere.
+    New,
+    /// The request is the owner's next.
+    Next,
+    /// The request is the owner's last one once more, by its seqid and its operation: the kept result answers it.
+    Repeat,
+    /// The seqid is neither; the owner's last one is this.
+    Bad(u32),
+}
+
+impl Turn {
+    /// The turn once a request of this operation and seqid counted: its seqid and operation are the last from then on.
+    pub fn accepted(self, op: u32, seqid: u32) -> Turn
+        ensures { result ≡ accepted op seqid self }
+    {
+        Turn {
+            seqid,
+            op,
+            confirmed: self.confirmed,
+            closed: self.closed,
+        }
+    }
+}
+
+/// What the seqid says of a request by an owner whose requests have come this far; None where the owner is new. The
+/// seqid after 2^32 - 1 is 0.
+pub fn verdict(turn: Option<Turn>, op: u32, seqid: u32) -> SeqidVerdict
+    ensures { result ≡ verdict turn op seqid }
+{
+    let Some(turn) = turn else {
+        return SeqidVerdict::New;
+    };
+    if seqid == turn.seqid.wrapping_add(1) {
+        SeqidVerdict::Next
+    } else if seqid == turn.seqid && op == turn.op {
+        SeqidVerdict::Repeat
+    } else {
+        SeqidVerdict::Bad(turn.seqid)
+    }
+}
+
+/// A seqid that counted isn't next again; it is a repeat for its own operation.
+pub fn accepted_seqids_are_not_next()
+    ensures next { (turn : OwnerTurn) (op other seqid : ℕ) → seqid < 2 ^ 32 → verdict (Some (accepted op seqid turn)) other seqid ≢ Next }
+    ensures repeat { (turn : OwnerTurn) (op seqid : ℕ) → seqid < 2 ^ 32 → verdict (Some (accepted op seqid turn)) op seqid ≡ Repeat }
+{}

@@ -1,0 +1,5 @@
+pub mod FiledLaws
+pub mod RowLaws
+pub mod LinkLaws
+pub mod LeaseLaws
+pub mod WalkLaws

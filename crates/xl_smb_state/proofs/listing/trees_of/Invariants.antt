@@ -1,0 +1,8 @@
+use Rattle.std.proofs.Common.{◌≡◌, ◌++◌}
+use Rattle.std.specs.Prelude.{◌==◌}
+use Rattle.xl_smb_state.specs.declared.row.Tree.{Tree}
+use Rattle.xl_smb_state.specs.State.{keys_where}
+use Rattle.xl_smb_state.proofs.listing.trees_of.Given as goal
+
+abbrev pub invariant-rows : goal.invariant-rows
+invariant-rows l = l.numbers.items ++ keys_where (λ (r : Tree). r.session == l.session) l.number-iterator ≡ keys_where (λ (r : Tree). r.session == l.session) l.trees.entries

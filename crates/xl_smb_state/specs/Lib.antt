@@ -1,0 +1,3 @@
+pub mod Filed
+pub mod Links
+pub mod State

@@ -1,0 +1,201 @@
+//! Leases.
+ghost use Rattle.std.specs.Prelude.{◌≡◌, nat_eq, true, false, None, Some, IsSome, OnOk, OnErr, is_ok, IfSome, IfNone, option_copied, if◌then◌else◌};
+ghost use Rattle.std.specs.List.{AllByRecursion, IsDistinct, filter_map};
+ghost use Rattle.std.specs.Map.{keys_of, lookup, set_value};
+ghost use Rattle.xl_smb_state.specs.State.{same_lease, is_empty, without, left_row, grown_row, kept_lease, open_of, lease_of, lease_added, lease_changed, lease_dropped, joined, lease_joined, lease_left, closed, lowest_open, is_listed, key_file};
+ghost use Rattle.xl_smb_state.specs.Links.{IsLeaseLinked, ListsOnly, is_under, only_opens};
+
+use crate::listing::{is_key, key_of, lowest_held, waiting_file};
+use crate::opens::Opens;
+use crate::row::{Lease, LeaseKey};
+use crate::rows::{add, change, remove};
+use crate::state::SmbState;
+use indexmap::IndexMap;
+use std::alloc::{AllocError, Global};
+use std::mem;
+use xl_base::Sequence;
+
+/// Takes an open out of a lease's; whether none is left.
+fn take_open(alloc: Global, lease: &mut Lease, number: u32) -> bool
+    ensures row { lease.new ≡ record { file = lease.old.file; opens = without number lease.old.opens } }
+    ensures value { result ≡ is_empty (without number lease.old.opens) }
+{
+    let opens = mem::replace(&mut lease.opens, Sequence::new(alloc));
+    lease.opens = Sequence::from_vec(others(opens.into_vec(), number));
+    lease.opens.is_empty()
+}
+
+/// The numbers but for this one.
+fn others(mut numbers: Vec<u32>, number: u32) -> Vec<u32>
+    ensures { result.items ≡ without number numbers.items }
+{
+    numbers.retain(|n| *n != number);
+    numbers
+}
+
+/// Takes an open out of the lease of this key, if there is one; whether none is left in it.
+fn shrink(
+    alloc: Global,
+    leases: &mut IndexMap<LeaseKey, Lease>,
+    key: &LeaseKey,
+    number: u32,
+) -> bool
+    ensures found { IfSome (lookup (same_lease key.now) leases.old.entries) (λ row. (leases.new.entries ≡ set_value (same_lease key.now) leases.old.entries (left_row number row)) × (result ≡ is_empty (without number row.opens))) }
+    ensures none { IfNone (lookup (same_lease key.now) leases.old.entries) ((leases.new.entries ≡ leases.old.entries) × (result ≡ false)) }
+    ensures distinct { IsDistinct same_lease (keys_of leases.old.entries) }
+{
+    match leases.get_mut(key) {
+        Some(lease) => take_open(alloc, lease, number),
+        None => false,
+    }
+}
+
+/// Takes an open out of the lease of this key, which goes where none is left.
+fn leave(alloc: Global, leases: &mut IndexMap<LeaseKey, Lease>, key: &LeaseKey, number: u32)
+    requires { AllByRecursion (ListsOnly key.now number) leases.old.entries }
+    ensures { leases.new.entries ≡ filter_map (kept_lease number) leases.old.entries }
+{
+    if shrink(alloc, leases, key, number) {
+        let _ = leases.shift_remove(key);
+    }
+}
+
+/// Takes an open out of the lease that lists it, which goes where none is left.
+fn leave_any(alloc: Global, opens: &Opens, leases: &mut IndexMap<LeaseKey, Lease>, number: u32)
+    requires { AllByRecursion (λ e. IsLeaseLinked (only_opens opens.now) e.0 e.1) leases.old.entries }
+    ensures { leases.new.entries ≡ filter_map (kept_lease number) leases.old.entries }
+{
+    if let Some(key) = key_of(opens.find(number)) {
+        leave(alloc, leases, &key, number);
+    }
+}
+
+/// Puts an open behind a lease's others.
+fn put_open(lease: &mut Lease, number: u32) -> Result<(), AllocError>
+    ensures { lease.new ≡ (if is_ok result then grown_row number lease.old else lease.old) }
+{
+    lease.opens.push(number)?;
+    Ok(())
+}
+
+/// Puts an open behind the others of the lease of this key, if there is one.
+fn grow(
+    leases: &mut IndexMap<LeaseKey, Lease>,
+    key: &LeaseKey,
+    number: u32,
+) -> Result<(), AllocError>
+    ensures found { IfSome (lookup (same_lease key.now) leases.old.entries) (λ row. leases.new.entries ≡ set_value (same_lease key.now) leases.old.entries (if is_ok result then grown_row number row else row)) }
+    ensures none { IfNone (lookup (same_lease key.now) leases.old.entries) (leases.new.entries ≡ leases.old.entries) }
+{
+    match leases.get_mut(key) {
+        Some(lease) => put_open(lease, number),
+        None => Ok(()),
+    }
+}
+
+/// The same, by what the leases are afterwards.
+fn join(
+    leases: &mut IndexMap<LeaseKey, Lease>,
+    key: &LeaseKey,
+    number: u32,
+) -> Result<(), AllocError>
+    ensures ok { OnOk result (leases.new.entries ≡ joined number (lookup (same_lease key.now) leases.old.entries) key.now leases.old.entries) }
+    ensures err { OnErr result (leases.new.entries ≡ leases.old.entries) }
+{
+    grow(leases, key, number)
+}
+
+impl SmbState {
+    /// The lease of this key; None exactly where there is none. A key that only a waiting CREATE has is of no lease.
+    pub fn find_lease(&self, key: &LeaseKey) -> Option<&Lease>
+        ensures { option_copied result ≡ lease_of key.now self.now }
+    {
+        self.leases.get(key)
+    }
+
+    /// Whether the open of this number is there, under the lease key and on the file.
+    pub fn is_under(&self, key: &LeaseKey, file: u32, number: u32) -> bool
+        ensures { result ≡ is_under key.now file (open_of number self.now) }
+    {
+        match self.opens.find(number) {
+            Some(row) => row.file == file && is_key(key, &row.client, &row.lease),
+            None => false,
+        }
+    }
+
+    /// Adds a lease behind the others; it has at least one open, and each of its opens is there, under this key and on its
+    /// file. Want of memory changes nothing.
+    pub fn add_lease(&mut self, key: LeaseKey, row: Lease) -> Result<(), AllocError>
+        requires new { lease_of key self.old ≡ None }
+        requires link { IsLeaseLinked self.old key row }
+        ensures ok { OnOk result (self.new ≡ lease_added key row self.old) }
+        ensures err { OnErr result (self.new ≡ self.old) }
+    {
+        add(&mut self.leases, key, row)
+    }
+
+    /// Puts another row in place of a lease's.
+    pub fn change_lease(&mut self, key: &LeaseKey, row: Lease)
+        requires there { IsSome (lease_of key.now self.old) }
+        requires link { IsLeaseLinked self.old key.now row }
+        ensures { self.new ≡ lease_changed key.now row self.old }
+    {
+        change(&mut self.leases, key, row);
+    }
+
+    /// Puts an open that is there, under the key and on the lease's file, behind the others of the lease of this key. Where
+    /// there is no such lease nothing changes. Want of memory changes nothing.
+    pub fn join_lease(&mut self, key: &LeaseKey, number: u32) -> Result<(), AllocError>
+        requires { IfSome (lease_of key.now self.old) (λ row. is_under key.now row.file (open_of number self.old) ≡ true) }
+        ensures ok { OnOk result (self.new ≡ lease_joined key.now number self.old) }
+        ensures err { OnErr result (self.new ≡ self.old) }
+    {
+        join(&mut self.leases, key, number)
+    }
+
+    /// Takes an open out of the lease that has it among its own, if one has; the lease goes with its last open. It takes
+    /// no memory.
+    pub fn leave_lease(&mut self, alloc: Global, number: u32)
+        ensures left { self.new ≡ lease_left number self.old }
+        ensures unlisted { is_listed number self.new ≡ false }
+    {
+        leave_any(alloc, &self.opens, &mut self.leases, number);
+    }
+
+    /// Closes an open: takes it out of its lease, which goes with its last open, and then out of the opens.
+    pub fn close(&mut self, alloc: Global, number: u32)
+        requires { IsSome (open_of number self.old) }
+        ensures { self.new ≡ closed number self.old }
+    {
+        self.leave_lease(alloc, number);
+        self.drop_open(number);
+    }
+
+    /// Takes out a lease; its opens stay.
+    pub fn drop_lease(&mut self, key: &LeaseKey)
+        requires { IsSome (lease_of key.now self.old) }
+        ensures { self.new ≡ lease_dropped key.now self.old }
+    {
+        remove(&mut self.leases, key);
+    }
+
+    /// The lowest number of the lease's opens that somebody holds, to whose connection breaks of the lease are told
+    /// (MS-SMB2 3.3.4.7); None where there is none.
+    pub fn lowest_open(&self, key: &LeaseKey) -> Option<u32>
+        ensures { result ≡ lowest_open key.now self.now }
+    {
+        let lease = self.leases.get(key)?;
+        lowest_held(&self.opens, lease.opens.as_slice())
+    }
+
+    /// The file on which a lease key is in use: that of its lease, or else that of the first open which waits to be made
+    /// under it. None exactly where no lease and no waiting CREATE has the key.
+    pub fn key_file(&self, key: &LeaseKey) -> Option<u32>
+        ensures { result ≡ key_file key.now self.now }
+    {
+        match self.leases.get(key) {
+            Some(lease) => Some(lease.file),
+            None => waiting_file(&self.waiting, key),
+        }
+    }
+}

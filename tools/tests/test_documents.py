@@ -1,0 +1,125 @@
+"""The checks of documents and examples, on a repository of one crate."""
+import subprocess
+import sys
+import tempfile
+import unittest
+from pathlib import Path
+
+from check_documents import faults
+from check_examples import faults as example_faults
+
+SOURCE = '''
+//! A crate. fn not_one() ensures no { }
+/// Adds. "ensures { }"
+pub fn run<T: Into<u64>>(values: &[u8; 4], mark: char) -> Result<Vec<u8>, Error>
+    requires { mark ≡ '{' }
+    ensures free { All values (λ v. { v }) } // {
+    ensures lawful { result ≡ "}" }
+{
+    'outer: loop { if mark == '}' { break 'outer; } }
+}
+fn hidden() ensures { tt } { }
+pub trait Keeper {
+    fn load(&mut self) -> u8
+        ensures held { tt }
+        ensures later { tt };
+    fn faults(&self) -> u64;
+}
+impl<'a, T: Drop> Keeper for Kept<'a, T> where T: Copy {
+    fn load(&mut self) -> u8 { 0 }
+}
+impl Kept<'static, u8> {
+    pub fn new() -> [u8; 2] ensures { result ≡ [] } { [0; 2] }
+    pub(crate) fn inner() ensures a { tt } { }
+}
+mod plain { pub fn same() ensures { tt } { } }
+'''
+README = "# A\n\n## What is proved\n\nEach table is free (`free`), and lawful (`lawful`) by [this](docs/PROVED.md).\n\n## Rest\n\n(`nothing`)\n"
+PROVED = """# Proved
+
+## The top: `xl_top`
+
+| what is proved | function | clause |
+|---|---|---|
+| all | `run` | `free`, `lawful` |
+| a keeper | `Kept::load`, `Keeper::load` | `held`, `later` |
+| others | `Kept::new`, `plain::same` | — |
+"""
+DEFINITIONS = """# Definitions
+
+| name | file | standard | what it says |
+|---|---|---|---|
+| `compat`, `IsGood` | `xl_top/Top` | RFC 7530 9 | both |
+"""
+SPECS = "-- two claims fit\nabbrev pub compat : Claim → Claim → Bool\ncompat a b = true\npub record IsGood (s : State) : Type 0 where\n  pub other : tt\n"
+
+# What is changed in which file, and the line that is found.
+WRONG = [
+    ("docs/PROVED.md", "`free`, `lawful`", "`free`, `awful`", "docs/PROVED.md: line 7: run of xl_top ensures no clause awful"),
+    ("docs/PROVED.md", "`run`", "`walk`", "docs/PROVED.md: line 7: xl_top has no public function walk"),
+    ("docs/PROVED.md", "`Kept::new`", "`hidden`", "docs/PROVED.md: line 9: xl_top has no public function hidden"),
+    ("docs/PROVED.md", "`Kept::new`", "`Kept::inner`", "docs/PROVED.md: line 9: xl_top has no public function Kept::inner"),
+    ("docs/PROVED.md", "`Kept::new`", "`new`", "docs/PROVED.md: line 9: xl_top has no public function new"),
+    ("docs/PROVED.md", "`plain::same` | —", "`run` | —", "docs/PROVED.md: line 9: run of xl_top ensures no clause without a name"),
+    ("docs/PROVED.md", "`held`, `later`", "its clauses", "docs/PROVED.md: line 8 is no row: what is proved, functions, clauses, under the heading of a crate"),
+    ("docs/PROVED.md", "|", "", "docs/PROVED.md: each table begins with | what is proved | function | clause |, and has rows"),
+    ("docs/PROVED.md", "what is proved |", "what |", "docs/PROVED.md: each table begins with | what is proved | function | clause |, and has rows"),
+    ("README.md", "(`lawful`)", "(`awful`)", "README.md: run ensures no clause awful"),
+    ("README.md", "\n\n## Rest", "\n" * 120 + "## Rest", "README.md: 127 lines are more than 120"),
+    ("README.md", "docs/PROVED.md", "docs/PROOF.md", "README.md: docs/PROOF.md is linked, and isn't there"),
+    ("docs/DEFINITIONS.md", "`compat`", "`compatible`", "docs/DEFINITIONS.md: line 5: crates/xl_top/specs/Top.antt doesn't define compatible"),
+    ("docs/DEFINITIONS.md", "xl_top/Top", "xl_top/Tip", "docs/DEFINITIONS.md: line 5: crates/xl_top/specs/Tip.antt doesn't define compat"),
+]  # fmt: skip
+
+
+class Documents(unittest.TestCase):
+    def found(self, changed=None, old="", new=""):
+        """What is found where one text stands for another in one file."""
+        with tempfile.TemporaryDirectory() as root:
+            for name, text in [
+                ("crates/xl_top/src/lib.rt", SOURCE), ("crates/xl_top/specs/Top.antt", SPECS), ("README.md", README),
+                ("docs/PROVED.md", PROVED), ("docs/DEFINITIONS.md", DEFINITIONS),
+            ]:  # fmt: skip
+                path = Path(root) / name
+                path.parent.mkdir(parents=True, exist_ok=True)
+                path.write_text(text.replace(old, new) if name == changed else text)
+            return list(faults(root))
+
+    def test_all_holds(self):
+        self.assertEqual(self.found(), [])
+
+    def test_wrong(self):
+        for changed, old, new, wanted in WRONG:
+            self.assertIn(wanted, self.found(changed, old, new))
+
+
+class Examples(unittest.TestCase):
+    def test_differences(self):
+        with tempfile.TemporaryDirectory() as root:
+            folder = Path(root)
+            self.assertEqual(len(list(example_faults(folder))), 1)
+            (folder / "null.words").write_text("null\n")
+            (folder / "null.transcript").write_text("")
+            self.assertEqual(len(list(example_faults(folder, writes=True))), 0)
+            self.assertEqual(list(example_faults(folder)), [])
+            (folder / "null.said").write_text("0   c0   open\n1   c0   lock\n")
+            self.assertEqual(list(example_faults(folder)), ["examples/null.said isn't what it has to be, at line 2: 1   c0   null, and it is 1   c0   lock"])
+            program = folder / "program"
+            program.write_text("#!/bin/sh\ncat >/dev/null\necho 1 c0 00\n")
+            program.chmod(0o755)
+            self.assertIn("examples/null.transcript isn't", next(example_faults(folder, str(program))))
+
+
+class Commands(unittest.TestCase):
+    def test_help(self):
+        # Each command has its help, and says so where its words are wrong.
+        folder = Path(__file__).resolve().parent.parent
+        for command in sorted(folder.glob("*.py")):
+            ran = subprocess.run([sys.executable, "-B", command, "--help"], capture_output=True, text=True)
+            self.assertEqual((ran.returncode, ran.stderr), (0, ""), command)
+            self.assertIn("python3 tools/" + command.name, ran.stdout)
+            self.assertEqual(subprocess.run([sys.executable, "-B", command, "--fly"], capture_output=True).returncode, 2)
+
+
+if __name__ == "__main__":
+    unittest.main()

@@ -1,0 +1,126 @@
+"""Captures of words, and the words again."""
+import unittest
+
+from capture_from_words import capture_of
+from transcript_in_words import in_words
+from xlock.captures import Capture
+from xlock.rpc import RecordCutter
+from xlock.words import WordError
+
+# A LOCK and an UNLOCK of the bytes 0 to 9 of file 1, laid out by XNFS C702 chapter 14 and RFC 5531.
+LOCK = (
+    "80000068 00000001 00000000 00000002 000186b5 00000004 00000002 00000000 00000000 00000000 00000000"
+    "00000000 00000000 00000001 00000001 61000000 00000008 584c4b31 00000001 00000000 00000007"
+    "00000000 00000000 00000000 0000000a 00000000 00000000"
+).replace(" ", "")
+UNLOCK = (
+    "80000058 00000002 00000000 00000002 000186b5 00000004 00000004 00000000 00000000 00000000 00000000"
+    "00000000 00000001 61000000 00000008 584c4b31 00000001 00000000 00000007 00000000 00000000 00000000 0000000a"
+).replace(" ", "")
+
+# What a text of words comes to, comments aside.
+CAPTURES = [
+    ("lock a 7 a.txt 0 10 x\nunlock a 7 a.txt 0 10\n", ["F a.txt", "O rpc", f"B 0 {LOCK}", f"B 0 {UNLOCK}"]),
+    ("lock a 7 a.txt 0 10 x pieces=60", ["F a.txt", "O rpc", f"B 0 {LOCK[:120]}", f"B 0 {LOCK[120:]}"]),
+    ("lock a 7 a.txt 0 10 x fragments=100", ["F a.txt", "O rpc", f"B 0 00000064{LOCK[8:208]}80000004{LOCK[208:]}"]),
+    ("file b.txt\nlock a 7 a.txt 0 10 x  # the second", ["F b.txt", "F a.txt", "O rpc", "B 0 " + LOCK.replace("584c4b3100000001", "584c4b3100000002")]),
+    ("address b 1.2\nopen\nopen two\nuse two\nend\nopen", ["H 62 1.2", "O rpc", "O rpc", "E 1", "O rpc"]),
+    ("open a\nbytes 80000001\nend a", ["O rpc", "B 0 80000001", "E 0"]),
+    ("answer 2 denied\nanswer 3 0x00\nno_answer 4", ["C 2 00000002000000010000000000000000000000000000000000000008000000000000000200000001", "C 3 00", "C 4"]),
+    ("open\nO rpc\nB 1 00\n", ["O rpc", "O rpc", "B 1 00"]),
+    ("call 100003 4 0", ["O rpc", "B 0 80000028" + "00000001 00000000 00000002 000186a3 00000004 00000000".replace(" ", "") + "0" * 32]),
+]
+
+REFUSED = [
+    "fly", "lock a 7 a.txt 0 10", "lock a 7 a.txt 0 10 y", "lock a 7 A.txt 0 10 x", "lock a 7 a.txt 0 -1 x", "use b",
+    "share a a.txt d -", "answer 1 perhaps", "T 1000", "open smb", "unlock a 7 a.txt 0 10 block", "Q", "B 0 0",
+]  # fmt: skip
+
+# Each call is said again as it was written.
+CALLS = """\
+null
+test a -7 a.txt 0 end s
+lock 0x00ff 2147483647 0xabcd 18446744073709551615 1 x block reclaim oh=me state=-1 cookie=0x0102
+nm_lock a 1 / 5 5 s
+cancel a 1 a.txt 5 5 x block oh=-o
+unlock - 1 b.txt 5 5
+granted a 1 a.txt 0 1 x
+share a b.txt rw -
+share a b.txt r rw reclaim oh=0x00
+unshare a b.txt - w reclaim
+free_all a state=3
+call 100000 2 3 0x01020304
+"""
+
+
+def lines_of(text):
+    return [line for line in text.splitlines() if not line.startswith("#")]
+
+
+class Words(unittest.TestCase):
+    def test_captures(self):
+        for words, wanted in CAPTURES:
+            self.assertEqual(lines_of(capture_of(words)), wanted, words)
+
+    def test_refused(self):
+        for words in REFUSED:
+            with self.assertRaises(WordError, msg=words):
+                capture_of("null\n" + words)
+
+    def test_later(self):
+        self.assertEqual(lines_of(capture_of("open smb\nT 1000", later=True)), ["O smb", "T 1000"])
+
+    def test_said_again(self):
+        said = in_words(capture_of(CALLS), "")
+        self.assertEqual([line[9:] for line in said[1:]], CALLS.splitlines())
+
+    def test_places(self):
+        # The fragments of a record are one event, two records in one line are two, and a bad mark ends the connection.
+        text = f"O rpc\nB 0 {LOCK[:40]}\nB 0 {LOCK[40:]}{UNLOCK}\nB 0 00000000\nB 0 {LOCK}\nO rpc\nE 0\nE 4\nC 1\n"
+        said = [event.what for event in Capture.read(text).events]
+        self.assertEqual(said, ["open", "message", "message", "end", "open", "end", "called"])
+
+    def test_bad_marks(self):
+        for stream, is_bad in [
+            ("80010000", False), ("80010001", True), ("00000000", True), ("80000000", False), ("0000", False),
+            ("00000001aa" * 63 + "80000000", False), ("00000001aa" * 64 + "80000000", True),
+        ]:  # fmt: skip
+            cutter = RecordCutter()
+            cutter.feed(bytes.fromhex(stream))
+            self.assertEqual(cutter.is_bad, is_bad, stream[:20])
+
+
+class Transcripts(unittest.TestCase):
+    def test_in_words(self):
+        capture = capture_of("lock a 7 a.txt 0 10 x\ntest b 1 a.txt 0 end s\nend\nanswer 2 denied\nno_answer 3\n")
+        transcript = """\
+1 c0 800000200000000100000001000000000000000000000000000000000000000000000000
+2 c0 8000003c00000002000000010000000000000000000000000000000000000000000000010000000100000007000000000000000000000000000000000000000a
+2 b2 7a 000000020000000000000002000186b500000004000000050000000000000000000000000000000000000008000000000000000200000001000000016200000000000008584c4b310000000100000000000000070000000000000000000000000000000a
+1 share nlm:61/- rw -
+1 range nlm:61/7/6f68 0 9 x
+1 range nfs:63/6f 0 18446744073709551615 s
+1 range smb:12 5 - x
+2 cache smb:3 RWH > none 35000
+"""
+        self.assertEqual(
+            in_words(capture, transcript),
+            [
+                "0   c0   open",
+                "1   c0   lock a 7 a.txt 0 10 x                   GRANTED",
+                "2   c0   test b 1 a.txt 0 end s                  DENIED held: bytes 0 to 9, exclusive, svid 7, oh -",
+                "2        call 2 to z: granted b 7 a.txt 0 10 x",
+                "3   c0   end",
+                "4        answer 2 denied",
+                "5        no_answer 3",
+                "held: a.txt, a share of access rw that denies -, by nlm a -",
+                "held: a.txt, bytes 0 to 9, exclusive, by nlm a 7 oh",
+                "held: a.txt, bytes 0 to the end, shared, by nfs c o",
+                "held: a.txt, no byte at 5, exclusive, by smb 12",
+                "held: file 2, a cache RWH > none 35000, by smb 3",
+            ],
+        )
+
+
+if __name__ == "__main__":
+    unittest.main()

@@ -1,0 +1,20 @@
+"""The protocols that the tools know. One that joins has a module with the functions that xlock/nlm.py lists."""
+from xlock import nlm
+
+# Over ONC RPC, by program and version.
+RPC = {(nlm.PROGRAM, nlm.VERSION): nlm}
+
+# The kinds of connection in a capture's `O` line, and those that the program doesn't read yet.
+KINDS = ("rpc", "smb")
+# The lines of a capture that are settled and that the program doesn't read yet.
+LATER = ("O smb", "T", "R", "L", "K", "N", "!n")
+
+
+def of_call(call):
+    """The module of a call's protocol, or None."""
+    return RPC.get((call.program, call.version))
+
+
+def word_modules():
+    """The module that knows each word."""
+    return {name: module for module in RPC.values() for name in module.USAGES}
