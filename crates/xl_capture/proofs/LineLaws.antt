@@ -4,9 +4,10 @@ use Rattle.std.proofs.Math.Seq.{take-length, drop-length}
 use Rattle.std.specs.Prelude.{position}
 use Rattle.std.specs.List.{slice_split, onto_first, position_or_len, before_first, after_first, All}
 use Rattle.std.proofs.lemmas.Bool.{cases_Bool, ltb-true, ltb-false, ne_eqb}
+use Rattle.std.proofs.lemmas.List.{take_all}
 use Rattle.std.proofs.lemmas.List.Splits.{slice_split_first, slice_split_none}
 use Rattle.std.proofs.lemmas.List.Sums.{fails_before_first}
-use Rattle.xl_capture.specs.Capture.{is_line_end, last_line, whole_lines, lines_of, is_last, with_words}
+use Rattle.xl_capture.specs.Capture.{most_bytes, looked_at, is_line_end, last_line, whole_lines, lines_of, is_last, with_words}
 use Rattle.xl_capture.specs.declared.capture.Reading.{Reading}
 
 -- there is always a first part
@@ -80,3 +81,7 @@ few_words r (a ∷ []) = refl
 few_words r (a ∷ b ∷ []) = refl
 few_words r (a ∷ b ∷ d ∷ []) = refl
 few_words r (a ∷ b ∷ d ∷ e ∷ more) = refl
+
+-- a text that doesn't go past its most bytes is looked at whole
+pub looked_whole : (text : List ℕ) → length text ≤ most_bytes → text ≡ looked_at text
+looked_whole text few = sym (take_all (most_bytes + 1) text (omega (arith, few)))

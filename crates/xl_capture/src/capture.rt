@@ -76,7 +76,7 @@ impl<T: Drop> From<AllocFailed<T>> for LineError {
     }
 }
 
-ghost use Rattle.xl_capture.specs.Capture.{is_line_end, lines_of, words_of, is_name_byte, is_file_name, is_graphic, is_address, bytes_of, is_named, takes_file, with_file, takes_address, with_address, with_host, with_open, with_piece, with_bytes, with_ended, with_end, with_called, with_reply, with_no_reply, with_words, is_passed_over, with_line, with_lines, looked_at, captured, bad_line, Follows, ReadsAs};
+ghost use Rattle.xl_capture.specs.Capture.{is_line_end, lines_of, words_of, is_name_byte, is_file_name, is_graphic, is_address, bytes_of, is_named, takes_file, with_file, takes_address, with_address, with_host, with_open, with_piece, with_bytes, with_ended, with_end, with_called, with_reply, with_no_reply, with_words, is_passed_over, with_line, with_lines, no_reading, capture_in, looked_at, captured, bad_line, Follows, ReadsAs};
 ghost use Rattle.xl_capture.specs.Numbers.{number_of};
 
 #[tactic(auto, using(crate::proofs::LineLaws::first_line, crate::proofs::LineLaws::only_line))]
@@ -376,18 +376,22 @@ fn add_line(alloc: Global, reading: &mut Reading, line: &[u8]) -> Result<(), Lin
 }
 
 /// What is looked at of a text: no more than one byte past `MOST_BYTES`.
+#[tactic(auto, using(crate::proofs::LineLaws::looked_whole))]
 pub(crate) fn looked_at(text: &[u8]) -> &[u8]
     ensures { result.now ≡ looked_at text.now }
 {
-    &text[..text.len().min(MOST_BYTES + 1)]
+    if text.len() > MOST_BYTES {
+        &text[..MOST_BYTES + 1]
+    } else {
+        text
+    }
 }
 
-#[tactic(auto, using(crate::proofs::LineLaws::is_last_line), unfolding(crate::specs::Capture::with_lines, crate::specs::Capture::captured))]
-/// Reads a capture. Of a text past `MOST_BYTES` the line with the byte past them is bad, if none before it is.
-pub fn read_capture(alloc: Global, text: &[u8]) -> Result<Capture, CaptureError>
-    ensures { GivesUnless bad_line (λ c. c) result (captured text.now) }
+#[tactic(auto, using(crate::proofs::LineLaws::is_last_line), unfolding(crate::specs::Capture::with_lines))]
+/// Reads the lines of a capture; past says that the last of them is bad.
+fn read_lines(alloc: Global, past: bool, text: &[u8]) -> Result<Capture, CaptureError>
+    ensures { GivesUnless bad_line (λ c. c) result (capture_in (with_lines past no_reading 0 (lines_of text.now))) }
 {
-    let past = text.len() > MOST_BYTES;
     let mut reading = Reading {
         capture: Capture {
             files: Sequence::new(alloc),
@@ -397,8 +401,7 @@ pub fn read_capture(alloc: Global, text: &[u8]) -> Result<Capture, CaptureError>
         links: Links::new(alloc),
         begun: false,
     };
-    let head = looked_at(text);
-    let mut rest = head;
+    let mut rest = text;
     let mut number = 0u64;
     'lines: while let Some((line, after)) = next_line(rest) {
         number += 1;
@@ -413,4 +416,12 @@ pub fn read_capture(alloc: Global, text: &[u8]) -> Result<Capture, CaptureError>
         rest = after;
     }
     Ok(reading.capture)
+}
+
+/// Reads a capture. Of a text past `MOST_BYTES` the line with the byte past them is bad, if none before it is.
+#[tactic(auto, unfolding(crate::specs::Capture::captured))]
+pub fn read_capture(alloc: Global, text: &[u8]) -> Result<Capture, CaptureError>
+    ensures { GivesUnless bad_line (λ c. c) result (captured text.now) }
+{
+    read_lines(alloc, text.len() > MOST_BYTES, looked_at(text))
 }

@@ -6,8 +6,8 @@ ghost use Rattle.xl_base.specs.Results.{GivesUnless};
 ghost use Rattle.xl_rpc.specs.Calls.{shown_head};
 ghost use Rattle.xl_nfs.specs.Ops.{shown_op};
 ghost use Rattle.xl_smb.specs.Messages.{shown as shown_message};
-ghost use Rattle.xl_capture.specs.Capture.{bytes_of, bad_line, ReadsAs};
-ghost use Rattle.xl_capture.specs.Show.{bad_text, whole_word, is_nlm_shown, nlm_word, is_unlisted, ops_from, more_ops, ops_text, compound_word, nfs_word, call_word, call_text, reply_text, is_one, is_reply, rpc_text, head_text, is_other, is_other_reply, message_text, smb_text, rpc_line, smb_line, show_words, show_line, shown};
+ghost use Rattle.xl_capture.specs.Capture.{lines_of, bytes_of, bad_line, ReadsAs};
+ghost use Rattle.xl_capture.specs.Show.{show_lines, bad_text, whole_word, is_nlm_shown, nlm_word, is_unlisted, ops_from, more_ops, ops_text, compound_word, nfs_word, call_word, call_text, reply_text, is_one, is_reply, rpc_text, head_text, is_other, is_other_reply, message_text, smb_text, rpc_line, smb_line, show_words, show_line, shown};
 ghost use Rattle.xl_nfs.specs.Compounds.{compound_head_at};
 
 use crate::capture::{
@@ -371,16 +371,13 @@ pub fn show_line(alloc: Global, line: &[u8]) -> Result<Option<Vec<u8>>, AllocErr
     }
 }
 
-#[tactic(auto, using(crate::proofs::LineLaws::is_last_line), unfolding(crate::specs::Show::show_lines, crate::specs::Show::shown))]
-/// The lines out of a text's lines. BadLine is the number of the first line that isn't in the grammar, counted from 1; of
-/// a text past `MOST_BYTES` the line with the byte past them isn't.
-pub fn show_text(alloc: Global, text: &[u8]) -> Result<Vec<u8>, CaptureError>
-    ensures { GivesUnless bad_line (λ v. v.items) result (shown text.now) }
+#[tactic(auto, using(crate::proofs::LineLaws::is_last_line), unfolding(crate::specs::Show::show_lines))]
+/// The lines out of these lines; past says that the last of them is bad.
+fn lines_shown(alloc: Global, past: bool, text: &[u8]) -> Result<Vec<u8>, CaptureError>
+    ensures { GivesUnless bad_line (λ v. v.items) result (show_lines past [] 0 (lines_of text.now)) }
 {
-    let past = text.len() > MOST_BYTES;
     let mut out = Vec::new(alloc);
-    let head = looked_at(text);
-    let mut rest = head;
+    let mut rest = text;
     let mut number = 0u64;
     'lines: while let Some((line, after)) = next_line(rest) {
         number += 1;
@@ -398,4 +395,13 @@ pub fn show_text(alloc: Global, text: &[u8]) -> Result<Vec<u8>, CaptureError>
         rest = after;
     }
     Ok(out)
+}
+
+/// The lines out of a text's lines. BadLine is the number of the first line that isn't in the grammar, counted from 1; of
+/// a text past `MOST_BYTES` the line with the byte past them isn't.
+#[tactic(auto, unfolding(crate::specs::Show::shown))]
+pub fn show_text(alloc: Global, text: &[u8]) -> Result<Vec<u8>, CaptureError>
+    ensures { GivesUnless bad_line (λ v. v.items) result (shown text.now) }
+{
+    lines_shown(alloc, text.len() > MOST_BYTES, looked_at(text))
 }

@@ -1,11 +1,14 @@
 -- The number of a name that has one, or is still to come.
-use Rattle.std.proofs.Common.{◌≡◌, ℕ, ◌+◌, true, false, List, [], ◌∷◌, ◌++◌, length, Some, None, refl, sym, subst, ◌∙◌}
+use Rattle.std.proofs.Common.{◌≡◌, ℕ, ◌+◌, ◌≤◌, true, false, List, [], ◌∷◌, ◌++◌, length, Some, None, arith, refl, sym, subst, ◌∙◌}
 use Rattle.std.proofs.lemmas.Bool.{or_parts}
 use Rattle.std.proofs.lemmas.List.{length-append}
 use Rattle.xl_names.proofs.NameLaws.{kept_from_number, new_from_none, place_new, number_stays, number_entered, same_name_is}
-use Rattle.xl_names.specs.Names.{number_of, place_of, is_kept, entered, same_name}
+use Rattle.xl_names.specs.Names.{number_of, place_of, is_kept, entered, same_name, most_names}
 use Rattle.xl_names.specs.declared.name.Name.{Name}
-use Rattle.xl_core.specs.Asking.{coming}
+use Rattle.xl_core.specs.Asking.{coming, who_entered, both_entered}
+use Rattle.xl_core.proofs.KnownLaws.{length_who}
+use Rattle.xl_core.specs.declared.ask.Ask.{Ask}
+use Rattle.xl_core.specs.declared.ask.Who.{Who}
 use Rattle.xl_core.specs.declared.ask.Who.TheVariants.{Named}
 
 pub place_known : (name : Name) (names : List Name) (number : ℕ) → number_of name names ≡ Some number → number ≡ place_of name names
@@ -45,3 +48,14 @@ pub place_next : (name other : Name) (names : List Name) → number_of name name
 place_next name other names e k apart =
     rw (new_from_none other names k)
     (sym (length-append names (other ∷ [])) ∙ sym (place_new name (names ++ other ∷ []) (new_behind name other names (new_from_none name names e) apart)))
+
+-- ---- room for names
+
+pub no_room : (who : Who) (name : Name) (names : List Name) → who ≡ Named name → length names ≡ most_names → is_kept name names ≡ false → length (who_entered who names) ≤ most_names → ⊥
+no_room who name names is full new fits =
+    let named : length (who_entered (Named name) names) ≤ most_names = subst (λ (w : Who). length (who_entered w names) ≤ most_names) is fits in
+    let more : length (names ++ name ∷ []) ≤ most_names = rw new at named in
+    omega (arith, more, length-append names (name ∷ []), full)
+
+pub owner_fits : (a : Ask) (names : List Name) → length (both_entered a names) ≤ most_names → length (who_entered a.owner names) ≤ most_names
+owner_fits a names fits = omega (arith, fits, length_who a.party (who_entered a.owner names))

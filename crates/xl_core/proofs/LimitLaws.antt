@@ -1,5 +1,5 @@
 -- The first of rising limits that is passed is the least.
-use Rattle.std.proofs.Common.{◌≡◌, ℕ, ◌+◌, ◌≤◌, Bool, true, false, if◌then◌else◌, ◌&&◌, ◌==◌, inl, inr, List, [], ◌∷◌, Option, Some, None, refl, sym, ap, subst, ◌∙◌, arith}
+use Rattle.std.proofs.Common.{◌≡◌, ℕ, ◌+◌, ◌<◌, ◌≤◌, Bool, true, false, if◌then◌else◌, ◌&&◌, ◌==◌, inl, inr, List, [], ◌∷◌, Option, Some, None, refl, sym, ap, subst, ◌∙◌, arith}
 use Rattle.std.specs.List.{AllByRecursion}
 use Rattle.std.proofs.lemmas.Bool.{cases_Bool, both_ways, and_parts, and_right, or_cases, or_left, eqb-true, eq-eqb}
 use Rattle.std.proofs.lemmas.Bool.Decides.{nat_tests}
@@ -81,3 +81,7 @@ grant_room left rows held kept e = (grind (arith, nat_tests), grind (arith, nat_
 
 pub wait_room : (left rows : Rooms) (waiting kept : ℕ) → first_passed (wait_limits left rows waiting kept) ≡ None → (rows.hosts ≤ left.hosts) × (waiting + 1 ≤ most_waiters) × (kept ≤ most_names)
 wait_room left rows waiting kept e = (grind (arith, nat_tests), grind (arith, nat_tests), grind (arith, nat_tests))
+
+-- what may wait has room, as the code asks for it
+pub wait_fits : (left rows : Rooms) (waiting kept : ℕ) (o : Option ℕ) → o ≡ first_passed (wait_limits left rows waiting kept) → o ≡ None → (waiting < 1024) × (kept ≤ most_names)
+wait_fits left rows waiting kept o is none = let room = wait_room left rows waiting kept (sym is ∙ none) in (omega (arith, room.1), room.2)

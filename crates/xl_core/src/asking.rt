@@ -1,13 +1,13 @@
 //! The numbers of those who ask.
 ghost use Rattle.std.specs.Prelude.{◌≡◌, ◌≤◌, true, length, OnOk};
-ghost use Rattle.xl_names.specs.Names.{same_name, place_of, is_kept, entered};
+ghost use Rattle.xl_names.specs.Names.{same_name, place_of, is_kept, entered, most_names};
 ghost use Rattle.xl_core.specs.Asking.{owner_in, party_in, who_entered, asker, asking_party, both_entered, coming, is_client, asked_claim, number_or, known_owner, known_party, known_claim};
 
 use crate::ask::{Ask, Who};
 use std::alloc::AllocError;
 use xl_base::{Owner, Party};
 use xl_matrix::{Claim, Extent, What};
-use xl_names::{Name, Names};
+use xl_names::{Name, NameErr, Names};
 
 /// What stands for the number of a name that has none.
 const NO_NUMBER: u32 = u32::MAX;
@@ -25,18 +25,23 @@ fn place_of(names: &Names, name: &Name) -> u32
 
 /// Keeps a name, for which there is room.
 fn enter(names: &mut Names, who: &Who) -> Result<(), AllocError>
+    requires { length (who_entered who.now names.old) ≤ most_names }
     ensures { OnOk result (names.new ≡ who_entered who.now names.old) }
 {
     if let Who::Named(name) = who {
-        if names.intern(name).is_err() {
-            return Err(AllocError);
+        match names.intern(name) {
+            Ok(_) => {}
+            Err(NameErr::NoMemory) => return Err(AllocError),
+            Err(NameErr::Full(_)) => unreachable!(),
         }
     }
     Ok(())
 }
 
 /// Keeps the names of an ask, for which there is room.
+#[tactic(auto, using(crate::proofs::AskLaws::owner_fits))]
 pub(crate) fn enter_both(names: &mut Names, ask: &Ask) -> Result<(), AllocError>
+    requires { length (both_entered ask.now names.old) ≤ most_names }
     ensures { OnOk result (names.new ≡ both_entered ask.now names.old) }
 {
     enter(names, &ask.owner)?;

@@ -1,9 +1,10 @@
 //! What an ask is answered.
-ghost use Rattle.std.specs.Prelude.{◌≡◌, ℕ, ◌+◌, ◌<◌, ◌≤◌, ◌^◌, true, [], ◌∷◌, None, IfOk, IfSome};
+ghost use Rattle.std.specs.Prelude.{◌≡◌, ℕ, ◌+◌, ◌<◌, ◌≤◌, ◌^◌, true, [], ◌∷◌, length, None, IfOk, IfSome};
 ghost use Rattle.std.specs.List.{AllByRecursion};
 ghost use Rattle.xl_matrix.specs.Owners.{posix};
+ghost use Rattle.xl_names.specs.Names.{most_names};
 ghost use Rattle.xl_table.specs.Held.{is_range, has_one_party, IsPosixBy, IsPosix};
-ghost use Rattle.xl_core.specs.Asking.{asked_whats, asked_claims, IsFitAct, IsFit, IsRealExtent, is_client};
+ghost use Rattle.xl_core.specs.Asking.{both_entered, asked_whats, asked_claims, IsFitAct, IsFit, IsRealExtent, is_client};
 ghost use Rattle.xl_core.specs.Decide.{plea_of, waiter_of, waiting, claims_asked, tested, unlocked_bytes, unlocked, ask};
 ghost use Rattle.xl_core.specs.Good.{IsGood};
 ghost use Rattle.xl_core.specs.Whole.{state_of};
@@ -18,13 +19,15 @@ use std::alloc::{AllocError, Global};
 use xl_base::Sequence;
 use xl_matrix::{Claim, Extent, What};
 use xl_table::CLAIMS;
-use xl_wait::{Rooms, Waiter};
+use xl_wait::{QueueErr, Rooms, Waiter};
 
 /// What an ask pleads.
-#[tactic(auto, unfolding(crate::specs::Decide::plea_of))]
+#[tactic(auto, unfolding(crate::specs::Decide::plea_of), using(crate::proofs::LimitLaws::wait_fits))]
 fn plea_of(parts: &Parts, left: &Rooms, ask: &Ask) -> Plea
     requires { is_client ask.now.owner ask.now.party ≡ true }
-    ensures { result ≡ plea_of left.now (state_of parts.now) ask.now }
+    ensures plea { result ≡ plea_of left.now (state_of parts.now) ask.now }
+    ensures kept { result.kept ≡ length (both_entered ask.now parts.now.names) }
+    ensures room { result.crowded ≡ None → (length parts.now.queue < 1024) × (length (both_entered ask.now parts.now.names) ≤ most_names) }
 {
     let kept = count_names(&parts.names, ask);
     Plea {
@@ -58,6 +61,8 @@ fn waiter_of(alloc: Global, id: u32, ask: &Ask, claim: &Claim) -> Result<Waiter,
 
 /// Lets the asker wait, for which there is room.
 fn wait(alloc: Global, parts: &mut Parts, ask: &Ask, claim: &Claim) -> Result<Answer, AllocError>
+    requires room { length parts.old.queue < 1024 }
+    requires names { length (both_entered ask.now parts.old.names) ≤ most_names }
     requires numbers { parts.old.counter + 65536 < 2 ^ 32 }
     ensures state { IfOk result (λ answer. state_of parts.new ≡ waiting ask.now (claim.now ∷ []) (state_of parts.old)) }
     ensures answer { IfOk result (λ answer. answer ≡ Answer.Queued (parts.old.counter + 1)) }
@@ -67,8 +72,10 @@ fn wait(alloc: Global, parts: &mut Parts, ask: &Ask, claim: &Claim) -> Result<An
     let id = parts.counter + 1;
     let waiter = waiter_of(alloc, id, ask, claim)?;
     enter_both(&mut parts.names, ask)?;
-    if parts.queue.push(waiter).is_err() {
-        return Err(AllocError);
+    match parts.queue.push(waiter) {
+        Ok(()) => {}
+        Err(QueueErr::NoMemory) => return Err(AllocError),
+        Err(QueueErr::Full(_)) => unreachable!(),
     }
     parts.counter = id;
     Ok(Answer::Queued(id))

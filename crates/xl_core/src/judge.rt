@@ -1,5 +1,5 @@
 //! The order of decisions, read for those who ask and for those who wait.
-ghost use Rattle.std.specs.Prelude.{◌≡◌, ℕ, ◌≤◌, List, [], ◌∷◌, length, true, None, IfOk};
+ghost use Rattle.std.specs.Prelude.{◌≡◌, ℕ, ◌≤◌, List, [], ◌∷◌, length, true, Some, None, Ok, IfOk, IfSome};
 ghost use Rattle.std.specs.List.{AllByRecursion};
 ghost use Rattle.xl_table.specs.Changes.{written, MayBeWritten};
 ghost use Rattle.xl_table.specs.Held.{has_one_party, IsPosix};
@@ -7,6 +7,8 @@ ghost use Rattle.xl_table.specs.Relock.{granted_claims};
 ghost use Rattle.xl_wait.specs.declared.waiter.Waiter.{Waiter};
 ghost use Rattle.xl_core.specs.Judge.{check_grace, stopped, check_held, check_room, judged};
 ghost use Rattle.xl_core.specs.Whole.{state_of};
+ghost use Rattle.xl_core.specs.declared.judge.Ruling.TheVariants.{Gets, Waits};
+ghost use Rattle.xl_names.specs.Names.{most_names};
 
 use crate::ask::Answer;
 use crate::limits::passed_by_grant;
@@ -45,7 +47,8 @@ pub(crate) struct Plea {
 /// No grace runs, so a reclaim comes too late.
 #[tactic(auto, unfolding(crate::specs::Judge::check_grace))]
 fn check_grace(parts: &Parts, plea: &Plea) -> Option<Ruling>
-    ensures { check_grace plea.now (state_of parts.now) ≡ (result, [], state_of parts.now) }
+    ensures ruling { check_grace plea.now (state_of parts.now) ≡ (result, [], state_of parts.now) }
+    ensures told { IfSome result (λ r. (r ≡ Gets → ⊥) × (r ≡ Waits → ⊥)) }
 {
     if plea.reclaim {
         return Some(Ruling::Told(Answer::NoGrace(parts.clock)));
@@ -55,7 +58,9 @@ fn check_grace(parts: &Parts, plea: &Plea) -> Option<Ruling>
 
 /// Who is stopped by a held claim waits, where it may and its wait passes no limit.
 fn stopped(plea: &Plea, blocker: Claim) -> Ruling
-    ensures { result ≡ stopped plea.now blocker }
+    ensures ruling { result ≡ stopped plea.now blocker }
+    ensures gets { result ≡ Gets → ⊥ }
+    ensures waits { result ≡ Waits → plea.now.crowded ≡ None }
 {
     if !plea.blocking {
         return Ruling::Told(Answer::Conflict(blocker));
@@ -74,7 +79,9 @@ fn check_held(
     plea: &Plea,
     claim: &Claim,
 ) -> Result<Option<Ruling>, AllocError>
-    ensures { (earlier : List Waiter) → IfOk result (λ r. check_held earlier plea.now [] claim.now (state_of parts.now) ≡ (r, [], state_of parts.now)) }
+    ensures ruling { (earlier : List Waiter) → IfOk result (λ r. check_held earlier plea.now [] claim.now (state_of parts.now) ≡ (r, [], state_of parts.now)) }
+    ensures gets { result ≡ Ok (Some Gets) → ⊥ }
+    ensures waits { result ≡ Ok (Some Waits) → plea.now.crowded ≡ None }
 {
     Ok(
         match parts.table.least_blocker(alloc, &parts.names, claim)? {
@@ -95,7 +102,8 @@ fn check_room(
 ) -> Option<Ruling>
     requires change { change.now.held ≡ length (granted_claims claim.now parts.now.table) }
     ensures room { check_room left.now plea.now [] claim.now (state_of parts.now) ≡ (result, [], state_of parts.now) }
-    ensures fits { result ≡ None → change.now.held ≤ 16384 }
+    ensures fits { result ≡ None → (change.now.held ≤ 16384) × (plea.now.kept ≤ most_names) }
+    ensures told { IfSome result (λ r. (r ≡ Gets → ⊥) × (r ≡ Waits → ⊥)) }
 {
     match passed_by_grant(left, &plea.rows, change.held, plea.kept) {
         Some(limit) => Some(Ruling::Told(Answer::Full(limit))),
@@ -115,6 +123,8 @@ pub(crate) fn judge(
     requires posix { IsPosix claim.now }
     requires party { AllByRecursion (λ c. has_one_party claim.now c ≡ true) parts.old.table }
     ensures judged { (n : ℕ) (earlier : List Waiter) → IfOk result (λ r. judged n earlier left.now plea.now (claim.now ∷ []) (state_of parts.old) ≡ (r, [], state_of parts.new)) }
+    ensures gets { result ≡ Ok Gets → plea.now.kept ≤ most_names }
+    ensures waits { result ≡ Ok Waits → plea.now.crowded ≡ None }
     ensures queue { parts.new.queue ≡ parts.old.queue }
     ensures names { parts.new.names ≡ parts.old.names }
     ensures counter { parts.new.counter ≡ parts.old.counter }

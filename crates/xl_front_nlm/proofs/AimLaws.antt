@@ -84,4 +84,3 @@ by_real file None name g real e = absurd cc
 pub grant_real : (names : List Name) (c : Claim) (g : Grant) → grant_of names c ≡ Some g → g.first ≤ g.last
 unfolding grant_of
 grant_real names c g e = by_real c.file (bytes_of c.what) (name_of names c.owner) g (bytes_real c.what) e
-

@@ -98,8 +98,8 @@ turn_fit n exports later f s (Some turn) e each =
     let told = told_deeds exports f turn.1 turn.0 in (
       tt,
       subst (λ (x : Turned). AreFit n (turned s x).2 (told ++ later r.1 r.2)) (sym e)
-      (fit_append n turn.1 told (later r.1 r.2) (told_fit n exports f turn.1 turn.0)
-      (subst (λ (t : CoreState). AreFit n t (later r.1 r.2)) (told_does n exports f turn.1 turn.0) (each r.1 r.2))),
+          (fit_append n turn.1 told (later r.1 r.2) (told_fit n exports f turn.1 turn.0)
+          (subst (λ (t : CoreState). AreFit n t (later r.1 r.2)) (told_does n exports f turn.1 turn.0) (each r.1 r.2))),
     )
 
 fit_for : (fuel n : ℕ) (exports : Exports) (f : FrontState) (s : CoreState) → AreFit n s (turns_for fuel n exports f s)
@@ -305,21 +305,21 @@ behind_follows n s event =
 
 program_sends : (n : ℕ) (exports : Exports) (f : FrontState) (s : CoreState) (number : ℕ) (r : RequestItem) (program : Program)
     → (let g = program_given n exports f s number r program in
-      (program_heard n exports f s number r program).0 ≡ (all_shown exports g.1 g.2 g.0).0 ++ map (framed Rpc) (sent_to number (program_reply program exports f s (all_done n s (program_deeds program exports f s r)).names r (answers_of n s (program_deeds program exports f s r)))))
+    (program_heard n exports f s number r program).0 ≡ (all_shown exports g.1 g.2 g.0).0 ++ map (framed Rpc) (sent_to number (program_reply program exports f s (all_done n s (program_deeds program exports f s r)).names r (answers_of n s (program_deeds program exports f s r)))))
 program_sends n exports f s number r Nlm =
     let x = nlm_step n exports f s number r in
     ap (λ (outs : List Out). (all_shown exports x.2 x.3 x.1).0 ++ map (framed Rpc) outs) (step_replies n exports f s number r)
 
 record_sends : (n : ℕ) (exports : Exports) (f : FrontState) (s : CoreState) (number : ℕ) (incoming : IncomingItem)
     → (let g = record_given n exports f s number incoming in
-      (record_heard n exports f s number incoming).0 ≡ (all_shown exports g.1 g.2 g.0).0 ++ map (framed Rpc) (record_replies exports f s (all_done n s (record_deeds exports f s incoming)).names number incoming (answers_of n s (record_deeds exports f s incoming))))
+    (record_heard n exports f s number incoming).0 ≡ (all_shown exports g.1 g.2 g.0).0 ++ map (framed Rpc) (record_replies exports f s (all_done n s (record_deeds exports f s incoming)).names number incoming (answers_of n s (record_deeds exports f s incoming))))
 record_sends n exports f s number Unanswered = refl
 record_sends n exports f s number (Refused xid verdict) = refl
 record_sends n exports f s number (Asked r) = program_sends n exports f s number r r.program
 
 message_sends : (n : ℕ) (exports : Exports) (f : FrontState) (s : CoreState) (kind : Option Kind) (number : ℕ) (bytes : List ℕ)
     → (let g = message_given n exports f s kind number bytes in
-      (heard_by n exports f s kind number bytes).0 ≡ (all_shown exports g.1 g.2 g.0).0 ++ message_replies exports f s (all_done n s (message_deeds exports f s kind bytes)).names kind number bytes (answers_of n s (message_deeds exports f s kind bytes)))
+    (heard_by n exports f s kind number bytes).0 ≡ (all_shown exports g.1 g.2 g.0).0 ++ message_replies exports f s (all_done n s (message_deeds exports f s kind bytes)).names kind number bytes (answers_of n s (message_deeds exports f s kind bytes)))
 message_sends n exports f s None number bytes = refl
 message_sends n exports f s (Some Smb) number bytes = refl
 message_sends n exports f s (Some Rpc) number bytes = record_sends n exports f s number (incoming_at bytes)

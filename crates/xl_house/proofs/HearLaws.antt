@@ -60,8 +60,8 @@ begun_short w short = short
 pub act_counter : (s t u v : CoreState) → LeavesBy 2 (step_begun s) t → LeavesBy 0 t u → v ≡ step_begun u → (v.counter + length v.waiters ≤ s.counter + length s.waiters + 2) × AreShort v.names
 act_counter s t u v first next e =
     subst (λ (x : CoreState). (x.counter + length x.waiters ≤ s.counter + length s.waiters + 2) × AreShort x.names) (sym e) (last u next) where
-  last : (w : CoreState) → LeavesBy 0 t w → ((step_begun w).counter + length (step_begun w).waiters ≤ s.counter + length s.waiters + 2) × AreShort (step_begun w).names
-  last w left = (omega (arith, first.counter, left.counter, (begun_counter s).0, ap length (begun_counter s).1, (begun_counter w).0, ap length (begun_counter w).1), begun_short w left.short)
+      last : (w : CoreState) → LeavesBy 0 t w → ((step_begun w).counter + length (step_begun w).waiters ≤ s.counter + length s.waiters + 2) × AreShort (step_begun w).names
+      last w left = (omega (arith, first.counter, left.counter, (begun_counter s).0, ap length (begun_counter s).1, (begun_counter w).0, ap length (begun_counter w).1), begun_short w left.short)
 
 -- ---- the front of the program that is asked
 

@@ -72,11 +72,11 @@ waiting n s event other free =
     let good = begun_good s.core free.good in
     let fit = deeds_taken n s event other in (
       ap (λ (t : CoreState). t.waiters) (next_core n s event other)
-      ∙ begun_waits (all_done n found ds)
-      ∙ deeds_queue n found ds good fit
-      ∙ ap (λ (ws : List Waiter). queue_after n found ds ws) (begun_waits s.core),
+          ∙ begun_waits (all_done n found ds)
+          ∙ deeds_queue n found ds good fit
+          ∙ ap (λ (ws : List Waiter). queue_after n found ds ws) (begun_waits s.core),
       subst (λ (names : List Name). KeepNames s.core.names names) (sym (ap (λ (t : CoreState). t.names) (next_core n s event other) ∙ begun_names (all_done n found ds)))
-      (subst (λ (names : List Name). KeepNames names (all_done n found ds).names) (begun_names s.core) (deeds_names n found ds good fit)),
+          (subst (λ (names : List Name). KeepNames names (all_done n found ds).names) (begun_names s.core) (deeds_names n found ds good fit)),
     )
 
 nobody : (n : ℕ) (s : Whole) → (step n s Restart).next.core.waiters ≡ []

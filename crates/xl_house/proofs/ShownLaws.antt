@@ -136,9 +136,9 @@ show_next exports f g s t effects i effect sent outs new there at is joined =
     let counted : grants (effect ∷ rest) ≡ number_of (is_grant effect) + grants rest = one_more (is_grant effect) (grants rest) in
     let most = (subst (λ (x : CoreState). IsShown (number_of (is_grant effect)) s x) (ap (λ (r : Sent). r.2) is) (shown_most exports f s effect)).most in (
       (λ j. (joined j ++ more.0, more.1, more.2))
-      ∙ (λ j. (append_assoc outs (map (framed Rpc) sent) more.0 j, more.1, more.2))
-      ∙ ap (λ (r : Sent). behind outs (and_then (λ h u. all_shown exports h u rest) (in_frames r))) (sym is)
-      ∙ ap (λ (x : List Effect). behind outs (all_shown exports f s x)) (sym all),
+          ∙ (λ j. (append_assoc outs (map (framed Rpc) sent) more.0 j, more.1, more.2))
+          ∙ ap (λ (r : Sent). behind outs (and_then (λ h u. all_shown exports h u rest) (in_frames r))) (sym is)
+          ∙ ap (λ (x : List Effect). behind outs (all_shown exports f s x)) (sym all),
       omega (arith, most, counted, ap (λ (x : List Effect). grants x) all),
     )
 

@@ -20,4 +20,3 @@ goes_further a b c first next = record {
   made = omega (arith, first.made, next.made);
   failed = λ f. let one = first.failed f in let two = next.failed one.0 in (two.0, two.1 ∙ one.1);
 }
-

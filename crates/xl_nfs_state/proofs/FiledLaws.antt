@@ -1,12 +1,12 @@
 -- Rows in a slab that two maps lead to are a list: found, entered, changed and dropped as in a list.
-use Rattle.std.proofs.Common.{◌≡◌, ℕ, ◌≢◌, Bool, true, false, cond, not, List, [], ◌∷◌, ◌++◌, map, Option, Some, None, is_some, MutBor, get_or, zero, suc, ◌+◌, ◌==◌, length, eqb-true, eq-eqb, slice_get, if◌then◌else◌, refl, sym, ap, subst, ◌∙◌, inl, inr, true≢false}
+use Rattle.std.proofs.Common.{◌≡◌, ℕ, Bool, true, false, cond, not, List, [], ◌∷◌, ◌++◌, map, Option, Some, None, is_some, MutBor, get_or, zero, suc, ◌+◌, ◌==◌, length, eqb-true, eq-eqb, slice_get, if◌then◌else◌, refl, sym, ap, subst, ◌∙◌, inl, inr, true≢false}
 use Rattle.std.specs.List.{AllByRecursion, filter, find, IsDistinct}
 use Rattle.std.specs.Map.{lookup}
 use Rattle.std.specs.Option.{option_and_then}
 use Rattle.std.proofs.lemmas.Bool.{cases_Bool}
 use Rattle.std.proofs.lemmas.Option.{same_Some}
 use Rattle.xl_base.proofs.Members.{all_append}
-use Rattle.slab.specs.Slab.{Slab, get, Updates, RetainsFrom, CalledAt}
+use Rattle.slab.specs.Slab.{Slab, get, Updates, RetainsFrom}
 use Rattle.indexmap.specs.IndexMap.{insert_entry}
 use Rattle.xl_nfs_state.specs.Filed.{front, rows_at, left, places, found, entered, indexed, filed, IsFiled, written, changed}
 
@@ -277,9 +277,9 @@ module _ {R K N : Type 0} (number : R → K) (name : R → N) (slab : Slab R) (n
   same_filed new ns' ms' rows numbered named =
       let stay = all_stay (places ns) in (
         filed_by number name new ns' ms' (places ns) (ap places numbered)
-        (numbered ∙ sound.numbers ∙ sym (indexed_stay number slab new (places ns) stay))
-        (named ∙ sound.names ∙ sym (indexed_stay name slab new (places ns) stay))
-        (held_stay slab new (places ns) stay sound.held),
+            (numbered ∙ sound.numbers ∙ sym (indexed_stay number slab new (places ns) stay))
+            (named ∙ sound.names ∙ sym (indexed_stay name slab new (places ns) stay))
+            (held_stay slab new (places ns) stay sound.held),
         ap (filed new) numbered ∙ rows_stay slab new (places ns) stay,
       )
     where

@@ -1,5 +1,5 @@
 -- A map from owners to results, as a list of rows.
-use Rattle.std.proofs.Common.{◌≡◌, ℕ, Bool, true, false, cond, not, ◌==◌, List, [], ◌∷◌, ◌++◌, map, Option, Some, None, Result, Ok, Err, OnOk, OnErr, IsSome, is_some, Bor, option_copied, refl, sym, ap, subst, ◌∙◌, inl, inr, true≢false}
+use Rattle.std.proofs.Common.{◌≡◌, ℕ, Bool, true, ◌==◌, List, [], ◌∷◌, ◌++◌, map, Option, Some, None, Result, Ok, Err, OnOk, OnErr, is_some, Bor, option_copied, refl, sym, ap, subst, ◌∙◌, inl, inr, true≢false}
 use Rattle.std.specs.List.{IsDistinct, filter, find, list_any}
 use Rattle.std.specs.Map.{lookup}
 use Rattle.std.specs.Option.{option_map}
@@ -8,7 +8,7 @@ use Rattle.indexmap.specs.IndexMap.{insert_entry}
 use Rattle.xl_nfs_state.proofs.FiledLaws.{insert_new}
 use Rattle.xl_nfs_state.specs.Filed.{changed}
 use Rattle.xl_nfs_state.specs.Rows.{kept_row, with_result}
-use Rattle.xl_nfs_state.specs.State.{is_kept, without}
+use Rattle.xl_nfs_state.specs.State.{is_kept}
 use Rattle.xl_nfs_state.specs.declared.kept.KeptRow.{KeptRow}
 
 abbrev Entries : Type 0

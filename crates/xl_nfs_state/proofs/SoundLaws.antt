@@ -1,5 +1,5 @@
 -- What hangs on a row hangs on one that is there, and there is room, after each change.
-use Rattle.std.proofs.Common.{◌≡◌, ℕ, ◌<◌, ◌≤◌, ◌+◌, Bool, true, false, not, ◌&&◌, ◌||◌, ◌==◌, List, [], ◌∷◌, ◌++◌, length, Option, None, Some, is_some, nat_lt, slice_get, ◌-◌, ltb-true, cond, if◌then◌else◌, ◌^◌, eqb-true, eq-eqb, suc, refl, sym, ap, subst, ◌∙◌, inl, inr, true≢false, arith}
+use Rattle.std.proofs.Common.{◌≡◌, ℕ, ◌<◌, ◌≤◌, ◌+◌, Bool, true, false, not, ◌&&◌, ◌==◌, List, [], ◌∷◌, ◌++◌, length, Option, None, Some, is_some, nat_lt, slice_get, ◌-◌, ltb-true, cond, if◌then◌else◌, ◌^◌, eqb-true, eq-eqb, suc, refl, sym, ap, subst, ◌∙◌, inl, inr, true≢false, arith}
 use Rattle.std.specs.List.{AllByRecursion, filter, find, list_any}
 use Rattle.std.specs.Bool.{beq}
 use Rattle.std.specs.Cmp.{booleans_Decides}
@@ -132,9 +132,9 @@ client_left number confirmed client clients apart h = any_left (is_client client
         let on : true ≡ x.confirmed = (booleans_Decides true x.confirmed).0 parts.1 in
         let same = eqb-true client x.number parts.0 in
         false_from_ne_true (is_client number confirmed x) (λ f.
-          let told = and_parts (number == x.number) (beq confirmed x.confirmed) f in
-          let is : confirmed ≡ true = (booleans_Decides confirmed x.confirmed).0 told.1 ∙ sym on in
-          true≢false (sym told.0 ∙ ap (λ n. number == n) (sym same) ∙ apart is))
+        let told = and_parts (number == x.number) (beq confirmed x.confirmed) f in
+        let is : confirmed ≡ true = (booleans_Decides confirmed x.confirmed).0 told.1 ∙ sym on in
+        true≢false (sym told.0 ∙ ap (λ n. number == n) (sym same) ∙ apart is))
 
 pub client_dropped : (l : NfsLists) (number : ℕ) (confirmed : Bool) → IsSound l → (confirmed ≡ true → st.IsIdleClient number l) → IsSound (with_clients l (without (is_client number confirmed) l.clients))
 client_dropped l number confirmed sound idle =
@@ -284,8 +284,8 @@ owner_dropped l number sound idle =
     stay : (owner client : ℕ) (kind : OwnerKind) → (number == owner) ≡ false → has_owner owner client kind l.owners ≡ true → has_owner owner client kind (without (is_owner number) l.owners) ≡ true
     stay owner client kind apart h =
         any_left (st.fits_owner owner client kind) (is_owner number) l.owners (λ o e.
-          let parts = and_parts (owner == o.number) (client == o.name.client && same_kind kind o.name.kind) e in
-          rw (sym (eqb-true owner o.number parts.0)) apart) h
+        let parts = and_parts (owner == o.number) (client == o.name.client && same_kind kind o.name.kind) e in
+        rw (sym (eqb-true owner o.number parts.0)) apart) h
 
     stays : (client file : ℕ) (h : Holder) → st.hangs_on number h ≡ false → Stays l (with_owners l (without (is_owner number) l.owners)) client file h
     stays client file (Open owner) apart = λ kind h. stay owner client kind apart h
@@ -308,9 +308,9 @@ owners_dropped l client sound idle =
     stay : (owner other : ℕ) (kind : OwnerKind) → (client == other) ≡ false → has_owner owner other kind l.owners ≡ true → has_owner owner other kind (st.other_owners client l.owners) ≡ true
     stay owner other kind apart h =
         any_left (st.fits_owner owner other kind) (λ o. client == o.name.client) l.owners (λ o e.
-          let parts = and_parts (owner == o.number) (other == o.name.client && same_kind kind o.name.kind) e in
-          let same = eqb-true other o.name.client (and_parts (other == o.name.client) (same_kind kind o.name.kind) parts.1).0 in
-          rw (sym same) apart) h
+        let parts = and_parts (owner == o.number) (other == o.name.client && same_kind kind o.name.kind) e in
+        let same = eqb-true other o.name.client (and_parts (other == o.name.client) (same_kind kind o.name.kind) parts.1).0 in
+        rw (sym same) apart) h
 
     all_passed : {A : Type 0} (test : A → Bool) (xs : List A) → AllByRecursion (λ x. test x ≡ true) (filter test xs)
     all_passed test [] = tt
@@ -471,7 +471,7 @@ pub stateid_dropped : (l : NfsLists) (number : ℕ) → IsSound l → st.IsIdleS
 stateid_dropped l number sound idle =
     let new = without (st.is_stateid number) l.stateids in
     let left : AllByRecursion (λ s. hangs (with_stateids l new) s ≡ true) l.stateids =
-        all_both _ _ _ l.stateids (λ s h apart. hangs_stays l (with_stateids l new) s (λ c. c) (stays s.client s.file s.holder apart) h) sound.stateids (all_apart (λ s. st.is_under number s.holder) l.stateids idle) in
+    all_both _ _ _ l.stateids (λ s h apart. hangs_stays l (with_stateids l new) s (λ c. c) (stays s.client s.file s.holder apart) h) sound.stateids (all_apart (λ s. st.is_under number s.holder) l.stateids idle) in
     record {
       clients_room = sound.clients_room;
       owners_room = sound.owners_room;
@@ -484,10 +484,12 @@ stateid_dropped l number sound idle =
   where
     stays : (client file : ℕ) (h : Holder) → st.is_under number h ≡ false → Stays l (with_stateids l (without (st.is_stateid number) l.stateids)) client file h
     stays client file (Open owner) apart = λ kind h. h
-    stays client file (Lock owner under opener) apart =
-        (λ kind h. h, λ h. any_left (st.fits_open under opener client file) (st.is_stateid number) l.stateids (λ x f.
+    stays client file (Lock owner under opener) apart = (
+      λ kind h. h,
+      λ h. any_left (st.fits_open under opener client file) (st.is_stateid number) l.stateids (λ x f.
           let told = and_parts (under == x.number) (st.is_open_by opener x.holder && (client == x.client && file == x.file)) f in
-          ap (λ n. number == n) (sym (eqb-true under x.number told.0)) ∙ apart) h)
+          ap (λ n. number == n) (sym (eqb-true under x.number told.0)) ∙ apart) h,
+    )
     stays client file (Delegation write) apart = tt
 
 -- Kept results.

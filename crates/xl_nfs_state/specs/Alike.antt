@@ -1,9 +1,9 @@
 -- Keys that compare as equal are equal.
-use Rattle.std.specs.Prelude.{◌≡◌, Bool, true, false, ◌&&◌, ◌==◌, bytes_eq, refl}
+use Rattle.std.specs.Prelude.{◌≡◌, true, ◌&&◌, ◌==◌, bytes_eq, refl}
 use Rattle.std.specs.Bool.{beq}
 use Rattle.std.specs.Cmp.{booleans_Decides}
 use Rattle.std.specs.Cmp.Lexicographic.{bytes_decides}
-use Rattle.std.proofs.Common.{ap, eqb-true, sym, ◌∙◌}
+use Rattle.std.proofs.Common.{ap, eqb-true}
 use Rattle.std.proofs.lemmas.Bool.{and_parts, false≢true}
 use denote.Enum.Bare.{sameb}
 use Rattle.xl_nfs_state.specs.contracts.owner.OwnerKind.{the_type}

@@ -1,4 +1,4 @@
--- Seqids of owners (RFC 7530 9.1.7 to 9.1.9).
+-- Seqids of owners (RFC 7530 9.1.7, 9.1.8).
 use Rattle.std.specs.Prelude.{ℕ, ◌+◌, ◌^◌, ◌%◌, ◌==◌, ◌&&◌, if◌then◌else◌, Option, Some, None}
 use Rattle.xl_nfs_state.specs.declared.owner.Turn.{Turn}
 use Rattle.xl_nfs_state.specs.declared.seqid.SeqidVerdict.{SeqidVerdict}

@@ -119,6 +119,7 @@ impl<'a> Equivalent<ClientName> for ClientNamed<'a> {
 
 impl Row for ClientRow {
     type Number = ClientKey;
+
     type Name = ClientName;
 
     ghost number = { client_key };

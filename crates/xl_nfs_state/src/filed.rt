@@ -122,8 +122,8 @@ impl<R: Row> Filed<R> {
 
     /// Adds a row behind the others. Want of memory changes nothing.
     pub(crate) fn add(&mut self, alloc: Global, row: R) -> Result<(), AllocError>
-        where
-            R: Drop,
+    where
+        R: Drop,
         requires number { find (λ r. R.Number.eq (R.number row) (R.number r)) self.old ≡ None }
         requires name { find (λ r. R.Name.eq (R.name row) (R.name r)) self.old ≡ None }
         ensures ok { OnOk result (self.new ≡ self.old ++ row ∷ []) }
@@ -131,16 +131,19 @@ impl<R: Row> Filed<R> {
     {
         let number = row.number();
         let name = row.name(alloc)?;
-        enter(&mut self.rows, &mut self.numbers, &mut self.names, number, name, row)?;
+        enter(
+            &mut self.rows,
+            &mut self.numbers,
+            &mut self.names,
+            number,
+            name,
+            row,
+        )?;
         Ok(())
     }
 
     /// Changes the row of this first key, where there is one.
-    pub(crate) fn change<Q: Equivalent<R::Number>, C: Change<R> + Drop>(
-        &mut self,
-        number: Q,
-        to: C,
-    )
+    pub(crate) fn change<Q: Equivalent<R::Number>, C: Change<R> + Drop>(&mut self, number: Q, to: C)
         ensures { self.new ≡ changed (λ row. Q.equivalent number (R.number row)) (C.after to) self.old }
     {
         write(&mut self.rows, &self.numbers, number, to);
@@ -148,8 +151,8 @@ impl<R: Row> Filed<R> {
 
     /// Drops the chosen rows.
     pub(crate) fn drop_picked<P: Picks<R>>(&mut self, which: &P)
-        where
-            R: Drop,
+    where
+        R: Drop,
         ensures { self.new ≡ filter (λ row. not (P.picks which.now row)) self.old }
     {
         keep_rows(&mut self.rows, which);

@@ -13,7 +13,7 @@ use std::alloc::{AllocError, Global};
 use std::marker::Model;
 use xl_base::Sequence;
 
-/// A result that is kept: it answers its owner's last request where that comes again (RFC 7530 9.1.9).
+/// A result that is kept: it answers its owner's last request where that comes again (RFC 7530 9.1.8).
 #[derive(Drop)]
 pub struct KeptRow {
     /// The number of the owner.
@@ -77,7 +77,10 @@ impl Kept {
         ensures ok { OnOk result (self.new ≡ self.old ++ row ∷ []) }
         ensures err { OnErr result (self.new ≡ self.old) }
     {
-        let KeptRow { owner, result: bytes } = row;
+        let KeptRow {
+            owner,
+            result: bytes,
+        } = row;
         self.results.insert(owner, bytes)?;
         Ok(())
     }

@@ -49,7 +49,7 @@ pub struct Turn {
     pub seqid: u32,
     /// The number of that request's operation.
     pub op: u32,
-    /// Whether an open owner was confirmed (RFC 7530 16.18).
+    /// Whether an open owner was confirmed (RFC 7530 9.1.11, 16.18).
     pub confirmed: bool,
     /// The stateid that its last request closed, as long as that is known.
     pub closed: Option<u64>,
@@ -80,6 +80,7 @@ impl<'a> Equivalent<OwnerName> for OwnerNamed<'a> {
 
 impl Row for OwnerRow {
     type Number = u64;
+
     type Name = OwnerName;
 
     ghost number = { owner_key };

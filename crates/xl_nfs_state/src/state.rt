@@ -9,15 +9,14 @@ mod results;
 mod stateids;
 mod whole;
 
-pub use clients::MOST_CLIENTS;
-pub use owners::MOST_OWNERS;
-pub use stateids::MOST_OPENS;
-
 use crate::client::ClientRow;
 use crate::filed::Filed;
 use crate::kept::Kept;
 use crate::owner::OwnerRow;
 use crate::stateid::StateidRow;
+pub use clients::MOST_CLIENTS;
+pub use owners::MOST_OWNERS;
+pub use stateids::MOST_OPENS;
 use std::alloc::{AllocError, Global};
 use std::marker::Model;
 use thiserror::Error;

@@ -82,6 +82,7 @@ pub(crate) enum Place {
 
 impl Row for StateidRow {
     type Number = u64;
+
     type Name = Place;
 
     ghost number = { stateid_key };

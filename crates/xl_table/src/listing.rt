@@ -11,7 +11,7 @@ use crate::block::is_answer_due;
 use crate::section::on_file;
 use std::alloc::{AllocError, Global};
 use xl_base::{Moment, Party};
-use xl_matrix::{Claim, What, same_party, is_blocked_by};
+use xl_matrix::{Claim, What, is_blocked_by, same_party};
 
 /// Those that block the ask.
 pub(crate) fn list_blockers(

@@ -8,6 +8,8 @@ mod caches;
 mod exact;
 mod matrix;
 mod names;
+mod nfs_clients;
+mod nfs_stateids;
 mod smb_state;
 mod spans;
 mod table;

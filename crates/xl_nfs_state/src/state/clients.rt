@@ -60,7 +60,8 @@ impl NfsState {
         requires { IsSome (find (is_client number confirmed) self.old.clients) }
         ensures { self.new ≡ with_clients self.old (changed (is_client number confirmed) (with_details details) self.old.clients) }
     {
-        self.clients.change(&ClientKey { number, confirmed }, details);
+        self.clients
+            .change(&ClientKey { number, confirmed }, details);
     }
 
     /// Sets the end of the lease of the confirmed client of this number, which is there (RFC 7530 9.5).
@@ -79,7 +80,8 @@ impl NfsState {
     pub fn is_client_idle(&self, number: u32) -> bool
         ensures { IsTrue result ↔ IsIdleClient number self.now }
     {
-        !has_any(&self.owners, &OwnersOf(number)) && !has_any(&self.stateids, &Whose::Client(number))
+        !has_any(&self.owners, &OwnersOf(number))
+            && !has_any(&self.stateids, &Whose::Client(number))
     }
 
     /// Drops the record of this number, which is there, confirmed or not. A confirmed client has no owner and no stateid.

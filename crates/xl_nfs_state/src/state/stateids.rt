@@ -66,22 +66,23 @@ impl NfsState {
     pub fn can_hang(&self, row: &StateidRow) -> bool
         ensures { result ≡ can_hang self.now row.now }
     {
-        self.find_client(row.client, true).is_some() && match row.holder {
-            Holder::Open(owner) => owner_fits(
-                row.client,
-                OwnerKind::Open,
-                self.find_owner(owner),
-            ),
-            Holder::Lock {
-                owner,
-                under,
-                opener,
-            } => {
-                owner_fits(row.client, OwnerKind::Lock, self.find_owner(owner))
-                    && open_fits(opener, row.client, row.file, self.find_stateid(under))
+        self.find_client(row.client, true).is_some()
+            && match row.holder {
+                Holder::Open(owner) => owner_fits(
+                    row.client,
+                    OwnerKind::Open,
+                    self.find_owner(owner),
+                ),
+                Holder::Lock {
+                    owner,
+                    under,
+                    opener,
+                } => {
+                    owner_fits(row.client, OwnerKind::Lock, self.find_owner(owner))
+                        && open_fits(opener, row.client, row.file, self.find_stateid(under))
+                }
+                Holder::Delegation { write: _ } => true,
             }
-            Holder::Delegation { write: _ } => true,
-        }
     }
 
     /// Adds a stateid behind the others. None has its number; its owner has none on that file, or its client no delegation
@@ -125,11 +126,7 @@ impl NfsState {
     }
 
     /// The stateids that are meant, in order of arrival.
-    pub fn list_stateids(
-        &self,
-        alloc: Global,
-        whose: Whose,
-    ) -> Result<Vec<StateidRow>, NfsStateErr>
+    pub fn list_stateids(&self, alloc: Global, whose: Whose) -> Result<Vec<StateidRow>, NfsStateErr>
         ensures { IfOk result (λ rows. rows.items ≡ filter (is_whose whose) self.now.stateids) }
     {
         Ok(list_stateids(alloc, &self.stateids, whose)?)
@@ -193,12 +190,7 @@ fn enter(
 }
 
 /// Changes what changes of the stateid of this number, and counts it no more where it closes.
-fn change(
-    stateids: &mut Filed<StateidRow>,
-    live: &mut usize,
-    number: u64,
-    standing: Standing,
-)
+fn change(stateids: &mut Filed<StateidRow>, live: &mut usize, number: u64, standing: Standing)
     requires there { IsSome (find (is_stateid number) stateids.old) }
     requires closing { (row : StateidRow) → find (is_stateid number) stateids.old ≡ Some row → row.standing.closed ≡ true → standing.closed ≡ true }
     requires count { live.old ≡ opens stateids.old }
@@ -223,7 +215,11 @@ fn is_closed_by(stateids: &Filed<StateidRow>, number: u64, standing: Standing) -
 }
 
 /// Drops the chosen stateids, and counts the others.
-pub(super) fn drop<P: Picks<StateidRow>>(stateids: &mut Filed<StateidRow>, live: &mut usize, which: &P)
+pub(super) fn drop<P: Picks<StateidRow>>(
+    stateids: &mut Filed<StateidRow>,
+    live: &mut usize,
+    which: &P,
+)
     ensures dropped { stateids.new ≡ without (P.picks which.now) stateids.old }
     ensures count { live.new ≡ opens stateids.new }
 {

@@ -10,7 +10,7 @@ use crate::stateid::Whose;
 
 impl NfsState {
     /// Drops the owner of this number with its kept result and all that hangs on it: its stateids, and the locks under its
-    /// opens (RFC 7530 16.37 of a lock owner; 16.18 of an open owner that was not confirmed).
+    /// opens (RFC 7530 16.37 of a lock owner; 9.1.11 of an open owner that was not confirmed).
     pub fn forget_owner(&mut self, number: u64)
         ensures { self.new ≡ without_owner number self.old }
     {

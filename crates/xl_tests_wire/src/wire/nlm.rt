@@ -148,7 +148,6 @@ fn is_call(proc: u32, number: u8, bytes: &[u8]) -> bool {
 }
 
 /// Whether arguments that are read are written as they are.
-#[tactic(auto, using(crate::proofs::NlmLaws::short_nlm_call))]
 fn is_call_again(alloc: Global, proc: u32, bytes: &[u8]) -> Result<bool, Fail> {
     if !is_known(proc) {
         return Ok(false);
@@ -178,7 +177,6 @@ fn is_result(proc: u32, number: u8, bytes: &[u8]) -> bool {
 }
 
 /// Whether results that are read are written as they are.
-#[tactic(auto, using(crate::proofs::NlmLaws::short_nlm_reply))]
 fn is_result_again(alloc: Global, proc: u32, bytes: &[u8]) -> Result<bool, Fail> {
     if !is_known(proc) {
         return Ok(false);
@@ -232,6 +230,7 @@ const WAITING: Lock<'static> = Lock {
 };
 
 #[test]
+#[tactic(auto, unfolding(xl_nlm::specs::Arguments::lock))]
 fn granted(rt: HostRuntime) -> Result<(), Fail> {
     let bytes = granted_call(rt.alloc(), 2, true, &WAITING)?;
     assert!(rt; has_bytes(rt.alloc(), GRANTED, &bytes)?);

@@ -1,4 +1,4 @@
-use Rattle.std.proofs.Common.{◌≡◌, ◌≤◌, ◌+◌, true, false, sym, ap, ◌∙◌, arith, if◌then◌else◌}
+use Rattle.std.proofs.Common.{◌≡◌, ◌+◌, true, false, sym, ap, ◌∙◌, arith, if◌then◌else◌}
 use Rattle.xl_nfs_state.specs.State.{is_live}
 use Rattle.xl_nfs_state.proofs.ListingLaws.{counted, none_within}
 use Rattle.xl_nfs_state.proofs.listing.count_opens.Goals as goal

@@ -111,7 +111,6 @@ pub(crate) fn is_op(bytes: &[u8], number: u8) -> bool {
 }
 
 /// Whether an operation that is read is written as it is.
-#[tactic(auto, using(crate::proofs::NfsLaws::short_op))]
 pub(crate) fn is_op_again(alloc: Global, bytes: &[u8]) -> Result<bool, Fail> {
     match next_op(&mut Xdr::new(bytes)) {
         Ok(op) => {

@@ -118,7 +118,6 @@ pub(crate) fn is_result(bytes: &[u8], number: u8) -> bool {
 }
 
 /// Whether a result that is read is written as it is.
-#[tactic(auto, using(crate::proofs::NfsLaws::short_result))]
 pub(crate) fn is_result_again(alloc: Global, bytes: &[u8]) -> Result<bool, Fail> {
     match read_result(&mut Xdr::new(bytes)) {
         Ok(answer) => {

@@ -1,4 +1,4 @@
-use Rattle.std.proofs.Common.{◌≡◌, true, Some, is_some, ap, sym, subst, ◌∙◌}
+use Rattle.std.proofs.Common.{true, is_some, ap, sym, subst, ◌∙◌}
 use Rattle.std.specs.List.{find}
 use Rattle.xl_nfs_state.specs.State.{NfsLists, IsSound, is_client, next_owner, with_owners}
 use Rattle.xl_nfs_state.proofs.KeptLaws.{some_found}

@@ -1,5 +1,5 @@
 use Rattle.std.proofs.Common.{◌≡◌, true, sym, subst}
-use Rattle.xl_nfs_state.specs.State.{NfsLists, IsSound, IsIdleClient, is_client, with_clients}
+use Rattle.xl_nfs_state.specs.State.{NfsLists, IsSound, IsIdleClient, with_clients}
 use Rattle.xl_nfs_state.proofs.SoundLaws.{client_dropped}
 use Rattle.xl_nfs_state.proofs.state.NfsState.drop_client.Goals as goal
 

@@ -11,5 +11,5 @@ invariant_of-self c =
     let l : NfsLists = record { clients = old.clients; owners = old.owners; stateids = old.stateids; kept = old.kept } in
     let kept = c.keep_owners.ensures ∙ ap (λ (owners : List OwnerRow). filter (λ k. list_any (is_owner k.owner) owners) old.kept) c.drop_picked.ensures in
     let made : without_client c.args.number l ≡ record { clients = c.drop_picked-2.new.self; owners = c.drop_picked.new.self; stateids = c.drop.new.stateids; kept = c.keep_owners.new.self } =
-        λ i. record { clients = sym c.drop_picked-2.ensures i; owners = sym c.drop_picked.ensures i; stateids = sym c.drop.ensures.dropped i; kept = sym kept i } in
+    λ i. record { clients = sym c.drop_picked-2.ensures i; owners = sym c.drop_picked.ensures i; stateids = sym c.drop.ensures.dropped i; kept = sym kept i } in
     (subst IsSound made (client_forgotten l c.args.number c.self.invariant.0), c.drop.ensures.count)

@@ -1,4 +1,4 @@
-use Rattle.std.proofs.Common.{◌≡◌, ◌+◌, ap, sym, ◌∙◌, arith, if◌then◌else◌}
+use Rattle.std.proofs.Common.{ap, sym, ◌∙◌, arith}
 use Rattle.xl_nfs_state.specs.State.{opens}
 use Rattle.xl_nfs_state.proofs.SoundLaws.{recounted}
 use Rattle.xl_nfs_state.proofs.state.stateids.change.Goals as goal

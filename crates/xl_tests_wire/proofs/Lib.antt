@@ -1,2 +1,0 @@
-pub mod NfsLaws
-pub mod NlmLaws
