@@ -93,26 +93,6 @@ found_is_the_one p (v ∷ vs) id w apart e h k =
     number_in : Some v.id ≡ Some id → v.id ≡ id
     number_in e = cc
 
--- ---- claims
-
-abbrev AreIn : List Claim → Option Claim → Type 0
-AreIn cs found = IfSome found (λ claim. IsIn claim cs)
-
-in_more : (c : Claim) (cs : List Claim) (found : Option Claim) → AreIn cs found → AreIn (c ∷ cs) found
-in_more c cs None held = tt
-in_more c cs (Some claim) held = inr held
-
-claim_found : (p : Claim → Bool) (cs : List Claim) → AreIn cs (find p cs)
-claim_found p [] = tt
-claim_found p (c ∷ cs) =
-    elim (cases_Bool (p c)) [
-      | inl e ↦ rw e (inl refl)
-      | inr e ↦ rw e (in_more c cs (find p cs) (claim_found p cs))
-    ]
-
-pub found_is_in : (found : Option Claim) (p : Claim → Bool) (cs : List Claim) → found ≡ find p cs → IfSome found (λ claim. IsIn claim cs)
-found_is_in found p cs e = subst (AreIn cs) (sym e) (claim_found p cs)
-
 -- ---- the waiter that a CANCEL takes out
 
 pub that_waits : (s : CoreState) (l : LockItem) (exclusive : Bool) (at : Aim) (number id : ℕ) (w : Waiter) → IsGood s → number_of (owner_of l) s.names ≡ Some number → waiter_for s l exclusive at ≡ Some id

@@ -53,9 +53,6 @@ settle_ready s t ready leaves = record {
   short = leaves.short;
 }
 
-pub one_ready : (m : ℕ) (s : CoreState) → IsReadyFor (m + 2) s → IsReadyFor 1 s
-one_ready m s ready = record { good = ready.good; numbers = omega (arith, ready.numbers); short = ready.short }
-
 begun_short : (w : CoreState) → AreShort w.names → AreShort (step_begun w).names
 unfolding step_begun
 begun_short w short = short

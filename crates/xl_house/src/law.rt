@@ -18,7 +18,7 @@ ghost use Rattle.xl_house.specs.Machine.{Whole};
 
 /// A machine that tells a lock granted and keeps nothing has no lawful entry for a lock of one byte at a start; and where
 /// one waits, a machine that drops it at another's test has none in which who waits is right.
-#[tactic(auto, using(crate::proofs::HollowLaws::nothing_kept_in, crate::proofs::HollowLaws::waiter_dropped_in))]
+#[tactic(auto, using(crate::proofs::HollowLaws::waiter_dropped_in))]
 pub fn hollow_machines_are_refused()
     ensures kept { (n stores number : ℕ) (bytes : List ℕ) (outs : List Out) (s t : Whole) (stable : Stable) (clock : Moment) → found s ≡ started stable clock → deeds n s (Message number bytes) ≡ Asks all_room smallest_lock ∷ []
         → t.core.claims ≡ [] → IsLawful n s (record { event = Message number bytes; stores = stores; outs = outs }) t → ⊥ }

@@ -7,12 +7,12 @@ use Rattle.xl_rpc.specs.Xdr.{unsigned}
 use Rattle.xl_rpc.specs.declared.reply.Verdict.{Verdict}
 use Rattle.xl_rpc.specs.declared.reply.Verdict.TheVariants.{Success, ProgUnavail, ProgMismatch, ProcUnavail, GarbageArgs, SystemErr, RpcMismatch, AuthError}
 
-length-unsigned : (n : ℕ) → length (unsigned n) ≡ 4
+pub length-unsigned : (n : ℕ) → length (unsigned n) ≡ 4
 unfolding big_endian
 length-unsigned n = refl
 
 -- one word before the rest
-longer : (n : ℕ) (rest : List ℕ) (most : ℕ) → length rest ≤ most → length (unsigned n ++ rest) ≤ most + 4
+pub longer : (n : ℕ) (rest : List ℕ) (most : ℕ) → length rest ≤ most → length (unsigned n ++ rest) ≤ most + 4
 longer n rest most le = omega (arith, length-append (unsigned n) rest, length-unsigned n, le)
 
 two : (m n : ℕ) → length (unsigned m ++ unsigned n) ≤ 8
