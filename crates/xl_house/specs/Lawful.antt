@@ -255,7 +255,7 @@ AlwaysLawful s (e ∷ es) = IsLawful e.stores s e.event (step e.stores s e.event
 -- the reply with this status
 abbrev pub told_so : ℕ → ℕ → List ℕ → NlmStatus → List Out
 told_so number xid cookie stat =
-    framed Rpc (record { dest = Conn number; to = []; bytes = reply xid Success ++ res (record { cookie = cookie; stat = stat }) }) ∷ []
+    framed Rpc (record { dest = Conn number; to = []; bytes = reply xid Success ++ res.spell (record { cookie = cookie; stat = stat }) }) ∷ []
 
 -- the claim that a LOCK asks for
 abbrev pub wanted : List (List ℕ) → CoreState → LockArgsItem → Aim → Claim
@@ -282,7 +282,7 @@ pub record IsDueLock (n : ℕ) (number xid : ℕ) (hosts : List (List ℕ)) (s t
 -- the reply to a SHARE with this status
 abbrev pub shared_so : ℕ → ℕ → List ℕ → NlmStatus → List Out
 shared_so number xid cookie stat =
-    framed Rpc (record { dest = Conn number; to = []; bytes = reply xid Success ++ share_res (record { cookie = cookie; stat = stat; sequence = pos 0 }) }) ∷ []
+    framed Rpc (record { dest = Conn number; to = []; bytes = reply xid Success ++ share_res.spell (record { cookie = cookie; stat = stat; sequence = pos 0 }) }) ∷ []
 
 -- the share that a SHARE asks for
 abbrev pub wanted_share : List (List ℕ) → CoreState → ShareArgsItem → ℕ → Claim
