@@ -124,12 +124,18 @@ fn put_call(
     count: u64,
 ) -> Result<(), AllocError> {
     let whole = if procedure == 2 { 0x68 } else { 0x58 };
-    write!(text, "B 0 800000{whole:02x}{xid:08x}0000000000000002000186b500000004{procedure:08x}")?;
+    write!(
+        text,
+        "B 0 800000{whole:02x}{xid:08x}0000000000000002000186b500000004{procedure:08x}"
+    )?;
     write!(text, "0000000000000000000000000000000000000000")?;
     if procedure == 2 {
         write!(text, "{block:08x}00000001")?;
     }
-    write!(text, "00000001{caller:02x}00000000000008584c4b310000000100000000")?;
+    write!(
+        text,
+        "00000001{caller:02x}00000000000008584c4b310000000100000000"
+    )?;
     write!(text, "{svid:08x}{first:016x}{count:016x}")?;
     if procedure == 2 {
         write!(text, "0000000000000000")?;
@@ -140,7 +146,10 @@ fn put_call(
 
 /// What a call with this number is told, at the place of its event.
 fn put_told(text: &mut String, xid: u64, status: u32) -> Result<(), AllocError> {
-    writeln!(text, "{xid} c0 80000020{xid:08x}0000000100000000000000000000000000000000{status:016x}")?;
+    writeln!(
+        text,
+        "{xid} c0 80000020{xid:08x}0000000100000000000000000000000000000000{status:016x}"
+    )?;
     Ok(())
 }
 
@@ -158,13 +167,24 @@ fn most_locked(alloc: Global) -> Result<(String, String), AllocError> {
     }
     for (procedure, block, caller, svid, first, count, status) in BEHIND {
         xid += 1;
-        put_call(&mut lines, xid, procedure, block, caller, svid, first, count)?;
+        put_call(
+            &mut lines, xid, procedure, block, caller, svid, first, count,
+        )?;
         put_told(&mut wanted, xid, status)?;
     }
     xid += 1;
-    write!(lines, "B 0 80000034{xid:08x}0000000000000002000186b50000000400000017")?;
-    writeln!(lines, "00000000000000000000000000000000000000016100000000000000")?;
-    writeln!(wanted, "{xid} c0 80000018{xid:08x}0000000100000000000000000000000000000000")?;
+    write!(
+        lines,
+        "B 0 80000034{xid:08x}0000000000000002000186b50000000400000017"
+    )?;
+    writeln!(
+        lines,
+        "00000000000000000000000000000000000000016100000000000000"
+    )?;
+    writeln!(
+        wanted,
+        "{xid} c0 80000018{xid:08x}0000000100000000000000000000000000000000"
+    )?;
     Ok((lines, wanted))
 }
 
