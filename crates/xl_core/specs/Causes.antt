@@ -30,6 +30,7 @@ use Rattle.xl_core.specs.declared.ask.Effect.TheVariants.{Served}
 abbrev pub limits_of_grant : Rooms → CoreState → Ask → Claim → List (ℕ × Bool)
 limits_of_grant left s a claim = grant_limits left a.rows (length (granted_claims claim s.claims)) (length (both_entered a s.names))
 
+-- the limits that the ask's wait would meet
 abbrev pub limits_of_wait : Rooms → CoreState → Ask → List (ℕ × Bool)
 limits_of_wait left s a = wait_limits left a.rows (length s.waiters) (length (both_entered a s.names))
 
@@ -65,6 +66,7 @@ IsTestDue s a claim _ = ⊥
 abbrev pub HasNoByte : CoreState → ℕ → Owner → ℕ → ℕ → Type 0
 HasNoByte s file owner first last = (byte : ℕ) → within first last byte ≡ true → mode_at (spans_of file owner s.claims) byte ≡ None
 
+-- the owner has a byte of the range
 abbrev pub HasByte : CoreState → ℕ → Owner → ℕ → ℕ → Type 0
 HasByte s file owner first last = (byte : ℕ) × (within first last byte ≡ true) × (mode_at (spans_of file owner s.claims) byte ≡ None → ⊥)
 

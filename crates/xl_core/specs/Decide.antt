@@ -38,6 +38,7 @@ plea_of left s a =
 abbrev pub waiting_rows : Rooms → Rooms
 waiting_rows rows = record { hosts = 0; owners = rows.owners; opens = rows.opens }
 
+-- who waits under this number for these claims
 abbrev pub waiter_of : ℕ → Ask → List Claim → Waiter
 waiter_of id a claims = record { id = id; conn = a.conn; asked = claims; wish = a.wish; blocking = a.blocking; monitored = a.monitored; rows = waiting_rows a.rows }
 
@@ -49,6 +50,7 @@ named a s = record s { names = both_entered a s.names }
 abbrev pub waiting : Ask → List Claim → CoreState → CoreState
 waiting a claims s = record s { waiters = s.waiters ++ waiter_of (s.counter + 1) a claims ∷ []; names = both_entered a s.names; counter = s.counter + 1 }
 
+-- what an ask is answered by the ruling on its claims: the first of them granted, a refusal, or the number under which it waits
 abbrev pub answered : Ask → List Claim → Claim → Ruling → List Effect → CoreState → Answered
 answered a claims first Gets told s = (Granted first, told, named a s)
 answered a claims first Waits told s = (Queued (s.counter + 1), told, waiting a claims s)
@@ -61,10 +63,12 @@ claims_asked n left s a (c ∷ cs) = let r = judged n s.waiters left (plea_of le
 
 -- ---- a test
 
+-- granted where nothing is in the way
 abbrev pub test_answered : Claim → Option Claim → Answer
 test_answered claim None = Granted claim
 test_answered claim (Some c) = Conflict c
 
+-- a test is told what a lock of this claim would meet, and changes nothing
 unfoldable pub tested : CoreState → Ask → Claim → Answer
 tested s a claim = if a.reclaim then NoGrace s.clock else test_answered claim (least s.names (test_blockers s claim))
 
@@ -74,18 +78,21 @@ tested s a claim = if a.reclaim then NoGrace s.clock else test_answered claim (l
 abbrev pub unlocked_claims : Claim → ℕ → ℕ → List Claim → List Claim
 unlocked_claims c first last held = relocked_in c.file c.owner c.party first last None held
 
+-- the owner's bytes of the range are given up: not held where it has none, full where there is no room to cut a range in two
 abbrev pub unlocked_bytes : CoreState → Claim → ℕ → ℕ → Answered
 unlocked_bytes s claim first last =
     if not (holds_byte claim.file claim.owner first last s.claims) then (NotHeld, [], s)
     else if not (nat_le (length (unlocked_claims claim first last s.claims)) most_claims) then (Full most_claims, [], s)
     else (Granted claim, [], record s { claims = unlocked_claims claim first last s.claims })
 
+-- an unlock of a range; one without a byte holds nothing
 unfoldable pub unlocked : CoreState → Claim → Extent → Answered
 unlocked s claim (Bytes first last) = unlocked_bytes s claim first last
 unlocked s claim (Empty offset) = (NotHeld, [], s)
 
 -- ---- an ask
 
+-- the ask by what it asks for
 abbrev pub acted : ℕ → Rooms → CoreState → Ask → Act → Answered
 acted n left s a (Share access deny) = claims_asked n left s a (asked_claims a (asked_whats (Share access deny)) s.names)
 acted n left s a (Ranges ranges) = claims_asked n left s a (asked_claims a (asked_whats (Ranges ranges)) s.names)

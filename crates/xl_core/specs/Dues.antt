@@ -24,6 +24,7 @@ pub record IsGrantDue (left : Rooms) (s : CoreState) (a : Ask) (what : What) (an
   pub free : a.reclaim ≡ false → is_blocked s.claims (asked_claim a what s.names) ≡ false → IsRoom (limits_of_grant left s a (asked_claim a what s.names)) → answer ≡ Granted (asked_claim a what s.names)
   pub cause : IsClaimDue left s a (asked_claim a what s.names) answer
 
+-- what is due to an ask for this; an ask for nothing is owed nothing
 abbrev pub IsWhatDue : Rooms → CoreState → Ask → Option What → Answer → Type 0
 IsWhatDue left s a None answer = Unit {0}
 IsWhatDue left s a (Some what) answer = IsGrantDue left s a what answer
@@ -41,6 +42,7 @@ pub record IsTurnOwed (n : ℕ) (left : Rooms) (s : CoreState) : Type 0 where
   pub none : settle n left s ≡ None → IsSettled s
   pub first : IfSome (settle n left s) (λ r. IsTurn left s r.0 r.1)
 
+-- what is due to a deed: an ask its answer, a turn to who may have it
 abbrev pub IsDue : ℕ → CoreState → Deed → Type 0
 IsDue n s (Asks left a) = IsAnswerDue left s a a.act (ask n left s a).0
 IsDue n s (Serves left) = IsTurnOwed n left s

@@ -32,9 +32,11 @@ abbrev pub IsRangeBy : What → Type 0
 IsRangeBy (Range (Bytes first last) exclusive) = first ≤ last
 IsRangeBy _ = ⊥
 
+-- such a range of a POSIX owner
 abbrev pub IsRange : Claim → Type 0
 IsRange c = IsRangeBy c.what × (posix c.owner ≡ true)
 
+-- the two names are of these protocols, and the party's is the owner's client
 abbrev pub agree : Protocol → Protocol → Option Name → Option Name → Bool
 agree protocol other (Some owner) (Some party) = same_protocol protocol (protocol_of owner) && (same_protocol other (protocol_of party) && is_name (client_of owner) party)
 agree protocol other _ _ = false
@@ -54,11 +56,13 @@ is_single_by a b (Share access deny) (Share rights denied) = not (same_owners a.
 is_single_by a b (Cache kind running) (Cache other due) = not (same_parties a.party b.party)
 is_single_by a b _ _ = true
 
+-- the two stand on two files, or there as far as an owner has one share and a party one cache
 abbrev pub is_single : Claim → Claim → Bool
 is_single a b = not (a.file == b.file && not (is_single_by a b a.what b.what))
 
 -- ---- the waiters
 
+-- the two wait under two numbers
 abbrev pub are_apart : Waiter → Waiter → Bool
 are_apart v w = not (v.id == w.id)
 

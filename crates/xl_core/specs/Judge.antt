@@ -24,6 +24,7 @@ Ruled = Ruling × List Effect × CoreState
 abbrev pub Step : Type 0
 Step = CoreState → Option Ruling × List Effect × CoreState
 
+-- a step that ended the row, or one behind which the rest goes on
 abbrev pub followed : Option Ruling → List Effect → CoreState → (CoreState → Ruled) → Ruled
 followed (Some ruling) told s rest = (ruling, told, s)
 followed None told s rest = ((rest s).0, told ++ (rest s).1, (rest s).2)
@@ -39,6 +40,7 @@ abbrev pub all_granted : List Claim → List Claim → List Claim
 all_granted [] held = held
 all_granted (c ∷ cs) held = all_granted cs (granted_claims c held)
 
+-- the state in which these claims are held too
 unfoldable pub held_with : List Claim → CoreState → CoreState
 held_with claims s = record s { claims = all_granted claims s.claims }
 
@@ -53,9 +55,11 @@ abbrev pub waits : Option ℕ → Ruling
 waits None = Waits
 waits (Some limit) = Told (Full limit)
 
+-- what comes of a claim that something stands against: a wait, where it may wait, else a refusal that names this claim
 abbrev pub stopped : Plea → Claim → Ruling
 stopped p c = if p.blocking then waits p.crowded else Told (Conflict c)
 
+-- ends where something is held against the claim
 abbrev pub held_by : Plea → Option Claim → Step
 held_by p None s = (None, [], s)
 held_by p (Some c) s = (Some (stopped p c), [], s)
@@ -68,6 +72,7 @@ check_held earlier p before c s = held_by p (least s.names (blockers earlier (he
 unfoldable pub start_breaks : Plea → List Claim → Claim → Step
 start_breaks p before c s = (None, [], s)
 
+-- ends where a limit is passed
 abbrev pub room_by : Option ℕ → Step
 room_by None s = (None, [], s)
 room_by (Some limit) s = (Some (Told (Full limit)), [], s)

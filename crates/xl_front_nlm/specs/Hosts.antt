@@ -7,6 +7,7 @@ use Rattle.xl_core.specs.Limits.{most_hosts, most_opens, most_owners}
 use Rattle.xl_core.specs.declared.ask.Answer.{Answer}
 use Rattle.xl_core.specs.declared.ask.Answer.TheVariants.{Granted, Queued}
 
+-- the caller is a host already
 abbrev pub is_host : List ℕ → List (List ℕ) → Bool
 is_host caller hosts = list_any (bytes_eq caller) hosts
 
@@ -18,6 +19,7 @@ host_entered caller hosts = if is_host caller hosts then hosts else hosts ++ cal
 abbrev pub are_apart : List ℕ → List ℕ → Bool
 are_apart a b = not (bytes_eq a b)
 
+-- hosts are few, and each stands once
 abbrev pub AreHosts : List (List ℕ) → Type 0
 AreHosts hosts = (length hosts ≤ most_hosts) × Pairwise are_apart hosts
 
@@ -29,6 +31,7 @@ rooms hosts = record { hosts = most_hosts - length hosts; owners = most_owners; 
 abbrev pub host_rows : List ℕ → List (List ℕ) → Rooms
 host_rows caller hosts = record { hosts = if is_host caller hosts then 0 else 1; owners = 0; opens = 0 }
 
+-- no row is added
 abbrev pub no_rows : Rooms
 no_rows = record { hosts = 0; owners = 0; opens = 0 }
 
@@ -38,5 +41,6 @@ makes_host (Granted c) = true
 makes_host (Queued id) = true
 makes_host _ = false
 
+-- the hosts once the caller's ask has this answer
 abbrev pub hosts_after : Answer → List ℕ → List (List ℕ) → List (List ℕ)
 hosts_after answer caller hosts = if makes_host answer then host_entered caller hosts else hosts

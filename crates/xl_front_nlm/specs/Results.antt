@@ -32,6 +32,7 @@ answer_status (answers.Full limit) = stats.DeniedNolocks
 answer_status answers.NotHeld = stats.Granted
 answer_status answers.StoreFailed = stats.Failed
 
+-- the status that says how a call came out (XNFS C702, nlm4_stats)
 abbrev pub status_of : Outcome → NlmStatus
 status_of NoFile = stats.StaleFh
 status_of TooBig = stats.Fbig
@@ -61,10 +62,12 @@ abbrev pub parts_by : Option Name → ℤ × List ℕ
 parts_by (Some (NlmRange caller svid oh)) = (svid, oh)
 parts_by _ = (pos 0, [])
 
+-- the process and the handle of an owner, as a denied test tells them
 abbrev pub owner_parts : List Name → Owner → ℤ × List ℕ
 owner_parts names (owners.Name protocol number) = parts_by (slice_get names number)
 owner_parts names (owners.Open number) = (pos 0, [])
 
+-- the holder that a denied test tells (nlm4_holder)
 abbrev pub holder_by : ℤ × List ℕ → What → HolderItem
 holder_by who (Range (Bytes first last) exclusive) = record { exclusive = exclusive; svid = who.0; oh = who.1; l_offset = first; l_len = length_of first last }
 holder_by who _ = record { exclusive = false; svid = who.0; oh = who.1; l_offset = 0; l_len = length_of 0 0 }
@@ -78,6 +81,7 @@ abbrev pub test_holder : List Name → Outcome → Option HolderItem
 test_holder names (Answered (answers.Conflict c)) = Some (holder_of names c)
 test_holder names _ = None
 
+-- the result of a test (nlm4_testres)
 abbrev pub test_result : List ℕ → List Name → Outcome → TestResItem
 test_result cookie names outcome = record { cookie = cookie; stat = test_status outcome; holder = test_holder names outcome }
 

@@ -58,6 +58,7 @@ IsUnlockTold s claim first last _ = ⊥
 
 -- ---- by what is named
 
+-- FBIG where the range would pass the last byte, else what the rest tells
 abbrev pub IsLastTold : LockItem → ℕ → (Aim → NlmStatus → Type 0) → Option ℕ → NlmStatus → Type 0
 IsLastTold l file told None status = status ≡ stats.Fbig
 IsLastTold l file told (Some last) status = told (record { file = file; first = l.l_offset; last = last }) status
@@ -67,6 +68,7 @@ abbrev pub IsRangeTold : LockItem → (Aim → NlmStatus → Type 0) → Option 
 IsRangeTold l told None status = status ≡ stats.StaleFh
 IsRangeTold l told (Some file) status = IsLastTold l file told (last_of l.l_offset l.l_len) status
 
+-- STALE_FH where the handle is of no file, else what the rest tells
 abbrev pub IsFileTold : (ℕ → NlmStatus → Type 0) → Option ℕ → NlmStatus → Type 0
 IsFileTold told None status = status ≡ stats.StaleFh
 IsFileTold told (Some file) status = told file status
@@ -85,6 +87,7 @@ IsCancelTold (Some id) status = status ≡ stats.Granted
 abbrev pub lock_claim : List (List ℕ) → CoreState → LockArgsItem → Aim → Claim
 lock_claim hosts s a at = asked_claim (lock_ask (host_rows a.lock.caller_name hosts) a at) (whats.Range (Bytes at.first at.last) a.exclusive) s.names
 
+-- what a lock is told, by what it meets in the core
 abbrev pub IsLockingTold : List (List ℕ) → CoreState → LockArgsItem → Aim → NlmStatus → Type 0
 IsLockingTold hosts s a at status = IsLockTold (does_wait s a at) (rooms hosts) s (lock_ask (host_rows a.lock.caller_name hosts) a at) (lock_claim hosts s a at) status
 

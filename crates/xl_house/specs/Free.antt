@@ -13,6 +13,7 @@ pub record IsFree (s : Whole) : Type 0 where
   pub made : s.core.made ≡ 0
   pub failed : s.core.failed ≡ false
 
+-- the state is free before the first entry and after each
 abbrev pub AlwaysFree : Whole → List Entry → Type 0
 AlwaysFree s [] = IsFree s × Unit {0}
 AlwaysFree s (e ∷ es) = IsFree s × AlwaysFree (step e.stores s e.event).next es

@@ -31,6 +31,7 @@ found s = step_begun s.core
 
 -- ---- lawful
 
+-- what is held afterwards, by the event
 abbrev pub IsLawfulBy : ℕ → Whole → Event → Whole → Type 0
 IsLawfulBy n s Restart t = (p : Place) → held_at t.core p ≡ []
 IsLawfulBy n s event t = IsChangedBy n (found s) (deeds n s event) t.core
@@ -42,6 +43,7 @@ IsLawful n s e t = IsLawfulBy n s e.event t
 
 -- ---- waiting
 
+-- who waits afterwards, by the event
 abbrev pub IsWaitingBy : ℕ → Whole → Event → Whole → Type 0
 IsWaitingBy n s Restart t = t.core.waiters ≡ []
 IsWaitingBy n s event t = (t.core.waiters ≡ queue_after n (found s) (deeds n s event) s.core.waiters) × KeepNames s.core.names t.core.names
@@ -61,6 +63,7 @@ IsComplete n s e t = AreDue n (found s) (deeds n s e.event)
 
 -- ---- caused
 
+-- the act gives bytes up
 abbrev pub is_unlock : Act → Bool
 is_unlock (Unlock extent) = true
 is_unlock act = false
@@ -80,6 +83,7 @@ may_follow (Serves left) = true
 may_follow Draws = true
 may_follow deed = false
 
+-- a message's own deeds are of the client that it names
 abbrev pub IsOwnersBy : ℕ → Whole → Event → Type 0
 IsOwnersBy n s (Message number bytes) = AreOfSome n (found s) (message_client (kind_of s.connections number) bytes) (own_deeds s (Message number bytes))
 IsOwnersBy n s event = Unit {0}
@@ -91,6 +95,7 @@ pub record IsCausedBy (n : ℕ) (s : Whole) (event : Event) : Type 0 where
   pub clients : IsOwnersBy n s event
   pub behind : AllByRecursion (λ d. may_follow d ≡ true) (behind_own n s event)
 
+-- each deed of the entry has its cause in the event
 abbrev pub IsCaused : Law
 IsCaused n s e t = IsCausedBy n s e.event
 

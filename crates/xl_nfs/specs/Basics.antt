@@ -15,9 +15,11 @@ use Rattle.xl_nfs.specs.declared.basics.LockType.TheVariants as types
 abbrev pub identifier : Format (List ℕ) RpcBad
 identifier = text 1024 refl
 
+-- nfs_fh4
 unfoldable pub handle : Format (List ℕ) RpcBad
 handle = text 128 refl
 
+-- component4
 unfoldable pub name : Format (List ℕ) RpcBad
 name = text 4294967295 refl
 
@@ -37,6 +39,7 @@ pub record OwnerItem : Type 0 where
 abbrev pub shown_owner : Owner → OwnerItem
 shown_owner x = record { clientid = x.clientid; owner = x.owner.now }
 
+-- open_owner4 and lock_owner4
 unfoldable pub owner : Format OwnerItem RpcBad
 owner = seen (λ x. record { clientid = x.0; owner = x.1 }) (λ x. (x.clientid, x.owner)) (u64 ⋆ identifier) (λ _. refl) (λ _. refl)
 
@@ -54,6 +57,7 @@ pub lock_type_made : (t : LockType) → (made_lock_type (lock_type_number t) ≡
 lock_type_made types.Read = (refl, refl)
 lock_type_made _ = (refl, refl)
 
+-- nfs_lock_type4
 unfoldable pub lock_type : Format LockType RpcBad
 lock_type = numbered bad.Value made_lock_type lock_type_number lock_type_made
 

@@ -36,6 +36,7 @@ pub recall_result_made : (x : RecallResultItem) → IsMade recall_results x (rec
 recall_result_made (Recall x) = (refl, λ _ _. refl)
 recall_result_made _ = (refl, λ _ _. refl)
 
+-- CB_RECALL4res
 unfoldable pub recall_result : Format RecallResultItem RpcBad
 recall_result = tagged u32 recall_results recall_result_case (λ _. refl, (λ _. refl, none_else recall_result_case _ bad.Value)) recall_result_made
 
@@ -51,6 +52,7 @@ pub result_list_made : (x : Option RecallResultItem) → IsMade result_lists x (
 result_list_made None = (refl, λ _ _. refl)
 result_list_made (Some x) = (refl, λ _ _. refl)
 
+-- the results of a CB_COMPOUND: none, or that of the recall
 unfoldable pub result_list : Format (Option RecallResultItem) RpcBad
 result_list = tagged u32 result_lists result_list_case (λ _. refl, (λ _. refl, none_else result_list_case _ bad.Value)) result_list_made
 
@@ -63,6 +65,7 @@ pub record RecallReplyItem : Type 0 where
 abbrev pub shown_recall_reply : RecallReply → RecallReplyItem
 shown_recall_reply x = record { status = x.status; tag = x.tag.now; results = option_map shown_recall_result x.results }
 
+-- CB_COMPOUND4res
 unfoldable pub recall_reply : Format RecallReplyItem RpcBad
 recall_reply = seen (λ x. record { status = x.0; tag = x.1.0; results = x.1.1 }) (λ x. (x.status, (x.tag, x.results))) (status ⋆ identifier ⋆ result_list) (λ _. refl) (λ _. refl)
 

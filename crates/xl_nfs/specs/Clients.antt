@@ -24,6 +24,7 @@ pub record SetClientIdArgsItem : Type 0 where
 abbrev pub shown_set_client_id_args : SetClientIdArgs → SetClientIdArgsItem
 shown_set_client_id_args x = record { verifier = x.verifier; id = x.id.now; program = x.program; netid = x.netid.now; address = x.address.now; callback_ident = x.callback_ident }
 
+-- SETCLIENTID4args
 unfoldable pub set_client_id_args : Format SetClientIdArgsItem RpcBad
 set_client_id_args = seen (λ x. record { verifier = x.0; id = x.1.0; program = x.1.1.0; netid = x.1.1.1.0; address = x.1.1.1.1.0; callback_ident = x.1.1.1.1.1 })
     (λ x. (x.verifier, (x.id, (x.program, (x.netid, (x.address, x.callback_ident)))))) (verifier ⋆ identifier ⋆ u32 ⋆ label ⋆ label ⋆ u32) (λ _. refl) (λ _. refl)

@@ -16,6 +16,7 @@ pub record CompoundHeadItem : Type 0 where
 abbrev pub shown_compound_head : CompoundHead → CompoundHeadItem
 shown_compound_head x = record { tag = x.tag.now; minorversion = x.minorversion; count = x.count }
 
+-- COMPOUND4args, up to the number of its operations
 unfoldable pub compound_head : Format CompoundHeadItem RpcBad
 compound_head = seen (λ x. record { tag = x.0; minorversion = x.1.0; count = x.1.1 }) (λ x. (x.tag, (x.minorversion, x.count))) (identifier ⋆ u32 ⋆ u32) (λ _. refl) (λ _. refl)
 

@@ -28,6 +28,7 @@ pub record NewLockerItem : Type 0 where
 abbrev pub shown_new_locker : NewLocker → NewLockerItem
 shown_new_locker x = record { open_seqid = x.open_seqid; open_stateid = x.open_stateid; lock_seqid = x.lock_seqid; owner = shown_owner x.owner }
 
+-- open_to_lock_owner4
 unfoldable pub new_locker : Format NewLockerItem RpcBad
 new_locker = seen (λ x. record { open_seqid = x.0; open_stateid = x.1.0; lock_seqid = x.1.1.0; owner = x.1.1.1 })
     (λ x. (x.open_seqid, (x.open_stateid, (x.lock_seqid, x.owner)))) (u32 ⋆ stateid ⋆ u32 ⋆ owner) (λ _. refl) (λ _. refl)
@@ -56,6 +57,7 @@ pub locker_made : (x : LockerItem) → IsMade lockers x (locker_case x)
 locker_made (New x) = (refl, λ _ _. refl)
 locker_made (Known x) = (refl, λ _ _. refl)
 
+-- locker4
 unfoldable pub locker : Format LockerItem RpcBad
 locker = tagged flag lockers locker_case (λ _. refl, (λ _. refl, none_else locker_case _ bad.Value)) locker_made
 
@@ -70,6 +72,7 @@ pub record LockArgsItem : Type 0 where
 abbrev pub shown_lock_args : LockArgs → LockArgsItem
 shown_lock_args x = record { kind = x.kind; reclaim = x.reclaim; offset = x.offset; len = x.len; locker = shown_locker x.locker }
 
+-- LOCK4args
 unfoldable pub lock_args : Format LockArgsItem RpcBad
 lock_args = seen (λ x. record { kind = x.0; reclaim = x.1.0; offset = x.1.1.0; len = x.1.1.1.0; locker = x.1.1.1.1 })
     (λ x. (x.kind, (x.reclaim, (x.offset, (x.len, x.locker))))) (lock_type ⋆ flag ⋆ u64 ⋆ u64 ⋆ locker) (λ _. refl) (λ _. refl)
@@ -84,6 +87,7 @@ pub record LockTestArgsItem : Type 0 where
 abbrev pub shown_lock_test_args : LockTestArgs → LockTestArgsItem
 shown_lock_test_args x = record { kind = x.kind; offset = x.offset; len = x.len; owner = shown_owner x.owner }
 
+-- LOCKT4args
 unfoldable pub lock_test_args : Format LockTestArgsItem RpcBad
 lock_test_args = seen (λ x. record { kind = x.0; offset = x.1.0; len = x.1.1.0; owner = x.1.1.1 })
     (λ x. (x.kind, (x.offset, (x.len, x.owner)))) (lock_type ⋆ u64 ⋆ u64 ⋆ owner) (λ _. refl) (λ _. refl)
@@ -103,6 +107,7 @@ pub record DeniedItem : Type 0 where
 abbrev pub shown_denied : Denied → DeniedItem
 shown_denied x = record { offset = x.offset; len = x.len; kind = x.kind; owner = shown_owner x.owner }
 
+-- LOCK4denied
 unfoldable pub denied : Format DeniedItem RpcBad
 denied = seen (λ x. record { offset = x.0; len = x.1.0; kind = x.1.1.0; owner = x.1.1.1 })
     (λ x. (x.offset, (x.len, (x.kind, x.owner)))) (u64 ⋆ u64 ⋆ lock_type ⋆ owner) (λ _. refl) (λ _. refl)

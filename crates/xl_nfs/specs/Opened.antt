@@ -33,6 +33,7 @@ pub record AceItem : Type 0 where
 abbrev pub shown_ace : Ace → AceItem
 shown_ace x = record { kind = x.kind; flag = x.flag; mask = x.mask; who = x.who.now }
 
+-- nfsace4
 unfoldable pub ace : Format AceItem RpcBad
 ace = seen (λ x. record { kind = x.0; flag = x.1.0; mask = x.1.1.0; who = x.1.1.1 }) (λ x. (x.kind, (x.flag, (x.mask, x.who)))) (u32 ⋆ u32 ⋆ u32 ⋆ name) (λ _. refl) (λ _. refl)
 
@@ -45,6 +46,7 @@ pub record ReadDelegationItem : Type 0 where
 abbrev pub shown_read_delegation : ReadDelegation → ReadDelegationItem
 shown_read_delegation x = record { stateid = x.stateid; recall = x.recall; permissions = shown_ace x.permissions }
 
+-- open_read_delegation4
 unfoldable pub read_delegation : Format ReadDelegationItem RpcBad
 read_delegation = seen (λ x. record { stateid = x.0; recall = x.1.0; permissions = x.1.1 }) (λ x. (x.stateid, (x.recall, x.permissions))) (stateid ⋆ flag ⋆ ace) (λ _. refl) (λ _. refl)
 
@@ -58,6 +60,7 @@ pub record WriteDelegationItem : Type 0 where
 abbrev pub shown_write_delegation : WriteDelegation → WriteDelegationItem
 shown_write_delegation x = record { stateid = x.stateid; recall = x.recall; limit = x.limit; permissions = shown_ace x.permissions }
 
+-- open_write_delegation4
 unfoldable pub write_delegation : Format WriteDelegationItem RpcBad
 write_delegation = seen (λ x. record { stateid = x.0; recall = x.1.0; limit = x.1.1.0; permissions = x.1.1.1 })
     (λ x. (x.stateid, (x.recall, (x.limit, x.permissions)))) (stateid ⋆ flag ⋆ limit ⋆ ace) (λ _. refl) (λ _. refl)
@@ -85,6 +88,7 @@ pub delegation_made : (x : DelegationItem) → IsMade delegations x (delegation_
 delegation_made NoDelegation = (refl, λ _ _. refl)
 delegation_made _ = (refl, λ _ _. refl)
 
+-- open_delegation4
 unfoldable pub delegation : Format DelegationItem RpcBad
 delegation = tagged u32 delegations delegation_case (λ _. refl, (λ _. refl, (λ _. refl, none_else delegation_case _ bad.Value))) delegation_made
 
@@ -99,6 +103,7 @@ pub record OpenResultItem : Type 0 where
 abbrev pub shown_open_result : OpenResult → OpenResultItem
 shown_open_result x = record { stateid = x.stateid; change = x.change; flags = x.flags; attributes = x.attributes.words.now; delegation = shown_delegation x.delegation }
 
+-- OPEN4resok
 unfoldable pub open_result : Format OpenResultItem RpcBad
 open_result = seen (λ x. record { stateid = x.0; change = x.1.0; flags = x.1.1.0; attributes = x.1.1.1.0; delegation = x.1.1.1.1 })
     (λ x. (x.stateid, (x.change, (x.flags, (x.attributes, x.delegation))))) (stateid ⋆ change_info ⋆ u32 ⋆ array ⋆ delegation) (λ _. refl) (λ _. refl)

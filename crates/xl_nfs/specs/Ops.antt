@@ -108,6 +108,7 @@ pub other_seen : (b : Bool) (n : ℕ) → is_numbered n ≡ b → is_listed ops 
 other_seen true n is unlisted = (refl, (refl, (unlisted, is)))
 other_seen false n is unlisted = (refl, (refl, (unlisted, is)))
 
+-- nfs_argop4
 unfoldable pub op : Format OpItem RpcBad
 op = tagged u32 ops op_case
     (λ _. refl, (λ _. refl, (λ _. refl, (λ _. refl, (λ _. refl, (λ _. refl, (λ _. refl, (λ _. refl, (λ _. refl, (λ _. refl, (λ _. refl, (λ _. refl, (λ _. refl, (λ _. refl, (λ _. refl, (λ _. refl, (λ n unlisted x same. subst (λ (y : OpItem). (spelled (op_case y) ≡ nothing.spell tt) × (((op_case y).key ≡ n) × (op_case y).Fit)) same (other_seen (is_numbered n) n refl unlisted), tt)))))))))))))))))

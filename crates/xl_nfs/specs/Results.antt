@@ -135,6 +135,7 @@ other_result_seen true c n is e unlisted x same = subst (λ (y : ResultItem). (s
 other_result_seen false true n is e unlisted x same = subst (λ (y : ResultItem). (spelled (result_case y) ≡ (told statuses.OpIllegal).spell tt) × (((result_case y).key ≡ n) × (result_case y).Fit)) same (refl, (sym (eqb-true n 10044 e), told_fits statuses.OpIllegal))
 other_result_seen false false n is e unlisted x none = absurd none
 
+-- nfs_resop4
 unfoldable pub nfs_result : Format ResultItem RpcBad
 nfs_result = tagged u32 results result_case
     (λ _. refl, (λ _. refl, (λ _. refl, (λ _. refl, (λ _. refl, (λ _. refl, (λ _. refl, (λ _. refl, (λ _. refl, (λ _. refl, (λ _. refl, (λ _. refl, (λ _. refl, (λ _. refl, (λ _. refl, (λ _. refl, (λ n unlisted x fit. other_result_seen (is_numbered n) (n == 10044) n refl refl unlisted x fit, tt)))))))))))))))))

@@ -13,24 +13,30 @@ use Rattle.xl_nlm.specs.Items.{LockItem, TestArgsItem, LockArgsItem, CancelArgsI
 abbrev pub TextFits : List ℕ → Type 0
 TextFits bytes = OpaqueFits 1024 bytes
 
+-- a name of at most 1,024 bytes
 abbrev pub name : Format (List ℕ) RpcBad
 name = text 1024 refl
 
+-- nlm4_lock
 unfoldable pub lock : Format LockItem RpcBad
 lock = seen (λ l. record { caller_name = l.0; fh = l.1.0; oh = l.1.1.0; svid = l.1.1.1.0; l_offset = l.1.1.1.1.0; l_len = l.1.1.1.1.1 })
     (λ l. (l.caller_name, (l.fh, (l.oh, (l.svid, (l.l_offset, l.l_len)))))) (name ⋆ name ⋆ name ⋆ i32 ⋆ u64 ⋆ u64) (λ _. refl) (λ _. refl)
 
+-- nlm4_testargs
 unfoldable pub test_args : Format TestArgsItem RpcBad
 test_args = seen (λ a. record { cookie = a.0; exclusive = a.1.0; lock = a.1.1 }) (λ a. (a.cookie, (a.exclusive, a.lock))) (name ⋆ flag ⋆ lock) (λ _. refl) (λ _. refl)
 
+-- nlm4_lockargs
 unfoldable pub lock_args : Format LockArgsItem RpcBad
 lock_args = seen (λ a. record { cookie = a.0; block = a.1.0; exclusive = a.1.1.0; lock = a.1.1.1.0; reclaim = a.1.1.1.1.0; state = a.1.1.1.1.1 })
     (λ a. (a.cookie, (a.block, (a.exclusive, (a.lock, (a.reclaim, a.state)))))) (name ⋆ flag ⋆ flag ⋆ lock ⋆ flag ⋆ i32) (λ _. refl) (λ _. refl)
 
+-- nlm4_cancargs
 unfoldable pub cancel_args : Format CancelArgsItem RpcBad
 cancel_args = seen (λ a. record { cookie = a.0; block = a.1.0; exclusive = a.1.1.0; lock = a.1.1.1 })
     (λ a. (a.cookie, (a.block, (a.exclusive, a.lock)))) (name ⋆ flag ⋆ flag ⋆ lock) (λ _. refl) (λ _. refl)
 
+-- nlm4_unlockargs
 unfoldable pub unlock_args : Format UnlockArgsItem RpcBad
 unlock_args = seen (λ a. record { cookie = a.0; lock = a.1 }) (λ a. (a.cookie, a.lock)) (name ⋆ lock) (λ _. refl) (λ _. refl)
 
@@ -51,13 +57,16 @@ rights_made r = by r.read r.write where
   by false true = (refl, refl)
   by false false = (refl, refl)
 
+-- fsh4_mode and fsh4_access: none, read, write, both
 unfoldable pub rights : Format Rights RpcBad
 rights = numbered bad.Value made_rights rights_number rights_made
 
+-- nlm4_shareargs
 unfoldable pub share_args : Format ShareArgsItem RpcBad
 share_args = seen (λ a. record { cookie = a.0; caller_name = a.1.0; fh = a.1.1.0; oh = a.1.1.1.0; mode = a.1.1.1.1.0; access = a.1.1.1.1.1.0; reclaim = a.1.1.1.1.1.1 })
     (λ a. (a.cookie, (a.caller_name, (a.fh, (a.oh, (a.mode, (a.access, a.reclaim))))))) (name ⋆ name ⋆ name ⋆ name ⋆ rights ⋆ rights ⋆ flag) (λ _. refl) (λ _. refl)
 
+-- nlm4_notify
 unfoldable pub notify : Format NotifyItem RpcBad
 notify = seen (λ n. record { name = n.0; state = n.1 }) (λ n. (n.name, n.state)) (name ⋆ i32) (λ _. refl) (λ _. refl)
 
@@ -88,6 +97,7 @@ pub call_made : (c : CallItem) → IsMade calls c (call c)
 call_made Null = (refl, λ _ _. refl)
 call_made _ = (refl, λ _ _. refl)
 
+-- the arguments of the procedure of this number
 unfoldable pub arguments_of : ℕ → Format CallItem RpcBad
 arguments_of proc = choice calls call (λ _. refl, (λ _. refl, (λ _. refl, (λ _. refl, (λ _. refl, (λ _. refl, (λ _. refl, (λ _. refl, (λ _. refl, (λ _. refl, none_else call _ bad.Value)))))))))) call_made proc
 

@@ -32,9 +32,11 @@ pub status_made : (s : NlmStatus) → (made_status (status_number s) ≡ s) × (
 status_made stats.Granted = (refl, refl)
 status_made _ = (refl, refl)
 
+-- nlm4_stats
 unfoldable pub status : Format NlmStatus RpcBad
 status = numbered bad.Value made_status status_number status_made
 
+-- nlm4_holder
 unfoldable pub holder : Format HolderItem RpcBad
 holder = seen (λ h. record { exclusive = h.0; svid = h.1.0; oh = h.1.1.0; l_offset = h.1.1.1.0; l_len = h.1.1.1.1 })
     (λ h. (h.exclusive, (h.svid, (h.oh, (h.l_offset, h.l_len))))) (flag ⋆ i32 ⋆ name ⋆ u64 ⋆ u64) (λ _. refl) (λ _. refl)
@@ -44,12 +46,15 @@ abbrev pub is_denied : NlmStatus → Bool
 is_denied stats.Denied = true
 is_denied _ = false
 
+-- nlm4_testres
 unfoldable pub test_res : Format TestResItem RpcBad
 test_res = seen (λ r. record { cookie = r.0; stat = r.1.0; holder = r.1.1 }) (λ r. (r.cookie, (r.stat, r.holder))) (name ⋆ followed status (λ s. optional (is_denied s) holder)) (λ _. refl) (λ _. refl)
 
+-- nlm4_res
 unfoldable pub res : Format ResItem RpcBad
 res = seen (λ r. record { cookie = r.0; stat = r.1 }) (λ r. (r.cookie, r.stat)) (name ⋆ status) (λ _. refl) (λ _. refl)
 
+-- nlm4_shareres
 unfoldable pub share_res : Format ShareResItem RpcBad
 share_res = seen (λ r. record { cookie = r.0; stat = r.1.0; sequence = r.1.1 }) (λ r. (r.cookie, (r.stat, r.sequence))) (name ⋆ status ⋆ i32) (λ _. refl) (λ _. refl)
 
@@ -75,6 +80,7 @@ pub reply_made : (r : ReplyItem) → IsMade replies r (reply r)
 reply_made Void = (refl, λ _ _. refl)
 reply_made _ = (refl, λ _ _. refl)
 
+-- the results of the procedure of this number
 unfoldable pub results_of : ℕ → Format ReplyItem RpcBad
 results_of proc = choice replies reply (λ _. refl, (λ _. refl, (λ _. refl, (λ _. refl, none_else reply _ bad.Value)))) reply_made (form_of proc)
 

@@ -28,6 +28,7 @@ all_inserted (c ∷ cs) held = all_inserted cs (inserted c held)
 
 -- ---- an owner's ranges
 
+-- the mode shuts all others out
 abbrev pub is_exclusive : Mode → Bool
 is_exclusive Exclusive = true
 is_exclusive Shared = false
@@ -78,6 +79,7 @@ shares_of file owner (c ∷ cs) = if is_of file owner c then with_share c.what (
 unfoldable pub unshared : ℕ → Owner → List Claim → List Claim
 unshared file owner cs = filter (λ c. not (is_share_of file owner c)) cs
 
+-- the shares of this owner on this file: one at most
 unfoldable pub old_shares : ℕ → Owner → List Claim → List Claim
 old_shares file owner cs = filter (is_share_of file owner) cs
 
@@ -90,6 +92,7 @@ abbrev pub united_what : What → What → What
 united_what (Share access deny) (Share rights denied) = Share (either_right access rights) (either_right deny denied)
 united_what what _ = what
 
+-- the first of these joined with what is asked
 abbrev pub united_with : What → List Claim → What
 united_with what [] = what
 united_with what (c ∷ cs) = united_with (united_what what c.what) cs
@@ -102,6 +105,7 @@ unites (owners.Name Nfs number) = true
 unites (owners.Name Smb number) = false
 unites (owners.Open number) = false
 
+-- what is asked, joined with what the owner had where its shares unite
 unfoldable pub united_by : Owner → What → List Claim → What
 united_by owner what old = if unites owner then united_with what old else what
 
@@ -122,5 +126,6 @@ granted_by c (Share access deny) cs = shared_in c cs
 granted_by c (Range (Bytes first last) exclusive) cs = relocked_in c.file c.owner c.party first last (Some (mode_of exclusive)) cs
 granted_by c _ cs = cs
 
+-- the claims once this one is granted, by its kind and its owner
 unfoldable pub granted_claims : Claim → List Claim → List Claim
 granted_claims c cs = granted_by c c.what cs
