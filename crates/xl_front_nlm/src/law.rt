@@ -56,8 +56,8 @@ pub fn deeds_are_the_clients()
     ensures { (n : ℕ) (exports : Exports) (f : FrontState) (s : CoreState) (r : RequestItem) → IsGood s → AreOfSome n s (nlm_client r) (nlm_deeds exports f s r) }
 {}
 
-/// A request is answered by one message, which goes back to the connection that it came from: a function of its call and
-/// of what its deeds are answered.
+/// A request is answered by one message, which goes back to the connection that it came from: a function of its call, of
+/// the state that it meets, of the names that are kept then, and of what its deeds are answered.
 #[tactic(auto, using(crate::proofs::DoesLaws::step_replies))]
 pub fn replies_follow_the_answers()
     ensures { (n : ℕ) (exports : Exports) (f : FrontState) (s : CoreState) (conn : ℕ) (r : RequestItem) → (nlm_step n exports f s conn r).0 ≡ sent_to conn (nlm_reply exports f s (all_done n s (nlm_deeds exports f s r)).names r (answers_of n s (nlm_deeds exports f s r))) }
