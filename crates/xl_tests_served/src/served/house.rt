@@ -17,7 +17,7 @@ fn exports(alloc: Global) -> Result<Exports, CaptureError> {
     } = read_capture(alloc, b"F a.txt\n")?;
     Ok(Exports {
         files,
-        addresses,
+        addresses: addresses.into_sequence(),
         lease: 90_000,
         grace: 90_000,
         break_time: 35_000,
