@@ -157,22 +157,22 @@ fn put_told(text: &mut String, xid: u64, status: u32) -> Result<(), AllocError> 
 fn most_locked(alloc: Global) -> Result<(String, String), AllocError> {
     let mut lines = String::from_str(alloc, "F a.txt\nO rpc\n")?;
     let mut wanted = String::new(alloc);
-    let mut xid = 0;
+    let mut xid = 0u64;
     writeln!(wanted, "0 0 {}", MOST + BEHIND.len() as u64 + 2)?;
     for owner in 0..MOST {
-        xid += 1;
+        xid = xid.wrapping_add(1);
         let count = if owner == 0 { 3 } else { 1 };
         put_call(&mut lines, xid, 2, 0, b'a', owner, 4 * owner, count)?;
         put_told(&mut wanted, xid, 0)?;
     }
     for (procedure, block, caller, svid, first, count, status) in BEHIND {
-        xid += 1;
+        xid = xid.wrapping_add(1);
         put_call(
             &mut lines, xid, procedure, block, caller, svid, first, count,
         )?;
         put_told(&mut wanted, xid, status)?;
     }
-    xid += 1;
+    xid = xid.wrapping_add(1);
     write!(
         lines,
         "B 0 80000034{xid:08x}0000000000000002000186b50000000400000017"
