@@ -52,9 +52,9 @@ fn keeps_nothing(core: &Core) -> bool {
 /// Whether a new core has no turn, and tells nothing of a party's end.
 fn does_nothing(alloc: Global) -> Result<bool, AllocError> {
     let mut core = Core::new(alloc, Record::new(alloc), Moment(7));
-    core.begin_step();
     let turn = core.settle(alloc, &mut keeper(alloc), &LEFT)?;
     let effects = core.end_party(alloc, Party::Open(3))?;
+    core.begin_step();
     Ok(turn.is_none() && effects.is_empty() && keeps_nothing(&core))
 }
 
