@@ -21,9 +21,16 @@ reads the file WORDS, or standard input where none is named, and writes a captur
 
 FILE is an exported file's name, `/` the root, `0x..` any other handle. LENGTH is a number of bytes or `end`. x is an
 exclusive lock, s a shared one. ACCESS and DENY are r, w, rw or -. A name (CALLER, oh, cookie) is a word, `0x..` its bytes
-in hex, `-` no byte. Each call also takes xid=N, fragments=N (its record in fragments of N bytes) and pieces=N (its
-bytes in lines of N). Empty lines and the words from one on that begins with `#` are passed over. In the capture a
-comment above each line has its words.
+in hex, `-` no byte. OP is an operation of NFSv4.0:
+
+{operations}
+
+CLIENTID is its epoch and its number, as 1.5; VERIFIER and CONFIRM are a number or eight bytes, `0x..`; `op` is any
+operation, with these bytes behind its number.
+
+Each call also takes xid=N, fragments=N (its record in fragments of N bytes) and pieces=N (its bytes in lines of N).
+Empty lines and the words from one on that begins with `#` are passed over. In the capture a comment above
+each line has its words.
 
     lock a 7 a.txt 0 10 x         caller a, process 7, locks the bytes 0 to 9 of a.txt
     lock b 7 a.txt 0 10 x block   caller b waits for them
@@ -33,7 +40,7 @@ import argparse
 import itertools
 import sys
 
-from xlock import nlm, protocols, rpc, words
+from xlock import nfs, nlm, protocols, rpc, words
 from xlock.captures import CaptureError, Writer
 from xlock.words import Usage, WordError
 
@@ -43,6 +50,10 @@ CALL_OPTIONS = ("xid", "fragments", "pieces")
 def usages():
     modules = protocols.word_modules()
     return "\n".join(f"    {name} {modules[name].USAGES[name]}".rstrip() for name in modules)
+
+
+def operations():
+    return "\n".join(f"    {name} {usage}".rstrip() for name, (_, usage) in nfs.OPS.items())
 
 
 class Maker:
@@ -184,7 +195,7 @@ def capture_of(text, later=False):
 
 def main():
     form = argparse.RawDescriptionHelpFormatter
-    parser = argparse.ArgumentParser(description=__doc__.format(usages=usages()), formatter_class=form)
+    parser = argparse.ArgumentParser(description=__doc__.format(usages=usages(), operations=operations()), formatter_class=form)
     parser.add_argument("words", nargs="?", metavar="WORDS", help="the file with the words; standard input without it")
     later = "also writes lines that the program doesn't read yet: " + ", ".join(protocols.LATER)
     parser.add_argument("--later", action="store_true", help=later)

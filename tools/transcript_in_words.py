@@ -95,7 +95,7 @@ def message_in(out):
 
 def line_of(place, where, said, answer=""):
     line = f"{place:<3} {where:<4} {said}"
-    return f"{line:<{WIDTH}} {answer}" if answer else line
+    return f"{line + ' ':<{WIDTH}} {answer}" if answer else line
 
 
 def told_lines(event, place, outs, files):

@@ -3,6 +3,7 @@ import unittest
 
 from capture_from_words import capture_of
 from transcript_in_words import in_words
+from xlock import nfs
 from xlock.captures import Capture
 from xlock.rpc import RecordCutter
 from xlock.words import WordError
@@ -17,6 +18,17 @@ UNLOCK = (
     "80000058 00000002 00000000 00000002 000186b5 00000004 00000004 00000000 00000000 00000000 00000000"
     "00000000 00000001 61000000 00000008 584c4b31 00000001 00000000 00000007 00000000 00000000 00000000 0000000a"
 ).replace(" ", "")
+# PUTROOTFH, LOOKUP of a.txt and GETFH, laid out by RFC 7531, and SETCLIENTID of the client c, called back at tcp 1.2 under
+# the program 9 with the ident 3, with its confirmation and RENEW.
+LOOKUP = (
+    "8000004c 00000001 00000000 00000002 000186a3 00000004 00000001 00000000 00000000 00000000 00000000"
+    "00000000 00000000 00000003 00000018 0000000f 00000005 612e7478 74000000 0000000a"
+).replace(" ", "")
+COMES = (
+    "80000084 00000001 00000000 00000002 000186a3 00000004 00000001 00000000 00000000 00000000 00000000"
+    "00000001 74000000 00000000 00000003 00000023 00000000 00000007 00000001 63000000 00000009 00000003 74637000"
+    "00000003 312e3200 00000003 00000024 00000001 00000005 00000000 00000006 0000001e 00000001 00000005"
+).replace(" ", "")
 
 # What a text of words comes to, comments aside.
 CAPTURES = [
@@ -27,13 +39,19 @@ CAPTURES = [
     ("address b 1.2\nopen\nopen two\nuse two\nend\nopen", ["H 62 1.2", "O rpc", "O rpc", "E 1", "O rpc"]),
     ("open a\nbytes 80000001\nend a", ["O rpc", "B 0 80000001", "E 0"]),
     ("answer 2 denied\nanswer 3 0x00\nno_answer 4", ["C 2 00000002000000010000000000000000000000000000000000000008000000000000000200000001", "C 3 00", "C 4"]),
+    ("compound put_root_fh then lookup a.txt then get_fh", ["O rpc", f"B 0 {LOOKUP}"]),
+    (
+        "compound set_client_id c 7 program=9 netid=tcp address=1.2 ident=3 then confirm 1.5 6 then renew 1.5 tag=t",
+        ["O rpc", f"B 0 {COMES}"],
+    ),
     ("open\nO rpc\nB 1 00\n", ["O rpc", "O rpc", "B 1 00"]),
     ("call 100003 4 0", ["O rpc", "B 0 80000028" + "00000001 00000000 00000002 000186a3 00000004 00000000".replace(" ", "") + "0" * 32]),
 ]
 
 REFUSED = [
     "fly", "lock a 7 a.txt 0 10", "lock a 7 a.txt 0 10 y", "lock a 7 A.txt 0 10 x", "lock a 7 a.txt 0 -1 x", "use b",
-    "share a a.txt d -", "answer 1 perhaps", "T 1000", "open smb", "unlock a 7 a.txt 0 10 block", "Q", "B 0 0",
+    "share a a.txt d -", "answer 1 perhaps", "R", "open smb", "unlock a 7 a.txt 0 10 block", "Q", "B 0 0",
+    "compound renew", "compound renew 1", "compound confirm 1.5 0x00", "compound open a.txt", "compound get_fh then", "nfs_null 1",
 ]  # fmt: skip
 
 # Each call is said again as it was written.
@@ -50,7 +68,27 @@ share a b.txt r rw reclaim oh=0x00
 unshare a b.txt - w reclaim
 free_all a state=3
 call 100000 2 3 0x01020304
+nfs_null
+compound
+compound put_fh a.txt then put_fh / then put_fh 0x00 then get_fh
+compound put_root_fh then lookup - then lookup A#.txt tag=0x00
+compound set_client_id c 7 program=9 netid=tcp address=1.2 ident=3 then confirm 1.5 6 then renew 4294967295.0 tag=t
+compound set_client_id 0x00ff
+call 100003 4 1 0x000000000000000100000000
+T 90000
 """
+
+# Results of COMPOUNDs by RFC 7531, and what is said of them.
+RESULTS = [
+    ("00000000 00000000 00000003 00000018 00000000 0000000f 00000000 0000000a 00000000 00000008 584c4b31 00000001", "OK handle=0x584c4b3100000001"),
+    ("00000000 00000000 00000002 00000023 00000000 00000001 00000005 00000000 00000006 00000024 00000000", "OK clientid=1.5 confirm=6"),
+    ("00002726 00000000 00000002 00000018 00000000 0000001e 00002726", "STALE_CLIENTID at renew"),
+    ("0000273c 00000000 00000001 0000273c 0000273c", "OP_ILLEGAL at op"),
+    ("00002714 00000000 00000001 0000000c 00002714", "NOTSUPP at op 12"),
+    ("00002734 00000000 00000001 00000018 00000000", "BADXDR behind put_root_fh"),
+    ("00002722 00000001 74000000 00000000", "RESOURCE tag=t"),
+    ("00002725 00000000 00000000", "MINOR_VERS_MISMATCH"),
+]  # fmt: skip
 
 
 def lines_of(text):
@@ -68,11 +106,15 @@ class Words(unittest.TestCase):
                 capture_of("null\n" + words)
 
     def test_later(self):
-        self.assertEqual(lines_of(capture_of("open smb\nT 1000", later=True)), ["O smb", "T 1000"])
+        self.assertEqual(lines_of(capture_of("open smb\nR", later=True)), ["O smb", "R"])
 
     def test_said_again(self):
         said = in_words(capture_of(CALLS), "")
         self.assertEqual([line[9:] for line in said[1:]], CALLS.splitlines())
+
+    def test_results(self):
+        for results, wanted in RESULTS:
+            self.assertEqual(nfs.results_in_words(nfs.COMPOUND, bytes.fromhex(results)), wanted)
 
     def test_places(self):
         # The fragments of a record are one event, two records in one line are two, and a bad mark ends the connection.

@@ -1,13 +1,13 @@
 """The protocols that the tools know. One that joins has a module with the functions that xlock/nlm.py lists."""
-from xlock import nlm
+from xlock import nfs, nlm
 
 # Over ONC RPC, by program and version.
-RPC = {(nlm.PROGRAM, nlm.VERSION): nlm}
+RPC = {(nlm.PROGRAM, nlm.VERSION): nlm, (nfs.PROGRAM, nfs.VERSION): nfs}
 
 # The kinds of connection in a capture's `O` line, and those that the program doesn't read yet.
 KINDS = ("rpc", "smb")
 # The lines of a capture that are settled and that the program doesn't read yet.
-LATER = ("O smb", "T", "R", "L", "K", "N", "!n")
+LATER = ("O smb", "R", "K", "N", "!n")
 
 
 def of_call(call):

@@ -181,18 +181,6 @@ if_codec {A} {E} {this} {other} {spell} Fits tag n f g =
           })
     ]
 
-pub choose_codec : {A E : Type 0} {this other : List ℕ → Result (A × List ℕ) E} {spell : A → List ℕ} {Fit : A → Type 0} (test : Bool)
-    → (test ≡ true → IsCodec this spell Fit) → (test ≡ false → IsCodec other spell Fit)
-    → IsCodec (choose_at test this other) spell Fit
-choose_codec true f g = record {
-  takes = λ bytes x is e. (f refl).takes bytes x is e;
-  again = λ v rest fit. (f refl).again v rest fit;
-}
-choose_codec false f g = record {
-  takes = λ bytes x is e. (g refl).takes bytes x is e;
-  again = λ v rest fit. (g refl).again v rest fit;
-}
-
 -- the same codec by another name of its spelling and of what fits
 pub same_codec : {A E : Type 0} {at : List ℕ → Result (A × List ℕ) E} {spell : A → List ℕ} {Fit : A → Type 0} (spelled : A → List ℕ) (Fits : A → Type 0)
     → IsCodec at spell Fit → ((v : A) → Fit v → (spelled v ≡ spell v) × Fits v) → ((v : A) → Fits v → Fit v)

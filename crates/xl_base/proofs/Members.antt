@@ -69,14 +69,6 @@ pub all_append : {A : Type 0} (P : A → Type 0) (xs ys : List A) → AllByRecur
 all_append P [] ys left right = right
 all_append P (x ∷ xs) ys left right = (left.0, all_append P xs ys left.1 right)
 
-pub all_append_left : {A : Type 0} (P : A → Type 0) (xs ys : List A) → AllByRecursion P (xs ++ ys) → AllByRecursion P xs
-all_append_left P [] ys all = tt
-all_append_left P (x ∷ xs) ys all = (all.0, all_append_left P xs ys all.1)
-
-pub all_append_right : {A : Type 0} (P : A → Type 0) (xs ys : List A) → AllByRecursion P (xs ++ ys) → AllByRecursion P ys
-all_append_right P [] ys all = all
-all_append_right P (x ∷ xs) ys all = all_append_right P xs ys all.1
-
 -- pairs of two lists, one behind the other
 pub pairwise_append : {A : Type 0} (test : A → A → Bool) (xs ys : List A) → Pairwise test xs → Pairwise test ys → ((x y : A) → IsIn x xs → IsIn y ys → test x y ≡ true) → Pairwise test (xs ++ ys)
 pairwise_append test [] ys left right across = right
@@ -84,14 +76,6 @@ pairwise_append test (x ∷ xs) ys left right across = (
   all_append (λ z. test x z ≡ true) xs ys left.0 (all_from (λ z. test x z ≡ true) ys (λ z h. across x z (inl refl) h)),
   pairwise_append test xs ys left.1 right (λ a b h k. across a b (inr h) k),
 )
-
-pub pairwise_left : {A : Type 0} (test : A → A → Bool) (xs ys : List A) → Pairwise test (xs ++ ys) → Pairwise test xs
-pairwise_left test [] ys all = tt
-pairwise_left test (x ∷ xs) ys all = (all_append_left (λ z. test x z ≡ true) xs ys all.0, pairwise_left test xs ys all.1)
-
-pub pairwise_right : {A : Type 0} (test : A → A → Bool) (xs ys : List A) → Pairwise test (xs ++ ys) → Pairwise test ys
-pairwise_right test [] ys all = all
-pairwise_right test (x ∷ xs) ys all = pairwise_right test xs ys all.1
 
 pub pairwise_across : {A : Type 0} (test : A → A → Bool) (xs ys : List A) (x y : A) → Pairwise test (xs ++ ys) → IsIn x xs → IsIn y ys → test x y ≡ true
 pairwise_across test [] ys x y all h k = absurd h

@@ -137,10 +137,6 @@ less_share WriteDeleg access deny false false g = refl
 less_range : (kind : CacheKind) (range handle : Bool) → range ≡ true → is_less (Cache kind None) (rest_by kind range handle) ≡ true
 less_range kind range handle h = rw (ends_for_range kind range handle h) refl
 
-and-no : (x : Bool) → (x && false) ≡ false
-and-no true = refl
-and-no false = refl
-
 -- a cache is nobody's to replace, and meets no range of its owner
 not_met : (owner : Owner) (what : What) (other : Owner) (kind : CacheKind) (running : Option Break) → is_met owner what other (Cache kind running) ≡ false
 not_met owner (Share access deny) other kind running = refl

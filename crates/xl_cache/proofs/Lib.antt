@@ -3,3 +3,4 @@ pub mod LevelLaws
 pub mod PlanLaws
 pub mod BreakLaws
 pub mod WishLaws
+pub mod PartyLaws

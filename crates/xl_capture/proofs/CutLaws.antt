@@ -56,7 +56,7 @@ abbrev cut_as : List (List ℕ) → List ℕ → Option FrameBad → Framed
 cut_as messages rest bad = record { frames = messages; rest = rest; bad = bad }
 
 abbrev reading_with : Reading → List Link → List Event → Reading
-reading_with r links events = record { capture = record { files = r.capture.files; addresses = r.capture.addresses; events = events }; links = links; begun = true }
+reading_with r links events = record r { capture = record r.capture { events = events }; links = links; begun = true }
 
 -- two event lines
 events_twice : (r : Reading) (events more : List Event) (links last : List Link) → with_events (with_events r events links) more last ≡ with_events r (events ++ more) last

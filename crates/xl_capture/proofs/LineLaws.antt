@@ -73,14 +73,15 @@ is_last_line (b ∷ bs) =
       | inr goes ↦ rw (goes, rest.2) (lines_stand rest.1 b rest.0 ∙ sym some)
     ]
 
--- four words tell as much as all
-pub few_words : (r : Reading) (words : List (List ℕ)) → with_words r (take 4 words) ≡ with_words r words
+-- five words tell as much as all
+pub few_words : (r : Reading) (words : List (List ℕ)) → with_words r (take 5 words) ≡ with_words r words
 unfolding with_words
 few_words r [] = refl
 few_words r (a ∷ []) = refl
 few_words r (a ∷ b ∷ []) = refl
 few_words r (a ∷ b ∷ d ∷ []) = refl
-few_words r (a ∷ b ∷ d ∷ e ∷ more) = refl
+few_words r (a ∷ b ∷ d ∷ e ∷ []) = refl
+few_words r (a ∷ b ∷ d ∷ e ∷ f ∷ more) = refl
 
 -- a text that doesn't go past its most bytes is looked at whole
 pub looked_whole : (text : List ℕ) → length text ≤ most_bytes → text ≡ looked_at text

@@ -1,15 +1,15 @@
 -- The open connections have distinct numbers, each the place of an event.
-use Rattle.std.proofs.Common.{◌≡◌, ℕ, ◌+◌, ◌<◌, Bool, true, false, cond, eqb, ltb, inl, inr, List, [], ◌∷◌, ◌++◌, length, Option, Some, None, Result, Ok, Err, refl, sym, ap, subst, ◌∙◌, ◌&&◌, IfSome, arith}
+use Rattle.std.proofs.Common.{◌≡◌, ℕ, ◌+◌, ◌<◌, Bool, true, false, cond, eqb, ltb, inl, inr, List, [], ◌∷◌, ◌++◌, length, Option, Some, None, Result, Ok, Err, refl, sym, ap, subst, ◌∙◌, ◌&&◌, ◌||◌, IfSome, arith}
 use Rattle.std.specs.Option.{option_map, option_map_or, option_and_then, option_to_list, is_none}
 use Rattle.std.specs.Prelude.{bytes_eq, codes}
 use Rattle.std.proofs.lemmas.Bool.{cases_Bool, eqb-true, eqb-false, ne_eqb}
 use Rattle.std.proofs.lemmas.List.{append-nil, length-append}
 use Rattle.xl_base.proofs.Members.{all_append, all_weaker}
 use Rattle.xl_base.specs.declared.event.Event.{Event}
-use Rattle.xl_base.specs.declared.event.Event.TheVariants.{Open, End, Called}
+use Rattle.xl_base.specs.declared.event.Event.TheVariants.{Open, End, Called, Tick}
 use Rattle.xl_base.specs.declared.event.Kind.TheVariants.{Rpc}
 use Rattle.xl_frame.specs.Frames.{Framed}
-use Rattle.xl_capture.specs.Capture.{IsNumbered, words_of, bytes_of, takes_file, with_name, with_file, takes_address, with_caller, with_address, with_host, with_events, most_open, with_link, with_open, with_stream, with_piece, with_bytes, with_last, with_ended, with_end, with_called, with_reply, with_no_reply, with_words, is_passed_over, with_line, is_last, with_lines}
+use Rattle.xl_capture.specs.Capture.{IsNumbered, words_of, bytes_of, takes_file, with_name, with_file, takes_address, with_caller, with_address, with_host, with_events, most_open, with_link, with_open, with_stream, with_piece, with_bytes, with_last, with_ended, with_end, with_called, with_reply, with_no_reply, time_of, with_times, with_lasting, with_tick, with_words, is_passed_over, with_line, is_last, with_lines}
 use Rattle.xl_capture.specs.Links.{Link, opened, link_of, without, framed, events_of, still_open, AreDistinct, AreBelow}
 use Rattle.xl_capture.specs.Numbers.{number_of}
 use Rattle.xl_capture.specs.declared.capture.Reading.{Reading}
@@ -181,6 +181,16 @@ host_numbered : (r : Reading) (hex address : List ℕ) → IsNumbered r → IsNu
 unfolding with_host
 host_numbered r hex address is = then_numbered (λ caller. with_address r caller address) (bytes_of hex) (λ caller. address_numbered r caller address is)
 
+times_numbered : (r : Reading) (lease grace break_time : ℕ) → IsNumbered r → IsNumberedIf (with_times r lease grace break_time)
+times_numbered r lease grace break_time is = either_numbered (r.begun || r.timed) None _ tt (record { places = is.places; distinct = is.distinct })
+
+lasting_numbered : (r : Reading) (lease grace break_time : List ℕ) → IsNumbered r → IsNumberedIf (with_lasting r lease grace break_time)
+unfolding with_lasting
+lasting_numbered r lease grace break_time is =
+    then_numbered (λ a. option_and_then (λ b. option_and_then (λ c. with_times r a b c) (time_of break_time)) (time_of grace)) (time_of lease)
+    (λ a. then_numbered (λ b. option_and_then (λ c. with_times r a b c) (time_of break_time)) (time_of grace)
+    (λ b. then_numbered (λ c. with_times r a b c) (time_of break_time) (λ c. times_numbered r a b c is)))
+
 bytes_numbered : (r : Reading) (conn hex : List ℕ) → IsNumbered r → IsNumberedIf (with_bytes r conn hex)
 unfolding with_bytes
 bytes_numbered r conn hex is = then_numbered (λ n. option_map (λ bytes. with_piece r n bytes) (bytes_of hex)) (number_of conn)
@@ -203,6 +213,10 @@ no_reply_numbered : (r : Reading) (call : List ℕ) → IsNumbered r → IsNumbe
 unfolding with_no_reply
 no_reply_numbered r call is = map_numbered (λ n. with_called r n None) (number_of call) (λ n. called_numbered r n None is)
 
+tick_numbered : (r : Reading) (moment : List ℕ) → IsNumbered r → IsNumberedIf (with_tick r moment)
+unfolding with_tick
+tick_numbered r moment is = map_numbered (λ n. with_events r (Tick (record { 0 = n }) ∷ []) r.links) (number_of moment) (λ n. events_numbered r (Tick (record { 0 = n }) ∷ []) r.links is.places is.distinct)
+
 words_numbered : (r : Reading) (words : List (List ℕ)) → IsNumbered r → IsNumberedIf (with_words r words)
 unfolding with_words
 words_numbered r [] is = tt
@@ -211,12 +225,14 @@ words_numbered r (a ∷ b ∷ []) is =
     either_numbered (bytes_eq a (codes "F")) (with_file r b) _ (file_numbered r b is)
     (either_numbered (bytes_eq a (codes "O") && bytes_eq b (codes "rpc")) (Some (with_open r)) _ (open_numbered r is)
     (either_numbered (bytes_eq a (codes "E")) (with_end r b) _ (end_numbered r b is)
-    (either_numbered (bytes_eq a (codes "C")) (with_no_reply r b) None (no_reply_numbered r b is) tt)))
+    (either_numbered (bytes_eq a (codes "C")) (with_no_reply r b) _ (no_reply_numbered r b is)
+    (either_numbered (bytes_eq a (codes "T")) (with_tick r b) None (tick_numbered r b is) tt))))
 words_numbered r (a ∷ b ∷ d ∷ []) is =
     either_numbered (bytes_eq a (codes "B")) (with_bytes r b d) _ (bytes_numbered r b d is)
     (either_numbered (bytes_eq a (codes "H")) (with_host r b d) _ (host_numbered r b d is)
     (either_numbered (bytes_eq a (codes "C")) (with_reply r b d) None (reply_numbered r b d is) tt))
-words_numbered r (a ∷ b ∷ d ∷ e ∷ more) is = tt
+words_numbered r (a ∷ b ∷ d ∷ e ∷ []) is = either_numbered (bytes_eq a (codes "L")) (with_lasting r b d e) None (lasting_numbered r b d e is) tt
+words_numbered r (a ∷ b ∷ d ∷ e ∷ f ∷ more) is = tt
 
 line_numbered : (r : Reading) (line : List ℕ) → IsNumbered r → IsNumberedIf (with_line r line)
 unfolding with_line

@@ -1,15 +1,15 @@
--- A capture's events are openings, messages, ends, and calls that are over.
-use Rattle.std.proofs.Common.{◌≡◌, ℕ, ◌+◌, Bool, true, false, cond, ◌&&◌, List, [], ◌∷◌, length, map, Option, Some, None, Result, Ok, Err, refl, subst}
+-- A capture's events are openings, messages, ends, calls that are over, and readings of the clock.
+use Rattle.std.proofs.Common.{◌≡◌, ℕ, ◌+◌, Bool, true, false, cond, ◌&&◌, ◌||◌, List, [], ◌∷◌, length, map, Option, Some, None, Result, Ok, Err, refl, subst}
 use Rattle.std.specs.List.{AllByRecursion}
 use Rattle.std.specs.Option.{option_map, option_map_or, option_and_then}
 use Rattle.std.specs.Prelude.{nat_lt, bytes_eq, codes}
 use Rattle.xl_base.specs.declared.event.Event.{Event}
-use Rattle.xl_base.specs.declared.event.Event.TheVariants.{Open, Message, End, Called}
+use Rattle.xl_base.specs.declared.event.Event.TheVariants.{Open, Message, End, Called, Tick}
 use Rattle.xl_base.specs.declared.event.Kind.TheVariants.{Rpc}
 use Rattle.xl_base.proofs.Members.{all_append}
 use Rattle.xl_frame.specs.Frames.{Framed}
 use Rattle.xl_frame.specs.declared.fault.FrameBad.{FrameBad}
-use Rattle.xl_capture.specs.Capture.{words_of, bytes_of, takes_file, with_name, with_file, takes_address, with_caller, with_address, with_host, with_events, with_link, with_open, with_stream, with_piece, with_bytes, with_last, with_ended, with_end, with_called, with_reply, with_no_reply, with_words, is_passed_over, with_line, is_last, most_bytes, looked_at, with_lines, no_reading, lines_of, capture_in, captured}
+use Rattle.xl_capture.specs.Capture.{words_of, bytes_of, takes_file, with_name, with_file, takes_address, with_caller, with_address, with_host, with_events, with_link, with_open, with_stream, with_piece, with_bytes, with_last, with_ended, with_end, with_called, with_reply, with_no_reply, time_of, with_times, with_lasting, with_tick, with_words, is_passed_over, with_line, is_last, most_bytes, looked_at, with_lines, no_reading, lines_of, capture_in, captured}
 use Rattle.xl_capture.specs.Links.{Link, link_of, without, framed, end_of, events_of}
 use Rattle.xl_capture.specs.Numbers.{number_of}
 use Rattle.xl_capture.specs.declared.capture.Capture.{Capture}
@@ -21,6 +21,7 @@ is_plain (Open kind) = true
 is_plain (Message conn bytes) = true
 is_plain (End conn) = true
 is_plain (Called call reply) = true
+is_plain (Tick moment) = true
 is_plain _ = false
 
 abbrev pub ArePlain : List Event → Type 0
@@ -57,6 +58,16 @@ address_plain r caller address plain = either_test (takes_address r caller addre
 host_plain : (r : Reading) (hex address : List ℕ) → ArePlainIn r → ArePlainIf (with_host r hex address)
 unfolding with_host
 host_plain r hex address plain = then_plain (λ caller. with_address r caller address) (bytes_of hex) (λ caller. address_plain r caller address plain)
+
+times_plain : (r : Reading) (lease grace break_time : ℕ) → ArePlainIn r → ArePlainIf (with_times r lease grace break_time)
+times_plain r lease grace break_time plain = either_test (r.begun || r.timed) None _ tt plain
+
+lasting_plain : (r : Reading) (lease grace break_time : List ℕ) → ArePlainIn r → ArePlainIf (with_lasting r lease grace break_time)
+unfolding with_lasting
+lasting_plain r lease grace break_time plain =
+    then_plain (λ a. option_and_then (λ b. option_and_then (λ c. with_times r a b c) (time_of break_time)) (time_of grace)) (time_of lease)
+    (λ a. then_plain (λ b. option_and_then (λ c. with_times r a b c) (time_of break_time)) (time_of grace)
+    (λ b. then_plain (λ c. with_times r a b c) (time_of break_time) (λ c. times_plain r a b c plain)))
 
 events_plain : (r : Reading) (events : List Event) (links : List Link) → ArePlainIn r → ArePlain events → ArePlainIn (with_events r events links)
 events_plain r events links plain more = all_append (λ e. is_plain e ≡ true) r.capture.events events plain more
@@ -114,6 +125,10 @@ no_reply_plain : (r : Reading) (call : List ℕ) → ArePlainIn r → ArePlainIf
 unfolding with_no_reply
 no_reply_plain r call plain = map_plain (λ n. with_called r n None) (number_of call) (λ n. called_plain r n None plain)
 
+tick_plain : (r : Reading) (moment : List ℕ) → ArePlainIn r → ArePlainIf (with_tick r moment)
+unfolding with_tick
+tick_plain r moment plain = map_plain (λ n. with_events r (Tick (record { 0 = n }) ∷ []) r.links) (number_of moment) (λ n. events_plain r (Tick (record { 0 = n }) ∷ []) r.links plain (refl, tt))
+
 words_plain : (r : Reading) (words : List (List ℕ)) → ArePlainIn r → ArePlainIf (with_words r words)
 unfolding with_words
 words_plain r [] plain = tt
@@ -122,12 +137,14 @@ words_plain r (a ∷ b ∷ []) plain =
     either_test (bytes_eq a (codes "F")) (with_file r b) _ (file_plain r b plain)
     (either_test (bytes_eq a (codes "O") && bytes_eq b (codes "rpc")) (Some (with_open r)) _ (open_plain r plain)
     (either_test (bytes_eq a (codes "E")) (with_end r b) _ (ends_plain r b plain)
-    (either_test (bytes_eq a (codes "C")) (with_no_reply r b) None (no_reply_plain r b plain) tt)))
+    (either_test (bytes_eq a (codes "C")) (with_no_reply r b) _ (no_reply_plain r b plain)
+    (either_test (bytes_eq a (codes "T")) (with_tick r b) None (tick_plain r b plain) tt))))
 words_plain r (a ∷ b ∷ d ∷ []) plain =
     either_test (bytes_eq a (codes "B")) (with_bytes r b d) _ (bytes_plain r b d plain)
     (either_test (bytes_eq a (codes "H")) (with_host r b d) _ (host_plain r b d plain)
     (either_test (bytes_eq a (codes "C")) (with_reply r b d) None (reply_plain r b d plain) tt))
-words_plain r (a ∷ b ∷ d ∷ e ∷ more) plain = tt
+words_plain r (a ∷ b ∷ d ∷ e ∷ []) plain = either_test (bytes_eq a (codes "L")) (with_lasting r b d e) None (lasting_plain r b d e plain) tt
+words_plain r (a ∷ b ∷ d ∷ e ∷ f ∷ more) plain = tt
 
 line_plain : (r : Reading) (line : List ℕ) → ArePlainIn r → ArePlainIf (with_line r line)
 unfolding with_line

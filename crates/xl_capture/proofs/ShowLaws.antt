@@ -9,14 +9,15 @@ use Rattle.xl_capture.specs.Capture.{most_bytes, looked_at, lines_of, is_last}
 use Rattle.xl_capture.specs.Show.{is_unlisted, ops_from, show_words, show_line, show_lines, shown}
 use Rattle.xl_capture.proofs.LineLaws.{is_last_line}
 
--- four words tell as much as all
-pub few_shown : (words : List (List ℕ)) → show_words (take 4 words) ≡ show_words words
+-- five words tell as much as all
+pub few_shown : (words : List (List ℕ)) → show_words (take 5 words) ≡ show_words words
 unfolding show_words
 few_shown [] = refl
 few_shown (a ∷ []) = refl
 few_shown (a ∷ b ∷ []) = refl
 few_shown (a ∷ b ∷ d ∷ []) = refl
-few_shown (a ∷ b ∷ d ∷ e ∷ more) = refl
+few_shown (a ∷ b ∷ d ∷ e ∷ []) = refl
+few_shown (a ∷ b ∷ d ∷ e ∷ f ∷ more) = refl
 
 pub no_op : (numbers : List ℕ) (n : ℕ) (bytes : List ℕ) → n ≡ 0 → ops_from numbers n bytes ≡ Some numbers
 unfolding ops_from

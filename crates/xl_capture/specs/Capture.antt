@@ -5,7 +5,7 @@ use Rattle.std.specs.Option.{option_map, option_map_or, option_and_then, option_
 use Rattle.std.specs.Result.{result_ok}
 use Rattle.hex.specs.Hex.{decode_of}
 use Rattle.xl_base.specs.declared.event.Event.{Event}
-use Rattle.xl_base.specs.declared.event.Event.TheVariants.{Open, End, Called}
+use Rattle.xl_base.specs.declared.event.Event.TheVariants.{Open, End, Called, Tick}
 use Rattle.xl_base.specs.declared.event.Kind.TheVariants.{Rpc}
 use Rattle.xl_frame.specs.Frames.{Framed}
 use Rattle.xl_capture.specs.Addresses.{has_address}
@@ -80,12 +80,25 @@ most_files = 1024
 abbrev pub most_open : ℕ
 most_open = 64
 
--- what is known where nothing is read: no file, no address, no event, nothing open
+-- how long leases, grace and breaks last where nothing is said of it, and the longest that may be said, in milliseconds
+abbrev pub default_lease : ℕ
+default_lease = 90000
+
+abbrev pub default_grace : ℕ
+default_grace = 90000
+
+abbrev pub default_break : ℕ
+default_break = 35000
+
+abbrev pub longest_time : ℕ
+longest_time = 4000000000
+
+-- what is known where nothing is read: no file, no address, the default times, no event, nothing open
 abbrev pub no_lines : Capture
-no_lines = record { files = []; addresses = []; events = [] }
+no_lines = record { files = []; addresses = []; lease = default_lease; grace = default_grace; break_time = default_break; events = [] }
 
 abbrev pub no_reading : Reading
-no_reading = record { capture = no_lines; links = []; begun = false }
+no_reading = record { capture = no_lines; links = []; timed = false; begun = false }
 
 -- the open connections have distinct numbers, each the place of an event
 pub record IsNumbered (r : Reading) : Type 0 where
@@ -98,7 +111,7 @@ takes_file r name = not r.begun && nat_lt (length r.capture.files) most_files &&
 
 -- with a file more
 abbrev pub with_name : Reading → List ℕ → Reading
-with_name r name = record { capture = record { files = r.capture.files ++ name ∷ []; addresses = r.capture.addresses; events = r.capture.events }; links = r.links; begun = r.begun }
+with_name r name = record r { capture = record r.capture { files = r.capture.files ++ name ∷ [] } }
 
 -- with a line `F NAME`
 unfoldable pub with_file : Reading → List ℕ → Option Reading
@@ -110,7 +123,7 @@ takes_address r caller address = is_address address && not r.begun && not (has_a
 
 -- with the address of a caller more
 abbrev pub with_caller : Reading → List ℕ → List ℕ → Reading
-with_caller r caller address = record { capture = record { files = r.capture.files; addresses = r.capture.addresses ++ (caller, address) ∷ []; events = r.capture.events }; links = r.links; begun = r.begun }
+with_caller r caller address = record r { capture = record r.capture { addresses = r.capture.addresses ++ (caller, address) ∷ [] } }
 
 -- with the address of a caller
 unfoldable pub with_address : Reading → List ℕ → List ℕ → Option Reading
@@ -120,9 +133,24 @@ with_address r caller address = if takes_address r caller address then Some (wit
 unfoldable pub with_host : Reading → List ℕ → List ℕ → Option Reading
 with_host r hex address = option_and_then (λ caller. with_address r caller address) (bytes_of hex)
 
+-- a time in milliseconds, from 1 to the longest
+abbrev pub time_of : List ℕ → Option ℕ
+time_of word = option_and_then (λ n. if nat_le 1 n && nat_le n longest_time then Some n else None) (number_of word)
+
+-- with these times, where no event line stands before them, and no times
+abbrev pub with_times : Reading → ℕ → ℕ → ℕ → Option Reading
+with_times r lease grace break_time =
+    if r.begun || r.timed then None
+    else Some (record r { capture = record r.capture { lease = lease; grace = grace; break_time = break_time }; timed = true })
+
+-- with a line `L LEASE GRACE BREAK`
+unfoldable pub with_lasting : Reading → List ℕ → List ℕ → List ℕ → Option Reading
+with_lasting r lease grace break_time =
+    option_and_then (λ a. option_and_then (λ b. option_and_then (λ c. with_times r a b c) (time_of break_time)) (time_of grace)) (time_of lease)
+
 -- with an event line that makes these events, and leaves these connections open
 abbrev pub with_events : Reading → List Event → List Link → Reading
-with_events r events links = record { capture = record { files = r.capture.files; addresses = r.capture.addresses; events = r.capture.events ++ events }; links = links; begun = true }
+with_events r events links = record r { capture = record r.capture { events = r.capture.events ++ events }; links = links; begun = true }
 
 -- with one connection more, of the number of its opening's place; none where as many are open as may be
 abbrev pub with_link : List Link → ℕ → List Link
@@ -174,6 +202,10 @@ with_reply r call hex = option_and_then (λ n. option_map (λ bytes. with_called
 unfoldable pub with_no_reply : Reading → List ℕ → Option Reading
 with_no_reply r call = option_map (λ n. with_called r n None) (number_of call)
 
+-- with a line `T MS`
+unfoldable pub with_tick : Reading → List ℕ → Option Reading
+with_tick r moment = option_map (λ n. with_events r (Tick (record { 0 = n }) ∷ []) r.links) (number_of moment)
+
 -- with one line more, given by its words
 unfoldable pub with_words : Reading → List (List ℕ) → Option Reading
 with_words r (a ∷ b ∷ []) =
@@ -181,12 +213,14 @@ with_words r (a ∷ b ∷ []) =
     else if bytes_eq a (codes "O") && bytes_eq b (codes "rpc") then Some (with_open r)
     else if bytes_eq a (codes "E") then with_end r b
     else if bytes_eq a (codes "C") then with_no_reply r b
+    else if bytes_eq a (codes "T") then with_tick r b
     else None
 with_words r (a ∷ b ∷ d ∷ []) =
     if bytes_eq a (codes "B") then with_bytes r b d
     else if bytes_eq a (codes "H") then with_host r b d
     else if bytes_eq a (codes "C") then with_reply r b d
     else None
+with_words r (a ∷ b ∷ d ∷ e ∷ []) = if bytes_eq a (codes "L") then with_lasting r b d e else None
 with_words r words = None
 
 -- an empty line, and one that begins with `#`, is passed over

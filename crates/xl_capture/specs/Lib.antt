@@ -4,4 +4,5 @@ pub mod Links
 pub mod Numbers
 pub mod Rows
 pub mod Show
+pub mod Summary
 pub mod Transcript

@@ -54,6 +54,7 @@ impl Addresses {
     ) -> Result<(), AllocError>
         requires { has_address caller self.old ≡ false }
         ensures ok { OnOk result (self.new ≡ self.old ++ (caller, address) ∷ []) }
+        ensures err { OnErr result (self.new ≡ self.old) }
     {
         add(alloc, &mut self.list, &mut self.callers, caller, address)
     }

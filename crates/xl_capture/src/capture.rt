@@ -10,7 +10,7 @@ use crate::links::{Link, Links};
 use crate::numbers::number_of;
 use hex::FromHexError;
 use std::alloc::{AllocError, AllocFailed, Global};
-use xl_base::{Event, Kind, Sequence};
+use xl_base::{Event, Kind, Moment, Sequence};
 
 /// The most bytes of a capture.
 pub const MOST_BYTES: usize = 268435456;
@@ -18,10 +18,23 @@ pub const MOST_BYTES: usize = 268435456;
 /// The most files of a capture.
 const MOST_FILES: usize = 1024;
 
+/// How long a lease lasts where nothing is said of it, in milliseconds.
+pub const DEFAULT_LEASE: u64 = 90_000;
+
+/// How long grace lasts where nothing is said of it, in milliseconds.
+pub const DEFAULT_GRACE: u64 = 90_000;
+
+/// How long a break lasts where nothing is said of it, in milliseconds.
+pub const DEFAULT_BREAK: u64 = 35_000;
+
+/// The longest time that may be said, in milliseconds.
+const LONGEST_TIME: u64 = 4_000_000_000;
+
 /// The most connections that are open at once.
 const MOST_OPEN: usize = 64;
 
-/// What a capture says: the exported files, the addresses of callers, and the events in order.
+/// What a capture says: the exported files, the addresses of callers, how long leases, grace and breaks last, and the
+/// events in order.
 #[derive(Drop)]
 pub struct Capture {
     /// The names of the files, numbered from 1 in this order.
@@ -29,6 +42,12 @@ pub struct Capture {
     /// The callback addresses of NLM callers, in order: a caller's name, which no other has, and 1 to 64 graphic bytes
     /// of ASCII.
     pub addresses: Addresses,
+    /// How long a lease of an NFSv4 client lasts, in milliseconds, from 1 to 4,000,000,000; so do the next two.
+    pub lease: u64,
+    /// How long the grace for reclaims lasts.
+    pub grace: u64,
+    /// How long a break of a cache is waited for.
+    pub break_time: u64,
     /// The events in order.
     pub events: Sequence<Event>,
 }
@@ -40,6 +59,8 @@ struct Reading {
     capture: Capture,
     /// The connections that are open.
     links: Links,
+    /// Whether the times stood.
+    timed: bool,
     /// Whether an event line stood.
     begun: bool,
 }
@@ -76,7 +97,7 @@ impl<T: Drop> From<AllocFailed<T>> for LineError {
     }
 }
 
-ghost use Rattle.xl_capture.specs.Capture.{is_line_end, lines_of, words_of, is_name_byte, is_file_name, is_graphic, is_address, bytes_of, is_named, takes_file, with_file, takes_address, with_address, with_host, with_open, with_piece, with_bytes, with_ended, with_end, with_called, with_reply, with_no_reply, with_words, is_passed_over, with_line, with_lines, no_reading, capture_in, looked_at, captured, bad_line, Follows, ReadsAs};
+ghost use Rattle.xl_capture.specs.Capture.{is_line_end, lines_of, words_of, is_name_byte, is_file_name, is_graphic, is_address, bytes_of, is_named, takes_file, with_file, takes_address, with_address, with_host, with_open, with_piece, with_bytes, with_ended, with_end, with_called, with_reply, with_no_reply, time_of, with_times, with_lasting, with_tick, with_words, is_passed_over, with_line, with_lines, no_reading, capture_in, looked_at, captured, bad_line, Follows, ReadsAs};
 ghost use Rattle.xl_capture.specs.Numbers.{number_of};
 
 #[tactic(auto, using(crate::proofs::LineLaws::first_line, crate::proofs::LineLaws::only_line))]
@@ -229,6 +250,57 @@ fn add_host(
     add_address(alloc, reading, caller, address)
 }
 
+/// A time in milliseconds.
+fn time_of(word: &[u8]) -> Option<u64>
+    ensures { result ≡ time_of word.now }
+{
+    match number_of(word) {
+        Some(time) if 1 <= time && time <= LONGEST_TIME => Some(time),
+        _ => None,
+    }
+}
+
+/// Adds the times, where none stood.
+fn add_times(
+    reading: &mut Reading,
+    lease: u64,
+    grace: u64,
+    break_time: u64,
+) -> Result<(), LineError>
+    ensures { Follows result (with_times reading.old lease grace break_time) reading.new }
+{
+    if reading.begun || reading.timed {
+        return Err(LineError::Bad);
+    }
+    reading.timed = true;
+    reading.capture.lease = lease;
+    reading.capture.grace = grace;
+    reading.capture.break_time = break_time;
+    Ok(())
+}
+
+/// Adds a line `L LEASE GRACE BREAK`.
+#[tactic(auto, unfolding(crate::specs::Capture::with_lasting))]
+fn add_lasting(
+    reading: &mut Reading,
+    lease: &[u8],
+    grace: &[u8],
+    break_time: &[u8],
+) -> Result<(), LineError>
+    ensures { Follows result (with_lasting reading.old lease.now grace.now break_time.now) reading.new }
+{
+    let Some(lease) = time_of(lease) else {
+        return Err(LineError::Bad);
+    };
+    let Some(grace) = time_of(grace) else {
+        return Err(LineError::Bad);
+    };
+    let Some(break_time) = time_of(break_time) else {
+        return Err(LineError::Bad);
+    };
+    add_times(reading, lease, grace, break_time)
+}
+
 /// Adds a line `O rpc`. The connection's number is the place of this event.
 #[tactic(auto, unfolding(crate::specs::Capture::with_open))]
 fn add_open(alloc: Global, reading: &mut Reading) -> Result<(), LineError>
@@ -330,6 +402,19 @@ fn add_no_reply(reading: &mut Reading, call: &[u8]) -> Result<(), LineError>
     }
 }
 
+/// Adds a line `T MS`.
+#[tactic(auto, unfolding(crate::specs::Capture::with_tick))]
+fn add_tick(reading: &mut Reading, moment: &[u8]) -> Result<(), LineError>
+    ensures { Follows result (with_tick reading.old moment.now) reading.new }
+{
+    let Some(moment) = number_of(moment) else {
+        return Err(LineError::Bad);
+    };
+    reading.begun = true;
+    reading.capture.events.push(Event::Tick(Moment(moment)))?;
+    Ok(())
+}
+
 /// Adds a line, given by its words.
 #[tactic(auto, unfolding(crate::specs::Capture::with_words))]
 fn add_words(alloc: Global, reading: &mut Reading, words: &[&[u8]]) -> Result<(), LineError>
@@ -340,19 +425,21 @@ fn add_words(alloc: Global, reading: &mut Reading, words: &[&[u8]]) -> Result<()
         [a, b] if is_text(a, b"O") && is_text(b, b"rpc") => add_open(alloc, reading),
         [a, b] if is_text(a, b"E") => add_end(reading, b),
         [a, b] if is_text(a, b"C") => add_no_reply(reading, b),
+        [a, b] if is_text(a, b"T") => add_tick(reading, b),
         [a, b, hex] if is_text(a, b"B") => add_bytes(alloc, reading, b, hex),
         [a, hex, address] if is_text(a, b"H") => add_host(alloc, reading, hex, address),
         [a, b, hex] if is_text(a, b"C") => add_reply(alloc, reading, b, hex),
+        [a, b, c, d] if is_text(a, b"L") => add_lasting(reading, b, c, d),
         _ => Err(LineError::Bad),
     }
 }
 
-/// The first words of a line: as many as tell whether it is in the grammar, where no line has more than three.
+/// The first words of a line: as many as tell whether it is in the grammar, where no line has more than four.
 pub(crate) fn words_of(alloc: Global, line: &[u8]) -> Result<Vec<&[u8]>, AllocError>
-    ensures { IfOk result (λ v. map (λ w. w.now) v.items ≡ take 4 (words_of line.now)) }
+    ensures { IfOk result (λ v. map (λ w. w.now) v.items ≡ take 5 (words_of line.now)) }
 {
     line.split(|b| *b == b' ' || *b == b'\t')
-        .take(4)
+        .take(5)
         .collect(alloc)
 }
 
@@ -396,9 +483,13 @@ fn read_lines(alloc: Global, past: bool, text: &[u8]) -> Result<Capture, Capture
         capture: Capture {
             files: Sequence::new(alloc),
             addresses: Addresses::new(alloc),
+            lease: DEFAULT_LEASE,
+            grace: DEFAULT_GRACE,
+            break_time: DEFAULT_BREAK,
             events: Sequence::new(alloc),
         },
         links: Links::new(alloc),
+        timed: false,
         begun: false,
     };
     let mut rest = text;

@@ -8,10 +8,15 @@ mod links;
 mod numbers;
 mod rows;
 mod show;
+mod summaries;
 mod transcripts;
 
 pub use addresses::Addresses;
-pub use capture::{Capture, CaptureError, MOST_BYTES, read_capture};
+pub use capture::{
+    Capture, CaptureError, DEFAULT_BREAK, DEFAULT_GRACE, DEFAULT_LEASE, MOST_BYTES, read_capture,
+};
 pub use law::streams_may_be_cut_anywhere;
+pub use numbers::number_of;
 pub use show::{show_line, show_text};
+pub use summaries::summary;
 pub use transcripts::transcript;

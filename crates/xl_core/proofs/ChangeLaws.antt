@@ -34,6 +34,7 @@ use Rattle.xl_core.specs.declared.ask.Answer.TheVariants as answers
 use Rattle.xl_core.specs.declared.ask.Ask.{Ask}
 use Rattle.xl_core.proofs.CauseLaws.{same_list, left_so, unlock_by, unlock_is}
 use Rattle.xl_core.proofs.GoodLaws.{AskCase, Goes, Queues, Refuses, ask_case, holder_kept}
+use Rattle.xl_core.proofs.CacheLaws.{relocked_caches, all_granted_caches}
 use Rattle.xl_core.proofs.KnownLaws.{both_go_on, known_owner_is, known_posix, asked_known}
 use Rattle.xl_core.proofs.RowLaws.{is_refusal}
 
@@ -162,7 +163,7 @@ asked_at a s (Test extent exclusive) = tt
 asked_at a s (Unlock extent) = tt
 
 same_own : (s : CoreState) (a : Ask) (answer : Answer) → IsOwn s a answer s
-same_own s a answer = record { claims = λ none. refl; waiters = λ none. refl; refused = λ none nobody. refl; spans = λ file owner apart. refl; shares = λ file owner apart. refl; stay = λ w h. h; names = λ number name h. h }
+same_own s a answer = record { claims = λ none. refl; waiters = λ none. refl; refused = λ none nobody. refl; spans = λ file owner apart. refl; shares = λ file owner apart. refl; caches = refl; stay = λ w h. h; names = λ number name h. h }
 
 way_own : (s : CoreState) (a : Ask) (r : Answered) → AskWay s a r → IsOwn s a r.0 r.2
 unfolding held_with
@@ -177,6 +178,7 @@ way_own s a r (Holds c claims is holds e) =
       refused = λ none nobody. absurd (not_granted c none);
       spans = λ at who apart. all_spans_apart a.file (asker a s.names) (asks_share a.act) claims s.claims at who are apart;
       shares = λ at who apart. all_shares_apart a.file (asker a s.names) (asks_share a.act) claims s.claims at who are apart;
+      caches = all_granted_caches claims s.claims;
       stay = λ w h. h;
       names = both_go_on a s.names;
     })
@@ -188,6 +190,7 @@ way_own s a r (Waits claims is e) =
       refused = λ none nobody. absurd (not_queued (s.counter + 1) nobody);
       spans = λ at who apart. refl;
       shares = λ at who apart. refl;
+      caches = refl;
       stay = λ w h. in_append_left w s.waiters (waiter_of (s.counter + 1) a claims ∷ []) h;
       names = both_go_on a s.names;
     })
@@ -199,6 +202,7 @@ way_own s a r (Frees claim first last holds act file owner e) =
       refused = λ none nobody. absurd (not_granted claim none);
       spans = λ at who apart. spans_of-relocked_apart claim.file claim.owner claim.party first last None s.claims at who (λ same. apart (same.0 ∙ file, same.1 ∙ owner, act));
       shares = λ at who apart. shares_of-relocked claim.file claim.owner claim.party first last None s.claims at who;
+      caches = relocked_caches claim.file claim.owner claim.party first last None s.claims;
       stay = λ w h. h;
       names = λ number name h. h;
     })

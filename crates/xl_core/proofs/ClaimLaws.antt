@@ -2,24 +2,26 @@
 -- unlocked.
 use Rattle.std.proofs.Common.{◌≡◌, ℕ, ◌+◌, ◌<◌, ◌≤◌, Bool, true, false, not, cond, eqb, leb, ◌&&◌, ◌||◌, ◌⊎◌, inl, inr, List, [], ◌∷◌, length, map, Option, Some, None, refl, sym, ap, subst, ◌∙◌, arith}
 use Rattle.std.specs.List.{AllByRecursion, list_any}
-use Rattle.std.proofs.lemmas.Bool.{cases_Bool, and_parts, and_from, and_left, and_right, and_cases, or_left, or_right, or_parts, not-true, not-false, not_from_false, or_cases, eqb-true, eq-eqb, leb-true, lt-leb, both_ways}
+use Rattle.std.proofs.lemmas.Bool.{cases_Bool, and_parts, and_from, and_left, and_right, and_cases, or_left, or_right, or_parts, not-true, not-false, not_from_false, or_cases, eqb-true, eq-eqb, leb-true, lt-leb, le-leb, both_ways}
 use Rattle.xl_base.specs.Lists.{IsIn, Pairwise}
 use Rattle.xl_base.proofs.Members.{all_in, all_from, in_map_from, in_filter_from, pairwise_filter}
 use Rattle.xl_base.specs.declared.name.Owner.{Owner}
 use Rattle.xl_base.specs.declared.name.Party.{Party}
-use Rattle.xl_matrix.specs.Equal.{same_owners}
+use Rattle.xl_matrix.specs.Equal.{same_owners, same_parties}
+use Rattle.xl_matrix.specs.Kinds.{guarding}
+use Rattle.xl_matrix.specs.declared.claim.Break.{Break}
+use Rattle.xl_matrix.specs.declared.claim.CacheKind.{CacheKind}
 use Rattle.xl_matrix.specs.Matrix.{compat, fit_by, lock_by, lock_on, locks_agree}
 use Rattle.xl_matrix.specs.Owners.{posix}
-use Rattle.xl_matrix.specs.Rights.{common}
 use Rattle.xl_matrix.specs.declared.claim.Claim.{Claim}
 use Rattle.xl_matrix.specs.declared.claim.Extent.{Extent}
 use Rattle.xl_matrix.specs.declared.claim.Extent.TheVariants.{Bytes, Empty}
 use Rattle.xl_matrix.specs.declared.claim.What.{What}
 use Rattle.xl_matrix.specs.declared.claim.What.TheVariants.{Share, Range, Cache}
-use Rattle.xl_matrix.proofs.EqualLaws.{eqb-sym, same_owners-sym, same_parties-sym}
+use Rattle.xl_matrix.proofs.EqualLaws.{eqb-sym, same_owners-sym, same_parties-sym, same_parties-self}
 use Rattle.xl_matrix.specs.declared.claim.Rwd.{Rwd}
 use Rattle.xl_matrix.proofs.PartLaws.{compat_bytes}
-use Rattle.xl_matrix.proofs.SideLaws.{and-sym, compat-sym}
+use Rattle.xl_matrix.proofs.SideLaws.{compat-sym}
 use Rattle.xl_names.specs.Names.{AreDistinct}
 use Rattle.xl_names.specs.declared.name.Name.{Name}
 use Rattle.xl_spans.specs.Spans.{within, mode_at, IsCanonical, relocked}
@@ -28,11 +30,12 @@ use Rattle.xl_spans.specs.declared.span.Span.{Span}
 use Rattle.xl_spans.proofs.Bytes.{relocked_mode, AreRanges}
 use Rattle.xl_spans.proofs.Chains.{canonical_ranges, canonical_rest, relocked_canonical, IsChain}
 use Rattle.xl_table.specs.Flat.{blocks, is_blocked, is_own, is_met_by_own}
-use Rattle.xl_table.specs.Held.{IsPosixBy, IsPosix, is_share, mode_of, is_range, with_span, is_of, spans_of, IsKept}
+use Rattle.xl_table.specs.Held.{IsPosixBy, is_share, is_cache, mode_of, is_range, with_span, is_of, spans_of, IsKept}
 use Rattle.xl_table.proofs.FlatLaws.{all_inserted as all_put, pairwise_into}
-use Rattle.xl_core.specs.Good.{IsRangeBy, IsRange, are_kept, IsKnown, is_single_by, is_single}
-use Rattle.xl_table.specs.Relock.{most_claims, all_inserted, is_exclusive, range_claim, is_range_of, unranged, relocked_in, is_share_of, unshared, old_shares, either_right, united_what, united_with, unites, united_by, united, shared_in, granted_by, granted_claims}
+use Rattle.xl_core.specs.Good.{IsRangeBy, IsRange, are_kept, IsKnown, IsHeldBy, IsHeld, is_single_by, is_single}
+use Rattle.xl_table.specs.Relock.{most_claims, all_inserted, is_exclusive, range_claim, is_range_of, unranged, relocked_in, is_share_of, unshared, old_shares, united, shared_in, granted_by, granted_claims}
 use Rattle.xl_core.proofs.KnownLaws.{one_party}
+use Rattle.xl_table.proofs.UnionLaws.{united_fits}
 use Rattle.xl_table.proofs.ShareLaws.{united_share, sound_shared, ordered_shared}
 use Rattle.xl_table.proofs.WriteBack.{is_of-true, IsOfParty, relocked_is, left_all, left_pairwise, all_all_inserted, pairwise_all_inserted, kept_relocked}
 
@@ -130,11 +133,11 @@ unfolding compat
 other_file a b two = or_left (not (eqb a.file b.file)) (fit_by a b a.what b.what) (not_from_false (eqb a.file b.file) two)
 
 -- a claim that locks a byte is a range
-locks_range : (w : What) (x : ℕ) (b : Bool) → IsPosixBy w → lock_by w x ≡ Some b → IsRangeBy w
-locks_range (Range (Bytes first last) exclusive) x b h e = h
-locks_range (Range (Empty offset) exclusive) x b h e = absurd h
-locks_range (Share access deny) x b h e = cc
-locks_range (Cache kind running) x b h e = absurd h
+locks_range : (party : Party) (w : What) (x : ℕ) (b : Bool) → IsHeldBy party w → lock_by w x ≡ Some b → IsRangeBy w
+locks_range party (Range (Bytes first last) exclusive) x b h e = h
+locks_range party (Range (Empty offset) exclusive) x b h e = absurd h
+locks_range party (Share access deny) x b h e = cc
+locks_range party (Cache kind running) x b h e = cc
 
 fits_from : (a b : Claim) → IsRange a → IsRange b → (a.file ≡ b.file → Agrees a b) → compat a b ≡ true
 fits_from a b range other agrees =
@@ -153,19 +156,49 @@ beside_share a b (Range extent exclusive) access deny h = refl
 beside_share a b (Share rights denied) access deny h = absurd h
 beside_share a b (Cache kind running) access deny h = absurd h
 
+beside_cache : (a b : Claim) (w : What) (kind : CacheKind) (running : Option Break) → IsRangeBy w → fit_by a b w (Cache kind running) ≡ same_parties a.party b.party
+unfolding fit_by
+beside_cache a b (Range extent exclusive) kind running h = refl
+beside_cache a b (Share rights denied) kind running h = absurd h
+beside_cache a b (Cache other due) kind running h = absurd h
+
 fits_share : (a b : Claim) (access deny : Rwd) → IsRange a → b.what ≡ Share access deny → compat a b ≡ true
 unfolding compat
 fits_share a b access deny range share =
     or_right (not (eqb a.file b.file)) (fit_by a b a.what b.what) (ap (λ (w : What). fit_by a b a.what w) share ∙ beside_share a b a.what access deny range.0)
 
--- a range stands beside each share, and beside a range that it agrees with
-fits_known : (a b : Claim) (w : What) → b.what ≡ w → IsRange a → IsPosix b → (IsRange b → a.file ≡ b.file → Agrees a b) → compat a b ≡ true
-fits_known a b (Share access deny) is range known agrees = fits_share a b access deny range is
-fits_known a b (Range (Bytes first last) exclusive) is range known agrees = fits_from a b range (real, known.1) (agrees (real, known.1)) where
+fits_of : (a b : Claim) → fit_by a b a.what b.what ≡ true → compat a b ≡ true
+unfolding compat
+fits_of a b fit = or_right (not (eqb a.file b.file)) (fit_by a b a.what b.what) fit
+
+pub fit_of : (a b : Claim) → a.file ≡ b.file → compat a b ≡ true → fit_by a b a.what b.what ≡ true
+unfolding compat
+fit_of a b one fits =
+    elim (or_cases (not (eqb a.file b.file)) (fit_by a b a.what b.what) fits) [
+      | inr fit ↦ fit
+      | inl two ↦ absurd (both_ways (eqb a.file b.file) (not-true (eqb a.file b.file) two) (eq-eqb a.file b.file one))
+    ]
+
+-- a range and a cache on one file go together where they are of one party
+cache_party : (a b : Claim) (kind : CacheKind) (running : Option Break) → IsRange a → b.what ≡ Cache kind running → fit_by a b a.what b.what ≡ same_parties a.party b.party
+cache_party a b kind running range is = ap (λ (w : What). fit_by a b a.what w) is ∙ beside_cache a b a.what kind running range.0
+
+-- the claim's party is that of each cache on its file
+abbrev IsCachesParty : Claim → Claim → Type 0
+IsCachesParty a b = is_cache b.what ≡ true → a.file ≡ b.file → same_parties a.party b.party ≡ true
+
+-- a range stands beside each share, beside a range that it agrees with, and beside its party's cache
+fits_known : (a b : Claim) (w : What) → b.what ≡ w → IsRange a → IsHeldBy b.party b.what × (posix b.owner ≡ true) → IsCachesParty a b → (IsRange b → a.file ≡ b.file → Agrees a b) → compat a b ≡ true
+fits_known a b (Share access deny) is range known caches agrees = fits_share a b access deny range is
+fits_known a b (Range (Bytes first last) exclusive) is range known caches agrees = fits_from a b range (real, known.1) (agrees (real, known.1)) where
   real : IsRangeBy b.what
-  real = subst (λ (v : What). IsRangeBy v) (sym is) (subst (λ (v : What). IsPosixBy v) is known.0)
-fits_known a b (Range (Empty offset) exclusive) is range known agrees = absurd (subst (λ (v : What). IsPosixBy v) is known.0)
-fits_known a b (Cache kind running) is range known agrees = absurd (subst (λ (v : What). IsPosixBy v) is known.0)
+  real = subst (λ (v : What). IsRangeBy v) (sym is) (subst (λ (v : What). IsHeldBy b.party v) is known.0)
+fits_known a b (Range (Empty offset) exclusive) is range known caches agrees = absurd (subst (λ (v : What). IsHeldBy b.party v) is known.0)
+fits_known a b (Cache kind running) is range known caches agrees =
+    elim (cases_Bool (eqb a.file b.file)) [
+      | inr two ↦ other_file a b two
+      | inl one ↦ fits_of a b (cache_party a b kind running range is ∙ caches (ap is_cache is) (eqb-true a.file b.file one))
+    ]
 
 -- of two held claims at different places
 pairwise_two : (cs : List Claim) (a b : Claim) → Pairwise compat cs → IsIn a cs → IsIn b cs → (a ≡ b → ⊥) → compat a b ≡ true
@@ -184,12 +217,12 @@ pairwise_two (c ∷ cs) a b all h k apart =
 
 -- ---- the claims that are held
 
--- kept in a table's order and form, pairwise compatible, and of clients known by name
+-- kept in a table's order and form, pairwise compatible, and what clients known by name may hold
 pub record AreGood (names : List Name) (cs : List Claim) : Type 0 where
   pub kept : IsKept cs
   pub compatible : Pairwise compat cs
   pub single : Pairwise is_single cs
-  pub known : AllByRecursion (IsKnown names) cs
+  pub known : AllByRecursion (IsHeld names) cs
 
 -- ---- one share of an owner on a file
 
@@ -216,7 +249,7 @@ single_by-sym a b (Cache kind running) (Share rights denied) = refl
 single_by-sym a b (Cache kind running) (Range extent exclusive) = refl
 single_by-sym a b (Cache kind running) (Cache other due) = ap not (same_parties-sym a.party b.party)
 
-is_single-sym : (a b : Claim) → is_single a b ≡ is_single b a
+pub is_single-sym : (a b : Claim) → is_single a b ≡ is_single b a
 is_single-sym a b = λ i. not (eqb-sym a.file b.file i && not (single_by-sym a b a.what b.what i))
 
 -- ---- the relock
@@ -245,6 +278,19 @@ record IsRelock (names : List Name) (file : ℕ) (owner : Owner) (party : Party)
 abbrev new_spans : ℕ → Owner → ℕ → ℕ → Option Bool → List Claim → List Span
 new_spans file owner first last asked cs = relocked (spans_of file owner cs) first last (mode_asked asked)
 
+-- the owner's claims are of this party
+party_of : (names : List Name) (file : ℕ) (owner : Owner) (party : Party) (cs : List Claim) (c : Claim) → AreDistinct names → AllByRecursion (IsHeld names) cs → are_kept names owner party ≡ true → IsIn c cs → is_of file owner c ≡ true → c.party ≡ party
+party_of names file owner party cs c distinct known kept h own =
+    let is = all_in (IsHeld names) c cs known h in
+    one_party names owner c.party party distinct (subst (λ (o : Owner). are_kept names o c.party ≡ true) (is_of-true file owner c own).1 is.1) kept
+
+-- what a byte of a new span was: asked for, or the owner's
+new_mode : (names : List Name) (file : ℕ) (owner : Owner) (party : Party) (first last : ℕ) (asked : Option Bool) (cs : List Claim) (x : ℕ) (m : Mode)
+    → IsRelock names file owner party first last asked cs → mode_at (new_spans file owner first last asked cs) x ≡ Some m
+    → (cond (within first last x) (mode_asked asked) (mode_at (spans_of file owner cs) x)) ≡ Some m
+new_mode names file owner party first last asked cs x m is e =
+    sym (relocked_mode (spans_of file owner cs) first last (mode_asked asked) x is.ends (canonical_ranges (spans_of file owner cs) (is.good.kept.sound.canonical file owner is.own))) ∙ e
+
 -- a byte of a new span agrees with another's claim: it was asked for, or the owner had it
 new_agrees : (names : List Name) (file : ℕ) (owner : Owner) (party : Party) (first last : ℕ) (asked : Option Bool) (cs : List Claim) (c : Claim) (x : ℕ) (m : Mode)
     → IsRelock names file owner party first last asked cs → IsIn c cs → IsRange c → is_of file owner c ≡ false → file ≡ c.file
@@ -256,15 +302,15 @@ new_agrees names file owner party first last asked cs c x m is there range other
     ]
   where
     modes : (cond (within first last x) (mode_asked asked) (mode_at (spans_of file owner cs) x)) ≡ Some m
-    modes = sym (relocked_mode (spans_of file owner cs) first last (mode_asked asked) x is.ends (canonical_ranges (spans_of file owner cs) (is.good.kept.sound.canonical file owner is.own))) ∙ e
+    modes = new_mode names file owner party first last asked cs x m is e
 
     held_agrees : Locks file owner cs x m → locks_agree owner (Some (is_exclusive m)) c.owner (lock_on c x) ≡ true
     held_agrees found =
         let parts = is_of-true file owner found.0 found.2 in
         let apart : found.0 ≡ c → ⊥ = λ same. both_ways (is_of file owner c) other (ap (is_of file owner) (sym same) ∙ found.2) in
         let fits = pairwise_two cs found.0 c is.good.compatible found.1 there apart in
-        let known = (all_in (IsKnown names) found.0 cs is.good.known found.1).0 in
-        let agrees = agree_from found.0 c (locks_range found.0.what x (is_exclusive m) known.0 found.3, known.1) range (parts.0 ∙ one) fits x in
+        let known = (all_in (IsHeld names) found.0 cs is.good.known found.1).0 in
+        let agrees = agree_from found.0 c (locks_range found.0.party found.0.what x (is_exclusive m) known.0 found.3, known.1) range (parts.0 ∙ one) fits x in
         subst (λ (o : Owner). locks_agree o (Some (is_exclusive m)) c.owner (lock_on c x) ≡ true) parts.1
         (subst (λ (l : Option Bool). locks_agree found.0.owner l c.owner (lock_on c x) ≡ true) found.3 agrees)
 
@@ -282,6 +328,52 @@ left_of : (file : ℕ) (owner : Owner) (cs : List Claim) (c : Claim) → IsIn c 
 unfolding unranged
 left_of file owner cs c h = let found = in_filter_from (λ (d : Claim). not (is_range_of file owner d)) c cs h in (found.0, not-true (is_range_of file owner c) found.1)
 
+is_cache_what : (w : What) → is_cache w ≡ true → (kind : CacheKind) × (running : Option Break) × (w ≡ Cache kind running)
+is_cache_what (Cache kind running) h = (kind, running, refl)
+is_cache_what (Share access deny) h = absurd (both_ways false refl h)
+is_cache_what (Range extent exclusive) h = absurd (both_ways false refl h)
+
+first_inside : (s : Span) → s.first ≤ s.last → within s.first s.last s.first ≡ true
+first_inside s ends = and_from (leb s.first s.first) (leb s.first s.last) (le-leb s.first s.first (omega arith)) (le-leb s.first s.last ends)
+
+-- a cache on a new span's file is of the owner's party: it did not stand against the lock, or not against what the owner had
+new_caches : (names : List Name) (file : ℕ) (owner : Owner) (party : Party) (first last : ℕ) (asked : Option Bool) (cs : List Claim) (s : Span) (c : Claim)
+    → IsRelock names file owner party first last asked cs → IsIn s (new_spans file owner first last asked cs) → s.first ≤ s.last → IsIn c cs → IsCachesParty (range_claim file owner party s) c
+new_caches names file owner party first last asked cs s c is new ends there cache one =
+    elim (cases_Bool (is_of file owner c)) [
+      | inl own ↦ subst (λ (p : Party). same_parties party p ≡ true) (sym (own_party c there own)) (same_parties-self party)
+      | inr other ↦ elim (cases_Bool (within first last s.first)) [
+        | inl inside ↦ by_ask other asked is.free (rw inside at modes)
+        | inr outside ↦ by_old other (locked_by file owner cs s.first s.mode (rw outside at modes))
+      ]
+    ]
+  where
+    what : (kind : CacheKind) × (running : Option Break) × (c.what ≡ Cache kind running)
+    what = is_cache_what c.what cache
+
+    modes : (cond (within first last s.first) (mode_asked asked) (mode_at (spans_of file owner cs) s.first)) ≡ Some s.mode
+    modes =
+        new_mode names file owner party first last asked cs s.first s.mode is
+        (mode_of_span s (new_spans file owner first last asked cs) s.first (relocked_canonical (spans_of file owner cs) first last (mode_asked asked) is.ends (is.good.kept.sound.canonical file owner is.own)) new (first_inside s ends))
+
+    own_party : (d : Claim) → IsIn d cs → is_of file owner d ≡ true → d.party ≡ party
+    own_party d h own = party_of names file owner party cs d is.distinct is.good.known is.client h own
+
+    by_ask : is_of file owner c ≡ false → (a : Option Bool) → IsFree file owner party first last a cs → mode_asked a ≡ Some s.mode → same_parties party c.party ≡ true
+    by_ask other None free e = absurd cc
+    by_ask other (Some exclusive) free e =
+        let ask = lock_claim file owner party first last exclusive in
+        sym (cache_party ask c what.0 what.1 (is.ends, is.own) what.2) ∙ fit_of ask c one (free c there other)
+
+    by_old : is_of file owner c ≡ false → Locks file owner cs s.first s.mode → same_parties party c.party ≡ true
+    by_old other found =
+        let parts = is_of-true file owner found.0 found.2 in
+        let known = (all_in (IsHeld names) found.0 cs is.good.known found.1).0 in
+        let range : IsRange found.0 = (locks_range found.0.party found.0.what s.first (is_exclusive s.mode) known.0 found.3, known.1) in
+        let fits = pairwise_two cs found.0 c is.good.compatible found.1 there (λ same. both_ways (is_of file owner c) other (ap (is_of file owner) (sym same) ∙ found.2)) in
+        subst (λ (p : Party). same_parties p c.party ≡ true) (own_party found.0 found.1 found.2)
+        (sym (cache_party found.0 c what.0 what.1 range what.2) ∙ fit_of found.0 c (parts.0 ∙ one) fits)
+
 ranged : (w : What) → IsRangeBy w → is_range w ≡ true
 ranged (Range extent exclusive) h = refl
 ranged (Share access deny) h = absurd h
@@ -291,7 +383,7 @@ ranged (Cache kind running) h = absurd h
 new_fits : (names : List Name) (file : ℕ) (owner : Owner) (party : Party) (first last : ℕ) (asked : Option Bool) (cs : List Claim) (s : Span) (c : Claim)
     → IsRelock names file owner party first last asked cs → IsIn s (new_spans file owner first last asked cs) → IsRange (range_claim file owner party s) → IsIn c (unranged file owner cs) → compat (range_claim file owner party s) c ≡ true
 new_fits names file owner party first last asked cs s c is new real there =
-    fits_known (range_claim file owner party s) c c.what refl real (all_in (IsKnown names) c cs is.good.known held.0).0 (λ range one x. at x range one (cases_Bool (within s.first s.last x)))
+    fits_known (range_claim file owner party s) c c.what refl real (all_in (IsHeld names) c cs is.good.known held.0).0 (new_caches names file owner party first last asked cs s c is new real.0 held.0) (λ range one x. at x range one (cases_Bool (within s.first s.last x)))
   where
     held : IsIn c cs × (is_range_of file owner c ≡ false)
     held = left_of file owner cs c there
@@ -330,7 +422,7 @@ new_pairwise file owner party (s ∷ ss) canonical real = (
         subst (λ d. compat (range_claim file owner party s) d ≡ true) found.2
         (apart_fit file owner party s found.0 real.0 (subst IsRange (sym found.2) range) (omega (arith, after)))
 
-new_known : (names : List Name) (file : ℕ) (owner : Owner) (party : Party) (ss : List Span) → posix owner ≡ true → are_kept names owner party ≡ true → AreRanges ss → AllByRecursion (IsKnown names) (map (range_claim file owner party) ss)
+new_known : (names : List Name) (file : ℕ) (owner : Owner) (party : Party) (ss : List Span) → posix owner ≡ true → are_kept names owner party ≡ true → AreRanges ss → AllByRecursion (IsHeld names) (map (range_claim file owner party) ss)
 new_known names file owner party [] own kept ranges = tt
 new_known names file owner party (s ∷ ss) own kept ranges = (((ranges.0, own), kept), new_known names file owner party ss own kept ranges.1)
 
@@ -338,10 +430,8 @@ new_ranges : (file : ℕ) (owner : Owner) (party : Party) (ss : List Span) → p
 new_ranges file owner party [] own ranges = tt
 new_ranges file owner party (s ∷ ss) own ranges = ((ranges.0, own), new_ranges file owner party ss own ranges.1)
 
-of_one_party : (names : List Name) (file : ℕ) (owner : Owner) (party : Party) (cs : List Claim) → AreDistinct names → AllByRecursion (IsKnown names) cs → are_kept names owner party ≡ true → IsOfParty file owner party cs
-of_one_party names file owner party cs distinct known kept c h own range =
-    let is = all_in (IsKnown names) c cs known h in
-    one_party names owner c.party party distinct (subst (λ (o : Owner). are_kept names o c.party ≡ true) (is_of-true file owner c own).1 is.1) kept
+of_one_party : (names : List Name) (file : ℕ) (owner : Owner) (party : Party) (cs : List Claim) → AreDistinct names → AllByRecursion (IsHeld names) cs → are_kept names owner party ≡ true → IsOfParty file owner party cs
+of_one_party names file owner party cs distinct known kept c h own range = party_of names file owner party cs c distinct known kept h own
 
 -- the claims stay so where nothing stands against the lock, or where it is an unlock
 pub relocked_good : (names : List Name) (file : ℕ) (owner : Owner) (party : Party) (first last : ℕ) (asked : Option Bool) (cs : List Claim)
@@ -353,8 +443,8 @@ relocked_good names file owner party first last asked cs distinct good ends own 
       (pairwise_all_inserted compat compat-sym new left (new_pairwise file owner party spans canonical ranges) (left_pairwise compat file owner cs good.compatible) across);
   single = subst (λ (ds : List Claim). Pairwise is_single ds) same
       (pairwise_all_inserted is_single is_single-sym new left (all_single new ranges) (left_pairwise is_single file owner cs good.single) (λ c d h k. single_range c d (all_in IsRange c new ranges h)));
-  known = subst (λ (ds : List Claim). AllByRecursion (IsKnown names) ds) same
-      (all_all_inserted (IsKnown names) new left known (left_all (IsKnown names) file owner cs good.known));
+  known = subst (λ (ds : List Claim). AllByRecursion (IsHeld names) ds) same
+      (all_all_inserted (IsHeld names) new left known (left_all (IsHeld names) file owner cs good.known));
 } where
   spans : List Span
   spans = new_spans file owner first last asked cs
@@ -374,7 +464,7 @@ relocked_good names file owner party first last asked cs distinct good ends own 
   canonical : IsCanonical spans
   canonical = relocked_canonical (spans_of file owner cs) first last (mode_asked asked) ends (good.kept.sound.canonical file owner own)
 
-  known : AllByRecursion (IsKnown names) new
+  known : AllByRecursion (IsHeld names) new
   known = new_known names file owner party spans own kept (canonical_ranges spans canonical)
 
   ranges : AllByRecursion IsRange new
@@ -416,85 +506,23 @@ free_from ask (d ∷ ds) free c h other =
 
 -- ---- a share
 
-share_beside : (a b : Claim) (w v : What) → is_share w ≡ true → IsPosixBy v → is_share v ≡ false → fit_by a b w v ≡ true
+share_beside : (a b : Claim) (w v : What) → is_share w ≡ true → is_share v ≡ false → same_parties a.party b.party ≡ true → fit_by a b w v ≡ true
 unfolding fit_by
-share_beside a b (Share access deny) (Range extent exclusive) h known other = refl
-share_beside a b (Share access deny) (Share rights denied) h known other = absurd (both_ways true other refl)
-share_beside a b (Share access deny) (Cache kind running) h known other = absurd known
-share_beside a b (Range extent exclusive) v h known other = absurd (both_ways false refl h)
-share_beside a b (Cache kind running) v h known other = absurd (both_ways false refl h)
+share_beside a b (Share access deny) (Range extent exclusive) h other same = refl
+share_beside a b (Share access deny) (Share rights denied) h other same = absurd (both_ways true other refl)
+share_beside a b (Share access deny) (Cache kind running) h other same = or_left (same_parties a.party b.party) (not (guarding kind access deny)) same
+share_beside a b (Range extent exclusive) v h other same = absurd (both_ways false refl h)
+share_beside a b (Cache kind running) v h other same = absurd (both_ways false refl h)
 
-fit_of : (a b : Claim) → a.file ≡ b.file → compat a b ≡ true → fit_by a b a.what b.what ≡ true
-unfolding compat
-fit_of a b one fits =
-    elim (or_cases (not (eqb a.file b.file)) (fit_by a b a.what b.what) fits) [
-      | inr fit ↦ fit
-      | inl two ↦ absurd (both_ways (eqb a.file b.file) (not-true (eqb a.file b.file) two) (eq-eqb a.file b.file one))
-    ]
-
--- a share that nothing blocks fits each claim on its file that isn't its owner's share
-share_fits_held : (c : Claim) (cs : List Claim) (d : Claim) → is_share c.what ≡ true → list_any (λ e. blocks c e) cs ≡ false → IsIn d cs → IsPosix d → is_share_of c.file c.owner d ≡ false → c.file ≡ d.file → fit_by c d c.what d.what ≡ true
-share_fits_held c cs d share free there known other one =
+-- a share that nothing blocks fits each claim that isn't its owner's share, where its owner's claims are of its party
+share_fits_held : (c : Claim) (cs : List Claim) (d : Claim) → is_share c.what ≡ true → list_any (λ e. blocks c e) cs ≡ false → IsIn d cs → (is_of c.file c.owner d ≡ true → d.party ≡ c.party) → is_share_of c.file c.owner d ≡ false → compat c d ≡ true
+share_fits_held c cs d share free there mine other =
     elim (cases_Bool (is_of c.file c.owner d)) [
-      | inr apart ↦ fit_of c d one (free_from c cs free d there apart)
-      | inl own ↦ share_beside c d c.what d.what share known.0 (rw own at other)
+      | inr apart ↦ free_from c cs free d there apart
+      | inl own ↦
+          fits_of c d
+          (share_beside c d c.what d.what share (rw own at other) (subst (λ (p : Party). same_parties c.party p ≡ true) (sym (mine own)) (same_parties-self c.party)))
     ]
-
-fits_of : (a b : Claim) → fit_by a b a.what b.what ≡ true → compat a b ≡ true
-unfolding compat
-fits_of a b fit = or_right (not (eqb a.file b.file)) (fit_by a b a.what b.what) fit
-
--- ---- a share that is united with its owner's
-
-no_common : (p q r : Bool) → (p && r) ≡ false → (q && r) ≡ false → ((p || q) && r) ≡ false
-no_common true q r e f = e
-no_common false q r e f = f
-
-common_either : (p q r : Rwd) → common p r ≡ false → common q r ≡ false → common (either_right p q) r ≡ false
-common_either p q r e f =
-    let a = or_parts (p.r && r.r) ((p.w && r.w) || (p.d && r.d)) e in
-    let b = or_parts (p.w && r.w) (p.d && r.d) a.1 in
-    let c = or_parts (q.r && r.r) ((q.w && r.w) || (q.d && r.d)) f in
-    let d = or_parts (q.w && r.w) (q.d && r.d) c.1 in
-    rw (no_common p.r q.r r.r a.0 c.0, no_common p.w q.w r.w b.0 d.0, no_common p.d q.d r.d b.1 d.1) refl
-
-common-sym : (p q : Rwd) → common p q ≡ common q p
-common-sym p q = λ i. and-sym p.r q.r i || (and-sym p.w q.w i || and-sym p.d q.d i)
-
-united_fits : (a b : Claim) (w u v : What) → IsPosixBy v → fit_by a b w v ≡ true → fit_by a b u v ≡ true → fit_by a b (united_what w u) v ≡ true
-unfolding fit_by
-united_fits a b (Share access deny) (Share more less) (Share rights denied) known e f =
-    let x = and_parts (not (common access denied)) (not (common rights deny)) e in
-    let y = and_parts (not (common more denied)) (not (common rights less)) f in
-    and_from _ _ (not_from_false _ (common_either access more denied (not-true _ x.0) (not-true _ y.0)))
-    (not_from_false _ (common-sym rights (either_right deny less) ∙ common_either deny less rights (common-sym deny rights ∙ not-true _ x.1) (common-sym less rights ∙ not-true _ y.1)))
-united_fits a b (Share access deny) (Share more less) (Range extent exclusive) known e f = refl
-united_fits a b (Share access deny) (Share more less) (Cache kind running) known e f = absurd known
-united_fits a b (Share access deny) (Range extent exclusive) v known e f = e
-united_fits a b (Share access deny) (Cache kind running) v known e f = e
-united_fits a b (Range extent exclusive) u v known e f = e
-united_fits a b (Cache kind running) u v known e f = e
-
-all_united : (a b : Claim) (w : What) (old : List Claim) (v : What) → IsPosixBy v → fit_by a b w v ≡ true → AllByRecursion (λ o. fit_by a b o.what v ≡ true) old → fit_by a b (united_with w old) v ≡ true
-all_united a b w [] v known e all = e
-all_united a b w (o ∷ os) v known e all = all_united a b (united_what w o.what) os v known (united_fits a b w o.what v known e all.0) all.1
-
-same_fit : (a b d : Claim) (w v : What) → is_share w ≡ true → IsPosixBy v → fit_by a d w v ≡ true → fit_by b d w v ≡ true
-unfolding fit_by
-same_fit a b d (Share access deny) (Share rights denied) h known e = e
-same_fit a b d (Share access deny) (Range extent exclusive) h known e = refl
-same_fit a b d (Share access deny) (Cache kind running) h known e = absurd known
-same_fit a b d (Range extent exclusive) v h known e = absurd (both_ways false refl h)
-same_fit a b d (Cache kind running) v h known e = absurd (both_ways false refl h)
-
-united_by_fits : (a b : Claim) (owner : Owner) (w : What) (old : List Claim) (v : What) → IsPosixBy v → fit_by a b w v ≡ true → AllByRecursion (λ o. fit_by a b o.what v ≡ true) old → fit_by a b (united_by owner w old) v ≡ true
-unfolding united_by
-united_by_fits a b owner w old v known e all = elim (cases_Bool (unites owner)) [ inl k ↦ rw k (all_united a b w old v known e all) | inr k ↦ rw k e ]
-
--- the owner's old share is held, and is one
-old_of : (file : ℕ) (owner : Owner) (cs : List Claim) (o : Claim) → IsIn o (old_shares file owner cs) → IsIn o cs × (is_share_of file owner o ≡ true)
-unfolding old_shares
-old_of file owner cs o h = in_filter_from (is_share_of file owner) o cs h
 
 single_share : (c d : Claim) (w v : What) → is_share_of c.file c.owner d ≡ false → c.file ≡ d.file → d.what ≡ v → is_share w ≡ true → is_single_by c d w v ≡ true
 single_share c d (Share access deny) (Share rights denied) other one is h =
@@ -528,19 +556,19 @@ left_two : (test : Claim → Claim → Bool) (file : ℕ) (owner : Owner) (cs : 
 unfolding unshared
 left_two test file owner cs all = pairwise_filter test (λ c. not (is_share_of file owner c)) cs all
 
-posix_share : (w : What) → is_share w ≡ true → IsPosixBy w
-posix_share (Share access deny) h = tt
-posix_share (Range extent exclusive) h = absurd (both_ways false refl h)
-posix_share (Cache kind running) h = absurd (both_ways false refl h)
+held_share : (party : Party) (w : What) → is_share w ≡ true → IsHeldBy party w
+held_share party (Share access deny) h = tt
+held_share party (Range extent exclusive) h = absurd (both_ways false refl h)
+held_share party (Cache kind running) h = absurd (both_ways false refl h)
 
 shared_good : (names : List Name) (c : Claim) (cs : List Claim) → is_share c.what ≡ true → posix c.owner ≡ true → are_kept names c.owner c.party ≡ true
-    → AreGood names cs → list_any (λ d. blocks c d) cs ≡ false → length (shared_in c cs) ≤ most_claims → AreGood names (shared_in c cs)
+    → AreDistinct names → AreGood names cs → list_any (λ d. blocks c d) cs ≡ false → length (shared_in c cs) ≤ most_claims → AreGood names (shared_in c cs)
 unfolding shared_in
-shared_good names c cs share own kept good free fits = record {
+shared_good names c cs share own kept distinct good free fits = record {
   kept = record { sound = sound_shared c cs good.kept share; ordered = ordered_shared c cs good.kept; room = fits };
   compatible = pairwise_into compat compat-sym whole left (all_from (λ d. compat whole d ≡ true) left beside) (left_two compat c.file c.owner cs good.compatible);
   single = pairwise_into is_single is_single-sym whole left (all_from (λ d. is_single whole d ≡ true) left (λ d h. share_single whole d one (unshared_of c.file c.owner cs d h).1)) (left_two is_single c.file c.owner cs good.single);
-  known = all_put (IsKnown names) whole left ((posix_share whole.what one, own), kept) (all_from (IsKnown names) left (λ d h. all_in (IsKnown names) d cs good.known (unshared_of c.file c.owner cs d h).0));
+  known = all_put (IsHeld names) whole left ((held_share whole.party whole.what one, own), kept) (all_from (IsHeld names) left (λ d h. all_in (IsHeld names) d cs good.known (unshared_of c.file c.owner cs d h).0));
 } where
   whole : Claim
   whole = united c cs
@@ -548,32 +576,24 @@ shared_good names c cs share own kept good free fits = record {
   left : List Claim
   left = unshared c.file c.owner cs
 
-  old : List Claim
-  old = old_shares c.file c.owner cs
-
   one : is_share whole.what ≡ true
-  one = united_share c.owner c.what old share
+  one = united_share c.owner c.what (old_shares c.file c.owner cs) share
 
-  -- the old share fits each claim that is left
-  before : (d : Claim) → IsIn d cs → is_share_of c.file c.owner d ≡ false → IsPosix d → c.file ≡ d.file → (o : Claim) → IsIn o old → fit_by whole d o.what d.what ≡ true
-  before d there other known same o h =
-      let mine = old_of c.file c.owner cs o h in
-      let parts = and_parts (is_of c.file c.owner o) (is_share o.what) mine.1 in
-      same_fit o whole d o.what d.what parts.1 known.0
-      (fit_of o d ((is_of-true c.file c.owner o parts.0).0 ∙ same) (pairwise_two cs o d good.compatible mine.0 there (λ e. both_ways (is_share_of c.file c.owner d) other (ap (is_share_of c.file c.owner) (sym e) ∙ mine.1))))
+  mine : (d : Claim) → IsIn d cs → is_of c.file c.owner d ≡ true → d.party ≡ c.party
+  mine d h is = party_of names c.file c.owner c.party cs d distinct good.known kept h is
+
+  -- the old share is of the party, and fits each claim that is left
+  before : (d : Claim) → IsIn d cs → is_share_of c.file c.owner d ≡ false → (o : Claim) → IsIn o cs → is_share_of c.file c.owner o ≡ true → (o.party ≡ c.party) × (compat o d ≡ true)
+  before d there other o h old = (
+    mine o h (and_parts (is_of c.file c.owner o) (is_share o.what) old).0,
+    pairwise_two cs o d good.compatible h there (λ e. both_ways (is_share_of c.file c.owner d) other (ap (is_share_of c.file c.owner) (sym e) ∙ old)),
+  )
 
   beside : (d : Claim) → IsIn d left → compat whole d ≡ true
   beside d h =
       let found = unshared_of c.file c.owner cs d h in
-      let known = (all_in (IsKnown names) d cs good.known found.0).0 in
-      elim (cases_Bool (eqb c.file d.file)) [
-        | inr two ↦ other_file whole d two
-        | inl e ↦
-            let same = eqb-true c.file d.file e in
-            fits_of whole d
-            (united_by_fits whole d c.owner c.what old d.what known.0 (same_fit c whole d c.what d.what share known.0 (share_fits_held c cs d share free found.0 known found.1 same))
-            (all_from (λ o. fit_by whole d o.what d.what ≡ true) old (λ o k. before d found.0 found.1 known same o k)))
-      ]
+      united_fits c d cs share (share_fits_held c cs d share free found.0 (mine d found.0) found.1)
+      (all_from (λ o. is_share_of c.file c.owner o ≡ true → (o.party ≡ c.party) × (compat o d ≡ true)) cs (λ o k. before d found.0 found.1 o k))
 
 granted_by_good : (names : List Name) (c : Claim) (w : What) (cs : List Claim) → c.what ≡ w → IsPosixBy w → posix c.owner ≡ true → are_kept names c.owner c.party ≡ true
     → AreDistinct names → AreGood names cs → list_any (λ d. blocks c d) cs ≡ false → length (granted_by c w cs) ≤ most_claims → AreGood names (granted_by c w cs)
@@ -584,7 +604,7 @@ granted_by_good names c (Range (Bytes first last) exclusive) cs is ends own kept
     is_lock : (c : Claim) (first last : ℕ) (exclusive : Bool) → c.what ≡ Range (Bytes first last) exclusive → c ≡ lock_claim c.file c.owner c.party first last exclusive
     is_lock c first last exclusive is = λ i. record { file = c.file; owner = c.owner; party = c.party; what = is i }
 granted_by_good names c (Range (Empty offset) exclusive) cs is ends own kept distinct good free fits = absurd ends
-granted_by_good names c (Share access deny) cs is ends own kept distinct good free fits = shared_good names c cs (ap is_share is) own kept good free fits
+granted_by_good names c (Share access deny) cs is ends own kept distinct good free fits = shared_good names c cs (ap is_share is) own kept distinct good free fits
 granted_by_good names c (Cache kind running) cs is ends own kept distinct good free fits = absurd ends
 
 -- the claims stay so where one is granted that nothing blocks

@@ -27,11 +27,16 @@ use Rattle.xl_wait.specs.declared.waiter.Waiter.{Waiter}
 use Rattle.xl_core.specs.State.{CoreState, drawn}
 use Rattle.xl_core.specs.Asking.{asker, asked_what, asked_claim, known_claim, is_client, IsFit, IsFitAct, IsRealExtent}
 use Rattle.xl_core.specs.Causes.{asks_share, IsTurn, IsTurnDue, IsClaimDue, IsUnlockDue}
-use Rattle.xl_core.specs.Deeds.{Deed, Asks, GivesBack, Cancels, Ends, Serves, Draws, turned, given, done, IsFitDeed, with_waiter, queue_with, queue_without, waits_after, KeepNames}
+use Rattle.xl_core.specs.Asking.{party_named}
+use Rattle.xl_core.specs.Leases.{Lease}
+use Rattle.xl_core.specs.Ticks.{advanced, renew, end_some, unleased, expire}
+use Rattle.xl_names.specs.declared.name.Name.TheVariants.{NfsParty}
+use Rattle.xl_base.specs.declared.event.Moment.{Moment}
+use Rattle.xl_core.specs.Deeds.{Deed, Asks, GivesBack, Cancels, Ends, Serves, Draws, Advances, Renews, Expires, queue_without_party, turned, given, done, IsFitDeed, with_waiter, queue_with, queue_without, waits_after, KeepNames}
 use Rattle.xl_core.specs.Decide.{ask}
 use Rattle.xl_core.specs.Dues.{IsGrantDue, IsAnswerDue, IsTurnOwed, IsDue}
 use Rattle.xl_core.specs.Good.{IsGood, are_apart}
-use Rattle.xl_core.specs.Places.{Place, ByteOf, ShareOf, byte_held, share_held, held_in, held_at, part_by, part_of, held_as, entered_by, entered_at, cleared_by, cleared_at, entered_for, cleared_for, answered_at, ended_at, told_at, made, else_was}
+use Rattle.xl_core.specs.Places.{Place, ByteOf, ShareOf, byte_held, share_held, held_in, held_at, part_by, part_of, held_as, entered_by, entered_at, cleared_by, cleared_at, entered_for, cleared_for, answered_at, ended_at, ended_some, told_at, made, else_was}
 use Rattle.xl_table.specs.Relock.{is_share_of, with_share, shares_of, old_shares, united_by, granted_claims}
 use Rattle.xl_table.proofs.ShareLaws.{united_share}
 use Rattle.xl_core.specs.Settle.{settle, cancel, give_back, end_party}
@@ -46,7 +51,7 @@ use Rattle.xl_core.proofs.CauseLaws.{test_leaves}
 use Rattle.xl_core.proofs.ChangeLaws.{spans_apart, shares_apart, granted_share, granted_spans}
 use Rattle.xl_core.proofs.DeedCalls.{Clears, ask_enters, ask_keeps_claims, ask_clears, turn_known, answer_is_due, ask_queue, ask_names}
 use Rattle.xl_core.proofs.DeedLeaves.{spans_of-given, shares_of-given_apart, shares_of-given, has_of, Ended, ended_is}
-use Rattle.xl_core.proofs.GoodLaws.{ask_good, settle_good, cancel_good, give_back_good, drawn_good, end_party_good}
+use Rattle.xl_core.proofs.GoodLaws.{ask_good, settle_good, cancel_good, give_back_good, drawn_good, end_party_good, advanced_good, renew_good, expire_good}
 use Rattle.xl_core.proofs.SettleLaws.{none_settled, turn_is, without}
 use Rattle.xl_table.proofs.WriteBack.{is_of-true}
 
@@ -279,6 +284,29 @@ deed_good n s (Cancels id) good fit = cancel_good s id good
 deed_good n s (Ends party) good fit = end_party_good s party good
 deed_good n s (Serves left) good fit = turn_good s (settle n left s) good (settle_good n left s good)
 deed_good n s Draws good fit = drawn_good s good
+deed_good n s (Advances now) good fit = advanced_good s now good
+deed_good n s (Renews client) good fit = renew_good s client good
+deed_good n s (Expires client) good fit = expire_good s client good
+
+-- the clock and leases change nothing that is held, nobody who waits and no name
+abbrev IsStill : CoreState → CoreState → Type 0
+IsStill s t = (t.claims ≡ s.claims) × (t.waiters ≡ s.waiters) × (t.names ≡ s.names)
+
+advanced_still : (s : CoreState) (now : Moment) → IsStill s (advanced s now)
+unfolding advanced
+advanced_still s now = (refl, refl, refl)
+
+renew_still : (s : CoreState) (client : List ℕ) → IsStill s (renew s client).1
+unfolding renew
+renew_still s client = (refl, refl, refl)
+
+expired_made : (s : CoreState) (client : List ℕ) (party : Option Party) (p : Place) → IsGood s → held_at (unleased client (end_some s party)).1 p ≡ else_was (ended_some s.claims party p) (held_at s p)
+expired_made s client None p good = refl
+expired_made s client (Some party) p good = end_party_made s party p good
+
+expire_made : (s : CoreState) (client : List ℕ) (p : Place) → IsGood s → held_at (expire s client).1 p ≡ else_was (ended_some s.claims (party_named s.names (NfsParty client)) p) (held_at s p)
+unfolding expire
+expire_made s client p good = expired_made s client (party_named s.names (NfsParty client)) p good
 
 -- at each place there is what the deed made of it
 pub deed_makes : (n : ℕ) (s : CoreState) (d : Deed) (p : Place) → IsGood s → IsFitDeed s d → held_at (done n s d) p ≡ else_was (made n s d p) (held_at s p)
@@ -288,6 +316,9 @@ deed_makes n s (Cancels id) p good fit = ap (λ (cs : List Claim). held_in cs p)
 deed_makes n s (Ends party) p good fit = end_party_made s party p good
 deed_makes n s (Serves left) p good fit = turn_made left s (settle n left s) p good (turn_is n left s good)
 deed_makes n s Draws p good fit = ap (λ (cs : List Claim). held_in cs p) (drawn_is s).0
+deed_makes n s (Advances now) p good fit = ap (λ (cs : List Claim). held_in cs p) (advanced_still s now).0
+deed_makes n s (Renews client) p good fit = ap (λ (cs : List Claim). held_in cs p) (renew_still s client).0
+deed_makes n s (Expires client) p good fit = expire_made s client p good
 
 ended_queue : (s : CoreState) (party : Party) → (end_party s party).1.waiters ≡ waits_after 0 s (Ends party) s.waiters
 unfolding end_party
@@ -297,6 +328,14 @@ given_queue : (s : CoreState) (claim : Claim) → (give_back s claim).1.waiters 
 unfolding give_back
 given_queue s claim = refl
 
+expired_queue : (s : CoreState) (client : List ℕ) (party : Option Party) → (unleased client (end_some s party)).1.waiters ≡ queue_without_party party s.waiters
+expired_queue s client None = refl
+expired_queue s client (Some party) = ended_queue s party
+
+expire_queue : (s : CoreState) (client : List ℕ) → (expire s client).1.waiters ≡ queue_without_party (party_named s.names (NfsParty client)) s.waiters
+unfolding expire
+expire_queue s client = expired_queue s client (party_named s.names (NfsParty client))
+
 pub deed_queues : (n : ℕ) (s : CoreState) (d : Deed) → IsGood s → IsFitDeed s d → (done n s d).waiters ≡ waits_after n s d s.waiters
 deed_queues n s (Asks left a) good fit = ask_queue n left s a good fit
 deed_queues n s (GivesBack claim) good fit = given_queue s claim
@@ -304,6 +343,9 @@ deed_queues n s (Cancels id) good fit = (cancel_is s id).1
 deed_queues n s (Ends party) good fit = ended_queue s party
 deed_queues n s (Serves left) good fit = turn_queue left s (settle n left s) good (turn_is n left s good)
 deed_queues n s Draws good fit = (drawn_is s).1
+deed_queues n s (Advances now) good fit = (advanced_still s now).1
+deed_queues n s (Renews client) good fit = (renew_still s client).1
+deed_queues n s (Expires client) good fit = expire_queue s client
 
 ended_names : (s : CoreState) (party : Party) → (end_party s party).1.names ≡ s.names
 unfolding end_party
@@ -316,6 +358,14 @@ given_names s claim = refl
 same_names : (old new : List Name) → new ≡ old → KeepNames old new
 same_names old new e = subst (λ (names : List Name). KeepNames old names) (sym e) (λ number name h. h)
 
+expired_names : (s : CoreState) (client : List ℕ) (party : Option Party) → (unleased client (end_some s party)).1.names ≡ s.names
+expired_names s client None = refl
+expired_names s client (Some party) = ended_names s party
+
+expire_names : (s : CoreState) (client : List ℕ) → (expire s client).1.names ≡ s.names
+unfolding expire
+expire_names s client = expired_names s client (party_named s.names (NfsParty client))
+
 pub deed_names : (n : ℕ) (s : CoreState) (d : Deed) → IsGood s → IsFitDeed s d → KeepNames s.names (done n s d).names
 deed_names n s (Asks left a) good fit = ask_names n left s a good fit
 deed_names n s (GivesBack claim) good fit = same_names s.names (give_back s claim).1.names (given_names s claim)
@@ -323,6 +373,9 @@ deed_names n s (Cancels id) good fit = same_names s.names (cancel s id).1.names 
 deed_names n s (Ends party) good fit = same_names s.names (end_party s party).1.names (ended_names s party)
 deed_names n s (Serves left) good fit = turn_names left s (settle n left s) (turn_is n left s good)
 deed_names n s Draws good fit = same_names s.names (drawn s).names (drawn_is s).2
+deed_names n s (Advances now) good fit = same_names s.names (advanced s now).names (advanced_still s now).2
+deed_names n s (Renews client) good fit = same_names s.names (renew s client).1.names (renew_still s client).2
+deed_names n s (Expires client) good fit = same_names s.names (expire s client).1.names (expire_names s client)
 
 pub deed_due : (n : ℕ) (s : CoreState) (d : Deed) → IsGood s → IsFitDeed s d → IsDue n s d
 deed_due n s (Asks left a) good fit = answer_is_due n left s a good fit
@@ -331,3 +384,6 @@ deed_due n s (Cancels id) good fit = tt
 deed_due n s (Ends party) good fit = tt
 deed_due n s (Serves left) good fit = record { none = none_settled n left s; first = turn_is n left s good }
 deed_due n s Draws good fit = tt
+deed_due n s (Advances now) good fit = tt
+deed_due n s (Renews client) good fit = tt
+deed_due n s (Expires client) good fit = fit

@@ -7,7 +7,7 @@ use Rattle.xl_base.specs.Lists.{IsIn, Pairwise}
 use Rattle.xl_base.proofs.Members.{all_in}
 use Rattle.xl_base.specs.declared.name.Owner.{Owner}
 use Rattle.xl_base.specs.declared.name.Party.{Party}
-use Rattle.xl_matrix.proofs.EqualLaws.{same_owners-self, same_parties-true, same_claims-true, same_claims-self}
+use Rattle.xl_matrix.proofs.EqualLaws.{same_owners-self, same_claims-true, same_claims-self}
 use Rattle.xl_matrix.specs.Equal.{same_owners, same_parties, same_claims}
 use Rattle.xl_matrix.specs.declared.claim.Claim.{Claim}
 use Rattle.xl_matrix.specs.declared.claim.Rwd.{Rwd}
@@ -16,7 +16,7 @@ use Rattle.xl_matrix.specs.declared.claim.What.TheVariants.{Share, Range, Cache}
 use Rattle.xl_spans.specs.declared.span.Span.{Span}
 use Rattle.xl_table.specs.Flat.{removed}
 use Rattle.xl_table.specs.Held.{is_of, with_span, spans_of}
-use Rattle.xl_core.specs.Good.{are_kept, IsKnown, is_single_by, is_single, IsGood}
+use Rattle.xl_core.specs.Good.{are_kept, IsHeld, is_single_by, is_single, IsGood}
 use Rattle.xl_table.specs.Held.{is_share}
 use Rattle.xl_table.specs.Relock.{is_share_of, with_share, shares_of}
 use Rattle.xl_core.specs.Settle.{end_party}
@@ -215,8 +215,8 @@ Ended false s t file owner = (spans_of file owner t.claims ≡ spans_of file own
 of_party : (s : CoreState) (file : ℕ) (owner : Owner) (c d : Claim) → IsGood s → IsIn c s.claims → IsIn d s.claims → is_of file owner c ≡ true → is_of file owner d ≡ true → d.party ≡ c.party
 of_party s file owner c d good there h own mine =
     one_party s.names owner d.party c.party good.distinct
-    (subst (λ (o : Owner). are_kept s.names o d.party ≡ true) (is_of-true file owner d mine).1 (all_in (IsKnown s.names) d s.claims good.known h).1)
-    (subst (λ (o : Owner). are_kept s.names o c.party ≡ true) (is_of-true file owner c own).1 (all_in (IsKnown s.names) c s.claims good.known there).1)
+    (subst (λ (o : Owner). are_kept s.names o d.party ≡ true) (is_of-true file owner d mine).1 (all_in (IsHeld s.names) d s.claims good.known h).1)
+    (subst (λ (o : Owner). are_kept s.names o c.party ≡ true) (is_of-true file owner c own).1 (all_in (IsHeld s.names) c s.claims good.known there).1)
 
 pub ended_is : (s : CoreState) (party : Party) (file : ℕ) (owner : Owner) → IsGood s → Ended (has_of file owner party s.claims) s (end_party s party).1 file owner
 unfolding end_party

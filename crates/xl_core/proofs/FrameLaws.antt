@@ -1,5 +1,5 @@
 -- What each call leaves alone, and who leaves the queue by it.
-use Rattle.std.proofs.Common.{◌≡◌, ℕ, ◌+◌, Bool, true, false, if◌then◌else◌, ◌==◌, inl, inr, List, [], ◌∷◌, ◌++◌, map, Option, Some, None, IfSome, refl, sym, ap, subst, ◌∙◌, append-nil, arith}
+use Rattle.std.proofs.Common.{◌≡◌, ℕ, zero, suc, ◌+◌, ◌≤◌, nat_lt, length, Bool, true, false, not, if◌then◌else◌, ◌==◌, inl, inr, List, [], ◌∷◌, ◌++◌, map, Option, Some, None, IfSome, refl, sym, ap, subst, ◌∙◌, append-nil, arith}
 use Rattle.std.specs.List.{AllByRecursion, filter}
 use Rattle.std.proofs.lemmas.Bool.{cases_Bool, both_ways, eq-eqb}
 use Rattle.xl_base.specs.Lists.{Pairwise}
@@ -10,17 +10,23 @@ use Rattle.xl_wait.specs.Waiting.{is_waiting, cancelled}
 use Rattle.xl_wait.specs.declared.waiter.Rooms.{Rooms}
 use Rattle.xl_wait.specs.declared.waiter.Waiter.{Waiter}
 use Rattle.xl_core.specs.State.{CoreState, drawn}
-use Rattle.xl_core.specs.Asking.{both_entered, is_client}
+use Rattle.xl_core.specs.Asking.{party_named, both_entered, is_client}
 use Rattle.xl_core.specs.Decide.{Answered, waiter_of, ask}
-use Rattle.xl_core.specs.Frames.{who_left, AllLeave, IsFrame, drawn_by, asks_to_hold, names_after, come_by}
+use Rattle.xl_core.specs.Frames.{who_left, serves_none, AllLeave, IsFrame, IsTicked, drawn_by, asks_to_hold, names_after, come_by}
 use Rattle.xl_core.specs.Good.{are_apart, IsGood}
 use Rattle.xl_core.specs.Judge.{held_with}
 use Rattle.xl_core.specs.Settle.{settle, waits_for, numbers_for, all_told, cancel, give_back, end_party, all_cancelled}
 use Rattle.xl_core.specs.declared.ask.Answer.{Answer}
 use Rattle.xl_core.specs.declared.ask.Answer.TheVariants as answers
 use Rattle.xl_core.specs.declared.ask.Ask.{Ask}
+use Rattle.xl_core.specs.declared.ask.Effect.{Effect}
+use Rattle.xl_core.specs.declared.ask.Effect.TheVariants.{Begun, Served, Cancelled, Expired}
+use Rattle.xl_base.specs.declared.event.Moment.{Moment}
+use Rattle.xl_names.specs.declared.name.Name.TheVariants.{NfsParty}
+use Rattle.xl_core.specs.Leases.{later, first_ended}
+use Rattle.xl_core.specs.Ticks.{advanced, renew, end_some, unleased, expire, behind_told, expired_then, expired_for, tick}
 use Rattle.xl_core.proofs.ChangeLaws.{AskWay, Stays, Tests, Holds, Waits, Frees, ask_way}
-use Rattle.xl_core.proofs.GoodLaws.{Turned, turn_by, each_turn}
+use Rattle.xl_core.proofs.GoodLaws.{fewer_filtered, Turned, turn_by, each_turn}
 use Rattle.xl_core.proofs.RowLaws.{is_refusal}
 use Rattle.xl_core.proofs.SettleLaws.{apart_ids, all_out}
 
@@ -138,3 +144,113 @@ end_party_frame s party good = record {
   leave = subst (λ (ids : List ℕ). AllLeave ids s.waiters) (sym (told_left (numbers_for party s.waiters))) (party_leaves party s.waiters good.apart);
   waiters = sym (all_out party s.waiters good.apart) ∙ ap (λ (ids : List ℕ). all_cancelled ids s.waiters) (sym (told_left (numbers_for party s.waiters))) ∙ nobody _;
 }
+
+-- ---- who leaves is served nothing
+
+told_unserved : (ids : List ℕ) → serves_none (all_told ids) ≡ true
+told_unserved [] = refl
+told_unserved (id ∷ ids) = told_unserved ids
+
+pub cancel_unserved : (s : CoreState) (id : ℕ) → serves_none (cancel s id).0 ≡ true
+unfolding cancel
+cancel_unserved s id = refl
+
+pub give_back_unserved : (s : CoreState) (claim : Claim) → serves_none (give_back s claim).0 ≡ true
+unfolding give_back
+give_back_unserved s claim = refl
+
+pub end_party_unserved : (s : CoreState) (party : Party) → serves_none (end_party s party).0 ≡ true
+unfolding end_party
+end_party_unserved s party = told_unserved (numbers_for party s.waiters)
+
+-- ---- the clock
+
+unserved_more : (xs ys : List Effect) → serves_none xs ≡ true → serves_none ys ≡ true → serves_none (xs ++ ys) ≡ true
+unserved_more [] ys first later = later
+unserved_more (Served id answer ∷ xs) ys first later = absurd (both_ways false refl first)
+unserved_more (Begun c to number ∷ xs) ys first later = unserved_more xs ys first later
+unserved_more (Cancelled id ∷ xs) ys first later = unserved_more xs ys first later
+unserved_more (Expired client ∷ xs) ys first later = unserved_more xs ys first later
+
+-- what an expiry and those behind it leave alone
+abbrev pub IsLeft : CoreState → List Effect × CoreState → Type 0
+IsLeft s r = IsTicked s s.clock r.1 × (serves_none r.0 ≡ true)
+
+clock_stays : (now : Moment) → later now now ≡ now
+clock_stays now = elim (cases_Bool (nat_lt now.0 now.0)) [ inl e ↦ rw e refl | inr e ↦ rw e refl ]
+
+left_so : (s : CoreState) → IsLeft s ([], s)
+left_so s = (record { clock = sym (clock_stays s.clock); stable = refl; made = refl; failed = refl; counter = refl; names = refl; waiters = omega arith }, refl)
+
+ended_left : (s : CoreState) (party : Party) → IsLeft s (end_party s party)
+unfolding end_party
+ended_left s party = (
+  record { clock = sym (clock_stays s.clock); stable = refl; made = refl; failed = refl; counter = refl; names = refl; waiters = fewer_filtered (λ w. not (waits_for party w)) s.waiters },
+  told_unserved (numbers_for party s.waiters),
+)
+
+some_left : (s : CoreState) (party : Option Party) → IsLeft s (end_some s party)
+some_left s None = left_so s
+some_left s (Some party) = ended_left s party
+
+pub expire_left : (s : CoreState) (client : List ℕ) → IsLeft s (expire s client)
+unfolding expire
+expire_left s client =
+    let party = party_named s.names (NfsParty client) in
+    let is = some_left s party in (
+      record { clock = is.0.clock; stable = is.0.stable; made = is.0.made; failed = is.0.failed; counter = is.0.counter; names = is.0.names; waiters = is.0.waiters },
+      unserved_more (end_some s party).0 (Expired client ∷ []) is.1 refl,
+    )
+
+left_on : (s t : CoreState) (told : List Effect) (r : List Effect × CoreState) → IsLeft s (told, t) → IsLeft t r → IsLeft s (behind_told told r)
+left_on s t told r first next = (
+  record {
+    clock = next.0.clock ∙ clock_stays t.clock ∙ first.0.clock;
+    stable = next.0.stable ∙ first.0.stable;
+    made = next.0.made ∙ first.0.made;
+    failed = next.0.failed ∙ first.0.failed;
+    counter = next.0.counter ∙ first.0.counter;
+    names = next.0.names ∙ first.0.names;
+    waiters = omega (arith, first.0.waiters, next.0.waiters);
+  },
+  unserved_more told r.0 first.1 next.1,
+)
+
+then_left : (rest : CoreState → List Effect × CoreState) (s : CoreState) (o : Option (List ℕ)) → ((t : CoreState) → IsLeft t (rest t)) → IsLeft s (expired_then rest s o)
+then_left rest s None each = left_so s
+then_left rest s (Some client) each = left_on s (expire s client).1 (expire s client).0 (rest (expire s client).1) (expire_left s client) (each (expire s client).1)
+
+expired_left : (fuel : ℕ) (s : CoreState) → IsLeft s (expired_for fuel s)
+expired_left zero s = left_so s
+expired_left (suc fuel) s = then_left (expired_for fuel) s (first_ended s.clock s.leases) (λ t. expired_left fuel t)
+
+pub advanced_ticked : (s : CoreState) (now : Moment) → IsTicked s now (advanced s now)
+unfolding advanced
+advanced_ticked s now = record { clock = refl; stable = refl; made = refl; failed = refl; counter = refl; names = refl; waiters = omega arith }
+
+pub tick_frame : (s : CoreState) (now : Moment) → IsTicked s now (tick s now).1
+unfolding tick
+tick_frame s now =
+    let first = advanced_ticked s now in
+    let next = (expired_left (length s.leases) (advanced s now)).0 in
+    record {
+      clock = next.clock ∙ clock_stays (advanced s now).clock ∙ first.clock;
+      stable = next.stable ∙ first.stable;
+      made = next.made ∙ first.made;
+      failed = next.failed ∙ first.failed;
+      counter = next.counter ∙ first.counter;
+      names = next.names ∙ first.names;
+      waiters = omega (arith, first.waiters, next.waiters);
+    }
+
+pub tick_unserved : (s : CoreState) (now : Moment) → serves_none (tick s now).0 ≡ true
+unfolding tick
+tick_unserved s now = (expired_left (length s.leases) (advanced s now)).1
+
+pub renew_unserved : (s : CoreState) (client : List ℕ) → serves_none (renew s client).0 ≡ true
+unfolding renew
+renew_unserved s client = refl
+
+pub renew_frame : (s : CoreState) (client : List ℕ) → IsFrame s (renew s client).0 (renew s client).1 0 s.names []
+unfolding renew
+renew_frame s client = record { stable = refl; clock = refl; made = refl; failed = refl; counter = omega arith; names = refl; leave = tt; waiters = nobody s.waiters }

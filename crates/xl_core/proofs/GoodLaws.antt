@@ -1,5 +1,5 @@
 -- The state stays good: by each ask, each turn, each cancel, and when a party leaves.
-use Rattle.std.proofs.Common.{◌≡◌, ℕ, ◌+◌, ◌≤◌, Bool, true, false, not, ◌==◌, nat_le, inl, inr, List, [], ◌∷◌, ◌++◌, length, Option, Some, None, IfSome, refl, sym, ap, subst, ◌∙◌, arith}
+use Rattle.std.proofs.Common.{◌≡◌, ℕ, ◌+◌, ◌≤◌, Bool, true, false, not, ◌==◌, nat_le, inl, inr, List, [], ◌∷◌, ◌++◌, length, Option, Some, None, IfSome, refl, sym, ap, subst, ◌∙◌, arith, zero, suc}
 use Rattle.std.specs.List.{AllByRecursion, filter, list_any}
 use Rattle.std.proofs.lemmas.Bool.{cases_Bool, both_ways, ne_eqb, not_from_false, leb-true}
 use Rattle.std.proofs.lemmas.List.{length-append}
@@ -30,10 +30,15 @@ use Rattle.xl_wait.specs.Waiting.{cancelled}
 use Rattle.xl_wait.specs.declared.waiter.Rooms.{Rooms}
 use Rattle.xl_wait.specs.declared.waiter.Waiter.{Waiter}
 use Rattle.xl_core.specs.State.{CoreState, started, step_begun, drawn}
+use Rattle.xl_core.specs.Leases.{Lease, moment_after, later, with_lease, without_lease, first_ended}
+use Rattle.xl_core.specs.Ticks.{advanced, renew, end_some, unleased, expire, expired_then, expired_for, tick}
+use Rattle.xl_core.specs.Asking.{party_named}
+use Rattle.xl_core.specs.declared.lease.Times.{Times}
+use Rattle.xl_names.specs.declared.name.Name.TheVariants.{NfsParty}
 use Rattle.xl_core.specs.Asking.{both_entered, asked_claim, asked_claims, known_claim, is_client, IsRealExtent, IsFitAct, IsFit}
 use Rattle.xl_core.specs.Causes.{limits_of_wait, left_by_unlock}
 use Rattle.xl_core.specs.Decide.{Answered, plea_of, waiter_of, waiting, named, answered, claims_asked, unlocked_claims, unlocked_bytes, unlocked, acted, ask}
-use Rattle.xl_core.specs.Good.{are_kept, IsKnown, is_single, are_apart, IsWaiter, IsGood, stands_in_the_way}
+use Rattle.xl_core.specs.Good.{are_kept, IsKnown, IsHeld, is_single, are_apart, IsWaiter, IsGood, stands_in_the_way}
 use Rattle.xl_core.specs.Judge.{Ruled, all_granted, held_with, judged}
 use Rattle.xl_core.specs.Limits.{most_waiters, grant_limits, first_passed}
 use Rattle.xl_core.specs.Settle.{plea_again, rests, all_of, turned, again, turn_or, first_turn, settle, waits_for, cancel, give_back, end_party}
@@ -50,7 +55,7 @@ use Rattle.xl_core.specs.declared.judge.Ruling.TheVariants.{Gets, Waits, Told}
 use Rattle.xl_core.proofs.CauseLaws.{left_so, real_range}
 use Rattle.xl_core.proofs.ClaimLaws.{AreGood, relocked_good, granted_good}
 use Rattle.xl_core.proofs.DecideLaws.{none_blockers}
-use Rattle.xl_core.proofs.KnownLaws.{GoOn, both_go_on, both_distinct, known_on, waiters_on, one_party, asker_kept, asked_known, kept_on, kept_posix, known_party_is}
+use Rattle.xl_core.proofs.KnownLaws.{GoOn, both_go_on, both_distinct, held_on, waiters_on, one_party, asker_kept, asked_known, kept_on, kept_posix, known_party_is}
 use Rattle.xl_core.proofs.LimitLaws.{grant_room, wait_room}
 use Rattle.xl_core.proofs.RowLaws.{AllPass, is_refusal, IsRuled, judged_ruled, ruled_by, passed_by, judged_is}
 use Rattle.xl_core.proofs.TurnLaws.{alone, blocked_rests, rests_blocked, free_moves, move_first}
@@ -61,9 +66,9 @@ pub good_claims : (s : CoreState) → IsGood s → AreGood s.names s.claims
 good_claims s good = record { kept = good.kept; compatible = good.compatible; single = good.single; known = good.known }
 
 claims_on : (names more : List Name) (cs : List Claim) → GoOn names more → AreGood names cs → AreGood more cs
-claims_on names more cs on good = record { kept = good.kept; compatible = good.compatible; single = good.single; known = known_on names more cs on good.known }
+claims_on names more cs on good = record { kept = good.kept; compatible = good.compatible; single = good.single; known = held_on names more cs on good.known }
 
-good_from : (t : CoreState) → AreGood t.names t.claims → AreDistinct t.names → length t.names ≤ most_names → AllByRecursion (IsWaiter t.names t.counter) t.waiters → Pairwise are_apart t.waiters → length t.waiters ≤ most_waiters → IsGood t
+pub good_from : (t : CoreState) → AreGood t.names t.claims → AreDistinct t.names → length t.names ≤ most_names → AllByRecursion (IsWaiter t.names t.counter) t.waiters → Pairwise are_apart t.waiters → length t.waiters ≤ most_waiters → IsGood t
 good_from t good distinct few waits apart crowd = record {
   kept = good.kept;
   compatible = good.compatible;
@@ -78,12 +83,23 @@ good_from t good distinct few waits apart crowd = record {
 
 -- ---- at a start, and at the beginning of a step
 
-pub started_good : (stable : Stable) (clock : Moment) → IsGood (started stable clock)
-started_good stable clock = record { kept = kept_empty; compatible = tt; single = tt; known = tt; waiters = tt; apart = tt; crowd = omega arith; distinct = tt; few = omega arith }
+pub started_good : (stable : Stable) (clock : Moment) (times : Times) → IsGood (started stable clock times)
+started_good stable clock times = record { kept = kept_empty; compatible = tt; single = tt; known = tt; waiters = tt; apart = tt; crowd = omega arith; distinct = tt; few = omega arith }
 
 pub begun_good : (s : CoreState) → IsGood s → IsGood (step_begun s)
 unfolding step_begun
 begun_good s good = good_from (record s { made = 0; failed = false }) (good_claims s good) good.distinct good.few good.waiters good.apart good.crowd
+
+pub advanced_good : (s : CoreState) (now : Moment) → IsGood s → IsGood (advanced s now)
+unfolding advanced
+advanced_good s now good = good_from (record s { clock = later s.clock now }) (good_claims s good) good.distinct good.few good.waiters good.apart good.crowd
+
+leased_good : (s : CoreState) (leases : List Lease) → IsGood s → IsGood (record s { leases = leases })
+leased_good s leases good = good_from (record s { leases = leases }) (good_claims s good) good.distinct good.few good.waiters good.apart good.crowd
+
+pub renew_good : (s : CoreState) (client : List ℕ) → IsGood s → IsGood (renew s client).1
+unfolding renew
+renew_good s client good = leased_good s (with_lease client (moment_after s.clock s.times.lease) s.leases) good
 
 pub drawn_good : (s : CoreState) → IsGood s → IsGood (drawn s)
 unfolding drawn
@@ -92,9 +108,9 @@ drawn_good s good =
 
 -- ---- a party for each owner
 
-known_one : (names : List Name) (c : Claim) (cs : List Claim) (more : List Name) → GoOn names more → AreDistinct more → AllByRecursion (IsKnown names) cs → are_kept more c.owner c.party ≡ true → AllByRecursion (λ d. has_one_party c d ≡ true) cs
+known_one : (names : List Name) (c : Claim) (cs : List Claim) (more : List Name) → GoOn names more → AreDistinct more → AllByRecursion (IsHeld names) cs → are_kept more c.owner c.party ≡ true → AllByRecursion (λ d. has_one_party c d ≡ true) cs
 known_one names c cs more on distinct all kept =
-    all_one_party c cs (λ d h own range. one_party more c.owner d.party c.party distinct (subst (λ (o : Owner). are_kept more o d.party ≡ true) (owner_of d own) (kept_on names more d.owner d.party on (all_in (IsKnown names) d cs all h).1)) kept)
+    all_one_party c cs (λ d h own range. one_party more c.owner d.party c.party distinct (subst (λ (o : Owner). are_kept more o d.party ≡ true) (owner_of d own) (kept_on names more d.owner d.party on (all_in (IsHeld names) d cs all h).1)) kept)
   where
     owner_of : (d : Claim) → is_of c.file c.owner d ≡ true → d.owner ≡ c.owner
     owner_of d own = (is_of-true c.file c.owner d own).1
@@ -113,7 +129,7 @@ pub unlocked_one_party : (s : CoreState) (a : Ask) (extent : Extent) (exclusive 
 unlocked_one_party s a extent exclusive good client =
     let claim = known_claim a extent exclusive s.names in
     all_one_party claim s.claims (λ d h own range. known_party_is a s.names d.party good.distinct good.few client
-    (subst (λ (o : Owner). are_kept s.names o d.party ≡ true) (is_of-true claim.file claim.owner d own).1 (all_in (IsKnown s.names) d s.claims good.known h).1))
+    (subst (λ (o : Owner). are_kept s.names o d.party ≡ true) (is_of-true claim.file claim.owner d own).1 (all_in (IsHeld s.names) d s.claims good.known h).1))
 
 -- ---- a share or a lock
 
@@ -196,7 +212,7 @@ holder_kept s a extent exclusive first last good client holds =
     let claim = known_claim a extent exclusive s.names in
     let found = span_owner claim.file claim.owner (meets first last) s.claims holds in
     let owner = (is_of-true claim.file claim.owner found.0 found.2).1 in
-    let kept = subst (λ (o : Owner). are_kept s.names o found.0.party ≡ true) owner (all_in (IsKnown s.names) found.0 s.claims good.known found.1).1 in
+    let kept = subst (λ (o : Owner). are_kept s.names o found.0.party ≡ true) owner (all_in (IsHeld s.names) found.0 s.claims good.known found.1).1 in
     subst (λ (p : Party). are_kept s.names claim.owner p ≡ true) (known_party_is a s.names found.0.party good.distinct good.few client kept) kept
 
 unlocked_bytes_good : (s : CoreState) (claim : Claim) (first last : ℕ) → IsGood s → first ≤ last → (holds_byte claim.file claim.owner first last s.claims ≡ true → are_kept s.names claim.owner claim.party ≡ true) → IsGood (unlocked_bytes s claim first last).2
@@ -375,11 +391,11 @@ give_back_good s claim good =
       kept = kept_removed claim s.claims good.kept;
       compatible = pairwise_removed compat claim s.claims good.compatible;
       single = pairwise_removed is_single claim s.claims good.single;
-      known = all_removed (IsKnown s.names) claim s.claims good.known;
+      known = all_removed (IsHeld s.names) claim s.claims good.known;
     })
     good.distinct good.few good.waiters good.apart good.crowd
 
-fewer_filtered : (keep : Waiter → Bool) (ws : List Waiter) → length (filter keep ws) ≤ length ws
+pub fewer_filtered : (keep : Waiter → Bool) (ws : List Waiter) → length (filter keep ws) ≤ length ws
 fewer_filtered keep [] = omega arith
 fewer_filtered keep (w ∷ ws) = elim (cases_Bool (keep w)) [ inl e ↦ rw e (omega (arith, fewer_filtered keep ws)) | inr e ↦ rw e (omega (arith, fewer_filtered keep ws)) ]
 
@@ -393,8 +409,33 @@ end_party_good s party good =
       kept = kept_filter stays s.claims good.kept;
       compatible = pairwise_filter compat stays s.claims good.compatible;
       single = pairwise_filter is_single stays s.claims good.single;
-      known = all_from (IsKnown s.names) (filter stays s.claims) (λ c h. all_in (IsKnown s.names) c s.claims good.known (in_filter_from stays c s.claims h).0);
+      known = all_from (IsHeld s.names) (filter stays s.claims) (λ c h. all_in (IsHeld s.names) c s.claims good.known (in_filter_from stays c s.claims h).0);
     })
     good.distinct good.few
     (all_from (IsWaiter s.names s.counter) (filter waits s.waiters) (λ w h. all_in (IsWaiter s.names s.counter) w s.waiters good.waiters (in_filter_from waits w s.waiters h).0))
     (pairwise_filter are_apart waits s.waiters good.apart) (omega (arith, fewer_filtered waits s.waiters, good.crowd))
+
+-- ---- the clock
+
+ended_good : (s : CoreState) (client : List ℕ) (party : Option Party) → IsGood s → IsGood (unleased client (end_some s party)).1
+ended_good s client None good = leased_good s (without_lease client s.leases) good
+ended_good s client (Some party) good = leased_good (end_party s party).1 (without_lease client (end_party s party).1.leases) (end_party_good s party good)
+
+pub expire_good : (s : CoreState) (client : List ℕ) → IsGood s → IsGood (expire s client).1
+unfolding expire
+expire_good s client good = ended_good s client (party_named s.names (NfsParty client)) good
+
+pub expired_is_good : (s t : CoreState) (client : List ℕ) (effects : List Effect) → IsGood s → expire s client ≡ (effects, t) → IsGood t
+expired_is_good s t client effects good e = subst (λ (r : List Effect × CoreState). IsGood r.1) e (expire_good s client good)
+
+then_good : (rest : CoreState → List Effect × CoreState) (s : CoreState) (o : Option (List ℕ)) → IsGood s → ((t : CoreState) → IsGood t → IsGood (rest t).1) → IsGood (expired_then rest s o).1
+then_good rest s None good later = good
+then_good rest s (Some client) good later = later (expire s client).1 (expire_good s client good)
+
+expired_good : (fuel : ℕ) (s : CoreState) → IsGood s → IsGood (expired_for fuel s).1
+expired_good zero s good = good
+expired_good (suc fuel) s good = then_good (expired_for fuel) s (first_ended s.clock s.leases) good (λ t h. expired_good fuel t h)
+
+pub tick_good : (s : CoreState) (now : Moment) → IsGood s → IsGood (tick s now).1
+unfolding tick
+tick_good s now good = expired_good (length s.leases) (advanced s now) (advanced_good s now good)

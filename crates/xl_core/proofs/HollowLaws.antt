@@ -26,6 +26,7 @@ use Rattle.xl_core.specs.declared.ask.Act.TheVariants.{Test}
 use Rattle.xl_core.specs.declared.ask.Answer.{Answer}
 use Rattle.xl_core.specs.declared.ask.Answer.TheVariants as answers
 use Rattle.xl_core.specs.declared.ask.Ask.{Ask}
+use Rattle.xl_core.specs.declared.lease.Times.{Times}
 use Rattle.xl_core.proofs.CauseLaws.{lock_free, test_due}
 
 -- ---- one that keeps nothing
@@ -37,22 +38,22 @@ no_limit (limit ∷ limits) each = λ n. rw (each.0, and_right (limit.0 == n) fa
 abbrev first_claim : Claim
 first_claim = asked_claim smallest_lock (Range (Bytes 0 0) true) []
 
-has_room : (stable : Stable) (clock : Moment) → IsRoom (limits_of_grant all_room (started stable clock) smallest_lock first_claim)
+has_room : (stable : Stable) (clock : Moment) (times : Times) → IsRoom (limits_of_grant all_room (started stable clock times) smallest_lock first_claim)
 unfolding granted_claims relocked_in unranged inserted relocked
-has_room stable clock = no_limit (limits_of_grant all_room (started stable clock) smallest_lock first_claim) (refl, (refl, (refl, (refl, (refl, tt)))))
+has_room stable clock times = no_limit (limits_of_grant all_room (started stable clock times) smallest_lock first_claim) (refl, (refl, (refl, (refl, (refl, tt)))))
 
-first_granted : (n : ℕ) (stable : Stable) (clock : Moment) → (ask n all_room (started stable clock) smallest_lock).0 ≡ answers.Granted first_claim
-first_granted n stable clock = lock_free n all_room (started stable clock) smallest_lock (Range (Bytes 0 0) true) refl refl refl (has_room stable clock)
+first_granted : (n : ℕ) (stable : Stable) (clock : Moment) (times : Times) → (ask n all_room (started stable clock times) smallest_lock).0 ≡ answers.Granted first_claim
+first_granted n stable clock times = lock_free n all_room (started stable clock times) smallest_lock (Range (Bytes 0 0) true) refl refl refl (has_room stable clock times)
 
 abbrev first_place : Place
 first_place = ByteOf 1 (asker smallest_lock []) 0
 
-first_held : (n : ℕ) (stable : Stable) (clock : Moment) → stands n (started stable clock) (Asks all_room smallest_lock ∷ []) first_place [] ≡ Range (Bytes 0 0) true ∷ []
-first_held n stable clock = ap (λ (answer : Answer). else_was (entered_for [] answer first_place) []) (first_granted n stable clock)
+first_held : (n : ℕ) (stable : Stable) (clock : Moment) (times : Times) → stands n (started stable clock times) (Asks all_room smallest_lock ∷ []) first_place [] ≡ Range (Bytes 0 0) true ∷ []
+first_held n stable clock times = ap (λ (answer : Answer). else_was (entered_for [] answer first_place) []) (first_granted n stable clock times)
 
-pub nothing_kept : (n : ℕ) (stable : Stable) (clock : Moment) (t : CoreState) → t.claims ≡ [] → IsChangedBy n (started stable clock) (Asks all_room smallest_lock ∷ []) t → ⊥
-nothing_kept n stable clock t none changed =
-    let two : held_in [] first_place ≡ Range (Bytes 0 0) true ∷ [] = sym (ap (λ (cs : List Claim). held_in cs first_place) none) ∙ changed first_place ∙ first_held n stable clock in
+pub nothing_kept : (n : ℕ) (stable : Stable) (clock : Moment) (times : Times) (t : CoreState) → t.claims ≡ [] → IsChangedBy n (started stable clock times) (Asks all_room smallest_lock ∷ []) t → ⊥
+nothing_kept n stable clock times t none changed =
+    let two : held_in [] first_place ≡ Range (Bytes 0 0) true ∷ [] = sym (ap (λ (cs : List Claim). held_in cs first_place) none) ∙ changed first_place ∙ first_held n stable clock times in
     absurd cc
 
 -- ---- one that drops who waits

@@ -16,6 +16,7 @@ use Rattle.xl_base.proofs.Members.{all_weaker}
 use Rattle.xl_matrix.specs.Owners.{posix}
 use Rattle.xl_matrix.specs.declared.claim.Claim.{Claim}
 use Rattle.xl_matrix.specs.declared.claim.What.{What}
+use Rattle.xl_matrix.specs.declared.claim.What.TheVariants.{Share, Range, Cache}
 use Rattle.xl_names.specs.Names.{protocol_of, same_name, number_of, place_of, is_kept, entered, AreDistinct, most_names}
 use Rattle.xl_names.specs.declared.name.Name.{Name}
 use Rattle.xl_names.specs.declared.name.Name.TheVariants.{NlmRange, NlmShare, NlmParty, NfsRange, NfsShare, NfsParty, SmbLease}
@@ -23,7 +24,7 @@ use Rattle.xl_names.proofs.NameLaws.{same_name_is, same_name_self, kept_from_num
 use Rattle.xl_wait.specs.declared.waiter.Waiter.{Waiter}
 use Rattle.xl_core.specs.Asking.{owner_in, party_in, who_entered, asker, asking_party, both_entered, coming, asked_claim, no_number, number_or, known_owner, known_party, client_of, is_name, is_client}
 use Rattle.xl_table.specs.Held.{IsPosixBy}
-use Rattle.xl_core.specs.Good.{agree, are_kept, IsKnown, IsWaiter}
+use Rattle.xl_core.specs.Good.{agree, are_kept, IsKnown, IsHeldBy, IsHeld, IsWaiter}
 use Rattle.xl_core.specs.declared.ask.Ask.{Ask}
 use Rattle.xl_core.specs.declared.ask.Who.{Who}
 use Rattle.xl_core.specs.declared.ask.Who.TheVariants.{Named, Open}
@@ -146,8 +147,17 @@ kept_on names more owner party on h =
       client_is = is.client_is;
     })
 
-pub known_on : (names more : List Name) (cs : List Claim) → GoOn names more → AllByRecursion (IsKnown names) cs → AllByRecursion (IsKnown more) cs
+known_on : (names more : List Name) (cs : List Claim) → GoOn names more → AllByRecursion (IsKnown names) cs → AllByRecursion (IsKnown more) cs
 known_on names more cs on all = all_weaker (IsKnown names) (IsKnown more) cs (λ c h. (h.0, kept_on names more c.owner c.party on h.1)) all
+
+pub held_on : (names more : List Name) (cs : List Claim) → GoOn names more → AllByRecursion (IsHeld names) cs → AllByRecursion (IsHeld more) cs
+held_on names more cs on all = all_weaker (IsHeld names) (IsHeld more) cs (λ c h. (h.0, kept_on names more c.owner c.party on h.1)) all
+
+-- what may be asked for may be held
+pub posix_held : (party : Party) (w : What) → IsPosixBy w → IsHeldBy party w
+posix_held party (Share access deny) real = tt
+posix_held party (Range extent exclusive) real = real
+posix_held party (Cache kind running) real = absurd real
 
 pub waiters_on : (names more : List Name) (counter next : ℕ) (ws : List Waiter) → GoOn names more → counter ≤ next → AllByRecursion (IsWaiter names counter) ws → AllByRecursion (IsWaiter more next) ws
 waiters_on names more counter next ws on h all = all_weaker (IsWaiter names counter) (IsWaiter more next) ws (λ w is. (omega (arith, h, is.0), known_on names more w.asked on is.1, is.2, is.3)) all

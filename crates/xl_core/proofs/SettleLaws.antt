@@ -20,6 +20,7 @@ use Rattle.xl_core.specs.Judge.{Ruled}
 use Rattle.xl_core.specs.Limits.{first_passed}
 use Rattle.xl_core.specs.Settle.{rests, turned, again, turn_or, first_turn, settle, AllRest, waits_for, numbers_for, all_cancelled, cancel, give_back, end_party}
 use Rattle.xl_core.specs.declared.ask.Answer.TheVariants.{Granted, Full}
+use Rattle.xl_core.proofs.CacheLaws.{granted_caches}
 use Rattle.xl_core.proofs.ChangeLaws.{spans_apart, shares_apart}
 use Rattle.xl_core.proofs.GoodLaws.{Turned, turn_by, turn_limits, IsFirst, each_turn}
 use Rattle.xl_core.proofs.LimitLaws.{grant_found}
@@ -66,9 +67,6 @@ settled_is n left s good = (rest_blocked n left s [] s.waiters, blocked_rest n l
 pub none_settled : (n : ℕ) (left : Rooms) (s : CoreState) → settle n left s ≡ None → IsSettled s
 none_settled n left s e = rest_blocked n left s [] s.waiters ((settle_rests n left s).0 e)
 
-pub settled_none : (n : ℕ) (left : Rooms) (s : CoreState) → IsGood s → IsSettled s → settle n left s ≡ None
-settled_none n left s good is = (settle_rests n left s).1 ((settled_is n left s good).1 is)
-
 -- ---- what a turn is
 
 pub without : (before : List Waiter) (w : Waiter) (behind : List Waiter) → Pairwise are_apart (before ++ w ∷ behind) → cancelled w.id (before ++ w ∷ behind) ≡ before ++ behind
@@ -95,6 +93,7 @@ due_by left s w c (Some limit) e before behind left_by stood blocked asked free 
   names = refl;
   spans = λ file owner apart. refl;
   shares = λ file owner apart. refl;
+  caches = refl;
 }
 due_by left s w c None e before behind left_by stood blocked asked free = record {
   before = before;
@@ -112,6 +111,7 @@ due_by left s w c None e before behind left_by stood blocked asked free = record
   names = refl;
   spans = λ file owner apart. spans_apart c s.claims file owner apart;
   shares = λ file owner apart. shares_apart c s.claims file owner apart;
+  caches = granted_caches c s.claims;
 }
 
 pub waiters_left : (left : Rooms) (s : CoreState) (turn : Turned) (first : IsFirst left s s.waiters turn) → IsGood s → cancelled first.waiter.id s.waiters ≡ first.before ++ first.behind

@@ -1,7 +1,7 @@
 -- A test foretells the lock.
-use Rattle.std.proofs.Common.{◌≡◌, ℕ, ◌<◌, ◌≤◌, Bool, true, false, not, ◌&&◌, ◌||◌, ◌==◌, eqb, List, [], ◌∷◌, length, Option, Some, None, inl, inr, refl, sym, ap, ◌∙◌, ◌↔◌, arith, slice_get}
+use Rattle.std.proofs.Common.{◌≡◌, ℕ, ◌<◌, ◌≤◌, Bool, true, false, not, ◌&&◌, ◌||◌, ◌==◌, eqb, ◌⊎◌, List, [], ◌∷◌, length, Option, Some, None, inl, inr, refl, sym, ap, ◌∙◌, ◌↔◌, arith, slice_get}
 use Rattle.std.specs.List.{list_any}
-use Rattle.std.proofs.lemmas.Bool.{both_ways, and_right, ne_eqb, cases_lt}
+use Rattle.std.proofs.lemmas.Bool.{cases_Bool, both_ways, and_parts, and_right, ne_eqb, cases_lt}
 use Rattle.xl_base.specs.Lists.{IsIn}
 use Rattle.xl_base.proofs.Members.{all_in}
 use Rattle.xl_base.specs.Stable.{same_protocol}
@@ -20,23 +20,24 @@ use Rattle.xl_matrix.specs.declared.claim.What.TheVariants.{Share, Range, Cache}
 use Rattle.xl_names.specs.Names.{protocol_of, number_of, place_of, most_names}
 use Rattle.xl_names.specs.declared.name.Name.{Name}
 use Rattle.xl_names.proofs.NameLaws.{kept_from_number, new_from_none, place_new}
-use Rattle.xl_table.specs.Flat.{is_met, blocks}
-use Rattle.xl_table.specs.Held.{IsPosixBy}
+use Rattle.xl_table.specs.Flat.{is_met, blocks, is_blocked}
+use Rattle.xl_table.specs.Held.{IsPosixBy, is_range, is_cache}
 use Rattle.xl_table.specs.Least.{least}
 use Rattle.xl_table.proofs.LeastLaws.{one_passes}
 use Rattle.xl_wait.specs.declared.waiter.Rooms.{Rooms}
 use Rattle.xl_core.specs.State.{CoreState}
 use Rattle.xl_core.specs.Asking.{asked_claim, asked_what, known_claim, known_owner, number_or, no_number, is_client, owner_in}
 use Rattle.xl_core.specs.Blockers.{test_blockers}
-use Rattle.xl_core.specs.Causes.{stands_against, IsSameAsker, IsConflict}
+use Rattle.xl_core.specs.Causes.{stands_against, IsSameAsker, IsCacheInTheWay, IsConflict}
 use Rattle.xl_core.specs.Decide.{ask}
 use Rattle.xl_core.specs.Frames.{drawn_by}
-use Rattle.xl_core.specs.Good.{are_kept, IsKnown, IsGood}
+use Rattle.xl_core.specs.Good.{are_kept, IsHeldBy, IsHeld, IsGood}
 use Rattle.xl_core.specs.declared.ask.Act.TheVariants.{Ranges, Test}
 use Rattle.xl_core.specs.declared.ask.Answer.TheVariants.{Granted, Conflict}
 use Rattle.xl_core.specs.declared.ask.Ask.{Ask}
 use Rattle.xl_core.specs.declared.ask.Who.{Who}
 use Rattle.xl_core.specs.declared.ask.Who.TheVariants.{Named}
+use Rattle.xl_core.proofs.CacheLaws.{range_no_cache}
 use Rattle.xl_core.proofs.CauseLaws.{lock_due, test_due, test_none, test_some, option_cases}
 use Rattle.xl_core.proofs.DecideLaws.{blocks_some, blockers_some}
 use Rattle.xl_core.proofs.FrameLaws.{ask_frame}
@@ -86,22 +87,28 @@ same_to name names d party None e few kept =
     ∙ sym (apart_number (protocol_of name) (protocol_of is.name) (place_of name names) is.number (λ same. omega (arith, same, small, place)))
     ∙ ap (λ (x : Owner). same_owners (owners.Name (protocol_of name) (place_of name names)) x) (sym is.owner_is)
 
--- what the claim of a test meets, that of the lock does
-meets_both : (s : CoreState) (test lock : Ask) (first last : ℕ) (exclusive : Bool) (d : Claim) → IsGood s → is_client lock.owner lock.party ≡ true → IsSameAsker test lock → IsIn d s.claims
+held_posix : (party : Party) (w : What) → is_cache w ≡ false → IsHeldBy party w → IsPosixBy w
+held_posix party (Share access deny) other held = tt
+held_posix party (Range extent exclusive) other held = held
+held_posix party (Cache kind running) other held = absurd (both_ways true other refl)
+
+-- what the claim of a test meets, that of the lock does, caches aside
+meets_both : (s : CoreState) (test lock : Ask) (first last : ℕ) (exclusive : Bool) (d : Claim) → IsGood s → is_client lock.owner lock.party ≡ true → IsSameAsker test lock → IsIn d s.claims → is_cache d.what ≡ false
     → stands_against (known_claim test (Bytes first last) exclusive s.names) d ≡ blocks (asked_claim lock (Range (Bytes first last) exclusive) s.names) d
-meets_both s test lock first last exclusive d good client same h =
-    let known = all_in (IsKnown s.names) d s.claims good.known h in
+meets_both s test lock first last exclusive d good client same h other =
+    let known = all_in (IsHeld s.names) d s.claims good.known h in
     let is = is_client_is lock.owner lock.party client in
     let named : test.owner ≡ Named is.0 = same.owner ∙ is.2 in
-    blocks_by (known_claim test (Bytes first last) exclusive s.names) (asked_claim lock (Range (Bytes first last) exclusive) s.names) d first last exclusive d.what refl known.0.0 same.file refl refl
+    blocks_by (known_claim test (Bytes first last) exclusive s.names) (asked_claim lock (Range (Bytes first last) exclusive) s.names) d first last exclusive d.what refl (held_posix d.party d.what other known.0.0) same.file refl refl
     (ap (λ (w : Who). posix (known_owner w s.names)) named ∙ client_posix is.0 is.1 is.4 (number_or (number_of is.0 s.names)) ∙ sym (ap (λ (w : Who). posix (owner_in w s.names)) is.2 ∙ client_posix is.0 is.1 is.4 (place_of is.0 s.names)))
     (ap (λ (w : Who). same_owners (known_owner w s.names) d.owner) named ∙ same_to is.0 s.names d.owner d.party (number_of is.0 s.names) refl good.few known.1 ∙ sym (ap (λ (w : Who). same_owners (owner_in w s.names) d.owner) is.2))
 
 -- ---- a test foretells the lock
 
 pub test_foretells : (n : ℕ) (left : Rooms) (s : CoreState) (test lock : Ask) (first last : ℕ) (exclusive : Bool) → IsGood s → is_client lock.owner lock.party ≡ true → IsSameAsker test lock
-    → test.act ≡ Test (Bytes first last) exclusive → lock.act ≡ Ranges ((Bytes first last, exclusive) ∷ []) → lock.blocking ≡ false → IsConflict (ask n left s test).0 ↔ IsConflict (ask n left s lock).0
-test_foretells n left s test lock first last exclusive good client same tests locks hurries = (forth, back) where
+    → test.act ≡ Test (Bytes first last) exclusive → lock.act ≡ Ranges ((Bytes first last, exclusive) ∷ []) → lock.blocking ≡ false
+    → IsConflict (ask n left s lock).0 ↔ (IsConflict (ask n left s test).0 ⊎ IsCacheInTheWay s lock (asked_claim lock (Range (Bytes first last) exclusive) s.names))
+test_foretells n left s test lock first last exclusive good client same tests locks hurries = (back, λ either. elim either [ inl told ↦ forth told | inr way ↦ refused way.0 (one_passes (λ d. blocks asked d) s.claims way.1 way.2 way.4) ]) where
   what : What
   what = Range (Bytes first last) exclusive
 
@@ -111,26 +118,36 @@ test_foretells n left s test lock first last exclusive good client same tests lo
   asked : Claim
   asked = asked_claim lock what s.names
 
-  alike : (d : Claim) → IsIn d s.claims → stands_against known d ≡ blocks asked d
-  alike d h = meets_both s test lock first last exclusive d good client same h
+  alike : (d : Claim) → IsIn d s.claims → is_cache d.what ≡ false → stands_against known d ≡ blocks asked d
+  alike d h other = meets_both s test lock first last exclusive d good client same h other
+
+  refused : lock.reclaim ≡ false → is_blocked s.claims asked ≡ true → IsConflict (ask n left s lock).0
+  refused fresh blocked =
+      let found = blocks_some s.waiters s asked blocked in
+      let held = blockers_some s.waiters s asked found.0 found.1 in
+      (found.0, (lock_due n left s lock what (Conflict found.0) (ap asked_what locks)).1 (fresh, hurries, found.1, held.0, held.1))
 
   forth : IsConflict (ask n left s test).0 → IsConflict (ask n left s lock).0
   forth told =
       let due = (test_due n left s test (Bytes first last) exclusive (Conflict told.0) tests).0 told.1 in
-      let blocked = one_passes (λ d. blocks asked d) s.claims told.0 due.2 (sym (alike told.0 due.2) ∙ due.3) in
-      let found = blocks_some s.waiters s asked blocked in
-      let held = blockers_some s.waiters s asked found.0 found.1 in
-      (found.0, (lock_due n left s lock what (Conflict found.0) (ap asked_what locks)).1 (sym same.reclaim ∙ due.0, hurries, found.1, held.0, held.1))
+      let range = (and_parts (is_range told.0.what) (blocks known told.0) due.3).0 in
+      refused (sym same.reclaim ∙ due.0) (one_passes (λ d. blocks asked d) s.claims told.0 due.2 (sym (alike told.0 due.2 (range_no_cache told.0.what range)) ∙ due.3))
 
-  back : IsConflict (ask n left s lock).0 → IsConflict (ask n left s test).0
-  back told =
-      let due = (lock_due n left s lock what (Conflict told.0) (ap asked_what locks)).0 told.1 in
-      let stands = alike told.0 due.3 ∙ due.4 in
+  denied : test.reclaim ≡ false → (c : Claim) → IsIn c s.claims → stands_against known c ≡ true → IsConflict (ask n left s test).0
+  denied fresh c there stands =
       elim (option_cases (least s.names (test_blockers s known))) [
-        | inl none ↦ absurd (both_ways (list_any (stands_against known) s.claims) (test_none s known none) (one_passes (stands_against known) s.claims told.0 due.3 stands))
+        | inl none ↦ absurd (both_ways (list_any (stands_against known) s.claims) (test_none s known none) (one_passes (stands_against known) s.claims c there stands))
         | inr found ↦
             let held = test_some s known found.0 found.1 in
-            (found.0, (test_due n left s test (Bytes first last) exclusive (Conflict found.0) tests).1 (same.reclaim ∙ due.0, found.1, held.0, held.1))
+            (found.0, (test_due n left s test (Bytes first last) exclusive (Conflict found.0) tests).1 (fresh, found.1, held.0, held.1))
+      ]
+
+  back : IsConflict (ask n left s lock).0 → IsConflict (ask n left s test).0 ⊎ IsCacheInTheWay s lock asked
+  back told =
+      let due = (lock_due n left s lock what (Conflict told.0) (ap asked_what locks)).0 told.1 in
+      elim (cases_Bool (is_cache told.0.what)) [
+        | inl cache ↦ inr (due.0, told.0, due.3, cache, due.4)
+        | inr other ↦ inl (denied (same.reclaim ∙ due.0) told.0 due.3 (alike told.0 due.3 other ∙ due.4))
       ]
 
 -- ---- what is granted leaves the record, the clock and the counter

@@ -1,5 +1,5 @@
 -- Who asks: the numbers of names, which may still have to come, and the claim that an ask is for.
-use Rattle.std.specs.Prelude.{◌≡◌, ℕ, ◌≤◌, Bool, true, false, if◌then◌else◌, List, [], ◌∷◌, map, Option, Some, None}
+use Rattle.std.specs.Prelude.{◌≡◌, ℕ, ◌≤◌, Bool, true, false, if◌then◌else◌, List, [], ◌∷◌, map, Option, Some, None, option_map}
 use Rattle.xl_base.specs.declared.name.Owner.{Owner}
 use Rattle.xl_base.specs.declared.name.Owner.TheVariants as owners
 use Rattle.xl_base.specs.declared.name.Party.{Party}
@@ -17,6 +17,12 @@ use Rattle.xl_core.specs.declared.ask.Who.TheVariants.{Named, Open}
 use Rattle.xl_core.specs.declared.ask.Act.{Act}
 use Rattle.xl_core.specs.declared.ask.Act.TheVariants.{Share, Ranges, Test, Unlock}
 use Rattle.xl_core.specs.declared.ask.Ask.{Ask}
+
+-- ---- a client
+
+-- the party of a client's name, where the name is kept
+abbrev pub party_named : List Name → Name → Option Party
+party_named names client = option_map (λ number. parties.Name (protocol_of client) number) (number_of client names)
 
 -- ---- an ask that may enter its names
 

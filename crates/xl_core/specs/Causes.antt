@@ -7,7 +7,7 @@ use Rattle.xl_matrix.specs.declared.claim.Claim.{Claim}
 use Rattle.xl_names.specs.declared.name.Name.{Name}
 use Rattle.xl_spans.specs.Spans.{within, mode_at}
 use Rattle.xl_table.specs.Flat.{blocks}
-use Rattle.xl_table.specs.Held.{is_range, is_share, spans_of}
+use Rattle.xl_table.specs.Held.{is_range, is_share, is_cache, spans_of}
 use Rattle.xl_wait.specs.declared.waiter.Rooms.{Rooms}
 use Rattle.xl_wait.specs.declared.waiter.Waiter.{Waiter}
 use Rattle.xl_core.specs.State.{CoreState}
@@ -16,7 +16,7 @@ use Rattle.xl_table.specs.Least.{least}
 use Rattle.xl_core.specs.Blockers.{blockers, test_blockers}
 use Rattle.xl_core.specs.Limits.{grant_limits, wait_limits, IsRoom, IsLeastPassed}
 use Rattle.xl_table.specs.Flat.{is_blocked}
-use Rattle.xl_core.specs.Good.{stands_in_the_way}
+use Rattle.xl_core.specs.Good.{caches_of, stands_in_the_way}
 use Rattle.xl_table.specs.Relock.{most_claims, shares_of, relocked_in, granted_claims}
 use Rattle.xl_core.specs.declared.ask.Act.{Act}
 use Rattle.xl_core.specs.declared.ask.Act.TheVariants.{Share}
@@ -94,7 +94,7 @@ abbrev pub IsBlockedWaiter : CoreState → Waiter → Type 0
 IsBlockedWaiter s w = stands_in_the_way s.claims w.asked ≡ true
 
 -- The first waiter that nothing held blocks is answered and waits no more; the others wait on. Only what its owner has
--- on its file changes.
+-- on its file changes, and no cache does.
 pub record IsTurn (left : Rooms) (s : CoreState) (effects : List Effect) (new : CoreState) : Type 0 where
   pub before : List Waiter
   pub waiter : Waiter
@@ -111,6 +111,7 @@ pub record IsTurn (left : Rooms) (s : CoreState) (effects : List Effect) (new : 
   pub names : new.names ≡ s.names
   pub spans : (file : ℕ) (owner : Owner) → ((file ≡ claim.file) × (owner ≡ claim.owner) × (is_share claim.what ≡ false) → ⊥) → spans_of file owner new.claims ≡ spans_of file owner s.claims
   pub shares : (file : ℕ) (owner : Owner) → ((file ≡ claim.file) × (owner ≡ claim.owner) × (is_share claim.what ≡ true) → ⊥) → shares_of file owner new.claims ≡ shares_of file owner s.claims
+  pub caches : caches_of new.claims ≡ caches_of s.claims
 
 -- ---- what an ask may change
 
@@ -120,13 +121,15 @@ asks_share (Share access deny) = true
 asks_share _ = false
 
 -- An ask that is neither granted nor told to wait changes nothing. One that is granted changes only what its owner has on
--- its file: a share for a share, ranges for a range. One that waits changes no claim. No waiter goes, and each name keeps its number.
+-- its file: a share for a share, ranges for a range. One that waits changes no claim. No cache changes, no waiter goes, and
+-- each name keeps its number.
 pub record IsOwn (s : CoreState) (a : Ask) (answer : Answer) (new : CoreState) : Type 0 where
   pub claims : ((claim : Claim) → answer ≡ Granted claim → ⊥) → new.claims ≡ s.claims
   pub waiters : ((number : ℕ) → answer ≡ Queued number → ⊥) → new.waiters ≡ s.waiters
   pub refused : ((claim : Claim) → answer ≡ Granted claim → ⊥) → ((number : ℕ) → answer ≡ Queued number → ⊥) → new ≡ s
   pub spans : (file : ℕ) (owner : Owner) → ((file ≡ a.file) × (owner ≡ asker a s.names) × (asks_share a.act ≡ false) → ⊥) → spans_of file owner new.claims ≡ spans_of file owner s.claims
   pub shares : (file : ℕ) (owner : Owner) → ((file ≡ a.file) × (owner ≡ asker a s.names) × (asks_share a.act ≡ true) → ⊥) → shares_of file owner new.claims ≡ shares_of file owner s.claims
+  pub caches : caches_of new.claims ≡ caches_of s.claims
   pub stay : (w : Waiter) → IsIn w s.waiters → IsIn w new.waiters
   pub names : (number : ℕ) (name : Name) → slice_get s.names number ≡ Some name → slice_get new.names number ≡ Some name
 
@@ -138,6 +141,10 @@ pub record IsSameAsker (a b : Ask) : Type 0 where
   pub owner : a.owner ≡ b.owner
   pub party : a.party ≡ b.party
   pub reclaim : a.reclaim ≡ b.reclaim
+
+-- a held cache blocks the lock, which is no reclaim; a test isn't told of caches
+abbrev pub IsCacheInTheWay : CoreState → Ask → Claim → Type 0
+IsCacheInTheWay s a claim = (a.reclaim ≡ false) × (c : Claim) × IsIn c s.claims × (is_cache c.what ≡ true) × (blocks claim c ≡ true)
 
 -- something held is told
 abbrev pub IsConflict : Answer → Type 0

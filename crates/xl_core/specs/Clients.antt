@@ -1,29 +1,26 @@
 -- Whose deeds they are.
-use Rattle.std.specs.Prelude.{◌≡◌, ℕ, List, [], ◌∷◌, Option, Some, None, option_map}
+use Rattle.std.specs.Prelude.{◌≡◌, ℕ, List, [], ◌∷◌, Option, Some, None}
 use Rattle.std.specs.List.{slice_get}
 use Rattle.xl_base.specs.Lists.{IsIn}
 use Rattle.xl_base.specs.declared.name.Party.{Party}
-use Rattle.xl_base.specs.declared.name.Party.TheVariants as parties
 use Rattle.xl_matrix.specs.declared.claim.Claim.{Claim}
-use Rattle.xl_names.specs.Names.{protocol_of, number_of}
 use Rattle.xl_names.specs.declared.name.Name.{Name}
+use Rattle.xl_names.specs.declared.name.Name.TheVariants.{NfsParty}
 use Rattle.xl_wait.specs.declared.waiter.Waiter.{Waiter}
 use Rattle.xl_core.specs.State.{CoreState}
-use Rattle.xl_core.specs.Deeds.{Deed, Asks, GivesBack, Cancels, Ends, done}
+use Rattle.xl_core.specs.Asking.{party_named}
+use Rattle.xl_core.specs.Deeds.{Deed, Asks, GivesBack, Cancels, Ends, Renews, done}
 use Rattle.xl_core.specs.declared.ask.Ask.{Ask}
 use Rattle.xl_core.specs.declared.ask.Who.TheVariants.{Named}
 
--- the party of a client's name, where the name is kept
-abbrev pub party_named : List Name → Name → Option Party
-party_named names client = option_map (λ number. parties.Name (protocol_of client) number) (number_of client names)
-
--- the deed is this client's: it asks as this party, gives back what this party has, takes out whoever waits for it, or
--- ends it; turns and numbers are nobody's
+-- the deed is this client's: it asks as this party, gives back what this party has, takes out whoever waits for it, ends
+-- it, or renews its lease; turns, numbers, the clock and who expires are nobody's
 abbrev pub IsOf : CoreState → Name → Deed → Type 0
 IsOf s client (Asks left a) = a.party ≡ Named client
 IsOf s client (GivesBack claim) = party_named s.names client ≡ Some claim.party
 IsOf s client (Cancels id) = (w : Waiter) (c : Claim) → IsIn w s.waiters → w.id ≡ id → slice_get w.asked 0 ≡ Some c → party_named s.names client ≡ Some c.party
 IsOf s client (Ends party) = party_named s.names client ≡ Some party
+IsOf s client (Renews id) = client ≡ NfsParty id
 IsOf s client deed = ⊥
 
 abbrev pub AreOf : ℕ → CoreState → Name → List Deed → Type 0

@@ -1,19 +1,24 @@
 -- What is done to the core: its calls as values, what each gives, and who waits after them.
-use Rattle.std.specs.Prelude.{◌≡◌, ℕ, true, not, List, [], ◌∷◌, ◌++◌, Option, Some, None}
+use Rattle.std.specs.Prelude.{◌≡◌, ℕ, zero, suc, true, not, length, List, [], ◌∷◌, ◌++◌, Option, Some, None}
 use Rattle.std.specs.List.{filter, slice_get}
 use Rattle.xl_base.specs.Lists.{IsIn}
+use Rattle.xl_base.specs.declared.event.Moment.{Moment}
 use Rattle.xl_base.specs.declared.name.Party.{Party}
+use Rattle.xl_matrix.specs.Equal.{same_parties}
 use Rattle.xl_matrix.specs.declared.claim.Claim.{Claim}
 use Rattle.xl_matrix.specs.declared.claim.What.{What}
 use Rattle.xl_names.specs.declared.name.Name.{Name}
+use Rattle.xl_names.specs.declared.name.Name.TheVariants.{NfsParty}
 use Rattle.xl_wait.specs.Waiting.{is_waiting, cancelled}
 use Rattle.xl_wait.specs.declared.waiter.Rooms.{Rooms}
 use Rattle.xl_wait.specs.declared.waiter.Waiter.{Waiter}
 use Rattle.xl_core.specs.State.{CoreState, drawn}
-use Rattle.xl_core.specs.Asking.{asked_what, asked_claim, IsFit}
+use Rattle.xl_core.specs.Asking.{party_named, asked_what, asked_claim, IsFit}
 use Rattle.xl_core.specs.Decide.{waiter_of, ask}
 use Rattle.xl_table.specs.Held.{is_share}
+use Rattle.xl_core.specs.Leases.{first_ended}
 use Rattle.xl_core.specs.Settle.{settle, waits_for, cancel, give_back, end_party}
+use Rattle.xl_core.specs.Ticks.{advanced, renew, expire}
 use Rattle.xl_core.specs.declared.ask.Answer.{Answer}
 use Rattle.xl_core.specs.declared.ask.Answer.TheVariants.{Queued}
 use Rattle.xl_core.specs.declared.ask.Ask.{Ask}
@@ -23,7 +28,8 @@ use Rattle.xl_core.specs.declared.ask.Effect.TheVariants.{Served}
 -- ---- a call of the core as a value
 
 -- an ask, with the room left in the fronts' tables; a claim given back; the waiter of this number taken out; a party
--- ended; a turn; a number given out
+-- ended; a turn; a number given out; the clock read; the lease of the NFSv4 client of this id string renewed; such a client
+-- expired
 pub data Deed : Type 0 where
   Asks : Rooms → Ask → Deed
   GivesBack : Claim → Deed
@@ -31,6 +37,9 @@ pub data Deed : Type 0 where
   Ends : Party → Deed
   Serves : Rooms → Deed
   Draws : Deed
+  Advances : Moment → Deed
+  Renews : List ℕ → Deed
+  Expires : List ℕ → Deed
 
 -- the answer, where the call has one, what is told besides, and the state that is left
 abbrev pub Given : Type 0
@@ -55,6 +64,9 @@ given n s (Cancels id) = unanswered (cancel s id)
 given n s (Ends party) = unanswered (end_party s party)
 given n s (Serves left) = turned s (settle n left s)
 given n s Draws = (None, [], drawn s)
+given n s (Advances now) = (None, [], advanced s now)
+given n s (Renews client) = unanswered (renew s client)
+given n s (Expires client) = unanswered (expire s client)
 
 -- the state after one deed, and after these in a row
 abbrev pub done : ℕ → CoreState → Deed → CoreState
@@ -80,11 +92,13 @@ answers_of n s (d ∷ ds) = with_answer (given n s d).0 (answers_of n (done n s 
 
 -- ---- which deeds the core takes
 
--- an ask that is fit, a share that is held, and a waiter who stands; claims of other kinds are not given back yet
+-- an ask that is fit, a share that is held, a waiter who stands, and of the clients whose lease has ended the one whose id
+-- string stands first; claims of other kinds are not given back yet
 abbrev pub IsFitDeed : CoreState → Deed → Type 0
 IsFitDeed s (Asks left a) = IsFit a
 IsFitDeed s (GivesBack claim) = IsIn claim s.claims × (is_share claim.what ≡ true)
 IsFitDeed s (Cancels id) = is_waiting id s.waiters ≡ true
+IsFitDeed s (Expires client) = first_ended s.clock s.leases ≡ Some client
 IsFitDeed s _ = Unit {0}
 
 abbrev pub AreFit : ℕ → CoreState → List Deed → Type 0
@@ -107,18 +121,58 @@ abbrev pub queue_without : List Effect → List Waiter → List Waiter
 queue_without (Served id answer ∷ effects) waiters = cancelled id waiters
 queue_without effects waiters = waiters
 
+-- those of a party that ends wait no more
+abbrev pub queue_without_party : Option Party → List Waiter → List Waiter
+queue_without_party None waiters = waiters
+queue_without_party (Some party) waiters = filter (λ w. not (waits_for party w)) waiters
+
 -- who waits after one deed, of those who waited
 abbrev pub waits_after : ℕ → CoreState → Deed → List Waiter → List Waiter
 waits_after n s (Asks left a) waiters = queue_with s a (ask n left s a).0 waiters
 waits_after n s (Cancels id) waiters = cancelled id waiters
 waits_after n s (Ends party) waiters = filter (λ w. not (waits_for party w)) waiters
 waits_after n s (Serves left) waiters = queue_without (given n s (Serves left)).1 waiters
+waits_after n s (Expires client) waiters = queue_without_party (party_named s.names (NfsParty client)) waiters
 waits_after n s _ waiters = waiters
 
 -- who waits after these: who waited, but for those that each of them queued, took out, ended or served, in order
 abbrev pub queue_after : ℕ → CoreState → List Deed → List Waiter → List Waiter
 queue_after n s [] waiters = waiters
 queue_after n s (d ∷ ds) waiters = queue_after n (done n s d) ds (waits_after n s d waiters)
+
+-- ---- a tick
+
+abbrev pub expiry_then : (CoreState → List Deed) → CoreState → Option (List ℕ) → List Deed
+expiry_then rest s None = []
+expiry_then rest s (Some client) = Expires client ∷ rest (expire s client).1
+
+-- so many expiries at most, each of the first of those whose lease has ended
+abbrev pub expiries : ℕ → CoreState → List Deed
+expiries zero s = []
+expiries (suc fuel) s = expiry_then (expiries fuel) s (first_ended s.clock s.leases)
+
+-- what a reading of the clock does: it rises, and each client whose lease has ended expires
+abbrev pub tick_deeds : CoreState → Moment → List Deed
+tick_deeds s now = Advances now ∷ expiries (length s.leases) (advanced s now)
+
+-- ---- caches
+
+-- those of a party that ends go
+abbrev pub caches_without_party : Option Party → List Claim → List Claim
+caches_without_party None caches = caches
+caches_without_party (Some party) caches = filter (λ c. not (same_parties c.party party)) caches
+
+-- the caches after one deed, of those that were held: those of a party that ends, or expires, go; no deed makes one, or
+-- changes one
+abbrev pub caches_after : CoreState → Deed → List Claim → List Claim
+caches_after s (Ends party) caches = caches_without_party (Some party) caches
+caches_after s (Expires client) caches = caches_without_party (party_named s.names (NfsParty client)) caches
+caches_after s _ caches = caches
+
+-- and after these
+abbrev pub all_caches_after : ℕ → CoreState → List Deed → List Claim → List Claim
+all_caches_after n s [] caches = caches
+all_caches_after n s (d ∷ ds) caches = all_caches_after n (done n s d) ds (caches_after s d caches)
 
 -- ---- names
 

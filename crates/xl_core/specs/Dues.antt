@@ -8,7 +8,8 @@ use Rattle.xl_core.specs.Asking.{asked_what, asked_claim, known_claim}
 use Rattle.xl_core.specs.Limits.{IsRoom}
 use Rattle.xl_core.specs.Causes.{limits_of_grant, IsClaimDue, IsTestDue, IsUnlockDue, IsTurn}
 use Rattle.xl_core.specs.Decide.{ask}
-use Rattle.xl_core.specs.Deeds.{Deed, Asks, Serves, done}
+use Rattle.xl_core.specs.Deeds.{Deed, Asks, Serves, Expires, done}
+use Rattle.xl_core.specs.Leases.{first_ended}
 use Rattle.xl_table.specs.Flat.{is_blocked}
 use Rattle.xl_core.specs.Good.{IsSettled}
 use Rattle.xl_core.specs.Settle.{settle}
@@ -42,10 +43,12 @@ pub record IsTurnOwed (n : ℕ) (left : Rooms) (s : CoreState) : Type 0 where
   pub none : settle n left s ≡ None → IsSettled s
   pub first : IfSome (settle n left s) (λ r. IsTurn left s r.0 r.1)
 
--- what is due to a deed: an ask its answer, a turn to who may have it
+-- what is due to a deed: an ask its answer, a turn to who may have it; and of those whose lease has ended the first by id
+-- string expires
 abbrev pub IsDue : ℕ → CoreState → Deed → Type 0
 IsDue n s (Asks left a) = IsAnswerDue left s a a.act (ask n left s a).0
 IsDue n s (Serves left) = IsTurnOwed n left s
+IsDue n s (Expires client) = first_ended s.clock s.leases ≡ Some client
 IsDue n s _ = Unit {0}
 
 -- each of these deeds, in the state that those before it left

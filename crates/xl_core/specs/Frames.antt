@@ -1,9 +1,11 @@
 -- What each call of the core leaves alone, what it may raise, and who leaves the queue by it.
-use Rattle.std.specs.Prelude.{◌≡◌, ℕ, ◌+◌, Bool, true, false, if◌then◌else◌, List, [], ◌∷◌, ◌++◌}
+use Rattle.std.specs.Prelude.{◌≡◌, ℕ, ◌+◌, Bool, true, false, if◌then◌else◌, List, [], ◌∷◌, ◌++◌, length, ◌≤◌}
 use Rattle.xl_names.specs.declared.name.Name.{Name}
 use Rattle.xl_wait.specs.Waiting.{is_waiting, cancelled}
 use Rattle.xl_wait.specs.declared.waiter.Waiter.{Waiter}
+use Rattle.xl_base.specs.declared.event.Moment.{Moment}
 use Rattle.xl_core.specs.State.{CoreState}
+use Rattle.xl_core.specs.Leases.{later}
 use Rattle.xl_core.specs.Asking.{both_entered, asked_whats, asked_claims}
 use Rattle.xl_core.specs.Decide.{waiter_of}
 use Rattle.xl_core.specs.Settle.{all_cancelled}
@@ -32,6 +34,12 @@ abbrev pub AllLeave : List ℕ → List Waiter → Type 0
 AllLeave [] ws = Unit {0}
 AllLeave (id ∷ ids) ws = (is_waiting id ws ≡ true) × AllLeave ids (cancelled id ws)
 
+-- nobody is told that it was served
+abbrev pub serves_none : List Effect → Bool
+serves_none [] = true
+serves_none (Served id answer ∷ effects) = false
+serves_none (effect ∷ effects) = serves_none effects
+
 -- ---- a call
 
 -- A call that tells these effects: the record, the clock and the stores of the step stand, so many numbers are given out,
@@ -45,6 +53,17 @@ pub record IsFrame (s : CoreState) (told : List Effect) (t : CoreState) (given :
   pub names : t.names ≡ known
   pub leave : AllLeave (who_left told) s.waiters
   pub waiters : t.waiters ≡ all_cancelled (who_left told) s.waiters ++ come
+
+-- A reading of the clock: the clock shows the later moment, some waiters may have left, and the record, the stores of the
+-- step, the numbers and the names stand.
+pub record IsTicked (s : CoreState) (now : Moment) (t : CoreState) : Type 0 where
+  pub clock : t.clock ≡ later s.clock now
+  pub stable : t.stable ≡ s.stable
+  pub made : t.made ≡ s.made
+  pub failed : t.failed ≡ s.failed
+  pub counter : t.counter ≡ s.counter
+  pub names : t.names ≡ s.names
+  pub waiters : length t.waiters ≤ length s.waiters
 
 -- ---- an ask, by its answer
 

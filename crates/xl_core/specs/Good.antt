@@ -1,6 +1,6 @@
 -- What the core's state keeps at each free moment.
 use Rattle.std.specs.Prelude.{◌≡◌, ℕ, ◌≤◌, Bool, true, false, not, ◌&&◌, ◌||◌, ◌==◌, List, [], ◌∷◌, length, Option, Some}
-use Rattle.std.specs.List.{AllByRecursion, slice_get}
+use Rattle.std.specs.List.{AllByRecursion, filter, slice_get}
 use Rattle.xl_base.specs.Lists.{Pairwise}
 use Rattle.xl_base.specs.Stable.{same_protocol}
 use Rattle.xl_base.specs.declared.name.Owner.{Owner}
@@ -8,6 +8,7 @@ use Rattle.xl_base.specs.declared.name.Owner.TheVariants as owners
 use Rattle.xl_base.specs.declared.name.Party.{Party}
 use Rattle.xl_base.specs.declared.name.Party.TheVariants as parties
 use Rattle.xl_base.specs.declared.name.Protocol.{Protocol}
+use Rattle.xl_cache.specs.Parties.{is_cache_of}
 use Rattle.xl_matrix.specs.Equal.{same_owners, same_parties}
 use Rattle.xl_matrix.specs.Matrix.{compat}
 use Rattle.xl_matrix.specs.Owners.{posix}
@@ -18,7 +19,7 @@ use Rattle.xl_matrix.specs.declared.claim.What.TheVariants.{Share, Range, Cache}
 use Rattle.xl_names.specs.Names.{protocol_of, AreDistinct, most_names}
 use Rattle.xl_names.specs.declared.name.Name.{Name}
 use Rattle.xl_table.specs.Flat.{is_blocked}
-use Rattle.xl_table.specs.Held.{IsKept, IsPosix}
+use Rattle.xl_table.specs.Held.{is_cache, IsKept, IsPosix, IsPosixBy}
 use Rattle.xl_wait.specs.declared.waiter.Waiter.{Waiter}
 use Rattle.xl_core.specs.State.{CoreState}
 use Rattle.xl_core.specs.Asking.{client_of, is_name}
@@ -46,9 +47,20 @@ abbrev pub are_kept : List Name → Owner → Party → Bool
 are_kept names (owners.Name protocol number) (parties.Name other at) = agree protocol other (slice_get names number) (slice_get names at)
 are_kept names _ _ = false
 
--- a share or a real range of a client that is known by name
+-- a share or a real range of a client that is known by name: what may be asked for, and waited for
 abbrev pub IsKnown : List Name → Claim → Type 0
 IsKnown names c = IsPosix c × (are_kept names c.owner c.party ≡ true)
+
+-- what a party may hold: a share, a range with its bytes in order, or a cache of one of its protocol's kinds, whose
+-- break, where one runs, leaves less
+abbrev pub IsHeldBy : Party → What → Type 0
+IsHeldBy party (Share access deny) = Unit {0}
+IsHeldBy party (Range extent exclusive) = IsPosixBy (Range extent exclusive)
+IsHeldBy party (Cache kind running) = is_cache_of party kind running ≡ true
+
+-- such a claim of a client that is known by name
+abbrev pub IsHeld : List Name → Claim → Type 0
+IsHeld names c = (IsHeldBy c.party c.what × (posix c.owner ≡ true)) × (are_kept names c.owner c.party ≡ true)
 
 -- two claims may stand beside each other as far as an owner has one share on a file, and a party one cache
 abbrev pub is_single_by : Claim → Claim → What → What → Bool
@@ -73,18 +85,31 @@ IsWaiter names counter w = (w.id ≤ counter) × AllByRecursion (IsKnown names) 
 -- ---- the state
 
 -- The claims stand in the table's order, each POSIX owner's ranges on a file as sorted maximal runs (kept); any two may
--- be held together by the matrix; an owner has one share on a file and a party one cache; all are of clients known by
--- name. The waiters are known too, have numbers of their own, and are 1,024 at most.
+-- be held together by the matrix; an owner has one share on a file and a party one cache; each is a share, a real range or
+-- a cache that its party may have, of a client known by name. The waiters are known too, wait for shares and ranges, have
+-- numbers of their own, and are 1,024 at most.
 pub record IsGood (s : CoreState) : Type 0 where
   pub kept : IsKept s.claims
   pub compatible : Pairwise compat s.claims
   pub single : Pairwise is_single s.claims
-  pub known : AllByRecursion (IsKnown s.names) s.claims
+  pub known : AllByRecursion (IsHeld s.names) s.claims
   pub waiters : AllByRecursion (IsWaiter s.names s.counter) s.waiters
   pub apart : Pairwise are_apart s.waiters
   pub crowd : length s.waiters ≤ most_waiters
   pub distinct : AreDistinct s.names
   pub few : length s.names ≤ most_names
+
+-- the state with these claims
+abbrev pub holding : CoreState → List Claim → CoreState
+holding s cs = record s { claims = cs }
+
+-- the caches among these
+abbrev pub caches_of : List Claim → List Claim
+caches_of cs = filter (λ c. is_cache c.what) cs
+
+-- no cache is held: so it stays as long as no ask gets one
+abbrev pub AreUncached : List Claim → Type 0
+AreUncached cs = caches_of cs ≡ []
 
 -- ---- nobody is forgotten
 

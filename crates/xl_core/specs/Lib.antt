@@ -1,3 +1,4 @@
+pub mod Leases
 pub mod State
 pub mod Asking
 pub mod Blockers
@@ -5,6 +6,8 @@ pub mod Limits
 pub mod Judge
 pub mod Decide
 pub mod Settle
+pub mod Ticks
+pub mod Watch
 pub mod Good
 pub mod Whole
 pub mod Causes

@@ -12,9 +12,11 @@ use Rattle.xl_matrix.specs.declared.claim.What.TheVariants as whats
 use Rattle.xl_spans.specs.Spans.{within, mode_at}
 use Rattle.xl_spans.specs.declared.span.Mode.{Mode}
 use Rattle.xl_table.specs.Held.{is_of, spans_of}
+use Rattle.xl_names.specs.declared.name.Name.TheVariants.{NfsParty}
 use Rattle.xl_core.specs.State.{CoreState}
 use Rattle.xl_core.specs.Decide.{ask}
-use Rattle.xl_core.specs.Deeds.{Deed, Asks, GivesBack, Ends, Serves, given, done}
+use Rattle.xl_core.specs.Asking.{party_named}
+use Rattle.xl_core.specs.Deeds.{Deed, Asks, GivesBack, Ends, Serves, Expires, given, done}
 use Rattle.xl_table.specs.Relock.{is_exclusive, shares_of, old_shares, united_by}
 use Rattle.xl_core.specs.declared.ask.Act.{Act}
 use Rattle.xl_core.specs.declared.ask.Act.TheVariants as acts
@@ -103,6 +105,10 @@ answered_at held (acts.Unlock extent) answer p = cleared_for answer p
 abbrev pub ended_at : List Claim → Party → Place → Option (List What)
 ended_at claims party p = if list_any (λ c. if is_at p c then same_parties c.party party else false) claims then Some [] else None
 
+abbrev pub ended_some : List Claim → Option Party → Place → Option (List What)
+ended_some claims None p = None
+ended_some claims (Some party) p = ended_at claims party p
+
 -- a waiter that is granted what it waited for has that
 abbrev pub told_at : List Claim → List Effect → Place → Option (List What)
 told_at held (Served id answer ∷ effects) p = entered_for held answer p
@@ -114,6 +120,7 @@ made n s (Asks left a) p = answered_at s.claims a.act (ask n left s a).0 p
 made n s (GivesBack claim) p = cleared_at claim p
 made n s (Ends party) p = ended_at s.claims party p
 made n s (Serves left) p = told_at s.claims (given n s (Serves left)).1 p
+made n s (Expires client) p = ended_some s.claims (party_named s.names (NfsParty client)) p
 made n s d p = None
 
 abbrev pub else_was : Option (List What) → List What → List What

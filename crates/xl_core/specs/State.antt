@@ -5,22 +5,27 @@ use Rattle.xl_base.specs.declared.event.Moment.{Moment}
 use Rattle.xl_matrix.specs.declared.claim.Claim.{Claim}
 use Rattle.xl_names.specs.declared.name.Name.{Name}
 use Rattle.xl_wait.specs.declared.waiter.Waiter.{Waiter}
+use Rattle.xl_core.specs.Leases.{Lease}
+use Rattle.xl_core.specs.declared.lease.Times.{Times}
 
 -- the claims in the table's order, the waiters in order of arrival, the names kept, the record as it is stored, the
--- clock, and the last number that was given out; of the step that runs, how many stores were made and whether one failed
+-- clock, how long things last, the leases that run, in order of arrival, and the last number that was given out; of the
+-- step that runs, how many stores were made and whether one failed
 pub record CoreState : Type 0 where
   pub claims : List Claim
   pub waiters : List Waiter
   pub names : List Name
   pub stable : Stable
   pub clock : Moment
+  pub times : Times
+  pub leases : List Lease
   pub counter : ℕ
   pub made : ℕ
   pub failed : Bool
 
 -- the state at a start
-abbrev pub started : Stable → Moment → CoreState
-started stable clock = record { claims = []; waiters = []; names = []; stable = stable; clock = clock; counter = 0; made = 0; failed = false }
+abbrev pub started : Stable → Moment → Times → CoreState
+started stable clock times = record { claims = []; waiters = []; names = []; stable = stable; clock = clock; times = times; leases = []; counter = 0; made = 0; failed = false }
 
 -- the state at the beginning of a step
 unfoldable pub step_begun : CoreState → CoreState

@@ -1,6 +1,6 @@
 //! Laws of what is done to the core, whatever protocol it comes by: its calls as values, one after another. The functions
 //! do nothing; what they ensure holds of every state and every list of such calls.
-ghost use Rattle.std.specs.Prelude.{◌≡◌, ℕ, Bool, List, [], ◌∷◌};
+ghost use Rattle.std.specs.Prelude.{◌≡◌, ℕ, Bool, List, [], ◌∷◌, None};
 ghost use Rattle.xl_base.specs.Stable.{Stable};
 ghost use Rattle.xl_base.specs.declared.event.Moment.{Moment};
 ghost use Rattle.xl_matrix.specs.declared.claim.Extent.{Extent};
@@ -10,23 +10,39 @@ ghost use Rattle.xl_core.specs.State.{CoreState, started};
 ghost use Rattle.xl_core.specs.Smallest.{all_room, smallest_lock};
 ghost use Rattle.xl_core.specs.declared.ask.Act.{Act};
 ghost use Rattle.xl_core.specs.declared.ask.Ask.{Ask};
-ghost use Rattle.xl_core.specs.Deeds.{Deed, Asks, all_done, AreFit, queue_after, KeepNames};
+ghost use Rattle.xl_core.specs.declared.lease.Times.{Times};
+ghost use Rattle.xl_core.specs.Leases.{first_ended};
+ghost use Rattle.xl_core.specs.Ticks.{tick};
+ghost use Rattle.xl_core.specs.Deeds.{Deed, Asks, all_done, all_told_of, tick_deeds, AreFit, queue_after, all_caches_after, KeepNames};
 ghost use Rattle.xl_core.specs.Dues.{AreDue};
-ghost use Rattle.xl_core.specs.Good.{IsGood};
+ghost use Rattle.xl_core.specs.Good.{IsGood, caches_of, AreUncached};
 ghost use Rattle.xl_core.specs.Places.{IsChangedBy};
 ghost use Rattle.xl_core.specs.Rows.{Ran, all_ran, all_deeds};
 
 /// The state stays good. At each place there is what the last deed that reaches it made of it, else what was there. Who
 /// waits is who waited, but for those whom the deeds queued, took out, ended or served, in order. Each name keeps its
 /// number. Each deed is given what is due to it in the state in which it stands: what nothing stands against is granted,
-/// and each answer and each turn has its cause.
-#[tactic(auto, using(crate::proofs::DeedLists::deeds_good, crate::proofs::DeedLists::deeds_make, crate::proofs::DeedLists::deeds_queue, crate::proofs::DeedLists::deeds_names, crate::proofs::DeedLists::deeds_due))]
+/// and each answer and each turn has its cause. The caches are those that were held, but for those of parties that ended;
+/// so none is where none was.
+#[tactic(auto, using(crate::proofs::DeedLists::deeds_good, crate::proofs::DeedLists::deeds_make, crate::proofs::DeedLists::deeds_queue, crate::proofs::DeedLists::deeds_names, crate::proofs::DeedLists::deeds_due, crate::proofs::DeedCaches::deeds_caches, crate::proofs::DeedCaches::deeds_uncached))]
 pub fn deeds_are_all_that_changes()
     ensures good { (n : ℕ) (s : CoreState) (ds : List Deed) → IsGood s → AreFit n s ds → IsGood (all_done n s ds) }
     ensures places { (n : ℕ) (s : CoreState) (ds : List Deed) → IsGood s → AreFit n s ds → IsChangedBy n s ds (all_done n s ds) }
     ensures waiting { (n : ℕ) (s : CoreState) (ds : List Deed) → IsGood s → AreFit n s ds → (all_done n s ds).waiters ≡ queue_after n s ds s.waiters }
     ensures names { (n : ℕ) (s : CoreState) (ds : List Deed) → IsGood s → AreFit n s ds → KeepNames s.names (all_done n s ds).names }
     ensures due { (n : ℕ) (s : CoreState) (ds : List Deed) → IsGood s → AreFit n s ds → AreDue n s ds }
+    ensures caches { (n : ℕ) (s : CoreState) (ds : List Deed) → IsGood s → AreFit n s ds → caches_of (all_done n s ds).claims ≡ all_caches_after n s ds (caches_of s.claims) }
+    ensures uncached { (n : ℕ) (s : CoreState) (ds : List Deed) → IsGood s → AreFit n s ds → AreUncached s.claims → AreUncached (all_done n s ds).claims }
+{}
+
+/// A reading of the clock leaves what its deeds leave, and tells what they tell: the clock rises, and one client after
+/// another expires, each the first by id string of those whose lease has ended then. No such is left.
+#[tactic(auto, using(crate::proofs::TickLaws::tick_done, crate::proofs::TickLaws::tick_tells, crate::proofs::TickLaws::tick_fits, crate::proofs::TickLaws::none_ended))]
+pub fn ticks_are_their_deeds()
+    ensures done { (n : ℕ) (s : CoreState) (now : Moment) → all_done n s (tick_deeds s now) ≡ (tick s now).1 }
+    ensures told { (n : ℕ) (s : CoreState) (now : Moment) → all_told_of n s (tick_deeds s now) ≡ (tick s now).0 }
+    ensures fit { (n : ℕ) (s : CoreState) (now : Moment) → AreFit n s (tick_deeds s now) }
+    ensures none { (s : CoreState) (now : Moment) → first_ended (tick s now).1.clock (tick s now).1.leases ≡ None }
 {}
 
 /// Operations in a row, each in the state that those before it left, leave what their deeds leave, where each one does;
@@ -41,6 +57,6 @@ pub fn rows_are_their_deeds<F, Op>()
 /// byte; nor does one that drops a waiter at another's test meet the law of those who wait.
 #[tactic(auto, using(crate::proofs::HollowLaws::nothing_kept, crate::proofs::HollowLaws::waiter_dropped))]
 pub fn hollow_machines_are_refused()
-    ensures kept { (n : ℕ) (stable : Stable) (clock : Moment) (t : CoreState) → t.claims ≡ [] → IsChangedBy n (started stable clock) (Asks all_room smallest_lock ∷ []) t → ⊥ }
+    ensures kept { (n : ℕ) (stable : Stable) (clock : Moment) (times : Times) (t : CoreState) → t.claims ≡ [] → IsChangedBy n (started stable clock times) (Asks all_room smallest_lock ∷ []) t → ⊥ }
     ensures dropped { (n : ℕ) (left : Rooms) (s t : CoreState) (a : Ask) (w : Waiter) (extent : Extent) (exclusive : Bool) → a.act ≡ Act.Test extent exclusive → s.waiters ≡ w ∷ [] → t.waiters ≡ [] → t.waiters ≡ queue_after n s (Asks left a ∷ []) s.waiters → ⊥ }
 {}

@@ -7,11 +7,15 @@ ghost use Rattle.xl_core.specs.Asking.{IsFit};
 ghost use Rattle.xl_core.specs.Good.{IsGood};
 ghost use Rattle.xl_core.specs.Decide.{ask};
 ghost use Rattle.xl_core.specs.Settle.{settle, cancel, give_back, end_party};
+ghost use Rattle.xl_core.specs.Ticks.{renew, tick};
 ghost use Rattle.xl_core.specs.Whole.{state_of};
 
 use crate::ask::{Answer, Ask, Effect};
+use crate::lease::Times;
 use crate::parts::Parts;
-use crate::{decide, leaving, settling};
+use crate::unsettled;
+use crate::unsettled::Unsettled;
+use indexmap::IndexMap;
 use std::alloc::{AllocError, Global};
 use std::marker::Model;
 use xl_base::{Keeper, Moment, Party, Record, Sequence};
@@ -25,22 +29,28 @@ use xl_wait::{Queue, Rooms};
 #[derive(Drop)]
 pub struct Core {
     parts: Parts,
+    /// The files on which someone may wait whom nothing blocks; no contract sees it.
+    unsettled: Unsettled,
 }
 
 impl Model for Core {
     ghost use Rattle.xl_core.specs.State.{CoreState};
+    ghost use Rattle.xl_core.specs.Watch.{AreHeldUp};
     ghost use Rattle.xl_core.specs.Whole.{state_of};
 
     ghost Value = { CoreState };
 
     ghost view = { λ c. state_of c.parts };
+
+    ghost invariant = { λ c. AreHeldUp c.unsettled (state_of c.parts) };
 }
 
 impl Core {
-    /// The core at a start: nothing is held, nobody waits, and this is the record as it is stored. It takes no memory.
+    /// The core at a start: nothing is held, nobody waits, no lease runs, and this is the record as it is stored. It takes
+    /// no memory.
     #[tactic(auto, using(crate::proofs::GoodLaws::started_good))]
-    pub fn new(alloc: Global, stable: Record, clock: Moment) -> Core
-        ensures state { result ≡ started stable clock }
+    pub fn new(alloc: Global, stable: Record, clock: Moment, times: Times) -> Core
+        ensures state { result ≡ started stable clock times }
         ensures good { IsGood result }
     {
         Core {
@@ -50,10 +60,13 @@ impl Core {
                 names: Names::new(alloc),
                 stable,
                 clock,
+                times,
+                leases: IndexMap::new(alloc),
                 counter: 0,
                 made: 0,
                 failed: false,
             },
+            unsettled: Unsettled::Nothing,
         }
     }
 
@@ -76,6 +89,27 @@ impl Core {
         ensures { result.now ≡ self.now.names }
     {
         &self.parts.names
+    }
+
+    /// The clock.
+    pub fn clock(&self) -> Moment
+        ensures { result ≡ self.now.clock }
+    {
+        self.parts.clock
+    }
+
+    /// How long leases, grace and breaks last.
+    pub fn times(&self) -> Times
+        ensures { result ≡ self.now.times }
+    {
+        self.parts.times
+    }
+
+    /// The record as it is stored.
+    pub fn stable(&self) -> &Record
+        ensures { result.now ≡ self.now.stable }
+    {
+        &self.parts.stable
     }
 
     /// Begins a step: none of its stores was made, and none failed. It takes no memory.
@@ -105,7 +139,7 @@ impl Core {
         ensures good { OnOk result (IsGood self.new) }
         ensures keeper { _keeper.new ≡ _keeper.old }
     {
-        let answer = decide::answer(alloc, &mut self.parts, left, request)?;
+        let answer = unsettled::answer(alloc, &mut self.parts, &mut self.unsettled, left, request)?;
         Ok((answer, Sequence::new(alloc)))
     }
 
@@ -126,7 +160,7 @@ impl Core {
         ensures good { OnOk result (IsGood self.new) }
         ensures keeper { _keeper.new ≡ _keeper.old }
     {
-        let turn = settling::settle(alloc, &mut self.parts, left)?;
+        let turn = unsettled::settle(alloc, &mut self.parts, &mut self.unsettled, left)?;
         Ok(turn)
     }
 
@@ -138,7 +172,7 @@ impl Core {
         ensures state { IfOk result (λ effects. cancel self.old waiter ≡ (effects, self.new)) }
         ensures good { OnOk result (IsGood self.new) }
     {
-        leaving::cancel(alloc, &mut self.parts, waiter)
+        unsettled::cancel(alloc, &mut self.parts, &mut self.unsettled, waiter)
     }
 
     /// Takes out one claim, which is held: what its owner gives back. There is nothing to tell.
@@ -149,11 +183,11 @@ impl Core {
         ensures state { give_back self.old claim.now ≡ (result, self.new) }
         ensures good { IsGood self.new }
     {
-        leaving::give_back(alloc, &mut self.parts, claim)
+        unsettled::give_back(alloc, &mut self.parts, &mut self.unsettled, claim)
     }
 
     /// Gives out the next number. At least 65,536 numbers must be left to give out. It takes no memory.
-    #[tactic(auto, using(crate::proofs::GoodLaws::drawn_good))]
+    #[tactic(auto, using(crate::proofs::GoodLaws::drawn_good, crate::proofs::WatchLaws::drawn_up))]
     pub fn draw(&mut self) -> u32
         requires good { IsGood self.old }
         requires numbers { self.old.counter + 65536 < 2 ^ 32 }
@@ -171,7 +205,36 @@ impl Core {
         ensures state { IfOk result (λ effects. end_party self.old party ≡ (effects, self.new)) }
         ensures good { OnOk result (IsGood self.new) }
     {
-        leaving::end_party(alloc, &mut self.parts, party)
+        unsettled::end_party(alloc, &mut self.parts, &mut self.unsettled, party)
+    }
+
+    /// The lease of the NFSv4 client of this id string runs for its whole length from now on (RFC 7530 9.5), also where it
+    /// had none. There is nothing to tell.
+    #[tactic(auto, using(crate::proofs::GoodLaws::renew_good))]
+    pub fn renew(&mut self, alloc: Global, client: &[u8]) -> Result<Sequence<Effect>, AllocError>
+        requires good { IsGood self.old }
+        ensures state { IfOk result (λ effects. renew self.old client.now ≡ (effects, self.new)) }
+        ensures good { OnOk result (IsGood self.new) }
+    {
+        unsettled::renew(alloc, &mut self.parts, &mut self.unsettled, client)
+    }
+
+    /// The clock reads this moment, where that is later than what it read. Then each client whose lease has ended by then
+    /// expires, in the order of the id strings by bytes: all that it has goes, and that is told. No expiry stores the
+    /// record yet.
+    #[tactic(auto, using(crate::proofs::GoodLaws::tick_good))]
+    pub fn tick<K: Keeper>(
+        &mut self,
+        alloc: Global,
+        _keeper: &mut K,
+        now: Moment,
+    ) -> Result<Sequence<Effect>, AllocError>
+        requires good { IsGood self.old }
+        ensures state { IfOk result (λ effects. tick self.old now ≡ (effects, self.new)) }
+        ensures good { OnOk result (IsGood self.new) }
+        ensures keeper { _keeper.new ≡ _keeper.old }
+    {
+        unsettled::tick(alloc, &mut self.parts, &mut self.unsettled, now)
     }
 }
 

@@ -1,6 +1,6 @@
 //! Laws of the core. The functions do nothing; what they ensure holds of every state, and so of what each call of
 //! `Core` leaves.
-ghost use Rattle.std.specs.Prelude.{◌≡◌, ℕ, ◌+◌, Bool, true, false, List, [], ◌∷◌, ◌++◌, length, Option, Some, None, IfSome, ◌↔◌};
+ghost use Rattle.std.specs.Prelude.{◌≡◌, ℕ, ◌+◌, ◌<◌, Bool, true, false, List, [], ◌∷◌, ◌++◌, length, Option, Some, None, IfSome, ◌⊎◌, ◌↔◌};
 ghost use Rattle.std.specs.List.{AllByRecursion};
 ghost use Rattle.xl_base.specs.Lists.{IsIn};
 ghost use Rattle.xl_base.specs.Stable.{Stable};
@@ -11,32 +11,37 @@ ghost use Rattle.xl_matrix.specs.declared.claim.Claim.{Claim};
 ghost use Rattle.xl_matrix.specs.declared.claim.Extent.{Extent};
 ghost use Rattle.xl_matrix.specs.declared.claim.Rwd.{Rwd};
 ghost use Rattle.xl_matrix.specs.declared.claim.What.{What};
-ghost use Rattle.xl_table.specs.Flat.{removed};
+ghost use Rattle.xl_matrix.specs.Matrix.{compat};
+ghost use Rattle.xl_matrix.specs.Weaker.{weaker};
+ghost use Rattle.xl_table.specs.Flat.{inserted, removed, changed, with_what};
 ghost use Rattle.xl_table.specs.Least.{range_before, least};
 ghost use Rattle.xl_table.specs.Flat.{is_blocked};
-ghost use Rattle.xl_table.specs.Relock.{with_share, shares_of, old_shares, unites, united_by};
+ghost use Rattle.xl_table.specs.Relock.{most_claims, with_share, shares_of, old_shares, unites, united_by};
 ghost use Rattle.xl_names.specs.declared.name.Name.{Name};
 ghost use Rattle.xl_spans.specs.Spans.{relocked};
-ghost use Rattle.xl_table.specs.Held.{mode_of, spans_of};
+ghost use Rattle.xl_table.specs.Held.{is_cache, mode_of, spans_of};
 ghost use Rattle.xl_wait.specs.Waiting.{is_waiting, cancelled};
 ghost use Rattle.xl_wait.specs.declared.waiter.Rooms.{Rooms};
 ghost use Rattle.xl_wait.specs.declared.waiter.Waiter.{Waiter};
 ghost use Rattle.xl_core.specs.State.{CoreState, started, step_begun, drawn};
 ghost use Rattle.xl_core.specs.Asking.{asker, asked_whats, asked_what, asked_claim, asked_claims, known_claim, IsFit};
-ghost use Rattle.xl_core.specs.Causes.{IsSameAsker, IsConflict, limits_of_grant, IsClaimDue, IsTestDue, IsUnlockDue, IsTurn, IsOwn};
+ghost use Rattle.xl_core.specs.Causes.{IsSameAsker, IsConflict, IsCacheInTheWay, limits_of_grant, IsClaimDue, IsTestDue, IsUnlockDue, IsTurn, IsOwn};
 ghost use Rattle.xl_core.specs.Decide.{waiter_of, ask};
-ghost use Rattle.xl_core.specs.Frames.{drawn_by, names_after, come_by, IsFrame};
-ghost use Rattle.xl_core.specs.Good.{IsGood, IsSettled};
+ghost use Rattle.xl_core.specs.Frames.{drawn_by, names_after, come_by, serves_none, IsFrame, IsTicked};
+ghost use Rattle.xl_core.specs.Good.{IsHeld, IsGood, IsSettled, holding};
 ghost use Rattle.xl_core.specs.Limits.{IsRoom};
 ghost use Rattle.xl_core.specs.Settle.{settle, AllRest, waits_for, cancel, give_back, end_party};
 ghost use Rattle.xl_core.specs.declared.ask.Act.{Act};
 ghost use Rattle.xl_core.specs.declared.ask.Answer.{Answer};
+ghost use Rattle.xl_core.specs.Ticks.{renew, tick};
 ghost use Rattle.xl_core.specs.declared.ask.Ask.{Ask};
+ghost use Rattle.xl_core.specs.declared.lease.Times.{Times};
 
 /// The state is good at a start, and stays so: any two claims may be held together, each owner's ranges on a file are
-/// sorted maximal runs, and all who hold or wait are known by name.
+/// sorted maximal runs, an owner has one share on a file and a party one cache, of a kind that its protocol has, and all
+/// who hold or wait are known by name. So it is whether or not caches are held, though no ask gets one yet.
 pub fn stays_good()
-    ensures started { (stable : Stable) (clock : Moment) → IsGood (started stable clock) }
+    ensures started { (stable : Stable) (clock : Moment) (times : Times) → IsGood (started stable clock times) }
     ensures begun { (s : CoreState) → IsGood s → IsGood (step_begun s) }
     ensures asked { (n : ℕ) (left : Rooms) (s : CoreState) (a : Ask) → IsGood s → IsFit a → IsGood (ask n left s a).2 }
     ensures settled { (n : ℕ) (left : Rooms) (s : CoreState) → IsGood s → IfSome (settle n left s) (λ r. IsGood r.1) }
@@ -44,6 +49,17 @@ pub fn stays_good()
     ensures given_back { (s : CoreState) (claim : Claim) → IsGood s → IsGood (give_back s claim).1 }
     ensures drawn { (s : CoreState) → IsGood s → IsGood (drawn s) }
     ensures ended { (s : CoreState) (party : Party) → IsGood s → IsGood (end_party s party).1 }
+    ensures renewed { (s : CoreState) (client : List ℕ) → IsGood s → IsGood (renew s client).1 }
+    ensures ticked { (s : CoreState) (now : Moment) → IsGood s → IsGood (tick s now).1 }
+{}
+
+/// The state stays good where a cache that its party may have comes to be held beside claims with which it goes, and there
+/// is room; and where a held cache becomes another one that its party may have: one that goes with all others, or one that
+/// is less, or that a break of it begins. No call does so yet.
+pub fn caches_may_be_held()
+    ensures entered { (s : CoreState) (c : Claim) → IsGood s → IsHeld s.names c → is_cache c.what ≡ true → AllByRecursion (λ d. compat c d ≡ true) s.claims → length s.claims < most_claims → IsGood (holding s (inserted c s.claims)) }
+    ensures raised { (s : CoreState) (c : Claim) (to : What) → IsGood s → IsIn c s.claims → IsHeld s.names (with_what c to) → is_cache to ≡ true → AllByRecursion (λ d. compat (with_what c to) d ≡ true) (removed c s.claims) → IsGood (holding s (changed c to s.claims)) }
+    ensures weakened { (s : CoreState) (c : Claim) (to : What) → IsGood s → IsIn c s.claims → IsHeld s.names (with_what c to) → is_cache to ≡ true → weaker (with_what c to) c ≡ true → IsGood (holding s (changed c to s.claims)) }
 {}
 
 /// Each answer is given exactly where its cause stands, which `IsClaimDue`, `IsTestDue` and `IsUnlockDue` say; of
@@ -68,8 +84,8 @@ pub fn free_asks_are_granted()
 {}
 
 /// An ask changes only what its owner has on its file, a share for a share and ranges for a range, and that only where
-/// it is granted; no waiter goes, and each name
-/// keeps its number. One that is neither granted nor told to wait changes nothing, nor does a test.
+/// it is granted; no cache changes, no waiter goes, and each name keeps its number. One that is neither granted nor told
+/// to wait changes nothing, nor does a test.
 pub fn nothing_else_changes()
     ensures asks { (n : ℕ) (left : Rooms) (s : CoreState) (a : Ask) → IsGood s → IsFit a → IsOwn s a (ask n left s a).0 (ask n left s a).2 }
     ensures tests { (n : ℕ) (left : Rooms) (s : CoreState) (a : Ask) (extent : Extent) (exclusive : Bool) → a.act ≡ Act.Test extent exclusive → (ask n left s a).2 ≡ s }
@@ -99,7 +115,8 @@ pub fn only_a_party_leaves()
 
 /// What each call leaves alone, what it may raise, and who leaves the queue by it (see `IsFrame`): an ask that is told to
 /// wait draws one number and comes to wait, one that is granted what it is to hold or waits has its names kept, and nobody
-/// leaves; of a turn, a cancel and a party's end those leave who are told of, each once; nothing else comes or goes.
+/// leaves; of a turn, a cancel and a party's end those leave who are told of, each once; nothing else comes or goes. A reading of the
+/// clock raises the clock, and leaves record, numbers and names (see `IsTicked`).
 pub fn calls_have_frames()
     ensures asks { (n : ℕ) (left : Rooms) (s : CoreState) (a : Ask) → IsGood s → IsFit a → IsFrame s (ask n left s a).1 (ask n left s a).2 (drawn_by (ask n left s a).0) (names_after a (ask n left s a).0 s.names) (come_by a (ask n left s a).0 s.names) }
     ensures tells { (n : ℕ) (left : Rooms) (s : CoreState) (a : Ask) → IsGood s → IsFit a → (ask n left s a).1 ≡ [] }
@@ -108,12 +125,23 @@ pub fn calls_have_frames()
     ensures gives_back { (s : CoreState) (claim : Claim) → IsFrame s (give_back s claim).0 (give_back s claim).1 0 s.names [] }
     ensures ends { (s : CoreState) (party : Party) → IsGood s → IsFrame s (end_party s party).0 (end_party s party).1 0 s.names [] }
     ensures draws { (s : CoreState) → IsFrame s [] (drawn s) 1 s.names [] }
+    ensures renews { (s : CoreState) (client : List ℕ) → IsFrame s (renew s client).0 (renew s client).1 0 s.names [] }
+    ensures ticks { (s : CoreState) (now : Moment) → IsTicked s now (tick s now).1 }
 {}
 
-/// A test foretells the lock: it is denied exactly where the same lock of the same asker, not blocking, would meet a
-/// conflict.
+/// Nobody is served but by a turn: not where a waiter cancels, a claim is given back, a party ends, or the clock is read. (An ask tells of
+/// nothing, see `calls_have_frames`.)
+pub fn only_turns_serve()
+    ensures cancels { (s : CoreState) (id : ℕ) → serves_none (cancel s id).0 ≡ true }
+    ensures gives_back { (s : CoreState) (claim : Claim) → serves_none (give_back s claim).0 ≡ true }
+    ensures ends { (s : CoreState) (party : Party) → serves_none (end_party s party).0 ≡ true }
+    ensures ticks { (s : CoreState) (now : Moment) → serves_none (tick s now).0 ≡ true }
+{}
+
+/// A test foretells the lock: the same lock of the same asker, not blocking, meets a conflict exactly where the test is
+/// denied, or where a held cache blocks the lock: of caches a test is not told. No ask gets a cache yet.
 pub fn a_test_foretells()
-    ensures { (n : ℕ) (left : Rooms) (s : CoreState) (test lock : Ask) (first last : ℕ) (exclusive : Bool) → IsGood s → IsFit lock → IsSameAsker test lock → test.act ≡ Act.Test (Extent.Bytes first last) exclusive → lock.act ≡ Act.Ranges ((Extent.Bytes first last, exclusive) ∷ []) → lock.blocking ≡ false → IsConflict (ask n left s test).0 ↔ IsConflict (ask n left s lock).0 }
+    ensures { (n : ℕ) (left : Rooms) (s : CoreState) (test lock : Ask) (first last : ℕ) (exclusive : Bool) → IsGood s → IsFit lock → IsSameAsker test lock → test.act ≡ Act.Test (Extent.Bytes first last) exclusive → lock.act ≡ Act.Ranges ((Extent.Bytes first last, exclusive) ∷ []) → lock.blocking ≡ false → IsConflict (ask n left s lock).0 ↔ (IsConflict (ask n left s test).0 ⊎ IsCacheInTheWay s lock (asked_claim lock (What.Range (Extent.Bytes first last) exclusive) s.names)) }
 {}
 
 /// A granted ask leaves the record, the clock and the last number that was given out.

@@ -9,11 +9,15 @@ pub mod deeds;
 mod doors;
 mod judge;
 pub mod law;
+mod lease;
 mod leaving;
 mod limits;
 mod parts;
 mod settling;
+mod ticking;
+mod unsettled;
 
 pub use ask::{Act, Answer, Ask, Effect, Who};
 pub use doors::Core;
+pub use lease::Times;
 pub use limits::{MOST_HOSTS, MOST_OPENS, MOST_OWNERS};

@@ -1,6 +1,8 @@
 //! What the core is made of.
 
-use xl_base::{Moment, Record};
+use crate::lease::Times;
+use indexmap::IndexMap;
+use xl_base::{Moment, Record, Sequence};
 use xl_names::Names;
 use xl_table::Table;
 use xl_wait::Queue;
@@ -18,6 +20,10 @@ pub(crate) struct Parts {
     pub stable: Record,
     /// The clock.
     pub clock: Moment,
+    /// How long leases, grace and breaks last.
+    pub times: Times,
+    /// By the id string of each NFSv4 client that has a lease the moment at which it ends, in order of arrival.
+    pub leases: IndexMap<Sequence<u8>, Moment>,
     /// The last number that was given out; numbers count from 1.
     pub counter: u32,
     /// How many stores this step made.

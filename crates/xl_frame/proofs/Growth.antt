@@ -188,14 +188,6 @@ Resumes-more kind p bytes body rest r some sum within behind is = record {
       rw (← place) (sym (sight_joined body (message_at kind (p.left - 1) (p.sum + length body) (rest ++ more))) ∙ ap sight (sym step) ∙ r.same more);
 }
 
--- with more bytes behind it, the message is read as far
-pub Resumes-append : (kind : Kind) (p : Progress) (bytes piece : List ℕ) → Resumes kind p bytes → Resumes kind p (bytes ++ piece)
-Resumes-append kind p bytes piece r = record {
-  within = omega (arith, r.within, length-append bytes piece);
-  sum = r.sum;
-  same = λ more. rw (drop-append-le p.at bytes piece r.within, append_assoc (drop p.at bytes) piece more, append_assoc bytes piece more) (r.same (piece ++ more));
-}
-
 -- what is seen from where it is read to
 pub Resumes-now : (kind : Kind) (p : Progress) (bytes : List ℕ) → Resumes kind p bytes → sight (message_at kind p.left p.sum (drop p.at bytes)) ≡ sight (front_of kind bytes)
 Resumes-now kind p bytes r =

@@ -14,6 +14,7 @@ use Rattle.xl_names.specs.declared.name.Name.{Name}
 use Rattle.xl_names.specs.declared.name.Name.TheVariants.{NlmParty}
 use Rattle.xl_nlm.specs.Items.{LockItem, TestArgsItem, LockArgsItem, CallItem, Null, Test, Lock, Cancel, Unlock, Granted, Share, Unshare, NmLock, FreeAll}
 use Rattle.xl_programs.specs.Programs.{RequestItem}
+use Rattle.xl_programs.specs.Sent.{sent_to}
 use Rattle.xl_wait.specs.Waiting.{is_waiting}
 use Rattle.xl_wait.specs.declared.waiter.Waiter.{Waiter}
 use Rattle.xl_core.specs.State.{CoreState}
@@ -29,7 +30,7 @@ use Rattle.xl_front_nlm.proofs.AskLaws.{own_client}
 use Rattle.xl_front_nlm.proofs.StandLaws.{found_waits}
 use Rattle.xl_front_nlm.specs.Aims.{exported, aimed}
 use Rattle.xl_front_nlm.specs.Asks.{test_ask, lock_ask, unlock_ask, share_ask, share_owner, owner_of}
-use Rattle.xl_front_nlm.specs.FrontNlm.{call_in, call_deeds, nlm_deeds, call_reply, nlm_reply, replied, sent_to, nlm_step}
+use Rattle.xl_front_nlm.specs.FrontNlm.{call_in, call_deeds, nlm_deeds, call_reply, nlm_reply, replied, nlm_step}
 use Rattle.xl_front_nlm.specs.Hosts.{rooms, host_rows}
 use Rattle.xl_front_nlm.specs.Results.{reply_of}
 use Rattle.xl_nlm.specs.Replies.{results}

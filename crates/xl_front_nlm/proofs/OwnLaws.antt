@@ -26,9 +26,10 @@ use Rattle.xl_core.proofs.DeedLeaves.{found_in}
 use Rattle.xl_core.proofs.TurnLaws.{waiter_known}
 use Rattle.xl_table.proofs.WriteBack.{is_of-true}
 use Rattle.xl_core.specs.Asking.{client_of as belongs_to}
-use Rattle.xl_core.specs.Clients.{party_named, IsOf, AreOf, AreOfSome}
+use Rattle.xl_core.specs.Asking.{party_named}
+use Rattle.xl_core.specs.Clients.{IsOf, AreOf, AreOfSome}
 use Rattle.xl_core.specs.Deeds.{Deed, GivesBack, Cancels, Ends}
-use Rattle.xl_core.specs.Good.{are_kept, IsKnown, IsGood}
+use Rattle.xl_core.specs.Good.{are_kept, IsHeld, IsGood}
 use Rattle.xl_table.specs.Relock.{is_share_of}
 use Rattle.xl_table.specs.Held.{is_share}
 use Rattle.xl_core.specs.State.{CoreState}
@@ -65,10 +66,10 @@ lock_own n hosts s a at =
     ]
 
 -- a claim of the owner's is its client's
-own_claim : (s : CoreState) (name client : Name) (number : ℕ) (c : Claim) → IsGood s → number_of name s.names ≡ Some number → IsKnown s.names c → c.owner ≡ owners.Name Nlm number → belongs_to name ≡ Some client → protocol_of name ≡ Nlm → party_named s.names client ≡ Some c.party
-own_claim s name client number c good known is owner belongs nlm =
+own_claim : (s : CoreState) (name client : Name) (number : ℕ) (c : Claim) → IsGood s → number_of name s.names ≡ Some number → are_kept s.names c.owner c.party ≡ true → c.owner ≡ owners.Name Nlm number → belongs_to name ≡ Some client → protocol_of name ≡ Nlm → party_named s.names client ≡ Some c.party
+own_claim s name client number c good known kept owner belongs nlm =
     party_of_owner s.names name client number c.party good.distinct known belongs
-    (subst (λ (o : Owner). are_kept s.names o c.party ≡ true) (owner ∙ ap (λ p. owners.Name p number) (sym nlm)) is.1)
+    (subst (λ (o : Owner). are_kept s.names o c.party ≡ true) (owner ∙ ap (λ p. owners.Name p number) (sym nlm)) kept)
 
 same_of : (owner : Owner) (at : Aim) (exclusive : Bool) (c : Claim) → is_same owner at exclusive (Some c) ≡ true → c.owner ≡ owner
 same_of owner at exclusive c h =
@@ -81,14 +82,14 @@ cancel_own s l exclusive at (Some number) id good known e = λ w c there is aske
     let found = ap (waiter_by s.waiters at exclusive) known ∙ e in
     let waits = that_waits s l exclusive at number id w good known found there is in
     let owner = same_of (owners.Name Nlm number) at exclusive c (subst (λ (x : Option Claim). is_same (owners.Name Nlm number) at exclusive x ≡ true) asked waits) in
-    own_claim s (owner_of l) (NlmParty l.caller_name) number c good known (waiter_known s w c good there asked) owner refl refl
+    own_claim s (owner_of l) (NlmParty l.caller_name) number c good known (waiter_known s w c good there asked).1 owner refl refl
 
 share_own : (s : CoreState) (a : ShareArgsItem) (file : ℕ) (o : Option ℕ) (claim : Claim) → IsGood s → number_of (share_owner a) s.names ≡ o → share_by s.claims file o ≡ Some claim → IsOf s (NlmParty a.caller_name) (GivesBack claim)
 share_own s a file None claim good known e = absurd cc
 share_own s a file (Some number) claim good known e =
     let found = found_in (is_share_of file (owners.Name Nlm number)) s.claims claim e in
     let own = (and_parts (is_of file (owners.Name Nlm number) claim) (is_share claim.what) found.1).0 in
-    own_claim s (share_owner a) (NlmParty a.caller_name) number claim good known (all_in (IsKnown s.names) claim s.claims good.known found.0) (is_of-true file (owners.Name Nlm number) claim own).1 refl refl
+    own_claim s (share_owner a) (NlmParty a.caller_name) number claim good known (all_in (IsHeld s.names) claim s.claims good.known found.0).1 (is_of-true file (owners.Name Nlm number) claim own).1 refl refl
 
 plan_own : (n count : ℕ) (hosts : List (List ℕ)) (s : CoreState) (call : CallItem) → IsGood s → AreOfSome n s (client_of call) (deeds_of (planned count hosts s call))
 unfolding planned

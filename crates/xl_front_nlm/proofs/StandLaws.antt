@@ -1,11 +1,12 @@
 -- What is found stands in the list.
 use Rattle.std.proofs.Common.{◌≡◌, ℕ, Bool, true, false, not, List, [], ◌∷◌, Option, Some, None, refl, sym, ap, subst, ◌∙◌, inl, inr, arith}
-use Rattle.std.proofs.lemmas.Bool.{cases_Bool, true≢false}
+use Rattle.std.proofs.lemmas.Bool.{cases_Bool, or_parts, true≢false}
 use Rattle.std.proofs.lemmas.Bool.Decides.{nat_tests}
 use Rattle.std.specs.Bool.{◌==◌}
-use Rattle.std.specs.List.{AllByRecursion, find}
+use Rattle.std.specs.List.{AllByRecursion, find, slice_get}
 use Rattle.std.specs.Prelude.{IfSome, option_map}
 use Rattle.xl_base.specs.Lists.{IsIn, Pairwise}
+use Rattle.xl_base.specs.declared.name.Owner.{Owner}
 use Rattle.xl_base.specs.declared.name.Owner.TheVariants as owners
 use Rattle.xl_base.specs.declared.name.Protocol.TheVariants.{Nlm}
 use Rattle.xl_names.specs.Names.{number_of}
@@ -13,10 +14,10 @@ use Rattle.xl_nlm.specs.Items.{LockItem}
 use Rattle.xl_core.specs.Good.{IsGood, are_apart}
 use Rattle.xl_core.specs.State.{CoreState}
 use Rattle.xl_front_nlm.specs.Asks.{owner_of}
-use Rattle.xl_front_nlm.specs.Standing.{waits_for, waiter_by, waiter_for}
+use Rattle.xl_front_nlm.specs.Standing.{is_same, waits_for, waiter_by, waiter_for}
 use Rattle.xl_front_nlm.specs.declared.aim.Aim.{Aim}
 use Rattle.xl_matrix.specs.declared.claim.Claim.{Claim}
-use Rattle.xl_wait.specs.Waiting.{is_waiting}
+use Rattle.xl_wait.specs.Waiting.{is_waiting, first_file, is_file, waits_on}
 use Rattle.xl_wait.specs.declared.waiter.Waiter.{Waiter}
 
 -- ---- waiters
@@ -46,6 +47,22 @@ waiter_found p (w ∷ ws) =
 
 pub found_waits : (number : Option ℕ) (p : Waiter → Bool) (ws : List Waiter) → number ≡ option_map (λ (w : Waiter). w.id) (find p ws) → IfSome number (λ id. is_waiting id ws ≡ true)
 found_waits number p ws e = subst (AreWaiting ws) (sym e) (waiter_found p ws)
+
+-- where nobody waits on the file nobody waits for a range there
+not_there : (owner : Owner) (at : Aim) (exclusive : Bool) (asked : List Claim) → is_file at.file (first_file asked) ≡ false → is_same owner at exclusive (slice_get asked 0) ≡ false
+not_there owner at exclusive [] e = refl
+not_there owner at exclusive (c ∷ cs) e = let apart : (c.file == at.file) ≡ false = e in rw apart refl
+
+none_there : (owner : Owner) (at : Aim) (exclusive : Bool) (ws : List Waiter) → waits_on at.file ws ≡ false → find (waits_for owner at exclusive) ws ≡ None
+none_there owner at exclusive [] e = refl
+none_there owner at exclusive (w ∷ ws) e =
+    let parts = or_parts (is_file at.file (first_file w.asked)) (waits_on at.file ws) e in
+    let other : waits_for owner at exclusive w ≡ false = not_there owner at exclusive w.asked parts.0 in
+    rw other (none_there owner at exclusive ws parts.1)
+
+pub nobody_there : (ws : List Waiter) (at : Aim) (exclusive : Bool) (number : Option ℕ) → waits_on at.file ws ≡ false → waiter_by ws at exclusive number ≡ None
+nobody_there ws at exclusive None e = refl
+nobody_there ws at exclusive (Some known) e = ap (λ (o : Option Waiter). option_map (λ w. w.id) o) (none_there (owners.Name Nlm known) at exclusive ws e)
 
 -- nobody among those apart from a waiter has its number
 no_other : (v : Waiter) (ws : List Waiter) → AllByRecursion (λ (w : Waiter). are_apart v w ≡ true) ws → is_waiting v.id ws ≡ false

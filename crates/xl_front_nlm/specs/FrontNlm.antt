@@ -1,7 +1,6 @@
 -- What a call of program 100021 version 4 is answered: the Network Lock Manager (XNFS C702).
 use Rattle.std.specs.Prelude.{ℕ, ◌==◌, if◌then◌else◌, List, [], ◌∷◌, ◌++◌, length, Option, Some, None, Result, Ok, Err}
 use Rattle.std.specs.Option.{option_and_then}
-use Rattle.xl_base.specs.declared.event.Dest.TheVariants.{Conn}
 use Rattle.xl_base.specs.declared.event.Out.{Out}
 use Rattle.xl_base.specs.declared.journal.Exports.{Exports}
 use Rattle.xl_names.specs.declared.name.Name.{Name}
@@ -9,6 +8,7 @@ use Rattle.xl_nlm.specs.Arguments.{arguments_at}
 use Rattle.xl_nlm.specs.Items.{CallItem}
 use Rattle.xl_nlm.specs.Replies.{results}
 use Rattle.xl_programs.specs.Programs.{RequestItem}
+use Rattle.xl_programs.specs.Sent.{sent_to}
 use Rattle.xl_rpc.specs.Replies.{reply}
 use Rattle.xl_rpc.specs.declared.fault.RpcBad.{RpcBad}
 use Rattle.xl_rpc.specs.declared.reply.Verdict.TheVariants.{Success, GarbageArgs}
@@ -62,10 +62,6 @@ with_results xid call done = (reply xid Success ++ results (reply_of done.3.name
 abbrev pub replied : ℕ → ℕ → FrontState → CoreState → ℕ → Option CallItem → List ℕ × List Effect × FrontState × CoreState
 replied n count f s xid None = (reply xid GarbageArgs, [], f, s)
 replied n count f s xid (Some call) = with_results xid call (served n count f s call)
-
--- a reply to the connection that the request came from; it has no frame yet
-abbrev pub sent_to : ℕ → List ℕ → List Out
-sent_to conn bytes = record { dest = Conn conn; to = []; bytes = bytes } ∷ []
 
 abbrev pub sent_with : ℕ → List ℕ × List Effect × FrontState × CoreState → List Out × List Effect × FrontState × CoreState
 sent_with conn r = (sent_to conn r.0, r.1, r.2, r.3)

@@ -1,9 +1,6 @@
 -- Names whose parts fit the messages that tell them, and what a step adds to the core at most.
 use Rattle.std.specs.Prelude.{◌+◌, ◌<◌, ◌≤◌, ◌^◌, List, length}
 use Rattle.std.specs.List.{AllByRecursion}
-use Rattle.xl_base.specs.declared.event.Dest.{Dest}
-use Rattle.xl_base.specs.declared.event.Dest.TheVariants.{Conn, Back}
-use Rattle.xl_base.specs.declared.event.Out.{Out}
 use Rattle.xl_names.specs.declared.name.Name.{Name}
 use Rattle.xl_names.specs.declared.name.Name.TheVariants.{NlmRange}
 use Rattle.xl_core.specs.State.{CoreState, GoesOn}
@@ -30,14 +27,6 @@ IsShortAsk a = IsShortWho a.owner × IsShortWho a.party
 
 abbrev pub IsShortGrant : Grant → Type 0
 IsShortGrant g = (length g.caller ≤ 1024) × (length g.oh ≤ 1024)
-
--- what is sent to a connection fits a frame; a call is sent without one
-abbrev pub FitsBy : Out → Dest → Type 0
-FitsBy out (Conn number) = length out.bytes ≤ 65536
-FitsBy out (Back call) = Unit {0}
-
-abbrev pub FitsFrame : Out → Type 0
-FitsFrame out = FitsBy out out.dest
 
 -- one number and one waiter, and short names
 pub record Grows (old new : CoreState) : Type 0 where

@@ -1,10 +1,11 @@
 //! What an effect sends.
 ghost use Rattle.std.specs.Prelude.{◌≡◌, Some, option_map, IfOk, OnOk};
 ghost use Rattle.std.specs.List.{AllByRecursion};
+ghost use Rattle.xl_programs.specs.Sent.{FitsFrame};
 ghost use Rattle.xl_core.specs.Good.{IsGood, IsRangeBy};
 ghost use Rattle.xl_core.specs.State.{GoesOn};
 ghost use Rattle.xl_front_nlm.specs.Grants.{grant_of, addressed, told_by, shown};
-ghost use Rattle.xl_front_nlm.specs.Short.{IsShortGrant, IsReady, Leaves, FitsFrame};
+ghost use Rattle.xl_front_nlm.specs.Short.{IsShortGrant, IsReady, Leaves};
 
 use crate::call::GrantedCall;
 use crate::front::Front;

@@ -1,7 +1,7 @@
 //! TEST, LOCK, UNLOCK and CANCEL.
 ghost use Rattle.std.specs.Prelude.{◌≡◌, ℕ, ◌+◌, ◌≤◌, ◌<◌, ◌^◌, IfOk, OnOk};
 ghost use Rattle.xl_nlm.specs.Items.{shown_test_args, shown_lock_args, shown_cancel_args, shown_unlock_args, Test, Lock, Cancel, Unlock};
-ghost use Rattle.xl_nlm.specs.Arguments.{TestArgsFits, LockArgsFits, CancelArgsFits, UnlockArgsFits};
+ghost use Rattle.xl_nlm.specs.Arguments.{TestArgsFits, LockArgsFits, UnlockArgsFits};
 ghost use Rattle.xl_core.specs.Deeds.{Asks, given};
 ghost use Rattle.xl_core.specs.Good.{IsGood};
 ghost use Rattle.xl_core.specs.State.{MayBe, GoesOn};

@@ -14,7 +14,7 @@ use xl_core::Core;
 use xl_matrix::{Claim, Extent, What, same_owner};
 use xl_nlm::{Lock, LockArgs, ShareArgs};
 use xl_table::Table;
-use xl_wait::Waiter;
+use xl_wait::{Queue, Waiter};
 
 fn is_aimed(what: What, at: &Aim, exclusive: bool) -> bool
     ensures { result ≡ is_aimed what at.now exclusive }
@@ -55,12 +55,19 @@ fn find_waiter(owner: Owner, at: &Aim, exclusive: bool, waiters: &[Waiter]) -> O
         .map(|waiter| waiter.id)
 }
 
-fn waiter_by(waiters: &[Waiter], at: &Aim, exclusive: bool, number: Option<u32>) -> Option<u32>
-    ensures value { result ≡ waiter_by waiters.now at.now exclusive number }
-    ensures waits { IfSome result (λ id. is_waiting id waiters.now ≡ true) }
+/// The same of an NLM owner by its number. Who wait are looked at only where one of them waits on the file.
+fn waiter_by(queue: &Queue, at: &Aim, exclusive: bool, number: Option<u32>) -> Option<u32>
+    ensures value { result ≡ waiter_by queue.now at.now exclusive number }
+    ensures waits { IfSome result (λ id. is_waiting id queue.now ≡ true) }
 {
+    if !queue.waits_on(at.file) {
+        return None;
+    }
     match number {
-        Some(known) => find_waiter(Owner::Name(Protocol::Nlm, known), at, exclusive, waiters),
+        Some(known) => {
+            let owner = Owner::Name(Protocol::Nlm, known);
+            find_waiter(owner, at, exclusive, queue.waiters())
+        }
         None => None,
     }
 }
@@ -77,7 +84,7 @@ pub(crate) fn waiter_for(
     ensures waits { IfOk result (λ id. IfSome id (λ number. is_waiting number core.now.waiters ≡ true)) }
 {
     let number = core.names().find(&owner_of(alloc, lock)?);
-    Ok(waiter_by(core.queue().waiters(), at, exclusive, number))
+    Ok(waiter_by(core.queue(), at, exclusive, number))
 }
 
 /// Whether the owner waits for the very bytes in this mode already.

@@ -5,21 +5,22 @@ ghost use Rattle.xl_nlm.specs.Arguments.{arguments_at, CallFits};
 ghost use Rattle.xl_nlm.specs.Items.{shown_call, shown_reply};
 ghost use Rattle.xl_nlm.specs.Replies.{results, ReplyFits};
 ghost use Rattle.xl_programs.specs.Programs.{serves, shown_request};
+ghost use Rattle.xl_programs.specs.Sent.{sent_to, FitsFrame};
 ghost use Rattle.xl_rpc.specs.Replies.{reply};
 ghost use Rattle.xl_rpc.specs.declared.reply.Verdict.TheVariants.{Success, GarbageArgs};
 ghost use Rattle.xl_core.specs.State.{MayBe};
-ghost use Rattle.xl_front_nlm.specs.FrontNlm.{call_in, with_results, replied, sent_to, nlm_step};
+ghost use Rattle.xl_front_nlm.specs.FrontNlm.{call_in, with_results, replied, nlm_step};
 ghost use Rattle.xl_front_nlm.specs.Serving.{served};
-ghost use Rattle.xl_front_nlm.specs.Short.{IsReady, Leaves, FitsFrame};
+ghost use Rattle.xl_front_nlm.specs.Short.{IsReady, Leaves};
 
 use crate::front::Front;
 use crate::procedures::serve;
 use crate::results::reply_of;
 use std::alloc::{AllocError, Global};
-use xl_base::{Dest, Exports, Keeper, Out, Sequence};
+use xl_base::{Exports, Keeper, Out, Sequence};
 use xl_core::{Core, Effect};
 use xl_nlm::{NlmCall, NlmReply, read, write_result};
-use xl_programs::{Program, Request, refusal};
+use xl_programs::{Program, Request, refusal, sent_to};
 use xl_rpc::{Verdict, XdrOut, write_reply};
 
 /// A reply with results, which are short.
@@ -92,20 +93,6 @@ fn replied<K: Keeper>(
         return garbage(alloc, request.xid);
     }
     served(alloc, count, front, core, keeper, request.xid, &call)
-}
-
-/// A reply to the connection, without its frame.
-fn sent_to(alloc: Global, conn: u64, bytes: Vec<u8>) -> Result<Sequence<Out>, AllocError>
-    ensures value { IfOk result (λ outs. outs ≡ sent_to conn bytes.items) }
-    ensures little { length bytes.items ≤ 65536 → IfOk result (λ outs. AllByRecursion FitsFrame outs) }
-{
-    let mut outs = Sequence::new(alloc);
-    outs.push(Out {
-        dest: Dest::Conn(conn),
-        to: Sequence::new(alloc),
-        bytes: Sequence::from_vec(bytes),
-    })?;
-    Ok(outs)
 }
 
 /// Answers a call of NLM (XNFS C702) from the connection of this number: the reply, without its frame and at most 65,536

@@ -12,45 +12,56 @@ use Rattle.xl_matrix.specs.declared.claim.Claim.{Claim}
 use Rattle.xl_names.specs.declared.name.Name.{Name}
 use Rattle.xl_programs.specs.Programs.{RequestItem, IncomingItem, Unanswered, Refused, Asked, incoming_at}
 use Rattle.xl_programs.specs.declared.program.Program.{Program}
-use Rattle.xl_programs.specs.declared.program.Program.TheVariants.{Nlm}
+use Rattle.xl_programs.specs.declared.program.Program.TheVariants.{Nlm, Nfs}
+use Rattle.xl_programs.specs.Sent.{sent_to}
 use Rattle.xl_core.specs.State.{CoreState, step_begun}
 use Rattle.xl_core.specs.Clients.{IsOf, AreOf, AreOfSome}
-use Rattle.xl_core.specs.Deeds.{Deed, Asks, GivesBack, Cancels, Ends, Serves, Draws, turned, done, all_done, answers_of, AreFit}
+use Rattle.xl_core.specs.Deeds.{Deed, Asks, GivesBack, Cancels, Ends, Serves, Draws, Advances, Renews, Expires, turned, done, all_done, answers_of, expiry_then, expiries, AreFit}
 use Rattle.xl_core.specs.Good.{IsGood}
 use Rattle.xl_core.specs.Settle.{settle}
 use Rattle.xl_core.specs.declared.ask.Effect.{Effect}
+use Rattle.xl_base.specs.declared.event.Moment.{Moment}
+use Rattle.std.proofs.lemmas.Bool.{eq-eqb}
+use Rattle.xl_core.specs.Leases.{first_ended}
+use Rattle.xl_core.specs.Ticks.{advanced, expire}
+use Rattle.xl_core.proofs.TickLaws.{tick_done, tick_fits}
 use Rattle.xl_core.proofs.DeedLists.{done_append, fit_append}
 use Rattle.xl_front_nlm.proofs.AnswerLaws.{answer_does, answer_takes}
 use Rattle.xl_front_nlm.proofs.DoesLaws.{step_does, step_replies, step_takes}
 use Rattle.xl_front_nlm.proofs.GrantLaws.{telling_does, telling_takes}
 use Rattle.xl_front_nlm.proofs.OwnLaws.{step_own}
 use Rattle.xl_front_nlm.specs.Answers.{refuses, refused_grant, refusal_deeds, nlm_called}
-use Rattle.xl_front_nlm.specs.FrontNlm.{sent_to, nlm_step}
+use Rattle.xl_front_nlm.specs.FrontNlm.{nlm_step}
 use Rattle.xl_front_nlm.specs.Grants.{news, drawn_for, shown, shown_deeds}
 use Rattle.xl_front_nlm.specs.Hosts.{rooms}
-use Rattle.xl_front_nlm.specs.State.{FrontState}
+use Rattle.xl_house.specs.declared.parts.Fronts.{Fronts}
 use Rattle.xl_front_nlm.specs.declared.grant.Grant.{Grant}
-use Rattle.xl_house.specs.Done.{program_deeds, program_client, program_reply, record_deeds, record_client, message_deeds, message_client, record_replies, message_replies, own_deeds, own_replies, told_deeds, turn_deeds, turns_for, turns, program_given, record_given, message_given, given_by, behind_own, deeds, messages}
+use Rattle.xl_front_nlm.specs.FrontNlm.{nlm_client, nlm_deeds}
+use Rattle.xl_front_nfs.specs.FrontNfs.{nfs_deeds, nfs_step}
+use Rattle.xl_front_nfs.specs.Owners.{IsBy, AreBy}
+use Rattle.xl_front_nfs.proofs.DoesLaws as nfs
+use Rattle.xl_front_nfs.proofs.OwnLaws as nfs_own
+use Rattle.xl_house.specs.Done.{program_deeds, program_owns, program_reply, record_deeds, record_owns, message_deeds, message_owns, record_replies, message_replies, own_deeds, own_replies, told_deeds, turn_deeds, turns_for, turns, given_of, program_given, record_given, message_given, given_by, behind_own, deeds, messages}
 use Rattle.xl_house.specs.Journals.{is_restart}
 use Rattle.xl_house.specs.Lawful.{may_do, may_follow, IsOwnersBy}
-use Rattle.xl_house.specs.Machine.{Whole, Sent, kind_of, framed, all_shown, after_turn, settled_for, settled, program_heard, record_heard, heard_by, heard}
+use Rattle.xl_house.specs.Machine.{Whole, Sent, showing, with_nlm, with_nfs, kind_of, framed, all_shown, after_turn, settled_for, settled, program_heard, record_heard, heard_by, heard}
 
 -- ---- telling
 
-told_does : (n : ℕ) (exports : Exports) (f : FrontState) (s : CoreState) (effects : List Effect) → (all_shown exports f s effects).2 ≡ all_done n s (told_deeds exports f s effects)
+told_does : (n : ℕ) (exports : Exports) (f : Fronts) (s : CoreState) (effects : List Effect) → (all_shown exports f s effects).2 ≡ all_done n s (told_deeds exports f s effects)
 told_does n exports f s [] = refl
 told_does n exports f s (effect ∷ effects) =
-    let r = shown exports f s effect in
+    let r = showing exports f s effect in
     told_does n exports r.1 r.2 effects
-    ∙ ap (λ (t : CoreState). all_done n t (told_deeds exports r.1 r.2 effects)) (telling_does n exports f s effect)
+    ∙ ap (λ (t : CoreState). all_done n t (told_deeds exports r.1 r.2 effects)) (telling_does n exports f.nlm s effect)
     ∙ sym (done_append n s (shown_deeds exports s effect) (told_deeds exports r.1 r.2 effects))
 
-told_fit : (n : ℕ) (exports : Exports) (f : FrontState) (s : CoreState) (effects : List Effect) → AreFit n s (told_deeds exports f s effects)
+told_fit : (n : ℕ) (exports : Exports) (f : Fronts) (s : CoreState) (effects : List Effect) → AreFit n s (told_deeds exports f s effects)
 told_fit n exports f s [] = tt
 told_fit n exports f s (effect ∷ effects) =
-    let r = shown exports f s effect in
+    let r = showing exports f s effect in
     fit_append n s (shown_deeds exports s effect) (told_deeds exports r.1 r.2 effects) (telling_takes n exports s effect)
-    (subst (λ (t : CoreState). AreFit n t (told_deeds exports r.1 r.2 effects)) (telling_does n exports f s effect) (told_fit n exports r.1 r.2 effects))
+    (subst (λ (t : CoreState). AreFit n t (told_deeds exports r.1 r.2 effects)) (telling_does n exports f.nlm s effect) (told_fit n exports r.1 r.2 effects))
 
 abbrev Follow : List Deed → Type 0
 Follow ds = AllByRecursion (λ d. may_follow d ≡ true) ds
@@ -59,10 +70,10 @@ drawn_follow : (o : Option (Claim × Grant × List ℕ)) → Follow (drawn_for o
 drawn_follow None = tt
 drawn_follow (Some told) = (refl, tt)
 
-told_follow : (exports : Exports) (f : FrontState) (s : CoreState) (effects : List Effect) → Follow (told_deeds exports f s effects)
+told_follow : (exports : Exports) (f : Fronts) (s : CoreState) (effects : List Effect) → Follow (told_deeds exports f s effects)
 told_follow exports f s [] = tt
 told_follow exports f s (effect ∷ effects) =
-    let r = shown exports f s effect in
+    let r = showing exports f s effect in
     all_append (λ d. may_follow d ≡ true) (shown_deeds exports s effect) (told_deeds exports r.1 r.2 effects) (drawn_follow (news exports s effect)) (told_follow exports r.1 r.2 effects)
 
 -- ---- turns
@@ -71,8 +82,8 @@ told_follow exports f s (effect ∷ effects) =
 abbrev Turned : Type 0
 Turned = Option (List Effect × CoreState)
 
-by_turn : (n : ℕ) (exports : Exports) (rest : FrontState → CoreState → Sent) (later : FrontState → CoreState → List Deed) (f : FrontState) (s : CoreState) (o : Turned) → settle n (rooms f.hosts) s ≡ o
-    → ((g : FrontState) (t : CoreState) → (rest g t).2 ≡ all_done n t (later g t)) → (after_turn exports rest f s o).2 ≡ all_done n s (turn_deeds exports later f o)
+by_turn : (n : ℕ) (exports : Exports) (rest : Fronts → CoreState → Sent) (later : Fronts → CoreState → List Deed) (f : Fronts) (s : CoreState) (o : Turned) → settle n (rooms f.nlm.hosts) s ≡ o
+    → ((g : Fronts) (t : CoreState) → (rest g t).2 ≡ all_done n t (later g t)) → (after_turn exports rest f s o).2 ≡ all_done n s (turn_deeds exports later f o)
 by_turn n exports rest later f s None e each = refl
 by_turn n exports rest later f s (Some turn) e each =
     let r = all_shown exports f turn.1 turn.0 in
@@ -82,16 +93,16 @@ by_turn n exports rest later f s (Some turn) e each =
     ∙ sym (done_append n turn.1 told (later r.1 r.2))
     ∙ ap (λ (x : Turned). all_done n (turned s x).2 (told ++ later r.1 r.2)) (sym e)
 
-do_for : (fuel n : ℕ) (exports : Exports) (f : FrontState) (s : CoreState) → (settled_for fuel n exports f s).2 ≡ all_done n s (turns_for fuel n exports f s)
+do_for : (fuel n : ℕ) (exports : Exports) (f : Fronts) (s : CoreState) → (settled_for fuel n exports f s).2 ≡ all_done n s (turns_for fuel n exports f s)
 do_for zero n exports f s = refl
-do_for (suc fuel) n exports f s = by_turn n exports (settled_for fuel n exports) (turns_for fuel n exports) f s (settle n (rooms f.hosts) s) refl (λ g t. do_for fuel n exports g t)
+do_for (suc fuel) n exports f s = by_turn n exports (settled_for fuel n exports) (turns_for fuel n exports) f s (settle n (rooms f.nlm.hosts) s) refl (λ g t. do_for fuel n exports g t)
 
-turns_do : (n : ℕ) (exports : Exports) (f : FrontState) (s : CoreState) → (settled n exports f s).2 ≡ all_done n s (turns n exports f s)
+turns_do : (n : ℕ) (exports : Exports) (f : Fronts) (s : CoreState) → (settled n exports f s).2 ≡ all_done n s (turns n exports f s)
 unfolding settled turns
 turns_do n exports f s = do_for (length s.waiters) n exports f s
 
-turn_fit : (n : ℕ) (exports : Exports) (later : FrontState → CoreState → List Deed) (f : FrontState) (s : CoreState) (o : Turned) → settle n (rooms f.hosts) s ≡ o
-    → ((g : FrontState) (t : CoreState) → AreFit n t (later g t)) → AreFit n s (turn_deeds exports later f o)
+turn_fit : (n : ℕ) (exports : Exports) (later : Fronts → CoreState → List Deed) (f : Fronts) (s : CoreState) (o : Turned) → settle n (rooms f.nlm.hosts) s ≡ o
+    → ((g : Fronts) (t : CoreState) → AreFit n t (later g t)) → AreFit n s (turn_deeds exports later f o)
 turn_fit n exports later f s None e each = tt
 turn_fit n exports later f s (Some turn) e each =
     let r = all_shown exports f turn.1 turn.0 in
@@ -102,84 +113,87 @@ turn_fit n exports later f s (Some turn) e each =
           (subst (λ (t : CoreState). AreFit n t (later r.1 r.2)) (told_does n exports f turn.1 turn.0) (each r.1 r.2))),
     )
 
-fit_for : (fuel n : ℕ) (exports : Exports) (f : FrontState) (s : CoreState) → AreFit n s (turns_for fuel n exports f s)
+fit_for : (fuel n : ℕ) (exports : Exports) (f : Fronts) (s : CoreState) → AreFit n s (turns_for fuel n exports f s)
 fit_for zero n exports f s = tt
-fit_for (suc fuel) n exports f s = turn_fit n exports (turns_for fuel n exports) f s (settle n (rooms f.hosts) s) refl (λ g t. fit_for fuel n exports g t)
+fit_for (suc fuel) n exports f s = turn_fit n exports (turns_for fuel n exports) f s (settle n (rooms f.nlm.hosts) s) refl (λ g t. fit_for fuel n exports g t)
 
-turns_fit : (n : ℕ) (exports : Exports) (f : FrontState) (s : CoreState) → AreFit n s (turns n exports f s)
+turns_fit : (n : ℕ) (exports : Exports) (f : Fronts) (s : CoreState) → AreFit n s (turns n exports f s)
 unfolding turns
 turns_fit n exports f s = fit_for (length s.waiters) n exports f s
 
-turn_follow : (exports : Exports) (later : FrontState → CoreState → List Deed) (f : FrontState) (o : Turned) → ((g : FrontState) (t : CoreState) → Follow (later g t)) → Follow (turn_deeds exports later f o)
+turn_follow : (exports : Exports) (later : Fronts → CoreState → List Deed) (f : Fronts) (o : Turned) → ((g : Fronts) (t : CoreState) → Follow (later g t)) → Follow (turn_deeds exports later f o)
 turn_follow exports later f None each = tt
 turn_follow exports later f (Some turn) each =
     let r = all_shown exports f turn.1 turn.0 in
     (refl, all_append (λ d. may_follow d ≡ true) (told_deeds exports f turn.1 turn.0) (later r.1 r.2) (told_follow exports f turn.1 turn.0) (each r.1 r.2))
 
-follow_for : (fuel n : ℕ) (exports : Exports) (f : FrontState) (s : CoreState) → Follow (turns_for fuel n exports f s)
+follow_for : (fuel n : ℕ) (exports : Exports) (f : Fronts) (s : CoreState) → Follow (turns_for fuel n exports f s)
 follow_for zero n exports f s = tt
-follow_for (suc fuel) n exports f s = turn_follow exports (turns_for fuel n exports) f (settle n (rooms f.hosts) s) (λ g t. follow_for fuel n exports g t)
+follow_for (suc fuel) n exports f s = turn_follow exports (turns_for fuel n exports) f (settle n (rooms f.nlm.hosts) s) (λ g t. follow_for fuel n exports g t)
 
-turns_follow : (n : ℕ) (exports : Exports) (f : FrontState) (s : CoreState) → Follow (turns n exports f s)
+turns_follow : (n : ℕ) (exports : Exports) (f : Fronts) (s : CoreState) → Follow (turns n exports f s)
 unfolding turns
 turns_follow n exports f s = follow_for (length s.waiters) n exports f s
 
 -- ---- its own deeds
 
-program_does : (n : ℕ) (exports : Exports) (f : FrontState) (s : CoreState) (number : ℕ) (r : RequestItem) (program : Program) → (program_given n exports f s number r program).2 ≡ all_done n s (program_deeds program exports f s r)
-program_does n exports f s number r Nlm = step_does n exports f s number r
+program_does : (n : ℕ) (exports : Exports) (f : Fronts) (s : CoreState) (number : ℕ) (r : RequestItem) (program : Program) → (program_given n exports f s number r program).2 ≡ all_done n s (program_deeds n program exports f s r)
+program_does n exports f s number r Nlm = step_does n exports f.nlm s number r
+program_does n exports f s number r Nfs = nfs.request_does n exports f.nfs s number r
 
-record_does : (n : ℕ) (exports : Exports) (f : FrontState) (s : CoreState) (number : ℕ) (incoming : IncomingItem) → (record_given n exports f s number incoming).2 ≡ all_done n s (record_deeds exports f s incoming)
+record_does : (n : ℕ) (exports : Exports) (f : Fronts) (s : CoreState) (number : ℕ) (incoming : IncomingItem) → (record_given n exports f s number incoming).2 ≡ all_done n s (record_deeds n exports f s incoming)
 record_does n exports f s number Unanswered = refl
 record_does n exports f s number (Refused xid verdict) = refl
 record_does n exports f s number (Asked r) = program_does n exports f s number r r.program
 
-message_does : (n : ℕ) (exports : Exports) (f : FrontState) (s : CoreState) (kind : Option Kind) (number : ℕ) (bytes : List ℕ) → (message_given n exports f s kind number bytes).2 ≡ all_done n s (message_deeds exports f s kind bytes)
+message_does : (n : ℕ) (exports : Exports) (f : Fronts) (s : CoreState) (kind : Option Kind) (number : ℕ) (bytes : List ℕ) → (message_given n exports f s kind number bytes).2 ≡ all_done n s (message_deeds n exports f s kind bytes)
 message_does n exports f s None number bytes = refl
 message_does n exports f s (Some Smb) number bytes = refl
 message_does n exports f s (Some Rpc) number bytes = record_does n exports f s number (incoming_at bytes)
 
-own_does : (n : ℕ) (s : Whole) (event : Event) → (given_by n s event).2 ≡ all_done n (step_begun s.core) (own_deeds s event)
+own_does : (n : ℕ) (s : Whole) (event : Event) → (given_by n s event).2 ≡ all_done n (step_begun s.core) (own_deeds n s event)
 own_does n s (Open kind) = refl
 own_does n s (Message number bytes) = message_does n s.exports s.front (step_begun s.core) (kind_of s.connections number) number bytes
 own_does n s (End number) = refl
-own_does n s (Called number bytes) = answer_does n s.front (step_begun s.core) number bytes
-own_does n s (Tick moment) = refl
+own_does n s (Called number bytes) = answer_does n s.front.nlm (step_begun s.core) number bytes
+own_does n s (Tick moment) = sym (tick_done n (step_begun s.core) moment)
 own_does n s Restart = refl
 
-program_takes : (n : ℕ) (exports : Exports) (f : FrontState) (s : CoreState) (r : RequestItem) (program : Program) → AreFit n s (program_deeds program exports f s r)
-program_takes n exports f s r Nlm = step_takes n exports f s r
+program_takes : (n : ℕ) (exports : Exports) (f : Fronts) (s : CoreState) (r : RequestItem) (program : Program) → IsGood s → AreFit n s (program_deeds n program exports f s r)
+program_takes n exports f s r Nlm good = step_takes n exports f.nlm s r
+program_takes n exports f s r Nfs good = nfs_own.request_takes n exports f.nfs s r
 
-record_takes : (n : ℕ) (exports : Exports) (f : FrontState) (s : CoreState) (incoming : IncomingItem) → AreFit n s (record_deeds exports f s incoming)
-record_takes n exports f s Unanswered = tt
-record_takes n exports f s (Refused xid verdict) = tt
-record_takes n exports f s (Asked r) = program_takes n exports f s r r.program
+record_takes : (n : ℕ) (exports : Exports) (f : Fronts) (s : CoreState) (incoming : IncomingItem) → IsGood s → AreFit n s (record_deeds n exports f s incoming)
+record_takes n exports f s Unanswered good = tt
+record_takes n exports f s (Refused xid verdict) good = tt
+record_takes n exports f s (Asked r) good = program_takes n exports f s r r.program good
 
-message_takes : (n : ℕ) (exports : Exports) (f : FrontState) (s : CoreState) (kind : Option Kind) (bytes : List ℕ) → AreFit n s (message_deeds exports f s kind bytes)
-message_takes n exports f s None bytes = tt
-message_takes n exports f s (Some Smb) bytes = tt
-message_takes n exports f s (Some Rpc) bytes = record_takes n exports f s (incoming_at bytes)
+message_takes : (n : ℕ) (exports : Exports) (f : Fronts) (s : CoreState) (kind : Option Kind) (bytes : List ℕ) → IsGood s → AreFit n s (message_deeds n exports f s kind bytes)
+message_takes n exports f s None bytes good = tt
+message_takes n exports f s (Some Smb) bytes good = tt
+message_takes n exports f s (Some Rpc) bytes good = record_takes n exports f s (incoming_at bytes) good
 
-own_takes : (n : ℕ) (s : Whole) (event : Event) → AreFit n (step_begun s.core) (own_deeds s event)
-own_takes n s (Open kind) = tt
-own_takes n s (Message number bytes) = message_takes n s.exports s.front (step_begun s.core) (kind_of s.connections number) bytes
-own_takes n s (End number) = tt
-own_takes n s (Called number bytes) = answer_takes n s.front (step_begun s.core) number bytes
-own_takes n s (Tick moment) = tt
-own_takes n s Restart = tt
+own_takes : (n : ℕ) (s : Whole) (event : Event) → IsGood (step_begun s.core) → AreFit n (step_begun s.core) (own_deeds n s event)
+own_takes n s (Open kind) good = tt
+own_takes n s (Message number bytes) good = message_takes n s.exports s.front (step_begun s.core) (kind_of s.connections number) bytes good
+own_takes n s (End number) good = tt
+own_takes n s (Called number bytes) good = answer_takes n s.front.nlm (step_begun s.core) number bytes
+own_takes n s (Tick moment) good = tick_fits n (step_begun s.core) moment
+own_takes n s Restart good = tt
 
 -- ---- all that an event does
 
 -- what was heard leaves what telling of its own deeds leaves
-program_told : (n : ℕ) (exports : Exports) (f : FrontState) (s : CoreState) (number : ℕ) (r : RequestItem) (program : Program) → (let g = program_given n exports f s number r program in (program_heard n exports f s number r program).2 ≡ (all_shown exports g.1 g.2 g.0).2)
+program_told : (n : ℕ) (exports : Exports) (f : Fronts) (s : CoreState) (number : ℕ) (r : RequestItem) (program : Program) → (let g = program_given n exports f s number r program in (program_heard n exports f s number r program).2 ≡ (all_shown exports g.1 g.2 g.0).2)
 program_told n exports f s number r Nlm = refl
+program_told n exports f s number r Nfs = refl
 
-record_told : (n : ℕ) (exports : Exports) (f : FrontState) (s : CoreState) (number : ℕ) (incoming : IncomingItem) → (let g = record_given n exports f s number incoming in (record_heard n exports f s number incoming).2 ≡ (all_shown exports g.1 g.2 g.0).2)
+record_told : (n : ℕ) (exports : Exports) (f : Fronts) (s : CoreState) (number : ℕ) (incoming : IncomingItem) → (let g = record_given n exports f s number incoming in (record_heard n exports f s number incoming).2 ≡ (all_shown exports g.1 g.2 g.0).2)
 record_told n exports f s number Unanswered = refl
 record_told n exports f s number (Refused xid verdict) = refl
 record_told n exports f s number (Asked r) = program_told n exports f s number r r.program
 
-message_told : (n : ℕ) (exports : Exports) (f : FrontState) (s : CoreState) (kind : Option Kind) (number : ℕ) (bytes : List ℕ) → (let g = message_given n exports f s kind number bytes in (heard_by n exports f s kind number bytes).2 ≡ (all_shown exports g.1 g.2 g.0).2)
+message_told : (n : ℕ) (exports : Exports) (f : Fronts) (s : CoreState) (kind : Option Kind) (number : ℕ) (bytes : List ℕ) → (let g = message_given n exports f s kind number bytes in (heard_by n exports f s kind number bytes).2 ≡ (all_shown exports g.1 g.2 g.0).2)
 message_told n exports f s None number bytes = refl
 message_told n exports f s (Some Smb) number bytes = refl
 message_told n exports f s (Some Rpc) number bytes = record_told n exports f s number (incoming_at bytes)
@@ -194,19 +208,19 @@ own_told n s (Tick moment) = refl
 own_told n s Restart = refl
 
 abbrev pub own_and_told : ℕ → Whole → Event → List Deed
-own_and_told n s event = let g = given_by n s event in own_deeds s event ++ told_deeds s.exports g.1 g.2 g.0
+own_and_told n s event = let g = given_by n s event in own_deeds n s event ++ told_deeds s.exports g.1 g.2 g.0
 
 pub heard_does : (n : ℕ) (s : Whole) (event : Event) → (heard n s event).2 ≡ all_done n (step_begun s.core) (own_and_told n s event)
 heard_does n s event =
     let g = given_by n s event in
     own_told n s event ∙ told_does n s.exports g.1 g.2 g.0
     ∙ ap (λ (t : CoreState). all_done n t (told_deeds s.exports g.1 g.2 g.0)) (own_does n s event)
-    ∙ sym (done_append n (step_begun s.core) (own_deeds s event) (told_deeds s.exports g.1 g.2 g.0))
+    ∙ sym (done_append n (step_begun s.core) (own_deeds n s event) (told_deeds s.exports g.1 g.2 g.0))
 
-pub heard_takes : (n : ℕ) (s : Whole) (event : Event) → AreFit n (step_begun s.core) (own_and_told n s event)
-heard_takes n s event =
+pub heard_takes : (n : ℕ) (s : Whole) (event : Event) → IsGood (step_begun s.core) → AreFit n (step_begun s.core) (own_and_told n s event)
+heard_takes n s event good =
     let g = given_by n s event in
-    fit_append n (step_begun s.core) (own_deeds s event) (told_deeds s.exports g.1 g.2 g.0) (own_takes n s event)
+    fit_append n (step_begun s.core) (own_deeds n s event) (told_deeds s.exports g.1 g.2 g.0) (own_takes n s event good)
     (subst (λ (t : CoreState). AreFit n t (told_deeds s.exports g.1 g.2 g.0)) (own_does n s event) (told_fit n s.exports g.1 g.2 g.0))
 
 -- the core at the end of a step
@@ -219,10 +233,10 @@ three xs ys zs = append_assoc xs ys zs
 deeds_are : (n : ℕ) (s : Whole) (event : Event) → is_restart event ≡ false → deeds n s event ≡ own_and_told n s event ++ turns n s.exports (heard n s event).1 (heard n s event).2
 unfolding deeds
 deeds_are n s (Open kind) other = refl
-deeds_are n s (Message number bytes) other = sym (three (own_deeds s (Message number bytes)) _ _)
+deeds_are n s (Message number bytes) other = sym (three (own_deeds n s (Message number bytes)) _ _)
 deeds_are n s (End number) other = refl
-deeds_are n s (Called number bytes) other = sym (three (own_deeds s (Called number bytes)) _ _)
-deeds_are n s (Tick moment) other = refl
+deeds_are n s (Called number bytes) other = sym (three (own_deeds n s (Called number bytes)) _ _)
+deeds_are n s (Tick moment) other = sym (three (own_deeds n s (Tick moment)) _ _)
 deeds_are n s Restart other = absurd cc
 
 -- the step is its deeds
@@ -235,27 +249,28 @@ left_is n s event other =
     ∙ sym (done_append n (step_begun s.core) (own_and_told n s event) later)
     ∙ ap (λ (ds : List Deed). all_done n (step_begun s.core) ds) (sym (deeds_are n s event other))
 
-pub deeds_taken : (n : ℕ) (s : Whole) (event : Event) → is_restart event ≡ false → AreFit n (step_begun s.core) (deeds n s event)
-deeds_taken n s event other =
+pub deeds_taken : (n : ℕ) (s : Whole) (event : Event) → is_restart event ≡ false → IsGood (step_begun s.core) → AreFit n (step_begun s.core) (deeds n s event)
+deeds_taken n s event other good =
     let h = heard n s event in
     let later = turns n s.exports h.1 h.2 in
     subst (λ (ds : List Deed). AreFit n (step_begun s.core) ds) (sym (deeds_are n s event other))
-    (fit_append n (step_begun s.core) (own_and_told n s event) later (heard_takes n s event)
+    (fit_append n (step_begun s.core) (own_and_told n s event) later (heard_takes n s event good)
     (subst (λ (t : CoreState). AreFit n t later) (heard_does n s event) (turns_fit n s.exports h.1 h.2)))
 
 -- ---- causes
 
-program_own : (n : ℕ) (exports : Exports) (f : FrontState) (s : CoreState) (r : RequestItem) (program : Program) → IsGood s → AreOfSome n s (program_client program r) (program_deeds program exports f s r)
-program_own n exports f s r Nlm good = step_own n exports f s r good
+program_own : (n : ℕ) (exports : Exports) (f : Fronts) (s : CoreState) (r : RequestItem) (program : Program) → IsGood s → program_owns n program exports f s r
+program_own n exports f s r Nlm good = step_own n exports f.nlm s r good
+program_own n exports f s r Nfs good = nfs_own.request_own n exports f.nfs s r
 
-record_own : (n : ℕ) (exports : Exports) (f : FrontState) (s : CoreState) (incoming : IncomingItem) → IsGood s → AreOfSome n s (record_client incoming) (record_deeds exports f s incoming)
-record_own n exports f s Unanswered good = refl
-record_own n exports f s (Refused xid verdict) good = refl
+record_own : (n : ℕ) (exports : Exports) (f : Fronts) (s : CoreState) (incoming : IncomingItem) → IsGood s → record_owns n exports f s incoming
+record_own n exports f s Unanswered good = tt
+record_own n exports f s (Refused xid verdict) good = tt
 record_own n exports f s (Asked r) good = program_own n exports f s r r.program good
 
-message_own : (n : ℕ) (exports : Exports) (f : FrontState) (s : CoreState) (kind : Option Kind) (bytes : List ℕ) → IsGood s → AreOfSome n s (message_client kind bytes) (message_deeds exports f s kind bytes)
-message_own n exports f s None bytes good = refl
-message_own n exports f s (Some Smb) bytes good = refl
+message_own : (n : ℕ) (exports : Exports) (f : Fronts) (s : CoreState) (kind : Option Kind) (bytes : List ℕ) → IsGood s → message_owns n exports f s kind bytes
+message_own n exports f s None bytes good = tt
+message_own n exports f s (Some Smb) bytes good = tt
 message_own n exports f s (Some Rpc) bytes good = record_own n exports f s (incoming_at bytes) good
 
 pub owners_own : (n : ℕ) (s : Whole) (event : Event) → IsGood (step_begun s.core) → IsOwnersBy n s event
@@ -266,6 +281,9 @@ owners_own n s (Called number bytes) good = tt
 owners_own n s (Tick moment) good = tt
 owners_own n s Restart good = tt
 
+abbrev May : ℕ → List ℕ → List Deed → Type 0
+May number bytes ds = AllByRecursion (λ d. may_do (Message number bytes) d ≡ true) ds
+
 of_may : (s : CoreState) (client : Name) (number : ℕ) (bytes : List ℕ) (d : Deed) → IsOf s client d → may_do (Message number bytes) d ≡ true
 of_may s client number bytes (Asks left a) own = refl
 of_may s client number bytes (GivesBack claim) own = refl
@@ -273,26 +291,60 @@ of_may s client number bytes (Cancels id) own = refl
 of_may s client number bytes (Ends party) own = refl
 of_may s client number bytes (Serves left) own = absurd own
 of_may s client number bytes Draws own = absurd own
+of_may s client number bytes (Advances now) own = absurd own
+of_may s client number bytes (Renews id) own = refl
+of_may s client number bytes (Expires id) own = absurd own
 
-are_may : (n : ℕ) (s : CoreState) (client : Name) (number : ℕ) (bytes : List ℕ) (ds : List Deed) → AreOf n s client ds → AllByRecursion (λ d. may_do (Message number bytes) d ≡ true) ds
+are_may : (n : ℕ) (s : CoreState) (client : Name) (number : ℕ) (bytes : List ℕ) (ds : List Deed) → AreOf n s client ds → May number bytes ds
 are_may n s client number bytes [] own = tt
 are_may n s client number bytes (d ∷ ds) own = (of_may s client number bytes d own.0, are_may n (done n s d) client number bytes ds own.1)
 
-some_may : (n : ℕ) (s : CoreState) (client : Option Name) (number : ℕ) (bytes : List ℕ) (ds : List Deed) → AreOfSome n s client ds → AllByRecursion (λ d. may_do (Message number bytes) d ≡ true) ds
-some_may n s None number bytes ds none = subst (λ (x : List Deed). AllByRecursion (λ d. may_do (Message number bytes) d ≡ true) x) (sym none) tt
+some_may : (n : ℕ) (s : CoreState) (client : Option Name) (number : ℕ) (bytes : List ℕ) (ds : List Deed) → AreOfSome n s client ds → May number bytes ds
+some_may n s None number bytes ds none = subst (λ (x : List Deed). May number bytes x) (sym none) tt
 some_may n s (Some client) number bytes ds own = are_may n s client number bytes ds own
+
+one_may : (s : CoreState) (number : ℕ) (bytes : List ℕ) (d : Deed) → IsBy s (λ _. Unit {0}) d → may_do (Message number bytes) d ≡ true
+one_may s number bytes Draws own = refl
+one_may s number bytes (Ends party) own = refl
+one_may s number bytes (Renews id) own = refl
+one_may s number bytes d own = absurd own
+
+theirs_may : (n : ℕ) (s : CoreState) (number : ℕ) (bytes : List ℕ) (ds : List Deed) → AreBy n s (λ _. Unit {0}) ds → May number bytes ds
+theirs_may n s number bytes [] own = tt
+theirs_may n s number bytes (d ∷ ds) own = (one_may s number bytes d own.0, theirs_may n (done n s d) number bytes ds own.1)
+
+program_may : (n number : ℕ) (bytes : List ℕ) (exports : Exports) (f : Fronts) (s : CoreState) (r : RequestItem) (program : Program) → IsGood s → May number bytes (program_deeds n program exports f s r)
+program_may n number bytes exports f s r Nlm good = some_may n s (nlm_client r) number bytes (nlm_deeds exports f.nlm s r) (step_own n exports f.nlm s r good)
+program_may n number bytes exports f s r Nfs good = theirs_may n s number bytes (nfs_deeds n exports f.nfs s r) (nfs_own.request_by n exports f.nfs s r)
+
+record_may : (n number : ℕ) (bytes : List ℕ) (exports : Exports) (f : Fronts) (s : CoreState) (incoming : IncomingItem) → IsGood s → May number bytes (record_deeds n exports f s incoming)
+record_may n number bytes exports f s Unanswered good = tt
+record_may n number bytes exports f s (Refused xid verdict) good = tt
+record_may n number bytes exports f s (Asked r) good = program_may n number bytes exports f s r r.program good
+
+message_may : (n number : ℕ) (bytes : List ℕ) (exports : Exports) (f : Fronts) (s : CoreState) (kind : Option Kind) → IsGood s → May number bytes (message_deeds n exports f s kind bytes)
+message_may n number bytes exports f s None good = tt
+message_may n number bytes exports f s (Some Smb) good = tt
+message_may n number bytes exports f s (Some Rpc) good = record_may n number bytes exports f s (incoming_at bytes) good
 
 refusal_may : (hosts : List (List ℕ)) (number : ℕ) (bytes : Option (List ℕ)) (o : Option Grant) → AllByRecursion (λ d. may_do (Called number bytes) d ≡ true) (refusal_deeds hosts o)
 refusal_may hosts number bytes None = tt
 refusal_may hosts number bytes (Some grant) = (refl, tt)
 
-pub own_may : (n : ℕ) (s : Whole) (event : Event) → IsGood (step_begun s.core) → AllByRecursion (λ d. may_do event d ≡ true) (own_deeds s event)
+expiry_may : (now : Moment) (later : CoreState → List Deed) (s : CoreState) (o : Option (List ℕ)) → ((t : CoreState) → AllByRecursion (λ d. may_do (Tick now) d ≡ true) (later t)) → AllByRecursion (λ d. may_do (Tick now) d ≡ true) (expiry_then later s o)
+expiry_may now later s None each = tt
+expiry_may now later s (Some client) each = (refl, each (expire s client).1)
+
+expiries_may : (now : Moment) (fuel : ℕ) (s : CoreState) → AllByRecursion (λ d. may_do (Tick now) d ≡ true) (expiries fuel s)
+expiries_may now zero s = tt
+expiries_may now (suc fuel) s = expiry_may now (expiries fuel) s (first_ended s.clock s.leases) (λ t. expiries_may now fuel t)
+
+pub own_may : (n : ℕ) (s : Whole) (event : Event) → IsGood (step_begun s.core) → AllByRecursion (λ d. may_do event d ≡ true) (own_deeds n s event)
 own_may n s (Open kind) good = tt
-own_may n s (Message number bytes) good =
-    some_may n (step_begun s.core) (message_client (kind_of s.connections number) bytes) number bytes (own_deeds s (Message number bytes)) (owners_own n s (Message number bytes) good)
+own_may n s (Message number bytes) good = message_may n number bytes s.exports s.front (step_begun s.core) (kind_of s.connections number) good
 own_may n s (End number) good = tt
-own_may n s (Called number bytes) good = refusal_may s.front.hosts number bytes _
-own_may n s (Tick moment) good = tt
+own_may n s (Called number bytes) good = refusal_may s.front.nlm.hosts number bytes _
+own_may n s (Tick moment) good = (eq-eqb moment.0 moment.0 refl, expiries_may moment (length (step_begun s.core).leases) (advanced (step_begun s.core) moment))
 own_may n s Restart good = tt
 
 pub behind_follows : (n : ℕ) (s : Whole) (event : Event) → Follow (behind_own n s event)
@@ -303,23 +355,26 @@ behind_follows n s event =
 
 -- ---- what is sent
 
-program_sends : (n : ℕ) (exports : Exports) (f : FrontState) (s : CoreState) (number : ℕ) (r : RequestItem) (program : Program)
+program_sends : (n : ℕ) (exports : Exports) (f : Fronts) (s : CoreState) (number : ℕ) (r : RequestItem) (program : Program)
     → (let g = program_given n exports f s number r program in
-    (program_heard n exports f s number r program).0 ≡ (all_shown exports g.1 g.2 g.0).0 ++ map (framed Rpc) (sent_to number (program_reply program exports f s (all_done n s (program_deeds program exports f s r)).names r (answers_of n s (program_deeds program exports f s r)))))
+    (program_heard n exports f s number r program).0 ≡ (all_shown exports g.1 g.2 g.0).0 ++ map (framed Rpc) (sent_to number (program_reply n program exports f s (all_done n s (program_deeds n program exports f s r)).names r (answers_of n s (program_deeds n program exports f s r)))))
 program_sends n exports f s number r Nlm =
-    let x = nlm_step n exports f s number r in
-    ap (λ (outs : List Out). (all_shown exports x.2 x.3 x.1).0 ++ map (framed Rpc) outs) (step_replies n exports f s number r)
+    let x = with_nlm f (nlm_step n exports f.nlm s number r) in
+    ap (λ (outs : List Out). (all_shown exports x.2 x.3 x.1).0 ++ map (framed Rpc) outs) (step_replies n exports f.nlm s number r)
+program_sends n exports f s number r Nfs =
+    let x = with_nfs f (nfs_step n exports f.nfs s number r) in
+    ap (λ (outs : List Out). (all_shown exports x.2 x.3 x.1).0 ++ map (framed Rpc) outs) (nfs.request_replies n exports f.nfs s number r)
 
-record_sends : (n : ℕ) (exports : Exports) (f : FrontState) (s : CoreState) (number : ℕ) (incoming : IncomingItem)
+record_sends : (n : ℕ) (exports : Exports) (f : Fronts) (s : CoreState) (number : ℕ) (incoming : IncomingItem)
     → (let g = record_given n exports f s number incoming in
-    (record_heard n exports f s number incoming).0 ≡ (all_shown exports g.1 g.2 g.0).0 ++ map (framed Rpc) (record_replies exports f s (all_done n s (record_deeds exports f s incoming)).names number incoming (answers_of n s (record_deeds exports f s incoming))))
+    (record_heard n exports f s number incoming).0 ≡ (all_shown exports g.1 g.2 g.0).0 ++ map (framed Rpc) (record_replies n exports f s (all_done n s (record_deeds n exports f s incoming)).names number incoming (answers_of n s (record_deeds n exports f s incoming))))
 record_sends n exports f s number Unanswered = refl
 record_sends n exports f s number (Refused xid verdict) = refl
 record_sends n exports f s number (Asked r) = program_sends n exports f s number r r.program
 
-message_sends : (n : ℕ) (exports : Exports) (f : FrontState) (s : CoreState) (kind : Option Kind) (number : ℕ) (bytes : List ℕ)
+message_sends : (n : ℕ) (exports : Exports) (f : Fronts) (s : CoreState) (kind : Option Kind) (number : ℕ) (bytes : List ℕ)
     → (let g = message_given n exports f s kind number bytes in
-    (heard_by n exports f s kind number bytes).0 ≡ (all_shown exports g.1 g.2 g.0).0 ++ message_replies exports f s (all_done n s (message_deeds exports f s kind bytes)).names kind number bytes (answers_of n s (message_deeds exports f s kind bytes)))
+    (heard_by n exports f s kind number bytes).0 ≡ (all_shown exports g.1 g.2 g.0).0 ++ message_replies n exports f s (all_done n s (message_deeds n exports f s kind bytes)).names kind number bytes (answers_of n s (message_deeds n exports f s kind bytes)))
 message_sends n exports f s None number bytes = refl
 message_sends n exports f s (Some Smb) number bytes = refl
 message_sends n exports f s (Some Rpc) number bytes = record_sends n exports f s number (incoming_at bytes)
@@ -330,7 +385,7 @@ heard_sends n s (Open kind) = refl
 heard_sends n s (Message number bytes) = message_sends n s.exports s.front (step_begun s.core) (kind_of s.connections number) number bytes
 heard_sends n s (End number) = refl
 heard_sends n s (Called number bytes) = sym (append-nil _)
-heard_sends n s (Tick moment) = refl
+heard_sends n s (Tick moment) = sym (append-nil _)
 heard_sends n s Restart = refl
 
 messages_are : (n : ℕ) (s : Whole) (event : Event) → is_restart event ≡ false → (let g = given_by n s event in messages n s event ≡ (all_shown s.exports g.1 g.2 g.0).0 ++ (own_replies n s event ++ (settled n s.exports (heard n s event).1 (heard n s event).2).0))

@@ -14,14 +14,15 @@ use Rattle.xl_core.specs.Smallest.{all_room, smallest_lock}
 use Rattle.xl_core.specs.State.{CoreState, started, step_begun}
 use Rattle.xl_core.specs.declared.ask.Act.TheVariants.{Test}
 use Rattle.xl_core.specs.declared.ask.Ask.{Ask}
+use Rattle.xl_core.specs.declared.lease.Times.{Times}
 use Rattle.xl_house.specs.Done.{deeds}
 use Rattle.xl_house.specs.Lawful.{found, IsLawful, IsWaiting}
 use Rattle.xl_house.specs.Machine.{Whole}
 
-pub nothing_kept_in : (n stores number : ℕ) (bytes : List ℕ) (outs : List Out) (s t : Whole) (stable : Stable) (clock : Moment) → found s ≡ started stable clock → deeds n s (Message number bytes) ≡ Asks all_room smallest_lock ∷ []
+pub nothing_kept_in : (n stores number : ℕ) (bytes : List ℕ) (outs : List Out) (s t : Whole) (stable : Stable) (clock : Moment) (times : Times) → found s ≡ started stable clock times → deeds n s (Message number bytes) ≡ Asks all_room smallest_lock ∷ []
     → t.core.claims ≡ [] → IsLawful n s (record { event = Message number bytes; stores = stores; outs = outs }) t → ⊥
-nothing_kept_in n stores number bytes outs s t stable clock begun does none lawful =
-    nothing_kept n stable clock t.core none
+nothing_kept_in n stores number bytes outs s t stable clock times begun does none lawful =
+    nothing_kept n stable clock times t.core none
     (subst (λ (x : CoreState). IsChangedBy n x (Asks all_room smallest_lock ∷ []) t.core) begun (subst (λ (ds : List Deed). IsChangedBy n (found s) ds t.core) does lawful))
 
 begun_waits : (s : CoreState) → (step_begun s).waiters ≡ s.waiters

@@ -1,15 +1,19 @@
 -- Journals with one entry more.
 use Rattle.std.proofs.Math.Seq.{take-append_seam}
-use Rattle.std.proofs.Common.{◌≡◌, suc, ◌+◌, ◌<◌, ◌≤◌, false, arith, length-append, Option, List, [], ◌∷◌, ◌++◌, length, take, refl, sym, ap, subst, ◌∙◌, append_assoc}
-use Rattle.xl_base.specs.Stable.{Stable}
+use Rattle.std.proofs.Common.{◌≡◌, suc, ◌+◌, ◌*◌, ◌<◌, ◌≤◌, false, arith, length-append, Option, List, [], ◌∷◌, ◌++◌, length, take, refl, sym, ap, subst, ◌∙◌, append_assoc}
+use Rattle.xl_base.specs.Stable.{Stable, raised}
 use Rattle.xl_base.specs.declared.event.Event.{Event}
+use Rattle.xl_base.specs.declared.event.Moment.{Moment}
 use Rattle.xl_base.specs.declared.journal.Entry.{Entry}
+use Rattle.xl_base.specs.declared.journal.Head.{Head}
+use Rattle.xl_core.specs.State.{CoreState, started}
+use Rattle.xl_core.specs.declared.lease.Times.{Times}
 use Rattle.xl_front_nlm.specs.Short.{AreShort}
-use Rattle.xl_house.specs.Machine.{Whole, step}
+use Rattle.xl_house.specs.Machine.{Whole, times_of, begin, step}
 use Rattle.xl_house.specs.Journals.{replay, IsLegal, entry, entries_of, is_restart}
 use Rattle.xl_house.specs.Free.{IsFree}
 use Rattle.xl_house.specs.Housed.{Holds, Stands}
-use Rattle.xl_house.proofs.MachineLaws.{none_made, next_place, step_free, step_still}
+use Rattle.xl_house.proofs.MachineLaws.{begin_free, none_made, next_place, step_free, step_still}
 
 pub replay_entry : (s : Whole) (es : List Entry) (event : Event) → replay s (es ++ entry 0 (replay s es) event ∷ []) ≡ (step 0 (replay s es) event).next
 replay_entry s [] event = refl
@@ -45,7 +49,29 @@ legal_next start es old event stands other legal =
     subst (λ (s : Whole). IsLegal start (es ++ entry 0 s event ∷ [])) (sym stands.replayed)
     (legal_entry start es event (subst (λ (s : Whole). (step 0 s event).made ≡ 0) stands.replayed (none_made 0 old event other stands.free.good)) legal)
 
-pub stands_next : (start : Whole) (es : List Entry) (old new : Whole) (event : Event) → Stands start es old → new ≡ (step 0 old event).next → new.core.counter + length new.core.waiters ≤ old.core.counter + length old.core.waiters + 2 → AreShort new.core.names → Stands start (es ++ entry 0 old event ∷ []) new
+started_counter : (s : Whole) (stable : Stable) (now : Moment) (times : Times) → s.core ≡ started stable now times → s.core.counter + length s.core.waiters ≤ 128 * 0
+started_counter s stable now times e = omega (arith, ap (λ (c : CoreState). c.counter + length c.waiters) e)
+
+started_short : (s : Whole) (stable : Stable) (now : Moment) (times : Times) → s.core ≡ started stable now times → AreShort s.core.names
+started_short s stable now times e = subst (λ (c : CoreState). AreShort c.names) (sym e) tt
+
+-- at a start
+pub begun_stands : (head : Head) (s : Whole) → s ≡ begin head → Stands (begin head) [] s
+begun_stands head s e = record {
+  replayed = e;
+  place = ap (λ (w : Whole). w.place) e;
+  free = subst (λ (w : Whole). IsFree w) (sym e) (begin_free head);
+  counter = started_counter s (raised head.record) head.start (times_of head.exports) (ap (λ (w : Whole). w.core) e);
+  short = started_short s (raised head.record) head.start (times_of head.exports) (ap (λ (w : Whole). w.core) e);
+}
+
+pub holds_started : (held : Option Stable) (s : CoreState) (stable : Stable) (now : Moment) (times : Times) → s ≡ started stable now times → Holds held stable → Holds held s.stable
+holds_started held s stable now times e holds = subst (λ (c : CoreState). Holds held c.stable) (sym e) holds
+
+pub holds_stands : (held : Option Stable) (start s : Whole) (es : List Entry) → Stands start es s → Holds held s.core.stable → Holds held (replay start es).core.stable
+holds_stands held start s es stands holds = subst (λ (w : Whole). Holds held w.core.stable) stands.replayed holds
+
+pub stands_next : (start : Whole) (es : List Entry) (old new : Whole) (event : Event) → Stands start es old → new ≡ (step 0 old event).next → new.core.counter + length new.core.waiters ≤ old.core.counter + length old.core.waiters + 128 → AreShort new.core.names → Stands start (es ++ entry 0 old event ∷ []) new
 stands_next start es old new event stands e counter short =
     let longer = length-append es (entry 0 old event ∷ []) in
     record {

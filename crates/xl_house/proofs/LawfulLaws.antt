@@ -49,7 +49,7 @@ changed n s event other free = λ p.
     let found = step_begun s.core in
     ap (λ (t : CoreState). held_at t p) (next_core n s event other)
     ∙ begun_held (all_done n found (deeds n s event)) p
-    ∙ deeds_make n found (deeds n s event) p (begun_good s.core free.good) (deeds_taken n s event other)
+    ∙ deeds_make n found (deeds n s event) p (begun_good s.core free.good) (deeds_taken n s event other (begun_good s.core free.good))
 
 emptied : (n : ℕ) (s : Whole) (p : Place) → held_at (step n s Restart).next.core p ≡ []
 unfolding step
@@ -70,7 +70,7 @@ waiting n s event other free =
     let found = step_begun s.core in
     let ds = deeds n s event in
     let good = begun_good s.core free.good in
-    let fit = deeds_taken n s event other in (
+    let fit = deeds_taken n s event other good in (
       ap (λ (t : CoreState). t.waiters) (next_core n s event other)
           ∙ begun_waits (all_done n found ds)
           ∙ deeds_queue n found ds good fit
@@ -92,7 +92,7 @@ waiting_by n s (Tick moment) free = waiting n s (Tick moment) refl free
 waiting_by n s Restart free = nobody n s
 
 due : (n : ℕ) (s : Whole) (event : Event) → is_restart event ≡ false → IsFree s → AreDue n (step_begun s.core) (deeds n s event)
-due n s event other free = deeds_due n (step_begun s.core) (deeds n s event) (begun_good s.core free.good) (deeds_taken n s event other)
+due n s event other free = deeds_due n (step_begun s.core) (deeds n s event) (begun_good s.core free.good) (deeds_taken n s event other (begun_good s.core free.good))
 
 nothing_due : (n : ℕ) (s : Whole) → AreDue n (step_begun s.core) (deeds n s Restart)
 unfolding deeds

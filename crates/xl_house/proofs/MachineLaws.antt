@@ -1,33 +1,29 @@
 -- What each event keeps.
-use Rattle.std.proofs.Common.{◌≡◌, ℕ, zero, suc, ◌+◌, true, false, Option, Some, None, IfSome, List, [], ◌∷◌, ◌++◌, length, refl, sym, ap, subst, ◌∙◌, arith}
+use Rattle.std.proofs.Common.{◌≡◌, ℕ, zero, suc, ◌+◌, true, false, Option, Some, None, IfSome, List, [], ◌∷◌, length, refl, sym, ap, subst, ◌∙◌, arith}
 use Rattle.std.specs.List.{AllByRecursion}
 use Rattle.xl_base.specs.Stable.{Stable, raised}
 use Rattle.xl_base.specs.declared.event.Event.{Event}
 use Rattle.xl_base.specs.declared.event.Event.TheVariants.{Open, Message, End, Called, Tick, Restart}
-use Rattle.xl_base.specs.declared.event.Kind.{Kind}
-use Rattle.xl_base.specs.declared.event.Kind.TheVariants.{Rpc, Smb}
 use Rattle.xl_base.specs.declared.event.Moment.{Moment}
 use Rattle.xl_base.specs.declared.event.Out.{Out}
 use Rattle.xl_base.specs.declared.journal.Entry.{Entry}
 use Rattle.xl_base.specs.declared.journal.Exports.{Exports}
 use Rattle.xl_base.specs.declared.journal.Head.{Head}
-use Rattle.xl_core.specs.State.{CoreState, MayBe, GoesOn, started, step_begun, drawn}
-use Rattle.xl_core.specs.Deeds.{Deed, Asks, GivesBack, Cancels, Ends, Serves, Draws, turned, done, all_done}
+use Rattle.xl_core.specs.State.{CoreState, MayBe, GoesOn, started, step_begun}
+use Rattle.xl_core.proofs.DeedCaches.{deeds_uncached}
 use Rattle.xl_core.proofs.DeedLists.{deeds_good}
-use Rattle.xl_core.specs.Good.{IsGood, IsSettled, stands_in_the_way}
+use Rattle.xl_core.specs.Good.{IsGood, AreUncached, IsSettled, stands_in_the_way}
 use Rattle.xl_core.specs.Settle.{settle}
 use Rattle.xl_core.specs.declared.ask.Effect.{Effect}
 use Rattle.xl_core.proofs.GoodLaws.{started_good, begun_good, settle_good}
 use Rattle.xl_core.proofs.SettleLaws.{none_settled, turn_fewer}
 use Rattle.xl_wait.specs.declared.waiter.Waiter.{Waiter}
-use Rattle.xl_front_nlm.specs.Answers.{nlm_called}
-use Rattle.xl_front_nlm.specs.FrontNlm.{nlm_step}
 use Rattle.xl_front_nlm.specs.Hosts.{rooms}
-use Rattle.xl_front_nlm.specs.State.{FrontState, empty_front}
+use Rattle.xl_house.specs.declared.parts.Fronts.{Fronts}
 use Rattle.xl_house.specs.Free.{IsFree, AlwaysFree}
 use Rattle.xl_house.specs.Journals.{is_restart}
-use Rattle.xl_house.specs.Machine.{Whole, Turn, Sent, begin, kind_of, behind, and_then, grants, all_shown, after_turn, settled_for, settled, heard_by, heard, connected, onward, turn_of, settled_turn, restarted, step}
-use Rattle.xl_house.specs.Shown.{IsShown}
+use Rattle.xl_core.specs.declared.lease.Times.{Times}
+use Rattle.xl_house.specs.Machine.{Whole, Turn, Sent, times_of, begin, behind, and_then, grants, all_shown, after_turn, settled_for, settled, heard, connected, onward, turn_of, settled_turn, restarted, step}
 use Rattle.xl_house.specs.declared.connections.Connection.{Connection}
 use Rattle.xl_house.proofs.StillLaws.{IsStill, deeds_still}
 use Rattle.xl_house.specs.Done.{deeds}
@@ -52,23 +48,23 @@ none_waits : (P : Waiter → Type 0) (ws : List Waiter) → length ws ≡ 0 → 
 none_waits P [] e = tt
 none_waits P (w ∷ ws) e = absurd (omega (arith, e))
 
-told_waiters : (exports : Exports) (f : FrontState) (t : CoreState) (effects : List Effect) → length (all_shown exports f t effects).2.waiters ≡ length t.waiters
+told_waiters : (exports : Exports) (f : Fronts) (t : CoreState) (effects : List Effect) → length (all_shown exports f t effects).2.waiters ≡ length t.waiters
 told_waiters exports f t effects = ap length (shown_waiters (grants effects) t (all_shown exports f t effects).2 (all_shown_is exports f t effects))
 
-ends_by : (fuel n : ℕ) (exports : Exports) (f : FrontState) (s : CoreState) (o : Option (List Effect × CoreState)) → settle n (rooms f.hosts) s ≡ o → IfSome o (λ r. length r.1.waiters + 1 ≡ length s.waiters) → IfSome o (λ r. IsGood r.1) → length s.waiters ≡ suc fuel
-    → ((g : FrontState) (t : CoreState) → IsGood t → length t.waiters ≡ fuel → IsSettled (settled_for fuel n exports g t).2) → IsSettled (after_turn exports (settled_for fuel n exports) f s o).2
-ends_by fuel n exports f s None is fewer good e rests = none_settled n (rooms f.hosts) s is
+ends_by : (fuel n : ℕ) (exports : Exports) (f : Fronts) (s : CoreState) (o : Option (List Effect × CoreState)) → settle n (rooms f.nlm.hosts) s ≡ o → IfSome o (λ r. length r.1.waiters + 1 ≡ length s.waiters) → IfSome o (λ r. IsGood r.1) → length s.waiters ≡ suc fuel
+    → ((g : Fronts) (t : CoreState) → IsGood t → length t.waiters ≡ fuel → IsSettled (settled_for fuel n exports g t).2) → IsSettled (after_turn exports (settled_for fuel n exports) f s o).2
+ends_by fuel n exports f s None is fewer good e rests = none_settled n (rooms f.nlm.hosts) s is
 ends_by fuel n exports f s (Some turn) is fewer good e rests =
     let done = all_shown exports f turn.1 turn.0 in
     rests done.1 done.2 (all_shown_good exports f turn.1 turn.0 good) (omega (arith, fewer, e, told_waiters exports f turn.1 turn.0))
 
-ends_for : (fuel n : ℕ) (exports : Exports) (f : FrontState) (s : CoreState) → IsGood s → length s.waiters ≡ fuel → IsSettled (settled_for fuel n exports f s).2
+ends_for : (fuel n : ℕ) (exports : Exports) (f : Fronts) (s : CoreState) → IsGood s → length s.waiters ≡ fuel → IsSettled (settled_for fuel n exports f s).2
 ends_for zero n exports f s good e = none_waits (λ w. stands_in_the_way s.claims w.asked ≡ true) s.waiters e
 ends_for (suc fuel) n exports f s good e =
-    ends_by fuel n exports f s (settle n (rooms f.hosts) s) refl (turn_fewer n (rooms f.hosts) s good) (settle_good n (rooms f.hosts) s good) e (λ g t h k. ends_for fuel n exports g t h k)
+    ends_by fuel n exports f s (settle n (rooms f.nlm.hosts) s) refl (turn_fewer n (rooms f.nlm.hosts) s good) (settle_good n (rooms f.nlm.hosts) s good) e (λ g t h k. ends_for fuel n exports g t h k)
 
 -- nobody is forgotten
-pub settling_ends : (n : ℕ) (exports : Exports) (f : FrontState) (s : CoreState) → IsGood s → IsSettled (settled n exports f s).2
+pub settling_ends : (n : ℕ) (exports : Exports) (f : Fronts) (s : CoreState) → IsGood s → IsSettled (settled n exports f s).2
 unfolding settled
 settling_ends n exports f s good = ends_for (length s.waiters) n exports f s good refl
 
@@ -78,16 +74,25 @@ pub heard_good : (n : ℕ) (s : Whole) (e : Event) → IsGood s.core → IsGood 
 heard_good n s e good =
     let begun = step_begun s.core in
     let ds = own_and_told n s e in
-    subst (λ (t : CoreState). IsGood t) (sym (heard_does n s e)) (deeds_good n begun ds (begun_good s.core good) (heard_takes n s e))
+    subst (λ (t : CoreState). IsGood t) (sym (heard_does n s e)) (deeds_good n begun ds (begun_good s.core good) (heard_takes n s e (begun_good s.core good)))
 
 -- the core at the end of a step
 left_good : (n : ℕ) (s : Whole) (e : Event) → is_restart e ≡ false → IsGood s.core → IsGood (left_by n s e)
 left_good n s e other good =
-    subst (λ (t : CoreState). IsGood t) (sym (left_is n s e other)) (deeds_good n (step_begun s.core) (deeds n s e) (begun_good s.core good) (deeds_taken n s e other))
+    subst (λ (t : CoreState). IsGood t) (sym (left_is n s e other)) (deeds_good n (step_begun s.core) (deeds n s e) (begun_good s.core good) (deeds_taken n s e other (begun_good s.core good)))
+
+begun_uncached : (s : CoreState) → AreUncached s.claims → AreUncached (step_begun s).claims
+unfolding step_begun
+begun_uncached s none = none
+
+left_uncached : (n : ℕ) (s : Whole) (e : Event) → is_restart e ≡ false → IsFree s → AreUncached (left_by n s e).claims
+left_uncached n s e other free =
+    subst (λ (t : CoreState). AreUncached t.claims) (sym (left_is n s e other))
+    (deeds_uncached n (step_begun s.core) (deeds n s e) (begun_good s.core free.good) (deeds_taken n s e other (begun_good s.core free.good)) (begun_uncached s.core free.uncached))
 
 left_still : (n : ℕ) (s : Whole) (e : Event) → is_restart e ≡ false → IsGood s.core → IsStill (step_begun s.core) (left_by n s e)
 left_still n s e other good =
-    subst (λ (t : CoreState). IsStill (step_begun s.core) t) (sym (left_is n s e other)) (deeds_still n (step_begun s.core) (deeds n s e) (begun_good s.core good) (deeds_taken n s e other))
+    subst (λ (t : CoreState). IsStill (step_begun s.core) t) (sym (left_is n s e other)) (deeds_still n (step_begun s.core) (deeds n s e) (begun_good s.core good) (deeds_taken n s e other (begun_good s.core good)))
 
 -- ---- free moments
 
@@ -99,9 +104,10 @@ begun_settled : (s : CoreState) → IsSettled s → IsSettled (step_begun s)
 unfolding step_begun
 begun_settled s settled = settled
 
-pub free_from : (s : Whole) (connections : List Connection) (front : FrontState) (core : CoreState) → IsGood core → IsSettled core → IsFree (onward s connections front core)
-free_from s connections front core good settled = record {
+pub free_from : (s : Whole) (connections : List Connection) (front : Fronts) (core : CoreState) → IsGood core → AreUncached core.claims → IsSettled core → IsFree (onward s connections front core)
+free_from s connections front core good none settled = record {
   good = begun_good core good;
+  uncached = begun_uncached core none;
   settled = begun_settled core settled;
   made = (begun_still core).0;
   failed = (begun_still core).1;
@@ -110,12 +116,13 @@ free_from s connections front core good settled = record {
 turn_free : (n : ℕ) (s : Whole) (e : Event) (connections : List Connection) → is_restart e ≡ false → IsFree s → IsFree (settled_turn n s connections (heard n s e)).next
 turn_free n s e connections other free =
     free_from s connections (settled n s.exports (heard n s e).1 (heard n s e).2).1 (left_by n s e)
-    (left_good n s e other free.good)
+    (left_good n s e other free.good) (left_uncached n s e other free)
     (settling_ends n s.exports (heard n s e).1 (heard n s e).2 (heard_good n s e free.good))
 
-pub started_free : (s : Whole) (stable : Stable) (clock : Moment) → s.core ≡ started stable clock → IsFree s
-started_free s stable clock e = record {
-  good = subst (λ (t : CoreState). IsGood t) (sym e) (started_good stable clock);
+pub started_free : (s : Whole) (stable : Stable) (clock : Moment) (times : Times) → s.core ≡ started stable clock times → IsFree s
+started_free s stable clock times e = record {
+  good = subst (λ (t : CoreState). IsGood t) (sym e) (started_good stable clock times);
+  uncached = subst (λ (t : CoreState). AreUncached t.claims) (sym e) refl;
   settled = subst (λ (t : CoreState). IsSettled t) (sym e) tt;
   made = ap (λ (t : CoreState). t.made) e;
   failed = ap (λ (t : CoreState). t.failed) e;
@@ -128,10 +135,10 @@ step_free n s (Message number bytes) free = turn_free n s (Message number bytes)
 step_free n s (End number) free = turn_free n s (End number) (connected s.connections s.place (End number)) refl free
 step_free n s (Called call reply) free = turn_free n s (Called call reply) (connected s.connections s.place (Called call reply)) refl free
 step_free n s (Tick moment) free = turn_free n s (Tick moment) (connected s.connections s.place (Tick moment)) refl free
-step_free n s Restart free = started_free (restarted s).next (raised s.core.stable) s.core.clock refl
+step_free n s Restart free = started_free (restarted s).next (raised s.core.stable) s.core.clock (times_of s.exports) refl
 
 pub begin_free : (head : Head) → IsFree (begin head)
-begin_free head = started_free (begin head) (raised head.record) head.start refl
+begin_free head = started_free (begin head) (raised head.record) head.start (times_of head.exports) refl
 
 pub free_always : (s : Whole) (es : List Entry) → IsFree s → AlwaysFree s es
 free_always s [] free = (free, tt)
@@ -159,31 +166,31 @@ next_place n s (Called call reply) = refl
 next_place n s (Tick moment) = refl
 next_place n s Restart = refl
 
--- no event but a restart changes the record or the clock
+-- no event but a restart changes the record
 pub step_still : (n : ℕ) (s : Whole) (e : Event) → is_restart e ≡ false → IsGood s.core → (step n s e).next.core.stable ≡ s.core.stable
 unfolding step_begun
 step_still n s e other good = ap (λ (t : Turn). t.next.core.stable) (step_is n s e other) ∙ (left_still n s e other good).stable
 
 -- ---- as the code acts
 
-pub record IsActed (s : Whole) (e : Event) (outs : List Out) (f : FrontState) (mid : CoreState) (sent : List Out) (g : FrontState) (last : CoreState) : Type 0 where
+pub record IsActed (s : Whole) (e : Event) (outs : List Out) (f : Fronts) (mid : CoreState) (sent : List Out) (g : Fronts) (last : CoreState) : Type 0 where
   pub heard : (n : ℕ) → MayBe n mid → heard n s e ≡ (outs, f, mid)
   pub on : GoesOn mid last
   pub told : (n : ℕ) → MayBe n last → behind outs (settled n s.exports f mid) ≡ (sent, g, last)
 
 -- what was heard, and then settled
-acted_all : (s : Whole) (e : Event) (outs : List Out) (f : FrontState) (mid : CoreState) (sent : List Out) (g : FrontState) (last : CoreState) → IsActed s e outs f mid sent g last → (n : ℕ) → MayBe n last → and_then (settled n s.exports) (heard n s e) ≡ (sent, g, last)
+acted_all : (s : Whole) (e : Event) (outs : List Out) (f : Fronts) (mid : CoreState) (sent : List Out) (g : Fronts) (last : CoreState) → IsActed s e outs f mid sent g last → (n : ℕ) → MayBe n last → and_then (settled n s.exports) (heard n s e) ≡ (sent, g, last)
 acted_all s e outs f mid sent g last acted n may =
     ap (λ (r : Sent). and_then (settled n s.exports) r) (acted.heard n (may_be_before n mid last acted.on may)) ∙ acted.told n may
 
-no_store : (s : Whole) (e : Event) (outs : List Out) (f : FrontState) (mid : CoreState) (sent : List Out) (g : FrontState) (last : CoreState) → is_restart e ≡ false → IsGood s.core → IsActed s e outs f mid sent g last → last.made ≡ 0
+no_store : (s : Whole) (e : Event) (outs : List Out) (f : Fronts) (mid : CoreState) (sent : List Out) (g : Fronts) (last : CoreState) → is_restart e ≡ false → IsGood s.core → IsActed s e outs f mid sent g last → last.made ≡ 0
 no_store s e outs f mid sent g last other good acted =
     ap (λ (r : Sent). r.2.made) (sym (acted_all s e outs f mid sent g last acted last.made (may_be_made last))) ∙ left_none last.made s e other good
 
 may_be_none : (s : CoreState) → s.made ≡ 0 → MayBe 0 s
 may_be_none s e = subst (λ n. MayBe n s) e (may_be_made s)
 
-pub acted_step : (s : Whole) (e : Event) (outs : List Out) (f : FrontState) (mid : CoreState) (sent : List Out) (g : FrontState) (last next : CoreState) (connections : List Connection)
+pub acted_step : (s : Whole) (e : Event) (outs : List Out) (f : Fronts) (mid : CoreState) (sent : List Out) (g : Fronts) (last next : CoreState) (connections : List Connection)
     → is_restart e ≡ false → IsGood s.core → IsActed s e outs f mid sent g last → connections ≡ connected s.connections s.place e → next ≡ step_begun last
     → step 0 s e ≡ record { next = record { exports = s.exports; place = s.place + 1; connections = connections; front = g; core = next }; made = 0; outs = sent }
 acted_step s e outs f mid sent g last next connections other good acted links begun =

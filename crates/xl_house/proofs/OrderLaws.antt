@@ -15,19 +15,25 @@ use Rattle.xl_base.specs.declared.journal.Head.{Head}
 use Rattle.xl_matrix.specs.declared.claim.Claim.{Claim}
 use Rattle.xl_programs.specs.Programs.{RequestItem, IncomingItem, Unanswered, Refused, Asked, incoming_at}
 use Rattle.xl_programs.specs.declared.program.Program.{Program}
-use Rattle.xl_programs.specs.declared.program.Program.TheVariants.{Nlm}
+use Rattle.xl_programs.specs.declared.program.Program.TheVariants.{Nlm, Nfs}
+use Rattle.xl_programs.specs.Sent.{sent_to}
 use Rattle.xl_core.specs.State.{CoreState, step_begun}
 use Rattle.xl_core.specs.Settle.{settle}
+use Rattle.xl_core.specs.Ticks.{tick}
 use Rattle.xl_core.specs.declared.ask.Effect.{Effect}
 use Rattle.xl_front_nlm.specs.Answers.{nlm_called}
-use Rattle.xl_front_nlm.specs.FrontNlm.{call_in, replied, sent_to, nlm_step}
+use Rattle.xl_front_nfs.proofs.DoesLaws as nfs
+use Rattle.xl_front_nfs.specs.FrontNfs.{nfs_step}
+use Rattle.xl_front_nlm.proofs.DoesLaws as nlm
+use Rattle.xl_front_nlm.specs.FrontNlm.{nlm_step}
 use Rattle.xl_front_nlm.specs.Grants.{news, told_by, shown}
 use Rattle.xl_front_nlm.specs.Hosts.{rooms}
 use Rattle.xl_front_nlm.specs.State.{FrontState}
+use Rattle.xl_house.specs.declared.parts.Fronts.{Fronts}
 use Rattle.xl_front_nlm.specs.declared.grant.Grant.{Grant}
 use Rattle.xl_house.proofs.MachineLaws.{next_place}
 use Rattle.xl_house.specs.Journals.{IsLegal, IsOrderly, IsTimely, opened_after}
-use Rattle.xl_house.specs.Machine.{Whole, Sent, begin, with_connection, without, kind_of, framed, all_shown, after_turn, settled_for, settled, program_heard, record_heard, heard_by, heard, connected, settled_turn, step, most_connections}
+use Rattle.xl_house.specs.Machine.{Whole, Sent, begin, with_connection, without, kind_of, framed, showing, all_shown, with_nlm, with_nfs, after_call, ticked, after_turn, settled_for, settled, program_heard, record_heard, heard_by, heard, connected, settled_turn, step, most_connections}
 use Rattle.xl_house.specs.declared.connections.Connection.{Connection}
 
 abbrev numbers : List Connection → List ℕ
@@ -45,28 +51,28 @@ by_news : (before after : List ℕ) (f : FrontState) (s : CoreState) (o : Option
 by_news before after f s None = tt
 by_news before after f s (Some told) = (tt, tt)
 
-shown_timely : (before after : List ℕ) (exports : Exports) (f : FrontState) (s : CoreState) (effect : Effect) → AreTimely before after (map (framed Rpc) (shown exports f s effect).0)
+shown_timely : (before after : List ℕ) (exports : Exports) (f : Fronts) (s : CoreState) (effect : Effect) → AreTimely before after (map (framed Rpc) (showing exports f s effect).0)
 unfolding shown
-shown_timely before after exports f s effect = by_news before after f s (news exports s effect)
+shown_timely before after exports f s effect = by_news before after f.nlm s (news exports s effect)
 
-all_timely : (before after : List ℕ) (exports : Exports) (f : FrontState) (s : CoreState) (effects : List Effect) → AreTimely before after (all_shown exports f s effects).0
+all_timely : (before after : List ℕ) (exports : Exports) (f : Fronts) (s : CoreState) (effects : List Effect) → AreTimely before after (all_shown exports f s effects).0
 all_timely before after exports f s [] = tt
 all_timely before after exports f s (effect ∷ effects) =
-    let r = shown exports f s effect in
+    let r = showing exports f s effect in
     timely_append before after (map (framed Rpc) r.0) (all_shown exports r.1 r.2 effects).0 (shown_timely before after exports f s effect) (all_timely before after exports r.1 r.2 effects)
 
 -- so is what settling sends
-turns_timely : (before after : List ℕ) (exports : Exports) (rest : FrontState → CoreState → Sent) (f : FrontState) (s : CoreState) (o : Option (List Effect × CoreState)) → ((g : FrontState) (t : CoreState) → AreTimely before after (rest g t).0) → AreTimely before after (after_turn exports rest f s o).0
+turns_timely : (before after : List ℕ) (exports : Exports) (rest : Fronts → CoreState → Sent) (f : Fronts) (s : CoreState) (o : Option (List Effect × CoreState)) → ((g : Fronts) (t : CoreState) → AreTimely before after (rest g t).0) → AreTimely before after (after_turn exports rest f s o).0
 turns_timely before after exports rest f s None rests = tt
 turns_timely before after exports rest f s (Some turn) rests =
     let done = all_shown exports f turn.1 turn.0 in
     timely_append before after done.0 (rest done.1 done.2).0 (all_timely before after exports f turn.1 turn.0) (rests done.1 done.2)
 
-settled_for_timely : (fuel n : ℕ) (before after : List ℕ) (exports : Exports) (f : FrontState) (s : CoreState) → AreTimely before after (settled_for fuel n exports f s).0
+settled_for_timely : (fuel n : ℕ) (before after : List ℕ) (exports : Exports) (f : Fronts) (s : CoreState) → AreTimely before after (settled_for fuel n exports f s).0
 settled_for_timely zero n before after exports f s = tt
-settled_for_timely (suc fuel) n before after exports f s = turns_timely before after exports (settled_for fuel n exports) f s (settle n (rooms f.hosts) s) (λ g t. settled_for_timely fuel n before after exports g t)
+settled_for_timely (suc fuel) n before after exports f s = turns_timely before after exports (settled_for fuel n exports) f s (settle n (rooms f.nlm.hosts) s) (λ g t. settled_for_timely fuel n before after exports g t)
 
-settled_timely : (n : ℕ) (before after : List ℕ) (exports : Exports) (f : FrontState) (s : CoreState) → AreTimely before after (settled n exports f s).0
+settled_timely : (n : ℕ) (before after : List ℕ) (exports : Exports) (f : Fronts) (s : CoreState) → AreTimely before after (settled n exports f s).0
 unfolding settled
 settled_timely n before after exports f s = settled_for_timely (length s.waiters) n before after exports f s
 
@@ -82,18 +88,22 @@ found (c ∷ cs) number kind e =
       | inr other ↦ inr (found cs number kind (rw other at e))
     ]
 
-program_timely : (n : ℕ) (opened : List ℕ) (exports : Exports) (f : FrontState) (s : CoreState) (number : ℕ) (r : RequestItem) (program : Program) → IsIn number opened → AreTimely opened opened (program_heard n exports f s number r program).0
-unfolding nlm_step
+program_timely : (n : ℕ) (opened : List ℕ) (exports : Exports) (f : Fronts) (s : CoreState) (number : ℕ) (r : RequestItem) (program : Program) → IsIn number opened → AreTimely opened opened (program_heard n exports f s number r program).0
 program_timely n opened exports f s number r Nlm there =
-    let x = replied n (length exports.files) f s r.xid (call_in r) in
-    timely_append opened opened (all_shown exports x.2 x.3 x.1).0 (map (framed Rpc) (sent_to number x.0)) (all_timely opened opened exports x.2 x.3 x.1) ((there, there), tt)
+    let x = with_nlm f (nlm_step n exports f.nlm s number r) in
+    timely_append opened opened (all_shown exports x.2 x.3 x.1).0 (map (framed Rpc) x.0) (all_timely opened opened exports x.2 x.3 x.1)
+    (subst (λ (outs : List Out). AreTimely opened opened (map (framed Rpc) outs)) (sym (nlm.step_replies n exports f.nlm s number r)) ((there, there), tt))
+program_timely n opened exports f s number r Nfs there =
+    let x = with_nfs f (nfs_step n exports f.nfs s number r) in
+    timely_append opened opened (all_shown exports x.2 x.3 x.1).0 (map (framed Rpc) x.0) (all_timely opened opened exports x.2 x.3 x.1)
+    (subst (λ (outs : List Out). AreTimely opened opened (map (framed Rpc) outs)) (sym (nfs.request_replies n exports f.nfs s number r)) ((there, there), tt))
 
-record_timely : (n : ℕ) (opened : List ℕ) (exports : Exports) (f : FrontState) (s : CoreState) (number : ℕ) (incoming : IncomingItem) → IsIn number opened → AreTimely opened opened (record_heard n exports f s number incoming).0
+record_timely : (n : ℕ) (opened : List ℕ) (exports : Exports) (f : Fronts) (s : CoreState) (number : ℕ) (incoming : IncomingItem) → IsIn number opened → AreTimely opened opened (record_heard n exports f s number incoming).0
 record_timely n opened exports f s number Unanswered there = tt
 record_timely n opened exports f s number (Refused xid verdict) there = ((there, there), tt)
 record_timely n opened exports f s number (Asked r) there = program_timely n opened exports f s number r r.program there
 
-by_timely : (n : ℕ) (exports : Exports) (f : FrontState) (s : CoreState) (cs : List Connection) (number : ℕ) (bytes : List ℕ) (kind : Option Kind) → kind_of cs number ≡ kind → AreTimely (numbers cs) (numbers cs) (heard_by n exports f s kind number bytes).0
+by_timely : (n : ℕ) (exports : Exports) (f : Fronts) (s : CoreState) (cs : List Connection) (number : ℕ) (bytes : List ℕ) (kind : Option Kind) → kind_of cs number ≡ kind → AreTimely (numbers cs) (numbers cs) (heard_by n exports f s kind number bytes).0
 by_timely n exports f s cs number bytes None e = tt
 by_timely n exports f s cs number bytes (Some Smb) e = tt
 by_timely n exports f s cs number bytes (Some Rpc) e = record_timely n (numbers cs) exports f s number (incoming_at bytes) (found cs number Rpc e)
@@ -103,8 +113,8 @@ unfolding heard
 heard_timely n s (Open kind) = tt
 heard_timely n s (Message number bytes) = by_timely n s.exports s.front (step_begun s.core) s.connections number bytes (kind_of s.connections number) refl
 heard_timely n s (End number) = tt
-heard_timely n s (Called call reply) = let r = nlm_called n s.front (step_begun s.core) call reply in all_timely (numbers s.connections) (numbers s.connections) s.exports r.1 r.2 r.0
-heard_timely n s (Tick moment) = tt
+heard_timely n s (Called call reply) = let r = after_call s.front (nlm_called n s.front.nlm (step_begun s.core) call reply) in all_timely (numbers s.connections) (numbers s.connections) s.exports r.1 r.2 r.0
+heard_timely n s (Tick moment) = let r = tick (step_begun s.core) moment in all_timely (numbers s.connections) (numbers s.connections) s.exports (ticked s.front r.1.clock) r.1 r.0
 heard_timely n s Restart = tt
 
 turn_timely : (n : ℕ) (s : Whole) (e : Event) → (let opened = numbers s.connections in AreTimely opened (opened_after opened s.place e) (settled_turn n s (connected s.connections s.place e) (heard n s e)).outs)

@@ -1,4 +1,4 @@
--- Telling of effects gives out numbers, and changes nothing else of the core, and no host.
+-- Telling of effects gives out numbers, and changes nothing else of the core.
 use Rattle.std.proofs.Common.{◌≡◌, ℕ, ◌+◌, ◌<◌, ◌≤◌, Bool, true, false, if◌then◌else◌, inl, inr, Option, Some, None, List, [], ◌∷◌, ◌++◌, length, map, refl, sym, ap, subst, ◌∙◌, arith, append_assoc, drop}
 use Rattle.std.proofs.Math.ListN.{get_or}
 use Rattle.std.proofs.lemmas.List.{drop_more}
@@ -16,8 +16,9 @@ use Rattle.xl_core.specs.declared.ask.Effect.TheVariants.{Begun, Served, Cancell
 use Rattle.xl_core.proofs.GoodLaws.{drawn_good}
 use Rattle.xl_front_nlm.specs.Grants.{news, told_by, shown}
 use Rattle.xl_front_nlm.specs.State.{FrontState}
+use Rattle.xl_house.specs.declared.parts.Fronts.{Fronts}
 use Rattle.xl_front_nlm.specs.declared.grant.Grant.{Grant}
-use Rattle.xl_house.specs.Machine.{Sent, is_grant, grants, behind, and_then, in_frames, framed, all_shown}
+use Rattle.xl_house.specs.Machine.{Sent, is_grant, grants, behind, and_then, in_frames, framed, showing, all_shown}
 use Rattle.xl_names.specs.declared.name.Name.{Name}
 use Rattle.xl_front_nlm.specs.Short.{AreShort}
 use Rattle.xl_house.specs.Shown.{IsShown, IsReadyFor, LeavesBy}
@@ -39,17 +40,17 @@ shown_less p q s t h is = record { rises = is.rises; most = omega (arith, h, is.
 
 -- ---- one effect
 
--- what holds of the front and the core before, and once a number is given out, holds after an effect is shown
-abbrev Holds : (FrontState → CoreState → Type 0) → FrontState → CoreState → Type 0
-Holds P f s = P f s × ((g : FrontState) → g.hosts ≡ f.hosts → P g (drawn s))
+-- what holds of the core before, and once a number is given out, holds after an effect is shown
+abbrev Holds : (CoreState → Type 0) → CoreState → Type 0
+Holds P s = P s × P (drawn s)
 
-by_news : (P : FrontState → CoreState → Type 0) (f : FrontState) (s : CoreState) (o : Option (Claim × Grant × List ℕ)) → Holds P f s → (let r = told_by f s o in P r.1 r.2)
+by_news : (P : CoreState → Type 0) (f : FrontState) (s : CoreState) (o : Option (Claim × Grant × List ℕ)) → Holds P s → P (told_by f s o).2
 by_news P f s None holds = holds.0
-by_news P f s (Some told) holds = holds.1 _ refl
+by_news P f s (Some told) holds = holds.1
 
-shown_holds : (P : FrontState → CoreState → Type 0) (exports : Exports) (f : FrontState) (s : CoreState) (effect : Effect) → Holds P f s → (let r = shown exports f s effect in P r.1 r.2)
+shown_holds : (P : CoreState → Type 0) (exports : Exports) (f : Fronts) (s : CoreState) (effect : Effect) → Holds P s → P (showing exports f s effect).2
 unfolding shown
-shown_holds P exports f s effect holds = by_news P f s (news exports s effect) holds
+shown_holds P exports f s effect holds = by_news P f.nlm s (news exports s effect) holds
 
 -- an effect that tells of no grant shows nothing
 no_news : (exports : Exports) (s : CoreState) (effect : Effect) → is_grant effect ≡ false → news exports s effect ≡ None
@@ -67,19 +68,19 @@ no_news exports s (Begun c to number) h = refl
 no_news exports s (Cancelled id) h = refl
 no_news exports s (Expired id) h = refl
 
-quiet_shown : (exports : Exports) (f : FrontState) (s : CoreState) (effect : Effect) → is_grant effect ≡ false → shown exports f s effect ≡ ([], f, s)
+quiet_shown : (exports : Exports) (f : Fronts) (s : CoreState) (effect : Effect) → is_grant effect ≡ false → (showing exports f s effect).2 ≡ s
 unfolding shown
-quiet_shown exports f s effect h = ap (λ (o : Option (Claim × Grant × List ℕ)). told_by f s o) (no_news exports s effect h)
+quiet_shown exports f s effect h = ap (λ (o : Option (Claim × Grant × List ℕ)). (told_by f.nlm s o).2) (no_news exports s effect h)
 
 drawn_shown : (s : CoreState) → IsShown 1 s (drawn s)
 unfolding drawn
 drawn_shown s = record { rises = omega arith; most = omega arith; parts = refl }
 
-shown_one : (exports : Exports) (f : FrontState) (s : CoreState) (effect : Effect) → IsShown 1 s (shown exports f s effect).2
-shown_one exports f s effect = shown_holds (λ g t. IsShown 1 s t) exports f s effect (shown_less 0 1 s s (omega arith) (shown_self s), λ g same. drawn_shown s)
+shown_one : (exports : Exports) (f : Fronts) (s : CoreState) (effect : Effect) → IsShown 1 s (showing exports f s effect).2
+shown_one exports f s effect = shown_holds (λ t. IsShown 1 s t) exports f s effect (shown_less 0 1 s s (omega arith) (shown_self s), drawn_shown s)
 
-shown_good : (exports : Exports) (f : FrontState) (s : CoreState) (effect : Effect) → IsGood s → IsGood (shown exports f s effect).2
-shown_good exports f s effect good = shown_holds (λ g t. IsGood t) exports f s effect (good, λ g same. drawn_good s good)
+shown_good : (exports : Exports) (f : Fronts) (s : CoreState) (effect : Effect) → IsGood s → IsGood (showing exports f s effect).2
+shown_good exports f s effect good = shown_holds (λ t. IsGood t) exports f s effect (good, drawn_good s good)
 
 -- ---- effects in order
 
@@ -90,30 +91,30 @@ one_more : (b : Bool) (n : ℕ) → (if b then n + 1 else n) ≡ number_of b + n
 one_more true n = omega arith
 one_more false n = omega arith
 
-shown_most : (exports : Exports) (f : FrontState) (s : CoreState) (effect : Effect) → IsShown (number_of (is_grant effect)) s (shown exports f s effect).2
+shown_most : (exports : Exports) (f : Fronts) (s : CoreState) (effect : Effect) → IsShown (number_of (is_grant effect)) s (showing exports f s effect).2
 shown_most exports f s effect =
     elim (cases_Bool (is_grant effect)) [
       | inl grant ↦ rw grant (shown_one exports f s effect)
-      | inr quiet ↦ rw (quiet, quiet_shown exports f s effect quiet) (shown_self s)
+      | inr quiet ↦ rw quiet (subst (λ (t : CoreState). IsShown 0 s t) (sym (quiet_shown exports f s effect quiet)) (shown_self s))
     ]
 
-pub all_shown_is : (exports : Exports) (f : FrontState) (s : CoreState) (effects : List Effect) → IsShown (grants effects) s (all_shown exports f s effects).2
+pub all_shown_is : (exports : Exports) (f : Fronts) (s : CoreState) (effects : List Effect) → IsShown (grants effects) s (all_shown exports f s effects).2
 all_shown_is exports f s [] = shown_self s
 all_shown_is exports f s (effect ∷ effects) =
-    let r = shown exports f s effect in
+    let r = showing exports f s effect in
     subst (λ (n : ℕ). IsShown n s (all_shown exports r.1 r.2 effects).2) (sym (one_more (is_grant effect) (grants effects)))
     (shown_on (number_of (is_grant effect)) (grants effects) s r.2 (all_shown exports r.1 r.2 effects).2 (shown_most exports f s effect) (all_shown_is exports r.1 r.2 effects))
 
-pub all_shown_good : (exports : Exports) (f : FrontState) (s : CoreState) (effects : List Effect) → IsGood s → IsGood (all_shown exports f s effects).2
+pub all_shown_good : (exports : Exports) (f : Fronts) (s : CoreState) (effects : List Effect) → IsGood s → IsGood (all_shown exports f s effects).2
 all_shown_good exports f s [] good = good
-all_shown_good exports f s (effect ∷ effects) good = let r = shown exports f s effect in all_shown_good exports r.1 r.2 effects (shown_good exports f s effect good)
+all_shown_good exports f s (effect ∷ effects) good = let r = showing exports f s effect in all_shown_good exports r.1 r.2 effects (shown_good exports f s effect good)
 
 -- ---- as the code tells it
 
-pub all_is_shown : (exports : Exports) (f g : FrontState) (s t : CoreState) (effects : List Effect) (old outs : List Out) → behind old (all_shown exports f s effects) ≡ (outs, g, t) → IsShown (grants effects) s t
+pub all_is_shown : (exports : Exports) (f g : Fronts) (s t : CoreState) (effects : List Effect) (old outs : List Out) → behind old (all_shown exports f s effects) ≡ (outs, g, t) → IsShown (grants effects) s t
 all_is_shown exports f g s t effects old outs e = subst (λ (x : CoreState). IsShown (grants effects) s x) (ap (λ (r : Sent). r.2) e) (all_shown_is exports f s effects)
 
-pub all_leaves : (exports : Exports) (f g : FrontState) (s t : CoreState) (effects : List Effect) (old outs : List Out) → behind old (all_shown exports f s effects) ≡ (outs, g, t) → IsReadyFor (grants effects) s → LeavesBy (grants effects) s t
+pub all_leaves : (exports : Exports) (f g : Fronts) (s t : CoreState) (effects : List Effect) (old outs : List Out) → behind old (all_shown exports f s effects) ≡ (outs, g, t) → IsReadyFor (grants effects) s → LeavesBy (grants effects) s t
 all_leaves exports f g s t effects old outs e ready =
     let is = all_is_shown exports f g s t effects old outs e in
     record {
@@ -127,7 +128,7 @@ all_leaves exports f g s t effects old outs e ready =
     }
 
 -- one more effect of those that are left
-pub show_next : (exports : Exports) (f g : FrontState) (s t : CoreState) (effects : List Effect) (i : ℕ) (effect : Effect) (sent outs new : List Out) → i < length effects → effect ≡ get_or effects i effect → shown exports f s effect ≡ (sent, g, t) → new ≡ outs ++ map (framed Rpc) sent
+pub show_next : (exports : Exports) (f g : Fronts) (s t : CoreState) (effects : List Effect) (i : ℕ) (effect : Effect) (sent outs new : List Out) → i < length effects → effect ≡ get_or effects i effect → showing exports f s effect ≡ (sent, g, t) → new ≡ outs ++ map (framed Rpc) sent
     → (behind new (all_shown exports g t (drop (i + 1) effects)) ≡ behind outs (all_shown exports f s (drop i effects))) × (t.counter + grants (drop (i + 1) effects) ≤ s.counter + grants (drop i effects))
 show_next exports f g s t effects i effect sent outs new there at is joined =
     let rest = drop (i + 1) effects in

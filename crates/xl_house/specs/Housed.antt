@@ -1,5 +1,5 @@
 -- A house as its callers see it.
-use Rattle.std.specs.Prelude.{◌≡◌, ◌+◌, ◌≤◌, Bool, true, false, List, length, Option, Some, option_map}
+use Rattle.std.specs.Prelude.{◌≡◌, ◌+◌, ◌*◌, ◌≤◌, Bool, true, false, List, length, Option, Some, option_map}
 use Rattle.xl_base.specs.Stable.{Stable}
 use Rattle.xl_base.specs.declared.halt.Halt.{Halt}
 use Rattle.xl_base.specs.declared.halt.Halt.TheVariants.{NoMemory}
@@ -26,11 +26,11 @@ is_spoiled _ = false
 abbrev pub Holds : Option Stable → Stable → Type 0
 Holds held stable = held ≡ option_map (λ _. stable) held
 
--- The state is the one that the entries lead to, at its place and a free moment. Each entry gives out two numbers at most,
--- one to a waiter and one to the call that tells of its grant; and the names fit the messages that tell them.
+-- The state is the one that the entries lead to, at its place and a free moment. Each entry gives out 128 numbers at most,
+-- those to a waiter that comes, and to calls that tell of grants, among them; and the names fit the messages that tell them.
 pub record Stands (start : Whole) (es : List Entry) (s : Whole) : Type 0 where
   pub replayed : s ≡ replay start es
   pub place : s.place ≡ length es
   pub free : IsFree s
-  pub counter : s.core.counter + length s.core.waiters ≤ length es + length es
+  pub counter : s.core.counter + length s.core.waiters ≤ 128 * length es
   pub short : AreShort s.core.names

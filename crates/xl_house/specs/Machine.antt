@@ -4,8 +4,9 @@ use Rattle.xl_base.specs.Stable.{raised}
 use Rattle.xl_base.specs.declared.event.Dest.{Dest}
 use Rattle.xl_base.specs.declared.event.Dest.TheVariants.{Conn, Back}
 use Rattle.xl_base.specs.declared.event.Event.{Event}
-use Rattle.xl_base.specs.declared.event.Event.TheVariants.{Open, Message, End, Called, Restart}
+use Rattle.xl_base.specs.declared.event.Event.TheVariants.{Open, Message, End, Called, Tick, Restart}
 use Rattle.xl_base.specs.declared.event.Kind.{Kind}
+use Rattle.xl_base.specs.declared.event.Moment.{Moment}
 use Rattle.xl_base.specs.declared.event.Kind.TheVariants.{Rpc, Smb}
 use Rattle.xl_base.specs.declared.event.Out.{Out}
 use Rattle.xl_base.specs.declared.journal.Exports.{Exports}
@@ -13,32 +14,46 @@ use Rattle.xl_base.specs.declared.journal.Head.{Head}
 use Rattle.xl_frame.specs.Frames.{wrapped}
 use Rattle.xl_programs.specs.Programs.{RequestItem, IncomingItem, Unanswered, Refused, Asked, incoming_at}
 use Rattle.xl_programs.specs.declared.program.Program.{Program}
-use Rattle.xl_programs.specs.declared.program.Program.TheVariants.{Nlm}
+use Rattle.xl_programs.specs.declared.program.Program.TheVariants.{Nlm, Nfs}
+use Rattle.xl_programs.specs.Sent.{sent_to}
 use Rattle.xl_rpc.specs.Replies.{reply}
 use Rattle.xl_core.specs.State.{CoreState, started, step_begun}
 use Rattle.xl_core.specs.Settle.{settle}
+use Rattle.xl_core.specs.Ticks.{tick}
+use Rattle.xl_core.specs.declared.lease.Times.{Times}
 use Rattle.xl_core.specs.declared.ask.Answer.TheVariants.{Granted}
 use Rattle.xl_core.specs.declared.ask.Effect.{Effect}
 use Rattle.xl_core.specs.declared.ask.Effect.TheVariants.{Served}
 use Rattle.xl_front_nlm.specs.Hosts.{rooms}
 use Rattle.xl_front_nlm.specs.Answers.{nlm_called}
-use Rattle.xl_front_nlm.specs.FrontNlm.{sent_to, nlm_step}
+use Rattle.xl_front_nlm.specs.FrontNlm.{nlm_step}
 use Rattle.xl_front_nlm.specs.Grants.{shown}
+use Rattle.xl_front_nfs.specs.FrontNfs.{nfs_step}
+use Rattle.xl_front_nfs.specs.State.{FrontNfs, empty_nfs_front, nfs_tick, nfs_shown}
 use Rattle.xl_front_nlm.specs.State.{FrontState, empty_front}
+use Rattle.xl_house.specs.declared.parts.Fronts.{Fronts}
 use Rattle.xl_house.specs.declared.connections.Connection.{Connection}
 
--- the state between two events: what is exported, the place of the next event, the open connections, the NLM front, and
--- the core
+-- the state between two events: what is exported, the place of the next event, the open connections, the fronts, and the
+-- core
 pub record Whole : Type 0 where
   pub exports : Exports
   pub place : ℕ
   pub connections : List Connection
-  pub front : FrontState
+  pub front : Fronts
   pub core : CoreState
+
+-- how long leases, grace and breaks last
+abbrev pub times_of : Exports → Times
+times_of exports = record { lease = exports.lease; grace = exports.grace; break_time = exports.break_time }
+
+-- the fronts at a start
+abbrev pub no_fronts : Fronts
+no_fronts = record { nlm = empty_front; nfs = empty_nfs_front }
 
 -- the state after a first start: nothing is held, and the record is the loaded one with its epoch raised
 abbrev pub begin : Head → Whole
-begin head = record { exports = head.exports; place = 0; connections = []; front = empty_front; core = started (raised head.record) head.start }
+begin head = record { exports = head.exports; place = 0; connections = []; front = no_fronts; core = started (raised head.record) head.start (times_of head.exports) }
 
 -- what an event gives: the next state, how many stores were made, and what was sent
 pub record Turn : Type 0 where
@@ -74,10 +89,10 @@ framed_by kind o (Back call) = o
 abbrev pub framed : Kind → Out → Out
 framed kind o = framed_by kind o o.dest
 
--- ---- what is sent, and the front and the core afterwards
+-- ---- what is sent, and the fronts and the core afterwards
 
 abbrev pub Sent : Type 0
-Sent = List Out × FrontState × CoreState
+Sent = List Out × Fronts × CoreState
 
 -- these come first
 abbrev pub behind : List Out → Sent → Sent
@@ -87,10 +102,17 @@ behind outs rest = (outs ++ rest.0, rest.1, rest.2)
 abbrev pub before : Sent → List Out → Sent
 before done outs = (done.0 ++ outs, done.1, done.2)
 
-abbrev pub and_then : (FrontState → CoreState → Sent) → Sent → Sent
+abbrev pub and_then : (Fronts → CoreState → Sent) → Sent → Sent
 and_then rest done = behind done.0 (rest done.1 done.2)
 
--- what the NLM front sends, in its frames
+-- both fronts hear of an effect; that of NLM may tell of it
+abbrev pub with_news : Fronts → Effect → List Out × FrontState × CoreState → List Out × Fronts × CoreState
+with_news f effect r = (r.0, record { nlm = r.1; nfs = nfs_shown f.nfs effect }, r.2)
+
+abbrev pub showing : Exports → Fronts → CoreState → Effect → List Out × Fronts × CoreState
+showing exports f s effect = with_news f effect (shown exports f.nlm s effect)
+
+-- what the fronts of ONC RPC send, in its frames
 abbrev pub in_frames : Sent → Sent
 in_frames done = (map (framed Rpc) done.0, done.1, done.2)
 
@@ -103,57 +125,76 @@ abbrev pub grants : List Effect → ℕ
 grants [] = 0
 grants (effect ∷ effects) = if is_grant effect then grants effects + 1 else grants effects
 
--- what the NLM front sends for these effects, in order
-abbrev pub all_shown : Exports → FrontState → CoreState → List Effect → Sent
+-- what the fronts send for these effects, in order
+abbrev pub all_shown : Exports → Fronts → CoreState → List Effect → Sent
 all_shown exports f s [] = ([], f, s)
-all_shown exports f s (effect ∷ effects) = and_then (λ g t. all_shown exports g t effects) (in_frames (shown exports f s effect))
+all_shown exports f s (effect ∷ effects) = and_then (λ g t. all_shown exports g t effects) (in_frames (showing exports f s effect))
 
 -- ---- settling
 
 -- what a turn sends, and then the rest
-abbrev pub after_turn : Exports → (FrontState → CoreState → Sent) → FrontState → CoreState → Option (List Effect × CoreState) → Sent
+abbrev pub after_turn : Exports → (Fronts → CoreState → Sent) → Fronts → CoreState → Option (List Effect × CoreState) → Sent
 after_turn exports rest f s None = ([], f, s)
 after_turn exports rest f s (Some turn) = and_then rest (all_shown exports f turn.1 turn.0)
 
 -- turns until no waiter has one, at most so many
-abbrev pub settled_for : ℕ → ℕ → Exports → FrontState → CoreState → Sent
+abbrev pub settled_for : ℕ → ℕ → Exports → Fronts → CoreState → Sent
 settled_for zero n exports f s = ([], f, s)
-settled_for (suc fuel) n exports f s = after_turn exports (settled_for fuel n exports) f s (settle n (rooms f.hosts) s)
+settled_for (suc fuel) n exports f s = after_turn exports (settled_for fuel n exports) f s (settle n (rooms f.nlm.hosts) s)
 
 -- turns until no waiter has one; each takes a waiter out
-unfoldable pub settled : ℕ → Exports → FrontState → CoreState → Sent
+unfoldable pub settled : ℕ → Exports → Fronts → CoreState → Sent
 settled n exports f s = settled_for (length s.waiters) n exports f s
 
 -- ---- an event
 
--- what a front gave for a message: what it shows for the effects comes before the reply
-abbrev pub front_done : Exports → List Out × List Effect × FrontState × CoreState → Sent
+-- what each front gave, with the other as it is
+abbrev pub with_nlm : Fronts → List Out × List Effect × FrontState × CoreState → List Out × List Effect × Fronts × CoreState
+with_nlm f r = (r.0, r.1, record { nlm = r.2; nfs = f.nfs }, r.3)
+
+abbrev pub with_nfs : Fronts → List Out × List Effect × FrontNfs × CoreState → List Out × List Effect × Fronts × CoreState
+with_nfs f r = (r.0, r.1, record { nlm = f.nlm; nfs = r.2 }, r.3)
+
+abbrev pub after_call : Fronts → List Effect × FrontState × CoreState → List Effect × Fronts × CoreState
+after_call f r = (r.0, record { nlm = r.1; nfs = f.nfs }, r.2)
+
+-- what a front gave for a message: what the fronts show for the effects comes before the reply
+abbrev pub front_done : Exports → List Out × List Effect × Fronts × CoreState → Sent
 front_done exports r = before (all_shown exports r.2 r.3 r.1) (map (framed Rpc) r.0)
 
 -- what a request of a program that is served gives
-abbrev pub program_heard : ℕ → Exports → FrontState → CoreState → ℕ → RequestItem → Program → Sent
-program_heard n exports f s number r Nlm = front_done exports (nlm_step n exports f s number r)
+abbrev pub program_heard : ℕ → Exports → Fronts → CoreState → ℕ → RequestItem → Program → Sent
+program_heard n exports f s number r Nlm = front_done exports (with_nlm f (nlm_step n exports f.nlm s number r))
+program_heard n exports f s number r Nfs = front_done exports (with_nfs f (nfs_step n exports f.nfs s number r))
 
 -- what a record of ONC RPC gives
-abbrev pub record_heard : ℕ → Exports → FrontState → CoreState → ℕ → IncomingItem → Sent
+abbrev pub record_heard : ℕ → Exports → Fronts → CoreState → ℕ → IncomingItem → Sent
 record_heard n exports f s number Unanswered = ([], f, s)
 record_heard n exports f s number (Refused xid verdict) = (map (framed Rpc) (sent_to number (reply xid verdict)), f, s)
 record_heard n exports f s number (Asked r) = program_heard n exports f s number r r.program
 
 -- what a message from a connection of this kind gives; only ONC RPC is served
-abbrev pub heard_by : ℕ → Exports → FrontState → CoreState → Option Kind → ℕ → List ℕ → Sent
+abbrev pub heard_by : ℕ → Exports → Fronts → CoreState → Option Kind → ℕ → List ℕ → Sent
 heard_by n exports f s (Some Rpc) number bytes = record_heard n exports f s number (incoming_at bytes)
 heard_by n exports f s (Some Smb) number bytes = ([], f, s)
 heard_by n exports f s None number bytes = ([], f, s)
 
 -- what the end of a call of the server's gives
-abbrev pub called_done : Exports → List Effect × FrontState × CoreState → Sent
+abbrev pub called_done : Exports → List Effect × Fronts × CoreState → Sent
 called_done exports r = all_shown exports r.1 r.2 r.0
+
+-- what a reading of the clock gives: unconfirmed clients whose time has come are forgotten
+abbrev pub ticked : Fronts → Moment → Fronts
+ticked f now = record { nlm = f.nlm; nfs = nfs_tick f.nfs now }
+
+abbrev pub ticked_done : Exports → Fronts → List Effect × CoreState → Sent
+ticked_done exports f r = all_shown exports (ticked f r.1.clock) r.1 r.0
 
 -- what an event gives before the table is settled
 unfoldable pub heard : ℕ → Whole → Event → Sent
 heard n s (Message number bytes) = heard_by n s.exports s.front (step_begun s.core) (kind_of s.connections number) number bytes
-heard n s (Called call reply) = called_done s.exports (nlm_called n s.front (step_begun s.core) call reply)
+heard n s (Called call reply) = called_done s.exports (after_call s.front (nlm_called n s.front.nlm (step_begun s.core) call reply))
+heard n s (Tick now) = ticked_done s.exports s.front (tick (step_begun s.core) now)
 heard n s _ = ([], s.front, step_begun s.core)
 
 -- the connections after the event at this place
@@ -163,7 +204,7 @@ connected connections place (End number) = without connections number
 connected connections place _ = connections
 
 -- the state with these, at the next place; at a free moment the core has made no store
-abbrev pub onward : Whole → List Connection → FrontState → CoreState → Whole
+abbrev pub onward : Whole → List Connection → Fronts → CoreState → Whole
 onward s connections front core = record { exports = s.exports; place = s.place + 1; connections = connections; front = front; core = step_begun core }
 
 abbrev pub turn_of : Whole → List Connection → Sent → Turn
@@ -176,7 +217,7 @@ settled_turn n s connections done = turn_of s connections (and_then (settled n s
 -- A restart begins anew from the record with its epoch raised, which is stored. The clock goes on, and so do the places.
 abbrev pub restarted : Whole → Turn
 restarted s = record {
-  next = record { exports = s.exports; place = s.place + 1; connections = []; front = empty_front; core = started (raised s.core.stable) s.core.clock };
+  next = record { exports = s.exports; place = s.place + 1; connections = []; front = no_fronts; core = started (raised s.core.stable) s.core.clock (times_of s.exports) };
   made = 1;
   outs = [];
 }

@@ -14,6 +14,6 @@ no_record = record { epoch = 0; names = [] }
 abbrev pub IsLoaded : Option Stable → Stable → Type 0
 IsLoaded held loaded = Holds held loaded ⊎ (loaded ≡ no_record)
 
--- nothing was given, or just the loaded record with its epoch raised
-abbrev pub IsGiven : Stable → Option (List Stable) → Option (List Stable) → Type 0
-IsGiven loaded old new = (new ≡ old) ⊎ (new ≡ given_at_start loaded old)
+-- nothing was given; or the record that the keeper held was loaded, and just that was given with its epoch raised
+abbrev pub IsGiven : Option Stable → Stable → Option (List Stable) → Option (List Stable) → Type 0
+IsGiven held loaded old new = (new ≡ old) ⊎ (Holds held loaded × (new ≡ given_at_start loaded old))

@@ -1,26 +1,38 @@
 //! The house: the machine with its journal.
-ghost use Rattle.std.specs.Prelude.{◌≡◌, ℕ, ◌+◌, ◌<◌, ◌≤◌, ◌^◌, [], ◌∷◌, ◌++◌, length, drop, true, false, Ok, Err, Some, None, OnOk, OnErr, IfOk, IfErr, IfSome, ◌↔◌};
+ghost use Rattle.std.specs.Prelude.{◌≡◌, ℕ, ◌+◌, ◌*◌, ◌<◌, ◌≤◌, ◌^◌, [], ◌∷◌, ◌++◌, length, drop, true, false, Ok, Err, Some, None, OnOk, OnErr, IfOk, IfErr, IfSome, ◌↔◌};
 ghost use Rattle.xl_base.specs.Stable.{raised};
 ghost use Rattle.xl_front_nlm.specs.Short.{AreShort};
 ghost use Rattle.xl_house.specs.Free.{IsFree, AlwaysFree};
 ghost use Rattle.xl_house.specs.Housed.{Housed, is_spoiled, Holds, Stands};
 ghost use Rattle.xl_house.specs.Journals.{replay, IsLegal, IsOrderly, entry, is_restart};
 ghost use Rattle.xl_house.specs.Lawful.{Always, IsLawful, IsWaiting, IsComplete, IsCaused, IsTold};
-ghost use Rattle.xl_house.specs.Machine.{begin, step};
+ghost use Rattle.xl_house.specs.Machine.{times_of, begin, step};
 ghost use Rattle.xl_house.specs.Whole.{whole_of};
 
 use crate::machine::{Machine, act};
-use crate::parts::Parts;
+use crate::parts::{Fronts, Parts};
 use std::alloc::{AllocError, Global};
 use std::marker::Model;
 use xl_base::{Entry, Event, Exports, Halt, Head, Journal, Keeper, Record, Sequence};
-use xl_core::Core;
+use xl_core::{Core, Times};
+use xl_front_nfs::NfsFront;
 use xl_front_nlm::Front;
 use xl_matrix::Claim;
 use xl_names::Names;
 
 /// The most entries of a journal.
 pub const MOST_ENTRIES: usize = 1_048_576;
+
+/// How long leases, grace and breaks last.
+fn times_of(exports: &Exports) -> Times
+    ensures { result ≡ times_of exports.now }
+{
+    Times {
+        lease: exports.lease,
+        grace: exports.grace,
+        break_time: exports.break_time,
+    }
+}
 
 /// The machine with its journal, and the keeper of its record. Each step is one entry. A step that finds no memory, or
 /// a full journal, halts the house for good.
@@ -64,13 +76,13 @@ fn act_and_enter<K: Keeper>(
     requires place { machine.old.place ≡ length entries.old }
     requires few { length entries.old ≤ 1048576 }
     requires free { IsFree (whole_of exports.now machine.old) }
-    requires counter { machine.old.parts.core.counter + length machine.old.parts.core.waiters ≤ length entries.old + length entries.old }
+    requires counter { machine.old.parts.core.counter + length machine.old.parts.core.waiters ≤ 128 * length entries.old }
     requires short { AreShort machine.old.parts.core.names }
     requires goes_on { is_restart event ≡ false }
     ensures place { IfOk result (λ place. place ≡ length entries.old) }
     ensures few { length entries.new ≤ 1048576 }
     ensures short { OnOk result (AreShort machine.new.parts.core.names) }
-    ensures counter { OnOk result (machine.new.parts.core.counter + length machine.new.parts.core.waiters ≤ machine.old.parts.core.counter + length machine.old.parts.core.waiters + 2) }
+    ensures counter { OnOk result (machine.new.parts.core.counter + length machine.new.parts.core.waiters ≤ machine.old.parts.core.counter + length machine.old.parts.core.waiters + 128) }
     ensures entered { OnOk result (entries.new ≡ entries.old ++ entry 0 (whole_of exports.now machine.old) event ∷ []) }
     ensures next { OnOk result (whole_of exports.now machine.new ≡ (step 0 (whole_of exports.now machine.old) event).next) }
     ensures err { OnErr result (entries.new ≡ entries.old) }
@@ -104,7 +116,7 @@ impl<K: Keeper> House<K> {
         requires holds { Holds (K.held keeper) stable }
         ensures { result ≡ record { head = head; entries = []; halt = None; keeper = keeper } }
     {
-        let core = Core::new(alloc, stable, head.start);
+        let core = Core::new(alloc, stable, head.start, times_of(&head.exports));
         House {
             head,
             entries: Sequence::new(alloc),
@@ -112,7 +124,10 @@ impl<K: Keeper> House<K> {
                 place: 0,
                 connections: Vec::new(alloc),
                 parts: Parts {
-                    front: Front::new(alloc),
+                    front: Fronts {
+                        nlm: Front::new(alloc),
+                        nfs: NfsFront::new(alloc),
+                    },
                     core,
                 },
             },

@@ -12,6 +12,7 @@ ghost use Rattle.xl_core.specs.Smallest.{all_room, smallest_lock};
 ghost use Rattle.xl_core.specs.State.{started};
 ghost use Rattle.xl_core.specs.declared.ask.Act.{Act};
 ghost use Rattle.xl_core.specs.declared.ask.Ask.{Ask};
+ghost use Rattle.xl_core.specs.declared.lease.Times.{Times};
 ghost use Rattle.xl_house.specs.Done.{deeds};
 ghost use Rattle.xl_house.specs.Lawful.{found, IsLawful, IsWaiting};
 ghost use Rattle.xl_house.specs.Machine.{Whole};
@@ -20,7 +21,7 @@ ghost use Rattle.xl_house.specs.Machine.{Whole};
 /// one waits, a machine that drops it at another's test has none in which who waits is right.
 #[tactic(auto, using(crate::proofs::HollowLaws::waiter_dropped_in))]
 pub fn hollow_machines_are_refused()
-    ensures kept { (n stores number : ℕ) (bytes : List ℕ) (outs : List Out) (s t : Whole) (stable : Stable) (clock : Moment) → found s ≡ started stable clock → deeds n s (Message number bytes) ≡ Asks all_room smallest_lock ∷ []
+    ensures kept { (n stores number : ℕ) (bytes : List ℕ) (outs : List Out) (s t : Whole) (stable : Stable) (clock : Moment) (times : Times) → found s ≡ started stable clock times → deeds n s (Message number bytes) ≡ Asks all_room smallest_lock ∷ []
         → t.core.claims ≡ [] → IsLawful n s (record { event = Message number bytes; stores = stores; outs = outs }) t → ⊥ }
     ensures dropped { (n stores number : ℕ) (bytes : List ℕ) (outs : List Out) (s t : Whole) (left : Rooms) (a : Ask) (w : Waiter) (extent : Extent) (exclusive : Bool) → a.act ≡ Act.Test extent exclusive → deeds n s (Message number bytes) ≡ Asks left a ∷ []
         → s.core.waiters ≡ w ∷ [] → t.core.waiters ≡ [] → IsWaiting n s (record { event = Message number bytes; stores = stores; outs = outs }) t → ⊥ }

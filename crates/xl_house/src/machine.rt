@@ -1,13 +1,16 @@
 //! The machine: what one event does, and what it sends.
 ghost use Rattle.std.specs.Prelude.{◌≡◌, ℕ, ◌+◌, ◌<◌, ◌≤◌, ◌^◌, true, false, length, map, option_map, OnOk, IfOk};
 ghost use Rattle.xl_programs.specs.Programs.{serves, shown_request, incoming_at};
+ghost use Rattle.xl_programs.specs.Sent.{sent_to};
 ghost use Rattle.xl_rpc.specs.Replies.{reply};
 ghost use Rattle.xl_core.specs.State.{MayBe, step_begun};
+ghost use Rattle.xl_core.specs.Ticks.{tick};
 ghost use Rattle.xl_front_nlm.specs.Answers.{nlm_called};
-ghost use Rattle.xl_front_nlm.specs.FrontNlm.{sent_to, nlm_step};
+ghost use Rattle.xl_front_nlm.specs.FrontNlm.{nlm_step};
 ghost use Rattle.xl_front_nlm.specs.Short.{AreShort};
 ghost use Rattle.xl_house.specs.Journals.{is_restart};
-ghost use Rattle.xl_house.specs.Machine.{framed, connected, front_done, called_done, program_heard, record_heard, heard_by, heard, step};
+ghost use Rattle.xl_front_nfs.specs.FrontNfs.{nfs_step};
+ghost use Rattle.xl_house.specs.Machine.{with_nlm, with_nfs, after_call, framed, connected, front_done, called_done, ticked_done, program_heard, record_heard, heard_by, heard, step};
 ghost use Rattle.xl_house.specs.Shown.{IsReadyFor, LeavesBy};
 ghost use Rattle.xl_house.specs.Whole.{whole_of};
 
@@ -16,9 +19,10 @@ use crate::outs::{send_all, show_all};
 use crate::parts::Parts;
 use crate::settling::settle;
 use std::alloc::{AllocError, Global};
-use xl_base::{Dest, Event, Exports, Keeper, Kind, Out, Sequence};
+use xl_base::{Event, Exports, Keeper, Kind, Moment, Out, Sequence};
+use xl_front_nfs::{nfs_step, nfs_tick};
 use xl_front_nlm::{nlm_called, nlm_step};
-use xl_programs::{Incoming, Program, Request, read_incoming, refusal};
+use xl_programs::{Incoming, Program, Request, read_incoming, refusal, sent_to};
 use xl_rpc::Verdict;
 
 /// What the machine keeps between two events.
@@ -45,7 +49,7 @@ fn connect(connections: &mut Vec<Connection>, place: u64, event: &Event) -> Resu
     Ok(())
 }
 
-/// What a call of NLM sends: what the front shows for the effects, and its reply.
+/// What a call of NLM sends: what the fronts show for the effects, and its reply.
 fn hear_nlm<K: Keeper>(
     alloc: Global,
     exports: &Exports,
@@ -55,15 +59,45 @@ fn hear_nlm<K: Keeper>(
     request: &Request,
 ) -> Result<Sequence<Out>, AllocError>
     requires known { serves Program.Nlm request.now.procedure ≡ true }
-    requires ready { IsReadyFor 1 parts.old.core }
-    ensures heard { (n : ℕ) → IfOk result (λ outs. MayBe n parts.new.core → front_done exports.now (nlm_step n exports.now parts.old.front parts.old.core number (shown_request request.now)) ≡ (outs, parts.new.front, parts.new.core)) }
-    ensures leaves { OnOk result (LeavesBy 2 parts.old.core parts.new.core) }
+    requires ready { IsReadyFor 128 parts.old.core }
+    ensures heard { (n : ℕ) → IfOk result (λ outs. MayBe n parts.new.core → front_done exports.now (with_nlm parts.old.front (nlm_step n exports.now parts.old.front.nlm parts.old.core number (shown_request request.now))) ≡ (outs, parts.new.front, parts.new.core)) }
+    ensures leaves { OnOk result (LeavesBy 128 parts.old.core parts.new.core) }
     ensures keeper { keeper.new ≡ keeper.old }
 {
     let (reply, effects) = nlm_step(
         alloc,
         exports,
-        &mut parts.front,
+        &mut parts.front.nlm,
+        &mut parts.core,
+        keeper,
+        number,
+        request,
+    )?;
+    let mut outs = Sequence::new(alloc);
+    show_all(alloc, exports, parts, effects.as_slice(), &mut outs)?;
+    send_all(alloc, Kind::Rpc, reply, &mut outs)?;
+    Ok(outs)
+}
+
+/// What a call of NFSv4 sends: what the fronts show for the effects, and its reply.
+fn hear_nfs<K: Keeper>(
+    alloc: Global,
+    exports: &Exports,
+    parts: &mut Parts,
+    keeper: &mut K,
+    number: u64,
+    request: &Request,
+) -> Result<Sequence<Out>, AllocError>
+    requires known { serves Program.Nfs request.now.procedure ≡ true }
+    requires ready { IsReadyFor 128 parts.old.core }
+    ensures heard { (n : ℕ) → IfOk result (λ outs. MayBe n parts.new.core → front_done exports.now (with_nfs parts.old.front (nfs_step n exports.now parts.old.front.nfs parts.old.core number (shown_request request.now))) ≡ (outs, parts.new.front, parts.new.core)) }
+    ensures leaves { OnOk result (LeavesBy 128 parts.old.core parts.new.core) }
+    ensures keeper { keeper.new ≡ keeper.old }
+{
+    let (reply, effects) = nfs_step(
+        alloc,
+        exports,
+        &mut parts.front.nfs,
         &mut parts.core,
         keeper,
         number,
@@ -85,12 +119,7 @@ fn refuse(
     ensures { IfOk result (λ outs. outs ≡ map (framed Kind.Rpc) (sent_to number (reply xid verdict))) }
 {
     let bytes = refusal(alloc, xid, verdict)?;
-    let mut sent = Sequence::new(alloc);
-    sent.push(Out {
-        dest: Dest::Conn(number),
-        to: Sequence::new(alloc),
-        bytes: Sequence::from_vec(bytes),
-    })?;
+    let sent = sent_to(alloc, number, bytes)?;
     let mut outs = Sequence::new(alloc);
     send_all(alloc, Kind::Rpc, sent, &mut outs)?;
     Ok(outs)
@@ -106,14 +135,15 @@ fn hear_record<K: Keeper>(
     number: u64,
     bytes: &[u8],
 ) -> Result<Sequence<Out>, AllocError>
-    requires ready { IsReadyFor 1 parts.old.core }
+    requires ready { IsReadyFor 128 parts.old.core }
     ensures heard { (n : ℕ) → IfOk result (λ outs. MayBe n parts.new.core → record_heard n exports.now parts.old.front parts.old.core number (incoming_at bytes.now) ≡ (outs, parts.new.front, parts.new.core)) }
-    ensures leaves { OnOk result (LeavesBy 2 parts.old.core parts.new.core) }
+    ensures leaves { OnOk result (LeavesBy 128 parts.old.core parts.new.core) }
     ensures keeper { keeper.new ≡ keeper.old }
 {
     match read_incoming(bytes) {
         Incoming::Asked(request) => match request.program {
             Program::Nlm => hear_nlm(alloc, exports, parts, keeper, number, &request),
+            Program::Nfs => hear_nfs(alloc, exports, parts, keeper, number, &request),
         },
         Incoming::Refused(xid, verdict) => refuse(alloc, number, xid, verdict),
         Incoming::Unanswered => Ok(Sequence::new(alloc)),
@@ -131,9 +161,9 @@ fn hear<K: Keeper>(
     number: u64,
     bytes: &[u8],
 ) -> Result<Sequence<Out>, AllocError>
-    requires ready { IsReadyFor 1 parts.old.core }
+    requires ready { IsReadyFor 128 parts.old.core }
     ensures heard { (n : ℕ) → IfOk result (λ outs. MayBe n parts.new.core → heard_by n exports.now parts.old.front parts.old.core kind number bytes.now ≡ (outs, parts.new.front, parts.new.core)) }
-    ensures leaves { OnOk result (LeavesBy 2 parts.old.core parts.new.core) }
+    ensures leaves { OnOk result (LeavesBy 128 parts.old.core parts.new.core) }
     ensures keeper { keeper.new ≡ keeper.old }
 {
     let Some(kind) = kind else {
@@ -164,19 +194,39 @@ fn hear_answer<K: Keeper>(
     call: u64,
     reply: &Option<Sequence<u8>>,
 ) -> Result<Sequence<Out>, AllocError>
-    requires ready { IsReadyFor 1 parts.old.core }
-    ensures heard { (n : ℕ) → IfOk result (λ outs. MayBe n parts.new.core → called_done exports.now (nlm_called n parts.old.front parts.old.core call reply.now) ≡ (outs, parts.new.front, parts.new.core)) }
-    ensures leaves { OnOk result (LeavesBy 2 parts.old.core parts.new.core) }
+    requires ready { IsReadyFor 128 parts.old.core }
+    ensures heard { (n : ℕ) → IfOk result (λ outs. MayBe n parts.new.core → called_done exports.now (after_call parts.old.front (nlm_called n parts.old.front.nlm parts.old.core call reply.now)) ≡ (outs, parts.new.front, parts.new.core)) }
+    ensures leaves { OnOk result (LeavesBy 128 parts.old.core parts.new.core) }
     ensures keeper { keeper.new ≡ keeper.old }
 {
     let effects = nlm_called(
         alloc,
-        &mut parts.front,
+        &mut parts.front.nlm,
         &mut parts.core,
         keeper,
         call,
         bytes_of(reply),
     )?;
+    let mut outs = Sequence::new(alloc);
+    show_all(alloc, exports, parts, effects.as_slice(), &mut outs)?;
+    Ok(outs)
+}
+
+/// What a reading of the clock sends.
+fn hear_tick<K: Keeper>(
+    alloc: Global,
+    exports: &Exports,
+    parts: &mut Parts,
+    keeper: &mut K,
+    now: Moment,
+) -> Result<Sequence<Out>, AllocError>
+    requires ready { IsReadyFor 128 parts.old.core }
+    ensures heard { IfOk result (λ outs. ticked_done exports.now parts.old.front (tick parts.old.core now) ≡ (outs, parts.new.front, parts.new.core)) }
+    ensures leaves { OnOk result (LeavesBy 128 parts.old.core parts.new.core) }
+    ensures keeper { keeper.new ≡ keeper.old }
+{
+    let effects = parts.core.tick(alloc, keeper, now)?;
+    nfs_tick(&mut parts.front.nfs, parts.core.clock());
     let mut outs = Sequence::new(alloc);
     show_all(alloc, exports, parts, effects.as_slice(), &mut outs)?;
     Ok(outs)
@@ -191,9 +241,9 @@ fn hear_event<K: Keeper>(
     keeper: &mut K,
     event: &Event,
 ) -> Result<Sequence<Out>, AllocError>
-    requires ready { IsReadyFor 1 machine.old.parts.core }
+    requires ready { IsReadyFor 128 machine.old.parts.core }
     ensures heard { (n : ℕ) → IfOk result (λ outs. MayBe n machine.new.parts.core → heard n (whole_of exports.now machine.old) event.now ≡ (outs, machine.new.parts.front, machine.new.parts.core)) }
-    ensures leaves { OnOk result (LeavesBy 2 (step_begun machine.old.parts.core) machine.new.parts.core) }
+    ensures leaves { OnOk result (LeavesBy 128 (step_begun machine.old.parts.core) machine.new.parts.core) }
     ensures place { machine.new.place ≡ machine.old.place }
     ensures connections { machine.new.connections.items ≡ machine.old.connections.items }
     ensures keeper { keeper.new ≡ keeper.old }
@@ -215,6 +265,7 @@ fn hear_event<K: Keeper>(
         Event::Called(call, reply) => {
             hear_answer(alloc, exports, &mut machine.parts, keeper, *call, reply)
         }
+        Event::Tick(now) => hear_tick(alloc, exports, &mut machine.parts, keeper, *now),
         _ => Ok(Sequence::new(alloc)),
     }
 }
@@ -228,11 +279,11 @@ pub(crate) fn act<K: Keeper>(
     event: &Event,
 ) -> Result<Sequence<Out>, AllocError>
     requires place { machine.old.place < 2 ^ 63 }
-    requires ready { IsReadyFor (length machine.old.parts.core.waiters + 2) machine.old.parts.core }
+    requires ready { IsReadyFor (length machine.old.parts.core.waiters + 128) machine.old.parts.core }
     requires goes_on { is_restart event.now ≡ false }
     ensures step { IfOk result (λ outs. step 0 (whole_of exports.now machine.old) event.now ≡ record { next = whole_of exports.now machine.new; made = 0; outs = outs }) }
     ensures short { OnOk result (AreShort machine.new.parts.core.names) }
-    ensures counter { OnOk result (machine.new.parts.core.counter + length machine.new.parts.core.waiters ≤ machine.old.parts.core.counter + length machine.old.parts.core.waiters + 2) }
+    ensures counter { OnOk result (machine.new.parts.core.counter + length machine.new.parts.core.waiters ≤ machine.old.parts.core.counter + length machine.old.parts.core.waiters + 128) }
     ensures keeper { keeper.new ≡ keeper.old }
 {
     let mut outs = hear_event(alloc, exports, machine, keeper, event)?;

@@ -1,8 +1,9 @@
 //! What is sent, in its frames.
 ghost use Rattle.std.specs.Prelude.{◌≡◌, ◌++◌, map, OnOk, IfOk};
 ghost use Rattle.std.specs.List.{AllByRecursion};
-ghost use Rattle.xl_front_nlm.specs.Short.{FitsFrame};
-ghost use Rattle.xl_house.specs.Machine.{framed, grants, behind, all_shown};
+ghost use Rattle.xl_front_nlm.specs.Short.{IsReady, Leaves};
+ghost use Rattle.xl_programs.specs.Sent.{FitsFrame};
+ghost use Rattle.xl_house.specs.Machine.{showing, framed, grants, behind, all_shown};
 ghost use Rattle.xl_house.specs.Shown.{IsReadyFor, LeavesBy};
 
 use crate::parts::Parts;
@@ -10,6 +11,7 @@ use std::alloc::{AllocError, Global};
 use xl_base::{Dest, Exports, Kind, Out, Sequence};
 use xl_core::Effect;
 use xl_frame::wrap;
+use xl_front_nfs::nfs_shown;
 use xl_front_nlm::shown;
 
 /// An out in its frame, where it goes to a connection of this kind; a call has none.
@@ -41,7 +43,23 @@ pub(crate) fn send_all(
     Ok(())
 }
 
-/// Adds what the NLM front sends for each of these effects.
+/// What the fronts send for an effect, of which both hear.
+fn shown_by_fronts(
+    alloc: Global,
+    exports: &Exports,
+    parts: &mut Parts,
+    effect: &Effect,
+) -> Result<Sequence<Out>, AllocError>
+    requires ready { IsReady parts.old.core }
+    ensures state { IfOk result (λ sent. showing exports.now parts.old.front parts.old.core effect.now ≡ (sent, parts.new.front, parts.new.core)) }
+    ensures leaves { OnOk result (Leaves parts.old.core parts.new.core) }
+    ensures little { IfOk result (λ sent. AllByRecursion FitsFrame sent) }
+{
+    nfs_shown(&mut parts.front.nfs, effect);
+    shown(alloc, exports, &mut parts.front.nlm, &mut parts.core, effect)
+}
+
+/// Adds what the fronts send for each of these effects.
 fn show_each(
     alloc: Global,
     exports: &Exports,
@@ -53,13 +71,13 @@ fn show_each(
     ensures { OnOk result (behind outs.old (all_shown exports.now parts.old.front parts.old.core effects.now) ≡ (outs.new, parts.new.front, parts.new.core)) }
 {
     for effect in effects {
-        let sent = shown(alloc, exports, &mut parts.front, &mut parts.core, effect)?;
+        let sent = shown_by_fronts(alloc, exports, parts, effect)?;
         send_all(alloc, Kind::Rpc, sent, outs)?;
     }
     Ok(())
 }
 
-/// Adds what the NLM front sends for these effects, in order. Numbers are given out to what tells of a grant.
+/// Adds what the fronts send for these effects, in order. Numbers are given out to what tells of a grant.
 #[tactic(auto, using(crate::proofs::ShownLaws::all_leaves))]
 pub(crate) fn show_all(
     alloc: Global,

@@ -1,7 +1,7 @@
 //! How a house starts: its record is loaded, and stored with its epoch raised.
-ghost use Rattle.std.specs.Prelude.{◌≡◌, ℕ, ◌≤◌, [], false, Ok, Err, Some, None, IfOk, IfErr, IfSome, OnErr};
+ghost use Rattle.std.specs.Prelude.{◌≡◌, ℕ, ◌≤◌, [], false, Ok, Err, Some, None, IfOk, IfErr, IfSome, OnOk, Option};
 ghost use Rattle.xl_base.specs.Outside.{Rose};
-ghost use Rattle.xl_base.specs.Stable.{raised};
+ghost use Rattle.xl_base.specs.Stable.{Stable, raised};
 ghost use Rattle.xl_house.specs.Housed.{Holds};
 ghost use Rattle.xl_house.specs.Starts.{no_record, given_at_start, IsLoaded, IsGiven};
 
@@ -31,6 +31,8 @@ fn load<K: Keeper>(alloc: Global, keeper: &mut K) -> (Record, Option<Halt>)
     ensures held { K.held keeper.new ≡ K.held keeper.old }
     ensures given { K.given keeper.new ≡ K.given keeper.old }
     ensures later { K.faults keeper.old ≤ K.faults keeper.new }
+    ensures still { result.1 ≡ None → K.faults keeper.new ≡ K.faults keeper.old }
+    ensures memory { result.1 ≡ Some Halt.NoMemory → K.faults keeper.new ≡ K.faults keeper.old }
 {
     match keeper.load(alloc) {
         LoadOutcome::Loaded(stable) => (stable, None),
@@ -45,10 +47,12 @@ fn raise<K: Keeper>(alloc: Global, keeper: &mut K, loaded: &Record) -> Result<Re
     ensures held { IfOk result (λ stable. Holds (K.held keeper.new) stable) }
     ensures given { IfOk result (λ stable. K.given keeper.new ≡ given_at_start loaded.now (K.given keeper.old)) }
     ensures kept { IfErr result (λ halt. K.held keeper.new ≡ K.held keeper.old) }
-    ensures tried { IfErr result (λ halt. IsGiven loaded.now (K.given keeper.old) (K.given keeper.new)) }
+    ensures tried { (held : Option Stable) → Holds held loaded.now → IfErr result (λ halt. IsGiven held loaded.now (K.given keeper.old) (K.given keeper.new)) }
     ensures count { (count : ℕ) → result ≡ Err (Halt.StartStore count) → (count ≡ K.faults keeper.new) × Rose (K.faults keeper.old) count }
     ensures full { (count : ℕ) → result ≡ Err (Halt.JournalFull count) → ⊥ }
     ensures later { K.faults keeper.old ≤ K.faults keeper.new }
+    ensures still { OnOk result (K.faults keeper.new ≡ K.faults keeper.old) }
+    ensures memory { result ≡ Err Halt.NoMemory → (K.faults keeper.new ≡ K.faults keeper.old) × (K.given keeper.new ≡ K.given keeper.old) }
 {
     let Ok(mut stable) = loaded.copy(alloc) else {
         return Err(Halt::NoMemory);
@@ -63,8 +67,9 @@ fn raise<K: Keeper>(alloc: Global, keeper: &mut K, loaded: &Record) -> Result<Re
 
 impl<K: Keeper> House<K> {
     /// A house at its start, over these exports and at this moment: the keeper's record is loaded, and stored with its
-    /// epoch raised; no other is stored. StartStore comes only where the load or the store failed, and the keeper's
-    /// count of faults rose to its number; the keeper holds then what it held. The journal begins from the loaded
+    /// epoch raised; no other is stored, and none is where the load failed. StartStore comes only where the load or the
+    /// store failed, and the keeper's count of faults rose to its number; the keeper holds then what it held. Where
+    /// memory ran out no call of the keeper failed and nothing was given to it. The journal begins from the loaded
     /// record; where none was loaded, from the empty one.
     pub fn start(
         alloc: Global,
@@ -77,13 +82,15 @@ impl<K: Keeper> House<K> {
         ensures loaded { IfOk result (λ h. Holds (K.held keeper) h.head.«record») }
         ensures holds { IfOk result (λ h. Holds (K.held h.keeper) (raised h.head.«record»)) }
         ensures given { IfOk result (λ h. K.given h.keeper ≡ given_at_start h.head.«record» (K.given keeper)) }
-        ensures later { IfOk result (λ h. K.faults keeper ≤ K.faults h.keeper) }
+        ensures still { IfOk result (λ h. K.faults h.keeper ≡ K.faults keeper) }
         ensures ended { IfErr result (λ e. (e.journal.head.exports ≡ exports) × (e.journal.head.start ≡ now) × (e.journal.entries ≡ [])) }
         ensures read { IfErr result (λ e. IsLoaded (K.held keeper) e.journal.head.«record») }
         ensures count { IfErr result (λ e. (count : ℕ) → e.halt ≡ Halt.StartStore count → (count ≡ K.faults e.keeper) × Rose (K.faults keeper) count) }
         ensures full { IfErr result (λ e. (count : ℕ) → e.halt ≡ Halt.JournalFull count → ⊥) }
         ensures kept { IfErr result (λ e. K.held e.keeper ≡ K.held keeper) }
-        ensures tried { IfErr result (λ e. IsGiven e.journal.head.«record» (K.given keeper) (K.given e.keeper)) }
+        ensures tried { IfErr result (λ e. IsGiven (K.held keeper) e.journal.head.«record» (K.given keeper) (K.given e.keeper)) }
+        ensures memory { IfErr result (λ e. e.halt ≡ Halt.NoMemory → (K.faults e.keeper ≡ K.faults keeper) × (K.given e.keeper ≡ K.given keeper)) }
+        ensures later { IfErr result (λ e. K.faults keeper ≤ K.faults e.keeper) }
     {
         let mut keeper = keeper;
         let (record, fault) = load(alloc, &mut keeper);

@@ -36,12 +36,6 @@ byte-met (Empty offset) b x h k = absurd (both_ways false refl h)
 posix_meets : (owner : Owner) (extent : Extent) (other : Owner) (place : Extent) → posix owner ≡ true → ranges_meet owner extent other place ≡ meeting false extent place
 posix_meets owner extent other place p = rw p refl
 
-at_byte : (extent : Extent) (exclusive : Bool) (byte : ℕ) → has_byte extent byte ≡ true → lock_by (Range extent exclusive) byte ≡ Some exclusive
-at_byte extent exclusive byte h = rw h refl
-
-off_byte : (extent : Extent) (exclusive : Bool) (byte : ℕ) → has_byte extent byte ≡ false → lock_by (Range extent exclusive) byte ≡ None
-off_byte extent exclusive byte h = rw h refl
-
 agree_off : (owner other : Owner) (lock : Option Bool) → locks_agree owner lock other None ≡ true
 agree_off owner other None = refl
 agree_off owner other (Some mode) = refl

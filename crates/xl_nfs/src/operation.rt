@@ -48,5 +48,3 @@ pub const CALLBACK_VERSION: u32 = 1;
 pub const CB_COMPOUND: u32 = 1;
 /// Asks a client for a delegation.
 pub const CB_RECALL: u32 = 4;
-/// The operation of a callback's result that answers a number of no operation.
-pub const CB_ILLEGAL: u32 = 10_044;

@@ -169,11 +169,6 @@ clients_due l now sound =
 
 -- Owners.
 
-last_more : (os : List OwnerRow) (o : OwnerRow) → st.last_number (os ++ o ∷ []) ≡ o.number
-last_more [] o = refl
-last_more (p ∷ []) o = refl
-last_more (p ∷ q ∷ os) o = last_more (q ∷ os) o
-
 rising_last : (os : List OwnerRow) → IsRising os → AllByRecursion (λ o. o.number ≤ st.last_number os) os
 rising_last [] h = tt
 rising_last (o ∷ []) h = (omega arith, tt)

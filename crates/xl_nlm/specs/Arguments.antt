@@ -111,9 +111,6 @@ TestArgsFits a = test_args.Fit a
 abbrev pub LockArgsFits : LockArgsItem → Type 0
 LockArgsFits a = lock_args.Fit a
 
-abbrev pub CancelArgsFits : CancelArgsItem → Type 0
-CancelArgsFits a = cancel_args.Fit a
-
 abbrev pub UnlockArgsFits : UnlockArgsItem → Type 0
 UnlockArgsFits a = unlock_args.Fit a
 

@@ -9,22 +9,25 @@ use Rattle.xl_programs.specs.declared.incoming.Incoming.{Incoming}
 use Rattle.xl_programs.specs.declared.incoming.Incoming.TheVariants as ways
 use Rattle.xl_programs.specs.declared.incoming.Request.{Request}
 use Rattle.xl_programs.specs.declared.program.Program.{Program}
-use Rattle.xl_programs.specs.declared.program.Program.TheVariants.{Nlm}
+use Rattle.xl_programs.specs.declared.program.Program.TheVariants.{Nlm, Nfs}
 
 -- ---- the tables
 
 abbrev pub number_of : Program → ℕ
 number_of Nlm = 100021
+number_of Nfs = 100003
 
 abbrev pub version_of : Program → ℕ
 version_of Nlm = 4
+version_of Nfs = 4
 
--- NULL, TEST, LOCK, CANCEL and UNLOCK; SHARE, UNSHARE, NM_LOCK and FREE_ALL
+-- of NLM NULL, TEST, LOCK, CANCEL and UNLOCK; SHARE, UNSHARE, NM_LOCK and FREE_ALL; of NFS NULL and COMPOUND
 abbrev pub serves : Program → ℕ → Bool
 serves Nlm procedure = nat_le procedure 4 || (nat_le 20 procedure && nat_le procedure 23)
+serves Nfs procedure = nat_le procedure 1
 
 abbrev pub program_at : ℕ → Option Program
-program_at number = if number == number_of Nlm then Some Nlm else None
+program_at number = if number == number_of Nlm then Some Nlm else if number == number_of Nfs then Some Nfs else None
 
 -- ---- a record
 

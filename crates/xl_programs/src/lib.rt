@@ -4,6 +4,8 @@
 
 mod incoming;
 mod program;
+mod sent;
 
 pub use incoming::{Incoming, Request, read_incoming, refusal};
 pub use program::Program;
+pub use sent::sent_to;

@@ -7,10 +7,14 @@ ghost use Rattle.xl_programs.specs.Programs.{number_of, version_of, serves, prog
 pub enum Program {
     /// The Network Lock Manager (XNFS C702), program 100021 in version 4.
     Nlm,
+    /// The Network File System (RFC 7530), program 100003 in version 4.
+    Nfs,
 }
 
 /// The number of the Network Lock Manager.
 const NLM: u32 = 100_021;
+/// The number of the Network File System.
+const NFS: u32 = 100_003;
 
 impl Program {
     /// The program of this number, where it is served in some version.
@@ -19,6 +23,8 @@ impl Program {
     {
         if number == NLM {
             Some(Program::Nlm)
+        } else if number == NFS {
+            Some(Program::Nfs)
         } else {
             None
         }
@@ -30,6 +36,7 @@ impl Program {
     {
         match self {
             Program::Nlm => NLM,
+            Program::Nfs => NFS,
         }
     }
 
@@ -38,17 +45,18 @@ impl Program {
         ensures { result ≡ version_of self }
     {
         match self {
-            Program::Nlm => 4,
+            Program::Nlm | Program::Nfs => 4,
         }
     }
 
     /// Whether this procedure of it is served. Of NLM these are NULL, TEST, LOCK, CANCEL and UNLOCK, and SHARE, UNSHARE,
-    /// NM_LOCK and FREE_ALL; GRANTED is called by the server alone.
+    /// NM_LOCK and FREE_ALL; GRANTED is called by the server alone. Of NFS these are NULL and COMPOUND.
     pub fn serves(self, procedure: u32) -> bool
         ensures { result ≡ serves self procedure }
     {
         match self {
             Program::Nlm => procedure <= 4 || (20 <= procedure && procedure <= 23),
+            Program::Nfs => procedure <= 1,
         }
     }
 }

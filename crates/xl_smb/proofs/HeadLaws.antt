@@ -32,12 +32,6 @@ and_false : (b : Bool) → (b && false) ≡ false
 and_false true = refl
 and_false false = refl
 
-pub granting_no_notice : (h : SmbHead) → 0 < h.credits → is_notice h ≡ false
-unfolding is_notice
-granting_no_notice h some =
-    let granted : eqb h.credits 0 ≡ false = grind (arith, nat_tests) in
-    rw (granted, and_false (eqb h.status 0 && eqb h.command 18 && eqb h.flags 1)) refl
-
 pub flagged_no_notice : (h : SmbHead) → eqb h.flags 1 ≡ false → is_notice h ≡ false
 unfolding is_notice
 flagged_no_notice h other = rw (other, and_false (eqb h.status 0 && eqb h.command 18)) refl

@@ -1,7 +1,7 @@
 -- A change that is made by places in the list is what the definition says.
 use Rattle.std.proofs.Common.{◌≡◌, ℕ, ◌+◌, ◌-◌, ◌<◌, ◌≤◌, Bool, true, false, nat_le, List, [], ◌∷◌, ◌++◌, length, map, take, drop, zero, suc, ◌==◌, if◌then◌else◌, Option, refl, sym, ap, subst, ◌∙◌, inl, inr, append_assoc, arith}
 use Rattle.std.proofs.Math.Seq.{take-append-add, drop-append-add}
-use Rattle.std.proofs.lemmas.List.{take-append-drop, take-append-le, drop-append-le, take-map, drop-map, map-append, length-append, length-drop, length-take-le}
+use Rattle.std.proofs.lemmas.List.{take-append-drop, take-append-le, drop-append-le, take-map, drop-map, map-append, length-drop, length-take-le}
 use Rattle.std.proofs.lemmas.List.Folds.{drop_split}
 use Rattle.std.proofs.lemmas.List.Sums.{prefix_len-le-length}
 use Rattle.std.specs.List.{AllByRecursion, filter, prefix_len, slice_range}
@@ -22,11 +22,12 @@ use Rattle.xl_spans.specs.declared.span.Span.{Span}
 use Rattle.xl_spans.proofs.Chains.{IsChain, canonical_chain_all, canonical_rest, relocked_canonical}
 use Rattle.xl_spans.proofs.InPlace.{chain_rest, places_in_order, relocked_in_place}
 use Rattle.xl_table.specs.Flat.{inserted, with_what}
-use Rattle.xl_table.specs.Held.{is_of, is_range, is_share, is_real_by, is_real, has_one_party, with_span, mode_of, spans_of, IsSound, IsKept}
+use Rattle.xl_table.specs.Held.{is_of, is_range, is_share, is_real_by, is_real, has_one_party, with_span, mode_of, spans_of, IsKept}
 use Rattle.xl_table.specs.Order.{key, goes_first}
 use Rattle.xl_table.specs.Relock.{is_exclusive, range_claim, is_range_of, unranged, all_inserted, relocked_in, is_share_of, unshared, old_shares, united_by, united, shared_in}
 use Rattle.xl_table.specs.declared.change.Change.{Change}
-use Rattle.xl_table.specs.Changes.{written, MayBeWritten}
+use Rattle.xl_table.specs.Files.{AreOn}
+use Rattle.xl_table.specs.Changes.{spliced, IsOn}
 use Rattle.xl_matrix.specs.Equal.{same_owners}
 use Rattle.xl_matrix.proofs.EqualLaws.{same_owners-self}
 use Rattle.xl_table.proofs.InsertLaws.{range_order}
@@ -316,32 +317,18 @@ unfolding old_shares
 united_is c one cs out lo hi kept at_lo at_hi is e =
     e ∙ ap (λ (ds : List Claim). with_what c (united_by c.owner c.what ds)) (share_section c.file c.owner cs out lo hi kept.ordered at_lo at_hi is)
 
--- ---- the change may be written
+-- ---- the change as a file's claims are written
 
-counted : (change : Change) (cs : List Claim) → change.start ≤ change.end → change.end ≤ length cs → change.held + (change.end - change.start) ≡ length cs + length change.entered.items → change.held ≡ length (written change cs)
-unfolding written
-counted change cs order within count =
-    omega (
-      arith,
-      order,
-      within,
-      count,
-      length-append (take change.start cs) (change.entered.items ++ drop change.end cs),
-      length-append change.entered.items (drop change.end cs),
-      length-take-le change.start cs (omega (arith, order, within)),
-      length-drop change.end cs,
-    )
-
-pub may_be_written : (change : Change) (cs after : List Claim) → written change cs ≡ after → change.start ≤ change.end → change.end ≤ length cs → change.held + (change.end - change.start) ≡ length cs + length change.entered.items → IsSound after → Pairwise goes_first after → MayBeWritten change cs
-may_be_written change cs after is order within count sound ordered = record {
-  order = order;
-  within = within;
-  sound = subst (λ (ds : List Claim). IsSound ds) (sym is) sound;
-  ordered = subst (λ (ds : List Claim). Pairwise goes_first ds) (sym is) ordered;
-  count = counted change cs order within count;
-}
-
-pub written_is : (change : Change) (cs entered : List Claim) (start end : ℕ) → change.start ≡ start → change.end ≡ end → change.entered.items ≡ entered → written change cs ≡ take start cs ++ (entered ++ drop end cs)
-unfolding written
-written_is change cs entered start end a b e =
+pub spliced_is : (change : Change) (cs entered : List Claim) (start end : ℕ) → change.start ≡ start → change.end ≡ end → change.entered.items ≡ entered → spliced change cs ≡ take start cs ++ (entered ++ drop end cs)
+unfolding spliced
+spliced_is change cs entered start end a b e =
     ap (λ (n : ℕ). take n cs ++ (change.entered.items ++ drop change.end cs)) a ∙ ap (λ (n : ℕ). take start cs ++ (change.entered.items ++ drop n cs)) b ∙ ap (λ (ds : List Claim). take start cs ++ (ds ++ drop end cs)) e
+
+pub is_on : (file n start end : ℕ) (on entered : List Claim) (change : Change) → change.file ≡ file → change.start ≡ start → change.end ≡ end → change.entered.items ≡ entered → change.held + (end - start) ≡ n + length entered → start ≤ end → end ≤ length on → AreOn file entered → IsOn file n on change
+is_on file n start end on entered change at a b e count order within own = record {
+  file = at;
+  order = omega (arith, a, b, order);
+  within = omega (arith, b, within);
+  own = subst (λ (ds : List Claim). AreOn file ds) (sym e) own;
+  count = omega (arith, a, b, count, ap (λ (ds : List Claim). length ds) e);
+}

@@ -43,7 +43,7 @@ pub unblocked_fits : (ask : Claim) (held : List Claim) → Pairwise compat held 
 unblocked_fits ask held all own none = fits_inserted ask held (unblocked_all ask held none own) all
 
 -- a held claim fits each of the others
-fits_others : (claim : Claim) (held : List Claim) → IsIn claim held → Pairwise compat held → Fits claim (removed claim held)
+pub fits_others : (claim : Claim) (held : List Claim) → IsIn claim held → Pairwise compat held → Fits claim (removed claim held)
 fits_others claim [] h all = absurd h
 fits_others claim (c ∷ cs) h all =
     elim (cases_Bool (same_claims c claim)) [
@@ -59,6 +59,11 @@ fits_others claim (c ∷ cs) h all =
     in_all : (ds : List Claim) → Fits c ds → IsIn claim ds → compat c claim ≡ true
     in_all [] all h = absurd h
     in_all (d ∷ ds) all h = elim h [ inl e ↦ subst (λ (e : Claim). compat c e ≡ true) e all.0 | inr later ↦ in_all ds all.1 later ]
+
+-- a claim that goes with each of the others may become another one
+pub raised_fits : (claim : Claim) (to : What) (held : List Claim) → Pairwise compat held → Fits (with_what claim to) (removed claim held) → Pairwise compat (changed claim to held)
+unfolding changed
+raised_fits claim to held all fits = fits_inserted (with_what claim to) (removed claim held) fits (pairwise_removed compat claim held all)
 
 pub weakened_fits : (claim : Claim) (to : What) (held : List Claim) → Pairwise compat held → IsIn claim held → weaker (with_what claim to) claim ≡ true → Pairwise compat (changed claim to held)
 unfolding changed

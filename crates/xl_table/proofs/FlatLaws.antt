@@ -1,13 +1,14 @@
 -- Lists with a claim put in or taken out.
 use Rattle.std.proofs.Common.{◌≡◌, ◌+◌, ◌≤◌, Bool, true, false, IsTrue, ◌↔◌, List, [], ◌∷◌, length, inl, inr, refl, sym, ap, subst, ◌∙◌, arith}
 use Rattle.std.specs.List.{AllByRecursion, list_any}
-use Rattle.std.proofs.lemmas.Bool.{cases_Bool, both_ways, or_cases, or_left, or_right}
+use Rattle.std.proofs.lemmas.Bool.{cases_Bool, both_ways, or_cases, or_left, or_right, or_parts}
 use Rattle.xl_base.specs.Lists.{IsIn, placed, Pairwise}
 use Rattle.xl_matrix.specs.declared.claim.Claim.{Claim}
+use Rattle.xl_matrix.specs.declared.claim.What.{What}
 use Rattle.xl_matrix.specs.Equal.{same_claims}
 use Rattle.xl_matrix.proofs.EqualLaws.{same_claims-self, same_claims-true}
 use Rattle.xl_table.specs.Order.{goes_first}
-use Rattle.xl_table.specs.Flat.{inserted, removed}
+use Rattle.xl_table.specs.Flat.{inserted, removed, changed, with_what}
 
 -- one that is held makes the list shorter when it goes
 pub removed_shorter : (claim : Claim) (held : List Claim) → IsIn claim held → length (removed claim held) + 1 ≡ length held
@@ -30,9 +31,6 @@ length_removed claim (c ∷ cs) =
       | inl same ↦ rw same (omega arith)
       | inr other ↦ rw other (omega (arith, length_removed claim cs))
     ]
-
-pub removed_differs : (claim : Claim) (held : List Claim) → IsIn claim held → removed claim held ≡ held → ⊥
-removed_differs claim held h e = omega (arith, removed_shorter claim held h, ap length e)
 
 -- what holds of each claim, when one is put in or taken out
 pub all_removed : (P : Claim → Type 0) (claim : Claim) (held : List Claim) → AllByRecursion P held → AllByRecursion P (removed claim held)
@@ -129,3 +127,20 @@ held_iff test claim held h = ((λ t. held_from_test claim held (sym h ∙ t)), (
 -- without one claim the order is as it was
 pub pairwise_gone : (test : Claim → Claim → Bool) (claim : Claim) (held less : List Claim) → Pairwise test held → removed claim held ≡ less → Pairwise test less
 pairwise_gone test claim held less all e = subst (λ (ds : List Claim). Pairwise test ds) e (pairwise_removed test claim held all)
+
+pub held_found : (claim : Claim) (held : List Claim) → IsIn claim held → list_any (λ c. same_claims c claim) held ≡ false → ⊥
+held_found claim held h none = both_ways (list_any (λ c. same_claims c claim) held) none (test_from_held claim held h)
+
+pub removed_none : (claim : Claim) (held : List Claim) → list_any (λ c. same_claims c claim) held ≡ false → removed claim held ≡ held
+removed_none claim [] none = refl
+removed_none claim (c ∷ cs) none =
+    let apart = or_parts (same_claims c claim) (list_any (λ d. same_claims d claim) cs) none in
+    rw apart.0 (ap (λ (ds : List Claim). c ∷ ds) (removed_none claim cs apart.1))
+
+-- the list is by so much shorter
+pub count_removed : (claim : Claim) (held : List Claim) → list_any (λ c. same_claims c claim) held ≡ true → length (removed claim held) + 1 ≡ length held
+count_removed claim held h = removed_shorter claim held (held_from_test claim held h)
+
+pub count_changed : (claim : Claim) (to : What) (held : List Claim) → IsIn claim held → length (changed claim to held) ≡ length held
+unfolding changed
+count_changed claim to held h = omega (arith, length_inserted (with_what claim to) (removed claim held), removed_shorter claim held h)

@@ -2,6 +2,9 @@ pub mod FlatLaws
 pub mod OrderLaws
 pub mod SpanLaws
 pub mod KeptLaws
+pub mod FileLaws
+pub mod AloneLaws
+pub mod GrantLaws
 pub mod HolderLaws
 pub mod FitLaws
 pub mod InsertLaws
@@ -13,3 +16,6 @@ pub mod UnionLaws
 pub mod RoomLaws
 pub mod ChangeLaws
 pub mod PlaceLaws
+pub mod ClearLaws
+pub mod PageLaws
+pub mod TouchLaws

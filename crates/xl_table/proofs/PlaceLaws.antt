@@ -1,20 +1,27 @@
 -- Where a claim stands in the list, and the one equal to it; who has a byte.
-use Rattle.std.proofs.Common.{◌≡◌, ℕ, ◌+◌, ◌<◌, ◌≤◌, Bool, true, false, not, ◌&&◌, ◌==◌, if◌then◌else◌, List, [], ◌∷◌, ◌++◌, length, take, drop, Option, Some, None, IsTrue, ◌↔◌, refl, sym, ap, subst, ◌∙◌, inl, inr, append_assoc, arith}
+use Rattle.std.proofs.Common.{◌≡◌, ℕ, ◌+◌, ◌-◌, ◌<◌, ◌≤◌, suc, zero, Bool, true, false, nat_lt, ◌&&◌, ◌||◌, ◌==◌, if◌then◌else◌, List, [], ◌∷◌, ◌++◌, length, take, drop, get_or, Option, Some, None, IsTrue, ◌↔◌, refl, sym, ap, subst, ◌∙◌, inl, inr, arith}
 use Rattle.std.proofs.Math.Numerals.{one-add}
-use Rattle.std.specs.List.{AllByRecursion, filter, list_any, prefix_len, slice_range}
-use Rattle.std.proofs.lemmas.Bool.{cases_Bool, both_ways, and_right, or_parts}
-use Rattle.std.proofs.lemmas.List.{length-append, length-take-le}
+use Rattle.std.specs.List.{AllByRecursion, filter, list_any, prefix_len, remove}
+use Rattle.std.proofs.lemmas.List.{length-append}
+use Rattle.xl_base.specs.declared.name.Owner.{Owner}
+use Rattle.xl_base.specs.declared.name.Owner.TheVariants as owners
+use Rattle.xl_base.specs.declared.name.Party.{Party}
+use Rattle.xl_base.specs.declared.name.Party.TheVariants as parties
+use Rattle.xl_matrix.specs.declared.claim.What.{What}
+use Rattle.xl_matrix.specs.declared.claim.What.TheVariants.{Share, Range, Cache}
+use Rattle.xl_table.specs.Pages.{paged, IsFoundAt}
+use Rattle.xl_table.proofs.PageLaws.{drop_page}
+use Rattle.std.proofs.lemmas.Bool.{cases_Bool}
 use Rattle.xl_base.specs.Lists.{IsIn, Pairwise, placed}
-use Rattle.xl_base.proofs.Members.{all_weaker}
 use Rattle.xl_matrix.specs.declared.claim.Claim.{Claim}
 use Rattle.xl_matrix.specs.Equal.{same_claims}
-use Rattle.xl_table.specs.Order.{key, goes_first}
-use Rattle.xl_table.specs.Flat.{inserted, removed, locks_by, lesser, holder_from, holder}
-use Rattle.xl_table.specs.Sections.{is_no_later_than, is_before, is_upto, IsParted}
-use Rattle.xl_table.proofs.ChangeLaws.{in_parts, take_within, drop_within}
+use Rattle.xl_table.specs.Order.{no_later, owner_key, party_key, place_in_group, key_from, key_by, key, goes_first}
+use Rattle.xl_table.specs.Flat.{inserted, removed, changed, with_what, locks_by, locks, lesser, holder_from, holder}
+use Rattle.xl_table.specs.Sections.{is_no_later_than, is_upto, IsParted}
+use Rattle.xl_table.proofs.AloneLaws.{equal_here}
 use Rattle.xl_table.proofs.FlatLaws.{held_iff}
 use Rattle.xl_table.proofs.OrderLaws.{no_later-on}
-use Rattle.xl_table.proofs.SectionLaws.{parted_ordered, section_cut, section_is, starts_is, starts_file, any_within}
+use Rattle.xl_table.proofs.SectionLaws.{parted_ordered}
 
 -- ---- a claim's place, and the one equal to it
 
@@ -32,14 +39,9 @@ placed_at claim cs i at = go cs ∙ ap (λ (n : ℕ). take n cs ++ claim ∷ dro
         | inr later ↦ rw later refl
       ]
 
--- a claim on another file is no equal one
-equal_there : (claim c : Claim) → (c.file == claim.file) ≡ false → same_claims c claim ≡ false
-unfolding same_claims
-equal_there claim c other = rw other refl
-
 pub held_on_file : (claim : Claim) (cs out : List Claim) (test : Bool) → test ≡ list_any (λ c. same_claims c claim) out → out ≡ filter (λ c. c.file == claim.file) cs → IsTrue test ↔ IsIn claim cs
 held_on_file claim cs out test e is =
-    held_iff test claim cs (e ∙ ap (λ (ds : List Claim). list_any (λ c. same_claims c claim) ds) is ∙ any_within (λ c. same_claims c claim) (λ c. c.file == claim.file) cs (equal_there claim))
+    held_iff test claim cs (e ∙ equal_here claim cs out is)
 
 holder_within : (file byte : ℕ) (least : Option Claim) (cs : List Claim) → holder_from least file byte (filter (λ c. c.file == file) cs) ≡ holder_from least file byte cs
 holder_within file byte least [] = refl
@@ -57,50 +59,146 @@ pub holder_on_file : (file byte : ℕ) (cs out : List Claim) (found : Option Cla
 unfolding holder
 holder_on_file file byte cs out found e is = e ∙ ap (λ (ds : List Claim). holder_from None file byte ds) is ∙ holder_within file byte None cs
 
-removed_none : (claim : Claim) (cs : List Claim) → list_any (λ c. same_claims c claim) cs ≡ false → removed claim cs ≡ cs
-removed_none claim [] none = refl
-removed_none claim (c ∷ cs) none =
-    let apart = or_parts (same_claims c claim) (list_any (λ d. same_claims d claim) cs) none in
-    rw apart.0 (ap (λ (ds : List Claim). c ∷ ds) (removed_none claim cs apart.1))
+-- ---- a claim's place by its numbers
 
-removed_behind : (claim : Claim) (front rest : List Claim) → AllByRecursion (λ c. same_claims c claim ≡ false) front → removed claim (front ++ rest) ≡ front ++ removed claim rest
-removed_behind claim [] rest all = refl
-removed_behind claim (c ∷ cs) rest all = rw all.0 (ap (λ (ds : List Claim). c ∷ ds) (removed_behind claim cs rest all.1))
+same_order : (fs ks : List ℕ) → length fs ≡ length ks → is_no_later_than fs ks ≡ no_later ks fs
+same_order [] [] e = refl
+same_order [] (k ∷ ks) e = absurd (omega (arith, e))
+same_order (f ∷ fs) [] e = absurd (omega (arith, e))
+same_order (f ∷ fs) (k ∷ ks) e = ap (λ (b : Bool). nat_lt k f || (k == f) && b) (same_order fs ks (omega (arith, e)))
 
-removed_before : (claim : Claim) (mid back : List Claim) → list_any (λ c. same_claims c claim) mid ≡ true → removed claim (mid ++ back) ≡ removed claim mid ++ back
-removed_before claim [] back h = absurd (both_ways false refl h)
-removed_before claim (c ∷ cs) back h =
-    elim (cases_Bool (same_claims c claim)) [
-      | inl same ↦ rw same refl
-      | inr other ↦ rw other (ap (λ (ds : List Claim). c ∷ ds) (removed_before claim cs back (rw other at h)))
-    ]
+owner_numbers : (owner : Owner) → length (owner_key owner) ≡ 3
+owner_numbers (owners.Name protocol number) = refl
+owner_numbers (owners.Open number) = refl
 
--- what stands before a file's claims is on another
-before_file : (file : ℕ) (c : Claim) → is_before (file ∷ []) c ≡ true → (c.file == file) ≡ false
-before_file file c h = sym (starts_file file c) ∙ sym (starts_is (file ∷ []) (key c)) ∙ ap (λ (b : Bool). is_no_later_than (file ∷ []) (key c) && not b) h ∙ and_right (is_no_later_than (file ∷ []) (key c)) false refl
+party_numbers : (party : Party) → length (party_key party) ≡ 3
+party_numbers (parties.Name protocol number) = refl
+party_numbers (parties.Open number) = refl
 
-pub removed_on_file : (claim : Claim) (cs out : List Claim) (lo hi i : ℕ) → Pairwise goes_first cs → lo ≡ prefix_len (is_before (claim.file ∷ [])) cs → hi ≡ prefix_len (is_upto (claim.file ∷ [])) cs → lo ≤ hi → hi ≤ length cs → out ≡ slice_range cs lo hi
-    → i < length out → list_any (λ c. same_claims c claim) out ≡ true → removed claim out ≡ take i out ++ drop (i + 1) out
-    → (lo + i < length cs) × (removed claim cs ≡ take (lo + i) cs ++ drop (lo + i + 1) cs)
-removed_on_file claim cs out lo hi i ordered at_lo at_hi order within is i_in found gone =
-    let front = take lo cs in
-    let back = drop hi cs in
-    let whole : cs ≡ front ++ (out ++ back) = in_parts cs lo hi order ∙ ap (λ (ds : List Claim). front ++ (ds ++ back)) (sym is) in
-    let size : length front ≡ lo = length-take-le lo cs (omega (arith, order, within)) in
-    let early : AllByRecursion (λ c. is_before (claim.file ∷ []) c ≡ true) front = subst (λ (n : ℕ). AllByRecursion (λ c. is_before (claim.file ∷ []) c ≡ true) (take n cs)) (sym at_lo) (section_cut (claim.file ∷ []) cs ordered).before in
-    let apart = all_weaker (λ c. is_before (claim.file ∷ []) c ≡ true) (λ c. same_claims c claim ≡ false) front (λ c h. equal_there claim c (before_file claim.file c h)) early in
-    let next : lo + i + 1 ≡ lo + (i + 1) = omega arith in (
-      omega (arith, i_in, size, ap (λ (ds : List Claim). length ds) whole, length-append front (out ++ back), length-append out back),
-      ap (λ (ds : List Claim). removed claim ds) whole
-          ∙ removed_behind claim front (out ++ back) apart
-          ∙ ap (λ (ds : List Claim). front ++ ds) (removed_before claim out back found ∙ ap (λ (ds : List Claim). ds ++ back) gone ∙ append_assoc (take i out) (drop (i + 1) out) back)
-          ∙ sym (append_assoc front (take i out) (drop (i + 1) out ++ back))
-          ∙ ap (λ (ds : List Claim). ds ++ (drop (i + 1) out ++ back)) (sym (take_within cs front out back lo i whole size (omega (arith, i_in))))
-          ∙ ap (λ (ds : List Claim). take (lo + i) cs ++ ds) (sym (drop_within cs front out back lo (i + 1) whole size (omega (arith, i_in))))
-          ∙ ap (λ (n : ℕ). take (lo + i) cs ++ drop n cs) (sym next),
-    )
+numbers : (c : Claim) → length (key c) ≡ 6
+unfolding key
+numbers c = by c.what where
+  with_three : (file class place : ℕ) (who : List ℕ) → length who ≡ 3 → length (key_from file class who place) ≡ 6
+  with_three file class place who e = omega (arith, e, length-append who (place ∷ []))
 
-pub none_on_file : (claim : Claim) (cs out : List Claim) (lo hi : ℕ) → Pairwise goes_first cs → lo ≡ prefix_len (is_before (claim.file ∷ [])) cs → hi ≡ prefix_len (is_upto (claim.file ∷ [])) cs → out ≡ slice_range cs lo hi → list_any (λ c. same_claims c claim) out ≡ false → removed claim cs ≡ cs
-none_on_file claim cs out lo hi ordered at_lo at_hi is none =
-    let all = section_is (claim.file ∷ []) (λ c. c.file == claim.file) cs out lo hi (starts_file claim.file) ordered at_lo at_hi is in
-    removed_none claim cs (sym (any_within (λ c. same_claims c claim) (λ c. c.file == claim.file) cs (equal_there claim)) ∙ ap (λ (ds : List Claim). list_any (λ c. same_claims c claim) ds) (sym all) ∙ none)
+  by : (w : What) → length (key_by c w) ≡ 6
+  by (Share access deny) = with_three c.file 0 0 (owner_key c.owner) (owner_numbers c.owner)
+  by (Range extent exclusive) = with_three c.file 1 (place_in_group c.owner extent) (owner_key c.owner) (owner_numbers c.owner)
+  by (Cache kind running) = with_three c.file 2 0 (party_key c.party) (party_numbers c.party)
+
+pub placed_upto : (claim : Claim) (cs : List Claim) (front : List ℕ) (n : ℕ) → front ≡ key claim → n ≡ prefix_len (is_upto front) cs → n ≡ prefix_len (λ held. goes_first held claim) cs
+placed_upto claim cs front n is e = e ∙ ap (λ (fs : List ℕ). prefix_len (is_upto fs) cs) is ∙ go cs where
+  go : (cs : List Claim) → prefix_len (is_upto (key claim)) cs ≡ prefix_len (λ held. goes_first held claim) cs
+  go [] = refl
+  go (c ∷ cs) = rw (same_order (key claim) (key c) (numbers claim ∙ sym (numbers c)), go cs) refl
+
+-- ---- the place once another claim is gone
+
+prefix_early : (p : Claim → Bool) (cs : List Claim) (i : ℕ) → i < prefix_len p cs → prefix_len p (remove cs i) ≡ prefix_len p cs - 1
+prefix_early p [] i h = absurd (omega (arith, h))
+prefix_early p (c ∷ cs) zero h = elim (cases_Bool (p c)) [
+  | inl passes ↦ rw passes (omega arith)
+  | inr fails ↦ absurd (omega (arith, rw fails at h))
+]
+prefix_early p (c ∷ cs) (suc i) h = elim (cases_Bool (p c)) [
+  | inl passes ↦
+      let within : i < prefix_len p cs = omega (arith, rw passes at h) in
+      rw (passes, prefix_early p cs i within) (omega (arith, within))
+  | inr fails ↦ absurd (omega (arith, rw fails at h))
+]
+
+none_first : (p : Claim → Bool) (cs : List Claim) → AllByRecursion (λ d. p d ≡ false) cs → prefix_len p cs ≡ 0
+none_first p [] all = refl
+none_first p (d ∷ ds) all = rw all.0 refl
+
+prefix_late : (p : Claim → Bool) (cs : List Claim) (i : ℕ) → IsParted p cs → prefix_len p cs ≤ i → prefix_len p (remove cs i) ≡ prefix_len p cs
+prefix_late p [] zero parted h = refl
+prefix_late p [] (suc i) parted h = refl
+prefix_late p (c ∷ cs) zero parted h = elim (cases_Bool (p c)) [
+  | inl passes ↦ absurd (omega (arith, rw passes at h))
+  | inr fails ↦ rw fails (none_first p cs (parted.0 fails))
+]
+prefix_late p (c ∷ cs) (suc i) parted h = elim (cases_Bool (p c)) [
+  | inl passes ↦
+      let past : prefix_len p cs ≤ i = omega (arith, rw passes at h) in
+      rw (passes, prefix_late p cs i parted.1 past) refl
+  | inr fails ↦ rw fails refl
+]
+
+pub placed_without_early : (claim : Claim) (cs : List Claim) (i n : ℕ) → n ≡ prefix_len (λ held. goes_first held claim) cs → i < n → inserted claim (remove cs i) ≡ take (n - 1) (remove cs i) ++ claim ∷ drop (n - 1) (remove cs i)
+placed_without_early claim cs i n is h = placed_at claim (remove cs i) (n - 1) (sym (prefix_early (λ held. goes_first held claim) cs i (subst (λ (m : ℕ). i < m) is h) ∙ ap (λ (m : ℕ). m - 1) (sym is)))
+
+pub placed_without_late : (claim : Claim) (cs : List Claim) (i n : ℕ) → Pairwise goes_first cs → n ≡ prefix_len (λ held. goes_first held claim) cs → n ≤ i → inserted claim (remove cs i) ≡ take n (remove cs i) ++ claim ∷ drop n (remove cs i)
+placed_without_late claim cs i n ordered is h =
+    placed_at claim (remove cs i) n (sym (prefix_late (λ held. goes_first held claim) cs i (place_parted claim cs ordered) (subst (λ (m : ℕ). m ≤ i) is h) ∙ sym is))
+
+-- ---- the claim equal to this one
+
+any_or : (p : Claim → Bool) (xs ys : List Claim) → list_any p (xs ++ ys) ≡ (list_any p xs || list_any p ys)
+any_or p [] ys = refl
+any_or p (x ∷ xs) ys = elim (cases_Bool (p x)) [ inl h ↦ rw h refl | inr h ↦ rw h (any_or p xs ys) ]
+
+pub found_early : (claim : Claim) (i : ℕ) (xs ys : List Claim) → (i < length xs) × (list_any (λ held. same_claims held claim) xs ≡ true) × (removed claim xs ≡ take i xs ++ drop (i + 1) xs) → IsFoundAt claim i (xs ++ ys)
+found_early claim i xs ys found = record {
+  within = omega (arith, found.0, length-append xs ys);
+  held = any_or (λ held. same_claims held claim) xs ys ∙ rw found.1 refl;
+  rest = let e : i + 1 ≡ suc i = omega arith in removed_first xs found.1 ∙ ap (λ (ds : List Claim). ds ++ ys) (found.2 ∙ ap (λ (n : ℕ). take i xs ++ drop n xs) e) ∙ remove_first xs i found.0;
+} where
+  removed_first : (xs : List Claim) → list_any (λ held. same_claims held claim) xs ≡ true → removed claim (xs ++ ys) ≡ removed claim xs ++ ys
+  removed_first [] h = cc
+  removed_first (x ∷ xs) h = elim (cases_Bool (same_claims x claim)) [
+    | inl same ↦ rw same refl
+    | inr other ↦ rw other (ap (λ (ds : List Claim). x ∷ ds) (removed_first xs (rw other at h)))
+  ]
+
+  remove_first : (xs : List Claim) (i : ℕ) → i < length xs → remove xs i ++ ys ≡ remove (xs ++ ys) i
+  remove_first [] i h = absurd (omega (arith, h))
+  remove_first (x ∷ xs) zero h = refl
+  remove_first (x ∷ xs) (suc i) h = ap (λ (ds : List Claim). x ∷ ds) (remove_first xs i (omega (arith, h)))
+
+pub found_late : (claim : Claim) (i n : ℕ) (xs ys : List Claim) → list_any (λ held. same_claims held claim) xs ≡ false → n ≡ length xs → IsFoundAt claim i ys → IsFoundAt claim (n + i) (xs ++ ys)
+found_late claim i n xs ys none is found = subst (λ (m : ℕ). IsFoundAt claim (m + i) (xs ++ ys)) (sym is) (go xs none) where
+  go : (xs : List Claim) → list_any (λ held. same_claims held claim) xs ≡ false → IsFoundAt claim (length xs + i) (xs ++ ys)
+  go [] none = let e : 0 + i ≡ i = omega arith in rw e found
+  go (x ∷ xs) none = elim (cases_Bool (same_claims x claim)) [
+    | inl same ↦ cc
+    | inr other ↦
+        let rest = go xs (rw other at none) in
+        let e : suc (length xs) + i ≡ suc (length xs + i) = omega arith in
+        rw e
+        (record {
+          within = omega (arith, rest.within);
+          held = rw other rest.held;
+          rest = rw other (ap (λ (ds : List Claim). x ∷ ds) rest.rest);
+        })
+  ]
+
+pub found_nowhere : (claim : Claim) (xs ys : List Claim) → list_any (λ held. same_claims held claim) xs ≡ false → list_any (λ held. same_claims held claim) ys ≡ false → list_any (λ held. same_claims held claim) (xs ++ ys) ≡ false
+found_nowhere claim xs ys none also = any_or (λ held. same_claims held claim) xs ys ∙ rw (none, also) refl
+
+pub found_there : (claim : Claim) (i : ℕ) (cs : List Claim) → IsFoundAt claim i cs → i + 1 ≤ length cs
+found_there claim i cs found = omega (arith, found.within)
+
+pub found_is_held : (claim : Claim) (i : ℕ) (cs : List Claim) → IsFoundAt claim i cs → true ≡ list_any (λ held. same_claims held claim) cs
+found_is_held claim i cs found = sym found.held
+
+pub found_removed : (claim : Claim) (i : ℕ) (cs new : List Claim) → IsFoundAt claim i cs → new ≡ take i cs ++ drop (i + 1) cs → new ≡ removed claim cs
+found_removed claim i cs new found e = let n : i + 1 ≡ suc i = omega arith in e ∙ ap (λ (m : ℕ). take i cs ++ drop m cs) n ∙ sym found.rest
+
+pub found_changed : (claim : Claim) (to : What) (i n : ℕ) (cs new : List Claim) → IsFoundAt claim i cs → inserted (with_what claim to) (remove cs i) ≡ take n (remove cs i) ++ with_what claim to ∷ drop n (remove cs i) → new ≡ take n (remove cs i) ++ with_what claim to ∷ drop n (remove cs i) → new ≡ changed claim to cs
+unfolding changed
+found_changed claim to i n cs new found place e = e ∙ sym place ∙ ap (λ (ds : List Claim). inserted (with_what claim to) ds) (sym found.rest)
+
+pub put_at_place : (claim : Claim) (cs new : List Claim) (i : ℕ) → i ≡ prefix_len (λ held. goes_first held claim) cs → new ≡ take i cs ++ ((claim ∷ []) ++ drop i cs) → new ≡ inserted claim cs
+put_at_place claim cs new i at e = e ∙ sym (placed_at claim cs i at)
+
+pub holder_more : (least : Option Claim) (file byte : ℕ) (xs ys : List Claim) → holder_from least file byte (xs ++ ys) ≡ holder_from (holder_from least file byte xs) file byte ys
+holder_more least file byte [] ys = refl
+holder_more least file byte (x ∷ xs) ys = holder_more (if locks file byte x then Some (lesser least x) else least) file byte xs ys
+
+pub holder_page : (least new whole : Option Claim) (file byte i : ℕ) (ps : List (List Claim)) (p seen : List Claim) → i < length ps → p ≡ get_or ps i p → seen ≡ p → new ≡ holder_from least file byte seen → holder_from least file byte (paged (drop i ps)) ≡ whole → holder_from new file byte (paged (drop (i + 1) ps)) ≡ whole
+holder_page least new whole file byte i ps p seen h is same e so_far =
+    ap (λ (o : Option Claim). holder_from o file byte (paged (drop (i + 1) ps))) (e ∙ ap (λ (ds : List Claim). holder_from least file byte ds) same)
+    ∙ sym (holder_more least file byte p (paged (drop (i + 1) ps)))
+    ∙ ap (λ (ds : List Claim). holder_from least file byte ds) (sym (drop_page ps i p h is))
+    ∙ so_far

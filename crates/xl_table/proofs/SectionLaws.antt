@@ -1,5 +1,5 @@
 -- What bisection finds in the flat list: a file's claims, an owner's shares, its ranges.
-use Rattle.std.proofs.Common.{◌≡◌, ℕ, ◌<◌, ◌≤◌, suc, zero, Bool, true, false, not, ◌&&◌, ◌||◌, ◌==◌, nat_lt, List, [], ◌∷◌, ◌++◌, length, take, drop, get_or, Option, Some, None, IfSome, refl, sym, ap, subst, ◌∙◌, inl, inr, arith}
+use Rattle.std.proofs.Common.{◌≡◌, ℕ, ◌-◌, ◌<◌, ◌≤◌, suc, zero, Bool, true, false, not, ◌&&◌, ◌||◌, ◌==◌, nat_lt, List, [], ◌∷◌, ◌++◌, length, take, drop, get_or, Option, Some, None, IfSome, refl, sym, ap, subst, ◌∙◌, inl, inr, arith}
 use Rattle.std.proofs.Math.Numerals.{one-add}
 use Rattle.std.proofs.Math.Nat.{suc-sub-suc, sub-zero}
 use Rattle.std.specs.List.{AllByRecursion, filter, find, list_any, prefix_len, slice_get, slice_range}
@@ -11,10 +11,8 @@ use Rattle.std.proofs.lemmas.Bool.Decides.{nat_tests}
 use Rattle.xl_base.specs.declared.name.Owner.{Owner}
 use Rattle.xl_base.specs.declared.name.Owner.TheVariants as owners
 use Rattle.xl_base.specs.declared.name.Protocol.TheVariants.{Nlm, Nfs, Smb}
-use Rattle.xl_base.specs.declared.name.Party.TheVariants as parties
 use Rattle.xl_base.specs.Lists.{IsIn, Pairwise}
 use Rattle.xl_matrix.specs.declared.claim.Claim.{Claim}
-use Rattle.xl_matrix.specs.declared.claim.Extent.TheVariants.{Empty}
 use Rattle.xl_matrix.specs.declared.claim.What.{What}
 use Rattle.xl_matrix.specs.declared.claim.What.TheVariants.{Share, Range, Cache}
 use Rattle.xl_matrix.specs.Equal.{same_owners}
@@ -22,6 +20,7 @@ use Rattle.xl_spans.specs.declared.span.Span.{Span}
 use Rattle.xl_matrix.specs.Matrix.{compat}
 use Rattle.xl_matrix.proofs.EqualLaws.{eqb-sym}
 use Rattle.xl_table.specs.Order.{no_later, owner_key, place_in_group, key_by, key, goes_first}
+use Rattle.xl_table.specs.Files.{here}
 use Rattle.xl_table.specs.Flat.{is_own, blocks, is_blocked}
 use Rattle.xl_table.specs.Held.{is_range, is_share, is_cache, is_of, with_span, spans_of}
 use Rattle.xl_table.specs.Relock.{is_range_of, is_share_of}
@@ -31,28 +30,26 @@ use Rattle.xl_table.proofs.InsertLaws.{not_range}
 
 -- ---- a list in which all that pass a test stand before all that fail it
 
-no_claim : Claim
-no_claim = record { file = 0; owner = owners.Open 0; party = parties.Open 0; what = Range (Empty 0) false }
-
-fails_at : (p : Claim → Bool) (cs : List Claim) → AllByRecursion (λ c. p c ≡ false) cs → (i : ℕ) (d : Claim) → i < length cs → p (get_or cs i d) ≡ false
+fails_at : {A : Type 0} (p : A → Bool) (xs : List A) → AllByRecursion (λ x. p x ≡ false) xs → (i : ℕ) (d : A) → i < length xs → p (get_or xs i d) ≡ false
 fails_at p [] all i d h = absurd (omega arith)
-fails_at p (c ∷ cs) all zero d h = all.0
-fails_at p (c ∷ cs) all (suc i) d h = fails_at p cs all.1 i d (omega (arith, h))
+fails_at p (x ∷ xs) all zero d h = all.0
+fails_at p (x ∷ xs) all (suc i) d h = fails_at p xs all.1 i d (omega (arith, h))
 
-pub parted_by : (p : Claim → Bool) (cs : List Claim) → IsParted p cs → IsPartitionedBy p cs
+pub parted_by : {A : Type 0} (p : A → Bool) (xs : List A) → IsParted p xs → IsPartitionedBy p xs
 parted_by p [] parted i j d le h e = absurd (omega arith)
-parted_by p (c ∷ cs) parted zero zero d le h e = e
-parted_by p (c ∷ cs) parted zero (suc j) d le h e =
-    elim (cases_Bool (p c)) [
+parted_by p (x ∷ xs) parted zero zero d le h e = e
+parted_by p (x ∷ xs) parted zero (suc j) d le h e =
+    elim (cases_Bool (p x)) [
       | inl passes ↦ passes
-      | inr fails ↦ absurd (both_ways (p (get_or cs j d)) (fails_at p cs (parted.0 fails) j d (omega (arith, h))) e)
+      | inr fails ↦ absurd (both_ways (p (get_or xs j d)) (fails_at p xs (parted.0 fails) j d (omega (arith, h))) e)
     ]
-parted_by p (c ∷ cs) parted (suc i) zero d le h e = absurd (omega arith)
-parted_by p (c ∷ cs) parted (suc i) (suc j) d le h e = parted_by p cs parted.1 i j d (omega (arith, le)) (omega (arith, h)) e
+parted_by p (x ∷ xs) parted (suc i) zero d le h e = absurd (omega arith)
+parted_by p (x ∷ xs) parted (suc i) (suc j) d le h e = parted_by p xs parted.1 i j d (omega (arith, le)) (omega (arith, h)) e
 
-pub point_is : (p : Claim → Bool) (cs : List Claim) (i : ℕ) → i ≤ length cs → IsPartitionPoint (λ c. p c ≡ true) (λ c. p c ≡ false) cs i → i ≡ prefix_len p cs
-point_is p cs i h parted =
-    sym (prefix_len_is p cs i no_claim h (λ k below. parted.0 k no_claim (omega arith) below) (λ more. parted.1 i no_claim (omega arith) more))
+pub point_is : {A : Type 0} (p : A → Bool) (xs : List A) (i : ℕ) → i ≤ length xs → IsPartitionPoint (λ x. p x ≡ true) (λ x. p x ≡ false) xs i → i ≡ prefix_len p xs
+point_is p [] i h parted = omega (arith, h)
+point_is p (x ∷ xs) i h parted =
+    sym (prefix_len_is p (x ∷ xs) i x h (λ k below. parted.0 k x (omega arith) below) (λ more. parted.1 i x (omega arith) more))
 
 -- a test that passes for all that stand no later than one for which it passes
 pub parted_ordered : (p : Claim → Bool) → ((a b : Claim) → goes_first a b ≡ true → p b ≡ true → p a ≡ true) → (cs : List Claim) → Pairwise goes_first cs → IsParted p cs
@@ -144,7 +141,7 @@ upto_on (f ∷ fs) (x ∷ xs) (y ∷ ys) h k = step f x y (no_later xs ys) (is_n
 begun_before : (fs xs ys : List ℕ) → no_later xs ys ≡ true → no_later fs ys ≡ false → no_later fs xs ≡ false
 begun_before fs xs ys h k = false_from_ne_true (no_later fs xs) (λ (e : no_later fs xs ≡ true). both_ways (no_later fs ys) k (no_later-on fs xs ys e h))
 
-upto_before : (fs ks : List ℕ) → no_later fs ks ≡ false → is_no_later_than fs ks ≡ true
+pub upto_before : (fs ks : List ℕ) → no_later fs ks ≡ false → is_no_later_than fs ks ≡ true
 upto_before [] ks h = refl
 upto_before (f ∷ fs) [] h = refl
 upto_before (f ∷ fs) (k ∷ ks) h = step f k (no_later fs ks) (is_no_later_than fs ks) h (upto_before fs ks) where
@@ -222,14 +219,6 @@ and_false : (b : Bool) → (b && false) ≡ false
 and_false true = refl
 and_false false = refl
 
-pub starts_file : (file : ℕ) (c : Claim) → starts (file ∷ []) (key c) ≡ (c.file == file)
-unfolding key
-starts_file file c = by c.what where
-  by : (w : What) → starts (file ∷ []) (key_by c w) ≡ (c.file == file)
-  by (Share access deny) = and_true (c.file == file)
-  by (Range extent exclusive) = and_true (c.file == file)
-  by (Cache kind running) = and_true (c.file == file)
-
 starts_shares : (file : ℕ) (c : Claim) → starts (file ∷ 0 ∷ []) (key c) ≡ ((c.file == file) && is_share c.what)
 unfolding key
 starts_shares file c = by c.what where
@@ -282,9 +271,6 @@ starts_range file owner c = by c.what where
   by (Cache kind running) = and_false (c.file == file) ∙ sym (and_false (is_of file owner c))
 
 -- ---- what bisection gives
-
-pub file_section : (file : ℕ) (cs out : List Claim) (i j : ℕ) → Pairwise goes_first cs → i ≡ prefix_len (is_before (file ∷ [])) cs → j ≡ prefix_len (is_upto (file ∷ [])) cs → out ≡ slice_range cs i j → out ≡ filter (λ c. c.file == file) cs
-file_section file cs out i j ordered a b is = section_is (file ∷ []) (λ c. c.file == file) cs out i j (starts_file file) ordered a b is
 
 pub shares_section : (file : ℕ) (cs out : List Claim) (i j n : ℕ) → n ≡ file → Pairwise goes_first cs → i ≡ prefix_len (is_before (n ∷ 0 ∷ [])) cs → j ≡ prefix_len (is_upto (n ∷ 0 ∷ [])) cs → out ≡ slice_range cs i j → out ≡ filter (λ c. (c.file == file) && is_share c.what) cs
 shares_section file cs out i j n e ordered a b is = section_is (n ∷ 0 ∷ []) (λ c. (c.file == file) && is_share c.what) cs out i j (λ c. starts_shares n c ∙ ap (λ (m : ℕ). (c.file == m) && is_share c.what) e) ordered a b is
@@ -351,9 +337,53 @@ find_filter p (c ∷ cs) = elim (cases_Bool (p c)) [ inl h ↦ rw h refl | inr h
 pub first_share : (file : ℕ) (owner : Owner) (cs out : List Claim) → out ≡ filter (is_share_of file owner) cs → slice_get out 0 ≡ find (is_share_of file owner) cs
 first_share file owner cs out is = ap (λ (ds : List Claim). slice_get ds 0) is ∙ find_filter (is_share_of file owner) cs
 
+-- ---- what is asked of a file's claims alone
+
+pub shares_here : (file : ℕ) (cs out on : List Claim) → out ≡ filter (λ c. (c.file == file) && is_share c.what) on → on ≡ here file cs → out ≡ filter (λ c. (c.file == file) && is_share c.what) cs
+shares_here file cs out on e is =
+    e ∙ ap (λ (ds : List Claim). filter (λ c. (c.file == file) && is_share c.what) ds) is
+    ∙ filter_within (λ c. (c.file == file) && is_share c.what) (λ c. c.file == file) cs (λ c other. rw other refl)
+
+pub caches_here : (file : ℕ) (cs out on : List Claim) → out ≡ filter (λ c. (c.file == file) && is_cache c.what) on → on ≡ here file cs → out ≡ filter (λ c. (c.file == file) && is_cache c.what) cs
+caches_here file cs out on e is =
+    e ∙ ap (λ (ds : List Claim). filter (λ c. (c.file == file) && is_cache c.what) ds) is
+    ∙ filter_within (λ c. (c.file == file) && is_cache c.what) (λ c. c.file == file) cs (λ c other. rw other refl)
+
+pub ranges_here : (file : ℕ) (owner : Owner) (cs out on : List Claim) → out ≡ filter (is_range_of file owner) on → on ≡ here file cs → out ≡ filter (is_range_of file owner) cs
+ranges_here file owner cs out on e is =
+    e ∙ ap (λ (ds : List Claim). filter (is_range_of file owner) ds) is ∙ filter_within (is_range_of file owner) (λ c. c.file == file) cs (λ c other. rw other refl)
+
+find_within : (p q : Claim → Bool) (cs : List Claim) → ((c : Claim) → q c ≡ false → p c ≡ false) → find p (filter q cs) ≡ find p cs
+find_within p q [] out = refl
+find_within p q (c ∷ cs) out =
+    elim (cases_Bool (q c)) [
+      | inl in_it ↦ rw (in_it, find_within p q cs out) refl
+      | inr past ↦ rw (past, out c past) (find_within p q cs out)
+    ]
+
+pub share_here : (file : ℕ) (owner : Owner) (cs on : List Claim) (out : Option Claim) → out ≡ find (is_share_of file owner) on → on ≡ here file cs → out ≡ find (is_share_of file owner) cs
+share_here file owner cs on out e is =
+    e ∙ ap (λ (ds : List Claim). find (is_share_of file owner) ds) is ∙ find_within (is_share_of file owner) (λ c. c.file == file) cs (λ c other. rw other refl)
+
 pub first_is_in : (p : Claim → Bool) (cs : List Claim) (found : Option Claim) → found ≡ find p cs → IfSome found (λ c. IsIn c cs)
 first_is_in p cs None e = tt
 first_is_in p cs (Some c) e = go cs (sym e) where
   go : (ds : List Claim) → find p ds ≡ Some c → IsIn c ds
   go [] h = cc
   go (d ∷ ds) h = elim (cases_Bool (p d)) [ inl here ↦ inl (same_Some d c (rw here at h)) | inr later ↦ inr (go ds (rw later at h)) ]
+
+-- the first of a part
+none_of : (n : ℕ) → slice_get {X = Claim} (take n []) 0 ≡ None
+none_of zero = refl
+none_of (suc n) = refl
+
+pub range_first : (cs : List Claim) (start end : ℕ) → start < end → slice_get cs start ≡ slice_get (slice_range cs start end) 0
+range_first [] zero end h = sym (none_of (end - 0))
+range_first [] (suc start) end h = sym (none_of (end - suc start))
+range_first (c ∷ cs) zero zero h = absurd (omega (arith, h))
+range_first (c ∷ cs) zero (suc end) h = rw sub-zero refl
+range_first (c ∷ cs) (suc start) zero h = absurd (omega (arith, h))
+range_first (c ∷ cs) (suc start) (suc end) h = rw (suc-sub-suc end start) (range_first cs start end (omega (arith, h)))
+
+pub range_none : (cs : List Claim) (start end : ℕ) → end ≤ start → None ≡ slice_get (slice_range cs start end) 0
+range_none cs start end h = let e : end - start ≡ 0 = omega (arith, h) in rw e refl

@@ -1,5 +1,5 @@
 -- What a share that is granted leaves: its owner has it alone, and all else stands as it stood.
-use Rattle.std.proofs.Common.{◌≡◌, ℕ, ◌+◌, Bool, true, false, not, ◌&&◌, if◌then◌else◌, inl, inr, List, [], ◌∷◌, length, map, Option, refl, sym, ap, ◌∙◌}
+use Rattle.std.proofs.Common.{◌≡◌, ℕ, Bool, true, false, not, ◌&&◌, if◌then◌else◌, inl, inr, List, [], ◌∷◌, map, Option, refl, sym, ap, ◌∙◌}
 use Rattle.std.specs.List.{filter}
 use Rattle.std.proofs.lemmas.Bool.{cases_Bool, both_ways, and_parts, eq-eqb, and_from}
 use Rattle.xl_base.specs.declared.name.Owner.{Owner}
@@ -20,7 +20,7 @@ use Rattle.xl_base.specs.Lists.{Pairwise}
 use Rattle.xl_spans.specs.Spans.{relocked}
 use Rattle.xl_table.specs.Relock.{range_claim, unranged, all_inserted, relocked_in, is_share_of, with_share, shares_of, unshared, old_shares, united_what, united_with, unites, united_by, united, shared_in}
 use Rattle.xl_table.proofs.OrderLaws.{inserted_ordered}
-use Rattle.xl_table.proofs.WriteBack.{kept_filter, length_split, of_no_other, relocked_is}
+use Rattle.xl_table.proofs.WriteBack.{kept_filter, of_no_other, relocked_is}
 
 pub share_is_no_range : (w : What) → is_share w ≡ true → is_range w ≡ false
 share_is_no_range (Share access deny) h = refl
@@ -30,10 +30,6 @@ share_is_no_range (Cache kind running) h = absurd (both_ways false refl h)
 pub kept_unshared : (file : ℕ) (owner : Owner) (cs : List Claim) → IsKept cs → IsKept (unshared file owner cs)
 unfolding unshared
 kept_unshared file owner cs kept = kept_filter (λ c. not (is_share_of file owner c)) cs kept
-
-pub length_unshared : (file : ℕ) (owner : Owner) (cs : List Claim) → length (old_shares file owner cs) + length (unshared file owner cs) ≡ length cs
-unfolding old_shares unshared
-length_unshared file owner cs = length_split (is_share_of file owner) cs
 
 -- ---- shares when a claim is entered
 

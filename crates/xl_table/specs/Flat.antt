@@ -1,17 +1,14 @@
 -- What a table of claims answers, on the flat list of its claims.
-use Rattle.std.specs.Prelude.{ℕ, Bool, true, false, not, ◌&&◌, ◌||◌, ◌==◌, nat_le, List, [], ◌∷◌, Option, Some, None, if◌then◌else◌}
+use Rattle.std.specs.Prelude.{ℕ, Bool, false, ◌&&◌, ◌==◌, nat_le, List, [], ◌∷◌, Option, Some, None, if◌then◌else◌}
 use Rattle.std.specs.List.{list_any}
 use Rattle.xl_base.specs.Lists.{placed}
 use Rattle.xl_base.specs.declared.event.Moment.{Moment}
-use Rattle.xl_base.specs.declared.name.Owner.{Owner}
 use Rattle.xl_matrix.specs.declared.claim.Extent.TheVariants.{Bytes}
 use Rattle.xl_matrix.specs.declared.claim.What.{What}
-use Rattle.xl_matrix.specs.declared.claim.What.TheVariants.{Share, Range, Cache}
+use Rattle.xl_matrix.specs.declared.claim.What.TheVariants.{Range, Cache}
 use Rattle.xl_matrix.specs.declared.claim.Claim.{Claim}
-use Rattle.xl_matrix.specs.Owners.{posix}
 use Rattle.xl_matrix.specs.Extents.{has_byte}
-use Rattle.xl_matrix.specs.Equal.{same_owners, same_claims}
-use Rattle.xl_matrix.specs.Matrix.{ranges_meet, compat}
+use Rattle.xl_matrix.specs.Equal.{same_claims}
 pub use Rattle.xl_matrix.specs.Blocks.{is_replaced, is_own, is_met, is_met_by_own}
 unfoldable pub use Rattle.xl_matrix.specs.Blocks.{blocks}
 use Rattle.xl_table.specs.Order.{goes_first, no_later}

@@ -5,7 +5,7 @@ use Rattle.xl_base.specs.Lists.{Pairwise}
 use Rattle.xl_base.specs.declared.name.Owner.{Owner}
 use Rattle.xl_matrix.specs.declared.claim.Extent.TheVariants.{Bytes, Empty}
 use Rattle.xl_matrix.specs.declared.claim.What.{What}
-use Rattle.xl_matrix.specs.declared.claim.What.TheVariants.{Share, Range, Cache}
+use Rattle.xl_matrix.specs.declared.claim.What.TheVariants.{Share, Range}
 use Rattle.xl_matrix.specs.declared.claim.Claim.{Claim}
 use Rattle.xl_matrix.specs.Owners.{posix}
 pub use Rattle.xl_matrix.specs.Blocks.{is_share, is_range, is_cache}

@@ -1,7 +1,11 @@
 pub mod Order
 pub mod Flat
 pub mod Held
+pub mod Files
 pub mod Sections
 pub mod Relock
 pub mod Changes
 pub mod Least
+pub mod Clear
+pub mod Bounds
+pub mod Pages

@@ -42,10 +42,10 @@ abbrev pub range_begins_by : ℕ → What → Bool
 range_begins_by byte (Range (Bytes first last) exclusive) = nat_le (first - 1) byte
 range_begins_by byte _ = false
 
--- once a claim fails the test, so do all behind it
-abbrev pub IsParted : (Claim → Bool) → List Claim → Type 0
+-- once an element fails the test, so do all behind it
+abbrev pub IsParted : {A : Type 0} → (A → Bool) → List A → Type 0
 IsParted p [] = Unit {0}
-IsParted p (c ∷ cs) = (p c ≡ false → AllByRecursion (λ d. p d ≡ false) cs) × IsParted p cs
+IsParted p (x ∷ xs) = (p x ≡ false → AllByRecursion (λ y. p y ≡ false) xs) × IsParted p xs
 
 -- the spans of these claims, whoever's they are
 abbrev pub spans_in : List Claim → List Span

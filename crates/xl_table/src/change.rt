@@ -5,18 +5,25 @@ ghost use Rattle.xl_matrix.specs.Owners.{posix};
 ghost use Rattle.xl_spans.specs.declared.span.Mode.{Mode};
 ghost use Rattle.xl_table.specs.Held.{IsKept, IsPosix, is_range, is_share, has_one_party, mode_of};
 ghost use Rattle.xl_table.specs.Relock.{relocked_in, shared_in, granted_claims};
-ghost use Rattle.xl_table.specs.Changes.{written, MayBeWritten};
+ghost use Rattle.xl_table.specs.Files.{joined, IsFiled, IsAt};
+ghost use Rattle.xl_table.specs.Pages.{paged, AreFull};
+ghost use Rattle.xl_table.specs.Changes.{spliced, written, IsOn, MayBeWritten};
 
-use crate::relock::{fresh_claims, mode_of, touched_places, united};
-use crate::section::{between, group_places};
+use crate::files::{OnFile, on_file, open_file};
+use crate::page::Page;
+use crate::pages::{between, splice as splice_pages};
+use crate::relock::{fresh_claims, mode_of, united};
+use crate::section::group_places;
+use crate::touching::touched_places;
 use std::alloc::{AllocError, Global};
 use xl_matrix::{Claim, Extent, What};
 use xl_spans::Mode;
 
 /// What a grant or an unlock makes of a table's claims. It is worked out before it is written, so that the room that it
-/// takes can be asked of it; it speaks of the claims that the table held then.
+/// takes can be asked of it; it speaks of the claims that the table held then: of one file's, by their places among them.
 #[derive(Drop)]
 pub struct Change {
+    file: u32,
     start: usize,
     end: usize,
     entered: Vec<Claim>,
@@ -24,17 +31,20 @@ pub struct Change {
     pub held: usize,
 }
 
-/// The claims from one place to before another give way to these.
-fn make_change(claims: &[Claim], start: usize, end: usize, entered: Vec<Claim>) -> Change
+/// A file's claims from one place to before another give way to these, where `count` claims are held on all files.
+fn make_change(file: u32, count: usize, start: usize, end: usize, entered: Vec<Claim>) -> Change
     requires order { start ≤ end }
-    requires within { end ≤ length claims.now }
+    requires within { end ≤ count }
+    requires room { count ≤ 16384 }
+    ensures file { result.file ≡ file }
     ensures start { result.start ≡ start }
     ensures end { result.end ≡ end }
     ensures entered { result.entered.items ≡ entered.items }
-    ensures held { result.held + (end - start) ≡ length claims.now + length entered.items }
+    ensures held { result.held + (end - start) ≡ count + length entered.items }
 {
-    let held = claims.len() - (end - start) + entered.len();
+    let held = count - (end - start) + entered.len();
     Change {
+        file,
         start,
         end,
         entered,
@@ -42,29 +52,32 @@ fn make_change(claims: &[Claim], start: usize, end: usize, entered: Vec<Claim>) 
     }
 }
 
-/// The owner's range locked in this mode, or unlocked at None.
-pub(crate) fn relock(
+/// The owner's range on the file locked in this mode, or unlocked at None. These are the file's claims, of `count` on all
+/// files.
+fn relock(
     alloc: Global,
-    claims: &[Claim],
+    pages: &[Page],
+    count: usize,
     ask: &Claim,
     first: u64,
     last: u64,
     mode: Option<Mode>,
 ) -> Result<Change, AllocError>
-    requires kept { IsKept claims.now }
+    requires full { AreFull pages.now }
+    requires kept { IsKept (paged pages.now) }
     requires posix { posix ask.now.owner ≡ true }
     requires range { is_range ask.now.what ≡ true }
     requires ends { first ≤ last }
-    requires party { AllByRecursion (λ c. has_one_party ask.now c ≡ true) claims.now }
-    ensures claims { IfOk result (λ change. written change claims.now ≡ relocked_in ask.now.file ask.now.owner ask.now.party first last mode claims.now) }
-    ensures fits { IfOk result (λ change. MayBeWritten change claims.now) }
+    requires party { AllByRecursion (λ c. has_one_party ask.now c ≡ true) (paged pages.now) }
+    requires count { length (paged pages.now) ≤ count }
+    requires room { count ≤ 16384 }
+    ensures claims { IfOk result (λ change. spliced change (paged pages.now) ≡ relocked_in ask.now.file ask.now.owner ask.now.party first last mode (paged pages.now)) }
+    ensures on { IfOk result (λ change. IsOn ask.now.file count (paged pages.now) change) }
 {
-    let (start, end) = group_places(claims, ask.file, 1, ask.owner);
-    let group = between(claims, start, end);
-    let (near, far) = touched_places(group, first, last);
-    let touched = between(group, near, far);
-    let entered = fresh_claims(alloc, ask, touched, first, last, mode)?;
-    Ok(make_change(claims, start + near, start + far, entered))
+    let (near, far) = touched_places(pages, ask.file, ask.owner, first, last);
+    let touched = between(alloc, pages, near, far)?;
+    let entered = fresh_claims(alloc, ask, &touched, first, last, mode)?;
+    Ok(make_change(ask.file, count, near, far, entered))
 }
 
 fn one(alloc: Global, claim: Claim) -> Result<Vec<Claim>, AllocError>
@@ -75,39 +88,94 @@ fn one(alloc: Global, claim: Claim) -> Result<Vec<Claim>, AllocError>
     Ok(claims)
 }
 
-/// A share in the place of its owner's, or united with it.
-pub(crate) fn share(alloc: Global, claims: &[Claim], claim: &Claim) -> Result<Change, AllocError>
-    requires kept { IsKept claims.now }
+/// A share in the place of its owner's on the file, or united with it. These are the file's claims, of `count` on all files.
+fn share(alloc: Global, pages: &[Page], count: usize, claim: &Claim) -> Result<Change, AllocError>
+    requires full { AreFull pages.now }
+    requires kept { IsKept (paged pages.now) }
     requires share { is_share claim.now.what ≡ true }
-    ensures claims { IfOk result (λ change. written change claims.now ≡ shared_in claim.now claims.now) }
-    ensures fits { IfOk result (λ change. MayBeWritten change claims.now) }
+    requires count { length (paged pages.now) ≤ count }
+    requires room { count ≤ 16384 }
+    ensures claims { IfOk result (λ change. spliced change (paged pages.now) ≡ shared_in claim.now (paged pages.now)) }
+    ensures on { IfOk result (λ change. IsOn claim.now.file count (paged pages.now) change) }
 {
-    let (start, end) = group_places(claims, claim.file, 0, claim.owner);
-    let entered = one(alloc, united(claim, between(claims, start, end)))?;
-    Ok(make_change(claims, start, end, entered))
+    let (start, end) = group_places(pages, claim.file, 0, claim.owner);
+    let old = between(alloc, pages, start, end)?;
+    let entered = one(alloc, united(claim, &old))?;
+    Ok(make_change(claim.file, count, start, end, entered))
 }
 
-/// What a grant changes.
+/// What a grant changes. These are the file's claims, of `count` on all files.
 #[tactic(auto, unfolding(crate::specs::Relock::granted_claims))]
-pub(crate) fn grant(alloc: Global, claims: &[Claim], claim: &Claim) -> Result<Change, AllocError>
-    requires kept { IsKept claims.now }
+fn grant_on(
+    alloc: Global,
+    pages: &[Page],
+    count: usize,
+    claim: &Claim,
+) -> Result<Change, AllocError>
+    requires full { AreFull pages.now }
+    requires kept { IsKept (paged pages.now) }
     requires posix { IsPosix claim.now }
-    requires party { AllByRecursion (λ c. has_one_party claim.now c ≡ true) claims.now }
-    ensures claims { IfOk result (λ change. written change claims.now ≡ granted_claims claim.now claims.now) }
-    ensures fits { IfOk result (λ change. MayBeWritten change claims.now) }
+    requires party { AllByRecursion (λ c. has_one_party claim.now c ≡ true) (paged pages.now) }
+    requires count { length (paged pages.now) ≤ count }
+    requires room { count ≤ 16384 }
+    ensures claims { IfOk result (λ change. spliced change (paged pages.now) ≡ granted_claims claim.now (paged pages.now)) }
+    ensures on { IfOk result (λ change. IsOn claim.now.file count (paged pages.now) change) }
 {
     match claim.what {
         What::Range(Extent::Bytes(first, last), exclusive) => {
             let mode = Some(mode_of(exclusive));
-            Ok(relock(alloc, claims, claim, first, last, mode)?)
+            Ok(relock(alloc, pages, count, claim, first, last, mode)?)
         }
-        What::Share(_, _) => Ok(share(alloc, claims, claim)?),
-        _ => Ok(make_change(claims, 0, 0, Vec::new(alloc))),
+        What::Share(_, _) => Ok(share(alloc, pages, count, claim)?),
+        _ => Ok(make_change(claim.file, count, 0, 0, Vec::new(alloc))),
     }
 }
 
+/// What a grant changes.
+pub(crate) fn grant(
+    alloc: Global,
+    lists: &[OnFile],
+    count: usize,
+    claim: &Claim,
+) -> Result<Change, AllocError>
+    requires filed { IsFiled lists.now }
+    requires kept { IsKept (joined lists.now) }
+    requires count { count ≡ length (joined lists.now) }
+    requires posix { IsPosix claim.now }
+    requires party { AllByRecursion (λ c. has_one_party claim.now c ≡ true) (joined lists.now) }
+    ensures claims { IfOk result (λ change. written change (joined lists.now) ≡ granted_claims claim.now (joined lists.now)) }
+    ensures fits { IfOk result (λ change. MayBeWritten change (joined lists.now)) }
+{
+    let change = grant_on(alloc, on_file(lists, claim.file), count, claim)?;
+    Ok(change)
+}
+
+/// What an unlock changes.
+pub(crate) fn unlock(
+    alloc: Global,
+    lists: &[OnFile],
+    count: usize,
+    ask: &Claim,
+    first: u64,
+    last: u64,
+) -> Result<Change, AllocError>
+    requires filed { IsFiled lists.now }
+    requires kept { IsKept (joined lists.now) }
+    requires count { count ≡ length (joined lists.now) }
+    requires posix { posix ask.now.owner ≡ true }
+    requires range { is_range ask.now.what ≡ true }
+    requires ends { first ≤ last }
+    requires party { AllByRecursion (λ c. has_one_party ask.now c ≡ true) (joined lists.now) }
+    ensures claims { IfOk result (λ change. written change (joined lists.now) ≡ relocked_in ask.now.file ask.now.owner ask.now.party first last None (joined lists.now)) }
+    ensures fits { IfOk result (λ change. MayBeWritten change (joined lists.now)) }
+{
+    let pages = on_file(lists, ask.file);
+    let change = relock(alloc, pages, count, ask, first, last, None)?;
+    Ok(change)
+}
+
 /// Takes the claims from `start` to before `end` out.
-fn take_between(claims: &mut Vec<Claim>, start: usize, end: usize)
+pub(crate) fn take_between(claims: &mut Vec<Claim>, start: usize, end: usize)
     requires order { start ≤ end }
     requires within { end ≤ vec_len claims.old }
     ensures items { claims.new.items ≡ take start claims.old.items ++ drop end claims.old.items }
@@ -129,7 +197,7 @@ fn put_one(claims: &mut Vec<Claim>, place: usize, claim: Claim)
 }
 
 /// Puts claims, for which the list has room, at the place.
-fn put_all(claims: &mut Vec<Claim>, place: usize, entered: &[Claim])
+pub(crate) fn put_all(claims: &mut Vec<Claim>, place: usize, entered: &[Claim])
     requires place { place ≤ vec_len claims.old }
     requires room { vec_len claims.old + length entered.now ≤ vec_capacity claims.old }
     ensures items { claims.new.items ≡ take place claims.old.items ++ (entered.now ++ drop place claims.old.items) }
@@ -142,15 +210,47 @@ fn put_all(claims: &mut Vec<Claim>, place: usize, entered: &[Claim])
     }
 }
 
-/// Writes the change. After an error the list is as it was.
-#[tactic(auto, unfolding(crate::specs::Changes::written))]
-pub(crate) fn write(claims: &mut Vec<Claim>, change: &Change) -> Result<(), AllocError>
-    requires { MayBeWritten change.now claims.old.items }
-    ensures ok { OnOk result (claims.new.items ≡ written change.now claims.old.items) }
-    ensures err { OnErr result (claims.new.items ≡ claims.old.items) }
+/// Changes a file's claims. After an error they are as they were.
+#[tactic(auto, unfolding(crate::specs::Changes::spliced))]
+fn splice(pages: &mut Vec<Page>, change: &Change) -> Result<(), AllocError>
+    requires order { change.now.start ≤ change.now.end }
+    requires within { change.now.end ≤ length (paged pages.old.items) }
+    requires full { AreFull pages.old.items }
+    ensures ok { OnOk result (paged pages.new.items ≡ spliced change.now (paged pages.old.items)) }
+    ensures err { OnErr result (paged pages.new.items ≡ paged pages.old.items) }
+    ensures full { AreFull pages.new.items }
 {
-    claims.reserve(change.entered.len())?;
-    take_between(claims, change.start, change.end);
-    put_all(claims, change.start, &change.entered);
+    let alloc = *pages.allocator();
+    splice_pages(alloc, pages, change.start, change.end, &change.entered)?;
+    Ok(())
+}
+
+fn write_at(lists: &mut Vec<OnFile>, at: usize, change: &Change) -> Result<(), AllocError>
+    requires filed { IsFiled lists.old.items }
+    requires at { IsAt change.now.file at lists.old.items }
+    requires bound { at < vec_len lists.old }
+    requires fits { MayBeWritten change.now (joined lists.old.items) }
+    ensures ok { OnOk result (joined lists.new.items ≡ written change.now (joined lists.old.items)) }
+    ensures err { OnErr result (joined lists.new.items ≡ joined lists.old.items) }
+    ensures filed { IsFiled lists.new.items }
+{
+    splice(&mut lists[at].pages, change)?;
+    Ok(())
+}
+
+/// Writes the change. After an error the claims are as they were.
+pub(crate) fn write(
+    alloc: Global,
+    lists: &mut Vec<OnFile>,
+    change: &Change,
+) -> Result<(), AllocError>
+    requires filed { IsFiled lists.old.items }
+    requires fits { MayBeWritten change.now (joined lists.old.items) }
+    ensures ok { OnOk result (joined lists.new.items ≡ written change.now (joined lists.old.items)) }
+    ensures err { OnErr result (joined lists.new.items ≡ joined lists.old.items) }
+    ensures filed { IsFiled lists.new.items }
+{
+    let at = open_file(alloc, lists, change.file)?;
+    write_at(lists, at, change)?;
     Ok(())
 }

@@ -1,11 +1,12 @@
 //! Who has a byte.
 ghost use Rattle.std.specs.Prelude.{◌≡◌};
-ghost use Rattle.xl_base.specs.Lists.{Pairwise};
-ghost use Rattle.xl_table.specs.Order.{goes_first};
+ghost use Rattle.xl_table.specs.Files.{joined, IsFiled};
+ghost use Rattle.xl_table.specs.Pages.{paged};
 ghost use Rattle.xl_table.specs.Flat.{locks_by, locks, range_key_by, lesser, holder_from, holder};
 
+use crate::files::{OnFile, on_file};
 use crate::ordering::is_no_later;
-use crate::section::on_file;
+use crate::page::Page;
 use xl_matrix::{Claim, Extent, What, covers};
 
 fn locks_byte(what: What, byte: u64) -> bool
@@ -50,24 +51,36 @@ fn lesser_of(least: Option<Claim>, claim: Claim) -> Claim
     }
 }
 
-/// The least range on the file that has the byte.
-#[tactic(auto, using(crate::proofs::PlaceLaws::holder_on_file))]
-pub(crate) fn find_holder(claims: &[Claim], file: u32, byte: u64) -> Option<Claim>
-    requires { Pairwise goes_first claims.now }
-    ensures { result ≡ holder file byte claims.now }
+/// The lesser of the least range so far that has the byte, and those of these claims.
+fn holder_with(least: Option<Claim>, claims: &[Claim], file: u32, byte: u64) -> Option<Claim>
+    ensures { result ≡ holder_from least file byte claims.now }
 {
-    holder_among(on_file(claims, file), file, byte)
-}
-
-#[tactic(auto, unfolding(crate::specs::Flat::holder))]
-fn holder_among(claims: &[Claim], file: u32, byte: u64) -> Option<Claim>
-    ensures { result ≡ holder file byte claims.now }
-{
-    let mut least = None;
+    let mut least = least;
     'claims: for claim in claims {
         if is_lock_on(file, byte, claim) {
             least = Some(lesser_of(least, *claim));
         }
     }
     least
+}
+
+/// The least range in these pages that has the byte.
+#[tactic(auto, using(crate::proofs::PlaceLaws::holder_more), unfolding(crate::specs::Flat::holder))]
+fn holder_among(pages: &[Page], file: u32, byte: u64) -> Option<Claim>
+    ensures { result ≡ holder file byte (paged pages.now) }
+{
+    let mut least = None;
+    for page in pages {
+        least = holder_with(least, page.as_slice(), file, byte);
+    }
+    least
+}
+
+/// The least range on the file that has the byte.
+#[tactic(auto, using(crate::proofs::PlaceLaws::holder_on_file))]
+pub(crate) fn find_holder(lists: &[OnFile], file: u32, byte: u64) -> Option<Claim>
+    requires { IsFiled lists.now }
+    ensures { result ≡ holder file byte (joined lists.now) }
+{
+    holder_among(on_file(lists, file), file, byte)
 }

@@ -16,12 +16,15 @@ ghost use Rattle.xl_table.specs.Flat.{inserted, removed, changed, with_what, is_
 ghost use Rattle.xl_table.specs.Held.{is_range, is_real, is_share, has_one_party, mode_of, is_of, spans_of, begins_first, IsSound};
 ghost use Rattle.xl_table.specs.Relock.{is_share_of, united, relocked_in, is_cut};
 
-/// Claims stay pairwise compatible: when one that nothing blocks is entered, where what it replaces is gone; when one
-/// is taken out; and when one is made weaker.
+/// Claims stay pairwise compatible: when one that goes with each of them is entered, and so when one is that nothing
+/// blocks, where what it replaces is gone; when one is taken out; when one is made weaker, as a cache by its break; and
+/// when one becomes what goes with each of the others, as a cache that is raised.
 pub fn stays_compatible()
+    ensures fitting { (claim : Claim) (held : List Claim) → Pairwise compat held → AllByRecursion (λ d. compat claim d ≡ true) held → Pairwise compat (inserted claim held) }
     ensures entered { (ask : Claim) (held : List Claim) → Pairwise compat held → AllByRecursion (λ d. is_own ask d ≡ false) held → filter (λ d. blocks ask d) held ≡ [] → Pairwise compat (inserted ask held) }
     ensures taken { (claim : Claim) (held : List Claim) → Pairwise compat held → Pairwise compat (removed claim held) }
     ensures weakened { (claim : Claim) (to : What) (held : List Claim) → Pairwise compat held → IsIn claim held → weaker (with_what claim to) claim ≡ true → Pairwise compat (changed claim to held) }
+    ensures raised { (claim : Claim) (to : What) (held : List Claim) → Pairwise compat held → AllByRecursion (λ d. compat (with_what claim to) d ≡ true) (removed claim held) → Pairwise compat (changed claim to held) }
 {}
 
 /// When a claim may be entered. A share or a cache always may, and a claim may always become one. A range may where it

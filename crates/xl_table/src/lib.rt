@@ -2,16 +2,22 @@
 #![tactic(auto)]
 
 mod block;
+mod bounds;
 mod change;
+mod files;
 mod holding;
 mod law;
 mod least;
 mod listing;
+mod marks;
 mod ordering;
+mod page;
+mod pages;
 mod placing;
 mod relock;
 mod section;
 mod table;
+mod touching;
 
 pub use block::is_answer_due;
 pub use change::Change;

@@ -1,53 +1,117 @@
 //! The claims that pass a test, in their order.
-ghost use Rattle.std.specs.Prelude.{◌≡◌, ◌==◌, not, IfOk};
+ghost use Rattle.std.specs.Prelude.{◌≡◌, ◌==◌, ◌≤◌, ◌++◌, not, nat_lt, length, IfOk, OnOk};
 ghost use Rattle.std.specs.List.{filter, list_any};
-ghost use Rattle.xl_base.specs.Lists.{Pairwise};
 ghost use Rattle.xl_matrix.specs.Equal.{same_parties};
-ghost use Rattle.xl_table.specs.Order.{goes_first};
+ghost use Rattle.xl_table.specs.Files.{joined, IsFiled};
+ghost use Rattle.xl_table.specs.Pages.{paged, AreFull};
 ghost use Rattle.xl_table.specs.Flat.{blocks, is_blocked, is_due};
 ghost use Rattle.xl_table.specs.Held.{is_range};
+ghost use Rattle.xl_table.specs.Clear.{lies_apart, is_clear};
 
 use crate::block::is_answer_due;
-use crate::section::on_file;
+use crate::files::{OnFile, on_file};
+use crate::page::Page;
+use crate::pages::count_claims;
 use std::alloc::{AllocError, Global};
 use xl_base::{Moment, Party};
-use xl_matrix::{Claim, What, is_blocked_by, same_party};
+use xl_matrix::{Claim, Extent, What, is_blocked_by, same_party};
+
+/// Whether a range with bytes is claimed that has none of these.
+fn lies_apart(first: u64, last: u64, what: What) -> bool
+    ensures { result ≡ lies_apart first last what }
+{
+    match what {
+        What::Range(Extent::Bytes(start, end), _) => end < first || last < start,
+        _ => false,
+    }
+}
+
+/// Whether a range with bytes is asked, and the held one has none of them: then nothing else need be looked at.
+fn is_clear(asked: What, held: What) -> bool
+    ensures { result ≡ is_clear asked held }
+{
+    match asked {
+        What::Range(Extent::Bytes(first, last), _) => lies_apart(first, last, held),
+        _ => false,
+    }
+}
+
+/// Whether the held claim blocks the ask.
+#[tactic(auto, using(crate::proofs::ClearLaws::clear_is_false))]
+fn blocks(ask: &Claim, held: &Claim) -> bool
+    ensures { result ≡ blocks ask.now held.now }
+{
+    if is_clear(ask.what, held.what) {
+        return false;
+    }
+    is_blocked_by(ask, held)
+}
 
 /// Those that block the ask.
 pub(crate) fn list_blockers(
     alloc: Global,
+    lists: &[OnFile],
+    ask: &Claim,
+) -> Result<Vec<Claim>, AllocError>
+    requires { IsFiled lists.now }
+    ensures { IfOk result (λ v. v.items ≡ filter (λ held. blocks ask.now held) (joined lists.now)) }
+{
+    let blockers = blockers_in(alloc, on_file(lists, ask.file), ask)?;
+    Ok(blockers)
+}
+
+/// Those of the claims in these pages that block the ask.
+#[tactic(auto, using(crate::proofs::FileLaws::filtered_more))]
+fn blockers_in(alloc: Global, pages: &[Page], ask: &Claim) -> Result<Vec<Claim>, AllocError>
+    ensures { IfOk result (λ v. v.items ≡ filter (λ held. blocks ask.now held) (paged pages.now)) }
+{
+    let mut found = Vec::new(alloc);
+    for page in pages {
+        page.push_blockers(alloc, &mut found, ask)?;
+    }
+    Ok(found)
+}
+
+pub(crate) fn blockers_among(
+    alloc: Global,
     claims: &[Claim],
     ask: &Claim,
 ) -> Result<Vec<Claim>, AllocError>
-    requires { Pairwise goes_first claims.now }
-    ensures { IfOk result (λ v. v.items ≡ filter (λ held. blocks ask.now held) claims.now) }
-{
-    Ok(blockers_among(alloc, on_file(claims, ask.file), ask)?)
-}
-
-fn blockers_among(alloc: Global, claims: &[Claim], ask: &Claim) -> Result<Vec<Claim>, AllocError>
     ensures { IfOk result (λ v. v.items ≡ filter (λ held. blocks ask.now held) claims.now) }
 {
     claims
         .iter()
-        .filter(|held| is_blocked_by(ask, held))
+        .filter(|held| blocks(ask, held))
         .copied()
         .collect(alloc)
 }
 
-fn any_blocks(claims: &[Claim], ask: &Claim) -> bool
+pub(crate) fn any_blocks(claims: &[Claim], ask: &Claim) -> bool
     ensures { result ≡ is_blocked claims.now ask.now }
 {
-    claims.iter().any(|held| is_blocked_by(ask, held))
+    claims.iter().any(|held| blocks(ask, held))
+}
+
+/// Whether one of the claims in these pages blocks the ask.
+#[tactic(auto, using(crate::proofs::PageLaws::any_more))]
+fn any_blocks_in(pages: &[Page], ask: &Claim) -> bool
+    ensures { result ≡ is_blocked (paged pages.now) ask.now }
+{
+    for page in pages {
+        if page.blocks(ask) {
+            return true;
+        }
+    }
+    false
 }
 
 /// Whether something held blocks the ask.
 #[tactic(auto, using(crate::proofs::SectionLaws::blocked_on_file))]
-pub(crate) fn is_blocked(claims: &[Claim], ask: &Claim) -> bool
-    requires { Pairwise goes_first claims.now }
-    ensures { result ≡ is_blocked claims.now ask.now }
+pub(crate) fn is_blocked(lists: &[OnFile], ask: &Claim) -> bool
+    requires { IsFiled lists.now }
+    ensures { result ≡ is_blocked (joined lists.now) ask.now }
 {
-    any_blocks(on_file(claims, ask.file), ask)
+    any_blocks_in(on_file(lists, ask.file), ask)
 }
 
 /// Leaves the ranges alone.
@@ -57,19 +121,111 @@ pub(crate) fn keep_ranges(claims: &mut Vec<Claim>)
     claims.retain(|claim| matches!(claim.what, What::Range(_, _)));
 }
 
-/// Takes the party's claims out.
-pub(crate) fn drop_party(claims: &mut Vec<Claim>, party: Party)
+/// Adds the claims in these pages.
+#[tactic(auto, using(crate::proofs::PageLaws::joined_more))]
+fn push_all(all: &mut Vec<Claim>, pages: &[Page]) -> Result<(), AllocError>
+    ensures { OnOk result (all.new.items ≡ all.old.items ++ paged pages.now) }
+{
+    for page in pages {
+        all.extend_from_slice(page.as_slice())?;
+    }
+    Ok(())
+}
+
+/// All claims.
+#[tactic(auto, using(crate::proofs::PageLaws::joined_more))]
+pub(crate) fn list_all(
+    alloc: Global,
+    lists: &[OnFile],
+    count: usize,
+) -> Result<Vec<Claim>, AllocError>
+    ensures { IfOk result (λ v. v.items ≡ joined lists.now) }
+{
+    let mut all = Vec::with_capacity(alloc, count)?;
+    for list in lists {
+        push_all(&mut all, &list.pages)?;
+    }
+    Ok(all)
+}
+
+/// The claims on the file.
+pub(crate) fn list_file(
+    alloc: Global,
+    lists: &[OnFile],
+    file: u32,
+) -> Result<Vec<Claim>, AllocError>
+    requires { IsFiled lists.now }
+    ensures { IfOk result (λ v. v.items ≡ filter (λ held. held.file == file) (joined lists.now)) }
+{
+    let mut all = Vec::new(alloc);
+    push_all(&mut all, on_file(lists, file))?;
+    Ok(all)
+}
+
+/// Takes the party's claims out of a page's.
+pub(crate) fn drop_from(claims: &mut Vec<Claim>, party: Party)
     ensures { claims.new.items ≡ filter (λ held. not (same_parties held.party party)) claims.old.items }
 {
     claims.retain(|held| !same_party(held.party, party));
 }
 
-/// Those of the party.
-pub(crate) fn list_party(
-    alloc: Global,
-    claims: &[Claim],
-    party: Party,
-) -> Result<Vec<Claim>, AllocError>
+/// Takes the party's claims out of each page. A page may be without claims then.
+#[tactic(auto, using(crate::proofs::PageLaws::thin_more, crate::proofs::PageLaws::thin_done))]
+fn thin_pages(pages: &mut Vec<Page>, party: Party)
+    ensures { paged pages.new.items ≡ filter (λ held. not (same_parties held.party party)) (paged pages.old.items) }
+{
+    let mut at = 0;
+    'pages: while at < pages.len() {
+        pages[at].drop_party(party);
+        at += 1;
+    }
+}
+
+/// Takes the pages out that are without claims.
+fn drop_empty(pages: &mut Vec<Page>)
+    ensures { pages.new.items ≡ filter (λ p. nat_lt 0 (length p)) pages.old.items }
+{
+    pages.retain(|page| page.len() > 0);
+}
+
+/// Takes the party's claims out of a file's pages.
+#[tactic(auto, using(crate::proofs::PageLaws::full_left, crate::proofs::PageLaws::same_left))]
+fn drop_in(pages: &mut Vec<Page>, party: Party)
+    ensures claims { paged pages.new.items ≡ filter (λ held. not (same_parties held.party party)) (paged pages.old.items) }
+    ensures full { AreFull pages.new.items }
+{
+    thin_pages(pages, party);
+    drop_empty(pages);
+}
+
+/// Takes the party's claims out.
+#[tactic(auto, using(crate::proofs::FileLaws::thinned_more, crate::proofs::FileLaws::thinned_done))]
+pub(crate) fn drop_party(lists: &mut Vec<OnFile>, party: Party)
+    requires { IsFiled lists.old.items }
+    ensures claims { joined lists.new.items ≡ filter (λ held. not (same_parties held.party party)) (joined lists.old.items) }
+    ensures filed { IsFiled lists.new.items }
+{
+    let mut at = 0;
+    'lists: while at < lists.len() {
+        drop_in(&mut lists[at].pages, party);
+        at += 1;
+    }
+}
+
+/// How many claims there are.
+#[tactic(auto, using(crate::proofs::PageLaws::counted_more, crate::proofs::PageLaws::counted_fits))]
+pub(crate) fn count_all(lists: &[OnFile]) -> usize
+    requires { length (joined lists.now) ≤ 16384 }
+    ensures { result ≡ length (joined lists.now) }
+{
+    let mut count = 0;
+    for list in lists {
+        count += count_claims(&list.pages);
+    }
+    count
+}
+
+fn party_among(alloc: Global, claims: &[Claim], party: Party) -> Result<Vec<Claim>, AllocError>
     ensures { IfOk result (λ v. v.items ≡ filter (λ held. same_parties held.party party) claims.now) }
 {
     claims
@@ -79,12 +235,53 @@ pub(crate) fn list_party(
         .collect(alloc)
 }
 
-/// The caches whose answer is due.
-pub(crate) fn list_due(
+/// Adds those of the party among these.
+fn push_party(
     alloc: Global,
+    found: &mut Vec<Claim>,
     claims: &[Claim],
-    now: Moment,
+    party: Party,
+) -> Result<(), AllocError>
+    ensures { OnOk result (found.new.items ≡ found.old.items ++ filter (λ held. same_parties held.party party) claims.now) }
+{
+    let part = party_among(alloc, claims, party)?;
+    found.extend_from_slice(&part)?;
+    Ok(())
+}
+
+/// Adds those of the party in these pages.
+#[tactic(auto, using(crate::proofs::FileLaws::filtered_more))]
+fn push_party_in(
+    alloc: Global,
+    found: &mut Vec<Claim>,
+    pages: &[Page],
+    party: Party,
+) -> Result<(), AllocError>
+    ensures { OnOk result (found.new.items ≡ found.old.items ++ filter (λ held. same_parties held.party party) (paged pages.now)) }
+{
+    for page in pages {
+        push_party(alloc, found, page.as_slice(), party)?;
+    }
+    Ok(())
+}
+
+/// Those of the party.
+#[tactic(auto, using(crate::proofs::FileLaws::filtered_more))]
+pub(crate) fn list_party(
+    alloc: Global,
+    lists: &[OnFile],
+    party: Party,
 ) -> Result<Vec<Claim>, AllocError>
+    ensures { IfOk result (λ v. v.items ≡ filter (λ held. same_parties held.party party) (joined lists.now)) }
+{
+    let mut found = Vec::new(alloc);
+    for list in lists {
+        push_party_in(alloc, &mut found, &list.pages, party)?;
+    }
+    Ok(found)
+}
+
+fn due_among(alloc: Global, claims: &[Claim], now: Moment) -> Result<Vec<Claim>, AllocError>
     ensures { IfOk result (λ v. v.items ≡ filter (λ held. is_due now held) claims.now) }
 {
     claims
@@ -92,4 +289,50 @@ pub(crate) fn list_due(
         .filter(|held| is_answer_due(now, held))
         .copied()
         .collect(alloc)
+}
+
+/// Adds the caches among these whose answer is due.
+fn push_due(
+    alloc: Global,
+    due: &mut Vec<Claim>,
+    claims: &[Claim],
+    now: Moment,
+) -> Result<(), AllocError>
+    ensures { OnOk result (due.new.items ≡ due.old.items ++ filter (λ held. is_due now held) claims.now) }
+{
+    let part = due_among(alloc, claims, now)?;
+    due.extend_from_slice(&part)?;
+    Ok(())
+}
+
+/// Adds the caches in these pages whose answer is due.
+#[tactic(auto, using(crate::proofs::FileLaws::filtered_more))]
+fn push_due_in(
+    alloc: Global,
+    due: &mut Vec<Claim>,
+    pages: &[Page],
+    now: Moment,
+) -> Result<(), AllocError>
+    ensures { OnOk result (due.new.items ≡ due.old.items ++ filter (λ held. is_due now held) (paged pages.now)) }
+{
+    for page in pages {
+        push_due(alloc, due, page.as_slice(), now)?;
+    }
+    Ok(())
+}
+
+/// The caches whose answer is due.
+#[tactic(auto, using(crate::proofs::FileLaws::filtered_more))]
+pub(crate) fn list_due(
+    alloc: Global,
+    lists: &[OnFile],
+    now: Moment,
+) -> Result<Vec<Claim>, AllocError>
+    ensures { IfOk result (λ v. v.items ≡ filter (λ held. is_due now held) (joined lists.now)) }
+{
+    let mut due = Vec::new(alloc);
+    for list in lists {
+        push_due_in(alloc, &mut due, &list.pages, now)?;
+    }
+    Ok(due)
 }

@@ -49,7 +49,7 @@ pub(crate) fn spans_in(alloc: Global, claims: &[Claim]) -> Result<Vec<Span>, All
     Ok(spans)
 }
 
-fn ends_before(byte: u64, what: What) -> bool
+pub(crate) fn ends_before(byte: u64, what: What) -> bool
     ensures { result ≡ range_ends_before byte what }
 {
     match what {
@@ -58,47 +58,13 @@ fn ends_before(byte: u64, what: What) -> bool
     }
 }
 
-fn begins_by(byte: u64, what: What) -> bool
+pub(crate) fn begins_by(byte: u64, what: What) -> bool
     ensures { result ≡ range_begins_by byte what }
 {
     match what {
         What::Range(Extent::Bytes(first, _), _) => first.saturating_sub(1) <= byte,
         _ => false,
     }
-}
-
-/// How many of an owner's ranges end before the byte.
-fn count_ending(group: &[Claim], byte: u64) -> usize
-    requires { IsParted (λ c. range_ends_before byte c.what) group.now }
-    ensures count { result ≡ prefix_len (λ c. range_ends_before byte c.what) group.now }
-    ensures within { result ≤ length group.now }
-{
-    group.partition_point(|claim| ends_before(byte, claim.what))
-}
-
-/// How many of an owner's ranges begin by the byte past this one.
-fn count_beginning(group: &[Claim], byte: u64) -> usize
-    requires { IsParted (λ c. range_begins_by byte c.what) group.now }
-    ensures count { result ≡ prefix_len (λ c. range_begins_by byte c.what) group.now }
-    ensures within { result ≤ length group.now }
-{
-    group.partition_point(|claim| begins_by(byte, claim.what))
-}
-
-/// Where those of an owner's ranges begin and end that have a byte of the range, or lie right beside it.
-pub(crate) fn touched_places(group: &[Claim], first: u64, last: u64) -> (usize, usize)
-    requires ends { first ≤ last }
-    requires ending { IsParted (λ c. range_ends_before (first - 1) c.what) group.now }
-    requires beginning { IsParted (λ c. range_begins_by last c.what) group.now }
-    requires order { prefix_len (λ c. range_ends_before (first - 1) c.what) group.now ≤ prefix_len (λ c. range_begins_by last c.what) group.now }
-    ensures start { result.0 ≡ prefix_len (λ c. range_ends_before (first - 1) c.what) group.now }
-    ensures end { result.1 ≡ prefix_len (λ c. range_begins_by last c.what) group.now }
-    ensures order { result.0 ≤ result.1 }
-    ensures within { result.1 ≤ length group.now }
-{
-    let start = count_ending(group, first.saturating_sub(1));
-    let end = count_beginning(group, last);
-    (start, end)
 }
 
 /// The spans once the range has this mode, or none.
@@ -163,26 +129,13 @@ pub(crate) fn fresh_claims(
     range_claims(alloc, ask, &runs)
 }
 
-fn meets(first: u64, last: u64, what: What) -> bool
+pub(crate) fn meets(first: u64, last: u64, what: What) -> bool
     ensures { result ≡ list_any (meets first last) (with_span what []) }
 {
     match what {
         What::Range(Extent::Bytes(start, end), _) => start <= last && first <= end,
         _ => false,
     }
-}
-
-fn any_meets(claims: &[Claim], first: u64, last: u64) -> bool
-    ensures { result ≡ list_any (λ c. list_any (meets first last) (with_span c.what [])) claims.now }
-{
-    claims.iter().any(|claim| meets(first, last, claim.what))
-}
-
-/// Whether one of these claims has a byte of the range.
-pub(crate) fn has_byte_in(claims: &[Claim], first: u64, last: u64) -> bool
-    ensures { result ≡ list_any (meets first last) (spans_in claims.now) }
-{
-    any_meets(claims, first, last)
 }
 
 // ---- shares

@@ -1,18 +1,25 @@
-//! Parts of the flat list, found by bisection.
-ghost use Rattle.std.specs.Prelude.{◌≡◌, ◌≤◌, ◌==◌, ◌&&◌, ◌∷◌, [], length, slice_range};
-ghost use Rattle.std.specs.List.{filter, find, prefix_len};
+//! Parts of a file's claims, found by bisection.
+ghost use Rattle.std.specs.Prelude.{◌≡◌, ◌≤◌, ◌==◌, ◌&&◌, ◌∷◌, ◌<◌, ◌^◌, [], length, slice_range, IfOk};
+ghost use Rattle.std.specs.List.{filter, find, prefix_len, slice_get};
 ghost use Rattle.xl_base.specs.Lists.{Pairwise};
 ghost use Rattle.xl_table.specs.Order.{goes_first};
+ghost use Rattle.xl_table.specs.Files.{joined, IsFiled};
+ghost use Rattle.xl_table.specs.Pages.{paged, AreFull};
 ghost use Rattle.xl_table.specs.Held.{is_cache, is_share};
 ghost use Rattle.xl_table.specs.Relock.{is_share_of, is_range_of};
 ghost use Rattle.xl_table.specs.Sections.{group, is_no_later_than, is_before, is_upto};
 
-use crate::ordering::{is_no_later, key_of, key_of_owner};
+use crate::files::{OnFile, on_file};
+use crate::marks::Mark;
+use crate::ordering::key_of_owner;
+use crate::page::Page;
+use crate::pages::{between, claim_at, count_passing};
+use std::alloc::{AllocError, Global};
 use xl_base::Owner;
 use xl_matrix::Claim;
 
 /// Whether numbers are no later than all that begin with these.
-fn is_no_later_than(front: &[u64], key: &[u64]) -> bool
+pub(crate) fn is_no_later_than(front: &[u64], key: &[u64]) -> bool
     ensures { result ≡ is_no_later_than front.now key.now }
 {
     match front {
@@ -24,97 +31,101 @@ fn is_no_later_than(front: &[u64], key: &[u64]) -> bool
     }
 }
 
-fn is_before(front: &[u64], claim: &Claim) -> bool
-    ensures { result ≡ is_before front.now claim.now }
-{
-    !is_no_later(front, &key_of(claim))
-}
-
-fn is_upto(front: &[u64], claim: &Claim) -> bool
-    ensures { result ≡ is_upto front.now claim.now }
-{
-    is_no_later_than(front, &key_of(claim))
-}
-
 /// How many claims stand before those whose numbers begin with these.
-fn count_before(claims: &[Claim], front: &[u64]) -> usize
-    requires { Pairwise goes_first claims.now }
-    ensures count { result ≡ prefix_len (is_before front.now) claims.now }
-    ensures within { result ≤ length claims.now }
+#[tactic(auto, using(crate::proofs::SectionLaws::before_parted))]
+fn count_before(pages: &[Page], front: &[u64]) -> usize
+    requires ordered { Pairwise goes_first (paged pages.now) }
+    requires full { AreFull pages.now }
+    requires room { length (paged pages.now) < 2 ^ 32 }
+    ensures count { result ≡ prefix_len (is_before front.now) (paged pages.now) }
+    ensures within { result ≤ length (paged pages.now) }
 {
-    claims.partition_point(|claim| is_before(front, claim))
+    count_passing(pages, Mark::Before, front)
 }
 
 /// How many claims stand before those whose numbers begin with these, or among them.
-fn count_upto(claims: &[Claim], front: &[u64]) -> usize
-    requires { Pairwise goes_first claims.now }
-    ensures count { result ≡ prefix_len (is_upto front.now) claims.now }
-    ensures within { result ≤ length claims.now }
+#[tactic(auto, using(crate::proofs::SectionLaws::upto_parted))]
+fn count_upto(pages: &[Page], front: &[u64]) -> usize
+    requires ordered { Pairwise goes_first (paged pages.now) }
+    requires full { AreFull pages.now }
+    requires room { length (paged pages.now) < 2 ^ 32 }
+    ensures count { result ≡ prefix_len (is_upto front.now) (paged pages.now) }
+    ensures within { result ≤ length (paged pages.now) }
 {
-    claims.partition_point(|claim| is_upto(front, claim))
+    count_passing(pages, Mark::Upto, front)
 }
 
 /// Where the claims whose numbers begin with these begin, and where they end.
 #[tactic(auto, using(crate::proofs::SectionLaws::section_order))]
-fn places(claims: &[Claim], front: &[u64]) -> (usize, usize)
-    requires { Pairwise goes_first claims.now }
-    ensures start { result.0 ≡ prefix_len (is_before front.now) claims.now }
-    ensures end { result.1 ≡ prefix_len (is_upto front.now) claims.now }
+fn places(pages: &[Page], front: &[u64]) -> (usize, usize)
+    requires ordered { Pairwise goes_first (paged pages.now) }
+    requires full { AreFull pages.now }
+    requires room { length (paged pages.now) < 2 ^ 32 }
+    ensures start { result.0 ≡ prefix_len (is_before front.now) (paged pages.now) }
+    ensures end { result.1 ≡ prefix_len (is_upto front.now) (paged pages.now) }
     ensures order { result.0 ≤ result.1 }
-    ensures within { result.1 ≤ length claims.now }
+    ensures within { result.1 ≤ length (paged pages.now) }
 {
-    (count_before(claims, front), count_upto(claims, front))
+    (count_before(pages, front), count_upto(pages, front))
 }
 
-/// The claims from one place to before another.
-pub(crate) fn between(claims: &[Claim], start: usize, end: usize) -> &[Claim]
-    requires order { start ≤ end }
-    requires within { end ≤ length claims.now }
-    ensures { result.now ≡ slice_range claims.now start end }
+/// The shares among a file's claims.
+fn shares_in(alloc: Global, pages: &[Page], file: u32) -> Result<Vec<Claim>, AllocError>
+    requires ordered { Pairwise goes_first (paged pages.now) }
+    requires full { AreFull pages.now }
+    requires room { length (paged pages.now) < 2 ^ 32 }
+    ensures { IfOk result (λ v. v.items ≡ filter (λ c. (c.file == file) && is_share c.what) (paged pages.now)) }
 {
-    &claims[start..end]
-}
-
-/// Where the file's claims begin and end.
-pub(crate) fn file_places(claims: &[Claim], file: u32) -> (usize, usize)
-    requires { Pairwise goes_first claims.now }
-    ensures start { result.0 ≡ prefix_len (is_before (file ∷ [])) claims.now }
-    ensures end { result.1 ≡ prefix_len (is_upto (file ∷ [])) claims.now }
-    ensures order { result.0 ≤ result.1 }
-    ensures within { result.1 ≤ length claims.now }
-{
-    places(claims, &[u64::from(file)])
-}
-
-/// The claims on the file.
-#[tactic(auto, using(crate::proofs::SectionLaws::file_section))]
-pub(crate) fn on_file(claims: &[Claim], file: u32) -> &[Claim]
-    requires { Pairwise goes_first claims.now }
-    ensures { result.now ≡ filter (λ c. c.file == file) claims.now }
-{
-    let (start, end) = file_places(claims, file);
-    between(claims, start, end)
+    let (start, end) = places(pages, &[u64::from(file), 0]);
+    let shares = between(alloc, pages, start, end)?;
+    Ok(shares)
 }
 
 /// The shares on the file.
-pub(crate) fn shares_on(claims: &[Claim], file: u32) -> &[Claim]
-    requires { Pairwise goes_first claims.now }
-    ensures { result.now ≡ filter (λ c. (c.file == file) && is_share c.what) claims.now }
+#[tactic(auto, using(crate::proofs::FileLaws::ordered_here, crate::proofs::FileLaws::room_here))]
+pub(crate) fn shares_on(
+    alloc: Global,
+    lists: &[OnFile],
+    file: u32,
+) -> Result<Vec<Claim>, AllocError>
+    requires filed { IsFiled lists.now }
+    requires ordered { Pairwise goes_first (joined lists.now) }
+    requires room { length (joined lists.now) ≤ 16384 }
+    ensures { IfOk result (λ v. v.items ≡ filter (λ c. (c.file == file) && is_share c.what) (joined lists.now)) }
 {
-    let (start, end) = places(claims, &[u64::from(file), 0]);
-    between(claims, start, end)
+    let shares = shares_in(alloc, on_file(lists, file), file)?;
+    Ok(shares)
+}
+
+/// The caches among a file's claims.
+fn caches_in(alloc: Global, pages: &[Page], file: u32) -> Result<Vec<Claim>, AllocError>
+    requires ordered { Pairwise goes_first (paged pages.now) }
+    requires full { AreFull pages.now }
+    requires room { length (paged pages.now) < 2 ^ 32 }
+    ensures { IfOk result (λ v. v.items ≡ filter (λ c. (c.file == file) && is_cache c.what) (paged pages.now)) }
+{
+    let (start, end) = places(pages, &[u64::from(file), 2]);
+    let caches = between(alloc, pages, start, end)?;
+    Ok(caches)
 }
 
 /// The caches on the file.
-pub(crate) fn caches_on(claims: &[Claim], file: u32) -> &[Claim]
-    requires { Pairwise goes_first claims.now }
-    ensures { result.now ≡ filter (λ c. (c.file == file) && is_cache c.what) claims.now }
+#[tactic(auto, using(crate::proofs::FileLaws::ordered_here, crate::proofs::FileLaws::room_here))]
+pub(crate) fn caches_on(
+    alloc: Global,
+    lists: &[OnFile],
+    file: u32,
+) -> Result<Vec<Claim>, AllocError>
+    requires filed { IsFiled lists.now }
+    requires ordered { Pairwise goes_first (joined lists.now) }
+    requires room { length (joined lists.now) ≤ 16384 }
+    ensures { IfOk result (λ v. v.items ≡ filter (λ c. (c.file == file) && is_cache c.what) (joined lists.now)) }
 {
-    let (start, end) = places(claims, &[u64::from(file), 2]);
-    between(claims, start, end)
+    let caches = caches_in(alloc, on_file(lists, file), file)?;
+    Ok(caches)
 }
 
-fn group_of(file: u32, class: u64, owner: Owner) -> [u64; 5]
+pub(crate) fn group_of(file: u32, class: u64, owner: Owner) -> [u64; 5]
     ensures { result ≡ group file class owner }
 {
     let [protocol, number, sort] = key_of_owner(owner);
@@ -122,41 +133,83 @@ fn group_of(file: u32, class: u64, owner: Owner) -> [u64; 5]
 }
 
 /// Where the owner's shares on the file (class 0), or its ranges there (class 1), begin and end.
-pub(crate) fn group_places(claims: &[Claim], file: u32, class: u64, owner: Owner) -> (usize, usize)
-    requires { Pairwise goes_first claims.now }
-    ensures start { result.0 ≡ prefix_len (is_before (group file class owner)) claims.now }
-    ensures end { result.1 ≡ prefix_len (is_upto (group file class owner)) claims.now }
+pub(crate) fn group_places(pages: &[Page], file: u32, class: u64, owner: Owner) -> (usize, usize)
+    requires ordered { Pairwise goes_first (paged pages.now) }
+    requires full { AreFull pages.now }
+    requires room { length (paged pages.now) < 2 ^ 32 }
+    ensures start { result.0 ≡ prefix_len (is_before (group file class owner)) (paged pages.now) }
+    ensures end { result.1 ≡ prefix_len (is_upto (group file class owner)) (paged pages.now) }
     ensures order { result.0 ≤ result.1 }
-    ensures within { result.1 ≤ length claims.now }
+    ensures within { result.1 ≤ length (paged pages.now) }
 {
-    places(claims, &group_of(file, class, owner))
+    places(pages, &group_of(file, class, owner))
 }
 
-/// The owner's shares on the file.
-#[tactic(auto, using(crate::proofs::SectionLaws::share_section))]
-fn shares_by(claims: &[Claim], file: u32, owner: Owner) -> &[Claim]
-    requires { Pairwise goes_first claims.now }
-    ensures { result.now ≡ filter (is_share_of file owner) claims.now }
+/// The owner's ranges among a file's claims.
+#[tactic(auto, using(crate::proofs::SectionLaws::range_section))]
+fn ranges_in(
+    alloc: Global,
+    pages: &[Page],
+    file: u32,
+    owner: Owner,
+) -> Result<Vec<Claim>, AllocError>
+    requires ordered { Pairwise goes_first (paged pages.now) }
+    requires full { AreFull pages.now }
+    requires room { length (paged pages.now) < 2 ^ 32 }
+    ensures { IfOk result (λ v. v.items ≡ filter (is_range_of file owner) (paged pages.now)) }
 {
-    let (start, end) = group_places(claims, file, 0, owner);
-    between(claims, start, end)
+    let (start, end) = group_places(pages, file, 1, owner);
+    let ranges = between(alloc, pages, start, end)?;
+    Ok(ranges)
 }
 
 /// The owner's ranges on the file.
-#[tactic(auto, using(crate::proofs::SectionLaws::range_section))]
-pub(crate) fn ranges_by(claims: &[Claim], file: u32, owner: Owner) -> &[Claim]
-    requires { Pairwise goes_first claims.now }
-    ensures { result.now ≡ filter (is_range_of file owner) claims.now }
+#[tactic(auto, using(crate::proofs::FileLaws::ordered_here, crate::proofs::FileLaws::room_here))]
+pub(crate) fn ranges_by(
+    alloc: Global,
+    lists: &[OnFile],
+    file: u32,
+    owner: Owner,
+) -> Result<Vec<Claim>, AllocError>
+    requires filed { IsFiled lists.now }
+    requires ordered { Pairwise goes_first (joined lists.now) }
+    requires room { length (joined lists.now) ≤ 16384 }
+    ensures { IfOk result (λ v. v.items ≡ filter (is_range_of file owner) (joined lists.now)) }
 {
-    let (start, end) = group_places(claims, file, 1, owner);
-    between(claims, start, end)
+    let ranges = ranges_in(alloc, on_file(lists, file), file, owner)?;
+    Ok(ranges)
+}
+
+/// The first of the claims from one place to before another, if there is one.
+#[tactic(auto, using(crate::proofs::SectionLaws::range_first, crate::proofs::SectionLaws::range_none))]
+fn first_between(pages: &[Page], start: usize, end: usize) -> Option<Claim>
+    ensures { result ≡ slice_get (slice_range (paged pages.now) start end) 0 }
+{
+    if start < end {
+        claim_at(pages, start)
+    } else {
+        None
+    }
+}
+
+/// The owner's first share among a file's claims.
+fn share_in(pages: &[Page], file: u32, owner: Owner) -> Option<Claim>
+    requires ordered { Pairwise goes_first (paged pages.now) }
+    requires full { AreFull pages.now }
+    requires room { length (paged pages.now) < 2 ^ 32 }
+    ensures { result ≡ find (is_share_of file owner) (paged pages.now) }
+{
+    let (start, end) = group_places(pages, file, 0, owner);
+    first_between(pages, start, end)
 }
 
 /// The owner's first share on the file.
-#[tactic(auto, using(crate::proofs::SectionLaws::first_share))]
-pub(crate) fn find_share(claims: &[Claim], file: u32, owner: Owner) -> Option<Claim>
-    requires { Pairwise goes_first claims.now }
-    ensures { result ≡ find (is_share_of file owner) claims.now }
+#[tactic(auto, using(crate::proofs::FileLaws::ordered_here, crate::proofs::FileLaws::room_here, crate::proofs::SectionLaws::share_here))]
+pub(crate) fn find_share(lists: &[OnFile], file: u32, owner: Owner) -> Option<Claim>
+    requires filed { IsFiled lists.now }
+    requires ordered { Pairwise goes_first (joined lists.now) }
+    requires room { length (joined lists.now) ≤ 16384 }
+    ensures { result ≡ find (is_share_of file owner) (joined lists.now) }
 {
-    shares_by(claims, file, owner).first().copied()
+    share_in(on_file(lists, file), file, owner)
 }

@@ -3,13 +3,18 @@ ghost use Rattle.std.specs.Prelude.{◌≡◌, ℕ, ◌≤◌, ◌==◌, ◌&&�
 ghost use Rattle.std.specs.List.{AllByRecursion, filter, find};
 ghost use Rattle.xl_table.specs.declared.table.TableErr.TheVariants.{NoMemory};
 
-use crate::change::{Change, grant, relock, write};
+use crate::change::{Change, grant, unlock, write};
+use crate::files::{OnFile, open_file};
 use crate::holding::find_holder;
 use crate::least::least;
-use crate::listing::{drop_party, is_blocked, keep_ranges, list_blockers, list_due, list_party};
+use crate::listing::{
+    count_all, drop_party, is_blocked, keep_ranges, list_all, list_blockers, list_due, list_file,
+    list_party,
+};
 use crate::placing::{is_held, put, replace, take_out};
-use crate::relock::{has_byte_in, spans_in};
-use crate::section::{caches_on, find_share, on_file, ranges_by, shares_on};
+use crate::relock::spans_in;
+use crate::section::{caches_on, find_share, ranges_by, shares_on};
+use crate::touching::has_byte;
 use std::alloc::{AllocError, AllocFailed, Global};
 use std::marker::Model;
 use thiserror::Error;
@@ -45,22 +50,26 @@ impl<T: Drop> From<AllocFailed<T>> for TableErr {
 /// NFSv4, SMB) and number; the ranges of an NLM or NFSv4 owner by first byte, those of an SMB open as they were locked.
 #[derive(Drop)]
 pub struct Table {
-    claims: Vec<Claim>,
+    /// A list of each file's claims, by file. A list may be without claims.
+    lists: Vec<OnFile>,
+    /// How many claims there are on all files.
+    count: usize,
 }
 
 impl Model for Table {
-    ghost use Rattle.std.specs.Prelude.{List};
+    ghost use Rattle.std.specs.Prelude.{◌≡◌, List, length};
     ghost use Rattle.xl_matrix.specs.declared.claim.Claim.{Claim};
     ghost use Rattle.xl_table.specs.Held.{IsKept};
+    ghost use Rattle.xl_table.specs.Files.{joined, IsFiled};
 
     ghost Value = { List Claim };
 
-    ghost view = { λ t. t.claims.items };
+    ghost view = { λ t. joined t.lists.items };
 
-    ghost invariant = { λ t. IsKept t.claims.items };
+    ghost invariant = { λ t. IsFiled t.lists.items × IsKept (joined t.lists.items) × (t.count ≡ length (joined t.lists.items)) };
 }
 
-#[tactic(auto, using(crate::proofs::KeptLaws::kept_empty, crate::proofs::KeptLaws::kept_inserted, crate::proofs::KeptLaws::kept_changed, crate::proofs::KeptLaws::kept_removed))]
+#[tactic(auto, using(crate::proofs::KeptLaws::kept_empty))]
 impl Table {
     ghost use Rattle.xl_base.specs.Lists.{IsIn};
     ghost use Rattle.xl_matrix.specs.Equal.{same_parties};
@@ -77,7 +86,8 @@ impl Table {
         ensures { result ≡ [] }
     {
         Table {
-            claims: Vec::new(alloc),
+            lists: Vec::new(alloc),
+            count: 0,
         }
     }
 
@@ -85,7 +95,7 @@ impl Table {
     pub fn claims(&self, alloc: Global) -> Result<Vec<Claim>, AllocError>
         ensures { IfOk result (λ v. v.items ≡ self.now) }
     {
-        Vec::from_slice(alloc, &self.claims)
+        list_all(alloc, &self.lists, self.count)
     }
 
     /// How many claims there are; and what a table keeps of them.
@@ -93,35 +103,35 @@ impl Table {
         ensures len { result ≡ length self.now }
         ensures kept { IsKept self.now }
     {
-        self.claims.len()
+        self.count
     }
 
     /// Whether there is no claim.
     pub fn is_empty(&self) -> bool
         ensures { IsTrue result ↔ (self.now ≡ []) }
     {
-        self.claims.is_empty()
+        self.count == 0
     }
 
     /// Whether this claim is held. It takes no memory.
     pub fn contains(&self, claim: &Claim) -> bool
         ensures { IsTrue result ↔ IsIn claim.now self.now }
     {
-        is_held(&self.claims, claim)
+        is_held(&self.lists, claim)
     }
 
     /// The held claims that block the ask (see `is_blocked_by`), in the table's order.
     pub fn blockers(&self, alloc: Global, ask: &Claim) -> Result<Vec<Claim>, AllocError>
         ensures { IfOk result (λ v. v.items ≡ filter (λ held. blocks ask.now held) self.now) }
     {
-        list_blockers(alloc, &self.claims, ask)
+        list_blockers(alloc, &self.lists, ask)
     }
 
     /// Whether something held blocks the ask. It takes no memory.
     pub fn is_blocked(&self, ask: &Claim) -> bool
         ensures { result ≡ is_blocked self.now ask.now }
     {
-        is_blocked(&self.claims, ask)
+        is_blocked(&self.lists, ask)
     }
 
     /// The least of the held claims that block the ask: by first byte, then by last (a range without bytes before all
@@ -134,7 +144,7 @@ impl Table {
     ) -> Result<Option<Claim>, AllocError>
         ensures { IfOk result (λ c. c ≡ least names.now (filter (λ held. blocks ask.now held) self.now)) }
     {
-        let blockers = list_blockers(alloc, &self.claims, ask)?;
+        let blockers = list_blockers(alloc, &self.lists, ask)?;
         Ok(least(alloc, names, &blockers)?)
     }
 
@@ -147,7 +157,7 @@ impl Table {
     ) -> Result<Option<Claim>, AllocError>
         ensures { IfOk result (λ c. c ≡ least names.now (filter (λ held. is_range held.what) (filter (λ held. blocks ask.now held) self.now))) }
     {
-        let mut blockers = list_blockers(alloc, &self.claims, ask)?;
+        let mut blockers = list_blockers(alloc, &self.lists, ask)?;
         keep_ranges(&mut blockers);
         Ok(least(alloc, names, &blockers)?)
     }
@@ -157,15 +167,15 @@ impl Table {
     pub fn spans_of(&self, alloc: Global, file: u32, owner: Owner) -> Result<Vec<Span>, AllocError>
         ensures { IfOk result (λ v. v.items ≡ spans_of file owner self.now) }
     {
-        spans_in(alloc, ranges_by(&self.claims, file, owner))
+        let ranges = ranges_by(alloc, &self.lists, file, owner)?;
+        spans_in(alloc, &ranges)
     }
 
     /// Whether the owner has a byte of the range on the file. It takes no memory.
-    #[tactic(auto, using(crate::proofs::SectionLaws::spans_on_file), unfolding(crate::specs::Relock::holds_byte))]
     pub fn holds_byte(&self, file: u32, owner: Owner, first: u64, last: u64) -> bool
         ensures { result ≡ holds_byte file owner first last self.now }
     {
-        has_byte_in(ranges_by(&self.claims, file, owner), first, last)
+        has_byte(&self.lists, file, owner, first, last)
     }
 
     /// The owner's share on the file, of which it has one at most; the first where there are more. It takes no memory.
@@ -173,21 +183,21 @@ impl Table {
         ensures share { result ≡ find (is_share_of file owner) self.now }
         ensures held { IfSome result (λ c. IsIn c self.now) }
     {
-        find_share(&self.claims, file, owner)
+        find_share(&self.lists, file, owner)
     }
 
     /// The shares on a file, in the table's order.
     pub fn shares_on(&self, alloc: Global, file: u32) -> Result<Vec<Claim>, AllocError>
         ensures { IfOk result (λ v. v.items ≡ filter (λ held. (held.file == file) && is_share held.what) self.now) }
     {
-        Vec::from_slice(alloc, shares_on(&self.claims, file))
+        shares_on(alloc, &self.lists, file)
     }
 
     /// The caches on a file, in the table's order.
     pub fn caches_on(&self, alloc: Global, file: u32) -> Result<Vec<Claim>, AllocError>
         ensures { IfOk result (λ v. v.items ≡ filter (λ held. (held.file == file) && is_cache held.what) self.now) }
     {
-        Vec::from_slice(alloc, caches_on(&self.claims, file))
+        caches_on(alloc, &self.lists, file)
     }
 
     /// What a grant of the claim changes, once nothing stands in its way: a share takes the place of its owner's on the
@@ -198,7 +208,7 @@ impl Table {
         ensures claims { IfOk result (λ change. written change self.now ≡ granted_claims claim.now self.now) }
         ensures fits { IfOk result (λ change. MayBeWritten change self.now) }
     {
-        Ok(grant(alloc, &self.claims, claim)?)
+        Ok(grant(alloc, &self.lists, self.count, claim)?)
     }
 
     /// What an unlock of this range of an NLM or NFSv4 owner changes. `ask` is a range of the owner on the file.
@@ -216,7 +226,7 @@ impl Table {
         ensures claims { IfOk result (λ change. written change self.now ≡ relocked_in ask.now.file ask.now.owner ask.now.party first last None self.now) }
         ensures fits { IfOk result (λ change. MayBeWritten change self.now) }
     {
-        Ok(relock(alloc, &self.claims, ask, first, last, None)?)
+        Ok(unlock(alloc, &self.lists, self.count, ask, first, last)?)
     }
 
     /// Writes a change that was worked out on these claims, where there is room for what it leaves. After an error the
@@ -228,7 +238,9 @@ impl Table {
         ensures ok { OnOk result (self.new ≡ written change.now self.old) }
         ensures err { OnErr result (self.new ≡ self.old) }
     {
-        write(&mut self.claims, change)?;
+        let alloc = *self.lists.allocator();
+        write(alloc, &mut self.lists, change)?;
+        self.count = change.held;
         Ok(())
     }
 
@@ -237,7 +249,8 @@ impl Table {
     pub fn remove_party(&mut self, party: Party)
         ensures { self.new ≡ filter (λ held. not (same_parties held.party party)) self.old }
     {
-        drop_party(&mut self.claims, party);
+        drop_party(&mut self.lists, party);
+        self.count = count_all(&self.lists);
     }
 
     /// Enters a claim at its place: behind all that stand no later. Full comes exactly where the table holds 16,384.
@@ -246,55 +259,65 @@ impl Table {
     /// Afterwards each range with bytes must have a first byte no later than its last, and an owner's ranges on a file
     /// one party; the ranges of an NLM or NFSv4 owner on a file must be maximal runs of one mode, none of them empty;
     /// and no SMB range may have all bytes from 0 to 2^64 - 1.
+    #[tactic(auto, using(crate::proofs::KeptLaws::kept_inserted, crate::proofs::FlatLaws::length_inserted))]
     pub fn insert(&mut self, claim: Claim) -> Result<(), TableErr>
         requires { IsSound (inserted claim self.old) }
         ensures ok { OnOk result (self.new ≡ inserted claim self.old) }
         ensures full { (n : ℕ) → (result ≡ Err (TableErr.Full n)) ↔ ((n ≡ 16384) × (length self.old ≡ 16384)) }
         ensures err { OnErr result (self.new ≡ self.old) }
     {
-        if self.claims.len() >= CLAIMS {
+        if self.count >= CLAIMS {
             return Err(TableErr::Full(16_384));
         }
-        put(&mut self.claims, claim)?;
+        let alloc = *self.lists.allocator();
+        let at = open_file(alloc, &mut self.lists, claim.file)?;
+        if put(&mut self.lists, at, claim).is_err() {
+            return Err(TableErr::NoMemory);
+        }
+        self.count += 1;
         Ok(())
     }
 
     /// Gives the first claim equal to this one something else to claim, and puts it at its place then. It takes no
     /// memory. Afterwards the same must hold as after `insert`.
+    #[tactic(auto, using(crate::proofs::KeptLaws::kept_changed, crate::proofs::FlatLaws::count_changed))]
     pub fn change(&mut self, claim: &Claim, to: What)
         requires held { IsIn claim.now self.old }
         requires sound { IsSound (changed claim.now to self.old) }
         ensures { self.new ≡ changed claim.now to self.old }
     {
-        replace(&mut self.claims, claim, to);
+        replace(&mut self.lists, claim, to);
     }
 
     /// Takes out the first claim equal to this one; the table is as it was where none is. It takes no memory.
+    #[tactic(auto, using(crate::proofs::KeptLaws::kept_removed, crate::proofs::FlatLaws::count_removed, crate::proofs::FlatLaws::removed_none))]
     pub fn remove(&mut self, claim: &Claim)
         ensures { self.new ≡ removed claim.now self.old }
     {
-        take_out(&mut self.claims, claim);
+        if take_out(&mut self.lists, claim) {
+            self.count -= 1;
+        }
     }
 
     /// The claims of a party, in the table's order.
     pub fn of_party(&self, alloc: Global, party: Party) -> Result<Vec<Claim>, AllocError>
         ensures { IfOk result (λ v. v.items ≡ filter (λ held. same_parties held.party party) self.now) }
     {
-        list_party(alloc, &self.claims, party)
+        list_party(alloc, &self.lists, party)
     }
 
     /// The claims on a file, in the table's order.
     pub fn of_file(&self, alloc: Global, file: u32) -> Result<Vec<Claim>, AllocError>
         ensures { IfOk result (λ v. v.items ≡ filter (λ held. held.file == file) self.now) }
     {
-        Vec::from_slice(alloc, on_file(&self.claims, file))
+        list_file(alloc, &self.lists, file)
     }
 
     /// The caches whose break runs with a deadline at or before now, in the table's order.
     pub fn due(&self, alloc: Global, now: Moment) -> Result<Vec<Claim>, AllocError>
         ensures { IfOk result (λ v. v.items ≡ filter (λ held. is_due now held) self.now) }
     {
-        list_due(alloc, &self.claims, now)
+        list_due(alloc, &self.lists, now)
     }
 
     /// The range on the file that has the byte: the least by first byte, then by last, then exclusive before shared; of
@@ -305,6 +328,6 @@ impl Table {
         ensures found { IfSome result (λ c. IsIn c self.now × (locks file byte c ≡ true)) }
         ensures least { IfSome result (λ c. AllByRecursion (λ d. locks file byte d ≡ true → no_later (range_key c) (range_key d) ≡ true) self.now) }
     {
-        find_holder(&self.claims, file, byte)
+        find_holder(&self.lists, file, byte)
     }
 }

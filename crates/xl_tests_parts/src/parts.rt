@@ -13,6 +13,8 @@ mod nfs_stateids;
 mod smb_state;
 mod spans;
 mod table;
+mod ticks;
+mod turns;
 mod wait;
 
 /// The next word of a row; it is empty where none is left.

@@ -2,18 +2,23 @@
 
 mod calls;
 mod captures;
+mod clients;
+mod compounds;
 mod endings;
 mod grants;
 mod house;
 mod limits;
 mod lines;
 mod locks;
+mod many;
 mod records;
 mod shares;
 mod show;
 mod transcripts;
 
 use calls::CALLS;
+use clients::{CLIENTS, LEASES};
+use compounds::COMPOUNDS;
 use grants::GRANTS;
 use lines::LINES;
 use locks::LOCKS;
@@ -180,7 +185,9 @@ fn wrong_case<'a>(alloc: Global, asked: &Asked, cases: &'a str) -> Result<&'a st
 
 #[test]
 fn replays(rt: HostRuntime) -> Result<(), Fail> {
-    for cases in [CALLS, GRANTS, LINES, LOCKS, RECORDS] {
+    for cases in [
+        CALLS, CLIENTS, COMPOUNDS, GRANTS, LEASES, LINES, LOCKS, RECORDS,
+    ] {
         let wrong = wrong_case(rt.alloc(), &Asked::Replay, cases)?;
         assert!(rt; wrong.is_empty(), "{wrong}");
     }

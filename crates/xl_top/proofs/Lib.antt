@@ -1,4 +1,11 @@
+pub mod CallLaws
+pub mod CountLaws
+pub mod DrawnLaws
+pub mod GroupLaws
 pub mod JobLaws
+pub mod MadeLaws
 pub mod ReadLaws
+pub mod StepLaws
+pub mod SumLaws
 pub mod WordLaws
 pub mod WriteLaws

@@ -1,5 +1,5 @@
 -- What the ending of a run says.
-use Rattle.std.specs.Prelude.{◌≡◌, ℕ, ◌+◌, ◌<◌, Bool, true, false, ◌==◌, ◌||◌, if◌then◌else◌, List, [], ◌∷◌, length, take, codes, bytes_eq, Option, Some, None, Result, Ok, Err, IfSome}
+use Rattle.std.specs.Prelude.{◌≡◌, ℕ, ◌+◌, ◌<◌, Bool, true, false, ◌==◌, ◌||◌, List, [], length, take, Option, Result, Ok, Err}
 use Rattle.std.specs.List.{AllByRecursion}
 use Rattle.xl_base.specs.Outside.{Added, Began}
 use Rattle.xl_base.specs.declared.event.Event.{Event}
@@ -9,7 +9,7 @@ use Rattle.xl_base.specs.declared.journal.Entry.{Entry}
 use Rattle.xl_base.specs.declared.journal.Exports.{Exports}
 use Rattle.xl_base.specs.declared.journal.Head.{Head}
 use Rattle.xl_base.specs.declared.journal.Journal.{Journal}
-use Rattle.xl_capture.specs.Capture.{most_bytes, no_lines, captured}
+use Rattle.xl_capture.specs.Capture.{default_lease, default_grace, default_break, most_bytes, no_lines}
 use Rattle.xl_house.specs.Journals.{entries_of, replay, is_restart}
 use Rattle.xl_capture.specs.Transcript.{transcript}
 use Rattle.xl_house.specs.Machine.{Whole, begin}
@@ -38,6 +38,10 @@ is_shown n = n == 0 || n == 3 || n == 4 || n == 6
 abbrev pub is_show : ℕ → Bool
 is_show n = n == 2 || is_shown n
 
+-- those of calls that are made: done, a failed sink, no memory
+abbrev pub is_made : ℕ → Bool
+is_made n = n == 0 || n == 3 || n == 6
+
 -- the statuses at which nothing was stepped or written: no job, a failed source, a bad line
 abbrev pub is_idle : ℕ → Bool
 is_idle n = n == 1 || n == 2 || n == 4
@@ -48,19 +52,23 @@ capped input = take (most_bytes + 1) input
 
 -- these files and these callers' addresses, with the default times in milliseconds
 abbrev pub exports_with : List (List ℕ) → List (List ℕ × List ℕ) → Exports
-exports_with files addresses = record { files = files; addresses = addresses; lease = 90000; grace = 90000; break_time = 35000 }
+exports_with files addresses = record { files = files; addresses = addresses; lease = default_lease; grace = default_grace; break_time = default_break }
 
--- what a run begins from: these files and addresses, and the empty record
-abbrev pub head_with : List (List ℕ) → List (List ℕ × List ℕ) → Head
-head_with files addresses = record {
-  exports = exports_with files addresses;
+-- those of a capture
+abbrev pub exports_of : Capture → Exports
+exports_of c = record { files = c.files; addresses = c.addresses; lease = c.lease; grace = c.grace; break_time = c.break_time }
+
+-- what a run begins from: these exports, and the empty record
+abbrev pub head_with : Exports → Head
+head_with exports = record {
+  exports = exports;
   start = record { 0 = 0 };
   «record» = record { epoch = 0; names = [] };
 }
 
 -- what a capture's run begins from
 abbrev pub head_of : Capture → Head
-head_of c = head_with c.files c.addresses
+head_of c = head_with (exports_of c)
 
 -- the journal that a capture's events make
 abbrev pub journal_of : Capture → Journal

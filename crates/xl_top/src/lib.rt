@@ -2,6 +2,8 @@
 #![tactic(auto)]
 
 mod keeper;
+mod make;
+mod start;
 mod top;
 mod words;
 

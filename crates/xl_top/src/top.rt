@@ -8,21 +8,23 @@ ghost use Rattle.xl_house.specs.Free.{AlwaysFree};
 ghost use Rattle.xl_house.specs.Housed.{Housed, is_spoiled};
 ghost use Rattle.xl_house.specs.Journals.{replay, IsLegal, IsOrderly, entries_of, most_entries};
 ghost use Rattle.xl_house.specs.Machine.{begin};
-ghost use Rattle.xl_top.specs.Job.{is_status, is_stepped, is_read, is_replay, is_shown, is_show, is_idle, AddsShown, BeginsShown, capped, exports_with, head_with, head_of, journal_of, no_journal, IsReplayed, IsBegun, BeginsAs, IsCutAt, AreSteps, is_whole, transcript_from, whole_transcript};
+ghost use Rattle.xl_top.specs.Job.{is_status, is_stepped, is_read, is_replay, is_shown, is_show, is_made, is_idle, AddsShown, BeginsShown, capped, head_of, journal_of, no_journal, IsReplayed, IsBegun, BeginsAs, IsCutAt, AreSteps, is_whole, transcript_from, whole_transcript};
 ghost use Rattle.xl_capture.specs.Show.{shown};
+ghost use Rattle.xl_capture.specs.Summary.{granted, denied};
 ghost use Rattle.xl_capture.specs.Transcript.{transcript};
-ghost use Rattle.xl_top.specs.Words.{job};
+ghost use Rattle.xl_top.specs.Made.{IsMadePart, made_journal, summary_from, whole_summary};
+ghost use Rattle.xl_top.specs.Words.{job, HasFit, is_reader};
 
 use crate::keeper::SureKeeper;
+use crate::make::made_house;
+use crate::start::{exports_with, start};
 use crate::words::{Job, ParseError, parse};
 use std::alloc::{AllocError, AllocFailed, Global};
 use xl_base::{
     Event, Exports, Halt, Head, Journal, Moment, ReadOutcome, Record, Sequence, Sink, Source,
     WriteOutcome,
 };
-use xl_capture::{
-    Addresses, Capture, CaptureError, MOST_BYTES, read_capture, show_text, transcript,
-};
+use xl_capture::{Capture, CaptureError, MOST_BYTES, read_capture, show_text, summary, transcript};
 use xl_house::House;
 
 /// How a run ended.
@@ -150,22 +152,6 @@ fn write_whole<O: Sink>(alloc: Global, house: &House<SureKeeper>, out: &mut O) -
     }
 }
 
-/// These files and these callers' addresses, with the default times.
-fn exports_with(
-    files: Sequence<Sequence<u8>>,
-    addresses: Sequence<(Sequence<u8>, Sequence<u8>)>,
-) -> Exports
-    ensures { result ≡ exports_with files addresses }
-{
-    Exports {
-        files,
-        addresses,
-        lease: 90000,
-        grace: 90000,
-        break_time: 35000,
-    }
-}
-
 /// The ending of a run that stepped nothing.
 fn idle(alloc: Global, status: u8, line: u64) -> Done
     ensures { result ≡ record { status = status; line = line; journal = no_journal } }
@@ -186,26 +172,6 @@ fn idle(alloc: Global, status: u8, line: u64) -> Done
     }
 }
 
-/// A house over these files and these callers' addresses, of a server that never started before. None comes for want of
-/// memory.
-fn start(
-    alloc: Global,
-    files: Sequence<Sequence<u8>>,
-    addresses: Addresses,
-) -> Option<House<SureKeeper>>
-    ensures { IfSome result (λ h. (h.head ≡ head_with files addresses) × ((h.entries ≡ []) × (h.halt ≡ None))) }
-{
-    let keeper = SureKeeper::new(alloc, Record::new(alloc));
-    let exports = exports_with(files, addresses.into_sequence());
-    match House::start(alloc, exports, keeper, Moment(0)) {
-        Ok(house) => Some(house),
-        Err(ended) => match ended.halt {
-            Halt::NoMemory => None,
-            Halt::JournalFull(_) | Halt::StartStore(_) => unreachable!(),
-        },
-    }
-}
-
 /// A house that stepped the events of a capture, and how the last step ended. None comes for want of memory at the
 /// start.
 #[tactic(auto, using(crate::proofs::JobLaws::begins))]
@@ -221,9 +187,19 @@ fn step_capture(alloc: Global, capture: Capture) -> Option<(House<SureKeeper>, R
     let Capture {
         files,
         addresses,
+        lease,
+        grace,
+        break_time,
         events,
     } = capture;
-    let mut house = start(alloc, files, addresses)?;
+    let exports = Exports {
+        files,
+        addresses: addresses.into_sequence(),
+        lease,
+        grace,
+        break_time,
+    };
+    let mut house = start(alloc, exports)?;
     let ended = step_all(alloc, &mut house, events.into_vec());
     Some((house, ended))
 }
@@ -377,6 +353,66 @@ fn show_input<I: Source, O: Sink>(alloc: Global, input: &mut I, out: &mut O) -> 
     show_given(alloc, &text, out)
 }
 
+/// Writes the summary of a house's journal.
+#[tactic(auto, using(crate::proofs::WriteLaws::began_none, crate::proofs::WriteLaws::began_all))]
+fn write_summary<O: Sink>(alloc: Global, house: &House<SureKeeper>, out: &mut O) -> Written
+    requires { is_spoiled house.now.halt ≡ false }
+    ensures all { result ≡ Written.All → Added (O.held out.old) (summary_from house.now.head house.now.entries) (O.held out.new) }
+    ensures began { Began (O.held out.old) (summary_from house.now.head house.now.entries) (O.held out.new) }
+    ensures failed { result ≡ Written.Failed → Rose (O.faults out.old) (O.faults out.new) }
+    ensures still { result ≢ Written.Failed → O.faults out.new ≡ O.faults out.old }
+{
+    let Ok(claims) = house.dump(alloc) else {
+        return Written::NoMemory;
+    };
+    let Ok(text) = summary(alloc, house.outs_from(0), &claims) else {
+        return Written::NoMemory;
+    };
+    match out.write(&text) {
+        WriteOutcome::Wrote => Written::All,
+        WriteOutcome::Failed => Written::Failed,
+    }
+}
+
+/// Makes so many calls by the draws of a seed, steps them, and writes the summary of their journal.
+#[tactic(auto, using(crate::proofs::MadeLaws::same_journal, crate::proofs::MadeLaws::made_part, crate::proofs::MadeLaws::no_part, crate::proofs::CountLaws::journal_counts))]
+fn make<O: Sink>(alloc: Global, seed: u32, count: u32, out: &mut O) -> Done
+    requires seed { seed < 2 ^ 31 }
+    requires few { count ≤ 1000000 }
+    ensures known { is_made result.status ≡ true }
+    ensures line { result.line ≡ 0 }
+    ensures made { result.status ≡ 0 → result.journal ≡ made_journal seed count }
+    ensures unwritten { result.status ≡ 3 → result.journal ≡ made_journal seed count }
+    ensures numbers { result.status ≡ 0 → (length result.journal.entries ≡ count + 1) × (granted result.journal.entries + denied result.journal.entries ≡ count) }
+    ensures begun { IsMadePart seed count result.journal }
+    ensures written { result.status ≡ 0 → Added (O.held out.old) (whole_summary result.journal) (O.held out.new) }
+    ensures began { Began (O.held out.old) (whole_summary result.journal) (O.held out.new) }
+    ensures failed { result.status ≡ 3 → Rose (O.faults out.old) (O.faults out.new) }
+    ensures still { result.status ≢ 3 → O.faults out.new ≡ O.faults out.old }
+    ensures legal { IsLegal (begin result.journal.head) result.journal.entries }
+    ensures orderly { IsOrderly [] 0 result.journal.entries }
+    ensures most { length result.journal.entries ≤ most_entries }
+{
+    let Some((house, all)) = made_house(alloc, seed, count) else {
+        return idle(alloc, 6, 0);
+    };
+    let status = if all {
+        match write_summary(alloc, &house, out) {
+            Written::All => 0,
+            Written::Failed => 3,
+            Written::NoMemory => 6,
+        }
+    } else {
+        6
+    };
+    let (journal, _) = house.end();
+    Done {
+        status,
+        line: 0,
+        journal,
+    }
+}
+
 /// Does what the words ask for, from the input to the output.
 #[tactic(auto, using(xl_house::proofs::MachineLaws::begun_free, xl_house::proofs::LawfulLaws::always_lawful, xl_house::proofs::LawfulLaws::always_waiting, xl_house::proofs::LawfulLaws::always_complete, xl_house::proofs::LawfulLaws::always_caused, xl_house::proofs::LawfulLaws::always_told))]
 pub fn run<I: Source, O: Sink>(alloc: Global, words: &[String], input: &mut I, out: &mut O) -> Done
@@ -390,8 +426,10 @@ pub fn run<I: Source, O: Sink>(alloc: Global, words: &[String], input: &mut I, o
     ensures write { result.status ≡ 3 → Rose (O.faults out.old) (O.faults out.new) }
     ensures write_still { result.status ≢ 3 → result.status ≢ 7 → O.faults out.new ≡ O.faults out.old }
     ensures line { result.status ≢ 4 → result.line ≡ 0 }
-    ensures ended { result.status ≡ 0 → Ended (I.left input.new) }
+    ensures ended { is_reader (job (map string_bytes words.now)) ≡ true → result.status ≡ 0 → Ended (I.left input.new) }
     ensures idle { is_idle result.status ≡ true → (result.journal ≡ no_journal) × (O.held out.new ≡ O.held out.old) }
+    // Where the words ask for no job, nothing is read, stepped or written, also where memory ran out.
+    ensures untouched { job (map string_bytes words.now) ≡ None → (result.journal ≡ no_journal) × (input.new ≡ input.old) × (out.new ≡ out.old) }
 
     // Of a replay, what was read is a capture at 0, 3 and 7, and isn't one at 4, whose line is the first that is bad. What
     // was written: all of the transcript at 0, and at 7 unless the sink failed; a beginning at 3, 6 and 7; nothing at 1, 2
@@ -411,6 +449,17 @@ pub fn run<I: Source, O: Sink>(alloc: Global, words: &[String], input: &mut I, o
     ensures shown_part { job (map string_bytes words.now) ≡ Some Job.Show → (all : List ℕ) → I.left input.old ≡ Some all → result.status ≡ 3 → BeginsShown (O.held out.old) (shown (capped all)) (O.held out.new) }
     ensures shown_bad { job (map string_bytes words.now) ≡ Some Job.Show → (all : List ℕ) → I.left input.old ≡ Some all → result.status ≡ 4 → shown (capped all) ≡ Err result.line }
     ensures shown_alone { job (map string_bytes words.now) ≡ Some Job.Show → (is_show result.status ≡ true) × (result.journal ≡ no_journal) × (result.status ≡ 6 → O.held out.new ≡ O.held out.old) }
+
+    // Of calls that are made, the journal is that of the calls at 0 and 3, and a beginning of it at 6; what was written: the
+    // summary of the journal at 0, a beginning of it at 3 and 6. Nothing is read. The opening and each call have an entry,
+    // and each call was granted or denied.
+    ensures made { (seed count : ℕ) → job (map string_bytes words.now) ≡ Some (Job.Make seed count) → result.status ≡ 0 → result.journal ≡ made_journal seed count }
+    ensures made_unwritten { (seed count : ℕ) → job (map string_bytes words.now) ≡ Some (Job.Make seed count) → result.status ≡ 3 → result.journal ≡ made_journal seed count }
+    ensures made_part { (seed count : ℕ) → job (map string_bytes words.now) ≡ Some (Job.Make seed count) → result.status ≡ 6 → IsMadePart seed count result.journal }
+    ensures summed { (seed count : ℕ) → job (map string_bytes words.now) ≡ Some (Job.Make seed count) → result.status ≡ 0 → Added (O.held out.old) (whole_summary result.journal) (O.held out.new) }
+    ensures summed_part { (seed count : ℕ) → job (map string_bytes words.now) ≡ Some (Job.Make seed count) → Began (O.held out.old) (whole_summary result.journal) (O.held out.new) }
+    ensures numbers { (seed count : ℕ) → job (map string_bytes words.now) ≡ Some (Job.Make seed count) → result.status ≡ 0 → (length result.journal.entries ≡ count + 1) × (granted result.journal.entries + denied result.journal.entries ≡ count) }
+    ensures made_alone { (seed count : ℕ) → job (map string_bytes words.now) ≡ Some (Job.Make seed count) → (is_made result.status ≡ true) × (I.left input.new ≡ I.left input.old) }
 
     // The journal is the machine's, and nothing is sent to a connection before its opening or after its end.
     ensures legal { IsLegal (begin result.journal.head) result.journal.entries }
@@ -432,6 +481,7 @@ pub fn run<I: Source, O: Sink>(alloc: Global, words: &[String], input: &mut I, o
     match parse(alloc, words) {
         Ok(Job::Replay) => replay_input(alloc, input, out),
         Ok(Job::Show) => show_input(alloc, input, out),
+        Ok(Job::Make(seed, count)) => make(alloc, seed, count, out),
         Err(ParseError::Usage) => idle(alloc, 1, 0),
         Err(ParseError::NoMemory) => idle(alloc, 6, 0),
     }

@@ -1,5 +1,7 @@
 -- The list of those who wait, in order of arrival.
-use Rattle.std.specs.Prelude.{ℕ, Bool, true, false, ◌==◌, List, [], ◌∷◌, Option, Some, None, if◌then◌else◌}
+use Rattle.std.specs.Prelude.{ℕ, Bool, true, false, ◌==◌, List, [], ◌∷◌, map, Option, Some, None, if◌then◌else◌}
+use Rattle.std.specs.List.{list_any}
+use Rattle.xl_matrix.specs.declared.claim.Claim.{Claim}
 use Rattle.xl_wait.specs.declared.waiter.Waiter.{Waiter}
 
 -- a waiter of this number is among them
@@ -21,3 +23,20 @@ came_by (Some own) conn = own == conn
 abbrev pub numbers_of : ℕ → List Waiter → List ℕ
 numbers_of conn [] = []
 numbers_of conn (w ∷ ws) = if came_by w.conn conn then w.id ∷ numbers_of conn ws else numbers_of conn ws
+
+-- the file of the first of these claims
+abbrev pub first_file : List Claim → Option ℕ
+first_file [] = None
+first_file (c ∷ cs) = Some c.file
+
+-- the file on which each waits: that of the first claim that it asks for
+abbrev pub files_of : List Waiter → List (Option ℕ)
+files_of ws = map (λ w. first_file w.asked) ws
+
+abbrev pub is_file : ℕ → Option ℕ → Bool
+is_file file None = false
+is_file file (Some own) = own == file
+
+-- someone waits on this file
+abbrev pub waits_on : ℕ → List Waiter → Bool
+waits_on file ws = list_any (is_file file) (files_of ws)

@@ -1,7 +1,9 @@
 //! The queue of those who wait for a claim, in order of arrival.
 #![tactic(auto)]
 
+mod files;
 mod listing;
+mod parts;
 mod queue;
 mod waiter;
 

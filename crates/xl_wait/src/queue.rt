@@ -2,7 +2,9 @@
 ghost use Rattle.std.specs.Prelude.{◌≡◌, ℕ, ◌≤◌, ◌∷◌, ◌++◌, [], length, slice_get, option_copied, IsTrue, ◌↔◌, IfOk, OnOk, OnErr};
 ghost use Rattle.xl_wait.specs.declared.queue.QueueErr.TheVariants.{NoMemory};
 
-use crate::listing::{find_waiter, list_numbers};
+use crate::files::has_file;
+use crate::listing::list_numbers;
+use crate::parts::{enter, take_out};
 use crate::waiter::Waiter;
 use std::alloc::{AllocError, AllocFailed, Global};
 use std::marker::Model;
@@ -22,6 +24,14 @@ pub enum QueueErr {
     Full(u32),
 }
 
+impl From<AllocError> for QueueErr {
+    ghost from_gives = { λ _ e. e ≡ NoMemory };
+
+    fn from(_e: AllocError) -> QueueErr {
+        QueueErr::NoMemory
+    }
+}
+
 impl<T: Drop> From<AllocFailed<T>> for QueueErr {
     ghost from_gives = { λ _ e. e ≡ NoMemory };
 
@@ -34,21 +44,24 @@ impl<T: Drop> From<AllocFailed<T>> for QueueErr {
 #[derive(Drop)]
 pub struct Queue {
     waiters: Vec<Waiter>,
+    /// The file on which each of them waits.
+    files: Vec<Option<u32>>,
 }
 
 impl Model for Queue {
-    ghost use Rattle.std.specs.Prelude.{List, ◌≤◌, length};
+    ghost use Rattle.std.specs.Prelude.{List, ◌≡◌, ◌≤◌, length};
+    ghost use Rattle.xl_wait.specs.Waiting.{files_of};
     ghost use Rattle.xl_wait.specs.declared.waiter.Waiter.{Waiter};
 
     ghost Value = { List Waiter };
 
     ghost view = { λ q. q.waiters.items };
 
-    ghost invariant = { λ q. length q.waiters.items ≤ 1024 };
+    ghost invariant = { λ q. (length q.waiters.items ≤ 1024) × (q.files.items ≡ files_of q.waiters.items) };
 }
 
 impl Queue {
-    ghost use Rattle.xl_wait.specs.Waiting.{is_waiting, cancelled, numbers_of};
+    ghost use Rattle.xl_wait.specs.Waiting.{is_waiting, cancelled, numbers_of, waits_on};
 
     /// The queue where nobody waits; it takes no memory.
     pub fn new(alloc: Global) -> Queue
@@ -56,6 +69,7 @@ impl Queue {
     {
         Queue {
             waiters: Vec::new(alloc),
+            files: Vec::new(alloc),
         }
     }
 
@@ -90,7 +104,7 @@ impl Queue {
         if self.waiters.len() >= WAITERS {
             return Err(QueueErr::Full(1_024));
         }
-        self.waiters.push(waiter)?;
+        enter(&mut self.waiters, &mut self.files, waiter)?;
         Ok(())
     }
 
@@ -100,13 +114,14 @@ impl Queue {
         ensures waiting { result ≡ is_waiting id self.old }
         ensures after { self.new ≡ cancelled id self.old }
     {
-        match find_waiter(&self.waiters, id) {
-            Some(place) => {
-                let _ = self.waiters.remove(place);
-                true
-            }
-            None => false,
-        }
+        take_out(&mut self.waiters, &mut self.files, id)
+    }
+
+    /// Whether someone waits on this file: whether the first claim that it asks for is there. It takes no memory.
+    pub fn waits_on(&self, file: u32) -> bool
+        ensures { result ≡ waits_on file self.now }
+    {
+        has_file(&self.files, file)
     }
 
     /// The waiter at this place, counted from 0; None exactly where fewer wait.

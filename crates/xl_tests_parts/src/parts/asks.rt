@@ -5,10 +5,16 @@ ghost use Rattle.xl_core.specs.Asking.{IsFit};
 
 use std::alloc::{AllocError, Global};
 use xl_base::{MemoryKeeper, Moment, Party, Record, Sequence};
-use xl_core::{Act, Answer, Ask, Core, Who};
+use xl_core::{Act, Answer, Ask, Core, Times, Who};
 use xl_matrix::Extent;
 use xl_names::Name;
 use xl_wait::Rooms;
+
+const TIMES: Times = Times {
+    lease: 100,
+    grace: 100,
+    break_time: 10,
+};
 
 const NO_ROWS: Rooms = Rooms {
     hosts: 0,
@@ -51,7 +57,7 @@ fn keeps_nothing(core: &Core) -> bool {
 
 /// Whether a new core has no turn, and tells nothing of a party's end.
 fn does_nothing(alloc: Global) -> Result<bool, AllocError> {
-    let mut core = Core::new(alloc, Record::new(alloc), Moment(7));
+    let mut core = Core::new(alloc, Record::new(alloc), Moment(7), TIMES);
     let turn = core.settle(alloc, &mut keeper(alloc), &LEFT)?;
     let effects = core.end_party(alloc, Party::Open(3))?;
     core.begin_step();
@@ -62,7 +68,7 @@ fn does_nothing(alloc: Global) -> Result<bool, AllocError> {
 fn grants(alloc: Global, ask: &Ask) -> bool
     requires { IsFit ask.now }
 {
-    let mut core = Core::new(alloc, Record::new(alloc), Moment(7));
+    let mut core = Core::new(alloc, Record::new(alloc), Moment(7), TIMES);
     let answer = core.ask(alloc, &mut keeper(alloc), ask, &LEFT);
     matches!(&answer, Ok((Answer::Granted(_), _))) && keeps_nothing(&core)
 }

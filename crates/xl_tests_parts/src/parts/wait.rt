@@ -67,6 +67,8 @@ fn are_two(queue: &Queue, first: u32, last: u32) -> bool {
         && is_waiter(queue.waiters().first(), first)
         && is_waiter(queue.at(1), last)
         && queue.at(2).is_none()
+        && queue.waits_on(1)
+        && !queue.waits_on(2)
 }
 
 fn come_and_go(alloc: Global, queue: &mut Queue) -> bool {
@@ -82,7 +84,8 @@ fn come_and_go(alloc: Global, queue: &mut Queue) -> bool {
 #[test]
 fn waiters_come_and_go(rt: HostRuntime) {
     let mut queue = Queue::new(rt.alloc());
-    assert!(rt; queue.is_empty() && come_and_go(rt.alloc(), &mut queue));
+    assert!(rt; queue.is_empty() && !queue.waits_on(1));
+    assert!(rt; come_and_go(rt.alloc(), &mut queue));
 }
 
 #[test]

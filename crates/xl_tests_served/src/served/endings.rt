@@ -92,6 +92,75 @@ rpc 00
 rpc 0
 =>
 4 2 0
+--
+xlockd make 0 0
+=>
+0 0 1
+entries 1
+granted 0
+denied 0
+claims 0
+--
+xlockd make 0 1
+zip
+=>
+0 0 2
+entries 2
+granted 1
+denied 0
+claims 1
+--
+xlockd make 0 2
+=>
+0 0 3
+entries 3
+granted 2
+denied 0
+claims 1
+--
+xlockd make 2147483647 0
+=>
+0 0 1
+entries 1
+granted 0
+denied 0
+claims 0
+--
+xlockd make
+=>
+1 0 0
+--
+xlockd make 1
+=>
+1 0 0
+--
+xlockd make x 1
+=>
+1 0 0
+--
+xlockd make 01 1
+=>
+1 0 0
+--
+xlockd make 1 +1
+=>
+1 0 0
+--
+xlockd make 2147483648 1
+=>
+1 0 0
+--
+xlockd make 1 1000001
+=>
+1 0 0
+--
+xlockd make 1 1 1
+=>
+1 0 0
+--
+xlockd make --help
+=>
+1 0 0
 ";
 
 /// The first read fails; bad words come before it.
@@ -110,6 +179,14 @@ xlockd show
 rpc 00
 =>
 2 0 0
+--
+xlockd make 0 0
+=>
+0 0 1
+entries 1
+granted 0
+denied 0
+claims 0
 ";
 
 /// The second read fails, at the end of the text.
@@ -148,6 +225,11 @@ rpc 00
 =>
 3 0 0
 bad--
+xlockd make 0 0
+=>
+3 0 1
+entries 1
+granted 0--
 xlockd replay
 O rpc
 B 0 80000028000000050000000000000002000186b5000000040000000000000000000000000000000000000000

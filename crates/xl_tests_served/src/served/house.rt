@@ -13,14 +13,17 @@ fn exports(alloc: Global) -> Result<Exports, CaptureError> {
     let Capture {
         files,
         addresses,
+        lease,
+        grace,
+        break_time,
         events: _,
     } = read_capture(alloc, b"F a.txt\n")?;
     Ok(Exports {
         files,
         addresses: addresses.into_sequence(),
-        lease: 90_000,
-        grace: 90_000,
-        break_time: 35_000,
+        lease,
+        grace,
+        break_time,
     })
 }
 
@@ -161,6 +164,66 @@ fn hosts(rt: HostRuntime) -> Result<(), Fail> {
 #[test]
 fn waiters(rt: HostRuntime) -> Result<(), Fail> {
     assert!(rt; is_met(rt.alloc(), &WAITERS)?);
+    Ok(())
+}
+
+/// Readings of the clock, each with a record that comes behind it and its reply. SETCLIENTID gives a clientid of epoch 8; a
+/// confirmation of one of epoch 1 is stale, and that of its own is OK. The lease runs from the start, at 5: RENEW just
+/// before it ends, just before that ends, and where the last one has ended.
+const CLIENT: [(u64, &str, &str); 6] = [
+    (
+        0,
+        "000000090000000000000002000186a3000000040000000100000000000000000000000000000000000000000000000000000001000000230000000000000000000000016300000000000000000000000000000000000000",
+        "8000003c000000090000000100000000000000000000000000000000000000000000000000000001000000230000000000000008000000010000000000000002",
+    ),
+    (
+        0,
+        "000000090000000000000002000186a30000000400000001000000000000000000000000000000000000000000000000000000010000002400000001000000010000000000000002",
+        "8000002c0000000900000001000000000000000000000000000000000000272600000000000000010000002400002726",
+    ),
+    (
+        0,
+        "000000090000000000000002000186a30000000400000001000000000000000000000000000000000000000000000000000000010000002400000008000000010000000000000002",
+        "8000002c0000000900000001000000000000000000000000000000000000000000000000000000010000002400000000",
+    ),
+    (
+        90004,
+        "000000090000000000000002000186a30000000400000001000000000000000000000000000000000000000000000000000000010000001e0000000800000001",
+        "8000002c0000000900000001000000000000000000000000000000000000000000000000000000010000001e00000000",
+    ),
+    (
+        180003,
+        "000000090000000000000002000186a30000000400000001000000000000000000000000000000000000000000000000000000010000001e0000000800000001",
+        "8000002c0000000900000001000000000000000000000000000000000000000000000000000000010000001e00000000",
+    ),
+    (
+        270003,
+        "000000090000000000000002000186a30000000400000001000000000000000000000000000000000000000000000000000000010000001e0000000800000001",
+        "8000002c0000000900000001000000000000000000000000000000000000272600000000000000010000001e00002726",
+    ),
+];
+
+/// Whether the record that comes at this moment has this reply.
+fn is_told_at(
+    alloc: Global,
+    house: &mut House<MemoryKeeper>,
+    row: &(u64, &str, &str),
+) -> Result<bool, Fail> {
+    let (moment, record, reply) = row;
+    let wanted = format!(in alloc; "0 c0 {reply}\n")?;
+    let bytes = Sequence::from_vec(hex::decode(alloc, record)?);
+    match house.step(alloc, Event::Tick(Moment(*moment))) {
+        Ok(_) => Ok(told(alloc, house, bytes)?.as_slice() == wanted.as_bytes()),
+        Err(_) => Ok(false),
+    }
+}
+
+#[test]
+fn clients(rt: HostRuntime) -> Result<(), Fail> {
+    let mut house = connected(rt.alloc())?;
+    for row in &CLIENT {
+        assert!(rt; is_told_at(rt.alloc(), &mut house, row)?);
+    }
     Ok(())
 }
 

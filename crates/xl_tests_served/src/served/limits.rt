@@ -54,6 +54,34 @@ fn most_entries(rt: HostRuntime) -> Result<(), Fail> {
     Ok(())
 }
 
+/// So many readings of the clock.
+fn readings(alloc: Global, count: u64) -> Result<String, AllocError> {
+    let mut text = String::new(alloc);
+    for moment in 0..count {
+        writeln!(text, "T {moment}")?;
+    }
+    Ok(text)
+}
+
+#[test]
+fn most_readings(rt: HostRuntime) -> Result<(), Fail> {
+    assert!(rt;
+        is_told(
+            rt.alloc(),
+            &readings(rt.alloc(), 1_048_576)?,
+            "0 0 1048576\n"
+        )?
+    );
+    assert!(rt;
+        is_told(
+            rt.alloc(),
+            &readings(rt.alloc(), 1_048_577)?,
+            "7 0 1048576\n"
+        )?
+    );
+    Ok(())
+}
+
 /// A source of so many bytes that it makes as they are read: one line, which is passed over.
 #[derive(Drop)]
 struct Comment {
@@ -191,6 +219,93 @@ fn most_locked(alloc: Global) -> Result<(String, String), AllocError> {
 #[test]
 fn most_claims(rt: HostRuntime) -> Result<(), Fail> {
     let (lines, wanted) = most_locked(rt.alloc())?;
+    assert!(rt; is_told(rt.alloc(), &lines, &wanted)?);
+    Ok(())
+}
+
+/// The beginning of a COMPOUND of one operation, whose record has so many bytes, up to the operation's number.
+fn put_compound(text: &mut String, whole: u32, xid: u32) -> Result<(), AllocError> {
+    write!(
+        text,
+        "B 0 800000{whole:02x}{xid:08x}0000000000000002000186a30000000400000001"
+    )?;
+    write!(
+        text,
+        "00000000000000000000000000000000000000000000000000000001"
+    )
+}
+
+/// The beginning of the reply, up to the status of its one result.
+fn put_answer(
+    text: &mut String,
+    whole: u32,
+    xid: u32,
+    operation: u32,
+    status: u32,
+) -> Result<(), AllocError> {
+    write!(
+        text,
+        "{xid} c0 800000{whole:02x}{xid:08x}0000000100000000000000000000000000000000"
+    )?;
+    write!(
+        text,
+        "{status:08x}0000000000000001{operation:08x}{status:08x}"
+    )
+}
+
+/// A client of NFSv4.0 comes, whose id string has this number's four bytes, and gets this number as its clientid's, and the
+/// next one to confirm it; or it is refused: RESOURCE.
+fn put_client(
+    lines: &mut String,
+    wanted: &mut String,
+    xid: u32,
+    client: u32,
+    number: Option<u32>,
+) -> Result<(), AllocError> {
+    put_compound(lines, 0x58, xid)?;
+    writeln!(
+        lines,
+        "00000023000000000000000000000004{client:08x}00000000000000000000000000000000"
+    )?;
+    match number {
+        Some(number) => {
+            put_answer(wanted, 0x3c, xid, 35, 0)?;
+            let confirm = number.wrapping_add(1);
+            writeln!(wanted, "00000001{number:08x}00000000{confirm:08x}")?;
+        }
+        None => {
+            put_answer(wanted, 0x2c, xid, 35, 10018)?;
+            writeln!(wanted, "")?;
+        }
+    }
+    Ok(())
+}
+
+/// 256 clients come, of which the first is confirmed. Then there is no room for a record more: neither for the 257th, nor
+/// for one of the first beside what it has; but an unconfirmed one makes room for its client's next. At their time all go.
+fn most_coming(alloc: Global) -> Result<(String, String), AllocError> {
+    let mut lines = String::from_str(alloc, "O rpc\n")?;
+    let mut wanted = String::from_str(alloc, "0 0 263\n")?;
+    for client in 0..256u32 {
+        let number = client.wrapping_mul(2).wrapping_add(1);
+        let xid = client.wrapping_add(1);
+        put_client(&mut lines, &mut wanted, xid, client, Some(number))?;
+    }
+    put_compound(&mut lines, 0x48, 257)?;
+    writeln!(lines, "0000002400000001000000010000000000000002")?;
+    put_answer(&mut wanted, 0x2c, 257, 36, 0)?;
+    writeln!(wanted, "")?;
+    put_client(&mut lines, &mut wanted, 258, 256, None)?;
+    put_client(&mut lines, &mut wanted, 259, 0, None)?;
+    put_client(&mut lines, &mut wanted, 260, 1, Some(513))?;
+    writeln!(lines, "T 90000")?;
+    put_client(&mut lines, &mut wanted, 262, 256, Some(515))?;
+    Ok((lines, wanted))
+}
+
+#[test]
+fn most_clients(rt: HostRuntime) -> Result<(), Fail> {
+    let (lines, wanted) = most_coming(rt.alloc())?;
     assert!(rt; is_told(rt.alloc(), &lines, &wanted)?);
     Ok(())
 }

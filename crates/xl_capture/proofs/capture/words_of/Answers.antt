@@ -11,4 +11,4 @@ first_of : {S A B : Type 0} {steps : S → Option A → S → Type 0} {v : A →
 first_of {S} {A} {B} {steps} {v} {ys} n source is all count = YieldsList-from_take {steps = steps} n (subst (λ (x : S). YieldsList steps v x ys) (sym is) all) count
 
 pub returns : goal.returns
-returns c = map_from_collect _ c.collect.ensures.ran (first_of 4 c.split.result c.take.ensures.source (YieldsList-from_slice_split _ _ c.args.line.now c.split.ensures.rest c.split.ensures.done c.split.ensures.closure (λ x r q k. search (rules, tests))) c.take.ensures.count)
+returns c = map_from_collect _ c.collect.ensures.ran (first_of 5 c.split.result c.take.ensures.source (YieldsList-from_slice_split _ _ c.args.line.now c.split.ensures.rest c.split.ensures.done c.split.ensures.closure (λ x r q k. search (rules, tests))) c.take.ensures.count)

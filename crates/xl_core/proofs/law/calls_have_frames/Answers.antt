@@ -1,4 +1,4 @@
-use Rattle.xl_core.proofs.FrameLaws.{ask_frame, ask_quiet, turn_frame, cancel_frame, give_back_frame, end_party_frame, drawn_frame}
+use Rattle.xl_core.proofs.FrameLaws.{ask_frame, ask_quiet, turn_frame, cancel_frame, give_back_frame, end_party_frame, drawn_frame, renew_frame, tick_frame}
 use Rattle.xl_core.proofs.law.calls_have_frames.Goals as goal
 
 pub returns-clause-asks : goal.returns-clause-asks
@@ -21,3 +21,9 @@ returns-clause-ends c = end_party_frame
 
 pub returns-clause-draws : goal.returns-clause-draws
 returns-clause-draws c = drawn_frame
+
+pub returns-clause-renews : goal.returns-clause-renews
+returns-clause-renews c = renew_frame
+
+pub returns-clause-ticks : goal.returns-clause-ticks
+returns-clause-ticks c = tick_frame

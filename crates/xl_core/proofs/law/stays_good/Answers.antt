@@ -1,4 +1,4 @@
-use Rattle.xl_core.proofs.GoodLaws.{started_good, begun_good, ask_good, settle_good, cancel_good, give_back_good, drawn_good, end_party_good}
+use Rattle.xl_core.proofs.GoodLaws.{started_good, begun_good, ask_good, settle_good, cancel_good, give_back_good, drawn_good, end_party_good, renew_good, tick_good}
 use Rattle.xl_core.proofs.law.stays_good.Goals as goal
 
 pub returns-clause-started : goal.returns-clause-started
@@ -24,3 +24,9 @@ returns-clause-drawn c = drawn_good
 
 pub returns-clause-ended : goal.returns-clause-ended
 returns-clause-ended c = end_party_good
+
+pub returns-clause-renewed : goal.returns-clause-renewed
+returns-clause-renewed c = renew_good
+
+pub returns-clause-ticked : goal.returns-clause-ticked
+returns-clause-ticked c = tick_good

@@ -2,7 +2,10 @@ use Rattle.xl_house.proofs.HearLaws.{ready_begun}
 use Rattle.xl_house.proofs.machine.hear_event.Goals as goal
 
 pub hear-requires : goal.hear-requires
-hear-requires g c = record { ready = ready_begun 1 _ _ c.begin_step.ensures.state c.requires.ready }
+hear-requires g c = record { ready = ready_begun 128 _ _ c.begin_step.ensures.state c.requires.ready }
 
 pub hear_answer-requires : goal.hear_answer-requires
-hear_answer-requires g c = record { ready = ready_begun 1 _ _ c.begin_step.ensures.state c.requires.ready }
+hear_answer-requires g c = record { ready = ready_begun 128 _ _ c.begin_step.ensures.state c.requires.ready }
+
+pub hear_tick-requires : goal.hear_tick-requires
+hear_tick-requires g c = record { ready = ready_begun 128 _ _ c.begin_step.ensures.state c.requires.ready }

@@ -1,6 +1,6 @@
 use Rattle.std.proofs.Common.{◌≡◌, ◌++◌, map}
 use Rattle.std.specs.List.{AllByRecursion}
-use Rattle.xl_front_nlm.specs.Short.{FitsFrame}
+use Rattle.xl_programs.specs.Sent.{FitsFrame}
 use Rattle.xl_house.specs.Machine.{framed}
 use Rattle.xl_house.proofs.outs.send_all.Given as goal
 

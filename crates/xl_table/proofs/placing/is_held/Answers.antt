@@ -1,5 +1,7 @@
+use Rattle.xl_table.specs.Files.{joined}
+use Rattle.xl_table.specs.Pages.{paged}
 use Rattle.xl_table.proofs.PlaceLaws.{held_on_file}
 use Rattle.xl_table.proofs.placing.is_held.Goals as goal
 
 pub returns : goal.returns
-returns c = held_on_file c.args.claim.now c.args.claims.now c.on_file.result.now c.has_equal.result c.has_equal.ensures c.on_file.ensures
+returns c = held_on_file c.args.claim.now (joined c.args.lists.now) (paged c.on_file.result.now) c.has_in.result c.has_in.ensures c.on_file.ensures.claims

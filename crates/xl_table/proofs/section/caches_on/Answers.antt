@@ -1,5 +1,7 @@
-use Rattle.xl_table.proofs.SectionLaws.{caches_section}
+use Rattle.xl_table.specs.Files.{joined}
+use Rattle.xl_table.specs.Pages.{paged}
+use Rattle.xl_table.proofs.SectionLaws.{caches_here}
 use Rattle.xl_table.proofs.section.caches_on.Goals as goal
 
 pub returns : goal.returns
-returns c = caches_section c.args.file c.args.claims.now _ _ _ c.from.result c.from.ensures c.requires c.places-start.ensures.start c.places-start.ensures.end c.between.ensures
+returns c = caches_here c.args.file (joined c.args.lists.now) _ (paged c.on_file.result.now) c.in_ok-caches.ensures c.on_file.ensures.claims

@@ -1,5 +1,5 @@
 -- What was read of the input is what is looked at of it.
-use Rattle.std.proofs.Common.{◌≡◌, ◌∙◌, ap, sym, subst, List, ℕ, Some, Result, Err}
+use Rattle.std.proofs.Common.{◌≡◌, ◌∙◌, ap, sym, subst, ℕ, Result}
 use Rattle.xl_capture.specs.Capture.{captured}
 use Rattle.xl_house.specs.Journals.{most_entries}
 use Rattle.xl_top.specs.Job.{capped, IsReplayed, IsBegun, IsCutAt}

@@ -1,5 +1,5 @@
 -- What was read of the input is what is looked at of it.
-use Rattle.std.proofs.Common.{◌≡◌, ◌∙◌, ap, sym, subst, List, ℕ, Some, Result, Err}
+use Rattle.std.proofs.Common.{◌≡◌, ◌∙◌, ap, sym}
 use Rattle.xl_capture.specs.Show.{shown}
 use Rattle.xl_top.specs.Job.{capped}
 use Rattle.xl_top.proofs.ReadLaws.{shown_whole}

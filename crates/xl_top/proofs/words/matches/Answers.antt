@@ -1,9 +1,9 @@
-use Rattle.std.proofs.Common.{rules, ◌≡◌, refl, sym, ap, ap₂, subst, ◌∙◌, Result, IfOk, IfErr, true, string_bytes, map, List, Option}
+use Rattle.std.proofs.Common.{rules, ◌≡◌, refl, ap, ap₂, subst, ◌∙◌, true, codes, string_bytes, map, List}
 use Rattle.std.proofs.lemmas.Result.{IfOk-weaker}
 use Rattle.clap.specs.Simple.{app_of_fields}
-use Rattle.clap.specs.Words.{App, FailsBy, Row, Text, app_of, fault_of, is_simple, is_simple_and_free, subcommand_of, with_subcommand, subcommand_rows_of}
+use Rattle.clap.specs.Words.{App, FailsBy, Text, app_of, fault_of, is_simple, is_simple_and_free, rule_of, subcommand_of, with_rule, with_subcommand}
 use Rattle.clap.proofs.OnLiterals.{clap_on_literals}
-use Rattle.xl_top.specs.Words.{program, asked}
+use Rattle.xl_top.specs.Words.{program, make_command, wanted, asked}
 use Rattle.xl_top.proofs.WordLaws.{strict, found_by, refused_by}
 use Rattle.xl_top.proofs.words.matches.Goals as goal
 
@@ -22,7 +22,11 @@ pub returns-clause-ok : goal.returns-clause-ok
 unfolding asked program
 returns-clause-ok c =
     let first_is = c.in_ok-first.ensures.shape (search rules) ∙ ap₂ with_subcommand (ap app_of_fields c.subcommand_required-strict.ensures ∙ ap strict c.new-bare.ensures.app) (ap (λ (a : App). a.top) c.new-replay.ensures.app) in
-    let program_is : app_of c.in_ok-program.program ≡ program = c.in_ok-program.ensures.shape (search rules) ∙ ap₂ with_subcommand first_is (ap (λ (a : App). a.top) c.new-show.ensures.app) in
+    let seed_is : rule_of c.required-seed.result ≡ wanted (codes "SEED") = search rules in
+    let count_is : rule_of c.required-count.result ≡ wanted (codes "COUNT") = search rules in
+    let make_is : app_of c.in_ok-make.make ≡ make_command = c.in_ok-make.ensures.shape (search rules) ∙ ap₂ with_rule (c.in_ok-seeded.ensures.shape (search rules) ∙ ap₂ with_rule c.new-unasked.ensures.app seed_is) count_is in
+    let second_is = c.in_ok-second.ensures.shape (search rules) ∙ ap₂ with_subcommand first_is (ap (λ (a : App). a.top) c.new-show.ensures.app) in
+    let program_is : app_of c.in_ok-program.program ≡ program = c.in_ok-program.ensures.shape (search rules) ∙ ap₂ with_subcommand second_is (ap (λ (a : App). a.top) make_is) in
     let parse = c.try_get_matches_from in
     let words : List Text = map string_bytes c.args.words.now in
     found_by (fault_of program words) (subcommand_of program words) parse.result
@@ -33,7 +37,11 @@ pub returns-clause-err : goal.returns-clause-err
 unfolding asked program
 returns-clause-err c =
     let first_is = c.in_ok-first.ensures.shape (search rules) ∙ ap₂ with_subcommand (ap app_of_fields c.subcommand_required-strict.ensures ∙ ap strict c.new-bare.ensures.app) (ap (λ (a : App). a.top) c.new-replay.ensures.app) in
-    let program_is : app_of c.in_ok-program.program ≡ program = c.in_ok-program.ensures.shape (search rules) ∙ ap₂ with_subcommand first_is (ap (λ (a : App). a.top) c.new-show.ensures.app) in
+    let seed_is : rule_of c.required-seed.result ≡ wanted (codes "SEED") = search rules in
+    let count_is : rule_of c.required-count.result ≡ wanted (codes "COUNT") = search rules in
+    let make_is : app_of c.in_ok-make.make ≡ make_command = c.in_ok-make.ensures.shape (search rules) ∙ ap₂ with_rule (c.in_ok-seeded.ensures.shape (search rules) ∙ ap₂ with_rule c.new-unasked.ensures.app seed_is) count_is in
+    let second_is = c.in_ok-second.ensures.shape (search rules) ∙ ap₂ with_subcommand first_is (ap (λ (a : App). a.top) c.new-show.ensures.app) in
+    let program_is : app_of c.in_ok-program.program ≡ program = c.in_ok-program.ensures.shape (search rules) ∙ ap₂ with_subcommand second_is (ap (λ (a : App). a.top) make_is) in
     let parse = c.try_get_matches_from in
     let words : List Text = map string_bytes c.args.words.now in
     refused_by (fault_of program words) (subcommand_of program words) parse.result

@@ -1,0 +1,148 @@
+//! What the clock does.
+ghost use Rattle.std.specs.Prelude.{◌≡◌, ℕ, ◌++◌, [], ◌∷◌, length, option_map, IfOk, OnOk};
+ghost use Rattle.xl_names.specs.declared.name.Name.TheVariants.{NfsParty};
+ghost use Rattle.xl_core.specs.Asking.{party_named};
+ghost use Rattle.xl_core.specs.Leases.{first_ended};
+ghost use Rattle.xl_core.specs.Good.{IsGood};
+ghost use Rattle.xl_core.specs.Ticks.{advanced, renew, end_some, expire, expired_for, tick};
+ghost use Rattle.xl_core.specs.Whole.{state_of};
+
+use crate::ask::Effect;
+use crate::lease::{drop_lease, first_ended, later, moment_after, put_lease};
+use crate::leaving::end_party;
+use crate::parts::Parts;
+use std::alloc::{AllocError, Global};
+use xl_base::{Moment, Party, Protocol, Sequence};
+use xl_names::{Name, Names};
+
+/// The clock reads this moment, where that is later.
+#[tactic(auto, unfolding(crate::specs::Ticks::advanced), using(crate::proofs::GoodLaws::advanced_good))]
+fn advance(parts: &mut Parts, now: Moment)
+    requires good { IsGood (state_of parts.old) }
+    ensures state { state_of parts.new ≡ advanced (state_of parts.old) now }
+    ensures good { IsGood (state_of parts.new) }
+{
+    parts.clock = later(parts.clock, now);
+}
+
+/// The client's lease runs for its whole length from now on.
+#[tactic(auto, unfolding(crate::specs::Ticks::renew))]
+pub(crate) fn renew(
+    alloc: Global,
+    parts: &mut Parts,
+    client: &[u8],
+) -> Result<Sequence<Effect>, AllocError>
+    ensures { IfOk result (λ effects. renew (state_of parts.old) client.now ≡ (effects, state_of parts.new)) }
+{
+    let until = moment_after(parts.clock, parts.times.lease);
+    put_lease(
+        &mut parts.leases,
+        Sequence::from_slice(alloc, client)?,
+        until,
+    )?;
+    Ok(Sequence::new(alloc))
+}
+
+/// The party of an NFSv4 client, where its name is kept.
+fn party_of(alloc: Global, names: &Names, client: &[u8]) -> Result<Option<Party>, AllocError>
+    ensures { IfOk result (λ party. party ≡ party_named names.now (NfsParty client.now)) }
+{
+    let name = Name::NfsParty(Sequence::from_slice(alloc, client)?);
+    Ok(
+        names
+            .find(&name)
+            .map(|number| Party::Name(Protocol::Nfs, number)),
+    )
+}
+
+/// Takes out all claims and waiters of a party, where there is one.
+fn end_some(
+    alloc: Global,
+    parts: &mut Parts,
+    party: Option<Party>,
+) -> Result<Sequence<Effect>, AllocError>
+    requires good { IsGood (state_of parts.old) }
+    ensures { IfOk result (λ effects. end_some (state_of parts.old) party ≡ (effects, state_of parts.new)) }
+{
+    match party {
+        Some(party) => end_party(alloc, parts, party),
+        None => Ok(Sequence::new(alloc)),
+    }
+}
+
+/// Takes out all that the client has, and its lease.
+#[tactic(auto, unfolding(crate::specs::Ticks::expire))]
+fn expire(
+    alloc: Global,
+    parts: &mut Parts,
+    client: Sequence<u8>,
+) -> Result<Sequence<Effect>, AllocError>
+    requires good { IsGood (state_of parts.old) }
+    ensures { IfOk result (λ effects. expire (state_of parts.old) client ≡ (effects, state_of parts.new)) }
+{
+    let party = party_of(alloc, &parts.names, client.as_slice())?;
+    let mut effects = end_some(alloc, parts, party)?;
+    drop_lease(&mut parts.leases, &client);
+    effects.push(Effect::Expired(client))?;
+    Ok(effects)
+}
+
+/// A copy of the id string of the first client whose lease has ended.
+fn next_ended(alloc: Global, parts: &Parts) -> Result<Option<Sequence<u8>>, AllocError>
+    ensures { IfOk result (λ client. client ≡ first_ended parts.now.clock parts.now.leases.entries) }
+{
+    match first_ended(&parts.leases, parts.clock) {
+        Some(client) => Ok(Some(Sequence::from_slice(alloc, client.as_slice())?)),
+        None => Ok(None),
+    }
+}
+
+/// Puts effects behind others.
+fn push_all(effects: &mut Sequence<Effect>, more: Sequence<Effect>) -> Result<(), AllocError>
+    ensures { OnOk result (effects.new ≡ effects.old ++ more) }
+{
+    for effect in more.into_vec() {
+        effects.push(effect)?;
+    }
+    Ok(())
+}
+
+/// Lets so many clients expire at most whose lease has ended, and tells that behind what was told before.
+
+fn expire_ended(
+    alloc: Global,
+    parts: &mut Parts,
+    effects: &mut Sequence<Effect>,
+    most: usize,
+) -> Result<(), AllocError>
+    requires good { IsGood (state_of parts.old) }
+    ensures state { OnOk result ((expired_for most (state_of parts.old)).1 ≡ state_of parts.new) }
+    ensures told { OnOk result (effects.new ≡ effects.old ++ (expired_for most (state_of parts.old)).0) }
+{
+    if most == 0 {
+        return Ok(());
+    }
+    let Some(client) = next_ended(alloc, parts)? else {
+        return Ok(());
+    };
+    let told = expire(alloc, parts, client)?;
+    push_all(effects, told)?;
+    expire_ended(alloc, parts, effects, most - 1)
+}
+
+/// Reads the clock: each client whose lease has ended expires.
+#[tactic(auto, unfolding(crate::specs::Ticks::tick))]
+pub(crate) fn tick(
+    alloc: Global,
+    parts: &mut Parts,
+    now: Moment,
+) -> Result<Sequence<Effect>, AllocError>
+    requires good { IsGood (state_of parts.old) }
+    ensures { IfOk result (λ effects. tick (state_of parts.old) now ≡ (effects, state_of parts.new)) }
+{
+    let most = parts.leases.len();
+    advance(parts, now);
+    let mut effects = Sequence::new(alloc);
+    expire_ended(alloc, parts, &mut effects, most)?;
+    Ok(effects)
+}

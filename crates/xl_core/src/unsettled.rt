@@ -1,0 +1,218 @@
+//! The files on which someone may wait whom nothing blocks, so that not all who wait are looked at after each change.
+ghost use Rattle.std.specs.Prelude.{◌≡◌, ℕ, ◌+◌, ◌<◌, ◌^◌, [], Ok, None, option_map, IfOk};
+ghost use Rattle.xl_core.specs.Asking.{IsFit};
+ghost use Rattle.xl_core.specs.Decide.{ask};
+ghost use Rattle.xl_core.specs.Good.{IsGood};
+ghost use Rattle.xl_core.specs.Settle.{settle, cancel, give_back, end_party};
+ghost use Rattle.xl_core.specs.Ticks.{renew, tick};
+ghost use Rattle.xl_core.specs.Watch.{with_file, may_free, left_by_ask, may_turn, AreHeldUp};
+ghost use Rattle.xl_core.specs.Whole.{state_of};
+
+use crate::ask::{Act, Answer, Ask, Effect};
+use crate::parts::Parts;
+use crate::{decide, leaving, settling, ticking};
+use std::alloc::{AllocError, Global};
+use xl_base::{Moment, Party, Sequence};
+use xl_matrix::Claim;
+use xl_wait::{Queue, Rooms};
+
+/// The files whose claims changed since all who wait were last found blocked.
+#[derive(Clone, Copy)]
+pub(crate) enum Unsettled {
+    /// None.
+    Nothing,
+    /// This one.
+    File(u32),
+    /// Any.
+    All,
+}
+
+fn with_file(file: u32, unsettled: Unsettled) -> Unsettled
+    ensures { result ≡ with_file file unsettled }
+{
+    match unsettled {
+        Unsettled::Nothing => Unsettled::File(file),
+        Unsettled::File(own) => {
+            if file == own {
+                Unsettled::File(own)
+            } else {
+                Unsettled::All
+            }
+        }
+        Unsettled::All => Unsettled::All,
+    }
+}
+
+/// Whether an ask that is answered so may have changed what is held on its file.
+fn may_free(act: &Act, answer: Answer) -> bool
+    ensures { result ≡ may_free act.now answer }
+{
+    match (act, answer) {
+        (Act::Test(_, _), _) => false,
+        (_, Answer::Granted(_)) => true,
+        _ => false,
+    }
+}
+
+/// The unsettled files once an ask was answered so.
+fn left_by_ask(request: &Ask, answer: Answer, unsettled: Unsettled) -> Unsettled
+    ensures { result ≡ left_by_ask request.now answer unsettled }
+{
+    if may_free(&request.act, answer) {
+        with_file(request.file, unsettled)
+    } else {
+        unsettled
+    }
+}
+
+/// Whether someone waits on one of the files.
+fn may_turn(unsettled: Unsettled, queue: &Queue) -> bool
+    ensures { result ≡ may_turn unsettled queue.now }
+{
+    match unsettled {
+        Unsettled::Nothing => false,
+        Unsettled::File(file) => queue.waits_on(file),
+        Unsettled::All => true,
+    }
+}
+
+/// Answers an ask. Its file is unsettled then, where it was granted what changes it.
+#[tactic(auto, using(crate::proofs::WatchLaws::any_up))]
+pub(crate) fn answer(
+    alloc: Global,
+    parts: &mut Parts,
+    unsettled: &mut Unsettled,
+    left: &Rooms,
+    request: &Ask,
+) -> Result<Answer, AllocError>
+    requires fit { IsFit request.now }
+    requires good { IsGood (state_of parts.old) }
+    requires numbers { parts.old.counter + 65536 < 2 ^ 32 }
+    requires held_up { AreHeldUp unsettled.old (state_of parts.old) }
+    ensures answer { (n : ℕ) → IfOk result (λ answer. ask n left.now (state_of parts.old) request.now ≡ (answer, [], state_of parts.new)) }
+    ensures made { parts.new.made ≡ parts.old.made }
+    ensures failed { parts.new.failed ≡ parts.old.failed }
+    ensures held_up { AreHeldUp unsettled.new (state_of parts.new) }
+{
+    let before = *unsettled;
+    *unsettled = Unsettled::All;
+    let answer = decide::answer(alloc, parts, left, request)?;
+    *unsettled = left_by_ask(request, answer, before);
+    Ok(answer)
+}
+
+/// One turn, where a waiter has one. All are looked at only where someone waits on an unsettled file.
+pub(crate) fn settle(
+    alloc: Global,
+    parts: &mut Parts,
+    unsettled: &mut Unsettled,
+    left: &Rooms,
+) -> Result<Option<Sequence<Effect>>, AllocError>
+    requires good { IsGood (state_of parts.old) }
+    requires held_up { AreHeldUp unsettled.old (state_of parts.old) }
+    ensures turn { (n : ℕ) → IfOk result (λ r. settle n left.now (state_of parts.old) ≡ option_map (λ effects. (effects, state_of parts.new)) r) }
+    ensures none { result ≡ Ok None → parts.new ≡ parts.old }
+    ensures made { parts.new.made ≡ parts.old.made }
+    ensures failed { parts.new.failed ≡ parts.old.failed }
+    ensures held_up { AreHeldUp unsettled.new (state_of parts.new) }
+{
+    let before = *unsettled;
+    if !may_turn(before, &parts.queue) {
+        *unsettled = Unsettled::Nothing;
+        return Ok(None);
+    }
+    *unsettled = Unsettled::All;
+    let turn = settling::settle(alloc, parts, left)?;
+    *unsettled = if turn.is_some() {
+        before
+    } else {
+        Unsettled::Nothing
+    };
+    Ok(turn)
+}
+
+/// Takes one waiter out.
+#[tactic(auto, using(crate::proofs::WatchLaws::any_up))]
+pub(crate) fn cancel(
+    alloc: Global,
+    parts: &mut Parts,
+    unsettled: &mut Unsettled,
+    id: u32,
+) -> Result<Sequence<Effect>, AllocError>
+    requires held_up { AreHeldUp unsettled.old (state_of parts.old) }
+    ensures state { IfOk result (λ effects. cancel (state_of parts.old) id ≡ (effects, state_of parts.new)) }
+    ensures held_up { AreHeldUp unsettled.new (state_of parts.new) }
+{
+    let before = *unsettled;
+    *unsettled = Unsettled::All;
+    let effects = leaving::cancel(alloc, parts, id)?;
+    *unsettled = before;
+    Ok(effects)
+}
+
+/// Takes one claim out. Its file is unsettled then.
+pub(crate) fn give_back(
+    alloc: Global,
+    parts: &mut Parts,
+    unsettled: &mut Unsettled,
+    claim: &Claim,
+) -> Sequence<Effect>
+    requires held_up { AreHeldUp unsettled.old (state_of parts.old) }
+    ensures state { give_back (state_of parts.old) claim.now ≡ (result, state_of parts.new) }
+    ensures held_up { AreHeldUp unsettled.new (state_of parts.new) }
+{
+    *unsettled = with_file(claim.file, *unsettled);
+    leaving::give_back(alloc, parts, claim)
+}
+
+/// Takes out all claims and waiters of a party. All files are unsettled then.
+#[tactic(auto, using(crate::proofs::WatchLaws::any_up))]
+pub(crate) fn end_party(
+    alloc: Global,
+    parts: &mut Parts,
+    unsettled: &mut Unsettled,
+    party: Party,
+) -> Result<Sequence<Effect>, AllocError>
+    requires good { IsGood (state_of parts.old) }
+    ensures state { IfOk result (λ effects. end_party (state_of parts.old) party ≡ (effects, state_of parts.new)) }
+    ensures held_up { AreHeldUp unsettled.new (state_of parts.new) }
+{
+    *unsettled = Unsettled::All;
+    leaving::end_party(alloc, parts, party)
+}
+
+/// Renews a client's lease.
+#[tactic(auto, using(crate::proofs::WatchLaws::any_up))]
+pub(crate) fn renew(
+    alloc: Global,
+    parts: &mut Parts,
+    unsettled: &mut Unsettled,
+    client: &[u8],
+) -> Result<Sequence<Effect>, AllocError>
+    requires held_up { AreHeldUp unsettled.old (state_of parts.old) }
+    ensures state { IfOk result (λ effects. renew (state_of parts.old) client.now ≡ (effects, state_of parts.new)) }
+    ensures held_up { AreHeldUp unsettled.new (state_of parts.new) }
+{
+    let before = *unsettled;
+    *unsettled = Unsettled::All;
+    let effects = ticking::renew(alloc, parts, client)?;
+    *unsettled = before;
+    Ok(effects)
+}
+
+/// Reads the clock. All files are unsettled then.
+#[tactic(auto, using(crate::proofs::WatchLaws::any_up))]
+pub(crate) fn tick(
+    alloc: Global,
+    parts: &mut Parts,
+    unsettled: &mut Unsettled,
+    now: Moment,
+) -> Result<Sequence<Effect>, AllocError>
+    requires good { IsGood (state_of parts.old) }
+    requires held_up { AreHeldUp unsettled.old (state_of parts.old) }
+    ensures state { IfOk result (λ effects. tick (state_of parts.old) now ≡ (effects, state_of parts.new)) }
+    ensures held_up { AreHeldUp unsettled.new (state_of parts.new) }
+{
+    *unsettled = Unsettled::All;
+    ticking::tick(alloc, parts, now)
+}

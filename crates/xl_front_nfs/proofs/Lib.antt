@@ -1,0 +1,11 @@
+pub mod RowLaws
+pub mod LeaveLaws
+pub mod ClientLaws
+pub mod ResultLaws
+pub mod PlanLaws
+pub mod CourseLaws
+pub mod ReplyLaws
+pub mod StepLaws
+pub mod DoesLaws
+pub mod OwnLaws
+pub mod HandleLaws

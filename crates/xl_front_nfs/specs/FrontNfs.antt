@@ -1,0 +1,95 @@
+-- What a call of program 100003 version 4 is answered (RFC 7530 14.1, 14.2).
+use Rattle.std.specs.Prelude.{ℕ, not, ◌==◌, nat_lt, if◌then◌else◌, List, [], ◌∷◌, ◌++◌, length, Result, Ok, Err}
+use Rattle.xl_base.specs.declared.event.Out.{Out}
+use Rattle.xl_base.specs.declared.journal.Exports.{Exports}
+use Rattle.xl_nfs.specs.Compounds.{CompoundHeadItem, compound_head_at}
+use Rattle.xl_nfs.specs.declared.status.NfsStatus.{NfsStatus}
+use Rattle.xl_nfs.specs.declared.status.NfsStatus.TheVariants.{MinorVersMismatch, Resource}
+use Rattle.xl_programs.specs.Programs.{RequestItem}
+use Rattle.xl_programs.specs.Sent.{sent_to}
+use Rattle.xl_rpc.specs.Replies.{reply}
+use Rattle.xl_rpc.specs.declared.fault.RpcBad.{RpcBad}
+use Rattle.xl_rpc.specs.declared.reply.Verdict.TheVariants.{Success, GarbageArgs}
+use Rattle.xl_core.specs.Deeds.{Deed}
+use Rattle.xl_core.specs.Rows.{Ran, all_ran, all_deeds}
+use Rattle.xl_core.specs.State.{CoreState}
+use Rattle.xl_core.specs.declared.ask.Effect.{Effect}
+use Rattle.xl_front_nfs.specs.Results.{compound_results}
+use Rattle.xl_front_nfs.specs.State.{FrontNfs}
+use Rattle.xl_front_nfs.specs.Steps.{Step, Course, begun, steps_in, ran, step_deeds}
+
+-- ---- the call that a request is
+
+-- the arguments can't be read; NULL; a COMPOUND of which nothing is done, with its tag and its status; or one of these steps
+pub data Called : Type 0 where
+  Garbage : Called
+  Null : Called
+  Refused : List ℕ → NfsStatus → Called
+  Compound : List ℕ → List Step → Called
+
+-- bytes behind NULL are garbage
+abbrev pub null_in : List ℕ → Called
+null_in bytes = if length bytes == 0 then Null else Garbage
+
+-- how many operations a COMPOUND has at most
+abbrev pub most_ops : ℕ
+most_ops = 64
+
+-- the minor version is judged before the count; what stands behind the last operation is not read
+abbrev pub compound_in : Result (CompoundHeadItem × List ℕ) RpcBad → Called
+compound_in (Err fault) = Garbage
+compound_in (Ok (head, bytes)) =
+    if not (head.minorversion == 0) then Refused head.tag MinorVersMismatch
+    else if nat_lt most_ops head.count then Refused head.tag Resource
+    else Compound head.tag (steps_in head.count bytes)
+
+-- procedure 0 is NULL, and 1 COMPOUND
+unfoldable pub call_in : RequestItem → Called
+call_in r = if r.procedure == 0 then null_in r.arguments else compound_in (compound_head_at r.arguments)
+
+-- ---- what it does, and what it is answered
+
+-- what a COMPOUND comes to
+abbrev pub run : ℕ → List (List ℕ) → FrontNfs → CoreState → List Step → Ran Course
+run n files f s steps = all_ran (ran files) n (begun f) s steps
+
+abbrev pub call_deeds : ℕ → List (List ℕ) → FrontNfs → CoreState → Called → List Deed
+call_deeds n files f s (Compound tag steps) = all_deeds (ran files) (step_deeds files) n (begun f) s steps
+call_deeds n files f s _ = []
+
+-- What a request does to the core: what each of its operations does, up to the first that fails.
+abbrev pub nfs_deeds : ℕ → Exports → FrontNfs → CoreState → RequestItem → List Deed
+nfs_deeds n exports f s r = call_deeds n exports.files f s (call_in r)
+
+-- a COMPOUND's reply
+abbrev pub compound_reply : ℕ → List ℕ → Course → List ℕ
+compound_reply xid tag c = reply xid Success ++ compound_results tag c.status c.count c.results
+
+abbrev pub call_reply : ℕ → List (List ℕ) → FrontNfs → CoreState → ℕ → Called → List ℕ
+call_reply n files f s xid Garbage = reply xid GarbageArgs
+call_reply n files f s xid Null = reply xid Success
+call_reply n files f s xid (Refused tag status) = reply xid Success ++ compound_results tag status 0 []
+call_reply n files f s xid (Compound tag steps) = compound_reply xid tag (run n files f s steps).1
+
+-- What it is answered: a function of the request and of what it meets.
+abbrev pub nfs_reply : ℕ → Exports → FrontNfs → CoreState → RequestItem → List ℕ
+nfs_reply n exports f s r = call_reply n exports.files f s r.xid (call_in r)
+
+-- ---- a step: a reply, the effects, and the front and the core afterwards
+
+abbrev pub with_reply : ℕ → List ℕ → Ran Course → List ℕ × List Effect × FrontNfs × CoreState
+with_reply xid tag r = (compound_reply xid tag r.1, r.1.effects, record { state = r.1.lists }, r.2)
+
+abbrev pub replied : ℕ → List (List ℕ) → FrontNfs → CoreState → ℕ → Called → List ℕ × List Effect × FrontNfs × CoreState
+replied n files f s xid (Compound tag steps) = with_reply xid tag (run n files f s steps)
+replied n files f s xid Garbage = (reply xid GarbageArgs, [], f, s)
+replied n files f s xid Null = (reply xid Success, [], f, s)
+replied n files f s xid (Refused tag status) = (reply xid Success ++ compound_results tag status 0 [], [], f, s)
+
+abbrev pub sent_with : ℕ → List ℕ × List Effect × FrontNfs × CoreState → List Out × List Effect × FrontNfs × CoreState
+sent_with conn r = (sent_to conn r.0, r.1, r.2, r.3)
+
+-- What a request from a connection is answered, what the core told of besides, and the front and the core afterwards,
+-- where n stores succeed in the step.
+unfoldable pub nfs_step : ℕ → Exports → FrontNfs → CoreState → ℕ → RequestItem → List Out × List Effect × FrontNfs × CoreState
+nfs_step n exports f s conn r = sent_with conn (replied n exports.files f s r.xid (call_in r))

@@ -1,0 +1,11 @@
+pub mod State
+pub mod Plans
+pub mod Handles
+pub mod Clients
+pub mod Results
+pub mod Steps
+pub mod Courses
+pub mod FrontNfs
+pub mod Owners
+pub mod Theirs
+pub mod Short

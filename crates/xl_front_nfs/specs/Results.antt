@@ -1,0 +1,36 @@
+-- How what an operation told is spelled (RFC 7531, nfs_resop4).
+use Rattle.std.specs.Prelude.{ℕ, ◌==◌, if◌then◌else◌, List, ◌++◌, Ok, Err}
+use Rattle.xl_base.specs.Handles.{handle}
+use Rattle.xl_nfs.specs.Ops.{is_numbered}
+use Rattle.xl_nfs.specs.Outcomes.{OtherFault}
+use Rattle.xl_nfs.specs.Results.{ResultItem, CloseAnswer, DelegReturnAnswer, GetFhAnswer, LockAnswer, LockTAnswer, LockUAnswer, LookupAnswer, OpenAnswer, OpenConfirmAnswer, OpenDowngradeAnswer, PutFhAnswer, PutRootFhAnswer, RenewAnswer, SetClientIdAnswer, SetClientIdConfirmAnswer, ReleaseLockOwnerAnswer, NotSupportedAnswer, IllegalAnswer, ResultFits}
+use Rattle.xl_nfs.specs.Statuses.{status_number}
+use Rattle.xl_nfs.specs.declared.status.NfsStatus.{NfsStatus}
+use Rattle.xl_rpc.specs.Xdr.{unsigned, opaque}
+use Rattle.xl_front_nfs.specs.declared.told.Told.{Told}
+use Rattle.xl_front_nfs.specs.declared.told.Told.TheVariants.{Ended, Handle, Client}
+
+-- the operation of this number ended so; the result of a number of no operation has a number of its own
+unfoldable pub ended_as : ℕ → NfsStatus → ResultItem
+ended_as number status =
+    if number == 4 then CloseAnswer (Err status) else if number == 8 then DelegReturnAnswer status else if number == 10 then GetFhAnswer (Err status)
+    else if number == 12 then LockAnswer (Err (OtherFault status)) else if number == 13 then LockTAnswer (Err (OtherFault status)) else if number == 14 then LockUAnswer (Err status)
+    else if number == 15 then LookupAnswer status else if number == 18 then OpenAnswer (Err status) else if number == 20 then OpenConfirmAnswer (Err status)
+    else if number == 21 then OpenDowngradeAnswer (Err status) else if number == 22 then PutFhAnswer status else if number == 24 then PutRootFhAnswer status
+    else if number == 30 then RenewAnswer status else if number == 35 then SetClientIdAnswer (Err status) else if number == 36 then SetClientIdConfirmAnswer status
+    else if number == 39 then ReleaseLockOwnerAnswer status
+    else if is_numbered number then NotSupportedAnswer number else IllegalAnswer
+
+abbrev pub result_of : ℕ → Told → ResultItem
+result_of number (Ended status) = ended_as number status
+result_of number (Handle file) = GetFhAnswer (Ok (handle file))
+result_of number (Client confirm) = SetClientIdAnswer (Ok confirm)
+
+-- its result has a spelling
+abbrev pub ToldFits : ℕ → Told → Type 0
+ToldFits number (Ended status) = ResultFits (ended_as number status)
+ToldFits number _ = Unit {0}
+
+-- COMPOUND4res: the last status, the tag of the request, and the results, as they are spelled, behind their count
+unfoldable pub compound_results : List ℕ → NfsStatus → ℕ → List ℕ → List ℕ
+compound_results tag status count results = unsigned (status_number status) ++ (opaque tag ++ (unsigned count ++ results))

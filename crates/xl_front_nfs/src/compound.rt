@@ -1,0 +1,181 @@
+//! A COMPOUND (RFC 7530 14.2): its operations in a row, up to the first that fails.
+ghost use Rattle.std.specs.Prelude.{◌≡◌, ℕ, ◌+◌, ◌*◌, ◌<◌, ◌≤◌, ◌^◌, ◌++◌, Bool, List, true, false, length, if◌then◌else◌, IfOk, OnOk};
+ghost use Rattle.xl_nfs.specs.Ops.{shown_op, OpFits};
+ghost use Rattle.xl_nfs.specs.Outcomes.{is_ok};
+ghost use Rattle.xl_nfs.specs.declared.status.NfsStatus.TheVariants.{BadXdr, NotSupp};
+ghost use Rattle.xl_nfs_state.specs.State.{NfsLists};
+ghost use Rattle.xl_rpc.specs.Xdr.{unsigned_at};
+ghost use Rattle.xl_core.specs.Rows.{all_ran};
+ghost use Rattle.xl_core.specs.State.{CoreState};
+ghost use Rattle.xl_front_nfs.specs.Courses.{course_of};
+ghost use Rattle.xl_front_nfs.specs.Results.{ToldFits};
+ghost use Rattle.xl_front_nfs.specs.Short.{IsReady, Leaves};
+ghost use Rattle.xl_front_nfs.specs.Steps.{is_served, steps_in, fault_of, noted, ran, Runs, Garbled};
+
+use crate::clients::Done;
+use crate::results::put_result;
+use crate::serving::serve;
+use crate::told::Told;
+use std::alloc::{AllocError, Global};
+use xl_base::Sequence;
+use xl_core::{Core, Effect};
+use xl_nfs::{NfsOp, NfsStatus, next_op, operation};
+use xl_nfs_state::NfsState;
+use xl_rpc::{Xdr, XdrOut};
+
+/// What a COMPOUND has come to, beside what is remembered of the clients.
+#[derive(Drop)]
+pub(crate) struct Progress {
+    /// The current filehandle: none, the root by 0, or a file by its number.
+    pub current: Option<u32>,
+    /// The results, as they are spelled.
+    pub results: XdrOut,
+    /// How many they are.
+    pub count: u32,
+    /// The last status.
+    pub status: NfsStatus,
+    /// What the core told of besides.
+    pub effects: Sequence<Effect>,
+}
+
+/// Whether it is OK.
+fn is_ok(status: NfsStatus) -> bool
+    ensures { result ≡ is_ok status }
+{
+    matches!(status, NfsStatus::Ok)
+}
+
+/// Puts effects behind others.
+fn push_all(effects: &mut Sequence<Effect>, more: Sequence<Effect>) -> Result<(), AllocError>
+    ensures { OnOk result (effects.new ≡ effects.old ++ more) }
+{
+    for effect in more.into_vec() {
+        effects.push(effect)?;
+    }
+    Ok(())
+}
+
+/// An operation more, of this number, came to this; whether others are done behind it.
+fn note(progress: &mut Progress, number: u32, done: Done) -> Result<bool, AllocError>
+    requires fits { ToldFits number done.0 }
+    requires few { progress.old.count < 64 }
+    ensures noted { (old lists : NfsLists) (core : CoreState) → IfOk result (λ more. noted (course_of old progress.old) number (done.0, done.1, done.2, lists, core) ≡ (more, course_of lists progress.new, core)) }
+    ensures little { OnOk result (length progress.new.results ≤ length progress.old.results + 24) }
+    ensures count { OnOk result (progress.new.count ≡ progress.old.count + 1) }
+{
+    let (told, current, effects) = done;
+    put_result(&mut progress.results, number, told)?;
+    progress.count += 1;
+    progress.current = current;
+    progress.status = told.status();
+    push_all(&mut progress.effects, effects)?;
+    Ok(is_ok(progress.status))
+}
+
+/// Does an operation; whether others are done behind it.
+fn do_op(
+    alloc: Global,
+    files: &[Sequence<u8>],
+    state: &mut NfsState,
+    core: &mut Core,
+    progress: &mut Progress,
+    op: &NfsOp,
+) -> Result<bool, AllocError>
+    requires ready { IsReady 2 core.old }
+    requires fits { OpFits (shown_op op.now) }
+    requires few { progress.old.count < 64 }
+    ensures done { (n : ℕ) → IfOk result (λ more. ran files.now n (course_of state.old progress.old) core.old (Runs (shown_op op.now)) ≡ (more, course_of state.new progress.new, core.new)) }
+    ensures leaves { OnOk result (Leaves 2 core.old core.new) }
+    ensures little { OnOk result (length progress.new.results ≤ length progress.old.results + 24) }
+    ensures count { OnOk result (progress.new.count ≡ progress.old.count + 1) }
+{
+    let done = serve(alloc, files, state, core, progress.current, op)?;
+    let more = note(progress, op.number(), done)?;
+    Ok(more)
+}
+
+/// Whether the operation of this number is served.
+fn is_served(number: u32) -> bool
+    ensures { result ≡ is_served number }
+{
+    matches!(
+        number,
+        operation::GETFH
+            | operation::LOOKUP
+            | operation::PUTFH
+            | operation::PUTROOTFH
+            | operation::RENEW
+            | operation::SETCLIENTID
+            | operation::SETCLIENTID_CONFIRM
+    )
+}
+
+/// How an operation ends whose arguments can't be read.
+fn unread_status(number: u32) -> NfsStatus
+    ensures { result ≡ (if is_served number then BadXdr else NotSupp) }
+{
+    if is_served(number) {
+        NfsStatus::BadXdr
+    } else {
+        NfsStatus::NotSupp
+    }
+}
+
+/// Refuses an operation whose arguments can't be read.
+fn refuse(alloc: Global, progress: &mut Progress, number: u32) -> Result<(), AllocError>
+    requires few { progress.old.count < 64 }
+    ensures done { (n : ℕ) (files : List (List ℕ)) (lists : NfsLists) (core : CoreState) → OnOk result (ran files n (course_of lists progress.old) core (Garbled number) ≡ (false, course_of lists progress.new, core)) }
+    ensures little { OnOk result (length progress.new.results ≤ length progress.old.results + 24) }
+{
+    let status = unread_status(number);
+    let done = (Told::Ended(status), progress.current, Sequence::new(alloc));
+    note(progress, number, done)?;
+    Ok(())
+}
+
+/// Refuses what can't be read as an operation: its arguments, or its number.
+#[tactic(auto, unfolding(crate::specs::Steps::ran))]
+fn refuse_rest(alloc: Global, progress: &mut Progress, rest: &Xdr) -> Result<(), AllocError>
+    requires few { progress.old.count < 64 }
+    ensures done { (n : ℕ) (files : List (List ℕ)) (lists : NfsLists) (core : CoreState) → OnOk result (ran files n (course_of lists progress.old) core (fault_of (unsigned_at rest.now.rest.now)) ≡ (false, course_of lists progress.new, core)) }
+    ensures little { OnOk result (length progress.new.results ≤ length progress.old.results + 24) }
+{
+    let mut at = *rest;
+    match at.u32() {
+        Ok(number) => refuse(alloc, progress, number)?,
+        Err(_) => progress.status = NfsStatus::BadXdr,
+    }
+    Ok(())
+}
+
+/// Does so many operations, read one behind the other, up to the first that isn't OK or can't be read.
+pub(crate) fn run_ops(
+    alloc: Global,
+    files: &[Sequence<u8>],
+    state: &mut NfsState,
+    core: &mut Core,
+    progress: &mut Progress,
+    args: &Xdr,
+    count: u32,
+) -> Result<(), AllocError>
+    requires ready { IsReady (2 * count) core.old }
+    requires few { progress.old.count + count ≤ 64 }
+    ensures course { (n : ℕ) → OnOk result ((all_ran (ran files.now) n (course_of state.old progress.old) core.old (steps_in count args.now.rest.now)).1 ≡ course_of state.new progress.new) }
+    ensures core { (n : ℕ) → OnOk result ((all_ran (ran files.now) n (course_of state.old progress.old) core.old (steps_in count args.now.rest.now)).2 ≡ core.new) }
+    ensures leaves { OnOk result (Leaves (2 * count) core.old core.new) }
+    ensures little { OnOk result (length progress.new.results ≤ length progress.old.results + 24 * count) }
+{
+    if count == 0 {
+        return Ok(());
+    }
+    let mut rest = *args;
+    let Ok(op) = next_op(&mut rest) else {
+        refuse_rest(alloc, progress, args)?;
+        return Ok(());
+    };
+    if !do_op(alloc, files, state, core, progress, &op)? {
+        return Ok(());
+    }
+    run_ops(alloc, files, state, core, progress, &rest, count - 1)?;
+    Ok(())
+}

@@ -1,0 +1,108 @@
+//! Operations on the current filehandle.
+ghost use Rattle.std.specs.Prelude.{◌≡◌, ℕ, [], bytes_eq, position, Option};
+ghost use Rattle.xl_nfs_state.specs.State.{NfsLists};
+ghost use Rattle.xl_core.specs.State.{CoreState};
+ghost use Rattle.xl_front_nfs.specs.Handles.{put_root_fh, put_file, put_fh, get_fh, file_number, file_named, look_up};
+ghost use Rattle.xl_front_nfs.specs.Plans.{carried};
+
+use crate::told::Told;
+use xl_base::{Sequence, file_of};
+use xl_nfs::NfsStatus;
+
+/// It failed so, and the current handle stays.
+fn failed(status: NfsStatus, current: Option<u32>) -> (Told, Option<u32>)
+    ensures told { result.0 ≡ Told.Ended status }
+    ensures handle { result.1 ≡ current }
+{
+    (Told::Ended(status), current)
+}
+
+/// PUTROOTFH.
+#[tactic(auto, unfolding(crate::specs::Handles::put_root_fh))]
+pub(crate) fn put_root_fh() -> (Told, Option<u32>)
+    ensures { (n : ℕ) (s : CoreState) (l : NfsLists) (current : Option ℕ) → carried n s l current (put_root_fh l) ≡ (result.0, result.1, [], l, s) }
+{
+    (Told::Ended(NfsStatus::Ok), Some(0))
+}
+
+/// The file of a handle becomes the current one, where it is one of so many.
+fn put_file(count: usize, current: Option<u32>, file: Option<u32>) -> (Told, Option<u32>)
+    ensures { (n : ℕ) (s : CoreState) (l : NfsLists) → carried n s l current (put_file count l file) ≡ (result.0, result.1, [], l, s) }
+{
+    let Some(number) = file else {
+        return failed(NfsStatus::BadHandle, current);
+    };
+    if number as usize > count {
+        return failed(NfsStatus::Stale, current);
+    }
+    (Told::Ended(NfsStatus::Ok), file)
+}
+
+/// PUTFH, where so many files are exported.
+#[tactic(auto, unfolding(crate::specs::Handles::put_fh))]
+pub(crate) fn put_fh(count: usize, current: Option<u32>, fh: &[u8]) -> (Told, Option<u32>)
+    ensures { (n : ℕ) (s : CoreState) (l : NfsLists) → carried n s l current (put_fh count l fh.now) ≡ (result.0, result.1, [], l, s) }
+{
+    put_file(count, current, file_of(fh))
+}
+
+/// GETFH.
+#[tactic(auto, unfolding(crate::specs::Handles::get_fh))]
+pub(crate) fn get_fh(current: Option<u32>) -> (Told, Option<u32>)
+    ensures { (n : ℕ) (s : CoreState) (l : NfsLists) → carried n s l current (get_fh l current) ≡ (result.0, result.1, [], l, s) }
+{
+    match current {
+        Some(file) => (Told::Handle(file), current),
+        None => failed(NfsStatus::NoFileHandle, current),
+    }
+}
+
+/// The place of the first file of this name.
+fn place_of(files: &[Sequence<u8>], name: &[u8]) -> Option<usize>
+    ensures { result ≡ position (bytes_eq name.now) files.now }
+{
+    files.iter().position(|file| name == file.as_slice())
+}
+
+/// The number of the file at this place.
+fn file_number(place: usize) -> Option<u32>
+    ensures { result ≡ file_number place }
+{
+    let before = u32::try_from(place).ok()?;
+    before.checked_add(1)
+}
+
+/// The number of the first file of this name.
+#[tactic(auto, unfolding(crate::specs::Handles::file_named))]
+fn file_named(files: &[Sequence<u8>], name: &[u8]) -> Option<u32>
+    ensures { result ≡ file_named files.now name.now }
+{
+    match place_of(files, name) {
+        Some(place) => file_number(place),
+        None => None,
+    }
+}
+
+/// LOOKUP.
+#[tactic(auto, unfolding(crate::specs::Handles::look_up))]
+pub(crate) fn look_up(
+    files: &[Sequence<u8>],
+    current: Option<u32>,
+    name: &[u8],
+) -> (Told, Option<u32>)
+    ensures { (n : ℕ) (s : CoreState) (l : NfsLists) → carried n s l current (look_up files.now l current name.now) ≡ (result.0, result.1, [], l, s) }
+{
+    let Some(file) = current else {
+        return failed(NfsStatus::NoFileHandle, current);
+    };
+    if file != 0 {
+        return failed(NfsStatus::NotDir, current);
+    }
+    if name.is_empty() {
+        return failed(NfsStatus::Inval, current);
+    }
+    match file_named(files, name) {
+        Some(found) => (Told::Ended(NfsStatus::Ok), Some(found)),
+        None => failed(NfsStatus::NoEnt, current),
+    }
+}

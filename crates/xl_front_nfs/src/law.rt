@@ -1,0 +1,65 @@
+//! Laws of the front. The functions do nothing: each has laws as its clauses.
+ghost use Rattle.std.specs.Prelude.{◌≡◌, ℕ, false, List, ◌∷◌, Option, ◌↔◌};
+ghost use Rattle.xl_base.specs.Lists.{IsIn};
+ghost use Rattle.xl_base.specs.declared.event.Moment.{Moment};
+ghost use Rattle.xl_base.specs.declared.journal.Exports.{Exports};
+ghost use Rattle.xl_nfs.specs.Ops.{OpItem};
+ghost use Rattle.xl_nfs.specs.Outcomes.{is_ok};
+ghost use Rattle.xl_nfs_state.specs.State.{NfsLists, is_due};
+ghost use Rattle.xl_nfs_state.specs.declared.client.ClientRow.{ClientRow};
+ghost use Rattle.xl_programs.specs.Programs.{RequestItem};
+ghost use Rattle.xl_programs.specs.Sent.{sent_to};
+ghost use Rattle.xl_core.specs.Deeds.{all_done, all_told_of, AreFit};
+ghost use Rattle.xl_core.specs.Rows.{all_ran, all_deeds};
+ghost use Rattle.xl_core.specs.State.{CoreState};
+ghost use Rattle.xl_front_nfs.specs.FrontNfs.{nfs_deeds, nfs_reply, nfs_step};
+ghost use Rattle.xl_front_nfs.specs.Owners.{Names, AreBy};
+ghost use Rattle.xl_front_nfs.specs.Plans.{deeds_of, carried, status_of};
+ghost use Rattle.xl_front_nfs.specs.State.{FrontNfs, nfs_tick};
+ghost use Rattle.xl_front_nfs.specs.Steps.{planned, Step, Course, ran, step_deeds};
+ghost use Rattle.xl_front_nfs.specs.Theirs.{AreTheirs};
+
+/// A request leaves the core as its deeds do, and tells of what they tell of.
+#[tactic(auto, using(crate::proofs::DoesLaws::request_does, crate::proofs::DoesLaws::request_tells))]
+pub fn steps_are_their_deeds()
+    ensures requests { (n : ℕ) (exports : Exports) (f : FrontNfs) (s : CoreState) (conn : ℕ) (r : RequestItem) → (nfs_step n exports f s conn r).3 ≡ all_done n s (nfs_deeds n exports f s r) }
+    ensures told { (n : ℕ) (exports : Exports) (f : FrontNfs) (s : CoreState) (conn : ℕ) (r : RequestItem) → (nfs_step n exports f s conn r).1 ≡ all_told_of n s (nfs_deeds n exports f s r) }
+{}
+
+/// The core takes these deeds.
+#[tactic(auto, using(crate::proofs::OwnLaws::request_takes))]
+pub fn deeds_are_taken()
+    ensures { (n : ℕ) (exports : Exports) (f : FrontNfs) (s : CoreState) (r : RequestItem) → AreFit n s (nfs_deeds n exports f s r) }
+{}
+
+/// Each deed of an operation draws a number, or it ends or renews a client that the operation names by the clientid of its
+/// record: no other lease is renewed, and no other client's claims go. Those of a request are of its operations, each in the
+/// state that those before it left; each is of one of these kinds.
+#[tactic(auto, using(crate::proofs::OwnLaws::plan_by, crate::proofs::OwnLaws::request_by))]
+pub fn deeds_are_the_clients()
+    ensures operations { (n : ℕ) (files : List (List ℕ)) (s : CoreState) (l : NfsLists) (current : Option ℕ) (item : OpItem) → AreBy n s (Names s l item) (deeds_of (planned files s l current item)) }
+    ensures requests { (n : ℕ) (exports : Exports) (f : FrontNfs) (s : CoreState) (r : RequestItem) → AreTheirs n exports f s r }
+    ensures kinds { (n : ℕ) (exports : Exports) (f : FrontNfs) (s : CoreState) (r : RequestItem) → AreBy n s (λ _. Unit {0}) (nfs_deeds n exports f s r) }
+{}
+
+/// A request is answered by one message, which goes back to the connection that it came from: a function of the request
+/// and of the state that it meets.
+#[tactic(auto, using(crate::proofs::DoesLaws::request_replies))]
+pub fn replies_go_back()
+    ensures { (n : ℕ) (exports : Exports) (f : FrontNfs) (s : CoreState) (conn : ℕ) (r : RequestItem) → (nfs_step n exports f s conn r).0 ≡ sent_to conn (nfs_reply n exports f s r) }
+{}
+
+/// An operation that isn't OK leaves the current handle, as a LOOKUP of a name that is none; and nothing behind it is done:
+/// it is the last that is told, and there are no deeds but those before it and its own.
+#[tactic(auto, using(crate::proofs::HandleLaws::handle_stays, crate::proofs::HandleLaws::nothing_behind, crate::proofs::HandleLaws::no_deeds_behind))]
+pub fn a_failure_ends_it()
+    ensures handle { (n : ℕ) (files : List (List ℕ)) (s : CoreState) (l : NfsLists) (current : Option ℕ) (item : OpItem) → is_ok (status_of (carried n s l current (planned files s l current item)).0) ≡ false → (carried n s l current (planned files s l current item)).1 ≡ current }
+    ensures last { (n : ℕ) (files : List (List ℕ)) (c : Course) (s : CoreState) (step : Step) (steps : List Step) → is_ok (ran files n c s step).1.status ≡ false → all_ran (ran files) n c s (step ∷ steps) ≡ ran files n c s step }
+    ensures deeds { (n : ℕ) (files : List (List ℕ)) (c : Course) (s : CoreState) (step : Step) (steps : List Step) → is_ok (ran files n c s step).1.status ≡ false → all_deeds (ran files) (step_deeds files) n c s (step ∷ steps) ≡ step_deeds files n c s step }
+{}
+
+/// At a moment exactly the unconfirmed records go whose time has come.
+#[tactic(auto, using(crate::proofs::HandleLaws::due_go))]
+pub fn records_go_in_time()
+    ensures { (f : FrontNfs) (now : Moment) (r : ClientRow) → IsIn r (nfs_tick f now).state.clients ↔ (IsIn r f.state.clients × (is_due now r ≡ false)) }
+{}

@@ -1,0 +1,107 @@
+//! Clientids and leases.
+ghost use Rattle.std.specs.Prelude.{◌≡◌, ℕ, ◌+◌, [], ◌∷◌, OnOk, IfOk};
+ghost use Rattle.xl_names.specs.declared.name.Name.TheVariants.{NfsParty};
+ghost use Rattle.xl_core.specs.Asking.{party_named};
+ghost use Rattle.xl_core.specs.Deeds.{all_done, all_told_of, Renews};
+ghost use Rattle.xl_core.specs.Settle.{end_party};
+ghost use Rattle.xl_core.specs.State.{drawn};
+ghost use Rattle.xl_front_nfs.specs.Clients.{clientid_of, number_in, lease_end, ends};
+ghost use Rattle.xl_front_nfs.specs.Short.{IsReady, Leaves};
+
+use std::alloc::{AllocError, Global};
+use xl_base::{Moment, Party, Protocol, Sequence};
+use xl_core::{Core, Effect};
+use xl_names::Name;
+
+/// One more than the greatest number of a client: what a clientid's epoch counts.
+const NUMBERS: u64 = 1 << 32;
+
+/// The clientid of the client of this number.
+pub(crate) fn clientid_of(core: &Core, number: u32) -> u64
+    ensures { result ≡ clientid_of core.now number }
+{
+    u64::from(core.stable().epoch()) * NUMBERS + u64::from(number)
+}
+
+/// The number in a clientid, where it is of this start.
+pub(crate) fn number_in(core: &Core, clientid: u64) -> Option<u32>
+    ensures { result ≡ number_in core.now clientid }
+{
+    if clientid / NUMBERS == u64::from(core.stable().epoch()) {
+        Some((clientid % NUMBERS) as u32)
+    } else {
+        None
+    }
+}
+
+/// When a lease ends that is renewed now.
+pub(crate) fn lease_end(core: &Core) -> Moment
+    ensures { result ≡ lease_end core.now }
+{
+    Moment(core.clock().0.saturating_add(core.times().lease))
+}
+
+/// Renews the lease of the client of this id string.
+#[tactic(auto, unfolding(xl_core::specs::Ticks::renew))]
+pub(crate) fn renewed(alloc: Global, core: &mut Core, id: &[u8]) -> Result<(), AllocError>
+    requires ready { IsReady 0 core.old }
+    ensures state { (n : ℕ) → OnOk result (all_done n core.old (Renews id.now ∷ []) ≡ core.new) }
+    ensures told { (n : ℕ) → all_told_of n core.old (Renews id.now ∷ []) ≡ [] }
+    ensures leaves { OnOk result (Leaves 0 core.old core.new) }
+{
+    core.renew(alloc, id)?;
+    Ok(())
+}
+
+/// Gives out the next number.
+#[tactic(auto, using(crate::proofs::LeaveLaws::drawn_leaves, crate::proofs::LeaveLaws::drawn_number, crate::proofs::LeaveLaws::drawn_stable))]
+pub(crate) fn drawn(core: &mut Core) -> u32
+    requires ready { IsReady 0 core.old }
+    ensures state { core.new ≡ drawn core.old }
+    ensures number { result ≡ core.old.counter + 1 }
+    ensures counter { core.new.counter ≡ core.old.counter + 1 }
+    ensures stable { core.new.stable ≡ core.old.stable }
+    ensures leaves { Leaves 1 core.old core.new }
+{
+    core.draw()
+}
+
+/// The party that the client of this id string is, where it has something or waits, or had or did.
+fn party_of(alloc: Global, core: &Core, id: &[u8]) -> Result<Option<Party>, AllocError>
+    ensures { IfOk result (λ party. party ≡ party_named core.now.names (NfsParty id.now)) }
+{
+    let name = Name::NfsParty(Sequence::from_slice(alloc, id)?);
+    match core.names().find(&name) {
+        Some(number) => Ok(Some(Party::Name(Protocol::Nfs, number))),
+        None => Ok(None),
+    }
+}
+
+/// Takes out all claims and waiters of a party.
+#[tactic(auto, using(crate::proofs::LeaveLaws::end_leaves))]
+fn end_party(alloc: Global, core: &mut Core, party: Party) -> Result<Sequence<Effect>, AllocError>
+    requires ready { IsReady 0 core.old }
+    ensures state { IfOk result (λ effects. end_party core.old party ≡ (effects, core.new)) }
+    ensures leaves { OnOk result (Leaves 0 core.old core.new) }
+{
+    let effects = core.end_party(alloc, party)?;
+    Ok(effects)
+}
+
+/// Takes out all claims and waiters of the client of this id string.
+#[tactic(auto, using(crate::proofs::LeaveLaws::leaves_self, crate::proofs::LeaveLaws::end_told, crate::proofs::LeaveLaws::end_done))]
+pub(crate) fn ended(
+    alloc: Global,
+    core: &mut Core,
+    id: &[u8],
+) -> Result<Sequence<Effect>, AllocError>
+    requires ready { IsReady 0 core.old }
+    ensures told { (n : ℕ) → IfOk result (λ effects. all_told_of n core.old (ends (party_named core.old.names (NfsParty id.now))) ≡ effects) }
+    ensures state { (n : ℕ) → OnOk result (all_done n core.old (ends (party_named core.old.names (NfsParty id.now))) ≡ core.new) }
+    ensures leaves { OnOk result (Leaves 0 core.old core.new) }
+{
+    match party_of(alloc, core, id)? {
+        Some(party) => end_party(alloc, core, party),
+        None => Ok(Sequence::new(alloc)),
+    }
+}

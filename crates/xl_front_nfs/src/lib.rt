@@ -1,0 +1,20 @@
+//! The NFS front: what a call of NFS version 4.0 is answered (RFC 7530), over the core.
+#![tactic(auto)]
+
+mod clients;
+mod compound;
+mod confirming;
+mod front;
+mod handles;
+pub mod law;
+mod leases;
+mod results;
+mod rows;
+mod serving;
+mod setting;
+mod step;
+mod told;
+
+pub use front::{NfsFront, nfs_shown, nfs_tick};
+pub use step::nfs_step;
+pub use told::Told;

@@ -1,0 +1,234 @@
+//! What a call of program 100003 version 4 is answered (RFC 7530 14.1, 14.2).
+ghost use Rattle.std.specs.Prelude.{◌≡◌, ℕ, ◌+◌, ◌≤◌, List, [], ◌++◌, true, length, IfOk, OnOk};
+ghost use Rattle.std.specs.List.{AllByRecursion};
+ghost use Rattle.xl_nfs.specs.Compounds.{compound_head_at};
+ghost use Rattle.xl_programs.specs.Programs.{serves, shown_request};
+ghost use Rattle.xl_programs.specs.Sent.{sent_to, FitsFrame};
+ghost use Rattle.xl_rpc.specs.Replies.{reply};
+ghost use Rattle.xl_rpc.specs.declared.reply.Verdict.TheVariants.{Success, GarbageArgs};
+ghost use Rattle.xl_core.specs.State.{CoreState, MayBe};
+ghost use Rattle.xl_front_nfs.specs.Courses.{course_of};
+ghost use Rattle.xl_front_nfs.specs.FrontNfs.{null_in, compound_in, call_in, run, with_reply, replied, nfs_step};
+ghost use Rattle.xl_front_nfs.specs.Results.{compound_results};
+ghost use Rattle.xl_front_nfs.specs.Short.{IsReady, Leaves};
+ghost use Rattle.xl_front_nfs.specs.State.{FrontNfs};
+ghost use Rattle.xl_front_nfs.specs.Steps.{begun, steps_in};
+
+use crate::compound::{Progress, run_ops};
+use crate::front::NfsFront;
+use std::alloc::{AllocError, Global};
+use xl_base::{Exports, Keeper, Out, Sequence};
+use xl_core::{Core, Effect};
+use xl_nfs::{CompoundHead, NfsStatus, read_head};
+use xl_programs::{Program, Request, refusal, sent_to};
+use xl_rpc::{Verdict, Xdr, XdrOut, write_reply};
+
+/// How many operations a COMPOUND has at most.
+const MOST_OPS: u32 = 64;
+
+/// Writes the results of a COMPOUND (COMPOUND4res): the last status, the tag, and the results behind their count.
+#[tactic(auto, unfolding(crate::specs::Results::compound_results))]
+fn put_results(
+    out: &mut XdrOut,
+    tag: &[u8],
+    status: NfsStatus,
+    count: u32,
+    results: &XdrOut,
+) -> Result<(), AllocError>
+    requires { length tag.now ≤ 1024 }
+    ensures { OnOk result (out.new ≡ out.old ++ compound_results tag.now status count results.now) }
+{
+    out.u32(status.number())?;
+    out.opaque(tag)?;
+    out.u32(count)?;
+    out.append(results)?;
+    Ok(())
+}
+
+/// The reply to a COMPOUND.
+#[tactic(auto, using(crate::proofs::ReplyLaws::compound_little))]
+fn compound_reply(
+    alloc: Global,
+    xid: u32,
+    tag: &[u8],
+    status: NfsStatus,
+    count: u32,
+    results: &XdrOut,
+) -> Result<Vec<u8>, AllocError>
+    requires tag { length tag.now ≤ 1024 }
+    requires few { length results.now ≤ 1536 }
+    ensures reply { IfOk result (λ v. v.items ≡ reply xid Success ++ compound_results tag.now status count results.now) }
+    ensures little { IfOk result (λ v. length v.items ≤ 65536) }
+{
+    let mut out = XdrOut::new(alloc);
+    write_reply(&mut out, xid, Verdict::Success)?;
+    put_results(&mut out, tag, status, count, results)?;
+    Ok(out.done())
+}
+
+/// What a COMPOUND has come to before its first operation.
+fn begun(alloc: Global) -> Progress
+    ensures begun { (f : FrontNfs) → course_of f.state result ≡ begun f }
+    ensures none { (result.count ≡ 0) × (result.results ≡ []) }
+{
+    Progress {
+        current: None,
+        results: XdrOut::new(alloc),
+        count: 0,
+        status: NfsStatus::Ok,
+        effects: Sequence::new(alloc),
+    }
+}
+
+/// A COMPOUND is done; its operations are in these bytes.
+fn done(
+    alloc: Global,
+    files: &[Sequence<u8>],
+    front: &mut NfsFront,
+    core: &mut Core,
+    xid: u32,
+    head: &CompoundHead,
+    args: &Xdr,
+) -> Result<(Vec<u8>, Sequence<Effect>), AllocError>
+    requires tag { length head.now.tag.now ≤ 1024 }
+    requires few { head.now.count ≤ 64 }
+    requires ready { IsReady 128 core.old }
+    ensures done { (n : ℕ) → IfOk result (λ r. with_reply xid head.now.tag.now (run n files.now front.old core.old (steps_in head.now.count args.now.rest.now)) ≡ (r.0.items, r.1, front.new, core.new)) }
+    ensures leaves { OnOk result (Leaves 128 core.old core.new) }
+    ensures little { IfOk result (λ r. length r.0.items ≤ 65536) }
+{
+    let mut progress = begun(alloc);
+    run_ops(
+        alloc,
+        files,
+        &mut front.state,
+        core,
+        &mut progress,
+        args,
+        head.count,
+    )?;
+    let reply = compound_reply(
+        alloc,
+        xid,
+        head.tag,
+        progress.status,
+        progress.count,
+        &progress.results,
+    )?;
+    Ok((reply, progress.effects))
+}
+
+/// The reply to arguments that can't be read, or behind which bytes stand; nothing happened besides.
+fn garbage(alloc: Global, xid: u32) -> Result<(Vec<u8>, Sequence<Effect>), AllocError>
+    ensures reply { IfOk result (λ r. r.0.items ≡ reply xid GarbageArgs) }
+    ensures none { IfOk result (λ r. r.1 ≡ []) }
+    ensures little { IfOk result (λ r. length r.0.items ≤ 65536) }
+{
+    let bytes = refusal(alloc, xid, Verdict::GarbageArgs)?;
+    Ok((bytes, Sequence::new(alloc)))
+}
+
+/// The reply to a COMPOUND of which nothing is done.
+fn refused(
+    alloc: Global,
+    xid: u32,
+    tag: &[u8],
+    status: NfsStatus,
+) -> Result<(Vec<u8>, Sequence<Effect>), AllocError>
+    requires tag { length tag.now ≤ 1024 }
+    ensures reply { IfOk result (λ r. r.0.items ≡ reply xid Success ++ compound_results tag.now status 0 []) }
+    ensures none { IfOk result (λ r. r.1 ≡ []) }
+    ensures little { IfOk result (λ r. length r.0.items ≤ 65536) }
+{
+    let bytes = compound_reply(alloc, xid, tag, status, 0, &XdrOut::new(alloc))?;
+    Ok((bytes, Sequence::new(alloc)))
+}
+
+/// The reply to NULL.
+#[tactic(auto, using(crate::proofs::LeaveLaws::leaves_self, crate::proofs::LeaveLaws::leaves_more))]
+fn null(alloc: Global, request: &Request) -> Result<(Vec<u8>, Sequence<Effect>), AllocError>
+    ensures done { (n : ℕ) (files : List (List ℕ)) (f : FrontNfs) (s : CoreState) → IfOk result (λ r. replied n files f s request.now.xid (null_in request.now.arguments.rest.now) ≡ (r.0.items, r.1, f, s)) }
+    ensures little { IfOk result (λ r. length r.0.items ≤ 65536) }
+{
+    if !request.arguments.left().is_empty() {
+        return garbage(alloc, request.xid);
+    }
+    let bytes = refusal(alloc, request.xid, Verdict::Success)?;
+    Ok((bytes, Sequence::new(alloc)))
+}
+
+/// The reply to a COMPOUND: its minor version is judged before the number of its operations.
+#[tactic(auto, unfolding(xl_nfs::specs::Compounds::compound_head), using(crate::proofs::LeaveLaws::leaves_self, crate::proofs::LeaveLaws::leaves_more))]
+fn compound(
+    alloc: Global,
+    files: &[Sequence<u8>],
+    front: &mut NfsFront,
+    core: &mut Core,
+    request: &Request,
+) -> Result<(Vec<u8>, Sequence<Effect>), AllocError>
+    requires ready { IsReady 128 core.old }
+    ensures done { (n : ℕ) → IfOk result (λ r. replied n files.now front.old core.old request.now.xid (compound_in (compound_head_at request.now.arguments.rest.now)) ≡ (r.0.items, r.1, front.new, core.new)) }
+    ensures leaves { OnOk result (Leaves 128 core.old core.new) }
+    ensures little { IfOk result (λ r. length r.0.items ≤ 65536) }
+{
+    let mut args = request.arguments;
+    let Ok(head) = read_head(&mut args) else {
+        return garbage(alloc, request.xid);
+    };
+    if head.minorversion != 0 {
+        return refused(alloc, request.xid, head.tag, NfsStatus::MinorVersMismatch);
+    }
+    if head.count > MOST_OPS {
+        return refused(alloc, request.xid, head.tag, NfsStatus::Resource);
+    }
+    done(alloc, files, front, core, request.xid, &head, &args)
+}
+
+/// The reply to a request.
+#[tactic(auto, unfolding(crate::specs::FrontNfs::call_in), using(crate::proofs::LeaveLaws::leaves_self, crate::proofs::LeaveLaws::leaves_more))]
+fn replied(
+    alloc: Global,
+    files: &[Sequence<u8>],
+    front: &mut NfsFront,
+    core: &mut Core,
+    request: &Request,
+) -> Result<(Vec<u8>, Sequence<Effect>), AllocError>
+    requires ready { IsReady 128 core.old }
+    ensures done { (n : ℕ) → IfOk result (λ r. replied n files.now front.old core.old request.now.xid (call_in (shown_request request.now)) ≡ (r.0.items, r.1, front.new, core.new)) }
+    ensures leaves { OnOk result (Leaves 128 core.old core.new) }
+    ensures little { IfOk result (λ r. length r.0.items ≤ 65536) }
+{
+    if request.procedure == 0 {
+        null(alloc, request)
+    } else {
+        compound(alloc, files, front, core, request)
+    }
+}
+
+/// Answers a call of NFS version 4.0 (RFC 7530) from the connection of this number: the reply, without its frame and at
+/// most 65,536 bytes long, and what the core told of besides. The procedures served are NULL and COMPOUND. A COMPOUND's
+/// operations are done in order, up to the first that isn't OK; PUTROOTFH, PUTFH, GETFH, LOOKUP, SETCLIENTID,
+/// SETCLIENTID_CONFIRM and RENEW are served, other numbers from 3 to 39 are NOTSUPP and all else OP_ILLEGAL. A head that
+/// can't be read, and bytes behind NULL, are GARBAGE_ARGS; bytes behind the last operation are not looked at. At least
+/// 65,664 numbers must be left to give out; a COMPOUND takes 128 at most. After an error nothing is known of the front
+/// and the core.
+#[tactic(auto, unfolding(crate::specs::FrontNfs::nfs_step))]
+pub fn nfs_step<K: Keeper>(
+    alloc: Global,
+    exports: &Exports,
+    front: &mut NfsFront,
+    core: &mut Core,
+    _keeper: &mut K,
+    conn: u64,
+    request: &Request,
+) -> Result<(Sequence<Out>, Sequence<Effect>), AllocError>
+    requires known { serves Program.Nfs request.now.procedure ≡ true }
+    requires ready { IsReady 128 core.old }
+    ensures state { (n : ℕ) → IfOk result (λ r. MayBe n core.new → nfs_step n exports.now front.old core.old conn (shown_request request.now) ≡ (r.0, r.1, front.new, core.new)) }
+    ensures leaves { OnOk result (Leaves 128 core.old core.new) }
+    ensures little { IfOk result (λ r. AllByRecursion FitsFrame r.0) }
+    ensures keeper { _keeper.new ≡ _keeper.old }
+{
+    let (reply, effects) = replied(alloc, exports.files.as_slice(), front, core, request)?;
+    Ok((sent_to(alloc, conn, reply)?, effects))
+}

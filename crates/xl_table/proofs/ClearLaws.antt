@@ -1,0 +1,96 @@
+-- What has no byte in common with a range that is asked doesn't block it.
+use Rattle.std.proofs.Common.{◌≡◌, ℕ, Bool, true, false, not, ◌&&◌, ◌||◌, nat_lt, nat_le, min, max, List, [], ◌∷◌, ◌++◌, refl, sym, subst, ap, ◌∙◌, arith}
+use Rattle.std.specs.List.{AllByRecursion, filter}
+use Rattle.std.proofs.lemmas.List.{append-nil}
+use Rattle.std.proofs.lemmas.Bool.Decides.{nat_tests}
+use Rattle.xl_matrix.specs.declared.claim.Claim.{Claim}
+use Rattle.xl_matrix.specs.declared.claim.Extent.TheVariants.{Bytes, Empty}
+use Rattle.xl_matrix.specs.declared.claim.What.{What}
+use Rattle.xl_matrix.specs.declared.claim.What.TheVariants.{Share, Range, Cache}
+use Rattle.xl_matrix.specs.Blocks.{is_met}
+use Rattle.xl_matrix.specs.Matrix.{compat, fit_by}
+use Rattle.xl_table.specs.Flat.{blocks, is_blocked}
+use Rattle.xl_table.specs.Clear.{is_clear}
+use Rattle.xl_table.specs.declared.bounds.Bounds.{Bounds}
+use Rattle.xl_table.specs.Bounds.{widened, bounds_from, bounds_of, is_past}
+
+apart_meets_none : (first last start end : ℕ) → (nat_lt end first || nat_lt last start) ≡ true → nat_le (max first start) (min last end) ≡ false
+apart_meets_none first last start end h = grind (arith, nat_tests)
+
+clear_fits : (a b : Claim) (v w : What) → is_clear v w ≡ true → fit_by a b v w ≡ true
+unfolding fit_by
+clear_fits a b (Range (Bytes first last) exclusive) (Range (Bytes start end) alone) h = rw (apart_meets_none first last start end h) refl
+clear_fits a b (Range (Bytes first last) exclusive) (Range (Empty offset) alone) h = cc
+clear_fits a b (Range (Bytes first last) exclusive) (Share x y) h = cc
+clear_fits a b (Range (Bytes first last) exclusive) (Cache x y) h = cc
+clear_fits a b (Range (Empty offset) exclusive) w h = cc
+clear_fits a b (Share x y) w h = cc
+clear_fits a b (Cache x y) w h = cc
+
+clear_met : (a b : Claim) (v w : What) → is_clear v w ≡ true → is_met a.owner v b.owner w ≡ false
+clear_met a b (Range (Bytes first last) true) (Range (Bytes start end) alone) h = apart_meets_none first last start end h
+clear_met a b (Range (Bytes first last) false) (Range (Bytes start end) alone) h = refl
+clear_met a b (Range (Bytes first last) exclusive) (Range (Empty offset) alone) h = cc
+clear_met a b (Range (Bytes first last) exclusive) (Share x y) h = cc
+clear_met a b (Range (Bytes first last) exclusive) (Cache x y) h = cc
+clear_met a b (Range (Empty offset) exclusive) w h = cc
+clear_met a b (Share x y) w h = cc
+clear_met a b (Cache x y) w h = cc
+
+pub clear_none : (ask held : Claim) → is_clear ask.what held.what ≡ true → blocks ask held ≡ false
+unfolding blocks compat
+clear_none ask held h =
+    rw (clear_fits ask held ask.what held.what h, clear_met ask held ask.what held.what h)
+    (grind (arith, nat_tests))
+
+-- where the test passes, the answer is no
+pub clear_is_false : (ask held : Claim) (b : Bool) → b ≡ is_clear ask.what held.what → b ≡ true → false ≡ blocks ask held
+clear_is_false ask held b e h = sym (clear_none ask held (sym e ∙ h))
+
+-- ---- the bounds of a page
+
+record IsClearOf (asked : What) (b : Bounds) (w : What) : Type 0 where
+  pub others : is_past asked b ≡ true
+  pub this : is_clear asked w ≡ true
+
+past_one : (asked w : What) (b : Bounds) → is_past asked (widened b w) ≡ true → IsClearOf asked b w
+past_one (Range (Bytes first last) exclusive) (Range (Bytes start end) alone) b h = step b.mixed b.low b.high h where
+  step : (mixed : Bool) (low high : ℕ) → (not mixed && (nat_lt (max high end) first || nat_lt last (min low start))) ≡ true → IsClearOf (Range (Bytes first last) exclusive) (record { low = low; high = high; mixed = mixed }) (Range (Bytes start end) alone)
+  step true low high h = cc
+  step false low high h = record { others = grind (arith, nat_tests); this = grind (arith, nat_tests) }
+past_one (Range (Bytes first last) exclusive) (Range (Empty offset) alone) b h = cc
+past_one (Range (Bytes first last) exclusive) (Share x y) b h = cc
+past_one (Range (Bytes first last) exclusive) (Cache x y) b h = cc
+past_one (Range (Empty offset) exclusive) w b h = cc
+past_one (Share x y) w b h = cc
+past_one (Cache x y) w b h = cc
+
+record AreClear (asked : What) (b : Bounds) (cs : List Claim) : Type 0 where
+  pub others : is_past asked b ≡ true
+  pub these : AllByRecursion (λ c. is_clear asked c.what ≡ true) cs
+
+past_all : (asked : What) (b : Bounds) (cs : List Claim) → is_past asked (bounds_from b cs) ≡ true → AreClear asked b cs
+past_all asked b [] h = record { others = h; these = tt }
+past_all asked b (c ∷ cs) h =
+    let rest = past_all asked (widened b c.what) cs h in
+    let one = past_one asked c.what b rest.others in
+    record { others = one.others; these = (one.this, rest.these) }
+
+none_there : (ask : Claim) (cs : List Claim) → AllByRecursion (λ c. is_clear ask.what c.what ≡ true) cs → filter (λ held. blocks ask held) cs ≡ []
+none_there ask [] all = refl
+none_there ask (c ∷ cs) all = rw (clear_none ask c all.0) (none_there ask cs all.1)
+
+free_there : (ask : Claim) (cs : List Claim) → AllByRecursion (λ c. is_clear ask.what c.what ≡ true) cs → is_blocked cs ask ≡ false
+free_there ask [] all = refl
+free_there ask (c ∷ cs) all = rw (clear_none ask c all.0) (free_there ask cs all.1)
+
+-- where a range is asked that lies past the bounds of these claims, none of them blocks it
+pub past_is_none : (ask : Claim) (cs found : List Claim) (b : Bool) (bounds : Bounds) → bounds ≡ bounds_of cs → b ≡ is_past ask.what bounds → b ≡ true → found ≡ found ++ filter (λ held. blocks ask held) cs
+past_is_none ask cs found b bounds is e h =
+    let past : is_past ask.what (bounds_of cs) ≡ true = subst (λ (x : Bounds). is_past ask.what x ≡ true) is (sym e ∙ h) in
+    sym (ap (λ (ds : List Claim). found ++ ds) (none_there ask cs (past_all ask.what _ cs past).these) ∙ append-nil found)
+
+pub past_is_free : (ask : Claim) (cs : List Claim) (b : Bool) (bounds : Bounds) → bounds ≡ bounds_of cs → b ≡ is_past ask.what bounds → b ≡ true → false ≡ is_blocked cs ask
+past_is_free ask cs b bounds is e h =
+    let past : is_past ask.what (bounds_of cs) ≡ true = subst (λ (x : Bounds). is_past ask.what x ≡ true) is (sym e ∙ h) in
+    sym (free_there ask cs (past_all ask.what _ cs past).these)

@@ -1,0 +1,29 @@
+-- Between which bytes the ranges of a page lie.
+use Rattle.std.specs.Prelude.{◌-◌, ◌^◌, Bool, true, false, not, ◌&&◌, ◌||◌, nat_lt, min, max, List, [], ◌∷◌}
+use Rattle.xl_matrix.specs.declared.claim.Claim.{Claim}
+use Rattle.xl_matrix.specs.declared.claim.Extent.TheVariants.{Bytes}
+use Rattle.xl_matrix.specs.declared.claim.What.{What}
+use Rattle.xl_matrix.specs.declared.claim.What.TheVariants.{Range}
+use Rattle.xl_table.specs.declared.bounds.Bounds.{Bounds}
+
+-- the bounds of no claims
+abbrev pub unbounded : Bounds
+unbounded = record { low = 2 ^ 64 - 1; high = 0; mixed = false }
+
+-- the bounds with one more claim
+abbrev pub widened : Bounds → What → Bounds
+widened b (Range (Bytes first last) exclusive) = record { low = min b.low first; high = max b.high last; mixed = b.mixed }
+widened b _ = record { low = b.low; high = b.high; mixed = true }
+
+abbrev pub bounds_from : Bounds → List Claim → Bounds
+bounds_from b [] = b
+bounds_from b (c ∷ cs) = bounds_from (widened b c.what) cs
+
+-- the bounds of these claims
+abbrev pub bounds_of : List Claim → Bounds
+bounds_of cs = bounds_from unbounded cs
+
+-- a range with bytes is asked, and none within these bounds has any of them
+abbrev pub is_past : What → Bounds → Bool
+is_past (Range (Bytes first last) exclusive) b = not b.mixed && (nat_lt b.high first || nat_lt last b.low)
+is_past _ b = false

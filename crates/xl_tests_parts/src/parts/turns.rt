@@ -1,0 +1,129 @@
+//! Turns, whatever changed since the last.
+
+ghost use Rattle.std.specs.Prelude.{◌≡◌, ◌+◌, ◌≤◌, ◌∷◌, [], true, IfOk, OnOk};
+ghost use Rattle.xl_core.specs.Asking.{IsFit};
+ghost use Rattle.xl_core.specs.Good.{IsGood};
+ghost use Rattle.xl_matrix.specs.declared.claim.Extent.TheVariants.{Bytes};
+
+use std::alloc::{AllocError, Global};
+use xl_base::{MemoryKeeper, Moment, Party, Record, Sequence};
+use xl_core::{Act, Answer, Ask, Core, Effect, Who};
+use xl_matrix::Extent;
+use xl_names::Name;
+use xl_wait::Rooms;
+
+const ROWS: Rooms = Rooms {
+    hosts: 0,
+    owners: 0,
+    opens: 0,
+};
+
+const LEFT: Rooms = Rooms {
+    hosts: 256,
+    owners: 8_192,
+    opens: 4_096,
+};
+
+fn keeper(alloc: Global) -> MemoryKeeper {
+    MemoryKeeper::new(alloc, Record::new(alloc), Vec::new(alloc))
+}
+
+/// A lock of ten bytes of the file by a caller, whose name is given twice. It waits where something blocks it.
+fn lock_by(
+    alloc: Global,
+    file: u32,
+    caller: Sequence<u8>,
+    same: Sequence<u8>,
+    ranges: Sequence<(Extent, bool)>,
+) -> Ask
+    requires caller { caller ≡ same }
+    requires ranges { ranges ≡ (Bytes 0 9, true) ∷ [] }
+    ensures { IsFit result }
+{
+    Ask {
+        file,
+        owner: Who::Named(Name::NlmRange(caller, 1, Sequence::new(alloc))),
+        party: Who::Named(Name::NlmParty(same)),
+        act: Act::Ranges(ranges),
+        wish: Sequence::new(alloc),
+        conn: None,
+        blocking: true,
+        reclaim: false,
+        monitored: false,
+        rows: ROWS,
+    }
+}
+
+fn lock_of(alloc: Global, file: u32, caller: u8) -> Result<Ask, AllocError>
+    ensures { IfOk result (λ ask. IsFit ask) }
+{
+    let mut ranges = Sequence::new(alloc);
+    ranges.push((Extent::Bytes(0, 9), true))?;
+    let name = Sequence::from_slice(alloc, &[caller])?;
+    let same = Sequence::from_slice(alloc, &[caller])?;
+    Ok(lock_by(alloc, file, name, same, ranges))
+}
+
+fn lock(alloc: Global, core: &mut Core, file: u32, caller: u8) -> Result<Answer, AllocError>
+    requires good { IsGood core.old }
+    requires few { core.old.counter ≤ 100 }
+    ensures good { OnOk result (IsGood core.new) }
+    ensures counter { OnOk result (core.new.counter ≤ core.old.counter + 1) }
+{
+    let ask = lock_of(alloc, file, caller)?;
+    let (answer, _told) = core.ask(alloc, &mut keeper(alloc), &ask, &LEFT)?;
+    Ok(answer)
+}
+
+/// The number of the one who is served, 0 where nobody is.
+fn number_in(told: &[Effect]) -> u32 {
+    match told {
+        [Effect::Served(number, Answer::Granted(_))] => *number,
+        _ => 0,
+    }
+}
+
+/// The number of the one whose turn it is, 0 where it is nobody's.
+fn served(alloc: Global, core: &mut Core) -> Result<u32, AllocError>
+    requires good { IsGood core.old }
+    requires few { core.old.counter ≤ 100 }
+    ensures good { OnOk result (IsGood core.new) }
+    ensures counter { OnOk result (core.new.counter ≡ core.old.counter) }
+{
+    let turn = core.settle(alloc, &mut keeper(alloc), &LEFT)?;
+    Ok(match turn {
+        Some(told) => number_in(told.as_slice()),
+        None => 0,
+    })
+}
+
+fn leave(alloc: Global, core: &mut Core, party: Party) -> Result<(), AllocError>
+    requires good { IsGood core.old }
+    ensures good { OnOk result (IsGood core.new) }
+    ensures counter { OnOk result (core.new.counter ≡ core.old.counter) }
+{
+    let _ = core.end_party(alloc, party)?;
+    Ok(())
+}
+
+/// Whether who waits on two files has a turn on each once the one who holds both leaves.
+fn turns_on_two_files(alloc: Global) -> Result<bool, AllocError> {
+    let mut core = Core::new(alloc, Record::new(alloc), Moment(7));
+    let Answer::Granted(held) = lock(alloc, &mut core, 1, 97)? else {
+        return Ok(false);
+    };
+    let _ = lock(alloc, &mut core, 2, 97)?;
+    let _ = lock(alloc, &mut core, 1, 98)?;
+    let _ = lock(alloc, &mut core, 2, 99)?;
+    let nobody = served(alloc, &mut core)?;
+    leave(alloc, &mut core, held.party)?;
+    let first = served(alloc, &mut core)?;
+    let second = served(alloc, &mut core)?;
+    let last = served(alloc, &mut core)?;
+    Ok(nobody == 0 && first == 1 && second == 2 && last == 0)
+}
+
+#[test]
+fn one_leaves_two_files(rt: HostRuntime) {
+    assert!(rt; matches!(turns_on_two_files(rt.alloc()), Ok(true)));
+}

@@ -1,0 +1,204 @@
+-- Each call that is made is granted or denied.
+use Rattle.std.proofs.Common.{◌≡◌, ℕ, zero, suc, ◌+◌, ◌%◌, ◌^◌, ◌<◌, ◌≤◌, Bool, ◌==◌, inl, inr, if◌then◌else◌, List, [], ◌∷◌, ◌++◌, length, map, Option, Some, None, refl, sym, ap, subst, ◌∙◌, arith}
+use Rattle.std.proofs.lemmas.Bool.{cases_Bool}
+use Rattle.std.proofs.lemmas.List.Sums.{sum_by-cons}
+use Rattle.xl_core.specs.declared.ask.Answer.{Answer}
+use Rattle.xl_base.specs.declared.event.Event.TheVariants.{Open, Message}
+use Rattle.xl_base.specs.declared.event.Kind.TheVariants.{Rpc}
+use Rattle.xl_base.specs.declared.journal.Entry.{Entry}
+use Rattle.xl_base.specs.declared.journal.Exports.{Exports}
+use Rattle.xl_base.specs.declared.journal.Journal.{Journal}
+use Rattle.xl_wait.specs.declared.waiter.Waiter.{Waiter}
+use Rattle.xl_rpc.specs.Replies.{reply}
+use Rattle.xl_rpc.specs.declared.reply.Verdict.TheVariants.{Success}
+use Rattle.xl_nlm.specs.Items.{CallItem}
+use Rattle.xl_nlm.specs.Replies.{results, results_at}
+use Rattle.xl_nlm.specs.declared.item.NlmStatus.{NlmStatus}
+use Rattle.xl_programs.specs.Programs.{Asked, incoming_at, in_program}
+use Rattle.xl_programs.specs.Sent.{sent_to}
+use Rattle.xl_core.specs.State.{CoreState, step_begun}
+use Rattle.xl_core.proofs.GoodLaws.{begun_good, started_good}
+use Rattle.xl_front_nlm.specs.FrontNlm.{nlm_step, call_in, sent_with, replied, with_results}
+use Rattle.xl_front_nlm.specs.Results.{reply_of}
+use Rattle.xl_front_nlm.specs.State.{FrontState}
+use Rattle.xl_front_nlm.specs.declared.outcome.Outcome.TheVariants.{Answered}
+use Rattle.xl_house.specs.Journals.{entry, entries_of}
+use Rattle.xl_house.specs.declared.parts.Fronts.{Fronts}
+use Rattle.xl_house.specs.Machine.{Whole, Turn, Sent, framed, heard, heard_by, record_heard, with_nlm, front_done, kind_of, connected, with_connection, settled, settled_turn, turn_of, behind, settled_for, begin, step}
+use Rattle.xl_house.proofs.JournalLaws.{length-entries_of}
+use Rattle.xl_house.proofs.MachineLaws.{step_is}
+use Rattle.xl_capture.specs.Summary.{is_granted, is_denied, granted, denied, results_status, told_status, or_status}
+use Rattle.xl_top.specs.Made.{next, draw, exclusive_by, asked_by, call_from, lock_by, record_of, calls_from, fourth, made, made_head, made_entries, made_journal}
+use Rattle.xl_top.proofs.CallLaws.{arrives, call_fits, framed_is, replied_is, request, whole}
+use Rattle.xl_top.proofs.DrawnLaws.{AreOurs, IsMadeCore}
+use Rattle.xl_top.proofs.StepLaws.{IsServed, IsTold, call_served}
+
+-- ---- the machine between two calls
+
+pub record IsMade (s : Whole) : Type 0 where
+  pub exports : s.exports ≡ made_head.exports
+  pub connections : s.connections ≡ record { number = 0; kind = Rpc } ∷ []
+  pub hosts : AreOurs s.front.nlm.hosts
+  pub core : IsMadeCore s.core
+
+begun_core : (s : CoreState) → IsMadeCore s → IsMadeCore (step_begun s)
+unfolding step_begun
+begun_core s core = record { good = begun_good s core.good; waiters = core.waiters; names = core.names; claims = core.claims }
+
+-- ---- one call
+
+abbrev told_by : ℕ → CallItem → FrontState → CoreState → Answer → List ℕ
+told_by number c f core answer = reply number Success ++ results (reply_of core.names c (Answered answer))
+
+abbrev sent_by : List ℕ → Fronts → CoreState → Sent
+sent_by bytes f core = (map (framed Rpc) (sent_to 0 bytes), f, core)
+
+-- the front of NLM changes alone
+abbrev fronts_with : Whole → FrontState → Fronts
+fronts_with s f = record { nlm = f; nfs = s.front.nfs }
+
+kind_is : (s : Whole) → IsMade s → kind_of s.connections 0 ≡ Some Rpc
+unfolding kind_of
+kind_is s ok = ap (λ cs. kind_of cs 0) ok.connections
+
+files_are : (s : Whole) → IsMade s → length s.exports.files ≡ 8
+files_are s ok = ap (λ (e : Exports). length e.files) ok.exports
+
+heard_is : (s : Whole) (number : ℕ) (c : CallItem) (ok : IsMade s) (done : IsServed 0 s.front.nlm (step_begun s.core) c) → incoming_at (record_of number c) ≡ Asked (request number c) → call_in (request number c) ≡ Some c
+    → heard 0 s (Message 0 (record_of number c)) ≡ sent_by (told_by number c done.front done.core done.answer) (fronts_with s done.front) done.core
+unfolding heard nlm_step
+heard_is s number c ok done asked whole =
+    ap (λ k. heard_by 0 s.exports s.front (step_begun s.core) k 0 (record_of number c)) (kind_is s ok)
+    ∙ ap (record_heard 0 s.exports s.front (step_begun s.core) 0) asked
+    ∙ ap (λ count. front_done s.exports (with_nlm s.front (sent_with 0 (replied 0 count s.front.nlm (step_begun s.core) number (call_in (request number c)))))) (files_are s ok)
+    ∙ ap (λ o. front_done s.exports (with_nlm s.front (sent_with 0 (replied 0 8 s.front.nlm (step_begun s.core) number o)))) whole
+    ∙ ap (λ r. front_done s.exports (with_nlm s.front (sent_with 0 (with_results number c r)))) done.is
+
+settled_none : (n : ℕ) (exports : Exports) (f : Fronts) (s : CoreState) → s.waiters ≡ [] → settled n exports f s ≡ ([], f, s)
+unfolding settled
+settled_none n exports f s none = ap (λ (ws : List Waiter). settled_for (length ws) n exports f s) none
+
+turn_is : (s : Whole) (number : ℕ) (c : CallItem) (ok : IsMade s) (done : IsServed 0 s.front.nlm (step_begun s.core) c) → incoming_at (record_of number c) ≡ Asked (request number c) → call_in (request number c) ≡ Some c
+    → step 0 s (Message 0 (record_of number c)) ≡ turn_of s s.connections (sent_by (told_by number c done.front done.core done.answer) (fronts_with s done.front) done.core)
+unfolding connected
+turn_is s number c ok done asked whole =
+    let sent = sent_by (told_by number c done.front done.core done.answer) (fronts_with s done.front) done.core in
+    step_is 0 s (Message 0 (record_of number c)) refl
+    ∙ ap (settled_turn 0 s s.connections) (heard_is s number c ok done asked whole)
+    ∙ ap (λ r. turn_of s s.connections (behind sent.0 r)) (settled_none 0 s.exports (fronts_with s done.front) done.core done.kept.waiters)
+
+or_none : (o : Option NlmStatus) → or_status o None ≡ o
+or_none None = refl
+or_none (Some status) = refl
+
+status_is : (number : ℕ) (body : List ℕ) → number < 2 ^ 32 → told_status (map (framed Rpc) (sent_to 0 (reply number Success ++ body))) ≡ results_status (results_at 2 body)
+status_is number body small = or_none _ ∙ framed_is (reply number Success ++ body) ∙ replied_is number body small
+
+record IsWell (r : Turn) : Type 0 where
+  next : IsMade r.next
+  told : IsTold (told_status r.outs)
+
+one_call : (s : Whole) (number : ℕ) (c : CallItem) → IsMade s → number < 2 ^ 32 → IsServed 0 s.front.nlm (step_begun s.core) c → incoming_at (record_of number c) ≡ Asked (request number c) → call_in (request number c) ≡ Some c
+    → IsWell (step 0 s (Message 0 (record_of number c)))
+one_call s number c ok small done asked whole =
+    subst (λ (r : Turn). IsWell r) (sym (turn_is s number c ok done asked whole))
+    (record {
+      next = record { exports = ok.exports; connections = ok.connections; hosts = done.hosts; core = begun_core done.core done.kept };
+      told = subst (λ (o : Option NlmStatus). IsTold o) (sym (status_is number (results (reply_of done.core.names c (Answered done.answer))) small)) (done.told done.core.names);
+    })
+
+-- ---- the call that is drawn
+
+drawn_arrives : (number choice : ℕ) (exclusive : Bool) (b c d : ℕ) → number < 2 ^ 32 → incoming_at (record_of number (asked_by choice exclusive (lock_by b c d))) ≡ Asked (request number (asked_by choice exclusive (lock_by b c d)))
+unfolding in_program
+drawn_arrives number choice exclusive b c d small =
+    elim (cases_Bool (choice == 2)) [
+      | inl two ↦ rw two (arrives number _ small (omega arith) refl)
+      | inr other ↦
+          elim (cases_Bool (choice == 3)) [
+            | inl three ↦ rw (other, three) (arrives number _ small (omega arith) refl)
+            | inr locks ↦ rw (other, locks) (arrives number _ small (omega arith) refl)
+          ]
+    ]
+
+one_by : (s : Whole) (number choice : ℕ) (exclusive : Bool) (b c d : ℕ) → IsMade s → number < 2 ^ 32 → IsWell (step 0 s (Message 0 (record_of number (asked_by choice exclusive (lock_by b c d)))))
+one_by s number choice exclusive b c d ok small =
+    one_call s number (asked_by choice exclusive (lock_by b c d)) ok small (call_served 0 s.front.nlm (step_begun s.core) choice exclusive b c d (begun_core s.core ok.core) ok.hosts)
+    (drawn_arrives number choice exclusive b c d small) (whole number (asked_by choice exclusive (lock_by b c d)) (call_fits choice exclusive b c d))
+
+one_drawn : (s : Whole) (number x : ℕ) → IsMade s → number < 2 ^ 32 → IsWell (step 0 s (Message 0 (record_of number (call_from x))))
+unfolding call_from
+one_drawn s number x ok small =
+    one_by s number (draw (next x) % 4) (exclusive_by (draw (next x))) (draw (next (next x))) (draw (next (next (next x)))) (draw (fourth x)) ok small
+
+-- ---- so many calls
+
+abbrev tally : List Entry → ℕ
+tally es = granted es + denied es
+
+is_one : (o : Option NlmStatus) → IsTold o → (if is_granted o then 1 else 0) + (if is_denied o then 1 else 0) ≡ 1
+is_one o (inl yes_granted) = ap (λ (x : Option NlmStatus). (if is_granted x then 1 else 0) + (if is_denied x then 1 else 0)) yes_granted
+is_one o (inr yes_denied) = ap (λ (x : Option NlmStatus). (if is_granted x then 1 else 0) + (if is_denied x then 1 else 0)) yes_denied
+
+counted_one : (e : Entry) (es : List Entry) → IsTold (told_status e.outs) → tally (e ∷ es) ≡ tally es + 1
+counted_one e es told =
+    let grants : granted (e ∷ es) ≡ (if is_granted (told_status e.outs) then 1 else 0) + granted es = sum_by-cons (λ (d : Entry). if is_granted (told_status d.outs) then 1 else 0) e es in
+    let denies : denied (e ∷ es) ≡ (if is_denied (told_status e.outs) then 1 else 0) + denied es = sum_by-cons (λ (d : Entry). if is_denied (told_status d.outs) then 1 else 0) e es in
+    omega (arith, grants, denies, is_one (told_status e.outs) told)
+
+pub all_counted : (s : Whole) (x number count : ℕ) → IsMade s → number + count < 2 ^ 32 → tally (entries_of s (calls_from x number count)) ≡ count
+unfolding calls_from
+all_counted s x number zero ok small = refl
+all_counted s x number (suc more) ok small =
+    let well = one_drawn s number x ok (omega (arith, small)) in
+    counted_one (entry 0 s (Message 0 (record_of number (call_from x)))) (entries_of (step 0 s (Message 0 (record_of number (call_from x)))).next (calls_from (fourth x) (number + 1) more)) well.told
+    ∙ omega (arith, all_counted (step 0 s (Message 0 (record_of number (call_from x)))).next (fourth x) (number + 1) more well.next (omega (arith, small)))
+
+-- ---- from the start
+
+opened_is : step 0 (begin made_head) (Open Rpc) ≡ turn_of (begin made_head) (record { number = 0; kind = Rpc } ∷ []) ([], (begin made_head).front, step_begun (begin made_head).core)
+unfolding connected with_connection heard step_begun
+opened_is =
+    step_is 0 (begin made_head) (Open Rpc) refl
+    ∙ ap (λ r. turn_of (begin made_head) (record { number = 0; kind = Rpc } ∷ []) (behind [] r)) (settled_none 0 made_head.exports (begin made_head).front (step_begun (begin made_head).core) (begun_waiters (begin made_head).core refl))
+  where
+    begun_waiters : (s : CoreState) → s.waiters ≡ [] → (step_begun s).waiters ≡ []
+    begun_waiters s none = none
+
+begun_made : IsMade (turn_of (begin made_head) (record { number = 0; kind = Rpc } ∷ []) ([], (begin made_head).front, step_begun (begin made_head).core)).next
+begun_made = record {
+  exports = refl;
+  connections = refl;
+  hosts = inl refl;
+  core = begun_core _ (begun_core _ (record { good = started_good _ _ _; waiters = refl; names = tt; claims = record { each = tt; ends = λ file number. tt } }));
+}
+
+-- each call that is made is granted or denied
+pub made_counts : (seed count : ℕ) → count ≤ 1000000 → granted (made_entries seed count) + denied (made_entries seed count) ≡ count
+unfolding made_entries
+made_counts seed count few =
+    subst (λ (r : Turn). tally (record { event = Open Rpc; stores = 0; outs = r.outs } ∷ entries_of r.next (calls_from seed 1 count)) ≡ count) (sym opened_is)
+    (none_first ∙ all_counted _ seed 1 count begun_made (omega (arith, few)))
+  where
+    none_first : tally (record { event = Open Rpc; stores = 0; outs = [] } ∷ entries_of (turn_of (begin made_head) (record { number = 0; kind = Rpc } ∷ []) ([], (begin made_head).front, step_begun (begin made_head).core)).next (calls_from seed 1 count))
+        ≡ tally (entries_of (turn_of (begin made_head) (record { number = 0; kind = Rpc } ∷ []) ([], (begin made_head).front, step_begun (begin made_head).core)).next (calls_from seed 1 count))
+    none_first =
+        let rest = entries_of (turn_of (begin made_head) (record { number = 0; kind = Rpc } ∷ []) ([], (begin made_head).front, step_begun (begin made_head).core)).next (calls_from seed 1 count) in
+        let first : Entry = record { event = Open Rpc; stores = 0; outs = [] } in
+        let grants : granted (first ∷ rest) ≡ 0 + granted rest = sum_by-cons (λ (d : Entry). if is_granted (told_status d.outs) then 1 else 0) first rest in
+        let denies : denied (first ∷ rest) ≡ 0 + denied rest = sum_by-cons (λ (d : Entry). if is_denied (told_status d.outs) then 1 else 0) first rest in
+        omega (arith, grants, denies)
+
+length_calls : (x number count : ℕ) → length (calls_from x number count) ≡ count
+unfolding calls_from
+length_calls x number zero = refl
+length_calls x number (suc more) = omega (arith, length_calls (fourth x) (number + 1) more)
+
+-- the opening and each call have an entry
+pub made_length : (seed count : ℕ) → length (made_entries seed count) ≡ count + 1
+unfolding made_entries
+made_length seed count = omega (arith, length-entries_of (begin made_head) (made seed count), length_calls seed 1 count)
+
+pub journal_counts : (seed count : ℕ) (journal : Journal) → count ≤ 1000000 → journal ≡ made_journal seed count → (length journal.entries ≡ count + 1) × (granted journal.entries + denied journal.entries ≡ count)
+journal_counts seed count journal few e =
+    subst (λ (j : Journal). (length j.entries ≡ count + 1) × (granted j.entries + denied j.entries ≡ count)) (sym e) (made_length seed count, made_counts seed count few)

@@ -1,0 +1,321 @@
+-- What the core answers the calls that are drawn, and what it keeps.
+use Rattle.std.proofs.Common.{◌≡◌, ℕ, zero, suc, pos, ◌<◌, ◌≤◌, Bool, true, false, nat_le, ◌⊎◌, inl, inr, if◌then◌else◌, List, [], ◌∷◌, ◌++◌, length, codes, Option, Some, None, refl, sym, ap, subst, ◌∙◌, arith}
+use Rattle.std.specs.List.{AllByRecursion}
+use Rattle.std.proofs.lemmas.Bool.{cases_lt, both_ways, le-leb}
+use Rattle.std.proofs.lemmas.Bool.Decides.{nat_tests}
+use Rattle.xl_base.specs.Lists.{IsIn}
+use Rattle.xl_base.proofs.Members.{all_append}
+use Rattle.xl_base.specs.declared.name.Owner.{Owner}
+use Rattle.xl_base.specs.declared.name.Owner.TheVariants as owners
+use Rattle.xl_base.specs.declared.name.Party.{Party}
+use Rattle.xl_base.specs.declared.name.Protocol.{Protocol}
+use Rattle.xl_base.specs.declared.name.Protocol.TheVariants.{Nlm}
+use Rattle.xl_matrix.specs.declared.claim.Claim.{Claim}
+use Rattle.xl_matrix.specs.declared.claim.Extent.TheVariants.{Bytes}
+use Rattle.xl_matrix.specs.declared.claim.What.{What}
+use Rattle.xl_matrix.specs.declared.claim.What.TheVariants.{Range}
+use Rattle.xl_names.specs.Names.{protocol_of, place_of, number_of, is_kept, entered, most_names}
+use Rattle.xl_names.specs.declared.name.Name.{Name}
+use Rattle.xl_names.specs.declared.name.Name.TheVariants.{NlmRange, NlmParty}
+use Rattle.xl_wait.specs.declared.waiter.Rooms.{Rooms}
+use Rattle.xl_table.specs.Held.{mode_of}
+use Rattle.xl_table.specs.Relock.{most_claims, granted_claims, holds_byte}
+use Rattle.xl_core.specs.State.{CoreState}
+use Rattle.xl_core.specs.Asking.{IsFit, both_entered, asked_claim, asker, asking_party, known_claim, number_or}
+use Rattle.xl_core.specs.Causes.{IsClaimDue, limits_of_grant, left_by_unlock}
+use Rattle.xl_core.specs.Decide.{Answered, ask, test_answered, tested}
+use Rattle.xl_core.specs.Blockers.{test_blockers}
+use Rattle.xl_table.specs.Least.{least}
+use Rattle.xl_core.specs.Deeds.{queue_with}
+use Rattle.xl_core.specs.Frames.{asks_to_hold, names_after}
+use Rattle.xl_core.specs.Good.{IsGood, are_kept}
+use Rattle.xl_core.specs.Limits.{IsRoom, grant_limits, first_passed, is_passed, most_owners, most_opens}
+use Rattle.xl_core.specs.declared.ask.Act.{Act}
+use Rattle.xl_core.specs.declared.ask.Act.TheVariants.{Ranges, Test, Unlock}
+use Rattle.xl_core.specs.declared.ask.Answer.{Answer}
+use Rattle.xl_core.specs.declared.ask.Answer.TheVariants as answers
+use Rattle.xl_core.specs.declared.ask.Ask.{Ask}
+use Rattle.xl_core.proofs.CauseLaws.{lock_due, unlock_is, unlock_by, left_so}
+use Rattle.xl_core.proofs.DeedCalls.{ask_enters, ask_keeps_claims, ask_queue}
+use Rattle.xl_core.proofs.FrameLaws.{ask_frame}
+use Rattle.xl_core.proofs.GoodLaws.{ask_good, holder_kept}
+use Rattle.xl_core.proofs.KnownLaws.{asker_kept, both_distinct, get_none, kept_parts}
+use Rattle.xl_core.proofs.LimitLaws.{grant_found}
+use Rattle.xl_front_nlm.specs.Asks.{ask_of}
+use Rattle.xl_front_nlm.specs.Hosts.{rooms, host_rows}
+use Rattle.xl_top.proofs.GroupLaws.{AreFew, owner_at, relocked_few, relocked_room}
+use Rattle.xl_top.proofs.SumLaws.{few_names}
+
+-- ---- who asks, and for what
+
+abbrev pub five : List Name
+five =
+    NlmParty (codes "m") ∷ NlmRange (codes "m") (pos 0) [] ∷ NlmRange (codes "m") (pos 1) [] ∷ NlmRange (codes "m") (pos 2) [] ∷ NlmRange (codes "m") (pos 3) [] ∷ []
+
+abbrev pub name_by : ℕ → Name
+name_by who = NlmRange (codes "m") (pos who) []
+
+abbrev pub drawn_ask : ℕ → ℕ → Act → Rooms → Ask
+drawn_ask who file act rows = ask_of (name_by who) (codes "m") file act false false rows
+
+-- the only host
+abbrev pub AreOurs : List (List ℕ) → Type 0
+AreOurs hosts = (hosts ≡ []) ⊎ (hosts ≡ codes "m" ∷ [])
+
+pub record IsMadeCore (s : CoreState) : Type 0 where
+  pub good : IsGood s
+  pub waiters : s.waiters ≡ []
+  pub names : AllByRecursion (λ n. IsIn n five) s.names
+  pub claims : AreFew s.claims
+
+-- granted, denied, or nothing to unlock
+abbrev pub IsPlain : Answer → Type 0
+IsPlain (answers.Granted c) = Unit {0}
+IsPlain (answers.Conflict c) = Unit {0}
+IsPlain answers.NotHeld = Unit {0}
+IsPlain _ = ⊥
+
+-- ---- names
+
+name_among : (who : ℕ) → who < 4 → IsIn (name_by who) five
+name_among zero h = inr (inl refl)
+name_among (suc zero) h = inr (inr (inl refl))
+name_among (suc (suc zero)) h = inr (inr (inr (inl refl)))
+name_among (suc (suc (suc zero))) h = inr (inr (inr (inr (inl refl))))
+name_among (suc (suc (suc (suc n)))) h = absurd (omega (arith, h))
+
+entered_among : (name : Name) (names : List Name) → IsIn name five → AllByRecursion (λ n. IsIn n five) names → AllByRecursion (λ n. IsIn n five) (entered name names)
+entered_among name names among all = by (is_kept name names) where
+  by : (b : Bool) → AllByRecursion (λ n. IsIn n five) (if b then names else names ++ name ∷ [])
+  by true = all
+  by false = all_append (λ n. IsIn n five) names (name ∷ []) all (among, tt)
+
+both_among : (who file : ℕ) (act : Act) (rows : Rooms) (names : List Name) → who < 4 → AllByRecursion (λ n. IsIn n five) names → AllByRecursion (λ n. IsIn n five) (both_entered (drawn_ask who file act rows) names)
+both_among who file act rows names one all =
+    entered_among (NlmParty (codes "m")) (entered (name_by who) names) (inl refl) (entered_among (name_by who) names (name_among who one) all)
+
+both_few : (who file : ℕ) (act : Act) (rows : Rooms) (s : CoreState) → who < 4 → IsMadeCore s → length (both_entered (drawn_ask who file act rows) s.names) ≤ 5
+both_few who file act rows s one core =
+    few_names five _ (both_distinct (drawn_ask who file act rows) s.names core.good.distinct) (both_among who file act rows s.names one core.names)
+
+same_owner : (m n : ℕ) (p q : Protocol) → owners.Name p m ≡ owners.Name q n → m ≡ n
+same_owner m n p q e = cc
+
+-- the number of a known owner
+known_small : (names : List Name) (number : ℕ) (party : Party) → length names ≤ 5 → are_kept names (owner_at number) party ≡ true → number < 5
+known_small names number party few kept =
+    let parts = kept_parts names (owner_at number) party kept in
+    let same : number ≡ parts.number = same_owner number parts.number Nlm (protocol_of parts.name) parts.owner_is in
+    elim (cases_lt number 5) [
+      | inl under ↦ under
+      | inr above ↦ absurd (get_none names parts.number parts.name (omega (arith, same, few, above)) parts.owner_at)
+    ]
+
+-- ---- room
+
+passes_by : (h r held kept : ℕ) → r ≤ h → held ≤ most_claims → kept ≤ most_names
+    → first_passed (grant_limits (record { hosts = h; owners = most_owners; opens = most_opens }) (record { hosts = r; owners = 0; opens = 0 }) held kept) ≡ None
+passes_by h r held kept hosts claims names = grind (arith, nat_tests)
+
+host_room : (hosts : List (List ℕ)) → AreOurs hosts → (host_rows (codes "m") hosts).hosts ≤ (rooms hosts).hosts
+host_room hosts (inl none) = subst (λ (hs : List (List ℕ)). (host_rows (codes "m") hs).hosts ≤ (rooms hs).hosts) (sym none) (omega arith)
+host_room hosts (inr one) = subst (λ (hs : List (List ℕ)). (host_rows (codes "m") hs).hosts ≤ (rooms hs).hosts) (sym one) (omega arith)
+
+room : (hosts : List (List ℕ)) (held kept : ℕ) → AreOurs hosts → held ≤ most_claims → kept ≤ most_names → IsRoom (grant_limits (rooms hosts) (host_rows (codes "m") hosts) held kept)
+room hosts held kept ours claims names = grant_found (rooms hosts) (host_rows (codes "m") hosts) held kept None (passes_by (rooms hosts).hosts (host_rows (codes "m") hosts).hosts held kept (host_room hosts ours) claims names)
+
+-- ---- a lock
+
+plain_claim : (left : Rooms) (s : CoreState) (a : Ask) (claim : Claim) (answer : Answer) → a.blocking ≡ false → IsRoom (limits_of_grant left s a claim) → a.reclaim ≡ false → IsClaimDue left s a claim answer → IsPlain answer
+plain_claim left s a claim (answers.Granted c) hurries fits new due = tt
+plain_claim left s a claim (answers.Conflict c) hurries fits new due = tt
+plain_claim left s a claim (answers.Queued number) hurries fits new due = absurd (both_ways a.blocking hurries due.2)
+plain_claim left s a claim (answers.NoGrace clock) hurries fits new due = absurd (both_ways a.reclaim new due.1)
+plain_claim left s a claim (answers.Full limit) hurries fits new due =
+    elim due.1 [
+      | inl over ↦ absurd (both_ways (is_passed (limits_of_grant left s a claim) limit) (fits limit) over.1.0)
+      | inr waits ↦ absurd (both_ways a.blocking hurries waits.0)
+    ]
+plain_claim left s a claim answers.NotHeld hurries fits new due = tt
+plain_claim left s a claim (answers.Recall c) hurries fits new due = absurd due
+plain_claim left s a claim (answers.Grace until) hurries fits new due = absurd due
+plain_claim left s a claim answers.NotRecorded hurries fits new due = absurd due
+plain_claim left s a claim answers.StoreFailed hurries fits new due = absurd due
+
+-- what stays true of the core
+pub record IsDrawnWell (s : CoreState) (r : Answered) : Type 0 where
+  pub plain : IsPlain r.0
+  pub core : IsMadeCore r.2
+
+queue_plain : (s : CoreState) (a : Ask) (answer : Answer) → IsPlain answer → queue_with s a answer s.waiters ≡ s.waiters
+queue_plain s a (answers.Granted c) plain = refl
+queue_plain s a (answers.Conflict c) plain = refl
+queue_plain s a answers.NotHeld plain = refl
+queue_plain s a (answers.Queued id) plain = absurd plain
+queue_plain s a (answers.NoGrace clock) plain = absurd plain
+queue_plain s a (answers.Full limit) plain = absurd plain
+queue_plain s a (answers.Recall c) plain = absurd plain
+queue_plain s a (answers.Grace until) plain = absurd plain
+queue_plain s a answers.NotRecorded plain = absurd plain
+queue_plain s a answers.StoreFailed plain = absurd plain
+
+names_plain : (a : Ask) (answer : Answer) (names : List Name) → AllByRecursion (λ n. IsIn n five) names → AllByRecursion (λ n. IsIn n five) (both_entered a names) → IsPlain answer → AllByRecursion (λ n. IsIn n five) (names_after a answer names)
+names_plain a (answers.Granted c) names all both plain = by (asks_to_hold a.act) where
+  by : (b : Bool) → AllByRecursion (λ n. IsIn n five) (if b then both_entered a names else names)
+  by true = both
+  by false = all
+names_plain a (answers.Conflict c) names all both plain = all
+names_plain a answers.NotHeld names all both plain = all
+names_plain a (answers.Queued id) names all both plain = absurd plain
+names_plain a (answers.NoGrace clock) names all both plain = absurd plain
+names_plain a (answers.Full limit) names all both plain = absurd plain
+names_plain a (answers.Recall c) names all both plain = absurd plain
+names_plain a (answers.Grace until) names all both plain = absurd plain
+names_plain a answers.NotRecorded names all both plain = absurd plain
+names_plain a answers.StoreFailed names all both plain = absurd plain
+
+-- what is left but for the claims
+well : (n : ℕ) (left : Rooms) (s : CoreState) (who file : ℕ) (act : Act) (rows : Rooms) → IsMadeCore s → who < 4 → IsFit (drawn_ask who file act rows)
+    → IsPlain (ask n left s (drawn_ask who file act rows)).0 → AreFew (ask n left s (drawn_ask who file act rows)).2.claims → IsDrawnWell s (ask n left s (drawn_ask who file act rows))
+well n left s who file act rows core one fit plain few =
+    let a = drawn_ask who file act rows in
+    record {
+      plain = plain;
+      core = record {
+        good = ask_good n left s a core.good fit;
+        waiters = ask_queue n left s a core.good fit ∙ queue_plain s a (ask n left s a).0 plain ∙ core.waiters;
+        names = subst (λ (ns : List Name). AllByRecursion (λ x. IsIn x five) ns) (sym (ask_frame n left s a core.good fit.party).names)
+            (names_plain a (ask n left s a).0 s.names core.names (both_among who file act rows s.names one core.names) plain);
+        claims = few;
+      };
+    }
+
+other_conflict : (c d : Claim) → answers.Conflict c ≡ answers.Granted d → ⊥
+other_conflict c d e = cc
+
+other_held : (d : Claim) → answers.NotHeld ≡ answers.Granted d → ⊥
+other_held d e = cc
+
+pub lock_well : (n : ℕ) (hosts : List (List ℕ)) (s : CoreState) (who file first last : ℕ) (exclusive : Bool) → IsMadeCore s → AreOurs hosts → who < 4 → file < 9 → first ≤ last → last < 160
+    → IsDrawnWell s (ask n (rooms hosts) s (drawn_ask who file (Ranges ((Bytes first last, exclusive) ∷ [])) (host_rows (codes "m") hosts)))
+unfolding granted_claims
+lock_well n hosts s who file first last exclusive core ours one at real short =
+    well n left s who file act rows core one fit plain few
+  where
+    left : Rooms
+    left = rooms hosts
+
+    rows : Rooms
+    rows = host_rows (codes "m") hosts
+
+    act : Act
+    act = Ranges ((Bytes first last, exclusive) ∷ [])
+
+    a : Ask
+    a = drawn_ask who file act rows
+
+    what : What
+    what = Range (Bytes first last) exclusive
+
+    claim : Claim
+    claim = asked_claim a what s.names
+
+    fit : IsFit a
+    fit = record { act = real; party = refl }
+
+    small : (number : ℕ) → owner_at number ≡ asker a s.names → number < 5
+    small number e = known_small (both_entered a s.names) number (asking_party a s.names) (both_few who file act rows s one core)
+        (subst (λ (o : Owner). are_kept (both_entered a s.names) o (asking_party a s.names) ≡ true) (sym e) (asker_kept a s.names refl))
+
+    held : length (granted_claims claim s.claims) ≤ most_claims
+    held = omega (arith, relocked_room file (place_of (name_by who) s.names) (asking_party a s.names) first last (Some (mode_of exclusive)) s.claims core.good.kept core.claims at (small _ refl) real short)
+
+    fits : IsRoom (limits_of_grant left s a claim)
+    fits = room hosts _ _ ours held (omega (arith, both_few who file act rows s one core))
+
+    due : IsClaimDue left s a claim (ask n left s a).0
+    due = (lock_due n left s a what (ask n left s a).0 refl).0 refl
+
+    plain : IsPlain (ask n left s a).0
+    plain = plain_claim left s a claim (ask n left s a).0 refl fits refl due
+
+    after_grant : AreFew (granted_claims claim s.claims)
+    after_grant = relocked_few file (place_of (name_by who) s.names) (asking_party a s.names) first last (Some (mode_of exclusive)) s.claims core.good.kept core.claims at (small _ refl) real short
+
+    entered_few : (c : Claim) → (ask n left s a).0 ≡ answers.Granted c → AreFew (ask n left s a).2.claims
+    entered_few c e =
+        let same : c ≡ claim = ((lock_due n left s a what (answers.Granted c) refl).0 e).0 in
+        subst (λ (cs : List Claim). AreFew cs) (sym ((ask_enters n left s a what c core.good fit refl e).1 ∙ ap (λ (x : Claim). granted_claims x s.claims) same)) after_grant
+
+    kept_few : ((c : Claim) → (ask n left s a).0 ≡ answers.Granted c → ⊥) → AreFew (ask n left s a).2.claims
+    kept_few none = subst (λ (cs : List Claim). AreFew cs) (sym (ask_keeps_claims n left s a core.good fit none)) core.claims
+
+    by : (answer : Answer) → (ask n left s a).0 ≡ answer → IsPlain answer → AreFew (ask n left s a).2.claims
+    by (answers.Granted c) e p = entered_few c e
+    by (answers.Conflict c) e p = kept_few (λ d f. other_conflict c d (sym e ∙ f))
+    by answers.NotHeld e p = kept_few (λ d f. other_held d (sym e ∙ f))
+    by (answers.Queued id) e p = absurd p
+    by (answers.NoGrace clock) e p = absurd p
+    by (answers.Full limit) e p = absurd p
+    by (answers.Recall c) e p = absurd p
+    by (answers.Grace until) e p = absurd p
+    by answers.NotRecorded e p = absurd p
+    by answers.StoreFailed e p = absurd p
+
+    few : AreFew (ask n left s a).2.claims
+    few = by (ask n left s a).0 refl plain
+
+-- ---- a test
+
+pub test_well : (n : ℕ) (left : Rooms) (s : CoreState) (who file first last : ℕ) (exclusive : Bool) (rows : Rooms) → IsMadeCore s → who < 4 → first ≤ last
+    → IsDrawnWell s (ask n left s (drawn_ask who file (Test (Bytes first last) exclusive) rows))
+unfolding ask tested
+test_well n left s who file first last exclusive rows core one real = record {
+  plain = by (least s.names (test_blockers s claim));
+  core = core;
+} where
+  claim : Claim
+  claim = known_claim (drawn_ask who file (Test (Bytes first last) exclusive) rows) (Bytes first last) exclusive s.names
+
+  by : (o : Option Claim) → IsPlain (test_answered claim o)
+  by None = tt
+  by (Some c) = tt
+
+-- ---- an unlock
+
+pub unlock_well : (n : ℕ) (left : Rooms) (s : CoreState) (who file first last : ℕ) (rows : Rooms) → IsMadeCore s → who < 4 → file < 9 → first ≤ last → last < 160
+    → IsDrawnWell s (ask n left s (drawn_ask who file (Unlock (Bytes first last)) rows))
+unlock_well n left s who file first last rows core one at real short = by (holds_byte claim.file claim.owner first last s.claims) (nat_le (left_by_unlock s claim first last) most_claims) refl refl where
+  act : Act
+  act = Unlock (Bytes first last)
+
+  a : Ask
+  a = drawn_ask who file act rows
+
+  claim : Claim
+  claim = known_claim a (Bytes first last) false s.names
+
+  fit : IsFit a
+  fit = record { act = real; party = refl }
+
+  few_names_kept : length s.names ≤ 5
+  few_names_kept = few_names five s.names core.good.distinct core.names
+
+  small : holds_byte claim.file claim.owner first last s.claims ≡ true → number_or (number_of (name_by who) s.names) < 5
+  small holds = known_small s.names (number_or (number_of (name_by who) s.names)) claim.party few_names_kept (holder_kept s a (Bytes first last) false first last core.good refl holds)
+
+  is : (h f : Bool) → holds_byte claim.file claim.owner first last s.claims ≡ h → nat_le (left_by_unlock s claim first last) most_claims ≡ f → ask n left s a ≡ left_so s claim first last h f
+  is h f e k = unlock_is n left s a first last refl ∙ unlock_by s claim first last h f e k
+
+  done : (r : Answered) → ask n left s a ≡ r → IsPlain r.0 → AreFew r.2.claims → IsDrawnWell s (ask n left s a)
+  done r e plain few =
+      well n left s who file act rows core one fit (subst (λ (x : Answered). IsPlain x.0) (sym e) plain) (subst (λ (x : Answered). AreFew x.2.claims) (sym e) few)
+
+  by : (h f : Bool) → holds_byte claim.file claim.owner first last s.claims ≡ h → nat_le (left_by_unlock s claim first last) most_claims ≡ f → IsDrawnWell s (ask n left s a)
+  by false f e k = done _ (is false f e k) tt core.claims
+  by true true e k =
+      done _ (is true true e k) tt
+      (relocked_few file (number_or (number_of (name_by who) s.names)) claim.party first last None s.claims core.good.kept core.claims at (small e) real short)
+  by true false e k =
+      let most = relocked_room file (number_or (number_of (name_by who) s.names)) claim.party first last None s.claims core.good.kept core.claims at (small e) real short in
+      absurd (both_ways (nat_le (left_by_unlock s claim first last) most_claims) k (le-leb (left_by_unlock s claim first last) most_claims (omega (arith, most))))

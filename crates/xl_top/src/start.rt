@@ -1,0 +1,39 @@
+//! How a run's house starts.
+ghost use Rattle.std.specs.Prelude.{◌≡◌, [], None, IfSome};
+ghost use Rattle.xl_top.specs.Job.{exports_with, head_with};
+
+use crate::keeper::SureKeeper;
+use std::alloc::Global;
+use xl_base::{Exports, Halt, Moment, Record, Sequence};
+use xl_capture::{DEFAULT_BREAK, DEFAULT_GRACE, DEFAULT_LEASE};
+use xl_house::House;
+
+/// These files and these callers' addresses, with the default times.
+pub(crate) fn exports_with(
+    files: Sequence<Sequence<u8>>,
+    addresses: Sequence<(Sequence<u8>, Sequence<u8>)>,
+) -> Exports
+    ensures { result ≡ exports_with files addresses }
+{
+    Exports {
+        files,
+        addresses,
+        lease: DEFAULT_LEASE,
+        grace: DEFAULT_GRACE,
+        break_time: DEFAULT_BREAK,
+    }
+}
+
+/// A house over these exports, of a server that never started before. None comes for want of memory.
+pub(crate) fn start(alloc: Global, exports: Exports) -> Option<House<SureKeeper>>
+    ensures { IfSome result (λ h. (h.head ≡ head_with exports) × ((h.entries ≡ []) × (h.halt ≡ None))) }
+{
+    let keeper = SureKeeper::new(alloc, Record::new(alloc));
+    match House::start(alloc, exports, keeper, Moment(0)) {
+        Ok(house) => Some(house),
+        Err(ended) => match ended.halt {
+            Halt::NoMemory => None,
+            Halt::JournalFull(_) | Halt::StartStore(_) => unreachable!(),
+        },
+    }
+}
