@@ -56,7 +56,13 @@ fn shown_by_fronts(
     ensures little { IfOk result (λ sent. AllByRecursion FitsFrame sent) }
 {
     nfs_shown(&mut parts.front.nfs, effect);
-    shown(alloc, exports, &mut parts.front.nlm, &mut parts.core, effect)
+    shown(
+        alloc,
+        exports,
+        &mut parts.front.nlm,
+        &mut parts.core,
+        effect,
+    )
 }
 
 /// Adds what the fronts send for each of these effects.

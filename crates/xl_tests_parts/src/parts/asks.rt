@@ -10,7 +10,8 @@ use xl_matrix::Extent;
 use xl_names::Name;
 use xl_wait::Rooms;
 
-const TIMES: Times = Times {
+/// How long leases, grace and breaks last.
+pub(crate) const TIMES: Times = Times {
     lease: 100,
     grace: 100,
     break_time: 10,

@@ -3,18 +3,13 @@
 ghost use Rattle.std.specs.Prelude.{◌≡◌};
 ghost use Rattle.xl_core.specs.Asking.{IsFit};
 
+use super::asks::TIMES;
 use std::alloc::{AllocError, Global};
 use xl_base::{MemoryKeeper, Moment, Record, Sequence};
-use xl_core::{Act, Answer, Ask, Core, Effect, Times, Who};
+use xl_core::{Act, Answer, Ask, Core, Effect, Who};
 use xl_matrix::Rwd;
 use xl_names::Name;
 use xl_wait::Rooms;
-
-const TIMES: Times = Times {
-    lease: 100,
-    grace: 100,
-    break_time: 10,
-};
 
 const NO_ROWS: Rooms = Rooms {
     hosts: 0,

@@ -5,6 +5,7 @@ ghost use Rattle.xl_core.specs.Asking.{IsFit};
 ghost use Rattle.xl_core.specs.Good.{IsGood};
 ghost use Rattle.xl_matrix.specs.declared.claim.Extent.TheVariants.{Bytes};
 
+use super::asks::TIMES;
 use std::alloc::{AllocError, Global};
 use xl_base::{MemoryKeeper, Moment, Party, Record, Sequence};
 use xl_core::{Act, Answer, Ask, Core, Effect, Who};
@@ -108,7 +109,7 @@ fn leave(alloc: Global, core: &mut Core, party: Party) -> Result<(), AllocError>
 
 /// Whether who waits on two files has a turn on each once the one who holds both leaves.
 fn turns_on_two_files(alloc: Global) -> Result<bool, AllocError> {
-    let mut core = Core::new(alloc, Record::new(alloc), Moment(7));
+    let mut core = Core::new(alloc, Record::new(alloc), Moment(7), TIMES);
     let Answer::Granted(held) = lock(alloc, &mut core, 1, 97)? else {
         return Ok(false);
     };
