@@ -1,7 +1,8 @@
 //! Readings of the clock (RFC 7530 9.5).
 
-ghost use Rattle.std.specs.Prelude.{◌≡◌};
+ghost use Rattle.std.specs.Prelude.{◌≡◌, OnOk};
 ghost use Rattle.xl_core.specs.Asking.{IsFit};
+ghost use Rattle.xl_core.specs.Good.{IsGood};
 
 use super::asks::TIMES;
 use std::alloc::{AllocError, Global};
@@ -46,17 +47,50 @@ fn are_expired(effects: &[Effect], first: &[u8], second: &[u8]) -> bool {
     }
 }
 
+/// Reads the clock at this moment, and says whether nobody expires.
+fn is_quiet(alloc: Global, core: &mut Core, moment: u64) -> Result<bool, AllocError>
+    requires good { IsGood core.old }
+    ensures good { OnOk result (IsGood core.new) }
+{
+    let told = core.tick(alloc, &mut keeper(alloc), Moment(moment))?;
+    Ok(told.is_empty())
+}
+
+/// Reads the clock at this moment, and says whether just these two expire, in this order.
+fn two_expire(
+    alloc: Global,
+    core: &mut Core,
+    moment: u64,
+    first: &[u8],
+    second: &[u8],
+) -> Result<bool, AllocError>
+    requires good { IsGood core.old }
+    ensures good { OnOk result (IsGood core.new) }
+{
+    let told = core.tick(alloc, &mut keeper(alloc), Moment(moment))?;
+    Ok(are_expired(told.as_slice(), first, second))
+}
+
+/// A lease begins, or runs anew.
+fn renew(alloc: Global, core: &mut Core, client: &[u8]) -> Result<(), AllocError>
+    requires good { IsGood core.old }
+    ensures good { OnOk result (IsGood core.new) }
+{
+    let _told = core.renew(alloc, client)?;
+    Ok(())
+}
+
 /// Whether leases end at their last moment, in the order of the id strings, and the clock doesn't go back.
-fn leases_end(alloc: Global) -> Result<bool, AllocError> {
-    let mut keeper = keeper(alloc);
-    let mut core = Core::new(alloc, Record::new(alloc), Moment(7), TIMES);
-    core.renew(alloc, b"b")?;
-    core.renew(alloc, b"a")?;
-    let early = core.tick(alloc, &mut keeper, Moment(106))?;
-    let late = core.tick(alloc, &mut keeper, Moment(107))?;
-    let back = core.tick(alloc, &mut keeper, Moment(50))?;
-    let told = early.is_empty() && are_expired(late.as_slice(), b"a", b"b") && back.is_empty();
-    Ok(told && core.clock().0 == 107)
+fn leases_end(alloc: Global, core: &mut Core) -> Result<bool, AllocError>
+    requires good { IsGood core.old }
+    ensures good { OnOk result (IsGood core.new) }
+{
+    renew(alloc, core, b"b")?;
+    renew(alloc, core, b"a")?;
+    let early = is_quiet(alloc, core, 106)?;
+    let late = two_expire(alloc, core, 107, b"a", b"b")?;
+    let back = is_quiet(alloc, core, 50)?;
+    Ok(early && late && back && core.clock().0 == 107)
 }
 
 /// A share of an NFSv4 client for reading, whose id string is given twice.
@@ -78,32 +112,57 @@ fn a_share(alloc: Global, client: Sequence<u8>, same: Sequence<u8>) -> Ask
     }
 }
 
-/// Whether what a client has goes with its lease, and not before; a lease that is renewed runs on.
-fn claims_go(alloc: Global, ask: &Ask) -> Result<bool, AllocError>
-    requires { IsFit ask.now }
+/// Whether the ask is granted.
+fn is_granted(alloc: Global, core: &mut Core, ask: &Ask) -> Result<bool, AllocError>
+    requires good { IsGood core.old }
+    requires fit { IsFit ask.now }
+    requires none { core.old.counter ≡ 0 }
+    ensures good { OnOk result (IsGood core.new) }
 {
-    let mut keeper = keeper(alloc);
-    let mut core = Core::new(alloc, Record::new(alloc), Moment(0), TIMES);
-    core.renew(alloc, b"c")?;
-    let (answer, _) = core.ask(alloc, &mut keeper, ask, &LEFT)?;
-    core.tick(alloc, &mut keeper, Moment(99))?;
-    core.renew(alloc, b"c")?;
-    core.tick(alloc, &mut keeper, Moment(198))?;
+    let (answer, _told) = core.ask(alloc, &mut keeper(alloc), ask, &LEFT)?;
+    Ok(matches!(answer, Answer::Granted(_)))
+}
+
+/// Whether what a client has goes with its lease, and not before; a lease that is renewed runs on.
+fn claims_go(alloc: Global, core: &mut Core) -> Result<bool, AllocError>
+    requires good { IsGood core.old }
+    ensures good { OnOk result (IsGood core.new) }
+{
+    let early = is_quiet(alloc, core, 99)?;
+    renew(alloc, core, b"c")?;
+    let later = is_quiet(alloc, core, 198)?;
     let kept = core.table().len() == 1;
-    core.tick(alloc, &mut keeper, Moment(199))?;
-    let gone = core.table().is_empty() && core.names().len() == 2;
-    Ok(matches!(answer, Answer::Granted(_)) && kept && gone)
+    let last = is_quiet(alloc, core, 199)?;
+    Ok(early && later && kept && !last && core.table().is_empty() && core.names().len() == 2)
+}
+
+/// A core whose clock reads this moment.
+fn core_at(alloc: Global, moment: u64) -> Core
+    ensures good { IsGood result }
+    ensures none { result.counter ≡ 0 }
+{
+    Core::new(alloc, Record::new(alloc), Moment(moment), TIMES)
+}
+
+fn share_goes(alloc: Global, ask: &Ask) -> Result<bool, AllocError>
+    requires fit { IsFit ask.now }
+{
+    let mut core = core_at(alloc, 0);
+    let granted = is_granted(alloc, &mut core, ask)?;
+    renew(alloc, &mut core, b"c")?;
+    Ok(granted && claims_go(alloc, &mut core)?)
 }
 
 fn shares_go(alloc: Global) -> Result<bool, AllocError> {
     let client = Sequence::from_slice(alloc, b"c")?;
     let same = Sequence::from_slice(alloc, b"c")?;
     let ask = a_share(alloc, client, same);
-    claims_go(alloc, &ask)
+    share_goes(alloc, &ask)
 }
 
 #[test]
 fn leases(rt: HostRuntime) {
-    assert!(rt; matches!(leases_end(rt.alloc()), Ok(true)));
+    let mut core = core_at(rt.alloc(), 7);
+    assert!(rt; matches!(leases_end(rt.alloc(), &mut core), Ok(true)));
     assert!(rt; matches!(shares_go(rt.alloc()), Ok(true)));
 }

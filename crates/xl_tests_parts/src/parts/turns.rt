@@ -107,24 +107,46 @@ fn leave(alloc: Global, core: &mut Core, party: Party) -> Result<(), AllocError>
     Ok(())
 }
 
+/// Whether these are served, one after another, each 0 where it is nobody's turn.
+fn are_served(alloc: Global, core: &mut Core, first: u32, second: u32) -> Result<bool, AllocError>
+    requires good { IsGood core.old }
+    requires few { core.old.counter ≤ 100 }
+{
+    let one = served(alloc, core)?;
+    let two = served(alloc, core)?;
+    let three = served(alloc, core)?;
+    Ok(one == first && two == second && three == 0)
+}
+
+/// The caller of this letter locks both files.
+fn lock_both(alloc: Global, core: &mut Core, caller: u8) -> Result<Party, AllocError>
+    requires good { IsGood core.old }
+    requires few { core.old.counter ≤ 90 }
+    ensures good { OnOk result (IsGood core.new) }
+    ensures counter { OnOk result (core.new.counter ≤ core.old.counter + 2) }
+{
+    let held = lock(alloc, core, 1, caller)?;
+    let _ = lock(alloc, core, 2, caller)?;
+    Ok(match held {
+        Answer::Granted(claim) => claim.party,
+        _ => Party::Open(0),
+    })
+}
+
 /// Whether who waits on two files has a turn on each once the one who holds both leaves.
-fn turns_on_two_files(alloc: Global) -> Result<bool, AllocError> {
-    let mut core = Core::new(alloc, Record::new(alloc), Moment(7), TIMES);
-    let Answer::Granted(held) = lock(alloc, &mut core, 1, 97)? else {
-        return Ok(false);
-    };
-    let _ = lock(alloc, &mut core, 2, 97)?;
-    let _ = lock(alloc, &mut core, 1, 98)?;
-    let _ = lock(alloc, &mut core, 2, 99)?;
-    let nobody = served(alloc, &mut core)?;
-    leave(alloc, &mut core, held.party)?;
-    let first = served(alloc, &mut core)?;
-    let second = served(alloc, &mut core)?;
-    let last = served(alloc, &mut core)?;
-    Ok(nobody == 0 && first == 1 && second == 2 && last == 0)
+fn turns_on_two_files(alloc: Global, core: &mut Core) -> Result<bool, AllocError>
+    requires good { IsGood core.old }
+    requires none { core.old.counter ≡ 0 }
+{
+    let holder = lock_both(alloc, core, 97)?;
+    let _ = lock_both(alloc, core, 98)?;
+    let nobody = served(alloc, core)?;
+    leave(alloc, core, holder)?;
+    Ok(nobody == 0 && are_served(alloc, core, 1, 2)?)
 }
 
 #[test]
 fn one_leaves_two_files(rt: HostRuntime) {
-    assert!(rt; matches!(turns_on_two_files(rt.alloc()), Ok(true)));
+    let mut core = Core::new(rt.alloc(), Record::new(rt.alloc()), Moment(7), TIMES);
+    assert!(rt; matches!(turns_on_two_files(rt.alloc(), &mut core), Ok(true)));
 }
