@@ -31,7 +31,7 @@ def add_arguments(parser):
     parser.add_argument("--server", action="append", type=server_of, default=[], metavar="ADDRESS", help=server)
     times = "also a line T where time passed, in milliseconds since the first call; the program doesn't read these yet"
     parser.add_argument("--times", action="store_true", help=times)
-    with_smb = "also connections to port 445, as O smb; the program doesn't read these yet"
+    with_smb = "also connections to port 445, as O smb"
     parser.add_argument("--smb", action="store_true", help=with_smb)
 
 

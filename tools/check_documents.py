@@ -9,7 +9,7 @@ prints a line for each of these that doesn't hold, and nothing where all do; the
   of them ensures; a dash stands for a clause without a name;
 - README.md: each clause that the section on the headline names is one of `run`'s, and the page has at most 120 lines;
 - docs/DEFINITIONS.md: each definition of a table with files stands in the file that its row names, and the page has at
-  most 150 lines;
+  most 160 lines, two tables of claims and caches among them;
 - all of them: what is linked is there.
 """
 import argparse
@@ -19,7 +19,7 @@ from pathlib import Path
 
 from xlock.sources import Crates
 
-MOST_LINES = {"README.md": 120, "docs/DEFINITIONS.md": 150}
+MOST_LINES = {"README.md": 120, "docs/DEFINITIONS.md": 160}
 HEADLINE = "## What is proved"
 TOP = ("xl_top", "run")
 DASH = "—"

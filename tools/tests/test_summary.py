@@ -10,6 +10,7 @@ SUMMARIES = [
     (0, 0, "entries 1\ngranted 0\ndenied 0\nclaims 0\n"),
     (0, 1, "entries 2\ngranted 1\ndenied 0\nclaims 1\n"),
     (0, 2, "entries 3\ngranted 2\ndenied 0\nclaims 1\n"),
+    (7, 20000, "entries 20001\ngranted 12527\ndenied 7473\nclaims 164\n"),
 ]
 
 

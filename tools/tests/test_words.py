@@ -45,12 +45,13 @@ CAPTURES = [
         ["O rpc", f"B 0 {COMES}"],
     ),
     ("open\nO rpc\nB 1 00\n", ["O rpc", "O rpc", "B 1 00"]),
+    ("open smb\nB 0 00\n", ["O smb", "B 0 00"]),
     ("call 100003 4 0", ["O rpc", "B 0 80000028" + "00000001 00000000 00000002 000186a3 00000004 00000000".replace(" ", "") + "0" * 32]),
 ]
 
 REFUSED = [
     "fly", "lock a 7 a.txt 0 10", "lock a 7 a.txt 0 10 y", "lock a 7 A.txt 0 10 x", "lock a 7 a.txt 0 -1 x", "use b",
-    "share a a.txt d -", "answer 1 perhaps", "R", "open smb", "unlock a 7 a.txt 0 10 block", "Q", "B 0 0",
+    "share a a.txt d -", "answer 1 perhaps", "R", "unlock a 7 a.txt 0 10 block", "Q", "B 0 0",
     "compound renew", "compound renew 1", "compound confirm 1.5 0x00", "compound open a.txt", "compound get_fh then", "nfs_null 1",
 ]  # fmt: skip
 
@@ -106,7 +107,7 @@ class Words(unittest.TestCase):
                 capture_of("null\n" + words)
 
     def test_later(self):
-        self.assertEqual(lines_of(capture_of("open smb\nR", later=True)), ["O smb", "R"])
+        self.assertEqual(lines_of(capture_of("open\nR", later=True)), ["O rpc", "R"])
 
     def test_said_again(self):
         said = in_words(capture_of(CALLS), "")

@@ -7,7 +7,7 @@ RPC = {(nlm.PROGRAM, nlm.VERSION): nlm, (nfs.PROGRAM, nfs.VERSION): nfs}
 # The kinds of connection in a capture's `O` line, and those that the program doesn't read yet.
 KINDS = ("rpc", "smb")
 # The lines of a capture that are settled and that the program doesn't read yet.
-LATER = ("O smb", "R", "K", "N", "!n")
+LATER = ("R", "K", "N", "!n")
 
 
 def of_call(call):

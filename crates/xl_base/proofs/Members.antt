@@ -1,5 +1,5 @@
 -- Laws of membership and of facts on each element.
-use Rattle.std.proofs.Common.{◌≡◌, Bool, true, ◌⊎◌, inl, inr, List, [], ◌∷◌, ◌++◌, map, refl, sym, ap, subst, ◌∙◌}
+use Rattle.std.proofs.Common.{◌≡◌, Bool, true, inl, inr, List, [], ◌∷◌, ◌++◌, map, refl, sym, ap, subst, ◌∙◌}
 use Rattle.std.specs.List.{filter, AllByRecursion}
 use Rattle.std.proofs.lemmas.Bool.{cases_Bool}
 use Rattle.xl_base.specs.Lists.{IsIn, Pairwise}
@@ -11,14 +11,6 @@ in_append_left x (z ∷ zs) ys h = elim h [ inl e ↦ inl e | inr t ↦ inr (in_
 pub in_append_right : {A : Type 0} (x : A) (xs ys : List A) → IsIn x ys → IsIn x (xs ++ ys)
 in_append_right x [] ys h = h
 in_append_right x (z ∷ zs) ys h = inr (in_append_right x zs ys h)
-
-pub in_append_cases : {A : Type 0} (x : A) (xs ys : List A) → IsIn x (xs ++ ys) → IsIn x xs ⊎ IsIn x ys
-in_append_cases x [] ys h = inr h
-in_append_cases x (z ∷ zs) ys h =
-    elim h [
-      | inl e ↦ inl (inl e)
-      | inr t ↦ elim (in_append_cases x zs ys t) [ inl a ↦ inl (inr a) | inr b ↦ inr b ]
-    ]
 
 pub in_map : {A B : Type 0} (f : A → B) (x : A) (xs : List A) → IsIn x xs → IsIn (f x) (map f xs)
 in_map f x [] h = absurd h
@@ -76,14 +68,6 @@ pairwise_append test (x ∷ xs) ys left right across = (
   all_append (λ z. test x z ≡ true) xs ys left.0 (all_from (λ z. test x z ≡ true) ys (λ z h. across x z (inl refl) h)),
   pairwise_append test xs ys left.1 right (λ a b h k. across a b (inr h) k),
 )
-
-pub pairwise_across : {A : Type 0} (test : A → A → Bool) (xs ys : List A) (x y : A) → Pairwise test (xs ++ ys) → IsIn x xs → IsIn y ys → test x y ≡ true
-pairwise_across test [] ys x y all h k = absurd h
-pairwise_across test (z ∷ zs) ys x y all h k =
-    elim h [
-      | inl e ↦ subst (λ w. test w y ≡ true) e (all_in (λ w. test z w ≡ true) y (zs ++ ys) all.0 (in_append_right y zs ys k))
-      | inr t ↦ pairwise_across test zs ys x y all.1 t k
-    ]
 
 pub pairwise_filter : {A : Type 0} (test : A → A → Bool) (p : A → Bool) (xs : List A) → Pairwise test xs → Pairwise test (filter p xs)
 pairwise_filter test p [] all = tt

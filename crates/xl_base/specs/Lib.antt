@@ -1,6 +1,7 @@
 pub mod Codec
 pub mod Formats
 pub mod Handles
+pub mod Limits
 pub mod Lists
 pub mod Memory
 pub mod Outside

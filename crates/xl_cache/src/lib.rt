@@ -8,7 +8,7 @@ mod planner;
 mod planning;
 mod wish;
 
-pub use law::{lease_kinds_have_states, leaves_what_all_leave};
+pub use law::{kinds_go_by_party, lease_kinds_have_states, leaves_what_all_leave};
 pub use level::{kind_in_lease, lease_state, oplock_level, wish_of_lease, wish_of_oplock};
 pub use need::{Need, answer_needed, rest_within, target};
 pub use planner::{Plan, recalled};

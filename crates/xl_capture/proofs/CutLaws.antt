@@ -5,7 +5,6 @@ use Rattle.std.proofs.lemmas.Bool.{cases_Bool, eqb-true, eq-eqb}
 use Rattle.std.proofs.lemmas.List.{append-nil, map-append}
 use Rattle.xl_base.specs.declared.event.Event.{Event}
 use Rattle.xl_base.specs.declared.event.Event.TheVariants.{Message, End}
-use Rattle.xl_base.specs.declared.event.Kind.TheVariants.{Rpc}
 use Rattle.xl_frame.specs.Cutting.{then_piece}
 use Rattle.xl_frame.specs.Frames.{Framed, frames}
 use Rattle.xl_frame.specs.declared.fault.FrameBad.{FrameBad}
@@ -70,19 +69,21 @@ events_join conn messages others ends =
     ∙ sym (append_assoc (map (Message conn) messages) (map (Message conn) others) ends)
     ∙ ap (λ (es : List Event). es ++ ends) (sym (map-append (Message conn) messages others))
 
-more_frames : (r : Reading) (others : List Link) (conn : ℕ) (messages : List (List ℕ)) (rest : List ℕ) (bad : Option FrameBad) (more : List ℕ) → link_of conn others ≡ None
-    → with_piece (with_frames r others conn (cut_as messages rest bad)) conn more ≡ with_frames r others conn (then_piece Rpc (cut_as messages rest bad) more)
+more_frames : (r : Reading) (others : List Link) (l : Link) (messages : List (List ℕ)) (rest : List ℕ) (bad : Option FrameBad) (more : List ℕ) → link_of l.conn others ≡ None
+    → with_piece (with_frames r others l (cut_as messages rest bad)) l.conn more ≡ with_frames r others l (then_piece l.kind (cut_as messages rest bad) more)
 unfolding with_piece then_piece
-more_frames r others conn messages rest None more none =
-    let l : Link = record { conn = conn; rest = rest } in
-    let r1 = with_frames r others conn (cut_as messages rest None) in
-    let f = frames Rpc (rest ++ more) in
-    ap (λ (o : Option Link). with_stream r1 (without conn (others ++ l ∷ [])) o more) (link_behind conn others l none refl)
-    ∙ ap (λ (ls : List Link). with_frames r1 ls conn f) (without_behind conn others l none refl)
-    ∙ events_twice r (map (Message conn) messages ++ []) (events_of conn f) (others ++ l ∷ []) (others ++ option_to_list (still_open conn f))
-    ∙ ap (λ (es : List Event). with_events r es (others ++ option_to_list (still_open conn f))) (events_join conn messages f.frames (end_of conn f.bad))
-more_frames r others conn messages rest (Some fault) more none =
-    let r1 = with_frames r others conn (cut_as messages rest (Some fault)) in
+more_frames r others l messages rest None more none =
+    let conn = l.conn in
+    let cut : Link = record l { rest = rest } in
+    let r1 = with_frames r others l (cut_as messages rest None) in
+    let f = frames l.kind (rest ++ more) in
+    ap (λ (o : Option Link). with_stream r1 (without conn (others ++ cut ∷ [])) o more) (link_behind conn others cut none refl)
+    ∙ ap (λ (ls : List Link). with_frames r1 ls cut f) (without_behind conn others cut none refl)
+    ∙ events_twice r (map (Message conn) messages ++ []) (events_of conn f) (others ++ cut ∷ []) (others ++ option_to_list (still_open l f))
+    ∙ ap (λ (es : List Event). with_events r es (others ++ option_to_list (still_open l f))) (events_join conn messages f.frames (end_of conn f.bad))
+more_frames r others l messages rest (Some fault) more none =
+    let conn = l.conn in
+    let r1 = with_frames r others l (cut_as messages rest (Some fault)) in
     let all : List Event = map (Message conn) messages ++ End conn ∷ [] in
     ap (λ (ls : List Link). with_stream r1 (without conn ls) (link_of conn ls) more) (append-nil others)
     ∙ ap (λ (o : Option Link). with_stream r1 (without conn others) o more) none
@@ -100,10 +101,10 @@ stream_joins r others None conn bytes more none is =
 stream_joins r others (Some l) conn bytes more none is =
     let f = framed l bytes in
     let here : link_of l.conn others ≡ None = ap (λ (n : ℕ). link_of n others) is ∙ none in
-    let joined : then_piece Rpc f more ≡ framed l (bytes ++ more) = sym (cut_anywhere Rpc (l.rest ++ bytes) more) ∙ ap (frames Rpc) (append_assoc l.rest bytes more) in
-    ap (λ (n : ℕ). with_piece (with_frames r others l.conn f) n more) (sym is)
-    ∙ more_frames r others l.conn f.frames f.rest f.bad more here
-    ∙ ap (with_frames r others l.conn) joined
+    let joined : then_piece l.kind f more ≡ framed l (bytes ++ more) = sym (cut_anywhere l.kind (l.rest ++ bytes) more) ∙ ap (frames l.kind) (append_assoc l.rest bytes more) in
+    ap (λ (n : ℕ). with_piece (with_frames r others l f) n more) (sym is)
+    ∙ more_frames r others l f.frames f.rest f.bad more here
+    ∙ ap (with_frames r others l) joined
 
 found : (conn : ℕ) (ls : List Link) (o : Option Link) → link_of conn ls ≡ o → IfSome o (λ l. l.conn ≡ conn)
 found conn ls None e = tt

@@ -7,9 +7,9 @@ use Rattle.std.proofs.lemmas.List.{append-nil, length-append}
 use Rattle.xl_base.proofs.Members.{all_append, all_weaker}
 use Rattle.xl_base.specs.declared.event.Event.{Event}
 use Rattle.xl_base.specs.declared.event.Event.TheVariants.{Open, End, Called, Tick}
-use Rattle.xl_base.specs.declared.event.Kind.TheVariants.{Rpc}
+use Rattle.xl_base.specs.declared.event.Kind.{Kind}
 use Rattle.xl_frame.specs.Frames.{Framed}
-use Rattle.xl_capture.specs.Capture.{IsNumbered, words_of, bytes_of, takes_file, with_name, with_file, takes_address, with_caller, with_address, with_host, with_events, most_open, with_link, with_open, with_stream, with_piece, with_bytes, with_last, with_ended, with_end, with_called, with_reply, with_no_reply, time_of, with_times, with_lasting, with_tick, with_words, is_passed_over, with_line, is_last, with_lines}
+use Rattle.xl_capture.specs.Capture.{IsNumbered, words_of, bytes_of, takes_file, with_name, with_file, takes_address, with_caller, with_address, with_host, with_events, kind_of, most_connections, with_link, with_opened, with_open, with_stream, with_piece, with_bytes, with_last, with_ended, with_end, with_called, with_reply, with_no_reply, time_of, with_times, with_lasting, with_tick, with_words, is_passed_over, with_line, is_last, with_lines}
 use Rattle.xl_capture.specs.Links.{Link, opened, link_of, without, framed, events_of, still_open, AreDistinct, AreBelow}
 use Rattle.xl_capture.specs.Numbers.{number_of}
 use Rattle.xl_capture.specs.declared.capture.Reading.{Reading}
@@ -103,36 +103,36 @@ events_numbered r events links below distinct = record {
   distinct = distinct;
 }
 
-link_below : (test : Bool) (n : ℕ) (ls : List Link) → AreBelow n ls → AreBelow (n + 1) (cond test (ls ++ opened n ∷ []) ls)
-link_below true n ls all = all_append (λ l. l.conn < n + 1) ls (opened n ∷ []) (all_weaker (λ l. l.conn < n) (λ l. l.conn < n + 1) ls (λ l less. omega (arith, less)) all) (omega arith, tt)
-link_below false n ls all = all_weaker (λ l. l.conn < n) (λ l. l.conn < n + 1) ls (λ l less. omega (arith, less)) all
+link_below : (test : Bool) (n : ℕ) (kind : Kind) (ls : List Link) → AreBelow n ls → AreBelow (n + 1) (cond test (ls ++ opened n kind ∷ []) ls)
+link_below true n kind ls all = all_append (λ l. l.conn < n + 1) ls (opened n kind ∷ []) (all_weaker (λ l. l.conn < n) (λ l. l.conn < n + 1) ls (λ l less. omega (arith, less)) all) (omega arith, tt)
+link_below false n kind ls all = all_weaker (λ l. l.conn < n) (λ l. l.conn < n + 1) ls (λ l less. omega (arith, less)) all
 
-link_distinct : (test : Bool) (n : ℕ) (ls : List Link) → AreBelow n ls → AreDistinct ls → AreDistinct (cond test (ls ++ opened n ∷ []) ls)
-link_distinct true n ls all distinct = distinct_append ls (opened n) distinct (next_is_new n ls all)
-link_distinct false n ls all distinct = distinct
+link_distinct : (test : Bool) (n : ℕ) (kind : Kind) (ls : List Link) → AreBelow n ls → AreDistinct ls → AreDistinct (cond test (ls ++ opened n kind ∷ []) ls)
+link_distinct true n kind ls all distinct = distinct_append ls (opened n kind) distinct (next_is_new n ls all)
+link_distinct false n kind ls all distinct = distinct
 
-open_numbered : (r : Reading) → IsNumbered r → IsNumbered (with_open r)
-unfolding with_open
-open_numbered r is =
+opened_numbered : (r : Reading) (kind : Kind) → IsNumbered r → IsNumbered (with_opened r kind)
+unfolding with_opened
+opened_numbered r kind is =
     let n = length r.capture.events in
     record {
-      places = subst (λ (m : ℕ). AreBelow m (with_link r.links n)) (sym (length-append r.capture.events (Open Rpc ∷ []))) (link_below (ltb (length r.links) most_open) n r.links is.places);
-      distinct = link_distinct (ltb (length r.links) most_open) n r.links is.places is.distinct;
+      places = subst (λ (m : ℕ). AreBelow m (with_link r.links n kind)) (sym (length-append r.capture.events (Open kind ∷ []))) (link_below (ltb (length r.links) most_connections) n kind r.links is.places);
+      distinct = link_distinct (ltb (length r.links) most_connections) n kind r.links is.places is.distinct;
     }
 
-kept_below : (n conn : ℕ) (f : Framed) (test : Bool) (others : List Link) → AreBelow n others → conn < n → AreBelow n (others ++ option_to_list (cond test (Some (record { conn = conn; rest = f.rest })) None))
-kept_below n conn f true others all less = all_append (λ l. l.conn < n) others (record { conn = conn; rest = f.rest } ∷ []) all (less, tt)
-kept_below n conn f false others all less = all_append (λ l. l.conn < n) others [] all tt
+kept_below : (n : ℕ) (l : Link) (f : Framed) (test : Bool) (others : List Link) → AreBelow n others → l.conn < n → AreBelow n (others ++ option_to_list (cond test (Some (record l { rest = f.rest })) None))
+kept_below n l f true others all less = all_append (λ m. m.conn < n) others (record l { rest = f.rest } ∷ []) all (less, tt)
+kept_below n l f false others all less = all_append (λ m. m.conn < n) others [] all tt
 
-kept_distinct : (conn : ℕ) (f : Framed) (test : Bool) (others : List Link) → AreDistinct others → link_of conn others ≡ None → AreDistinct (others ++ option_to_list (cond test (Some (record { conn = conn; rest = f.rest })) None))
-kept_distinct conn f true others all none = distinct_append others (record { conn = conn; rest = f.rest }) all none
-kept_distinct conn f false others all none = subst AreDistinct (sym (append-nil others)) all
+kept_distinct : (l : Link) (f : Framed) (test : Bool) (others : List Link) → AreDistinct others → link_of l.conn others ≡ None → AreDistinct (others ++ option_to_list (cond test (Some (record l { rest = f.rest })) None))
+kept_distinct l f true others all none = distinct_append others (record l { rest = f.rest }) all none
+kept_distinct l f false others all none = subst AreDistinct (sym (append-nil others)) all
 
 stream_numbered : (r : Reading) (others : List Link) (o : Option Link) (bytes : List ℕ) → AreBelow (length r.capture.events) others → AreDistinct others → IfSome o (λ l. (l.conn < length r.capture.events) × (link_of l.conn others ≡ None)) → IsNumbered (with_stream r others o bytes)
 stream_numbered r others None bytes below distinct is = events_numbered r [] others below distinct
 stream_numbered r others (Some l) bytes below distinct is =
     let f = framed l bytes in
-    events_numbered r (events_of l.conn f) (others ++ option_to_list (still_open l.conn f)) (kept_below (length r.capture.events) l.conn f (is_none f.bad) others below is.0) (kept_distinct l.conn f (is_none f.bad) others distinct is.1)
+    events_numbered r (events_of l.conn f) (others ++ option_to_list (still_open l f)) (kept_below (length r.capture.events) l f (is_none f.bad) others below is.0) (kept_distinct l f (is_none f.bad) others distinct is.1)
 
 found_new : (n conn : ℕ) (ls : List Link) (o : Option Link) → AreBelow n ls → AreDistinct ls → link_of conn ls ≡ o → IfSome o (λ l. (l.conn < n) × (link_of l.conn (without conn ls) ≡ None))
 found_new n conn ls None below distinct e = tt
@@ -191,6 +191,10 @@ lasting_numbered r lease grace break_time is =
     (λ a. then_numbered (λ b. option_and_then (λ c. with_times r a b c) (time_of break_time)) (time_of grace)
     (λ b. then_numbered (λ c. with_times r a b c) (time_of break_time) (λ c. times_numbered r a b c is)))
 
+open_numbered : (r : Reading) (word : List ℕ) → IsNumbered r → IsNumberedIf (with_open r word)
+unfolding with_open
+open_numbered r word is = map_numbered (λ kind. with_opened r kind) (kind_of word) (λ kind. opened_numbered r kind is)
+
 bytes_numbered : (r : Reading) (conn hex : List ℕ) → IsNumbered r → IsNumberedIf (with_bytes r conn hex)
 unfolding with_bytes
 bytes_numbered r conn hex is = then_numbered (λ n. option_map (λ bytes. with_piece r n bytes) (bytes_of hex)) (number_of conn)
@@ -223,7 +227,7 @@ words_numbered r [] is = tt
 words_numbered r (a ∷ []) is = tt
 words_numbered r (a ∷ b ∷ []) is =
     either_numbered (bytes_eq a (codes "F")) (with_file r b) _ (file_numbered r b is)
-    (either_numbered (bytes_eq a (codes "O") && bytes_eq b (codes "rpc")) (Some (with_open r)) _ (open_numbered r is)
+    (either_numbered (bytes_eq a (codes "O")) (with_open r b) _ (open_numbered r b is)
     (either_numbered (bytes_eq a (codes "E")) (with_end r b) _ (end_numbered r b is)
     (either_numbered (bytes_eq a (codes "C")) (with_no_reply r b) _ (no_reply_numbered r b is)
     (either_numbered (bytes_eq a (codes "T")) (with_tick r b) None (tick_numbered r b is) tt))))

@@ -5,11 +5,11 @@ use Rattle.std.specs.Option.{option_map, option_map_or, option_and_then}
 use Rattle.std.specs.Prelude.{nat_lt, bytes_eq, codes}
 use Rattle.xl_base.specs.declared.event.Event.{Event}
 use Rattle.xl_base.specs.declared.event.Event.TheVariants.{Open, Message, End, Called, Tick}
-use Rattle.xl_base.specs.declared.event.Kind.TheVariants.{Rpc}
+use Rattle.xl_base.specs.declared.event.Kind.{Kind}
 use Rattle.xl_base.proofs.Members.{all_append}
 use Rattle.xl_frame.specs.Frames.{Framed}
 use Rattle.xl_frame.specs.declared.fault.FrameBad.{FrameBad}
-use Rattle.xl_capture.specs.Capture.{words_of, bytes_of, takes_file, with_name, with_file, takes_address, with_caller, with_address, with_host, with_events, with_link, with_open, with_stream, with_piece, with_bytes, with_last, with_ended, with_end, with_called, with_reply, with_no_reply, time_of, with_times, with_lasting, with_tick, with_words, is_passed_over, with_line, is_last, most_bytes, looked_at, with_lines, no_reading, lines_of, capture_in, captured}
+use Rattle.xl_capture.specs.Capture.{words_of, bytes_of, takes_file, with_name, with_file, takes_address, with_caller, with_address, with_host, with_events, kind_of, with_link, with_opened, with_open, with_stream, with_piece, with_bytes, with_last, with_ended, with_end, with_called, with_reply, with_no_reply, time_of, with_times, with_lasting, with_tick, with_words, is_passed_over, with_line, is_last, most_bytes, looked_at, with_lines, no_reading, lines_of, capture_in, captured}
 use Rattle.xl_capture.specs.Links.{Link, link_of, without, framed, end_of, events_of}
 use Rattle.xl_capture.specs.Numbers.{number_of}
 use Rattle.xl_capture.specs.declared.capture.Capture.{Capture}
@@ -72,9 +72,13 @@ lasting_plain r lease grace break_time plain =
 events_plain : (r : Reading) (events : List Event) (links : List Link) → ArePlainIn r → ArePlain events → ArePlainIn (with_events r events links)
 events_plain r events links plain more = all_append (λ e. is_plain e ≡ true) r.capture.events events plain more
 
-open_plain : (r : Reading) → ArePlainIn r → ArePlainIn (with_open r)
+opened_plain : (r : Reading) (kind : Kind) → ArePlainIn r → ArePlainIn (with_opened r kind)
+unfolding with_opened
+opened_plain r kind plain = events_plain r (Open kind ∷ []) (with_link r.links (length r.capture.events) kind) plain (refl, tt)
+
+open_plain : (r : Reading) (word : List ℕ) → ArePlainIn r → ArePlainIf (with_open r word)
 unfolding with_open
-open_plain r plain = events_plain r (Open Rpc ∷ []) (with_link r.links (length r.capture.events)) plain (refl, tt)
+open_plain r word plain = map_plain (λ kind. with_opened r kind) (kind_of word) (λ kind. opened_plain r kind plain)
 
 messages_plain : (conn : ℕ) (frames : List (List ℕ)) → ArePlain (map (Message conn) frames)
 messages_plain conn [] = tt
@@ -135,7 +139,7 @@ words_plain r [] plain = tt
 words_plain r (a ∷ []) plain = tt
 words_plain r (a ∷ b ∷ []) plain =
     either_test (bytes_eq a (codes "F")) (with_file r b) _ (file_plain r b plain)
-    (either_test (bytes_eq a (codes "O") && bytes_eq b (codes "rpc")) (Some (with_open r)) _ (open_plain r plain)
+    (either_test (bytes_eq a (codes "O")) (with_open r b) _ (open_plain r b plain)
     (either_test (bytes_eq a (codes "E")) (with_end r b) _ (ends_plain r b plain)
     (either_test (bytes_eq a (codes "C")) (with_no_reply r b) _ (no_reply_plain r b plain)
     (either_test (bytes_eq a (codes "T")) (with_tick r b) None (tick_plain r b plain) tt))))

@@ -4,9 +4,11 @@ use Rattle.std.specs.List.{slice_split, list_all, list_any}
 use Rattle.std.specs.Option.{option_map, option_map_or, option_and_then, option_to_list}
 use Rattle.std.specs.Result.{result_ok}
 use Rattle.hex.specs.Hex.{decode_of}
+pub use Rattle.xl_base.specs.Limits.{most_connections}
 use Rattle.xl_base.specs.declared.event.Event.{Event}
 use Rattle.xl_base.specs.declared.event.Event.TheVariants.{Open, End, Called, Tick}
-use Rattle.xl_base.specs.declared.event.Kind.TheVariants.{Rpc}
+use Rattle.xl_base.specs.declared.event.Kind.{Kind}
+use Rattle.xl_base.specs.declared.event.Kind.TheVariants.{Rpc, Smb}
 use Rattle.xl_frame.specs.Frames.{Framed}
 use Rattle.xl_capture.specs.Addresses.{has_address}
 use Rattle.xl_capture.specs.Links.{Link, opened, link_of, without, framed, events_of, still_open, AreDistinct, AreBelow}
@@ -70,15 +72,12 @@ bytes_of (c ∷ cs) = if bytes_eq (c ∷ cs) (codes "-") then Some [] else resul
 abbrev pub is_named : List ℕ → List (List ℕ) → Bool
 is_named name names = list_any (λ held. bytes_eq held name) names
 
--- the most bytes of a capture, the most files, and the most connections that are open at once
+-- the most bytes of a capture, and the most files
 abbrev pub most_bytes : ℕ
 most_bytes = 268435456
 
 abbrev pub most_files : ℕ
 most_files = 1024
-
-abbrev pub most_open : ℕ
-most_open = 64
 
 -- how long leases, grace and breaks last where nothing is said of it, and the longest that may be said, in milliseconds
 abbrev pub default_lease : ℕ
@@ -152,22 +151,30 @@ with_lasting r lease grace break_time =
 abbrev pub with_events : Reading → List Event → List Link → Reading
 with_events r events links = record r { capture = record r.capture { events = r.capture.events ++ events }; links = links; begun = true }
 
--- with one connection more, of the number of its opening's place; none where as many are open as may be
-abbrev pub with_link : List Link → ℕ → List Link
-with_link links place = if nat_lt (length links) most_open then links ++ opened place ∷ [] else links
+-- what a connection of this word speaks: ONC RPC, or SMB
+abbrev pub kind_of : List ℕ → Option Kind
+kind_of word = if bytes_eq word (codes "rpc") then Some Rpc else if bytes_eq word (codes "smb") then Some Smb else None
 
--- with a line `O rpc`
-unfoldable pub with_open : Reading → Reading
-with_open r = with_events r (Open Rpc ∷ []) (with_link r.links (length r.capture.events))
+-- with one connection more, of the number of its opening's place; none where as many are open as may be
+abbrev pub with_link : List Link → ℕ → Kind → List Link
+with_link links place kind = if nat_lt (length links) most_connections then links ++ opened place kind ∷ [] else links
+
+-- with the opening of a connection of this kind
+unfoldable pub with_opened : Reading → Kind → Reading
+with_opened r kind = with_events r (Open kind ∷ []) (with_link r.links (length r.capture.events) kind)
+
+-- with a line `O KIND`
+unfoldable pub with_open : Reading → List ℕ → Option Reading
+with_open r word = option_map (λ kind. with_opened r kind) (kind_of word)
 
 -- with frames of a connection's stream; others are the open connections beside it, and it stands behind them
-abbrev pub with_frames : Reading → List Link → ℕ → Framed → Reading
-with_frames r others conn f = with_events r (events_of conn f) (others ++ option_to_list (still_open conn f))
+abbrev pub with_frames : Reading → List Link → Link → Framed → Reading
+with_frames r others l f = with_events r (events_of l.conn f) (others ++ option_to_list (still_open l f))
 
 -- with bytes of a connection's stream, where it is open
 abbrev pub with_stream : Reading → List Link → Option Link → List ℕ → Reading
 with_stream r others None bytes = with_events r [] others
-with_stream r others (Some l) bytes = with_frames r others l.conn (framed l bytes)
+with_stream r others (Some l) bytes = with_frames r others l (framed l bytes)
 
 -- with bytes that come by the connection of this number; nothing happens where it isn't open
 unfoldable pub with_piece : Reading → ℕ → List ℕ → Reading
@@ -210,7 +217,7 @@ with_tick r moment = option_map (λ n. with_events r (Tick (record { 0 = n }) �
 unfoldable pub with_words : Reading → List (List ℕ) → Option Reading
 with_words r (a ∷ b ∷ []) =
     if bytes_eq a (codes "F") then with_file r b
-    else if bytes_eq a (codes "O") && bytes_eq b (codes "rpc") then Some (with_open r)
+    else if bytes_eq a (codes "O") then with_open r b
     else if bytes_eq a (codes "E") then with_end r b
     else if bytes_eq a (codes "C") then with_no_reply r b
     else if bytes_eq a (codes "T") then with_tick r b

@@ -10,7 +10,7 @@ use crate::links::{Link, Links};
 use crate::numbers::number_of;
 use hex::FromHexError;
 use std::alloc::{AllocError, AllocFailed, Global};
-use xl_base::{Event, Kind, Moment, Sequence};
+use xl_base::{Event, Kind, MOST_CONNECTIONS, Moment, Sequence};
 
 /// The most bytes of a capture.
 pub const MOST_BYTES: usize = 268435456;
@@ -29,9 +29,6 @@ pub const DEFAULT_BREAK: u64 = 35_000;
 
 /// The longest time that may be said, in milliseconds.
 const LONGEST_TIME: u64 = 4_000_000_000;
-
-/// The most connections that are open at once.
-const MOST_OPEN: usize = 64;
 
 /// What a capture says: the exported files, the addresses of callers, how long leases, grace and breaks last, and the
 /// events in order.
@@ -97,7 +94,7 @@ impl<T: Drop> From<AllocFailed<T>> for LineError {
     }
 }
 
-ghost use Rattle.xl_capture.specs.Capture.{is_line_end, lines_of, words_of, is_name_byte, is_file_name, is_graphic, is_address, bytes_of, is_named, takes_file, with_file, takes_address, with_address, with_host, with_open, with_piece, with_bytes, with_ended, with_end, with_called, with_reply, with_no_reply, time_of, with_times, with_lasting, with_tick, with_words, is_passed_over, with_line, with_lines, no_reading, capture_in, looked_at, captured, bad_line, Follows, ReadsAs};
+ghost use Rattle.xl_capture.specs.Capture.{is_line_end, lines_of, words_of, is_name_byte, is_file_name, is_graphic, is_address, bytes_of, is_named, takes_file, with_file, takes_address, with_address, with_host, kind_of, with_opened, with_open, with_piece, with_bytes, with_ended, with_end, with_called, with_reply, with_no_reply, time_of, with_times, with_lasting, with_tick, with_words, is_passed_over, with_line, with_lines, no_reading, capture_in, looked_at, captured, bad_line, Follows, ReadsAs};
 ghost use Rattle.xl_capture.specs.Numbers.{number_of};
 
 #[tactic(auto, using(crate::proofs::LineLaws::first_line, crate::proofs::LineLaws::only_line))]
@@ -301,18 +298,42 @@ fn add_lasting(
     add_times(reading, lease, grace, break_time)
 }
 
-/// Adds a line `O rpc`. The connection's number is the place of this event.
-#[tactic(auto, unfolding(crate::specs::Capture::with_open))]
-fn add_open(alloc: Global, reading: &mut Reading) -> Result<(), LineError>
-    ensures { Follows result (Some (with_open reading.old)) reading.new }
+/// What a connection of this word speaks.
+fn kind_of(word: &[u8]) -> Option<Kind>
+    ensures { result ≡ kind_of word.now }
+{
+    if is_text(word, b"rpc") {
+        Some(Kind::Rpc)
+    } else if is_text(word, b"smb") {
+        Some(Kind::Smb)
+    } else {
+        None
+    }
+}
+
+/// Adds the opening of a connection of this kind. Its number is the place of this event.
+#[tactic(auto, unfolding(crate::specs::Capture::with_opened))]
+fn add_opened(alloc: Global, reading: &mut Reading, kind: Kind) -> Result<(), LineError>
+    ensures { Follows result (Some (with_opened reading.old kind)) reading.new }
 {
     let place = reading.capture.events.len() as u64;
     reading.begun = true;
-    reading.capture.events.push(Event::Open(Kind::Rpc))?;
-    if reading.links.len() < MOST_OPEN {
-        reading.links.push(Link::open(alloc, place))?;
+    reading.capture.events.push(Event::Open(kind))?;
+    if reading.links.len() < MOST_CONNECTIONS {
+        reading.links.push(Link::open(alloc, place, kind))?;
     }
     Ok(())
+}
+
+/// Adds a line `O KIND`.
+#[tactic(auto, unfolding(crate::specs::Capture::with_open))]
+fn add_open(alloc: Global, reading: &mut Reading, word: &[u8]) -> Result<(), LineError>
+    ensures { Follows result (with_open reading.old word.now) reading.new }
+{
+    match kind_of(word) {
+        Some(kind) => add_opened(alloc, reading, kind),
+        None => Err(LineError::Bad),
+    }
 }
 
 /// Adds bytes that come by the connection of this number.
@@ -422,7 +443,7 @@ fn add_words(alloc: Global, reading: &mut Reading, words: &[&[u8]]) -> Result<()
 {
     match words {
         [a, b] if is_text(a, b"F") => add_file(alloc, reading, b),
-        [a, b] if is_text(a, b"O") && is_text(b, b"rpc") => add_open(alloc, reading),
+        [a, b] if is_text(a, b"O") => add_open(alloc, reading, b),
         [a, b] if is_text(a, b"E") => add_end(reading, b),
         [a, b] if is_text(a, b"C") => add_no_reply(reading, b),
         [a, b] if is_text(a, b"T") => add_tick(reading, b),

@@ -2,7 +2,6 @@
 ghost use Rattle.std.specs.Prelude.{◌≡◌, ◌+◌, ◌<◌, [], ◌∷◌, ◌++◌, length, map, take, drop, true, false, Option, Some, None, Ok, OnOk, IfOk, IfSome, IfNone, slice_index_or, if◌then◌else◌};
 ghost use Rattle.std.specs.Option.{is_none};
 ghost use Rattle.xl_base.specs.declared.event.Event.TheVariants.{Message, End};
-ghost use Rattle.xl_base.specs.declared.event.Kind.TheVariants.{Rpc};
 ghost use Rattle.xl_frame.specs.Frames.{frames};
 ghost use Rattle.xl_capture.specs.Links.{Link as OpenLink, opened, link_of, without, framed, events_of, still_open};
 
@@ -11,7 +10,7 @@ use std::marker::Model;
 use xl_base::{Event, Kind, Sequence};
 use xl_frame::{Cutter, FeedErr};
 
-/// An open connection, which speaks ONC RPC (RFC 5531 11).
+/// An open connection, which speaks ONC RPC (RFC 5531 11) or SMB (MS-SMB2 2.1).
 #[derive(Drop)]
 pub struct Link {
     conn: u64,
@@ -20,14 +19,13 @@ pub struct Link {
 
 impl Model for Link {
     ghost use Rattle.std.specs.Prelude.{◌≡◌, [], None};
-    ghost use Rattle.xl_base.specs.declared.event.Kind.TheVariants.{Rpc};
     ghost use Rattle.xl_capture.specs.Links.{Link as OpenLink};
 
     ghost Value = { OpenLink };
 
-    ghost view = { λ l. record { conn = l.conn; rest = l.cutter.rest } };
+    ghost view = { λ l. record { conn = l.conn; kind = l.cutter.kind; rest = l.cutter.rest } };
 
-    ghost invariant = { λ l. (l.cutter.kind ≡ Rpc) × (l.cutter.ready ≡ []) × (l.cutter.bad ≡ None) };
+    ghost invariant = { λ l. (l.cutter.ready ≡ []) × (l.cutter.bad ≡ None) };
 }
 
 /// Adds a message for each frame that the cutter has ready.
@@ -49,13 +47,12 @@ fn add_messages(
 #[tactic(auto, unfolding(xl_frame::specs::Cutting::then_piece))]
 /// Cuts the next bytes of a stream. True says that no frame is bad.
 fn cut(alloc: Global, cutter: &mut Cutter, bytes: &[u8]) -> Result<bool, AllocError>
-    requires kind { cutter.old.kind ≡ Rpc }
     requires ready { cutter.old.ready ≡ [] }
     requires good { cutter.old.bad ≡ None }
-    ensures kind { OnOk result (cutter.new.kind ≡ Rpc) }
-    ensures ready { OnOk result (cutter.new.ready ≡ (frames Rpc (cutter.old.rest ++ bytes.now)).frames) }
-    ensures rest { OnOk result (cutter.new.rest ≡ (frames Rpc (cutter.old.rest ++ bytes.now)).rest) }
-    ensures good { IfOk result (λ good. good ≡ is_none (frames Rpc (cutter.old.rest ++ bytes.now)).bad) }
+    ensures kind { OnOk result (cutter.new.kind ≡ cutter.old.kind) }
+    ensures ready { OnOk result (cutter.new.ready ≡ (frames cutter.old.kind (cutter.old.rest ++ bytes.now)).frames) }
+    ensures rest { OnOk result (cutter.new.rest ≡ (frames cutter.old.kind (cutter.old.rest ++ bytes.now)).rest) }
+    ensures good { IfOk result (λ good. good ≡ is_none (frames cutter.old.kind (cutter.old.rest ++ bytes.now)).bad) }
     ensures unbroken { result ≡ Ok true → cutter.new.bad ≡ None }
 {
     match cutter.feed(alloc, bytes) {
@@ -77,12 +74,12 @@ fn add_end(conn: u64, good: bool, events: &mut Sequence<Event>) -> Result<(), Al
 
 impl Link {
     /// A connection that was just opened.
-    pub fn open(alloc: Global, conn: u64) -> Link
-        ensures { result ≡ opened conn }
+    pub fn open(alloc: Global, conn: u64, kind: Kind) -> Link
+        ensures { result ≡ opened conn kind }
     {
         Link {
             conn,
-            cutter: Cutter::new(alloc, Kind::Rpc),
+            cutter: Cutter::new(alloc, kind),
         }
     }
 
@@ -102,7 +99,7 @@ impl Link {
         events: &mut Sequence<Event>,
     ) -> Result<Option<Link>, AllocError>
         ensures events { OnOk result (events.new ≡ events.old ++ events_of self.conn (framed self bytes.now)) }
-        ensures open { IfOk result (λ l. l ≡ still_open self.conn (framed self bytes.now)) }
+        ensures open { IfOk result (λ l. l ≡ still_open self (framed self bytes.now)) }
     {
         let Link { conn, mut cutter } = self;
         let good = cut(alloc, &mut cutter, bytes)?;

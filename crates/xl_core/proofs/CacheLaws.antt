@@ -36,7 +36,7 @@ range_no_cache (Share access deny) h = refl
 range_no_cache (Range extent exclusive) h = refl
 range_no_cache (Cache kind running) h = absurd (both_ways false refl h)
 
-inserted_caches : (c : Claim) (cs : List Claim) → is_cache c.what ≡ false → caches_of (inserted c cs) ≡ caches_of cs
+pub inserted_caches : (c : Claim) (cs : List Claim) → is_cache c.what ≡ false → caches_of (inserted c cs) ≡ caches_of cs
 unfolding inserted
 inserted_caches c [] other = rw other refl
 inserted_caches c (d ∷ ds) other =

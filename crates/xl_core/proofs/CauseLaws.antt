@@ -22,7 +22,7 @@ use Rattle.xl_table.specs.Least.{least}
 use Rattle.xl_table.specs.Relock.{most_claims, holds_byte, granted_claims}
 use Rattle.xl_wait.specs.declared.waiter.Rooms.{Rooms}
 use Rattle.xl_core.specs.State.{CoreState}
-use Rattle.xl_core.specs.Asking.{both_entered, asked_whats, alone, asked_what, asked_claim, asked_claims, known_claim, is_client, IsRealExtent, IsFitAct, IsFit}
+use Rattle.xl_core.specs.Asking.{both_entered, asked_whats, alone, asked_what, asked_claim, asked_claims, known_claim, is_client, is_named, may_hold, may_ask, IsRealExtent, IsFitAct, IsFit}
 use Rattle.xl_core.specs.Blockers.{test_blockers}
 use Rattle.xl_core.specs.Causes.{limits_of_grant, limits_of_wait, IsClaimDue, stands_against, IsTestDue, HasNoByte, HasByte, left_by_unlock, IsUnlockDue}
 use Rattle.xl_core.specs.Decide.{Answered, plea_of, answered, claims_asked, test_answered, tested, unlocked_claims, unlocked_bytes, unlocked, acted, ask}
@@ -34,6 +34,7 @@ use Rattle.xl_core.specs.declared.ask.Act.TheVariants.{Share, Ranges, Test, Unlo
 use Rattle.xl_core.specs.declared.ask.Answer.{Answer}
 use Rattle.xl_core.specs.declared.ask.Answer.TheVariants as answers
 use Rattle.xl_core.specs.declared.ask.Ask.{Ask}
+use Rattle.xl_core.specs.declared.ask.Who.{Who}
 use Rattle.xl_table.proofs.LeastLaws.{least_in, least_none, least_empty}
 use Rattle.xl_core.proofs.DecideLaws.{blockers_none, none_blockers, blockers_some, some_blocks, blocks_some}
 use Rattle.xl_core.proofs.KnownLaws.{known_posix}
@@ -340,13 +341,13 @@ pub unlock_is : (n : ℕ) (left : Rooms) (s : CoreState) (a : Ask) (first last :
 unfolding ask unlocked
 unlock_is n left s a first last e = ap (λ (act : Act). acted n left s a act) e
 
-pub unlock_due : (n : ℕ) (left : Rooms) (s : CoreState) (a : Ask) (first last : ℕ) (answer : Answer) → a.act ≡ Unlock (Bytes first last) → is_client a.owner a.party ≡ true → first ≤ last → IsGood s
+pub unlock_due : (n : ℕ) (left : Rooms) (s : CoreState) (a : Ask) (first last : ℕ) (answer : Answer) → a.act ≡ Unlock (Bytes first last) → is_client a.owner a.party ≡ true → is_named a.owner ≡ true → first ≤ last → IsGood s
     → ((ask n left s a).0 ≡ answer) ↔ IsUnlockDue s (known_claim a (Bytes first last) false s.names) first last answer
-unlock_due n left s a first last answer act client ends good =
+unlock_due n left s a first last answer act client named ends good =
     let claim = known_claim a (Bytes first last) false s.names in
     let is : IsUnlock s claim first last = record {
       ends = ends;
-      ranges = canonical_ranges (spans_of claim.file claim.owner s.claims) (good.kept.sound.canonical claim.file claim.owner (known_posix a s.names client));
+      ranges = canonical_ranges (spans_of claim.file claim.owner s.claims) (good.kept.sound.canonical claim.file claim.owner (known_posix a s.names client named));
     } in
     let same = ap first_is (unlock_is n left s a first last act) in (
       λ e. subst (λ (x : Answer). IsUnlockDue s claim first last x) (sym same ∙ e) (unlock_forth s claim first last is),
@@ -376,6 +377,22 @@ by_fit (Unlock extent) what fit e = absurd cc
 -- what a fit ask is for may be held
 pub fit_what : (a : Ask) (what : What) → IsFit a → asked_what a.act ≡ Some what → IsPosixBy what
 fit_what a what fit e = by_fit a.act what fit.act e
+
+act_owned : (who : Who) (act : Act) (what : What) → may_ask who act ≡ true → asked_what act ≡ Some what → may_hold who what ≡ true
+act_owned who (Share access deny) what may e = subst (λ (w : What). may_hold who w ≡ true) (same_what (whats.Share access deny) what e) refl
+act_owned who (Ranges []) what may e = absurd cc
+act_owned who (Ranges (range ∷ [])) what may e = subst (λ (w : What). may_hold who w ≡ true) (same_what (whats.Range range.0 range.1) what e) may
+act_owned who (Ranges (range ∷ more ∷ rest)) what may e = absurd cc
+act_owned who (Test extent exclusive) what may e = absurd cc
+act_owned who (Unlock extent) what may e = absurd cc
+
+-- and by whom it is asked for
+pub fit_owned : (a : Ask) (what : What) → IsFit a → asked_what a.act ≡ Some what → may_hold a.owner what ≡ true
+fit_owned a what fit e = act_owned a.owner a.act what fit.own e
+
+-- who unlocks has a name
+pub fit_named : (a : Ask) (extent : Extent) → IsFit a → a.act ≡ Unlock extent → is_named a.owner ≡ true
+fit_named a extent fit e = subst (λ (act : Act). may_ask a.owner act ≡ true) e fit.own
 
 pub real_extent : (a : Ask) (first last : ℕ) (exclusive : Bool) → IsFit a → a.act ≡ Ranges ((Bytes first last, exclusive) ∷ []) → first ≤ last
 real_extent a first last exclusive fit e = subst (λ (act : Act). IsFitAct act) e fit.act

@@ -19,7 +19,7 @@ use Rattle.xl_table.proofs.ShareLaws.{not_united, shares_of-shared, shares_of-sh
 use Rattle.xl_table.proofs.WriteBack.{spans_of-relocked, spans_of-relocked_apart}
 use Rattle.xl_wait.specs.declared.waiter.Rooms.{Rooms}
 use Rattle.xl_core.specs.State.{CoreState}
-use Rattle.xl_core.specs.Asking.{asker, range_what, asked_whats, asked_what, asked_claim, asked_claims, known_claim, is_client}
+use Rattle.xl_core.specs.Asking.{asker, range_what, asked_whats, asked_what, asked_claim, asked_claims, known_claim, is_client, is_named}
 use Rattle.xl_core.specs.Blockers.{test_blockers}
 use Rattle.xl_core.specs.Causes.{asks_share, left_by_unlock, IsOwn}
 use Rattle.xl_core.specs.Decide.{Answered, waiter_of, waiting, named, claims_asked, test_answered, tested, unlocked_claims, unlocked, acted, ask}
@@ -227,12 +227,12 @@ granted_way s a what c r act holds (Waits claims is e) at = let two : answers.Qu
 granted_way s a what c r act holds (Frees claim first last nothing share file owner e) at = absurd (both_ways (asks_to_hold a.act) nothing holds)
 
 -- the owner has what it was granted
-pub ask_held : (n : ℕ) (left : Rooms) (s : CoreState) (a : Ask) (first last : ℕ) (exclusive : Bool) (c : Claim) → IsGood s → is_client a.owner a.party ≡ true → first ≤ last → a.act ≡ Ranges ((Bytes first last, exclusive) ∷ []) → (ask n left s a).0 ≡ answers.Granted c
+pub ask_held : (n : ℕ) (left : Rooms) (s : CoreState) (a : Ask) (first last : ℕ) (exclusive : Bool) (c : Claim) → IsGood s → is_client a.owner a.party ≡ true → is_named a.owner ≡ true → first ≤ last → a.act ≡ Ranges ((Bytes first last, exclusive) ∷ []) → (ask n left s a).0 ≡ answers.Granted c
     → spans_of a.file (asker a s.names) (ask n left s a).2.claims ≡ relocked (spans_of a.file (asker a s.names) s.claims) first last (Some (mode_of exclusive))
-ask_held n left s a first last exclusive c good client ends act at =
+ask_held n left s a first last exclusive c good client named ends act at =
     let what = Range (Bytes first last) exclusive in
     ap (λ (cs : List Claim). spans_of a.file (asker a s.names) cs) (granted_way s a what c (ask n left s a) (ap asked_what act) (ap asks_to_hold act) (ask_way n left s a good client) at)
-    ∙ granted_spans (asked_claim a what s.names) first last exclusive s.claims good.kept refl (asked_known a what s.names client ends).0.1 ends
+    ∙ granted_spans (asked_claim a what s.names) first last exclusive s.claims good.kept refl (asked_known a what s.names client named ends).0.1 ends
 
 -- and the share, united with the one that it had where it is NFSv4's
 pub ask_shares : (n : ℕ) (left : Rooms) (s : CoreState) (a : Ask) (access deny : Rwd) (c : Claim) → IsGood s → is_client a.owner a.party ≡ true → a.act ≡ acts.Share access deny → (ask n left s a).0 ≡ answers.Granted c
@@ -249,9 +249,9 @@ ask_shared n left s a access deny c good client alone act at =
     ∙ ap (λ (d : Claim). with_share d.what []) (not_united (asked_claim a (Share access deny) s.names) s.claims alone)
 
 -- and no more what it gave up
-pub ask_left : (n : ℕ) (left : Rooms) (s : CoreState) (a : Ask) (first last : ℕ) (c : Claim) → IsGood s → is_client a.owner a.party ≡ true → first ≤ last → a.act ≡ Unlock (Bytes first last) → (ask n left s a).0 ≡ answers.Granted c
+pub ask_left : (n : ℕ) (left : Rooms) (s : CoreState) (a : Ask) (first last : ℕ) (c : Claim) → IsGood s → is_client a.owner a.party ≡ true → is_named a.owner ≡ true → first ≤ last → a.act ≡ Unlock (Bytes first last) → (ask n left s a).0 ≡ answers.Granted c
     → spans_of a.file (asker a s.names) (ask n left s a).2.claims ≡ relocked (spans_of a.file (asker a s.names) s.claims) first last None
-ask_left n left s a first last c good client ends act at = by (holds_byte claim.file claim.owner first last s.claims) (nat_le (left_by_unlock s claim first last) most_claims) refl refl where
+ask_left n left s a first last c good client named ends act at = by (holds_byte claim.file claim.owner first last s.claims) (nat_le (left_by_unlock s claim first last) most_claims) refl refl where
   claim : Claim
   claim = known_claim a (Bytes first last) false s.names
 
@@ -265,7 +265,7 @@ ask_left n left s a first last c good client ends act at = by (holds_byte claim.
   by true true e k =
       ap (λ (x : Answered). spans_of a.file (asker a s.names) x.2.claims) (is true true e k)
       ∙ subst (λ (o : Owner). spans_of a.file o (unlocked_claims claim first last s.claims) ≡ relocked (spans_of a.file o s.claims) first last None) (holder_is s a (Bytes first last) first last good client e)
-      (spans_of-relocked claim.file claim.owner claim.party first last None s.claims good.kept (known_posix a s.names client) ends)
+      (spans_of-relocked claim.file claim.owner claim.party first last None s.claims good.kept (known_posix a s.names client named) ends)
 
 -- ---- who waits stands in the queue
 

@@ -30,7 +30,7 @@ use Rattle.xl_spans.specs.declared.span.Span.{Span}
 use Rattle.xl_spans.proofs.Bytes.{relocked_mode, AreRanges}
 use Rattle.xl_spans.proofs.Chains.{canonical_ranges, canonical_rest, relocked_canonical, IsChain}
 use Rattle.xl_table.specs.Flat.{blocks, is_blocked, is_own, is_met_by_own}
-use Rattle.xl_table.specs.Held.{IsPosixBy, is_share, is_cache, mode_of, is_range, with_span, is_of, spans_of, IsKept}
+use Rattle.xl_table.specs.Held.{IsPosixBy, may_own, is_share, is_cache, mode_of, is_range, with_span, is_of, spans_of, IsKept}
 use Rattle.xl_table.proofs.FlatLaws.{all_inserted as all_put, pairwise_into}
 use Rattle.xl_core.specs.Good.{IsRangeBy, IsRange, are_kept, IsKnown, IsHeldBy, IsHeld, is_single_by, is_single}
 use Rattle.xl_table.specs.Relock.{most_claims, all_inserted, is_exclusive, range_claim, is_range_of, unranged, relocked_in, is_share_of, unshared, old_shares, united, shared_in, granted_by, granted_claims}
@@ -139,6 +139,12 @@ locks_range party (Range (Empty offset) exclusive) x b h e = absurd h
 locks_range party (Share access deny) x b h e = cc
 locks_range party (Cache kind running) x b h e = cc
 
+-- and of who may own one
+locks_posix : (owner : Owner) (w : What) (x : ℕ) (b : Bool) → may_own owner w ≡ true → lock_by w x ≡ Some b → posix owner ≡ true
+locks_posix owner (Range extent exclusive) x b h e = h
+locks_posix owner (Share access deny) x b h e = cc
+locks_posix owner (Cache kind running) x b h e = cc
+
 fits_from : (a b : Claim) → IsRange a → IsRange b → (a.file ≡ b.file → Agrees a b) → compat a b ≡ true
 fits_from a b range other agrees =
     elim (cases_Bool (eqb a.file b.file)) [
@@ -188,9 +194,12 @@ abbrev IsCachesParty : Claim → Claim → Type 0
 IsCachesParty a b = is_cache b.what ≡ true → a.file ≡ b.file → same_parties a.party b.party ≡ true
 
 -- a range stands beside each share, beside a range that it agrees with, and beside its party's cache
-fits_known : (a b : Claim) (w : What) → b.what ≡ w → IsRange a → IsHeldBy b.party b.what × (posix b.owner ≡ true) → IsCachesParty a b → (IsRange b → a.file ≡ b.file → Agrees a b) → compat a b ≡ true
+fits_known : (a b : Claim) (w : What) → b.what ≡ w → IsRange a → IsHeldBy b.party b.what × (may_own b.owner b.what ≡ true) → IsCachesParty a b → (IsRange b → a.file ≡ b.file → Agrees a b) → compat a b ≡ true
 fits_known a b (Share access deny) is range known caches agrees = fits_share a b access deny range is
-fits_known a b (Range (Bytes first last) exclusive) is range known caches agrees = fits_from a b range (real, known.1) (agrees (real, known.1)) where
+fits_known a b (Range (Bytes first last) exclusive) is range known caches agrees = fits_from a b range (real, own) (agrees (real, own)) where
+  own : posix b.owner ≡ true
+  own = subst (λ (v : What). may_own b.owner v ≡ true) is known.1
+
   real : IsRangeBy b.what
   real = subst (λ (v : What). IsRangeBy v) (sym is) (subst (λ (v : What). IsHeldBy b.party v) is known.0)
 fits_known a b (Range (Empty offset) exclusive) is range known caches agrees = absurd (subst (λ (v : What). IsHeldBy b.party v) is known.0)
@@ -310,7 +319,7 @@ new_agrees names file owner party first last asked cs c x m is there range other
         let apart : found.0 ≡ c → ⊥ = λ same. both_ways (is_of file owner c) other (ap (is_of file owner) (sym same) ∙ found.2) in
         let fits = pairwise_two cs found.0 c is.good.compatible found.1 there apart in
         let known = (all_in (IsHeld names) found.0 cs is.good.known found.1).0 in
-        let agrees = agree_from found.0 c (locks_range found.0.party found.0.what x (is_exclusive m) known.0 found.3, known.1) range (parts.0 ∙ one) fits x in
+        let agrees = agree_from found.0 c (locks_range found.0.party found.0.what x (is_exclusive m) known.0 found.3, locks_posix found.0.owner found.0.what x (is_exclusive m) known.1 found.3) range (parts.0 ∙ one) fits x in
         subst (λ (o : Owner). locks_agree o (Some (is_exclusive m)) c.owner (lock_on c x) ≡ true) parts.1
         (subst (λ (l : Option Bool). locks_agree found.0.owner l c.owner (lock_on c x) ≡ true) found.3 agrees)
 
@@ -369,7 +378,7 @@ new_caches names file owner party first last asked cs s c is new ends there cach
     by_old other found =
         let parts = is_of-true file owner found.0 found.2 in
         let known = (all_in (IsHeld names) found.0 cs is.good.known found.1).0 in
-        let range : IsRange found.0 = (locks_range found.0.party found.0.what s.first (is_exclusive s.mode) known.0 found.3, known.1) in
+        let range : IsRange found.0 = (locks_range found.0.party found.0.what s.first (is_exclusive s.mode) known.0 found.3, locks_posix found.0.owner found.0.what s.first (is_exclusive s.mode) known.1 found.3) in
         let fits = pairwise_two cs found.0 c is.good.compatible found.1 there (λ same. both_ways (is_of file owner c) other (ap (is_of file owner) (sym same) ∙ found.2)) in
         subst (λ (p : Party). same_parties p c.party ≡ true) (own_party found.0 found.1 found.2)
         (sym (cache_party found.0 c what.0 what.1 range what.2) ∙ fit_of found.0 c (parts.0 ∙ one) fits)
@@ -556,19 +565,24 @@ left_two : (test : Claim → Claim → Bool) (file : ℕ) (owner : Owner) (cs : 
 unfolding unshared
 left_two test file owner cs all = pairwise_filter test (λ c. not (is_share_of file owner c)) cs all
 
+share_owned : (owner : Owner) (w : What) → is_share w ≡ true → may_own owner w ≡ true
+share_owned owner (Share access deny) h = refl
+share_owned owner (Range extent exclusive) h = absurd (both_ways false refl h)
+share_owned owner (Cache kind running) h = refl
+
 held_share : (party : Party) (w : What) → is_share w ≡ true → IsHeldBy party w
 held_share party (Share access deny) h = tt
 held_share party (Range extent exclusive) h = absurd (both_ways false refl h)
 held_share party (Cache kind running) h = absurd (both_ways false refl h)
 
-shared_good : (names : List Name) (c : Claim) (cs : List Claim) → is_share c.what ≡ true → posix c.owner ≡ true → are_kept names c.owner c.party ≡ true
+shared_good : (names : List Name) (c : Claim) (cs : List Claim) → is_share c.what ≡ true → are_kept names c.owner c.party ≡ true
     → AreDistinct names → AreGood names cs → list_any (λ d. blocks c d) cs ≡ false → length (shared_in c cs) ≤ most_claims → AreGood names (shared_in c cs)
 unfolding shared_in
-shared_good names c cs share own kept distinct good free fits = record {
+shared_good names c cs share kept distinct good free fits = record {
   kept = record { sound = sound_shared c cs good.kept share; ordered = ordered_shared c cs good.kept; room = fits };
   compatible = pairwise_into compat compat-sym whole left (all_from (λ d. compat whole d ≡ true) left beside) (left_two compat c.file c.owner cs good.compatible);
   single = pairwise_into is_single is_single-sym whole left (all_from (λ d. is_single whole d ≡ true) left (λ d h. share_single whole d one (unshared_of c.file c.owner cs d h).1)) (left_two is_single c.file c.owner cs good.single);
-  known = all_put (IsHeld names) whole left ((held_share whole.party whole.what one, own), kept) (all_from (IsHeld names) left (λ d h. all_in (IsHeld names) d cs good.known (unshared_of c.file c.owner cs d h).0));
+  known = all_put (IsHeld names) whole left ((held_share whole.party whole.what one, share_owned whole.owner whole.what one), kept) (all_from (IsHeld names) left (λ d h. all_in (IsHeld names) d cs good.known (unshared_of c.file c.owner cs d h).0));
 } where
   whole : Claim
   whole = united c cs
@@ -595,7 +609,7 @@ shared_good names c cs share own kept distinct good free fits = record {
       united_fits c d cs share (share_fits_held c cs d share free found.0 (mine d found.0) found.1)
       (all_from (λ o. is_share_of c.file c.owner o ≡ true → (o.party ≡ c.party) × (compat o d ≡ true)) cs (λ o k. before d found.0 found.1 o k))
 
-granted_by_good : (names : List Name) (c : Claim) (w : What) (cs : List Claim) → c.what ≡ w → IsPosixBy w → posix c.owner ≡ true → are_kept names c.owner c.party ≡ true
+granted_by_good : (names : List Name) (c : Claim) (w : What) (cs : List Claim) → c.what ≡ w → IsPosixBy w → may_own c.owner w ≡ true → are_kept names c.owner c.party ≡ true
     → AreDistinct names → AreGood names cs → list_any (λ d. blocks c d) cs ≡ false → length (granted_by c w cs) ≤ most_claims → AreGood names (granted_by c w cs)
 granted_by_good names c (Range (Bytes first last) exclusive) cs is ends own kept distinct good free fits =
     relocked_good names c.file c.owner c.party first last (Some exclusive) cs distinct good ends own kept
@@ -604,7 +618,7 @@ granted_by_good names c (Range (Bytes first last) exclusive) cs is ends own kept
     is_lock : (c : Claim) (first last : ℕ) (exclusive : Bool) → c.what ≡ Range (Bytes first last) exclusive → c ≡ lock_claim c.file c.owner c.party first last exclusive
     is_lock c first last exclusive is = λ i. record { file = c.file; owner = c.owner; party = c.party; what = is i }
 granted_by_good names c (Range (Empty offset) exclusive) cs is ends own kept distinct good free fits = absurd ends
-granted_by_good names c (Share access deny) cs is ends own kept distinct good free fits = shared_good names c cs (ap is_share is) own kept distinct good free fits
+granted_by_good names c (Share access deny) cs is ends own kept distinct good free fits = shared_good names c cs (ap is_share is) kept distinct good free fits
 granted_by_good names c (Cache kind running) cs is ends own kept distinct good free fits = absurd ends
 
 -- the claims stay so where one is granted that nothing blocks

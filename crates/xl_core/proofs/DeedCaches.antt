@@ -11,7 +11,7 @@ use Rattle.xl_base.specs.declared.event.Moment.{Moment}
 use Rattle.xl_names.specs.declared.name.Name.TheVariants.{NfsParty}
 use Rattle.xl_core.specs.Asking.{party_named}
 use Rattle.xl_core.specs.Ticks.{advanced, renew, end_some, unleased, expire}
-use Rattle.xl_core.specs.Deeds.{Advances, Renews, Expires, Deed, Asks, GivesBack, Cancels, Ends, Serves, Draws, turned, done, all_done, IsFitDeed, AreFit, caches_without_party, caches_after, all_caches_after}
+use Rattle.xl_core.specs.Deeds.{Advances, Renews, Expires, Deed, Asks, GivesBack, Weakens, Cancels, Ends, Serves, Draws, turned, done, all_done, IsFitDeed, AreFit, caches_without_party, caches_after, all_caches_after}
 use Rattle.xl_core.specs.Good.{IsGood, caches_of, AreUncached}
 use Rattle.xl_core.specs.Settle.{settle, cancel, give_back, end_party}
 use Rattle.xl_core.specs.declared.ask.Effect.{Effect}
@@ -19,6 +19,7 @@ use Rattle.xl_core.proofs.CacheLaws.{share_no_cache, removed_caches, stayed_cach
 use Rattle.xl_core.proofs.ChangeLaws.{ask_own}
 use Rattle.xl_core.proofs.DeedLaws.{deed_good}
 use Rattle.xl_core.proofs.SettleLaws.{turn_is}
+use Rattle.xl_core.proofs.WeakenLaws.{weakened_caches}
 
 given_caches : (s : CoreState) (claim : Claim) → is_share claim.what ≡ true → caches_of (give_back s claim).1.claims ≡ caches_of s.claims
 unfolding give_back
@@ -59,6 +60,7 @@ turned_caches left s (Some r) each = each.caches
 deed_caches : (n : ℕ) (s : CoreState) (d : Deed) → IsGood s → IsFitDeed s d → caches_of (done n s d).claims ≡ caches_after s d (caches_of s.claims)
 deed_caches n s (Asks left a) good fit = (ask_own n left s a good fit.party).caches
 deed_caches n s (GivesBack claim) good fit = given_caches s claim fit.1
+deed_caches n s (Weakens share access deny) good fit = weakened_caches s share access deny fit.1
 deed_caches n s (Cancels id) good fit = cancelled_caches s id
 deed_caches n s (Ends party) good fit = ended_caches s party
 deed_caches n s (Serves left) good fit = turned_caches left s (settle n left s) (turn_is n left s good)
@@ -80,6 +82,7 @@ none_without (Some party) = refl
 none_after : (s : CoreState) (d : Deed) → caches_after s d [] ≡ []
 none_after s (Asks left a) = refl
 none_after s (GivesBack claim) = refl
+none_after s (Weakens share access deny) = refl
 none_after s (Cancels id) = refl
 none_after s (Ends party) = refl
 none_after s (Serves left) = refl

@@ -19,7 +19,7 @@ use Rattle.xl_core.specs.Causes.{left_by_unlock, IsTurn}
 use Rattle.xl_core.specs.Deeds.{with_waiter, queue_with, KeepNames}
 use Rattle.xl_core.specs.Decide.{Answered, waiter_of, unlocked_claims, ask}
 use Rattle.xl_core.specs.Dues.{IsGrantDue, IsAnswerDue}
-use Rattle.xl_table.specs.Held.{IsPosix}
+use Rattle.xl_table.specs.Held.{IsGrantable}
 use Rattle.xl_core.specs.Good.{IsGood}
 use Rattle.xl_core.specs.Frames.{asks_to_hold}
 use Rattle.xl_table.specs.Relock.{most_claims, shares_of, granted_claims}
@@ -29,7 +29,7 @@ use Rattle.xl_core.specs.declared.ask.Answer.{Answer}
 use Rattle.xl_core.specs.declared.ask.Answer.TheVariants as answers
 use Rattle.xl_core.specs.declared.ask.Ask.{Ask}
 use Rattle.xl_core.specs.declared.ask.Effect.{Effect}
-use Rattle.xl_core.proofs.CauseLaws.{same_list, unlock_by, unlock_is, is_holds, lock_due, lock_free, test_due, unlock_due, fit_what}
+use Rattle.xl_core.proofs.CauseLaws.{same_list, unlock_by, unlock_is, is_holds, lock_due, lock_free, test_due, unlock_due, fit_what, fit_owned, fit_named}
 use Rattle.xl_core.proofs.ChangeLaws.{ask_way, granted_way, ask_own, ask_waits}
 use Rattle.xl_core.proofs.SettleLaws.{turn_is_known}
 use Rattle.xl_core.proofs.KnownLaws.{asked_known, known_posix}
@@ -45,12 +45,12 @@ what_holds (acts.Test extent exclusive) what e = absurd cc
 what_holds (acts.Unlock extent) what e = absurd cc
 
 -- a granted share or lock is entered
-pub ask_enters : (n : ℕ) (left : Rooms) (s : CoreState) (a : Ask) (what : What) (c : Claim) → IsGood s → IsFit a → asked_what a.act ≡ Some what → (ask n left s a).0 ≡ answers.Granted c → IsPosix c × ((ask n left s a).2.claims ≡ granted_claims c s.claims)
+pub ask_enters : (n : ℕ) (left : Rooms) (s : CoreState) (a : Ask) (what : What) (c : Claim) → IsGood s → IsFit a → asked_what a.act ≡ Some what → (ask n left s a).0 ≡ answers.Granted c → IsGrantable c × ((ask n left s a).2.claims ≡ granted_claims c s.claims)
 ask_enters n left s a what c good fit act at =
     let claim = asked_claim a what s.names in
     let same : c ≡ claim = ((lock_due n left s a what (answers.Granted c) act).0 at).0 in
-    let real : IsPosix claim = (asked_known a what s.names fit.party (fit_what a what fit act)).0 in (
-      subst (λ (x : Claim). IsPosix x) (sym same) real,
+    let real : IsGrantable claim = (asked_known a what s.names fit.party (fit_owned a what fit act) (fit_what a what fit act)).0 in (
+      subst (λ (x : Claim). IsGrantable x) (sym same) real,
       granted_way s a what c (ask n left s a) act (what_holds a.act what act) (ask_way n left s a good fit.party) at ∙ ap (λ (x : Claim). granted_claims x s.claims) (sym same),
     )
 
@@ -71,8 +71,9 @@ pub ask_clears : (n : ℕ) (left : Rooms) (s : CoreState) (a : Ask) (first last 
 ask_clears n left s a first last c good fit act at =
     let claim = known_claim a (Bytes first last) false s.names in
     let ends : first ≤ last = subst (λ (x : Act). IsFitAct x) act fit.act in
-    let own = known_posix a s.names fit.party in
-    let due = (unlock_due n left s a first last (answers.Granted c) act fit.party ends good).0 at in
+    let named = fit_named a (Bytes first last) fit act in
+    let own = known_posix a s.names fit.party named in
+    let due = (unlock_due n left s a first last (answers.Granted c) act fit.party named ends good).0 at in
     let left_so : (ask n left s a).2.claims ≡ unlocked_claims claim first last s.claims =
     ap (λ (x : Answered). x.2.claims) (unlock_is n left s a first last act ∙ unlock_by s claim first last true true (is_holds s claim first last due.1) (le-leb (left_by_unlock s claim first last) most_claims due.2)) in
     subst (λ (x : Claim). Clears x first last s.claims (ask n left s a).2.claims) (sym due.0)
@@ -116,7 +117,7 @@ act_queued n left s a (acts.Ranges (range ∷ more ∷ rest)) id is real good fi
 act_queued n left s a (acts.Test extent exclusive) id is real good fit at =
     absurd ((test_due n left s a extent exclusive (answers.Queued id) is).0 at)
 act_queued n left s a (acts.Unlock (Bytes first last)) id is real good fit at =
-    absurd ((unlock_due n left s a first last (answers.Queued id) is fit.party real good).0 at)
+    absurd ((unlock_due n left s a first last (answers.Queued id) is fit.party (fit_named a (Bytes first last) fit is) real good).0 at)
 act_queued n left s a (acts.Unlock (Empty offset)) id is real good fit at = absurd real
 
 -- one who is told to wait comes last, and no other ask changes who waits
@@ -144,7 +145,7 @@ act_due n left s a (acts.Ranges []) is real good fit = absurd real
 act_due n left s a (acts.Ranges (range ∷ [])) is real good fit = what_due n left s a (Range range.0 range.1) fit (ap asked_what is)
 act_due n left s a (acts.Ranges (range ∷ more ∷ rest)) is real good fit = absurd real
 act_due n left s a (acts.Test extent exclusive) is real good fit = (test_due n left s a extent exclusive (ask n left s a).0 is).0 refl
-act_due n left s a (acts.Unlock (Bytes first last)) is real good fit = (unlock_due n left s a first last (ask n left s a).0 is fit.party real good).0 refl
+act_due n left s a (acts.Unlock (Bytes first last)) is real good fit = (unlock_due n left s a first last (ask n left s a).0 is fit.party (fit_named a (Bytes first last) fit is) real good).0 refl
 act_due n left s a (acts.Unlock (Empty offset)) is real good fit = absurd real
 
 pub answer_is_due : (n : ℕ) (left : Rooms) (s : CoreState) (a : Ask) → IsGood s → IsFit a → IsAnswerDue left s a a.act (ask n left s a).0
@@ -153,5 +154,5 @@ answer_is_due n left s a good fit = act_due n left s a a.act refl fit.act good f
 -- ---- a turn
 
 -- who is served waited for a share or a real range
-pub turn_known : (left : Rooms) (s : CoreState) (effects : List Effect) (t : CoreState) → IsGood s → (turn : IsTurn left s effects t) → IsPosix turn.claim
+pub turn_known : (left : Rooms) (s : CoreState) (effects : List Effect) (t : CoreState) → IsGood s → (turn : IsTurn left s effects t) → IsGrantable turn.claim
 turn_known left s effects t good turn = (turn_is_known left s effects t good turn).0

@@ -20,7 +20,7 @@ use Rattle.xl_spans.specs.Spans.{within, mode_at, relocked}
 use Rattle.xl_spans.specs.declared.span.Mode.{Mode}
 use Rattle.xl_spans.specs.declared.span.Span.{Span}
 use Rattle.xl_table.specs.Flat.{removed}
-use Rattle.xl_table.specs.Held.{IsPosixBy, IsPosix, is_share, mode_of, is_of, spans_of, IsKept}
+use Rattle.xl_table.specs.Held.{IsPosixBy, may_own, IsGrantable, is_share, mode_of, is_of, spans_of, IsKept}
 use Rattle.xl_wait.specs.Waiting.{cancelled}
 use Rattle.xl_wait.specs.declared.waiter.Rooms.{Rooms}
 use Rattle.xl_wait.specs.declared.waiter.Waiter.{Waiter}
@@ -32,14 +32,14 @@ use Rattle.xl_core.specs.Leases.{Lease}
 use Rattle.xl_core.specs.Ticks.{advanced, renew, end_some, unleased, expire}
 use Rattle.xl_names.specs.declared.name.Name.TheVariants.{NfsParty}
 use Rattle.xl_base.specs.declared.event.Moment.{Moment}
-use Rattle.xl_core.specs.Deeds.{Deed, Asks, GivesBack, Cancels, Ends, Serves, Draws, Advances, Renews, Expires, queue_without_party, turned, given, done, IsFitDeed, with_waiter, queue_with, queue_without, waits_after, KeepNames}
+use Rattle.xl_core.specs.Deeds.{Deed, Asks, GivesBack, Weakens, Cancels, Ends, Serves, Draws, Advances, Renews, Expires, queue_without_party, turned, given, done, IsFitDeed, with_waiter, queue_with, queue_without, waits_after, KeepNames}
 use Rattle.xl_core.specs.Decide.{ask}
 use Rattle.xl_core.specs.Dues.{IsGrantDue, IsAnswerDue, IsTurnOwed, IsDue}
 use Rattle.xl_core.specs.Good.{IsGood, are_apart}
 use Rattle.xl_core.specs.Places.{Place, ByteOf, ShareOf, byte_held, share_held, held_in, held_at, part_by, part_of, held_as, entered_by, entered_at, cleared_by, cleared_at, entered_for, cleared_for, answered_at, ended_at, ended_some, told_at, made, else_was}
 use Rattle.xl_table.specs.Relock.{is_share_of, with_share, shares_of, old_shares, united_by, granted_claims}
 use Rattle.xl_table.proofs.ShareLaws.{united_share}
-use Rattle.xl_core.specs.Settle.{settle, cancel, give_back, end_party}
+use Rattle.xl_core.specs.Settle.{settle, cancel, give_back, weaken, end_party}
 use Rattle.xl_core.specs.declared.ask.Act.{Act}
 use Rattle.xl_core.specs.declared.ask.Act.TheVariants as acts
 use Rattle.xl_core.specs.declared.ask.Answer.{Answer}
@@ -53,6 +53,7 @@ use Rattle.xl_core.proofs.DeedCalls.{Clears, ask_enters, ask_keeps_claims, ask_c
 use Rattle.xl_core.proofs.DeedLeaves.{spans_of-given, shares_of-given_apart, shares_of-given, has_of, Ended, ended_is}
 use Rattle.xl_core.proofs.GoodLaws.{ask_good, settle_good, cancel_good, give_back_good, drawn_good, end_party_good, advanced_good, renew_good, expire_good}
 use Rattle.xl_core.proofs.SettleLaws.{none_settled, turn_is, without}
+use Rattle.xl_core.proofs.WeakenLaws.{weaken_good, weakened_queue, weakened_names, weaken_made}
 use Rattle.xl_table.proofs.WriteBack.{is_of-true}
 
 -- ---- a claim that is entered
@@ -70,7 +71,7 @@ no_byte_of file owner byte (Share access deny) h = refl
 no_byte_of file owner byte (Range extent exclusive) h = absurd (both_ways false refl h)
 no_byte_of file owner byte (Cache kind running) h = absurd (both_ways false refl h)
 
-byte_made : (c : Claim) (w : What) (cs : List Claim) (byte : ℕ) → c.what ≡ w → IsKept cs → IsPosixBy w → posix c.owner ≡ true → byte_held byte (mode_at (spans_of c.file c.owner (granted_claims c cs)) byte) ≡ else_was (entered_by (part_by (held_as cs c w) (ByteOf c.file c.owner byte))) (byte_held byte (mode_at (spans_of c.file c.owner cs) byte))
+byte_made : (c : Claim) (w : What) (cs : List Claim) (byte : ℕ) → c.what ≡ w → IsKept cs → IsPosixBy w → may_own c.owner w ≡ true → byte_held byte (mode_at (spans_of c.file c.owner (granted_claims c cs)) byte) ≡ else_was (entered_by (part_by (held_as cs c w) (ByteOf c.file c.owner byte))) (byte_held byte (mode_at (spans_of c.file c.owner cs) byte))
 byte_made c (Range (Bytes first last) exclusive) cs byte is kept real own =
     let old = spans_of c.file c.owner cs in
     ap (λ (ss : List Span). byte_held byte (mode_at ss byte)) (granted_spans c first last exclusive cs kept is own real)
@@ -97,7 +98,7 @@ share_made c (Range (Bytes first last) exclusive) cs is real = ap (λ (shares : 
 share_made c (Range (Empty offset) exclusive) cs is real = absurd real
 share_made c (Cache kind running) cs is real = absurd real
 
-pub entered_made : (c : Claim) (cs : List Claim) (p : Place) → IsKept cs → IsPosix c → held_in (granted_claims c cs) p ≡ else_was (entered_at cs c p) (held_in cs p)
+pub entered_made : (c : Claim) (cs : List Claim) (p : Place) → IsKept cs → IsGrantable c → held_in (granted_claims c cs) p ≡ else_was (entered_at cs c p) (held_in cs p)
 entered_made c cs (ByteOf file owner byte) kept real =
     elim (cases_Bool (is_of file owner c)) [
       | inr other ↦ rw other (ap (λ (ss : List Span). byte_held byte (mode_at ss byte)) (spans_apart c cs file owner (λ at. absurd (both_ways (is_of file owner c) other (is_of_from file owner c at.0 at.1)))))
@@ -232,7 +233,7 @@ end_party_made s party (ShareOf file owner) good = (by_ended (has_of file owner 
 -- ---- a turn
 
 -- what a turn makes of each place, and who waits after it
-due_made : (left : Rooms) (s t : CoreState) (w : Waiter) (claim : Claim) (answer : Answer) (p : Place) → IsGood s → IsPosix claim → IsTurnDue left s w claim answer t.claims → held_at t p ≡ else_was (entered_for s.claims answer p) (held_at s p)
+due_made : (left : Rooms) (s t : CoreState) (w : Waiter) (claim : Claim) (answer : Answer) (p : Place) → IsGood s → IsGrantable claim → IsTurnDue left s w claim answer t.claims → held_at t p ≡ else_was (entered_for s.claims answer p) (held_at s p)
 due_made left s t w claim (answers.Granted c) p good real due =
     ap (λ (cs : List Claim). held_in cs p) due.2 ∙ entered_made claim s.claims p good.kept real ∙ ap (λ (x : Claim). else_was (entered_at s.claims x p) (held_at s p)) (sym due.0)
 due_made left s t w claim (answers.Full limit) p good real due = ap (λ (cs : List Claim). held_in cs p) due.1
@@ -280,6 +281,7 @@ cancel_is s id = (refl, refl, refl)
 pub deed_good : (n : ℕ) (s : CoreState) (d : Deed) → IsGood s → IsFitDeed s d → IsGood (done n s d)
 deed_good n s (Asks left a) good fit = ask_good n left s a good fit
 deed_good n s (GivesBack claim) good fit = give_back_good s claim good
+deed_good n s (Weakens share access deny) good fit = weaken_good s share access deny good fit.0 fit.1
 deed_good n s (Cancels id) good fit = cancel_good s id good
 deed_good n s (Ends party) good fit = end_party_good s party good
 deed_good n s (Serves left) good fit = turn_good s (settle n left s) good (settle_good n left s good)
@@ -312,6 +314,7 @@ expire_made s client p good = expired_made s client (party_named s.names (NfsPar
 pub deed_makes : (n : ℕ) (s : CoreState) (d : Deed) (p : Place) → IsGood s → IsFitDeed s d → held_at (done n s d) p ≡ else_was (made n s d p) (held_at s p)
 deed_makes n s (Asks left a) p good fit = act_made n left s a a.act p refl fit.act good fit
 deed_makes n s (GivesBack claim) p good fit = give_back_made s claim p good fit.0 fit.1
+deed_makes n s (Weakens share access deny) p good fit = weaken_made s share access deny p good fit.0 fit.1
 deed_makes n s (Cancels id) p good fit = ap (λ (cs : List Claim). held_in cs p) (cancel_is s id).0
 deed_makes n s (Ends party) p good fit = end_party_made s party p good
 deed_makes n s (Serves left) p good fit = turn_made left s (settle n left s) p good (turn_is n left s good)
@@ -339,6 +342,7 @@ expire_queue s client = expired_queue s client (party_named s.names (NfsParty cl
 pub deed_queues : (n : ℕ) (s : CoreState) (d : Deed) → IsGood s → IsFitDeed s d → (done n s d).waiters ≡ waits_after n s d s.waiters
 deed_queues n s (Asks left a) good fit = ask_queue n left s a good fit
 deed_queues n s (GivesBack claim) good fit = given_queue s claim
+deed_queues n s (Weakens share access deny) good fit = weakened_queue s share access deny
 deed_queues n s (Cancels id) good fit = (cancel_is s id).1
 deed_queues n s (Ends party) good fit = ended_queue s party
 deed_queues n s (Serves left) good fit = turn_queue left s (settle n left s) good (turn_is n left s good)
@@ -369,6 +373,7 @@ expire_names s client = expired_names s client (party_named s.names (NfsParty cl
 pub deed_names : (n : ℕ) (s : CoreState) (d : Deed) → IsGood s → IsFitDeed s d → KeepNames s.names (done n s d).names
 deed_names n s (Asks left a) good fit = ask_names n left s a good fit
 deed_names n s (GivesBack claim) good fit = same_names s.names (give_back s claim).1.names (given_names s claim)
+deed_names n s (Weakens share access deny) good fit = same_names s.names (weaken s share access deny).1.names (weakened_names s share access deny)
 deed_names n s (Cancels id) good fit = same_names s.names (cancel s id).1.names (cancel_is s id).2
 deed_names n s (Ends party) good fit = same_names s.names (end_party s party).1.names (ended_names s party)
 deed_names n s (Serves left) good fit = turn_names left s (settle n left s) (turn_is n left s good)
@@ -380,6 +385,7 @@ deed_names n s (Expires client) good fit = same_names s.names (expire s client).
 pub deed_due : (n : ℕ) (s : CoreState) (d : Deed) → IsGood s → IsFitDeed s d → IsDue n s d
 deed_due n s (Asks left a) good fit = answer_is_due n left s a good fit
 deed_due n s (GivesBack claim) good fit = tt
+deed_due n s (Weakens share access deny) good fit = tt
 deed_due n s (Cancels id) good fit = tt
 deed_due n s (Ends party) good fit = tt
 deed_due n s (Serves left) good fit = record { none = none_settled n left s; first = turn_is n left s good }

@@ -1,13 +1,14 @@
 -- What the code of an ask, of a turn and of the core's calls rests on.
-use Rattle.std.proofs.Common.{◌≡◌, ℕ, true, false, List, Option, Some, None, IfSome, option_map, refl, sym, subst}
+use Rattle.std.proofs.Common.{◌≡◌, ℕ, true, false, List, Option, Some, None, IfSome, option_map, refl, sym, ap, subst, ◌∙◌}
 use Rattle.std.specs.List.{AllByRecursion}
 use Rattle.xl_matrix.specs.declared.claim.Claim.{Claim}
 use Rattle.xl_matrix.specs.declared.claim.Extent.{Extent}
 use Rattle.xl_matrix.specs.declared.claim.What.{What}
-use Rattle.xl_table.specs.Held.{has_one_party, IsPosix}
+use Rattle.xl_matrix.specs.Owners.{posix}
+use Rattle.xl_table.specs.Held.{has_one_party, IsGrantable, IsPosixBy}
 use Rattle.xl_wait.specs.declared.waiter.Rooms.{Rooms}
 use Rattle.xl_core.specs.State.{CoreState}
-use Rattle.xl_core.specs.Asking.{is_client, asked_claim, known_claim, IsFit}
+use Rattle.xl_core.specs.Asking.{is_client, is_named, may_hold, asked_claim, known_claim, IsFit}
 use Rattle.xl_core.specs.Decide.{ask}
 use Rattle.xl_core.specs.Good.{IsGood}
 use Rattle.xl_core.specs.Settle.{settle, first_called}
@@ -18,6 +19,7 @@ use Rattle.xl_core.specs.declared.ask.Effect.{Effect}
 use Rattle.xl_core.specs.declared.parts.Parts.{Parts}
 use Rattle.xl_core.specs.declared.settling.Called.{Called}
 use Rattle.xl_core.proofs.GoodLaws.{ask_good, settle_good, asked_one_party, unlocked_one_party, known_one_party}
+use Rattle.xl_core.proofs.KnownLaws.{asked_known, known_posix}
 use Rattle.xl_core.proofs.TurnLaws.{called_known}
 
 pub asked_alone : (p : Parts) (a : Ask) (what : What) (claim : Claim) → claim ≡ asked_claim a what p.names → IsGood (state_of p) → is_client a.owner a.party ≡ true → AllByRecursion (λ c. has_one_party claim c ≡ true) p.table
@@ -28,8 +30,16 @@ pub known_alone : (p : Parts) (a : Ask) (extent : Extent) (claim : Claim) → cl
 known_alone p a extent claim e good client =
     subst (λ (x : Claim). AllByRecursion (λ c. has_one_party x c ≡ true) p.table) (sym e) (unlocked_one_party (state_of p) a extent false good client)
 
-pub called_posix : (p : Parts) (called : Called) → IsGood (state_of p) → first_called (state_of p) p.queue ≡ Some called → IsPosix called.claim
-called_posix p called good e = (called_known (state_of p) p.queue called good.waiters e).0
+-- what is asked for may be granted
+pub asked_grantable : (p : Parts) (a : Ask) (what : What) (claim : Claim) → claim ≡ asked_claim a what p.names → is_client a.owner a.party ≡ true → may_hold a.owner what ≡ true → IsPosixBy what → IsGrantable claim
+asked_grantable p a what claim e client may real = subst (λ (x : Claim). IsGrantable x) (sym e) (asked_known a what p.names client may real).0
+
+-- who unlocks owns ranges
+pub known_own : (p : Parts) (a : Ask) (extent : Extent) (claim : Claim) → claim ≡ known_claim a extent false p.names → is_client a.owner a.party ≡ true → is_named a.owner ≡ true → posix claim.owner ≡ true
+known_own p a extent claim e client named = ap (λ (x : Claim). posix x.owner) e ∙ known_posix a p.names client named
+
+pub called_grantable : (p : Parts) (called : Called) → IsGood (state_of p) → first_called (state_of p) p.queue ≡ Some called → IsGrantable called.claim
+called_grantable p called good e = (called_known (state_of p) p.queue called good.waiters e).0
 
 pub called_alone : (p : Parts) (called : Called) → IsGood (state_of p) → first_called (state_of p) p.queue ≡ Some called → AllByRecursion (λ c. has_one_party called.claim c ≡ true) p.table
 called_alone p called good e = known_one_party (state_of p) called.claim good (called_known (state_of p) p.queue called good.waiters e)

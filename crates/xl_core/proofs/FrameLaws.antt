@@ -5,17 +5,18 @@ use Rattle.std.proofs.lemmas.Bool.{cases_Bool, both_ways, eq-eqb}
 use Rattle.xl_base.specs.Lists.{Pairwise}
 use Rattle.xl_base.specs.declared.name.Party.{Party}
 use Rattle.xl_matrix.specs.declared.claim.Claim.{Claim}
+use Rattle.xl_matrix.specs.declared.claim.Rwd.{Rwd}
 use Rattle.xl_names.specs.declared.name.Name.{Name}
 use Rattle.xl_wait.specs.Waiting.{is_waiting, cancelled}
 use Rattle.xl_wait.specs.declared.waiter.Rooms.{Rooms}
 use Rattle.xl_wait.specs.declared.waiter.Waiter.{Waiter}
-use Rattle.xl_core.specs.State.{CoreState, drawn}
+use Rattle.xl_core.specs.State.{CoreState, GoesOn, MayBe, drawn}
 use Rattle.xl_core.specs.Asking.{party_named, both_entered, is_client}
 use Rattle.xl_core.specs.Decide.{Answered, waiter_of, ask}
 use Rattle.xl_core.specs.Frames.{who_left, serves_none, AllLeave, IsFrame, IsTicked, drawn_by, asks_to_hold, names_after, come_by}
 use Rattle.xl_core.specs.Good.{are_apart, IsGood}
 use Rattle.xl_core.specs.Judge.{held_with}
-use Rattle.xl_core.specs.Settle.{settle, waits_for, numbers_for, all_told, cancel, give_back, end_party, all_cancelled}
+use Rattle.xl_core.specs.Settle.{settle, waits_for, numbers_for, all_told, cancel, give_back, weaken, end_party, all_cancelled}
 use Rattle.xl_core.specs.declared.ask.Answer.{Answer}
 use Rattle.xl_core.specs.declared.ask.Answer.TheVariants as answers
 use Rattle.xl_core.specs.declared.ask.Ask.{Ask}
@@ -26,7 +27,7 @@ use Rattle.xl_names.specs.declared.name.Name.TheVariants.{NfsParty}
 use Rattle.xl_core.specs.Leases.{later, first_ended}
 use Rattle.xl_core.specs.Ticks.{advanced, renew, end_some, unleased, expire, behind_told, expired_then, expired_for, tick}
 use Rattle.xl_core.proofs.ChangeLaws.{AskWay, Stays, Tests, Holds, Waits, Frees, ask_way}
-use Rattle.xl_core.proofs.GoodLaws.{fewer_filtered, Turned, turn_by, each_turn}
+use Rattle.xl_core.proofs.GoodLaws.{fewer_cancelled, fewer_filtered, Turned, turn_by, each_turn}
 use Rattle.xl_core.proofs.RowLaws.{is_refusal}
 use Rattle.xl_core.proofs.SettleLaws.{apart_ids, all_out}
 
@@ -107,6 +108,10 @@ pub give_back_frame : (s : CoreState) (claim : Claim) → IsFrame s (give_back s
 unfolding give_back
 give_back_frame s claim = record { stable = refl; clock = refl; made = refl; failed = refl; counter = omega arith; names = refl; leave = tt; waiters = nobody s.waiters }
 
+pub weaken_frame : (s : CoreState) (share : Claim) (access deny : Rwd) → IsFrame s (weaken s share access deny).0 (weaken s share access deny).1 0 s.names []
+unfolding weaken
+weaken_frame s share access deny = record { stable = refl; clock = refl; made = refl; failed = refl; counter = omega arith; names = refl; leave = tt; waiters = nobody s.waiters }
+
 pub drawn_frame : (s : CoreState) → IsFrame s [] (drawn s) 1 s.names []
 unfolding drawn
 drawn_frame s = record { stable = refl; clock = refl; made = refl; failed = refl; counter = refl; names = refl; leave = tt; waiters = nobody s.waiters }
@@ -158,6 +163,10 @@ cancel_unserved s id = refl
 pub give_back_unserved : (s : CoreState) (claim : Claim) → serves_none (give_back s claim).0 ≡ true
 unfolding give_back
 give_back_unserved s claim = refl
+
+pub weaken_unserved : (s : CoreState) (share : Claim) (access deny : Rwd) → serves_none (weaken s share access deny).0 ≡ true
+unfolding weaken
+weaken_unserved s share access deny = refl
 
 pub end_party_unserved : (s : CoreState) (party : Party) → serves_none (end_party s party).0 ≡ true
 unfolding end_party
@@ -254,3 +263,24 @@ renew_unserved s client = refl
 pub renew_frame : (s : CoreState) (client : List ℕ) → IsFrame s (renew s client).0 (renew s client).1 0 s.names []
 unfolding renew
 renew_frame s client = record { stable = refl; clock = refl; made = refl; failed = refl; counter = omega arith; names = refl; leave = tt; waiters = nobody s.waiters }
+
+-- ---- the stores of a step
+
+pub goes_on_self : (s : CoreState) → GoesOn s s
+goes_on_self s = record { made = omega arith; failed = λ f. (f, refl) }
+
+pub may_be_made : (s : CoreState) → MayBe s.made s
+may_be_made s = record { enough = omega arith; spent = λ _. refl }
+
+-- ---- what a frame leaves, where nobody comes
+
+fewer_left : (ids : List ℕ) (ws : List Waiter) → length (all_cancelled ids ws) ≤ length ws
+fewer_left [] ws = omega arith
+fewer_left (id ∷ ids) ws = omega (arith, fewer_left ids (cancelled id ws), fewer_cancelled id ws)
+
+pub frame_goes_on : (s t : CoreState) (told : List Effect) (given : ℕ) (known : List Name) → IsFrame s told t given known [] → GoesOn s t × (length t.waiters ≤ length s.waiters)
+frame_goes_on s t told given known frame =
+    let queue : t.waiters ≡ all_cancelled (who_left told) s.waiters = frame.waiters ∙ append-nil (all_cancelled (who_left told) s.waiters) in (
+      record { made = omega (arith, frame.made); failed = λ f. (frame.failed ∙ f, frame.made) },
+      omega (arith, ap (λ (ws : List Waiter). length ws) queue, fewer_left (who_left told) s.waiters),
+    )

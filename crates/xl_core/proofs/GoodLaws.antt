@@ -11,6 +11,7 @@ use Rattle.xl_base.specs.declared.name.Owner.{Owner}
 use Rattle.xl_base.specs.declared.name.Party.{Party}
 use Rattle.xl_matrix.specs.Equal.{same_parties}
 use Rattle.xl_matrix.specs.Matrix.{compat}
+use Rattle.xl_matrix.specs.Owners.{posix}
 use Rattle.xl_matrix.specs.declared.claim.Claim.{Claim}
 use Rattle.xl_matrix.specs.declared.claim.Extent.{Extent}
 use Rattle.xl_matrix.specs.declared.claim.Extent.TheVariants.{Bytes, Empty}
@@ -35,7 +36,7 @@ use Rattle.xl_core.specs.Ticks.{advanced, renew, end_some, unleased, expire, exp
 use Rattle.xl_core.specs.Asking.{party_named}
 use Rattle.xl_core.specs.declared.lease.Times.{Times}
 use Rattle.xl_names.specs.declared.name.Name.TheVariants.{NfsParty}
-use Rattle.xl_core.specs.Asking.{both_entered, asked_claim, asked_claims, known_claim, is_client, IsRealExtent, IsFitAct, IsFit}
+use Rattle.xl_core.specs.Asking.{both_entered, asked_claim, asked_claims, known_claim, is_client, is_named, may_hold, may_ask, IsRealExtent, IsFitAct, IsFit}
 use Rattle.xl_core.specs.Causes.{limits_of_wait, left_by_unlock}
 use Rattle.xl_core.specs.Decide.{Answered, plea_of, waiter_of, waiting, named, answered, claims_asked, unlocked_claims, unlocked_bytes, unlocked, acted, ask}
 use Rattle.xl_core.specs.Good.{are_kept, IsKnown, IsHeld, is_single, are_apart, IsWaiter, IsGood, stands_in_the_way}
@@ -55,7 +56,7 @@ use Rattle.xl_core.specs.declared.judge.Ruling.TheVariants.{Gets, Waits, Told}
 use Rattle.xl_core.proofs.CauseLaws.{left_so, real_range}
 use Rattle.xl_core.proofs.ClaimLaws.{AreGood, relocked_good, granted_good}
 use Rattle.xl_core.proofs.DecideLaws.{none_blockers}
-use Rattle.xl_core.proofs.KnownLaws.{GoOn, both_go_on, both_distinct, held_on, waiters_on, one_party, asker_kept, asked_known, kept_on, kept_posix, known_party_is}
+use Rattle.xl_core.proofs.KnownLaws.{GoOn, both_go_on, both_distinct, held_on, waiters_on, one_party, asker_kept, asked_known, kept_on, known_posix, known_party_is}
 use Rattle.xl_core.proofs.LimitLaws.{grant_room, wait_room}
 use Rattle.xl_core.proofs.RowLaws.{AllPass, is_refusal, IsRuled, judged_ruled, ruled_by, passed_by, judged_is}
 use Rattle.xl_core.proofs.TurnLaws.{alone, blocked_rests, rests_blocked, free_moves, move_first}
@@ -182,13 +183,13 @@ waiting_good left s a c good known waits room =
     ]))
     (omega (arith, fits.1, length-append s.waiters (new ∷ [])))
 
-claim_good : (n : ℕ) (left : Rooms) (s : CoreState) (a : Ask) (what : What) → IsGood s → is_client a.owner a.party ≡ true → IsPosixBy what → IsGood (claims_asked n left s a (asked_claims a (what ∷ []) s.names)).2
-claim_good n left s a what good client real = by (claims_asked n left s a (c ∷ [])) (ask_case n left s a c []) where
+claim_good : (n : ℕ) (left : Rooms) (s : CoreState) (a : Ask) (what : What) → IsGood s → is_client a.owner a.party ≡ true → may_hold a.owner what ≡ true → IsPosixBy what → IsGood (claims_asked n left s a (asked_claims a (what ∷ []) s.names)).2
+claim_good n left s a what good client may real = by (claims_asked n left s a (c ∷ [])) (ask_case n left s a c []) where
   c : Claim
   c = asked_claim a what s.names
 
   known : AllByRecursion (IsKnown (both_entered a s.names)) (c ∷ [])
-  known = (asked_known a what s.names client real, tt)
+  known = (asked_known a what s.names client may real, tt)
 
   by : (r : Answered) → AskCase left s a (c ∷ []) c r → IsGood r.2
   by r (Goes pass e) = subst (λ (x : Answered). IsGood x.2) (sym e) (goes_good left s a c [] good known pass)
@@ -215,35 +216,35 @@ holder_kept s a extent exclusive first last good client holds =
     let kept = subst (λ (o : Owner). are_kept s.names o found.0.party ≡ true) owner (all_in (IsHeld s.names) found.0 s.claims good.known found.1).1 in
     subst (λ (p : Party). are_kept s.names claim.owner p ≡ true) (known_party_is a s.names found.0.party good.distinct good.few client kept) kept
 
-unlocked_bytes_good : (s : CoreState) (claim : Claim) (first last : ℕ) → IsGood s → first ≤ last → (holds_byte claim.file claim.owner first last s.claims ≡ true → are_kept s.names claim.owner claim.party ≡ true) → IsGood (unlocked_bytes s claim first last).2
-unlocked_bytes_good s claim first last good ends kept = go (holds_byte claim.file claim.owner first last s.claims) (nat_le (left_by_unlock s claim first last) most_claims) refl refl where
+unlocked_bytes_good : (s : CoreState) (claim : Claim) (first last : ℕ) → IsGood s → first ≤ last → posix claim.owner ≡ true → (holds_byte claim.file claim.owner first last s.claims ≡ true → are_kept s.names claim.owner claim.party ≡ true) → IsGood (unlocked_bytes s claim first last).2
+unlocked_bytes_good s claim first last good ends own kept = go (holds_byte claim.file claim.owner first last s.claims) (nat_le (left_by_unlock s claim first last) most_claims) refl refl where
   go : (h f : Bool) → holds_byte claim.file claim.owner first last s.claims ≡ h → nat_le (left_by_unlock s claim first last) most_claims ≡ f → IsGood (left_so s claim first last h f).2
   go false f none e = good
   go true false holds full = good
   go true true holds fits =
       good_from (record s { claims = unlocked_claims claim first last s.claims })
-      (relocked_good s.names claim.file claim.owner claim.party first last None s.claims good.distinct (good_claims s good) ends (kept_posix s.names claim.owner claim.party (kept holds)) (kept holds) tt (leb-true (left_by_unlock s claim first last) most_claims fits))
+      (relocked_good s.names claim.file claim.owner claim.party first last None s.claims good.distinct (good_claims s good) ends own (kept holds) tt (leb-true (left_by_unlock s claim first last) most_claims fits))
       good.distinct good.few good.waiters good.apart good.crowd
 
-unlock_good : (s : CoreState) (a : Ask) (extent : Extent) → IsGood s → is_client a.owner a.party ≡ true → IsRealExtent extent → IsGood (unlocked s (known_claim a extent false s.names) extent).2
+unlock_good : (s : CoreState) (a : Ask) (extent : Extent) → IsGood s → is_client a.owner a.party ≡ true → is_named a.owner ≡ true → IsRealExtent extent → IsGood (unlocked s (known_claim a extent false s.names) extent).2
 unfolding unlocked
-unlock_good s a (Bytes first last) good client ends = unlocked_bytes_good s (known_claim a (Bytes first last) false s.names) first last good ends (holder_kept s a (Bytes first last) false first last good client)
-unlock_good s a (Empty offset) good client ends = absurd ends
+unlock_good s a (Bytes first last) good client named ends = unlocked_bytes_good s (known_claim a (Bytes first last) false s.names) first last good ends (known_posix a s.names client named) (holder_kept s a (Bytes first last) false first last good client)
+unlock_good s a (Empty offset) good client named ends = absurd ends
 
 -- ---- an ask
 
-acted_good : (n : ℕ) (left : Rooms) (s : CoreState) (a : Ask) (act : Act) → IsGood s → is_client a.owner a.party ≡ true → IsFitAct act → IsGood (acted n left s a act).2
-acted_good n left s a (Share access deny) good client fit = claim_good n left s a (whats.Share access deny) good client tt
-acted_good n left s a (Ranges []) good client fit = absurd fit
-acted_good n left s a (Ranges (range ∷ [])) good client fit = claim_good n left s a (whats.Range range.0 range.1) good client (real_range range.0 range.1 fit)
-acted_good n left s a (Ranges (range ∷ more ∷ rest)) good client fit = absurd fit
-acted_good n left s a (Test extent exclusive) good client fit = good
-acted_good n left s a (Unlock extent) good client fit = unlock_good s a extent good client fit
+acted_good : (n : ℕ) (left : Rooms) (s : CoreState) (a : Ask) (act : Act) → IsGood s → is_client a.owner a.party ≡ true → may_ask a.owner act ≡ true → IsFitAct act → IsGood (acted n left s a act).2
+acted_good n left s a (Share access deny) good client may fit = claim_good n left s a (whats.Share access deny) good client refl tt
+acted_good n left s a (Ranges []) good client may fit = absurd fit
+acted_good n left s a (Ranges (range ∷ [])) good client may fit = claim_good n left s a (whats.Range range.0 range.1) good client may (real_range range.0 range.1 fit)
+acted_good n left s a (Ranges (range ∷ more ∷ rest)) good client may fit = absurd fit
+acted_good n left s a (Test extent exclusive) good client may fit = good
+acted_good n left s a (Unlock extent) good client may fit = unlock_good s a extent good client may fit
 
 -- each ask leaves the state good
 pub ask_good : (n : ℕ) (left : Rooms) (s : CoreState) (a : Ask) → IsGood s → IsFit a → IsGood (ask n left s a).2
 unfolding ask
-ask_good n left s a good fit = acted_good n left s a a.act good fit.party fit.act
+ask_good n left s a good fit = acted_good n left s a a.act good fit.party fit.own fit.act
 
 -- ---- a turn
 

@@ -1,7 +1,7 @@
 -- Names that are kept: claims of known clients stay known, an owner has one client, and who asks is known.
 use Rattle.std.proofs.Common.{◌≡◌, ℕ, zero, suc, ◌+◌, ◌≤◌, Bool, true, false, if◌then◌else◌, ◌&&◌, ◌||◌, List, [], ◌∷◌, ◌++◌, length, Option, Some, None, inl, inr, refl, sym, ap, ◌∙◌, slice_get, arith}
 use Rattle.std.specs.List.{AllByRecursion}
-use Rattle.std.proofs.lemmas.Bool.{cases_Bool, both_ways, and_parts, and_from}
+use Rattle.std.proofs.lemmas.Bool.{cases_Bool, both_ways, and_parts, and_from, eqb-true, eq-eqb}
 use Rattle.std.proofs.lemmas.List.{length-append}
 use Rattle.std.proofs.lemmas.List.Folds.{list_any-append}
 use Rattle.std.proofs.lemmas.Option.{same_Some}
@@ -22,9 +22,9 @@ use Rattle.xl_names.specs.declared.name.Name.{Name}
 use Rattle.xl_names.specs.declared.name.Name.TheVariants.{NlmRange, NlmShare, NlmParty, NfsRange, NfsShare, NfsParty, SmbLease}
 use Rattle.xl_names.proofs.NameLaws.{same_name_is, same_name_self, kept_from_number, number_at, name_at, number_entered, distinct_entered}
 use Rattle.xl_wait.specs.declared.waiter.Waiter.{Waiter}
-use Rattle.xl_core.specs.Asking.{owner_in, party_in, who_entered, asker, asking_party, both_entered, coming, asked_claim, no_number, number_or, known_owner, known_party, client_of, is_name, is_client}
-use Rattle.xl_table.specs.Held.{IsPosixBy}
-use Rattle.xl_core.specs.Good.{agree, are_kept, IsKnown, IsHeldBy, IsHeld, IsWaiter}
+use Rattle.xl_core.specs.Asking.{owner_in, party_in, who_entered, asker, asking_party, both_entered, coming, asked_claim, no_number, number_or, known_owner, known_party, client_of, is_name, is_client, is_named, may_hold}
+use Rattle.xl_table.specs.Held.{IsPosixBy, may_own}
+use Rattle.xl_core.specs.Good.{agree, are_kept, IsKnown, IsHeld, IsWaiter}
 use Rattle.xl_core.specs.declared.ask.Ask.{Ask}
 use Rattle.xl_core.specs.declared.ask.Who.{Who}
 use Rattle.xl_core.specs.declared.ask.Who.TheVariants.{Named, Open}
@@ -103,8 +103,8 @@ agree_parts protocol other (Some name) (Some client) h =
     let two = and_parts (same_protocol other (protocol_of client)) (is_name (client_of name) client) one.1 in
     (name, client, refl, refl, same_protocol_is protocol (protocol_of name) one.0, same_protocol_is other (protocol_of client) two.0, is_name_is (client_of name) client two.1)
 
-pub kept_parts : (names : List Name) (owner : Owner) (party : Party) → are_kept names owner party ≡ true → AreNamed names owner party
-kept_parts names (owners.Name protocol number) (parties.Name other at) h =
+pub kept_named : (names : List Name) (protocol : Protocol) (number : ℕ) (party : Party) → are_kept names (owners.Name protocol number) party ≡ true → AreNamed names (owners.Name protocol number) party
+kept_named names protocol number (parties.Name other at) h =
     let parts = agree_parts protocol other (slice_get names number) (slice_get names at) h in
     record {
       number = number;
@@ -117,8 +117,12 @@ kept_parts names (owners.Name protocol number) (parties.Name other at) h =
       party_at = parts.3;
       client_is = parts.6;
     }
-kept_parts names (owners.Name protocol number) (parties.Open at) h = absurd (both_ways false refl h)
-kept_parts names (owners.Open number) party h = absurd (both_ways false refl h)
+kept_named names protocol number (parties.Open at) h = absurd (both_ways false refl h)
+
+-- the party of an open is that open
+pub kept_open : (names : List Name) (number : ℕ) (party : Party) → are_kept names (owners.Open number) party ≡ true → party ≡ parties.Open number
+kept_open names number (parties.Open other) h = ap parties.Open (sym (eqb-true number other h))
+kept_open names number (parties.Name protocol at) h = absurd (both_ways false refl h)
 
 agree_self : (name client : Name) → client_of name ≡ Some client → agree (protocol_of name) (protocol_of client) (Some name) (Some client) ≡ true
 agree_self name client is =
@@ -132,10 +136,14 @@ kept_from names owner party is =
     ∙ ap (λ (o : Option Name). agree (protocol_of is.name) (protocol_of is.client) (Some is.name) o) is.party_at
     ∙ agree_self is.name is.client is.client_is
 
+open_kept : (names : List Name) (number : ℕ) → are_kept names (owners.Open number) (parties.Open number) ≡ true
+open_kept names number = eq-eqb number number refl
+
 pub kept_on : (names more : List Name) (owner : Owner) (party : Party) → GoOn names more → are_kept names owner party ≡ true → are_kept more owner party ≡ true
-kept_on names more owner party on h =
-    let is = kept_parts names owner party h in
-    kept_from more owner party (record {
+kept_on names more (owners.Open number) party on h = ap (are_kept more (owners.Open number)) (kept_open names number party h) ∙ open_kept more number
+kept_on names more (owners.Name protocol number) party on h =
+    let is = kept_named names protocol number party h in
+    kept_from more (owners.Name protocol number) party (record {
       number = is.number;
       at = is.at;
       name = is.name;
@@ -153,23 +161,18 @@ known_on names more cs on all = all_weaker (IsKnown names) (IsKnown more) cs (λ
 pub held_on : (names more : List Name) (cs : List Claim) → GoOn names more → AllByRecursion (IsHeld names) cs → AllByRecursion (IsHeld more) cs
 held_on names more cs on all = all_weaker (IsHeld names) (IsHeld more) cs (λ c h. (h.0, kept_on names more c.owner c.party on h.1)) all
 
--- what may be asked for may be held
-pub posix_held : (party : Party) (w : What) → IsPosixBy w → IsHeldBy party w
-posix_held party (Share access deny) real = tt
-posix_held party (Range extent exclusive) real = real
-posix_held party (Cache kind running) real = absurd real
-
 pub waiters_on : (names more : List Name) (counter next : ℕ) (ws : List Waiter) → GoOn names more → counter ≤ next → AllByRecursion (IsWaiter names counter) ws → AllByRecursion (IsWaiter more next) ws
 waiters_on names more counter next ws on h all = all_weaker (IsWaiter names counter) (IsWaiter more next) ws (λ w is. (omega (arith, h, is.0), known_on names more w.asked on is.1, is.2, is.3)) all
 
 number_same : (x y : Protocol) (n m : ℕ) → owners.Name x n ≡ owners.Name y m → n ≡ m
 number_same x y n m e = cc
 
--- an owner has one client
+-- an owner has one party
 pub one_party : (names : List Name) (owner : Owner) (p q : Party) → AreDistinct names → are_kept names owner p ≡ true → are_kept names owner q ≡ true → p ≡ q
-one_party names owner p q distinct h k =
-    let a = kept_parts names owner p h in
-    let b = kept_parts names owner q k in
+one_party names (owners.Open number) p q distinct h k = kept_open names number p h ∙ sym (kept_open names number q k)
+one_party names (owners.Name protocol own) p q distinct h k =
+    let a = kept_named names protocol own p h in
+    let b = kept_named names protocol own q k in
     let number : a.number ≡ b.number = number_same (protocol_of a.name) (protocol_of b.name) a.number b.number (sym a.owner_is ∙ b.owner_is) in
     let name : a.name ≡ b.name = same_Some a.name b.name (sym a.owner_at ∙ ap (λ (n : ℕ). slice_get names n) number ∙ b.owner_at) in
     let client : a.client ≡ b.client = same_Some a.client b.client (sym a.client_is ∙ ap client_of name ∙ b.client_is) in
@@ -178,10 +181,21 @@ one_party names owner p q distinct h k =
 
 -- ---- who asks is known
 
-pub is_client_is : (owner party : Who) → is_client owner party ≡ true → (name : Name) × (client : Name) × (owner ≡ Named name) × (party ≡ Named client) × (client_of name ≡ Some client)
-is_client_is (Named name) (Named client) h = (name, client, refl, refl, is_name_is (client_of name) client h)
-is_client_is (Named name) (Open number) h = absurd (both_ways false refl h)
-is_client_is (Open number) party h = absurd (both_ways false refl h)
+-- who asks has a name, and so has its client; or is an open, and its own party
+pub data Asker (owner party : Who) : Type 0 where
+  ByName : (name client : Name) → owner ≡ Named name → party ≡ Named client → client_of name ≡ Some client → Asker owner party
+  AsOpen : (number : ℕ) → owner ≡ Open number → party ≡ Open number → Asker owner party
+
+pub who_asks : (owner party : Who) → is_client owner party ≡ true → Asker owner party
+who_asks (Named name) (Named client) h = ByName name client refl refl (is_name_is (client_of name) client h)
+who_asks (Named name) (Open number) h = absurd (both_ways false refl h)
+who_asks (Open number) (Named client) h = absurd (both_ways false refl h)
+who_asks (Open number) (Open other) h = AsOpen number refl (ap Open (sym (eqb-true number other h)))
+
+pub is_client_is : (owner party : Who) → is_client owner party ≡ true → is_named owner ≡ true → (name : Name) × (client : Name) × (owner ≡ Named name) × (party ≡ Named client) × (client_of name ≡ Some client)
+is_client_is (Named name) (Named client) h named = (name, client, refl, refl, is_name_is (client_of name) client h)
+is_client_is (Named name) (Open number) h named = absurd (both_ways false refl h)
+is_client_is (Open number) party h named = absurd (both_ways false refl named)
 
 get_entered : (names : List Name) (name : Name) → slice_get (entered name names) (place_of name names) ≡ Some name
 get_entered names name = name_at (entered name names) name (place_of name names) (number_entered names name)
@@ -200,11 +214,16 @@ names_entered names name client is = record {
 }
 
 pub asker_kept : (a : Ask) (names : List Name) → is_client a.owner a.party ≡ true → are_kept (both_entered a names) (asker a names) (asking_party a names) ≡ true
-asker_kept a names h =
-    let is = is_client_is a.owner a.party h in
-    ap (λ (w : Who). are_kept (who_entered a.party (who_entered w names)) (owner_in w names) (party_in a.party (who_entered w names))) is.2
-    ∙ ap (λ (w : Who). are_kept (who_entered w (who_entered (Named is.0) names)) (owner_in (Named is.0) names) (party_in w (who_entered (Named is.0) names))) is.3
-    ∙ kept_from _ _ _ (names_entered names is.0 is.1 is.4)
+asker_kept a names h = by (who_asks a.owner a.party h) where
+  same : (owner party : Who) → a.owner ≡ owner → a.party ≡ party
+      → are_kept (both_entered a names) (asker a names) (asking_party a names) ≡ are_kept (who_entered party (who_entered owner names)) (owner_in owner names) (party_in party (who_entered owner names))
+  same owner party e f =
+      ap (λ (w : Who). are_kept (who_entered a.party (who_entered w names)) (owner_in w names) (party_in a.party (who_entered w names))) e
+      ∙ ap (λ (w : Who). are_kept (who_entered w (who_entered owner names)) (owner_in owner names) (party_in w (who_entered owner names))) f
+
+  by : Asker a.owner a.party → are_kept (both_entered a names) (asker a names) (asking_party a names) ≡ true
+  by (ByName name client e f is) = same (Named name) (Named client) e f ∙ kept_from _ _ _ (names_entered names name client is)
+  by (AsOpen number e f) = same (Open number) (Open number) e f ∙ open_kept names number
 
 pub client_posix : (name client : Name) → client_of name ≡ Some client → (number : ℕ) → posix (owners.Name (protocol_of name) number) ≡ true
 client_posix (NlmRange caller svid oh) client is number = refl
@@ -215,14 +234,20 @@ client_posix (NfsShare owner name) client is number = refl
 client_posix (NfsParty owner) client is number = cc
 client_posix (SmbLease guid key) client is number = cc
 
-pub kept_posix : (names : List Name) (owner : Owner) (party : Party) → are_kept names owner party ≡ true → posix owner ≡ true
-kept_posix names owner party h = let is = kept_parts names owner party h in ap (λ (o : Owner). posix o) is.owner_is ∙ client_posix is.name is.client is.client_is is.number
+asker_posix : (a : Ask) (names : List Name) → is_client a.owner a.party ≡ true → is_named a.owner ≡ true → posix (asker a names) ≡ true
+asker_posix a names h named =
+    let is = is_client_is a.owner a.party h named in
+    ap (λ (w : Who). posix (owner_in w names)) is.2 ∙ client_posix is.0 is.1 is.4 (place_of is.0 names)
+
+-- what may be asked for may be owned
+asked_owned : (a : Ask) (what : What) (names : List Name) → is_client a.owner a.party ≡ true → may_hold a.owner what ≡ true → may_own (asker a names) what ≡ true
+asked_owned a (Share access deny) names h may = refl
+asked_owned a (Range extent exclusive) names h may = asker_posix a names h may
+asked_owned a (Cache kind running) names h may = refl
 
 -- the claim that is asked for is known once its names are entered
-pub asked_known : (a : Ask) (what : What) (names : List Name) → is_client a.owner a.party ≡ true → IsPosixBy what → IsKnown (both_entered a names) (asked_claim a what names)
-asked_known a what names h posix_what =
-    let kept = asker_kept a names h in
-    ((posix_what, kept_posix (both_entered a names) (asker a names) (asking_party a names) kept), kept)
+pub asked_known : (a : Ask) (what : What) (names : List Name) → is_client a.owner a.party ≡ true → may_hold a.owner what ≡ true → IsPosixBy what → IsKnown (both_entered a names) (asked_claim a what names)
+asked_known a what names h may posix_what = ((posix_what, asked_owned a what names h may), asker_kept a names h)
 
 -- ---- who asks, where no name is entered
 
@@ -235,39 +260,41 @@ number_known : (names : List Name) (name : Name) (o : Option ℕ) → number_of 
 number_known names name None e room other h = absurd (get_none names no_number other (omega (arith, room)) h)
 number_known names name (Some number) e room other h = (e, same_Some name other (sym (name_at names name number e) ∙ h))
 
-pub known_posix : (a : Ask) (names : List Name) → is_client a.owner a.party ≡ true → posix (known_owner a.owner names) ≡ true
-known_posix a names h =
-    let is = is_client_is a.owner a.party h in
+pub known_posix : (a : Ask) (names : List Name) → is_client a.owner a.party ≡ true → is_named a.owner ≡ true → posix (known_owner a.owner names) ≡ true
+known_posix a names h named =
+    let is = is_client_is a.owner a.party h named in
     ap (λ (w : Who). posix (known_owner w names)) is.2 ∙ client_posix is.0 is.1 is.4 (number_or (number_of is.0 names))
 
 -- an owner with a known party is the asker whose name is kept
 pub known_owner_is : (a : Ask) (names : List Name) (party : Party) → length names ≤ most_names → is_client a.owner a.party ≡ true → are_kept names (known_owner a.owner names) party ≡ true → known_owner a.owner names ≡ asker a names
-known_owner_is a names party room h kept =
-    let is = is_client_is a.owner a.party h in
-    let named = kept_parts names (known_owner a.owner names) party kept in
-    let same : owners.Name (protocol_of is.0) (number_or (number_of is.0 names)) ≡ owners.Name (protocol_of named.name) named.number =
-    sym (ap (λ (w : Who). known_owner w names) is.2) ∙ named.owner_is in
-    let number = number_same (protocol_of is.0) (protocol_of named.name) (number_or (number_of is.0 names)) named.number same in
-    let name = number_known names is.0 (number_of is.0 names) refl room named.name (ap (λ (n : ℕ). slice_get names n) number ∙ named.owner_at) in
-    let place = (kept_from_number is.0 names (number_or (number_of is.0 names)) name.0).1 in
-    ap (λ (w : Who). known_owner w names) is.2
-    ∙ ap (λ (n : ℕ). owners.Name (protocol_of is.0) n) (sym place)
-    ∙ sym (ap (λ (w : Who). owner_in w names) is.2)
+known_owner_is a names party room h kept = by (who_asks a.owner a.party h) where
+  by : Asker a.owner a.party → known_owner a.owner names ≡ asker a names
+  by (AsOpen number e f) = ap (λ (w : Who). known_owner w names) e ∙ sym (ap (λ (w : Who). owner_in w names) e)
+  by (ByName own client e f is) =
+      let at = number_or (number_of own names) in
+      let named = kept_named names (protocol_of own) at party (ap (λ (w : Who). are_kept names (known_owner w names) party) (sym e) ∙ kept) in
+      let number = number_same (protocol_of own) (protocol_of named.name) at named.number named.owner_is in
+      let name = number_known names own (number_of own names) refl room named.name (ap (λ (n : ℕ). slice_get names n) number ∙ named.owner_at) in
+      let place = (kept_from_number own names at name.0).1 in
+      ap (λ (w : Who). known_owner w names) e
+      ∙ ap (λ (n : ℕ). owners.Name (protocol_of own) n) (sym place)
+      ∙ sym (ap (λ (w : Who). owner_in w names) e)
 
 -- an owner with a known party is the asker whose name is kept, and the party is the asker's
 pub known_party_is : (a : Ask) (names : List Name) (party : Party) → AreDistinct names → length names ≤ most_names → is_client a.owner a.party ≡ true → are_kept names (known_owner a.owner names) party ≡ true → party ≡ known_party a.party names
-known_party_is a names party distinct room h kept =
-    let is = is_client_is a.owner a.party h in
-    let named = kept_parts names (known_owner a.owner names) party kept in
-    let same : owners.Name (protocol_of is.0) (number_or (number_of is.0 names)) ≡ owners.Name (protocol_of named.name) named.number =
-    sym (ap (λ (w : Who). known_owner w names) is.2) ∙ named.owner_is in
-    let number = number_same (protocol_of is.0) (protocol_of named.name) (number_or (number_of is.0 names)) named.number same in
-    let name = number_known names is.0 (number_of is.0 names) refl room named.name (ap (λ (n : ℕ). slice_get names n) number ∙ named.owner_at) in
-    let client : named.client ≡ is.1 = same_Some named.client is.1 (sym named.client_is ∙ ap client_of (sym name.1) ∙ is.4) in
-    let at : number_of is.1 names ≡ Some named.at = ap (λ (n : Name). number_of n names) (sym client) ∙ number_at names named.client named.at distinct named.party_at in
-    named.party_is ∙ ap (λ (n : Name). parties.Name (protocol_of n) named.at) client
-    ∙ ap (λ (o : Option ℕ). parties.Name (protocol_of is.1) (number_or o)) (sym at)
-    ∙ sym (ap (λ (w : Who). known_party w names) is.3)
+known_party_is a names party distinct room h kept = by (who_asks a.owner a.party h) where
+  by : Asker a.owner a.party → party ≡ known_party a.party names
+  by (AsOpen number e f) = kept_open names number party (ap (λ (w : Who). are_kept names (known_owner w names) party) (sym e) ∙ kept) ∙ sym (ap (λ (w : Who). known_party w names) f)
+  by (ByName own other e f is) =
+      let number_is = number_or (number_of own names) in
+      let named = kept_named names (protocol_of own) number_is party (ap (λ (w : Who). are_kept names (known_owner w names) party) (sym e) ∙ kept) in
+      let number = number_same (protocol_of own) (protocol_of named.name) number_is named.number named.owner_is in
+      let name = number_known names own (number_of own names) refl room named.name (ap (λ (n : ℕ). slice_get names n) number ∙ named.owner_at) in
+      let client : named.client ≡ other = same_Some named.client other (sym named.client_is ∙ ap client_of (sym name.1) ∙ is) in
+      let at : number_of other names ≡ Some named.at = ap (λ (n : Name). number_of n names) (sym client) ∙ number_at names named.client named.at distinct named.party_at in
+      named.party_is ∙ ap (λ (n : Name). parties.Name (protocol_of n) named.at) client
+      ∙ ap (λ (o : Option ℕ). parties.Name (protocol_of other) (number_or o)) (sym at)
+      ∙ sym (ap (λ (w : Who). known_party w names) f)
 
 -- ---- names that come
 
@@ -308,9 +335,15 @@ named_length name client names is = omega (arith, length_who (Named client) (who
 
 -- how many names are kept once those who ask are
 pub both_length : (a : Ask) (names : List Name) → is_client a.owner a.party ≡ true → length (both_entered a names) ≡ length names + (coming a.owner names + coming a.party names)
-both_length a names h =
-    let is = is_client_is a.owner a.party h in
-    ap (λ (w : Who). length (who_entered a.party (who_entered w names))) is.2
-    ∙ ap (λ (w : Who). length (who_entered w (who_entered (Named is.0) names))) is.3
-    ∙ named_length is.0 is.1 names is.4
-    ∙ sym (ap (λ (w : Who). length names + (coming w names + coming a.party names)) is.2 ∙ ap (λ (w : Who). length names + (coming (Named is.0) names + coming w names)) is.3)
+both_length a names h = by (who_asks a.owner a.party h) where
+  same : (owner party : Who) → a.owner ≡ owner → a.party ≡ party → length (who_entered party (who_entered owner names)) ≡ length names + (coming owner names + coming party names)
+      → length (both_entered a names) ≡ length names + (coming a.owner names + coming a.party names)
+  same owner party e f is =
+      ap (λ (w : Who). length (who_entered a.party (who_entered w names))) e
+      ∙ ap (λ (w : Who). length (who_entered w (who_entered owner names))) f
+      ∙ is
+      ∙ sym (ap (λ (w : Who). length names + (coming w names + coming a.party names)) e ∙ ap (λ (w : Who). length names + (coming owner names + coming w names)) f)
+
+  by : Asker a.owner a.party → length (both_entered a names) ≡ length names + (coming a.owner names + coming a.party names)
+  by (ByName name client e f is) = same (Named name) (Named client) e f (named_length name client names is)
+  by (AsOpen number e f) = same (Open number) (Open number) e f (omega arith)

@@ -19,6 +19,7 @@ pub mod LeaseLaws
 pub mod TickLaws
 pub mod DeedCalls
 pub mod DeedLeaves
+pub mod WeakenLaws
 pub mod DeedLaws
 pub mod DeedCaches
 pub mod DeedLists

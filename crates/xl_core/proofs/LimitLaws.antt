@@ -83,5 +83,5 @@ pub wait_room : (left rows : Rooms) (waiting kept : ℕ) → first_passed (wait_
 wait_room left rows waiting kept e = (grind (arith, nat_tests), grind (arith, nat_tests), grind (arith, nat_tests))
 
 -- what may wait has room, as the code asks for it
-pub wait_fits : (left rows : Rooms) (waiting kept : ℕ) (o : Option ℕ) → o ≡ first_passed (wait_limits left rows waiting kept) → o ≡ None → (waiting < 1024) × (kept ≤ most_names)
+pub wait_fits : (left rows : Rooms) (waiting kept : ℕ) (o : Option ℕ) → o ≡ first_passed (wait_limits left rows waiting kept) → o ≡ None → (waiting < most_waiters) × (kept ≤ most_names)
 wait_fits left rows waiting kept o is none = let room = wait_room left rows waiting kept (sym is ∙ none) in (omega (arith, room.1), room.2)

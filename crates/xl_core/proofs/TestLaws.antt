@@ -26,7 +26,7 @@ use Rattle.xl_table.specs.Least.{least}
 use Rattle.xl_table.proofs.LeastLaws.{one_passes}
 use Rattle.xl_wait.specs.declared.waiter.Rooms.{Rooms}
 use Rattle.xl_core.specs.State.{CoreState}
-use Rattle.xl_core.specs.Asking.{asked_claim, asked_what, known_claim, known_owner, number_or, no_number, is_client, owner_in}
+use Rattle.xl_core.specs.Asking.{asked_claim, asked_what, known_claim, known_owner, number_or, no_number, is_client, is_named, owner_in}
 use Rattle.xl_core.specs.Blockers.{test_blockers}
 use Rattle.xl_core.specs.Causes.{stands_against, IsSameAsker, IsCacheInTheWay, IsConflict}
 use Rattle.xl_core.specs.Decide.{ask}
@@ -41,7 +41,7 @@ use Rattle.xl_core.proofs.CacheLaws.{range_no_cache}
 use Rattle.xl_core.proofs.CauseLaws.{lock_due, test_due, test_none, test_some, option_cases}
 use Rattle.xl_core.proofs.DecideLaws.{blocks_some, blockers_some}
 use Rattle.xl_core.proofs.FrameLaws.{ask_frame}
-use Rattle.xl_core.proofs.KnownLaws.{kept_parts, is_client_is, client_posix, get_none}
+use Rattle.xl_core.proofs.KnownLaws.{kept_named, is_client_is, client_posix, get_none}
 
 -- ---- only ranges block a range, and by their owners alone
 
@@ -78,8 +78,9 @@ number_within names number name e = elim (cases_lt number (length names)) [ inl 
 same_to : (name : Name) (names : List Name) (d : Owner) (party : Party) (o : Option ℕ) → number_of name names ≡ o → length names ≤ most_names → are_kept names d party ≡ true
     → same_owners (owners.Name (protocol_of name) (number_or o)) d ≡ same_owners (owners.Name (protocol_of name) (place_of name names)) d
 same_to name names d party (Some number) e few kept = ap (λ (n : ℕ). same_owners (owners.Name (protocol_of name) n) d) (sym (kept_from_number name names number e).1)
-same_to name names d party None e few kept =
-    let is = kept_parts names d party kept in
+same_to name names (owners.Open number) party None e few kept = refl
+same_to name names (owners.Name protocol number) party None e few kept =
+    let is = kept_named names protocol number party kept in
     let small = number_within names is.number is.name is.owner_at in
     let place = place_new name names (new_from_none name names e) in
     ap (λ (x : Owner). same_owners (owners.Name (protocol_of name) no_number) x) is.owner_is
@@ -93,11 +94,11 @@ held_posix party (Range extent exclusive) other held = held
 held_posix party (Cache kind running) other held = absurd (both_ways true other refl)
 
 -- what the claim of a test meets, that of the lock does, caches aside
-meets_both : (s : CoreState) (test lock : Ask) (first last : ℕ) (exclusive : Bool) (d : Claim) → IsGood s → is_client lock.owner lock.party ≡ true → IsSameAsker test lock → IsIn d s.claims → is_cache d.what ≡ false
+meets_both : (s : CoreState) (test lock : Ask) (first last : ℕ) (exclusive : Bool) (d : Claim) → IsGood s → is_client lock.owner lock.party ≡ true → is_named lock.owner ≡ true → IsSameAsker test lock → IsIn d s.claims → is_cache d.what ≡ false
     → stands_against (known_claim test (Bytes first last) exclusive s.names) d ≡ blocks (asked_claim lock (Range (Bytes first last) exclusive) s.names) d
-meets_both s test lock first last exclusive d good client same h other =
+meets_both s test lock first last exclusive d good client has same h other =
     let known = all_in (IsHeld s.names) d s.claims good.known h in
-    let is = is_client_is lock.owner lock.party client in
+    let is = is_client_is lock.owner lock.party client has in
     let named : test.owner ≡ Named is.0 = same.owner ∙ is.2 in
     blocks_by (known_claim test (Bytes first last) exclusive s.names) (asked_claim lock (Range (Bytes first last) exclusive) s.names) d first last exclusive d.what refl (held_posix d.party d.what other known.0.0) same.file refl refl
     (ap (λ (w : Who). posix (known_owner w s.names)) named ∙ client_posix is.0 is.1 is.4 (number_or (number_of is.0 s.names)) ∙ sym (ap (λ (w : Who). posix (owner_in w s.names)) is.2 ∙ client_posix is.0 is.1 is.4 (place_of is.0 s.names)))
@@ -105,10 +106,10 @@ meets_both s test lock first last exclusive d good client same h other =
 
 -- ---- a test foretells the lock
 
-pub test_foretells : (n : ℕ) (left : Rooms) (s : CoreState) (test lock : Ask) (first last : ℕ) (exclusive : Bool) → IsGood s → is_client lock.owner lock.party ≡ true → IsSameAsker test lock
+pub test_foretells : (n : ℕ) (left : Rooms) (s : CoreState) (test lock : Ask) (first last : ℕ) (exclusive : Bool) → IsGood s → is_client lock.owner lock.party ≡ true → is_named lock.owner ≡ true → IsSameAsker test lock
     → test.act ≡ Test (Bytes first last) exclusive → lock.act ≡ Ranges ((Bytes first last, exclusive) ∷ []) → lock.blocking ≡ false
     → IsConflict (ask n left s lock).0 ↔ (IsConflict (ask n left s test).0 ⊎ IsCacheInTheWay s lock (asked_claim lock (Range (Bytes first last) exclusive) s.names))
-test_foretells n left s test lock first last exclusive good client same tests locks hurries = (back, λ either. elim either [ inl told ↦ forth told | inr way ↦ refused way.0 (one_passes (λ d. blocks asked d) s.claims way.1 way.2 way.4) ]) where
+test_foretells n left s test lock first last exclusive good client has same tests locks hurries = (back, λ either. elim either [ inl told ↦ forth told | inr way ↦ refused way.0 (one_passes (λ d. blocks asked d) s.claims way.1 way.2 way.4) ]) where
   what : What
   what = Range (Bytes first last) exclusive
 
@@ -119,7 +120,7 @@ test_foretells n left s test lock first last exclusive good client same tests lo
   asked = asked_claim lock what s.names
 
   alike : (d : Claim) → IsIn d s.claims → is_cache d.what ≡ false → stands_against known d ≡ blocks asked d
-  alike d h other = meets_both s test lock first last exclusive d good client same h other
+  alike d h other = meets_both s test lock first last exclusive d good client has same h other
 
   refused : lock.reclaim ≡ false → is_blocked s.claims asked ≡ true → IsConflict (ask n left s lock).0
   refused fresh blocked =

@@ -12,6 +12,7 @@ use Rattle.xl_matrix.specs.Equal.{same_claims}
 use Rattle.xl_matrix.specs.Matrix.{compat}
 use Rattle.xl_matrix.specs.declared.claim.Claim.{Claim}
 use Rattle.xl_matrix.specs.declared.claim.Extent.TheVariants.{Bytes, Empty}
+use Rattle.xl_matrix.specs.declared.claim.Rwd.{Rwd}
 use Rattle.xl_matrix.specs.declared.claim.What.{What}
 use Rattle.xl_matrix.specs.declared.claim.What.TheVariants.{Share, Range, Cache}
 use Rattle.xl_names.specs.declared.name.Name.{Name}
@@ -20,7 +21,7 @@ use Rattle.xl_spans.specs.declared.span.Mode.{Mode}
 use Rattle.xl_spans.specs.declared.span.Span.{Span}
 use Rattle.xl_table.proofs.SectionLaws.{any_within}
 use Rattle.xl_table.proofs.WriteBack.{is_of-true}
-use Rattle.xl_table.specs.Flat.{blocks, inserted, removed, is_blocked}
+use Rattle.xl_table.specs.Flat.{blocks, inserted, removed, with_what, changed, is_blocked}
 use Rattle.xl_table.specs.Held.{is_of, is_range, is_share, mode_of, spans_of}
 use Rattle.xl_table.specs.Order.{goes_first}
 use Rattle.xl_table.specs.Relock.{all_inserted, range_claim, is_range_of, unranged, relocked_in, is_share_of, unshared, united, shared_in, granted_by, granted_claims}
@@ -33,7 +34,7 @@ use Rattle.xl_core.specs.Causes.{IsTurnDue, IsTurn}
 use Rattle.xl_core.specs.Decide.{Answered, waiter_of, ask}
 use Rattle.xl_core.specs.Good.{IsWaiter, IsGood, stands_in_the_way, IsSettled}
 use Rattle.xl_core.specs.Judge.{all_granted, held_with}
-use Rattle.xl_core.specs.Settle.{settle, cancel, give_back}
+use Rattle.xl_core.specs.Settle.{settle, cancel, give_back, weaken}
 use Rattle.xl_core.specs.Ticks.{renew}
 use Rattle.xl_core.specs.Watch.{is_among, with_file, is_granted, may_free, left_by_ask, may_turn, IsHeldUp, AreHeldUp}
 use Rattle.xl_core.specs.declared.ask.Act.{Act}
@@ -135,6 +136,11 @@ blocked_removed ask claim (c ∷ cs) apart =
           rw (same, none) refl
       | inr other ↦ rw other (ap (λ (b : Bool). blocks ask c || b) (blocked_removed ask claim cs apart))
     ]
+
+blocked_changed : (ask claim : Claim) (to : What) (cs : List Claim) → IsElsewhere claim.file ask → is_blocked (changed claim to cs) ask ≡ is_blocked cs ask
+unfolding changed
+blocked_changed ask claim to cs apart =
+    any_inserted (blocks ask) (with_what claim to) (removed claim cs) (blocks_elsewhere ask (with_what claim to) apart) ∙ blocked_removed ask claim cs apart
 
 -- ---- the unsettled files
 
@@ -252,6 +258,12 @@ pub give_back_up : (u : Unsettled) (s : CoreState) (claim : Claim) → AreHeldUp
 unfolding give_back
 give_back_up u s claim all =
     all_still_up u (with_file claim.file u) s.claims (removed claim s.claims) s.waiters (λ c n. let apart = both_apart claim.file c.file u n in (apart.0, blocked_removed c claim s.claims apart.1)) all
+
+pub weaken_up : (u : Unsettled) (s : CoreState) (share : Claim) (access deny : Rwd) → AreHeldUp u s → AreHeldUp (with_file share.file u) (weaken s share access deny).1
+unfolding weaken
+weaken_up u s share access deny all =
+    all_still_up u (with_file share.file u) s.claims (changed share (Share access deny) s.claims) s.waiters
+    (λ c n. let apart = both_apart share.file c.file u n in (apart.0, blocked_changed c share (Share access deny) s.claims apart.1)) all
 
 pub begun_up : (u : Unsettled) (s : CoreState) → AreHeldUp u s → AreHeldUp u (step_begun s)
 unfolding step_begun

@@ -1,5 +1,5 @@
 -- Who asks: the numbers of names, which may still have to come, and the claim that an ask is for.
-use Rattle.std.specs.Prelude.{◌≡◌, ℕ, ◌≤◌, Bool, true, false, if◌then◌else◌, List, [], ◌∷◌, map, Option, Some, None, option_map}
+use Rattle.std.specs.Prelude.{◌≡◌, ℕ, ◌≤◌, ◌==◌, Bool, true, false, if◌then◌else◌, List, [], ◌∷◌, map, Option, Some, None, option_map}
 use Rattle.xl_base.specs.declared.name.Owner.{Owner}
 use Rattle.xl_base.specs.declared.name.Owner.TheVariants as owners
 use Rattle.xl_base.specs.declared.name.Party.{Party}
@@ -117,10 +117,26 @@ abbrev pub is_name : Option Name → Name → Bool
 is_name None name = false
 is_name (Some client) name = same_name client name
 
--- the party is the owner's client
+-- the party is the owner's client, or both are one SMB open
 abbrev pub is_client : Who → Who → Bool
 is_client (Named owner) (Named party) = is_name (client_of owner) party
+is_client (Open number) (Open other) = number == other
 is_client _ _ = false
+
+-- who asks has a name
+abbrev pub is_named : Who → Bool
+is_named (Named name) = true
+is_named (Open number) = false
+
+-- a share may be anyone's, a range only one's who has a name; ranges of SMB opens come later
+abbrev pub may_hold : Who → What → Bool
+may_hold who (whats.Share access deny) = true
+may_hold who _ = is_named who
+
+-- so may it be asked for, and only who has a name tests and unlocks
+abbrev pub may_ask : Who → Act → Bool
+may_ask who (Share access deny) = true
+may_ask who _ = is_named who
 
 -- a range with bytes, in their order
 abbrev pub IsRealExtent : Extent → Type 0
@@ -135,6 +151,9 @@ IsFitAct (Ranges _) = ⊥
 IsFitAct (Test extent exclusive) = IsRealExtent extent
 IsFitAct (Unlock extent) = IsRealExtent extent
 
+-- Which asks the core takes: a client's by its name for a share, one range with bytes, a test or an unlock; and an SMB
+-- open's, which is its own party, for a share.
 pub record IsFit (a : Ask) : Type 0 where
   pub act : IsFitAct a.act
+  pub own : may_ask a.owner a.act ≡ true
   pub party : is_client a.owner a.party ≡ true

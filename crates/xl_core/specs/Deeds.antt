@@ -6,6 +6,7 @@ use Rattle.xl_base.specs.declared.event.Moment.{Moment}
 use Rattle.xl_base.specs.declared.name.Party.{Party}
 use Rattle.xl_matrix.specs.Equal.{same_parties}
 use Rattle.xl_matrix.specs.declared.claim.Claim.{Claim}
+use Rattle.xl_matrix.specs.declared.claim.Rwd.{Rwd}
 use Rattle.xl_matrix.specs.declared.claim.What.{What}
 use Rattle.xl_names.specs.declared.name.Name.{Name}
 use Rattle.xl_names.specs.declared.name.Name.TheVariants.{NfsParty}
@@ -17,7 +18,7 @@ use Rattle.xl_core.specs.Asking.{party_named, asked_what, asked_claim, IsFit}
 use Rattle.xl_core.specs.Decide.{waiter_of, ask}
 use Rattle.xl_table.specs.Held.{is_share}
 use Rattle.xl_core.specs.Leases.{first_ended}
-use Rattle.xl_core.specs.Settle.{settle, waits_for, cancel, give_back, end_party}
+use Rattle.xl_core.specs.Settle.{settle, waits_for, cancel, give_back, share_has, weaken, end_party}
 use Rattle.xl_core.specs.Ticks.{advanced, renew, expire}
 use Rattle.xl_core.specs.declared.ask.Answer.{Answer}
 use Rattle.xl_core.specs.declared.ask.Answer.TheVariants.{Queued}
@@ -27,12 +28,13 @@ use Rattle.xl_core.specs.declared.ask.Effect.TheVariants.{Served}
 
 -- ---- a call of the core as a value
 
--- an ask, with the room left in the fronts' tables; a claim given back; the waiter of this number taken out; a party
--- ended; a turn; a number given out; the clock read; the lease of the NFSv4 client of this id string renewed; such a client
--- expired
+-- an ask, with the room left in the fronts' tables; a claim given back; a share made weaker, to this access and deny; the
+-- waiter of this number taken out; a party ended; a turn; a number given out; the clock read; the lease of the NFSv4 client
+-- of this id string renewed; such a client expired
 pub data Deed : Type 0 where
   Asks : Rooms → Ask → Deed
   GivesBack : Claim → Deed
+  Weakens : Claim → Rwd → Rwd → Deed
   Cancels : ℕ → Deed
   Ends : Party → Deed
   Serves : Rooms → Deed
@@ -60,6 +62,7 @@ turned s (Some r) = unanswered r
 abbrev pub given : ℕ → CoreState → Deed → Given
 given n s (Asks left a) = answered (ask n left s a)
 given n s (GivesBack claim) = unanswered (give_back s claim)
+given n s (Weakens share access deny) = unanswered (weaken s share access deny)
 given n s (Cancels id) = unanswered (cancel s id)
 given n s (Ends party) = unanswered (end_party s party)
 given n s (Serves left) = turned s (settle n left s)
@@ -92,11 +95,12 @@ answers_of n s (d ∷ ds) = with_answer (given n s d).0 (answers_of n (done n s 
 
 -- ---- which deeds the core takes
 
--- an ask that is fit, a share that is held, a waiter who stands, and of the clients whose lease has ended the one whose id
--- string stands first; claims of other kinds are not given back yet
+-- an ask that is fit, a share that is held, which may come to have no more than it has, a waiter who stands, and of the
+-- clients whose lease has ended the one whose id string stands first; claims of other kinds are not given back yet
 abbrev pub IsFitDeed : CoreState → Deed → Type 0
 IsFitDeed s (Asks left a) = IsFit a
 IsFitDeed s (GivesBack claim) = IsIn claim s.claims × (is_share claim.what ≡ true)
+IsFitDeed s (Weakens share access deny) = IsIn share s.claims × (share_has share.what access deny ≡ true)
 IsFitDeed s (Cancels id) = is_waiting id s.waiters ≡ true
 IsFitDeed s (Expires client) = first_ended s.clock s.leases ≡ Some client
 IsFitDeed s _ = Unit {0}

@@ -19,7 +19,7 @@ use Rattle.xl_matrix.specs.declared.claim.What.TheVariants.{Share, Range, Cache}
 use Rattle.xl_names.specs.Names.{protocol_of, AreDistinct, most_names}
 use Rattle.xl_names.specs.declared.name.Name.{Name}
 use Rattle.xl_table.specs.Flat.{is_blocked}
-use Rattle.xl_table.specs.Held.{is_cache, IsKept, IsPosix, IsPosixBy}
+use Rattle.xl_table.specs.Held.{is_cache, may_own, IsKept, IsGrantable, IsPosixBy}
 use Rattle.xl_wait.specs.declared.waiter.Waiter.{Waiter}
 use Rattle.xl_core.specs.State.{CoreState}
 use Rattle.xl_core.specs.Asking.{client_of, is_name}
@@ -42,14 +42,17 @@ abbrev pub agree : Protocol → Protocol → Option Name → Option Name → Boo
 agree protocol other (Some owner) (Some party) = same_protocol protocol (protocol_of owner) && (same_protocol other (protocol_of party) && is_name (client_of owner) party)
 agree protocol other _ _ = false
 
--- the owner's name and the party's are kept, and the party is the owner's client
+-- the owner's name and the party's are kept, and the party is the owner's client; an SMB open has no name, and is its own
+-- party
 abbrev pub are_kept : List Name → Owner → Party → Bool
 are_kept names (owners.Name protocol number) (parties.Name other at) = agree protocol other (slice_get names number) (slice_get names at)
+are_kept names (owners.Open number) (parties.Open other) = number == other
 are_kept names _ _ = false
 
--- a share or a real range of a client that is known by name: what may be asked for, and waited for
+-- a share of a client that is known by name or of an open, or a real range of such a client: what may be asked for, and
+-- waited for
 abbrev pub IsKnown : List Name → Claim → Type 0
-IsKnown names c = IsPosix c × (are_kept names c.owner c.party ≡ true)
+IsKnown names c = IsGrantable c × (are_kept names c.owner c.party ≡ true)
 
 -- what a party may hold: a share, a range with its bytes in order, or a cache of one of its protocol's kinds, whose
 -- break, where one runs, leaves less
@@ -58,9 +61,9 @@ IsHeldBy party (Share access deny) = Unit {0}
 IsHeldBy party (Range extent exclusive) = IsPosixBy (Range extent exclusive)
 IsHeldBy party (Cache kind running) = is_cache_of party kind running ≡ true
 
--- such a claim of a client that is known by name
+-- such a claim of a client that is known by name, or of an open, which has no ranges
 abbrev pub IsHeld : List Name → Claim → Type 0
-IsHeld names c = (IsHeldBy c.party c.what × (posix c.owner ≡ true)) × (are_kept names c.owner c.party ≡ true)
+IsHeld names c = (IsHeldBy c.party c.what × (may_own c.owner c.what ≡ true)) × (are_kept names c.owner c.party ≡ true)
 
 -- two claims may stand beside each other as far as an owner has one share on a file, and a party one cache
 abbrev pub is_single_by : Claim → Claim → What → What → Bool
@@ -86,8 +89,8 @@ IsWaiter names counter w = (w.id ≤ counter) × AllByRecursion (IsKnown names) 
 
 -- The claims stand in the table's order, each POSIX owner's ranges on a file as sorted maximal runs (kept); any two may
 -- be held together by the matrix; an owner has one share on a file and a party one cache; each is a share, a real range or
--- a cache that its party may have, of a client known by name. The waiters are known too, wait for shares and ranges, have
--- numbers of their own, and are 1,024 at most.
+-- a cache that its party may have, of a client known by name or of an open. The waiters are known too, wait for shares and
+-- ranges, have numbers of their own, and are 1,024 at most.
 pub record IsGood (s : CoreState) : Type 0 where
   pub kept : IsKept s.claims
   pub compatible : Pairwise compat s.claims

@@ -1,21 +1,13 @@
 -- The limits that a grant or a wait may pass.
 use Rattle.std.specs.Prelude.{◌≡◌, ℕ, ◌≤◌, Bool, true, false, ◌&&◌, ◌==◌, nat_lt, nat_le, if◌then◌else◌, List, [], ◌∷◌, Option, Some, None}
 use Rattle.std.specs.List.{list_any}
+pub use Rattle.xl_base.specs.Limits.{most_waiters, most_opens, most_owners}
 use Rattle.xl_names.specs.Names.{most_names}
 use Rattle.xl_wait.specs.declared.waiter.Rooms.{Rooms}
 use Rattle.xl_table.specs.Relock.{most_claims}
 
 abbrev pub most_hosts : ℕ
 most_hosts = 256
-
-abbrev pub most_waiters : ℕ
-most_waiters = 1024
-
-abbrev pub most_opens : ℕ
-most_opens = 4096
-
-abbrev pub most_owners : ℕ
-most_owners = 8192
 
 -- each limit of a grant, the lesser first, and whether it is passed: so many rows are left and come, so many claims are
 -- held afterwards, and so many names are kept

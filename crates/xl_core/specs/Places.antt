@@ -11,12 +11,13 @@ use Rattle.xl_matrix.specs.declared.claim.What.{What}
 use Rattle.xl_matrix.specs.declared.claim.What.TheVariants as whats
 use Rattle.xl_spans.specs.Spans.{within, mode_at}
 use Rattle.xl_spans.specs.declared.span.Mode.{Mode}
+use Rattle.xl_table.specs.Flat.{with_what}
 use Rattle.xl_table.specs.Held.{is_of, spans_of}
 use Rattle.xl_names.specs.declared.name.Name.TheVariants.{NfsParty}
 use Rattle.xl_core.specs.State.{CoreState}
 use Rattle.xl_core.specs.Decide.{ask}
 use Rattle.xl_core.specs.Asking.{party_named}
-use Rattle.xl_core.specs.Deeds.{Deed, Asks, GivesBack, Ends, Serves, Expires, given, done}
+use Rattle.xl_core.specs.Deeds.{Deed, Asks, GivesBack, Weakens, Ends, Serves, Expires, given, done}
 use Rattle.xl_table.specs.Relock.{is_exclusive, shares_of, old_shares, united_by}
 use Rattle.xl_core.specs.declared.ask.Act.{Act}
 use Rattle.xl_core.specs.declared.ask.Act.TheVariants as acts
@@ -84,6 +85,10 @@ cleared_by (what ∷ rest) = Some []
 abbrev pub cleared_at : Claim → Place → Option (List What)
 cleared_at c p = cleared_by (part_of c p)
 
+-- a share that is made weaker is this one at its owner's place
+abbrev pub weakened_at : Claim → Rwd → Rwd → Place → Option (List What)
+weakened_at share access deny p = entered_by (part_of (with_what share (whats.Share access deny)) p)
+
 -- ---- what a deed makes of a place, or none where it leaves it
 
 abbrev pub entered_for : List Claim → Answer → Place → Option (List What)
@@ -118,6 +123,7 @@ told_at held effects p = None
 abbrev pub made : ℕ → CoreState → Deed → Place → Option (List What)
 made n s (Asks left a) p = answered_at s.claims a.act (ask n left s a).0 p
 made n s (GivesBack claim) p = cleared_at claim p
+made n s (Weakens share access deny) p = weakened_at share access deny p
 made n s (Ends party) p = ended_at s.claims party p
 made n s (Serves left) p = told_at s.claims (given n s (Serves left)).1 p
 made n s (Expires client) p = ended_some s.claims (party_named s.names (NfsParty client)) p

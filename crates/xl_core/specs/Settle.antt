@@ -1,10 +1,14 @@
 -- Who waits, and whose turn comes.
-use Rattle.std.specs.Prelude.{◌≡◌, ℕ, Bool, true, false, not, if◌then◌else◌, List, [], ◌∷◌, ◌++◌, length, map, Option, Some, None}
+use Rattle.std.specs.Prelude.{◌≡◌, ℕ, Bool, true, false, not, ◌&&◌, if◌then◌else◌, List, [], ◌∷◌, ◌++◌, length, map, Option, Some, None}
 use Rattle.std.specs.List.{filter, list_any}
 use Rattle.xl_base.specs.declared.name.Party.{Party}
 use Rattle.xl_matrix.specs.Equal.{same_parties}
+use Rattle.xl_matrix.specs.Rights.{rights_lie_within}
 use Rattle.xl_matrix.specs.declared.claim.Claim.{Claim}
-use Rattle.xl_table.specs.Flat.{removed, is_blocked}
+use Rattle.xl_matrix.specs.declared.claim.Rwd.{Rwd}
+use Rattle.xl_matrix.specs.declared.claim.What.{What}
+use Rattle.xl_matrix.specs.declared.claim.What.TheVariants.{Share}
+use Rattle.xl_table.specs.Flat.{removed, changed, is_blocked}
 use Rattle.xl_wait.specs.Waiting.{cancelled}
 use Rattle.xl_wait.specs.declared.waiter.Rooms.{Rooms}
 use Rattle.xl_wait.specs.declared.waiter.Waiter.{Waiter}
@@ -101,6 +105,15 @@ cancel s id = (Cancelled id ∷ [], record s { waiters = cancelled id s.waiters 
 -- one claim is taken out
 unfoldable pub give_back : CoreState → Claim → List Effect × CoreState
 give_back s claim = ([], record s { claims = removed claim s.claims })
+
+-- what is claimed is a share that has at least this access and deny
+abbrev pub share_has : What → Rwd → Rwd → Bool
+share_has (Share rights denied) access deny = rights_lie_within access rights && rights_lie_within deny denied
+share_has _ access deny = false
+
+-- a share has this access and deny from now on, and no more (RFC 7530 16.19)
+unfoldable pub weaken : CoreState → Claim → Rwd → Rwd → List Effect × CoreState
+weaken s share access deny = ([], record s { claims = changed share (Share access deny) s.claims })
 
 -- all claims and waiters of a party are taken out; its name stays
 unfoldable pub end_party : CoreState → Party → List Effect × CoreState

@@ -78,7 +78,7 @@ fn owner_in(names: &Names, who: &Who) -> Owner
 {
     match who {
         Who::Named(name) => Owner::Name(name.protocol(), place_of(names, name)),
-        Who::Open(number) => Owner::Open(*number),
+        Who::Open(open) => Owner::Open(*open),
     }
 }
 

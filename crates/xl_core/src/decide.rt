@@ -1,10 +1,11 @@
 //! What an ask is answered.
 ghost use Rattle.std.specs.Prelude.{◌≡◌, ℕ, ◌+◌, ◌<◌, ◌≤◌, ◌^◌, true, [], ◌∷◌, length, None, IfOk, IfSome};
 ghost use Rattle.std.specs.List.{AllByRecursion};
+ghost use Rattle.xl_base.specs.Limits.{most_waiters, numbers_left};
 ghost use Rattle.xl_matrix.specs.Owners.{posix};
 ghost use Rattle.xl_names.specs.Names.{most_names};
-ghost use Rattle.xl_table.specs.Held.{is_range, has_one_party, IsPosixBy, IsPosix};
-ghost use Rattle.xl_core.specs.Asking.{both_entered, asked_whats, asked_claims, IsFitAct, IsFit, IsRealExtent, is_client};
+ghost use Rattle.xl_table.specs.Held.{is_range, has_one_party, IsPosixBy, IsGrantable};
+ghost use Rattle.xl_core.specs.Asking.{both_entered, asked_whats, asked_claims, IsFitAct, IsFit, IsRealExtent, is_client, is_named, may_hold};
 ghost use Rattle.xl_core.specs.Decide.{plea_of, waiter_of, waiting, claims_asked, tested, unlocked_bytes, unlocked, ask};
 ghost use Rattle.xl_core.specs.Good.{IsGood};
 ghost use Rattle.xl_core.specs.Whole.{state_of};
@@ -27,7 +28,7 @@ fn plea_of(parts: &Parts, left: &Rooms, ask: &Ask) -> Plea
     requires { is_client ask.now.owner ask.now.party ≡ true }
     ensures plea { result ≡ plea_of left.now (state_of parts.now) ask.now }
     ensures kept { result.kept ≡ length (both_entered ask.now parts.now.names) }
-    ensures room { result.crowded ≡ None → (length parts.now.queue < 1024) × (length (both_entered ask.now parts.now.names) ≤ most_names) }
+    ensures room { result.crowded ≡ None → (length parts.now.queue < most_waiters) × (length (both_entered ask.now parts.now.names) ≤ most_names) }
 {
     let kept = count_names(&parts.names, ask);
     Plea {
@@ -61,9 +62,9 @@ fn waiter_of(alloc: Global, id: u32, ask: &Ask, claim: &Claim) -> Result<Waiter,
 
 /// Lets the asker wait, for which there is room.
 fn wait(alloc: Global, parts: &mut Parts, ask: &Ask, claim: &Claim) -> Result<Answer, AllocError>
-    requires room { length parts.old.queue < 1024 }
+    requires room { length parts.old.queue < most_waiters }
     requires names { length (both_entered ask.now parts.old.names) ≤ most_names }
-    requires numbers { parts.old.counter + 65536 < 2 ^ 32 }
+    requires numbers { parts.old.counter + numbers_left < 2 ^ 32 }
     ensures state { IfOk result (λ answer. state_of parts.new ≡ waiting ask.now (claim.now ∷ []) (state_of parts.old)) }
     ensures answer { IfOk result (λ answer. answer ≡ Answer.Queued (parts.old.counter + 1)) }
     ensures made { parts.new.made ≡ parts.old.made }
@@ -91,9 +92,9 @@ fn ask_claim(
     claim: &Claim,
 ) -> Result<Answer, AllocError>
     requires client { is_client ask.now.owner ask.now.party ≡ true }
-    requires posix { IsPosix claim.now }
+    requires grantable { IsGrantable claim.now }
     requires party { AllByRecursion (λ c. has_one_party claim.now c ≡ true) parts.old.table }
-    requires numbers { parts.old.counter + 65536 < 2 ^ 32 }
+    requires numbers { parts.old.counter + numbers_left < 2 ^ 32 }
     ensures answer { (n : ℕ) → IfOk result (λ answer. claims_asked n left.now (state_of parts.old) ask.now (claim.now ∷ []) ≡ (answer, [], state_of parts.new)) }
     ensures made { parts.new.made ≡ parts.old.made }
     ensures failed { parts.new.failed ≡ parts.old.failed }
@@ -181,9 +182,10 @@ fn ask_for(
     what: What,
 ) -> Result<Answer, AllocError>
     requires client { is_client ask.now.owner ask.now.party ≡ true }
-    requires posix { IsPosixBy what }
+    requires own { may_hold ask.now.owner what ≡ true }
+    requires real { IsPosixBy what }
     requires good { IsGood (state_of parts.old) }
-    requires numbers { parts.old.counter + 65536 < 2 ^ 32 }
+    requires numbers { parts.old.counter + numbers_left < 2 ^ 32 }
     ensures answer { (n : ℕ) → IfOk result (λ answer. claims_asked n left.now (state_of parts.old) ask.now (asked_claims ask.now (what ∷ []) parts.old.names) ≡ (answer, [], state_of parts.new)) }
     ensures made { parts.new.made ≡ parts.old.made }
     ensures failed { parts.new.failed ≡ parts.old.failed }
@@ -193,13 +195,13 @@ fn ask_for(
 }
 
 /// The range, where there is one alone.
-fn only_range(ranges: &[(Extent, bool)]) -> Option<What>
+fn only_range(ranges: &[(Extent, bool)]) -> Option<(Extent, bool)>
     requires { IsFitAct (Ranges ranges.now) }
-    ensures one { IfSome result (λ what. (asked_whats (Ranges ranges.now) ≡ what ∷ []) × IsPosixBy what) }
+    ensures one { IfSome result (λ range. (asked_whats (Ranges ranges.now) ≡ What.Range range.0 range.1 ∷ []) × IsPosixBy (What.Range range.0 range.1)) }
     ensures none { result ≡ None → asked_whats (Ranges ranges.now) ≡ [] }
 {
     match ranges {
-        [(extent, exclusive)] => Some(What::Range(*extent, *exclusive)),
+        [range] => Some(*range),
         _ => None,
     }
 }
@@ -214,14 +216,17 @@ fn ask_ranges(
 ) -> Result<Answer, AllocError>
     requires fit { IsFitAct (Ranges ranges.now) }
     requires client { is_client ask.now.owner ask.now.party ≡ true }
+    requires own { is_named ask.now.owner ≡ true }
     requires good { IsGood (state_of parts.old) }
-    requires numbers { parts.old.counter + 65536 < 2 ^ 32 }
+    requires numbers { parts.old.counter + numbers_left < 2 ^ 32 }
     ensures answer { (n : ℕ) → IfOk result (λ answer. claims_asked n left.now (state_of parts.old) ask.now (asked_claims ask.now (asked_whats (Ranges ranges.now)) parts.old.names) ≡ (answer, [], state_of parts.new)) }
     ensures made { parts.new.made ≡ parts.old.made }
     ensures failed { parts.new.failed ≡ parts.old.failed }
 {
     match only_range(ranges) {
-        Some(what) => ask_for(alloc, parts, left, ask, what),
+        Some((extent, exclusive)) => {
+            ask_for(alloc, parts, left, ask, What::Range(extent, exclusive))
+        }
         None => Ok(Answer::NotHeld),
     }
 }
@@ -236,7 +241,7 @@ pub(crate) fn answer(
 ) -> Result<Answer, AllocError>
     requires fit { IsFit request.now }
     requires good { IsGood (state_of parts.old) }
-    requires numbers { parts.old.counter + 65536 < 2 ^ 32 }
+    requires numbers { parts.old.counter + numbers_left < 2 ^ 32 }
     ensures answer { (n : ℕ) → IfOk result (λ answer. ask n left.now (state_of parts.old) request.now ≡ (answer, [], state_of parts.new)) }
     ensures made { parts.new.made ≡ parts.old.made }
     ensures failed { parts.new.failed ≡ parts.old.failed }

@@ -1,12 +1,13 @@
 //! The core and its calls.
 ghost use Rattle.std.specs.Prelude.{◌≡◌, ℕ, ◌+◌, ◌<◌, ◌^◌, true, List, Option, Some, None, Ok, option_map, OnOk, IfOk};
+ghost use Rattle.xl_base.specs.Limits.{numbers_left};
 ghost use Rattle.xl_base.specs.Lists.{IsIn};
 ghost use Rattle.xl_wait.specs.Waiting.{is_waiting};
 ghost use Rattle.xl_core.specs.State.{started, step_begun, drawn, MayBe, GoesOn};
 ghost use Rattle.xl_core.specs.Asking.{IsFit};
 ghost use Rattle.xl_core.specs.Good.{IsGood};
 ghost use Rattle.xl_core.specs.Decide.{ask};
-ghost use Rattle.xl_core.specs.Settle.{settle, cancel, give_back, end_party};
+ghost use Rattle.xl_core.specs.Settle.{settle, cancel, give_back, share_has, weaken, end_party};
 ghost use Rattle.xl_core.specs.Ticks.{renew, tick};
 ghost use Rattle.xl_core.specs.Whole.{state_of};
 
@@ -19,7 +20,7 @@ use indexmap::IndexMap;
 use std::alloc::{AllocError, Global};
 use std::marker::Model;
 use xl_base::{Keeper, Moment, Party, Record, Sequence};
-use xl_matrix::Claim;
+use xl_matrix::{Claim, Rwd};
 use xl_names::Names;
 use xl_table::Table;
 use xl_wait::{Queue, Rooms};
@@ -98,6 +99,13 @@ impl Core {
         self.parts.clock
     }
 
+    /// The last number that was given out; they count from 1. 0 where none was.
+    pub fn counter(&self) -> u32
+        ensures { result ≡ self.now.counter }
+    {
+        self.parts.counter
+    }
+
     /// How long leases, grace and breaks last.
     pub fn times(&self) -> Times
         ensures { result ≡ self.now.times }
@@ -133,7 +141,7 @@ impl Core {
     ) -> Result<(Answer, Sequence<Effect>), AllocError>
         requires fit { IsFit request.now }
         requires good { IsGood self.old }
-        requires numbers { self.old.counter + 65536 < 2 ^ 32 }
+        requires numbers { self.old.counter + numbers_left < 2 ^ 32 }
         ensures state { (n : ℕ) → IfOk result (λ r. MayBe n self.new → ask n left.now self.old request.now ≡ (r.0, r.1, self.new)) }
         ensures on { OnOk result (GoesOn self.old self.new) }
         ensures good { OnOk result (IsGood self.new) }
@@ -153,7 +161,7 @@ impl Core {
         left: &Rooms,
     ) -> Result<Option<Sequence<Effect>>, AllocError>
         requires good { IsGood self.old }
-        requires numbers { self.old.counter + 65536 < 2 ^ 32 }
+        requires numbers { self.old.counter + numbers_left < 2 ^ 32 }
         ensures state { (n : ℕ) → IfOk result (λ r. MayBe n self.new → settle n left.now self.old ≡ option_map (λ effects. (effects, self.new)) r) }
         ensures none { result ≡ Ok None → self.new ≡ self.old }
         ensures on { OnOk result (GoesOn self.old self.new) }
@@ -186,11 +194,37 @@ impl Core {
         unsettled::give_back(alloc, &mut self.parts, &mut self.unsettled, claim)
     }
 
+    /// Makes a share that is held weaker: from then on it has this access and deny, which lie within what it had (RFC 7530
+    /// 16.19, OPEN_DOWNGRADE). There is nothing to tell. It takes no memory.
+    #[tactic(auto, using(crate::proofs::WeakenLaws::weaken_good))]
+    pub fn weaken(
+        &mut self,
+        alloc: Global,
+        share: &Claim,
+        access: Rwd,
+        deny: Rwd,
+    ) -> Sequence<Effect>
+        requires held { IsIn share.now self.old.claims }
+        requires less { share_has share.now.what access deny ≡ true }
+        requires good { IsGood self.old }
+        ensures state { weaken self.old share.now access deny ≡ (result, self.new) }
+        ensures good { IsGood self.new }
+    {
+        unsettled::weaken(
+            alloc,
+            &mut self.parts,
+            &mut self.unsettled,
+            share,
+            access,
+            deny,
+        )
+    }
+
     /// Gives out the next number. At least 65,536 numbers must be left to give out. It takes no memory.
     #[tactic(auto, using(crate::proofs::GoodLaws::drawn_good, crate::proofs::WatchLaws::drawn_up))]
     pub fn draw(&mut self) -> u32
         requires good { IsGood self.old }
-        requires numbers { self.old.counter + 65536 < 2 ^ 32 }
+        requires numbers { self.old.counter + numbers_left < 2 ^ 32 }
         ensures state { self.new ≡ drawn self.old }
         ensures number { result ≡ self.new.counter }
         ensures good { IsGood self.new }
@@ -240,7 +274,7 @@ impl Core {
 
 #[tactic(auto, unfolding(crate::specs::State::drawn))]
 fn draw(parts: &mut Parts) -> u32
-    requires { parts.old.counter + 65536 < 2 ^ 32 }
+    requires { parts.old.counter + numbers_left < 2 ^ 32 }
     ensures state { state_of parts.new ≡ drawn (state_of parts.old) }
     ensures number { result ≡ parts.new.counter }
 {

@@ -2,7 +2,7 @@
 ghost use Rattle.std.specs.Prelude.{◌≡◌, ℕ, ◌≤◌, List, [], ◌∷◌, length, true, Some, None, Ok, IfOk, IfSome};
 ghost use Rattle.std.specs.List.{AllByRecursion};
 ghost use Rattle.xl_table.specs.Changes.{written, MayBeWritten};
-ghost use Rattle.xl_table.specs.Held.{has_one_party, IsPosix};
+ghost use Rattle.xl_table.specs.Held.{has_one_party, IsGrantable};
 ghost use Rattle.xl_table.specs.Relock.{granted_claims};
 ghost use Rattle.xl_wait.specs.declared.waiter.Waiter.{Waiter};
 ghost use Rattle.xl_core.specs.Judge.{check_grace, stopped, check_held, check_room, judged};
@@ -120,7 +120,7 @@ pub(crate) fn judge(
     plea: &Plea,
     claim: &Claim,
 ) -> Result<Ruling, AllocError>
-    requires posix { IsPosix claim.now }
+    requires grantable { IsGrantable claim.now }
     requires party { AllByRecursion (λ c. has_one_party claim.now c ≡ true) parts.old.table }
     ensures judged { (n : ℕ) (earlier : List Waiter) → IfOk result (λ r. judged n earlier left.now plea.now (claim.now ∷ []) (state_of parts.old) ≡ (r, [], state_of parts.new)) }
     ensures gets { result ≡ Ok Gets → plea.now.kept ≤ most_names }

@@ -5,6 +5,7 @@ ghost use Rattle.std.specs.List.{AllByRecursion};
 ghost use Rattle.xl_base.specs.Lists.{IsIn};
 ghost use Rattle.xl_base.specs.Stable.{Stable};
 ghost use Rattle.xl_base.specs.declared.event.Moment.{Moment};
+ghost use Rattle.xl_base.specs.declared.name.Owner.{Owner};
 ghost use Rattle.xl_base.specs.declared.name.Party.{Party};
 ghost use Rattle.xl_matrix.specs.Equal.{same_parties};
 ghost use Rattle.xl_matrix.specs.declared.claim.Claim.{Claim};
@@ -19,7 +20,7 @@ ghost use Rattle.xl_table.specs.Flat.{is_blocked};
 ghost use Rattle.xl_table.specs.Relock.{most_claims, with_share, shares_of, old_shares, unites, united_by};
 ghost use Rattle.xl_names.specs.declared.name.Name.{Name};
 ghost use Rattle.xl_spans.specs.Spans.{relocked};
-ghost use Rattle.xl_table.specs.Held.{is_cache, mode_of, spans_of};
+ghost use Rattle.xl_table.specs.Held.{is_cache, mode_of, is_of, spans_of};
 ghost use Rattle.xl_wait.specs.Waiting.{is_waiting, cancelled};
 ghost use Rattle.xl_wait.specs.declared.waiter.Rooms.{Rooms};
 ghost use Rattle.xl_wait.specs.declared.waiter.Waiter.{Waiter};
@@ -28,9 +29,9 @@ ghost use Rattle.xl_core.specs.Asking.{asker, asked_whats, asked_what, asked_cla
 ghost use Rattle.xl_core.specs.Causes.{IsSameAsker, IsConflict, IsCacheInTheWay, limits_of_grant, IsClaimDue, IsTestDue, IsUnlockDue, IsTurn, IsOwn};
 ghost use Rattle.xl_core.specs.Decide.{waiter_of, ask};
 ghost use Rattle.xl_core.specs.Frames.{drawn_by, names_after, come_by, serves_none, IsFrame, IsTicked};
-ghost use Rattle.xl_core.specs.Good.{IsHeld, IsGood, IsSettled, holding};
+ghost use Rattle.xl_core.specs.Good.{IsHeld, IsGood, IsSettled, holding, caches_of};
 ghost use Rattle.xl_core.specs.Limits.{IsRoom};
-ghost use Rattle.xl_core.specs.Settle.{settle, AllRest, waits_for, cancel, give_back, end_party};
+ghost use Rattle.xl_core.specs.Settle.{settle, AllRest, waits_for, cancel, give_back, share_has, weaken, end_party};
 ghost use Rattle.xl_core.specs.declared.ask.Act.{Act};
 ghost use Rattle.xl_core.specs.declared.ask.Answer.{Answer};
 ghost use Rattle.xl_core.specs.Ticks.{renew, tick};
@@ -39,7 +40,7 @@ ghost use Rattle.xl_core.specs.declared.lease.Times.{Times};
 
 /// The state is good at a start, and stays so: any two claims may be held together, each owner's ranges on a file are
 /// sorted maximal runs, an owner has one share on a file and a party one cache, of a kind that its protocol has, and all
-/// who hold or wait are known by name. So it is whether or not caches are held, though no ask gets one yet.
+/// who hold or wait are known by name, or are SMB opens. So it is whether or not caches are held, though no ask gets one yet.
 pub fn stays_good()
     ensures started { (stable : Stable) (clock : Moment) (times : Times) → IsGood (started stable clock times) }
     ensures begun { (s : CoreState) → IsGood s → IsGood (step_begun s) }
@@ -47,6 +48,7 @@ pub fn stays_good()
     ensures settled { (n : ℕ) (left : Rooms) (s : CoreState) → IsGood s → IfSome (settle n left s) (λ r. IsGood r.1) }
     ensures cancelled { (s : CoreState) (id : ℕ) → IsGood s → IsGood (cancel s id).1 }
     ensures given_back { (s : CoreState) (claim : Claim) → IsGood s → IsGood (give_back s claim).1 }
+    ensures weakened { (s : CoreState) (share : Claim) (access deny : Rwd) → IsGood s → IsIn share s.claims → share_has share.what access deny ≡ true → IsGood (weaken s share access deny).1 }
     ensures drawn { (s : CoreState) → IsGood s → IsGood (drawn s) }
     ensures ended { (s : CoreState) (party : Party) → IsGood s → IsGood (end_party s party).1 }
     ensures renewed { (s : CoreState) (client : List ℕ) → IsGood s → IsGood (renew s client).1 }
@@ -113,6 +115,16 @@ pub fn only_a_party_leaves()
     ensures waiters { (s : CoreState) (party : Party) (w : Waiter) → IsIn w (end_party s party).1.waiters ↔ (IsIn w s.waiters × (waits_for party w ≡ false)) }
 {}
 
+/// A share that is made weaker has just this access and deny. Each other share stays, each range, each cache, and who waits.
+#[tactic(auto, using(crate::proofs::WeakenLaws::weakened_share, crate::proofs::WeakenLaws::weakened_apart, crate::proofs::WeakenLaws::weakened_spans, crate::proofs::WeakenLaws::weakened_caches, crate::proofs::WeakenLaws::weakened_queue))]
+pub fn only_that_share_weakens()
+    ensures weakened { (s : CoreState) (share : Claim) (access deny : Rwd) → IsGood s → IsIn share s.claims → share_has share.what access deny ≡ true → shares_of share.file share.owner (weaken s share access deny).1.claims ≡ (access, deny) ∷ [] }
+    ensures shares { (s : CoreState) (share : Claim) (access deny : Rwd) (file : ℕ) (owner : Owner) → is_of file owner share ≡ false → shares_of file owner (weaken s share access deny).1.claims ≡ shares_of file owner s.claims }
+    ensures spans { (s : CoreState) (share : Claim) (access deny : Rwd) (file : ℕ) (owner : Owner) → share_has share.what access deny ≡ true → spans_of file owner (weaken s share access deny).1.claims ≡ spans_of file owner s.claims }
+    ensures caches { (s : CoreState) (share : Claim) (access deny : Rwd) → share_has share.what access deny ≡ true → caches_of (weaken s share access deny).1.claims ≡ caches_of s.claims }
+    ensures waiters { (s : CoreState) (share : Claim) (access deny : Rwd) → (weaken s share access deny).1.waiters ≡ s.waiters }
+{}
+
 /// What each call leaves alone, what it may raise, and who leaves the queue by it (see `IsFrame`): an ask that is told to
 /// wait draws one number and comes to wait, one that is granted what it is to hold or waits has its names kept, and nobody
 /// leaves; of a turn, a cancel and a party's end those leave who are told of, each once; nothing else comes or goes. A reading of the
@@ -123,17 +135,19 @@ pub fn calls_have_frames()
     ensures turns { (n : ℕ) (left : Rooms) (s : CoreState) → IsGood s → IfSome (settle n left s) (λ r. IsFrame s r.0 r.1 0 s.names []) }
     ensures cancels { (s : CoreState) (id : ℕ) → is_waiting id s.waiters ≡ true → IsFrame s (cancel s id).0 (cancel s id).1 0 s.names [] }
     ensures gives_back { (s : CoreState) (claim : Claim) → IsFrame s (give_back s claim).0 (give_back s claim).1 0 s.names [] }
+    ensures weakens { (s : CoreState) (share : Claim) (access deny : Rwd) → IsFrame s (weaken s share access deny).0 (weaken s share access deny).1 0 s.names [] }
     ensures ends { (s : CoreState) (party : Party) → IsGood s → IsFrame s (end_party s party).0 (end_party s party).1 0 s.names [] }
     ensures draws { (s : CoreState) → IsFrame s [] (drawn s) 1 s.names [] }
     ensures renews { (s : CoreState) (client : List ℕ) → IsFrame s (renew s client).0 (renew s client).1 0 s.names [] }
     ensures ticks { (s : CoreState) (now : Moment) → IsTicked s now (tick s now).1 }
 {}
 
-/// Nobody is served but by a turn: not where a waiter cancels, a claim is given back, a party ends, or the clock is read. (An ask tells of
-/// nothing, see `calls_have_frames`.)
+/// Nobody is served but by a turn: not where a waiter cancels, a claim is given back, a share is made weaker, a party ends,
+/// or the clock is read. (An ask tells of nothing, see `calls_have_frames`.)
 pub fn only_turns_serve()
     ensures cancels { (s : CoreState) (id : ℕ) → serves_none (cancel s id).0 ≡ true }
     ensures gives_back { (s : CoreState) (claim : Claim) → serves_none (give_back s claim).0 ≡ true }
+    ensures weakens { (s : CoreState) (share : Claim) (access deny : Rwd) → serves_none (weaken s share access deny).0 ≡ true }
     ensures ends { (s : CoreState) (party : Party) → serves_none (end_party s party).0 ≡ true }
     ensures ticks { (s : CoreState) (now : Moment) → serves_none (tick s now).0 ≡ true }
 {}

@@ -1,17 +1,18 @@
-//! Who waits no more, and who leaves.
+//! Who waits no more, who leaves, and who has less from now on.
 ghost use Rattle.std.specs.Prelude.{◌≡◌, ℕ, ◌++◌, true, length, map, OnOk, IfOk};
 ghost use Rattle.std.specs.List.{filter, list_any};
 ghost use Rattle.xl_matrix.specs.Equal.{same_parties};
 ghost use Rattle.xl_wait.specs.Waiting.{cancelled};
 ghost use Rattle.xl_core.specs.Good.{IsGood};
-ghost use Rattle.xl_core.specs.Settle.{waits_for, numbers_for, all_told, all_cancelled, cancel, give_back, end_party};
+ghost use Rattle.xl_base.specs.Lists.{IsIn};
+ghost use Rattle.xl_core.specs.Settle.{waits_for, numbers_for, all_told, all_cancelled, cancel, give_back, weaken, end_party};
 ghost use Rattle.xl_core.specs.Whole.{state_of};
 
 use crate::ask::Effect;
 use crate::parts::Parts;
 use std::alloc::{AllocError, Global};
 use xl_base::{Party, Sequence};
-use xl_matrix::{Claim, same_party};
+use xl_matrix::{Claim, Rwd, What, same_party};
 use xl_wait::{Queue, Waiter};
 
 /// Takes one waiter out.
@@ -35,6 +36,23 @@ pub(crate) fn give_back(alloc: Global, parts: &mut Parts, claim: &Claim) -> Sequ
     ensures { give_back (state_of parts.old) claim.now ≡ (result, state_of parts.new) }
 {
     parts.table.remove(claim);
+    Sequence::new(alloc)
+}
+
+/// Gives a share this access and deny in place of its own.
+#[tactic(auto, unfolding(crate::specs::Settle::weaken), using(crate::proofs::WeakenLaws::weakened_sound))]
+pub(crate) fn weaken(
+    alloc: Global,
+    parts: &mut Parts,
+    share: &Claim,
+    access: Rwd,
+    deny: Rwd,
+) -> Sequence<Effect>
+    requires held { IsIn share.now parts.old.table }
+    requires good { IsGood (state_of parts.old) }
+    ensures { weaken (state_of parts.old) share.now access deny ≡ (result, state_of parts.new) }
+{
+    parts.table.change(share, What::Share(access, deny));
     Sequence::new(alloc)
 }
 

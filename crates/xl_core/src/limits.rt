@@ -2,18 +2,19 @@
 ghost use Rattle.std.specs.Prelude.{◌≡◌};
 ghost use Rattle.xl_core.specs.Limits.{grant_limits, wait_limits, first_passed};
 
+use xl_base::MOST_WAITERS;
 use xl_names::MOST_NAMES;
 use xl_table::CLAIMS;
-use xl_wait::{Rooms, WAITERS};
+use xl_wait::Rooms;
 
 /// How many NLM hosts are kept.
 pub const MOST_HOSTS: u32 = 256;
 
 /// How many opens there are, of NFSv4 and SMB together.
-pub const MOST_OPENS: u32 = 4_096;
+pub const MOST_OPENS: u32 = xl_base::MOST_OPENS as u32;
 
 /// How many NFSv4 owners are kept.
-pub const MOST_OWNERS: u32 = 8_192;
+pub const MOST_OWNERS: u32 = xl_base::MOST_OWNERS as u32;
 
 /// The first of these limits that is passed.
 fn first_passed(limits: &[(u32, bool)]) -> Option<u32>
@@ -46,7 +47,7 @@ pub(crate) fn passed_by_wait(left: &Rooms, rows: &Rooms, waiting: usize, kept: u
 {
     first_passed(&[
         (MOST_HOSTS, left.hosts < rows.hosts),
-        (WAITERS as u32, WAITERS <= waiting),
+        (MOST_WAITERS as u32, MOST_WAITERS <= waiting),
         (MOST_NAMES, (MOST_NAMES as usize) < kept),
     ])
 }

@@ -1,9 +1,11 @@
 //! The files on which someone may wait whom nothing blocks, so that not all who wait are looked at after each change.
 ghost use Rattle.std.specs.Prelude.{◌≡◌, ℕ, ◌+◌, ◌<◌, ◌^◌, [], Ok, None, option_map, IfOk};
+ghost use Rattle.xl_base.specs.Limits.{numbers_left};
 ghost use Rattle.xl_core.specs.Asking.{IsFit};
 ghost use Rattle.xl_core.specs.Decide.{ask};
 ghost use Rattle.xl_core.specs.Good.{IsGood};
-ghost use Rattle.xl_core.specs.Settle.{settle, cancel, give_back, end_party};
+ghost use Rattle.xl_base.specs.Lists.{IsIn};
+ghost use Rattle.xl_core.specs.Settle.{settle, cancel, give_back, weaken, end_party};
 ghost use Rattle.xl_core.specs.Ticks.{renew, tick};
 ghost use Rattle.xl_core.specs.Watch.{with_file, may_free, left_by_ask, may_turn, AreHeldUp};
 ghost use Rattle.xl_core.specs.Whole.{state_of};
@@ -13,7 +15,7 @@ use crate::parts::Parts;
 use crate::{decide, leaving, settling, ticking};
 use std::alloc::{AllocError, Global};
 use xl_base::{Moment, Party, Sequence};
-use xl_matrix::Claim;
+use xl_matrix::{Claim, Rwd};
 use xl_wait::{Queue, Rooms};
 
 /// The files whose claims changed since all who wait were last found blocked.
@@ -87,7 +89,7 @@ pub(crate) fn answer(
 ) -> Result<Answer, AllocError>
     requires fit { IsFit request.now }
     requires good { IsGood (state_of parts.old) }
-    requires numbers { parts.old.counter + 65536 < 2 ^ 32 }
+    requires numbers { parts.old.counter + numbers_left < 2 ^ 32 }
     requires held_up { AreHeldUp unsettled.old (state_of parts.old) }
     ensures answer { (n : ℕ) → IfOk result (λ answer. ask n left.now (state_of parts.old) request.now ≡ (answer, [], state_of parts.new)) }
     ensures made { parts.new.made ≡ parts.old.made }
@@ -163,6 +165,25 @@ pub(crate) fn give_back(
 {
     *unsettled = with_file(claim.file, *unsettled);
     leaving::give_back(alloc, parts, claim)
+}
+
+/// Gives a share this access and deny in place of its own. Its file is unsettled then.
+pub(crate) fn weaken(
+    alloc: Global,
+    parts: &mut Parts,
+    unsettled: &mut Unsettled,
+    share: &Claim,
+    access: Rwd,
+    deny: Rwd,
+) -> Sequence<Effect>
+    requires held { IsIn share.now parts.old.table }
+    requires good { IsGood (state_of parts.old) }
+    requires held_up { AreHeldUp unsettled.old (state_of parts.old) }
+    ensures state { weaken (state_of parts.old) share.now access deny ≡ (result, state_of parts.new) }
+    ensures held_up { AreHeldUp unsettled.new (state_of parts.new) }
+{
+    *unsettled = with_file(share.file, *unsettled);
+    leaving::weaken(alloc, parts, share, access, deny)
 }
 
 /// Takes out all claims and waiters of a party. All files are unsettled then.

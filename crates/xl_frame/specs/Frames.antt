@@ -2,6 +2,7 @@
 -- (MS-SMB2 2.1).
 use Rattle.std.specs.Prelude.{ℕ, zero, suc, ◌+◌, ◌-◌, ◌^◌, Bool, true, ◌==◌, ◌&&◌, not, nat_le, nat_lt, if◌then◌else◌, List, [], ◌∷◌, ◌++◌, length, take, drop, get_or, Option, Some, None}
 use Rattle.std.specs.Int.{w32, to_be_bytes, from_be_bytes, bytes_high_first}
+use Rattle.xl_base.specs.Limits.{most_message_bytes}
 use Rattle.xl_base.specs.declared.event.Kind.{Kind}
 use Rattle.xl_base.specs.declared.event.Kind.TheVariants.{Rpc, Smb}
 use Rattle.xl_frame.specs.declared.fault.FrameBad.{FrameBad}
@@ -32,7 +33,7 @@ count_of Smb number = number
 
 -- the fault of a message that would have so many bytes
 abbrev pub long_fault : ℕ → Option FrameBad
-long_fault count = if nat_lt 65536 count then Some (Long count) else None
+long_fault count = if nat_lt most_message_bytes count then Some (Long count) else None
 
 -- the fault of a record's fragment, where the record may have so many fragments more, of at most 64, and has the sum of
 -- bytes without this one

@@ -1,5 +1,6 @@
 -- How far the message at the front of a stream is read.
 use Rattle.std.specs.Prelude.{◌≡◌, ℕ, ◌≤◌, List, ◌++◌, length, drop}
+use Rattle.xl_base.specs.Limits.{most_message_bytes}
 use Rattle.xl_base.specs.declared.event.Kind.{Kind}
 use Rattle.xl_frame.specs.declared.fault.FrameBad.{FrameBad}
 use Rattle.xl_frame.specs.declared.message.Progress.{Progress}
@@ -27,7 +28,7 @@ shown_sight (sights.Broken fault) = IsBroken fault
 -- beginning.
 pub record Resumes (kind : Kind) (p : Progress) (bytes : List ℕ) : Type 0 where
   pub within : p.at ≤ length bytes
-  pub sum : p.sum ≤ 65536
+  pub sum : p.sum ≤ most_message_bytes
   pub same : (more : List ℕ) → sight (message_at kind p.left p.sum (drop p.at bytes ++ more)) ≡ sight (front_of kind (bytes ++ more))
 
 -- of a sight of less than a frame, the progress is so

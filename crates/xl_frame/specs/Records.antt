@@ -2,6 +2,7 @@
 use Rattle.std.specs.Prelude.{◌≡◌, ℕ, ◌+◌, ◌^◌, ◌<◌, ◌≤◌, Bool, true, false, if◌then◌else◌, List, [], ◌∷◌, ◌++◌, length}
 use Rattle.std.specs.Int.{w32, to_be_bytes}
 use Rattle.std.specs.List.{AllByRecursion}
+use Rattle.xl_base.specs.Limits.{most_message_bytes}
 
 -- a fragment: four bytes, of which the top bit says whether it is its record's last and the others how many bytes follow,
 -- and these bytes
@@ -22,7 +23,7 @@ message_in (body ∷ bodies) ending = body ++ message_in bodies ending
 pub record IsRecord (bodies : List (List ℕ)) (ending : List ℕ) : Type 0 where
   pub few : length bodies < 64
   pub filled : AllByRecursion (λ body. 0 < length body) bodies
-  pub short : length (message_in bodies ending) ≤ 65536
+  pub short : length (message_in bodies ending) ≤ most_message_bytes
 
 -- the stream begins with a record of this message, and these bytes stand behind it
 pub record Begins (stream message behind : List ℕ) : Type 0 where

@@ -1,11 +1,12 @@
 //! One fragment of a message.
 ghost use Rattle.std.specs.Prelude.{◌≡◌, ◌+◌, ◌^◌, ◌<◌, ◌≤◌, length, drop};
+ghost use Rattle.xl_base.specs.Limits.{most_message_bytes};
 ghost use Rattle.xl_frame.specs.Frames.{is_last, count_of, long_fault, record_fault, fault_of, fragment_at};
 ghost use Rattle.xl_frame.specs.Shown.{shown_fragment, IfMore, IfBody};
 
 use crate::fault::FrameBad;
-use crate::wrapping::{LAST, MOST_BYTES};
-use xl_base::Kind;
+use crate::wrapping::LAST;
+use xl_base::{Kind, MOST_MESSAGE_BYTES};
 
 /// How many fragments a record has at most.
 pub(crate) const MOST_FRAGMENTS: u32 = 64;
@@ -26,9 +27,9 @@ pub(crate) enum Fragment<'a> {
 /// far.
 #[tactic(auto, unfolding(crate::specs::Frames::fragment_at))]
 pub(crate) fn fragment_at(kind: Kind, left: u32, sum: usize, bytes: &[u8]) -> Fragment<'_>
-    requires { sum ≤ 65536 }
+    requires { sum ≤ most_message_bytes }
     ensures value { shown_fragment result ≡ fragment_at kind left sum bytes.now }
-    ensures more { IfMore (shown_fragment result) (λ body rest. (0 < left) × (sum + length body ≤ 65536)) }
+    ensures more { IfMore (shown_fragment result) (λ body rest. (0 < left) × (sum + length body ≤ most_message_bytes)) }
     ensures body { IfBody (shown_fragment result) (λ body rest. (4 + length body ≤ length bytes.now) × (rest ≡ drop (4 + length body) bytes.now)) }
 {
     if bytes.len() < 4 {
@@ -81,7 +82,7 @@ fn count_of(kind: Kind, number: u32) -> usize
 
 /// The fault of a header, whose first byte and whose four bytes as a number these are.
 fn fault_of(kind: Kind, left: u32, sum: usize, first: u8, number: u32) -> Option<FrameBad>
-    requires { sum ≤ 65536 }
+    requires { sum ≤ most_message_bytes }
     ensures { result ≡ fault_of kind left sum first number }
 {
     match kind {
@@ -93,7 +94,7 @@ fn fault_of(kind: Kind, left: u32, sum: usize, first: u8, number: u32) -> Option
 
 /// The fault of a record's fragment.
 fn record_fault(left: u32, sum: usize, last: bool, count: usize) -> Option<FrameBad>
-    requires sum { sum ≤ 65536 }
+    requires sum { sum ≤ most_message_bytes }
     requires count { count < 2 ^ 32 }
     ensures { result ≡ record_fault left sum last count }
 {
@@ -110,7 +111,7 @@ fn record_fault(left: u32, sum: usize, last: bool, count: usize) -> Option<Frame
 fn long_fault(count: usize) -> Option<FrameBad>
     ensures { result ≡ long_fault count }
 {
-    if count > MOST_BYTES {
+    if count > MOST_MESSAGE_BYTES {
         Some(FrameBad::Long(count as u64))
     } else {
         None

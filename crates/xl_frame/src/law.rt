@@ -2,6 +2,7 @@
 ghost use Rattle.std.specs.Prelude.{◌≡◌, ℕ, ◌≤◌, List, [], ◌∷◌, ◌++◌, length, Some};
 ghost use Rattle.xl_base.specs.declared.event.Kind.{Kind};
 ghost use Rattle.xl_base.specs.declared.event.Kind.TheVariants.{Rpc, Smb};
+ghost use Rattle.xl_base.specs.Limits.{most_message_bytes};
 ghost use Rattle.xl_frame.specs.Frames.{wrapped, frames, with_frames};
 ghost use Rattle.xl_frame.specs.Records.{spelled, message_in, IsRecord, Begins};
 ghost use Rattle.xl_base.specs.Codec.{IsBytes};
@@ -10,7 +11,7 @@ ghost use Rattle.xl_frame.specs.Cutting.{then_piece, framed_of, Call, begun, aft
 /// A message in its frame is cut out as itself, whatever follows.
 #[tactic(auto, using(crate::proofs::StreamLaws::wrapped_are_cut))]
 pub fn wrapped_messages_are_cut_out()
-    ensures { (kind : Kind) (message rest : List ℕ) → length message ≤ 65536 → frames kind (wrapped kind message ++ rest) ≡ with_frames (message ∷ []) (frames kind rest) }
+    ensures { (kind : Kind) (message rest : List ℕ) → length message ≤ most_message_bytes → frames kind (wrapped kind message ++ rest) ≡ with_frames (message ∷ []) (frames kind rest) }
 {}
 
 /// A record in fragments is cut out as itself, whatever follows; and what is cut out of bytes is a record that stands
@@ -26,7 +27,7 @@ pub fn records_are_cut_out()
 /// own behind the other (MS-SMB2 2.1).
 pub fn packets_are_cut_out()
     ensures { (stream message : List ℕ) (more : List (List ℕ)) → IsBytes stream → (frames Smb stream).frames ≡ message ∷ more →
-        (behind : List ℕ) × (length message ≤ 65536) × (stream ≡ wrapped Smb message ++ behind) × (frames Smb stream ≡ with_frames (message ∷ []) (frames Smb behind)) }
+        (behind : List ℕ) × (length message ≤ most_message_bytes) × (stream ≡ wrapped Smb message ++ behind) × (frames Smb stream ≡ with_frames (message ∷ []) (frames Smb behind)) }
 {}
 
 /// A stream may be cut at any place: its frames are those before the place, and then those of what these leave and what

@@ -16,4 +16,4 @@ pub use law::{
     handed_messages_are_the_streams, packets_are_cut_out, records_are_cut_out,
     streams_are_cut_anywhere, wrapped_messages_are_cut_out,
 };
-pub use wrapping::{MOST_BYTES, wrap};
+pub use wrapping::wrap;

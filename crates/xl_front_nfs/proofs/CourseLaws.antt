@@ -1,18 +1,20 @@
 -- What a COMPOUND comes to, operation by operation.
-use Rattle.std.proofs.Common.{◌≡◌, ℕ, Bool, false, List, [], Option, refl, sym, ap, subst, ◌∙◌, inl, inr}
+use Rattle.std.proofs.Common.{◌≡◌, ℕ, zero, suc, ◌-◌, Bool, true, false, true≢false, Result, Ok, List, [], Option, refl, sym, ap, subst, ◌∙◌, inl, inr, arith}
 use Rattle.std.proofs.lemmas.Bool.{cases_Bool}
 use Rattle.std.specs.Prelude.{if◌then◌else◌}
-use Rattle.xl_nfs.specs.Ops.{OpItem, OpFits, op_number}
+use Rattle.xl_nfs.specs.Ops.{OpItem, OpFits, op_number, op_at}
 use Rattle.xl_nfs.specs.Outcomes.{is_ok}
 use Rattle.xl_nfs.specs.declared.status.NfsStatus.{NfsStatus}
 use Rattle.xl_nfs.specs.declared.status.NfsStatus.TheVariants as statuses
-use Rattle.xl_core.specs.Rows.{Ran}
+use Rattle.xl_core.specs.Rows.{Ran, go_on, all_ran}
 use Rattle.xl_core.specs.State.{CoreState}
 use Rattle.xl_core.specs.declared.ask.Effect.{Effect}
 use Rattle.xl_nfs_state.specs.State.{NfsLists}
 use Rattle.xl_front_nfs.specs.Plans.{Outcome, carried}
 use Rattle.xl_front_nfs.specs.Results.{ToldFits}
-use Rattle.xl_front_nfs.specs.Steps.{planned, Runs, Garbled, Course, noted, is_served, ran}
+use Rattle.xl_front_nfs.specs.Steps.{planned, Runs, Garbled, Course, noted, is_served, ran, step_then, steps_in}
+use Rattle.std.specs.Bool.{◌==◌}
+use Rattle.xl_rpc.specs.declared.fault.RpcBad.{RpcBad}
 use Rattle.xl_front_nfs.specs.declared.told.Told.{Told}
 use Rattle.xl_front_nfs.specs.declared.told.Told.TheVariants.{Ended}
 use Rattle.xl_front_nfs.proofs.PlanLaws.{plan_fits, number_small}
@@ -29,23 +31,37 @@ unread_not_ok number =
       | inr e ↦ rw e refl
     ]
 
-pub refused : (n : ℕ) (files : List (List ℕ)) (c next : Course) (s : CoreState) (number : ℕ) (status : NfsStatus) (effects : List Effect) (more : Bool) → status ≡ unread_status number → effects ≡ []
-    → noted c number (Ended status, c.current, effects, c.lists, s) ≡ (more, next, s) → ran files n c s (Garbled number) ≡ (false, next, s)
+pub refused : (n : ℕ) (files : List (List ℕ)) (others : ℕ) (c next : Course) (s : CoreState) (number : ℕ) (status : NfsStatus) (effects : List Effect) (more : Bool) → status ≡ unread_status number → effects ≡ []
+    → noted c number (Ended status, c.current, effects, c.lists, s) ≡ (more, next, s) → ran files others n c s (Garbled number) ≡ (false, next, s)
 unfolding ran
-refused n files c next s number status effects more is none e =
+refused n files others c next s number status effects more is none e =
     let no : more ≡ false = sym (ap (λ (r : Ran Course). r.0) e) ∙ ap is_ok is ∙ unread_not_ok number in
     ap (λ (t : NfsStatus). noted c number (Ended t, c.current, [], c.lists, s)) (sym is)
     ∙ ap (λ (told : List Effect). noted c number (Ended status, c.current, told, c.lists, s)) (sym none)
     ∙ e ∙ (λ i. (no i, next, s))
 
-pub told_fits_op : (files : List (List ℕ)) (s new : CoreState) (l lists : NfsLists) (current handle : Option ℕ) (item : OpItem) (number : ℕ) (told : Told) (effects : List Effect) → OpFits item → number ≡ op_number item
-    → carried 0 s l current (planned files s l current item) ≡ (told, handle, effects, lists, new) → ToldFits number told
-told_fits_op files s new l lists current handle item number told effects fits is e =
-    rw is (subst (λ (t : Told). ToldFits (op_number item) t) (ap (λ (r : Outcome). r.0) e) (plan_fits 0 files s l current item (number_small item fits)))
+pub told_fits_op : (n : ℕ) (files : List (List ℕ)) (others : ℕ) (s new : CoreState) (l lists : NfsLists) (current handle : Option ℕ) (item : OpItem) (number : ℕ) (told : Told) (effects : List Effect) → OpFits item → number ≡ op_number item
+    → carried n s l current (planned files others s l current item) ≡ (told, handle, effects, lists, new) → ToldFits number told
+told_fits_op n files others s new l lists current handle item number told effects fits is e =
+    rw is (subst (λ (t : Told). ToldFits (op_number item) t) (ap (λ (r : Outcome). r.0) e) (plan_fits n files others s l current item (number_small item fits)))
 
-pub op_ran : (n : ℕ) (files : List (List ℕ)) (c next : Course) (s new : CoreState) (lists : NfsLists) (handle : Option ℕ) (item : OpItem) (number : ℕ) (told : Told) (effects : List Effect) (more : Bool) → number ≡ op_number item
-    → carried n s c.lists c.current (planned files s c.lists c.current item) ≡ (told, handle, effects, lists, new) → noted c number (told, handle, effects, lists, new) ≡ (more, next, new)
-    → ran files n c s (Runs item) ≡ (more, next, new)
+pub op_ran : (n : ℕ) (files : List (List ℕ)) (others : ℕ) (c next : Course) (s new : CoreState) (lists : NfsLists) (handle : Option ℕ) (item : OpItem) (number : ℕ) (told : Told) (effects : List Effect) (more : Bool) → number ≡ op_number item
+    → carried n s c.lists c.current (planned files others s c.lists c.current item) ≡ (told, handle, effects, lists, new) → noted c number (told, handle, effects, lists, new) ≡ (more, next, new)
+    → ran files others n c s (Runs item) ≡ (more, next, new)
 unfolding ran
-op_ran n files c next s new lists handle item number told effects more is e kept =
+op_ran n files others c next s new lists handle item number told effects more is e kept =
     ap (λ (r : Outcome). noted c (op_number item) r) e ∙ ap (λ (m : ℕ). noted c m (told, handle, effects, lists, new)) (sym is) ∙ kept
+
+-- ---- operations in a row
+
+one_less : (count : ℕ) → suc count - 1 ≡ count
+one_less count = omega arith
+
+pub course_goes_on : (n : ℕ) (files : List (List ℕ)) (others count : ℕ) (bytes rest : List ℕ) (item : OpItem) (more : Bool) (c mid : Course) (s t : CoreState) → (count ≡ 0 → ⊥) → op_at bytes ≡ Ok (item, rest) → more ≡ true → ran files others n c s (Runs item) ≡ (more, mid, t)
+    → all_ran (ran files others) n c s (steps_in count bytes) ≡ all_ran (ran files others) n mid t (steps_in (count - 1) rest)
+unfolding ran
+course_goes_on n files others zero bytes rest item more c mid s t some read on did = absurd (some refl)
+course_goes_on n files others (suc count) bytes rest item more c mid s t some read on did =
+    ap (λ (r : Result (OpItem × List ℕ) RpcBad). all_ran (ran files others) n c s (step_then (steps_in count) bytes r)) read
+    ∙ ap (λ (r : Ran Course). go_on r (λ d u. all_ran (ran files others) n d u (steps_in count rest))) (did ∙ ap (λ (b : Bool). (b, mid, t)) on)
+    ∙ ap (λ (m : ℕ). all_ran (ran files others) n mid t (steps_in m rest)) (sym (one_less count))

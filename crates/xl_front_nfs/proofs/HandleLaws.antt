@@ -9,7 +9,7 @@ use Rattle.xl_base.specs.Handles.{file_at}
 use Rattle.xl_base.specs.Lists.{IsIn}
 use Rattle.xl_base.specs.declared.event.Moment.{Moment}
 use Rattle.xl_nfs.specs.Clients.{SetClientIdArgsItem}
-use Rattle.xl_nfs.specs.Ops.{OpItem, GetFh, Lookup, PutFh, PutRootFh, Renew, SetClientId, SetClientIdConfirm, Illegal}
+use Rattle.xl_nfs.specs.Ops.{OpItem, Close, DelegReturn, GetFh, Lookup, Open, OpenConfirm, OpenDowngrade, PutFh, PutRootFh, Renew, SetClientId, SetClientIdConfirm, Illegal}
 use Rattle.xl_nfs.specs.Outcomes.{is_ok}
 use Rattle.xl_nfs_state.specs.State.{NfsLists, is_client, is_client_named, is_due}
 use Rattle.xl_nfs_state.specs.declared.client.ClientRow.{ClientRow}
@@ -18,6 +18,10 @@ use Rattle.xl_core.specs.Rows.{Ran, go_on, all_ran, more_deeds, all_deeds}
 use Rattle.xl_core.specs.State.{CoreState}
 use Rattle.xl_front_nfs.specs.Clients.{number_in, renew_found, renew_number, renew, has_room, set_by, set_client_id, number_kept, without_named, without_number, confirm_over, confirm_held, confirmed_by, confirm_found, confirm_number, set_client_id_confirm}
 use Rattle.xl_front_nfs.specs.Handles.{put_root_fh, put_file, put_fh, get_fh, file_named, found_file, look_up}
+use Rattle.xl_front_nfs.specs.Closing.{open_confirm, close, deleg_return}
+use Rattle.xl_front_nfs.specs.Downgrades.{open_downgrade}
+use Rattle.xl_front_nfs.specs.Opens.{open_file}
+use Rattle.xl_front_nfs.proofs.EndLaws.{Well, carried_well, open_ends, confirm_ends, downgrade_ends, close_ends, return_ends}
 use Rattle.xl_front_nfs.specs.Plans.{Plan, carried, status_of}
 use Rattle.xl_front_nfs.specs.State.{FrontNfs, nfs_tick}
 use Rattle.xl_front_nfs.specs.Steps.{planned, Step, Runs, Garbled, Cut, Course, ran, step_deeds}
@@ -91,25 +95,30 @@ number_keeps : (n : ℕ) (s : CoreState) (l : NfsLists) (current : Option ℕ) (
 number_keeps n s l current verifier None = refl
 number_keeps n s l current verifier (Some number) = confirm_keeps n s l current number verifier (confirmed_by verifier (find (is_client number false) l.clients))
 
-pub handle_stays : (n : ℕ) (files : List (List ℕ)) (s : CoreState) (l : NfsLists) (current : Option ℕ) (item : OpItem) → is_ok (status_of (carried n s l current (planned files s l current item)).0) ≡ false → (carried n s l current (planned files s l current item)).1 ≡ current
+pub handle_stays : (n : ℕ) (files : List (List ℕ)) (others : ℕ) (s : CoreState) (l : NfsLists) (current : Option ℕ) (item : OpItem) → is_ok (status_of (carried n s l current (planned files others s l current item)).0) ≡ false → (carried n s l current (planned files others s l current item)).1 ≡ current
 unfolding planned put_root_fh put_fh renew set_client_id set_client_id_confirm
-handle_stays n files s l current PutRootFh = λ no. absurd (true≢false no)
-handle_stays n files s l current (PutFh fh) = put_keeps n (length files) s l current (file_at fh)
-handle_stays n files s l current GetFh = get_keeps n s l current
-handle_stays n files s l current (Lookup name) = look_keeps n files s l current name
-handle_stays n files s l current (SetClientId a) = λ _. (let m = without_named a.id l in set_keeps n s l m current a (number_kept a.verifier (find (is_client_named a.id true) m.clients)))
-handle_stays n files s l current (SetClientIdConfirm a) = λ _. number_keeps n s l current a.verifier (number_in s a.clientid)
-handle_stays n files s l current (Renew clientid) = λ _. renew_keeps n s l current (number_in s clientid)
-handle_stays n files s l current (Illegal number) = λ _. refl
-handle_stays n files s l current item = λ _. refl
+handle_stays n files others s l current PutRootFh = λ no. absurd (true≢false no)
+handle_stays n files others s l current (PutFh fh) = put_keeps n (length files) s l current (file_at fh)
+handle_stays n files others s l current GetFh = get_keeps n s l current
+handle_stays n files others s l current (Lookup name) = look_keeps n files s l current name
+handle_stays n files others s l current (SetClientId a) = λ _. (let m = without_named a.id l in set_keeps n s l m current a (number_kept a.verifier (find (is_client_named a.id true) m.clients)))
+handle_stays n files others s l current (SetClientIdConfirm a) = λ _. number_keeps n s l current a.verifier (number_in s a.clientid)
+handle_stays n files others s l current (Renew clientid) = λ _. renew_keeps n s l current (number_in s clientid)
+handle_stays n files others s l current (Open a) = (carried_well (Well 18 current) n current (open_file files others s l current a) s l (open_ends files others s l current a)).1
+handle_stays n files others s l current (OpenConfirm a) = (carried_well (Well 20 current) n current (open_confirm s l current a) s l (confirm_ends s l current a)).1
+handle_stays n files others s l current (OpenDowngrade a) = (carried_well (Well 21 current) n current (open_downgrade s l current a) s l (downgrade_ends s l current a)).1
+handle_stays n files others s l current (Close a) = (carried_well (Well 4 current) n current (close s l current a) s l (close_ends s l current a)).1
+handle_stays n files others s l current (DelegReturn stateid) = (carried_well (Well 8 current) n current (deleg_return s l current stateid) s l (return_ends s l current stateid)).1
+handle_stays n files others s l current (Illegal number) = λ _. refl
+handle_stays n files others s l current item = λ _. refl
 
 -- ---- nothing is done behind an operation that failed
 
-pub goes_on_by : (n : ℕ) (files : List (List ℕ)) (c : Course) (s : CoreState) (step : Step) → (ran files n c s step).0 ≡ is_ok (ran files n c s step).1.status
+pub goes_on_by : (n : ℕ) (files : List (List ℕ)) (others : ℕ) (c : Course) (s : CoreState) (step : Step) → (ran files others n c s step).0 ≡ is_ok (ran files others n c s step).1.status
 unfolding ran
-goes_on_by n files c s (Runs item) = refl
-goes_on_by n files c s (Garbled number) = refl
-goes_on_by n files c s Cut = refl
+goes_on_by n files others c s (Runs item) = refl
+goes_on_by n files others c s (Garbled number) = refl
+goes_on_by n files others c s Cut = refl
 
 ends_here : (r : Ran Course) (rest : Course → CoreState → Ran Course) → r.0 ≡ false → go_on r rest ≡ r
 ends_here (true, c, s) rest e = absurd (true≢false e)
@@ -119,13 +128,13 @@ no_more : (r : Ran Course) (rest : Course → CoreState → List Deed) → r.0 �
 no_more (true, c, s) rest e = absurd (true≢false e)
 no_more (false, c, s) rest e = refl
 
-pub nothing_behind : (n : ℕ) (files : List (List ℕ)) (c : Course) (s : CoreState) (step : Step) (steps : List Step) → is_ok (ran files n c s step).1.status ≡ false → all_ran (ran files) n c s (step ∷ steps) ≡ ran files n c s step
-nothing_behind n files c s step steps e = ends_here (ran files n c s step) (λ d t. all_ran (ran files) n d t steps) (goes_on_by n files c s step ∙ e)
+pub nothing_behind : (n : ℕ) (files : List (List ℕ)) (others : ℕ) (c : Course) (s : CoreState) (step : Step) (steps : List Step) → is_ok (ran files others n c s step).1.status ≡ false → all_ran (ran files others) n c s (step ∷ steps) ≡ ran files others n c s step
+nothing_behind n files others c s step steps e = ends_here (ran files others n c s step) (λ d t. all_ran (ran files others) n d t steps) (goes_on_by n files others c s step ∙ e)
 
-pub no_deeds_behind : (n : ℕ) (files : List (List ℕ)) (c : Course) (s : CoreState) (step : Step) (steps : List Step) → is_ok (ran files n c s step).1.status ≡ false → all_deeds (ran files) (step_deeds files) n c s (step ∷ steps) ≡ step_deeds files n c s step
-no_deeds_behind n files c s step steps e =
-    ap (λ (ds : List Deed). step_deeds files n c s step ++ ds) (no_more (ran files n c s step) (λ d t. all_deeds (ran files) (step_deeds files) n d t steps) (goes_on_by n files c s step ∙ e))
-    ∙ append-nil (step_deeds files n c s step)
+pub no_deeds_behind : (n : ℕ) (files : List (List ℕ)) (others : ℕ) (c : Course) (s : CoreState) (step : Step) (steps : List Step) → is_ok (ran files others n c s step).1.status ≡ false → all_deeds (ran files others) (step_deeds files others) n c s (step ∷ steps) ≡ step_deeds files others n c s step
+no_deeds_behind n files others c s step steps e =
+    ap (λ (ds : List Deed). step_deeds files others n c s step ++ ds) (no_more (ran files others n c s step) (λ d t. all_deeds (ran files others) (step_deeds files others) n d t steps) (goes_on_by n files others c s step ∙ e))
+    ∙ append-nil (step_deeds files others n c s step)
 
 -- ---- unconfirmed records
 

@@ -1,11 +1,17 @@
+pub mod OwnerLaws
 pub mod RowLaws
 pub mod LeaveLaws
 pub mod ClientLaws
 pub mod ResultLaws
+pub mod CheckLaws
+pub mod BehindLaws
+pub mod EndLaws
 pub mod PlanLaws
 pub mod CourseLaws
 pub mod ReplyLaws
 pub mod StepLaws
 pub mod DoesLaws
+pub mod OpenOwn
 pub mod OwnLaws
+pub mod OpenLaws
 pub mod HandleLaws

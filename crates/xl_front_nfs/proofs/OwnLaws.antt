@@ -10,13 +10,19 @@ use Rattle.xl_base.specs.declared.journal.Exports.{Exports}
 use Rattle.xl_base.specs.declared.name.Party.{Party}
 use Rattle.xl_names.specs.declared.name.Name.TheVariants.{NfsParty}
 use Rattle.xl_nfs.specs.Clients.{SetClientIdArgsItem}
-use Rattle.xl_nfs.specs.Ops.{OpItem, GetFh, Lookup, PutFh, PutRootFh, Renew, SetClientId, SetClientIdConfirm, Illegal}
+use Rattle.xl_nfs.specs.Ops.{OpItem, Close, DelegReturn, GetFh, Lookup, Open, OpenConfirm, OpenDowngrade, PutFh, PutRootFh, Renew, SetClientId, SetClientIdConfirm, Illegal}
 use Rattle.xl_nfs.specs.declared.clients.ClientConfirm.{ClientConfirm}
 use Rattle.xl_nfs_state.specs.State.{NfsLists, is_client, is_client_named}
 use Rattle.xl_nfs_state.specs.declared.client.ClientRow.{ClientRow}
 use Rattle.xl_programs.specs.Programs.{RequestItem}
+use Rattle.xl_core.proofs.DeedLists.{deeds_good}
+use Rattle.xl_core.proofs.DeedRows.{row_takes}
+use Rattle.xl_core.specs.Clients.{IsOf}
+use Rattle.xl_core.specs.Good.{IsGood}
+use Rattle.xl_front_nfs.proofs.OpenOwn.{Owned, by_append, open_own, confirm_own, downgrade_own, close_own, return_own}
+use Rattle.std.proofs.Common.{sym}
 use Rattle.xl_core.specs.Asking.{party_named}
-use Rattle.xl_core.specs.Deeds.{Deed, Draws, Ends, Renews, done, all_done, AreFit}
+use Rattle.xl_core.specs.Deeds.{Deed, Asks, GivesBack, Weakens, Draws, Ends, Renews, done, all_done, AreFit}
 use Rattle.xl_core.specs.Rows.{Ran, more_deeds, all_deeds}
 use Rattle.xl_core.specs.State.{CoreState}
 use Rattle.xl_front_nfs.specs.Clients.{number_in, renew_found, renew_number, renew, draws, ends, has_room, set_by, set_client_id, number_kept, without_named, without_number, confirm_over, confirm_held, confirmed_by, confirm_found, confirm_number, set_client_id_confirm}
@@ -29,8 +35,26 @@ use Rattle.xl_front_nfs.specs.Theirs.{IsTheirs, IfMore, AreAllTheirs, AreTheirsB
 use Rattle.xl_front_nfs.proofs.DoesLaws.{step_does}
 use Rattle.xl_front_nfs.specs.Steps.{planned, Step, Runs, Garbled, Cut, Course, begun, ran, step_deeds}
 
+-- it draws a number, or it ends as a party, or renews, a client for which this holds
+abbrev IsPlain : CoreState → (List ℕ → Type 0) → Deed → Type 0
+IsPlain s Client Draws = Unit {0}
+IsPlain s Client (Ends party) = (id : List ℕ) × Client id × IsOf s (NfsParty id) (Ends party)
+IsPlain s Client (Renews id) = Client id
+IsPlain s Client _ = ⊥
+
+abbrev ArePlain : ℕ → CoreState → (List ℕ → Type 0) → List Deed → Type 0
+ArePlain n s Client [] = Unit {0}
+ArePlain n s Client (d ∷ ds) = IsPlain s Client d × ArePlain n (done n s d) Client ds
+
 abbrev By : ℕ → CoreState → (List ℕ → Type 0) → Plan → Type 0
-By n s Client plan = AreBy n s Client (deeds_of plan)
+By n s Client plan = ArePlain n s Client (deeds_of n s plan)
+
+plain_own : (n : ℕ) (s : CoreState) (Client : List ℕ → Type 0) (ds : List Deed) → ArePlain n s Client ds → AreFit n s ds × AreBy n s Client ds
+plain_own n s Client [] by = (tt, tt)
+plain_own n s Client (Draws ∷ ds) by = let rest = plain_own n (done n s Draws) Client ds by.1 in ((tt, rest.0), (tt, rest.1))
+plain_own n s Client (Ends party ∷ ds) by = let rest = plain_own n (done n s (Ends party)) Client ds by.1 in ((tt, rest.0), (by.0, rest.1))
+plain_own n s Client (Renews id ∷ ds) by = let rest = plain_own n (done n s (Renews id)) Client ds by.1 in ((tt, rest.0), (by.0, rest.1))
+plain_own n s Client (d ∷ ds) by = absurd by.0
 
 -- ---- by client
 
@@ -50,7 +74,7 @@ renew_by n s l current clientid = by (number_in s clientid) refl
     by None named = tt
     by (Some number) named = found number named (find (is_client number true) l.clients) refl
 
-draws_by : (n : ℕ) (s : CoreState) (Client : List ℕ → Type 0) (kept : Option ℕ) → AreBy n s Client (draws kept)
+draws_by : (n : ℕ) (s : CoreState) (Client : List ℕ → Type 0) (kept : Option ℕ) → ArePlain n s Client (draws kept)
 draws_by n s Client None = (tt, (tt, tt))
 draws_by n s Client (Some number) = (tt, tt)
 
@@ -61,7 +85,7 @@ set_by_none n s l current a kept Client =
       | inr e ↦ rw e tt
     ]
 
-ends_by : (n : ℕ) (s : CoreState) (Client : List ℕ → Type 0) (id : List ℕ) → Client id → (o : Option Party) → party_named s.names (NfsParty id) ≡ o → AreBy n s Client (ends o ++ Renews id ∷ [])
+ends_by : (n : ℕ) (s : CoreState) (Client : List ℕ → Type 0) (id : List ℕ) → Client id → (o : Option Party) → party_named s.names (NfsParty id) ≡ o → ArePlain n s Client (ends o ++ Renews id ∷ [])
 ends_by n s Client id is None e = (is, tt)
 ends_by n s Client id is (Some party) e = ((id, is, e), (is, tt))
 
@@ -133,94 +157,112 @@ look_by n files s l (Some file) name Client =
       ])
     ]
 
-pub plan_by : (n : ℕ) (files : List (List ℕ)) (s : CoreState) (l : NfsLists) (current : Option ℕ) (item : OpItem) → AreBy n s (Names s l item) (deeds_of (planned files s l current item))
+abbrev Plain : ℕ → CoreState → NfsLists → OpItem → Plan → Type 0
+Plain n s l item plan = By n s (Names s l item) plan
+
+plain : (n : ℕ) (s : CoreState) (l : NfsLists) (item : OpItem) (plan : Plan) → Plain n s l item plan → Owned n s (Names s l item) plan
+plain n s l item plan by = plain_own n s (Names s l item) (deeds_of n s plan) by
+
+pub plan_own : (n : ℕ) (files : List (List ℕ)) (others : ℕ) (s : CoreState) (l : NfsLists) (current : Option ℕ) (item : OpItem) → IsGood s → Owned n s (Names s l item) (planned files others s l current item)
 unfolding planned put_root_fh put_fh set_client_id
-plan_by n files s l current PutRootFh = tt
-plan_by n files s l current (PutFh fh) = put_by n (length files) s l (file_at fh) (Names s l (PutFh fh))
-plan_by n files s l current GetFh = get_by n s l current (Names s l GetFh)
-plan_by n files s l current (Lookup name) = look_by n files s l current name (Names s l (Lookup name))
-plan_by n files s l current (SetClientId a) =
+plan_own n files others s l current PutRootFh good = (tt, tt)
+plan_own n files others s l current (PutFh fh) good = plain n s l (PutFh fh) (put_file (length files) l (file_at fh)) (put_by n (length files) s l (file_at fh) (Names s l (PutFh fh)))
+plan_own n files others s l current GetFh good = plain n s l GetFh (get_fh l current) (get_by n s l current (Names s l GetFh))
+plan_own n files others s l current (Lookup name) good = plain n s l (Lookup name) (look_up files l current name) (look_by n files s l current name (Names s l (Lookup name)))
+plan_own n files others s l current (SetClientId a) good =
     let m = without_named a.id l in
-    set_by_none n s m current a (number_kept a.verifier (find (is_client_named a.id true) m.clients)) (Names s l (SetClientId a))
-plan_by n files s l current (SetClientIdConfirm a) = confirm_by n s l current a
-plan_by n files s l current (Renew clientid) = renew_by n s l current clientid
-plan_by n files s l current (Illegal number) = tt
-plan_by n files s l current item = tt
+    let kept = number_kept a.verifier (find (is_client_named a.id true) m.clients) in
+    plain n s l (SetClientId a) (set_by s m current a kept) (set_by_none n s m current a kept (Names s l (SetClientId a)))
+plan_own n files others s l current (SetClientIdConfirm a) good = plain n s l (SetClientIdConfirm a) (set_client_id_confirm s l current a) (confirm_by n s l current a)
+plan_own n files others s l current (Renew clientid) good = plain n s l (Renew clientid) (renew s l current clientid) (renew_by n s l current clientid)
+plan_own n files others s l current (Open a) good = open_own n files others s l current a good
+plan_own n files others s l current (OpenConfirm a) good = confirm_own n s l current a good
+plan_own n files others s l current (OpenDowngrade a) good = downgrade_own n s l current a good
+plan_own n files others s l current (Close a) good = close_own n s l current a good
+plan_own n files others s l current (DelegReturn stateid) good = return_own n s l current stateid good
+plan_own n files others s l current (Illegal number) good = (tt, tt)
+plan_own n files others s l current item good = (tt, tt)
 
 -- ---- the row
 
 weaker : (n : ℕ) (s : CoreState) (Client : List ℕ → Type 0) (ds : List Deed) → AreBy n s Client ds → AreBy n s (λ _. Unit {0}) ds
 weaker n s Client [] by = tt
 weaker n s Client (Draws ∷ ds) by = (tt, weaker n (done n s Draws) Client ds by.1)
+weaker n s Client (Asks left a ∷ ds) by = ((by.0.0, tt, by.0.2), weaker n (done n s (Asks left a)) Client ds by.1)
+weaker n s Client (GivesBack claim ∷ ds) by = ((by.0.0, tt, by.0.2), weaker n (done n s (GivesBack claim)) Client ds by.1)
+weaker n s Client (Weakens share access deny ∷ ds) by = ((by.0.0, tt, by.0.2), weaker n (done n s (Weakens share access deny)) Client ds by.1)
 weaker n s Client (Ends party ∷ ds) by = ((by.0.0, tt, by.0.2), weaker n (done n s (Ends party)) Client ds by.1)
 weaker n s Client (Renews id ∷ ds) by = (tt, weaker n (done n s (Renews id)) Client ds by.1)
 weaker n s Client (d ∷ ds) by = absurd by.0
 
-by_append : (n : ℕ) (s : CoreState) (Client : List ℕ → Type 0) (ds es : List Deed) → AreBy n s Client ds → AreBy n (all_done n s ds) Client es → AreBy n s Client (ds ++ es)
-by_append n s Client [] es first second = second
-by_append n s Client (d ∷ ds) es first second = (first.0, by_append n (done n s d) Client ds es first.1 second)
+abbrev Taken : ℕ → CoreState → List Deed → Type 0
+Taken n s ds = AreFit n s ds × AreBy n s (λ _. Unit {0}) ds
 
-step_by : (n : ℕ) (files : List (List ℕ)) (c : Course) (s : CoreState) (step : Step) → AreBy n s (λ _. Unit {0}) (step_deeds files n c s step)
+step_own : (n : ℕ) (files : List (List ℕ)) (others : ℕ) (c : Course) (s : CoreState) (step : Step) → IsGood s → Taken n s (step_deeds files others n c s step)
 unfolding step_deeds
-step_by n files c s (Runs item) = weaker n s (Names s c.lists item) (deeds_of (planned files s c.lists c.current item)) (plan_by n files s c.lists c.current item)
-step_by n files c s (Garbled number) = tt
-step_by n files c s Cut = tt
+step_own n files others c s (Runs item) good =
+    let own = plan_own n files others s c.lists c.current item good in
+    (own.0, weaker n s (Names s c.lists item) (deeds_of n s (planned files others s c.lists c.current item)) own.1)
+step_own n files others c s (Garbled number) good = (tt, tt)
+step_own n files others c s Cut good = (tt, tt)
 
-more_by : (n : ℕ) (r : Ran Course) (later : Course → CoreState → List Deed) → ((c : Course) (t : CoreState) → AreBy n t (λ _. Unit {0}) (later c t)) → AreBy n r.2 (λ _. Unit {0}) (more_deeds r later)
-more_by n (true, c, t) later each = each c t
-more_by n (false, c, t) later each = tt
+more_by : (n : ℕ) (r : Ran Course) (later : Course → CoreState → List Deed) → IsGood r.2 → ((c : Course) (t : CoreState) → IsGood t → AreBy n t (λ _. Unit {0}) (later c t)) → AreBy n r.2 (λ _. Unit {0}) (more_deeds r later)
+more_by n (true, c, t) later good each = each c t good
+more_by n (false, c, t) later good each = tt
 
-row_by : (n : ℕ) (files : List (List ℕ)) (c : Course) (s : CoreState) (steps : List Step) → AreBy n s (λ _. Unit {0}) (all_deeds (ran files) (step_deeds files) n c s steps)
-row_by n files c s [] = tt
-row_by n files c s (step ∷ steps) =
-    let r = ran files n c s step in
-    by_append n s (λ _. Unit {0}) (step_deeds files n c s step) (more_deeds r (λ d t. all_deeds (ran files) (step_deeds files) n d t steps)) (step_by n files c s step)
-    (subst (λ (t : CoreState). AreBy n t (λ _. Unit {0}) (more_deeds r (λ d u. all_deeds (ran files) (step_deeds files) n d u steps))) (step_does n files c s step)
-    (more_by n r (λ d t. all_deeds (ran files) (step_deeds files) n d t steps) (λ d t. row_by n files d t steps)))
+step_good : (n : ℕ) (files : List (List ℕ)) (others : ℕ) (c : Course) (s : CoreState) (step : Step) → IsGood s → IsGood (ran files others n c s step).2
+step_good n files others c s step good = subst (λ (t : CoreState). IsGood t) (sym (step_does n files others c s step)) (deeds_good n s (step_deeds files others n c s step) good (step_own n files others c s step good).0)
 
-call_by : (n : ℕ) (files : List (List ℕ)) (f : FrontNfs) (s : CoreState) (call : Called) → AreBy n s (λ _. Unit {0}) (call_deeds n files f s call)
-call_by n files f s Garbage = tt
-call_by n files f s Null = tt
-call_by n files f s (Refused tag status) = tt
-call_by n files f s (Compound tag steps) = row_by n files (begun f) s steps
+row_by : (n : ℕ) (files : List (List ℕ)) (others : ℕ) (c : Course) (s : CoreState) (steps : List Step) → IsGood s → AreBy n s (λ _. Unit {0}) (all_deeds (ran files others) (step_deeds files others) n c s steps)
+row_by n files others c s [] good = tt
+row_by n files others c s (step ∷ steps) good =
+    let r = ran files others n c s step in
+    by_append n s (λ _. Unit {0}) (step_deeds files others n c s step) (more_deeds r (λ d t. all_deeds (ran files others) (step_deeds files others) n d t steps)) (step_own n files others c s step good).1
+    (subst (λ (t : CoreState). AreBy n t (λ _. Unit {0}) (more_deeds r (λ d u. all_deeds (ran files others) (step_deeds files others) n d u steps))) (step_does n files others c s step)
+    (more_by n r (λ d t. all_deeds (ran files others) (step_deeds files others) n d t steps) (step_good n files others c s step good) (λ d t g. row_by n files others d t steps g)))
 
-pub request_by : (n : ℕ) (exports : Exports) (f : FrontNfs) (s : CoreState) (r : RequestItem) → AreBy n s (λ _. Unit {0}) (nfs_deeds n exports f s r)
-request_by n exports f s r = call_by n exports.files f s (call_in r)
+call_by : (n : ℕ) (files : List (List ℕ)) (others : ℕ) (f : FrontNfs) (s : CoreState) (call : Called) → IsGood s → AreBy n s (λ _. Unit {0}) (call_deeds n files others f s call)
+call_by n files others f s Garbage good = tt
+call_by n files others f s Null good = tt
+call_by n files others f s (Refused tag status) good = tt
+call_by n files others f s (Compound tag steps) good = row_by n files others (begun f) s steps good
 
--- such deeds are taken
-by_fit : (n : ℕ) (s : CoreState) (ds : List Deed) → AreBy n s (λ _. Unit {0}) ds → AreFit n s ds
-by_fit n s [] by = tt
-by_fit n s (Draws ∷ ds) by = (tt, by_fit n (done n s Draws) ds by.1)
-by_fit n s (Ends party ∷ ds) by = (tt, by_fit n (done n s (Ends party)) ds by.1)
-by_fit n s (Renews id ∷ ds) by = (tt, by_fit n (done n s (Renews id)) ds by.1)
-by_fit n s (d ∷ ds) by = absurd by.0
+pub request_by : (n : ℕ) (exports : Exports) (others : ℕ) (f : FrontNfs) (s : CoreState) (r : RequestItem) → IsGood s → AreBy n s (λ _. Unit {0}) (nfs_deeds n exports others f s r)
+request_by n exports others f s r good = call_by n exports.files others f s (call_in r) good
 
-pub request_takes : (n : ℕ) (exports : Exports) (f : FrontNfs) (s : CoreState) (r : RequestItem) → AreFit n s (nfs_deeds n exports f s r)
-request_takes n exports f s r = by_fit n s (nfs_deeds n exports f s r) (request_by n exports f s r)
+-- the core takes them
+call_takes : (n : ℕ) (files : List (List ℕ)) (others : ℕ) (f : FrontNfs) (s : CoreState) (call : Called) → IsGood s → AreFit n s (call_deeds n files others f s call)
+call_takes n files others f s Garbage good = tt
+call_takes n files others f s Null good = tt
+call_takes n files others f s (Refused tag status) good = tt
+call_takes n files others f s (Compound tag steps) good = row_takes (ran files others) (step_deeds files others) n (λ c t step. step_does n files others c t step) (λ c t step g. (step_own n files others c t step g).0) (begun f) s steps good
+
+pub request_takes : (n : ℕ) (exports : Exports) (others : ℕ) (f : FrontNfs) (s : CoreState) (r : RequestItem) → IsGood s → AreFit n s (nfs_deeds n exports others f s r)
+request_takes n exports others f s r good = call_takes n exports.files others f s (call_in r) good
 
 -- ---- of each operation, of whom it names
 
-one_own : (files : List (List ℕ)) (n : ℕ) (c : Course) (s : CoreState) (step : Step) → IsTheirs files n c s step
+one_own : (files : List (List ℕ)) (others n : ℕ) (c : Course) (s : CoreState) (step : Step) → IsGood s → IsTheirs files others n c s step
 unfolding step_deeds
-one_own files n c s (Runs item) = plan_by n files s c.lists c.current item
-one_own files n c s (Garbled number) = refl
-one_own files n c s Cut = refl
+one_own files others n c s (Runs item) good = (plan_own n files others s c.lists c.current item good).1
+one_own files others n c s (Garbled number) good = refl
+one_own files others n c s Cut good = refl
 
 if_more : (b : Bool) (Rest : Type 0) → Rest → IfMore b Rest
 if_more true Rest rest = rest
 if_more false Rest rest = tt
 
-all_own : (files : List (List ℕ)) (n : ℕ) (c : Course) (s : CoreState) (steps : List Step) → AreAllTheirs files n c s steps
-all_own files n c s [] = tt
-all_own files n c s (step ∷ steps) =
-    let r = ran files n c s step in
-    (one_own files n c s step, if_more r.0 (AreAllTheirs files n r.1 r.2 steps) (all_own files n r.1 r.2 steps))
+all_own : (files : List (List ℕ)) (others n : ℕ) (c : Course) (s : CoreState) (steps : List Step) → IsGood s → AreAllTheirs files others n c s steps
+all_own files others n c s [] good = tt
+all_own files others n c s (step ∷ steps) good =
+    let r = ran files others n c s step in
+    (one_own files others n c s step good, if_more r.0 (AreAllTheirs files others n r.1 r.2 steps) (all_own files others n r.1 r.2 steps (step_good n files others c s step good)))
 
-call_own : (n : ℕ) (files : List (List ℕ)) (f : FrontNfs) (s : CoreState) (call : Called) → AreTheirsBy n files f s call
-call_own n files f s Garbage = tt
-call_own n files f s Null = tt
-call_own n files f s (Refused tag status) = tt
-call_own n files f s (Compound tag steps) = all_own files n (begun f) s steps
+call_own : (n : ℕ) (files : List (List ℕ)) (others : ℕ) (f : FrontNfs) (s : CoreState) (call : Called) → IsGood s → AreTheirsBy n files others f s call
+call_own n files others f s Garbage good = tt
+call_own n files others f s Null good = tt
+call_own n files others f s (Refused tag status) good = tt
+call_own n files others f s (Compound tag steps) good = all_own files others n (begun f) s steps good
 
-pub request_own : (n : ℕ) (exports : Exports) (f : FrontNfs) (s : CoreState) (r : RequestItem) → AreTheirs n exports f s r
-request_own n exports f s r = call_own n exports.files f s (call_in r)
+pub request_own : (n : ℕ) (exports : Exports) (others : ℕ) (f : FrontNfs) (s : CoreState) (r : RequestItem) → IsGood s → AreTheirs n exports others f s r
+request_own n exports others f s r good = call_own n exports.files others f s (call_in r) good

@@ -6,13 +6,17 @@ use Rattle.std.specs.List.{find}
 use Rattle.std.specs.Prelude.{nat_le, bytes_eq, if◌then◌else◌}
 use Rattle.xl_base.specs.Handles.{file_at}
 use Rattle.xl_nfs.specs.Clients.{SetClientIdArgsItem}
-use Rattle.xl_nfs.specs.Ops.{OpItem, GetFh, Lookup, PutFh, PutRootFh, Renew, SetClientId, SetClientIdConfirm, Illegal, op_number, OpFits, op}
+use Rattle.xl_nfs.specs.Ops.{OpItem, Close, DelegReturn, GetFh, Lookup, Open, OpenConfirm, OpenDowngrade, PutFh, PutRootFh, Renew, SetClientId, SetClientIdConfirm, Illegal, op_number, OpFits, op}
 use Rattle.xl_nfs.specs.declared.status.NfsStatus.TheVariants as statuses
 use Rattle.xl_nfs_state.specs.State.{NfsLists, is_client, is_client_named}
 use Rattle.xl_nfs_state.specs.declared.client.ClientRow.{ClientRow}
 use Rattle.xl_core.specs.State.{CoreState}
 use Rattle.xl_front_nfs.specs.Clients.{number_in, renew_found, renew_number, renew, number_kept, has_room, set_by, without_named, set_client_id, without_number, confirm_over, confirm_held, confirmed_by, confirm_found, confirm_number, set_client_id_confirm}
 use Rattle.xl_front_nfs.specs.Handles.{put_root_fh, put_file, put_fh, get_fh, file_named, found_file, look_up}
+use Rattle.xl_front_nfs.specs.Closing.{open_confirm, close, deleg_return}
+use Rattle.xl_front_nfs.specs.Downgrades.{open_downgrade}
+use Rattle.xl_front_nfs.specs.Opens.{open_file}
+use Rattle.xl_front_nfs.proofs.EndLaws.{Well, carried_well, open_ends, confirm_ends, downgrade_ends, close_ends, return_ends}
 use Rattle.xl_front_nfs.specs.Plans.{Plan, carried}
 use Rattle.xl_front_nfs.specs.Results.{ToldFits}
 use Rattle.xl_front_nfs.specs.Steps.{planned, is_served}
@@ -86,19 +90,24 @@ number_fits : (n : ℕ) (s : CoreState) (l : NfsLists) (current : Option ℕ) (v
 number_fits n s l current verifier None = plain_36 statuses.StaleClientId
 number_fits n s l current verifier (Some number) = confirm_fits n s l current number verifier (confirmed_by verifier (find (is_client number false) l.clients))
 
-pub plan_fits : (n : ℕ) (files : List (List ℕ)) (s : CoreState) (l : NfsLists) (current : Option ℕ) (item : OpItem) → op_number item < 2 ^ 32 → ToldFits (op_number item) (carried n s l current (planned files s l current item)).0
+pub plan_fits : (n : ℕ) (files : List (List ℕ)) (others : ℕ) (s : CoreState) (l : NfsLists) (current : Option ℕ) (item : OpItem) → op_number item < 2 ^ 32 → ToldFits (op_number item) (carried n s l current (planned files others s l current item)).0
 unfolding planned put_root_fh put_fh renew set_client_id set_client_id_confirm
-plan_fits n files s l current PutRootFh le = plain_24 statuses.Ok
-plan_fits n files s l current (PutFh fh) le = put_fits n (length files) s l current (file_at fh)
-plan_fits n files s l current GetFh le = get_fits n s l current
-plan_fits n files s l current (Lookup name) le = look_fits n files s l current name
-plan_fits n files s l current (SetClientId a) le =
+plan_fits n files others s l current PutRootFh le = plain_24 statuses.Ok
+plan_fits n files others s l current (PutFh fh) le = put_fits n (length files) s l current (file_at fh)
+plan_fits n files others s l current GetFh le = get_fits n s l current
+plan_fits n files others s l current (Lookup name) le = look_fits n files s l current name
+plan_fits n files others s l current (SetClientId a) le =
     let m = without_named a.id l in
     set_fits n s l m current a (number_kept a.verifier (find (is_client_named a.id true) m.clients))
-plan_fits n files s l current (SetClientIdConfirm a) le = number_fits n s l current a.verifier (number_in s a.clientid)
-plan_fits n files s l current (Renew clientid) le = renew_fits n s l current (number_in s clientid)
-plan_fits n files s l current (Illegal number) le = fault_fits number statuses.OpIllegal le (record { ok = refl; denied = refl })
-plan_fits n files s l current item le = fault_fits (op_number item) statuses.NotSupp le (record { ok = refl; denied = refl })
+plan_fits n files others s l current (SetClientIdConfirm a) le = number_fits n s l current a.verifier (number_in s a.clientid)
+plan_fits n files others s l current (Renew clientid) le = renew_fits n s l current (number_in s clientid)
+plan_fits n files others s l current (Open a) le = (carried_well (Well 18 current) n current (open_file files others s l current a) s l (open_ends files others s l current a)).0
+plan_fits n files others s l current (OpenConfirm a) le = (carried_well (Well 20 current) n current (open_confirm s l current a) s l (confirm_ends s l current a)).0
+plan_fits n files others s l current (OpenDowngrade a) le = (carried_well (Well 21 current) n current (open_downgrade s l current a) s l (downgrade_ends s l current a)).0
+plan_fits n files others s l current (Close a) le = (carried_well (Well 4 current) n current (close s l current a) s l (close_ends s l current a)).0
+plan_fits n files others s l current (DelegReturn stateid) le = (carried_well (Well 8 current) n current (deleg_return s l current stateid) s l (return_ends s l current stateid)).0
+plan_fits n files others s l current (Illegal number) le = fault_fits number statuses.OpIllegal le (record { ok = refl; denied = refl })
+plan_fits n files others s l current item le = fault_fits (op_number item) statuses.NotSupp le (record { ok = refl; denied = refl })
 
 -- of an operation that was read the number is one of 32 bits
 pub number_small : (item : OpItem) → OpFits item → op_number item < 2 ^ 32

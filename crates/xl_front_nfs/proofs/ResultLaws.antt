@@ -1,5 +1,5 @@
 -- Which results have a spelling, and that it is short.
-use Rattle.std.proofs.Common.{◌≡◌, ℕ, ◌+◌, if◌then◌else◌, ◌≤◌, ◌<◌, ◌^◌, Bool, true, false, List, [], ◌++◌, length, Ok, refl, sym, ap, subst, ◌∙◌, inl, inr, arith, eqb-true}
+use Rattle.std.proofs.Common.{◌≡◌, ℕ, ◌+◌, if◌then◌else◌, ◌≤◌, ◌<◌, ◌^◌, Bool, true, false, List, [], ◌∷◌, ◌++◌, length, take, Ok, refl, sym, ap, subst, ◌∙◌, inl, inr, arith, eqb-true}
 use Rattle.std.proofs.lemmas.Bool.{cases_Bool}
 use Rattle.std.proofs.lemmas.List.{length-append}
 use Rattle.std.specs.Bool.{◌==◌}
@@ -7,7 +7,7 @@ use Rattle.xl_base.specs.Handles.{handle}
 use Rattle.xl_base.specs.Formats.{is_listed}
 use Rattle.xl_nfs.specs.Ops.{is_numbered}
 use Rattle.xl_nfs.specs.Outcomes.{is_ok, is_denied, outcome, lock_outcome}
-use Rattle.xl_nfs.specs.Results.{ResultItem, GetFhAnswer, SetClientIdAnswer, NotSupportedAnswer, IllegalAnswer, results, told, told_fits, nfs_result, ResultFits}
+use Rattle.xl_nfs.specs.Results.{ResultItem, CloseAnswer, GetFhAnswer, OpenAnswer, OpenConfirmAnswer, OpenDowngradeAnswer, SetClientIdAnswer, NotSupportedAnswer, IllegalAnswer, results, told, told_fits, nfs_result, ResultFits}
 use Rattle.xl_nfs.specs.Statuses.{status_number, status}
 use Rattle.xl_nfs.specs.Basics.{handle as fh}
 use Rattle.xl_nfs.specs.Clients.{client_confirm}
@@ -17,7 +17,12 @@ use Rattle.xl_rpc.specs.Xdr.{unsigned, hyper, void, opaque, fixed, pad}
 use Rattle.xl_base.specs.Codec.{big_endian}
 use Rattle.xl_nfs.specs.declared.clients.ClientConfirm.{ClientConfirm}
 use Rattle.xl_nfs.specs.declared.status.NfsStatus.{NfsStatus}
-use Rattle.xl_front_nfs.specs.Results.{ended_as}
+use Rattle.xl_front_nfs.specs.Results.{ended_as, open_result_of, state_as}
+use Rattle.xl_nfs.specs.Basics.{stateid}
+use Rattle.xl_nfs.specs.Opened.{NoDelegation, open_result, change_info, delegation}
+use Rattle.xl_nfs.specs.declared.basics.Stateid.{Stateid}
+use Rattle.xl_format.specs.Formats.{array}
+use Rattle.xl_rpc.specs.Xdr.{words}
 
 -- a status of its own kind, which no operation tells where it gives something
 pub record IsFault (s : NfsStatus) : Type 0 where
@@ -302,15 +307,135 @@ client_little : (c : ClientConfirm) → length c.verifier ≡ 8 → length (nfs_
 unfolding nfs_result outcome status status_number client_confirm
 client_little c e = eight_more 35 c.clientid c.verifier e
 
-grown : (old new : List ℕ) (r s : ResultItem) → r ≡ s → new ≡ old ++ nfs_result.spell r → length (nfs_result.spell s) ≤ 24 → length new ≤ length old + 24
+-- ---- stateids that are given
+
+fixed_12 : (v : List ℕ) → length v ≡ 12 → length (fixed v) ≤ 12
+unfolding fixed pad
+fixed_12 v e = rw e (omega (arith, length-append v [], e))
+
+stateid_little : (s : Stateid) → length s.other ≡ 12 → length (stateid.spell s) ≤ 16
+unfolding stateid big_endian
+stateid_little s e = omega (arith, fixed_12 s.other e)
+
+pub open_fits : (s : Stateid) (flags : ℕ) → s.seqid < 2 ^ 32 → length s.other ≡ 12 → flags < 2 ^ 32 → ResultFits (OpenAnswer (Ok (open_result_of s flags)))
+unfolding nfs_result outcome status open_result stateid change_info delegation nothing
+open_fits s flags seqid other le = (omega arith, (tt, ((seqid, other), ((tt, (omega arith, omega arith)), (le, ((omega arith, refl), (omega arith, tt)))))))
+
+change_little : (flags : ℕ) → length (change_info.spell (record { atomic = true; before = 0; after = 0 }) ++ (unsigned flags ++ (array.spell [] ++ delegation.spell NoDelegation))) ≤ 32
+unfolding change_info delegation big_endian words nothing void
+change_little flags = omega arith
+
+eight_open : (number : ℕ) (more : List ℕ) → length more ≤ 48 → length (unsigned number ++ (unsigned 0 ++ more)) ≤ 56
+unfolding big_endian
+eight_open number more le = omega (arith, le)
+
+pub open_little : (s : Stateid) (flags : ℕ) → length s.other ≡ 12 → length (nfs_result.spell (OpenAnswer (Ok (open_result_of s flags)))) ≤ 56
+unfolding nfs_result outcome status status_number open_result
+open_little s flags e =
+    let rest = change_info.spell (record { atomic = true; before = 0; after = 0 }) ++ (unsigned flags ++ (array.spell [] ++ delegation.spell NoDelegation)) in
+    eight_open 18 (stateid.spell s ++ rest) (omega (arith, length-append (stateid.spell s) rest, stateid_little s e, change_little flags))
+
+stateid_fits : (s : Stateid) → s.seqid < 2 ^ 32 → length s.other ≡ 12 → stateid.Fit s
+unfolding stateid
+stateid_fits s seqid other = (seqid, other)
+
+state_fits_4 : (s : Stateid) → stateid.Fit s → ResultFits (CloseAnswer (Ok s))
+unfolding nfs_result outcome status
+state_fits_4 s fit = (omega arith, (tt, fit))
+
+state_fits_20 : (s : Stateid) → stateid.Fit s → ResultFits (OpenConfirmAnswer (Ok s))
+unfolding nfs_result outcome status
+state_fits_20 s fit = (omega arith, (tt, fit))
+
+state_fits_21 : (s : Stateid) → stateid.Fit s → ResultFits (OpenDowngradeAnswer (Ok s))
+unfolding nfs_result outcome status
+state_fits_21 s fit = (omega arith, (tt, fit))
+
+pub state_fits : (number : ℕ) (s : Stateid) → s.seqid < 2 ^ 32 → length s.other ≡ 12 → ResultFits (state_as number s)
+state_fits number s seqid other =
+    let fit = stateid_fits s seqid other in
+    elim (cases_Bool (number == 4)) [
+      | inl e ↦ rw e (state_fits_4 s fit)
+      | inr e ↦ rw e (elim (cases_Bool (number == 20)) [
+        | inl d ↦ rw d (state_fits_20 s fit)
+        | inr d ↦ rw d (state_fits_21 s fit)
+      ])
+    ]
+
+eight_state : (number : ℕ) (more : List ℕ) → length more ≤ 16 → length (unsigned number ++ (unsigned 0 ++ more)) ≤ 24
+unfolding big_endian
+eight_state number more le = omega (arith, le)
+
+state_little_4 : (s : Stateid) → length (stateid.spell s) ≤ 16 → length (nfs_result.spell (CloseAnswer (Ok s))) ≤ 24
+unfolding nfs_result outcome status status_number
+state_little_4 s le = eight_state 4 (stateid.spell s) le
+
+state_little_20 : (s : Stateid) → length (stateid.spell s) ≤ 16 → length (nfs_result.spell (OpenConfirmAnswer (Ok s))) ≤ 24
+unfolding nfs_result outcome status status_number
+state_little_20 s le = eight_state 20 (stateid.spell s) le
+
+state_little_21 : (s : Stateid) → length (stateid.spell s) ≤ 16 → length (nfs_result.spell (OpenDowngradeAnswer (Ok s))) ≤ 24
+unfolding nfs_result outcome status status_number
+state_little_21 s le = eight_state 21 (stateid.spell s) le
+
+state_little : (number : ℕ) (s : Stateid) → length s.other ≡ 12 → length (nfs_result.spell (state_as number s)) ≤ 24
+state_little number s other =
+    let le = stateid_little s other in
+    elim (cases_Bool (number == 4)) [
+      | inl e ↦ rw e (state_little_4 s le)
+      | inr e ↦ rw e (elim (cases_Bool (number == 20)) [
+        | inl d ↦ rw d (state_little_20 s le)
+        | inr d ↦ rw d (state_little_21 s le)
+      ])
+    ]
+
+-- ---- what is written
+
+grown : (old new : List ℕ) (r s : ResultItem) → r ≡ s → new ≡ old ++ nfs_result.spell r → length (nfs_result.spell s) ≤ 56 → length new ≤ length old + 56
 grown old new r s same is le =
-    subst (λ (x : List ℕ). length x ≤ length old + 24) (sym (is ∙ ap (λ (x : ResultItem). old ++ nfs_result.spell x) same)) (omega (arith, length-append old (nfs_result.spell s), le))
+    subst (λ (x : List ℕ). length x ≤ length old + 56) (sym (is ∙ ap (λ (x : ResultItem). old ++ nfs_result.spell x) same)) (omega (arith, length-append old (nfs_result.spell s), le))
 
-pub ended_grown : (old new : List ℕ) (r : ResultItem) (number : ℕ) (s : NfsStatus) → r ≡ ended_as number s → new ≡ old ++ nfs_result.spell r → length new ≤ length old + 24
-ended_grown old new r number s same is = grown old new r (ended_as number s) same is (ended_little number s)
+pub ended_grown : (old new : List ℕ) (r : ResultItem) (number : ℕ) (s : NfsStatus) → r ≡ ended_as number s → new ≡ old ++ nfs_result.spell r → length new ≤ length old + 56
+ended_grown old new r number s same is = grown old new r (ended_as number s) same is (omega (arith, ended_little number s))
 
-pub handle_grown : (old new fh : List ℕ) (file : ℕ) → fh ≡ handle file → new ≡ old ++ nfs_result.spell (GetFhAnswer (Ok fh)) → length new ≤ length old + 24
-handle_grown old new fh file same is = grown old new (GetFhAnswer (Ok fh)) (GetFhAnswer (Ok (handle file))) (ap (λ (x : List ℕ). GetFhAnswer (Ok x)) same) is (handle_little file)
+pub handle_grown : (old new fh : List ℕ) (file : ℕ) → fh ≡ handle file → new ≡ old ++ nfs_result.spell (GetFhAnswer (Ok fh)) → length new ≤ length old + 56
+handle_grown old new fh file same is = grown old new (GetFhAnswer (Ok fh)) (GetFhAnswer (Ok (handle file))) (ap (λ (x : List ℕ). GetFhAnswer (Ok x)) same) is (omega (arith, handle_little file))
 
-pub client_grown : (old new : List ℕ) (c : ClientConfirm) → length c.verifier ≡ 8 → new ≡ old ++ nfs_result.spell (SetClientIdAnswer (Ok c)) → length new ≤ length old + 24
-client_grown old new c e is = grown old new (SetClientIdAnswer (Ok c)) (SetClientIdAnswer (Ok c)) refl is (client_little c e)
+pub client_grown : (old new : List ℕ) (c : ClientConfirm) → length c.verifier ≡ 8 → new ≡ old ++ nfs_result.spell (SetClientIdAnswer (Ok c)) → length new ≤ length old + 56
+client_grown old new c e is = grown old new (SetClientIdAnswer (Ok c)) (SetClientIdAnswer (Ok c)) refl is (omega (arith, client_little c e))
+
+pub open_grown : (old new : List ℕ) (r : ResultItem) (s : Stateid) (flags : ℕ) → length s.other ≡ 12 → r ≡ OpenAnswer (Ok (open_result_of s flags)) → new ≡ old ++ nfs_result.spell r → length new ≤ length old + 56
+open_grown old new r s flags e same is = grown old new r (OpenAnswer (Ok (open_result_of s flags))) same is (open_little s flags e)
+
+pub state_grown : (old new : List ℕ) (r : ResultItem) (number : ℕ) (s : Stateid) → length s.other ≡ 12 → r ≡ state_as number s → new ≡ old ++ nfs_result.spell r → length new ≤ length old + 56
+state_grown old new r number s e same is = grown old new r (state_as number s) same is (omega (arith, state_little number s e))
+
+pub bytes_grown : (old new bytes kept : List ℕ) → kept ≡ bytes → length bytes ≤ 56 → new ≡ old ++ kept → length new ≤ length old + 56
+bytes_grown old new bytes kept same few is = subst (λ (x : List ℕ). length x ≤ length old + 56) (sym (is ∙ ap (λ (k : List ℕ). old ++ k) same)) (omega (arith, length-append old bytes, few))
+
+-- what stands behind bytes is cut off
+front_of : (xs ys : List ℕ) → take (length xs) (xs ++ ys) ≡ xs
+front_of [] ys = refl
+front_of (x ∷ xs) ys = ap (λ (zs : List ℕ). x ∷ zs) (front_of xs ys)
+
+pub unpadded : (bytes : List ℕ) → take (length bytes) (fixed bytes) ≡ bytes
+unfolding fixed
+unpadded bytes = front_of bytes _
+
+-- ---- a failure
+
+pub fits_4 : (s : NfsStatus) → is_ok s ≡ false → ResultFits (ended_as 4 s)
+unfolding nfs_result ended_as status outcome
+fits_4 s ok = (omega arith, (tt, ok))
+
+pub fits_18 : (s : NfsStatus) → is_ok s ≡ false → ResultFits (ended_as 18 s)
+unfolding nfs_result ended_as status outcome
+fits_18 s ok = (omega arith, (tt, ok))
+
+pub fits_20 : (s : NfsStatus) → is_ok s ≡ false → ResultFits (ended_as 20 s)
+unfolding nfs_result ended_as status outcome
+fits_20 s ok = (omega arith, (tt, ok))
+
+pub fits_21 : (s : NfsStatus) → is_ok s ≡ false → ResultFits (ended_as 21 s)
+unfolding nfs_result ended_as status outcome
+fits_21 s ok = (omega arith, (tt, ok))

@@ -50,46 +50,47 @@ call_in r = if r.procedure == 0 then null_in r.arguments else compound_in (compo
 -- ---- what it does, and what it is answered
 
 -- what a COMPOUND comes to
-abbrev pub run : ℕ → List (List ℕ) → FrontNfs → CoreState → List Step → Ran Course
-run n files f s steps = all_ran (ran files) n (begun f) s steps
+abbrev pub run : ℕ → List (List ℕ) → ℕ → FrontNfs → CoreState → List Step → Ran Course
+run n files others f s steps = all_ran (ran files others) n (begun f) s steps
 
-abbrev pub call_deeds : ℕ → List (List ℕ) → FrontNfs → CoreState → Called → List Deed
-call_deeds n files f s (Compound tag steps) = all_deeds (ran files) (step_deeds files) n (begun f) s steps
-call_deeds n files f s _ = []
+abbrev pub call_deeds : ℕ → List (List ℕ) → ℕ → FrontNfs → CoreState → Called → List Deed
+call_deeds n files others f s (Compound tag steps) = all_deeds (ran files others) (step_deeds files others) n (begun f) s steps
+call_deeds n files others f s _ = []
 
--- What a request does to the core: what each of its operations does, up to the first that fails.
-abbrev pub nfs_deeds : ℕ → Exports → FrontNfs → CoreState → RequestItem → List Deed
-nfs_deeds n exports f s r = call_deeds n exports.files f s (call_in r)
+-- What a request does to the core, beside so many opens of other protocols: what each of its operations does, up to the
+-- first that fails.
+abbrev pub nfs_deeds : ℕ → Exports → ℕ → FrontNfs → CoreState → RequestItem → List Deed
+nfs_deeds n exports others f s r = call_deeds n exports.files others f s (call_in r)
 
 -- a COMPOUND's reply
 abbrev pub compound_reply : ℕ → List ℕ → Course → List ℕ
 compound_reply xid tag c = reply xid Success ++ compound_results tag c.status c.count c.results
 
-abbrev pub call_reply : ℕ → List (List ℕ) → FrontNfs → CoreState → ℕ → Called → List ℕ
-call_reply n files f s xid Garbage = reply xid GarbageArgs
-call_reply n files f s xid Null = reply xid Success
-call_reply n files f s xid (Refused tag status) = reply xid Success ++ compound_results tag status 0 []
-call_reply n files f s xid (Compound tag steps) = compound_reply xid tag (run n files f s steps).1
+abbrev pub call_reply : ℕ → List (List ℕ) → ℕ → FrontNfs → CoreState → ℕ → Called → List ℕ
+call_reply n files others f s xid Garbage = reply xid GarbageArgs
+call_reply n files others f s xid Null = reply xid Success
+call_reply n files others f s xid (Refused tag status) = reply xid Success ++ compound_results tag status 0 []
+call_reply n files others f s xid (Compound tag steps) = compound_reply xid tag (run n files others f s steps).1
 
 -- What it is answered: a function of the request and of what it meets.
-abbrev pub nfs_reply : ℕ → Exports → FrontNfs → CoreState → RequestItem → List ℕ
-nfs_reply n exports f s r = call_reply n exports.files f s r.xid (call_in r)
+abbrev pub nfs_reply : ℕ → Exports → ℕ → FrontNfs → CoreState → RequestItem → List ℕ
+nfs_reply n exports others f s r = call_reply n exports.files others f s r.xid (call_in r)
 
 -- ---- a step: a reply, the effects, and the front and the core afterwards
 
 abbrev pub with_reply : ℕ → List ℕ → Ran Course → List ℕ × List Effect × FrontNfs × CoreState
 with_reply xid tag r = (compound_reply xid tag r.1, r.1.effects, record { state = r.1.lists }, r.2)
 
-abbrev pub replied : ℕ → List (List ℕ) → FrontNfs → CoreState → ℕ → Called → List ℕ × List Effect × FrontNfs × CoreState
-replied n files f s xid (Compound tag steps) = with_reply xid tag (run n files f s steps)
-replied n files f s xid Garbage = (reply xid GarbageArgs, [], f, s)
-replied n files f s xid Null = (reply xid Success, [], f, s)
-replied n files f s xid (Refused tag status) = (reply xid Success ++ compound_results tag status 0 [], [], f, s)
+abbrev pub replied : ℕ → List (List ℕ) → ℕ → FrontNfs → CoreState → ℕ → Called → List ℕ × List Effect × FrontNfs × CoreState
+replied n files others f s xid (Compound tag steps) = with_reply xid tag (run n files others f s steps)
+replied n files others f s xid Garbage = (reply xid GarbageArgs, [], f, s)
+replied n files others f s xid Null = (reply xid Success, [], f, s)
+replied n files others f s xid (Refused tag status) = (reply xid Success ++ compound_results tag status 0 [], [], f, s)
 
 abbrev pub sent_with : ℕ → List ℕ × List Effect × FrontNfs × CoreState → List Out × List Effect × FrontNfs × CoreState
 sent_with conn r = (sent_to conn r.0, r.1, r.2, r.3)
 
 -- What a request from a connection is answered, what the core told of besides, and the front and the core afterwards,
 -- where n stores succeed in the step.
-unfoldable pub nfs_step : ℕ → Exports → FrontNfs → CoreState → ℕ → RequestItem → List Out × List Effect × FrontNfs × CoreState
-nfs_step n exports f s conn r = sent_with conn (replied n exports.files f s r.xid (call_in r))
+unfoldable pub nfs_step : ℕ → Exports → ℕ → FrontNfs → CoreState → ℕ → RequestItem → List Out × List Effect × FrontNfs × CoreState
+nfs_step n exports others f s conn r = sent_with conn (replied n exports.files others f s r.xid (call_in r))

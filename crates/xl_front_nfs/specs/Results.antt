@@ -1,14 +1,16 @@
 -- How what an operation told is spelled (RFC 7531, nfs_resop4).
-use Rattle.std.specs.Prelude.{ℕ, ◌==◌, if◌then◌else◌, List, ◌++◌, Ok, Err}
+use Rattle.std.specs.Prelude.{ℕ, Bool, true, false, ◌==◌, if◌then◌else◌, List, [], ◌++◌, Ok, Err}
 use Rattle.xl_base.specs.Handles.{handle}
+use Rattle.xl_nfs.specs.Opened.{OpenResultItem, NoDelegation}
 use Rattle.xl_nfs.specs.Ops.{is_numbered}
-use Rattle.xl_nfs.specs.Outcomes.{OtherFault}
-use Rattle.xl_nfs.specs.Results.{ResultItem, CloseAnswer, DelegReturnAnswer, GetFhAnswer, LockAnswer, LockTAnswer, LockUAnswer, LookupAnswer, OpenAnswer, OpenConfirmAnswer, OpenDowngradeAnswer, PutFhAnswer, PutRootFhAnswer, RenewAnswer, SetClientIdAnswer, SetClientIdConfirmAnswer, ReleaseLockOwnerAnswer, NotSupportedAnswer, IllegalAnswer, ResultFits}
+use Rattle.xl_nfs.specs.Outcomes.{OtherFault, is_ok}
+use Rattle.xl_nfs.specs.Results.{ResultItem, CloseAnswer, DelegReturnAnswer, GetFhAnswer, LockAnswer, LockTAnswer, LockUAnswer, LookupAnswer, OpenAnswer, OpenConfirmAnswer, OpenDowngradeAnswer, PutFhAnswer, PutRootFhAnswer, RenewAnswer, SetClientIdAnswer, SetClientIdConfirmAnswer, ReleaseLockOwnerAnswer, NotSupportedAnswer, IllegalAnswer, ResultFits, nfs_result}
 use Rattle.xl_nfs.specs.Statuses.{status_number}
+use Rattle.xl_nfs.specs.declared.basics.Stateid.{Stateid}
 use Rattle.xl_nfs.specs.declared.status.NfsStatus.{NfsStatus}
 use Rattle.xl_rpc.specs.Xdr.{unsigned, opaque}
 use Rattle.xl_front_nfs.specs.declared.told.Told.{Told}
-use Rattle.xl_front_nfs.specs.declared.told.Told.TheVariants.{Ended, Handle, Client}
+use Rattle.xl_front_nfs.specs.declared.told.Told.TheVariants.{Ended, Handle, Client, Opened, State, Kept}
 
 -- the operation of this number ended so; the result of a number of no operation has a number of its own
 unfoldable pub ended_as : ℕ → NfsStatus → ResultItem
@@ -21,10 +23,28 @@ ended_as number status =
     else if number == 39 then ReleaseLockOwnerAnswer status
     else if is_numbered number then NotSupportedAnswer number else IllegalAnswer
 
-abbrev pub result_of : ℕ → Told → ResultItem
-result_of number (Ended status) = ended_as number status
-result_of number (Handle file) = GetFhAnswer (Ok (handle file))
-result_of number (Client confirm) = SetClientIdAnswer (Ok confirm)
+-- the operation of this number gives this stateid
+abbrev pub state_as : ℕ → Stateid → ResultItem
+state_as number stateid = if number == 4 then CloseAnswer (Ok stateid) else if number == 20 then OpenConfirmAnswer (Ok stateid) else OpenDowngradeAnswer (Ok stateid)
+
+-- OPEN gives this stateid: the directory didn't change, no attribute was set, and there is no delegation
+abbrev pub open_result_of : Stateid → ℕ → OpenResultItem
+open_result_of stateid flags = record {
+  stateid = stateid;
+  change = record { atomic = true; before = 0; after = 0 };
+  flags = flags;
+  attributes = [];
+  delegation = NoDelegation;
+}
+
+-- what an operation told, as its result is spelled
+abbrev pub spelled : ℕ → Told → List ℕ
+spelled number (Ended status) = nfs_result.spell (ended_as number status)
+spelled number (Handle file) = nfs_result.spell (GetFhAnswer (Ok (handle file)))
+spelled number (Client confirm) = nfs_result.spell (SetClientIdAnswer (Ok confirm))
+spelled number (Opened stateid flags) = nfs_result.spell (OpenAnswer (Ok (open_result_of stateid flags)))
+spelled number (State stateid) = nfs_result.spell (state_as number stateid)
+spelled number (Kept bytes) = bytes
 
 -- its result has a spelling
 abbrev pub ToldFits : ℕ → Told → Type 0

@@ -1,8 +1,7 @@
 -- A COMPOUND (RFC 7530 14.2, 16.1): its operations in a row, up to the first that fails.
 use Rattle.std.specs.Prelude.{ℕ, zero, suc, ◌+◌, Bool, false, ◌||◌, ◌==◌, if◌then◌else◌, List, [], ◌∷◌, ◌++◌, length, Option, None, Result, Ok, Err}
-use Rattle.xl_nfs.specs.Ops.{OpItem, GetFh, Lookup, PutFh, PutRootFh, Renew, SetClientId, SetClientIdConfirm, Illegal, op_number, op_at}
+use Rattle.xl_nfs.specs.Ops.{OpItem, Close, DelegReturn, GetFh, Lookup, Open, OpenConfirm, OpenDowngrade, PutFh, PutRootFh, Renew, SetClientId, SetClientIdConfirm, Illegal, op_number, op_at}
 use Rattle.xl_nfs.specs.Outcomes.{is_ok}
-use Rattle.xl_nfs.specs.Results.{nfs_result}
 use Rattle.xl_nfs.specs.declared.status.NfsStatus.{NfsStatus}
 use Rattle.xl_nfs.specs.declared.status.NfsStatus.TheVariants as statuses
 use Rattle.xl_nfs_state.specs.State.{NfsLists}
@@ -13,24 +12,33 @@ use Rattle.xl_core.specs.Rows.{Ran}
 use Rattle.xl_core.specs.State.{CoreState}
 use Rattle.xl_core.specs.declared.ask.Effect.{Effect}
 use Rattle.xl_front_nfs.specs.Clients.{renew, set_client_id, set_client_id_confirm}
+use Rattle.xl_front_nfs.specs.Closing.{open_confirm, close, deleg_return}
+use Rattle.xl_front_nfs.specs.Downgrades.{open_downgrade}
 use Rattle.xl_front_nfs.specs.Handles.{put_root_fh, put_fh, get_fh, look_up}
+use Rattle.xl_front_nfs.specs.Opens.{open_file}
 use Rattle.xl_front_nfs.specs.Plans.{Plan, Fails, deeds_of, Outcome, carried, status_of}
-use Rattle.xl_front_nfs.specs.Results.{result_of}
+use Rattle.xl_front_nfs.specs.Results.{spelled}
 use Rattle.xl_front_nfs.specs.State.{FrontNfs}
 
 -- ---- the table
 
--- What each operation does, where these files are exported. The others are not served.
-unfoldable pub planned : List (List ℕ) → CoreState → NfsLists → Option ℕ → OpItem → Plan
-planned files s l current PutRootFh = put_root_fh l
-planned files s l current (PutFh fh) = put_fh (length files) l fh
-planned files s l current GetFh = get_fh l current
-planned files s l current (Lookup name) = look_up files l current name
-planned files s l current (SetClientId a) = set_client_id s l current a
-planned files s l current (SetClientIdConfirm a) = set_client_id_confirm s l current a
-planned files s l current (Renew clientid) = renew s l current clientid
-planned files s l current (Illegal number) = Fails statuses.OpIllegal
-planned files s l current _ = Fails statuses.NotSupp
+-- What each operation does, where these files are exported, and beside so many opens of other protocols. The others are
+-- not served.
+unfoldable pub planned : List (List ℕ) → ℕ → CoreState → NfsLists → Option ℕ → OpItem → Plan
+planned files others s l current PutRootFh = put_root_fh l
+planned files others s l current (PutFh fh) = put_fh (length files) l fh
+planned files others s l current GetFh = get_fh l current
+planned files others s l current (Lookup name) = look_up files l current name
+planned files others s l current (SetClientId a) = set_client_id s l current a
+planned files others s l current (SetClientIdConfirm a) = set_client_id_confirm s l current a
+planned files others s l current (Renew clientid) = renew s l current clientid
+planned files others s l current (Open a) = open_file files others s l current a
+planned files others s l current (OpenConfirm a) = open_confirm s l current a
+planned files others s l current (OpenDowngrade a) = open_downgrade s l current a
+planned files others s l current (Close a) = close s l current a
+planned files others s l current (DelegReturn stateid) = deleg_return s l current stateid
+planned files others s l current (Illegal number) = Fails statuses.OpIllegal
+planned files others s l current _ = Fails statuses.NotSupp
 
 -- ---- the operations of a request
 
@@ -73,31 +81,34 @@ begun f = record { lists = f.state; current = None; results = []; count = 0; sta
 abbrev pub noted : Course → ℕ → Outcome → Ran Course
 noted c number r = (
   is_ok (status_of r.0),
-  record { lists = r.3; current = r.1; results = c.results ++ nfs_result.spell (result_of number r.0); count = c.count + 1; status = status_of r.0; effects = c.effects ++ r.2 },
+  record { lists = r.3; current = r.1; results = c.results ++ spelled number r.0; count = c.count + 1; status = status_of r.0; effects = c.effects ++ r.2 },
   r.4,
 )
 
 -- the operations that are served, by number
+abbrev pub is_served_beside : ℕ → Bool
+is_served_beside number = number == 10 || (number == 15 || (number == 22 || (number == 24 || (number == 30 || (number == 35 || number == 36)))))
+
 abbrev pub is_served : ℕ → Bool
-is_served number = number == 10 || (number == 15 || (number == 22 || (number == 24 || (number == 30 || (number == 35 || number == 36)))))
+is_served number = number == 4 || (number == 8 || (number == 18 || (number == 20 || (number == 21 || is_served_beside number))))
 
 -- the arguments of an operation that is not served aren't read
 abbrev pub unread : ℕ → Plan
 unread number = Fails (if is_served number then statuses.BadXdr else statuses.NotSupp)
 
-abbrev pub plan_of : List (List ℕ) → Course → CoreState → Step → Plan
-plan_of files c s (Runs op) = planned files s c.lists c.current op
-plan_of files c s (Garbled number) = unread number
-plan_of files c s Cut = Fails statuses.BadXdr
+abbrev pub plan_of : List (List ℕ) → ℕ → Course → CoreState → Step → Plan
+plan_of files others c s (Runs op) = planned files others s c.lists c.current op
+plan_of files others c s (Garbled number) = unread number
+plan_of files others c s Cut = Fails statuses.BadXdr
 
 abbrev pub done_by : ℕ → Course → CoreState → ℕ → Plan → Ran Course
 done_by n c s number plan = noted c number (carried n s c.lists c.current plan)
 
 -- one step; an operation without a number has no result
-unfoldable pub ran : List (List ℕ) → ℕ → Course → CoreState → Step → Ran Course
-ran files n c s (Runs op) = done_by n c s (op_number op) (plan_of files c s (Runs op))
-ran files n c s (Garbled number) = done_by n c s number (plan_of files c s (Garbled number))
-ran files n c s Cut = (false, record c { status = statuses.BadXdr }, s)
+unfoldable pub ran : List (List ℕ) → ℕ → ℕ → Course → CoreState → Step → Ran Course
+ran files others n c s (Runs op) = done_by n c s (op_number op) (plan_of files others c s (Runs op))
+ran files others n c s (Garbled number) = done_by n c s number (plan_of files others c s (Garbled number))
+ran files others n c s Cut = (false, record c { status = statuses.BadXdr }, s)
 
-unfoldable pub step_deeds : List (List ℕ) → ℕ → Course → CoreState → Step → List Deed
-step_deeds files n c s step = deeds_of (plan_of files c s step)
+unfoldable pub step_deeds : List (List ℕ) → ℕ → ℕ → Course → CoreState → Step → List Deed
+step_deeds files others n c s step = deeds_of n s (plan_of files others c s step)

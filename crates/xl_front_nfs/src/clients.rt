@@ -22,6 +22,13 @@ pub(crate) fn ended_as(alloc: Global, status: NfsStatus, current: Option<u32>) -
     (Told::Ended(status), current, Sequence::new(alloc))
 }
 
+/// It told so, and the core tells of nothing besides.
+pub(crate) fn beside(alloc: Global, done: (Told, Option<u32>)) -> Done
+    ensures { result ≡ (done.0, done.1, []) }
+{
+    (done.0, done.1, Sequence::new(alloc))
+}
+
 /// RENEW.
 #[tactic(auto, unfolding(crate::specs::Clients::renew), using(crate::proofs::LeaveLaws::leaves_self, crate::proofs::ClientLaws::renew_done))]
 pub(crate) fn renew(

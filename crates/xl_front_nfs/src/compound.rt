@@ -6,7 +6,7 @@ ghost use Rattle.xl_nfs.specs.declared.status.NfsStatus.TheVariants.{BadXdr, Not
 ghost use Rattle.xl_nfs_state.specs.State.{NfsLists};
 ghost use Rattle.xl_rpc.specs.Xdr.{unsigned_at};
 ghost use Rattle.xl_core.specs.Rows.{all_ran};
-ghost use Rattle.xl_core.specs.State.{CoreState};
+ghost use Rattle.xl_core.specs.State.{CoreState, MayBe};
 ghost use Rattle.xl_front_nfs.specs.Courses.{course_of};
 ghost use Rattle.xl_front_nfs.specs.Results.{ToldFits};
 ghost use Rattle.xl_front_nfs.specs.Short.{IsReady, Leaves};
@@ -17,7 +17,7 @@ use crate::results::put_result;
 use crate::serving::serve;
 use crate::told::Told;
 use std::alloc::{AllocError, Global};
-use xl_base::Sequence;
+use xl_base::{Keeper, Sequence};
 use xl_core::{Core, Effect};
 use xl_nfs::{NfsOp, NfsStatus, next_op, operation};
 use xl_nfs_state::NfsState;
@@ -60,11 +60,11 @@ fn note(progress: &mut Progress, number: u32, done: Done) -> Result<bool, AllocE
     requires fits { ToldFits number done.0 }
     requires few { progress.old.count < 64 }
     ensures noted { (old lists : NfsLists) (core : CoreState) → IfOk result (λ more. noted (course_of old progress.old) number (done.0, done.1, done.2, lists, core) ≡ (more, course_of lists progress.new, core)) }
-    ensures little { OnOk result (length progress.new.results ≤ length progress.old.results + 24) }
+    ensures little { OnOk result (length progress.new.results ≤ length progress.old.results + 56) }
     ensures count { OnOk result (progress.new.count ≡ progress.old.count + 1) }
 {
     let (told, current, effects) = done;
-    put_result(&mut progress.results, number, told)?;
+    put_result(&mut progress.results, number, &told)?;
     progress.count += 1;
     progress.current = current;
     progress.status = told.status();
@@ -73,23 +73,35 @@ fn note(progress: &mut Progress, number: u32, done: Done) -> Result<bool, AllocE
 }
 
 /// Does an operation; whether others are done behind it.
-fn do_op(
+fn do_op<K: Keeper>(
     alloc: Global,
     files: &[Sequence<u8>],
+    others: u32,
     state: &mut NfsState,
     core: &mut Core,
+    keeper: &mut K,
     progress: &mut Progress,
     op: &NfsOp,
 ) -> Result<bool, AllocError>
     requires ready { IsReady 2 core.old }
     requires fits { OpFits (shown_op op.now) }
     requires few { progress.old.count < 64 }
-    ensures done { (n : ℕ) → IfOk result (λ more. ran files.now n (course_of state.old progress.old) core.old (Runs (shown_op op.now)) ≡ (more, course_of state.new progress.new, core.new)) }
+    ensures done { (n : ℕ) → IfOk result (λ more. MayBe n core.new → ran files.now others n (course_of state.old progress.old) core.old (Runs (shown_op op.now)) ≡ (more, course_of state.new progress.new, core.new)) }
     ensures leaves { OnOk result (Leaves 2 core.old core.new) }
-    ensures little { OnOk result (length progress.new.results ≤ length progress.old.results + 24) }
+    ensures little { OnOk result (length progress.new.results ≤ length progress.old.results + 56) }
     ensures count { OnOk result (progress.new.count ≡ progress.old.count + 1) }
+    ensures keeper { keeper.new ≡ keeper.old }
 {
-    let done = serve(alloc, files, state, core, progress.current, op)?;
+    let done = serve(
+        alloc,
+        files,
+        others,
+        state,
+        core,
+        keeper,
+        progress.current,
+        op,
+    )?;
     let more = note(progress, op.number(), done)?;
     Ok(more)
 }
@@ -100,8 +112,13 @@ fn is_served(number: u32) -> bool
 {
     matches!(
         number,
-        operation::GETFH
+        operation::CLOSE
+            | operation::DELEGRETURN
+            | operation::GETFH
             | operation::LOOKUP
+            | operation::OPEN
+            | operation::OPEN_CONFIRM
+            | operation::OPEN_DOWNGRADE
             | operation::PUTFH
             | operation::PUTROOTFH
             | operation::RENEW
@@ -124,8 +141,8 @@ fn unread_status(number: u32) -> NfsStatus
 /// Refuses an operation whose arguments can't be read.
 fn refuse(alloc: Global, progress: &mut Progress, number: u32) -> Result<(), AllocError>
     requires few { progress.old.count < 64 }
-    ensures done { (n : ℕ) (files : List (List ℕ)) (lists : NfsLists) (core : CoreState) → OnOk result (ran files n (course_of lists progress.old) core (Garbled number) ≡ (false, course_of lists progress.new, core)) }
-    ensures little { OnOk result (length progress.new.results ≤ length progress.old.results + 24) }
+    ensures done { (n : ℕ) (files : List (List ℕ)) (others : ℕ) (lists : NfsLists) (core : CoreState) → OnOk result (ran files others n (course_of lists progress.old) core (Garbled number) ≡ (false, course_of lists progress.new, core)) }
+    ensures little { OnOk result (length progress.new.results ≤ length progress.old.results + 56) }
 {
     let status = unread_status(number);
     let done = (Told::Ended(status), progress.current, Sequence::new(alloc));
@@ -137,8 +154,8 @@ fn refuse(alloc: Global, progress: &mut Progress, number: u32) -> Result<(), All
 #[tactic(auto, unfolding(crate::specs::Steps::ran))]
 fn refuse_rest(alloc: Global, progress: &mut Progress, rest: &Xdr) -> Result<(), AllocError>
     requires few { progress.old.count < 64 }
-    ensures done { (n : ℕ) (files : List (List ℕ)) (lists : NfsLists) (core : CoreState) → OnOk result (ran files n (course_of lists progress.old) core (fault_of (unsigned_at rest.now.rest.now)) ≡ (false, course_of lists progress.new, core)) }
-    ensures little { OnOk result (length progress.new.results ≤ length progress.old.results + 24) }
+    ensures done { (n : ℕ) (files : List (List ℕ)) (others : ℕ) (lists : NfsLists) (core : CoreState) → OnOk result (ran files others n (course_of lists progress.old) core (fault_of (unsigned_at rest.now.rest.now)) ≡ (false, course_of lists progress.new, core)) }
+    ensures little { OnOk result (length progress.new.results ≤ length progress.old.results + 56) }
 {
     let mut at = *rest;
     match at.u32() {
@@ -149,21 +166,25 @@ fn refuse_rest(alloc: Global, progress: &mut Progress, rest: &Xdr) -> Result<(),
 }
 
 /// Does so many operations, read one behind the other, up to the first that isn't OK or can't be read.
-pub(crate) fn run_ops(
+#[tactic(auto, using(crate::proofs::LeaveLaws::leaves_self, crate::proofs::LeaveLaws::leaves_more, crate::proofs::LeaveLaws::step_ready, crate::proofs::LeaveLaws::steps_leave, crate::proofs::LeaveLaws::may_before))]
+pub(crate) fn run_ops<K: Keeper>(
     alloc: Global,
     files: &[Sequence<u8>],
+    others: u32,
     state: &mut NfsState,
     core: &mut Core,
+    keeper: &mut K,
     progress: &mut Progress,
     args: &Xdr,
     count: u32,
 ) -> Result<(), AllocError>
     requires ready { IsReady (2 * count) core.old }
     requires few { progress.old.count + count ≤ 64 }
-    ensures course { (n : ℕ) → OnOk result ((all_ran (ran files.now) n (course_of state.old progress.old) core.old (steps_in count args.now.rest.now)).1 ≡ course_of state.new progress.new) }
-    ensures core { (n : ℕ) → OnOk result ((all_ran (ran files.now) n (course_of state.old progress.old) core.old (steps_in count args.now.rest.now)).2 ≡ core.new) }
+    ensures course { (n : ℕ) → OnOk result (MayBe n core.new → (all_ran (ran files.now others) n (course_of state.old progress.old) core.old (steps_in count args.now.rest.now)).1 ≡ course_of state.new progress.new) }
+    ensures core { (n : ℕ) → OnOk result (MayBe n core.new → (all_ran (ran files.now others) n (course_of state.old progress.old) core.old (steps_in count args.now.rest.now)).2 ≡ core.new) }
     ensures leaves { OnOk result (Leaves (2 * count) core.old core.new) }
-    ensures little { OnOk result (length progress.new.results ≤ length progress.old.results + 24 * count) }
+    ensures little { OnOk result (length progress.new.results ≤ length progress.old.results + 56 * count) }
+    ensures keeper { keeper.new ≡ keeper.old }
 {
     if count == 0 {
         return Ok(());
@@ -173,9 +194,20 @@ pub(crate) fn run_ops(
         refuse_rest(alloc, progress, args)?;
         return Ok(());
     };
-    if !do_op(alloc, files, state, core, progress, &op)? {
+    let more = do_op(alloc, files, others, state, core, keeper, progress, &op)?;
+    if !more {
         return Ok(());
     }
-    run_ops(alloc, files, state, core, progress, &rest, count - 1)?;
+    run_ops(
+        alloc,
+        files,
+        others,
+        state,
+        core,
+        keeper,
+        progress,
+        &rest,
+        count - 1,
+    )?;
     Ok(())
 }

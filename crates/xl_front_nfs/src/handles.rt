@@ -74,7 +74,7 @@ fn file_number(place: usize) -> Option<u32>
 
 /// The number of the first file of this name.
 #[tactic(auto, unfolding(crate::specs::Handles::file_named))]
-fn file_named(files: &[Sequence<u8>], name: &[u8]) -> Option<u32>
+pub(crate) fn file_named(files: &[Sequence<u8>], name: &[u8]) -> Option<u32>
     ensures { result ≡ file_named files.now name.now }
 {
     match place_of(files, name) {

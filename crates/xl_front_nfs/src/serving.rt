@@ -1,59 +1,79 @@
 //! What becomes of an operation.
+ghost use Rattle.xl_core.specs.State.{MayBe};
 ghost use Rattle.std.specs.Prelude.{◌≡◌, ℕ, [], IfOk, OnOk};
 ghost use Rattle.xl_nfs.specs.Ops.{shown_op};
 ghost use Rattle.xl_front_nfs.specs.Plans.{carried};
 ghost use Rattle.xl_front_nfs.specs.Short.{IsReady, Leaves};
 ghost use Rattle.xl_front_nfs.specs.Steps.{planned};
 
-use crate::clients::{Done, ended_as, renew};
+use crate::clients::{Done, beside, ended_as, renew};
+use crate::closing::{close, deleg_return, open_confirm};
 use crate::confirming::set_client_id_confirm;
+use crate::downgrading::open_downgrade;
 use crate::handles::{get_fh, look_up, put_fh, put_root_fh};
+use crate::opening::open_file;
 use crate::setting::set_client_id;
-use crate::told::Told;
 use std::alloc::{AllocError, Global};
-use xl_base::Sequence;
+use xl_base::{Keeper, Sequence};
 use xl_core::Core;
 use xl_nfs::{NfsOp, NfsStatus};
 use xl_nfs_state::NfsState;
 
-/// An operation that does nothing to the core.
-fn beside(alloc: Global, done: (Told, Option<u32>)) -> Done
-    ensures { result ≡ (done.0, done.1, []) }
-{
-    (done.0, done.1, Sequence::new(alloc))
-}
-
 /// What an operation comes to, where these files are exported.
 #[tactic(auto, unfolding(crate::specs::Steps::planned), using(crate::proofs::LeaveLaws::leaves_self, crate::proofs::LeaveLaws::leaves_more, crate::proofs::LeaveLaws::ready_less))]
-pub(crate) fn serve(
+pub(crate) fn serve<K: Keeper>(
     alloc: Global,
     files: &[Sequence<u8>],
+    others: u32,
     state: &mut NfsState,
     core: &mut Core,
+    keeper: &mut K,
     current: Option<u32>,
     op: &NfsOp,
 ) -> Result<Done, AllocError>
     requires ready { IsReady 2 core.old }
-    ensures done { (n : ℕ) → IfOk result (λ r. carried n core.old state.old current (planned files.now core.old state.old current (shown_op op.now)) ≡ (r.0, r.1, r.2, state.new, core.new)) }
+    ensures done { (n : ℕ) → IfOk result (λ r. MayBe n core.new → carried n core.old state.old current (planned files.now others core.old state.old current (shown_op op.now)) ≡ (r.0, r.1, r.2, state.new, core.new)) }
     ensures leaves { OnOk result (Leaves 2 core.old core.new) }
+    ensures keeper { keeper.new ≡ keeper.old }
 {
     match op {
         NfsOp::PutRootFh => Ok(beside(alloc, put_root_fh())),
         NfsOp::PutFh(fh) => Ok(beside(alloc, put_fh(files.len(), current, fh))),
         NfsOp::GetFh => Ok(beside(alloc, get_fh(current))),
         NfsOp::Lookup(name) => Ok(beside(alloc, look_up(files, current, name))),
-        NfsOp::SetClientId(args) => set_client_id(alloc, state, core, current, args),
-        NfsOp::SetClientIdConfirm(args) => set_client_id_confirm(alloc, state, core, current, args),
-        NfsOp::Renew(clientid) => renew(alloc, state, core, current, *clientid),
+        NfsOp::SetClientId(args) => {
+            let done = set_client_id(alloc, state, core, current, args)?;
+            Ok(done)
+        }
+        NfsOp::SetClientIdConfirm(args) => {
+            let done = set_client_id_confirm(alloc, state, core, current, args)?;
+            Ok(done)
+        }
+        NfsOp::Renew(clientid) => {
+            let done = renew(alloc, state, core, current, *clientid)?;
+            Ok(done)
+        }
         NfsOp::Illegal(_) => Ok(ended_as(alloc, NfsStatus::OpIllegal, current)),
-        NfsOp::Close(_)
-        | NfsOp::DelegReturn(_)
-        | NfsOp::Lock(_)
+        NfsOp::Open(args) => open_file(alloc, files, others, state, core, keeper, current, args),
+        NfsOp::OpenConfirm(args) => {
+            let done = open_confirm(alloc, state, core, current, args)?;
+            Ok(done)
+        }
+        NfsOp::OpenDowngrade(args) => {
+            let done = open_downgrade(alloc, state, core, current, args)?;
+            Ok(done)
+        }
+        NfsOp::Close(args) => {
+            let done = close(alloc, state, core, current, args)?;
+            Ok(done)
+        }
+        NfsOp::DelegReturn(stateid) => {
+            let done = deleg_return(alloc, state, core, current, stateid)?;
+            Ok(done)
+        }
+        NfsOp::Lock(_)
         | NfsOp::LockT(_)
         | NfsOp::LockU(_)
-        | NfsOp::Open(_)
-        | NfsOp::OpenConfirm(_)
-        | NfsOp::OpenDowngrade(_)
         | NfsOp::ReleaseLockOwner(_)
         | NfsOp::NotSupported(_) => Ok(ended_as(alloc, NfsStatus::NotSupp, current)),
     }

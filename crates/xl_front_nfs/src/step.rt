@@ -56,7 +56,7 @@ fn compound_reply(
     results: &XdrOut,
 ) -> Result<Vec<u8>, AllocError>
     requires tag { length tag.now ≤ 1024 }
-    requires few { length results.now ≤ 1536 }
+    requires few { length results.now ≤ 3584 }
     ensures reply { IfOk result (λ v. v.items ≡ reply xid Success ++ compound_results tag.now status count results.now) }
     ensures little { IfOk result (λ v. length v.items ≤ 65536) }
 {
@@ -81,11 +81,13 @@ fn begun(alloc: Global) -> Progress
 }
 
 /// A COMPOUND is done; its operations are in these bytes.
-fn done(
+fn done<K: Keeper>(
     alloc: Global,
     files: &[Sequence<u8>],
+    others: u32,
     front: &mut NfsFront,
     core: &mut Core,
+    keeper: &mut K,
     xid: u32,
     head: &CompoundHead,
     args: &Xdr,
@@ -93,16 +95,19 @@ fn done(
     requires tag { length head.now.tag.now ≤ 1024 }
     requires few { head.now.count ≤ 64 }
     requires ready { IsReady 128 core.old }
-    ensures done { (n : ℕ) → IfOk result (λ r. with_reply xid head.now.tag.now (run n files.now front.old core.old (steps_in head.now.count args.now.rest.now)) ≡ (r.0.items, r.1, front.new, core.new)) }
+    ensures done { (n : ℕ) → IfOk result (λ r. MayBe n core.new → with_reply xid head.now.tag.now (run n files.now others front.old core.old (steps_in head.now.count args.now.rest.now)) ≡ (r.0.items, r.1, front.new, core.new)) }
     ensures leaves { OnOk result (Leaves 128 core.old core.new) }
     ensures little { IfOk result (λ r. length r.0.items ≤ 65536) }
+    ensures keeper { keeper.new ≡ keeper.old }
 {
     let mut progress = begun(alloc);
     run_ops(
         alloc,
         files,
+        others,
         &mut front.state,
         core,
+        keeper,
         &mut progress,
         args,
         head.count,
@@ -147,7 +152,7 @@ fn refused(
 /// The reply to NULL.
 #[tactic(auto, using(crate::proofs::LeaveLaws::leaves_self, crate::proofs::LeaveLaws::leaves_more))]
 fn null(alloc: Global, request: &Request) -> Result<(Vec<u8>, Sequence<Effect>), AllocError>
-    ensures done { (n : ℕ) (files : List (List ℕ)) (f : FrontNfs) (s : CoreState) → IfOk result (λ r. replied n files f s request.now.xid (null_in request.now.arguments.rest.now) ≡ (r.0.items, r.1, f, s)) }
+    ensures done { (n : ℕ) (files : List (List ℕ)) (others : ℕ) (f : FrontNfs) (s : CoreState) → IfOk result (λ r. replied n files others f s request.now.xid (null_in request.now.arguments.rest.now) ≡ (r.0.items, r.1, f, s)) }
     ensures little { IfOk result (λ r. length r.0.items ≤ 65536) }
 {
     if !request.arguments.left().is_empty() {
@@ -159,17 +164,20 @@ fn null(alloc: Global, request: &Request) -> Result<(Vec<u8>, Sequence<Effect>),
 
 /// The reply to a COMPOUND: its minor version is judged before the number of its operations.
 #[tactic(auto, unfolding(xl_nfs::specs::Compounds::compound_head), using(crate::proofs::LeaveLaws::leaves_self, crate::proofs::LeaveLaws::leaves_more))]
-fn compound(
+fn compound<K: Keeper>(
     alloc: Global,
     files: &[Sequence<u8>],
+    others: u32,
     front: &mut NfsFront,
     core: &mut Core,
+    keeper: &mut K,
     request: &Request,
 ) -> Result<(Vec<u8>, Sequence<Effect>), AllocError>
     requires ready { IsReady 128 core.old }
-    ensures done { (n : ℕ) → IfOk result (λ r. replied n files.now front.old core.old request.now.xid (compound_in (compound_head_at request.now.arguments.rest.now)) ≡ (r.0.items, r.1, front.new, core.new)) }
+    ensures done { (n : ℕ) → IfOk result (λ r. MayBe n core.new → replied n files.now others front.old core.old request.now.xid (compound_in (compound_head_at request.now.arguments.rest.now)) ≡ (r.0.items, r.1, front.new, core.new)) }
     ensures leaves { OnOk result (Leaves 128 core.old core.new) }
     ensures little { IfOk result (λ r. length r.0.items ≤ 65536) }
+    ensures keeper { keeper.new ≡ keeper.old }
 {
     let mut args = request.arguments;
     let Ok(head) = read_head(&mut args) else {
@@ -181,27 +189,42 @@ fn compound(
     if head.count > MOST_OPS {
         return refused(alloc, request.xid, head.tag, NfsStatus::Resource);
     }
-    done(alloc, files, front, core, request.xid, &head, &args)
+    done(
+        alloc,
+        files,
+        others,
+        front,
+        core,
+        keeper,
+        request.xid,
+        &head,
+        &args,
+    )
 }
 
 /// The reply to a request.
 #[tactic(auto, unfolding(crate::specs::FrontNfs::call_in), using(crate::proofs::LeaveLaws::leaves_self, crate::proofs::LeaveLaws::leaves_more))]
-fn replied(
+fn replied<K: Keeper>(
     alloc: Global,
     files: &[Sequence<u8>],
+    others: u32,
     front: &mut NfsFront,
     core: &mut Core,
+    keeper: &mut K,
     request: &Request,
 ) -> Result<(Vec<u8>, Sequence<Effect>), AllocError>
     requires ready { IsReady 128 core.old }
-    ensures done { (n : ℕ) → IfOk result (λ r. replied n files.now front.old core.old request.now.xid (call_in (shown_request request.now)) ≡ (r.0.items, r.1, front.new, core.new)) }
+    ensures done { (n : ℕ) → IfOk result (λ r. MayBe n core.new → replied n files.now others front.old core.old request.now.xid (call_in (shown_request request.now)) ≡ (r.0.items, r.1, front.new, core.new)) }
     ensures leaves { OnOk result (Leaves 128 core.old core.new) }
     ensures little { IfOk result (λ r. length r.0.items ≤ 65536) }
+    ensures keeper { keeper.new ≡ keeper.old }
 {
     if request.procedure == 0 {
-        null(alloc, request)
+        let done = null(alloc, request)?;
+        Ok(done)
     } else {
-        compound(alloc, files, front, core, request)
+        let done = compound(alloc, files, others, front, core, keeper, request)?;
+        Ok(done)
     }
 }
 
@@ -216,19 +239,28 @@ fn replied(
 pub fn nfs_step<K: Keeper>(
     alloc: Global,
     exports: &Exports,
+    others: u32,
     front: &mut NfsFront,
     core: &mut Core,
-    _keeper: &mut K,
+    keeper: &mut K,
     conn: u64,
     request: &Request,
 ) -> Result<(Sequence<Out>, Sequence<Effect>), AllocError>
     requires known { serves Program.Nfs request.now.procedure ≡ true }
     requires ready { IsReady 128 core.old }
-    ensures state { (n : ℕ) → IfOk result (λ r. MayBe n core.new → nfs_step n exports.now front.old core.old conn (shown_request request.now) ≡ (r.0, r.1, front.new, core.new)) }
+    ensures state { (n : ℕ) → IfOk result (λ r. MayBe n core.new → nfs_step n exports.now others front.old core.old conn (shown_request request.now) ≡ (r.0, r.1, front.new, core.new)) }
     ensures leaves { OnOk result (Leaves 128 core.old core.new) }
     ensures little { IfOk result (λ r. AllByRecursion FitsFrame r.0) }
-    ensures keeper { _keeper.new ≡ _keeper.old }
+    ensures keeper { keeper.new ≡ keeper.old }
 {
-    let (reply, effects) = replied(alloc, exports.files.as_slice(), front, core, request)?;
+    let (reply, effects) = replied(
+        alloc,
+        exports.files.as_slice(),
+        others,
+        front,
+        core,
+        keeper,
+        request,
+    )?;
     Ok((sent_to(alloc, conn, reply)?, effects))
 }

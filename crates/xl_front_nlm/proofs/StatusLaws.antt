@@ -138,8 +138,8 @@ unlock_exactly n left s a at good ends = λ status.
     let request = unlock_ask a at in
     let claim = known_claim request (Bytes at.first at.last) false s.names in
     let client = own_client a.lock.caller_name in (
-      λ e. subst (λ (x : NlmStatus). IsUnlockTold s claim at.first at.last x) e (unlock_forth s claim at.first at.last (ask n left s request).0 ((unlock_due n left s request at.first at.last (ask n left s request).0 refl client ends good).0 refl)),
-      λ told. unlock_back s claim at.first at.last (ask n left s request).0 (λ answer due. (unlock_due n left s request at.first at.last answer refl client ends good).1 due) status told,
+      λ e. subst (λ (x : NlmStatus). IsUnlockTold s claim at.first at.last x) e (unlock_forth s claim at.first at.last (ask n left s request).0 ((unlock_due n left s request at.first at.last (ask n left s request).0 refl client refl ends good).0 refl)),
+      λ told. unlock_back s claim at.first at.last (ask n left s request).0 (λ answer due. (unlock_due n left s request at.first at.last answer refl client refl ends good).1 due) status told,
     )
 
 -- ---- what is named

@@ -15,7 +15,7 @@ use Rattle.xl_names.specs.declared.name.Name.{Name}
 use Rattle.xl_wait.specs.declared.waiter.Rooms.{Rooms}
 use Rattle.xl_wait.specs.declared.waiter.Waiter.{Waiter}
 use Rattle.xl_table.specs.Relock.{granted_claims}
-use Rattle.xl_core.specs.State.{CoreState, MayBe, GoesOn}
+use Rattle.xl_core.specs.State.{CoreState}
 use Rattle.xl_core.specs.Asking.{who_entered, both_entered, asked_claim, IsFit}
 use Rattle.xl_core.specs.Causes.{IsClaimDue}
 use Rattle.xl_core.specs.Decide.{ask}
@@ -23,7 +23,7 @@ use Rattle.xl_core.specs.Frames.{who_left, IsFrame, drawn_by, asks_to_hold, name
 use Rattle.xl_core.specs.Limits.{most_hosts}
 use Rattle.xl_core.specs.Settle.{all_cancelled}
 use Rattle.xl_core.proofs.CauseLaws.{lock_due}
-use Rattle.xl_core.proofs.FrameLaws.{ask_frame, ask_quiet}
+use Rattle.xl_core.proofs.FrameLaws.{ask_frame, ask_quiet, goes_on_self}
 use Rattle.xl_core.proofs.LimitLaws.{grant_least, grant_room, wait_least, wait_room}
 use Rattle.xl_core.specs.declared.ask.Answer.TheVariants as answers
 use Rattle.xl_core.specs.declared.ask.Answer.{Answer}
@@ -44,17 +44,11 @@ use Rattle.xl_front_nlm.specs.Short.{IsShort, AreShort, IsShortWho, IsShortAsk, 
 
 -- ---- nothing changes
 
-pub goes_on_self : (s : CoreState) → GoesOn s s
-goes_on_self s = record { made = omega arith; failed = λ f. (f, refl) }
-
 pub grows_self : (s : CoreState) → AreShort s.names → Grows s s
 grows_self s short = record { counter = omega arith; waiters = omega arith; short = short }
 
 pub leaves_self : (s : CoreState) → IsReady s → Leaves s s
 leaves_self s ready = record { on = goes_on_self s; good = ready.good; grows = grows_self s ready.short }
-
-pub may_be_made : (s : CoreState) → MayBe s.made s
-may_be_made s = record { enough = omega arith; spent = λ _. refl }
 
 -- ---- short names
 

@@ -1,6 +1,7 @@
 -- Names whose parts fit the messages that tell them, and what a step adds to the core at most.
 use Rattle.std.specs.Prelude.{◌+◌, ◌<◌, ◌≤◌, ◌^◌, List, length}
 use Rattle.std.specs.List.{AllByRecursion}
+use Rattle.xl_base.specs.Limits.{numbers_left}
 use Rattle.xl_names.specs.declared.name.Name.{Name}
 use Rattle.xl_names.specs.declared.name.Name.TheVariants.{NlmRange}
 use Rattle.xl_core.specs.State.{CoreState, GoesOn}
@@ -39,7 +40,7 @@ pub record Grows (old new : CoreState) : Type 0 where
 -- the state is good, numbers are left to give out, and the names fit the messages that tell them
 pub record IsReady (s : CoreState) : Type 0 where
   pub good : IsGood s
-  pub numbers : s.counter + 65536 < 2 ^ 32
+  pub numbers : s.counter + numbers_left < 2 ^ 32
   pub short : AreShort s.names
 
 -- the state is good, the stores of the step go on, and little was added

@@ -13,7 +13,7 @@ use xl_base::{Keeper, Sequence};
 use xl_core::{Answer, Ask, Core, Effect};
 
 /// Asks the core.
-#[tactic(auto, using(crate::proofs::StepLaws::may_be_made))]
+#[tactic(auto, using(xl_core::proofs::FrameLaws::may_be_made))]
 pub(crate) fn asked<K: Keeper>(
     alloc: Global,
     front: &Front,

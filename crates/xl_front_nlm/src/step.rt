@@ -1,6 +1,7 @@
 //! What a call of program 100021 version 4 is answered: the Network Lock Manager (XNFS C702).
 ghost use Rattle.std.specs.Prelude.{◌≡◌, ℕ, ◌≤◌, true, [], ◌++◌, length, IfOk, OnOk};
 ghost use Rattle.std.specs.List.{AllByRecursion};
+ghost use Rattle.xl_base.specs.Limits.{most_message_bytes};
 ghost use Rattle.xl_nlm.specs.Arguments.{arguments_at, CallFits};
 ghost use Rattle.xl_nlm.specs.Items.{shown_call, shown_reply};
 ghost use Rattle.xl_nlm.specs.Replies.{results, ReplyFits};
@@ -28,7 +29,7 @@ use xl_rpc::{Verdict, XdrOut, write_reply};
 fn with_results(alloc: Global, xid: u32, told: &NlmReply) -> Result<Vec<u8>, AllocError>
     requires { ReplyFits (shown_reply told.now) }
     ensures reply { IfOk result (λ v. v.items ≡ reply xid Success ++ results (shown_reply told.now)) }
-    ensures little { IfOk result (λ v. length v.items ≤ 65536) }
+    ensures little { IfOk result (λ v. length v.items ≤ most_message_bytes) }
 {
     let mut out = XdrOut::new(alloc);
     write_reply(&mut out, xid, Verdict::Success)?;
@@ -51,7 +52,7 @@ fn served<K: Keeper>(
     ensures done { (n : ℕ) → IfOk result (λ r. MayBe n core.new → with_results xid (shown_call call.now) (served n count front.old core.old (shown_call call.now)) ≡ (r.0.items, r.1, front.new, core.new)) }
     ensures leaves { OnOk result (Leaves core.old core.new) }
     ensures keeper { keeper.new ≡ keeper.old }
-    ensures little { IfOk result (λ r. length r.0.items ≤ 65536) }
+    ensures little { IfOk result (λ r. length r.0.items ≤ most_message_bytes) }
 {
     let (outcome, effects) = serve(alloc, count, front, core, keeper, call)?;
     let results = reply_of(core.names(), call, outcome);
@@ -62,7 +63,7 @@ fn served<K: Keeper>(
 fn garbage(alloc: Global, xid: u32) -> Result<(Vec<u8>, Sequence<Effect>), AllocError>
     ensures reply { IfOk result (λ r. r.0.items ≡ reply xid GarbageArgs) }
     ensures none { IfOk result (λ r. r.1 ≡ []) }
-    ensures little { IfOk result (λ r. length r.0.items ≤ 65536) }
+    ensures little { IfOk result (λ r. length r.0.items ≤ most_message_bytes) }
 {
     let bytes = refusal(alloc, xid, Verdict::GarbageArgs)?;
     Ok((bytes, Sequence::new(alloc)))
@@ -83,7 +84,7 @@ fn replied<K: Keeper>(
     ensures done { (n : ℕ) → IfOk result (λ r. MayBe n core.new → replied n count front.old core.old request.now.xid (call_in (shown_request request.now)) ≡ (r.0.items, r.1, front.new, core.new)) }
     ensures leaves { OnOk result (Leaves core.old core.new) }
     ensures keeper { keeper.new ≡ keeper.old }
-    ensures little { IfOk result (λ r. length r.0.items ≤ 65536) }
+    ensures little { IfOk result (λ r. length r.0.items ≤ most_message_bytes) }
 {
     let mut args = request.arguments;
     let Ok(call) = read(request.procedure, &mut args) else {

@@ -15,8 +15,7 @@ use Rattle.xl_programs.specs.declared.program.Program.{Program}
 use Rattle.xl_programs.specs.declared.program.Program.TheVariants.{Nlm, Nfs}
 use Rattle.xl_programs.specs.Sent.{sent_to}
 use Rattle.xl_core.specs.State.{CoreState, step_begun}
-use Rattle.xl_core.specs.Clients.{IsOf, AreOf, AreOfSome}
-use Rattle.xl_core.specs.Deeds.{Deed, Asks, GivesBack, Cancels, Ends, Serves, Draws, Advances, Renews, Expires, turned, done, all_done, answers_of, expiry_then, expiries, AreFit}
+use Rattle.xl_core.specs.Deeds.{Deed, turned, all_done, answers_of, expiry_then, expiries, AreFit}
 use Rattle.xl_core.specs.Good.{IsGood}
 use Rattle.xl_core.specs.Settle.{settle}
 use Rattle.xl_core.specs.declared.ask.Effect.{Effect}
@@ -33,18 +32,19 @@ use Rattle.xl_front_nlm.proofs.OwnLaws.{step_own}
 use Rattle.xl_front_nlm.specs.Answers.{refuses, refused_grant, refusal_deeds, nlm_called}
 use Rattle.xl_front_nlm.specs.FrontNlm.{nlm_step}
 use Rattle.xl_front_nlm.specs.Grants.{news, drawn_for, shown, shown_deeds}
-use Rattle.xl_front_nlm.specs.Hosts.{rooms}
 use Rattle.xl_house.specs.declared.parts.Fronts.{Fronts}
 use Rattle.xl_front_nlm.specs.declared.grant.Grant.{Grant}
-use Rattle.xl_front_nlm.specs.FrontNlm.{nlm_client, nlm_deeds}
-use Rattle.xl_front_nfs.specs.FrontNfs.{nfs_deeds, nfs_step}
-use Rattle.xl_front_nfs.specs.Owners.{IsBy, AreBy}
+use Rattle.xl_front_nfs.specs.FrontNfs.{nfs_step}
 use Rattle.xl_front_nfs.proofs.DoesLaws as nfs
 use Rattle.xl_front_nfs.proofs.OwnLaws as nfs_own
-use Rattle.xl_house.specs.Done.{program_deeds, program_owns, program_reply, record_deeds, record_owns, message_deeds, message_owns, record_replies, message_replies, own_deeds, own_replies, told_deeds, turn_deeds, turns_for, turns, given_of, program_given, record_given, message_given, given_by, behind_own, deeds, messages}
+use Rattle.xl_front_smb.specs.FrontSmb.{smb_step}
+use Rattle.xl_front_smb.proofs.DoesLaws as smb
+use Rattle.xl_front_smb.proofs.OwnLaws as smb_own
+use Rattle.xl_house.specs.Done.{program_deeds, program_owns, program_reply, record_deeds, record_owns, message_deeds, message_owns, record_replies, message_replies, end_deeds, end_owns, own_deeds, own_replies, told_deeds, turn_deeds, turns_for, turns, given_of, program_given, record_given, message_given, end_given, given_by, behind_own, deeds, messages}
 use Rattle.xl_house.specs.Journals.{is_restart}
 use Rattle.xl_house.specs.Lawful.{may_do, may_follow, IsOwnersBy}
-use Rattle.xl_house.specs.Machine.{Whole, Sent, showing, with_nlm, with_nfs, kind_of, framed, all_shown, after_turn, settled_for, settled, program_heard, record_heard, heard_by, heard}
+use Rattle.xl_house.specs.Machine.{Whole, Sent, showing, with_nlm, with_nfs, with_smb, nfs_opens, smb_opens, kind_of, framed, all_shown, rooms_of, after_turn, settled_for, settled, program_heard, record_heard, heard_by, ended_by, heard}
+use Rattle.xl_house.proofs.MayLaws.{May, MayEnd, nlm_may, nfs_may, smb_may, last_may}
 
 -- ---- telling
 
@@ -82,7 +82,7 @@ told_follow exports f s (effect ∷ effects) =
 abbrev Turned : Type 0
 Turned = Option (List Effect × CoreState)
 
-by_turn : (n : ℕ) (exports : Exports) (rest : Fronts → CoreState → Sent) (later : Fronts → CoreState → List Deed) (f : Fronts) (s : CoreState) (o : Turned) → settle n (rooms f.nlm.hosts) s ≡ o
+by_turn : (n : ℕ) (exports : Exports) (rest : Fronts → CoreState → Sent) (later : Fronts → CoreState → List Deed) (f : Fronts) (s : CoreState) (o : Turned) → settle n (rooms_of f) s ≡ o
     → ((g : Fronts) (t : CoreState) → (rest g t).2 ≡ all_done n t (later g t)) → (after_turn exports rest f s o).2 ≡ all_done n s (turn_deeds exports later f o)
 by_turn n exports rest later f s None e each = refl
 by_turn n exports rest later f s (Some turn) e each =
@@ -95,13 +95,13 @@ by_turn n exports rest later f s (Some turn) e each =
 
 do_for : (fuel n : ℕ) (exports : Exports) (f : Fronts) (s : CoreState) → (settled_for fuel n exports f s).2 ≡ all_done n s (turns_for fuel n exports f s)
 do_for zero n exports f s = refl
-do_for (suc fuel) n exports f s = by_turn n exports (settled_for fuel n exports) (turns_for fuel n exports) f s (settle n (rooms f.nlm.hosts) s) refl (λ g t. do_for fuel n exports g t)
+do_for (suc fuel) n exports f s = by_turn n exports (settled_for fuel n exports) (turns_for fuel n exports) f s (settle n (rooms_of f) s) refl (λ g t. do_for fuel n exports g t)
 
 turns_do : (n : ℕ) (exports : Exports) (f : Fronts) (s : CoreState) → (settled n exports f s).2 ≡ all_done n s (turns n exports f s)
 unfolding settled turns
 turns_do n exports f s = do_for (length s.waiters) n exports f s
 
-turn_fit : (n : ℕ) (exports : Exports) (later : Fronts → CoreState → List Deed) (f : Fronts) (s : CoreState) (o : Turned) → settle n (rooms f.nlm.hosts) s ≡ o
+turn_fit : (n : ℕ) (exports : Exports) (later : Fronts → CoreState → List Deed) (f : Fronts) (s : CoreState) (o : Turned) → settle n (rooms_of f) s ≡ o
     → ((g : Fronts) (t : CoreState) → AreFit n t (later g t)) → AreFit n s (turn_deeds exports later f o)
 turn_fit n exports later f s None e each = tt
 turn_fit n exports later f s (Some turn) e each =
@@ -115,7 +115,7 @@ turn_fit n exports later f s (Some turn) e each =
 
 fit_for : (fuel n : ℕ) (exports : Exports) (f : Fronts) (s : CoreState) → AreFit n s (turns_for fuel n exports f s)
 fit_for zero n exports f s = tt
-fit_for (suc fuel) n exports f s = turn_fit n exports (turns_for fuel n exports) f s (settle n (rooms f.nlm.hosts) s) refl (λ g t. fit_for fuel n exports g t)
+fit_for (suc fuel) n exports f s = turn_fit n exports (turns_for fuel n exports) f s (settle n (rooms_of f) s) refl (λ g t. fit_for fuel n exports g t)
 
 turns_fit : (n : ℕ) (exports : Exports) (f : Fronts) (s : CoreState) → AreFit n s (turns n exports f s)
 unfolding turns
@@ -129,7 +129,7 @@ turn_follow exports later f (Some turn) each =
 
 follow_for : (fuel n : ℕ) (exports : Exports) (f : Fronts) (s : CoreState) → Follow (turns_for fuel n exports f s)
 follow_for zero n exports f s = tt
-follow_for (suc fuel) n exports f s = turn_follow exports (turns_for fuel n exports) f (settle n (rooms f.nlm.hosts) s) (λ g t. follow_for fuel n exports g t)
+follow_for (suc fuel) n exports f s = turn_follow exports (turns_for fuel n exports) f (settle n (rooms_of f) s) (λ g t. follow_for fuel n exports g t)
 
 turns_follow : (n : ℕ) (exports : Exports) (f : Fronts) (s : CoreState) → Follow (turns n exports f s)
 unfolding turns
@@ -139,44 +139,54 @@ turns_follow n exports f s = follow_for (length s.waiters) n exports f s
 
 program_does : (n : ℕ) (exports : Exports) (f : Fronts) (s : CoreState) (number : ℕ) (r : RequestItem) (program : Program) → (program_given n exports f s number r program).2 ≡ all_done n s (program_deeds n program exports f s r)
 program_does n exports f s number r Nlm = step_does n exports f.nlm s number r
-program_does n exports f s number r Nfs = nfs.request_does n exports f.nfs s number r
+program_does n exports f s number r Nfs = nfs.request_does n exports (smb_opens f) f.nfs s number r
 
 record_does : (n : ℕ) (exports : Exports) (f : Fronts) (s : CoreState) (number : ℕ) (incoming : IncomingItem) → (record_given n exports f s number incoming).2 ≡ all_done n s (record_deeds n exports f s incoming)
 record_does n exports f s number Unanswered = refl
 record_does n exports f s number (Refused xid verdict) = refl
 record_does n exports f s number (Asked r) = program_does n exports f s number r r.program
 
-message_does : (n : ℕ) (exports : Exports) (f : Fronts) (s : CoreState) (kind : Option Kind) (number : ℕ) (bytes : List ℕ) → (message_given n exports f s kind number bytes).2 ≡ all_done n s (message_deeds n exports f s kind bytes)
+message_does : (n : ℕ) (exports : Exports) (f : Fronts) (s : CoreState) (kind : Option Kind) (number : ℕ) (bytes : List ℕ) → (message_given n exports f s kind number bytes).2 ≡ all_done n s (message_deeds n exports f s kind number bytes)
 message_does n exports f s None number bytes = refl
-message_does n exports f s (Some Smb) number bytes = refl
+message_does n exports f s (Some Smb) number bytes = smb.step_does n exports (nfs_opens f) f.smb s number bytes
 message_does n exports f s (Some Rpc) number bytes = record_does n exports f s number (incoming_at bytes)
+
+end_does : (n : ℕ) (f : Fronts) (s : CoreState) (kind : Option Kind) (number : ℕ) → (end_given f s kind number).2 ≡ all_done n s (end_deeds f kind number)
+end_does n f s None number = refl
+end_does n f s (Some Rpc) number = refl
+end_does n f s (Some Smb) number = smb.end_does n f.smb s number
 
 own_does : (n : ℕ) (s : Whole) (event : Event) → (given_by n s event).2 ≡ all_done n (step_begun s.core) (own_deeds n s event)
 own_does n s (Open kind) = refl
 own_does n s (Message number bytes) = message_does n s.exports s.front (step_begun s.core) (kind_of s.connections number) number bytes
-own_does n s (End number) = refl
+own_does n s (End number) = end_does n s.front (step_begun s.core) (kind_of s.connections number) number
 own_does n s (Called number bytes) = answer_does n s.front.nlm (step_begun s.core) number bytes
 own_does n s (Tick moment) = sym (tick_done n (step_begun s.core) moment)
 own_does n s Restart = refl
 
 program_takes : (n : ℕ) (exports : Exports) (f : Fronts) (s : CoreState) (r : RequestItem) (program : Program) → IsGood s → AreFit n s (program_deeds n program exports f s r)
 program_takes n exports f s r Nlm good = step_takes n exports f.nlm s r
-program_takes n exports f s r Nfs good = nfs_own.request_takes n exports f.nfs s r
+program_takes n exports f s r Nfs good = nfs_own.request_takes n exports (smb_opens f) f.nfs s r good
 
 record_takes : (n : ℕ) (exports : Exports) (f : Fronts) (s : CoreState) (incoming : IncomingItem) → IsGood s → AreFit n s (record_deeds n exports f s incoming)
 record_takes n exports f s Unanswered good = tt
 record_takes n exports f s (Refused xid verdict) good = tt
 record_takes n exports f s (Asked r) good = program_takes n exports f s r r.program good
 
-message_takes : (n : ℕ) (exports : Exports) (f : Fronts) (s : CoreState) (kind : Option Kind) (bytes : List ℕ) → IsGood s → AreFit n s (message_deeds n exports f s kind bytes)
-message_takes n exports f s None bytes good = tt
-message_takes n exports f s (Some Smb) bytes good = tt
-message_takes n exports f s (Some Rpc) bytes good = record_takes n exports f s (incoming_at bytes) good
+message_takes : (n : ℕ) (exports : Exports) (f : Fronts) (s : CoreState) (kind : Option Kind) (number : ℕ) (bytes : List ℕ) → IsGood s → AreFit n s (message_deeds n exports f s kind number bytes)
+message_takes n exports f s None number bytes good = tt
+message_takes n exports f s (Some Smb) number bytes good = smb_own.step_takes n exports (nfs_opens f) f.smb s number bytes
+message_takes n exports f s (Some Rpc) number bytes good = record_takes n exports f s (incoming_at bytes) good
+
+end_takes : (n : ℕ) (f : Fronts) (s : CoreState) (kind : Option Kind) (number : ℕ) → AreFit n s (end_deeds f kind number)
+end_takes n f s None number = tt
+end_takes n f s (Some Rpc) number = tt
+end_takes n f s (Some Smb) number = smb_own.end_takes n f.smb s number
 
 own_takes : (n : ℕ) (s : Whole) (event : Event) → IsGood (step_begun s.core) → AreFit n (step_begun s.core) (own_deeds n s event)
 own_takes n s (Open kind) good = tt
-own_takes n s (Message number bytes) good = message_takes n s.exports s.front (step_begun s.core) (kind_of s.connections number) bytes good
-own_takes n s (End number) good = tt
+own_takes n s (Message number bytes) good = message_takes n s.exports s.front (step_begun s.core) (kind_of s.connections number) number bytes good
+own_takes n s (End number) good = end_takes n s.front (step_begun s.core) (kind_of s.connections number) number
 own_takes n s (Called number bytes) good = answer_takes n s.front.nlm (step_begun s.core) number bytes
 own_takes n s (Tick moment) good = tick_fits n (step_begun s.core) moment
 own_takes n s Restart good = tt
@@ -198,11 +208,16 @@ message_told n exports f s None number bytes = refl
 message_told n exports f s (Some Smb) number bytes = refl
 message_told n exports f s (Some Rpc) number bytes = record_told n exports f s number (incoming_at bytes)
 
+end_told : (exports : Exports) (f : Fronts) (s : CoreState) (kind : Option Kind) (number : ℕ) → (let g = end_given f s kind number in (ended_by exports f s kind number).2 ≡ (all_shown exports g.1 g.2 g.0).2)
+end_told exports f s None number = refl
+end_told exports f s (Some Rpc) number = refl
+end_told exports f s (Some Smb) number = refl
+
 own_told : (n : ℕ) (s : Whole) (event : Event) → (let g = given_by n s event in (heard n s event).2 ≡ (all_shown s.exports g.1 g.2 g.0).2)
 unfolding heard
 own_told n s (Open kind) = refl
 own_told n s (Message number bytes) = message_told n s.exports s.front (step_begun s.core) (kind_of s.connections number) number bytes
-own_told n s (End number) = refl
+own_told n s (End number) = end_told s.exports s.front (step_begun s.core) (kind_of s.connections number) number
 own_told n s (Called number bytes) = refl
 own_told n s (Tick moment) = refl
 own_told n s Restart = refl
@@ -234,7 +249,7 @@ deeds_are : (n : ℕ) (s : Whole) (event : Event) → is_restart event ≡ false
 unfolding deeds
 deeds_are n s (Open kind) other = refl
 deeds_are n s (Message number bytes) other = sym (three (own_deeds n s (Message number bytes)) _ _)
-deeds_are n s (End number) other = refl
+deeds_are n s (End number) other = sym (three (own_deeds n s (End number)) _ _)
 deeds_are n s (Called number bytes) other = sym (three (own_deeds n s (Called number bytes)) _ _)
 deeds_are n s (Tick moment) other = sym (three (own_deeds n s (Tick moment)) _ _)
 deeds_are n s Restart other = absurd cc
@@ -261,71 +276,49 @@ deeds_taken n s event other good =
 
 program_own : (n : ℕ) (exports : Exports) (f : Fronts) (s : CoreState) (r : RequestItem) (program : Program) → IsGood s → program_owns n program exports f s r
 program_own n exports f s r Nlm good = step_own n exports f.nlm s r good
-program_own n exports f s r Nfs good = nfs_own.request_own n exports f.nfs s r
+program_own n exports f s r Nfs good = nfs_own.request_own n exports (smb_opens f) f.nfs s r good
 
 record_own : (n : ℕ) (exports : Exports) (f : Fronts) (s : CoreState) (incoming : IncomingItem) → IsGood s → record_owns n exports f s incoming
 record_own n exports f s Unanswered good = tt
 record_own n exports f s (Refused xid verdict) good = tt
 record_own n exports f s (Asked r) good = program_own n exports f s r r.program good
 
-message_own : (n : ℕ) (exports : Exports) (f : Fronts) (s : CoreState) (kind : Option Kind) (bytes : List ℕ) → IsGood s → message_owns n exports f s kind bytes
-message_own n exports f s None bytes good = tt
-message_own n exports f s (Some Smb) bytes good = tt
-message_own n exports f s (Some Rpc) bytes good = record_own n exports f s (incoming_at bytes) good
+message_own : (n : ℕ) (exports : Exports) (f : Fronts) (s : CoreState) (kind : Option Kind) (number : ℕ) (bytes : List ℕ) → IsGood s → message_owns n exports f s kind number bytes
+message_own n exports f s None number bytes good = tt
+message_own n exports f s (Some Smb) number bytes good = smb_own.step_own n exports (nfs_opens f) f.smb s number bytes
+message_own n exports f s (Some Rpc) number bytes good = record_own n exports f s (incoming_at bytes) good
+
+end_own : (f : Fronts) (s : CoreState) (kind : Option Kind) (number : ℕ) → end_owns f s kind number
+end_own f s None number = tt
+end_own f s (Some Rpc) number = tt
+end_own f s (Some Smb) number = smb_own.end_own f.smb s number
 
 pub owners_own : (n : ℕ) (s : Whole) (event : Event) → IsGood (step_begun s.core) → IsOwnersBy n s event
 owners_own n s (Open kind) good = tt
-owners_own n s (Message number bytes) good = message_own n s.exports s.front (step_begun s.core) (kind_of s.connections number) bytes good
-owners_own n s (End number) good = tt
+owners_own n s (Message number bytes) good = message_own n s.exports s.front (step_begun s.core) (kind_of s.connections number) number bytes good
+owners_own n s (End number) good = end_own s.front (step_begun s.core) (kind_of s.connections number) number
 owners_own n s (Called number bytes) good = tt
 owners_own n s (Tick moment) good = tt
 owners_own n s Restart good = tt
 
-abbrev May : ℕ → List ℕ → List Deed → Type 0
-May number bytes ds = AllByRecursion (λ d. may_do (Message number bytes) d ≡ true) ds
-
-of_may : (s : CoreState) (client : Name) (number : ℕ) (bytes : List ℕ) (d : Deed) → IsOf s client d → may_do (Message number bytes) d ≡ true
-of_may s client number bytes (Asks left a) own = refl
-of_may s client number bytes (GivesBack claim) own = refl
-of_may s client number bytes (Cancels id) own = refl
-of_may s client number bytes (Ends party) own = refl
-of_may s client number bytes (Serves left) own = absurd own
-of_may s client number bytes Draws own = absurd own
-of_may s client number bytes (Advances now) own = absurd own
-of_may s client number bytes (Renews id) own = refl
-of_may s client number bytes (Expires id) own = absurd own
-
-are_may : (n : ℕ) (s : CoreState) (client : Name) (number : ℕ) (bytes : List ℕ) (ds : List Deed) → AreOf n s client ds → May number bytes ds
-are_may n s client number bytes [] own = tt
-are_may n s client number bytes (d ∷ ds) own = (of_may s client number bytes d own.0, are_may n (done n s d) client number bytes ds own.1)
-
-some_may : (n : ℕ) (s : CoreState) (client : Option Name) (number : ℕ) (bytes : List ℕ) (ds : List Deed) → AreOfSome n s client ds → May number bytes ds
-some_may n s None number bytes ds none = subst (λ (x : List Deed). May number bytes x) (sym none) tt
-some_may n s (Some client) number bytes ds own = are_may n s client number bytes ds own
-
-one_may : (s : CoreState) (number : ℕ) (bytes : List ℕ) (d : Deed) → IsBy s (λ _. Unit {0}) d → may_do (Message number bytes) d ≡ true
-one_may s number bytes Draws own = refl
-one_may s number bytes (Ends party) own = refl
-one_may s number bytes (Renews id) own = refl
-one_may s number bytes d own = absurd own
-
-theirs_may : (n : ℕ) (s : CoreState) (number : ℕ) (bytes : List ℕ) (ds : List Deed) → AreBy n s (λ _. Unit {0}) ds → May number bytes ds
-theirs_may n s number bytes [] own = tt
-theirs_may n s number bytes (d ∷ ds) own = (one_may s number bytes d own.0, theirs_may n (done n s d) number bytes ds own.1)
-
 program_may : (n number : ℕ) (bytes : List ℕ) (exports : Exports) (f : Fronts) (s : CoreState) (r : RequestItem) (program : Program) → IsGood s → May number bytes (program_deeds n program exports f s r)
-program_may n number bytes exports f s r Nlm good = some_may n s (nlm_client r) number bytes (nlm_deeds exports f.nlm s r) (step_own n exports f.nlm s r good)
-program_may n number bytes exports f s r Nfs good = theirs_may n s number bytes (nfs_deeds n exports f.nfs s r) (nfs_own.request_by n exports f.nfs s r)
+program_may n number bytes exports f s r Nlm good = nlm_may n number bytes exports f.nlm s r good
+program_may n number bytes exports f s r Nfs good = nfs_may n number bytes exports (smb_opens f) f.nfs s r good
 
 record_may : (n number : ℕ) (bytes : List ℕ) (exports : Exports) (f : Fronts) (s : CoreState) (incoming : IncomingItem) → IsGood s → May number bytes (record_deeds n exports f s incoming)
 record_may n number bytes exports f s Unanswered good = tt
 record_may n number bytes exports f s (Refused xid verdict) good = tt
 record_may n number bytes exports f s (Asked r) good = program_may n number bytes exports f s r r.program good
 
-message_may : (n number : ℕ) (bytes : List ℕ) (exports : Exports) (f : Fronts) (s : CoreState) (kind : Option Kind) → IsGood s → May number bytes (message_deeds n exports f s kind bytes)
+message_may : (n number : ℕ) (bytes : List ℕ) (exports : Exports) (f : Fronts) (s : CoreState) (kind : Option Kind) → IsGood s → May number bytes (message_deeds n exports f s kind number bytes)
 message_may n number bytes exports f s None good = tt
-message_may n number bytes exports f s (Some Smb) good = tt
+message_may n number bytes exports f s (Some Smb) good = smb_may n exports (nfs_opens f) f.smb s number bytes
 message_may n number bytes exports f s (Some Rpc) good = record_may n number bytes exports f s (incoming_at bytes) good
+
+end_may : (f : Fronts) (kind : Option Kind) (number : ℕ) → MayEnd number (end_deeds f kind number)
+end_may f None number = tt
+end_may f (Some Rpc) number = tt
+end_may f (Some Smb) number = last_may f.smb number
 
 refusal_may : (hosts : List (List ℕ)) (number : ℕ) (bytes : Option (List ℕ)) (o : Option Grant) → AllByRecursion (λ d. may_do (Called number bytes) d ≡ true) (refusal_deeds hosts o)
 refusal_may hosts number bytes None = tt
@@ -342,7 +335,7 @@ expiries_may now (suc fuel) s = expiry_may now (expiries fuel) s (first_ended s.
 pub own_may : (n : ℕ) (s : Whole) (event : Event) → IsGood (step_begun s.core) → AllByRecursion (λ d. may_do event d ≡ true) (own_deeds n s event)
 own_may n s (Open kind) good = tt
 own_may n s (Message number bytes) good = message_may n number bytes s.exports s.front (step_begun s.core) (kind_of s.connections number) good
-own_may n s (End number) good = tt
+own_may n s (End number) good = end_may s.front (kind_of s.connections number) number
 own_may n s (Called number bytes) good = refusal_may s.front.nlm.hosts number bytes _
 own_may n s (Tick moment) good = (eq-eqb moment.0 moment.0 refl, expiries_may moment (length (step_begun s.core).leases) (advanced (step_begun s.core) moment))
 own_may n s Restart good = tt
@@ -362,8 +355,8 @@ program_sends n exports f s number r Nlm =
     let x = with_nlm f (nlm_step n exports f.nlm s number r) in
     ap (λ (outs : List Out). (all_shown exports x.2 x.3 x.1).0 ++ map (framed Rpc) outs) (step_replies n exports f.nlm s number r)
 program_sends n exports f s number r Nfs =
-    let x = with_nfs f (nfs_step n exports f.nfs s number r) in
-    ap (λ (outs : List Out). (all_shown exports x.2 x.3 x.1).0 ++ map (framed Rpc) outs) (nfs.request_replies n exports f.nfs s number r)
+    let x = with_nfs f (nfs_step n exports (smb_opens f) f.nfs s number r) in
+    ap (λ (outs : List Out). (all_shown exports x.2 x.3 x.1).0 ++ map (framed Rpc) outs) (nfs.request_replies n exports (smb_opens f) f.nfs s number r)
 
 record_sends : (n : ℕ) (exports : Exports) (f : Fronts) (s : CoreState) (number : ℕ) (incoming : IncomingItem)
     → (let g = record_given n exports f s number incoming in
@@ -374,16 +367,23 @@ record_sends n exports f s number (Asked r) = program_sends n exports f s number
 
 message_sends : (n : ℕ) (exports : Exports) (f : Fronts) (s : CoreState) (kind : Option Kind) (number : ℕ) (bytes : List ℕ)
     → (let g = message_given n exports f s kind number bytes in
-    (heard_by n exports f s kind number bytes).0 ≡ (all_shown exports g.1 g.2 g.0).0 ++ message_replies n exports f s (all_done n s (message_deeds n exports f s kind bytes)).names kind number bytes (answers_of n s (message_deeds n exports f s kind bytes)))
+    (heard_by n exports f s kind number bytes).0 ≡ (all_shown exports g.1 g.2 g.0).0 ++ message_replies n exports f s (all_done n s (message_deeds n exports f s kind number bytes)).names kind number bytes (answers_of n s (message_deeds n exports f s kind number bytes)))
 message_sends n exports f s None number bytes = refl
-message_sends n exports f s (Some Smb) number bytes = refl
+message_sends n exports f s (Some Smb) number bytes =
+    let x = with_smb f (smb_step n exports (nfs_opens f) f.smb s number bytes) in
+    ap (λ (outs : List Out). (all_shown exports x.2 x.3 x.1).0 ++ map (framed Smb) outs) (smb.step_replies n exports (nfs_opens f) f.smb s number bytes)
 message_sends n exports f s (Some Rpc) number bytes = record_sends n exports f s number (incoming_at bytes)
+
+end_sends : (exports : Exports) (f : Fronts) (s : CoreState) (kind : Option Kind) (number : ℕ) → (let g = end_given f s kind number in (ended_by exports f s kind number).0 ≡ (all_shown exports g.1 g.2 g.0).0 ++ [])
+end_sends exports f s None number = refl
+end_sends exports f s (Some Rpc) number = refl
+end_sends exports f s (Some Smb) number = sym (append-nil _)
 
 heard_sends : (n : ℕ) (s : Whole) (event : Event) → (let g = given_by n s event in (heard n s event).0 ≡ (all_shown s.exports g.1 g.2 g.0).0 ++ own_replies n s event)
 unfolding heard
 heard_sends n s (Open kind) = refl
 heard_sends n s (Message number bytes) = message_sends n s.exports s.front (step_begun s.core) (kind_of s.connections number) number bytes
-heard_sends n s (End number) = refl
+heard_sends n s (End number) = end_sends s.exports s.front (step_begun s.core) (kind_of s.connections number) number
 heard_sends n s (Called number bytes) = sym (append-nil _)
 heard_sends n s (Tick moment) = sym (append-nil _)
 heard_sends n s Restart = refl

@@ -1,21 +1,28 @@
 -- What is heard, as the code tells it.
-use Rattle.std.proofs.Common.{◌≡◌, ℕ, ◌+◌, ◌≤◌, ◌<◌, ◌^◌, List, length, refl, sym, ap, subst, ◌∙◌, arith}
+use Rattle.std.proofs.Common.{◌≡◌, ℕ, ◌+◌, ◌≤◌, ◌<◌, ◌^◌, Option, Some, List, [], ◌∷◌, ◌++◌, length, refl, sym, ap, subst, ◌∙◌, arith}
+use Rattle.xl_base.specs.declared.event.Kind.{Kind}
+use Rattle.xl_base.specs.declared.event.Kind.TheVariants.{Smb}
 use Rattle.xl_base.specs.declared.event.Out.{Out}
 use Rattle.xl_base.specs.declared.event.Moment.{Moment}
+use Rattle.std.specs.List.{AllByRecursion}
+use Rattle.xl_base.specs.declared.name.Protocol.TheVariants.{Nfs}
+use Rattle.xl_names.specs.Names.{protocol_of}
 use Rattle.xl_names.specs.declared.name.Name.{Name}
+use Rattle.xl_names.specs.declared.name.Name.TheVariants.{NlmRange}
 use Rattle.xl_core.proofs.FrameLaws.{tick_frame}
 use Rattle.xl_core.proofs.GoodLaws.{begun_good, tick_good}
 use Rattle.xl_core.specs.Ticks.{tick}
 use Rattle.xl_core.specs.Good.{IsGood}
 use Rattle.xl_core.specs.State.{CoreState, step_begun}
 use Rattle.xl_core.specs.declared.ask.Effect.{Effect}
-use Rattle.xl_front_nlm.specs.Short.{AreShort, Leaves}
+use Rattle.xl_front_nlm.specs.Short.{IsShort, AreShort, Leaves}
 use Rattle.xl_base.specs.declared.journal.Exports.{Exports}
 use Rattle.xl_programs.specs.Programs.{RequestItem, IncomingItem, Asked}
 use Rattle.xl_programs.specs.declared.program.Program.{Program}
 use Rattle.xl_front_nfs.specs.Short as nfs
+use Rattle.xl_front_smb.specs.Short as smb
 use Rattle.xl_house.specs.declared.parts.Fronts.{Fronts}
-use Rattle.xl_house.specs.Machine.{Sent, grants, program_heard, record_heard}
+use Rattle.xl_house.specs.Machine.{Sent, grants, program_heard, record_heard, packet_heard, heard_by}
 use Rattle.xl_house.specs.Shown.{IsReadyFor, LeavesBy}
 use Rattle.xl_house.proofs.Stores.{goes_on_self, goes_further}
 
@@ -92,12 +99,25 @@ asked_is_heard n exports f s number r program incoming sent e asked is =
 
 -- ---- a COMPOUND
 
+-- names of NFSv4 have no part that NLM tells
+nfs_short : (name : Name) → protocol_of name ≡ Nfs → IsShort name
+nfs_short (NlmRange caller svid oh) e = absurd cc
+nfs_short name e = tt
+
+more_short : (names more : List Name) → AllByRecursion (λ name. protocol_of name ≡ Nfs) more → AreShort names → AreShort (names ++ more)
+more_short [] [] theirs short = tt
+more_short [] (m ∷ ms) theirs short = (nfs_short m theirs.0, more_short [] ms theirs.1 short)
+more_short (n ∷ ns) more theirs short = (short.0, more_short ns more theirs short.1)
+
+comes_short : (old new : List Name) → nfs.Comes old new → AreShort old → AreShort new
+comes_short old new comes short = subst (λ (names : List Name). AreShort names) (sym comes.is) (more_short old comes.more comes.nfs short)
+
 -- what the front of NFSv4 left may be told: nothing of it tells of a grant
 pub nfs_ready : (s t : CoreState) (effects : List Effect) → grants effects ≡ 0 → IsReadyFor 128 s → nfs.Leaves 128 s t → IsReadyFor (grants effects) t
 nfs_ready s t effects none ready leaves = record {
   good = leaves.good;
   numbers = omega (arith, none, leaves.counter, ready.numbers);
-  short = subst (λ (names : List Name). AreShort names) (sym leaves.names) ready.short;
+  short = comes_short s.names t.names leaves.names ready.short;
 }
 
 pub nfs_leaves : (s t u : CoreState) (effects : List Effect) → grants effects ≡ 0 → nfs.Leaves 128 s t → LeavesBy (grants effects) t u → LeavesBy 128 s u
@@ -105,5 +125,28 @@ nfs_leaves s t u effects none leaves told = record {
   on = goes_further s t u leaves.on told.on;
   good = told.good;
   short = told.short;
-  counter = omega (arith, none, leaves.counter, leaves.waiters, told.counter);
+  counter = omega (arith, none, leaves.crowd, told.counter);
+}
+
+-- ---- SMB
+
+-- a message of a connection of SMB
+pub packet_is_heard : (n : ℕ) (exports : Exports) (f : Fronts) (s : CoreState) (number : ℕ) (bytes : List ℕ) (kind : Option Kind) (k : Kind) (sent : Sent) → kind ≡ Some k → k ≡ Smb → packet_heard n exports f s number bytes ≡ sent → heard_by n exports f s kind number bytes ≡ sent
+packet_is_heard n exports f s number bytes kind k sent opened smb is =
+    ap (λ (o : Option Kind). heard_by n exports f s o number bytes) (opened ∙ ap (λ (x : Kind). Some x) smb) ∙ is
+
+-- what the front of SMB left may be told
+pub smb_ready : (most : ℕ) (s t : CoreState) (effects : List Effect) → most ≤ 128 → grants effects ≡ 0 → IsReadyFor 128 s → smb.Leaves most s t → IsReadyFor (grants effects) t
+smb_ready most s t effects few none ready leaves = record {
+  good = leaves.good;
+  numbers = omega (arith, few, none, leaves.counter, ready.numbers);
+  short = subst (λ (names : List Name). AreShort names) (sym leaves.names) ready.short;
+}
+
+pub smb_leaves : (most : ℕ) (s t u : CoreState) (effects : List Effect) → most ≤ 128 → grants effects ≡ 0 → smb.Leaves most s t → LeavesBy (grants effects) t u → LeavesBy 128 s u
+smb_leaves most s t u effects few none leaves told = record {
+  on = goes_further s t u leaves.on told.on;
+  good = told.good;
+  short = told.short;
+  counter = omega (arith, few, none, leaves.counter, leaves.waiters, told.counter);
 }

@@ -18,16 +18,13 @@ use Rattle.xl_core.specs.declared.lease.Times.{Times}
 use Rattle.xl_house.specs.Done.{deeds}
 use Rattle.xl_house.specs.Lawful.{found, IsLawful, IsWaiting}
 use Rattle.xl_house.specs.Machine.{Whole}
+use Rattle.xl_house.proofs.LawfulLaws.{begun_waits}
 
 pub nothing_kept_in : (n stores number : ℕ) (bytes : List ℕ) (outs : List Out) (s t : Whole) (stable : Stable) (clock : Moment) (times : Times) → found s ≡ started stable clock times → deeds n s (Message number bytes) ≡ Asks all_room smallest_lock ∷ []
     → t.core.claims ≡ [] → IsLawful n s (record { event = Message number bytes; stores = stores; outs = outs }) t → ⊥
 nothing_kept_in n stores number bytes outs s t stable clock times begun does none lawful =
     nothing_kept n stable clock times t.core none
     (subst (λ (x : CoreState). IsChangedBy n x (Asks all_room smallest_lock ∷ []) t.core) begun (subst (λ (ds : List Deed). IsChangedBy n (found s) ds t.core) does lawful))
-
-begun_waits : (s : CoreState) → (step_begun s).waiters ≡ s.waiters
-unfolding step_begun
-begun_waits s = refl
 
 pub waiter_dropped_in : (n stores number : ℕ) (bytes : List ℕ) (outs : List Out) (s t : Whole) (left : Rooms) (a : Ask) (w : Waiter) (extent : Extent) (exclusive : Bool) → a.act ≡ Test extent exclusive → deeds n s (Message number bytes) ≡ Asks left a ∷ []
     → s.core.waiters ≡ w ∷ [] → t.core.waiters ≡ [] → IsWaiting n s (record { event = Message number bytes; stores = stores; outs = outs }) t → ⊥

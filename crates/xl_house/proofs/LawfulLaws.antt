@@ -31,7 +31,7 @@ unfolding step_begun
 begun_held s (ByteOf file owner byte) = refl
 begun_held s (ShareOf file owner) = refl
 
-begun_waits : (s : CoreState) → (step_begun s).waiters ≡ s.waiters
+pub begun_waits : (s : CoreState) → (step_begun s).waiters ≡ s.waiters
 unfolding step_begun
 begun_waits s = refl
 

@@ -1,5 +1,6 @@
 pub mod StillLaws
 pub mod Stores
+pub mod MayLaws
 pub mod QuietLaws
 pub mod ShownLaws
 pub mod SettleLaws

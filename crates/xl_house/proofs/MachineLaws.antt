@@ -18,17 +18,16 @@ use Rattle.xl_core.specs.declared.ask.Effect.{Effect}
 use Rattle.xl_core.proofs.GoodLaws.{started_good, begun_good, settle_good}
 use Rattle.xl_core.proofs.SettleLaws.{none_settled, turn_fewer}
 use Rattle.xl_wait.specs.declared.waiter.Waiter.{Waiter}
-use Rattle.xl_front_nlm.specs.Hosts.{rooms}
 use Rattle.xl_house.specs.declared.parts.Fronts.{Fronts}
 use Rattle.xl_house.specs.Free.{IsFree, AlwaysFree}
 use Rattle.xl_house.specs.Journals.{is_restart}
 use Rattle.xl_core.specs.declared.lease.Times.{Times}
-use Rattle.xl_house.specs.Machine.{Whole, Turn, Sent, times_of, begin, behind, and_then, grants, all_shown, after_turn, settled_for, settled, heard, connected, onward, turn_of, settled_turn, restarted, step}
+use Rattle.xl_house.specs.Machine.{Whole, Turn, Sent, times_of, begin, behind, and_then, grants, all_shown, rooms_of, after_turn, settled_for, settled, heard, connected, onward, turn_of, settled_turn, restarted, step}
 use Rattle.xl_house.specs.declared.connections.Connection.{Connection}
 use Rattle.xl_house.proofs.StillLaws.{IsStill, deeds_still}
 use Rattle.xl_house.specs.Done.{deeds}
 use Rattle.xl_house.proofs.DoneLaws.{own_and_told, heard_does, heard_takes, left_by, left_is, deeds_taken}
-use Rattle.xl_house.proofs.ShownLaws.{all_shown_is, all_shown_good, shown_waiters}
+use Rattle.xl_house.proofs.ShownLaws.{all_shown_good, told_waiters}
 use Rattle.xl_house.proofs.Stores.{may_be_made, may_be_before}
 
 -- ---- an event other than a restart
@@ -48,12 +47,9 @@ none_waits : (P : Waiter → Type 0) (ws : List Waiter) → length ws ≡ 0 → 
 none_waits P [] e = tt
 none_waits P (w ∷ ws) e = absurd (omega (arith, e))
 
-told_waiters : (exports : Exports) (f : Fronts) (t : CoreState) (effects : List Effect) → length (all_shown exports f t effects).2.waiters ≡ length t.waiters
-told_waiters exports f t effects = ap length (shown_waiters (grants effects) t (all_shown exports f t effects).2 (all_shown_is exports f t effects))
-
-ends_by : (fuel n : ℕ) (exports : Exports) (f : Fronts) (s : CoreState) (o : Option (List Effect × CoreState)) → settle n (rooms f.nlm.hosts) s ≡ o → IfSome o (λ r. length r.1.waiters + 1 ≡ length s.waiters) → IfSome o (λ r. IsGood r.1) → length s.waiters ≡ suc fuel
+ends_by : (fuel n : ℕ) (exports : Exports) (f : Fronts) (s : CoreState) (o : Option (List Effect × CoreState)) → settle n (rooms_of f) s ≡ o → IfSome o (λ r. length r.1.waiters + 1 ≡ length s.waiters) → IfSome o (λ r. IsGood r.1) → length s.waiters ≡ suc fuel
     → ((g : Fronts) (t : CoreState) → IsGood t → length t.waiters ≡ fuel → IsSettled (settled_for fuel n exports g t).2) → IsSettled (after_turn exports (settled_for fuel n exports) f s o).2
-ends_by fuel n exports f s None is fewer good e rests = none_settled n (rooms f.nlm.hosts) s is
+ends_by fuel n exports f s None is fewer good e rests = none_settled n (rooms_of f) s is
 ends_by fuel n exports f s (Some turn) is fewer good e rests =
     let done = all_shown exports f turn.1 turn.0 in
     rests done.1 done.2 (all_shown_good exports f turn.1 turn.0 good) (omega (arith, fewer, e, told_waiters exports f turn.1 turn.0))
@@ -61,7 +57,7 @@ ends_by fuel n exports f s (Some turn) is fewer good e rests =
 ends_for : (fuel n : ℕ) (exports : Exports) (f : Fronts) (s : CoreState) → IsGood s → length s.waiters ≡ fuel → IsSettled (settled_for fuel n exports f s).2
 ends_for zero n exports f s good e = none_waits (λ w. stands_in_the_way s.claims w.asked ≡ true) s.waiters e
 ends_for (suc fuel) n exports f s good e =
-    ends_by fuel n exports f s (settle n (rooms f.nlm.hosts) s) refl (turn_fewer n (rooms f.nlm.hosts) s good) (settle_good n (rooms f.nlm.hosts) s good) e (λ g t h k. ends_for fuel n exports g t h k)
+    ends_by fuel n exports f s (settle n (rooms_of f) s) refl (turn_fewer n (rooms_of f) s good) (settle_good n (rooms_of f) s good) e (λ g t h k. ends_for fuel n exports g t h k)
 
 -- nobody is forgotten
 pub settling_ends : (n : ℕ) (exports : Exports) (f : Fronts) (s : CoreState) → IsGood s → IsSettled (settled n exports f s).2

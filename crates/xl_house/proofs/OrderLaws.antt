@@ -18,6 +18,7 @@ use Rattle.xl_programs.specs.declared.program.Program.{Program}
 use Rattle.xl_programs.specs.declared.program.Program.TheVariants.{Nlm, Nfs}
 use Rattle.xl_programs.specs.Sent.{sent_to}
 use Rattle.xl_core.specs.State.{CoreState, step_begun}
+use Rattle.xl_core.specs.Deeds.{answers_of}
 use Rattle.xl_core.specs.Settle.{settle}
 use Rattle.xl_core.specs.Ticks.{tick}
 use Rattle.xl_core.specs.declared.ask.Effect.{Effect}
@@ -27,13 +28,15 @@ use Rattle.xl_front_nfs.specs.FrontNfs.{nfs_step}
 use Rattle.xl_front_nlm.proofs.DoesLaws as nlm
 use Rattle.xl_front_nlm.specs.FrontNlm.{nlm_step}
 use Rattle.xl_front_nlm.specs.Grants.{news, told_by, shown}
-use Rattle.xl_front_nlm.specs.Hosts.{rooms}
 use Rattle.xl_front_nlm.specs.State.{FrontState}
+use Rattle.xl_front_smb.specs.Ending.{smb_end}
+use Rattle.xl_front_smb.specs.FrontSmb.{sent_by, smb_deeds, smb_reply, smb_step}
+use Rattle.xl_front_smb.proofs.DoesLaws as smb
 use Rattle.xl_house.specs.declared.parts.Fronts.{Fronts}
 use Rattle.xl_front_nlm.specs.declared.grant.Grant.{Grant}
 use Rattle.xl_house.proofs.MachineLaws.{next_place}
 use Rattle.xl_house.specs.Journals.{IsLegal, IsOrderly, IsTimely, opened_after}
-use Rattle.xl_house.specs.Machine.{Whole, Sent, begin, with_connection, without, kind_of, framed, showing, all_shown, with_nlm, with_nfs, after_call, ticked, after_turn, settled_for, settled, program_heard, record_heard, heard_by, heard, connected, settled_turn, step, most_connections}
+use Rattle.xl_house.specs.Machine.{Whole, Sent, begin, with_connection, without, kind_of, framed, showing, all_shown, with_nlm, with_nfs, with_smb, after_call, after_end, ticked, nfs_opens, smb_opens, rooms_of, after_turn, settled_for, settled, program_heard, record_heard, packet_heard, heard_by, ended_by, heard, connected, settled_turn, step, most_connections}
 use Rattle.xl_house.specs.declared.connections.Connection.{Connection}
 
 abbrev numbers : List Connection → List ℕ
@@ -70,7 +73,7 @@ turns_timely before after exports rest f s (Some turn) rests =
 
 settled_for_timely : (fuel n : ℕ) (before after : List ℕ) (exports : Exports) (f : Fronts) (s : CoreState) → AreTimely before after (settled_for fuel n exports f s).0
 settled_for_timely zero n before after exports f s = tt
-settled_for_timely (suc fuel) n before after exports f s = turns_timely before after exports (settled_for fuel n exports) f s (settle n (rooms f.nlm.hosts) s) (λ g t. settled_for_timely fuel n before after exports g t)
+settled_for_timely (suc fuel) n before after exports f s = turns_timely before after exports (settled_for fuel n exports) f s (settle n (rooms_of f) s) (λ g t. settled_for_timely fuel n before after exports g t)
 
 settled_timely : (n : ℕ) (before after : List ℕ) (exports : Exports) (f : Fronts) (s : CoreState) → AreTimely before after (settled n exports f s).0
 unfolding settled
@@ -94,25 +97,42 @@ program_timely n opened exports f s number r Nlm there =
     timely_append opened opened (all_shown exports x.2 x.3 x.1).0 (map (framed Rpc) x.0) (all_timely opened opened exports x.2 x.3 x.1)
     (subst (λ (outs : List Out). AreTimely opened opened (map (framed Rpc) outs)) (sym (nlm.step_replies n exports f.nlm s number r)) ((there, there), tt))
 program_timely n opened exports f s number r Nfs there =
-    let x = with_nfs f (nfs_step n exports f.nfs s number r) in
+    let x = with_nfs f (nfs_step n exports (smb_opens f) f.nfs s number r) in
     timely_append opened opened (all_shown exports x.2 x.3 x.1).0 (map (framed Rpc) x.0) (all_timely opened opened exports x.2 x.3 x.1)
-    (subst (λ (outs : List Out). AreTimely opened opened (map (framed Rpc) outs)) (sym (nfs.request_replies n exports f.nfs s number r)) ((there, there), tt))
+    (subst (λ (outs : List Out). AreTimely opened opened (map (framed Rpc) outs)) (sym (nfs.request_replies n exports (smb_opens f) f.nfs s number r)) ((there, there), tt))
 
 record_timely : (n : ℕ) (opened : List ℕ) (exports : Exports) (f : Fronts) (s : CoreState) (number : ℕ) (incoming : IncomingItem) → IsIn number opened → AreTimely opened opened (record_heard n exports f s number incoming).0
 record_timely n opened exports f s number Unanswered there = tt
 record_timely n opened exports f s number (Refused xid verdict) there = ((there, there), tt)
 record_timely n opened exports f s number (Asked r) there = program_timely n opened exports f s number r r.program there
 
+answer_timely : (opened : List ℕ) (number : ℕ) (answer : Option (List ℕ)) → IsIn number opened → AreTimely opened opened (map (framed Smb) (sent_by number answer))
+answer_timely opened number None there = tt
+answer_timely opened number (Some bytes) there = ((there, there), tt)
+
+packet_timely : (n : ℕ) (opened : List ℕ) (exports : Exports) (f : Fronts) (s : CoreState) (number : ℕ) (bytes : List ℕ) → IsIn number opened → AreTimely opened opened (packet_heard n exports f s number bytes).0
+packet_timely n opened exports f s number bytes there =
+    let others = nfs_opens f in
+    let x = with_smb f (smb_step n exports others f.smb s number bytes) in
+    timely_append opened opened (all_shown exports x.2 x.3 x.1).0 (map (framed Smb) x.0) (all_timely opened opened exports x.2 x.3 x.1)
+    (subst (λ (outs : List Out). AreTimely opened opened (map (framed Smb) outs)) (sym (smb.step_replies n exports others f.smb s number bytes))
+    (answer_timely opened number (smb_reply exports others f.smb s number bytes (answers_of n s (smb_deeds n exports others f.smb s number bytes))) there))
+
 by_timely : (n : ℕ) (exports : Exports) (f : Fronts) (s : CoreState) (cs : List Connection) (number : ℕ) (bytes : List ℕ) (kind : Option Kind) → kind_of cs number ≡ kind → AreTimely (numbers cs) (numbers cs) (heard_by n exports f s kind number bytes).0
 by_timely n exports f s cs number bytes None e = tt
-by_timely n exports f s cs number bytes (Some Smb) e = tt
+by_timely n exports f s cs number bytes (Some Smb) e = packet_timely n (numbers cs) exports f s number bytes (found cs number Smb e)
 by_timely n exports f s cs number bytes (Some Rpc) e = record_timely n (numbers cs) exports f s number (incoming_at bytes) (found cs number Rpc e)
+
+ended_timely : (before after : List ℕ) (exports : Exports) (f : Fronts) (s : CoreState) (kind : Option Kind) (number : ℕ) → AreTimely before after (ended_by exports f s kind number).0
+ended_timely before after exports f s None number = tt
+ended_timely before after exports f s (Some Rpc) number = tt
+ended_timely before after exports f s (Some Smb) number = let r = after_end f (smb_end f.smb s number) in all_timely before after exports r.1 r.2 r.0
 
 heard_timely : (n : ℕ) (s : Whole) (e : Event) → (let opened = numbers s.connections in AreTimely opened (opened_after opened s.place e) (heard n s e).0)
 unfolding heard
 heard_timely n s (Open kind) = tt
 heard_timely n s (Message number bytes) = by_timely n s.exports s.front (step_begun s.core) s.connections number bytes (kind_of s.connections number) refl
-heard_timely n s (End number) = tt
+heard_timely n s (End number) = let opened = numbers s.connections in ended_timely opened (opened_after opened s.place (End number)) s.exports s.front (step_begun s.core) (kind_of s.connections number) number
 heard_timely n s (Called call reply) = let r = after_call s.front (nlm_called n s.front.nlm (step_begun s.core) call reply) in all_timely (numbers s.connections) (numbers s.connections) s.exports r.1 r.2 r.0
 heard_timely n s (Tick moment) = let r = tick (step_begun s.core) moment in all_timely (numbers s.connections) (numbers s.connections) s.exports (ticked s.front r.1.clock) r.1 r.0
 heard_timely n s Restart = tt

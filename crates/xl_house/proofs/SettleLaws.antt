@@ -11,15 +11,14 @@ use Rattle.xl_core.proofs.FrameLaws.{turn_frame}
 use Rattle.xl_core.specs.Frames.{IsFrame}
 use Rattle.xl_house.proofs.QuietLaws.{turn_grants}
 use Rattle.xl_house.proofs.Stores.{may_be_made, may_be_before, goes_on_self, goes_further}
-use Rattle.xl_house.proofs.ShownLaws.{all_shown_is, shown_waiters, shown_names}
+use Rattle.xl_house.proofs.ShownLaws.{all_shown_is, shown_waiters, shown_names, told_waiters}
 use Rattle.xl_base.specs.declared.journal.Exports.{Exports}
 use Rattle.xl_house.specs.declared.parts.Fronts.{Fronts}
 use Rattle.xl_names.specs.declared.name.Name.{Name}
 use Rattle.xl_core.proofs.GoodLaws.{settle_good}
 use Rattle.xl_front_nlm.specs.Short.{AreShort}
 use Rattle.xl_house.specs.Shown.{IsShown, IsReadyFor, LeavesBy}
-use Rattle.xl_front_nlm.specs.Hosts.{rooms}
-use Rattle.xl_house.specs.Machine.{Sent, grants, behind, and_then, all_shown, after_turn, settled_for, settled}
+use Rattle.xl_house.specs.Machine.{Sent, grants, behind, and_then, all_shown, rooms_of, after_turn, settled_for, settled}
 
 -- ---- what is left
 
@@ -28,7 +27,7 @@ leaves_self m k s ready = record { on = goes_on_self s; good = ready.good; short
 
 -- ---- settling
 
-none_for : (fuel n : ℕ) (exports : Exports) (f : Fronts) (s : CoreState) → settle n (rooms f.nlm.hosts) s ≡ None → settled_for fuel n exports f s ≡ ([], f, s)
+none_for : (fuel n : ℕ) (exports : Exports) (f : Fronts) (s : CoreState) → settle n (rooms_of f) s ≡ None → settled_for fuel n exports f s ≡ ([], f, s)
 none_for zero n exports f s e = refl
 none_for (suc fuel) n exports f s e = ap (λ (r : Option (List Effect × CoreState)). after_turn exports (settled_for fuel n exports) f s r) e
 
@@ -36,22 +35,18 @@ none_for (suc fuel) n exports f s e = ap (λ (r : Option (List Effect × CoreSta
 abbrev Turned : Type 0
 Turned = Option (List Effect × CoreState)
 
-fewer : (n : ℕ) (f : Fronts) (s t : CoreState) (effects : List Effect) → IsGood s → settle n (rooms f.nlm.hosts) s ≡ Some (effects, t) → suc (length t.waiters) ≡ length s.waiters
+fewer : (n : ℕ) (f : Fronts) (s t : CoreState) (effects : List Effect) → IsGood s → settle n (rooms_of f) s ≡ Some (effects, t) → suc (length t.waiters) ≡ length s.waiters
 fewer n f s t effects good e =
-    let one : length t.waiters + 1 ≡ length s.waiters = subst (λ (r : Turned). IfSome r (λ x. length x.1.waiters + 1 ≡ length s.waiters)) e (turn_fewer n (rooms f.nlm.hosts) s good) in
+    let one : length t.waiters + 1 ≡ length s.waiters = subst (λ (r : Turned). IfSome r (λ x. length x.1.waiters + 1 ≡ length s.waiters)) e (turn_fewer n (rooms_of f) s good) in
     omega (arith, one)
 
 -- where no waiter has a turn, nothing happens
-pub none_settles : (n : ℕ) (exports : Exports) (f : Fronts) (s : CoreState) → settle n (rooms f.nlm.hosts) s ≡ None → settled n exports f s ≡ ([], f, s)
+pub none_settles : (n : ℕ) (exports : Exports) (f : Fronts) (s : CoreState) → settle n (rooms_of f) s ≡ None → settled n exports f s ≡ ([], f, s)
 unfolding settled
 none_settles n exports f s e = none_for (length s.waiters) n exports f s e
 
--- as many wait once the effects are shown
-told_waiters : (exports : Exports) (f : Fronts) (t : CoreState) (effects : List Effect) → length (all_shown exports f t effects).2.waiters ≡ length t.waiters
-told_waiters exports f t effects = ap length (shown_waiters (grants effects) t (all_shown exports f t effects).2 (all_shown_is exports f t effects))
-
 -- a turn, and then the rest
-pub turn_settles : (n : ℕ) (exports : Exports) (f : Fronts) (s t : CoreState) (effects : List Effect) → IsGood s → settle n (rooms f.nlm.hosts) s ≡ Some (effects, t) → settled n exports f s ≡ and_then (settled n exports) (all_shown exports f t effects)
+pub turn_settles : (n : ℕ) (exports : Exports) (f : Fronts) (s t : CoreState) (effects : List Effect) → IsGood s → settle n (rooms_of f) s ≡ Some (effects, t) → settled n exports f s ≡ and_then (settled n exports) (all_shown exports f t effects)
 unfolding settled
 turn_settles n exports f s t effects good e =
     let done = all_shown exports f t effects in
@@ -72,27 +67,27 @@ behind_on outs more rest = λ i. (append_assoc outs more rest.0 i, rest.1, rest.
 -- ---- as the code tells it: what a turn gave, if there was one
 
 abbrev Gives : Fronts → CoreState → CoreState → Option (List Effect) → Type 0
-Gives f s t r = (n : ℕ) → MayBe n t → settle n (rooms f.nlm.hosts) s ≡ option_map (λ effects. (effects, t)) r
+Gives f s t r = (n : ℕ) → MayBe n t → settle n (rooms_of f) s ≡ option_map (λ effects. (effects, t)) r
 
 gives_some : (f : Fronts) (s t : CoreState) (r : Option (List Effect)) (effects : List Effect) → Gives f s t r → r ≡ Some effects → Gives f s t (Some effects)
 gives_some f s t r effects gives e = subst (λ (x : Option (List Effect)). Gives f s t x) e gives
 
-a_turn : (f : Fronts) (s t : CoreState) (effects : List Effect) → IsGood s → Gives f s t (Some effects) → IsTurn (rooms f.nlm.hosts) s effects t
-a_turn f s t effects good gives = subst (λ (r : Turned). IfSome r (λ x. IsTurn (rooms f.nlm.hosts) s x.0 x.1)) (gives t.made (may_be_made t)) (turn_is t.made (rooms f.nlm.hosts) s good)
+a_turn : (f : Fronts) (s t : CoreState) (effects : List Effect) → IsGood s → Gives f s t (Some effects) → IsTurn (rooms_of f) s effects t
+a_turn f s t effects good gives = subst (λ (r : Turned). IfSome r (λ x. IsTurn (rooms_of f) s x.0 x.1)) (gives t.made (may_be_made t)) (turn_is t.made (rooms_of f) s good)
 
 framed_turn : (f : Fronts) (s t : CoreState) (effects : List Effect) → IsGood s → Gives f s t (Some effects) → IsFrame s effects t 0 s.names []
-framed_turn f s t effects good gives = subst (λ (r : Turned). IfSome r (λ x. IsFrame s x.0 x.1 0 s.names [])) (gives t.made (may_be_made t)) (turn_frame t.made (rooms f.nlm.hosts) s good)
+framed_turn f s t effects good gives = subst (λ (r : Turned). IfSome r (λ x. IsFrame s x.0 x.1 0 s.names [])) (gives t.made (may_be_made t)) (turn_frame t.made (rooms_of f) s good)
 
 -- a turn gives out one number at most, and takes one waiter out
 turn_room : (f : Fronts) (s t : CoreState) (effects : List Effect) → IsGood s → Gives f s t (Some effects) → t.counter + length t.waiters + grants effects ≤ s.counter + length s.waiters
 turn_room f s t effects good gives =
-    omega (arith, (framed_turn f s t effects good gives).counter, fewer t.made f s t effects good (gives t.made (may_be_made t)), turn_grants (rooms f.nlm.hosts) s t effects (a_turn f s t effects good gives))
+    omega (arith, (framed_turn f s t effects good gives).counter, fewer t.made f s t effects good (gives t.made (may_be_made t)), turn_grants (rooms_of f) s t effects (a_turn f s t effects good gives))
 
 turn_names : (f : Fronts) (s t : CoreState) (effects : List Effect) → IsGood s → Gives f s t (Some effects) → t.names ≡ s.names
 turn_names f s t effects good gives = (a_turn f s t effects good gives).names
 
 turn_good : (f : Fronts) (s t : CoreState) (effects : List Effect) → IsGood s → Gives f s t (Some effects) → IsGood t
-turn_good f s t effects good gives = subst (λ (r : Turned). IfSome r (λ x. IsGood x.1)) (gives t.made (may_be_made t)) (settle_good t.made (rooms f.nlm.hosts) s good)
+turn_good f s t effects good gives = subst (λ (r : Turned). IfSome r (λ x. IsGood x.1)) (gives t.made (may_be_made t)) (settle_good t.made (rooms_of f) s good)
 
 -- so what a turn tells may be told
 pub settling_numbers : (exports : Exports) (before : Fronts) (first : CoreState) (sent : List Out) (f : Fronts) (s : CoreState) (outs : List Out) → IsSettling exports before first sent f s outs → IsReadyFor (length first.waiters) first → s.counter + 65536 < 2 ^ 32
@@ -139,7 +134,7 @@ turn_preserves exports before first sent f g s t u outs new r effects settling g
           ∙ settling.told n (may_be_before n s u (goes_further s t u on further) may);
     }
 
-gives_none : (f : Fronts) (s t : CoreState) (r : Option (List Effect)) → Gives f s t r → r ≡ None → (n : ℕ) → MayBe n t → settle n (rooms f.nlm.hosts) s ≡ None
+gives_none : (f : Fronts) (s t : CoreState) (r : Option (List Effect)) → Gives f s t r → r ≡ None → (n : ℕ) → MayBe n t → settle n (rooms_of f) s ≡ None
 gives_none f s t r gives e n may = gives n may ∙ ap (λ (x : Option (List Effect)). option_map (λ effects. (effects, t)) x) e
 
 -- once no waiter has a turn
@@ -152,7 +147,7 @@ ended_state exports before first sent f s t outs r settling gives e same n may =
 
 pub ended_settled : (f : Fronts) (s t : CoreState) (r : Option (List Effect)) → Gives f s t r → r ≡ None → t ≡ s → IsSettled t
 ended_settled f s t r gives e same =
-    subst (λ (x : CoreState). IsSettled x) (sym same) (none_settled t.made (rooms f.nlm.hosts) s (gives_none f s t r gives e t.made (may_be_made t)))
+    subst (λ (x : CoreState). IsSettled x) (sym same) (none_settled t.made (rooms_of f) s (gives_none f s t r gives e t.made (may_be_made t)))
 
 pub ended_leaves : (exports : Exports) (before : Fronts) (first : CoreState) (sent : List Out) (f : Fronts) (s t : CoreState) (outs : List Out) → IsSettling exports before first sent f s outs → IsGood s → t ≡ s → IsReadyFor (length first.waiters) first → LeavesBy 0 first t
 ended_leaves exports before first sent f s t outs settling good same ready =

@@ -148,5 +148,9 @@ show_next exports f g s t effects i effect sent outs new there at is joined =
 pub shown_waiters : (most : ℕ) (s t : CoreState) → IsShown most s t → t.waiters ≡ s.waiters
 shown_waiters most s t is = ap (λ (x : CoreState). x.waiters) is.parts
 
+-- as many wait once the effects are shown
+pub told_waiters : (exports : Exports) (f : Fronts) (t : CoreState) (effects : List Effect) → length (all_shown exports f t effects).2.waiters ≡ length t.waiters
+told_waiters exports f t effects = ap length (shown_waiters (grants effects) t (all_shown exports f t effects).2 (all_shown_is exports f t effects))
+
 pub shown_names : (most : ℕ) (s t : CoreState) → IsShown most s t → t.names ≡ s.names
 shown_names most s t is = ap (λ (x : CoreState). x.names) is.parts

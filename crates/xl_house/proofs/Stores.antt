@@ -1,9 +1,7 @@
 -- The stores of a step.
-use Rattle.std.proofs.Common.{◌≡◌, ℕ, ◌≤◌, refl, sym, ◌∙◌, arith}
+use Rattle.std.proofs.Common.{◌≡◌, ℕ, ◌≤◌, sym, ◌∙◌, arith}
 use Rattle.xl_core.specs.State.{CoreState, MayBe, GoesOn}
-
-pub may_be_made : (s : CoreState) → MayBe s.made s
-may_be_made s = record { enough = omega arith; spent = λ _. refl }
+pub use Rattle.xl_core.proofs.FrameLaws.{goes_on_self, may_be_made}
 
 -- how many stores succeed may have been told before
 pub may_be_before : (n : ℕ) (old new : CoreState) → GoesOn old new → MayBe n new → MayBe n old
@@ -11,9 +9,6 @@ may_be_before n old new on may = record {
   enough = omega (arith, on.made, may.enough);
   spent = λ failed. let after = on.failed failed in sym after.1 ∙ may.spent after.0;
 }
-
-pub goes_on_self : (s : CoreState) → GoesOn s s
-goes_on_self s = record { made = omega arith; failed = λ f. (f, refl) }
 
 pub goes_further : (a b c : CoreState) → GoesOn a b → GoesOn b c → GoesOn a c
 goes_further a b c first next = record {

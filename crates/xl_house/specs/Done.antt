@@ -2,17 +2,16 @@
 -- behind them the turns of those who wait, with what telling of them draws.
 use Rattle.std.specs.Prelude.{◌≡◌, ℕ, zero, suc, List, [], ◌∷◌, ◌++◌, length, map, Option, Some, None}
 use Rattle.xl_base.specs.declared.event.Event.{Event}
-use Rattle.xl_base.specs.declared.event.Event.TheVariants.{Message, Called, Tick, Restart}
+use Rattle.xl_base.specs.declared.event.Event.TheVariants.{Open, Message, End, Called, Tick, Restart}
 use Rattle.xl_base.specs.declared.event.Kind.{Kind}
-use Rattle.xl_base.specs.declared.event.Kind.TheVariants.{Rpc}
+use Rattle.xl_base.specs.declared.event.Kind.TheVariants.{Rpc, Smb}
 use Rattle.xl_base.specs.declared.event.Out.{Out}
 use Rattle.xl_base.specs.declared.journal.Exports.{Exports}
 use Rattle.xl_names.specs.declared.name.Name.{Name}
 use Rattle.xl_programs.specs.Programs.{RequestItem, IncomingItem, Unanswered, Refused, Asked, incoming_at}
 use Rattle.xl_programs.specs.declared.program.Program.{Program}
 use Rattle.xl_programs.specs.declared.program.Program.TheVariants.{Nlm, Nfs}
-use Rattle.xl_programs.specs.Sent.{sent_to}
-use Rattle.xl_rpc.specs.Replies.{reply}
+use Rattle.xl_programs.specs.Sent.{refusal_of, sent_to}
 use Rattle.xl_core.specs.State.{CoreState, step_begun}
 use Rattle.xl_core.specs.Deeds.{Deed, Serves, all_done, answers_of, tick_deeds}
 use Rattle.xl_core.specs.Settle.{settle}
@@ -22,27 +21,29 @@ use Rattle.xl_core.specs.declared.ask.Effect.{Effect}
 use Rattle.xl_front_nlm.specs.Answers.{called_deeds, nlm_called}
 use Rattle.xl_front_nlm.specs.FrontNlm.{nlm_client, nlm_deeds, nlm_reply, nlm_step}
 use Rattle.xl_front_nlm.specs.Grants.{shown, shown_deeds}
-use Rattle.xl_front_nlm.specs.Hosts.{rooms}
 use Rattle.xl_house.specs.declared.parts.Fronts.{Fronts}
 use Rattle.xl_front_nfs.specs.FrontNfs.{nfs_deeds, nfs_reply, nfs_step}
 use Rattle.xl_front_nfs.specs.Theirs.{AreTheirs}
+use Rattle.xl_front_smb.specs.Ending.{smb_end, smb_end_deeds}
+use Rattle.xl_front_smb.specs.FrontSmb.{sent_by, smb_deeds, smb_reply, smb_step}
+use Rattle.xl_front_smb.specs.Owners.{AreOwn}
 use Rattle.xl_core.specs.Clients.{AreOfSome}
-use Rattle.xl_house.specs.Machine.{Whole, showing, with_nlm, with_nfs, after_call, ticked, kind_of, framed, all_shown, settled, heard}
+use Rattle.xl_house.specs.Machine.{Whole, FrontGiven, showing, with_nlm, with_nfs, with_smb, after_call, after_end, begun, ticked, nfs_opens, smb_opens, kind_of, framed, all_shown, rooms_of, settled, heard}
 
 -- ---- of each program its front's table
 
 abbrev pub program_deeds : ℕ → Program → Exports → Fronts → CoreState → RequestItem → List Deed
 program_deeds n Nlm exports f s r = nlm_deeds exports f.nlm s r
-program_deeds n Nfs exports f s r = nfs_deeds n exports f.nfs s r
+program_deeds n Nfs exports f s r = nfs_deeds n exports (smb_opens f) f.nfs s r
 
 -- whose they are: of the client that a request of NLM names; of the clients that the operations of a COMPOUND name
 abbrev pub program_owns : ℕ → Program → Exports → Fronts → CoreState → RequestItem → Type 0
 program_owns n Nlm exports f s r = AreOfSome n s (nlm_client r) (nlm_deeds exports f.nlm s r)
-program_owns n Nfs exports f s r = AreTheirs n exports f.nfs s r
+program_owns n Nfs exports f s r = AreTheirs n exports (smb_opens f) f.nfs s r
 
 abbrev pub program_reply : ℕ → Program → Exports → Fronts → CoreState → List Name → RequestItem → List Answer → List ℕ
 program_reply n Nlm exports f s names r answers = nlm_reply exports f.nlm s names r answers
-program_reply n Nfs exports f s names r answers = nfs_reply n exports f.nfs s r
+program_reply n Nfs exports f s names r answers = nfs_reply n exports (smb_opens f) f.nfs s r
 
 -- ---- a record of ONC RPC
 
@@ -56,28 +57,47 @@ record_owns n exports f s incoming = Unit {0}
 
 abbrev pub record_replies : ℕ → Exports → Fronts → CoreState → List Name → ℕ → IncomingItem → List Answer → List Out
 record_replies n exports f s names number Unanswered answers = []
-record_replies n exports f s names number (Refused xid verdict) answers = sent_to number (reply xid verdict)
+record_replies n exports f s names number (Refused xid verdict) answers = sent_to number (refusal_of xid verdict)
 record_replies n exports f s names number (Asked r) answers = sent_to number (program_reply n r.program exports f s names r answers)
 
 -- ---- by what the connection speaks
 
-abbrev pub message_deeds : ℕ → Exports → Fronts → CoreState → Option Kind → List ℕ → List Deed
-message_deeds n exports f s (Some Rpc) bytes = record_deeds n exports f s (incoming_at bytes)
-message_deeds n exports f s kind bytes = []
+abbrev pub message_deeds : ℕ → Exports → Fronts → CoreState → Option Kind → ℕ → List ℕ → List Deed
+message_deeds n exports f s (Some Rpc) number bytes = record_deeds n exports f s (incoming_at bytes)
+message_deeds n exports f s (Some Smb) number bytes = smb_deeds n exports (nfs_opens f) f.smb s number bytes
+message_deeds n exports f s None number bytes = []
 
-abbrev pub message_owns : ℕ → Exports → Fronts → CoreState → Option Kind → List ℕ → Type 0
-message_owns n exports f s (Some Rpc) bytes = record_owns n exports f s (incoming_at bytes)
-message_owns n exports f s kind bytes = Unit {0}
+-- whose they are: of what a record of ONC RPC names; of opens of the connection that a message of SMB came by
+abbrev pub message_owns : ℕ → Exports → Fronts → CoreState → Option Kind → ℕ → List ℕ → Type 0
+message_owns n exports f s (Some Rpc) number bytes = record_owns n exports f s (incoming_at bytes)
+message_owns n exports f s (Some Smb) number bytes = AreOwn f.smb s number (smb_deeds n exports (nfs_opens f) f.smb s number bytes)
+message_owns n exports f s None number bytes = Unit {0}
 
 abbrev pub message_replies : ℕ → Exports → Fronts → CoreState → List Name → Option Kind → ℕ → List ℕ → List Answer → List Out
 message_replies n exports f s names (Some Rpc) number bytes answers = map (framed Rpc) (record_replies n exports f s names number (incoming_at bytes) answers)
-message_replies n exports f s names kind number bytes answers = []
+message_replies n exports f s names (Some Smb) number bytes answers = map (framed Smb) (sent_by number (smb_reply exports (nfs_opens f) f.smb s number bytes answers))
+message_replies n exports f s names None number bytes answers = []
+
+-- ---- the end of a connection
+
+-- each open of SMB under it ends
+abbrev pub end_deeds : Fronts → Option Kind → ℕ → List Deed
+end_deeds f (Some Smb) number = smb_end_deeds f.smb number
+end_deeds f (Some Rpc) number = []
+end_deeds f None number = []
+
+-- whose they are: of opens under the connection
+abbrev pub end_owns : Fronts → CoreState → Option Kind → ℕ → Type 0
+end_owns f s (Some Smb) number = AreOwn f.smb s number (smb_end_deeds f.smb number)
+end_owns f s (Some Rpc) number = Unit {0}
+end_owns f s None number = Unit {0}
 
 -- ---- an event
 
 -- what it does itself
 abbrev pub own_deeds : ℕ → Whole → Event → List Deed
-own_deeds n s (Message number bytes) = message_deeds n s.exports s.front (step_begun s.core) (kind_of s.connections number) bytes
+own_deeds n s (Message number bytes) = message_deeds n s.exports s.front (step_begun s.core) (kind_of s.connections number) number bytes
+own_deeds n s (End number) = end_deeds s.front (kind_of s.connections number) number
 own_deeds n s (Called number bytes) = called_deeds s.front.nlm (step_begun s.core) number bytes
 own_deeds n s (Tick now) = tick_deeds (step_begun s.core) now
 own_deeds n s event = []
@@ -99,11 +119,11 @@ told_deeds exports f s (effect ∷ effects) = shown_deeds exports s effect ++ to
 abbrev pub turn_deeds : Exports → (Fronts → CoreState → List Deed) → Fronts → Option (List Effect × CoreState) → List Deed
 turn_deeds exports rest f None = []
 turn_deeds exports rest f (Some turn) =
-    Serves (rooms f.nlm.hosts) ∷ (told_deeds exports f turn.1 turn.0 ++ rest (all_shown exports f turn.1 turn.0).1 (all_shown exports f turn.1 turn.0).2)
+    Serves (rooms_of f) ∷ (told_deeds exports f turn.1 turn.0 ++ rest (all_shown exports f turn.1 turn.0).1 (all_shown exports f turn.1 turn.0).2)
 
 abbrev pub turns_for : ℕ → ℕ → Exports → Fronts → CoreState → List Deed
 turns_for zero n exports f s = []
-turns_for (suc fuel) n exports f s = turn_deeds exports (turns_for fuel n exports) f (settle n (rooms f.nlm.hosts) s)
+turns_for (suc fuel) n exports f s = turn_deeds exports (turns_for fuel n exports) f (settle n (rooms_of f) s)
 
 -- the turns until no waiter has one
 unfoldable pub turns : ℕ → Exports → Fronts → CoreState → List Deed
@@ -111,12 +131,12 @@ turns n exports f s = turns_for (length s.waiters) n exports f s
 
 -- ---- what the front gave, before it is told
 
-abbrev pub given_of : List Out × List Effect × Fronts × CoreState → List Effect × Fronts × CoreState
+abbrev pub given_of : FrontGiven → List Effect × Fronts × CoreState
 given_of r = (r.1, r.2, r.3)
 
 abbrev pub program_given : ℕ → Exports → Fronts → CoreState → ℕ → RequestItem → Program → List Effect × Fronts × CoreState
 program_given n exports f s number r Nlm = given_of (with_nlm f (nlm_step n exports f.nlm s number r))
-program_given n exports f s number r Nfs = given_of (with_nfs f (nfs_step n exports f.nfs s number r))
+program_given n exports f s number r Nfs = given_of (with_nfs f (nfs_step n exports (smb_opens f) f.nfs s number r))
 
 abbrev pub record_given : ℕ → Exports → Fronts → CoreState → ℕ → IncomingItem → List Effect × Fronts × CoreState
 record_given n exports f s number (Asked r) = program_given n exports f s number r r.program
@@ -124,14 +144,22 @@ record_given n exports f s number incoming = ([], f, s)
 
 abbrev pub message_given : ℕ → Exports → Fronts → CoreState → Option Kind → ℕ → List ℕ → List Effect × Fronts × CoreState
 message_given n exports f s (Some Rpc) number bytes = record_given n exports f s number (incoming_at bytes)
-message_given n exports f s kind number bytes = ([], f, s)
+message_given n exports f s (Some Smb) number bytes = given_of (with_smb f (smb_step n exports (nfs_opens f) f.smb s number bytes))
+message_given n exports f s None number bytes = ([], f, s)
+
+abbrev pub end_given : Fronts → CoreState → Option Kind → ℕ → List Effect × Fronts × CoreState
+end_given f s (Some Smb) number = after_end f (smb_end f.smb s number)
+end_given f s (Some Rpc) number = ([], f, s)
+end_given f s None number = ([], f, s)
 
 -- what its own deeds tell of, and the front and the core that they leave
 abbrev pub given_by : ℕ → Whole → Event → List Effect × Fronts × CoreState
 given_by n s (Message number bytes) = message_given n s.exports s.front (step_begun s.core) (kind_of s.connections number) number bytes
+given_by n s (Open kind) = ([], begun s.front s.connections s.place kind, step_begun s.core)
+given_by n s (End number) = end_given s.front (step_begun s.core) (kind_of s.connections number) number
 given_by n s (Called number bytes) = after_call s.front (nlm_called n s.front.nlm (step_begun s.core) number bytes)
 given_by n s (Tick now) = ((tick (step_begun s.core) now).0, ticked s.front (tick (step_begun s.core) now).1.clock, (tick (step_begun s.core) now).1)
-given_by n s event = ([], s.front, step_begun s.core)
+given_by n s Restart = ([], s.front, step_begun s.core)
 
 -- ---- all that an event does
 

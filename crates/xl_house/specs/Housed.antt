@@ -1,5 +1,6 @@
 -- A house as its callers see it.
 use Rattle.std.specs.Prelude.{◌≡◌, ◌+◌, ◌*◌, ◌≤◌, Bool, true, false, List, length, Option, Some, option_map}
+use Rattle.xl_base.specs.Limits.{most_numbers}
 use Rattle.xl_base.specs.Stable.{Stable}
 use Rattle.xl_base.specs.declared.halt.Halt.{Halt}
 use Rattle.xl_base.specs.declared.halt.Halt.TheVariants.{NoMemory}
@@ -32,5 +33,5 @@ pub record Stands (start : Whole) (es : List Entry) (s : Whole) : Type 0 where
   pub replayed : s ≡ replay start es
   pub place : s.place ≡ length es
   pub free : IsFree s
-  pub counter : s.core.counter + length s.core.waiters ≤ 128 * length es
+  pub counter : s.core.counter + length s.core.waiters ≤ most_numbers * length es
   pub short : AreShort s.core.names

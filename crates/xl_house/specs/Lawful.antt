@@ -3,16 +3,16 @@
 use Rattle.std.specs.Prelude.{◌≡◌, ℕ, ◌==◌, Bool, true, false, List, [], ◌∷◌, Option, None}
 use Rattle.std.specs.List.{AllByRecursion}
 use Rattle.xl_base.specs.declared.event.Event.{Event}
-use Rattle.xl_base.specs.declared.event.Event.TheVariants.{Message, Called, Tick, Restart}
+use Rattle.xl_base.specs.declared.event.Event.TheVariants.{Message, End, Called, Tick, Restart}
 use Rattle.xl_base.specs.declared.journal.Entry.{Entry}
 use Rattle.xl_names.specs.declared.name.Name.{Name}
 use Rattle.xl_core.specs.State.{CoreState, step_begun}
-use Rattle.xl_core.specs.Deeds.{Deed, Asks, GivesBack, Cancels, Ends, Serves, Draws, Advances, Renews, Expires, queue_after, KeepNames}
+use Rattle.xl_core.specs.Deeds.{Deed, Asks, GivesBack, Weakens, Cancels, Ends, Serves, Draws, Advances, Renews, Expires, queue_after, KeepNames}
 use Rattle.xl_core.specs.Dues.{AreDue}
 use Rattle.xl_core.specs.Places.{Place, held_at, IsChangedBy}
 use Rattle.xl_core.specs.declared.ask.Act.{Act}
 use Rattle.xl_core.specs.declared.ask.Act.TheVariants.{Unlock}
-use Rattle.xl_house.specs.Done.{own_deeds, behind_own, deeds, messages, message_owns}
+use Rattle.xl_house.specs.Done.{own_deeds, behind_own, deeds, messages, message_owns, end_owns}
 use Rattle.xl_house.specs.Machine.{Whole, kind_of, step}
 
 -- a law of an entry: between the state before it and the one after, for its event and its stores
@@ -67,15 +67,18 @@ abbrev pub is_unlock : Act → Bool
 is_unlock (Unlock extent) = true
 is_unlock act = false
 
--- which event does what itself: a message asks, gives back, cancels, ends, renews or draws a number, the end of a call
--- unlocks, and a reading of the clock has it show that moment and lets clients expire
+-- which event does what itself: a message asks, gives back, makes a share weaker, cancels, ends, renews or draws a number,
+-- the end of a connection ends, the end of a call unlocks, and a reading of the clock has it show that moment and lets
+-- clients expire
 abbrev pub may_do : Event → Deed → Bool
 may_do (Message number bytes) (Asks left a) = true
 may_do (Message number bytes) (GivesBack claim) = true
+may_do (Message number bytes) (Weakens share access deny) = true
 may_do (Message number bytes) (Cancels id) = true
 may_do (Message number bytes) (Ends party) = true
 may_do (Message number bytes) (Renews client) = true
 may_do (Message number bytes) Draws = true
+may_do (End number) (Ends party) = true
 may_do (Called number bytes) (Asks left a) = is_unlock a.act
 may_do (Tick now) (Advances moment) = moment.0 == now.0
 may_do (Tick now) (Expires client) = true
@@ -87,13 +90,15 @@ may_follow (Serves left) = true
 may_follow Draws = true
 may_follow deed = false
 
--- a message's own deeds are of whom it names
+-- a message's own deeds are of whom it names, or of opens of the connection that it came by; those of the end of a
+-- connection are of its opens alone
 abbrev pub IsOwnersBy : ℕ → Whole → Event → Type 0
-IsOwnersBy n s (Message number bytes) = message_owns n s.exports s.front (found s) (kind_of s.connections number) bytes
+IsOwnersBy n s (Message number bytes) = message_owns n s.exports s.front (found s) (kind_of s.connections number) number bytes
+IsOwnersBy n s (End number) = end_owns s.front (found s) (kind_of s.connections number) number
 IsOwnersBy n s event = Unit {0}
 
--- Each of its own deeds is one that such an event may do, and a message's are of the clients that the message names;
--- behind them stand turns alone.
+-- Each of its own deeds is one that such an event may do; a message's are of the clients that the message names, or of
+-- opens of its connection, and those of a connection's end are of its opens; behind them stand turns alone.
 pub record IsCausedBy (n : ℕ) (s : Whole) (event : Event) : Type 0 where
   pub own : AllByRecursion (λ d. may_do event d ≡ true) (own_deeds n s event)
   pub clients : IsOwnersBy n s event

@@ -1,5 +1,6 @@
 -- The machine: what one event does to the state, and what it sends.
-use Rattle.std.specs.Prelude.{ℕ, zero, suc, ◌+◌, Bool, true, false, not, ◌==◌, nat_lt, if◌then◌else◌, List, [], ◌∷◌, ◌++◌, length, map, filter, find, option_map, Option, Some, None}
+use Rattle.std.specs.Prelude.{ℕ, zero, suc, ◌+◌, ◌-◌, Bool, true, false, not, ◌==◌, nat_lt, if◌then◌else◌, List, [], ◌∷◌, ◌++◌, length, map, filter, find, option_map, Option, Some, None}
+pub use Rattle.xl_base.specs.Limits.{most_connections}
 use Rattle.xl_base.specs.Stable.{raised}
 use Rattle.xl_base.specs.declared.event.Dest.{Dest}
 use Rattle.xl_base.specs.declared.event.Dest.TheVariants.{Conn, Back}
@@ -15,8 +16,7 @@ use Rattle.xl_frame.specs.Frames.{wrapped}
 use Rattle.xl_programs.specs.Programs.{RequestItem, IncomingItem, Unanswered, Refused, Asked, incoming_at}
 use Rattle.xl_programs.specs.declared.program.Program.{Program}
 use Rattle.xl_programs.specs.declared.program.Program.TheVariants.{Nlm, Nfs}
-use Rattle.xl_programs.specs.Sent.{sent_to}
-use Rattle.xl_rpc.specs.Replies.{reply}
+use Rattle.xl_programs.specs.Sent.{refusal_of, sent_to}
 use Rattle.xl_core.specs.State.{CoreState, started, step_begun}
 use Rattle.xl_core.specs.Settle.{settle}
 use Rattle.xl_core.specs.Ticks.{tick}
@@ -24,13 +24,18 @@ use Rattle.xl_core.specs.declared.lease.Times.{Times}
 use Rattle.xl_core.specs.declared.ask.Answer.TheVariants.{Granted}
 use Rattle.xl_core.specs.declared.ask.Effect.{Effect}
 use Rattle.xl_core.specs.declared.ask.Effect.TheVariants.{Served}
-use Rattle.xl_front_nlm.specs.Hosts.{rooms}
+use Rattle.xl_wait.specs.declared.waiter.Rooms.{Rooms}
+use Rattle.xl_core.specs.Limits.{most_hosts, most_owners, most_opens}
 use Rattle.xl_front_nlm.specs.Answers.{nlm_called}
 use Rattle.xl_front_nlm.specs.FrontNlm.{nlm_step}
 use Rattle.xl_front_nlm.specs.Grants.{shown}
 use Rattle.xl_front_nfs.specs.FrontNfs.{nfs_step}
 use Rattle.xl_front_nfs.specs.State.{FrontNfs, empty_nfs_front, nfs_tick, nfs_shown}
 use Rattle.xl_front_nlm.specs.State.{FrontState, empty_front}
+use Rattle.xl_nfs_state.specs.State.{opens}
+use Rattle.xl_front_smb.specs.Ending.{smb_end}
+use Rattle.xl_front_smb.specs.FrontSmb.{smb_step}
+use Rattle.xl_front_smb.specs.State.{FrontSmb, empty_smb_front, opens_held, smb_begin}
 use Rattle.xl_house.specs.declared.parts.Fronts.{Fronts}
 use Rattle.xl_house.specs.declared.connections.Connection.{Connection}
 
@@ -49,7 +54,7 @@ times_of exports = record { lease = exports.lease; grace = exports.grace; break_
 
 -- the fronts at a start
 abbrev pub no_fronts : Fronts
-no_fronts = record { nlm = empty_front; nfs = empty_nfs_front }
+no_fronts = record { nlm = empty_front; nfs = empty_nfs_front; smb = empty_smb_front }
 
 -- the state after a first start: nothing is held, and the record is the loaded one with its epoch raised
 abbrev pub begin : Head → Whole
@@ -63,9 +68,6 @@ pub record Turn : Type 0 where
 
 -- ---- connections
 
-abbrev pub most_connections : ℕ
-most_connections = 64
-
 -- the connections with one more, whose number is the place of its opening, where there is room
 unfoldable pub with_connection : List Connection → ℕ → Kind → List Connection
 with_connection connections place kind =
@@ -78,6 +80,15 @@ without connections number = filter (λ c. not (c.number == number)) connections
 -- what the open connection of this number speaks
 unfoldable pub kind_of : List Connection → ℕ → Option Kind
 kind_of connections number = option_map (λ c. c.kind) (find (λ c. c.number == number) connections)
+
+-- ---- opens
+
+-- how many opens NFSv4 has, closed ones aside, and how many SMB has; there is room for so many together
+abbrev pub nfs_opens : Fronts → ℕ
+nfs_opens f = opens f.nfs.state.stateids
+
+abbrev pub smb_opens : Fronts → ℕ
+smb_opens f = opens_held f.smb
 
 -- ---- outs
 
@@ -105,9 +116,9 @@ before done outs = (done.0 ++ outs, done.1, done.2)
 abbrev pub and_then : (Fronts → CoreState → Sent) → Sent → Sent
 and_then rest done = behind done.0 (rest done.1 done.2)
 
--- both fronts hear of an effect; that of NLM may tell of it
+-- the fronts of ONC RPC hear of an effect; that of NLM may tell of it. Of SMB nothing waits, and no cache is held.
 abbrev pub with_news : Fronts → Effect → List Out × FrontState × CoreState → List Out × Fronts × CoreState
-with_news f effect r = (r.0, record { nlm = r.1; nfs = nfs_shown f.nfs effect }, r.2)
+with_news f effect r = (r.0, record f { nlm = r.1; nfs = nfs_shown f.nfs effect }, r.2)
 
 abbrev pub showing : Exports → Fronts → CoreState → Effect → List Out × Fronts × CoreState
 showing exports f s effect = with_news f effect (shown exports f.nlm s effect)
@@ -132,6 +143,10 @@ all_shown exports f s (effect ∷ effects) = and_then (λ g t. all_shown exports
 
 -- ---- settling
 
+-- the room that is left in the fronts' tables: for hosts of NLM, for owners of NFSv4, and for opens of NFSv4 and SMB together
+abbrev pub rooms_of : Fronts → Rooms
+rooms_of f = record { hosts = most_hosts - length f.nlm.hosts; owners = most_owners - length f.nfs.state.owners; opens = most_opens - nfs_opens f - smb_opens f }
+
 -- what a turn sends, and then the rest
 abbrev pub after_turn : Exports → (Fronts → CoreState → Sent) → Fronts → CoreState → Option (List Effect × CoreState) → Sent
 after_turn exports rest f s None = ([], f, s)
@@ -140,7 +155,7 @@ after_turn exports rest f s (Some turn) = and_then rest (all_shown exports f tur
 -- turns until no waiter has one, at most so many
 abbrev pub settled_for : ℕ → ℕ → Exports → Fronts → CoreState → Sent
 settled_for zero n exports f s = ([], f, s)
-settled_for (suc fuel) n exports f s = after_turn exports (settled_for fuel n exports) f s (settle n (rooms f.nlm.hosts) s)
+settled_for (suc fuel) n exports f s = after_turn exports (settled_for fuel n exports) f s (settle n (rooms_of f) s)
 
 -- turns until no waiter has one; each takes a waiter out
 unfoldable pub settled : ℕ → Exports → Fronts → CoreState → Sent
@@ -148,54 +163,85 @@ settled n exports f s = settled_for (length s.waiters) n exports f s
 
 -- ---- an event
 
--- what each front gave, with the other as it is
-abbrev pub with_nlm : Fronts → List Out × List Effect × FrontState × CoreState → List Out × List Effect × Fronts × CoreState
-with_nlm f r = (r.0, r.1, record { nlm = r.2; nfs = f.nfs }, r.3)
+-- what a front gave: what is sent to the connection, what the core told of besides, and the fronts and the core afterwards
+abbrev pub FrontGiven : Type 0
+FrontGiven = List Out × List Effect × Fronts × CoreState
 
-abbrev pub with_nfs : Fronts → List Out × List Effect × FrontNfs × CoreState → List Out × List Effect × Fronts × CoreState
-with_nfs f r = (r.0, r.1, record { nlm = f.nlm; nfs = r.2 }, r.3)
+-- each with the others as they are
+abbrev pub with_nlm : Fronts → List Out × List Effect × FrontState × CoreState → FrontGiven
+with_nlm f r = (r.0, r.1, record f { nlm = r.2 }, r.3)
+
+abbrev pub with_nfs : Fronts → List Out × List Effect × FrontNfs × CoreState → FrontGiven
+with_nfs f r = (r.0, r.1, record f { nfs = r.2 }, r.3)
+
+abbrev pub with_smb : Fronts → List Out × List Effect × FrontSmb × CoreState → FrontGiven
+with_smb f r = (r.0, r.1, record f { smb = r.2 }, r.3)
 
 abbrev pub after_call : Fronts → List Effect × FrontState × CoreState → List Effect × Fronts × CoreState
-after_call f r = (r.0, record { nlm = r.1; nfs = f.nfs }, r.2)
+after_call f r = (r.0, record f { nlm = r.1 }, r.2)
 
--- what a front gave for a message: what the fronts show for the effects comes before the reply
-abbrev pub front_done : Exports → List Out × List Effect × Fronts × CoreState → Sent
-front_done exports r = before (all_shown exports r.2 r.3 r.1) (map (framed Rpc) r.0)
+abbrev pub after_end : Fronts → List Effect × FrontSmb × CoreState → List Effect × Fronts × CoreState
+after_end f r = (r.0, record f { smb = r.1 }, r.2)
+
+-- what a front gave for a message of a connection of this kind: what the fronts show for the effects comes before the reply
+abbrev pub front_done : Kind → Exports → FrontGiven → Sent
+front_done kind exports r = before (all_shown exports r.2 r.3 r.1) (map (framed kind) r.0)
 
 -- what a request of a program that is served gives
 abbrev pub program_heard : ℕ → Exports → Fronts → CoreState → ℕ → RequestItem → Program → Sent
-program_heard n exports f s number r Nlm = front_done exports (with_nlm f (nlm_step n exports f.nlm s number r))
-program_heard n exports f s number r Nfs = front_done exports (with_nfs f (nfs_step n exports f.nfs s number r))
+program_heard n exports f s number r Nlm = front_done Rpc exports (with_nlm f (nlm_step n exports f.nlm s number r))
+program_heard n exports f s number r Nfs = front_done Rpc exports (with_nfs f (nfs_step n exports (smb_opens f) f.nfs s number r))
 
 -- what a record of ONC RPC gives
 abbrev pub record_heard : ℕ → Exports → Fronts → CoreState → ℕ → IncomingItem → Sent
 record_heard n exports f s number Unanswered = ([], f, s)
-record_heard n exports f s number (Refused xid verdict) = (map (framed Rpc) (sent_to number (reply xid verdict)), f, s)
+record_heard n exports f s number (Refused xid verdict) = (map (framed Rpc) (sent_to number (refusal_of xid verdict)), f, s)
 record_heard n exports f s number (Asked r) = program_heard n exports f s number r r.program
 
--- what a message from a connection of this kind gives; only ONC RPC is served
+-- what a message of SMB gives
+abbrev pub packet_heard : ℕ → Exports → Fronts → CoreState → ℕ → List ℕ → Sent
+packet_heard n exports f s number bytes = front_done Smb exports (with_smb f (smb_step n exports (nfs_opens f) f.smb s number bytes))
+
+-- what a message from a connection of this kind gives, if it is open
 abbrev pub heard_by : ℕ → Exports → Fronts → CoreState → Option Kind → ℕ → List ℕ → Sent
 heard_by n exports f s (Some Rpc) number bytes = record_heard n exports f s number (incoming_at bytes)
-heard_by n exports f s (Some Smb) number bytes = ([], f, s)
+heard_by n exports f s (Some Smb) number bytes = packet_heard n exports f s number bytes
 heard_by n exports f s None number bytes = ([], f, s)
 
--- what the end of a call of the server's gives
+-- the fronts once a connection of this kind opened: that of SMB keeps its own
+abbrev pub begun_by : Fronts → ℕ → Kind → Fronts
+begun_by f number Rpc = f
+begun_by f number Smb = record f { smb = smb_begin f.smb number }
+
+-- the fronts after the opening at this place; where there is no room nothing begins
+abbrev pub begun : Fronts → List Connection → ℕ → Kind → Fronts
+begun f connections place kind = if nat_lt (length connections) most_connections then begun_by f place kind else f
+
+-- what is told of effects alone
 abbrev pub called_done : Exports → List Effect × Fronts × CoreState → Sent
 called_done exports r = all_shown exports r.1 r.2 r.0
 
+-- what the end of a connection of this kind gives, if it was open
+abbrev pub ended_by : Exports → Fronts → CoreState → Option Kind → ℕ → Sent
+ended_by exports f s (Some Smb) number = called_done exports (after_end f (smb_end f.smb s number))
+ended_by exports f s (Some Rpc) number = ([], f, s)
+ended_by exports f s None number = ([], f, s)
+
 -- what a reading of the clock gives: unconfirmed clients whose time has come are forgotten
 abbrev pub ticked : Fronts → Moment → Fronts
-ticked f now = record { nlm = f.nlm; nfs = nfs_tick f.nfs now }
+ticked f now = record f { nfs = nfs_tick f.nfs now }
 
 abbrev pub ticked_done : Exports → Fronts → List Effect × CoreState → Sent
 ticked_done exports f r = all_shown exports (ticked f r.1.clock) r.1 r.0
 
 -- what an event gives before the table is settled
 unfoldable pub heard : ℕ → Whole → Event → Sent
+heard n s (Open kind) = ([], begun s.front s.connections s.place kind, step_begun s.core)
 heard n s (Message number bytes) = heard_by n s.exports s.front (step_begun s.core) (kind_of s.connections number) number bytes
+heard n s (End number) = ended_by s.exports s.front (step_begun s.core) (kind_of s.connections number) number
 heard n s (Called call reply) = called_done s.exports (after_call s.front (nlm_called n s.front.nlm (step_begun s.core) call reply))
 heard n s (Tick now) = ticked_done s.exports s.front (tick (step_begun s.core) now)
-heard n s _ = ([], s.front, step_begun s.core)
+heard n s Restart = ([], s.front, step_begun s.core)
 
 -- the connections after the event at this place
 unfoldable pub connected : List Connection → ℕ → Event → List Connection

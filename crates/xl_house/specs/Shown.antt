@@ -1,5 +1,6 @@
 -- What the house's functions need of the core, and what they leave.
 use Rattle.std.specs.Prelude.{◌≡◌, ℕ, ◌+◌, ◌<◌, ◌≤◌, ◌^◌, length}
+use Rattle.xl_base.specs.Limits.{numbers_left}
 use Rattle.xl_core.specs.State.{CoreState, GoesOn}
 use Rattle.xl_core.specs.Good.{IsGood}
 use Rattle.xl_front_nlm.specs.Short.{AreShort}
@@ -13,7 +14,7 @@ pub record IsShown (bound : ℕ) (s t : CoreState) : Type 0 where
 -- the state is good, so many numbers may be given out before the last 65,536, and the names fit the messages that tell them
 pub record IsReadyFor (more : ℕ) (s : CoreState) : Type 0 where
   pub good : IsGood s
-  pub numbers : s.counter + more + 65536 < 2 ^ 32
+  pub numbers : s.counter + more + numbers_left < 2 ^ 32
   pub short : AreShort s.names
 
 -- the state is good, the stores of the step go on, the names fit, and so many numbers and waiters came at most

@@ -1,12 +1,9 @@
 //! The connections that are open.
-ghost use Rattle.std.specs.Prelude.{◌≡◌, OnOk};
-ghost use Rattle.xl_house.specs.Machine.{with_connection, without, kind_of};
+ghost use Rattle.std.specs.Prelude.{◌≡◌, nat_lt, length, OnOk};
+ghost use Rattle.xl_house.specs.Machine.{most_connections, with_connection, without, kind_of};
 
 use std::alloc::AllocError;
-use xl_base::Kind;
-
-/// The most connections that are open together.
-const MOST_CONNECTIONS: usize = 64;
+use xl_base::{Kind, MOST_CONNECTIONS};
 
 /// An open connection.
 #[derive(Clone, Copy)]
@@ -15,6 +12,13 @@ pub struct Connection {
     pub number: u64,
     /// What it speaks.
     pub kind: Kind,
+}
+
+/// Whether there is room for a connection more.
+pub(crate) fn has_room(connections: &[Connection]) -> bool
+    ensures { result ≡ nat_lt (length connections.now) most_connections }
+{
+    connections.len() < MOST_CONNECTIONS
 }
 
 /// Opens a connection where there is room.
@@ -26,7 +30,7 @@ pub(crate) fn open(
 ) -> Result<(), AllocError>
     ensures { OnOk result (connections.new.items ≡ with_connection connections.old.items place kind) }
 {
-    if connections.len() < MOST_CONNECTIONS {
+    if has_room(connections) {
         connections.push(Connection {
             number: place,
             kind,

@@ -1,5 +1,6 @@
 //! The house: the machine with its journal.
 ghost use Rattle.std.specs.Prelude.{◌≡◌, ℕ, ◌+◌, ◌*◌, ◌<◌, ◌≤◌, ◌^◌, [], ◌∷◌, ◌++◌, length, drop, true, false, Ok, Err, Some, None, OnOk, OnErr, IfOk, IfErr, IfSome, ◌↔◌};
+ghost use Rattle.xl_base.specs.Limits.{most_numbers};
 ghost use Rattle.xl_base.specs.Stable.{raised};
 ghost use Rattle.xl_front_nlm.specs.Short.{AreShort};
 ghost use Rattle.xl_house.specs.Free.{IsFree, AlwaysFree};
@@ -15,8 +16,6 @@ use std::alloc::{AllocError, Global};
 use std::marker::Model;
 use xl_base::{Entry, Event, Exports, Halt, Head, Journal, Keeper, Record, Sequence};
 use xl_core::{Core, Times};
-use xl_front_nfs::NfsFront;
-use xl_front_nlm::Front;
 use xl_matrix::Claim;
 use xl_names::Names;
 
@@ -76,13 +75,13 @@ fn act_and_enter<K: Keeper>(
     requires place { machine.old.place ≡ length entries.old }
     requires few { length entries.old ≤ 1048576 }
     requires free { IsFree (whole_of exports.now machine.old) }
-    requires counter { machine.old.parts.core.counter + length machine.old.parts.core.waiters ≤ 128 * length entries.old }
+    requires counter { machine.old.parts.core.counter + length machine.old.parts.core.waiters ≤ most_numbers * length entries.old }
     requires short { AreShort machine.old.parts.core.names }
     requires goes_on { is_restart event ≡ false }
     ensures place { IfOk result (λ place. place ≡ length entries.old) }
     ensures few { length entries.new ≤ 1048576 }
     ensures short { OnOk result (AreShort machine.new.parts.core.names) }
-    ensures counter { OnOk result (machine.new.parts.core.counter + length machine.new.parts.core.waiters ≤ machine.old.parts.core.counter + length machine.old.parts.core.waiters + 128) }
+    ensures counter { OnOk result (machine.new.parts.core.counter + length machine.new.parts.core.waiters ≤ machine.old.parts.core.counter + length machine.old.parts.core.waiters + most_numbers) }
     ensures entered { OnOk result (entries.new ≡ entries.old ++ entry 0 (whole_of exports.now machine.old) event ∷ []) }
     ensures next { OnOk result (whole_of exports.now machine.new ≡ (step 0 (whole_of exports.now machine.old) event).next) }
     ensures err { OnErr result (entries.new ≡ entries.old) }
@@ -109,6 +108,22 @@ fn act_and_enter<K: Keeper>(
     Ok(place)
 }
 
+/// A machine that steps no more is let go, part by part.
+fn retire(machine: Machine) {
+    let Machine {
+        place: _,
+        connections: _,
+        parts: Parts {
+            front: Fronts { nlm, nfs, smb },
+            core,
+        },
+    } = machine;
+    drop(nlm);
+    drop(nfs);
+    drop(smb);
+    drop(core);
+}
+
 impl<K: Keeper> House<K> {
     /// The house that begins from this head, with its record as the keeper holds it now. It takes no memory.
     pub(crate) fn begin(alloc: Global, head: Head, stable: Record, keeper: K) -> House<K>
@@ -124,10 +139,7 @@ impl<K: Keeper> House<K> {
                 place: 0,
                 connections: Vec::new(alloc),
                 parts: Parts {
-                    front: Fronts {
-                        nlm: Front::new(alloc),
-                        nfs: NfsFront::new(alloc),
-                    },
+                    front: Fronts::new(alloc),
                     core,
                 },
             },
@@ -214,7 +226,6 @@ impl<K: Keeper> House<K> {
     /// they queued, took out, ended or served, what nothing stands against was granted, the deeds are those that its event
     /// may cause, and what is sent is what the fronts say of the answers. No out to a connection stands before its opening
     /// or after its end. It has at most 1,048,576 entries. The keeper holds the machine's record.
-    #[tactic(auto, using(crate::proofs::OrderLaws::legal_orderly, crate::proofs::MachineLaws::begun_free, crate::proofs::LawfulLaws::always_lawful, crate::proofs::LawfulLaws::always_waiting, crate::proofs::LawfulLaws::always_complete, crate::proofs::LawfulLaws::always_caused, crate::proofs::LawfulLaws::always_told))]
     pub fn end(self) -> (Journal, K)
         ensures journal { (result.0.head ≡ self.head) × (result.0.entries ≡ self.entries) }
         ensures keeper { result.1 ≡ self.keeper }
@@ -232,10 +243,11 @@ impl<K: Keeper> House<K> {
         let House {
             head,
             entries,
-            machine: _,
+            machine,
             keeper,
             halt: _,
         } = self;
+        retire(machine);
         (Journal { head, entries }, keeper)
     }
 }

@@ -10,18 +10,20 @@ ghost use Rattle.xl_front_nlm.specs.FrontNlm.{nlm_step};
 ghost use Rattle.xl_front_nlm.specs.Short.{AreShort};
 ghost use Rattle.xl_house.specs.Journals.{is_restart};
 ghost use Rattle.xl_front_nfs.specs.FrontNfs.{nfs_step};
-ghost use Rattle.xl_house.specs.Machine.{with_nlm, with_nfs, after_call, framed, connected, front_done, called_done, ticked_done, program_heard, record_heard, heard_by, heard, step};
+ghost use Rattle.xl_front_smb.specs.FrontSmb.{smb_step};
+ghost use Rattle.xl_house.specs.Machine.{with_nlm, with_nfs, with_smb, smb_opens, after_call, framed, connected, front_done, begun, called_done, ended_by, ticked_done, program_heard, record_heard, packet_heard, heard_by, heard, step};
 ghost use Rattle.xl_house.specs.Shown.{IsReadyFor, LeavesBy};
 ghost use Rattle.xl_house.specs.Whole.{whole_of};
 
-use crate::connections::{Connection, end, kind_of, open};
+use crate::connections::{Connection, end, has_room, kind_of, open};
 use crate::outs::{send_all, show_all};
-use crate::parts::Parts;
+use crate::parts::{Fronts, Parts};
 use crate::settling::settle;
 use std::alloc::{AllocError, Global};
 use xl_base::{Event, Exports, Keeper, Kind, Moment, Out, Sequence};
 use xl_front_nfs::{nfs_step, nfs_tick};
 use xl_front_nlm::{nlm_called, nlm_step};
+use xl_front_smb::{smb_begin, smb_end, smb_step};
 use xl_programs::{Incoming, Program, Request, read_incoming, refusal, sent_to};
 use xl_rpc::Verdict;
 
@@ -60,7 +62,7 @@ fn hear_nlm<K: Keeper>(
 ) -> Result<Sequence<Out>, AllocError>
     requires known { serves Program.Nlm request.now.procedure ≡ true }
     requires ready { IsReadyFor 128 parts.old.core }
-    ensures heard { (n : ℕ) → IfOk result (λ outs. MayBe n parts.new.core → front_done exports.now (with_nlm parts.old.front (nlm_step n exports.now parts.old.front.nlm parts.old.core number (shown_request request.now))) ≡ (outs, parts.new.front, parts.new.core)) }
+    ensures heard { (n : ℕ) → IfOk result (λ outs. MayBe n parts.new.core → front_done Kind.Rpc exports.now (with_nlm parts.old.front (nlm_step n exports.now parts.old.front.nlm parts.old.core number (shown_request request.now))) ≡ (outs, parts.new.front, parts.new.core)) }
     ensures leaves { OnOk result (LeavesBy 128 parts.old.core parts.new.core) }
     ensures keeper { keeper.new ≡ keeper.old }
 {
@@ -90,13 +92,15 @@ fn hear_nfs<K: Keeper>(
 ) -> Result<Sequence<Out>, AllocError>
     requires known { serves Program.Nfs request.now.procedure ≡ true }
     requires ready { IsReadyFor 128 parts.old.core }
-    ensures heard { (n : ℕ) → IfOk result (λ outs. MayBe n parts.new.core → front_done exports.now (with_nfs parts.old.front (nfs_step n exports.now parts.old.front.nfs parts.old.core number (shown_request request.now))) ≡ (outs, parts.new.front, parts.new.core)) }
+    ensures heard { (n : ℕ) → IfOk result (λ outs. MayBe n parts.new.core → front_done Kind.Rpc exports.now (with_nfs parts.old.front (nfs_step n exports.now (smb_opens parts.old.front) parts.old.front.nfs parts.old.core number (shown_request request.now))) ≡ (outs, parts.new.front, parts.new.core)) }
     ensures leaves { OnOk result (LeavesBy 128 parts.old.core parts.new.core) }
     ensures keeper { keeper.new ≡ keeper.old }
 {
+    let others = parts.front.smb.opens_held();
     let (reply, effects) = nfs_step(
         alloc,
         exports,
+        others,
         &mut parts.front.nfs,
         &mut parts.core,
         keeper,
@@ -150,6 +154,37 @@ fn hear_record<K: Keeper>(
     }
 }
 
+/// What a message of SMB sends: what the fronts show for the effects, and its reply.
+fn hear_packet<K: Keeper>(
+    alloc: Global,
+    exports: &Exports,
+    parts: &mut Parts,
+    keeper: &mut K,
+    number: u64,
+    bytes: &[u8],
+) -> Result<Sequence<Out>, AllocError>
+    requires ready { IsReadyFor 128 parts.old.core }
+    ensures heard { (n : ℕ) → IfOk result (λ outs. MayBe n parts.new.core → packet_heard n exports.now parts.old.front parts.old.core number bytes.now ≡ (outs, parts.new.front, parts.new.core)) }
+    ensures leaves { OnOk result (LeavesBy 128 parts.old.core parts.new.core) }
+    ensures keeper { keeper.new ≡ keeper.old }
+{
+    let others = parts.front.nfs_opens();
+    let (reply, effects) = smb_step(
+        alloc,
+        exports,
+        &mut parts.front.smb,
+        &mut parts.core,
+        keeper,
+        number,
+        bytes,
+        others,
+    )?;
+    let mut outs = Sequence::new(alloc);
+    show_all(alloc, exports, parts, effects.as_slice(), &mut outs)?;
+    send_all(alloc, Kind::Smb, reply, &mut outs)?;
+    Ok(outs)
+}
+
 /// What a message from a connection of this kind sends.
 #[tactic(auto, using(crate::proofs::SettleLaws::leaves_self))]
 fn hear<K: Keeper>(
@@ -171,7 +206,62 @@ fn hear<K: Keeper>(
     };
     match kind {
         Kind::Rpc => hear_record(alloc, exports, parts, keeper, number, bytes),
-        Kind::Smb => Ok(Sequence::new(alloc)),
+        Kind::Smb => hear_packet(alloc, exports, parts, keeper, number, bytes),
+    }
+}
+
+/// A connection of this kind opens at this place: SMB's front keeps its own, where there is room.
+fn begin(
+    front: &mut Fronts,
+    connections: &[Connection],
+    place: u64,
+    kind: Kind,
+) -> Result<(), AllocError>
+    ensures { OnOk result (front.new ≡ begun front.old connections.now place kind) }
+{
+    if has_room(connections) {
+        match kind {
+            Kind::Rpc => {}
+            Kind::Smb => smb_begin(&mut front.smb, place)?,
+        }
+    }
+    Ok(())
+}
+
+/// What the end of an SMB connection sends.
+fn hear_last(
+    alloc: Global,
+    exports: &Exports,
+    parts: &mut Parts,
+    number: u64,
+) -> Result<Sequence<Out>, AllocError>
+    requires ready { IsReadyFor 128 parts.old.core }
+    ensures heard { IfOk result (λ outs. ended_by exports.now parts.old.front parts.old.core (Some Kind.Smb) number ≡ (outs, parts.new.front, parts.new.core)) }
+    ensures leaves { OnOk result (LeavesBy 128 parts.old.core parts.new.core) }
+{
+    let effects = smb_end(alloc, &mut parts.front.smb, &mut parts.core, number)?;
+    let mut outs = Sequence::new(alloc);
+    show_all(alloc, exports, parts, effects.as_slice(), &mut outs)?;
+    Ok(outs)
+}
+
+/// What the end of a connection of this kind sends.
+#[tactic(auto, using(crate::proofs::SettleLaws::leaves_self))]
+fn hear_end(
+    alloc: Global,
+    exports: &Exports,
+    parts: &mut Parts,
+    kind: Option<Kind>,
+    number: u64,
+) -> Result<Sequence<Out>, AllocError>
+    requires ready { IsReadyFor 128 parts.old.core }
+    ensures heard { IfOk result (λ outs. ended_by exports.now parts.old.front parts.old.core kind number ≡ (outs, parts.new.front, parts.new.core)) }
+    ensures leaves { OnOk result (LeavesBy 128 parts.old.core parts.new.core) }
+{
+    match kind {
+        Some(Kind::Smb) => hear_last(alloc, exports, parts, number),
+        Some(Kind::Rpc) => Ok(Sequence::new(alloc)),
+        None => Ok(Sequence::new(alloc)),
     }
 }
 
@@ -250,6 +340,15 @@ fn hear_event<K: Keeper>(
 {
     machine.parts.core.begin_step();
     match event {
+        Event::Open(kind) => {
+            begin(
+                &mut machine.parts.front,
+                &machine.connections,
+                machine.place,
+                *kind,
+            )?;
+            Ok(Sequence::new(alloc))
+        }
         Event::Message(number, bytes) => {
             let kind = kind_of(&machine.connections, *number);
             hear(
@@ -262,11 +361,15 @@ fn hear_event<K: Keeper>(
                 bytes.as_slice(),
             )
         }
+        Event::End(number) => {
+            let kind = kind_of(&machine.connections, *number);
+            hear_end(alloc, exports, &mut machine.parts, kind, *number)
+        }
         Event::Called(call, reply) => {
             hear_answer(alloc, exports, &mut machine.parts, keeper, *call, reply)
         }
         Event::Tick(now) => hear_tick(alloc, exports, &mut machine.parts, keeper, *now),
-        _ => Ok(Sequence::new(alloc)),
+        Event::Restart => Ok(Sequence::new(alloc)),
     }
 }
 

@@ -24,7 +24,7 @@ pub(crate) fn settle<K: Keeper>(
     ensures settled { OnOk result (IsSettled parts.new.core) }
     ensures keeper { keeper.new ≡ keeper.old }
 {
-    'turns: while let Some(effects) = parts.core.settle(alloc, keeper, &parts.front.nlm.rooms())? {
+    'turns: while let Some(effects) = parts.core.settle(alloc, keeper, &parts.front.rooms())? {
         show_all(alloc, exports, parts, effects.as_slice(), outs)?;
     }
     Ok(())

@@ -1,23 +1,11 @@
 -- Facts on each element, and on some element, of a list that has more, fewer or changed elements.
-use Rattle.std.proofs.Common.{◌≡◌, Bool, true, false, ◌||◌, List, [], ◌∷◌, ◌++◌, Some, is_some, refl, sym, ap, ◌∙◌, inl, inr, true≢false}
-use Rattle.std.specs.List.{AllByRecursion, find, list_any}
-use Rattle.std.proofs.lemmas.Bool.{cases_Bool, or_left, or_right}
-use Rattle.std.proofs.lemmas.Option.{same_Some}
+use Rattle.std.proofs.Common.{◌≡◌, Bool, true, false, ◌||◌, List, [], ◌∷◌, ◌++◌, refl, sym, ap, ◌∙◌, inl, inr, true≢false}
+use Rattle.std.specs.List.{AllByRecursion, list_any}
+use Rattle.std.proofs.lemmas.Bool.{cases_Bool}
 use Rattle.xl_nfs_state.specs.Filed.{changed}
 use Rattle.xl_nfs_state.specs.State.{without}
 
 module _ {A : Type 0} where
-  -- what is found by one test and passes another
-  pub any_found : (which test : A → Bool) (xs : List A) (x : A) → find which xs ≡ Some x → test x ≡ true → list_any test xs ≡ true
-  any_found which test [] x h passes = absurd (true≢false (sym (ap is_some h)))
-  any_found which test (y ∷ ys) x h passes =
-      elim (cases_Bool (which y)) [
-        | inl e ↦
-            let here : Some y ≡ Some x = rw e at h in
-            or_left (test y) (list_any test ys) (ap test (same_Some y x here) ∙ passes)
-        | inr e ↦ or_right (test y) (list_any test ys) (any_found which test ys x (rw e at h) passes)
-      ]
-
   pub any_more : (test : A → Bool) (xs ys : List A) → list_any test xs ≡ true → list_any test (xs ++ ys) ≡ true
   any_more test [] ys h = absurd (true≢false (sym h))
   any_more test (x ∷ xs) ys h =

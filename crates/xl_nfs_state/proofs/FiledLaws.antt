@@ -272,21 +272,6 @@ module _ {R K N : Type 0} (number : R → K) (name : R → N) (slab : Slab R) (n
   pub distinct_names : (eq : N → N → Bool) → IsDistinct eq (map (λ e. e.0) ms) → IsDistinct eq (map name (filed slab ns))
   distinct_names eq h = subst (IsDistinct eq) (ap (map (λ e. e.0)) sound.names ∙ keys_at name slab (places ns)) h
 
-  -- rows and maps that stay
-  pub same_filed : (new : Slab R) (ns' : List (K × ℕ)) (ms' : List (N × ℕ)) → ((at : ℕ) → get new at ≡ get slab at) → ns' ≡ ns → ms' ≡ ms → IsFiled number name new ns' ms' × (filed new ns' ≡ filed slab ns)
-  same_filed new ns' ms' rows numbered named =
-      let stay = all_stay (places ns) in (
-        filed_by number name new ns' ms' (places ns) (ap places numbered)
-            (numbered ∙ sound.numbers ∙ sym (indexed_stay number slab new (places ns) stay))
-            (named ∙ sound.names ∙ sym (indexed_stay name slab new (places ns) stay))
-            (held_stay slab new (places ns) stay sound.held),
-        ap (filed new) numbered ∙ rows_stay slab new (places ns) stay,
-      )
-    where
-      all_stay : (ats : List ℕ) → Stays slab new ats
-      all_stay [] = tt
-      all_stay (at ∷ ats) = (rows at, all_stay ats)
-
 -- A row is changed where it stands.
 module _ {R : Type 0} (to : R → R) (old new : Slab R) where
   same_key : {K : Type 0} (key : R → K) (keeps : (r : R) → key (to r) ≡ key r) (place : Option ℕ) (at : ℕ) (o : Option R) (es : List (K × ℕ)) → entered key at (written to place at o) es ≡ entered key at o es

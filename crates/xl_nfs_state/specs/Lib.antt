@@ -1,4 +1,5 @@
 pub mod Alike
+pub mod Bytes
 pub mod Filed
 pub mod Keys
 pub mod Rows

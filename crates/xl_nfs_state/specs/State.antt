@@ -3,6 +3,7 @@ use Rattle.std.specs.Prelude.{◌≡◌, ℕ, ◌+◌, ◌<◌, ◌≤◌, ◌^�
 use Rattle.std.specs.List.{AllByRecursion, filter, find, list_any}
 use Rattle.std.specs.Cmp.Lexicographic.{slice_cmp}
 use Rattle.std.specs.Ordering.{nat_cmp, is_lt}
+pub use Rattle.xl_base.specs.Limits.{most_owners, most_opens}
 use Rattle.xl_base.specs.Lists.{sorted}
 use Rattle.xl_base.specs.declared.event.Moment.{Moment}
 use Rattle.xl_nfs_state.specs.declared.client.ClientRow.{ClientRow}
@@ -79,12 +80,6 @@ without test xs = filter (λ x. not (test x)) xs
 
 abbrev pub most_clients : ℕ
 most_clients = 256
-
-abbrev pub most_owners : ℕ
-most_owners = 8192
-
-abbrev pub most_opens : ℕ
-most_opens = 4096
 
 abbrev pub is_open : Holder → Bool
 is_open (Open owner) = true

@@ -6,12 +6,12 @@ ghost use Rattle.xl_nfs_state.specs.Filed.{changed};
 ghost use Rattle.xl_nfs_state.specs.State.{is_kept, is_owner, without};
 ghost use Rattle.xl_nfs_state.specs.Rows.{kept_row, with_result};
 
+use crate::bytes::ResultBytes;
 use crate::filed::Filed;
 use crate::owner::OwnerRow;
 use indexmap::IndexMap;
 use std::alloc::{AllocError, Global};
 use std::marker::Model;
-use xl_base::Sequence;
 
 /// A result that is kept: it answers its owner's last request where that comes again (RFC 7530 9.1.8).
 #[derive(Drop)]
@@ -19,13 +19,13 @@ pub struct KeptRow {
     /// The number of the owner.
     pub owner: u64,
     /// The bytes of the result.
-    pub result: Sequence<u8>,
+    pub result: ResultBytes,
 }
 
 /// The kept results in order of arrival, one an owner.
 #[derive(Drop)]
 pub(crate) struct Kept {
-    results: IndexMap<u64, Sequence<u8>>,
+    results: IndexMap<u64, ResultBytes>,
 }
 
 impl Model for Kept {
@@ -58,7 +58,7 @@ impl Kept {
     }
 
     /// The result that is kept for the owner.
-    pub(crate) fn find(&self, owner: u64) -> Option<&Sequence<u8>>
+    pub(crate) fn find(&self, owner: u64) -> Option<&ResultBytes>
         ensures { option_copied result ≡ option_map (λ k. k.result) (find (is_kept owner) self.now) }
     {
         self.results.get(&owner)
@@ -86,7 +86,7 @@ impl Kept {
     }
 
     /// Keeps another result for an owner that has one.
-    pub(crate) fn change(&mut self, owner: u64, bytes: Sequence<u8>)
+    pub(crate) fn change(&mut self, owner: u64, bytes: ResultBytes)
         requires { IsSome (find (is_kept owner) self.old) }
         ensures { self.new ≡ changed (is_kept owner) (with_result bytes) self.old }
     {
@@ -108,21 +108,21 @@ impl Kept {
     }
 }
 
-fn drop_result(results: &mut IndexMap<u64, Sequence<u8>>, owner: u64)
+fn drop_result(results: &mut IndexMap<u64, ResultBytes>, owner: u64)
     ensures { results.new.entries ≡ filter (λ e. not (owner == e.0)) results.old.entries }
 {
     results.retain(
-        |kept: &u64, bytes: &mut Sequence<u8>| -> bool
+        |kept: &u64, bytes: &mut ResultBytes| -> bool
             ensures { (result ≡ not (owner == kept.now)) × (bytes.new ≡ bytes.old) }
         { *kept != owner },
     );
 }
 
-fn keep_results(results: &mut IndexMap<u64, Sequence<u8>>, owners: &Filed<OwnerRow>)
+fn keep_results(results: &mut IndexMap<u64, ResultBytes>, owners: &Filed<OwnerRow>)
     ensures { results.new.entries ≡ filter (λ e. list_any (is_owner e.0) owners.now) results.old.entries }
 {
     results.retain(
-        |kept: &u64, bytes: &mut Sequence<u8>| -> bool
+        |kept: &u64, bytes: &mut ResultBytes| -> bool
             ensures { (result ≡ list_any (is_owner kept.now) owners.entry.now) × (bytes.new ≡ bytes.old) }
         { has_owner(owners, *kept) },
     );

@@ -2,6 +2,7 @@
 //! results that are kept for requests that come again (RFC 7530 9.1, 9.10, 10.4, 16.33).
 #![tactic(auto)]
 
+mod bytes;
 mod client;
 mod filed;
 mod kept;
@@ -12,6 +13,7 @@ mod seqid;
 mod state;
 mod stateid;
 
+pub use bytes::{MOST_RESULT_BYTES, ResultBytes};
 pub use client::{Callback, ClientDetails, ClientRow};
 pub use kept::KeptRow;
 pub use owner::{OwnerKind, OwnerName, OwnerNamed, OwnerRow, Turn};

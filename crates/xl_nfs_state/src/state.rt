@@ -15,11 +15,10 @@ use crate::kept::Kept;
 use crate::owner::OwnerRow;
 use crate::stateid::StateidRow;
 pub use clients::MOST_CLIENTS;
-pub use owners::MOST_OWNERS;
-pub use stateids::MOST_OPENS;
 use std::alloc::{AllocError, Global};
 use std::marker::Model;
 use thiserror::Error;
+pub use xl_base::{MOST_OPENS, MOST_OWNERS};
 
 /// Why a row could not be added, or rows not be listed.
 #[derive(Clone, Copy, Debug, Error)]

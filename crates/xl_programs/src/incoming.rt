@@ -1,8 +1,8 @@
 //! What becomes of a record before a front reads its arguments.
 ghost use Rattle.std.specs.Prelude.{◌≡◌, ◌≤◌, true, length, IfOk};
 ghost use Rattle.xl_rpc.specs.Calls.{shown_head};
-ghost use Rattle.xl_rpc.specs.Replies.{reply};
 ghost use Rattle.xl_programs.specs.Programs.{serves, shown_incoming, in_program, in_some, incoming_at, IsServed};
+ghost use Rattle.xl_programs.specs.Sent.{refusal_of};
 
 use crate::program::Program;
 use std::alloc::{AllocError, Global};
@@ -79,7 +79,7 @@ pub fn read_incoming(bytes: &[u8]) -> Incoming<'_>
 /// A reply without results: 32 bytes at most.
 #[tactic(auto, using(crate::proofs::ReplyLaws::reply_little))]
 pub fn refusal(alloc: Global, xid: u32, verdict: Verdict) -> Result<Vec<u8>, AllocError>
-    ensures reply { IfOk result (λ v. v.items ≡ reply xid verdict) }
+    ensures reply { IfOk result (λ v. v.items ≡ refusal_of xid verdict) }
     ensures little { IfOk result (λ v. length v.items ≤ 32) }
 {
     let mut out = XdrOut::new(alloc);

@@ -132,14 +132,6 @@ module _ {K X : Type 0} where
 module _ {X : Type 0} where
   -- ---- rows under numbers
 
-  -- a number that is found is none that is not
-  pub found_apart : (k n : ℕ) (es : List (ℕ × X)) (x : X) → lookup (nat_eq k) es ≡ Some x → lookup (nat_eq n) es ≡ None → eqb n k ≡ false
-  found_apart k n es x h new =
-      elim (cases_Bool (eqb n k)) [
-        | inl same ↦ absurd (none_some (sym new ∙ ap (λ j. lookup (nat_eq j) es) (sym (equal_from n k same)) ∙ h))
-        | inr apart ↦ apart
-      ]
-
   pub lookup_removed : (k n : ℕ) (es : List (ℕ × X)) → eqb n k ≡ false → lookup (nat_eq k) (remove_entry (nat_eq n) es) ≡ lookup (nat_eq k) es
   lookup_removed k n [] apart = refl
   lookup_removed k n (e ∷ es) apart =

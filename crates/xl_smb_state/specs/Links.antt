@@ -2,6 +2,8 @@
 use Rattle.std.specs.Prelude.{◌≡◌, ℕ, ◌==◌, nat_eq, ◌≤◌, ◌&&◌, Bool, true, false, bytes_eq, List, length, Option, Some, None, is_some}
 use Rattle.std.specs.List.{AllByRecursion, IsDistinct, list_any}
 use Rattle.std.specs.Map.{keys_of}
+use Rattle.xl_base.specs.Limits.{most_waiters}
+pub use Rattle.xl_base.specs.Limits.{most_connections, most_opens}
 use Rattle.xl_smb_state.specs.declared.row.Place.{Place}
 use Rattle.xl_smb_state.specs.declared.row.Session.{Session}
 use Rattle.xl_smb_state.specs.declared.row.Tree.{Tree}
@@ -13,20 +15,14 @@ use Rattle.xl_smb_state.specs.declared.row.Lease.{Lease}
 use Rattle.xl_smb_state.specs.State.{Lists, nothing, same_lease, is_empty, client_of, session_of, sessions_on, tree_of, trees_on, open_of, is_key}
 
 -- most rows of a list, and most sessions and tree connects of one connection
-abbrev pub most_connections : ℕ
-most_connections = 64
-
 abbrev pub most_sessions : ℕ
 most_sessions = 16
 
 abbrev pub most_trees : ℕ
 most_trees = 16
 
-abbrev pub most_opens : ℕ
-most_opens = 4096
-
 abbrev pub most_waiting : ℕ
-most_waiting = 1024
+most_waiting = most_waiters
 
 -- the session's connection is there, and its client has negotiated
 abbrev pub IsSessionLinked : Lists → Session → Type 0

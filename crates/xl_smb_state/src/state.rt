@@ -8,9 +8,10 @@ use crate::row::{Connection, Lease, LeaseKey, Session, Tree, Waiting};
 use indexmap::IndexMap;
 use std::alloc::Global;
 use std::marker::Model;
+use xl_base::{MOST_CONNECTIONS, MOST_OPENS, MOST_WAITERS};
 
 /// How many connections there are at most, of all protocols together.
-pub const CONNECTIONS: usize = 64;
+pub const CONNECTIONS: usize = MOST_CONNECTIONS;
 
 /// How many sessions a connection has at most.
 pub const SESSIONS: usize = 16;
@@ -19,10 +20,10 @@ pub const SESSIONS: usize = 16;
 pub const TREES: usize = 16;
 
 /// How many opens there are at most, of NFSv4 and SMB together.
-pub const OPENS: usize = 4_096;
+pub const OPENS: usize = MOST_OPENS;
 
 /// How many requests wait at most.
-pub const WAITING: usize = 1_024;
+pub const WAITING: usize = MOST_WAITERS;
 
 /// The lists that an SMB server keeps (MS-SMB2 3.3.1): connections, sessions, tree connects, opens, leases, and requests
 /// that wait. Each row stands under its key; a list is in the order in which its rows came. What a row names is there, no

@@ -1,7 +1,7 @@
 -- A change that is made by places in the list is what the definition says.
 use Rattle.std.proofs.Common.{◌≡◌, ℕ, ◌+◌, ◌-◌, ◌<◌, ◌≤◌, Bool, true, false, nat_le, List, [], ◌∷◌, ◌++◌, length, map, take, drop, zero, suc, ◌==◌, if◌then◌else◌, Option, refl, sym, ap, subst, ◌∙◌, inl, inr, append_assoc, arith}
 use Rattle.std.proofs.Math.Seq.{take-append-add, drop-append-add}
-use Rattle.std.proofs.lemmas.List.{take-append-drop, take-append-le, drop-append-le, take-map, drop-map, map-append, length-drop, length-take-le}
+use Rattle.std.proofs.lemmas.List.{take-append-drop, take-append-le, drop-append-le, take-map, drop-map, map-append, length-take-le}
 use Rattle.std.proofs.lemmas.List.Folds.{drop_split}
 use Rattle.std.proofs.lemmas.List.Sums.{prefix_len-le-length}
 use Rattle.std.specs.List.{AllByRecursion, filter, prefix_len, slice_range}
@@ -91,10 +91,6 @@ drop_within cs front mid back lo j is at within =
     ∙ ap (λ (n : ℕ). drop (n + j) (front ++ (mid ++ back))) (sym at)
     ∙ drop-append-add front (mid ++ back) j
     ∙ drop-append-le j mid back within
-
-pub within_parts : (cs mid : List Claim) (lo hi j : ℕ) → lo ≤ hi → hi ≤ length cs → mid ≡ slice_range cs lo hi → j ≤ length mid → lo + j ≤ length cs
-within_parts cs mid lo hi j order within is j_in =
-    omega (arith, order, within, j_in, ap (λ (ds : List Claim). length ds) is, length-take-le (hi - lo) (drop lo cs) (omega (arith, order, within, length-drop lo cs)))
 
 -- ---- an owner's ranges as claims of their spans
 

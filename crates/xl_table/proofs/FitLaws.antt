@@ -1,19 +1,17 @@
 -- Claims stay pairwise compatible when one is taken out, made weaker, or entered where nothing blocks it.
-use Rattle.std.proofs.Common.{◌≡◌, true, false, not, ◌||◌, List, [], ◌∷◌, inl, inr, subst, ◌∙◌}
+use Rattle.std.proofs.Common.{◌≡◌, true, false, not, ◌||◌, List, [], ◌∷◌, inl, inr}
 use Rattle.std.specs.List.{AllByRecursion, filter}
 use Rattle.std.proofs.lemmas.Bool.{cases_Bool, both_ways, and_cases, or_parts, not-false}
 use Rattle.xl_base.specs.Lists.{IsIn, Pairwise}
 use Rattle.xl_base.proofs.Members.{all_weaker}
 use Rattle.xl_matrix.specs.declared.claim.What.{What}
 use Rattle.xl_matrix.specs.declared.claim.Claim.{Claim}
-use Rattle.xl_matrix.specs.Equal.{same_claims}
 use Rattle.xl_matrix.specs.Matrix.{compat}
 use Rattle.xl_matrix.specs.Weaker.{weaker}
-use Rattle.xl_matrix.proofs.EqualLaws.{same_claims-true, same_claims-self}
 use Rattle.xl_matrix.proofs.SideLaws.{compat-sym}
 use Rattle.xl_matrix.proofs.WeakerLaws.{compat_later}
 use Rattle.xl_table.specs.Flat.{inserted, removed, changed, with_what, is_own, is_met_by_own, blocks}
-use Rattle.xl_table.proofs.FlatLaws.{pairwise_removed, pairwise_into}
+use Rattle.xl_table.proofs.FlatLaws.{pairwise_removed, pairwise_others, pairwise_into}
 
 -- the claim fits each of these
 abbrev Fits : Claim → List Claim → Type 0
@@ -44,21 +42,7 @@ unblocked_fits ask held all own none = fits_inserted ask held (unblocked_all ask
 
 -- a held claim fits each of the others
 pub fits_others : (claim : Claim) (held : List Claim) → IsIn claim held → Pairwise compat held → Fits claim (removed claim held)
-fits_others claim [] h all = absurd h
-fits_others claim (c ∷ cs) h all =
-    elim (cases_Bool (same_claims c claim)) [
-      | inl same ↦ rw same (subst (λ (d : Claim). Fits d cs) (same_claims-true c claim same) all.0)
-      | inr other ↦
-          rw other
-          (elim h [
-            | inl e ↦ absurd (both_ways (same_claims c claim) other (subst (λ (d : Claim). same_claims c d ≡ true) e (same_claims-self c)))
-            | inr later ↦ (compat-sym claim c ∙ in_all cs all.0 later, fits_others claim cs later all.1)
-          ])
-    ]
-  where
-    in_all : (ds : List Claim) → Fits c ds → IsIn claim ds → compat c claim ≡ true
-    in_all [] all h = absurd h
-    in_all (d ∷ ds) all h = elim h [ inl e ↦ subst (λ (e : Claim). compat c e ≡ true) e all.0 | inr later ↦ in_all ds all.1 later ]
+fits_others claim held h all = pairwise_others compat compat-sym claim held h all
 
 -- a claim that goes with each of the others may become another one
 pub raised_fits : (claim : Claim) (to : What) (held : List Claim) → Pairwise compat held → Fits (with_what claim to) (removed claim held) → Pairwise compat (changed claim to held)

@@ -3,6 +3,7 @@ use Rattle.std.proofs.Common.{◌≡◌, ◌+◌, ◌≤◌, Bool, true, false, 
 use Rattle.std.specs.List.{AllByRecursion, list_any}
 use Rattle.std.proofs.lemmas.Bool.{cases_Bool, both_ways, or_cases, or_left, or_right, or_parts}
 use Rattle.xl_base.specs.Lists.{IsIn, placed, Pairwise}
+use Rattle.xl_base.proofs.Members.{all_in}
 use Rattle.xl_matrix.specs.declared.claim.Claim.{Claim}
 use Rattle.xl_matrix.specs.declared.claim.What.{What}
 use Rattle.xl_matrix.specs.Equal.{same_claims}
@@ -47,6 +48,20 @@ pairwise_removed test claim (c ∷ cs) all =
     elim (cases_Bool (same_claims c claim)) [
       | inl same ↦ rw same all.1
       | inr other ↦ rw other (all_removed (λ d. test c d ≡ true) claim cs all.0, pairwise_removed test claim cs all.1)
+    ]
+
+-- a test that holds of each two of these holds of a held one and each of the others
+pub pairwise_others : (test : Claim → Claim → Bool) → ((a b : Claim) → test a b ≡ test b a) → (claim : Claim) (held : List Claim) → IsIn claim held → Pairwise test held → AllByRecursion (λ d. test claim d ≡ true) (removed claim held)
+pairwise_others test flip claim [] h all = absurd h
+pairwise_others test flip claim (c ∷ cs) h all =
+    elim (cases_Bool (same_claims c claim)) [
+      | inl same ↦ rw same (subst (λ (d : Claim). AllByRecursion (λ e. test d e ≡ true) cs) (same_claims-true c claim same) all.0)
+      | inr other ↦
+          rw other
+          (elim h [
+            | inl e ↦ absurd (both_ways (same_claims c claim) other (subst (λ (d : Claim). same_claims c d ≡ true) e (same_claims-self c)))
+            | inr later ↦ (flip claim c ∙ all_in (λ d. test c d ≡ true) claim cs all.0 later, pairwise_others test flip claim cs later all.1)
+          ])
     ]
 
 all_placed : (P : Claim → Type 0) (below : Claim → Claim → Bool) (claim : Claim) (held : List Claim) → P claim → AllByRecursion P held → AllByRecursion P (placed below claim held)
@@ -123,10 +138,6 @@ test_from_held claim (c ∷ cs) h =
 
 pub held_iff : (test : Bool) (claim : Claim) (held : List Claim) → test ≡ list_any (λ c. same_claims c claim) held → IsTrue test ↔ IsIn claim held
 held_iff test claim held h = ((λ t. held_from_test claim held (sym h ∙ t)), (λ i. h ∙ test_from_held claim held i))
-
--- without one claim the order is as it was
-pub pairwise_gone : (test : Claim → Claim → Bool) (claim : Claim) (held less : List Claim) → Pairwise test held → removed claim held ≡ less → Pairwise test less
-pairwise_gone test claim held less all e = subst (λ (ds : List Claim). Pairwise test ds) e (pairwise_removed test claim held all)
 
 pub held_found : (claim : Claim) (held : List Claim) → IsIn claim held → list_any (λ c. same_claims c claim) held ≡ false → ⊥
 held_found claim held h none = both_ways (list_any (λ c. same_claims c claim) held) none (test_from_held claim held h)

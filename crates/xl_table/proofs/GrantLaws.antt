@@ -15,7 +15,7 @@ use Rattle.xl_table.specs.declared.files.OnFile.{OnFile}
 use Rattle.xl_table.specs.Pages.{paged, AreFull}
 use Rattle.xl_table.specs.Changes.{spliced, written, IsOn, MayBeWritten}
 use Rattle.xl_table.specs.Files.{joined, AreOn, IsFiled, IsAt, here, alone}
-use Rattle.xl_table.specs.Held.{is_range, is_share, has_one_party, mode_of, IsPosix, IsPosixBy, IsSound, IsKept}
+use Rattle.xl_table.specs.Held.{is_range, is_share, has_one_party, mode_of, may_own, IsGrantable, IsPosixBy, IsSound, IsKept}
 use Rattle.xl_table.specs.Order.{goes_first}
 use Rattle.xl_table.specs.Relock.{relocked_in, granted_by, granted_claims}
 use Rattle.xl_table.proofs.AloneLaws.{in_files, done_alone, relocked_parts, granted_parts}
@@ -111,19 +111,19 @@ record IsLeft (cs : List Claim) : Type 0 where
   sound : IsSound cs
   ordered : Pairwise goes_first cs
 
-left_granted : (c : Claim) (cs : List Claim) → IsKept cs → IsPosix c → AllByRecursion (λ d. has_one_party c d ≡ true) cs → IsLeft (granted_claims c cs)
+left_granted : (c : Claim) (cs : List Claim) → IsKept cs → IsGrantable c → AllByRecursion (λ d. has_one_party c d ≡ true) cs → IsLeft (granted_claims c cs)
 unfolding granted_claims
-left_granted c cs kept p one = by c.what refl p.0 where
-  by : (w : What) → c.what ≡ w → IsPosixBy w → IsLeft (granted_by c w cs)
-  by (Share access deny) is posix_by = record { sound = sound_shared c cs kept (ap is_share is); ordered = ordered_shared c cs kept }
-  by (Range (Bytes first last) exclusive) is posix_by = record {
-    sound = sound_relocked c.file c.owner c.party first last (Some (mode_of exclusive)) cs kept p.1 posix_by (of_party c cs (ap is_range is) one);
+left_granted c cs kept p one = by c.what refl p.0 p.1 where
+  by : (w : What) → c.what ≡ w → IsPosixBy w → may_own c.owner w ≡ true → IsLeft (granted_by c w cs)
+  by (Share access deny) is posix_by own = record { sound = sound_shared c cs kept (ap is_share is); ordered = ordered_shared c cs kept }
+  by (Range (Bytes first last) exclusive) is posix_by own = record {
+    sound = sound_relocked c.file c.owner c.party first last (Some (mode_of exclusive)) cs kept own posix_by (of_party c cs (ap is_range is) one);
     ordered = ordered_relocked c.file c.owner c.party first last (Some (mode_of exclusive)) cs kept.ordered;
   }
-  by (Range (Empty offset) exclusive) is posix_by = absurd posix_by
-  by (Cache kind running) is posix_by = absurd posix_by
+  by (Range (Empty offset) exclusive) is posix_by own = absurd posix_by
+  by (Cache kind running) is posix_by own = absurd posix_by
 
-pub grant_written : (c : Claim) (n : ℕ) (cs on : List Claim) (change : Change) → IsKept cs → IsPosix c → AllByRecursion (λ d. has_one_party c d ≡ true) cs → on ≡ here c.file cs → n ≡ length cs
+pub grant_written : (c : Claim) (n : ℕ) (cs on : List Claim) (change : Change) → IsKept cs → IsGrantable c → AllByRecursion (λ d. has_one_party c d ≡ true) cs → on ≡ here c.file cs → n ≡ length cs
     → spliced change on ≡ granted_claims c on → IsOn c.file n on change → IsWrittenAs change cs (granted_claims c cs)
 grant_written c n cs on change kept p one is count done fits =
     let left = left_granted c cs kept p one in

@@ -4,14 +4,14 @@ use Rattle.std.specs.List.{AllByRecursion}
 use Rattle.std.proofs.lemmas.Bool.{cases_Bool, both_ways, and_parts, false_from_ne_true, eqb-true, eq-eqb}
 use Rattle.std.proofs.lemmas.Bool.Decides.{nat_tests}
 use Rattle.xl_base.specs.declared.name.Owner.{Owner}
-use Rattle.xl_base.specs.Lists.{IsIn, placed, Pairwise}
+use Rattle.xl_base.specs.Lists.{placed, Pairwise}
 use Rattle.xl_matrix.specs.declared.claim.Extent.TheVariants.{Bytes, Empty}
 use Rattle.xl_matrix.specs.declared.claim.What.{What}
 use Rattle.xl_matrix.specs.declared.claim.What.TheVariants.{Share, Range, Cache}
 use Rattle.xl_matrix.specs.declared.claim.Claim.{Claim}
 use Rattle.xl_matrix.specs.Owners.{posix}
-use Rattle.xl_matrix.specs.Equal.{same_owners, same_parties, same_claims}
-use Rattle.xl_matrix.proofs.EqualLaws.{eqb-sym, same_owners-true, same_owners-sym, same_parties-sym, same_claims-self, same_claims-true}
+use Rattle.xl_matrix.specs.Equal.{same_owners, same_parties}
+use Rattle.xl_matrix.proofs.EqualLaws.{eqb-sym, same_owners-true, same_owners-sym, same_parties-sym}
 use Rattle.xl_spans.specs.declared.span.Span.{Span}
 use Rattle.xl_spans.specs.Spans.{IsCanonical}
 use Rattle.xl_table.specs.Order.{no_later, owner_key, key_from, key_by, key, goes_first}
@@ -188,21 +188,6 @@ sound_inserted_other claim held is h =
 pub sound_changed_other : (claim : Claim) (to : What) (held : List Claim) → IsSound held → is_range to ≡ false → IsSound (changed claim to held)
 unfolding changed
 sound_changed_other claim to held is h = sound_inserted_other (with_what claim to) (removed claim held) (sound_removed claim held is) h
-
--- where a held claim stands, and what is left without it
-pub removed_split : (claim : Claim) (held : List Claim) → IsIn claim held → (front : List Claim) × (back : List Claim) × (held ≡ front ++ claim ∷ back) × (removed claim held ≡ front ++ back)
-removed_split claim [] h = absurd h
-removed_split claim (c ∷ cs) h =
-    elim (cases_Bool (same_claims c claim)) [
-      | inl same ↦ ([], cs, ap (λ (d : Claim). d ∷ cs) (same_claims-true c claim same), rw same refl)
-      | inr other ↦
-          elim h [
-            | inl e ↦ absurd (both_ways (same_claims c claim) other (subst (λ (d : Claim). same_claims c d ≡ true) e (same_claims-self c)))
-            | inr later ↦
-                let rest = removed_split claim cs later in
-                (c ∷ rest.0, rest.1, ap (λ (ds : List Claim). c ∷ ds) rest.2, rw other (ap (λ (ds : List Claim). c ∷ ds) rest.3))
-          ]
-    ]
 
 with_span-append : (what : What) (xs ys : List Span) → with_span what (xs ++ ys) ≡ with_span what xs ++ ys
 with_span-append (Share access deny) xs ys = refl

@@ -251,16 +251,6 @@ split_at (r ∷ rs) (suc at) p q h is =
       new = ap (λ (ds : List Claim). r ++ ds) rest.new ∙ sym (append_assoc r (paged (take at rs)) (q ++ paged (drop (suc at) rs)));
     }
 
-pub full_set : (ps : List (List Claim)) (at : ℕ) (q : List Claim) → AreFull ps → 0 < length q → AreFull (set ps at q)
-full_set [] at q full h = tt
-full_set (p ∷ ps) zero q full h = (h, full.1)
-full_set (p ∷ ps) (suc at) q full h = (full.0, full_set ps at q full.1 h)
-
-pub full_at : (ps : List (List Claim)) (at : ℕ) (p : List Claim) → AreFull ps → at < length ps → p ≡ get_or ps at p → 0 < length p
-full_at [] at p full h is = absurd (omega (arith, h))
-full_at (q ∷ qs) zero p full h is = subst (λ (r : List Claim). 0 < length r) (sym is) full.0
-full_at (q ∷ qs) (suc at) p full h is = full_at qs at p full.1 (omega (arith, h)) is
-
 pub there_len : (ps : List (List Claim)) (at left : ℕ) (p : List Claim) → IsThere at left ps → at < length ps → p ≡ get_or ps at p → left ≤ length p
 there_len [] at left p there h is = absurd there
 there_len (q ∷ qs) zero left p there h is = subst (λ (r : List Claim). left ≤ length r) (sym is) there
@@ -452,9 +442,6 @@ pub take_done : (start end last : ℕ) (old now : List (List Claim)) → IsTakin
 take_done start end last old now so_far done =
     let e : last ≡ start = omega (arith, done, so_far.order) in
     sym (take-append-drop start (paged now)) ∙ ap (λ (m : ℕ). take start (paged now) ++ drop m (paged now)) (sym e) ∙ so_far.same
-
-pub take_begun : (start end : ℕ) (old : List (List Claim)) → start ≤ end → end ≤ length (paged old) → AreFull old → IsTaking start end old old end
-take_begun start end old order within full = record { order = order; within = within; same = refl; full = full }
 
 -- claims put in behind a part that is then taken out
 pub spliced_is : (xs ys zs entered : List Claim) (start end : ℕ) → start ≤ end → end ≤ length xs → ys ≡ take end xs ++ (entered ++ drop end xs) → zs ≡ take start ys ++ drop end ys → zs ≡ take start xs ++ (entered ++ drop end xs)

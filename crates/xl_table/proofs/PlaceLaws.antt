@@ -10,7 +10,7 @@ use Rattle.xl_base.specs.declared.name.Party.TheVariants as parties
 use Rattle.xl_matrix.specs.declared.claim.What.{What}
 use Rattle.xl_matrix.specs.declared.claim.What.TheVariants.{Share, Range, Cache}
 use Rattle.xl_table.specs.Pages.{paged, IsFoundAt}
-use Rattle.xl_table.proofs.PageLaws.{drop_page}
+use Rattle.xl_table.proofs.PageLaws.{any_more, drop_page}
 use Rattle.std.proofs.lemmas.Bool.{cases_Bool}
 use Rattle.xl_base.specs.Lists.{IsIn, Pairwise, placed}
 use Rattle.xl_matrix.specs.declared.claim.Claim.{Claim}
@@ -134,14 +134,10 @@ placed_without_late claim cs i n ordered is h =
 
 -- ---- the claim equal to this one
 
-any_or : (p : Claim → Bool) (xs ys : List Claim) → list_any p (xs ++ ys) ≡ (list_any p xs || list_any p ys)
-any_or p [] ys = refl
-any_or p (x ∷ xs) ys = elim (cases_Bool (p x)) [ inl h ↦ rw h refl | inr h ↦ rw h (any_or p xs ys) ]
-
 pub found_early : (claim : Claim) (i : ℕ) (xs ys : List Claim) → (i < length xs) × (list_any (λ held. same_claims held claim) xs ≡ true) × (removed claim xs ≡ take i xs ++ drop (i + 1) xs) → IsFoundAt claim i (xs ++ ys)
 found_early claim i xs ys found = record {
   within = omega (arith, found.0, length-append xs ys);
-  held = any_or (λ held. same_claims held claim) xs ys ∙ rw found.1 refl;
+  held = any_more (λ held. same_claims held claim) xs ys ∙ rw found.1 refl;
   rest = let e : i + 1 ≡ suc i = omega arith in removed_first xs found.1 ∙ ap (λ (ds : List Claim). ds ++ ys) (found.2 ∙ ap (λ (n : ℕ). take i xs ++ drop n xs) e) ∙ remove_first xs i found.0;
 } where
   removed_first : (xs : List Claim) → list_any (λ held. same_claims held claim) xs ≡ true → removed claim (xs ++ ys) ≡ removed claim xs ++ ys
@@ -174,7 +170,7 @@ found_late claim i n xs ys none is found = subst (λ (m : ℕ). IsFoundAt claim 
   ]
 
 pub found_nowhere : (claim : Claim) (xs ys : List Claim) → list_any (λ held. same_claims held claim) xs ≡ false → list_any (λ held. same_claims held claim) ys ≡ false → list_any (λ held. same_claims held claim) (xs ++ ys) ≡ false
-found_nowhere claim xs ys none also = any_or (λ held. same_claims held claim) xs ys ∙ rw (none, also) refl
+found_nowhere claim xs ys none also = any_more (λ held. same_claims held claim) xs ys ∙ rw (none, also) refl
 
 pub found_there : (claim : Claim) (i : ℕ) (cs : List Claim) → IsFoundAt claim i cs → i + 1 ≤ length cs
 found_there claim i cs found = omega (arith, found.within)

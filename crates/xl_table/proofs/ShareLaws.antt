@@ -52,7 +52,7 @@ shares_of-inserted_other file owner claim (c ∷ cs) other =
       ])
     ]
 
-shares_of-inserted_apart : (file : ℕ) (owner : Owner) (claim : Claim) (held : List Claim) → is_of file owner claim ≡ false → shares_of file owner (inserted claim held) ≡ shares_of file owner held
+pub shares_of-inserted_apart : (file : ℕ) (owner : Owner) (claim : Claim) (held : List Claim) → is_of file owner claim ≡ false → shares_of file owner (inserted claim held) ≡ shares_of file owner held
 unfolding inserted
 shares_of-inserted_apart file owner claim [] apart = rw apart refl
 shares_of-inserted_apart file owner claim (c ∷ cs) apart =
@@ -74,7 +74,7 @@ more_shares file owner c cs none =
     no_more (Cache kind running) rest e = (λ shares. refl, e)
 
 -- who has no share has just this one once it is entered
-shares_of-inserted_own : (file : ℕ) (owner : Owner) (claim : Claim) (access deny : Rwd) (held : List Claim) → is_of file owner claim ≡ true → claim.what ≡ Share access deny → shares_of file owner held ≡ [] → shares_of file owner (inserted claim held) ≡ (access, deny) ∷ []
+pub shares_of-inserted_own : (file : ℕ) (owner : Owner) (claim : Claim) (access deny : Rwd) (held : List Claim) → is_of file owner claim ≡ true → claim.what ≡ Share access deny → shares_of file owner held ≡ [] → shares_of file owner (inserted claim held) ≡ (access, deny) ∷ []
 unfolding inserted
 shares_of-inserted_own file owner claim access deny [] own is none = rw (own, is) refl
 shares_of-inserted_own file owner claim access deny (c ∷ cs) own is none =
@@ -137,7 +137,7 @@ spans_unshared file owner at who (c ∷ cs) =
 
 -- ---- a share is granted
 
-is_own : (c : Claim) → is_of c.file c.owner c ≡ true
+pub is_own : (c : Claim) → is_of c.file c.owner c ≡ true
 is_own c = and_from _ (same_owners c.owner c.owner) (eq-eqb c.file c.file refl) (same_owners-self c.owner)
 
 -- a share stays one when it is united with others

@@ -1,10 +1,10 @@
 -- What of an owner's ranges a range touches, by places among all claims of a file.
-use Rattle.std.proofs.Common.{◌≡◌, ℕ, ◌+◌, ◌-◌, ◌<◌, ◌≤◌, suc, zero, Bool, true, false, not, ◌&&◌, ◌||◌, ◌==◌, nat_lt, nat_le, List, [], ◌∷◌, ◌++◌, length, map, take, drop, Option, refl, sym, ap, subst, ◌∙◌, inl, inr, arith}
+use Rattle.std.proofs.Common.{◌≡◌, ℕ, ◌+◌, ◌-◌, ◌<◌, ◌≤◌, suc, zero, Bool, true, false, not, ◌&&◌, ◌||◌, ◌==◌, nat_lt, nat_le, List, [], ◌∷◌, ◌++◌, length, map, take, drop, get_or, ◌^◌, Option, refl, sym, ap, subst, ◌∙◌, inl, inr, arith}
 use Rattle.std.proofs.Math.Numerals.{one-add}
 use Rattle.std.specs.List.{AllByRecursion, filter, list_any, prefix_len, slice_get, slice_range}
 use Rattle.std.proofs.lemmas.Bool.{cases_Bool, and_parts, both_ways, not-true, le-ltb}
 use Rattle.std.proofs.lemmas.Bool.Decides.{nat_tests}
-use Rattle.std.proofs.lemmas.List.{take-append-le, length-drop, length-take-le}
+use Rattle.std.proofs.lemmas.List.{take-append-le, drop_more, length-append, length-drop, length-take-le}
 use Rattle.std.proofs.lemmas.List.Sums.{prefix_len-le-length}
 use Rattle.xl_base.proofs.Members.{all_from, all_weaker, in_filter_from}
 use Rattle.xl_base.specs.Lists.{Pairwise}
@@ -18,15 +18,17 @@ use Rattle.xl_spans.specs.Spans.{IsCanonical, meets, relocked}
 use Rattle.xl_spans.specs.declared.span.Mode.{Mode}
 use Rattle.xl_spans.specs.declared.span.Span.{Span}
 use Rattle.xl_spans.proofs.Chains.{IsChain, canonical_chain_all}
-use Rattle.xl_table.specs.Files.{here}
+use Rattle.xl_table.specs.Files.{joined, AreOn, IsFiled, here}
+use Rattle.xl_table.specs.declared.files.OnFile.{OnFile}
 use Rattle.xl_table.specs.Held.{is_of, is_range, is_real_by, is_real, mode_of, has_one_party, with_span, spans_of, IsKept}
 use Rattle.xl_table.specs.Order.{key, goes_first, no_later}
-use Rattle.xl_table.specs.Pages.{passes, is_met, is_met_there}
-use Rattle.xl_table.specs.Relock.{range_claim, is_range_of, relocked_in, holds_byte}
+use Rattle.xl_table.specs.Pages.{paged, passes, is_met, is_met_there}
+use Rattle.xl_table.specs.Relock.{range_claim, is_range_of, relocked_in, holds_byte, is_range_by, holds_range}
 use Rattle.xl_table.specs.Sections.{group, is_before, is_upto, range_ends_before, range_begins_by, IsParted, spans_in}
 use Rattle.xl_table.specs.declared.marks.Mark.TheVariants.{Ending, Beginning}
 use Rattle.xl_table.proofs.ChangeLaws.{in_parts, drop_within, runs_of, relock_is}
-use Rattle.xl_table.proofs.SectionLaws.{section_cut, section_is, is_between, starts_is, starts_range, upto_before, any_within, spans_on_file}
+use Rattle.xl_table.proofs.SectionLaws.{section_cut, section_is, is_between, starts_is, starts_range, range_section, upto_before, any_within, spans_on_file}
+use Rattle.xl_table.proofs.PageLaws.{any_more}
 use Rattle.xl_table.proofs.SpanLaws.{any_in_spans}
 use Rattle.xl_table.proofs.WriteBack.{is_of-true, of_party}
 
@@ -312,3 +314,75 @@ byte_asked file owner first last cs kept p =
 
     apart : (a b m : Bool) → (a && b) ≡ false → (a && b && m) ≡ false
     apart a b m h = grind (arith, nat_tests)
+
+-- ---- whether an owner has a range, file by file
+
+any_filtered : (p : Claim → Bool) (cs : List Claim) → nat_lt 0 (length (filter p cs)) ≡ list_any p cs
+any_filtered p [] = refl
+any_filtered p (c ∷ cs) = elim (cases_Bool (p c)) [ inl e ↦ rw e (some_length (length (filter p cs))) | inr e ↦ rw e (any_filtered p cs) ] where
+  some_length : (n : ℕ) → nat_lt 0 (suc n) ≡ true
+  some_length n = grind (arith, nat_tests)
+
+between_length : (cs : List Claim) (i j : ℕ) → j ≤ length cs → length (slice_range cs i j) ≡ j - i
+between_length cs i j h = length-take-le (j - i) (drop i cs) (omega (arith, h, length-drop i cs))
+
+less_or : (i j : ℕ) → nat_lt i j ≡ nat_lt 0 (j - i)
+less_or i j = grind (arith, nat_tests)
+
+-- a section of the owner's ranges has a claim where there is one among all of the file's
+pub some_range : (file : ℕ) (owner : Owner) (cs : List Claim) (i j : ℕ) → Pairwise goes_first cs → i ≡ prefix_len (is_before (group file 1 owner)) cs → j ≡ prefix_len (is_upto (group file 1 owner)) cs → j ≤ length cs → nat_lt i j ≡ list_any (is_range_of file owner) cs
+some_range file owner cs i j ordered a b within =
+    less_or i j
+    ∙ ap (λ (n : ℕ). nat_lt 0 n) (sym (between_length cs i j within))
+    ∙ ap (λ (ds : List Claim). nat_lt 0 (length ds)) (range_section file owner cs (slice_range cs i j) i j ordered a b refl)
+    ∙ any_filtered (is_range_of file owner) cs
+
+-- the files that are left hold a range of the owner where all do
+pub record AreLeft (owner : Owner) (all rest : List OnFile) : Type 0 where
+  pub filed : IsFiled rest
+  pub ordered : Pairwise goes_first (joined rest)
+  pub room : length (joined rest) ≤ 16384
+  pub same : holds_range owner (joined all) ≡ holds_range owner (joined rest)
+
+by_file : (file : ℕ) (owner : Owner) (cs : List Claim) → AreOn file cs → list_any (is_range_of file owner) cs ≡ holds_range owner cs
+by_file file owner [] on = refl
+by_file file owner (c ∷ cs) on = rw on.0 (ap (λ (b : Bool). is_range_by owner c || b) (by_file file owner cs on.1))
+
+two_parts : (test : Claim → Claim → Bool) (xs ys : List Claim) → Pairwise test (xs ++ ys) → Pairwise test xs × Pairwise test ys
+two_parts test [] ys all = (tt, all)
+two_parts test (x ∷ xs) ys all = let rest = two_parts test xs ys all.1 in ((first xs all.0, rest.0), rest.1) where
+  first : (zs : List Claim) → AllByRecursion (λ z. test x z ≡ true) (zs ++ ys) → AllByRecursion (λ z. test x z ≡ true) zs
+  first [] each = tt
+  first (z ∷ zs) each = (each.0, first zs each.1)
+
+parted_any : (owner : Owner) (all rest : List OnFile) (l : OnFile) (b : Bool) → AreLeft owner all (l ∷ rest) → b ≡ list_any (is_range_of l.file owner) (paged l.pages.items) → holds_range owner (joined all) ≡ (b || holds_range owner (joined rest))
+parted_any owner all rest l b left e =
+    left.same
+    ∙ any_more (is_range_by owner) (paged l.pages.items) (joined rest)
+    ∙ ap (λ (x : Bool). x || holds_range owner (joined rest)) (sym (by_file l.file owner (paged l.pages.items) left.filed.0) ∙ sym e)
+
+-- the file at this place and those behind it
+pub left_at : (owner : Owner) (all : List OnFile) (i : ℕ) (l : OnFile) → i < length all → l ≡ get_or all i l → AreLeft owner all (drop i all) → AreLeft owner all (l ∷ drop (i + 1) all)
+left_at owner all i l h is left =
+    subst (λ (m : OnFile). AreLeft owner all (m ∷ drop (i + 1) all)) (sym is) (subst (λ (ls : List OnFile). AreLeft owner all ls) (drop_more all i l h) left)
+
+pub first_ordered : (owner : Owner) (all rest : List OnFile) (l : OnFile) → AreLeft owner all (l ∷ rest) → Pairwise goes_first (paged l.pages.items)
+first_ordered owner all rest l left = (two_parts goes_first (paged l.pages.items) (joined rest) left.ordered).0
+
+pub first_room : (owner : Owner) (all rest : List OnFile) (l : OnFile) → AreLeft owner all (l ∷ rest) → length (paged l.pages.items) < 2 ^ 32
+first_room owner all rest l left = omega (arith, left.room, length-append (paged l.pages.items) (joined rest))
+
+-- a file with such a range, and one without
+pub range_found : (owner : Owner) (all rest : List OnFile) (l : OnFile) (b : Bool) → AreLeft owner all (l ∷ rest) → b ≡ list_any (is_range_of l.file owner) (paged l.pages.items) → b ≡ true → true ≡ holds_range owner (joined all)
+range_found owner all rest l b left e is = sym (parted_any owner all rest l b left e ∙ rw is refl)
+
+pub range_later : (owner : Owner) (all rest : List OnFile) (l : OnFile) (b : Bool) → AreLeft owner all (l ∷ rest) → b ≡ list_any (is_range_of l.file owner) (paged l.pages.items) → b ≡ false → AreLeft owner all rest
+range_later owner all rest l b left e is = record {
+  filed = left.filed.2;
+  ordered = (two_parts goes_first (paged l.pages.items) (joined rest) left.ordered).1;
+  room = omega (arith, left.room, length-append (paged l.pages.items) (joined rest));
+  same = parted_any owner all rest l b left e ∙ rw is refl;
+}
+
+pub all_left : (owner : Owner) (all : List OnFile) → IsFiled all → Pairwise goes_first (joined all) → length (joined all) ≤ 16384 → AreLeft owner all all
+all_left owner all filed ordered room = record { filed = filed; ordered = ordered; room = room; same = refl }

@@ -26,14 +26,20 @@ is_real_by owner _ = true
 abbrev pub is_real : Claim → Bool
 is_real claim = is_real_by claim.owner claim.what
 
--- a share, or a range with its bytes in order, of a POSIX owner
+-- a share, or a range as a POSIX owner may have it, with its bytes in order
 abbrev pub IsPosixBy : What → Type 0
 IsPosixBy (Share access deny) = Unit {0}
 IsPosixBy (Range (Bytes first last) exclusive) = first ≤ last
 IsPosixBy _ = ⊥
 
-abbrev pub IsPosix : Claim → Type 0
-IsPosix c = IsPosixBy c.what × (posix c.owner ≡ true)
+-- a share is anyone's, a range a POSIX owner's alone
+abbrev pub may_own : Owner → What → Bool
+may_own owner (Range extent exclusive) = posix owner
+may_own owner _ = true
+
+-- what may be granted: a share of anyone, or such a range of a POSIX owner
+abbrev pub IsGrantable : Claim → Type 0
+IsGrantable c = IsPosixBy c.what × (may_own c.owner c.what ≡ true)
 
 -- two ranges of one owner on one file have one party
 abbrev pub has_one_party : Claim → Claim → Bool

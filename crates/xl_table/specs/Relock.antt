@@ -5,6 +5,7 @@ use Rattle.xl_base.specs.declared.name.Owner.{Owner}
 use Rattle.xl_base.specs.declared.name.Owner.TheVariants as owners
 use Rattle.xl_base.specs.declared.name.Party.{Party}
 use Rattle.xl_base.specs.declared.name.Protocol.TheVariants.{Nlm, Nfs, Smb}
+use Rattle.xl_matrix.specs.Equal.{same_owners}
 use Rattle.xl_matrix.specs.declared.claim.Claim.{Claim}
 use Rattle.xl_matrix.specs.declared.claim.Extent.TheVariants.{Bytes}
 use Rattle.xl_matrix.specs.declared.claim.What.{What}
@@ -54,6 +55,14 @@ relocked_in file owner party first last mode cs =
 -- the owner has a byte of the range
 unfoldable pub holds_byte : ℕ → Owner → ℕ → ℕ → List Claim → Bool
 holds_byte file owner first last cs = list_any (meets first last) (spans_of file owner cs)
+
+-- the claim is a range of this owner, on whatever file
+abbrev pub is_range_by : Owner → Claim → Bool
+is_range_by owner c = same_owners c.owner owner && is_range c.what
+
+-- the owner has a range on some file
+abbrev pub holds_range : Owner → List Claim → Bool
+holds_range owner cs = list_any (is_range_by owner) cs
 
 -- the span has bytes on both sides of the range, so that an unlock of the range cuts it in two
 abbrev pub is_cut : ℕ → ℕ → Span → Bool

@@ -3,7 +3,7 @@ ghost use Rattle.std.specs.Prelude.{◌≡◌, ℕ, ◌+◌, ◌-◌, ◌≤◌,
 ghost use Rattle.std.specs.List.{AllByRecursion};
 ghost use Rattle.xl_matrix.specs.Owners.{posix};
 ghost use Rattle.xl_spans.specs.declared.span.Mode.{Mode};
-ghost use Rattle.xl_table.specs.Held.{IsKept, IsPosix, is_range, is_share, has_one_party, mode_of};
+ghost use Rattle.xl_table.specs.Held.{IsKept, IsGrantable, is_range, is_share, has_one_party, mode_of};
 ghost use Rattle.xl_table.specs.Relock.{relocked_in, shared_in, granted_claims};
 ghost use Rattle.xl_table.specs.Files.{joined, IsFiled, IsAt};
 ghost use Rattle.xl_table.specs.Pages.{paged, AreFull};
@@ -114,7 +114,7 @@ fn grant_on(
 ) -> Result<Change, AllocError>
     requires full { AreFull pages.now }
     requires kept { IsKept (paged pages.now) }
-    requires posix { IsPosix claim.now }
+    requires grantable { IsGrantable claim.now }
     requires party { AllByRecursion (λ c. has_one_party claim.now c ≡ true) (paged pages.now) }
     requires count { length (paged pages.now) ≤ count }
     requires room { count ≤ 16384 }
@@ -141,7 +141,7 @@ pub(crate) fn grant(
     requires filed { IsFiled lists.now }
     requires kept { IsKept (joined lists.now) }
     requires count { count ≡ length (joined lists.now) }
-    requires posix { IsPosix claim.now }
+    requires grantable { IsGrantable claim.now }
     requires party { AllByRecursion (λ c. has_one_party claim.now c ≡ true) (joined lists.now) }
     ensures claims { IfOk result (λ change. written change (joined lists.now) ≡ granted_claims claim.now (joined lists.now)) }
     ensures fits { IfOk result (λ change. MayBeWritten change (joined lists.now)) }

@@ -14,7 +14,7 @@ use crate::listing::{
 use crate::placing::{is_held, put, replace, take_out};
 use crate::relock::spans_in;
 use crate::section::{caches_on, find_share, ranges_by, shares_on};
-use crate::touching::has_byte;
+use crate::touching::{has_byte, has_range};
 use std::alloc::{AllocError, AllocFailed, Global};
 use std::marker::Model;
 use thiserror::Error;
@@ -76,8 +76,8 @@ impl Table {
     ghost use Rattle.xl_table.specs.Order.{no_later};
     ghost use Rattle.xl_matrix.specs.Owners.{posix};
     ghost use Rattle.xl_table.specs.Flat.{inserted, removed, changed, blocks, is_blocked, is_due, locks, range_key, holder};
-    ghost use Rattle.xl_table.specs.Held.{is_range, is_share, is_cache, has_one_party, spans_of, IsPosix, IsSound, IsKept};
-    ghost use Rattle.xl_table.specs.Relock.{is_share_of, holds_byte, relocked_in, granted_claims};
+    ghost use Rattle.xl_table.specs.Held.{is_range, is_share, is_cache, has_one_party, spans_of, IsGrantable, IsSound, IsKept};
+    ghost use Rattle.xl_table.specs.Relock.{is_share_of, holds_byte, holds_range, relocked_in, granted_claims};
     ghost use Rattle.xl_table.specs.Changes.{written, MayBeWritten};
     ghost use Rattle.xl_table.specs.Least.{least};
 
@@ -178,6 +178,13 @@ impl Table {
         has_byte(&self.lists, file, owner, first, last)
     }
 
+    /// Whether the owner has a range on some file. It takes no memory.
+    pub fn holds_range(&self, owner: Owner) -> bool
+        ensures { result ≡ holds_range owner self.now }
+    {
+        has_range(&self.lists, owner)
+    }
+
     /// The owner's share on the file, of which it has one at most; the first where there are more. It takes no memory.
     pub fn share_of(&self, file: u32, owner: Owner) -> Option<Claim>
         ensures share { result ≡ find (is_share_of file owner) self.now }
@@ -203,7 +210,7 @@ impl Table {
     /// What a grant of the claim changes, once nothing stands in its way: a share takes the place of its owner's on the
     /// file, or is united with it (NFSv4); a range of an NLM or NFSv4 owner gets its mode, in place of those it had.
     pub fn granted(&self, alloc: Global, claim: &Claim) -> Result<Change, AllocError>
-        requires posix { IsPosix claim.now }
+        requires grantable { IsGrantable claim.now }
         requires party { AllByRecursion (λ c. has_one_party claim.now c ≡ true) self.now }
         ensures claims { IfOk result (λ change. written change self.now ≡ granted_claims claim.now self.now) }
         ensures fits { IfOk result (λ change. MayBeWritten change self.now) }
@@ -267,7 +274,7 @@ impl Table {
         ensures err { OnErr result (self.new ≡ self.old) }
     {
         if self.count >= CLAIMS {
-            return Err(TableErr::Full(16_384));
+            return Err(TableErr::Full(CLAIMS as u32));
         }
         let alloc = *self.lists.allocator();
         let at = open_file(alloc, &mut self.lists, claim.file)?;

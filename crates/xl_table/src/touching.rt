@@ -2,10 +2,12 @@
 ghost use Rattle.std.specs.Prelude.{◌≡◌, ◌-◌, ◌≤◌, ◌<◌, ◌^◌, ◌&&◌, true, length};
 ghost use Rattle.std.specs.List.{list_any, prefix_len};
 ghost use Rattle.xl_matrix.specs.Owners.{posix};
+ghost use Rattle.xl_base.specs.Lists.{Pairwise};
 ghost use Rattle.xl_table.specs.Files.{joined, IsFiled};
 ghost use Rattle.xl_table.specs.Held.{IsKept, is_range};
+ghost use Rattle.xl_table.specs.Order.{goes_first};
 ghost use Rattle.xl_table.specs.Pages.{paged, AreFull, passes, is_met, is_met_there};
-ghost use Rattle.xl_table.specs.Relock.{holds_byte};
+ghost use Rattle.xl_table.specs.Relock.{holds_byte, is_range_of, holds_range};
 ghost use Rattle.xl_table.specs.Sections.{group, IsParted};
 ghost use Rattle.xl_table.specs.declared.marks.Mark.TheVariants.{Ending, Beginning};
 
@@ -14,7 +16,7 @@ use crate::marks::Mark;
 use crate::page::Page;
 use crate::pages::{claim_at, count_passing};
 use crate::relock::meets;
-use crate::section::group_of;
+use crate::section::{group_of, group_places};
 use xl_base::Owner;
 use xl_matrix::{Claim, What, is_posix, same_owner};
 
@@ -114,4 +116,32 @@ pub(crate) fn has_byte(lists: &[OnFile], file: u32, owner: Owner, first: u64, la
     } else {
         any_met_in(pages, file, owner, first, last)
     }
+}
+
+/// Whether the owner has a range among a file's claims.
+#[tactic(auto, using(crate::proofs::TouchLaws::some_range))]
+fn has_range_in(pages: &[Page], file: u32, owner: Owner) -> bool
+    requires ordered { Pairwise goes_first (paged pages.now) }
+    requires full { AreFull pages.now }
+    requires room { length (paged pages.now) < 2 ^ 32 }
+    ensures { result ≡ list_any (is_range_of file owner) (paged pages.now) }
+{
+    let (start, end) = group_places(pages, file, 1, owner);
+    start < end
+}
+
+/// Whether the owner has a range on some file.
+#[tactic(auto, using(crate::proofs::TouchLaws::all_left))]
+pub(crate) fn has_range(lists: &[OnFile], owner: Owner) -> bool
+    requires filed { IsFiled lists.now }
+    requires ordered { Pairwise goes_first (joined lists.now) }
+    requires room { length (joined lists.now) ≤ 16384 }
+    ensures { result ≡ holds_range owner (joined lists.now) }
+{
+    for list in lists {
+        if has_range_in(&list.pages, list.file, owner) {
+            return true;
+        }
+    }
+    false
 }

@@ -10,6 +10,7 @@ mod matrix;
 mod names;
 mod nfs_clients;
 mod nfs_stateids;
+mod opens;
 mod smb_state;
 mod spans;
 mod table;

@@ -11,9 +11,14 @@ mod limits;
 mod lines;
 mod locks;
 mod many;
+mod opens;
+mod parts;
 mod records;
+mod sessions;
 mod shares;
+mod sharing;
 mod show;
+mod spelled;
 mod transcripts;
 
 use calls::CALLS;

@@ -55,7 +55,7 @@ sent_by bytes f core = (map (framed Rpc) (sent_to 0 bytes), f, core)
 
 -- the front of NLM changes alone
 abbrev fronts_with : Whole → FrontState → Fronts
-fronts_with s f = record { nlm = f; nfs = s.front.nfs }
+fronts_with s f = record s.front { nlm = f }
 
 kind_is : (s : Whole) → IsMade s → kind_of s.connections 0 ≡ Some Rpc
 unfolding kind_of
@@ -70,9 +70,9 @@ unfolding heard nlm_step
 heard_is s number c ok done asked whole =
     ap (λ k. heard_by 0 s.exports s.front (step_begun s.core) k 0 (record_of number c)) (kind_is s ok)
     ∙ ap (record_heard 0 s.exports s.front (step_begun s.core) 0) asked
-    ∙ ap (λ count. front_done s.exports (with_nlm s.front (sent_with 0 (replied 0 count s.front.nlm (step_begun s.core) number (call_in (request number c)))))) (files_are s ok)
-    ∙ ap (λ o. front_done s.exports (with_nlm s.front (sent_with 0 (replied 0 8 s.front.nlm (step_begun s.core) number o)))) whole
-    ∙ ap (λ r. front_done s.exports (with_nlm s.front (sent_with 0 (with_results number c r)))) done.is
+    ∙ ap (λ count. front_done Rpc s.exports (with_nlm s.front (sent_with 0 (replied 0 count s.front.nlm (step_begun s.core) number (call_in (request number c)))))) (files_are s ok)
+    ∙ ap (λ o. front_done Rpc s.exports (with_nlm s.front (sent_with 0 (replied 0 8 s.front.nlm (step_begun s.core) number o)))) whole
+    ∙ ap (λ r. front_done Rpc s.exports (with_nlm s.front (sent_with 0 (with_results number c r)))) done.is
 
 settled_none : (n : ℕ) (exports : Exports) (f : Fronts) (s : CoreState) → s.waiters ≡ [] → settled n exports f s ≡ ([], f, s)
 unfolding settled

@@ -39,7 +39,7 @@ use Rattle.xl_core.proofs.CauseLaws.{lock_due, unlock_is, unlock_by, left_so}
 use Rattle.xl_core.proofs.DeedCalls.{ask_enters, ask_keeps_claims, ask_queue}
 use Rattle.xl_core.proofs.FrameLaws.{ask_frame}
 use Rattle.xl_core.proofs.GoodLaws.{ask_good, holder_kept}
-use Rattle.xl_core.proofs.KnownLaws.{asker_kept, both_distinct, get_none, kept_parts}
+use Rattle.xl_core.proofs.KnownLaws.{asker_kept, both_distinct, get_none, kept_named}
 use Rattle.xl_core.proofs.LimitLaws.{grant_found}
 use Rattle.xl_front_nlm.specs.Asks.{ask_of}
 use Rattle.xl_front_nlm.specs.Hosts.{rooms, host_rows}
@@ -104,7 +104,7 @@ same_owner m n p q e = cc
 -- the number of a known owner
 known_small : (names : List Name) (number : ℕ) (party : Party) → length names ≤ 5 → are_kept names (owner_at number) party ≡ true → number < 5
 known_small names number party few kept =
-    let parts = kept_parts names (owner_at number) party kept in
+    let parts = kept_named names Nlm number party kept in
     let same : number ≡ parts.number = same_owner number parts.number Nlm (protocol_of parts.name) parts.owner_is in
     elim (cases_lt number 5) [
       | inl under ↦ under
@@ -221,7 +221,7 @@ lock_well n hosts s who file first last exclusive core ours one at real short =
     claim = asked_claim a what s.names
 
     fit : IsFit a
-    fit = record { act = real; party = refl }
+    fit = record { act = real; own = refl; party = refl }
 
     small : (number : ℕ) → owner_at number ≡ asker a s.names → number < 5
     small number e = known_small (both_entered a s.names) number (asking_party a s.names) (both_few who file act rows s one core)
@@ -296,7 +296,7 @@ unlock_well n left s who file first last rows core one at real short = by (holds
   claim = known_claim a (Bytes first last) false s.names
 
   fit : IsFit a
-  fit = record { act = real; party = refl }
+  fit = record { act = real; own = refl; party = refl }
 
   few_names_kept : length s.names ≤ 5
   few_names_kept = few_names five s.names core.good.distinct core.names

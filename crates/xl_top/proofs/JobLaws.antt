@@ -1,5 +1,5 @@
 -- A journal is its head and its entries.
-use Rattle.std.proofs.Common.{◌≡◌, ℕ, true, false, List, [], ◌++◌, length, take, append-nil, Result, Ok, Err, OnOk, OnErr, refl, sym, subst, ap, ◌∙◌, arith}
+use Rattle.std.proofs.Common.{◌≡◌, ℕ, ◌<◌, true, false, List, [], ◌++◌, length, take, append-nil, Result, Ok, Err, OnOk, OnErr, refl, sym, subst, ap, ◌∙◌, arith}
 use Rattle.xl_base.proofs.Members.{all_weaker}
 use Rattle.xl_base.specs.declared.event.Event.{Event}
 use Rattle.xl_base.specs.declared.event.Event.TheVariants.{Open, Message, End, Called, Tick, Restart}
@@ -7,7 +7,8 @@ use Rattle.xl_base.specs.declared.halt.Halt.{Halt}
 use Rattle.xl_base.specs.declared.journal.Entry.{Entry}
 use Rattle.xl_base.specs.declared.journal.Head.{Head}
 use Rattle.xl_base.specs.declared.journal.Journal.{Journal}
-use Rattle.xl_top.specs.Job.{AreSteps, transcript_from, whole_transcript, head_of, journal_of, no_journal, BeginsAs, IsReplayed, IsBegun, IsCutAt}
+use Rattle.xl_base.specs.declared.halt.Halt.TheVariants as halts
+use Rattle.xl_top.specs.Job.{is_done, is_full, AreSteps, transcript_from, whole_transcript, head_of, journal_of, no_journal, BeginsAs, IsReplayed, IsBegun, IsCutAt}
 use Rattle.xl_capture.specs.Capture.{captured}
 use Rattle.xl_capture.proofs.PlainLaws.{is_plain, captured_plain}
 use Rattle.xl_house.specs.Journals.{replay, entries_of, most_entries, is_restart}
@@ -34,6 +35,30 @@ pub begins_stepped : (c : Capture) (head : Head) (old new : List Entry) (events 
 begins_stepped c head old new events (Ok done) same none are ok err =
     front new [] (entries_of (begin (head_of c)) c.events) (append-nil new ∙ ok ∙ (λ i. none i ++ entries_of (replay (begin (same i)) (none i)) (are i)))
 begins_stepped c head old new events (Err halt) same none are ok err = sym (λ i. take (length new) (none i ++ entries_of (replay (begin (same i)) (none i)) (are i))) ∙ err
+
+-- what holds where all was stepped, and what holds where the journal is full
+pub done_gives : (ended : Result (Unit {0}) Halt) (P : Type 0) → is_done ended ≡ true → OnOk ended P → P
+done_gives (Ok done) P is holds = holds
+done_gives (Err halt) P is holds = absurd cc
+
+pub full_gives : (ended : Result (Unit {0}) Halt) (P : Type 0) → is_full ended ≡ true → ((count : ℕ) → ended ≡ Err (halts.JournalFull count) → P) → P
+full_gives (Ok done) P is each = absurd cc
+full_gives (Err halts.NoMemory) P is each = absurd cc
+full_gives (Err (halts.JournalFull count)) P is each = each count refl
+full_gives (Err (halts.StartStore count)) P is each = absurd cc
+
+-- the journal of a house that stepped a capture
+pub all_stepped : (c : Capture) (journal : Journal) (head : Head) (es : List Entry) (ended : Result (Unit {0}) Halt) → journal.head ≡ head → journal.entries ≡ es → head ≡ head_of c → OnOk ended (es ≡ entries_of (begin (head_of c)) c.events) → is_done ended ≡ true → journal ≡ journal_of c
+all_stepped c journal head es ended same entered is ok done = same_journal c journal (same ∙ is) (entered ∙ done_gives ended (es ≡ entries_of (begin (head_of c)) c.events) done ok)
+
+pub begun_stepped : (c : Capture) (journal : Journal) (head : Head) (es : List Entry) → journal.head ≡ head → journal.entries ≡ es → head ≡ head_of c → take (length es) (entries_of (begin (head_of c)) c.events) ≡ es → BeginsAs c journal
+begun_stepped c journal head es same entered is begun = begins c journal (same ∙ is) (subst (λ (xs : List Entry). take (length xs) (entries_of (begin (head_of c)) c.events) ≡ xs) (sym entered) begun)
+
+pub full_stepped : (c : Capture) (journal : Journal) (head : Head) (es : List Entry) (ended : Result (Unit {0}) Halt) → journal.head ≡ head → journal.entries ≡ es → head ≡ head_of c → take (length es) (entries_of (begin (head_of c)) c.events) ≡ es
+    → ((count : ℕ) → ended ≡ Err (halts.JournalFull count) → (length es ≡ most_entries) × (most_entries < length c.events)) → is_full ended ≡ true → IsCutAt most_entries (Ok c) journal
+full_stepped c journal head es ended same entered is begun each full =
+    let both = full_gives ended ((length es ≡ most_entries) × (most_entries < length c.events)) full each in
+    (ap (λ (xs : List Entry). length xs) entered ∙ both.0, both.1, begun_stepped c journal head es same entered is begun)
 
 pub replayed_as : (r : Result Capture ℕ) (c : Capture) (journal : Journal) → r ≡ Ok c → journal ≡ journal_of c → IsReplayed r journal
 replayed_as r c journal e same = subst (λ s. IsReplayed s journal) (sym e) same

@@ -1,5 +1,5 @@
 -- The journal of calls that were made.
-use Rattle.std.proofs.Common.{◌≡◌, ℕ, zero, suc, ◌+◌, ◌-◌, ◌<◌, List, [], ◌∷◌, ◌++◌, length, take, Result, Err, refl, sym, ap, ◌∙◌, append-nil, arith}
+use Rattle.std.proofs.Common.{◌≡◌, ℕ, zero, suc, ◌+◌, ◌-◌, ◌<◌, List, [], ◌∷◌, ◌++◌, length, take, Result, Err, refl, sym, ap, ◌∙◌, append-nil, arith, subst}
 use Rattle.xl_base.specs.declared.event.Event.{Event}
 use Rattle.xl_base.specs.declared.event.Event.TheVariants.{Message}
 use Rattle.xl_base.specs.declared.halt.Halt.{Halt}
@@ -22,6 +22,9 @@ same_journal seed count journal head entries = ap (λ (h : Head). journal_with h
 
 pub made_part : (seed count : ℕ) (journal : Journal) → journal.head ≡ made_head → take (length journal.entries) (made_entries seed count) ≡ journal.entries → IsMadePart seed count journal
 made_part seed count journal head entries = record { entries = entries; head = λ some. head }
+
+pub part_stepped : (seed count : ℕ) (journal : Journal) (head : Head) (es : List Entry) → journal.head ≡ head → journal.entries ≡ es → head ≡ made_head → take (length es) (made_entries seed count) ≡ es → IsMadePart seed count journal
+part_stepped seed count journal head es same entered is begun = made_part seed count journal (same ∙ is) (subst (λ (xs : List Entry). take (length xs) (made_entries seed count) ≡ xs) (sym entered) begun)
 
 pub no_part : (seed count : ℕ) → IsMadePart seed count no_journal
 no_part seed count = record { entries = refl; head = λ some. absurd (omega (arith, some)) }

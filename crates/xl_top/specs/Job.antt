@@ -118,6 +118,16 @@ is_whole (Ok _) = true
 is_whole (Err (halts.JournalFull count)) = true
 is_whole (Err _) = false
 
+-- all were made
+abbrev pub is_done : Result (Unit {0}) Halt → Bool
+is_done (Ok _) = true
+is_done (Err _) = false
+
+-- the journal is full
+abbrev pub is_full : Result (Unit {0}) Halt → Bool
+is_full (Err (halts.JournalFull count)) = true
+is_full _ = false
+
 -- the lines that a text shows were added to what was written
 abbrev pub AddsShown : Option (List ℕ) → Result (List ℕ) ℕ → Option (List ℕ) → Type 0
 AddsShown old (Ok lines) new = Added old lines new

@@ -8,7 +8,7 @@ ghost use Rattle.xl_house.specs.Free.{AlwaysFree};
 ghost use Rattle.xl_house.specs.Housed.{Housed, is_spoiled};
 ghost use Rattle.xl_house.specs.Journals.{replay, IsLegal, IsOrderly, entries_of, most_entries};
 ghost use Rattle.xl_house.specs.Machine.{begin};
-ghost use Rattle.xl_top.specs.Job.{is_status, is_stepped, is_read, is_replay, is_shown, is_show, is_made, is_idle, AddsShown, BeginsShown, capped, head_of, journal_of, no_journal, IsReplayed, IsBegun, BeginsAs, IsCutAt, AreSteps, is_whole, transcript_from, whole_transcript};
+ghost use Rattle.xl_top.specs.Job.{is_status, is_stepped, is_read, is_replay, is_shown, is_show, is_made, is_idle, AddsShown, BeginsShown, capped, head_of, journal_of, no_journal, IsReplayed, IsBegun, BeginsAs, IsCutAt, AreSteps, is_whole, is_done, is_full, transcript_from, whole_transcript};
 ghost use Rattle.xl_capture.specs.Show.{shown};
 ghost use Rattle.xl_capture.specs.Summary.{granted, denied};
 ghost use Rattle.xl_capture.specs.Transcript.{transcript};
@@ -152,6 +152,17 @@ fn write_whole<O: Sink>(alloc: Global, house: &House<SureKeeper>, out: &mut O) -
     }
 }
 
+/// The journal of a house that steps no more.
+fn journal_in(house: House<SureKeeper>) -> Journal
+    ensures journal { (result.head ≡ house.head) × (result.entries ≡ house.entries) }
+    ensures legal { IsLegal (begin result.head) result.entries }
+    ensures orderly { IsOrderly [] 0 result.entries }
+    ensures most { length result.entries ≤ most_entries }
+{
+    let (journal, _) = house.end();
+    journal
+}
+
 /// The ending of a run that stepped nothing.
 fn idle(alloc: Global, status: u8, line: u64) -> Done
     ensures { result ≡ record { status = status; line = line; journal = no_journal } }
@@ -204,8 +215,42 @@ fn step_capture(alloc: Global, capture: Capture) -> Option<(House<SureKeeper>, R
     Some((house, ended))
 }
 
+/// Writes the transcript of a house whose last step ended so, where it has one, and gives the status.
+#[tactic(auto, using(crate::proofs::WriteLaws::began_none))]
+fn write_ended<O: Sink>(
+    alloc: Global,
+    house: &House<SureKeeper>,
+    ended: Result<(), Halt>,
+    out: &mut O,
+) -> u8
+    requires whole { is_whole ended ≡ true → is_spoiled house.now.halt ≡ false }
+    requires started { (count : ℕ) → ended ≡ Err (Halt.StartStore count) → ⊥ }
+    ensures known { is_stepped result ≡ true }
+    ensures done { result ≡ 0 → is_done ended ≡ true }
+    ensures unwritten { result ≡ 3 → is_done ended ≡ true }
+    ensures full { result ≡ 7 → is_full ended ≡ true }
+    ensures written { result ≡ 0 → Added (O.held out.old) (transcript_from house.now.head house.now.entries) (O.held out.new) }
+    ensures began { Began (O.held out.old) (transcript_from house.now.head house.now.entries) (O.held out.new) }
+    ensures failed { result ≡ 3 → Rose (O.faults out.old) (O.faults out.new) }
+    ensures still { result ≢ 3 → result ≢ 7 → O.faults out.new ≡ O.faults out.old }
+    ensures written_full { result ≡ 7 → (Rose (O.faults out.old) (O.faults out.new) → ⊥) → Added (O.held out.old) (transcript_from house.now.head house.now.entries) (O.held out.new) }
+{
+    match ended {
+        Err(Halt::NoMemory) => 6,
+        Err(Halt::JournalFull(_)) => match write_whole(alloc, house, out) {
+            Written::All | Written::Failed => 7,
+            Written::NoMemory => 6,
+        },
+        Err(Halt::StartStore(_)) => unreachable!(),
+        Ok(()) => match write_whole(alloc, house, out) {
+            Written::All => 0,
+            Written::Failed => 3,
+            Written::NoMemory => 6,
+        },
+    }
+}
+
 /// Replays a capture, and writes its transcript.
-#[tactic(auto, using(crate::proofs::JobLaws::same_journal, crate::proofs::JobLaws::begins))]
 fn replay<O: Sink>(alloc: Global, capture: Capture, out: &mut O) -> Done
     requires { AreSteps capture.events }
     ensures known { is_stepped result.status ≡ true }
@@ -226,20 +271,8 @@ fn replay<O: Sink>(alloc: Global, capture: Capture, out: &mut O) -> Done
     let Some((house, ended)) = step_capture(alloc, capture) else {
         return idle(alloc, 6, 0);
     };
-    let status = match ended {
-        Err(Halt::NoMemory) => 6,
-        Err(Halt::JournalFull(_)) => match write_whole(alloc, &house, out) {
-            Written::All | Written::Failed => 7,
-            Written::NoMemory => 6,
-        },
-        Err(Halt::StartStore(_)) => unreachable!(),
-        Ok(()) => match write_whole(alloc, &house, out) {
-            Written::All => 0,
-            Written::Failed => 3,
-            Written::NoMemory => 6,
-        },
-    };
-    let (journal, _) = house.end();
+    let status = write_ended(alloc, &house, ended, out);
+    let journal = journal_in(house);
     Done {
         status,
         line: 0,
@@ -374,8 +407,30 @@ fn write_summary<O: Sink>(alloc: Global, house: &House<SureKeeper>, out: &mut O)
     }
 }
 
+/// Writes the summary of a house that stepped all its calls, and gives the status.
+#[tactic(auto, using(crate::proofs::WriteLaws::began_none))]
+fn write_made<O: Sink>(alloc: Global, house: &House<SureKeeper>, all: bool, out: &mut O) -> u8
+    requires { all ≡ true → is_spoiled house.now.halt ≡ false }
+    ensures known { is_made result ≡ true }
+    ensures done { result ≡ 0 → all ≡ true }
+    ensures unwritten { result ≡ 3 → all ≡ true }
+    ensures written { result ≡ 0 → Added (O.held out.old) (summary_from house.now.head house.now.entries) (O.held out.new) }
+    ensures began { Began (O.held out.old) (summary_from house.now.head house.now.entries) (O.held out.new) }
+    ensures failed { result ≡ 3 → Rose (O.faults out.old) (O.faults out.new) }
+    ensures still { result ≢ 3 → O.faults out.new ≡ O.faults out.old }
+{
+    if !all {
+        return 6;
+    }
+    match write_summary(alloc, house, out) {
+        Written::All => 0,
+        Written::Failed => 3,
+        Written::NoMemory => 6,
+    }
+}
+
 /// Makes so many calls by the draws of a seed, steps them, and writes the summary of their journal.
-#[tactic(auto, using(crate::proofs::MadeLaws::same_journal, crate::proofs::MadeLaws::made_part, crate::proofs::MadeLaws::no_part, crate::proofs::CountLaws::journal_counts))]
+#[tactic(auto, using(crate::proofs::MadeLaws::same_journal, crate::proofs::MadeLaws::no_part, crate::proofs::CountLaws::journal_counts))]
 fn make<O: Sink>(alloc: Global, seed: u32, count: u32, out: &mut O) -> Done
     requires seed { seed < 2 ^ 31 }
     requires few { count ≤ 1000000 }
@@ -396,16 +451,8 @@ fn make<O: Sink>(alloc: Global, seed: u32, count: u32, out: &mut O) -> Done
     let Some((house, all)) = made_house(alloc, seed, count) else {
         return idle(alloc, 6, 0);
     };
-    let status = if all {
-        match write_summary(alloc, &house, out) {
-            Written::All => 0,
-            Written::Failed => 3,
-            Written::NoMemory => 6,
-        }
-    } else {
-        6
-    };
-    let (journal, _) = house.end();
+    let status = write_made(alloc, &house, all, out);
+    let journal = journal_in(house);
     Done {
         status,
         line: 0,
@@ -470,8 +517,9 @@ pub fn run<I: Source, O: Sink>(alloc: Global, words: &[String], input: &mut I, o
     // who waits could be served.
     ensures free { AlwaysFree (begin result.journal.head) result.journal.entries }
 
-    // Each byte of each owner stands as it stood before an entry, but for what its owner did in it, or was granted after
-    // a wait. A lock that nothing stands against is granted; one that is blocked is denied, or waits.
+    // Each byte of each owner, and its share of each file, stands as it stood before an entry, but for what its owner did in
+    // it, was granted after a wait, or lost with its lease or its connection. What nothing stands against is granted; what
+    // is blocked is refused, or waits.
     ensures lawful { Always IsLawful (begin result.journal.head) result.journal.entries }
     ensures waiting { Always IsWaiting (begin result.journal.head) result.journal.entries }
     ensures complete { Always IsComplete (begin result.journal.head) result.journal.entries }

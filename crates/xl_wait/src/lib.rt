@@ -7,5 +7,5 @@ mod parts;
 mod queue;
 mod waiter;
 
-pub use queue::{Queue, QueueErr, WAITERS};
+pub use queue::{Queue, QueueErr};
 pub use waiter::{Rooms, Waiter};

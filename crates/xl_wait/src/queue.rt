@@ -1,5 +1,6 @@
 //! The queue.
 ghost use Rattle.std.specs.Prelude.{◌≡◌, ℕ, ◌≤◌, ◌∷◌, ◌++◌, [], length, slice_get, option_copied, IsTrue, ◌↔◌, IfOk, OnOk, OnErr};
+ghost use Rattle.xl_base.specs.Limits.{most_waiters};
 ghost use Rattle.xl_wait.specs.declared.queue.QueueErr.TheVariants.{NoMemory};
 
 use crate::files::has_file;
@@ -9,9 +10,7 @@ use crate::waiter::Waiter;
 use std::alloc::{AllocError, AllocFailed, Global};
 use std::marker::Model;
 use thiserror::Error;
-
-/// How many waiters a queue holds.
-pub const WAITERS: usize = 1_024;
+use xl_base::MOST_WAITERS;
 
 /// Why a waiter could not be entered.
 #[derive(Clone, Copy, Debug, Error)]
@@ -50,6 +49,7 @@ pub struct Queue {
 
 impl Model for Queue {
     ghost use Rattle.std.specs.Prelude.{List, ◌≡◌, ◌≤◌, length};
+    ghost use Rattle.xl_base.specs.Limits.{most_waiters};
     ghost use Rattle.xl_wait.specs.Waiting.{files_of};
     ghost use Rattle.xl_wait.specs.declared.waiter.Waiter.{Waiter};
 
@@ -57,7 +57,7 @@ impl Model for Queue {
 
     ghost view = { λ q. q.waiters.items };
 
-    ghost invariant = { λ q. (length q.waiters.items ≤ 1024) × (q.files.items ≡ files_of q.waiters.items) };
+    ghost invariant = { λ q. (length q.waiters.items ≤ most_waiters) × (q.files.items ≡ files_of q.waiters.items) };
 }
 
 impl Queue {
@@ -76,7 +76,7 @@ impl Queue {
     /// The waiters in order of arrival, at most 1,024.
     pub fn waiters(&self) -> &[Waiter]
         ensures waiters { result.now ≡ self.now }
-        ensures room { length self.now ≤ 1024 }
+        ensures room { length self.now ≤ most_waiters }
     {
         &self.waiters
     }
@@ -98,11 +98,11 @@ impl Queue {
     /// Enters a waiter behind the others. Full comes exactly where 1,024 wait. After an error the queue is as it was.
     pub fn push(&mut self, waiter: Waiter) -> Result<(), QueueErr>
         ensures ok { OnOk result (self.new ≡ self.old ++ waiter ∷ []) }
-        ensures full { (n : ℕ) → (result ≡ Err (QueueErr.Full n)) ↔ ((n ≡ 1024) × (length self.old ≡ 1024)) }
+        ensures full { (n : ℕ) → (result ≡ Err (QueueErr.Full n)) ↔ ((n ≡ most_waiters) × (length self.old ≡ most_waiters)) }
         ensures err { OnErr result (self.new ≡ self.old) }
     {
-        if self.waiters.len() >= WAITERS {
-            return Err(QueueErr::Full(1_024));
+        if self.waiters.len() >= MOST_WAITERS {
+            return Err(QueueErr::Full(MOST_WAITERS as u32));
         }
         enter(&mut self.waiters, &mut self.files, waiter)?;
         Ok(())

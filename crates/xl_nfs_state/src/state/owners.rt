@@ -13,9 +13,7 @@ use crate::owner::{OwnerNamed, OwnerRow, Turn};
 use crate::picks::OneOwner;
 use crate::stateid::Whose;
 use std::alloc::Global;
-
-/// How many owners of opens and locks there are at most, together.
-pub const MOST_OWNERS: usize = 8_192;
+use xl_base::MOST_OWNERS;
 
 impl NfsState {
     /// How many owners there are. No two have one number, or one client, kind and bytes; and the client of each is

@@ -7,8 +7,8 @@ ghost use Rattle.xl_nfs_state.specs.Rows.{with_result};
 ghost use Rattle.xl_nfs_state.specs.State.{is_kept, is_owner, with_kept, without};
 
 use super::{NfsState, NfsStateErr};
+use crate::bytes::ResultBytes;
 use crate::kept::KeptRow;
-use xl_base::Sequence;
 
 impl NfsState {
     /// How many results are kept, at most one an owner; and the owner of each is there.
@@ -21,7 +21,7 @@ impl NfsState {
     }
 
     /// The bytes of the result that is kept for the owner; None exactly where none is.
-    pub fn find_kept(&self, owner: u64) -> Option<&Sequence<u8>>
+    pub fn find_kept(&self, owner: u64) -> Option<&ResultBytes>
         ensures { option_copied result ≡ option_map (λ k. k.result) (find (is_kept owner) self.now.kept) }
     {
         self.kept.find(owner)
@@ -39,7 +39,7 @@ impl NfsState {
     }
 
     /// Keeps another result for an owner that has one.
-    pub fn change_kept(&mut self, owner: u64, bytes: Sequence<u8>)
+    pub fn change_kept(&mut self, owner: u64, bytes: ResultBytes)
         requires { IsSome (find (is_kept owner) self.old.kept) }
         ensures { self.new ≡ with_kept self.old (changed (is_kept owner) (with_result bytes) self.old.kept) }
     {

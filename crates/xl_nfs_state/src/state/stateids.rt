@@ -14,9 +14,6 @@ use crate::picks::OneStateid;
 use crate::stateid::{Holder, Place, Standing, StateidRow, Whose};
 use std::alloc::{AllocError, Global};
 
-/// How many opens there are at most, closed ones aside. Those of SMB count among them.
-pub const MOST_OPENS: usize = 4_096;
-
 impl NfsState {
     /// How many stateids there are. No two have one number; an owner has one on a file, and so has a client one
     /// delegation. The client of each is confirmed; its owner, where it has one, is the client's; and locks hang under an

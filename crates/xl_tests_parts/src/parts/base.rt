@@ -128,16 +128,22 @@ fn are(bytes: &[u8], text: &str) -> bool {
     bytes == text.as_bytes()
 }
 
-/// The counts and bytes of four reads, of which the second fails.
+/// What four reads give, what the buffer then has, and how many failed: the second does.
+const READS: [(usize, &str, u64); 4] = [(3, "abc", 0), (9, "abc", 1), (2, "dec", 1), (0, "dec", 1)];
+
+fn is_read(source: &mut MemorySource, buffer: &mut [u8; 3], row: &(usize, &str, u64)) -> bool {
+    let (count, text, faults) = row;
+    reads(source, buffer) == *count && are(buffer, text) && source.faults() == *faults
+}
+
 fn are_read(source: &mut MemorySource) -> bool {
     let mut buffer = [0u8; 3];
-    reads(source, &mut buffer) == 3
-        && are(&buffer, "abc")
-        && reads(source, &mut buffer) == 9
-        && source.faults() == 1
-        && reads(source, &mut buffer) == 2
-        && are(&buffer, "dec")
-        && reads(source, &mut buffer) == 0
+    for row in &READS {
+        if !is_read(source, &mut buffer, row) {
+            return false;
+        }
+    }
+    true
 }
 
 fn writes(sink: &mut MemorySink, bytes: &str) -> bool {
@@ -210,17 +216,24 @@ fn fail(alloc: Global, keeper: &mut MemoryKeeper, record: &mut Record) -> bool {
         && matches!(keeper.store(alloc, record), StoreOutcome::Failed)
 }
 
+fn is_raised(record: &mut Record) -> bool {
+    raised(record, 0) == 1 && raised(record, u32::MAX) == 1 && raised(record, 7) == 8
+}
+
+/// The first call and the second, a load and a store.
+fn is_stored(alloc: Global, keeper: &mut MemoryKeeper, record: &mut Record) -> bool {
+    loads(alloc, keeper) && is_raised(record) && stores(alloc, keeper, record)
+}
+
+fn holds(keeper: &MemoryKeeper) -> bool {
+    keeper.faults() == 2 && keeper.held().epoch() == 8 && were_given(keeper.given(), 8, 9)
+}
+
 fn are_kept(alloc: Global, keeper: &mut MemoryKeeper, record: &mut Record) -> bool {
-    loads(alloc, keeper)
-        && raised(record, 0) == 1
-        && raised(record, u32::MAX) == 1
-        && raised(record, 7) == 8
-        && stores(alloc, keeper, record)
+    is_stored(alloc, keeper, record)
         && keeper.faults() == 0
         && fail(alloc, keeper, record)
-        && keeper.faults() == 2
-        && keeper.held().epoch() == 8
-        && were_given(keeper.given(), 8, 9)
+        && holds(keeper)
 }
 
 fn keeps_copy(alloc: Global, copy: Record, failing: Vec<u64>, record: &mut Record) -> bool {

@@ -7,9 +7,9 @@ use std::str::Split;
 use xl_base::Sequence;
 use xl_cache::{
     CacheKind, Need, Plan, Wish, answer_needed, best, best_join, guards, is_final_blocker,
-    is_oplock_party, is_share_covered, join, kind_for, kind_in_lease, lease_kinds_have_states,
-    lease_state, leaves_what_all_leave, oplock_level, plan, recalled, rest_within, target,
-    wish_of_lease, wish_of_oplock,
+    is_oplock_party, is_share_covered, join, kind_for, kind_in_lease, kinds_go_by_party,
+    lease_kinds_have_states, lease_state, leaves_what_all_leave, oplock_level, plan, recalled,
+    rest_within, target, wish_of_lease, wish_of_oplock,
 };
 use xl_matrix::{Claim, What, is_a_cache, is_a_range, is_a_share, is_blocked_by, same_claim};
 
@@ -385,4 +385,5 @@ fn joins_and_levels(rt: HostRuntime) {
     }
     assert!(rt; lease_state(Some(CacheKind::ReadDeleg)) == 0 && oplock_level(None) == 0);
     lease_kinds_have_states();
+    kinds_go_by_party();
 }

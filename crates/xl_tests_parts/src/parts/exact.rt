@@ -6,58 +6,57 @@ use xl_exact::{Element, Exact};
 
 /// What is done, one row after the other, and what is answered: `lock` asks for a range of the open itself and locks it
 /// where nothing of its own stands against it; `other` asks for another open; `unlock` and `undo` take out; `held` tells
-/// the element at a place; `new` begins with no ranges.
-const ROWS: [&str; 44] = [
-    // Only the very range is unlocked.
-    "lock x 0 10 yes",
-    "unlock 0 5 no",
-    "unlock 1 9 no",
-    "unlock 0 11 no",
-    "unlock 0 10 yes",
-    "unlock 0 10 no",
-    // A shared range is stacked on an exclusive one of the same open; the exclusive one goes first.
-    "lock x 0 10 yes",
-    "lock s 0 10 yes",
-    "lock x 0 10 no",
-    "other s 0 10 no",
-    "unlock 0 10 yes",
-    "held s 0 10 0",
-    "other s 0 10 yes",
-    "other x 9 1 no",
-    "unlock 0 10 yes",
-    "unlock 0 10 no",
-    // A range without a byte meets what lies on both sides of it.
-    "lock x 0 10 yes",
-    "other x 5 0 no",
-    "other s 5 0 no",
-    "other x 0 0 yes",
-    "other x 10 0 yes",
-    "other x 9 0 no",
-    "lock x 5 0 no",
-    "lock s 5 0 yes",
-    "unlock 0 10 yes",
-    "other x 5 1 yes",
-    "other x 4 1 yes",
-    "other x 4 2 no",
-    "other s 4 2 yes",
-    "other x 5 0 yes",
-    "new",
-    // The last byte, and the longest ranges.
-    "lock x 18446744073709551615 1 yes",
-    "other x 0 18446744073709551615 yes",
-    "other s 1 18446744073709551615 no",
-    "lock s 0 18446744073709551615 yes",
-    "held x 18446744073709551615 1 0",
-    "held s 0 18446744073709551615 1",
-    // The last locks are taken back.
-    "lock s 3 4 yes",
-    "lock s 3 4 yes",
-    "undo 2 yes",
-    "unlock 3 4 no",
-    "undo 3 no",
-    "held s 0 18446744073709551615 1",
-    "undo 2 yes",
-];
+/// the element at a place; `new` begins with no ranges, and `#` begins a remark.
+const ROWS: &str = "\
+# Only the very range is unlocked.
+lock x 0 10 yes
+unlock 0 5 no
+unlock 1 9 no
+unlock 0 11 no
+unlock 0 10 yes
+unlock 0 10 no
+# A shared range is stacked on an exclusive one of the same open; the exclusive one goes first.
+lock x 0 10 yes
+lock s 0 10 yes
+lock x 0 10 no
+other s 0 10 no
+unlock 0 10 yes
+held s 0 10 0
+other s 0 10 yes
+other x 9 1 no
+unlock 0 10 yes
+unlock 0 10 no
+# A range without a byte meets what lies on both sides of it.
+lock x 0 10 yes
+other x 5 0 no
+other s 5 0 no
+other x 0 0 yes
+other x 10 0 yes
+other x 9 0 no
+lock x 5 0 no
+lock s 5 0 yes
+unlock 0 10 yes
+other x 5 1 yes
+other x 4 1 yes
+other x 4 2 no
+other s 4 2 yes
+other x 5 0 yes
+new
+# The last byte, and the longest ranges.
+lock x 18446744073709551615 1 yes
+other x 0 18446744073709551615 yes
+other s 1 18446744073709551615 no
+lock s 0 18446744073709551615 yes
+held x 18446744073709551615 1 0
+held s 0 18446744073709551615 1
+# The last locks are taken back.
+lock s 3 4 yes
+lock s 3 4 yes
+undo 2 yes
+unlock 3 4 no
+undo 3 no
+held s 0 18446744073709551615 1
+undo 2 yes";
 
 fn is_exclusive(word: &str) -> bool {
     word == "x"
@@ -130,10 +129,17 @@ fn act<'a>(exact: &mut Exact, row: &'a str) -> (bool, &'a str) {
     (answer, last)
 }
 
+fn begins_anew(alloc: Global, exact: &mut Exact) -> bool {
+    *exact = Exact::new(alloc);
+    exact.is_empty() && exact.spare() == 0
+}
+
 fn passes(alloc: Global, exact: &mut Exact, row: &str) -> bool {
+    if row.starts_with('#') {
+        return true;
+    }
     if row == "new" {
-        *exact = Exact::new(alloc);
-        return exact.is_empty() && exact.spare() == 0;
+        return begins_anew(alloc, exact);
     }
     let (answer, word) = act(exact, row);
     answer == (word == "yes")
@@ -142,7 +148,7 @@ fn passes(alloc: Global, exact: &mut Exact, row: &str) -> bool {
 #[test]
 fn exact_ranges_answer_as_the_rows_say(rt: HostRuntime) {
     let mut exact = Exact::from_vec(Vec::new(rt.alloc()));
-    for row in ROWS {
+    for row in ROWS.lines() {
         assert!(rt; passes(rt.alloc(), &mut exact, row), "{row}");
     }
     assert!(rt; exact.into_vec().is_empty());

@@ -6,29 +6,28 @@ use super::next;
 use std::alloc::{AllocError, Global};
 use xl_base::{Moment, Sequence};
 use xl_nfs_state::{
-    Callback, ClientDetails, ClientRow, KeptRow, MOST_CLIENTS, NfsState, OwnerKind, OwnerName,
-    OwnerNamed, OwnerRow, SeqidVerdict, Turn, verdict,
+    Callback, ClientDetails, ClientRow, KeptRow, MOST_CLIENTS, MOST_RESULT_BYTES, NfsState,
+    OwnerKind, OwnerName, OwnerNamed, OwnerRow, ResultBytes, SeqidVerdict, Turn, verdict,
 };
 
 /// The operation and seqid of the last request (a dash for a new owner), those of the request, and the verdict.
-const SEQIDS: [&str; 16] = [
-    "- - 18 0 new",
-    "- - 18 4294967295 new",
-    "18 0 18 1 next",
-    "18 0 4 1 next",
-    "18 0 18 0 repeat",
-    "18 0 4 0 bad0",
-    "18 0 18 2 bad0",
-    "18 0 18 4294967295 bad0",
-    "18 4294967295 18 0 next",
-    "18 4294967295 18 4294967295 repeat",
-    "18 4294967295 12 4294967295 bad4294967295",
-    "18 4294967295 18 1 bad4294967295",
-    "4 4294967294 4 4294967295 next",
-    "4 5 4 5 repeat",
-    "4 5 4 7 bad5",
-    "4 5 4 4 bad5",
-];
+const SEQIDS: &str = "\
+- - 18 0 new
+- - 18 4294967295 new
+18 0 18 1 next
+18 0 4 1 next
+18 0 18 0 repeat
+18 0 4 0 bad0
+18 0 18 2 bad0
+18 0 18 4294967295 bad0
+18 4294967295 18 0 next
+18 4294967295 18 4294967295 repeat
+18 4294967295 12 4294967295 bad4294967295
+18 4294967295 18 1 bad4294967295
+4 4294967294 4 4294967295 next
+4 5 4 5 repeat
+4 5 4 7 bad5
+4 5 4 4 bad5";
 
 fn small(word: &str) -> u32 {
     word.parse().unwrap_or(99)
@@ -69,7 +68,7 @@ fn is_judged(row: &str) -> bool {
 
 #[test]
 fn seqids_are_judged(rt: HostRuntime) {
-    for row in SEQIDS {
+    for row in SEQIDS.lines() {
         assert!(rt; is_judged(row), "{row}");
     }
 }
@@ -183,24 +182,51 @@ fn changes(alloc: Global, state: &mut NfsState, number: u32) -> bool {
     matches!(state.find_client(number, true), Some(row) if row.details.callback.program == 41)
 }
 
+/// Two come, and a third of a name that one has doesn't.
+fn two_come(alloc: Global, state: &mut NfsState) -> bool {
+    comes(alloc, state, 1, true, b"abcd", 10)
+        && comes(alloc, state, 2, false, b"abcde", 20)
+        && !comes(alloc, state, 3, false, b"abcde", 20)
+}
+
+/// The second is not due, and is confirmed.
+fn one_is_confirmed(alloc: Global, state: &mut NfsState) -> bool {
+    state.drop_due_clients(Moment(19));
+    state.client_count() == 2 && confirms(alloc, state, 2, 15)
+}
+
+/// Two more come, of one name.
+fn two_more_come(alloc: Global, state: &mut NfsState) -> bool {
+    comes(alloc, state, 4, true, b"Z", 12) && comes(alloc, state, 5, false, b"Z", 15)
+}
+
+/// Whether the leases of these two have ended, in this order.
+fn are_ended(alloc: Global, state: &NfsState, now: u64, first: u32, second: u32) -> bool {
+    matches!(ended(alloc, state, now).as_slice(), [a, b] if *a == first && *b == second)
+}
+
+/// Leases end in the order of the id strings, and one that is renewed runs on.
+fn leases_end(alloc: Global, state: &mut NfsState) -> bool {
+    are_ended(alloc, state, 14, 4, 1) && renews(state, 4, 30) && are_ended(alloc, state, 29, 1, 2)
+}
+
+/// The one that isn't confirmed goes, and the others stay.
+fn one_goes(alloc: Global, state: &mut NfsState) -> bool {
+    state.drop_due_clients(Moment(15));
+    state.client_count() == 3
+        && state.find_client_named(b"Z", false).is_none()
+        && changes(alloc, state, 4)
+}
+
 #[test]
 fn clients_come_and_go(rt: HostRuntime) {
-    let alloc = rt.alloc();
-    let mut state = NfsState::new(alloc);
-    assert!(rt; comes(alloc, &mut state, 1, true, b"abcd", 10));
-    assert!(rt; comes(alloc, &mut state, 2, false, b"abcde", 20));
-    assert!(rt; !comes(alloc, &mut state, 3, false, b"abcde", 20));
-    assert!(rt; are_found(&state));
-    state.drop_due_clients(Moment(19));
-    assert!(rt; state.client_count() == 2 && confirms(alloc, &mut state, 2, 15));
-    assert!(rt;
-        comes(alloc, &mut state, 4, true, b"Z", 12) && comes(alloc, &mut state, 5, false, b"Z", 15)
-    );
-    assert!(rt; matches!(ended(alloc, &state, 14).as_slice(), [4, 1]));
-    assert!(rt; renews(&mut state, 4, 30) && matches!(ended(alloc, &state, 29).as_slice(), [1, 2]));
-    state.drop_due_clients(Moment(15));
-    assert!(rt; state.client_count() == 3 && state.find_client_named(b"Z", false).is_none());
-    assert!(rt; changes(alloc, &mut state, 4) && has_number(state.find_client(1, true), 1));
+    let mut state = NfsState::new(rt.alloc());
+    assert!(rt; two_come(rt.alloc(), &mut state) && are_found(&state));
+    assert!(rt; one_is_confirmed(rt.alloc(), &mut state));
+    assert!(rt; two_more_come(rt.alloc(), &mut state));
+    assert!(rt; leases_end(rt.alloc(), &mut state));
+    assert!(rt; one_goes(rt.alloc(), &mut state));
+    assert!(rt; has_number(state.find_client(1, true), 1));
 }
 
 fn named<'a>(kind: OwnerKind, owner: &'a [u8]) -> OwnerNamed<'a>
@@ -268,9 +294,13 @@ fn drops_owner(state: &mut NfsState, number: u64) -> bool {
 
 /// Keeps a result for the owner, anew or in place of the one before.
 pub fn keeps(alloc: Global, state: &mut NfsState, owner: u64, bytes: &[u8]) -> bool {
-    let Ok(result) = Sequence::from_slice(alloc, bytes) else {
+    if bytes.len() > MOST_RESULT_BYTES {
+        return false;
+    }
+    let Ok(copy) = Sequence::from_slice(alloc, bytes) else {
         return false;
     };
+    let result = ResultBytes::new(copy);
     let Some(_) = state.find_owner(owner) else {
         return false;
     };
@@ -295,35 +325,56 @@ fn is_kept(state: &NfsState, owner: u64, bytes: &[u8]) -> bool {
     matches!(state.find_kept(owner), Some(result) if result.as_slice() == bytes)
 }
 
+/// No owner of a client that is none; then an owner of each kind, once.
+fn two_owners(alloc: Global, state: &mut NfsState) -> bool {
+    adds_owner(alloc, state, OwnerKind::Open, b"o") == 0
+        && comes(alloc, state, 1, true, b"c", 10)
+        && adds_owner(alloc, state, OwnerKind::Open, b"owner") == 1
+}
+
+fn one_of_a_kind(alloc: Global, state: &mut NfsState) -> bool {
+    adds_owner(alloc, state, OwnerKind::Lock, b"owner") == 2
+        && adds_owner(alloc, state, OwnerKind::Lock, b"owner") == 0
+}
+
+fn are_named(state: &NfsState) -> bool {
+    state
+        .find_owner_named(named(OwnerKind::Open, b"owne"))
+        .is_none()
+        && matches!(state.find_owner_named(named(OwnerKind::Lock, b"owner")), Some(row) if row.number == 2)
+}
+
+/// One advances, and the other doesn't.
+fn one_advances(state: &mut NfsState) -> bool {
+    advances(state, 1, 4, 9) && matches!(state.find_owner(2), Some(row) if row.turn.seqid == 8)
+}
+
+/// An owner with a kept result isn't dropped, and a later result takes its place.
+fn results_are_kept(alloc: Global, state: &mut NfsState) -> bool {
+    keeps(alloc, state, 1, b"kept")
+        && !drops_owner(state, 1)
+        && keeps(alloc, state, 1, b"later")
+        && has_kept(state)
+}
+
+fn has_kept(state: &NfsState) -> bool {
+    is_kept(state, 1, b"later") && state.kept_count() == 1
+}
+
+fn first_goes(state: &mut NfsState) -> bool {
+    drops_kept(state, 1) && drops_owner(state, 1) && state.owner_count() == 1
+}
+
+fn last_goes(state: &mut NfsState) -> bool {
+    drops_owner(state, 2) && state.next_owner() == Some(1)
+}
+
 #[test]
 fn owners_advance(rt: HostRuntime) {
-    let alloc = rt.alloc();
-    let mut state = NfsState::new(alloc);
-    assert!(rt; adds_owner(alloc, &mut state, OwnerKind::Open, b"o") == 0);
-    assert!(rt; comes(alloc, &mut state, 1, true, b"c", 10));
-    assert!(rt; adds_owner(alloc, &mut state, OwnerKind::Open, b"owner") == 1);
-    assert!(rt; adds_owner(alloc, &mut state, OwnerKind::Lock, b"owner") == 2);
-    assert!(rt; adds_owner(alloc, &mut state, OwnerKind::Lock, b"owner") == 0);
-    assert!(rt;
-        state
-            .find_owner_named(named(OwnerKind::Open, b"owne"))
-            .is_none()
-    );
-    assert!(rt;
-        matches!(state.find_owner_named(named(OwnerKind::Lock, b"owner")), Some(row) if row.number == 2)
-    );
-    assert!(rt;
-        advances(&mut state, 1, 4, 9)
-            && matches!(state.find_owner(2), Some(row) if row.turn.seqid == 8)
-    );
-    assert!(rt; keeps(alloc, &mut state, 1, b"kept") && !drops_owner(&mut state, 1));
-    assert!(rt;
-        keeps(alloc, &mut state, 1, b"later")
-            && is_kept(&state, 1, b"later")
-            && state.kept_count() == 1
-    );
-    assert!(rt;
-        drops_kept(&mut state, 1) && drops_owner(&mut state, 1) && state.owner_count() == 1
-    );
-    assert!(rt; drops_owner(&mut state, 2) && state.next_owner() == Some(1));
+    let mut state = NfsState::new(rt.alloc());
+    assert!(rt; two_owners(rt.alloc(), &mut state));
+    assert!(rt; one_of_a_kind(rt.alloc(), &mut state));
+    assert!(rt; are_named(&state) && one_advances(&mut state));
+    assert!(rt; results_are_kept(rt.alloc(), &mut state));
+    assert!(rt; first_goes(&mut state) && last_goes(&mut state));
 }

@@ -108,14 +108,25 @@ fn are(alloc: Global, state: &NfsState, whose: Whose, first: u64, count: usize) 
     }
 }
 
-/// Client 1, with its open owner 1 and its lock owner 2.
-fn begins(alloc: Global, state: &mut NfsState) -> bool {
+/// Adds the open owner 1, and says whether it has that number.
+fn adds_opener(alloc: Global, state: &mut NfsState) -> bool {
+    adds_owner(alloc, state, OwnerKind::Open, b"o") == 1
+}
+
+fn adds_locker(alloc: Global, state: &mut NfsState) -> bool {
+    adds_owner(alloc, state, OwnerKind::Lock, b"l") == 2
+}
+
+fn comes(alloc: Global, state: &mut NfsState) -> bool {
     match client(alloc, 1, true, b"c", 10) {
-        Ok(row) => adds_client(alloc, state, row)
-            && adds_owner(alloc, state, OwnerKind::Open, b"o") == 1
-            && adds_owner(alloc, state, OwnerKind::Lock, b"l") == 2,
+        Ok(row) => adds_client(alloc, state, row),
         Err(_) => false,
     }
+}
+
+/// Client 1, with its open owner 1 and its lock owner 2.
+fn begins(alloc: Global, state: &mut NfsState) -> bool {
+    comes(alloc, state) && adds_opener(alloc, state) && adds_locker(alloc, state)
 }
 
 /// Opens 7 and 8 of files 1 and 2, locks 9 under open 7, a delegation 10 of file 1.
@@ -134,49 +145,85 @@ fn refuses(alloc: Global, state: &mut NfsState) -> bool {
         && !adds_owned(alloc, state, 11, 1, 1)
 }
 
+fn are_found(state: &NfsState) -> bool {
+    has(state.find_owned(1, 1), 7)
+        && has(state.find_owned(2, 1), 9)
+        && has(state.find_delegation(1, 1), 10)
+        && state.find_owned(2, 2).is_none()
+        && state.find_delegation(1, 2).is_none()
+}
+
+fn owners_have(alloc: Global, state: &NfsState) -> bool {
+    are(alloc, state, Whose::Owner(1), 7, 3) && are(alloc, state, Whose::Owner(2), 9, 1)
+}
+
+fn clients_have(alloc: Global, state: &NfsState) -> bool {
+    are(alloc, state, Whose::ClientFile(1, 1), 7, 3) && are(alloc, state, Whose::Client(1), 7, 4)
+}
+
+fn hang_under(alloc: Global, state: &NfsState) -> bool {
+    are(alloc, state, Whose::Under(7), 9, 1) && are(alloc, state, Whose::Stateid(7), 7, 2)
+}
+
+fn are_listed(alloc: Global, state: &NfsState) -> bool {
+    owners_have(alloc, state) && clients_have(alloc, state) && hang_under(alloc, state)
+}
+
+fn one_closes(state: &mut NfsState) -> bool {
+    state.open_count() == 2 && closes(state, 7) && state.open_count() == 1
+}
+
+fn locks_then_open(state: &mut NfsState) -> bool {
+    drops(state, 9) && drops(state, 7)
+}
+
+/// An open goes after the locks under it.
+fn two_go(state: &mut NfsState) -> bool {
+    !drops(state, 7) && locks_then_open(state)
+}
+
+fn two_stay(state: &NfsState) -> bool {
+    state.open_count() == 1 && state.stateid_count() == 2
+}
+
 #[test]
 fn stateids_hang_together(rt: HostRuntime) {
-    let alloc = rt.alloc();
-    let mut state = NfsState::new(alloc);
-    assert!(rt;
-        begins(alloc, &mut state) && opens(alloc, &mut state) && refuses(alloc, &mut state)
-    );
-    assert!(rt;
-        has(state.find_owned(1, 1), 7)
-            && has(state.find_owned(2, 1), 9)
-            && has(state.find_delegation(1, 1), 10)
-    );
-    assert!(rt; state.find_owned(2, 2).is_none() && state.find_delegation(1, 2).is_none());
-    assert!(rt;
-        are(alloc, &state, Whose::Owner(1), 7, 3) && are(alloc, &state, Whose::Owner(2), 9, 1)
-    );
-    assert!(rt;
-        are(alloc, &state, Whose::ClientFile(1, 1), 7, 3)
-            && are(alloc, &state, Whose::Client(1), 7, 4)
-    );
-    assert!(rt;
-        are(alloc, &state, Whose::Under(7), 9, 1) && are(alloc, &state, Whose::Stateid(7), 7, 2)
-    );
-    assert!(rt; state.open_count() == 2 && closes(&mut state, 7) && state.open_count() == 1);
-    assert!(rt; !drops(&mut state, 7) && drops(&mut state, 9) && drops(&mut state, 7));
-    assert!(rt; state.open_count() == 1 && state.stateid_count() == 2);
+    let mut state = NfsState::new(rt.alloc());
+    assert!(rt; begins(rt.alloc(), &mut state) && opens(rt.alloc(), &mut state));
+    assert!(rt; refuses(rt.alloc(), &mut state) && are_found(&state));
+    assert!(rt; are_listed(rt.alloc(), &state) && one_closes(&mut state));
+    assert!(rt; two_go(&mut state) && two_stay(&state));
+}
+
+fn results_are_kept(alloc: Global, state: &mut NfsState) -> bool {
+    keeps(alloc, state, 1, b"kept") && keeps(alloc, state, 2, b"kept") && !state.is_client_idle(1)
+}
+
+/// The locks under an open go, and others may hang under the other open.
+fn locks_go(alloc: Global, state: &mut NfsState) -> bool {
+    state.drop_stateids(Whose::Under(7));
+    state.find_owned(2, 1).is_none() && adds_locks(alloc, state, 12, 2, 8)
+}
+
+/// Whether there are so many stateids, and as many owners and kept results.
+fn are_left(state: &NfsState, count: usize) -> bool {
+    state.stateid_count() == count && state.owner_count() == count && state.kept_count() == count
+}
+
+fn owner_goes(state: &mut NfsState) -> bool {
+    state.forget_owner(1);
+    are_left(state, 1)
+}
+
+fn client_goes(state: &mut NfsState) -> bool {
+    state.forget_client(1);
+    are_left(state, 0) && state.client_count() == 0 && state.is_client_idle(1)
 }
 
 #[test]
 fn all_that_belongs_goes(rt: HostRuntime) {
-    let alloc = rt.alloc();
-    let mut state = NfsState::new(alloc);
-    assert!(rt;
-        begins(alloc, &mut state)
-            && opens(alloc, &mut state)
-            && keeps(alloc, &mut state, 1, b"kept")
-    );
-    assert!(rt; keeps(alloc, &mut state, 2, b"kept") && !state.is_client_idle(1));
-    state.drop_stateids(Whose::Under(7));
-    assert!(rt; state.find_owned(2, 1).is_none() && adds_locks(alloc, &mut state, 12, 2, 8));
-    state.forget_owner(1);
-    assert!(rt; state.stateid_count() == 1 && state.owner_count() == 1 && state.kept_count() == 1);
-    state.forget_client(1);
-    assert!(rt; state.stateid_count() == 0 && state.owner_count() == 0 && state.kept_count() == 0);
-    assert!(rt; state.client_count() == 0 && state.is_client_idle(1));
+    let mut state = NfsState::new(rt.alloc());
+    assert!(rt; begins(rt.alloc(), &mut state) && opens(rt.alloc(), &mut state));
+    assert!(rt; results_are_kept(rt.alloc(), &mut state) && locks_go(rt.alloc(), &mut state));
+    assert!(rt; owner_goes(&mut state) && client_goes(&mut state));
 }

@@ -144,13 +144,21 @@ fn core_at(alloc: Global, moment: u64) -> Core
     Core::new(alloc, Record::new(alloc), Moment(moment), TIMES)
 }
 
+fn share_comes_and_goes(alloc: Global, core: &mut Core, ask: &Ask) -> Result<bool, AllocError>
+    requires good { IsGood core.old }
+    requires fit { IsFit ask.now }
+    requires none { core.old.counter ≡ 0 }
+{
+    let granted = is_granted(alloc, core, ask)?;
+    renew(alloc, core, b"c")?;
+    Ok(granted && claims_go(alloc, core)?)
+}
+
 fn share_goes(alloc: Global, ask: &Ask) -> Result<bool, AllocError>
     requires fit { IsFit ask.now }
 {
     let mut core = core_at(alloc, 0);
-    let granted = is_granted(alloc, &mut core, ask)?;
-    renew(alloc, &mut core, b"c")?;
-    Ok(granted && claims_go(alloc, &mut core)?)
+    share_comes_and_goes(alloc, &mut core, ask)
 }
 
 fn shares_go(alloc: Global) -> Result<bool, AllocError> {

@@ -65,6 +65,17 @@ fn lock_of(alloc: Global, file: u32, caller: u8) -> Result<Ask, AllocError>
     Ok(lock_by(alloc, file, name, same, ranges))
 }
 
+pub(crate) fn ask_of(alloc: Global, core: &mut Core, ask: &Ask) -> Result<Answer, AllocError>
+    requires fit { IsFit ask.now }
+    requires good { IsGood core.old }
+    requires few { core.old.counter ≤ 100 }
+    ensures good { OnOk result (IsGood core.new) }
+    ensures counter { OnOk result (core.new.counter ≤ core.old.counter + 1) }
+{
+    let (answer, _told) = core.ask(alloc, &mut keeper(alloc), ask, &LEFT)?;
+    Ok(answer)
+}
+
 fn lock(alloc: Global, core: &mut Core, file: u32, caller: u8) -> Result<Answer, AllocError>
     requires good { IsGood core.old }
     requires few { core.old.counter ≤ 100 }
@@ -72,7 +83,7 @@ fn lock(alloc: Global, core: &mut Core, file: u32, caller: u8) -> Result<Answer,
     ensures counter { OnOk result (core.new.counter ≤ core.old.counter + 1) }
 {
     let ask = lock_of(alloc, file, caller)?;
-    let (answer, _told) = core.ask(alloc, &mut keeper(alloc), &ask, &LEFT)?;
+    let answer = ask_of(alloc, core, &ask)?;
     Ok(answer)
 }
 
@@ -98,7 +109,7 @@ fn served(alloc: Global, core: &mut Core) -> Result<u32, AllocError>
     })
 }
 
-fn leave(alloc: Global, core: &mut Core, party: Party) -> Result<(), AllocError>
+pub(crate) fn leave(alloc: Global, core: &mut Core, party: Party) -> Result<(), AllocError>
     requires good { IsGood core.old }
     ensures good { OnOk result (IsGood core.new) }
     ensures counter { OnOk result (core.new.counter ≡ core.old.counter) }

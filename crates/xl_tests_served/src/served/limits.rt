@@ -2,6 +2,7 @@
 
 ghost use Rattle.std.specs.Prelude.{None};
 
+use super::spelled::wrong_words;
 use super::{Asked, answer, ran};
 use std::alloc::{AllocError, Global};
 use std::fmt::Write;
@@ -120,192 +121,111 @@ fn most_bytes(rt: HostRuntime) -> Result<(), Fail> {
     Ok(())
 }
 
-/// How many claims there are at most.
-const MOST: u64 = 16_384;
-
-/// The rows of calls behind those that lock each its own bytes: the procedure, its block, the caller, the svid, the offset,
-/// the length, and the status that is told.
-const BEHIND: [(u32, u32, u8, u64, u64, u64, u32); 6] = [
-    // one range more: no room
-    (2, 0, b'a', 0, 1_000_000, 1, 2),
-    // the byte in the middle of the first range, which would be cut in two: no room
-    (4, 0, b'a', 0, 1, 1, 2),
-    // another caller waits for the first byte
-    (2, 1, b'b', 0, 0, 1, 3),
-    // which is unlocked, as the range stays one; the waiter's turn finds no room, and it is told of no grant
-    (4, 0, b'a', 0, 0, 1, 0),
-    // so it waits no more, and the byte is free: no room
-    (2, 1, b'b', 0, 0, 1, 2),
-    // a whole range is unlocked
-    (4, 0, b'a', 1, 4, 1, 0),
-];
-
-/// A LOCK (2) or an UNLOCK (4) of the file with handle 1, exclusive.
-fn put_call(
-    text: &mut String,
-    xid: u64,
-    procedure: u32,
-    block: u32,
-    caller: u8,
-    svid: u64,
-    first: u64,
-    count: u64,
-) -> Result<(), AllocError> {
-    let whole = if procedure == 2 { 0x68 } else { 0x58 };
-    write!(
-        text,
-        "B 0 800000{whole:02x}{xid:08x}0000000000000002000186b500000004{procedure:08x}"
-    )?;
-    write!(text, "0000000000000000000000000000000000000000")?;
-    if procedure == 2 {
-        write!(text, "{block:08x}00000001")?;
-    }
-    write!(
-        text,
-        "00000001{caller:02x}00000000000008584c4b310000000100000000"
-    )?;
-    write!(text, "{svid:08x}{first:016x}{count:016x}")?;
-    if procedure == 2 {
-        write!(text, "0000000000000000")?;
-    }
-    writeln!(text, "")?;
-    Ok(())
-}
-
-/// What a call with this number is told, at the place of its event.
-fn put_told(text: &mut String, xid: u64, status: u32) -> Result<(), AllocError> {
-    writeln!(
-        text,
-        "{xid} c0 80000020{xid:08x}0000000100000000000000000000000000000000{status:016x}"
-    )?;
-    Ok(())
-}
-
-/// So many owners lock a range each, then come the rows behind, and the first caller's are freed.
-fn most_locked(alloc: Global) -> Result<(String, String), AllocError> {
-    let mut lines = String::from_str(alloc, "F a.txt\nO rpc\n")?;
-    let mut wanted = String::new(alloc);
-    let mut xid = 0u64;
-    writeln!(wanted, "0 0 {}", MOST + BEHIND.len() as u64 + 2)?;
-    for owner in 0..MOST {
-        xid = xid.wrapping_add(1);
-        let count = if owner == 0 { 3 } else { 1 };
-        put_call(&mut lines, xid, 2, 0, b'a', owner, 4 * owner, count)?;
-        put_told(&mut wanted, xid, 0)?;
-    }
-    for (procedure, block, caller, svid, first, count, status) in BEHIND {
-        xid = xid.wrapping_add(1);
-        put_call(
-            &mut lines, xid, procedure, block, caller, svid, first, count,
-        )?;
-        put_told(&mut wanted, xid, status)?;
-    }
-    xid = xid.wrapping_add(1);
-    write!(
-        lines,
-        "B 0 80000034{xid:08x}0000000000000002000186b50000000400000017"
-    )?;
-    writeln!(
-        lines,
-        "00000000000000000000000000000000000000016100000000000000"
-    )?;
-    writeln!(
-        wanted,
-        "{xid} c0 80000018{xid:08x}0000000100000000000000000000000000000000"
-    )?;
-    Ok((lines, wanted))
-}
-
-#[test]
-fn most_claims(rt: HostRuntime) -> Result<(), Fail> {
-    let (lines, wanted) = most_locked(rt.alloc())?;
-    assert!(rt; is_told(rt.alloc(), &lines, &wanted)?);
-    Ok(())
-}
-
-/// The beginning of a COMPOUND of one operation, whose record has so many bytes, up to the operation's number.
-fn put_compound(text: &mut String, whole: u32, xid: u32) -> Result<(), AllocError> {
-    write!(
-        text,
-        "B 0 800000{whole:02x}{xid:08x}0000000000000002000186a30000000400000001"
-    )?;
-    write!(
-        text,
-        "00000000000000000000000000000000000000000000000000000001"
-    )
-}
-
-/// The beginning of the reply, up to the status of its one result.
-fn put_answer(
-    text: &mut String,
-    whole: u32,
-    xid: u32,
-    operation: u32,
-    status: u32,
-) -> Result<(), AllocError> {
-    write!(
-        text,
-        "{xid} c0 800000{whole:02x}{xid:08x}0000000100000000000000000000000000000000"
-    )?;
-    write!(
-        text,
-        "{status:08x}0000000000000001{operation:08x}{status:08x}"
-    )
-}
-
-/// A client of NFSv4.0 comes, whose id string has this number's four bytes, and gets this number as its clientid's, and the
-/// next one to confirm it; or it is refused: RESOURCE.
-fn put_client(
-    lines: &mut String,
-    wanted: &mut String,
-    xid: u32,
-    client: u32,
-    number: Option<u32>,
-) -> Result<(), AllocError> {
-    put_compound(lines, 0x58, xid)?;
-    writeln!(
-        lines,
-        "00000023000000000000000000000004{client:08x}00000000000000000000000000000000"
-    )?;
-    match number {
-        Some(number) => {
-            put_answer(wanted, 0x3c, xid, 35, 0)?;
-            let confirm = number.wrapping_add(1);
-            writeln!(wanted, "00000001{number:08x}00000000{confirm:08x}")?;
-        }
-        None => {
-            put_answer(wanted, 0x2c, xid, 35, 10018)?;
-            writeln!(wanted, "")?;
-        }
-    }
-    Ok(())
-}
-
-/// 256 clients come, of which the first is confirmed. Then there is no room for a record more: neither for the 257th, nor
-/// for one of the first beside what it has; but an unconfirmed one makes room for its client's next. At their time all go.
-fn most_coming(alloc: Global) -> Result<(String, String), AllocError> {
-    let mut lines = String::from_str(alloc, "O rpc\n")?;
-    let mut wanted = String::from_str(alloc, "0 0 263\n")?;
-    for client in 0..256u32 {
-        let number = client.wrapping_mul(2).wrapping_add(1);
-        let xid = client.wrapping_add(1);
-        put_client(&mut lines, &mut wanted, xid, client, Some(number))?;
-    }
-    put_compound(&mut lines, 0x48, 257)?;
-    writeln!(lines, "0000002400000001000000010000000000000002")?;
-    put_answer(&mut wanted, 0x2c, 257, 36, 0)?;
-    writeln!(wanted, "")?;
-    put_client(&mut lines, &mut wanted, 258, 256, None)?;
-    put_client(&mut lines, &mut wanted, 259, 0, None)?;
-    put_client(&mut lines, &mut wanted, 260, 1, Some(513))?;
-    writeln!(lines, "T 90000")?;
-    put_client(&mut lines, &mut wanted, 262, 256, Some(515))?;
-    Ok((lines, wanted))
-}
+/// The most claims, clients, hosts and waiters.
+const MOST: &str = "\
+# 16,384 ranges, one of each owner.
+F a.txt
+O rpc
+B 0 : lock 0 1 caller f1 0 0 0 0 0 3 0 0
+* 16383 1 1 0 B 0 : lock 0 1 caller f1 0 # # 0 0 1 0 0
+# one more: no room
+B 0 : lock 0 1 caller f1 0 0 0 000f4240 0 1 0 0
+# the byte in the middle of the first range, which would be cut in two: no room
+B 0 : unlock caller f1 0 0 0 1 0 1
+# another caller waits for the first byte
+B 0 : lock 1 1 caller-b f1 0 0 0 0 0 1 0 0
+# which is unlocked, as the range stays one; the waiter's turn finds no room, and it is told of no grant
+B 0 : unlock caller f1 0 0 0 0 0 1
+# so it waits no more, and the byte is free: no room
+B 0 : lock 1 1 caller-b f1 0 0 0 0 0 1 0 0
+# a whole range is unlocked, and then all are
+B 0 : unlock caller f1 0 1 1 0 0 1
+B 0 : free caller 0
+=>
+0 0 16392
+* 16384 0 1 1 @ c0 : told 0 0
+16385 c0 : told 0 2
+16386 c0 : told 0 2
+16387 c0 : told 0 3
+16388 c0 : told 0 0
+16389 c0 : told 0 2
+16390 c0 : told 0 0
+16391 c0 : told
+--
+# 256 clients of NFSv4.0, of which the first is confirmed. Their numbers are odd, and the next ones confirm them.
+O rpc
+* 256 0 1 0 B 0 : nfs 1 setclientid none 00000004 # none none
+B 0 : nfs 1 setconfirm k1 v2
+# no room for a record more: neither for another, nor for one of the first beside what it has
+B 0 : nfs 1 setclientid none 00000004 00000100 none none
+B 0 : nfs 1 setclientid none 00000004 00000000 none none
+# one that isn't confirmed makes room for its client's next
+B 0 : nfs 1 setclientid none 00000004 00000001 none none
+# at their time all go
+T 90000
+B 0 : nfs 1 setclientid none 00000004 00000100 none none
+=>
+0 0 263
+* 256 1 2 1 @ c0 : told OK 0 1 setclientid OK 00000001 # 00000000 $
+257 c0 : told OK 0 1 setconfirm OK
+258 c0 : told RESOURCE 0 1 setclientid RESOURCE
+259 c0 : told RESOURCE 0 1 setclientid RESOURCE
+260 c0 : told OK 0 1 setclientid OK 00000001 00000201 00000000 00000202
+262 c0 : told OK 0 1 setclientid OK 00000001 00000203 00000000 00000204
+--
+# 256 callers of NLM are hosts.
+F a.txt
+O rpc
+# a caller is no host by a test, nor by a lock that is denied; one that waits is
+B 0 : lock 0 1 00000004 00000000 f1 0 7 0 00000064 0 a 0 0
+B 0 : test 0 00000004 00000100 f1 0 7 0 0 0 a
+B 0 : lock 0 1 00000004 00000100 f1 0 7 0 00000064 0 a 0 0
+B 0 : lock 1 1 00000004 000000ff f1 0 7 0 00000064 0 a 0 0
+# with it, 255 that lock the same bytes, shared
+* 255 0 1 0 B 0 : lock 0 0 00000004 # f1 0 7 0 0 0 a 0 0
+# another may neither lock nor wait, but test; the one that waits may lock
+B 0 : lock 0 0 00000004 00000100 f1 0 7 0 0 0 a 0 0
+B 0 : lock 1 0 00000004 00000100 f1 0 7 0 0 0 a 0 0
+B 0 : test 0 00000004 00000100 f1 0 7 0 0 0 a
+B 0 : lock 0 0 00000004 000000ff f1 0 7 0 0 0 a 0 0
+=>
+0 0 264
+1 c0 : told 0 0
+2 c0 : told 0 0
+3 c0 : told 0 1
+4 c0 : told 0 3
+* 255 0 1 5 @ c0 : told 0 0
+260 c0 : told 0 2
+261 c0 : told 0 2
+262 c0 : told 0 0
+263 c0 : told 0 0
+1 range nlm:00000000/7/- 0 9 s
+1 range nlm:00000000/7/- 100 109 x
+* 255 1 1 0 1 range nlm:#/7/- 0 9 s
+--
+# A caller waits for each of 1,024 bytes that another holds.
+F a.txt
+O rpc
+B 0 : lock 0 1 00000004 00000001 f1 0 7 0 0 0 000007d0 0 0
+* 1024 0 1 0 B 0 : lock 1 1 00000004 00000002 f1 0 7 0 # 0 1 0 0
+# it may wait for no more, is denied where it doesn't wait, and locks what nothing stands against
+B 0 : lock 1 1 00000004 00000002 f1 0 7 0 00000400 0 1 0 0
+B 0 : lock 0 1 00000004 00000002 f1 0 7 0 00000400 0 1 0 0
+B 0 : lock 1 1 00000004 00000002 f1 0 7 0 000007d0 0 a 0 0
+=>
+0 0 1029
+1 c0 : told 0 0
+* 1024 0 1 2 @ c0 : told 0 3
+1026 c0 : told 0 2
+1027 c0 : told 0 1
+1028 c0 : told 0 0
+1 range nlm:00000001/7/- 0 1999 x
+1 range nlm:00000002/7/- 2000 2009 x
+";
 
 #[test]
-fn most_clients(rt: HostRuntime) -> Result<(), Fail> {
-    let (lines, wanted) = most_coming(rt.alloc())?;
-    assert!(rt; is_told(rt.alloc(), &lines, &wanted)?);
+fn most_claims_and_waiters(rt: HostRuntime) -> Result<(), Fail> {
+    let wrong = wrong_words(rt.alloc(), MOST)?;
+    assert!(rt; wrong.is_empty(), "{wrong}");
     Ok(())
 }

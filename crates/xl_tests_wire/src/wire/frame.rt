@@ -2,7 +2,7 @@
 use crate::wire::{bytes_of, has_bytes};
 use std::alloc::Global;
 use std::test::*;
-use xl_base::Kind;
+use xl_base::{Kind, MOST_MESSAGE_BYTES};
 use xl_frame::*;
 
 /// Streams in pieces, and what comes of each piece: the messages with `7c` behind each, and then the fault, if any: 1 and
@@ -126,7 +126,7 @@ fn streams(rt: HostRuntime) -> Result<(), Fail> {
 
 /// The frame of a message that is not too long.
 fn wrapped(alloc: Global, kind: Kind, bytes: &[u8]) -> Result<Vec<u8>, Fail> {
-    if bytes.len() > MOST_BYTES {
+    if bytes.len() > MOST_MESSAGE_BYTES {
         return Err("a message that is too long")?;
     }
     Ok(wrap(alloc, kind, bytes)?)
@@ -153,7 +153,7 @@ fn frames(rt: HostRuntime) -> Result<(), Fail> {
 /// Whether the frame of the longest message has this header.
 fn is_long_frame(alloc: Global, kind: Kind, header: [u8; 4]) -> Result<bool, Fail> {
     let mut bytes = Vec::new(alloc);
-    bytes.resize(MOST_BYTES, 7)?;
+    bytes.resize(MOST_MESSAGE_BYTES, 7)?;
     let frame = wrapped(alloc, kind, &bytes)?;
     Ok(frame.len() == 65540 && frame.starts_with(&header))
 }

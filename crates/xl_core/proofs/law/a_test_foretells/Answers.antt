@@ -1,5 +1,10 @@
+use Rattle.std.proofs.Common.{ap}
+use Rattle.xl_matrix.specs.declared.claim.Extent.TheVariants.{Bytes}
+use Rattle.xl_matrix.specs.declared.claim.What.TheVariants.{Range}
+use Rattle.xl_core.specs.Asking.{asked_what}
+use Rattle.xl_core.proofs.CauseLaws.{fit_owned}
 use Rattle.xl_core.proofs.TestLaws.{test_foretells}
 use Rattle.xl_core.proofs.law.a_test_foretells.Goals as goal
 
 pub returns : goal.returns
-returns c = λ n left s test lock first last exclusive good fit same tests locks hurries. test_foretells n left s test lock first last exclusive good fit.party same tests locks hurries
+returns c = λ n left s test lock first last exclusive good fit same tests locks hurries. test_foretells n left s test lock first last exclusive good fit.party (fit_owned lock (Range (Bytes first last) exclusive) fit (ap asked_what locks)) same tests locks hurries

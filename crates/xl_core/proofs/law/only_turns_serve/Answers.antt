@@ -1,4 +1,4 @@
-use Rattle.xl_core.proofs.FrameLaws.{cancel_unserved, give_back_unserved, end_party_unserved, tick_unserved}
+use Rattle.xl_core.proofs.FrameLaws.{cancel_unserved, give_back_unserved, weaken_unserved, end_party_unserved, tick_unserved}
 use Rattle.xl_core.proofs.law.only_turns_serve.Goals as goal
 
 pub returns-clause-cancels : goal.returns-clause-cancels
@@ -12,3 +12,6 @@ returns-clause-ends c = end_party_unserved
 
 pub returns-clause-ticks : goal.returns-clause-ticks
 returns-clause-ticks c = tick_unserved
+
+pub returns-clause-weakens : goal.returns-clause-weakens
+returns-clause-weakens c = weaken_unserved

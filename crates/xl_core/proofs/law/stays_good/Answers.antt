@@ -1,4 +1,5 @@
 use Rattle.xl_core.proofs.GoodLaws.{started_good, begun_good, ask_good, settle_good, cancel_good, give_back_good, drawn_good, end_party_good, renew_good, tick_good}
+use Rattle.xl_core.proofs.WeakenLaws.{weaken_good}
 use Rattle.xl_core.proofs.law.stays_good.Goals as goal
 
 pub returns-clause-started : goal.returns-clause-started
@@ -30,3 +31,6 @@ returns-clause-renewed c = renew_good
 
 pub returns-clause-ticked : goal.returns-clause-ticked
 returns-clause-ticked c = tick_good
+
+pub returns-clause-weakened : goal.returns-clause-weakened
+returns-clause-weakened c = weaken_good

@@ -2,7 +2,7 @@ use Rattle.std.proofs.Common.{[], List, ap, sym, ◌∙◌}
 use Rattle.xl_wait.specs.declared.waiter.Waiter.{Waiter}
 use Rattle.xl_core.specs.Settle.{settle, first_called}
 use Rattle.xl_core.specs.Whole.{state_of}
-use Rattle.xl_core.proofs.DoorLaws.{called_posix, called_alone}
+use Rattle.xl_core.proofs.DoorLaws.{called_grantable, called_alone}
 use Rattle.xl_core.proofs.TurnLaws.{turn_is_found, none_is_found}
 use Rattle.xl_core.proofs.settling.settle.Goals as goal
 
@@ -12,9 +12,9 @@ returns-in_default-clause-turn c =
     λ n. none_is_found c.args.left.now (state_of c.args.parts.now) c.args.parts.now.queue c.requires.good.waiters
     (ap (λ (ws : List Waiter). first_called (state_of c.args.parts.now) ws) (sym c.waiters.ensures.waiters) ∙ sym c.first_called.ensures ∙ c.in_default.is) n []
 
-pub judge-requires-clause-posix : goal.judge-requires-clause-posix
-judge-requires-clause-posix c =
-    called_posix c.args.parts.now c.in-Some.called c.requires.good
+pub judge-requires-clause-grantable : goal.judge-requires-clause-grantable
+judge-requires-clause-grantable c =
+    called_grantable c.args.parts.now c.in-Some.called c.requires.good
     (ap (λ (ws : List Waiter). first_called (state_of c.args.parts.now) ws) (sym c.waiters.ensures.waiters) ∙ sym c.first_called.ensures ∙ c.in-Some.is)
 
 pub judge-requires-clause-party : goal.judge-requires-clause-party

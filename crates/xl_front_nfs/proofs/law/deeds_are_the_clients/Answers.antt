@@ -1,5 +1,8 @@
-use Rattle.xl_front_nfs.proofs.OwnLaws.{request_own}
+use Rattle.xl_front_nfs.proofs.OwnLaws.{plan_own, request_own}
 use Rattle.xl_front_nfs.proofs.law.deeds_are_the_clients.Goals as goal
 
+pub returns-clause-operations : goal.returns-clause-operations
+returns-clause-operations c = λ n files others s l current item good. (plan_own n files others s l current item good).1
+
 pub returns-clause-requests : goal.returns-clause-requests
-returns-clause-requests c = λ n exports f s r. request_own n exports f s r
+returns-clause-requests c = λ n exports others f s r good. request_own n exports others f s r good

@@ -9,3 +9,6 @@ hear_answer-requires g c = record { ready = ready_begun 128 _ _ c.begin_step.ens
 
 pub hear_tick-requires : goal.hear_tick-requires
 hear_tick-requires g c = record { ready = ready_begun 128 _ _ c.begin_step.ensures.state c.requires.ready }
+
+pub hear_end-requires : goal.hear_end-requires
+hear_end-requires g c = record { ready = ready_begun 128 _ _ c.begin_step.ensures.state c.requires.ready }

@@ -13,7 +13,7 @@ pub grant_on-requires-clause-count : goal.grant_on-requires-clause-count
 grant_on-requires-clause-count c = short_here c.args.claim.now.file (joined c.args.lists.now) (paged c.on_file.result.now) c.args.count c.requires.kept.ordered c.on_file.ensures.claims c.requires.count
 
 pub returns-clause-claims : goal.returns-clause-claims
-returns-clause-claims c = (grant_written c.args.claim.now c.args.count (joined c.args.lists.now) (paged c.on_file.result.now) c.in_ok-change.change c.requires.kept c.requires.posix c.requires.party c.on_file.ensures.claims c.requires.count c.in_ok-change.ensures.claims c.in_ok-change.ensures.on).claims
+returns-clause-claims c = (grant_written c.args.claim.now c.args.count (joined c.args.lists.now) (paged c.on_file.result.now) c.in_ok-change.change c.requires.kept c.requires.grantable c.requires.party c.on_file.ensures.claims c.requires.count c.in_ok-change.ensures.claims c.in_ok-change.ensures.on).claims
 
 pub returns-clause-fits : goal.returns-clause-fits
-returns-clause-fits c = (grant_written c.args.claim.now c.args.count (joined c.args.lists.now) (paged c.on_file.result.now) c.in_ok-change.change c.requires.kept c.requires.posix c.requires.party c.on_file.ensures.claims c.requires.count c.in_ok-change.ensures.claims c.in_ok-change.ensures.on).fits
+returns-clause-fits c = (grant_written c.args.claim.now c.args.count (joined c.args.lists.now) (paged c.on_file.result.now) c.in_ok-change.change c.requires.kept c.requires.grantable c.requires.party c.on_file.ensures.claims c.requires.count c.in_ok-change.ensures.claims c.in_ok-change.ensures.on).fits

@@ -1,0 +1,41 @@
+//! Open owners, and what their seqids say.
+use xl_base::Sequence;
+use xl_nfs::NfsStatus;
+use xl_nfs_state::{StateidRow, Turn};
+
+/// An open owner (RFC 7530 9.1.5): its client, by the client's number and id string, and its own bytes.
+#[derive(Drop)]
+pub struct Opener {
+    /// The client's number.
+    pub client: u32,
+    /// The client's id string.
+    pub id: Sequence<u8>,
+    /// The owner's bytes.
+    pub owner: Sequence<u8>,
+}
+
+/// What an owner's seqid says of an OPEN.
+#[derive(Clone, Copy)]
+pub enum Judged {
+    /// It isn't the next one.
+    Bad,
+    /// It is the last request of the owner of this number once more.
+    Repeats(u64),
+    /// The owner of this number was never confirmed: it goes, and the request is a new owner's.
+    Anew(u64),
+    /// The owner is new.
+    New,
+    /// It is the next one of an owner that is confirmed.
+    Next,
+}
+
+/// What is found for a stateid, and what its owner's seqid says.
+#[derive(Clone, Copy)]
+pub enum Checked {
+    /// It is refused so, and nothing is kept of it.
+    Refused(NfsStatus),
+    /// It is the last request of the owner of this number once more.
+    Repeated(u64),
+    /// It is of this open, of the owner of this number, whose requests came this far, and the next one of these.
+    Passed(StateidRow, u64, Turn),
+}

@@ -1,0 +1,9 @@
+pub mod ReplyLaws
+pub mod TextLaws
+pub mod CheckLaws
+pub mod LeaveLaws
+pub mod EndLaws
+pub mod AskLaws
+pub mod PlanLaws
+pub mod DoesLaws
+pub mod OwnLaws

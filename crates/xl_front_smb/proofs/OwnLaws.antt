@@ -1,0 +1,296 @@
+-- The core takes the deeds, and they are of the connection's opens.
+use Rattle.std.proofs.Common.{◌≡◌, ℕ, ◌+◌, Bool, true, false, not, eqb, List, [], ◌∷◌, Option, Some, None, if◌then◌else◌, refl, ap, ◌∙◌, inl, inr}
+use Rattle.std.specs.Prelude.{◌==◌, nat_eq, nat_lt, length, is_some, Result, Ok, Err}
+use Rattle.std.specs.List.{AllByRecursion}
+use Rattle.std.specs.Map.{lookup}
+use Rattle.std.proofs.lemmas.Bool.{cases_Bool, false≢true, and_parts}
+use Rattle.xl_base.specs.Lists.{IsIn}
+use Rattle.xl_base.specs.declared.journal.Exports.{Exports}
+use Rattle.xl_base.specs.declared.name.Party.TheVariants as parties
+use Rattle.xl_smb.specs.Calls.{CallItem, Negotiate, SessionSetup, Logoff, TreeConnect, TreeDisconnect, Create, Close, Lock, Cancel, Echo, OplockBreak, Other}
+use Rattle.xl_smb.specs.Creates.{CreateCallItem}
+use Rattle.xl_smb.specs.Heads.{command_of, head_of}
+use Rattle.xl_smb.specs.Messages.{MessageItem, Call, Reply, Told, message_at}
+use Rattle.xl_smb.specs.Sessions.{NegotiateCallItem, dialects_of}
+use Rattle.xl_smb.specs.declared.breaks.Break.{Break}
+use Rattle.xl_smb.specs.declared.breaks.Break.TheVariants as held
+use Rattle.xl_smb.specs.declared.fault.SmbBad.{SmbBad}
+use Rattle.xl_smb.specs.declared.file.FileId.{FileId}
+use Rattle.xl_smb.specs.declared.head.SmbHead.{SmbHead}
+use Rattle.xl_smb_state.specs.Links.{is_tree_at, is_client, has_place}
+use Rattle.xl_smb_state.specs.State.{Lists, keys_where, connection_of, connection_changed, client_of, session_of, tree_of, open_of, covers_holder, opens_under}
+use Rattle.xl_smb_state.specs.declared.row.Open.{Open}
+use Rattle.xl_smb_state.specs.declared.row.Place.{Place}
+use Rattle.xl_smb_state.specs.declared.row.Scope.{Scope}
+use Rattle.xl_smb_state.specs.declared.row.Scope.TheVariants as scope
+use Rattle.xl_smb_state.specs.declared.row.Tree.{Tree}
+use Rattle.xl_smb_state.proofs.RowLaws.{none_some, same_Some, equal_from, equal_self}
+use Rattle.xl_core.specs.Deeds.{AreFit}
+use Rattle.xl_core.specs.State.{CoreState}
+use Rattle.xl_core.specs.Settle.{end_party}
+use Rattle.xl_front_smb.specs.Checks.{is_fresh, kept_if, session_named, is_open_on, file_number, number_in, negotiated_by, in_session, on_tree, on_open}
+use Rattle.xl_front_smb.specs.Ending.{ends, smb_end_deeds}
+use Rattle.xl_front_smb.specs.Files.{open_as, has_room_for_open, open_file, open_found, overwrites, create_on, create, close_open, close, lock, level_refused, break_by, acknowledge}
+use Rattle.xl_front_smb.specs.FrontSmb.{head_heard, deeds_for, smb_deeds}
+use Rattle.xl_front_smb.specs.Owners.{is_session_on, is_tree_on, is_on, IsOwn, AreOwn, is_end}
+use Rattle.xl_front_smb.specs.Plans.{Plan, Fails, Does, deeds_of}
+use Rattle.xl_front_smb.specs.Requests.{commanded, planned, read_as, requested}
+use Rattle.xl_front_smb.specs.Sessions.{offers, negotiate, has_room_for_session, set_up_as, set_up, session_setup, logoff, has_room_for_tree, connect_as, connect, tree_connect, disconnect, tree_disconnect}
+use Rattle.xl_front_smb.specs.State.{FrontSmb}
+use Rattle.xl_front_smb.specs.Replies.{tree_id}
+use Rattle.xl_front_smb.specs.Texts.{is_share, file_spelled}
+use Rattle.xl_front_smb.specs.declared.status.SmbStatus.TheVariants.{InvalidParameter, ObjectNameCollision, InsufficientResources, NotSupported, BadNetworkName, InvalidOplockProtocol, InvalidDeviceState}
+use Rattle.xl_front_smb.specs.declared.told.Told.TheVariants.{Negotiated, SetUp}
+use Rattle.xl_front_smb.proofs.AskLaws.{open_fits, open_owns}
+
+-- the core takes the plan's deeds, and they are the connection's
+abbrev IsTheirs : ℕ → CoreState → Lists → ℕ → Plan → Type 0
+IsTheirs n s l conn plan = AreFit n s (deeds_of plan) × AllByRecursion (IsOwn conn l s.counter) (deeds_of plan)
+
+-- ---- checks, whatever holds of a plan
+
+module _ (P : Plan → Type 0) where
+  session_kept : (test : ℕ → Bool) (go : ℕ → Plan) (number : ℕ) (b : Bool) → test number ≡ b → P (in_session go None) → ((k : ℕ) → test k ≡ true → P (go k)) → P (in_session go (if b then Some number else None))
+  session_kept test go number true is fails goes = goes number is
+  session_kept test go number false is fails goes = fails
+
+  by_session : (test : ℕ → Bool) (go : ℕ → Plan) (o : Option ℕ) → P (in_session go None) → ((k : ℕ) → test k ≡ true → P (go k)) → P (in_session go (kept_if test o))
+  by_session test go None fails goes = fails
+  by_session test go (Some number) fails goes = session_kept test go number (test number) refl fails goes
+
+  open_kept : (test : ℕ → Bool) (go : ℕ → Plan) (number : ℕ) (b : Bool) → test number ≡ b → P (on_open go None) → ((k : ℕ) → test k ≡ true → P (go k)) → P (on_open go (if b then Some number else None))
+  open_kept test go number true is fails goes = goes number is
+  open_kept test go number false is fails goes = fails
+
+  by_open : (test : ℕ → Bool) (go : ℕ → Plan) (o : Option ℕ) → P (on_open go None) → ((k : ℕ) → test k ≡ true → P (go k)) → P (on_open go (kept_if test o))
+  by_open test go None fails goes = fails
+  by_open test go (Some number) fails goes = open_kept test go number (test number) refl fails goes
+
+  by_tree : (go : Place → Plan) (place : Place) (b : Bool) → P (on_tree go None) → (b ≡ true → P (go place)) → P (on_tree go (if b then Some place else None))
+  by_tree go place true fails goes = goes refl
+  by_tree go place false fails goes = fails
+
+  by_client : (go : List ℕ → Plan) (o : Option (List ℕ)) → P (negotiated_by go None) → ((client : List ℕ) → P (go client)) → P (negotiated_by go o)
+  by_client go None fails goes = fails
+  by_client go (Some client) fails goes = goes client
+
+-- ---- the ends of opens
+
+ends_fit : (n : ℕ) (s : CoreState) (numbers : List ℕ) → AreFit n s (ends numbers)
+ends_fit n s [] = tt
+ends_fit n s (number ∷ numbers) = (tt, ends_fit n (end_party s (parties.Open number)).1 numbers)
+
+ends_in : (conn : ℕ) (l : Lists) (last : ℕ) (under : Scope) (numbers : List ℕ) → is_on conn l under ≡ true → ((k : ℕ) → IsIn k numbers → IsIn k (opens_under under l)) → AllByRecursion (IsOwn conn l last) (ends numbers)
+ends_in conn l last under [] on within = tt
+ends_in conn l last under (number ∷ numbers) on within = ((under, on, within number (inl refl)), ends_in conn l last under numbers on (λ k later. within k (inr later)))
+
+ends_own : (n : ℕ) (s : CoreState) (l : Lists) (conn : ℕ) (under : Scope) → is_on conn l under ≡ true → AreFit n s (ends (opens_under under l)) × AllByRecursion (IsOwn conn l s.counter) (ends (opens_under under l))
+ends_own n s l conn under on = (ends_fit n s (opens_under under l), ends_in conn l s.counter under (opens_under under l) on (λ k within. within))
+
+-- an open that is found, and passes, is among those that pass
+found_in : (test : Open → Bool) (es : List (ℕ × Open)) (number : ℕ) (row : Open) → lookup (nat_eq number) es ≡ Some row → test row ≡ true → IsIn number (keys_where test es)
+found_in test [] number row at is = absurd (none_some at)
+found_in test (e ∷ es) number row at is =
+    elim (cases_Bool (eqb number e.0)) [
+      | inl same ↦
+          let this : test e.1 ≡ true = ap test (same_Some (rw same at at)) ∙ is in
+          rw this (inl (equal_from number e.0 same))
+      | inr apart ↦ elim (cases_Bool (test e.1)) [
+        | inl k ↦ rw k (inr (found_in test es number row (rw apart at at) is))
+        | inr k ↦ rw k (found_in test es number row (rw apart at at) is)
+      ]
+    ]
+
+open_in : (conn number : ℕ) (l : Lists) (found : Option Open) → open_of number l ≡ found → is_open_on conn found ≡ true → IsIn number (opens_under (scope.Connection conn) l)
+open_in conn number l None at is = absurd (false≢true is)
+open_in conn number l (Some row) at is = found_in (λ (r : Open). covers_holder (scope.Connection conn) r.holder) l.opens number row at is
+
+tree_from : (place : Place) (found : Option Tree) → is_tree_at place found ≡ true → is_tree_on place.connection found ≡ true
+tree_from place None h = absurd (false≢true h)
+tree_from place (Some row) h = (and_parts (row.connection == place.connection) (row.session == place.session) h).0
+
+place_on : (l : Lists) (client : List ℕ) (place : Place) → has_place place client l ≡ true → is_on place.connection l (scope.Tree place.tree) ≡ true
+place_on l client place h = tree_from place (tree_of place.tree l) (and_parts (is_tree_at place (tree_of place.tree l)) (is_client client (client_of place.connection l)) h).0
+
+-- ---- each command
+
+negotiate_by : (n : ℕ) (s : CoreState) (l lists : Lists) (conn : ℕ) (again empty unknown : Bool) → IsTheirs n s l conn (if again then Fails InvalidParameter else if empty then Fails InvalidParameter else if unknown then Fails NotSupported else Does [] lists Negotiated)
+negotiate_by n s l lists conn true empty unknown = (tt, tt)
+negotiate_by n s l lists conn false true unknown = (tt, tt)
+negotiate_by n s l lists conn false false true = (tt, tt)
+negotiate_by n s l lists conn false false false = (tt, tt)
+
+negotiate_theirs : (n : ℕ) (s : CoreState) (l : Lists) (conn : ℕ) (c : NegotiateCallItem) → IsTheirs n s l conn (negotiate l conn c)
+unfolding negotiate
+negotiate_theirs n s l conn c = negotiate_by n s l (connection_changed conn (record { client = Some c.client_guid }) l) conn (not (is_fresh (connection_of conn l))) (length (dialects_of c.dialects) == 0) (not (offers c.dialects))
+
+set_up_by : (n : ℕ) (s : CoreState) (l : Lists) (conn : ℕ) (room : Bool) → IsTheirs n s l conn (if room then set_up_as s l conn (s.counter + 1) else Fails InsufficientResources)
+set_up_by n s l conn true = ((tt, tt), (tt, tt))
+set_up_by n s l conn false = (tt, tt)
+
+setup_by : (n : ℕ) (s : CoreState) (l : Lists) (conn id : ℕ) (new : Bool) → IsTheirs n s l conn (if new then set_up s l conn else in_session (λ session. Does [] l (SetUp id)) (session_named s l conn id))
+setup_by n s l conn id true = set_up_by n s l conn (has_room_for_session l conn (s.counter + 1))
+setup_by n s l conn id false = by_session (IsTheirs n s l conn) (λ number. is_session_on conn (session_of number l)) (λ session. Does [] l (SetUp id)) (number_in s id) (tt, tt) (λ k is. (tt, tt))
+
+setup_theirs : (n : ℕ) (s : CoreState) (l : Lists) (conn : ℕ) (h : SmbHead) → IsTheirs n s l conn (session_setup s l conn h)
+unfolding session_setup
+setup_theirs n s l conn h = setup_by n s l conn h.session_id (h.session_id == 0)
+
+logoff_theirs : (n : ℕ) (s : CoreState) (l : Lists) (conn : ℕ) (h : SmbHead) → IsTheirs n s l conn (logoff s l conn h)
+unfolding logoff
+logoff_theirs n s l conn h =
+    by_session (IsTheirs n s l conn) (λ number. is_session_on conn (session_of number l)) _ (number_in s h.session_id) (tt, tt) (λ k is. ends_own n s l conn (scope.Session k) is)
+
+connect_by : (n : ℕ) (s : CoreState) (l : Lists) (conn session : ℕ) (full unknown : Bool) → IsTheirs n s l conn (if full then Fails InsufficientResources else if unknown then Fails BadNetworkName else connect_as l conn session (s.counter + 1))
+connect_by n s l conn session true unknown = (tt, tt)
+connect_by n s l conn session false true = (tt, tt)
+connect_by n s l conn session false false = ((tt, tt), (tt, tt))
+
+connect_theirs : (n : ℕ) (s : CoreState) (l : Lists) (conn : ℕ) (h : SmbHead) (path : List ℕ) → IsTheirs n s l conn (tree_connect s l conn h path)
+unfolding tree_connect
+connect_theirs n s l conn h path =
+    by_session (IsTheirs n s l conn) (λ number. is_session_on conn (session_of number l)) (connect s l conn path) (number_in s h.session_id) (tt, tt)
+    (λ k is. connect_by n s l conn k (not (has_room_for_tree l conn (s.counter + 1))) (not (is_share path)))
+
+disconnect_theirs : (n : ℕ) (s : CoreState) (l : Lists) (conn : ℕ) (client : List ℕ) (h : SmbHead) → IsTheirs n s l conn (tree_disconnect s l conn client h)
+unfolding tree_disconnect
+disconnect_theirs n s l conn client h =
+    let P = IsTheirs n s l conn in
+    by_session P (λ number. is_session_on conn (session_of number l)) _ (number_in s h.session_id) (tt, tt)
+    (λ k is. by_tree P (disconnect l) _ (has_place _ client l) (tt, tt) (λ there. ends_own n s l conn (scope.Tree _) (place_on l client _ there)))
+
+opens_by : (n : ℕ) (s : CoreState) (others : ℕ) (l : Lists) (conn : ℕ) (client : List ℕ) (place : Place) (c : CreateCallItem) (file : ℕ) (room : Bool) → IsTheirs n s l conn (if room then open_as s others l client place c file (s.counter + 1) else Fails InsufficientResources)
+opens_by n s others l conn client place c file true = ((tt, (open_fits place.connection file (s.counter + 1) c, tt)), (tt, (open_owns place.connection file (s.counter + 1) c, tt)))
+opens_by n s others l conn client place c file false = (tt, tt)
+
+found_by : (n : ℕ) (s : CoreState) (others : ℕ) (l : Lists) (conn : ℕ) (client : List ℕ) (place : Place) (c : CreateCallItem) (file : ℕ) (makes : Bool) → IsTheirs n s l conn (if makes then Fails ObjectNameCollision else open_file s others l client place c file)
+found_by n s others l conn client place c file true = (tt, tt)
+found_by n s others l conn client place c file false = opens_by n s others l conn client place c file (has_room_for_open others l (s.counter + 1))
+
+found_theirs : (n : ℕ) (s : CoreState) (others : ℕ) (l : Lists) (conn : ℕ) (client : List ℕ) (place : Place) (c : CreateCallItem) (file : Option ℕ) → IsTheirs n s l conn (open_found s others l client place c file)
+found_theirs n s others l conn client place c None = (tt, tt)
+found_theirs n s others l conn client place c (Some file) = found_by n s others l conn client place c file (c.disposition == 2)
+
+create_by : (n : ℕ) (s : CoreState) (others : ℕ) (l : Lists) (conn : ℕ) (client : List ℕ) (place : Place) (c : CreateCallItem) (file : Option ℕ) (unknown changes : Bool) → IsTheirs n s l conn (if unknown then Fails InvalidParameter else if changes then Fails NotSupported else open_found s others l client place c file)
+create_by n s others l conn client place c file true changes = (tt, tt)
+create_by n s others l conn client place c file false true = (tt, tt)
+create_by n s others l conn client place c file false false = found_theirs n s others l conn client place c file
+
+create_theirs : (n : ℕ) (s : CoreState) (files : List (List ℕ)) (others : ℕ) (l : Lists) (conn : ℕ) (client : List ℕ) (h : SmbHead) (c : CreateCallItem) → IsTheirs n s l conn (create s files others l conn client h c)
+unfolding create
+create_theirs n s files others l conn client h c =
+    by_session (IsTheirs n s l conn) (λ number. is_session_on conn (session_of number l)) _ (number_in s h.session_id) (tt, tt)
+    (λ k is. let place : Place = record { connection = conn; session = k; tree = tree_id h.route } in
+    by_tree (IsTheirs n s l conn) (create_on s files others l client c) place (has_place place client l) (tt, tt) (λ there. create_by n s others l conn client place c (file_spelled files c.name) (nat_lt 5 c.disposition) (overwrites c.disposition)))
+
+close_theirs : (n : ℕ) (s : CoreState) (l : Lists) (conn : ℕ) (client : List ℕ) (h : SmbHead) (id : FileId) → IsTheirs n s l conn (close s l conn client h id)
+unfolding close
+close_theirs n s l conn client h id =
+    let P = IsTheirs n s l conn in
+    by_session P (λ number. is_session_on conn (session_of number l)) _ (number_in s h.session_id) (tt, tt)
+    (λ k is. by_tree P _ _ (has_place _ client l) (tt, tt)
+    (λ there. by_open P (λ number. is_open_on conn (open_of number l)) (close_open l) (file_number s id) (tt, tt)
+    (λ number on. ((tt, tt), ((scope.Connection conn, equal_self conn, open_in conn number l (open_of number l) refl on), tt)))))
+
+lock_theirs : (n : ℕ) (s : CoreState) (l : Lists) (conn : ℕ) (client : List ℕ) (h : SmbHead) (id : FileId) → IsTheirs n s l conn (lock s l conn client h id)
+unfolding lock
+lock_theirs n s l conn client h id =
+    let P = IsTheirs n s l conn in
+    by_session P (λ number. is_session_on conn (session_of number l)) _ (number_in s h.session_id) (tt, tt)
+    (λ k is. by_tree P _ _ (has_place _ client l) (tt, tt) (λ there. by_open P (λ number. is_open_on conn (open_of number l)) _ (file_number s id) (tt, tt) (λ number on. (tt, tt))))
+
+level_by : (n : ℕ) (s : CoreState) (l : Lists) (conn : ℕ) (lease above : Bool) → IsTheirs n s l conn (if lease then Fails InvalidParameter else if above then Fails InvalidOplockProtocol else Fails InvalidDeviceState)
+level_by n s l conn true above = (tt, tt)
+level_by n s l conn false true = (tt, tt)
+level_by n s l conn false false = (tt, tt)
+
+break_theirs : (n : ℕ) (s : CoreState) (l : Lists) (conn : ℕ) (b : Break) → IsTheirs n s l conn (break_by s l conn b)
+break_theirs n s l conn (held.Oplock level id) =
+    by_open (IsTheirs n s l conn) (λ number. is_open_on conn (open_of number l)) (λ number. level_refused level) (file_number s id) (tt, tt) (λ number on. level_by n s l conn (level == 0xFF) (nat_lt 1 level))
+break_theirs n s l conn (held.Lease lease) = (tt, tt)
+
+acknowledge_theirs : (n : ℕ) (s : CoreState) (l : Lists) (conn : ℕ) (h : SmbHead) (b : Break) → IsTheirs n s l conn (acknowledge s l conn h b)
+unfolding acknowledge
+acknowledge_theirs n s l conn h b =
+    by_session (IsTheirs n s l conn) (λ number. is_session_on conn (session_of number l)) _ (number_in s h.session_id) (tt, tt) (λ k is. break_theirs n s l conn b)
+
+-- ---- a request
+
+commanded_theirs : (n : ℕ) (s : CoreState) (files : List (List ℕ)) (others : ℕ) (l : Lists) (conn : ℕ) (h : SmbHead) (call : CallItem) (client : List ℕ) → IsTheirs n s l conn (commanded s files others l conn h call client)
+unfolding commanded
+commanded_theirs n s files others l conn h (SessionSetup c) client = setup_theirs n s l conn h
+commanded_theirs n s files others l conn h Logoff client = logoff_theirs n s l conn h
+commanded_theirs n s files others l conn h (TreeConnect path) client = connect_theirs n s l conn h path
+commanded_theirs n s files others l conn h TreeDisconnect client = disconnect_theirs n s l conn client h
+commanded_theirs n s files others l conn h (Create c) client = create_theirs n s files others l conn client h c
+commanded_theirs n s files others l conn h (Close c) client = close_theirs n s l conn client h c.file_id
+commanded_theirs n s files others l conn h (Lock c) client = lock_theirs n s l conn client h c.file_id
+commanded_theirs n s files others l conn h Cancel client = (tt, tt)
+commanded_theirs n s files others l conn h Echo client = (tt, tt)
+commanded_theirs n s files others l conn h (OplockBreak b) client = acknowledge_theirs n s l conn h b
+commanded_theirs n s files others l conn h (Negotiate c) client = (tt, tt)
+commanded_theirs n s files others l conn h Other client = (tt, tt)
+
+once_theirs : (n : ℕ) (s : CoreState) (files : List (List ℕ)) (others : ℕ) (l : Lists) (conn : ℕ) (h : SmbHead) (call : CallItem) → IsTheirs n s l conn (negotiated_by (commanded s files others l conn h call) (client_of conn l))
+once_theirs n s files others l conn h call = by_client (IsTheirs n s l conn) (commanded s files others l conn h call) (client_of conn l) (tt, tt) (λ client. commanded_theirs n s files others l conn h call client)
+
+planned_theirs : (n : ℕ) (s : CoreState) (files : List (List ℕ)) (others : ℕ) (l : Lists) (conn : ℕ) (h : SmbHead) (call : CallItem) → IsTheirs n s l conn (planned s files others l conn h call)
+unfolding planned
+planned_theirs n s files others l conn h (Negotiate c) = negotiate_theirs n s l conn c
+planned_theirs n s files others l conn h (SessionSetup c) = once_theirs n s files others l conn h (SessionSetup c)
+planned_theirs n s files others l conn h Logoff = once_theirs n s files others l conn h Logoff
+planned_theirs n s files others l conn h (TreeConnect path) = once_theirs n s files others l conn h (TreeConnect path)
+planned_theirs n s files others l conn h TreeDisconnect = once_theirs n s files others l conn h TreeDisconnect
+planned_theirs n s files others l conn h (Create c) = once_theirs n s files others l conn h (Create c)
+planned_theirs n s files others l conn h (Close c) = once_theirs n s files others l conn h (Close c)
+planned_theirs n s files others l conn h (Lock c) = once_theirs n s files others l conn h (Lock c)
+planned_theirs n s files others l conn h Cancel = once_theirs n s files others l conn h Cancel
+planned_theirs n s files others l conn h Echo = once_theirs n s files others l conn h Echo
+planned_theirs n s files others l conn h (OplockBreak b) = once_theirs n s files others l conn h (OplockBreak b)
+planned_theirs n s files others l conn h Other = once_theirs n s files others l conn h Other
+
+read_theirs : (n : ℕ) (s : CoreState) (files : List (List ℕ)) (others : ℕ) (l : Lists) (conn : ℕ) (m : Result MessageItem SmbBad) → IsTheirs n s l conn (read_as s files others l conn m)
+read_theirs n s files others l conn (Ok (Call h call)) = planned_theirs n s files others l conn h call
+read_theirs n s files others l conn (Ok (Reply h r)) = (tt, tt)
+read_theirs n s files others l conn (Ok (Told t)) = (tt, tt)
+read_theirs n s files others l conn (Err fault) = (tt, tt)
+
+requested_by : (n : ℕ) (s : CoreState) (files : List (List ℕ)) (others : ℕ) (l : Lists) (conn : ℕ) (m : Result MessageItem SmbBad) (part above unread : Bool) → IsTheirs n s l conn (if part then Fails InvalidParameter else if above then Fails InvalidParameter else if unread then Fails NotSupported else read_as s files others l conn m)
+requested_by n s files others l conn m true above unread = (tt, tt)
+requested_by n s files others l conn m false true unread = (tt, tt)
+requested_by n s files others l conn m false false true = (tt, tt)
+requested_by n s files others l conn m false false false = read_theirs n s files others l conn m
+
+requested_theirs : (n : ℕ) (s : CoreState) (files : List (List ℕ)) (others : ℕ) (l : Lists) (conn : ℕ) (bytes : List ℕ) (h : SmbHead) → IsTheirs n s l conn (requested s files others l conn bytes h)
+unfolding requested
+requested_theirs n s files others l conn bytes h = requested_by n s files others l conn (message_at bytes) (not (h.next_command == 0)) (nat_lt 18 h.command) (not (is_some (command_of h.command)))
+
+heard_theirs : (n : ℕ) (exports : Exports) (others : ℕ) (f : FrontSmb) (s : CoreState) (conn : ℕ) (bytes : List ℕ) (h : Option SmbHead) → AreFit n s (deeds_for exports others f s conn bytes h) × AreOwn f s conn (deeds_for exports others f s conn bytes h)
+heard_theirs n exports others f s conn bytes None = (tt, tt)
+heard_theirs n exports others f s conn bytes (Some h) = requested_theirs n s exports.files others f.state conn bytes h
+
+pub step_takes : (n : ℕ) (exports : Exports) (others : ℕ) (f : FrontSmb) (s : CoreState) (conn : ℕ) (bytes : List ℕ) → AreFit n s (smb_deeds n exports others f s conn bytes)
+unfolding smb_deeds
+step_takes n exports others f s conn bytes = (heard_theirs n exports others f s conn bytes (head_heard (head_of bytes))).0
+
+pub step_own : (n : ℕ) (exports : Exports) (others : ℕ) (f : FrontSmb) (s : CoreState) (conn : ℕ) (bytes : List ℕ) → AreOwn f s conn (smb_deeds n exports others f s conn bytes)
+unfolding smb_deeds
+step_own n exports others f s conn bytes = (heard_theirs n exports others f s conn bytes (head_heard (head_of bytes))).1
+
+-- ---- the end of a connection
+
+pub end_takes : (n : ℕ) (f : FrontSmb) (s : CoreState) (conn : ℕ) → AreFit n s (smb_end_deeds f conn)
+unfolding smb_end_deeds
+end_takes n f s conn = ends_fit n s (opens_under (scope.Connection conn) f.state)
+
+pub end_own : (f : FrontSmb) (s : CoreState) (conn : ℕ) → AreOwn f s conn (smb_end_deeds f conn)
+unfolding smb_end_deeds
+end_own f s conn = (ends_own 0 s f.state conn (scope.Connection conn) (equal_self conn)).1
+
+only_ends : (numbers : List ℕ) → AllByRecursion (λ d. is_end d ≡ true) (ends numbers)
+only_ends [] = tt
+only_ends (number ∷ numbers) = (refl, only_ends numbers)
+
+pub ends_alone : (f : FrontSmb) (conn : ℕ) → AllByRecursion (λ d. is_end d ≡ true) (smb_end_deeds f conn)
+unfolding smb_end_deeds
+ends_alone f conn = only_ends (opens_under (scope.Connection conn) f.state)

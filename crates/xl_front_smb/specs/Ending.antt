@@ -1,0 +1,59 @@
+-- The end of opens, sessions and connections (MS-SMB2 3.3.4.17, 3.3.5.6, 3.3.7.1).
+use Rattle.std.specs.Prelude.{ℕ, List, [], ◌∷◌, map}
+use Rattle.xl_base.specs.declared.name.Party.TheVariants as parties
+use Rattle.xl_core.specs.Deeds.{Deed, Ends}
+use Rattle.xl_core.specs.Settle.{end_party}
+use Rattle.xl_core.specs.State.{CoreState}
+use Rattle.xl_core.specs.Ticks.{behind_told}
+use Rattle.xl_core.specs.declared.ask.Effect.{Effect}
+use Rattle.xl_smb_state.specs.State.{Lists, connection_dropped, session_dropped, sessions_on, tree_dropped, trees_of, opens_under, closed}
+use Rattle.xl_smb_state.specs.declared.row.Scope.TheVariants as scope
+use Rattle.xl_front_smb.specs.State.{FrontSmb}
+
+-- ---- opens
+
+-- the deeds by which these opens end, with all that they hold and wait for
+abbrev pub ends : List ℕ → List Deed
+ends numbers = map (λ number. Ends (parties.Open number)) numbers
+
+-- what the core tells of then, and the core afterwards
+abbrev pub all_ended : List ℕ → CoreState → List Effect × CoreState
+all_ended [] s = ([], s)
+all_ended (number ∷ numbers) s = behind_told (end_party s (parties.Open number)).0 (all_ended numbers (end_party s (parties.Open number)).1)
+
+-- the lists once these are closed, one after the other
+abbrev pub all_closed : List ℕ → Lists → Lists
+all_closed [] l = l
+all_closed (number ∷ numbers) l = all_closed numbers (closed number l)
+
+-- ---- sessions and connections, under which no open is left
+
+abbrev pub trees_dropped : List ℕ → Lists → Lists
+trees_dropped [] l = l
+trees_dropped (number ∷ numbers) l = trees_dropped numbers (tree_dropped number l)
+
+-- a session goes with its tree connects
+unfoldable pub session_gone : ℕ → Lists → Lists
+session_gone number l = session_dropped number (trees_dropped (trees_of number l) l)
+
+abbrev pub sessions_gone : List ℕ → Lists → Lists
+sessions_gone [] l = l
+sessions_gone (number ∷ numbers) l = sessions_gone numbers (session_gone number l)
+
+-- a connection goes with its sessions
+unfoldable pub connection_gone : ℕ → Lists → Lists
+connection_gone conn l = connection_dropped conn (sessions_gone (sessions_on conn l) l)
+
+-- ---- the end of a connection
+
+-- What the end of a connection does to the core: each open under it ends, in the order in which they came.
+unfoldable pub smb_end_deeds : FrontSmb → ℕ → List Deed
+smb_end_deeds f conn = ends (opens_under (scope.Connection conn) f.state)
+
+abbrev pub ended_with : Lists → List Effect × CoreState → List Effect × FrontSmb × CoreState
+ended_with l r = (r.0, record { state = l }, r.1)
+
+-- What the core tells of then, and the front and the core afterwards: the connection goes with its sessions and their tree
+-- connects.
+unfoldable pub smb_end : FrontSmb → CoreState → ℕ → List Effect × FrontSmb × CoreState
+smb_end f s conn = ended_with (connection_gone conn (all_closed (opens_under (scope.Connection conn) f.state) f.state)) (all_ended (opens_under (scope.Connection conn) f.state) s)

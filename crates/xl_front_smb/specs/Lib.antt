@@ -1,0 +1,13 @@
+pub mod State
+pub mod Short
+pub mod Statuses
+pub mod Replies
+pub mod Texts
+pub mod Owners
+pub mod Plans
+pub mod Checks
+pub mod Ending
+pub mod Sessions
+pub mod Files
+pub mod Requests
+pub mod FrontSmb

@@ -1,0 +1,319 @@
+//! CREATE.
+ghost use Rattle.std.specs.Prelude.{◌≡◌, ℕ, ◌+◌, ◌<◌, true, Some, None, length, IfOk, OnOk};
+ghost use Rattle.xl_smb.specs.Creates.{shown_create_call};
+ghost use Rattle.xl_smb.specs.declared.command.Command.TheVariants as command;
+ghost use Rattle.xl_smb_state.specs.Links.{most_opens, IsHolderLinked, IsOpenLinked};
+ghost use Rattle.xl_smb_state.specs.State.{open_of};
+ghost use Rattle.xl_smb_state.specs.declared.row.Holder.TheVariants as holder;
+ghost use Rattle.xl_core.specs.Decide.{ask};
+ghost use Rattle.xl_core.specs.State.{MayBe};
+ghost use Rattle.xl_front_smb.specs.Files.{access_of, deny_of, open_ask, open_row, all_opens, has_room_for_open, rooms_left, open_as, open_file, overwrites, create_on, create};
+ghost use Rattle.xl_front_smb.specs.Plans.{opened_told, opened_lists, carried};
+ghost use Rattle.xl_front_smb.specs.Replies.{IsAnswer};
+ghost use Rattle.xl_front_smb.specs.Short.{IsOpenAsk, IsReady, Leaves};
+
+use crate::checks::{session_named, tree_named};
+use crate::ids::id_of;
+use crate::numbers::drawn;
+use crate::outcome::{Done, failed};
+use crate::status::SmbStatus;
+use crate::texts::file_spelled;
+use crate::told::Told;
+use std::alloc::{AllocError, Global};
+use xl_base::{Keeper, Sequence};
+use xl_core::{Act, Answer, Ask, Core, Effect, Who};
+use xl_matrix::Rwd;
+use xl_smb::{CreateCall, SmbHead};
+use xl_smb_state::{Holder, OPENS, Open, Place, SmbState};
+use xl_wait::Rooms;
+
+/// GENERIC_ALL and MAXIMUM_ALLOWED (MS-SMB2 2.2.13.1.1).
+const ALL: u32 = 0x1000_0000 + 0x0200_0000;
+/// FILE_READ_DATA, FILE_EXECUTE, GENERIC_READ and GENERIC_EXECUTE are for reading.
+const READ: u32 = 0x1 + 0x20 + 0x8000_0000 + 0x2000_0000 + ALL;
+/// FILE_WRITE_DATA, FILE_APPEND_DATA and GENERIC_WRITE are for writing.
+const WRITE: u32 = 0x2 + 0x4 + 0x4000_0000 + ALL;
+/// DELETE is for deletion.
+const DELETE: u32 = 0x1_0000 + ALL;
+
+/// What an open is for, by the access that is asked for.
+fn access_of(desired: u32) -> Rwd
+    ensures { result ≡ access_of desired }
+{
+    Rwd {
+        r: desired & READ != 0,
+        w: desired & WRITE != 0,
+        d: desired & DELETE != 0,
+    }
+}
+
+/// What an open denies: what it doesn't share, but nothing where it is for none of the three.
+#[tactic(auto, unfolding(crate::specs::Files::deny_of))]
+fn deny_of(access: Rwd, share: u32) -> Rwd
+    ensures { result ≡ deny_of access share }
+{
+    if !(access.r || access.w || access.d) {
+        return Rwd {
+            r: false,
+            w: false,
+            d: false,
+        };
+    }
+    Rwd {
+        r: share & 1 == 0,
+        w: share & 2 == 0,
+        d: share & 4 == 0,
+    }
+}
+
+/// What the core is asked for an open.
+#[tactic(auto, unfolding(crate::specs::Files::open_ask), using(crate::proofs::AskLaws::open_is))]
+fn open_ask(alloc: Global, conn: u64, file: u32, number: u32, call: &CreateCall) -> Ask
+    ensures value { result ≡ open_ask conn file number (shown_create_call call.now) }
+    ensures open { IsOpenAsk result }
+{
+    let access = access_of(call.desired_access);
+    let deny = deny_of(access, call.share_access);
+    Ask {
+        file,
+        owner: Who::Open(number),
+        party: Who::Open(number),
+        act: Act::Share(access, deny),
+        wish: Sequence::new(alloc),
+        conn: Some(conn),
+        blocking: false,
+        reclaim: false,
+        monitored: false,
+        rows: Rooms {
+            hosts: 0,
+            owners: 0,
+            opens: 1,
+        },
+    }
+}
+
+/// The open of this file, held by the tree connect at this place.
+fn open_row(file: u32, client: &[u8; 16], place: &Place) -> Open
+    ensures { result ≡ open_row file client.now place.now }
+{
+    Open {
+        file,
+        client: *client,
+        lease: None,
+        durable: false,
+        holder: Holder::Tree(*place),
+    }
+}
+
+/// How many opens there are, with those of the other fronts.
+fn all_opens(state: &SmbState, others: u32) -> u64
+    ensures { result ≡ all_opens others state.now }
+{
+    state.links();
+    u64::from(others) + state.count_opens() as u64
+}
+
+/// The room for opens that is left.
+fn rooms_left(state: &SmbState, others: u32) -> Rooms
+    requires { all_opens others state.now < most_opens }
+    ensures { result ≡ rooms_left others state.now }
+{
+    Rooms {
+        hosts: 0,
+        owners: 0,
+        opens: (OPENS as u64 - all_opens(state, others)) as u32,
+    }
+}
+
+/// Asks for the open of this number, which is drawn.
+fn asked<K: Keeper>(
+    alloc: Global,
+    core: &mut Core,
+    keeper: &mut K,
+    left: &Rooms,
+    request: &Ask,
+) -> Result<(Answer, Sequence<Effect>), AllocError>
+    requires ready { IsReady 0 core.old }
+    requires unnamed { IsOpenAsk request.now }
+    ensures state { (n : ℕ) → IfOk result (λ r. MayBe n core.new → ask n left.now core.old request.now ≡ (r.0, r.1, core.new)) }
+    ensures leaves { OnOk result (Leaves 0 core.old core.new) }
+    ensures keeper { keeper.new ≡ keeper.old }
+{
+    let (answer, effects) = core.ask(alloc, keeper, request, left)?;
+    Ok((answer, effects))
+}
+
+/// What an open is told that is answered so; where it is granted it stands under its number.
+fn opened(
+    state: &mut SmbState,
+    number: u32,
+    row: Open,
+    id: u64,
+    answer: &Answer,
+) -> Result<Told, AllocError>
+    requires room { length state.old.opens < most_opens }
+    requires new { open_of number state.old ≡ None }
+    requires linked { IsOpenLinked state.old row }
+    ensures told { IfOk result (λ told. told ≡ opened_told (Told.Opened id) answer.now) }
+    ensures lists { OnOk result (state.new ≡ opened_lists state.old number row answer.now) }
+    ensures answer { IfOk result (λ told. IsAnswer (Some command.Create) told) }
+{
+    match answer {
+        Answer::Granted(_) => {
+            state.add_open(number, row)?;
+            Ok(Told::Opened(id))
+        }
+        Answer::Conflict(_) => Ok(Told::Failed(SmbStatus::SharingViolation)),
+        Answer::Queued(_)
+        | Answer::Recall(_)
+        | Answer::Grace(_)
+        | Answer::NoGrace(_)
+        | Answer::NotRecorded
+        | Answer::Full(_)
+        | Answer::NotHeld
+        | Answer::StoreFailed => Ok(Told::Failed(SmbStatus::InsufficientResources)),
+    }
+}
+
+/// Opens a file under the next number.
+#[tactic(auto, using(crate::proofs::LeaveLaws::ready_drawn, crate::proofs::LeaveLaws::drawn_then, crate::proofs::PlanLaws::open_room, crate::proofs::PlanLaws::open_within, crate::proofs::PlanLaws::open_new))]
+fn open_as<K: Keeper>(
+    alloc: Global,
+    state: &mut SmbState,
+    core: &mut Core,
+    keeper: &mut K,
+    others: u32,
+    client: &[u8; 16],
+    place: &Place,
+    call: &CreateCall,
+    file: u32,
+) -> Result<Done, AllocError>
+    requires ready { IsReady 1 core.old }
+    requires room { has_room_for_open others state.old (core.old.counter + 1) ≡ true }
+    requires linked { IsHolderLinked state.old client.now (holder.Tree place.now) }
+    ensures done { (n : ℕ) → IfOk result (λ r. MayBe n core.new → carried n core.old state.old (open_as core.old others state.old client.now place.now (shown_create_call call.now) file (core.old.counter + 1)) ≡ (r.0, r.1, state.new, core.new)) }
+    ensures leaves { OnOk result (Leaves 1 core.old core.new) }
+    ensures answer { IfOk result (λ r. IsAnswer (Some command.Create) r.0) }
+    ensures keeper { keeper.new ≡ keeper.old }
+{
+    let left = rooms_left(state, others);
+    let number = drawn(core);
+    let id = id_of(core, number);
+    let ask = open_ask(alloc, place.connection, file, number, call);
+    let (answer, effects) = asked(alloc, core, keeper, &left, &ask)?;
+    let told = opened(state, number, open_row(file, client, place), id, &answer)?;
+    Ok((told, effects))
+}
+
+/// Whether there is room for an open, and none has this number yet.
+fn has_room(state: &SmbState, others: u32, number: u32) -> bool
+    ensures { result ≡ has_room_for_open others state.now number }
+{
+    all_opens(state, others) < OPENS as u64 && state.find_open(number).is_none()
+}
+
+/// Opens a file, where there is room.
+#[tactic(auto, using(crate::proofs::LeaveLaws::leaves_self))]
+fn open_file<K: Keeper>(
+    alloc: Global,
+    state: &mut SmbState,
+    core: &mut Core,
+    keeper: &mut K,
+    others: u32,
+    client: &[u8; 16],
+    place: &Place,
+    call: &CreateCall,
+    file: u32,
+) -> Result<Done, AllocError>
+    requires ready { IsReady 1 core.old }
+    requires linked { IsHolderLinked state.old client.now (holder.Tree place.now) }
+    ensures done { (n : ℕ) → IfOk result (λ r. MayBe n core.new → carried n core.old state.old (open_file core.old others state.old client.now place.now (shown_create_call call.now) file) ≡ (r.0, r.1, state.new, core.new)) }
+    ensures leaves { OnOk result (Leaves 1 core.old core.new) }
+    ensures answer { IfOk result (λ r. IsAnswer (Some command.Create) r.0) }
+    ensures keeper { keeper.new ≡ keeper.old }
+{
+    if !has_room(state, others, core.counter() + 1) {
+        return Ok(failed(alloc, SmbStatus::InsufficientResources));
+    }
+    let done = open_as(
+        alloc, state, core, keeper, others, client, place, call, file,
+    )?;
+    Ok(done)
+}
+
+/// Whether a disposition would change what the file holds.
+fn overwrites(disposition: u32) -> bool
+    ensures { result ≡ overwrites disposition }
+{
+    disposition == 0 || disposition == 4 || disposition == 5
+}
+
+/// Opens a file on a tree connect, where there is one of this name and it is only to be opened.
+#[tactic(auto, using(crate::proofs::LeaveLaws::leaves_self))]
+fn create_on<K: Keeper>(
+    alloc: Global,
+    files: &[Sequence<u8>],
+    state: &mut SmbState,
+    core: &mut Core,
+    keeper: &mut K,
+    others: u32,
+    client: &[u8; 16],
+    place: &Place,
+    call: &CreateCall,
+) -> Result<Done, AllocError>
+    requires ready { IsReady 1 core.old }
+    requires linked { IsHolderLinked state.old client.now (holder.Tree place.now) }
+    ensures done { (n : ℕ) → IfOk result (λ r. MayBe n core.new → carried n core.old state.old (create_on core.old files.now others state.old client.now (shown_create_call call.now) place.now) ≡ (r.0, r.1, state.new, core.new)) }
+    ensures leaves { OnOk result (Leaves 1 core.old core.new) }
+    ensures answer { IfOk result (λ r. IsAnswer (Some command.Create) r.0) }
+    ensures keeper { keeper.new ≡ keeper.old }
+{
+    if call.disposition > 5 {
+        return Ok(failed(alloc, SmbStatus::InvalidParameter));
+    }
+    if overwrites(call.disposition) {
+        return Ok(failed(alloc, SmbStatus::NotSupported));
+    }
+    let Some(file) = file_spelled(files, call.name) else {
+        return Ok(failed(alloc, SmbStatus::ObjectNameNotFound));
+    };
+    if call.disposition == 2 {
+        return Ok(failed(alloc, SmbStatus::ObjectNameCollision));
+    }
+    let done = open_file(
+        alloc, state, core, keeper, others, client, place, call, file,
+    )?;
+    Ok(done)
+}
+
+/// CREATE: in a session, on a tree connect of it.
+#[tactic(auto, unfolding(crate::specs::Files::create), using(crate::proofs::LeaveLaws::leaves_self))]
+pub(crate) fn create<K: Keeper>(
+    alloc: Global,
+    files: &[Sequence<u8>],
+    state: &mut SmbState,
+    core: &mut Core,
+    keeper: &mut K,
+    others: u32,
+    conn: u64,
+    client: &[u8; 16],
+    head: &SmbHead,
+    call: &CreateCall,
+) -> Result<Done, AllocError>
+    requires ready { IsReady 1 core.old }
+    ensures done { (n : ℕ) → IfOk result (λ r. MayBe n core.new → carried n core.old state.old (create core.old files.now others state.old conn client.now head.now (shown_create_call call.now)) ≡ (r.0, r.1, state.new, core.new)) }
+    ensures leaves { OnOk result (Leaves 1 core.old core.new) }
+    ensures answer { IfOk result (λ r. IsAnswer (Some command.Create) r.0) }
+    ensures keeper { keeper.new ≡ keeper.old }
+{
+    let Some(session) = session_named(core, state, conn, head.session_id) else {
+        return Ok(failed(alloc, SmbStatus::UserSessionDeleted));
+    };
+    let Some(place) = tree_named(state, conn, client, head, session) else {
+        return Ok(failed(alloc, SmbStatus::NetworkNameDeleted));
+    };
+    let done = create_on(
+        alloc, files, state, core, keeper, others, client, &place, call,
+    )?;
+    Ok(done)
+}

@@ -1,0 +1,170 @@
+//! The end of opens, sessions and connections.
+ghost use Rattle.std.specs.Prelude.{◌≡◌, ℕ, [], ◌++◌, Some, IsSome, IfOk, OnOk};
+ghost use Rattle.xl_base.specs.declared.name.Party.TheVariants as parties;
+ghost use Rattle.xl_smb_state.specs.State.{session_of, sessions_on, trees_of, opens_under};
+ghost use Rattle.xl_smb_state.specs.declared.row.Scope.TheVariants as scope;
+ghost use Rattle.xl_core.specs.Settle.{end_party};
+ghost use Rattle.xl_front_smb.specs.Ending.{all_ended, all_closed, trees_dropped, session_gone, sessions_gone, connection_gone, smb_end};
+ghost use Rattle.xl_front_smb.specs.Short.{IsReady, Leaves};
+
+use crate::front::SmbFront;
+use std::alloc::{AllocError, Global};
+use xl_base::{Party, Sequence};
+use xl_core::{Core, Effect};
+use xl_smb_state::{Scope, SmbState};
+
+/// Puts effects behind others.
+fn push_all(effects: &mut Sequence<Effect>, more: Sequence<Effect>) -> Result<(), AllocError>
+    ensures { OnOk result (effects.new ≡ effects.old ++ more) }
+{
+    for effect in more.into_vec() {
+        effects.push(effect)?;
+    }
+    Ok(())
+}
+
+/// Ends an open: all that it holds and waits for goes, and that is told behind what was told before.
+pub(crate) fn end_one(
+    alloc: Global,
+    core: &mut Core,
+    number: u32,
+    effects: &mut Sequence<Effect>,
+) -> Result<(), AllocError>
+    requires ready { IsReady 0 core.old }
+    ensures state { OnOk result (core.new ≡ (end_party core.old (parties.Open number)).1) }
+    ensures told { OnOk result (effects.new ≡ effects.old ++ (end_party core.old (parties.Open number)).0) }
+    ensures leaves { OnOk result (Leaves 0 core.old core.new) }
+{
+    let told = core.end_party(alloc, Party::Open(number))?;
+    push_all(effects, told)?;
+    Ok(())
+}
+
+/// Ends these opens, one after the other.
+#[tactic(auto, using(crate::proofs::LeaveLaws::leaves_self, crate::proofs::LeaveLaws::leaves_on, crate::proofs::LeaveLaws::ready_on, crate::proofs::EndLaws::ended_step))]
+fn end_all(alloc: Global, core: &mut Core, numbers: &[u32]) -> Result<Sequence<Effect>, AllocError>
+    requires ready { IsReady 0 core.old }
+    ensures state { IfOk result (λ effects. all_ended numbers.now core.old ≡ (effects, core.new)) }
+    ensures leaves { OnOk result (Leaves 0 core.old core.new) }
+{
+    let mut effects = Sequence::new(alloc);
+    'opens: for number in numbers {
+        end_one(alloc, core, *number, &mut effects)?;
+    }
+    Ok(effects)
+}
+
+/// Closes these opens, which are those under it.
+#[tactic(auto, using(crate::proofs::EndLaws::open_there, crate::proofs::EndLaws::opens_step, crate::proofs::EndLaws::closed_step))]
+fn close_all(alloc: Global, state: &mut SmbState, under: Scope, numbers: &[u32])
+    requires listed { opens_under under state.old ≡ numbers.now }
+    ensures closed { state.new ≡ all_closed numbers.now state.old }
+    ensures none { opens_under under state.new ≡ [] }
+{
+    'opens: for number in numbers {
+        state.links();
+        state.close(alloc, *number);
+    }
+}
+
+/// Ends and closes the opens under it.
+pub(crate) fn end_under(
+    alloc: Global,
+    state: &mut SmbState,
+    core: &mut Core,
+    under: Scope,
+) -> Result<Sequence<Effect>, AllocError>
+    requires ready { IsReady 0 core.old }
+    ensures core { IfOk result (λ effects. all_ended (opens_under under state.old) core.old ≡ (effects, core.new)) }
+    ensures closed { OnOk result (state.new ≡ all_closed (opens_under under state.old) state.old) }
+    ensures none { OnOk result (opens_under under state.new ≡ []) }
+    ensures leaves { OnOk result (Leaves 0 core.old core.new) }
+{
+    let numbers = state.under(alloc, under)?;
+    let effects = end_all(alloc, core, &numbers)?;
+    close_all(alloc, state, under, &numbers);
+    Ok(effects)
+}
+
+/// Takes out these tree connects, which are those of the session, under which no open is.
+#[tactic(auto, using(crate::proofs::EndLaws::tree_there, crate::proofs::EndLaws::tree_free, crate::proofs::EndLaws::trees_step, crate::proofs::EndLaws::dropped_step))]
+fn drop_trees(state: &mut SmbState, session: u32, numbers: &[u32])
+    requires listed { trees_of session state.old ≡ numbers.now }
+    requires free { opens_under (scope.Session session) state.old ≡ [] }
+    ensures dropped { state.new ≡ trees_dropped numbers.now state.old }
+    ensures none { trees_of session state.new ≡ [] }
+{
+    'trees: for number in numbers {
+        state.links();
+        state.drop_tree(*number);
+    }
+}
+
+/// Takes out a session, under which no open is, with its tree connects.
+#[tactic(auto, unfolding(crate::specs::Ending::session_gone), using(crate::proofs::EndLaws::session_stays))]
+pub(crate) fn end_session(
+    alloc: Global,
+    state: &mut SmbState,
+    session: u32,
+) -> Result<(), AllocError>
+    requires there { IsSome (session_of session state.old) }
+    requires free { opens_under (scope.Session session) state.old ≡ [] }
+    ensures { OnOk result (state.new ≡ session_gone session state.old) }
+{
+    let trees = state.trees_of(alloc, session)?;
+    drop_trees(state, session, &trees);
+    state.drop_session(session);
+    Ok(())
+}
+
+/// Takes out these sessions, which are those on the connection, under which no open is.
+#[tactic(auto, using(crate::proofs::EndLaws::session_there, crate::proofs::EndLaws::session_free, crate::proofs::EndLaws::sessions_step, crate::proofs::EndLaws::gone_step, crate::proofs::EndLaws::opens_stay))]
+fn end_sessions(
+    alloc: Global,
+    state: &mut SmbState,
+    conn: u64,
+    numbers: &[u32],
+) -> Result<(), AllocError>
+    requires listed { sessions_on conn state.old ≡ numbers.now }
+    requires free { opens_under (scope.Connection conn) state.old ≡ [] }
+    ensures gone { OnOk result (state.new ≡ sessions_gone numbers.now state.old) }
+    ensures none { OnOk result (sessions_on conn state.new ≡ []) }
+{
+    'sessions: for number in numbers {
+        state.links();
+        end_session(alloc, state, *number)?;
+    }
+    Ok(())
+}
+
+/// Takes out a connection, under which no open is, with its sessions.
+#[tactic(auto, unfolding(crate::specs::Ending::connection_gone), using(crate::proofs::EndLaws::no_connection))]
+fn end_connection(alloc: Global, state: &mut SmbState, conn: u64) -> Result<(), AllocError>
+    requires free { opens_under (scope.Connection conn) state.old ≡ [] }
+    ensures { OnOk result (state.new ≡ connection_gone conn state.old) }
+{
+    let sessions = state.sessions_on(alloc, conn)?;
+    end_sessions(alloc, state, conn, &sessions)?;
+    if state.find_connection(conn).is_some() {
+        state.drop_connection(conn);
+    }
+    Ok(())
+}
+
+/// The connection of this number ends: each open under it ends with all that it holds and waits for, in the order in which
+/// they came, and its sessions and tree connects go. What the core tells of is handed on; nothing is sent.
+#[tactic(auto, unfolding(crate::specs::Ending::smb_end))]
+pub fn smb_end(
+    alloc: Global,
+    front: &mut SmbFront,
+    core: &mut Core,
+    conn: u64,
+) -> Result<Sequence<Effect>, AllocError>
+    requires ready { IsReady 0 core.old }
+    ensures state { IfOk result (λ effects. smb_end front.old core.old conn ≡ (effects, front.new, core.new)) }
+    ensures leaves { OnOk result (Leaves 0 core.old core.new) }
+{
+    let effects = end_under(alloc, &mut front.state, core, Scope::Connection(conn))?;
+    end_connection(alloc, &mut front.state, conn)?;
+    Ok(effects)
+}

@@ -1,0 +1,25 @@
+//! The SMB front: what the messages of SMB 2.1 connections are answered (MS-SMB2 3.3.5, dialect 0x0210), over the core.
+#![tactic(auto)]
+
+mod checks;
+mod creates;
+mod ending;
+mod files;
+mod front;
+mod ids;
+pub mod law;
+mod numbers;
+mod outcome;
+mod replies;
+mod requests;
+mod sessions;
+mod status;
+mod step;
+mod texts;
+mod told;
+
+pub use ending::smb_end;
+pub use front::{SmbFront, smb_begin};
+pub use status::SmbStatus;
+pub use step::smb_step;
+pub use told::Told;

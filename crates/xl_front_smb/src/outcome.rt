@@ -1,0 +1,25 @@
+//! What a request comes to.
+ghost use Rattle.std.specs.Prelude.{◌≡◌, []};
+
+use crate::status::SmbStatus;
+use crate::told::Told;
+use std::alloc::Global;
+use xl_base::Sequence;
+use xl_core::Effect;
+
+/// What a request is told, and what the core told of besides.
+pub(crate) type Done = (Told, Sequence<Effect>);
+
+/// A request fails so, and nothing is done.
+pub(crate) fn failed(alloc: Global, status: SmbStatus) -> Done
+    ensures { result ≡ (Told.Failed status, []) }
+{
+    (Told::Failed(status), Sequence::new(alloc))
+}
+
+/// A request is told so, and nothing is done to the core.
+pub(crate) fn told(alloc: Global, told: Told) -> Done
+    ensures { result ≡ (told, []) }
+{
+    (told, Sequence::new(alloc))
+}

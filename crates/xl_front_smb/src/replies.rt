@@ -1,0 +1,170 @@
+//! How what a request is told is spelled.
+ghost use Rattle.std.specs.Prelude.{◌≡◌, ℕ, ◌≤◌, length, option_map, IfOk, IfSome};
+ghost use Rattle.xl_smb.specs.Heads.{command_of};
+ghost use Rattle.xl_base.specs.Limits.{most_message_bytes};
+ghost use Rattle.xl_smb.specs.Creates.{shown_create_reply};
+ghost use Rattle.xl_smb.specs.Replies.{shown_reply};
+ghost use Rattle.xl_smb.specs.Sessions.{shown_negotiate_reply};
+ghost use Rattle.xl_front_smb.specs.Replies.{credits_for, tree_id, reply_head, head_by, file_of, negotiated, opened, body_of, reply_of, IsAnswer};
+
+use crate::told::Told;
+use std::alloc::{AllocError, Global};
+use xl_smb::{
+    CloseReply, Command, Contexts, CreateReply, FileId, FileStatus, NegotiateReply, Route,
+    SessionSetupReply, SmbHead, SmbMessage, SmbReply, TreeConnectReply, write,
+};
+
+/// The credits that are granted where so many are asked for.
+#[tactic(auto, unfolding(crate::specs::Replies::credits_for))]
+fn credits_for(asked: u16) -> u16
+    ensures { result ≡ credits_for asked }
+{
+    asked.max(1).min(512)
+}
+
+/// The tree connect that a request names, 0 for none.
+pub(crate) fn tree_id(route: Route) -> u32
+    ensures { result ≡ tree_id route }
+{
+    match route {
+        Route::Tree(id) => id,
+        Route::Async(_) => 0,
+    }
+}
+
+/// The header of a reply.
+#[tactic(auto, unfolding(crate::specs::Replies::reply_head))]
+fn reply_head(head: &SmbHead, status: u32, tree: u32, session: u64) -> SmbHead
+    ensures { result ≡ reply_head head.now status tree session }
+{
+    SmbHead {
+        credit_charge: head.credit_charge,
+        status,
+        command: head.command,
+        credits: credits_for(head.credits),
+        flags: 1,
+        next_command: 0,
+        message_id: head.message_id,
+        route: Route::Tree(tree),
+        session_id: session,
+        signature: [0; 16],
+    }
+}
+
+/// The header of the reply that tells this.
+fn head_by(head: &SmbHead, told: Told) -> SmbHead
+    ensures { result ≡ head_by head.now told }
+{
+    let tree = tree_id(head.route);
+    match told {
+        Told::Failed(status) => reply_head(head, status.number(), tree, head.session_id),
+        Told::SetUp(session) => reply_head(head, 0, tree, session),
+        Told::Connected(tree) => reply_head(head, 0, tree, head.session_id),
+        Told::Nothing
+        | Told::Negotiated
+        | Told::LoggedOff
+        | Told::Disconnected
+        | Told::Opened(_)
+        | Told::Closed
+        | Told::Echoed => reply_head(head, 0, tree, head.session_id),
+    }
+}
+
+/// A file with these attributes, of which nothing else is told.
+fn file_of(attributes: u32) -> FileStatus
+    ensures { result ≡ file_of attributes }
+{
+    FileStatus {
+        created: 0,
+        accessed: 0,
+        written: 0,
+        changed: 0,
+        allocated: 0,
+        end_of_file: 0,
+        attributes,
+    }
+}
+
+/// The body of a reply to NEGOTIATE.
+fn negotiated() -> NegotiateReply<'static>
+    ensures { shown_negotiate_reply result ≡ negotiated }
+{
+    NegotiateReply {
+        security_mode: 1,
+        dialect: 0x0210,
+        server_guid: [0; 16],
+        capabilities: 2,
+        max_transact: 65_536,
+        max_read: 65_536,
+        max_write: 65_536,
+        system_time: 0,
+        start_time: 0,
+        buffer: &[],
+    }
+}
+
+/// The body of a reply to CREATE.
+fn opened(id: u64) -> CreateReply<'static>
+    ensures { shown_create_reply result ≡ opened id }
+{
+    CreateReply {
+        oplock_level: 0,
+        action: 1,
+        status: file_of(0x80),
+        file_id: FileId {
+            persistent: id,
+            volatile: id,
+        },
+        contexts: Contexts(&[]),
+    }
+}
+
+/// The body of the reply that tells this, where one is sent.
+fn body_of(told: Told) -> Option<SmbReply<'static>>
+    ensures { option_map shown_reply result ≡ body_of told }
+{
+    match told {
+        Told::Nothing => None,
+        Told::Failed(_) => Some(SmbReply::Error),
+        Told::Negotiated => Some(SmbReply::Negotiate(negotiated())),
+        Told::SetUp(_) => Some(SmbReply::SessionSetup(SessionSetupReply {
+            flags: 1,
+            buffer: &[],
+        })),
+        Told::LoggedOff => Some(SmbReply::Logoff),
+        Told::Connected(_) => Some(SmbReply::TreeConnect(TreeConnectReply {
+            share_type: 1,
+            flags: 0,
+            capabilities: 0,
+            maximal_access: 0x001F_01FF,
+        })),
+        Told::Disconnected => Some(SmbReply::TreeDisconnect),
+        Told::Opened(id) => Some(SmbReply::Create(opened(id))),
+        Told::Closed => Some(SmbReply::Close(CloseReply {
+            flags: 0,
+            status: file_of(0),
+        })),
+        Told::Echoed => Some(SmbReply::Echo),
+    }
+}
+
+/// The reply to a request of this header, where one is sent.
+#[tactic(auto, unfolding(crate::specs::Replies::reply_of), using(crate::proofs::ReplyLaws::reply_stands, crate::proofs::ReplyLaws::reply_little))]
+pub(crate) fn reply_of(
+    alloc: Global,
+    head: &SmbHead,
+    told: Told,
+) -> Result<Option<Vec<u8>>, AllocError>
+    requires { IsAnswer (command_of head.now.command) told }
+    ensures reply { IfOk result (λ reply. option_map (λ v. v.items) reply ≡ reply_of head.now told) }
+    ensures little { IfOk result (λ reply. IfSome reply (λ v. length v.items ≤ most_message_bytes)) }
+{
+    if head.command == Command::Cancel.number() {
+        return Ok(None);
+    }
+    let Some(body) = body_of(told) else {
+        return Ok(None);
+    };
+    let message = SmbMessage::Reply(head_by(head, told), body);
+    Ok(Some(write(alloc, &message)?))
+}

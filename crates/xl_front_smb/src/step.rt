@@ -1,0 +1,75 @@
+//! What a message of an SMB connection is answered (MS-SMB2 3.3.5).
+ghost use Rattle.std.specs.Prelude.{◌≡◌, ℕ, ◌≤◌, length, option_map, IfSome, IfOk, OnOk};
+ghost use Rattle.std.specs.List.{AllByRecursion};
+ghost use Rattle.xl_base.specs.Limits.{most_message_bytes};
+ghost use Rattle.xl_programs.specs.Sent.{FitsFrame};
+ghost use Rattle.xl_core.specs.State.{MayBe};
+ghost use Rattle.xl_front_smb.specs.FrontSmb.{sent_by, smb_step};
+ghost use Rattle.xl_front_smb.specs.Short.{IsReady, Leaves};
+
+use crate::front::SmbFront;
+use crate::replies::reply_of;
+use crate::requests::requested;
+use std::alloc::{AllocError, Global};
+use xl_base::{Exports, Keeper, Out, Sequence};
+use xl_core::{Core, Effect};
+use xl_programs::sent_to;
+use xl_smb::read_head;
+
+/// What is sent to a connection, where it is answered.
+fn sent_by(alloc: Global, conn: u64, reply: Option<Vec<u8>>) -> Result<Sequence<Out>, AllocError>
+    requires little { IfSome reply (λ v. length v.items ≤ most_message_bytes) }
+    ensures value { IfOk result (λ outs. outs ≡ sent_by conn (option_map (λ v. v.items) reply)) }
+    ensures little { IfOk result (λ outs. AllByRecursion FitsFrame outs) }
+{
+    match reply {
+        Some(bytes) => sent_to(alloc, conn, bytes),
+        None => Ok(Sequence::new(alloc)),
+    }
+}
+
+/// Answers a message of the SMB connection of this number, all of one frame: the reply, where there is one, without its
+/// frame and at most 65,536 bytes long, and what the core told of besides. The other fronts have this number of opens.
+///
+/// NEGOTIATE, SESSION_SETUP, LOGOFF, TREE_CONNECT, TREE_DISCONNECT, CREATE, CLOSE and ECHO are served. LOCK is
+/// NOT_SUPPORTED, a CANCEL finds nothing that waits, and as no cache is held each acknowledgement of a break is refused. A
+/// CANCEL gets no reply, nor does what has no header of SMB 2.1 or is a reply by its flags. At least 65,538 numbers must be
+/// left to give out; a message takes two at most. After an error nothing is known of the front and the core.
+#[tactic(auto, unfolding(crate::specs::FrontSmb::smb_step), using(crate::proofs::LeaveLaws::leaves_self, crate::proofs::LeaveLaws::leaves_more, crate::proofs::LeaveLaws::ready_less))]
+pub fn smb_step<K: Keeper>(
+    alloc: Global,
+    exports: &Exports,
+    front: &mut SmbFront,
+    core: &mut Core,
+    keeper: &mut K,
+    conn: u64,
+    bytes: &[u8],
+    others: u32,
+) -> Result<(Sequence<Out>, Sequence<Effect>), AllocError>
+    requires ready { IsReady 2 core.old }
+    ensures state { (n : ℕ) → IfOk result (λ r. MayBe n core.new → smb_step n exports.now others front.old core.old conn bytes.now ≡ (r.0, r.1, front.new, core.new)) }
+    ensures leaves { OnOk result (Leaves 2 core.old core.new) }
+    ensures little { IfOk result (λ r. AllByRecursion FitsFrame r.0) }
+    ensures keeper { keeper.new ≡ keeper.old }
+{
+    let Ok(head) = read_head(bytes) else {
+        return Ok((Sequence::new(alloc), Sequence::new(alloc)));
+    };
+    if head.is_reply() {
+        return Ok((Sequence::new(alloc), Sequence::new(alloc)));
+    }
+    let files = exports.files.as_slice();
+    let (told, effects) = requested(
+        alloc,
+        files,
+        &mut front.state,
+        core,
+        keeper,
+        others,
+        conn,
+        bytes,
+        &head,
+    )?;
+    let reply = reply_of(alloc, &head, told)?;
+    Ok((sent_by(alloc, conn, reply)?, effects))
+}

@@ -1,0 +1,28 @@
+//! What a request is told.
+
+use crate::status::SmbStatus;
+
+/// What a request is told.
+#[derive(Clone, Copy)]
+pub enum Told {
+    /// Nothing: no reply is sent.
+    Nothing,
+    /// It failed.
+    Failed(SmbStatus),
+    /// The dialect is SMB 2.1 (NEGOTIATE).
+    Negotiated,
+    /// The session of this id is set up, as a guest's (SESSION_SETUP).
+    SetUp(u64),
+    /// The session has ended (LOGOFF).
+    LoggedOff,
+    /// The share is connected to under this number (TREE_CONNECT).
+    Connected(u32),
+    /// The tree connect has ended (TREE_DISCONNECT).
+    Disconnected,
+    /// The file is open under this id (CREATE).
+    Opened(u64),
+    /// The open has ended (CLOSE).
+    Closed,
+    /// The server is there (ECHO).
+    Echoed,
+}

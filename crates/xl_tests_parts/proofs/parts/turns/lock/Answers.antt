@@ -1,5 +1,0 @@
-use Rattle.xl_tests_parts.proofs.CountLaws.{ask_counts}
-use Rattle.xl_tests_parts.proofs.parts.turns.lock.Goals as goal
-
-pub returns-clause-counter : goal.returns-clause-counter
-returns-clause-counter c = ask_counts _ c.args.core.now c.ask.new.self c.in_ok-ask.ask c.in_ok-answer.answer c.in_ok-answer._told c.in_ok-answer.ensures.state c.requires.good c.in_ok-ask.ensures
