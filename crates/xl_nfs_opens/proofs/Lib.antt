@@ -8,3 +8,4 @@ pub mod OpenOwn
 pub mod OpenLaws
 pub mod RenewLaws
 pub mod OpenerLaws
+pub mod EnterLaws

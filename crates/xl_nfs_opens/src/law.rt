@@ -1,5 +1,5 @@
 //! Laws of opens. The functions do nothing: each has laws as its clauses.
-ghost use Rattle.std.specs.Prelude.{◌≡◌, ◌==◌, ◌<◌, ◌^◌, ℕ, true, false, if◌then◌else◌, List, Option, Some, option_map};
+ghost use Rattle.std.specs.Prelude.{◌≡◌, ◌==◌, ◌+◌, ◌<◌, ◌^◌, ℕ, true, false, if◌then◌else◌, List, [], Bool, Option, Some, None, option_map};
 ghost use Rattle.std.specs.List.{find};
 ghost use Rattle.xl_matrix.specs.Rights.{rights_lie_within};
 ghost use Rattle.xl_nfs.specs.Opens.{OpenArgsItem};
@@ -8,6 +8,8 @@ ghost use Rattle.xl_nfs.specs.declared.opens.CloseArgs.{CloseArgs};
 ghost use Rattle.xl_nfs.specs.declared.opens.OpenConfirmArgs.{OpenConfirmArgs};
 ghost use Rattle.xl_nfs.specs.declared.opens.OpenDowngradeArgs.{OpenDowngradeArgs};
 ghost use Rattle.xl_nfs.specs.declared.status.NfsStatus.{NfsStatus};
+ghost use Rattle.xl_nfs.specs.declared.status.NfsStatus.TheVariants.{BadSeqid};
+ghost use Rattle.xl_nfs_state.specs.declared.stateid.Holder.TheVariants.{Open as OfOpen};
 ghost use Rattle.xl_nfs_state.specs.Rows.{with_turn};
 ghost use Rattle.xl_nfs_state.specs.State.{NfsLists, is_kept, is_owner, is_stateid};
 ghost use Rattle.xl_nfs_state.specs.Verdict.{next_seqid};
@@ -15,17 +17,18 @@ ghost use Rattle.xl_nfs_state.specs.declared.kept.KeptRow.{KeptRow};
 ghost use Rattle.xl_nfs_state.specs.declared.owner.OwnerRow.{OwnerRow};
 ghost use Rattle.xl_nfs_state.specs.declared.owner.Turn.{Turn as OwnerTurn};
 ghost use Rattle.xl_nfs_state.specs.declared.stateid.StateidRow.{StateidRow};
-ghost use Rattle.xl_nfs_opens.specs.Closing.{checked, close_by, confirm_by, failed_lists};
+ghost use Rattle.xl_nfs_opens.specs.Closing.{checked, close_by, close_done, confirm_by, failed_lists};
 ghost use Rattle.xl_nfs_opens.specs.Downgrades.{downgrade_by};
-ghost use Rattle.xl_nfs_opens.specs.Laws.{IsRepeated};
-ghost use Rattle.xl_nfs_opens.specs.Opens.{either_bits, judged, open_judged, rights_of};
+ghost use Rattle.xl_nfs_opens.specs.Laws.{can_come, IsRepeated};
+ghost use Rattle.xl_nfs_opens.specs.Opens.{either_bits, granted_new, judged, open_judged, rights_of};
 ghost use Rattle.xl_nfs_opens.specs.Renewing.{number_of};
-ghost use Rattle.xl_nfs_opens.specs.Seqids.{advances, counted, is_opener};
+ghost use Rattle.xl_nfs_opens.specs.Seqids.{advances, counted, is_opener, opener_number};
 ghost use Rattle.xl_nfs_opens.specs.declared.opener.Checked.TheVariants.{Passed, Repeated};
-ghost use Rattle.xl_nfs_opens.specs.declared.opener.Judged.TheVariants.{Repeats};
+ghost use Rattle.xl_nfs_opens.specs.declared.opener.Judged.TheVariants.{Next, Repeats};
 ghost use Rattle.xl_nfs_opens.specs.declared.opener.Opener.{Opener as OpenOwner};
 ghost use Rattle.xl_core.specs.State.{CoreState};
 ghost use Rattle.xl_nfs_opens.specs.Plans.{carried};
+ghost use Rattle.xl_nfs_opens.specs.declared.told.Told.TheVariants.{Ended};
 
 /// A request that comes again is told the bytes that were kept of it, and nothing changes: neither what is remembered nor
 /// the core, but for the lease that each request renews before (RFC 7530 9.1.8). The last OPEN of an owner comes again by
@@ -56,4 +59,23 @@ pub fn closed_opens_are_over()
 /// 9.9).
 pub fn opens_have_what_was_asked()
     ensures { (had asked : ℕ) → rights_lie_within (rights_of asked) (rights_of (either_bits had asked)) ≡ true }
+{}
+
+/// An OPEN of a confirmed owner that is known is judged further exactly with the seqid after the owner's last; its last OPEN
+/// comes again by its seqid (see `repeats_change_nothing`); any other is told BAD_SEQID, and nothing changes (RFC 7530 9.1.7).
+pub fn opens_come_in_order()
+    ensures next { (l : NfsLists) (o : OpenOwner) (r : OwnerRow) (seqid : ℕ) → find (is_opener o) l.owners ≡ Some r → r.turn.confirmed ≡ true → seqid ≡ next_seqid r.turn.seqid → judged l o seqid ≡ Next }
+    ensures others { (n : ℕ) (files : List (List ℕ)) (others : ℕ) (s : CoreState) (l : NfsLists) (current : Option ℕ) (at : ℕ) (o : OpenOwner) (a : OpenArgsItem) (r : OwnerRow) → find (is_opener o) l.owners ≡ Some r → r.turn.confirmed ≡ true → (a.seqid ≡ next_seqid r.turn.seqid → ⊥) → (a.seqid ≡ r.turn.seqid → r.turn.op ≡ 18 → ⊥) → carried n s l current (open_judged files others s l current at o a (judged l o a.seqid)) ≡ (Ended BadSeqid, current, [], l, s) }
+{}
+
+/// A new open is known by its number from then on: of its owner and file, with the access and the deny that were asked,
+/// where it can come (RFC 7530 9.1.4, 16.16).
+pub fn new_opens_are_known()
+    ensures { (n : ℕ) (s : CoreState) (l : NfsLists) (current : Option ℕ) (o : OpenOwner) (a : OpenArgsItem) (file : ℕ) (confirmed : Bool) → can_come s l o a file confirmed ≡ true → find (is_stateid (s.counter + 1)) (carried n s l current (granted_new s l o a file confirmed)).3.stateids ≡ Some (record { number = s.counter + 1; client = o.client; file = file; holder = OfOpen (opener_number o l); standing = record { seqid = 1; access = a.access; deny = a.deny; closed = false } }) }
+{}
+
+/// An open that is closed is marked so, and stays known by its number for its owner's CLOSE to come again (RFC 7530 9.1.8,
+/// 16.2). What the owner's request before closed is another open.
+pub fn closed_opens_are_marked()
+    ensures { (n : ℕ) (s : CoreState) (l : NfsLists) (current : Option ℕ) (a : CloseArgs) (r : StateidRow) (owner by : ℕ) (turn : OwnerTurn) → find (is_stateid r.number) l.stateids ≡ Some r → r.holder ≡ OfOpen by → (turn.closed ≡ Some r.number → ⊥) → option_map (λ (x : StateidRow). x.standing.closed) (find (is_stateid r.number) (carried n s l current (close_done s l current a r owner turn None)).3.stateids) ≡ Some true }
 {}
