@@ -7,7 +7,7 @@ use Rattle.xl_base.specs.Handles.{handle}
 use Rattle.xl_base.specs.Formats.{is_listed}
 use Rattle.xl_nfs.specs.Ops.{is_numbered}
 use Rattle.xl_nfs.specs.Outcomes.{is_ok, is_denied, outcome, lock_outcome}
-use Rattle.xl_nfs.specs.Results.{ResultItem, CloseAnswer, GetFhAnswer, OpenAnswer, OpenConfirmAnswer, OpenDowngradeAnswer, SetClientIdAnswer, NotSupportedAnswer, IllegalAnswer, results, told, told_fits, nfs_result, ResultFits}
+use Rattle.xl_nfs.specs.Results.{ResultItem, CloseAnswer, GetFhAnswer, LockAnswer, LockUAnswer, OpenAnswer, OpenConfirmAnswer, OpenDowngradeAnswer, SetClientIdAnswer, NotSupportedAnswer, IllegalAnswer, results, told, told_fits, nfs_result, ResultFits}
 use Rattle.xl_nfs.specs.Statuses.{status_number, status}
 use Rattle.xl_nfs.specs.Basics.{handle as fh}
 use Rattle.xl_nfs.specs.Clients.{client_confirm}
@@ -343,6 +343,14 @@ state_fits_4 : (s : Stateid) → stateid.Fit s → ResultFits (CloseAnswer (Ok s
 unfolding nfs_result outcome status
 state_fits_4 s fit = (omega arith, (tt, fit))
 
+state_fits_12 : (s : Stateid) → stateid.Fit s → ResultFits (LockAnswer (Ok s))
+unfolding nfs_result lock_outcome status
+state_fits_12 s fit = (omega arith, (tt, fit))
+
+state_fits_14 : (s : Stateid) → stateid.Fit s → ResultFits (LockUAnswer (Ok s))
+unfolding nfs_result outcome status
+state_fits_14 s fit = (omega arith, (tt, fit))
+
 state_fits_20 : (s : Stateid) → stateid.Fit s → ResultFits (OpenConfirmAnswer (Ok s))
 unfolding nfs_result outcome status
 state_fits_20 s fit = (omega arith, (tt, fit))
@@ -356,9 +364,15 @@ state_fits number s seqid other =
     let fit = stateid_fits s seqid other in
     elim (cases_Bool (number == 4)) [
       | inl e ↦ rw e (state_fits_4 s fit)
-      | inr e ↦ rw e (elim (cases_Bool (number == 20)) [
-        | inl d ↦ rw d (state_fits_20 s fit)
-        | inr d ↦ rw d (state_fits_21 s fit)
+      | inr e ↦ rw e (elim (cases_Bool (number == 12)) [
+        | inl f ↦ rw f (state_fits_12 s fit)
+        | inr f ↦ rw f (elim (cases_Bool (number == 14)) [
+          | inl g ↦ rw g (state_fits_14 s fit)
+          | inr g ↦ rw g (elim (cases_Bool (number == 20)) [
+            | inl d ↦ rw d (state_fits_20 s fit)
+            | inr d ↦ rw d (state_fits_21 s fit)
+          ])
+        ])
       ])
     ]
 
@@ -369,6 +383,14 @@ eight_state number more le = omega (arith, le)
 state_little_4 : (s : Stateid) → length (stateid.spell s) ≤ 16 → length (nfs_result.spell (CloseAnswer (Ok s))) ≤ 24
 unfolding nfs_result outcome status status_number
 state_little_4 s le = eight_state 4 (stateid.spell s) le
+
+state_little_12 : (s : Stateid) → length (stateid.spell s) ≤ 16 → length (nfs_result.spell (LockAnswer (Ok s))) ≤ 24
+unfolding nfs_result lock_outcome status status_number
+state_little_12 s le = eight_state 12 (stateid.spell s) le
+
+state_little_14 : (s : Stateid) → length (stateid.spell s) ≤ 16 → length (nfs_result.spell (LockUAnswer (Ok s))) ≤ 24
+unfolding nfs_result outcome status status_number
+state_little_14 s le = eight_state 14 (stateid.spell s) le
 
 state_little_20 : (s : Stateid) → length (stateid.spell s) ≤ 16 → length (nfs_result.spell (OpenConfirmAnswer (Ok s))) ≤ 24
 unfolding nfs_result outcome status status_number
@@ -383,9 +405,15 @@ state_little number s other =
     let le = stateid_little s other in
     elim (cases_Bool (number == 4)) [
       | inl e ↦ rw e (state_little_4 s le)
-      | inr e ↦ rw e (elim (cases_Bool (number == 20)) [
-        | inl d ↦ rw d (state_little_20 s le)
-        | inr d ↦ rw d (state_little_21 s le)
+      | inr e ↦ rw e (elim (cases_Bool (number == 12)) [
+        | inl f ↦ rw f (state_little_12 s le)
+        | inr f ↦ rw f (elim (cases_Bool (number == 14)) [
+          | inl g ↦ rw g (state_little_14 s le)
+          | inr g ↦ rw g (elim (cases_Bool (number == 20)) [
+            | inl d ↦ rw d (state_little_20 s le)
+            | inr d ↦ rw d (state_little_21 s le)
+          ])
+        ])
       ])
     ]
 

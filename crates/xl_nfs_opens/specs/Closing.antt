@@ -118,10 +118,10 @@ can_weaken r access deny =
 -- ---- the owner's share in the core
 
 abbrev pub opener_named : Option ClientRow → Option OwnerRow → Option Opener
-opener_named (Some c) (Some o) = Some (record { client = c.number; id = c.id; owner = o.name.owner })
+opener_named (Some c) (Some o) = Some (record { client = c.number; id = c.id; kind = o.name.kind; owner = o.name.owner })
 opener_named _ _ = None
 
--- the owner of an open
+-- the owner of an open, or of locks
 unfoldable pub opener_by : NfsLists → ℕ → ℕ → Option Opener
 opener_by l client owner = opener_named (find (is_client client true) l.clients) (find (is_owner owner) l.owners)
 

@@ -19,6 +19,7 @@ use Rattle.xl_nfs_state.specs.State.{NfsLists, with_stateids, without, without_o
 use Rattle.xl_nfs_state.specs.Verdict.{verdict, next_seqid}
 use Rattle.xl_nfs_state.specs.declared.client.ClientRow.{ClientRow}
 use Rattle.xl_nfs_state.specs.declared.kept.KeptRow.{KeptRow}
+use Rattle.xl_nfs_state.specs.declared.owner.OwnerKind.TheVariants as kinds
 use Rattle.xl_nfs_state.specs.declared.owner.OwnerRow.{OwnerRow}
 use Rattle.xl_nfs_state.specs.declared.owner.Turn.{Turn}
 use Rattle.xl_nfs_state.specs.declared.seqid.SeqidVerdict.{SeqidVerdict}
@@ -325,7 +326,7 @@ open_judged files others s l current at o a judgements.New = open_as files other
 open_judged files others s l current at o a judgements.Next = open_as files others l current at o a true
 
 abbrev pub opener_of : ClientRow → OpenArgsItem → Opener
-opener_of c a = record { client = c.number; id = c.id; owner = a.owner.owner }
+opener_of c a = record { client = c.number; id = c.id; kind = kinds.Open; owner = a.owner.owner }
 
 abbrev pub open_of : List (List ℕ) → ℕ → CoreState → NfsLists → Option ℕ → ℕ → OpenArgsItem → Option ClientRow → Plan
 open_of files others s l current at a None = Does [] l current (Ended statuses.StaleClientId)

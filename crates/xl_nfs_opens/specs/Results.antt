@@ -25,7 +25,9 @@ ended_as number status =
 
 -- the operation of this number gives this stateid
 abbrev pub state_as : ℕ → Stateid → ResultItem
-state_as number stateid = if number == 4 then CloseAnswer (Ok stateid) else if number == 20 then OpenConfirmAnswer (Ok stateid) else OpenDowngradeAnswer (Ok stateid)
+state_as number stateid =
+    if number == 4 then CloseAnswer (Ok stateid) else if number == 12 then LockAnswer (Ok stateid) else if number == 14 then LockUAnswer (Ok stateid)
+    else if number == 20 then OpenConfirmAnswer (Ok stateid) else OpenDowngradeAnswer (Ok stateid)
 
 -- OPEN gives this stateid: the directory didn't change, no attribute was set, and there is no delegation
 abbrev pub open_result_of : Stateid → ℕ → OpenResultItem

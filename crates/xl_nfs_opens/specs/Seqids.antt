@@ -7,7 +7,6 @@ use Rattle.xl_nfs.specs.declared.status.NfsStatus.TheVariants as statuses
 use Rattle.xl_nfs_state.specs.Filed.{changed}
 use Rattle.xl_nfs_state.specs.Rows.{with_turn, with_result}
 use Rattle.xl_nfs_state.specs.State.{NfsLists, with_owners, with_stateids, with_kept, without, is_owner, is_owner_named, is_kept, is_whose, next_owner}
-use Rattle.xl_nfs_state.specs.declared.owner.OwnerKind.TheVariants.{Open as Opens}
 use Rattle.xl_nfs_state.specs.declared.owner.OwnerRow.{OwnerRow}
 use Rattle.xl_nfs_state.specs.declared.owner.Turn.{Turn}
 use Rattle.xl_nfs_state.specs.declared.stateid.Whose.TheVariants as whose
@@ -28,7 +27,7 @@ advances _ = true
 
 -- the owner's row
 abbrev pub is_opener : Opener → OwnerRow → Bool
-is_opener o r = is_owner_named o.client Opens o.owner r
+is_opener o r = is_owner_named o.client o.kind o.owner r
 
 -- what its last request closed is known no more
 abbrev pub closed_gone : Option ℕ → NfsLists → NfsLists
@@ -69,7 +68,7 @@ abbrev pub opener_number : Opener → NfsLists → ℕ
 opener_number o l = number_by (find (is_opener o) l.owners) (next_owner l.owners)
 
 abbrev pub new_owner : Opener → Turn → ℕ → OwnerRow
-new_owner o turn number = record { number = number; name = record { client = o.client; kind = Opens; owner = o.owner }; turn = turn }
+new_owner o turn number = record { number = number; name = record { client = o.client; kind = o.kind; owner = o.owner }; turn = turn }
 
 abbrev pub seated_new : Opener → Turn → NfsLists → Option ℕ → NfsLists
 seated_new o turn l None = l

@@ -43,7 +43,7 @@ fn check_seqid(row: &StateidRow, op: u32, seqid: u32, owner: u64, turn: Turn) ->
 }
 
 /// By the owner of the open.
-fn check_owner(state: &NfsState, row: &StateidRow, op: u32, seqid: u32, owner: u64) -> Checked
+pub fn check_owner(state: &NfsState, row: &StateidRow, op: u32, seqid: u32, owner: u64) -> Checked
     ensures { result ≡ owner_checked row.now op seqid owner (find (is_owner owner) state.now.owners) }
 {
     match state.find_owner(owner) {
@@ -257,7 +257,7 @@ pub fn open_confirm(
     Ok(done)
 }
 
-/// The owner of an open.
+/// The owner of an open, or of locks.
 #[tactic(auto, unfolding(crate::specs::Closing::opener_by))]
 fn opener_by(
     alloc: Global,
@@ -276,6 +276,7 @@ fn opener_by(
     Ok(Some(Opener {
         client: client_row.number,
         id: Sequence::from_slice(alloc, client_row.id.as_slice())?,
+        kind: owner_row.name.kind,
         owner: Sequence::from_slice(alloc, owner_row.name.owner.as_slice())?,
     }))
 }

@@ -19,11 +19,13 @@ mod seqids;
 mod shares;
 mod told;
 
-pub use closing::{close, deleg_return, open_confirm};
+pub use closing::{check_owner, close, deleg_return, open_confirm};
 pub use done::{Done, beside, ended_as};
 pub use downgrading::open_downgrade;
 pub use files::file_named;
 pub use leases::{clientid_of, drawn, lease_end, number_in, renewed};
-pub use opening::open_file;
+pub use opener::Checked;
+pub use opening::{client_in, open_file};
+pub use renewing::{number_of, renew_for};
 pub use results::put_result;
 pub use told::Told;

@@ -1,15 +1,17 @@
-//! Open owners, and what their seqids say.
+//! Owners of opens and of locks, and what their seqids say.
 use xl_base::Sequence;
 use xl_nfs::NfsStatus;
-use xl_nfs_state::{StateidRow, Turn};
+use xl_nfs_state::{OwnerKind, StateidRow, Turn};
 
-/// An open owner (RFC 7530 9.1.5): its client, by the client's number and id string, and its own bytes.
+/// An owner of opens or of locks (RFC 7530 9.1.5): its client, by the client's number and id string, and its own bytes.
 #[derive(Drop)]
 pub struct Opener {
     /// The client's number.
     pub client: u32,
     /// The client's id string.
     pub id: Sequence<u8>,
+    /// What it owns.
+    pub kind: OwnerKind,
     /// The owner's bytes.
     pub owner: Sequence<u8>,
 }

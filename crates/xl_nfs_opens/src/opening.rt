@@ -26,7 +26,9 @@ use std::alloc::{AllocError, Global};
 use xl_base::{Keeper, Sequence};
 use xl_core::{Answer, Core, Effect};
 use xl_nfs::{NfsStatus, OpenArgs, OpenClaim, operation};
-use xl_nfs_state::{ClientRow, NfsState, OwnerRow, SeqidVerdict, StateidRow, Whose, verdict};
+use xl_nfs_state::{
+    ClientRow, NfsState, OwnerKind, OwnerRow, SeqidVerdict, StateidRow, Whose, verdict,
+};
 
 fn is_granted(answer: Answer) -> bool
     ensures { result ≡ is_granted answer }
@@ -355,12 +357,13 @@ fn opener_of(alloc: Global, row: &ClientRow, args: &OpenArgs) -> Result<Opener, 
     Ok(Opener {
         client: row.number,
         id: Sequence::from_slice(alloc, row.id.as_slice())?,
+        kind: OwnerKind::Open,
         owner: Sequence::from_slice(alloc, args.owner.owner)?,
     })
 }
 
 /// The confirmed client of a clientid.
-fn client_in<'a>(state: &'a NfsState, core: &Core, clientid: u64) -> Option<&'a ClientRow>
+pub fn client_in<'a>(state: &'a NfsState, core: &Core, clientid: u64) -> Option<&'a ClientRow>
     ensures { option_copied result ≡ client_in core.now state.now clientid }
 {
     let number = number_in(core, clientid)?;

@@ -25,7 +25,7 @@ pub(crate) fn stateid_of(core: &Core, number: u64, seqid: u32) -> Stateid
 
 /// The number in a stateid, where it is of this start.
 #[tactic(auto, unfolding(crate::specs::Renewing::number_of))]
-pub(crate) fn number_of(core: &Core, other: &[u8; 12]) -> Option<u64>
+pub fn number_of(core: &Core, other: &[u8; 12]) -> Option<u64>
     ensures { result ≡ number_of core.now other.now }
 {
     let [a, b, c, d, e, f, g, h, i, j, k, l] = *other;
@@ -49,7 +49,7 @@ pub(crate) fn state_client(state: &NfsState, core: &Core, stateid: &Stateid) -> 
 
 /// Renews the lease of the client of this number, where it is confirmed.
 #[tactic(auto, using(crate::proofs::LeaveLaws::leaves_self, crate::proofs::RenewLaws::renewals_done, crate::proofs::RenewLaws::renewals_told))]
-pub(crate) fn renew_for(
+pub fn renew_for(
     alloc: Global,
     state: &mut NfsState,
     core: &mut Core,

@@ -59,6 +59,8 @@ fn state_as<'a>(number: u32, stateid: Stateid) -> NfsResult<'a>
 {
     match number {
         operation::CLOSE => NfsResult::Close(Ok(stateid)),
+        operation::LOCK => NfsResult::Lock(Ok(stateid)),
+        operation::LOCKU => NfsResult::LockU(Ok(stateid)),
         operation::OPEN_CONFIRM => NfsResult::OpenConfirm(Ok(stateid)),
         _ => NfsResult::OpenDowngrade(Ok(stateid)),
     }

@@ -8,9 +8,7 @@ use crate::opener::Opener;
 use std::alloc::{AllocError, Global};
 use xl_base::Sequence;
 use xl_nfs::NfsStatus;
-use xl_nfs_state::{
-    KeptRow, NfsState, OwnerKind, OwnerName, OwnerNamed, OwnerRow, ResultBytes, Turn, Whose,
-};
+use xl_nfs_state::{KeptRow, NfsState, OwnerName, OwnerNamed, OwnerRow, ResultBytes, Turn, Whose};
 
 /// Whether a request that ends so counts: its owner's seqid advances, and the result is kept.
 pub(crate) fn advances(status: NfsStatus) -> bool
@@ -95,7 +93,7 @@ pub(crate) fn find_opener<'a>(state: &'a NfsState, opener: &Opener) -> Option<&'
 {
     state.find_owner_named(OwnerNamed {
         client: opener.client,
-        kind: OwnerKind::Open,
+        kind: opener.kind,
         owner: opener.owner.as_slice(),
     })
 }
@@ -134,7 +132,7 @@ fn seat_new(
     let owner = Sequence::from_slice(alloc, opener.owner.as_slice())?;
     let name = OwnerName {
         client: opener.client,
-        kind: OwnerKind::Open,
+        kind: opener.kind,
         owner,
     };
     match state.add_owner(alloc, OwnerRow { number, name, turn }) {

@@ -18,7 +18,7 @@ pub enum Told {
     Client(ClientConfirm),
     /// An open's stateid, and the flags of its result (OPEN).
     Opened(Stateid, u32),
-    /// The stateid as it is now (OPEN_CONFIRM, OPEN_DOWNGRADE, CLOSE).
+    /// The stateid as it is now (OPEN_CONFIRM, OPEN_DOWNGRADE, CLOSE, LOCK, LOCKU).
     State(Stateid),
     /// The result that was kept when the request came first, as it is spelled.
     Kept(ResultBytes),
