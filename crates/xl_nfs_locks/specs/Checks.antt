@@ -1,5 +1,5 @@
 -- The check of a lock's stateid (RFC 7530 9.1.4, 9.1.7), by its lock owner's seqid.
-use Rattle.std.specs.Prelude.{◌≡◌, ℕ, false, ◌==◌, if◌then◌else◌, Option, Some, None, IsSome}
+use Rattle.std.specs.Prelude.{ℕ, ◌==◌, if◌then◌else◌, Option, Some, None}
 use Rattle.std.specs.List.{find}
 use Rattle.xl_nfs.specs.declared.basics.Stateid.{Stateid}
 use Rattle.xl_nfs.specs.declared.status.NfsStatus.TheVariants as statuses

@@ -1,3 +1,4 @@
 pub mod Ranges
 pub mod Checks
 pub mod Releases
+pub mod Unlocks

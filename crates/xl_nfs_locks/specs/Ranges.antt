@@ -1,5 +1,5 @@
 -- Ranges of bytes, and what the core is asked for them (RFC 7530 16.10.4).
-use Rattle.std.specs.Prelude.{ℕ, ◌+◌, ◌-◌, ◌^◌, ◌==◌, nat_le, if◌then◌else◌, Bool, true, false, List, [], ◌∷◌, Option, Some, None}
+use Rattle.std.specs.Prelude.{ℕ, ◌+◌, ◌-◌, ◌^◌, ◌==◌, nat_le, if◌then◌else◌, Bool, true, false, [], ◌∷◌, Option, Some, None}
 use Rattle.xl_matrix.specs.declared.claim.Extent.TheVariants.{Bytes}
 use Rattle.xl_names.specs.declared.name.Name.TheVariants.{NfsRange, NfsParty}
 use Rattle.xl_nfs.specs.declared.basics.LockType.{LockType}

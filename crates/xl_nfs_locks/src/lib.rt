@@ -4,5 +4,6 @@
 mod checking;
 mod ranges;
 mod releasing;
+mod unlocking;
 
 pub use releasing::release;

@@ -456,6 +456,10 @@ pub fits_4 : (s : NfsStatus) → is_ok s ≡ false → ResultFits (ended_as 4 s)
 unfolding nfs_result ended_as status outcome
 fits_4 s ok = (omega arith, (tt, ok))
 
+pub fits_14 : (s : NfsStatus) → is_ok s ≡ false → ResultFits (ended_as 14 s)
+unfolding nfs_result ended_as status outcome
+fits_14 s ok = (omega arith, (tt, ok))
+
 pub fits_18 : (s : NfsStatus) → is_ok s ≡ false → ResultFits (ended_as 18 s)
 unfolding nfs_result ended_as status outcome
 fits_18 s ok = (omega arith, (tt, ok))

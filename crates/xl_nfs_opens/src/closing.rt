@@ -88,7 +88,7 @@ pub(crate) fn check(
 
 /// What is wrong with the stateid's own seqid, or with its owner, which has to be confirmed, or not.
 #[tactic(auto, unfolding(crate::specs::Closing::standing_fault))]
-pub(crate) fn standing_fault(
+pub fn standing_fault(
     row: &StateidRow,
     turn: Turn,
     seqid: u32,
@@ -107,7 +107,7 @@ pub(crate) fn standing_fault(
 }
 
 /// How far the owner's requests have come with this one.
-pub(crate) fn next_turn(op: u32, seqid: u32, confirmed: bool, closed: Option<u64>) -> Turn
+pub fn next_turn(op: u32, seqid: u32, confirmed: bool, closed: Option<u64>) -> Turn
     ensures { result ≡ next_turn op seqid confirmed closed }
 {
     Turn {
@@ -119,7 +119,7 @@ pub(crate) fn next_turn(op: u32, seqid: u32, confirmed: bool, closed: Option<u64
 }
 
 /// It failed so; the result is kept where it counts.
-pub(crate) fn fail(
+pub fn fail(
     alloc: Global,
     state: &mut NfsState,
     current: Option<u32>,
@@ -152,7 +152,7 @@ fn state_told(core: &Core, row: &StateidRow) -> Told
 }
 
 /// It was done: the open has these rights from then on, or is closed.
-pub(crate) fn finish(
+pub fn finish(
     alloc: Global,
     state: &mut NfsState,
     core: &Core,
@@ -259,7 +259,7 @@ pub fn open_confirm(
 
 /// The owner of an open, or of locks.
 #[tactic(auto, unfolding(crate::specs::Closing::opener_by))]
-fn opener_by(
+pub fn opener_by(
     alloc: Global,
     state: &NfsState,
     client: u32,

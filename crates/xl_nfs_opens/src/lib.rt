@@ -19,13 +19,18 @@ mod seqids;
 mod shares;
 mod told;
 
-pub use closing::{check_owner, close, deleg_return, open_confirm};
+pub use closing::{
+    check_owner, close, deleg_return, fail, finish, next_turn, open_confirm, opener_by,
+    standing_fault,
+};
 pub use done::{Done, beside, ended_as};
 pub use downgrading::open_downgrade;
 pub use files::file_named;
 pub use leases::{clientid_of, drawn, lease_end, number_in, renewed};
-pub use opener::Checked;
-pub use opening::{client_in, open_file};
-pub use renewing::{number_of, renew_for};
+pub use opener::{Checked, Opener};
+pub use opening::{answer_status, client_in, open_file};
+pub use renewing::{number_of, renew_for, state_client};
+pub use repeats::repeat;
 pub use results::put_result;
+pub use shares::asked;
 pub use told::Told;

@@ -37,7 +37,7 @@ fn is_granted(answer: Answer) -> bool
 }
 
 /// The status by the core's answer.
-fn answer_status(reclaim: bool, answer: Answer) -> NfsStatus
+pub fn answer_status(reclaim: bool, answer: Answer) -> NfsStatus
     ensures { result ≡ answer_status reclaim answer }
 {
     match answer {

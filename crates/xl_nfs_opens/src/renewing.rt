@@ -37,7 +37,7 @@ pub fn number_of(core: &Core, other: &[u8; 12]) -> Option<u64>
 }
 
 /// The number of the client that a live stateid names.
-pub(crate) fn state_client(state: &NfsState, core: &Core, stateid: &Stateid) -> Option<u32>
+pub fn state_client(state: &NfsState, core: &Core, stateid: &Stateid) -> Option<u32>
     ensures { result ≡ state_client core.now state.now stateid.now }
 {
     let number = number_of(core, &stateid.other)?;

@@ -45,7 +45,7 @@ fn handle_again(state: &NfsState, core: &Core, current: Option<u32>, bytes: &[u8
 }
 
 /// The result that is kept for the owner of this number is the answer.
-pub(crate) fn repeat(
+pub fn repeat(
     alloc: Global,
     state: &NfsState,
     core: &Core,

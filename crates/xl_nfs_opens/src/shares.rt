@@ -182,7 +182,7 @@ pub(crate) fn share_ask(
 }
 
 /// Asks the core for OPEN.
-pub(crate) fn asked<K: Keeper>(
+pub fn asked<K: Keeper>(
     alloc: Global,
     core: &mut Core,
     keeper: &mut K,

@@ -1,0 +1,55 @@
+-- LOCKU (RFC 7530 16.12).
+use Rattle.std.specs.Prelude.{ℕ, true, false, if◌then◌else◌, [], Option, Some, None}
+use Rattle.std.specs.List.{find}
+use Rattle.xl_nfs.specs.Outcomes.{is_ok}
+use Rattle.xl_nfs.specs.declared.locks.UnlockArgs.{UnlockArgs}
+use Rattle.xl_nfs.specs.declared.status.NfsStatus.{NfsStatus}
+use Rattle.xl_nfs.specs.declared.status.NfsStatus.TheVariants as statuses
+use Rattle.xl_nfs_state.specs.State.{NfsLists, is_kept}
+use Rattle.xl_nfs_state.specs.declared.owner.Turn.{Turn}
+use Rattle.xl_nfs_state.specs.declared.stateid.StateidRow.{StateidRow}
+use Rattle.xl_core.specs.State.{CoreState}
+use Rattle.xl_core.specs.declared.ask.Answer.{Answer}
+use Rattle.xl_core.specs.declared.ask.Answer.TheVariants as answers
+use Rattle.xl_nfs_locks.specs.Checks.{locks_found}
+use Rattle.xl_nfs_locks.specs.Ranges.{last_byte, unlock_ask}
+use Rattle.xl_nfs_opens.specs.Closing.{standing_fault, failed, done_lists, state_told, opener_by}
+use Rattle.xl_nfs_opens.specs.Opens.{all_rooms, answer_status, repeated}
+use Rattle.xl_nfs_opens.specs.Plans.{Plan, Does, Asking}
+use Rattle.xl_nfs_opens.specs.Renewing.{state_client, renewing}
+use Rattle.xl_nfs_opens.specs.declared.opener.Checked.{Checked}
+use Rattle.xl_nfs_opens.specs.declared.opener.Checked.TheVariants.{Refused, Repeated, Passed}
+use Rattle.xl_nfs_opens.specs.declared.opener.Opener.{Opener}
+use Rattle.xl_nfs_opens.specs.declared.told.Told.TheVariants.{Ended}
+
+-- bytes that aren't held are unlocked already
+abbrev pub unlock_status : Answer → NfsStatus
+unlock_status (answers.Granted c) = statuses.Ok
+unlock_status answers.NotHeld = statuses.Ok
+unlock_status answer = answer_status false answer
+
+abbrev pub unlocked_as : CoreState → NfsLists → Option ℕ → UnlockArgs → StateidRow → ℕ → Turn → NfsStatus → Plan
+unlocked_as s l current a r owner turn status =
+    if is_ok status then Does [] (done_lists s l r owner turn 14 a.seqid turn.confirmed None 0 0 false) current (state_told s r)
+    else failed l current owner turn 14 a.seqid status
+
+abbrev pub unlock_by_owner : NfsLists → Option ℕ → UnlockArgs → StateidRow → ℕ → Turn → ℕ → Option Opener → Plan
+unlock_by_owner l current a r owner turn last None = Does [] l current (Ended statuses.ServerFault)
+unlock_by_owner l current a r owner turn last (Some o) = Asking all_rooms (unlock_ask o r.file a.offset last) (λ answer t. unlocked_as t l current a r owner turn (unlock_status answer))
+
+abbrev pub unlock_to : NfsLists → Option ℕ → UnlockArgs → StateidRow → ℕ → Turn → Option ℕ → Plan
+unlock_to l current a r owner turn None = failed l current owner turn 14 a.seqid statuses.Inval
+unlock_to l current a r owner turn (Some last) = unlock_by_owner l current a r owner turn last (opener_by l r.client owner)
+
+abbrev pub unlock_standing : NfsLists → Option ℕ → UnlockArgs → StateidRow → ℕ → Turn → Option NfsStatus → Plan
+unlock_standing l current a r owner turn (Some status) = failed l current owner turn 14 a.seqid status
+unlock_standing l current a r owner turn None = unlock_to l current a r owner turn (last_byte a.offset a.len)
+
+abbrev pub unlock_found : CoreState → NfsLists → Option ℕ → UnlockArgs → Checked → Plan
+unlock_found s l current a (Refused status) = Does [] l current (Ended status)
+unlock_found s l current a (Repeated owner) = repeated s l current (find (is_kept owner) l.kept)
+unlock_found s l current a (Passed r owner turn) = unlock_standing l current a r owner turn (standing_fault r turn a.stateid.seqid true)
+
+-- the client is renewed before
+unfoldable pub unlock : CoreState → NfsLists → Option ℕ → UnlockArgs → Plan
+unlock s l current a = renewing s l (state_client s l a.stateid) (λ t m. unlock_found t m current a (locks_found t m current 14 a.seqid a.stateid))

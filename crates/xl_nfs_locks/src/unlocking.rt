@@ -1,0 +1,112 @@
+//! LOCKU (RFC 7530 16.12).
+ghost use Rattle.std.specs.Prelude.{◌≡◌, ◌≤◌, ℕ, false, Some, IsSome, IfOk};
+ghost use Rattle.std.specs.List.{find};
+ghost use Rattle.xl_core.specs.Asking.{IsFit};
+ghost use Rattle.xl_nfs.specs.Outcomes.{is_ok};
+ghost use Rattle.xl_nfs_state.specs.State.{is_owner, is_stateid};
+ghost use Rattle.xl_nfs_locks.specs.Ranges.{unlock_ask};
+ghost use Rattle.xl_nfs_locks.specs.Unlocks.{unlock_status, unlocked_as};
+ghost use Rattle.xl_nfs_opens.specs.Plans.{carried};
+ghost use Rattle.xl_nfs_opens.specs.Short.{IsNfsAsk};
+
+use std::alloc::{AllocError, Global};
+use xl_base::Sequence;
+use xl_core::{Act, Answer, Ask, Core, Who};
+use xl_matrix::Extent;
+use xl_names::Name;
+use xl_nfs::{NfsStatus, UnlockArgs, operation};
+use xl_nfs_opens::{Done, Opener, answer_status, fail, finish, next_turn};
+use xl_nfs_state::{NfsState, StateidRow, Turn};
+use xl_wait::Rooms;
+
+const NO_ROWS: Rooms = Rooms {
+    hosts: 0,
+    owners: 0,
+    opens: 0,
+};
+
+/// What is asked for LOCKU.
+#[tactic(auto, using(xl_nfs_opens::proofs::OwnerLaws::own_client))]
+fn unlock_ask(
+    alloc: Global,
+    owner: &Opener,
+    file: u32,
+    first: u64,
+    last: u64,
+) -> Result<Ask, AllocError>
+    requires ends { first ≤ last }
+    ensures value { IfOk result (λ ask. ask ≡ unlock_ask owner.now file first last) }
+    ensures fit { IfOk result (λ ask. IsFit ask) }
+    ensures nfs { IfOk result (λ ask. IsNfsAsk ask) }
+{
+    let id = Sequence::from_slice(alloc, owner.id.as_slice())?;
+    let client = Sequence::from_slice(alloc, owner.id.as_slice())?;
+    let bytes = Sequence::from_slice(alloc, owner.owner.as_slice())?;
+    Ok(Ask {
+        file,
+        owner: Who::Named(Name::NfsRange(id, bytes)),
+        party: Who::Named(Name::NfsParty(client)),
+        act: Act::Unlock(Extent::Bytes(first, last)),
+        wish: Sequence::new(alloc),
+        conn: None,
+        blocking: false,
+        reclaim: false,
+        monitored: false,
+        rows: NO_ROWS,
+    })
+}
+
+/// How the core's answer is told: bytes that aren't held are unlocked already.
+fn unlock_status(answer: Answer) -> NfsStatus
+    ensures { result ≡ unlock_status answer }
+{
+    match answer {
+        Answer::Granted(_) | Answer::NotHeld => NfsStatus::Ok,
+        _ => answer_status(false, answer),
+    }
+}
+
+/// Whether it is OK.
+fn is_ok(status: NfsStatus) -> bool
+    ensures { result ≡ is_ok status }
+{
+    matches!(status, NfsStatus::Ok)
+}
+
+/// LOCKU by the core's answer.
+#[tactic(auto, using(xl_nfs_opens::proofs::ResultLaws::fits_14))]
+fn unlocked_as(
+    alloc: Global,
+    state: &mut NfsState,
+    core: &Core,
+    current: Option<u32>,
+    args: &UnlockArgs,
+    row: &StateidRow,
+    owner: u64,
+    turn: Turn,
+    status: NfsStatus,
+) -> Result<Done, AllocError>
+    requires owner { IsSome (find (is_owner owner) state.old.owners) }
+    requires there { find (is_stateid row.now.number) state.old.stateids ≡ Some row.now }
+    requires open { row.now.standing.closed ≡ false }
+    ensures { (n : ℕ) → IfOk result (λ r. carried n core.now state.old current (unlocked_as core.now state.old current args.now row.now owner turn status) ≡ (r.0, r.1, r.2, state.new, core.now)) }
+{
+    let op = operation::LOCKU;
+    if !is_ok(status) {
+        let done = fail(alloc, state, current, owner, turn, op, args.seqid, status)?;
+        return Ok(done);
+    }
+    let next = next_turn(op, args.seqid, turn.confirmed, None);
+    let told = finish(
+        alloc,
+        state,
+        core,
+        row,
+        owner,
+        turn.closed,
+        op,
+        next,
+        (0, 0, false),
+    )?;
+    Ok((told, current, Sequence::new(alloc)))
+}
