@@ -1,21 +1,22 @@
 //! LOCKU (RFC 7530 16.12).
-ghost use Rattle.std.specs.Prelude.{◌≡◌, ◌≤◌, ℕ, false, Some, IsSome, IfOk};
+ghost use Rattle.std.specs.Prelude.{◌≡◌, ◌≤◌, ℕ, [], false, Some, IsSome, IfOk, OnOk};
 ghost use Rattle.std.specs.List.{find};
 ghost use Rattle.xl_core.specs.Asking.{IsFit};
+ghost use Rattle.xl_core.specs.State.{MayBe};
 ghost use Rattle.xl_nfs.specs.Outcomes.{is_ok};
 ghost use Rattle.xl_nfs_state.specs.State.{is_owner, is_stateid};
 ghost use Rattle.xl_nfs_locks.specs.Ranges.{unlock_ask};
-ghost use Rattle.xl_nfs_locks.specs.Unlocks.{unlock_status, unlocked_as};
+ghost use Rattle.xl_nfs_locks.specs.Unlocks.{unlock_by_owner, unlock_status, unlocked_as};
 ghost use Rattle.xl_nfs_opens.specs.Plans.{carried};
-ghost use Rattle.xl_nfs_opens.specs.Short.{IsNfsAsk};
+ghost use Rattle.xl_nfs_opens.specs.Short.{IsNfsAsk, IsReady, Leaves};
 
 use std::alloc::{AllocError, Global};
-use xl_base::Sequence;
+use xl_base::{Keeper, Sequence};
 use xl_core::{Act, Answer, Ask, Core, Who};
 use xl_matrix::Extent;
 use xl_names::Name;
 use xl_nfs::{NfsStatus, UnlockArgs, operation};
-use xl_nfs_opens::{Done, Opener, answer_status, fail, finish, next_turn};
+use xl_nfs_opens::{Done, Opener, Told, answer_status, asked, fail, finish, next_turn};
 use xl_nfs_state::{NfsState, StateidRow, Turn};
 use xl_wait::Rooms;
 
@@ -85,16 +86,16 @@ fn unlocked_as(
     owner: u64,
     turn: Turn,
     status: NfsStatus,
-) -> Result<Done, AllocError>
+) -> Result<(Told, Option<u32>), AllocError>
     requires owner { IsSome (find (is_owner owner) state.old.owners) }
     requires there { find (is_stateid row.now.number) state.old.stateids ≡ Some row.now }
     requires open { row.now.standing.closed ≡ false }
-    ensures { (n : ℕ) → IfOk result (λ r. carried n core.now state.old current (unlocked_as core.now state.old current args.now row.now owner turn status) ≡ (r.0, r.1, r.2, state.new, core.now)) }
+    ensures { (n : ℕ) → IfOk result (λ r. carried n core.now state.old current (unlocked_as core.now state.old current args.now row.now owner turn status) ≡ (r.0, r.1, [], state.new, core.now)) }
 {
     let op = operation::LOCKU;
     if !is_ok(status) {
         let done = fail(alloc, state, current, owner, turn, op, args.seqid, status)?;
-        return Ok(done);
+        return Ok((done.0, done.1));
     }
     let next = next_turn(op, args.seqid, turn.confirmed, None);
     let told = finish(
@@ -108,5 +109,35 @@ fn unlocked_as(
         next,
         (0, 0, false),
     )?;
-    Ok((told, current, Sequence::new(alloc)))
+    Ok((told, current))
+}
+
+/// LOCKU of bytes by the lock owner: the core is asked.
+fn unlock_bytes<K: Keeper>(
+    alloc: Global,
+    state: &mut NfsState,
+    core: &mut Core,
+    keeper: &mut K,
+    current: Option<u32>,
+    args: &UnlockArgs,
+    row: &StateidRow,
+    owner: u64,
+    turn: Turn,
+    last: u64,
+    by: &Opener,
+) -> Result<Done, AllocError>
+    requires ready { IsReady 2 core.old }
+    requires owner { IsSome (find (is_owner owner) state.old.owners) }
+    requires there { find (is_stateid row.now.number) state.old.stateids ≡ Some row.now }
+    requires open { row.now.standing.closed ≡ false }
+    requires ends { args.now.offset ≤ last }
+    ensures done { (n : ℕ) → IfOk result (λ r. MayBe n core.new → carried n core.old state.old current (unlock_by_owner state.old current args.now row.now owner turn last (Some by.now)) ≡ (r.0, r.1, r.2, state.new, core.new)) }
+    ensures leaves { OnOk result (Leaves 2 core.old core.new) }
+    ensures keeper { keeper.new ≡ keeper.old }
+{
+    let request = unlock_ask(alloc, by, row.file, args.offset, last)?;
+    let (said, effects) = asked(alloc, core, keeper, &request)?;
+    let status = unlock_status(said);
+    let (told, handle) = unlocked_as(alloc, state, core, current, args, row, owner, turn, status)?;
+    Ok((told, handle, effects))
 }
