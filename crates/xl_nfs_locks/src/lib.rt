@@ -7,3 +7,4 @@ mod releasing;
 mod unlocking;
 
 pub use releasing::release;
+pub use unlocking::unlock;

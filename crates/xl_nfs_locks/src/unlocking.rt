@@ -1,22 +1,28 @@
 //! LOCKU (RFC 7530 16.12).
-ghost use Rattle.std.specs.Prelude.{◌≡◌, ◌≤◌, ℕ, [], false, Some, IsSome, IfOk, OnOk};
+ghost use Rattle.std.specs.Prelude.{◌≡◌, ◌≤◌, ℕ, [], false, true, Some, IsSome, IfOk, OnOk};
 ghost use Rattle.std.specs.List.{find};
 ghost use Rattle.xl_core.specs.Asking.{IsFit};
 ghost use Rattle.xl_core.specs.State.{MayBe};
 ghost use Rattle.xl_nfs.specs.Outcomes.{is_ok};
 ghost use Rattle.xl_nfs_state.specs.State.{is_owner, is_stateid};
-ghost use Rattle.xl_nfs_locks.specs.Ranges.{unlock_ask};
-ghost use Rattle.xl_nfs_locks.specs.Unlocks.{unlock_by_owner, unlock_status, unlocked_as};
+ghost use Rattle.xl_nfs_locks.specs.Ranges.{last_byte, unlock_ask};
+ghost use Rattle.xl_nfs_locks.specs.Unlocks.{unlock, unlock_by_owner, unlock_found, unlock_standing, unlock_status, unlock_to, unlocked_as};
+ghost use Rattle.xl_nfs_opens.specs.Closing.{standing_fault, IsChecked};
 ghost use Rattle.xl_nfs_opens.specs.Plans.{carried};
 ghost use Rattle.xl_nfs_opens.specs.Short.{IsNfsAsk, IsReady, Leaves};
 
+use crate::checking::find_locks;
+use crate::ranges::last_byte;
 use std::alloc::{AllocError, Global};
 use xl_base::{Keeper, Sequence};
 use xl_core::{Act, Answer, Ask, Core, Who};
 use xl_matrix::Extent;
 use xl_names::Name;
 use xl_nfs::{NfsStatus, UnlockArgs, operation};
-use xl_nfs_opens::{Done, Opener, Told, answer_status, asked, fail, finish, next_turn};
+use xl_nfs_opens::{
+    Checked, Done, Opener, Told, answer_status, asked, ended_as, fail, finish, next_turn,
+    opener_by, renew_for, repeat, standing_fault, state_client,
+};
 use xl_nfs_state::{NfsState, StateidRow, Turn};
 use xl_wait::Rooms;
 
@@ -140,4 +146,124 @@ fn unlock_bytes<K: Keeper>(
     let status = unlock_status(said);
     let (told, handle) = unlocked_as(alloc, state, core, current, args, row, owner, turn, status)?;
     Ok((told, handle, effects))
+}
+
+/// LOCKU of a range, by a stateid that is as it should be.
+#[tactic(auto, using(xl_nfs_opens::proofs::ResultLaws::fits_14, xl_nfs_opens::proofs::LeaveLaws::leaves_self, xl_nfs_opens::proofs::LeaveLaws::leaves_more))]
+fn unlock_to<K: Keeper>(
+    alloc: Global,
+    state: &mut NfsState,
+    core: &mut Core,
+    keeper: &mut K,
+    current: Option<u32>,
+    args: &UnlockArgs,
+    row: &StateidRow,
+    owner: u64,
+    turn: Turn,
+) -> Result<Done, AllocError>
+    requires ready { IsReady 2 core.old }
+    requires owner { IsSome (find (is_owner owner) state.old.owners) }
+    requires there { find (is_stateid row.now.number) state.old.stateids ≡ Some row.now }
+    requires open { row.now.standing.closed ≡ false }
+    ensures done { (n : ℕ) → IfOk result (λ r. MayBe n core.new → carried n core.old state.old current (unlock_to state.old current args.now row.now owner turn (last_byte args.now.offset args.now.len)) ≡ (r.0, r.1, r.2, state.new, core.new)) }
+    ensures leaves { OnOk result (Leaves 2 core.old core.new) }
+    ensures keeper { keeper.new ≡ keeper.old }
+{
+    let Some(last) = last_byte(args.offset, args.len) else {
+        let op = operation::LOCKU;
+        let status = NfsStatus::Inval;
+        let done = fail(alloc, state, current, owner, turn, op, args.seqid, status)?;
+        return Ok(done);
+    };
+    let Some(by) = opener_by(alloc, state, row.client, owner)? else {
+        return Ok(ended_as(alloc, NfsStatus::ServerFault, current));
+    };
+    let done = unlock_bytes(
+        alloc, state, core, keeper, current, args, row, owner, turn, last, &by,
+    )?;
+    Ok(done)
+}
+
+/// LOCKU by a stateid that was found.
+#[tactic(auto, using(xl_nfs_opens::proofs::ResultLaws::fits_14, xl_nfs_opens::proofs::LeaveLaws::leaves_self, xl_nfs_opens::proofs::LeaveLaws::leaves_more))]
+fn unlock_passed<K: Keeper>(
+    alloc: Global,
+    state: &mut NfsState,
+    core: &mut Core,
+    keeper: &mut K,
+    current: Option<u32>,
+    args: &UnlockArgs,
+    row: &StateidRow,
+    owner: u64,
+    turn: Turn,
+) -> Result<Done, AllocError>
+    requires ready { IsReady 2 core.old }
+    requires owner { IsSome (find (is_owner owner) state.old.owners) }
+    requires there { find (is_stateid row.now.number) state.old.stateids ≡ Some row.now }
+    requires open { row.now.standing.closed ≡ false }
+    ensures done { (n : ℕ) → IfOk result (λ r. MayBe n core.new → carried n core.old state.old current (unlock_standing state.old current args.now row.now owner turn (standing_fault row.now turn args.now.stateid.seqid true)) ≡ (r.0, r.1, r.2, state.new, core.new)) }
+    ensures leaves { OnOk result (Leaves 2 core.old core.new) }
+    ensures keeper { keeper.new ≡ keeper.old }
+{
+    if let Some(status) = standing_fault(row, turn, args.stateid.seqid, true) {
+        let op = operation::LOCKU;
+        let done = fail(alloc, state, current, owner, turn, op, args.seqid, status)?;
+        return Ok(done);
+    }
+    let done = unlock_to(alloc, state, core, keeper, current, args, row, owner, turn)?;
+    Ok(done)
+}
+
+/// LOCKU by what is found for its stateid.
+#[tactic(auto, using(xl_nfs_opens::proofs::LeaveLaws::leaves_self, xl_nfs_opens::proofs::LeaveLaws::leaves_more))]
+fn unlock_found<K: Keeper>(
+    alloc: Global,
+    state: &mut NfsState,
+    core: &mut Core,
+    keeper: &mut K,
+    current: Option<u32>,
+    args: &UnlockArgs,
+    found: Checked,
+) -> Result<Done, AllocError>
+    requires ready { IsReady 2 core.old }
+    requires found { IsChecked state.old found }
+    ensures done { (n : ℕ) → IfOk result (λ r. MayBe n core.new → carried n core.old state.old current (unlock_found core.old state.old current args.now found) ≡ (r.0, r.1, r.2, state.new, core.new)) }
+    ensures leaves { OnOk result (Leaves 2 core.old core.new) }
+    ensures keeper { keeper.new ≡ keeper.old }
+{
+    match found {
+        Checked::Refused(status) => Ok(ended_as(alloc, status, current)),
+        Checked::Repeated(owner) => {
+            let done = repeat(alloc, state, core, current, owner)?;
+            Ok(done)
+        }
+        Checked::Passed(row, owner, turn) => unlock_passed(
+            alloc, state, core, keeper, current, args, &row, owner, turn,
+        ),
+    }
+}
+
+/// LOCKU: the bytes of the range are no longer the lock owner's, held or not. INVAL for a range of no bytes or past the last
+/// one; BAD_STATEID, OLD_STATEID, STALE_STATEID and BAD_SEQID by the lock's stateid; RESOURCE where what is left of a lock
+/// that is cut has no room.
+#[tactic(auto, unfolding(crate::specs::Unlocks::unlock), using(crate::proofs::FoundLaws::locks_there, xl_nfs_opens::proofs::LeaveLaws::leaves_then, xl_nfs_opens::proofs::LeaveLaws::ready_then))]
+pub fn unlock<K: Keeper>(
+    alloc: Global,
+    state: &mut NfsState,
+    core: &mut Core,
+    keeper: &mut K,
+    current: Option<u32>,
+    args: &UnlockArgs,
+) -> Result<Done, AllocError>
+    requires ready { IsReady 2 core.old }
+    ensures done { (n : ℕ) → IfOk result (λ r. MayBe n core.new → carried n core.old state.old current (unlock core.old state.old current args.now) ≡ (r.0, r.1, r.2, state.new, core.new)) }
+    ensures leaves { OnOk result (Leaves 2 core.old core.new) }
+    ensures keeper { keeper.new ≡ keeper.old }
+{
+    let client = state_client(state, core, &args.stateid);
+    renew_for(alloc, state, core, client)?;
+    let op = operation::LOCKU;
+    let found = find_locks(state, core, current, op, args.seqid, &args.stateid);
+    let done = unlock_found(alloc, state, core, keeper, current, args, found)?;
+    Ok(done)
 }

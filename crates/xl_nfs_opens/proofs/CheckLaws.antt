@@ -32,7 +32,7 @@ seqid_there l r owner turn verdicts.Next found there = next_there l r owner turn
 seqid_there l r owner turn verdicts.New found there = tt
 seqid_there l r owner turn (verdicts.Bad last) found there = tt
 
-owner_there : (l : NfsLists) (r : StateidRow) (op seqid owner : ℕ) (o : Option OwnerRow) → find (is_stateid r.number) l.stateids ≡ Some r → find (is_owner owner) l.owners ≡ o → IsChecked l (owner_checked r op seqid owner o)
+pub owner_there : (l : NfsLists) (r : StateidRow) (op seqid owner : ℕ) (o : Option OwnerRow) → find (is_stateid r.number) l.stateids ≡ Some r → find (is_owner owner) l.owners ≡ o → IsChecked l (owner_checked r op seqid owner o)
 owner_there l r op seqid owner None found e = tt
 owner_there l r op seqid owner (Some o) found e = seqid_there l r owner o.turn (verdict (Some o.turn) op seqid) found (ap is_some e)
 
