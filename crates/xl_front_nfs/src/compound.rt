@@ -1,8 +1,9 @@
 //! A COMPOUND (RFC 7530 14.2): its operations in a row, up to the first that fails.
-ghost use Rattle.std.specs.Prelude.{◌≡◌, ℕ, ◌+◌, ◌*◌, ◌<◌, ◌≤◌, ◌++◌, List, false, length, if◌then◌else◌, IfOk, OnOk};
+ghost use Rattle.std.specs.Prelude.{◌≡◌, ℕ, ◌+◌, ◌*◌, ◌<◌, ◌≤◌, ◌++◌, List, false, true, length, if◌then◌else◌, IfOk, OnOk};
 ghost use Rattle.xl_nfs.specs.Ops.{shown_op, OpFits};
 ghost use Rattle.xl_nfs.specs.Outcomes.{is_ok};
 ghost use Rattle.xl_nfs.specs.declared.status.NfsStatus.TheVariants.{BadXdr, NotSupp};
+ghost use Rattle.xl_nfs_state.specs.Bytes.{most_result_bytes};
 ghost use Rattle.xl_nfs_state.specs.State.{NfsLists};
 ghost use Rattle.xl_rpc.specs.Xdr.{unsigned_at};
 ghost use Rattle.xl_core.specs.Rows.{all_ran};
@@ -54,11 +55,13 @@ fn push_all(effects: &mut Sequence<Effect>, more: Sequence<Effect>) -> Result<()
 }
 
 /// An operation more, of this number, came to this; whether others are done behind it.
+#[tactic(auto, using(xl_nfs_opens::proofs::HeldLaws::most_most, xl_nfs_opens::proofs::HeldLaws::short_told))]
 fn note(progress: &mut Progress, number: u32, done: Done) -> Result<bool, AllocError>
     requires fits { ToldFits number done.0 }
     requires few { progress.old.count < 64 }
     ensures noted { (old lists : NfsLists) (core : CoreState) → IfOk result (λ more. noted (course_of old progress.old) number (done.0, done.1, done.2, lists, core) ≡ (more, course_of lists progress.new, core)) }
-    ensures little { OnOk result (length progress.new.results ≤ length progress.old.results + 56) }
+    ensures little { OnOk result (length progress.new.results ≤ length progress.old.results + most_result_bytes) }
+    ensures short { IfOk result (λ more. more ≡ true → length progress.new.results ≤ length progress.old.results + 56) }
     ensures count { OnOk result (progress.new.count ≡ progress.old.count + 1) }
 {
     let (told, current, effects) = done;
@@ -86,7 +89,8 @@ fn do_op<K: Keeper>(
     requires few { progress.old.count < 64 }
     ensures done { (n : ℕ) → IfOk result (λ more. MayBe n core.new → ran files.now others n (course_of state.old progress.old) core.old (Runs (shown_op op.now)) ≡ (more, course_of state.new progress.new, core.new)) }
     ensures leaves { OnOk result (Leaves 2 core.old core.new) }
-    ensures little { OnOk result (length progress.new.results ≤ length progress.old.results + 56) }
+    ensures little { OnOk result (length progress.new.results ≤ length progress.old.results + most_result_bytes) }
+    ensures short { IfOk result (λ more. more ≡ true → length progress.new.results ≤ length progress.old.results + 56) }
     ensures count { OnOk result (progress.new.count ≡ progress.old.count + 1) }
     ensures keeper { keeper.new ≡ keeper.old }
 {
@@ -140,7 +144,7 @@ fn unread_status(number: u32) -> NfsStatus
 fn refuse(alloc: Global, progress: &mut Progress, number: u32) -> Result<(), AllocError>
     requires few { progress.old.count < 64 }
     ensures done { (n : ℕ) (files : List (List ℕ)) (others : ℕ) (lists : NfsLists) (core : CoreState) → OnOk result (ran files others n (course_of lists progress.old) core (Garbled number) ≡ (false, course_of lists progress.new, core)) }
-    ensures little { OnOk result (length progress.new.results ≤ length progress.old.results + 56) }
+    ensures little { OnOk result (length progress.new.results ≤ length progress.old.results + most_result_bytes) }
 {
     let status = unread_status(number);
     let done = (Told::Ended(status), progress.current, Sequence::new(alloc));
@@ -153,7 +157,7 @@ fn refuse(alloc: Global, progress: &mut Progress, number: u32) -> Result<(), All
 fn refuse_rest(alloc: Global, progress: &mut Progress, rest: &Xdr) -> Result<(), AllocError>
     requires few { progress.old.count < 64 }
     ensures done { (n : ℕ) (files : List (List ℕ)) (others : ℕ) (lists : NfsLists) (core : CoreState) → OnOk result (ran files others n (course_of lists progress.old) core (fault_of (unsigned_at rest.now.rest.now)) ≡ (false, course_of lists progress.new, core)) }
-    ensures little { OnOk result (length progress.new.results ≤ length progress.old.results + 56) }
+    ensures little { OnOk result (length progress.new.results ≤ length progress.old.results + most_result_bytes) }
 {
     let mut at = *rest;
     match at.u32() {
@@ -181,7 +185,7 @@ pub(crate) fn run_ops<K: Keeper>(
     ensures course { (n : ℕ) → OnOk result (MayBe n core.new → (all_ran (ran files.now others) n (course_of state.old progress.old) core.old (steps_in count args.now.rest.now)).1 ≡ course_of state.new progress.new) }
     ensures core { (n : ℕ) → OnOk result (MayBe n core.new → (all_ran (ran files.now others) n (course_of state.old progress.old) core.old (steps_in count args.now.rest.now)).2 ≡ core.new) }
     ensures leaves { OnOk result (Leaves (2 * count) core.old core.new) }
-    ensures little { OnOk result (length progress.new.results ≤ length progress.old.results + 56 * count) }
+    ensures little { OnOk result (length progress.new.results ≤ length progress.old.results + 56 * count + most_result_bytes) }
     ensures keeper { keeper.new ≡ keeper.old }
 {
     if count == 0 {

@@ -56,7 +56,7 @@ fn compound_reply(
     results: &XdrOut,
 ) -> Result<Vec<u8>, AllocError>
     requires tag { length tag.now ≤ 1024 }
-    requires few { length results.now ≤ 3584 }
+    requires few { length results.now ≤ 4648 }
     ensures reply { IfOk result (λ v. v.items ≡ reply xid Success ++ compound_results tag.now status count results.now) }
     ensures little { IfOk result (λ v. length v.items ≤ 65536) }
 {

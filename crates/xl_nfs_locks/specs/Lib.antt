@@ -2,3 +2,6 @@ pub mod Ranges
 pub mod Checks
 pub mod Releases
 pub mod Unlocks
+pub mod Denials
+pub mod Tests
+pub mod Locks

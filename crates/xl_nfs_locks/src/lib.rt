@@ -1,10 +1,16 @@
 //! Byte-range locks of NFS version 4.0 (RFC 7530 16.10 to 16.12, 16.37) over the core.
 #![tactic(auto)]
 
+mod asks;
 mod checking;
+mod denials;
+mod locking;
 mod ranges;
 mod releasing;
+mod testing;
 mod unlocking;
 
+pub use locking::lock_known;
 pub use releasing::release;
+pub use testing::lock_test;
 pub use unlocking::unlock;

@@ -37,3 +37,14 @@ pub(crate) fn is_exclusive(kind: LockType) -> bool
 {
     matches!(kind, LockType::Write | LockType::WriteWaiting)
 }
+
+/// Whether an open of this access has locks of this type.
+pub(crate) fn may_lock(kind: LockType, access: u32) -> bool
+    ensures { result ≡ may_lock kind access }
+{
+    if is_exclusive(kind) {
+        access == 2 || access == 3
+    } else {
+        access == 1 || access == 3
+    }
+}

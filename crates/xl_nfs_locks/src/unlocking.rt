@@ -1,67 +1,27 @@
 //! LOCKU (RFC 7530 16.12).
 ghost use Rattle.std.specs.Prelude.{◌≡◌, ◌≤◌, ℕ, [], false, true, Some, IsSome, IfOk, OnOk};
 ghost use Rattle.std.specs.List.{find};
-ghost use Rattle.xl_core.specs.Asking.{IsFit};
 ghost use Rattle.xl_core.specs.State.{MayBe};
 ghost use Rattle.xl_nfs.specs.Outcomes.{is_ok};
 ghost use Rattle.xl_nfs_state.specs.State.{is_owner, is_stateid};
-ghost use Rattle.xl_nfs_locks.specs.Ranges.{last_byte, unlock_ask};
+ghost use Rattle.xl_nfs_locks.specs.Ranges.{last_byte};
 ghost use Rattle.xl_nfs_locks.specs.Unlocks.{unlock, unlock_by_owner, unlock_found, unlock_standing, unlock_status, unlock_to, unlocked_as};
 ghost use Rattle.xl_nfs_opens.specs.Closing.{standing_fault, IsChecked};
 ghost use Rattle.xl_nfs_opens.specs.Plans.{carried};
-ghost use Rattle.xl_nfs_opens.specs.Short.{IsNfsAsk, IsReady, Leaves};
+ghost use Rattle.xl_nfs_opens.specs.Short.{IsReady, Leaves};
 
+use crate::asks::unlock_ask;
 use crate::checking::find_locks;
 use crate::ranges::last_byte;
 use std::alloc::{AllocError, Global};
-use xl_base::{Keeper, Sequence};
-use xl_core::{Act, Answer, Ask, Core, Who};
-use xl_matrix::Extent;
-use xl_names::Name;
+use xl_base::Keeper;
+use xl_core::{Answer, Core};
 use xl_nfs::{NfsStatus, UnlockArgs, operation};
 use xl_nfs_opens::{
     Checked, Done, Opener, Told, answer_status, asked, ended_as, fail, finish, next_turn,
     opener_by, renew_for, repeat, standing_fault, state_client,
 };
 use xl_nfs_state::{NfsState, StateidRow, Turn};
-use xl_wait::Rooms;
-
-const NO_ROWS: Rooms = Rooms {
-    hosts: 0,
-    owners: 0,
-    opens: 0,
-};
-
-/// What is asked for LOCKU.
-#[tactic(auto, using(xl_nfs_opens::proofs::OwnerLaws::own_client))]
-fn unlock_ask(
-    alloc: Global,
-    owner: &Opener,
-    file: u32,
-    first: u64,
-    last: u64,
-) -> Result<Ask, AllocError>
-    requires ends { first ≤ last }
-    ensures value { IfOk result (λ ask. ask ≡ unlock_ask owner.now file first last) }
-    ensures fit { IfOk result (λ ask. IsFit ask) }
-    ensures nfs { IfOk result (λ ask. IsNfsAsk ask) }
-{
-    let id = Sequence::from_slice(alloc, owner.id.as_slice())?;
-    let client = Sequence::from_slice(alloc, owner.id.as_slice())?;
-    let bytes = Sequence::from_slice(alloc, owner.owner.as_slice())?;
-    Ok(Ask {
-        file,
-        owner: Who::Named(Name::NfsRange(id, bytes)),
-        party: Who::Named(Name::NfsParty(client)),
-        act: Act::Unlock(Extent::Bytes(first, last)),
-        wish: Sequence::new(alloc),
-        conn: None,
-        blocking: false,
-        reclaim: false,
-        monitored: false,
-        rows: NO_ROWS,
-    })
-}
 
 /// How the core's answer is told: bytes that aren't held are unlocked already.
 fn unlock_status(answer: Answer) -> NfsStatus

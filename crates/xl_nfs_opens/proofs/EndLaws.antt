@@ -38,7 +38,7 @@ use Rattle.xl_nfs_opens.specs.Closing.{seqid_checked, owner_checked, holder_chec
 use Rattle.xl_nfs_opens.specs.Downgrades.{range_fault, first_fault, downgrade_fault, downgrade_done, downgrade_by, open_downgrade}
 use Rattle.xl_nfs_opens.specs.Opens.{check_claim, check_bits, check_how, found_name, named_file, by_delegation, file_of_claim, or_else, opened_file, judged, handle_by, handle_again, repeated, reclaims, open_held, has_room, granted_by, is_granted, answer_status, answered, open_on, open_by, open_as, open_judged, opener_of, open_of, client_in, open_at, open_claimed, open_file}
 use Rattle.xl_nfs_opens.specs.Renewing.{number_of, state_client, renewed_for}
-use Rattle.xl_nfs_opens.specs.Seqids.{read_status, kept_status}
+use Rattle.xl_nfs_opens.specs.Seqids.{read_status, kept_status, is_short}
 use Rattle.xl_nfs_opens.specs.declared.opener.Checked.{Checked}
 use Rattle.xl_nfs_opens.specs.declared.opener.Checked.TheVariants.{Refused, Repeated, Passed}
 use Rattle.xl_nfs_opens.specs.declared.opener.Judged.{Judged}
@@ -81,11 +81,15 @@ again s l current read e = refl
 repeat_ends : (number : ℕ) → number < 2 ^ 32 → (s : CoreState) (l : NfsLists) (current : Option ℕ) (o : Option KeptRow) → Ends number current (repeated s l current o)
 unfolding handle_again kept_status
 repeat_ends number le s l current None = ended number le current statuses.BadSeqid (fault statuses.BadSeqid refl refl)
-repeat_ends number le s l current (Some k) = (tt, λ e. again s l current (nfs_result.at k.result) e)
+repeat_ends number le s l current (Some k) =
+    elim (cases_Bool (is_short k.result)) [
+      | inl short ↦ rw short (tt, λ e. again s l current (nfs_result.at k.result) e)
+      | inr long ↦ rw long (tt, λ e. refl)
+    ]
 
 -- ---- the checks of OPEN
 
-abbrev IfFault : Option NfsStatus → Type 0
+abbrev pub IfFault : Option NfsStatus → Type 0
 IfFault None = Unit {0}
 IfFault (Some status) = IsFault status
 
@@ -263,7 +267,7 @@ unfolding checked
 checked_fault s l None op seqid stateid = fault statuses.NoFileHandle refl refl
 checked_fault s l (Some at) op seqid stateid = number_fault l at op seqid (number_of s stateid.other)
 
-standing_is_fault : (r : StateidRow) (turn : Turn) (seqid : ℕ) (confirmed : Bool) → IfFault (standing_fault r turn seqid confirmed)
+pub standing_is_fault : (r : StateidRow) (turn : Turn) (seqid : ℕ) (confirmed : Bool) → IfFault (standing_fault r turn seqid confirmed)
 unfolding standing_fault
 standing_is_fault r turn seqid confirmed =
     elim (cases_Bool (nat_lt seqid r.standing.seqid)) [

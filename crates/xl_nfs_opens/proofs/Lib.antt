@@ -1,6 +1,7 @@
 pub mod OwnerLaws
 pub mod LeaveLaws
 pub mod ResultLaws
+pub mod HeldLaws
 pub mod CheckLaws
 pub mod BehindLaws
 pub mod EndLaws

@@ -438,9 +438,6 @@ open_grown old new r s flags e same is = grown old new r (OpenAnswer (Ok (open_r
 pub state_grown : (old new : List ℕ) (r : ResultItem) (number : ℕ) (s : Stateid) → length s.other ≡ 12 → r ≡ state_as number s → new ≡ old ++ nfs_result.spell r → length new ≤ length old + 56
 state_grown old new r number s e same is = grown old new r (state_as number s) same is (omega (arith, state_little number s e))
 
-pub bytes_grown : (old new bytes kept : List ℕ) → kept ≡ bytes → length bytes ≤ 56 → new ≡ old ++ kept → length new ≤ length old + 56
-bytes_grown old new bytes kept same few is = subst (λ (x : List ℕ). length x ≤ length old + 56) (sym (is ∙ ap (λ (k : List ℕ). old ++ k) same)) (omega (arith, length-append old bytes, few))
-
 -- what stands behind bytes is cut off
 front_of : (xs ys : List ℕ) → take (length xs) (xs ++ ys) ≡ xs
 front_of [] ys = refl

@@ -45,7 +45,7 @@ use Rattle.xl_nfs_opens.specs.Files.{file_named}
 use Rattle.xl_nfs_opens.specs.Plans.{Plan, Does, Behind, Asking}
 use Rattle.xl_nfs_opens.specs.Renewing.{stateid_of, number_of as number_in_other, state_client, renewing}
 use Rattle.xl_nfs_opens.specs.Results.{spelled}
-use Rattle.xl_nfs_opens.specs.Seqids.{advances, is_opener, is_room_for, opener_number, seated, kept_for, remembered}
+use Rattle.xl_nfs_opens.specs.Seqids.{advances, is_short, is_opener, is_room_for, opener_number, seated, kept_for, remembered}
 use Rattle.xl_nfs_opens.specs.declared.opener.Judged.{Judged}
 use Rattle.xl_nfs_opens.specs.declared.opener.Judged.TheVariants as judgements
 use Rattle.xl_nfs_opens.specs.declared.opener.Opener.{Opener}
@@ -143,9 +143,10 @@ abbrev pub handle_by : {F : Type 0} → CoreState → NfsLists → Option ℕ �
 handle_by s l current (Ok (OpenAnswer (Ok r), rest)) = opened_by l current (number_in_other s r.stateid.other)
 handle_by s l current read = current
 
--- an OPEN that was OK makes its file the current one, also when it comes again
+-- an OPEN that was OK makes its file the current one, also when it comes again; a longer result is that of a lock that was
+-- denied
 unfoldable pub handle_again : CoreState → NfsLists → Option ℕ → List ℕ → Option ℕ
-handle_again s l current bytes = handle_by s l current (nfs_result.at bytes)
+handle_again s l current bytes = if is_short bytes then handle_by s l current (nfs_result.at bytes) else current
 
 -- the kept result is the answer, and nothing changes
 abbrev pub repeated : CoreState → NfsLists → Option ℕ → Option KeptRow → Plan

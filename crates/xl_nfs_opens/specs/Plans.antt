@@ -12,7 +12,7 @@ use Rattle.xl_core.specs.declared.ask.Ask.{Ask}
 use Rattle.xl_core.specs.declared.ask.Effect.{Effect}
 use Rattle.xl_nfs_opens.specs.Seqids.{kept_status}
 use Rattle.xl_nfs_opens.specs.declared.told.Told.{Told}
-use Rattle.xl_nfs_opens.specs.declared.told.Told.TheVariants.{Ended, Handle, Client, Opened, State, Kept}
+use Rattle.xl_nfs_opens.specs.declared.told.Told.TheVariants.{Ended, Handle, Client, Opened, State, Free, Denied, Kept}
 
 -- it fails so, and nothing is done; or these deeds are done to the core, these lists are kept, this is the current handle
 -- then, and this is told; or these deeds are done and these lists are kept, and the rest is by the core that is left; or
@@ -52,4 +52,6 @@ status_of (Handle file) = statuses.Ok
 status_of (Client confirm) = statuses.Ok
 status_of (Opened stateid flags) = statuses.Ok
 status_of (State stateid) = statuses.Ok
+status_of Free = statuses.Ok
+status_of (Denied held) = statuses.Denied
 status_of (Kept bytes) = kept_status bytes

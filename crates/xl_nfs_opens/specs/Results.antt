@@ -3,14 +3,16 @@ use Rattle.std.specs.Prelude.{ℕ, true, ◌==◌, if◌then◌else◌, List, []
 use Rattle.xl_base.specs.Handles.{handle}
 use Rattle.xl_nfs.specs.Opened.{OpenResultItem, NoDelegation}
 use Rattle.xl_nfs.specs.Ops.{is_numbered}
-use Rattle.xl_nfs.specs.Outcomes.{OtherFault}
+use Rattle.xl_nfs.specs.Locks.{DeniedItem}
+use Rattle.xl_nfs.specs.Outcomes.{DeniedBy, OtherFault}
 use Rattle.xl_nfs.specs.Results.{ResultItem, CloseAnswer, DelegReturnAnswer, GetFhAnswer, LockAnswer, LockTAnswer, LockUAnswer, LookupAnswer, OpenAnswer, OpenConfirmAnswer, OpenDowngradeAnswer, PutFhAnswer, PutRootFhAnswer, RenewAnswer, SetClientIdAnswer, SetClientIdConfirmAnswer, ReleaseLockOwnerAnswer, NotSupportedAnswer, IllegalAnswer, ResultFits, nfs_result}
 use Rattle.xl_nfs.specs.Statuses.{status_number}
 use Rattle.xl_nfs.specs.declared.basics.Stateid.{Stateid}
 use Rattle.xl_nfs.specs.declared.status.NfsStatus.{NfsStatus}
 use Rattle.xl_rpc.specs.Xdr.{unsigned, opaque}
+use Rattle.xl_nfs_opens.specs.declared.told.HeldLock.{HeldLock}
 use Rattle.xl_nfs_opens.specs.declared.told.Told.{Told}
-use Rattle.xl_nfs_opens.specs.declared.told.Told.TheVariants.{Ended, Handle, Client, Opened, State, Kept}
+use Rattle.xl_nfs_opens.specs.declared.told.Told.TheVariants.{Ended, Handle, Client, Opened, State, Free, Denied, Kept}
 
 -- the operation of this number ended so; the result of a number of no operation has a number of its own
 unfoldable pub ended_as : ℕ → NfsStatus → ResultItem
@@ -39,6 +41,13 @@ open_result_of stateid flags = record {
   delegation = NoDelegation;
 }
 
+-- the operation of this number is denied by this lock (LOCK4denied)
+abbrev pub denied_item : HeldLock → DeniedItem
+denied_item h = record { offset = h.offset; len = h.len; kind = h.kind; owner = record { clientid = h.clientid; owner = h.owner } }
+
+abbrev pub denied_as : ℕ → HeldLock → ResultItem
+denied_as number h = if number == 13 then LockTAnswer (Err (DeniedBy (denied_item h))) else LockAnswer (Err (DeniedBy (denied_item h)))
+
 -- what an operation told, as its result is spelled
 abbrev pub spelled : ℕ → Told → List ℕ
 spelled number (Ended status) = nfs_result.spell (ended_as number status)
@@ -46,6 +55,8 @@ spelled number (Handle file) = nfs_result.spell (GetFhAnswer (Ok (handle file)))
 spelled number (Client confirm) = nfs_result.spell (SetClientIdAnswer (Ok confirm))
 spelled number (Opened stateid flags) = nfs_result.spell (OpenAnswer (Ok (open_result_of stateid flags)))
 spelled number (State stateid) = nfs_result.spell (state_as number stateid)
+spelled number Free = nfs_result.spell (LockTAnswer (Ok tt))
+spelled number (Denied held) = nfs_result.spell (denied_as number held)
 spelled number (Kept bytes) = bytes
 
 -- its result has a spelling

@@ -1,9 +1,11 @@
 -- Owners, the seqids of their requests, and the results that are kept for these (RFC 7530 9.1.7, 9.1.8).
-use Rattle.std.specs.Prelude.{ℕ, Bool, true, false, ◌||◌, if◌then◌else◌, List, [], ◌∷◌, ◌++◌, Option, Some, None, is_some, Result, Ok, Err}
+use Rattle.std.specs.Prelude.{ℕ, Bool, true, false, ◌||◌, if◌then◌else◌, List, [], ◌∷◌, ◌++◌, length, nat_le, Option, Some, None, is_some, Result, Ok, Err}
 use Rattle.std.specs.List.{find}
 use Rattle.xl_nfs.specs.Results.{ResultItem, result_status, nfs_result}
 use Rattle.xl_nfs.specs.declared.status.NfsStatus.{NfsStatus}
 use Rattle.xl_nfs.specs.declared.status.NfsStatus.TheVariants as statuses
+use Rattle.xl_nfs.specs.Outcomes.{is_ok}
+use Rattle.xl_nfs_state.specs.Bytes.{most_result_bytes}
 use Rattle.xl_nfs_state.specs.Filed.{changed}
 use Rattle.xl_nfs_state.specs.Rows.{with_turn, with_result}
 use Rattle.xl_nfs_state.specs.State.{NfsLists, with_owners, with_stateids, with_kept, without, is_owner, is_owner_named, is_kept, is_whose, next_owner}
@@ -92,6 +94,18 @@ abbrev pub read_status : {F : Type 0} → Result (ResultItem × List ℕ) F → 
 read_status (Ok read) = result_status read.0
 read_status (Err fault) = statuses.ServerFault
 
--- how the operation ended whose result these bytes are
+-- how many bytes a result has at most, but that of a lock that is denied: as many as that of OPEN with no attributes and no
+-- delegation
+abbrev pub most_short : ℕ
+most_short = 56
+
+abbrev pub is_short : List ℕ → Bool
+is_short bytes = nat_le (length bytes) most_short
+
+-- how the operation ended whose result these bytes are: a longer one is that of a lock that was denied
 unfoldable pub kept_status : List ℕ → NfsStatus
-kept_status bytes = read_status (nfs_result.at bytes)
+kept_status bytes = if is_short bytes then read_status (nfs_result.at bytes) else statuses.Denied
+
+-- how many bytes the result of an operation has at most that ended so: the holder of a lock is told where one is denied
+abbrev pub most_told : NfsStatus → ℕ
+most_told status = if is_ok status then most_short else most_result_bytes

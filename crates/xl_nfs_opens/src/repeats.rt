@@ -12,7 +12,7 @@ use crate::done::{Done, ended_as};
 use crate::renewing::number_of;
 use crate::results::result_bytes;
 use crate::seqids::keep_for;
-use crate::told::Told;
+use crate::told::{Told, is_short};
 use std::alloc::{AllocError, Global};
 use xl_base::Sequence;
 use xl_core::Core;
@@ -38,6 +38,9 @@ fn opened_by(state: &NfsState, core: &Core, current: Option<u32>, stateid: &Stat
 fn handle_again(state: &NfsState, core: &Core, current: Option<u32>, bytes: &[u8]) -> Option<u32>
     ensures { result ≡ handle_again core.now state.now current bytes.now }
 {
+    if !is_short(bytes) {
+        return current;
+    }
     match read_result(&mut Xdr::new(bytes)) {
         Ok(NfsResult::Open(Ok(opened))) => opened_by(state, core, current, &opened.stateid),
         _ => current,

@@ -1,17 +1,19 @@
 //! How what an operation told is spelled.
 ghost use Rattle.std.specs.Prelude.{◌≡◌, ◌+◌, ◌≤◌, ◌++◌, if◌then◌else◌, length, Ok, IfOk, OnOk};
 ghost use Rattle.xl_nfs.specs.Ops.{is_numbered};
-ghost use Rattle.xl_nfs.specs.Results.{shown_result, GetFhAnswer, SetClientIdAnswer, NotSupportedAnswer, OpenAnswer, IllegalAnswer, ResultFits, nfs_result};
+ghost use Rattle.xl_nfs.specs.Results.{shown_result, GetFhAnswer, SetClientIdAnswer, NotSupportedAnswer, OpenAnswer, LockTAnswer, IllegalAnswer, ResultFits, nfs_result};
 ghost use Rattle.xl_base.specs.Handles.{handle};
 ghost use Rattle.xl_nfs_state.specs.Bytes.{most_result_bytes};
-ghost use Rattle.xl_nfs_opens.specs.Results.{ended_as, open_result_of, spelled, state_as, ToldFits};
+ghost use Rattle.xl_nfs_opens.specs.Plans.{status_of};
+ghost use Rattle.xl_nfs_opens.specs.Seqids.{most_told};
+ghost use Rattle.xl_nfs_opens.specs.Results.{denied_as, ended_as, open_result_of, spelled, state_as, ToldFits};
 
-use crate::told::Told;
+use crate::told::{HeldLock, Told};
 use std::alloc::{AllocError, Global};
 use xl_base::{Sequence, handle_of};
 use xl_nfs::{
-    Bitmap, ChangeInfo, ClientConfirm, Delegation, LockFault, NfsResult, NfsStatus, OpenResult,
-    Stateid, operation, write_result,
+    Bitmap, ChangeInfo, ClientConfirm, Delegation, Denied, LockFault, NfsResult, NfsStatus,
+    OpenResult, Owner, Stateid, operation, write_result,
 };
 use xl_nfs_state::ResultBytes;
 use xl_rpc::XdrOut;
@@ -146,12 +148,52 @@ fn put_state(out: &mut XdrOut, number: u32, stateid: Stateid) -> Result<(), Allo
     Ok(())
 }
 
+/// The operation of this number is denied by this lock.
+fn denied_as<'a>(number: u32, held: &'a HeldLock) -> NfsResult<'a>
+    ensures value { shown_result result ≡ denied_as number held.now }
+    ensures few { length held.now.owner ≤ 1024 }
+{
+    let denied = Denied {
+        offset: held.offset,
+        len: held.len,
+        kind: held.kind,
+        owner: Owner {
+            clientid: held.clientid,
+            owner: held.owner.as_slice(),
+        },
+    };
+    match number {
+        operation::LOCKT => NfsResult::LockT(Err(LockFault::Denied(denied))),
+        _ => NfsResult::Lock(Err(LockFault::Denied(denied))),
+    }
+}
+
+/// Writes that no lock stands against it.
+#[tactic(auto, using(crate::proofs::HeldLaws::free_fits, crate::proofs::HeldLaws::free_grown))]
+fn put_free(out: &mut XdrOut) -> Result<(), AllocError>
+    ensures ok { OnOk result (out.new ≡ out.old ++ nfs_result.spell (LockTAnswer (Ok tt))) }
+    ensures little { OnOk result (length out.new ≤ length out.old + 56) }
+{
+    write_result(out, &NfsResult::LockT(Ok(())))?;
+    Ok(())
+}
+
+/// Writes that the operation of this number is denied by this lock.
+#[tactic(auto, using(crate::proofs::HeldLaws::denied_fits))]
+fn put_denied(out: &mut XdrOut, number: u32, held: &HeldLock) -> Result<(), AllocError>
+    ensures ok { OnOk result (out.new ≡ out.old ++ nfs_result.spell (denied_as number held.now)) }
+    ensures little { OnOk result (length out.new ≤ length out.old + most_result_bytes) }
+{
+    write_result(out, &denied_as(number, held))?;
+    Ok(())
+}
+
 /// Writes what the operation of this number told.
-#[tactic(auto, using(crate::proofs::ResultLaws::bytes_grown))]
+#[tactic(auto, using(crate::proofs::HeldLaws::kept_grown, crate::proofs::HeldLaws::ended_told))]
 pub fn put_result(out: &mut XdrOut, number: u32, told: &Told) -> Result<(), AllocError>
     requires fits { ToldFits number told.now }
     ensures ok { OnOk result (out.new ≡ out.old ++ spelled number told.now) }
-    ensures little { OnOk result (length out.new ≤ length out.old + 56) }
+    ensures little { OnOk result (length out.new ≤ length out.old + most_told (status_of told.now)) }
 {
     match told {
         Told::Ended(status) => put_ended(out, number, *status)?,
@@ -159,13 +201,16 @@ pub fn put_result(out: &mut XdrOut, number: u32, told: &Told) -> Result<(), Allo
         Told::Client(confirm) => put_client(out, *confirm)?,
         Told::Opened(stateid, flags) => put_opened(out, *stateid, *flags)?,
         Told::State(stateid) => put_state(out, number, *stateid)?,
+        Told::Free => put_free(out)?,
+        Told::Denied(held) => put_denied(out, number, held)?,
         Told::Kept(bytes) => put_bytes(out, bytes.as_slice())?,
     }
     Ok(())
 }
 
 /// What the operation of this number told, as its result is spelled.
-pub(crate) fn result_bytes(
+#[tactic(auto, using(crate::proofs::HeldLaws::most_most))]
+pub fn result_bytes(
     alloc: Global,
     number: u32,
     told: &Told,

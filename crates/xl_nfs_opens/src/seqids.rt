@@ -11,7 +11,7 @@ use xl_nfs::NfsStatus;
 use xl_nfs_state::{KeptRow, NfsState, OwnerName, OwnerNamed, OwnerRow, ResultBytes, Turn, Whose};
 
 /// Whether a request that ends so counts: its owner's seqid advances, and the result is kept.
-pub(crate) fn advances(status: NfsStatus) -> bool
+pub fn advances(status: NfsStatus) -> bool
     ensures { result ≡ advances status }
 {
     !matches!(
@@ -71,7 +71,7 @@ fn add_kept(state: &mut NfsState, owner: u64, bytes: ResultBytes) -> Result<(), 
 /// A request of the owner of this number, which is there, counted: this result is kept of it, and what an earlier one
 /// closed is known no more.
 #[tactic(auto, unfolding(crate::specs::Seqids::counted))]
-pub(crate) fn count(
+pub fn count(
     state: &mut NfsState,
     owner: u64,
     closed: Option<u64>,

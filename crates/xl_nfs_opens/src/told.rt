@@ -1,11 +1,66 @@
 //! What an operation tells.
-ghost use Rattle.std.specs.Prelude.{◌≡◌};
+ghost use Rattle.std.specs.Prelude.{◌≡◌, ◌≤◌, length};
 ghost use Rattle.xl_nfs_opens.specs.Plans.{status_of};
-ghost use Rattle.xl_nfs_opens.specs.Seqids.{kept_status};
+ghost use Rattle.xl_nfs_opens.specs.Seqids.{kept_status, is_short};
 
-use xl_nfs::{ClientConfirm, NfsStatus, Stateid, read_result};
+use std::marker::Model;
+use xl_base::Sequence;
+use xl_nfs::{ClientConfirm, LockType, NfsStatus, Stateid, read_result};
 use xl_nfs_state::ResultBytes;
 use xl_rpc::Xdr;
+
+/// How many bytes a result has at most, but that of a lock that is denied: the length of OPEN's with no attributes and no
+/// delegation.
+const MOST_SHORT: usize = 56;
+
+/// The bytes of an owner that holds a lock, 1,024 at most. A contract sees the bytes.
+#[derive(Drop)]
+pub struct HolderBytes {
+    bytes: Sequence<u8>,
+}
+
+impl Model for HolderBytes {
+    ghost use Rattle.std.specs.Prelude.{◌≤◌, ℕ, List, length};
+
+    ghost Value = { List ℕ };
+
+    ghost view = { λ h. h.bytes };
+
+    ghost invariant = { λ h. length h.bytes ≤ 1024 };
+}
+
+impl HolderBytes {
+    /// These bytes, 1,024 at most. It takes no memory.
+    pub fn new(bytes: Sequence<u8>) -> HolderBytes
+        requires { length bytes ≤ 1024 }
+        ensures { result ≡ bytes }
+    {
+        HolderBytes { bytes }
+    }
+
+    /// The bytes.
+    pub fn as_slice(&self) -> &[u8]
+        ensures bytes { result.now ≡ self.now }
+        ensures few { length self.now ≤ 1024 }
+    {
+        self.bytes.as_slice()
+    }
+}
+
+/// A lock that stands against another, as LOCK and LOCKT tell it (RFC 7531, LOCK4denied).
+#[derive(Drop)]
+pub struct HeldLock {
+    /// The first byte.
+    pub offset: u64,
+    /// How many bytes; all ones reaches the last byte.
+    pub len: u64,
+    /// READ_LT or WRITE_LT.
+    pub kind: LockType,
+    /// The clientid of an NFSv4 holder; of another 0.
+    pub clientid: u64,
+    /// The owner's bytes.
+    pub owner: HolderBytes,
+}
 
 /// What an operation tells: how it ended, and behind the status OK what it gives.
 #[derive(Drop)]
@@ -20,8 +75,19 @@ pub enum Told {
     Opened(Stateid, u32),
     /// The stateid as it is now (OPEN_CONFIRM, OPEN_DOWNGRADE, CLOSE, LOCK, LOCKU).
     State(Stateid),
+    /// No lock stands against it (LOCKT).
+    Free,
+    /// It is denied by this lock (LOCK, LOCKT).
+    Denied(HeldLock),
     /// The result that was kept when the request came first, as it is spelled.
     Kept(ResultBytes),
+}
+
+/// Whether it is as short as every result but that of a lock that is denied: 56 bytes at most.
+pub(crate) fn is_short(bytes: &[u8]) -> bool
+    ensures { result ≡ is_short bytes.now }
+{
+    bytes.len() <= MOST_SHORT
 }
 
 /// How the operation ended whose result these bytes are.
@@ -29,6 +95,9 @@ pub enum Told {
 fn kept_status(bytes: &[u8]) -> NfsStatus
     ensures { result ≡ kept_status bytes.now }
 {
+    if !is_short(bytes) {
+        return NfsStatus::Denied;
+    }
     match read_result(&mut Xdr::new(bytes)) {
         Ok(kept) => kept.status(),
         Err(_) => NfsStatus::ServerFault,
@@ -42,7 +111,10 @@ impl Told {
     {
         match self {
             Told::Ended(status) => *status,
-            Told::Handle(_) | Told::Client(_) | Told::Opened(..) | Told::State(_) => NfsStatus::Ok,
+            Told::Handle(_) | Told::Client(_) | Told::Opened(..) | Told::State(_) | Told::Free => {
+                NfsStatus::Ok
+            }
+            Told::Denied(_) => NfsStatus::Denied,
             Told::Kept(bytes) => kept_status(bytes.as_slice()),
         }
     }

@@ -1,6 +1,6 @@
 -- How long a result is that is kept.
 use Rattle.std.specs.Prelude.{ℕ}
 
--- how many bytes it has at most: as many as that of OPEN with no attributes and no delegation
+-- how many bytes it has at most: as many as that of LOCK denied by an owner of 1,024 bytes
 abbrev pub most_result_bytes : ℕ
-most_result_bytes = 56
+most_result_bytes = 1064

@@ -6,10 +6,10 @@ use std::alloc::{AllocError, Global};
 use std::marker::Model;
 use xl_base::Sequence;
 
-/// How many bytes a result that is kept has at most: the length of OPEN's with no attributes and no delegation.
-pub const MOST_RESULT_BYTES: usize = 56;
+/// How many bytes a result that is kept has at most: the length of LOCK's that is denied by an owner of 1,024 bytes.
+pub const MOST_RESULT_BYTES: usize = 1064;
 
-/// The bytes of a result that is kept, 56 at most. A contract sees the bytes.
+/// The bytes of a result that is kept, 1,064 at most. A contract sees the bytes.
 #[derive(Drop)]
 pub struct ResultBytes {
     bytes: Sequence<u8>,
@@ -27,7 +27,7 @@ impl Model for ResultBytes {
 }
 
 impl ResultBytes {
-    /// These bytes, 56 at most. It takes no memory.
+    /// These bytes, 1,064 at most. It takes no memory.
     pub fn new(bytes: Sequence<u8>) -> ResultBytes
         requires { length bytes ≤ most_result_bytes }
         ensures { result ≡ bytes }

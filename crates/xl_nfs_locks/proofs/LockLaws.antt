@@ -1,0 +1,62 @@
+-- What a LOCK tells that isn't OK has a spelling.
+use Rattle.std.proofs.Common.{◌≡◌, ℕ, Bool, true, false, if◌then◌else◌, Option, Some, None, Result, Ok, Err, refl, sym, subst, true≢false, inl, inr, arith}
+use Rattle.std.proofs.lemmas.Bool.{cases_Bool}
+use Rattle.xl_nfs.specs.declared.basics.LockType.{LockType}
+use Rattle.xl_nfs.specs.declared.status.NfsStatus.{NfsStatus}
+use Rattle.xl_nfs.specs.declared.status.NfsStatus.TheVariants as statuses
+use Rattle.xl_nfs_state.specs.State.{NfsLists}
+use Rattle.xl_nfs_state.specs.declared.owner.Turn.{Turn}
+use Rattle.xl_nfs_state.specs.declared.stateid.StateidRow.{StateidRow}
+use Rattle.xl_core.specs.State.{CoreState}
+use Rattle.xl_core.specs.declared.ask.Answer.{Answer}
+use Rattle.xl_core.specs.declared.ask.Answer.TheVariants as answers
+use Rattle.xl_nfs_locks.specs.Denials.{lock_told}
+use Rattle.xl_nfs_locks.specs.Locks.{lock_end}
+use Rattle.xl_nfs_locks.specs.Ranges.{may_lock}
+use Rattle.xl_nfs_opens.specs.Closing.{standing_fault}
+use Rattle.xl_nfs_opens.specs.Opens.{is_granted}
+use Rattle.xl_nfs_opens.specs.Results.{ToldFits}
+use Rattle.xl_nfs_opens.specs.declared.told.Told.{Told}
+use Rattle.xl_nfs_opens.specs.declared.told.Told.TheVariants.{Ended}
+use Rattle.xl_nfs_opens.proofs.EndLaws.{IfFault, standing_is_fault}
+use Rattle.xl_nfs_opens.proofs.ResultLaws.{IsFault, fault_fits}
+
+fault_told : (s : NfsStatus) → IsFault s → ToldFits 12 (Ended s)
+fault_told s f = fault_fits 12 s (omega arith) f
+
+told_by : (s : CoreState) (l : NfsLists) (reclaim : Bool) (answer : Answer) → is_granted answer ≡ false → ToldFits 12 (lock_told s l reclaim answer)
+told_by s l reclaim (answers.Granted c) granted = absurd (true≢false granted)
+told_by s l true (answers.Conflict c) granted = fault_told statuses.ReclaimConflict (record { ok = refl; denied = refl })
+told_by s l false (answers.Conflict c) granted = tt
+told_by s l reclaim (answers.Queued id) granted = fault_told statuses.Delay (record { ok = refl; denied = refl })
+told_by s l reclaim (answers.Recall c) granted = fault_told statuses.Delay (record { ok = refl; denied = refl })
+told_by s l reclaim (answers.Grace until) granted = fault_told statuses.Grace (record { ok = refl; denied = refl })
+told_by s l reclaim (answers.NoGrace clock) granted = fault_told statuses.NoGrace (record { ok = refl; denied = refl })
+told_by s l reclaim answers.NotRecorded granted = fault_told statuses.ReclaimBad (record { ok = refl; denied = refl })
+told_by s l reclaim (answers.Full limit) granted = fault_told statuses.Resource (record { ok = refl; denied = refl })
+told_by s l reclaim answers.NotHeld granted = fault_told statuses.ServerFault (record { ok = refl; denied = refl })
+told_by s l reclaim answers.StoreFailed granted = fault_told statuses.ServerFault (record { ok = refl; denied = refl })
+
+-- what is told by the core's answer
+pub lock_told_fits : (s : CoreState) (l : NfsLists) (reclaim : Bool) (answer : Answer) (told : Told) → is_granted answer ≡ false → told ≡ lock_told s l reclaim answer → ToldFits 12 told
+lock_told_fits s l reclaim answer told granted is = subst (λ (t : Told). ToldFits 12 t) (sym is) (told_by s l reclaim answer granted)
+
+-- what is wrong with the stateid
+pub standing_fits : (r : StateidRow) (turn : Turn) (seqid : ℕ) (status : NfsStatus) → Some status ≡ standing_fault r turn seqid true → ToldFits 12 (Ended status)
+standing_fits r turn seqid status is = fault_told status (subst (λ (o : Option NfsStatus). IfFault o) (sym is) (standing_is_fault r turn seqid true))
+
+abbrev OrFault : Result ℕ NfsStatus → Type 0
+OrFault (Ok last) = Unit {0}
+OrFault (Err status) = IsFault status
+
+end_fault : (kind : LockType) (access : ℕ) (found : Option ℕ) → OrFault (lock_end kind access found)
+end_fault kind access None = record { ok = refl; denied = refl }
+end_fault kind access (Some last) =
+    elim (cases_Bool (may_lock kind access)) [
+      | inl e ↦ rw e tt
+      | inr e ↦ rw e (record { ok = refl; denied = refl })
+    ]
+
+-- the range, or the open's access
+pub end_fits : (kind : LockType) (access : ℕ) (found : Option ℕ) (status : NfsStatus) → Err status ≡ lock_end kind access found → ToldFits 12 (Ended status)
+end_fits kind access found status is = fault_told status (subst (λ (o : Result ℕ NfsStatus). OrFault o) (sym is) (end_fault kind access found))

@@ -1,0 +1,82 @@
+-- LOCK by a lock owner that has a stateid under the open (RFC 7530 16.10).
+use Rattle.std.specs.Prelude.{ℕ, Bool, true, false, if◌then◌else◌, [], Option, Some, None, Result, Ok, Err}
+use Rattle.std.specs.List.{find}
+use Rattle.xl_nfs.specs.Locks.{LockArgsItem}
+use Rattle.xl_nfs.specs.declared.basics.LockType.{LockType}
+use Rattle.xl_nfs.specs.declared.locks.KnownLocker.{KnownLocker}
+use Rattle.xl_nfs.specs.declared.status.NfsStatus.{NfsStatus}
+use Rattle.xl_nfs.specs.declared.status.NfsStatus.TheVariants as statuses
+use Rattle.xl_nfs_state.specs.State.{NfsLists, is_kept, is_stateid}
+use Rattle.xl_nfs_state.specs.declared.owner.Turn.{Turn}
+use Rattle.xl_nfs_state.specs.declared.stateid.Holder.{Holder}
+use Rattle.xl_nfs_state.specs.declared.stateid.Holder.TheVariants as holders
+use Rattle.xl_nfs_state.specs.declared.stateid.StateidRow.{StateidRow}
+use Rattle.xl_core.specs.State.{CoreState}
+use Rattle.xl_core.specs.declared.ask.Answer.{Answer}
+use Rattle.xl_nfs_locks.specs.Checks.{locks_found}
+use Rattle.xl_nfs_locks.specs.Denials.{lock_told}
+use Rattle.xl_nfs_locks.specs.Ranges.{last_byte, lock_ask, may_lock}
+use Rattle.xl_nfs_opens.specs.Closing.{standing_fault, failed, next_turn, done_lists, state_told, opener_by}
+use Rattle.xl_nfs_opens.specs.Opens.{all_rooms, is_granted, repeated}
+use Rattle.xl_nfs_opens.specs.Plans.{Plan, Does, Asking, status_of}
+use Rattle.xl_nfs_opens.specs.Renewing.{state_client, renewing}
+use Rattle.xl_nfs_opens.specs.Results.{spelled}
+use Rattle.xl_nfs_opens.specs.Seqids.{advances, counted}
+use Rattle.xl_nfs_opens.specs.declared.opener.Checked.{Checked}
+use Rattle.xl_nfs_opens.specs.declared.opener.Checked.TheVariants.{Refused, Repeated, Passed}
+use Rattle.xl_nfs_opens.specs.declared.opener.Opener.{Opener}
+use Rattle.xl_nfs_opens.specs.declared.told.Told.{Told}
+use Rattle.xl_nfs_opens.specs.declared.told.Told.TheVariants.{Ended}
+
+-- ---- by the core's answer
+
+-- it was refused, and is kept where its status counts
+abbrev pub refused_lists : NfsLists → ℕ → Turn → ℕ → Told → NfsLists
+refused_lists l owner turn seqid told =
+    if advances (status_of told) then counted owner turn.closed (next_turn 12 seqid turn.confirmed None) (spelled 12 told) l else l
+
+abbrev pub lock_refused : NfsLists → Option ℕ → ℕ → Turn → ℕ → Told → Plan
+lock_refused l current owner turn seqid told = Does [] (refused_lists l owner turn seqid told) current told
+
+abbrev pub lock_answered : NfsLists → Option ℕ → StateidRow → ℕ → Turn → ℕ → Bool → Answer → CoreState → Plan
+lock_answered l current r owner turn seqid reclaim answer s =
+    if is_granted answer then Does [] (done_lists s l r owner turn 12 seqid turn.confirmed None 0 0 false) current (state_told s r)
+    else lock_refused l current owner turn seqid (lock_told s l reclaim answer)
+
+abbrev pub lock_by_owner : NfsLists → Option ℕ → LockArgsItem → StateidRow → ℕ → Turn → ℕ → ℕ → Option Opener → Plan
+lock_by_owner l current a r owner turn seqid last None = Does [] l current (Ended statuses.ServerFault)
+lock_by_owner l current a r owner turn seqid last (Some o) =
+    Asking all_rooms (lock_ask o r.file a.kind a.reclaim a.offset last) (lock_answered l current r owner turn seqid a.reclaim)
+
+-- ---- the checks in their order
+
+-- the access of the open above the locks
+abbrev pub access_of : Option StateidRow → ℕ
+access_of None = 0
+access_of (Some r) = r.standing.access
+
+abbrev pub access_above : NfsLists → Holder → ℕ
+access_above l (holders.Lock owner under opener) = access_of (find (is_stateid under) l.stateids)
+access_above l _ = 0
+
+-- the last byte, or the first check that fails: the range, and the open's access
+abbrev pub lock_end : LockType → ℕ → Option ℕ → Result ℕ NfsStatus
+lock_end kind access None = Err statuses.Inval
+lock_end kind access (Some last) = if may_lock kind access then Ok last else Err statuses.OpenMode
+
+abbrev pub lock_to : NfsLists → Option ℕ → LockArgsItem → StateidRow → ℕ → Turn → ℕ → Result ℕ NfsStatus → Plan
+lock_to l current a r owner turn seqid (Err status) = failed l current owner turn 12 seqid status
+lock_to l current a r owner turn seqid (Ok last) = lock_by_owner l current a r owner turn seqid last (opener_by l r.client owner)
+
+abbrev pub lock_standing : NfsLists → Option ℕ → LockArgsItem → StateidRow → ℕ → Turn → ℕ → Option NfsStatus → Plan
+lock_standing l current a r owner turn seqid (Some status) = failed l current owner turn 12 seqid status
+lock_standing l current a r owner turn seqid None = lock_to l current a r owner turn seqid (lock_end a.kind (access_above l r.holder) (last_byte a.offset a.len))
+
+abbrev pub lock_found : CoreState → NfsLists → Option ℕ → LockArgsItem → KnownLocker → Checked → Plan
+lock_found s l current a x (Refused status) = Does [] l current (Ended status)
+lock_found s l current a x (Repeated owner) = repeated s l current (find (is_kept owner) l.kept)
+lock_found s l current a x (Passed r owner turn) = lock_standing l current a r owner turn x.seqid (standing_fault r turn x.stateid.seqid true)
+
+-- the client is renewed before
+unfoldable pub lock_known : CoreState → NfsLists → Option ℕ → LockArgsItem → KnownLocker → Plan
+lock_known s l current a x = renewing s l (state_client s l x.stateid) (λ t m. lock_found t m current a x (locks_found t m current 12 x.seqid x.stateid))

@@ -1,0 +1,290 @@
+//! LOCK by a lock owner that has a stateid under the open (RFC 7530 16.10).
+ghost use Rattle.std.specs.Prelude.{◌≡◌, ◌≤◌, ℕ, [], false, true, Some, IsSome, IfOk, OnOk};
+ghost use Rattle.std.specs.List.{find};
+ghost use Rattle.xl_core.specs.State.{CoreState, MayBe};
+ghost use Rattle.xl_nfs.specs.Locks.{shown_lock_args};
+ghost use Rattle.xl_nfs_state.specs.State.{is_owner, is_stateid};
+ghost use Rattle.xl_nfs_locks.specs.Locks.{access_above, lock_answered, lock_by_owner, lock_end, lock_found, lock_known, lock_refused, lock_standing, lock_to};
+ghost use Rattle.xl_nfs_locks.specs.Ranges.{last_byte};
+ghost use Rattle.xl_nfs_opens.specs.Closing.{standing_fault, IsChecked};
+ghost use Rattle.xl_nfs_opens.specs.Opens.{is_granted};
+ghost use Rattle.xl_nfs_opens.specs.Plans.{carried};
+ghost use Rattle.xl_nfs_opens.specs.Results.{ToldFits};
+ghost use Rattle.xl_nfs_opens.specs.Short.{IsReady, Leaves};
+
+use crate::asks::lock_ask;
+use crate::checking::find_locks;
+use crate::denials::lock_told;
+use crate::ranges::{last_byte, may_lock};
+use std::alloc::{AllocError, Global};
+use xl_base::Keeper;
+use xl_core::{Answer, Core};
+use xl_nfs::{KnownLocker, LockArgs, LockType, NfsStatus, operation};
+use xl_nfs_opens::{
+    Checked, Done, Opener, Told, advances, asked, count, ended_as, fail, finish, next_turn,
+    opener_by, renew_for, repeat, result_bytes, standing_fault, state_client,
+};
+use xl_nfs_state::{Holder, NfsState, StateidRow, Turn};
+
+/// It was refused; the result is kept where its status counts.
+fn refuse(
+    alloc: Global,
+    state: &mut NfsState,
+    current: Option<u32>,
+    owner: u64,
+    turn: Turn,
+    seqid: u32,
+    told: Told,
+) -> Result<(Told, Option<u32>), AllocError>
+    requires there { IsSome (find (is_owner owner) state.old.owners) }
+    requires fits { ToldFits 12 told }
+    ensures { (n : ℕ) (s : CoreState) → IfOk result (λ r. carried n s state.old current (lock_refused state.old current owner turn seqid told) ≡ (r.0, r.1, [], state.new, s)) }
+{
+    let op = operation::LOCK;
+    if advances(told.status()) {
+        let bytes = result_bytes(alloc, op, &told)?;
+        let next = next_turn(op, seqid, turn.confirmed, None);
+        count(state, owner, turn.closed, next, bytes)?;
+    }
+    Ok((told, current))
+}
+
+/// Whether it is granted.
+fn is_granted(answer: Answer) -> bool
+    ensures { result ≡ is_granted answer }
+{
+    matches!(answer, Answer::Granted(_))
+}
+
+/// LOCK by the core's answer.
+#[tactic(auto, using(crate::proofs::LockLaws::lock_told_fits))]
+fn lock_answered(
+    alloc: Global,
+    state: &mut NfsState,
+    core: &Core,
+    current: Option<u32>,
+    row: &StateidRow,
+    owner: u64,
+    turn: Turn,
+    seqid: u32,
+    reclaim: bool,
+    answer: Answer,
+) -> Result<(Told, Option<u32>), AllocError>
+    requires owner { IsSome (find (is_owner owner) state.old.owners) }
+    requires there { find (is_stateid row.now.number) state.old.stateids ≡ Some row.now }
+    requires open { row.now.standing.closed ≡ false }
+    ensures { (n : ℕ) → IfOk result (λ r. carried n core.now state.old current (lock_answered state.old current row.now owner turn seqid reclaim answer core.now) ≡ (r.0, r.1, [], state.new, core.now)) }
+{
+    if !is_granted(answer) {
+        let told = lock_told(alloc, state, core, reclaim, answer)?;
+        let ended = refuse(alloc, state, current, owner, turn, seqid, told)?;
+        return Ok(ended);
+    }
+    let op = operation::LOCK;
+    let next = next_turn(op, seqid, turn.confirmed, None);
+    let told = finish(
+        alloc,
+        state,
+        core,
+        row,
+        owner,
+        turn.closed,
+        op,
+        next,
+        (0, 0, false),
+    )?;
+    Ok((told, current))
+}
+
+/// LOCK of bytes by the lock owner: the core is asked.
+fn lock_bytes<K: Keeper>(
+    alloc: Global,
+    state: &mut NfsState,
+    core: &mut Core,
+    keeper: &mut K,
+    current: Option<u32>,
+    args: &LockArgs,
+    row: &StateidRow,
+    owner: u64,
+    turn: Turn,
+    seqid: u32,
+    last: u64,
+    by: &Opener,
+) -> Result<Done, AllocError>
+    requires ready { IsReady 2 core.old }
+    requires owner { IsSome (find (is_owner owner) state.old.owners) }
+    requires there { find (is_stateid row.now.number) state.old.stateids ≡ Some row.now }
+    requires open { row.now.standing.closed ≡ false }
+    requires ends { args.now.offset ≤ last }
+    ensures done { (n : ℕ) → IfOk result (λ r. MayBe n core.new → carried n core.old state.old current (lock_by_owner state.old current (shown_lock_args args.now) row.now owner turn seqid last (Some by.now)) ≡ (r.0, r.1, r.2, state.new, core.new)) }
+    ensures leaves { OnOk result (Leaves 2 core.old core.new) }
+    ensures keeper { keeper.new ≡ keeper.old }
+{
+    let reclaim = args.reclaim;
+    let request = lock_ask(alloc, by, row.file, args.kind, reclaim, args.offset, last)?;
+    let (said, effects) = asked(alloc, core, keeper, &request)?;
+    let (told, handle) = lock_answered(
+        alloc, state, core, current, row, owner, turn, seqid, reclaim, said,
+    )?;
+    Ok((told, handle, effects))
+}
+
+/// The access of the open above the locks.
+fn access_above(state: &NfsState, holder: Holder) -> u32
+    ensures { result ≡ access_above state.now holder }
+{
+    let Holder::Lock { under, .. } = holder else {
+        return 0;
+    };
+    match state.find_stateid(under) {
+        Some(open) => open.standing.access,
+        None => 0,
+    }
+}
+
+/// The last byte, or the first check that fails: the range, and the open's access.
+fn lock_end(kind: LockType, access: u32, offset: u64, len: u64) -> Result<u64, NfsStatus>
+    ensures value { result ≡ lock_end kind access (last_byte offset len) }
+    ensures ends { IfOk result (λ last. offset ≤ last) }
+{
+    let Some(last) = last_byte(offset, len) else {
+        return Err(NfsStatus::Inval);
+    };
+    if may_lock(kind, access) {
+        Ok(last)
+    } else {
+        Err(NfsStatus::OpenMode)
+    }
+}
+
+/// LOCK, once its range and the open's access are checked.
+#[tactic(auto, using(crate::proofs::LockLaws::end_fits, xl_nfs_opens::proofs::LeaveLaws::leaves_self, xl_nfs_opens::proofs::LeaveLaws::leaves_more))]
+fn lock_to<K: Keeper>(
+    alloc: Global,
+    state: &mut NfsState,
+    core: &mut Core,
+    keeper: &mut K,
+    current: Option<u32>,
+    args: &LockArgs,
+    row: &StateidRow,
+    owner: u64,
+    turn: Turn,
+    seqid: u32,
+    access: u32,
+) -> Result<Done, AllocError>
+    requires ready { IsReady 2 core.old }
+    requires owner { IsSome (find (is_owner owner) state.old.owners) }
+    requires there { find (is_stateid row.now.number) state.old.stateids ≡ Some row.now }
+    requires open { row.now.standing.closed ≡ false }
+    ensures done { (n : ℕ) → IfOk result (λ r. MayBe n core.new → carried n core.old state.old current (lock_to state.old current (shown_lock_args args.now) row.now owner turn seqid (lock_end args.now.kind access (last_byte args.now.offset args.now.len))) ≡ (r.0, r.1, r.2, state.new, core.new)) }
+    ensures leaves { OnOk result (Leaves 2 core.old core.new) }
+    ensures keeper { keeper.new ≡ keeper.old }
+{
+    match lock_end(args.kind, access, args.offset, args.len) {
+        Err(status) => {
+            let op = operation::LOCK;
+            let done = fail(alloc, state, current, owner, turn, op, seqid, status)?;
+            Ok(done)
+        }
+        Ok(last) => {
+            let Some(by) = opener_by(alloc, state, row.client, owner)? else {
+                return Ok(ended_as(alloc, NfsStatus::ServerFault, current));
+            };
+            let granted = lock_bytes(
+                alloc, state, core, keeper, current, args, row, owner, turn, seqid, last, &by,
+            )?;
+            Ok(granted)
+        }
+    }
+}
+
+/// LOCK by a stateid that was found.
+#[tactic(auto, using(crate::proofs::LockLaws::standing_fits, xl_nfs_opens::proofs::LeaveLaws::leaves_self, xl_nfs_opens::proofs::LeaveLaws::leaves_more))]
+fn lock_passed<K: Keeper>(
+    alloc: Global,
+    state: &mut NfsState,
+    core: &mut Core,
+    keeper: &mut K,
+    current: Option<u32>,
+    args: &LockArgs,
+    known: &KnownLocker,
+    row: &StateidRow,
+    owner: u64,
+    turn: Turn,
+) -> Result<Done, AllocError>
+    requires ready { IsReady 2 core.old }
+    requires owner { IsSome (find (is_owner owner) state.old.owners) }
+    requires there { find (is_stateid row.now.number) state.old.stateids ≡ Some row.now }
+    requires open { row.now.standing.closed ≡ false }
+    ensures done { (n : ℕ) → IfOk result (λ r. MayBe n core.new → carried n core.old state.old current (lock_standing state.old current (shown_lock_args args.now) row.now owner turn known.now.seqid (standing_fault row.now turn known.now.stateid.seqid true)) ≡ (r.0, r.1, r.2, state.new, core.new)) }
+    ensures leaves { OnOk result (Leaves 2 core.old core.new) }
+    ensures keeper { keeper.new ≡ keeper.old }
+{
+    let seqid = known.seqid;
+    if let Some(status) = standing_fault(row, turn, known.stateid.seqid, true) {
+        let op = operation::LOCK;
+        let done = fail(alloc, state, current, owner, turn, op, seqid, status)?;
+        return Ok(done);
+    }
+    let access = access_above(state, row.holder);
+    let done = lock_to(
+        alloc, state, core, keeper, current, args, row, owner, turn, seqid, access,
+    )?;
+    Ok(done)
+}
+
+/// LOCK by what is found for its stateid.
+#[tactic(auto, using(xl_nfs_opens::proofs::LeaveLaws::leaves_self, xl_nfs_opens::proofs::LeaveLaws::leaves_more))]
+fn lock_found<K: Keeper>(
+    alloc: Global,
+    state: &mut NfsState,
+    core: &mut Core,
+    keeper: &mut K,
+    current: Option<u32>,
+    args: &LockArgs,
+    known: &KnownLocker,
+    found: Checked,
+) -> Result<Done, AllocError>
+    requires ready { IsReady 2 core.old }
+    requires found { IsChecked state.old found }
+    ensures done { (n : ℕ) → IfOk result (λ r. MayBe n core.new → carried n core.old state.old current (lock_found core.old state.old current (shown_lock_args args.now) known.now found) ≡ (r.0, r.1, r.2, state.new, core.new)) }
+    ensures leaves { OnOk result (Leaves 2 core.old core.new) }
+    ensures keeper { keeper.new ≡ keeper.old }
+{
+    match found {
+        Checked::Refused(status) => Ok(ended_as(alloc, status, current)),
+        Checked::Repeated(owner) => {
+            let done = repeat(alloc, state, core, current, owner)?;
+            Ok(done)
+        }
+        Checked::Passed(row, owner, turn) => lock_passed(
+            alloc, state, core, keeper, current, args, known, &row, owner, turn,
+        ),
+    }
+}
+
+/// LOCK by a lock owner that has a stateid under the open: the bytes of the range are the owner's, in this mode. DENIED with
+/// a lock that stands against it; INVAL for a range of no bytes or past the last one, OPENMODE where the open's access
+/// doesn't allow it; BAD_STATEID, OLD_STATEID, STALE_STATEID and BAD_SEQID by the lock's stateid.
+#[tactic(auto, unfolding(crate::specs::Locks::lock_known), using(crate::proofs::FoundLaws::locks_there, xl_nfs_opens::proofs::LeaveLaws::leaves_then, xl_nfs_opens::proofs::LeaveLaws::ready_then))]
+pub fn lock_known<K: Keeper>(
+    alloc: Global,
+    state: &mut NfsState,
+    core: &mut Core,
+    keeper: &mut K,
+    current: Option<u32>,
+    args: &LockArgs,
+    known: &KnownLocker,
+) -> Result<Done, AllocError>
+    requires ready { IsReady 2 core.old }
+    ensures done { (n : ℕ) → IfOk result (λ r. MayBe n core.new → carried n core.old state.old current (lock_known core.old state.old current (shown_lock_args args.now) known.now) ≡ (r.0, r.1, r.2, state.new, core.new)) }
+    ensures leaves { OnOk result (Leaves 2 core.old core.new) }
+    ensures keeper { keeper.new ≡ keeper.old }
+{
+    let client = state_client(state, core, &known.stateid);
+    renew_for(alloc, state, core, client)?;
+    let op = operation::LOCK;
+    let found = find_locks(state, core, current, op, known.seqid, &known.stateid);
+    let done = lock_found(alloc, state, core, keeper, current, args, known, found)?;
+    Ok(done)
+}

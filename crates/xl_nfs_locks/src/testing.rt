@@ -1,0 +1,144 @@
+//! LOCKT (RFC 7530 16.11).
+ghost use Rattle.std.specs.Prelude.{◌≡◌, ◌≤◌, ℕ, IfOk, OnOk, Some};
+ghost use Rattle.xl_core.specs.State.{MayBe};
+ghost use Rattle.xl_nfs.specs.Locks.{shown_lock_test_args};
+ghost use Rattle.xl_nfs_locks.specs.Ranges.{last_byte};
+ghost use Rattle.xl_nfs_locks.specs.Tests.{lock_test, locker_of, test_at, test_to, tested_told};
+ghost use Rattle.xl_nfs_opens.specs.Plans.{carried};
+ghost use Rattle.xl_nfs_opens.specs.Short.{IsReady, Leaves};
+
+use crate::asks::test_ask;
+use crate::denials::lock_told;
+use crate::ranges::last_byte;
+use std::alloc::{AllocError, Global};
+use xl_base::{Keeper, Sequence};
+use xl_core::{Answer, Core};
+use xl_nfs::{LockTestArgs, NfsStatus};
+use xl_nfs_opens::{Done, Opener, Told, asked, client_in, ended_as, number_in, renew_for};
+use xl_nfs_state::{ClientRow, NfsState, OwnerKind};
+
+/// A lock owner of this client.
+pub(crate) fn locker_of(alloc: Global, row: &ClientRow, owner: &[u8]) -> Result<Opener, AllocError>
+    ensures { IfOk result (λ opener. opener ≡ locker_of row.now owner.now) }
+{
+    Ok(Opener {
+        client: row.number,
+        id: Sequence::from_slice(alloc, row.id.as_slice())?,
+        kind: OwnerKind::Lock,
+        owner: Sequence::from_slice(alloc, owner)?,
+    })
+}
+
+/// What LOCKT tells by the core's answer.
+fn tested_told(
+    alloc: Global,
+    state: &NfsState,
+    core: &Core,
+    answer: Answer,
+) -> Result<Told, AllocError>
+    ensures { IfOk result (λ told. told ≡ tested_told core.now state.now answer) }
+{
+    match answer {
+        Answer::Granted(_) => Ok(Told::Free),
+        _ => lock_told(alloc, state, core, false, answer),
+    }
+}
+
+/// LOCKT of bytes: the core is asked.
+fn test_bytes<K: Keeper>(
+    alloc: Global,
+    state: &NfsState,
+    core: &mut Core,
+    keeper: &mut K,
+    current: Option<u32>,
+    args: &LockTestArgs,
+    file: u32,
+    by: &Opener,
+    last: u64,
+) -> Result<Done, AllocError>
+    requires ready { IsReady 2 core.old }
+    requires ends { args.now.offset ≤ last }
+    ensures done { (n : ℕ) → IfOk result (λ r. MayBe n core.new → carried n core.old state.now current (test_to state.now current (shown_lock_test_args args.now) file by.now (Some last)) ≡ (r.0, r.1, r.2, state.now, core.new)) }
+    ensures leaves { OnOk result (Leaves 2 core.old core.new) }
+    ensures keeper { keeper.new ≡ keeper.old }
+{
+    let request = test_ask(alloc, by, file, args.kind, args.offset, last)?;
+    let (said, effects) = asked(alloc, core, keeper, &request)?;
+    let told = tested_told(alloc, state, core, said)?;
+    Ok((told, current, effects))
+}
+
+/// LOCKT of a range by a lock owner.
+#[tactic(auto, using(xl_nfs_opens::proofs::LeaveLaws::leaves_self, xl_nfs_opens::proofs::LeaveLaws::leaves_more))]
+fn test_to<K: Keeper>(
+    alloc: Global,
+    state: &NfsState,
+    core: &mut Core,
+    keeper: &mut K,
+    current: Option<u32>,
+    args: &LockTestArgs,
+    file: u32,
+    by: &Opener,
+) -> Result<Done, AllocError>
+    requires ready { IsReady 2 core.old }
+    ensures done { (n : ℕ) → IfOk result (λ r. MayBe n core.new → carried n core.old state.now current (test_to state.now current (shown_lock_test_args args.now) file by.now (last_byte args.now.offset args.now.len)) ≡ (r.0, r.1, r.2, state.now, core.new)) }
+    ensures leaves { OnOk result (Leaves 2 core.old core.new) }
+    ensures keeper { keeper.new ≡ keeper.old }
+{
+    let Some(last) = last_byte(args.offset, args.len) else {
+        return Ok(ended_as(alloc, NfsStatus::Inval, current));
+    };
+    let done = test_bytes(alloc, state, core, keeper, current, args, file, by, last)?;
+    Ok(done)
+}
+
+/// LOCKT, once the lease of the client is renewed.
+#[tactic(auto, using(xl_nfs_opens::proofs::LeaveLaws::leaves_self, xl_nfs_opens::proofs::LeaveLaws::leaves_more))]
+fn test_at<K: Keeper>(
+    alloc: Global,
+    state: &NfsState,
+    core: &mut Core,
+    keeper: &mut K,
+    current: Option<u32>,
+    args: &LockTestArgs,
+) -> Result<Done, AllocError>
+    requires ready { IsReady 2 core.old }
+    ensures done { (n : ℕ) → IfOk result (λ r. MayBe n core.new → carried n core.old state.now current (test_at core.old state.now (shown_lock_test_args args.now) current) ≡ (r.0, r.1, r.2, state.now, core.new)) }
+    ensures leaves { OnOk result (Leaves 2 core.old core.new) }
+    ensures keeper { keeper.new ≡ keeper.old }
+{
+    let Some(at) = current else {
+        return Ok(ended_as(alloc, NfsStatus::NoFileHandle, current));
+    };
+    if at == 0 {
+        return Ok(ended_as(alloc, NfsStatus::IsDir, current));
+    }
+    let Some(row) = client_in(state, core, args.owner.clientid) else {
+        return Ok(ended_as(alloc, NfsStatus::StaleClientId, current));
+    };
+    let by = locker_of(alloc, row, args.owner.owner)?;
+    let done = test_to(alloc, state, core, keeper, current, args, at, &by)?;
+    Ok(done)
+}
+
+/// LOCKT: whether the range could be locked. DENIED with a lock that stands against it; NOFILEHANDLE, ISDIR at the root,
+/// STALE_CLIENTID, and INVAL for a range of no bytes or past the last one.
+#[tactic(auto, unfolding(crate::specs::Tests::lock_test), using(xl_nfs_opens::proofs::LeaveLaws::leaves_then, xl_nfs_opens::proofs::LeaveLaws::ready_then))]
+pub fn lock_test<K: Keeper>(
+    alloc: Global,
+    state: &mut NfsState,
+    core: &mut Core,
+    keeper: &mut K,
+    current: Option<u32>,
+    args: &LockTestArgs,
+) -> Result<Done, AllocError>
+    requires ready { IsReady 2 core.old }
+    ensures done { (n : ℕ) → IfOk result (λ r. MayBe n core.new → carried n core.old state.old current (lock_test core.old state.old current (shown_lock_test_args args.now)) ≡ (r.0, r.1, r.2, state.new, core.new)) }
+    ensures leaves { OnOk result (Leaves 2 core.old core.new) }
+    ensures keeper { keeper.new ≡ keeper.old }
+{
+    let client = number_in(core, args.owner.clientid);
+    renew_for(alloc, state, core, client)?;
+    let done = test_at(alloc, state, core, keeper, current, args)?;
+    Ok(done)
+}
