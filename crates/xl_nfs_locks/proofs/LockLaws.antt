@@ -1,5 +1,5 @@
 -- What a LOCK tells that isn't OK has a spelling.
-use Rattle.std.proofs.Common.{◌≡◌, ℕ, Bool, true, false, if◌then◌else◌, Option, Some, None, Result, Ok, Err, refl, sym, subst, true≢false, inl, inr, arith}
+use Rattle.std.proofs.Common.{◌≡◌, ℕ, Bool, true, false, Option, Some, None, Result, Ok, Err, refl, sym, subst, true≢false, inl, inr, arith}
 use Rattle.std.proofs.lemmas.Bool.{cases_Bool}
 use Rattle.xl_nfs.specs.declared.basics.LockType.{LockType}
 use Rattle.xl_nfs.specs.declared.status.NfsStatus.{NfsStatus}

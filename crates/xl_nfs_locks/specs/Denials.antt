@@ -1,5 +1,5 @@
 -- The lock that stands against another, as it is told (RFC 7531, LOCK4denied).
-use Rattle.std.specs.Prelude.{ℕ, Bool, true, false, nat_le, if◌then◌else◌, List, length, codes, Option, Some, None, slice_get}
+use Rattle.std.specs.Prelude.{ℕ, Bool, true, nat_le, if◌then◌else◌, List, length, codes, Option, Some, None, slice_get}
 use Rattle.std.specs.List.{find}
 use Rattle.xl_base.specs.declared.name.Owner.{Owner}
 use Rattle.xl_base.specs.declared.name.Owner.TheVariants as owners
