@@ -17,10 +17,10 @@ use Rattle.xl_nfs_state.specs.declared.client.ClientRow.{ClientRow}
 use Rattle.xl_core.specs.Deeds.{Deed, Renews, all_done, all_told_of}
 use Rattle.xl_core.specs.State.{CoreState}
 use Rattle.xl_core.specs.declared.ask.Effect.{Effect}
-use Rattle.xl_front_nfs.specs.Clients.{number_in, lease_end, renewed, renew_found, renew_number, renew, number_kept, numbers, draws, has_room, set_under, set_by, set_beside, confirm_of, ends, come, come_again, confirm_over, confirm_beside, confirm_held, confirmed_by}
-use Rattle.xl_front_nfs.specs.Plans.{carried}
-use Rattle.xl_front_nfs.specs.Renewing.{renewals_by, renewals}
-use Rattle.xl_front_nfs.specs.declared.told.Told.TheVariants.{Ended, Client}
+use Rattle.xl_front_nfs.specs.Clients.{renew_found, renew_number, renew, number_kept, numbers, draws, has_room, set_under, set_by, set_beside, confirm_of, ends, come, come_again, confirm_over, confirm_beside, confirm_held, confirmed_by}
+use Rattle.xl_nfs_opens.specs.Leases.{number_in, lease_end, renewed}
+use Rattle.xl_nfs_opens.specs.Plans.{carried}
+use Rattle.xl_nfs_opens.specs.declared.told.Told.TheVariants.{Ended, Client}
 
 pub renew_done : (n : ℕ) (s new : CoreState) (l lists : NfsLists) (current : Option ℕ) (clientid number : ℕ) (row : ClientRow) (id : List ℕ) (time : Moment) → Some number ≡ number_in s clientid → Some row ≡ find (is_client number true) l.clients
     → id ≡ row.id → all_done n s (Renews id ∷ []) ≡ new → all_told_of n s (Renews id ∷ []) ≡ [] → time ≡ lease_end s → lists ≡ renewed time number l
@@ -132,10 +132,3 @@ held_done n s new l lists current number verifier row id time status found ends 
 pub confirmed_there : (verifier : List ℕ) (o : Option ClientRow) (row : ClientRow) → Some row ≡ confirmed_by verifier o → IsSome o
 confirmed_there verifier None row e = absurd (true≢false (ap is_some e))
 confirmed_there verifier (Some r) row e = refl
-
--- the lease of a client that is found is renewed
-pub renewals_done : (n : ℕ) (s new : CoreState) (l : NfsLists) (number : ℕ) (row : ClientRow) (id : List ℕ) → Some row ≡ find (is_client number true) l.clients → id ≡ row.id → all_done n s (Renews id ∷ []) ≡ new → all_done n s (renewals l (Some number)) ≡ new
-renewals_done n s new l number row id found same done = ap (λ (o : Option ClientRow). all_done n s (renewals_by o)) (sym found) ∙ ap (λ (i : List ℕ). all_done n s (Renews i ∷ [])) (sym same) ∙ done
-
-pub renewals_told : (n : ℕ) (s : CoreState) (l : NfsLists) (number : ℕ) (row : ClientRow) (id : List ℕ) → Some row ≡ find (is_client number true) l.clients → id ≡ row.id → all_told_of n s (Renews id ∷ []) ≡ [] → all_told_of n s (renewals l (Some number)) ≡ []
-renewals_told n s l number row id found same told = ap (λ (o : Option ClientRow). all_told_of n s (renewals_by o)) (sym found) ∙ ap (λ (i : List ℕ). all_told_of n s (Renews i ∷ [])) (sym same) ∙ told

@@ -1,5 +1,5 @@
 -- What a COMPOUND comes to, operation by operation.
-use Rattle.std.proofs.Common.{◌≡◌, ℕ, zero, suc, ◌-◌, Bool, true, false, true≢false, Result, Ok, List, [], Option, refl, sym, ap, subst, ◌∙◌, inl, inr, arith}
+use Rattle.std.proofs.Common.{◌≡◌, ℕ, zero, suc, ◌-◌, Bool, true, false, Result, Ok, List, [], Option, refl, sym, ap, subst, ◌∙◌, inl, inr, arith}
 use Rattle.std.proofs.lemmas.Bool.{cases_Bool}
 use Rattle.std.specs.Prelude.{if◌then◌else◌}
 use Rattle.xl_nfs.specs.Ops.{OpItem, OpFits, op_number, op_at}
@@ -10,13 +10,12 @@ use Rattle.xl_core.specs.Rows.{Ran, go_on, all_ran}
 use Rattle.xl_core.specs.State.{CoreState}
 use Rattle.xl_core.specs.declared.ask.Effect.{Effect}
 use Rattle.xl_nfs_state.specs.State.{NfsLists}
-use Rattle.xl_front_nfs.specs.Plans.{Outcome, carried}
-use Rattle.xl_front_nfs.specs.Results.{ToldFits}
+use Rattle.xl_nfs_opens.specs.Plans.{Outcome, carried}
+use Rattle.xl_nfs_opens.specs.Results.{ToldFits}
 use Rattle.xl_front_nfs.specs.Steps.{planned, Runs, Garbled, Course, noted, is_served, ran, step_then, steps_in}
-use Rattle.std.specs.Bool.{◌==◌}
 use Rattle.xl_rpc.specs.declared.fault.RpcBad.{RpcBad}
-use Rattle.xl_front_nfs.specs.declared.told.Told.{Told}
-use Rattle.xl_front_nfs.specs.declared.told.Told.TheVariants.{Ended}
+use Rattle.xl_nfs_opens.specs.declared.told.Told.{Told}
+use Rattle.xl_nfs_opens.specs.declared.told.Told.TheVariants.{Ended}
 use Rattle.xl_front_nfs.proofs.PlanLaws.{plan_fits, number_small}
 
 -- ---- one operation

@@ -12,10 +12,10 @@ use Rattle.xl_core.specs.State.{CoreState}
 use Rattle.xl_core.specs.declared.ask.Effect.{Effect}
 use Rattle.xl_core.proofs.DeedRows.{row_does}
 use Rattle.xl_front_nfs.specs.FrontNfs.{Called, Garbage, Null, Refused, Compound, call_in, call_deeds, nfs_deeds, call_reply, nfs_reply, replied, nfs_step}
-use Rattle.xl_front_nfs.specs.Plans.{Plan, Fails, Does, Behind, Asking, deeds_of, carried}
+use Rattle.xl_nfs_opens.specs.Plans.{Plan, Fails, Does, Behind, Asking, deeds_of, carried}
 use Rattle.xl_front_nfs.specs.State.{FrontNfs}
 use Rattle.xl_front_nfs.specs.Steps.{Step, Runs, Garbled, Cut, Course, begun, plan_of, ran, step_deeds}
-use Rattle.xl_front_nfs.proofs.LeaveLaws.{told_append}
+use Rattle.xl_front_nfs.proofs.EndingLaws.{told_append}
 
 pub plan_does : (n : ℕ) (s : CoreState) (l : NfsLists) (current : Option ℕ) (plan : Plan) → (carried n s l current plan).4 ≡ all_done n s (deeds_of n s plan)
 plan_does n s l current (Fails status) = refl

@@ -16,13 +16,15 @@ use Rattle.xl_nfs_state.specs.declared.client.ClientRow.{ClientRow}
 use Rattle.xl_core.specs.Deeds.{Deed}
 use Rattle.xl_core.specs.Rows.{Ran, go_on, all_ran, more_deeds, all_deeds}
 use Rattle.xl_core.specs.State.{CoreState}
-use Rattle.xl_front_nfs.specs.Clients.{number_in, renew_found, renew_number, renew, has_room, set_by, set_client_id, number_kept, without_named, without_number, confirm_over, confirm_held, confirmed_by, confirm_found, confirm_number, set_client_id_confirm}
-use Rattle.xl_front_nfs.specs.Handles.{put_root_fh, put_file, put_fh, get_fh, file_named, found_file, look_up}
-use Rattle.xl_front_nfs.specs.Closing.{open_confirm, close, deleg_return}
-use Rattle.xl_front_nfs.specs.Downgrades.{open_downgrade}
-use Rattle.xl_front_nfs.specs.Opens.{open_file}
-use Rattle.xl_front_nfs.proofs.EndLaws.{Well, carried_well, open_ends, confirm_ends, downgrade_ends, close_ends, return_ends}
-use Rattle.xl_front_nfs.specs.Plans.{Plan, carried, status_of}
+use Rattle.xl_front_nfs.specs.Clients.{renew_found, renew_number, renew, has_room, set_by, set_client_id, number_kept, without_named, without_number, confirm_over, confirm_held, confirmed_by, confirm_found, confirm_number, set_client_id_confirm}
+use Rattle.xl_nfs_opens.specs.Leases.{number_in}
+use Rattle.xl_front_nfs.specs.Handles.{put_root_fh, put_file, put_fh, get_fh, found_file, look_up}
+use Rattle.xl_nfs_opens.specs.Files.{file_named}
+use Rattle.xl_nfs_opens.specs.Closing.{open_confirm, close, deleg_return}
+use Rattle.xl_nfs_opens.specs.Downgrades.{open_downgrade}
+use Rattle.xl_nfs_opens.specs.Opens.{open_file}
+use Rattle.xl_nfs_opens.proofs.EndLaws.{Well, carried_well, open_ends, confirm_ends, downgrade_ends, close_ends, return_ends}
+use Rattle.xl_nfs_opens.specs.Plans.{Plan, carried, status_of}
 use Rattle.xl_front_nfs.specs.State.{FrontNfs, nfs_tick}
 use Rattle.xl_front_nfs.specs.Steps.{planned, Step, Runs, Garbled, Cut, Course, ran, step_deeds}
 

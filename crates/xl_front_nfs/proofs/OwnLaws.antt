@@ -19,17 +19,19 @@ use Rattle.xl_core.proofs.DeedLists.{deeds_good}
 use Rattle.xl_core.proofs.DeedRows.{row_takes}
 use Rattle.xl_core.specs.Clients.{IsOf}
 use Rattle.xl_core.specs.Good.{IsGood}
-use Rattle.xl_front_nfs.proofs.OpenOwn.{Owned, by_append, open_own, confirm_own, downgrade_own, close_own, return_own}
+use Rattle.xl_nfs_opens.proofs.OpenOwn.{Owned, by_append, open_own, confirm_own, downgrade_own, close_own, return_own}
 use Rattle.std.proofs.Common.{sym}
 use Rattle.xl_core.specs.Asking.{party_named}
-use Rattle.xl_core.specs.Deeds.{Deed, Asks, GivesBack, Weakens, Draws, Ends, Renews, done, all_done, AreFit}
+use Rattle.xl_core.specs.Deeds.{Deed, Asks, GivesBack, Weakens, Draws, Ends, Renews, done, AreFit}
 use Rattle.xl_core.specs.Rows.{Ran, more_deeds, all_deeds}
 use Rattle.xl_core.specs.State.{CoreState}
-use Rattle.xl_front_nfs.specs.Clients.{number_in, renew_found, renew_number, renew, draws, ends, has_room, set_by, set_client_id, number_kept, without_named, without_number, confirm_over, confirm_held, confirmed_by, confirm_found, confirm_number, set_client_id_confirm}
+use Rattle.xl_front_nfs.specs.Clients.{renew_found, renew_number, renew, draws, ends, has_room, set_by, set_client_id, number_kept, without_named, without_number, confirm_over, confirm_held, confirmed_by, confirm_found, confirm_number, set_client_id_confirm}
+use Rattle.xl_nfs_opens.specs.Leases.{number_in}
 use Rattle.xl_front_nfs.specs.FrontNfs.{Called, Garbage, Null, Refused, Compound, call_in, call_deeds, nfs_deeds}
-use Rattle.xl_front_nfs.specs.Handles.{put_root_fh, put_file, put_fh, get_fh, file_named, found_file, look_up}
-use Rattle.xl_front_nfs.specs.Owners.{is_named, Names, AreBy}
-use Rattle.xl_front_nfs.specs.Plans.{Plan, deeds_of}
+use Rattle.xl_front_nfs.specs.Handles.{put_root_fh, put_file, put_fh, get_fh, found_file, look_up}
+use Rattle.xl_nfs_opens.specs.Files.{file_named}
+use Rattle.xl_nfs_opens.specs.Owners.{is_named, Names, AreBy}
+use Rattle.xl_nfs_opens.specs.Plans.{Plan, deeds_of}
 use Rattle.xl_front_nfs.specs.State.{FrontNfs}
 use Rattle.xl_front_nfs.specs.Theirs.{IsTheirs, IfMore, AreAllTheirs, AreTheirsBy, AreTheirs}
 use Rattle.xl_front_nfs.proofs.DoesLaws.{step_does}

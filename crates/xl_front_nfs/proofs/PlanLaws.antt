@@ -11,17 +11,19 @@ use Rattle.xl_nfs.specs.declared.status.NfsStatus.TheVariants as statuses
 use Rattle.xl_nfs_state.specs.State.{NfsLists, is_client, is_client_named}
 use Rattle.xl_nfs_state.specs.declared.client.ClientRow.{ClientRow}
 use Rattle.xl_core.specs.State.{CoreState}
-use Rattle.xl_front_nfs.specs.Clients.{number_in, renew_found, renew_number, renew, number_kept, has_room, set_by, without_named, set_client_id, without_number, confirm_over, confirm_held, confirmed_by, confirm_found, confirm_number, set_client_id_confirm}
-use Rattle.xl_front_nfs.specs.Handles.{put_root_fh, put_file, put_fh, get_fh, file_named, found_file, look_up}
-use Rattle.xl_front_nfs.specs.Closing.{open_confirm, close, deleg_return}
-use Rattle.xl_front_nfs.specs.Downgrades.{open_downgrade}
-use Rattle.xl_front_nfs.specs.Opens.{open_file}
-use Rattle.xl_front_nfs.proofs.EndLaws.{Well, carried_well, open_ends, confirm_ends, downgrade_ends, close_ends, return_ends}
-use Rattle.xl_front_nfs.specs.Plans.{Plan, carried}
-use Rattle.xl_front_nfs.specs.Results.{ToldFits}
+use Rattle.xl_front_nfs.specs.Clients.{renew_found, renew_number, renew, number_kept, has_room, set_by, without_named, set_client_id, without_number, confirm_over, confirm_held, confirmed_by, confirm_found, confirm_number, set_client_id_confirm}
+use Rattle.xl_nfs_opens.specs.Leases.{number_in}
+use Rattle.xl_front_nfs.specs.Handles.{put_root_fh, put_file, put_fh, get_fh, found_file, look_up}
+use Rattle.xl_nfs_opens.specs.Files.{file_named}
+use Rattle.xl_nfs_opens.specs.Closing.{open_confirm, close, deleg_return}
+use Rattle.xl_nfs_opens.specs.Downgrades.{open_downgrade}
+use Rattle.xl_nfs_opens.specs.Opens.{open_file}
+use Rattle.xl_nfs_opens.proofs.EndLaws.{Well, carried_well, open_ends, confirm_ends, downgrade_ends, close_ends, return_ends}
+use Rattle.xl_nfs_opens.specs.Plans.{Plan, carried}
+use Rattle.xl_nfs_opens.specs.Results.{ToldFits}
 use Rattle.xl_front_nfs.specs.Steps.{planned, is_served}
-use Rattle.xl_front_nfs.specs.declared.told.Told.TheVariants.{Ended}
-use Rattle.xl_front_nfs.proofs.ResultLaws.{fault_fits, plain_15, plain_22, plain_24, plain_30, plain_36}
+use Rattle.xl_nfs_opens.specs.declared.told.Told.TheVariants.{Ended}
+use Rattle.xl_nfs_opens.proofs.ResultLaws.{fault_fits, plain_15, plain_22, plain_24, plain_30, plain_36}
 
 abbrev Fit : ℕ → ℕ → CoreState → NfsLists → Option ℕ → Plan → Type 0
 Fit number n s l current plan = ToldFits number (carried n s l current plan).0

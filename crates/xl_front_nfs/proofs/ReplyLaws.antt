@@ -8,7 +8,7 @@ use Rattle.xl_programs.proofs.ReplyLaws.{longer, reply_little}
 use Rattle.xl_rpc.specs.Replies.{reply}
 use Rattle.xl_rpc.specs.Xdr.{unsigned, opaque, fixed, pad}
 use Rattle.xl_rpc.specs.declared.reply.Verdict.TheVariants.{Success}
-use Rattle.xl_front_nfs.specs.Results.{compound_results}
+use Rattle.xl_nfs_opens.specs.Results.{compound_results}
 
 pad_little : (n : ℕ) → pad n ≤ 3
 unfolding pad

@@ -6,19 +6,13 @@ use Rattle.std.proofs.lemmas.Option.{same_Some}
 use Rattle.std.specs.Bool.{beq}
 use Rattle.std.specs.Cmp.{booleans_Decides}
 use Rattle.std.specs.List.{AllByRecursion, find, IsDistinct}
-use Rattle.std.specs.Prelude.{IsSome, bytes_eq, ◌&&◌, ◌==◌}
-use Rattle.std.proofs.lemmas.Bool.{eq-eqb}
+use Rattle.std.specs.Prelude.{IsSome, bytes_eq}
 use Rattle.xl_nfs_state.specs.Alike.{client_names_are}
 use Rattle.xl_nfs_state.specs.Keys.{client_name, same_client_name}
-use Rattle.std.specs.Option.{option_and_then}
-use Rattle.xl_nfs.specs.Opens.{OpenArgsItem}
-use Rattle.xl_core.specs.State.{CoreState}
-use Rattle.xl_nfs_state.specs.State.{NfsLists, without, is_client, is_client_named}
-use Rattle.xl_front_nfs.specs.Clients.{number_in}
-use Rattle.xl_front_nfs.specs.Opens.{client_in, opener_of}
-use Rattle.xl_front_nfs.specs.declared.opener.Opener.{Opener}
+use Rattle.xl_nfs_state.specs.State.{without, is_client, is_client_named}
 use Rattle.xl_nfs_state.specs.declared.client.ClientName.{ClientName}
 use Rattle.xl_nfs_state.specs.declared.client.ClientRow.{ClientRow}
+use Rattle.xl_nfs_opens.proofs.OpenerLaws.{is_itself}
 
 module _ {A : Type 0} where
   none_some : {B : Type 0} (x : A) → Some x ≡ None → B
@@ -77,9 +71,6 @@ named id b = record { id = id; confirmed = b }
 kind_is : (id : List ℕ) (b : Bool) (x : ClientRow) → is_client_named id b x ≡ true → x.confirmed ≡ b
 kind_is id b x h = sym ((booleans_Decides b x.confirmed).0 (and_parts (bytes_eq id x.id) (beq b x.confirmed) h).1)
 
-is_itself : (x : ClientRow) (b : Bool) → x.confirmed ≡ b → is_client x.number b x ≡ true
-is_itself x b e = subst (λ (k : Bool). (x.number == x.number && beq k x.confirmed) ≡ true) e (rw (eq-eqb x.number x.number refl) ((booleans_Decides x.confirmed x.confirmed).1 refl))
-
 pub named_numbered : (id : List ℕ) (b : Bool) (xs : List ClientRow) (r : ClientRow) → find (is_client_named id b) xs ≡ Some r → IsSome (find (is_client r.number b) xs)
 named_numbered id b [] r found = absurd (true≢false (ap is_some (sym found)))
 named_numbered id b (x ∷ xs) r found =
@@ -132,25 +123,3 @@ number_under id b xs number under = by (find (is_client_named id b) xs) refl und
     by : (o : Option ClientRow) → find (is_client_named id b) xs ≡ o → option_map (λ r. r.number) o ≡ Some number → IsSome (find (is_client number b) xs)
     by None e k = absurd (true≢false (ap is_some (sym k)))
     by (Some r) e k = subst (λ (m : ℕ). IsSome (find (is_client m b) xs)) (same_Some r.number number k) (named_numbered id b xs r e)
-
--- a client that is found is there by its own number
-number_there : (number : ℕ) (xs : List ClientRow) (r : ClientRow) → find (is_client number true) xs ≡ Some r → IsSome (find (is_client r.number true) xs)
-number_there number [] r found = absurd (true≢false (ap is_some (sym found)))
-number_there number (x ∷ xs) r found =
-    elim (cases_Bool (is_client number true x)) [
-      | inl e ↦
-          let same : x ≡ r = same_Some x r (rw e at found) in
-          let kind : x.confirmed ≡ true = sym ((booleans_Decides true x.confirmed).0 (and_parts (number == x.number) (beq true x.confirmed) e).1) in
-          subst (λ (y : ClientRow). IsSome (find (is_client y.number true) (x ∷ xs))) same (rw (is_itself x true kind) refl)
-      | inr e ↦ elim (cases_Bool (is_client r.number true x)) [
-        | inl d ↦ rw d refl
-        | inr d ↦ rw d (number_there number xs r (rw e at found))
-      ]
-    ]
-
-pub opener_there : (s : CoreState) (l : NfsLists) (a : OpenArgsItem) (c : ClientRow) (o : Opener) → Some c ≡ client_in s l a.owner.clientid → o ≡ opener_of c a → IsSome (find (is_client o.client true) l.clients)
-opener_there s l a c o found is = subst (λ (x : Opener). IsSome (find (is_client x.client true) l.clients)) (sym is) (by (number_in s a.owner.clientid) (sym found))
-  where
-    by : (n : Option ℕ) → option_and_then (λ m. find (is_client m true) l.clients) n ≡ Some c → IsSome (find (is_client c.number true) l.clients)
-    by None e = absurd (true≢false (ap is_some (sym e)))
-    by (Some m) e = number_there m l.clients c e

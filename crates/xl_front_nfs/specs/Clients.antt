@@ -1,5 +1,5 @@
 -- Operations of clients (RFC 7530 9.1.1, 9.5, 16.28, 16.33, 16.34).
-use Rattle.std.specs.Prelude.{ℕ, ◌+◌, ◌*◌, ◌/◌, ◌%◌, ◌^◌, true, false, ◌==◌, nat_lt, bytes_eq, Bool, if◌then◌else◌, List, [], ◌∷◌, ◌++◌, length, Option, Some, None}
+use Rattle.std.specs.Prelude.{ℕ, ◌+◌, true, false, ◌==◌, nat_lt, bytes_eq, Bool, if◌then◌else◌, List, [], ◌∷◌, ◌++◌, length, Option, Some, None}
 use Rattle.std.specs.Int.{w64, to_be_bytes}
 use Rattle.std.specs.List.{find}
 use Rattle.xl_base.specs.declared.event.Moment.{Moment}
@@ -15,30 +15,12 @@ use Rattle.xl_nfs_state.specs.declared.client.ClientDetails.{ClientDetails}
 use Rattle.xl_nfs_state.specs.declared.client.ClientRow.{ClientRow}
 use Rattle.xl_core.specs.Asking.{party_named}
 use Rattle.xl_core.specs.Deeds.{Deed, Draws, Ends, Renews}
-use Rattle.xl_core.specs.Leases.{moment_after}
 use Rattle.xl_core.specs.State.{CoreState}
-use Rattle.xl_front_nfs.specs.Plans.{Plan, Fails, Does}
-use Rattle.xl_front_nfs.specs.declared.told.Told.TheVariants.{Ended, Client}
+use Rattle.xl_nfs_opens.specs.Leases.{clientid_of, number_in, lease_end, renewed}
+use Rattle.xl_nfs_opens.specs.Plans.{Plan, Fails, Does}
+use Rattle.xl_nfs_opens.specs.declared.told.Told.TheVariants.{Ended, Client}
 
--- ---- clientids
-
--- the clientid of the client of this number: the epoch of this start, and the number
-abbrev pub clientid_of : CoreState → ℕ → ℕ
-clientid_of s number = s.stable.epoch * 2 ^ 32 + number
-
--- the number in a clientid, where it is of this start
-abbrev pub number_in : CoreState → ℕ → Option ℕ
-number_in s clientid = if clientid / 2 ^ 32 == s.stable.epoch then Some (clientid % 2 ^ 32) else None
-
--- ---- leases
-
--- when a lease ends that is renewed now, and an unconfirmed record goes that comes now
-abbrev pub lease_end : CoreState → Moment
-lease_end s = moment_after s.clock s.times.lease
-
--- the lease of the confirmed client of this number ends then
-abbrev pub renewed : Moment → ℕ → NfsLists → NfsLists
-renewed time number l = with_clients l (changed (is_client number true) (with_time time) l.clients)
+-- ---- RENEW (16.28)
 
 abbrev pub renew_found : CoreState → NfsLists → Option ℕ → ℕ → Option ClientRow → Plan
 renew_found s l current number None = Fails StaleClientId
@@ -48,7 +30,6 @@ abbrev pub renew_number : CoreState → NfsLists → Option ℕ → Option ℕ �
 renew_number s l current None = Fails StaleClientId
 renew_number s l current (Some number) = renew_found s l current number (find (is_client number true) l.clients)
 
--- RENEW (16.28)
 unfoldable pub renew : CoreState → NfsLists → Option ℕ → ℕ → Plan
 renew s l current clientid = renew_number s l current (number_in s clientid)
 

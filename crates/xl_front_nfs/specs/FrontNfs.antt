@@ -1,5 +1,5 @@
 -- What a call of program 100003 version 4 is answered (RFC 7530 14.1, 14.2).
-use Rattle.std.specs.Prelude.{ℕ, not, ◌==◌, nat_lt, if◌then◌else◌, List, [], ◌∷◌, ◌++◌, length, Result, Ok, Err}
+use Rattle.std.specs.Prelude.{ℕ, not, ◌==◌, nat_lt, if◌then◌else◌, List, [], ◌++◌, length, Result, Ok, Err}
 use Rattle.xl_base.specs.declared.event.Out.{Out}
 use Rattle.xl_base.specs.declared.journal.Exports.{Exports}
 use Rattle.xl_nfs.specs.Compounds.{CompoundHeadItem, compound_head_at}
@@ -14,7 +14,7 @@ use Rattle.xl_core.specs.Deeds.{Deed}
 use Rattle.xl_core.specs.Rows.{Ran, all_ran, all_deeds}
 use Rattle.xl_core.specs.State.{CoreState}
 use Rattle.xl_core.specs.declared.ask.Effect.{Effect}
-use Rattle.xl_front_nfs.specs.Results.{compound_results}
+use Rattle.xl_nfs_opens.specs.Results.{compound_results}
 use Rattle.xl_front_nfs.specs.State.{FrontNfs}
 use Rattle.xl_front_nfs.specs.Steps.{Step, Course, begun, steps_in, ran, step_deeds}
 

@@ -1,17 +1,7 @@
-pub mod Short
 pub mod State
-pub mod Seqids
-pub mod Plans
-pub mod Results
 pub mod Handles
 pub mod Clients
-pub mod Renewing
-pub mod Opens
-pub mod Closing
-pub mod Downgrades
-pub mod Laws
 pub mod Steps
 pub mod Courses
 pub mod FrontNfs
-pub mod Owners
 pub mod Theirs

@@ -12,12 +12,12 @@ use Rattle.xl_core.specs.Rows.{Ran}
 use Rattle.xl_core.specs.State.{CoreState}
 use Rattle.xl_core.specs.declared.ask.Effect.{Effect}
 use Rattle.xl_front_nfs.specs.Clients.{renew, set_client_id, set_client_id_confirm}
-use Rattle.xl_front_nfs.specs.Closing.{open_confirm, close, deleg_return}
-use Rattle.xl_front_nfs.specs.Downgrades.{open_downgrade}
+use Rattle.xl_nfs_opens.specs.Closing.{open_confirm, close, deleg_return}
+use Rattle.xl_nfs_opens.specs.Downgrades.{open_downgrade}
 use Rattle.xl_front_nfs.specs.Handles.{put_root_fh, put_fh, get_fh, look_up}
-use Rattle.xl_front_nfs.specs.Opens.{open_file}
-use Rattle.xl_front_nfs.specs.Plans.{Plan, Fails, deeds_of, Outcome, carried, status_of}
-use Rattle.xl_front_nfs.specs.Results.{spelled}
+use Rattle.xl_nfs_opens.specs.Opens.{open_file}
+use Rattle.xl_nfs_opens.specs.Plans.{Plan, Fails, deeds_of, Outcome, carried, status_of}
+use Rattle.xl_nfs_opens.specs.Results.{spelled}
 use Rattle.xl_front_nfs.specs.State.{FrontNfs}
 
 -- ---- the table

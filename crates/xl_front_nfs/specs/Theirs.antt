@@ -4,7 +4,7 @@ use Rattle.xl_base.specs.declared.journal.Exports.{Exports}
 use Rattle.xl_programs.specs.Programs.{RequestItem}
 use Rattle.xl_core.specs.State.{CoreState}
 use Rattle.xl_front_nfs.specs.FrontNfs.{Called, Compound, call_in}
-use Rattle.xl_front_nfs.specs.Owners.{Names, AreBy}
+use Rattle.xl_nfs_opens.specs.Owners.{Names, AreBy}
 use Rattle.xl_front_nfs.specs.State.{FrontNfs}
 use Rattle.xl_front_nfs.specs.Steps.{Step, Runs, Course, begun, ran, step_deeds}
 

@@ -1,36 +1,18 @@
-//! RENEW, and what the operations of clients share.
-ghost use Rattle.std.specs.Prelude.{◌≡◌, ℕ, [], IfOk, OnOk};
+//! RENEW (RFC 7530 16.28).
+ghost use Rattle.std.specs.Prelude.{◌≡◌, ℕ, IfOk, OnOk};
 ghost use Rattle.xl_front_nfs.specs.Clients.{renew};
-ghost use Rattle.xl_front_nfs.specs.Plans.{carried};
-ghost use Rattle.xl_front_nfs.specs.Short.{IsReady, Leaves};
+ghost use Rattle.xl_nfs_opens.specs.Plans.{carried};
+ghost use Rattle.xl_nfs_opens.specs.Short.{IsReady, Leaves};
 
-use crate::leases::{lease_end, number_in, renewed};
-use crate::told::Told;
 use std::alloc::{AllocError, Global};
 use xl_base::Sequence;
-use xl_core::{Core, Effect};
+use xl_core::Core;
 use xl_nfs::NfsStatus;
+use xl_nfs_opens::{Done, Told, ended_as, lease_end, number_in, renewed};
 use xl_nfs_state::NfsState;
 
-/// What an operation told, the current handle then, and what the core told of besides.
-pub(crate) type Done = (Told, Option<u32>, Sequence<Effect>);
-
-/// It ended so, and the current handle stays.
-pub(crate) fn ended_as(alloc: Global, status: NfsStatus, current: Option<u32>) -> Done
-    ensures { result ≡ (Told.Ended status, current, []) }
-{
-    (Told::Ended(status), current, Sequence::new(alloc))
-}
-
-/// It told so, and the core tells of nothing besides.
-pub(crate) fn beside(alloc: Global, done: (Told, Option<u32>)) -> Done
-    ensures { result ≡ (done.0, done.1, []) }
-{
-    (done.0, done.1, Sequence::new(alloc))
-}
-
 /// RENEW.
-#[tactic(auto, unfolding(crate::specs::Clients::renew), using(crate::proofs::LeaveLaws::leaves_self, crate::proofs::ClientLaws::renew_done))]
+#[tactic(auto, unfolding(crate::specs::Clients::renew), using(xl_nfs_opens::proofs::LeaveLaws::leaves_self, crate::proofs::ClientLaws::renew_done))]
 pub(crate) fn renew(
     alloc: Global,
     state: &mut NfsState,

@@ -1,5 +1,5 @@
 //! A COMPOUND (RFC 7530 14.2): its operations in a row, up to the first that fails.
-ghost use Rattle.std.specs.Prelude.{◌≡◌, ℕ, ◌+◌, ◌*◌, ◌<◌, ◌≤◌, ◌^◌, ◌++◌, Bool, List, true, false, length, if◌then◌else◌, IfOk, OnOk};
+ghost use Rattle.std.specs.Prelude.{◌≡◌, ℕ, ◌+◌, ◌*◌, ◌<◌, ◌≤◌, ◌++◌, List, false, length, if◌then◌else◌, IfOk, OnOk};
 ghost use Rattle.xl_nfs.specs.Ops.{shown_op, OpFits};
 ghost use Rattle.xl_nfs.specs.Outcomes.{is_ok};
 ghost use Rattle.xl_nfs.specs.declared.status.NfsStatus.TheVariants.{BadXdr, NotSupp};
@@ -8,18 +8,16 @@ ghost use Rattle.xl_rpc.specs.Xdr.{unsigned_at};
 ghost use Rattle.xl_core.specs.Rows.{all_ran};
 ghost use Rattle.xl_core.specs.State.{CoreState, MayBe};
 ghost use Rattle.xl_front_nfs.specs.Courses.{course_of};
-ghost use Rattle.xl_front_nfs.specs.Results.{ToldFits};
-ghost use Rattle.xl_front_nfs.specs.Short.{IsReady, Leaves};
+ghost use Rattle.xl_nfs_opens.specs.Results.{ToldFits};
+ghost use Rattle.xl_nfs_opens.specs.Short.{IsReady, Leaves};
 ghost use Rattle.xl_front_nfs.specs.Steps.{is_served, steps_in, fault_of, noted, ran, Runs, Garbled};
 
-use crate::clients::Done;
-use crate::results::put_result;
 use crate::serving::serve;
-use crate::told::Told;
 use std::alloc::{AllocError, Global};
 use xl_base::{Keeper, Sequence};
 use xl_core::{Core, Effect};
 use xl_nfs::{NfsOp, NfsStatus, next_op, operation};
+use xl_nfs_opens::{Done, Told, put_result};
 use xl_nfs_state::NfsState;
 use xl_rpc::{Xdr, XdrOut};
 
@@ -166,7 +164,7 @@ fn refuse_rest(alloc: Global, progress: &mut Progress, rest: &Xdr) -> Result<(),
 }
 
 /// Does so many operations, read one behind the other, up to the first that isn't OK or can't be read.
-#[tactic(auto, using(crate::proofs::LeaveLaws::leaves_self, crate::proofs::LeaveLaws::leaves_more, crate::proofs::LeaveLaws::step_ready, crate::proofs::LeaveLaws::steps_leave, crate::proofs::LeaveLaws::may_before))]
+#[tactic(auto, using(xl_nfs_opens::proofs::LeaveLaws::leaves_self, xl_nfs_opens::proofs::LeaveLaws::leaves_more, crate::proofs::EndingLaws::step_ready, crate::proofs::EndingLaws::steps_leave, xl_nfs_opens::proofs::LeaveLaws::may_before))]
 pub(crate) fn run_ops<K: Keeper>(
     alloc: Global,
     files: &[Sequence<u8>],

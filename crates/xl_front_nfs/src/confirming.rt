@@ -3,21 +3,20 @@ ghost use Rattle.std.specs.Prelude.{◌≡◌, ℕ, ◌<◌, ◌==◌, ◌∷◌
 ghost use Rattle.std.specs.List.{find};
 ghost use Rattle.xl_names.specs.declared.name.Name.TheVariants.{NfsParty};
 ghost use Rattle.xl_nfs.specs.declared.status.NfsStatus.TheVariants.{Ok, StaleClientId};
-ghost use Rattle.xl_nfs_state.specs.State.{is_client, is_client_named, most_clients, without_client};
+ghost use Rattle.xl_nfs_state.specs.State.{is_client, is_client_named, most_clients};
 ghost use Rattle.xl_core.specs.Asking.{party_named};
 ghost use Rattle.xl_core.specs.Deeds.{all_done, all_told_of, Renews};
 ghost use Rattle.xl_front_nfs.specs.Clients.{ends, come, come_again, confirm_beside, confirm_held, confirmed_by, confirm_found, set_client_id_confirm};
-ghost use Rattle.xl_front_nfs.specs.Plans.{carried};
-ghost use Rattle.xl_front_nfs.specs.Short.{IsReady, Leaves};
+ghost use Rattle.xl_nfs_opens.specs.Plans.{carried};
+ghost use Rattle.xl_nfs_opens.specs.Short.{IsReady, Leaves};
 
-use crate::clients::{Done, ended_as};
-use crate::leases::{ended, lease_end, number_in, renewed};
+use crate::ending::ended;
 use crate::rows::{confirmed_by, drop_number, enter, forget, number_named};
-use crate::told::Told;
 use std::alloc::{AllocError, Global};
 use xl_base::{Moment, Sequence};
 use xl_core::{Core, Effect};
 use xl_nfs::{ClientConfirm, NfsStatus};
+use xl_nfs_opens::{Done, Told, ended_as, lease_end, number_in, renewed};
 use xl_nfs_state::{ClientRow, NfsState};
 
 /// The client comes under this number, where there is room and none has its id string.
@@ -53,7 +52,7 @@ fn come_again(state: &mut NfsState, number: u32, row: ClientRow, time: Moment)
 }
 
 /// The lease of the client of this id string runs from now on, and what it had before goes, where it was another client.
-#[tactic(auto, using(crate::proofs::LeaveLaws::leaves_self))]
+#[tactic(auto, using(xl_nfs_opens::proofs::LeaveLaws::leaves_self))]
 fn ended_and_renewed(
     alloc: Global,
     core: &mut Core,
@@ -168,7 +167,7 @@ fn held_status(row: &ClientRow, verifier: &[u8; 8]) -> NfsStatus
 }
 
 /// A confirmed client is named: its lease runs from now on, whether this verifier confirmed it or not.
-#[tactic(auto, using(crate::proofs::LeaveLaws::leaves_self))]
+#[tactic(auto, using(xl_nfs_opens::proofs::LeaveLaws::leaves_self))]
 fn confirm_held(
     alloc: Global,
     state: &mut NfsState,
@@ -217,7 +216,7 @@ fn confirm_found(
 }
 
 /// SETCLIENTID_CONFIRM.
-#[tactic(auto, unfolding(crate::specs::Clients::set_client_id_confirm), using(crate::proofs::LeaveLaws::leaves_self))]
+#[tactic(auto, unfolding(crate::specs::Clients::set_client_id_confirm), using(xl_nfs_opens::proofs::LeaveLaws::leaves_self))]
 pub(crate) fn set_client_id_confirm(
     alloc: Global,
     state: &mut NfsState,

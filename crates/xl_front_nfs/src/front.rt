@@ -1,7 +1,5 @@
 //! What the front keeps, and what the clock and the core's news change of it.
-ghost use Rattle.std.specs.Prelude.{◌≡◌, option_map};
-ghost use Rattle.std.specs.List.{find};
-ghost use Rattle.xl_nfs_state.specs.State.{is_client_named};
+ghost use Rattle.std.specs.Prelude.{◌≡◌};
 ghost use Rattle.xl_front_nfs.specs.State.{empty_nfs_front, nfs_tick, nfs_shown};
 
 use std::alloc::Global;

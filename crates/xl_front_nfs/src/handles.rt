@@ -1,13 +1,14 @@
 //! Operations on the current filehandle.
-ghost use Rattle.std.specs.Prelude.{◌≡◌, ℕ, [], bytes_eq, position, Option};
+ghost use Rattle.std.specs.Prelude.{◌≡◌, ℕ, [], Option};
 ghost use Rattle.xl_nfs_state.specs.State.{NfsLists};
 ghost use Rattle.xl_core.specs.State.{CoreState};
-ghost use Rattle.xl_front_nfs.specs.Handles.{put_root_fh, put_file, put_fh, get_fh, file_number, file_named, look_up};
-ghost use Rattle.xl_front_nfs.specs.Plans.{carried};
+ghost use Rattle.xl_front_nfs.specs.Handles.{put_root_fh, put_file, put_fh, get_fh, look_up};
+ghost use Rattle.xl_nfs_opens.specs.Files.{file_named};
+ghost use Rattle.xl_nfs_opens.specs.Plans.{carried};
 
-use crate::told::Told;
 use xl_base::{Sequence, file_of};
 use xl_nfs::NfsStatus;
+use xl_nfs_opens::{Told, file_named};
 
 /// It failed so, and the current handle stays.
 fn failed(status: NfsStatus, current: Option<u32>) -> (Told, Option<u32>)
@@ -54,32 +55,6 @@ pub(crate) fn get_fh(current: Option<u32>) -> (Told, Option<u32>)
     match current {
         Some(file) => (Told::Handle(file), current),
         None => failed(NfsStatus::NoFileHandle, current),
-    }
-}
-
-/// The place of the first file of this name.
-fn place_of(files: &[Sequence<u8>], name: &[u8]) -> Option<usize>
-    ensures { result ≡ position (bytes_eq name.now) files.now }
-{
-    files.iter().position(|file| name == file.as_slice())
-}
-
-/// The number of the file at this place.
-fn file_number(place: usize) -> Option<u32>
-    ensures { result ≡ file_number place }
-{
-    let before = u32::try_from(place).ok()?;
-    before.checked_add(1)
-}
-
-/// The number of the first file of this name.
-#[tactic(auto, unfolding(crate::specs::Handles::file_named))]
-pub(crate) fn file_named(files: &[Sequence<u8>], name: &[u8]) -> Option<u32>
-    ensures { result ≡ file_named files.now name.now }
-{
-    match place_of(files, name) {
-        Some(place) => file_number(place),
-        None => None,
     }
 }
 

@@ -1,9 +1,7 @@
 //! Records of clients that come, change and go.
-ghost use Rattle.std.specs.Prelude.{◌≡◌, ℕ, ◌<◌, ◌≤◌, ◌++◌, ◌∷◌, [], Bool, true, false, List, length, Some, None, IsSome, option_map, OnOk, IfOk};
+ghost use Rattle.std.specs.Prelude.{◌≡◌, ℕ, ◌<◌, ◌≤◌, Bool, true, false, List, length, Some, None, IsSome, option_map, OnOk, IfOk};
 ghost use Rattle.std.specs.List.{find};
-ghost use Rattle.xl_nfs_state.specs.Filed.{changed};
-ghost use Rattle.xl_nfs_state.specs.Rows.{with_details, with_time};
-ghost use Rattle.xl_nfs_state.specs.State.{is_client, is_client_named, most_clients, with_clients, without_client};
+ghost use Rattle.xl_nfs_state.specs.State.{is_client, is_client_named, most_clients, without_client};
 ghost use Rattle.xl_front_nfs.specs.Clients.{without_number, without_named, has_room, with_row, confirmed_by};
 
 use std::alloc::{AllocError, Global};

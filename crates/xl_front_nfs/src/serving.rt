@@ -1,26 +1,26 @@
 //! What becomes of an operation.
 ghost use Rattle.xl_core.specs.State.{MayBe};
-ghost use Rattle.std.specs.Prelude.{◌≡◌, ℕ, [], IfOk, OnOk};
+ghost use Rattle.std.specs.Prelude.{◌≡◌, ℕ, IfOk, OnOk};
 ghost use Rattle.xl_nfs.specs.Ops.{shown_op};
-ghost use Rattle.xl_front_nfs.specs.Plans.{carried};
-ghost use Rattle.xl_front_nfs.specs.Short.{IsReady, Leaves};
+ghost use Rattle.xl_nfs_opens.specs.Plans.{carried};
+ghost use Rattle.xl_nfs_opens.specs.Short.{IsReady, Leaves};
 ghost use Rattle.xl_front_nfs.specs.Steps.{planned};
 
-use crate::clients::{Done, beside, ended_as, renew};
-use crate::closing::{close, deleg_return, open_confirm};
+use crate::clients::renew;
 use crate::confirming::set_client_id_confirm;
-use crate::downgrading::open_downgrade;
 use crate::handles::{get_fh, look_up, put_fh, put_root_fh};
-use crate::opening::open_file;
 use crate::setting::set_client_id;
 use std::alloc::{AllocError, Global};
 use xl_base::{Keeper, Sequence};
 use xl_core::Core;
 use xl_nfs::{NfsOp, NfsStatus};
+use xl_nfs_opens::{
+    Done, beside, close, deleg_return, ended_as, open_confirm, open_downgrade, open_file,
+};
 use xl_nfs_state::NfsState;
 
 /// What an operation comes to, where these files are exported.
-#[tactic(auto, unfolding(crate::specs::Steps::planned), using(crate::proofs::LeaveLaws::leaves_self, crate::proofs::LeaveLaws::leaves_more, crate::proofs::LeaveLaws::ready_less))]
+#[tactic(auto, unfolding(crate::specs::Steps::planned), using(xl_nfs_opens::proofs::LeaveLaws::leaves_self, xl_nfs_opens::proofs::LeaveLaws::leaves_more, xl_nfs_opens::proofs::LeaveLaws::ready_less))]
 pub(crate) fn serve<K: Keeper>(
     alloc: Global,
     files: &[Sequence<u8>],

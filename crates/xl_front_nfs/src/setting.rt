@@ -5,17 +5,15 @@ ghost use Rattle.xl_nfs.specs.Clients.{shown_set_client_id_args};
 ghost use Rattle.xl_nfs_state.specs.State.{is_client_named};
 ghost use Rattle.xl_core.specs.Deeds.{all_done, all_told_of};
 ghost use Rattle.xl_front_nfs.specs.Clients.{number_kept, numbers, draws, row_of, confirm_of, has_room, set_under, set_beside, set_client_id};
-ghost use Rattle.xl_front_nfs.specs.Plans.{carried};
-ghost use Rattle.xl_front_nfs.specs.Short.{IsReady, Leaves};
+ghost use Rattle.xl_nfs_opens.specs.Plans.{carried};
+ghost use Rattle.xl_nfs_opens.specs.Short.{IsReady, Leaves};
 
-use crate::clients::{Done, ended_as};
-use crate::leases::{clientid_of, drawn, lease_end};
 use crate::rows::{drop_named, drop_number, enter, has_room};
-use crate::told::Told;
 use std::alloc::{AllocError, Global};
 use xl_base::{Moment, Sequence};
 use xl_core::Core;
 use xl_nfs::{ClientConfirm, NfsStatus, SetClientIdArgs};
+use xl_nfs_opens::{Done, Told, clientid_of, drawn, ended_as, lease_end};
 use xl_nfs_state::{Callback, ClientDetails, ClientRow, NfsState};
 
 /// The number that the client has already, where its confirmed record has the verifier.
@@ -29,7 +27,7 @@ fn number_kept(state: &NfsState, args: &SetClientIdArgs) -> Option<u32>
 }
 
 /// The client's number, which is new where it keeps none, and the one that confirms it.
-#[tactic(auto, using(crate::proofs::LeaveLaws::ready_then, crate::proofs::LeaveLaws::ready_less, crate::proofs::LeaveLaws::leaves_then, crate::proofs::LeaveLaws::leaves_more, crate::proofs::ClientLaws::numbers_new))]
+#[tactic(auto, using(xl_nfs_opens::proofs::LeaveLaws::ready_then, xl_nfs_opens::proofs::LeaveLaws::ready_less, xl_nfs_opens::proofs::LeaveLaws::leaves_then, xl_nfs_opens::proofs::LeaveLaws::leaves_more, crate::proofs::ClientLaws::numbers_new))]
 fn draw_numbers(core: &mut Core, kept: Option<u32>) -> (u32, u32)
     requires ready { IsReady 2 core.old }
     ensures numbers { result ≡ numbers core.old.counter kept }
@@ -103,7 +101,7 @@ fn confirm_of(core: &Core, number: u32, confirm: u32) -> ClientConfirm
 }
 
 /// SETCLIENTID, where no unconfirmed record has the id string.
-#[tactic(auto, using(crate::proofs::LeaveLaws::leaves_self, crate::proofs::LeaveLaws::leaves_more, crate::proofs::ClientLaws::set_done))]
+#[tactic(auto, using(xl_nfs_opens::proofs::LeaveLaws::leaves_self, xl_nfs_opens::proofs::LeaveLaws::leaves_more, crate::proofs::ClientLaws::set_done))]
 fn set_beside(
     alloc: Global,
     state: &mut NfsState,

@@ -9,8 +9,8 @@ ghost use Rattle.xl_rpc.specs.declared.reply.Verdict.TheVariants.{Success, Garba
 ghost use Rattle.xl_core.specs.State.{CoreState, MayBe};
 ghost use Rattle.xl_front_nfs.specs.Courses.{course_of};
 ghost use Rattle.xl_front_nfs.specs.FrontNfs.{null_in, compound_in, call_in, run, with_reply, replied, nfs_step};
-ghost use Rattle.xl_front_nfs.specs.Results.{compound_results};
-ghost use Rattle.xl_front_nfs.specs.Short.{IsReady, Leaves};
+ghost use Rattle.xl_nfs_opens.specs.Results.{compound_results};
+ghost use Rattle.xl_nfs_opens.specs.Short.{IsReady, Leaves};
 ghost use Rattle.xl_front_nfs.specs.State.{FrontNfs};
 ghost use Rattle.xl_front_nfs.specs.Steps.{begun, steps_in};
 
@@ -27,7 +27,7 @@ use xl_rpc::{Verdict, Xdr, XdrOut, write_reply};
 const MOST_OPS: u32 = 64;
 
 /// Writes the results of a COMPOUND (COMPOUND4res): the last status, the tag, and the results behind their count.
-#[tactic(auto, unfolding(crate::specs::Results::compound_results))]
+#[tactic(auto, unfolding(xl_nfs_opens::specs::Results::compound_results))]
 fn put_results(
     out: &mut XdrOut,
     tag: &[u8],
@@ -150,7 +150,7 @@ fn refused(
 }
 
 /// The reply to NULL.
-#[tactic(auto, using(crate::proofs::LeaveLaws::leaves_self, crate::proofs::LeaveLaws::leaves_more))]
+#[tactic(auto, using(xl_nfs_opens::proofs::LeaveLaws::leaves_self, xl_nfs_opens::proofs::LeaveLaws::leaves_more))]
 fn null(alloc: Global, request: &Request) -> Result<(Vec<u8>, Sequence<Effect>), AllocError>
     ensures done { (n : ℕ) (files : List (List ℕ)) (others : ℕ) (f : FrontNfs) (s : CoreState) → IfOk result (λ r. replied n files others f s request.now.xid (null_in request.now.arguments.rest.now) ≡ (r.0.items, r.1, f, s)) }
     ensures little { IfOk result (λ r. length r.0.items ≤ 65536) }
@@ -163,7 +163,7 @@ fn null(alloc: Global, request: &Request) -> Result<(Vec<u8>, Sequence<Effect>),
 }
 
 /// The reply to a COMPOUND: its minor version is judged before the number of its operations.
-#[tactic(auto, unfolding(xl_nfs::specs::Compounds::compound_head), using(crate::proofs::LeaveLaws::leaves_self, crate::proofs::LeaveLaws::leaves_more))]
+#[tactic(auto, unfolding(xl_nfs::specs::Compounds::compound_head), using(xl_nfs_opens::proofs::LeaveLaws::leaves_self, xl_nfs_opens::proofs::LeaveLaws::leaves_more))]
 fn compound<K: Keeper>(
     alloc: Global,
     files: &[Sequence<u8>],
@@ -203,7 +203,7 @@ fn compound<K: Keeper>(
 }
 
 /// The reply to a request.
-#[tactic(auto, unfolding(crate::specs::FrontNfs::call_in), using(crate::proofs::LeaveLaws::leaves_self, crate::proofs::LeaveLaws::leaves_more))]
+#[tactic(auto, unfolding(crate::specs::FrontNfs::call_in), using(xl_nfs_opens::proofs::LeaveLaws::leaves_self, xl_nfs_opens::proofs::LeaveLaws::leaves_more))]
 fn replied<K: Keeper>(
     alloc: Global,
     files: &[Sequence<u8>],

@@ -19,7 +19,7 @@ use Rattle.xl_front_nlm.specs.Short.{IsShort, AreShort, Leaves}
 use Rattle.xl_base.specs.declared.journal.Exports.{Exports}
 use Rattle.xl_programs.specs.Programs.{RequestItem, IncomingItem, Asked}
 use Rattle.xl_programs.specs.declared.program.Program.{Program}
-use Rattle.xl_front_nfs.specs.Short as nfs
+use Rattle.xl_nfs_opens.specs.Short as nfs
 use Rattle.xl_front_smb.specs.Short as smb
 use Rattle.xl_house.specs.declared.parts.Fronts.{Fronts}
 use Rattle.xl_house.specs.Machine.{Sent, grants, program_heard, record_heard, packet_heard, heard_by}

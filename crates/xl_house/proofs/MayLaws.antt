@@ -19,7 +19,7 @@ use Rattle.xl_core.specs.declared.ask.Effect.TheVariants.{Begun, Served, Cancell
 use Rattle.xl_core.proofs.DeedLaws.{deed_good}
 use Rattle.xl_core.proofs.FrameLaws.{ask_quiet, cancel_unserved, give_back_unserved, weaken_unserved, end_party_unserved, renew_unserved}
 use Rattle.xl_front_nfs.specs.FrontNfs.{nfs_deeds}
-use Rattle.xl_front_nfs.specs.Owners.{IsBy, AreBy}
+use Rattle.xl_nfs_opens.specs.Owners.{IsBy, AreBy}
 use Rattle.xl_front_nfs.specs.State.{FrontNfs}
 use Rattle.xl_front_nfs.proofs.OwnLaws.{request_by}
 use Rattle.xl_front_nlm.specs.FrontNlm.{nlm_client, nlm_deeds}

@@ -1,10 +1,10 @@
-use Rattle.std.proofs.Common.{◌∙◌, ℕ, ap}
+use Rattle.std.proofs.Common.{◌∙◌, ap}
 use Rattle.xl_nfs.specs.Ops.{shown_op}
 use Rattle.xl_core.specs.Rows.{Ran}
 use Rattle.xl_front_nfs.specs.Courses.{course_of}
 use Rattle.xl_front_nfs.specs.Steps.{Course}
 use Rattle.xl_front_nfs.proofs.CourseLaws.{course_goes_on}
-use Rattle.xl_front_nfs.proofs.LeaveLaws.{may_before}
+use Rattle.xl_nfs_opens.proofs.LeaveLaws.{may_before}
 use Rattle.xl_front_nfs.proofs.compound.+run_ops.Goals as goal
 
 pub returns-clause-course : goal.returns-clause-course

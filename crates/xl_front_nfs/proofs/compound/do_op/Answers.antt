@@ -1,7 +1,7 @@
 use Rattle.xl_nfs.specs.Ops.{shown_op}
 use Rattle.xl_front_nfs.specs.Courses.{course_of}
 use Rattle.xl_front_nfs.proofs.CourseLaws.{told_fits_op, op_ran}
-use Rattle.xl_front_nfs.proofs.LeaveLaws.{may_be_made}
+use Rattle.xl_nfs_opens.proofs.LeaveLaws.{may_be_made}
 use Rattle.xl_front_nfs.proofs.compound.do_op.Goals as goal
 
 pub note-requires-clause-fits : goal.note-requires-clause-fits

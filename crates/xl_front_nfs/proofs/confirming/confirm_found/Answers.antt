@@ -2,7 +2,7 @@ use Rattle.std.proofs.Common.{◌∙◌, sym, ap}
 use Rattle.std.proofs.lemmas.Result.{IfOk-weaker}
 use Rattle.xl_nfs_state.specs.State.{NfsLists}
 use Rattle.xl_front_nfs.specs.Clients.{confirm_beside}
-use Rattle.xl_front_nfs.specs.Plans.{carried}
+use Rattle.xl_nfs_opens.specs.Plans.{carried}
 use Rattle.xl_front_nfs.proofs.ClientLaws.{confirm_apart}
 use Rattle.xl_front_nfs.proofs.confirming.confirm_found.Goals as goal
 

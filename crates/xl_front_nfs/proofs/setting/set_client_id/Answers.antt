@@ -3,7 +3,7 @@ use Rattle.std.proofs.lemmas.Result.{IfOk-weaker}
 use Rattle.xl_nfs.specs.Clients.{shown_set_client_id_args}
 use Rattle.xl_nfs_state.specs.State.{NfsLists}
 use Rattle.xl_front_nfs.specs.Clients.{set_beside, set_client_id}
-use Rattle.xl_front_nfs.specs.Plans.{carried}
+use Rattle.xl_nfs_opens.specs.Plans.{carried}
 use Rattle.xl_front_nfs.proofs.ClientLaws.{set_apart}
 use Rattle.xl_front_nfs.proofs.setting.set_client_id.Goals as goal
 

@@ -1,0 +1,5 @@
+use Rattle.xl_front_nfs.proofs.EndingLaws.{end_leaves}
+use Rattle.xl_front_nfs.proofs.ending.end_party.Goals as goal
+
+pub returns-clause-leaves : goal.returns-clause-leaves
+returns-clause-leaves c = end_leaves _ _ _ _ c.requires.ready.good c.in_ok-effects.ensures.state c.in_ok-effects.ensures.good

@@ -1,5 +1,0 @@
-use Rattle.xl_front_nfs.proofs.LeaveLaws.{drawn_leaves}
-use Rattle.xl_front_nfs.proofs.leases.drawn.Goals as goal
-
-pub returns-clause-leaves : goal.returns-clause-leaves
-returns-clause-leaves c = drawn_leaves _ _ c.draw.ensures.state c.draw.ensures.good

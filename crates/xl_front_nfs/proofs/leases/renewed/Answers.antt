@@ -1,5 +1,0 @@
-use Rattle.xl_front_nfs.proofs.LeaveLaws.{renew_leaves}
-use Rattle.xl_front_nfs.proofs.leases.renewed.Goals as goal
-
-pub returns-clause-leaves : goal.returns-clause-leaves
-returns-clause-leaves c = renew_leaves _ _ _ _ c.in_ok-renew.ensures.state c.in_ok-renew.ensures.good

@@ -1,6 +1,0 @@
-use Rattle.std.proofs.Common.{rules}
-use Rattle.xl_front_nfs.proofs.ResultLaws.{client_grown}
-use Rattle.xl_front_nfs.proofs.results.put_client.Goals as goal
-
-pub returns-clause-little : goal.returns-clause-little
-returns-clause-little c = client_grown _ _ c.args.confirm (search rules) c.in_ok-write_result.ensures.ok

@@ -1,6 +1,0 @@
-use Rattle.std.proofs.Common.{rules}
-use Rattle.xl_front_nfs.proofs.ResultLaws.{open_grown}
-use Rattle.xl_front_nfs.proofs.results.put_opened.Goals as goal
-
-pub returns-clause-little : goal.returns-clause-little
-returns-clause-little c = open_grown _ _ _ c.args.stateid c.args.flags (search rules) c.opened_as.ensures c.in_ok-write_result.ensures.ok

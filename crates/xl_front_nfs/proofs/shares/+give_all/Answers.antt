@@ -1,5 +1,0 @@
-use Rattle.xl_front_nfs.proofs.LeaveLaws.{all_gives_told}
-use Rattle.xl_front_nfs.proofs.shares.+give_all.Goals as goal
-
-pub returns-clause-told : goal.returns-clause-told
-returns-clause-told t c = λ n. all_gives_told n c.args.core.now c.args.opener.now c.args.rows.now

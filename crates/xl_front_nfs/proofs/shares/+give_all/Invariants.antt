@@ -1,5 +1,0 @@
-use Rattle.std.proofs.Common.{length}
-use Rattle.xl_front_nfs.proofs.shares.+give_all.Given as goal
-
-abbrev pub decreases-give_all : goal.decreases-give_all
-decreases-give_all l = length l.rows.now

@@ -1,7 +1,0 @@
-use Rattle.xl_front_nfs.proofs.LeaveLaws.{ask_leaves, may_be_made}
-use Rattle.xl_front_nfs.proofs.shares.asked.Goals as goal
-
-pub returns-clause-leaves : goal.returns-clause-leaves
-returns-clause-leaves g c =
-    let t = c.ask.new.self in
-    ask_leaves t.made _ c.args.core.now t c.args.request.now c.in_ok-answer.answer c.in_ok-answer.effects (c.in_ok-answer.ensures.state t.made (may_be_made t)) c.in_ok-answer.ensures.on c.requires.fit c.requires.ready.good c.in_ok-answer.ensures.good c.requires.nfs

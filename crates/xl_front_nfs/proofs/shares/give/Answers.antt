@@ -1,8 +1,0 @@
-use Rattle.xl_front_nfs.proofs.LeaveLaws.{give_leaves, give_told}
-use Rattle.xl_front_nfs.proofs.shares.give.Goals as goal
-
-pub returns-in-Some-clause-told : goal.returns-in-Some-clause-told
-returns-in-Some-clause-told c = λ n. rw c.in-Some.is (give_told n c.args.core.now c.in-Some.claim)
-
-pub returns-in-Some-clause-leaves : goal.returns-in-Some-clause-leaves
-returns-in-Some-clause-leaves c = give_leaves _ _ _ _ c.give_back-effects.ensures.state c.give_back-effects.ensures.good

@@ -1,8 +1,0 @@
-use Rattle.xl_front_nfs.proofs.LeaveLaws.{weaken_leaves, weakens_told}
-use Rattle.xl_front_nfs.proofs.shares.weaken.Goals as goal
-
-pub returns-then-share_has-clause-told : goal.returns-then-share_has-clause-told
-returns-then-share_has-clause-told c = λ n. weakens_told n c.args.core.now c.args.share c.args.access c.args.deny
-
-pub returns-then-share_has-clause-leaves : goal.returns-then-share_has-clause-leaves
-returns-then-share_has-clause-leaves c = weaken_leaves _ _ _ _ _ _ c.weaken-effects.ensures.state c.weaken-effects.ensures.good

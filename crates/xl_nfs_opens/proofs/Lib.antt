@@ -1,0 +1,11 @@
+pub mod OwnerLaws
+pub mod LeaveLaws
+pub mod ResultLaws
+pub mod CheckLaws
+pub mod BehindLaws
+pub mod EndLaws
+pub mod OpenOwn
+pub mod OpenLaws
+pub mod RenewLaws
+pub mod OpenerLaws
+pub mod EnterLaws

@@ -1,0 +1,397 @@
+-- Whose the deeds of the operations on opens are, and that the core takes them.
+use Rattle.std.proofs.Common.{◌≡◌, ℕ, ◌/◌, ◌%◌, ◌^◌, take, drop, Bool, true, false, List, [], ◌∷◌, ◌++◌, Option, Some, None, Result, Ok, Err, option_map, refl, sym, ap, subst, ◌∙◌, inl, inr}
+use Rattle.std.proofs.lemmas.Bool.{cases_Bool, and_parts}
+use Rattle.std.specs.Bool.{◌==◌}
+use Rattle.std.specs.List.{filter, find}
+use Rattle.std.specs.Option.{option_and_then}
+use Rattle.std.specs.Prelude.{◌||◌, if◌then◌else◌}
+use Rattle.xl_base.proofs.Members.{all_in}
+use Rattle.xl_base.specs.Stable.{Stable}
+use Rattle.xl_base.specs.declared.event.Moment.{Moment}
+use Rattle.xl_base.specs.declared.name.Owner.{Owner}
+use Rattle.xl_base.specs.declared.name.Owner.TheVariants as owners
+use Rattle.xl_base.specs.declared.name.Protocol.TheVariants.{Nfs}
+use Rattle.xl_matrix.specs.declared.claim.Claim.{Claim}
+use Rattle.xl_names.specs.Names.{number_of}
+use Rattle.xl_names.specs.declared.name.Name.TheVariants.{NfsShare, NfsParty}
+use Rattle.xl_nfs.specs.Opens.{OpenArgsItem, OpenClaimItem, Null, Previous, DelegateCurrent, DelegatePrevious}
+use Rattle.xl_nfs.specs.declared.basics.Stateid.{Stateid}
+use Rattle.xl_nfs.specs.declared.opens.CloseArgs.{CloseArgs}
+use Rattle.xl_nfs.specs.declared.opens.OpenConfirmArgs.{OpenConfirmArgs}
+use Rattle.xl_nfs.specs.declared.opens.OpenDowngradeArgs.{OpenDowngradeArgs}
+use Rattle.xl_nfs.specs.declared.status.NfsStatus.{NfsStatus}
+use Rattle.xl_nfs.specs.declared.status.NfsStatus.TheVariants as statuses
+use Rattle.xl_nfs_state.specs.Filed.{changed}
+use Rattle.xl_nfs_state.specs.Rows.{with_time}
+use Rattle.xl_nfs_state.specs.State.{NfsLists, without_owner, is_client, is_kept, is_owner, is_stateid, is_whose}
+use Rattle.xl_nfs_state.specs.Verdict.{verdict}
+use Rattle.xl_nfs_state.specs.declared.client.ClientRow.{ClientRow}
+use Rattle.xl_nfs_state.specs.declared.kept.KeptRow.{KeptRow}
+use Rattle.xl_nfs_state.specs.declared.owner.OwnerRow.{OwnerRow}
+use Rattle.xl_nfs_state.specs.declared.owner.Turn.{Turn}
+use Rattle.xl_nfs_state.specs.declared.seqid.SeqidVerdict.{SeqidVerdict}
+use Rattle.xl_nfs_state.specs.declared.seqid.SeqidVerdict.TheVariants as verdicts
+use Rattle.xl_nfs_state.specs.declared.stateid.Holder.{Holder}
+use Rattle.xl_nfs_state.specs.declared.stateid.Holder.TheVariants as holders
+use Rattle.xl_nfs_state.specs.declared.stateid.StateidRow.{StateidRow}
+use Rattle.xl_nfs_state.specs.declared.stateid.Whose.TheVariants as whose
+use Rattle.xl_table.proofs.WriteBack.{is_of-true}
+use Rattle.xl_table.specs.Held.{is_of, is_share}
+use Rattle.xl_table.specs.Relock.{is_share_of}
+use Rattle.xl_core.proofs.DeedClients.{party_of_owner}
+use Rattle.xl_core.proofs.DeedLeaves.{found_in}
+use Rattle.xl_core.proofs.DeedLists.{deeds_good, fit_append}
+use Rattle.xl_core.specs.Asking.{IsFit, party_named}
+use Rattle.xl_core.specs.Settle.{share_has}
+use Rattle.xl_base.specs.Lists.{IsIn}
+use Rattle.xl_matrix.specs.declared.claim.Rwd.{Rwd}
+use Rattle.xl_core.specs.Clients.{IsOf}
+use Rattle.xl_core.specs.Decide.{ask}
+use Rattle.xl_core.specs.Deeds.{Deed, Asks, GivesBack, done, all_done, IsFitDeed, AreFit}
+use Rattle.xl_core.specs.Good.{are_kept, IsHeld, IsGood}
+use Rattle.xl_core.specs.State.{CoreState}
+use Rattle.xl_core.specs.Ticks.{renew}
+use Rattle.xl_core.specs.declared.ask.Answer.{Answer}
+use Rattle.xl_nfs_opens.specs.Leases.{number_in, lease_end}
+use Rattle.xl_nfs_opens.specs.Closing.{seqid_checked, owner_checked, holder_checked, row_checked, number_checked, checked, standing_fault, confirm_done, confirm_by, open_confirm, opener_named, opener_by, share_by_opener, share_of_open, close_done, close_by, close, returned, deleg_return}
+use Rattle.xl_nfs_opens.specs.Downgrades.{downgrade_fault, downgrade_done, downgrade_by, open_downgrade, weakens}
+use Rattle.xl_nfs_opens.specs.Opens.{rights_of, share_by, share_held, gives, given_up, gives_all, share_ask, all_rooms, repeated, reclaims, open_held, has_room, granted_by, is_granted, answered, open_on, open_by, open_as, open_judged, opener_of, open_of, client_in, open_at, claim_client, open_claimed, open_file, judged, opened_file}
+use Rattle.xl_nfs_opens.specs.Owners.{is_named, is_holder, is_claimant, Names, IsBy, AreBy}
+use Rattle.xl_nfs_opens.specs.Plans.{Plan, Does, deeds_of}
+use Rattle.xl_nfs_opens.specs.declared.told.Told.TheVariants.{Ended}
+use Rattle.xl_nfs.specs.Ops.{Close, DelegReturn, Open, OpenConfirm, OpenDowngrade}
+use Rattle.std.specs.Int.{w32, w64, from_be_bytes}
+use Rattle.xl_nfs_opens.specs.Renewing.{number_of as number_in_other, client_if_live, state_numbered, state_client, renewals_by, renewals, renewed_if, renewed_for, renewing}
+use Rattle.xl_nfs_opens.specs.declared.opener.Checked.{Checked}
+use Rattle.xl_nfs_opens.specs.declared.opener.Checked.TheVariants.{Refused, Repeated, Passed}
+use Rattle.xl_nfs_opens.specs.declared.opener.Judged.{Judged}
+use Rattle.xl_nfs_opens.specs.declared.opener.Judged.TheVariants as judgements
+use Rattle.xl_nfs_opens.specs.declared.opener.Opener.{Opener}
+use Rattle.xl_nfs_opens.proofs.OwnerLaws.{own_client}
+
+-- the core takes the deeds of the plan, and each is by a client for which this holds
+abbrev pub Owned : ℕ → CoreState → (List ℕ → Type 0) → Plan → Type 0
+Owned n s Client plan = AreFit n s (deeds_of n s plan) × AreBy n s Client (deeds_of n s plan)
+
+pub by_append : (n : ℕ) (s : CoreState) (Client : List ℕ → Type 0) (ds es : List Deed) → AreBy n s Client ds → AreBy n (all_done n s ds) Client es → AreBy n s Client (ds ++ es)
+by_append n s Client [] es first second = second
+by_append n s Client (d ∷ ds) es first second = (first.0, by_append n (done n s d) Client ds es first.1 second)
+
+-- ---- leases
+
+stable_by : (n : ℕ) (s : CoreState) (o : Option ClientRow) → (all_done n s (renewals_by o)).stable ≡ s.stable
+unfolding renew
+stable_by n s None = refl
+stable_by n s (Some r) = refl
+
+stable_kept : (n : ℕ) (s : CoreState) (l : NfsLists) (who : Option ℕ) → (all_done n s (renewals l who)).stable ≡ s.stable
+stable_kept n s l None = refl
+stable_kept n s l (Some number) = stable_by n s (find (is_client number true) l.clients)
+
+renews_own : (n : ℕ) (s : CoreState) (l : NfsLists) (Client : List ℕ → Type 0) (who : Option ℕ) → ((number : ℕ) (r : ClientRow) → who ≡ Some number → find (is_client number true) l.clients ≡ Some r → Client r.id)
+    → AreFit n s (renewals l who) × AreBy n s Client (renewals l who)
+renews_own n s l Client None each = (tt, tt)
+renews_own n s l Client (Some number) each = by (find (is_client number true) l.clients) refl
+  where
+    by : (o : Option ClientRow) → find (is_client number true) l.clients ≡ o → AreFit n s (renewals_by o) × AreBy n s Client (renewals_by o)
+    by None e = (tt, tt)
+    by (Some r) e = ((tt, tt), (each number r refl e, tt))
+
+renewing_own : (n : ℕ) (s : CoreState) (l : NfsLists) (Client : List ℕ → Type 0) (who : Option ℕ) (rest : CoreState → NfsLists → Plan) → IsGood s
+    → ((number : ℕ) (r : ClientRow) → who ≡ Some number → find (is_client number true) l.clients ≡ Some r → Client r.id)
+    → ((t : CoreState) → t.stable ≡ s.stable → IsGood t → Owned n t Client (rest t (renewed_for s l who))) → Owned n s Client (renewing s l who rest)
+renewing_own n s l Client who rest good each later =
+    let ds = renewals l who in
+    let t = all_done n s ds in
+    let first = renews_own n s l Client who each in
+    let second = later t (stable_kept n s l who) (deeds_good n s ds good first.0) in
+    let es = deeds_of n t (rest t (renewed_for s l who)) in
+    (fit_append n s ds es first.0 second.0, by_append n s Client ds es first.1 second.1)
+
+-- ---- who is named, once a lease is renewed
+
+id_kept : (m k : ℕ) (b : Bool) (time : Moment) (cs : List ClientRow) → option_map (λ r. r.id) (find (is_client m b) (changed (is_client k true) (with_time time) cs)) ≡ option_map (λ r. r.id) (find (is_client m b) cs)
+id_kept m k b time [] = refl
+id_kept m k b time (c ∷ cs) =
+    elim (cases_Bool (is_client k true c)) [
+      | inl e ↦ rw e (elim (cases_Bool (is_client m b c)) [
+        | inl d ↦ rw d refl
+        | inr d ↦ rw d refl
+      ])
+      | inr e ↦ rw e (elim (cases_Bool (is_client m b c)) [
+        | inl d ↦ rw d refl
+        | inr d ↦ rw d (id_kept m k b time cs)
+      ])
+    ]
+
+found_as : (s : CoreState) (l : NfsLists) (who : Option ℕ) (o : Option ℕ) → option_map (λ r. r.id) (option_and_then (λ m. find (is_client m true) (renewed_for s l who).clients) o) ≡ option_map (λ r. r.id) (option_and_then (λ m. find (is_client m true) l.clients) o)
+found_as s l None o = refl
+found_as s l (Some k) o = by (find (is_client k true) l.clients) o
+  where
+    by : (c : Option ClientRow) (x : Option ℕ) → option_map (λ r. r.id) (option_and_then (λ m. find (is_client m true) (renewed_if s l k c).clients) x) ≡ option_map (λ r. r.id) (option_and_then (λ m. find (is_client m true) l.clients) x)
+    by None x = refl
+    by (Some c) None = refl
+    by (Some c) (Some m) = id_kept m k true (lease_end s) l.clients
+
+number_as : (s t : CoreState) (clientid : ℕ) → t.stable ≡ s.stable → number_in t clientid ≡ number_in s clientid
+number_as s t clientid e = ap (λ (x : Stable). if clientid / 2 ^ 32 == x.epoch then Some (clientid % 2 ^ 32) else None) e
+
+named_as : (s t : CoreState) (l : NfsLists) (who : Option ℕ) (clientid : ℕ) (id : List ℕ) → t.stable ≡ s.stable → is_named t (renewed_for s l who) clientid true id → is_named s l clientid true id
+named_as s t l who clientid id e is = sym (found_as s l who (number_in s clientid)) ∙ ap (λ (o : Option ℕ). option_map (λ r. r.id) (option_and_then (λ m. find (is_client m true) (renewed_for s l who).clients) o)) (sym (number_as s t clientid e)) ∙ is
+
+other_as : (s t : CoreState) (other : List ℕ) → t.stable ≡ s.stable → number_in_other t other ≡ number_in_other s other
+unfolding number_in_other
+other_as s t other e = ap (λ (x : Stable). if from_be_bytes w32 (take 4 other) == x.epoch then Some (from_be_bytes w64 (drop 4 other)) else None) e
+
+numbered_as : (s : CoreState) (l : NfsLists) (who o : Option ℕ) → state_numbered (renewed_for s l who) o ≡ state_numbered l o
+numbered_as s l None o = refl
+numbered_as s l (Some k) o = by (find (is_client k true) l.clients) o
+  where
+    by : (c : Option ClientRow) (x : Option ℕ) → state_numbered (renewed_if s l k c) x ≡ state_numbered l x
+    by None x = refl
+    by (Some c) None = refl
+    by (Some c) (Some m) = refl
+
+state_as_before : (s t : CoreState) (l : NfsLists) (who : Option ℕ) (stateid : Stateid) → t.stable ≡ s.stable → state_client t (renewed_for s l who) stateid ≡ state_client s l stateid
+state_as_before s t l who stateid e = ap (λ (o : Option ℕ). state_numbered (renewed_for s l who) o) (other_as s t stateid.other e) ∙ numbered_as s l who (number_in_other s stateid.other)
+
+holder_as : (s t : CoreState) (l : NfsLists) (who : Option ℕ) (stateid : Stateid) (id : List ℕ) → t.stable ≡ s.stable → is_holder t (renewed_for s l who) stateid id → is_holder s l stateid id
+holder_as s t l who stateid id e is = sym (found_as s l who (state_client s l stateid)) ∙ ap (λ (o : Option ℕ). option_map (λ r. r.id) (option_and_then (λ m. find (is_client m true) (renewed_for s l who).clients) o)) (sym (state_as_before s t l who stateid e)) ∙ is
+
+by_number : (l : NfsLists) (o : Option ℕ) (number : ℕ) (r : ClientRow) → o ≡ Some number → find (is_client number true) l.clients ≡ Some r → option_map (λ c. c.id) (option_and_then (λ m. find (is_client m true) l.clients) o) ≡ Some r.id
+by_number l o number r e found = ap (λ (x : Option ℕ). option_map (λ c. c.id) (option_and_then (λ m. find (is_client m true) l.clients) x)) e ∙ ap (λ (x : Option ClientRow). option_map (λ c. c.id) x) found
+
+-- ---- shares
+
+share_is : (s : CoreState) (o : Opener) (file : ℕ) (number : Option ℕ) (claim : Claim) → IsGood s → number_of (NfsShare o.id o.owner) s.names ≡ number → share_by s.claims file number ≡ Some claim → IsFitDeed s (GivesBack claim) × IsOf s (NfsParty o.id) (GivesBack claim)
+share_is s o file None claim good known e = absurd cc
+share_is s o file (Some number) claim good known e =
+    let found = found_in (is_share_of file (owners.Name Nfs number)) s.claims claim e in
+    let parts = and_parts (is_of file (owners.Name Nfs number) claim) (is_share claim.what) found.1 in
+    let owner = (is_of-true file (owners.Name Nfs number) claim parts.0).1 in
+    let kept = (all_in (IsHeld s.names) claim s.claims good.known found.0).1 in
+    ((found.0, parts.1), party_of_owner s.names (NfsShare o.id o.owner) (NfsParty o.id) number claim.party good.distinct known refl (subst (λ (x : Owner). are_kept s.names x claim.party ≡ true) owner kept))
+
+held_is : (s : CoreState) (o : Opener) (file : ℕ) (claim : Claim) → IsGood s → share_held s o file ≡ Some claim → IsFitDeed s (GivesBack claim) × IsOf s (NfsParty o.id) (GivesBack claim)
+unfolding share_held
+held_is s o file claim good e = share_is s o file (number_of (NfsShare o.id o.owner) s.names) claim good refl e
+
+gives_own : (n : ℕ) (s : CoreState) (Client : List ℕ → Type 0) (share : Option Claim) → ((claim : Claim) → share ≡ Some claim → IsFitDeed s (GivesBack claim) × IsBy s Client (GivesBack claim)) → AreFit n s (gives share) × AreBy n s Client (gives share)
+gives_own n s Client None each = (tt, tt)
+gives_own n s Client (Some claim) each = let one = each claim refl in ((one.0, tt), (one.1, tt))
+
+given_is : (n : ℕ) (s : CoreState) (share : Option Claim) → given_up s share ≡ all_done n s (gives share)
+given_is n s None = refl
+given_is n s (Some claim) = refl
+
+held_own : (n : ℕ) (s : CoreState) (Client : List ℕ → Type 0) (o : Opener) (file : ℕ) → IsGood s → Client o.id → AreFit n s (gives (share_held s o file)) × AreBy n s Client (gives (share_held s o file))
+held_own n s Client o file good is = gives_own n s Client (share_held s o file) (λ claim e. (let one = held_is s o file claim good e in (one.0, (o.id, is, one.1))))
+
+all_given : (n : ℕ) (s : CoreState) (Client : List ℕ → Type 0) (o : Opener) (rows : List StateidRow) → IsGood s → Client o.id → AreFit n s (gives_all s o rows) × AreBy n s Client (gives_all s o rows)
+all_given n s Client o [] good is = (tt, tt)
+all_given n s Client o (r ∷ rs) good is =
+    let share = share_held s o r.file in
+    let first = held_own n s Client o r.file good is in
+    let left : IsGood (given_up s share) = subst (λ (t : CoreState). IsGood t) (sym (given_is n s share)) (deeds_good n s (gives share) good first.0) in
+    let second = all_given n (given_up s share) Client o rs left is in
+    let es = gives_all (given_up s share) o rs in (
+      fit_append n s (gives share) es first.0 (subst (λ (t : CoreState). AreFit n t es) (given_is n s share) second.0),
+      by_append n s Client (gives share) es first.1 (subst (λ (t : CoreState). AreBy n t Client es) (given_is n s share) second.1),
+    )
+
+-- ---- OPEN
+
+granted_own : (n : ℕ) (s : CoreState) (l : NfsLists) (o : Opener) (a : OpenArgsItem) (file : ℕ) (confirmed : Bool) (Client : List ℕ → Type 0) (r : Option StateidRow) → Owned n s Client (granted_by s l o a file confirmed r)
+granted_own n s l o a file confirmed Client None = ((tt, tt), (tt, tt))
+granted_own n s l o a file confirmed Client (Some r) = (tt, tt)
+
+answered_own : (n : ℕ) (l : NfsLists) (current : Option ℕ) (o : Opener) (a : OpenArgsItem) (file : ℕ) (confirmed : Bool) (Client : List ℕ → Type 0) (answer : Answer) (s : CoreState) → Owned n s Client (answered l current o a file confirmed answer s)
+answered_own n l current o a file confirmed Client answer s =
+    elim (cases_Bool (is_granted answer)) [
+      | inl e ↦ rw e (granted_own n s l o a file (confirmed || reclaims a.claim) Client (open_held l o file))
+      | inr e ↦ rw e (tt, tt)
+    ]
+
+ask_fits : (o : Opener) (a : OpenArgsItem) (file : ℕ) → IsFit (share_ask o a file)
+unfolding share_ask
+ask_fits o a file = record { act = tt; own = refl; party = own_client o.id }
+
+ask_party : (s : CoreState) (o : Opener) (a : OpenArgsItem) (file : ℕ) → IsOf s (NfsParty o.id) (Asks all_rooms (share_ask o a file))
+unfolding share_ask
+ask_party s o a file = refl
+
+on_own : (n : ℕ) (others : ℕ) (s : CoreState) (l : NfsLists) (current : Option ℕ) (o : Opener) (a : OpenArgsItem) (confirmed : Bool) (file : ℕ) (Client : List ℕ → Type 0) → Client o.id → Owned n s Client (open_on others l current o a confirmed file)
+on_own n others s l current o a confirmed file Client is =
+    elim (cases_Bool (has_room others l o file)) [
+      | inl e ↦ rw e (let r = ask n all_rooms s (share_ask o a file) in let rest = answered_own n l current o a file confirmed Client r.0 r.2 in ((ask_fits o a file, rest.0), ((o.id, is, ask_party s o a file), rest.1)))
+      | inr e ↦ rw e (tt, tt)
+    ]
+
+by_own : (n : ℕ) (others : ℕ) (s : CoreState) (l : NfsLists) (current : Option ℕ) (o : Opener) (a : OpenArgsItem) (confirmed : Bool) (Client : List ℕ → Type 0) (r : Result ℕ NfsStatus) → Client o.id → Owned n s Client (open_by others l current o a confirmed r)
+by_own n others s l current o a confirmed Client (Ok file) is = on_own n others s l current o a confirmed file Client is
+by_own n others s l current o a confirmed Client (Err status) is = (tt, tt)
+
+as_own : (n : ℕ) (files : List (List ℕ)) (others : ℕ) (s : CoreState) (l : NfsLists) (current : Option ℕ) (at : ℕ) (o : Opener) (a : OpenArgsItem) (confirmed : Bool) (Client : List ℕ → Type 0) → Client o.id → Owned n s Client (open_as files others l current at o a confirmed)
+unfolding open_as
+as_own n files others s l current at o a confirmed Client is = by_own n others s l current o a confirmed Client (opened_file files at a) is
+
+repeat_own : (n : ℕ) (s : CoreState) (l : NfsLists) (current : Option ℕ) (Client : List ℕ → Type 0) (o : Option KeptRow) → Owned n s Client (repeated s l current o)
+repeat_own n s l current Client None = (tt, tt)
+repeat_own n s l current Client (Some k) = (tt, tt)
+
+judged_own : (n : ℕ) (files : List (List ℕ)) (others : ℕ) (s : CoreState) (l : NfsLists) (current : Option ℕ) (at : ℕ) (o : Opener) (a : OpenArgsItem) (Client : List ℕ → Type 0) (j : Judged) → IsGood s → Client o.id → Owned n s Client (open_judged files others s l current at o a j)
+judged_own n files others s l current at o a Client judgements.Bad good is = (tt, tt)
+judged_own n files others s l current at o a Client (judgements.Repeats number) good is = repeat_own n s l current Client (find (is_kept number) l.kept)
+judged_own n files others s l current at o a Client (judgements.Anew number) good is =
+    let ds = gives_all s o (filter (is_whose (whose.Owner number)) l.stateids) in
+    let t = all_done n s ds in
+    let first = all_given n s Client o (filter (is_whose (whose.Owner number)) l.stateids) good is in
+    let second = as_own n files others t (without_owner number l) current at o a false Client is in
+    let es = deeds_of n t (open_as files others (without_owner number l) current at o a false) in
+    (fit_append n s ds es first.0 second.0, by_append n s Client ds es first.1 second.1)
+judged_own n files others s l current at o a Client judgements.New good is = as_own n files others s l current at o a false Client is
+judged_own n files others s l current at o a Client judgements.Next good is = as_own n files others s l current at o a true Client is
+
+at_own : (n : ℕ) (files : List (List ℕ)) (others : ℕ) (s : CoreState) (l : NfsLists) (a : OpenArgsItem) (current : Option ℕ) (Client : List ℕ → Type 0) → IsGood s → ((id : List ℕ) → is_named s l a.owner.clientid true id → Client id) → Owned n s Client (open_at files others s l a current)
+at_own n files others s l a None Client good each = (tt, tt)
+at_own n files others s l a (Some at) Client good each = by (client_in s l a.owner.clientid) refl
+  where
+    by : (c : Option ClientRow) → client_in s l a.owner.clientid ≡ c → Owned n s Client (open_of files others s l (Some at) at a c)
+    by None e = (tt, tt)
+    by (Some c) e = judged_own n files others s l (Some at) at (opener_of c a) a Client (judged l (opener_of c a) a.seqid) good (each c.id (ap (λ (o : Option ClientRow). option_map (λ r. r.id) o) e))
+
+claimant : (s t : CoreState) (l : NfsLists) (who : Option ℕ) (claim : OpenClaimItem) (number : ℕ) (r : ClientRow) → t.stable ≡ s.stable → claim_client t (renewed_for s l who) claim ≡ Some number → find (is_client number true) (renewed_for s l who).clients ≡ Some r → is_claimant s l claim r.id
+claimant s t l who (DelegateCurrent a) number r stable e found = holder_as s t l who a.stateid r.id stable (by_number (renewed_for s l who) (state_client t (renewed_for s l who) a.stateid) number r e found)
+claimant s t l who (Null name) number r stable e found = absurd cc
+claimant s t l who (Previous type) number r stable e found = absurd cc
+claimant s t l who (DelegatePrevious name) number r stable e found = absurd cc
+
+pub open_own : (n : ℕ) (files : List (List ℕ)) (others : ℕ) (s : CoreState) (l : NfsLists) (current : Option ℕ) (a : OpenArgsItem) → IsGood s → Owned n s (Names s l (Open a)) (open_file files others s l current a)
+unfolding open_file open_claimed
+open_own n files others s l current a good =
+    let Client = Names s l (Open a) in
+    let who = number_in s a.owner.clientid in
+    renewing_own n s l Client who (λ t m. renewing t m (claim_client t m a.claim) (λ u k. open_at files others u k a current)) good (λ number r e found. inl (by_number l who number r e found))
+    (λ t stable left.
+    let m = renewed_for s l who in
+    renewing_own n t m Client (claim_client t m a.claim) (λ u k. open_at files others u k a current) left (λ number r e found. inr (claimant s t l who a.claim number r stable e found))
+    (λ u next kept. at_own n files others u (renewed_for t m (claim_client t m a.claim)) a current Client kept (λ id is. inl (named_as s t l who a.owner.clientid id stable (named_as t u m (claim_client t m a.claim) a.owner.clientid id next is)))))
+
+-- ---- what names an open
+
+row_client : (x r : StateidRow) (owner w : ℕ) (turn v : Turn) → Passed x owner turn ≡ Passed r w v → x ≡ r
+row_client x r owner w turn v e = cc
+
+next_client : (x r : StateidRow) (owner w : ℕ) (turn t : Turn) (b : Bool) → (if b then Refused statuses.BadStateid else Passed x owner turn) ≡ Passed r w t → (if b then None else Some x.client) ≡ Some r.client
+next_client x r owner w turn t true e = absurd cc
+next_client x r owner w turn t false e = ap (λ (y : StateidRow). Some y.client) (row_client x r owner w turn t e)
+
+seqid_client : (x r : StateidRow) (owner w : ℕ) (turn t : Turn) (v : SeqidVerdict) → seqid_checked x owner turn v ≡ Passed r w t → client_if_live (Some x) ≡ Some r.client
+seqid_client x r owner w turn t verdicts.Repeat e = absurd cc
+seqid_client x r owner w turn t verdicts.Next e = next_client x r owner w turn t x.standing.closed e
+seqid_client x r owner w turn t verdicts.New e = absurd cc
+seqid_client x r owner w turn t (verdicts.Bad last) e = absurd cc
+
+owner_client : (x r : StateidRow) (op seqid owner w : ℕ) (t : Turn) (o : Option OwnerRow) → owner_checked x op seqid owner o ≡ Passed r w t → client_if_live (Some x) ≡ Some r.client
+owner_client x r op seqid owner w t None e = absurd cc
+owner_client x r op seqid owner w t (Some o) e = seqid_client x r owner w o.turn t (verdict (Some o.turn) op seqid) e
+
+holder_client : (l : NfsLists) (x r : StateidRow) (op seqid w : ℕ) (t : Turn) (h : Holder) → holder_checked l x op seqid h ≡ Passed r w t → client_if_live (Some x) ≡ Some r.client
+holder_client l x r op seqid w t (holders.Open owner) e = owner_client x r op seqid owner w t (find (is_owner owner) l.owners) e
+holder_client l x r op seqid w t (holders.Lock owner under opener) e = absurd cc
+holder_client l x r op seqid w t (holders.Delegation write) e = absurd cc
+
+found_client : (l : NfsLists) (r : StateidRow) (at op seqid w : ℕ) (t : Turn) (o : Option StateidRow) → row_checked l at op seqid o ≡ Passed r w t → client_if_live o ≡ Some r.client
+found_client l r at op seqid w t None e = absurd cc
+found_client l r at op seqid w t (Some x) e =
+    elim (cases_Bool (x.file == at)) [
+      | inl same ↦ holder_client l x r op seqid w t x.holder (rw same at e)
+      | inr other ↦ (let no : Refused statuses.BadStateid ≡ Passed r w t = rw other at e in absurd cc)
+    ]
+
+number_client : (l : NfsLists) (r : StateidRow) (at op seqid w : ℕ) (t : Turn) (o : Option ℕ) → number_checked l at op seqid o ≡ Passed r w t → state_numbered l o ≡ Some r.client
+number_client l r at op seqid w t None e = absurd cc
+number_client l r at op seqid w t (Some number) e = found_client l r at op seqid w t (find (is_stateid number) l.stateids) e
+
+checked_client : (s : CoreState) (l : NfsLists) (current : Option ℕ) (op seqid : ℕ) (stateid : Stateid) (r : StateidRow) (w : ℕ) (t : Turn) → checked s l current op seqid stateid ≡ Passed r w t → state_client s l stateid ≡ Some r.client
+unfolding checked
+checked_client s l None op seqid stateid r w t e = absurd cc
+checked_client s l (Some at) op seqid stateid r w t e = number_client l r at op seqid w t (number_in_other s stateid.other) e
+
+-- ---- CLOSE and the others
+
+opener_held : (s : CoreState) (Client : List ℕ → Type 0) (file : ℕ) (c : Option ClientRow) (o : Option OwnerRow) (claim : Claim) → IsGood s → ((r : ClientRow) → c ≡ Some r → Client r.id) → share_by_opener s file (opener_named c o) ≡ Some claim
+    → IsFitDeed s (GivesBack claim) × ((id : List ℕ) × Client id × (party_named s.names (NfsParty id) ≡ Some claim.party))
+opener_held s Client file None o claim good each e = absurd cc
+opener_held s Client file (Some c) None claim good each e = absurd cc
+opener_held s Client file (Some c) (Some o) claim good each e =
+    let one = held_is s (record { client = c.number; id = c.id; owner = o.name.owner }) file claim good e in
+    (one.0, (c.id, each c refl, one.1))
+
+open_share : (s : CoreState) (l : NfsLists) (Client : List ℕ → Type 0) (r : StateidRow) (owner : ℕ) (claim : Claim) → IsGood s → ((c : ClientRow) → find (is_client r.client true) l.clients ≡ Some c → Client c.id) → share_of_open s l r owner ≡ Some claim
+    → IsFitDeed s (GivesBack claim) × ((id : List ℕ) × Client id × (party_named s.names (NfsParty id) ≡ Some claim.party))
+unfolding opener_by
+open_share s l Client r owner claim good each e = opener_held s Client r.file (find (is_client r.client true) l.clients) (find (is_owner owner) l.owners) claim good each e
+
+state_own : (n : ℕ) (s : CoreState) (l : NfsLists) (stateid : Stateid) (by : CoreState → NfsLists → Plan) → IsGood s
+    → ((t : CoreState) → t.stable ≡ s.stable → IsGood t → Owned n t (λ id. is_holder s l stateid id) (by t (renewed_for s l (state_client s l stateid)))) → Owned n s (λ id. is_holder s l stateid id) (renewing s l (state_client s l stateid) by)
+state_own n s l stateid by good each = renewing_own n s l (λ id. is_holder s l stateid id) (state_client s l stateid) by good (λ number r e found. by_number l (state_client s l stateid) number r e found) each
+
+confirm_done_own : (n : ℕ) (s : CoreState) (l : NfsLists) (current : Option ℕ) (a : OpenConfirmArgs) (r : StateidRow) (owner : ℕ) (turn : Turn) (Client : List ℕ → Type 0) (o : Option NfsStatus) → Owned n s Client (confirm_done s l current a r owner turn o)
+confirm_done_own n s l current a r owner turn Client None = (tt, tt)
+confirm_done_own n s l current a r owner turn Client (Some status) = (tt, tt)
+
+confirm_by_own : (n : ℕ) (s : CoreState) (l : NfsLists) (current : Option ℕ) (a : OpenConfirmArgs) (Client : List ℕ → Type 0) (c : Checked) → Owned n s Client (confirm_by s l current a c)
+confirm_by_own n s l current a Client (Refused status) = (tt, tt)
+confirm_by_own n s l current a Client (Repeated owner) = repeat_own n s l current Client (find (is_kept owner) l.kept)
+confirm_by_own n s l current a Client (Passed r owner turn) = confirm_done_own n s l current a r owner turn Client (standing_fault r turn a.stateid.seqid false)
+
+pub confirm_own : (n : ℕ) (s : CoreState) (l : NfsLists) (current : Option ℕ) (a : OpenConfirmArgs) → IsGood s → Owned n s (Names s l (OpenConfirm a)) (open_confirm s l current a)
+unfolding open_confirm
+confirm_own n s l current a good = state_own n s l a.stateid (λ t m. confirm_by t m current a (checked t m current 20 a.seqid a.stateid)) good (λ t stable left. (let m = renewed_for s l (state_client s l a.stateid) in confirm_by_own n t m current a (λ id. is_holder s l a.stateid id) (checked t m current 20 a.seqid a.stateid)))
+
+weakens_own : (n : ℕ) (s : CoreState) (Client : List ℕ → Type 0) (share : Option Claim) (access deny : Rwd) → ((claim : Claim) → share ≡ Some claim → IsIn claim s.claims × ((id : List ℕ) × Client id × (party_named s.names (NfsParty id) ≡ Some claim.party))) → AreFit n s (weakens share access deny) × AreBy n s Client (weakens share access deny)
+weakens_own n s Client None access deny each = (tt, tt)
+weakens_own n s Client (Some claim) access deny each =
+    elim (cases_Bool (share_has claim.what access deny)) [
+      | inl e ↦ (let one = each claim refl in rw e (((one.0, e), tt), (one.1, tt)))
+      | inr e ↦ rw e (tt, tt)
+    ]
+
+downgrade_done_own : (n : ℕ) (s : CoreState) (l : NfsLists) (current : Option ℕ) (a : OpenDowngradeArgs) (r : StateidRow) (owner : ℕ) (turn : Turn) (Client : List ℕ → Type 0) (o : Option NfsStatus) → IsGood s → ((c : ClientRow) → find (is_client r.client true) l.clients ≡ Some c → Client c.id) → Owned n s Client (downgrade_done s l current a r owner turn o)
+downgrade_done_own n s l current a r owner turn Client None good each = weakens_own n s Client (share_of_open s l r owner) (rights_of a.access) (rights_of a.deny) (λ claim h. (let one = open_share s l Client r owner claim good each h in (one.0.0, one.1)))
+downgrade_done_own n s l current a r owner turn Client (Some status) good each = (tt, tt)
+
+downgrade_by_own : (n : ℕ) (s : CoreState) (l : NfsLists) (current : Option ℕ) (a : OpenDowngradeArgs) (Client : List ℕ → Type 0) (c : Checked) → IsGood s → ((r : StateidRow) (w : ℕ) (v : Turn) (x : ClientRow) → c ≡ Passed r w v → find (is_client r.client true) l.clients ≡ Some x → Client x.id) → Owned n s Client (downgrade_by s l current a c)
+downgrade_by_own n s l current a Client (Refused status) good each = (tt, tt)
+downgrade_by_own n s l current a Client (Repeated owner) good each = repeat_own n s l current Client (find (is_kept owner) l.kept)
+downgrade_by_own n s l current a Client (Passed r owner turn) good each = downgrade_done_own n s l current a r owner turn Client (downgrade_fault r turn a) good (λ x found. each r owner turn x refl found)
+
+pub downgrade_own : (n : ℕ) (s : CoreState) (l : NfsLists) (current : Option ℕ) (a : OpenDowngradeArgs) → IsGood s → Owned n s (Names s l (OpenDowngrade a)) (open_downgrade s l current a)
+unfolding open_downgrade
+downgrade_own n s l current a good = state_own n s l a.stateid (λ t m. downgrade_by t m current a (checked t m current 21 a.seqid a.stateid)) good
+    (λ t stable left.
+    let m = renewed_for s l (state_client s l a.stateid) in
+    downgrade_by_own n t m current a (λ id. is_holder s l a.stateid id) (checked t m current 21 a.seqid a.stateid) left
+    (λ r w v x e found. holder_as s t l (state_client s l a.stateid) a.stateid x.id stable (by_number m (state_client t m a.stateid) r.client x (checked_client t m current 21 a.seqid a.stateid r w v e) found)))
+
+close_done_own : (n : ℕ) (s : CoreState) (l : NfsLists) (current : Option ℕ) (a : CloseArgs) (r : StateidRow) (owner : ℕ) (turn : Turn) (Client : List ℕ → Type 0) (o : Option NfsStatus) → IsGood s → ((c : ClientRow) → find (is_client r.client true) l.clients ≡ Some c → Client c.id) → Owned n s Client (close_done s l current a r owner turn o)
+close_done_own n s l current a r owner turn Client None good each = gives_own n s Client (share_of_open s l r owner) (λ claim e. open_share s l Client r owner claim good each e)
+close_done_own n s l current a r owner turn Client (Some status) good each = (tt, tt)
+
+close_by_own : (n : ℕ) (s : CoreState) (l : NfsLists) (current : Option ℕ) (a : CloseArgs) (Client : List ℕ → Type 0) (c : Checked) → IsGood s → ((r : StateidRow) (w : ℕ) (v : Turn) (x : ClientRow) → c ≡ Passed r w v → find (is_client r.client true) l.clients ≡ Some x → Client x.id) → Owned n s Client (close_by s l current a c)
+close_by_own n s l current a Client (Refused status) good each = (tt, tt)
+close_by_own n s l current a Client (Repeated owner) good each = repeat_own n s l current Client (find (is_kept owner) l.kept)
+close_by_own n s l current a Client (Passed r owner turn) good each = close_done_own n s l current a r owner turn Client (standing_fault r turn a.stateid.seqid true) good (λ x found. each r owner turn x refl found)
+
+pub close_own : (n : ℕ) (s : CoreState) (l : NfsLists) (current : Option ℕ) (a : CloseArgs) → IsGood s → Owned n s (Names s l (Close a)) (close s l current a)
+unfolding close
+close_own n s l current a good = state_own n s l a.stateid (λ t m. close_by t m current a (checked t m current 4 a.seqid a.stateid)) good
+    (λ t stable left.
+    let m = renewed_for s l (state_client s l a.stateid) in
+    close_by_own n t m current a (λ id. is_holder s l a.stateid id) (checked t m current 4 a.seqid a.stateid) left
+    (λ r w v x e found. holder_as s t l (state_client s l a.stateid) a.stateid x.id stable (by_number m (state_client t m a.stateid) r.client x (checked_client t m current 4 a.seqid a.stateid r w v e) found)))
+
+pub return_own : (n : ℕ) (s : CoreState) (l : NfsLists) (current : Option ℕ) (stateid : Stateid) → IsGood s → Owned n s (Names s l (DelegReturn stateid)) (deleg_return s l current stateid)
+unfolding deleg_return
+return_own n s l current stateid good = state_own n s l stateid (λ t m. Does [] m current (Ended (returned t current stateid))) good (λ t stable left. (tt, tt))

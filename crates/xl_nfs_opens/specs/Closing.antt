@@ -1,0 +1,168 @@
+-- The check of a stateid (RFC 7530 9.1.4, 9.1.7), and what opens come to: OPEN_CONFIRM, OPEN_DOWNGRADE, CLOSE and DELEGRETURN (RFC 7530 16.18, 16.19, 16.2, 16.8).
+use Rattle.std.specs.Prelude.{◌≡◌, ℕ, Bool, true, false, ◌&&◌, ◌==◌, nat_le, nat_lt, if◌then◌else◌, [], Option, Some, None, IsSome}
+use Rattle.std.specs.Bool.{beq}
+use Rattle.std.specs.List.{find}
+use Rattle.xl_matrix.specs.declared.claim.Claim.{Claim}
+use Rattle.xl_matrix.specs.Rights.{rights_lie_within}
+use Rattle.xl_nfs.specs.declared.basics.Stateid.{Stateid}
+use Rattle.xl_nfs.specs.declared.opens.CloseArgs.{CloseArgs}
+use Rattle.xl_nfs.specs.declared.opens.OpenConfirmArgs.{OpenConfirmArgs}
+use Rattle.xl_nfs.specs.declared.status.NfsStatus.{NfsStatus}
+use Rattle.xl_nfs.specs.declared.status.NfsStatus.TheVariants as statuses
+use Rattle.xl_nfs_state.specs.State.{NfsLists, is_client, is_owner, is_stateid, is_kept}
+use Rattle.xl_nfs_state.specs.Verdict.{verdict, next_seqid}
+use Rattle.xl_nfs_state.specs.declared.client.ClientRow.{ClientRow}
+use Rattle.xl_nfs_state.specs.declared.owner.OwnerRow.{OwnerRow}
+use Rattle.xl_nfs_state.specs.declared.owner.Turn.{Turn}
+use Rattle.xl_nfs_state.specs.declared.seqid.SeqidVerdict.{SeqidVerdict}
+use Rattle.xl_nfs_state.specs.declared.seqid.SeqidVerdict.TheVariants as verdicts
+use Rattle.xl_nfs_state.specs.declared.stateid.Holder.{Holder}
+use Rattle.xl_nfs_state.specs.declared.stateid.Holder.TheVariants as holders
+use Rattle.xl_nfs_state.specs.declared.stateid.StateidRow.{StateidRow}
+use Rattle.xl_core.specs.State.{CoreState}
+use Rattle.xl_nfs_opens.specs.Opens.{rights_of, repeated, share_held, gives, stood}
+use Rattle.xl_nfs_opens.specs.Plans.{Plan, Does}
+use Rattle.xl_nfs_opens.specs.Renewing.{stateid_of, number_of, state_client, renewing}
+use Rattle.xl_nfs_opens.specs.Results.{spelled}
+use Rattle.xl_nfs_opens.specs.Seqids.{advances, counted}
+use Rattle.xl_nfs_opens.specs.declared.opener.Checked.{Checked}
+use Rattle.xl_nfs_opens.specs.declared.opener.Checked.TheVariants.{Refused, Repeated, Passed}
+use Rattle.xl_nfs_opens.specs.declared.opener.Opener.{Opener}
+use Rattle.xl_nfs_opens.specs.declared.told.Told.{Told}
+use Rattle.xl_nfs_opens.specs.declared.told.Told.TheVariants.{Ended, State}
+
+-- ---- the check of a stateid
+
+-- by the owner's seqid; an open that was closed is known to the repeat of its CLOSE alone
+abbrev pub seqid_checked : StateidRow → ℕ → Turn → SeqidVerdict → Checked
+seqid_checked r owner turn verdicts.Repeat = Repeated owner
+seqid_checked r owner turn verdicts.Next = if r.standing.closed then Refused statuses.BadStateid else Passed r owner turn
+seqid_checked r owner turn _ = Refused (if r.standing.closed then statuses.BadStateid else statuses.BadSeqid)
+
+abbrev pub owner_checked : StateidRow → ℕ → ℕ → ℕ → Option OwnerRow → Checked
+owner_checked r op seqid owner None = Refused statuses.BadStateid
+owner_checked r op seqid owner (Some o) = seqid_checked r owner o.turn (verdict (Some o.turn) op seqid)
+
+-- it is of an open
+abbrev pub holder_checked : NfsLists → StateidRow → ℕ → ℕ → Holder → Checked
+holder_checked l r op seqid (holders.Open owner) = owner_checked r op seqid owner (find (is_owner owner) l.owners)
+holder_checked l r op seqid _ = Refused statuses.BadStateid
+
+-- it is of the current file
+abbrev pub row_checked : NfsLists → ℕ → ℕ → ℕ → Option StateidRow → Checked
+row_checked l at op seqid None = Refused statuses.BadStateid
+row_checked l at op seqid (Some r) = if r.file == at then holder_checked l r op seqid r.holder else Refused statuses.BadStateid
+
+-- it is of this start
+abbrev pub number_checked : NfsLists → ℕ → ℕ → ℕ → Option ℕ → Checked
+number_checked l at op seqid None = Refused statuses.StaleStateid
+number_checked l at op seqid (Some number) = row_checked l at op seqid (find (is_stateid number) l.stateids)
+
+-- what is found for a stateid, and what its owner's seqid says
+unfoldable pub checked : CoreState → NfsLists → Option ℕ → ℕ → ℕ → Stateid → Checked
+checked s l None op seqid stateid = Refused statuses.NoFileHandle
+checked s l (Some at) op seqid stateid = number_checked l at op seqid (number_of s stateid.other)
+
+-- the stateid's own seqid, and whether its owner was confirmed, as it has to be, or not
+unfoldable pub standing_fault : StateidRow → Turn → ℕ → Bool → Option NfsStatus
+standing_fault r turn seqid confirmed =
+    if nat_lt seqid r.standing.seqid then Some statuses.OldStateid
+    else if nat_lt r.standing.seqid seqid then Some statuses.BadStateid
+    else if beq turn.confirmed confirmed then None
+    else Some statuses.BadStateid
+
+-- ---- what is remembered of a request on an open
+
+-- the owner's requests have come this far, with this one
+abbrev pub next_turn : ℕ → ℕ → Bool → Option ℕ → Turn
+next_turn op seqid confirmed closed = record { seqid = seqid; op = op; confirmed = confirmed; closed = closed }
+
+-- it failed so
+abbrev pub failed_lists : NfsLists → ℕ → Turn → ℕ → ℕ → NfsStatus → NfsLists
+failed_lists l owner turn op seqid status =
+    if advances status then counted owner turn.closed (next_turn op seqid turn.confirmed None) (spelled op (Ended status)) l else l
+
+abbrev pub failed : NfsLists → Option ℕ → ℕ → Turn → ℕ → ℕ → NfsStatus → Plan
+failed l current owner turn op seqid status = Does [] (failed_lists l owner turn op seqid status) current (Ended status)
+
+-- the stateid as it is then
+abbrev pub state_told : CoreState → StateidRow → Told
+state_told s r = State (stateid_of s r.number (next_seqid r.standing.seqid))
+
+-- it was done: the open has these rights from then on, or is closed
+abbrev pub done_lists : CoreState → NfsLists → StateidRow → ℕ → Turn → ℕ → ℕ → Bool → Option ℕ → ℕ → ℕ → Bool → NfsLists
+done_lists s l r owner turn op seqid confirmed closing access deny closed =
+    counted owner turn.closed (next_turn op seqid confirmed closing) (spelled op (state_told s r)) (stood r.number r access deny closed l)
+
+-- ---- OPEN_CONFIRM
+
+abbrev pub confirm_done : CoreState → NfsLists → Option ℕ → OpenConfirmArgs → StateidRow → ℕ → Turn → Option NfsStatus → Plan
+confirm_done s l current a r owner turn (Some status) = failed l current owner turn 20 a.seqid status
+confirm_done s l current a r owner turn None = Does [] (done_lists s l r owner turn 20 a.seqid true None r.standing.access r.standing.deny false) current (state_told s r)
+
+abbrev pub confirm_by : CoreState → NfsLists → Option ℕ → OpenConfirmArgs → Checked → Plan
+confirm_by s l current a (Refused status) = Does [] l current (Ended status)
+confirm_by s l current a (Repeated owner) = repeated s l current (find (is_kept owner) l.kept)
+confirm_by s l current a (Passed r owner turn) = confirm_done s l current a r owner turn (standing_fault r turn a.stateid.seqid false)
+
+unfoldable pub open_confirm : CoreState → NfsLists → Option ℕ → OpenConfirmArgs → Plan
+open_confirm s l current a = renewing s l (state_client s l a.stateid) (λ t m. confirm_by t m current a (checked t m current 20 a.seqid a.stateid))
+
+-- ---- OPEN_DOWNGRADE
+
+-- an access is left, and both lie within what the open has
+unfoldable pub can_weaken : StateidRow → ℕ → ℕ → Bool
+can_weaken r access deny =
+    nat_le 1 access && (nat_le access 3 && (nat_le deny 3 && (rights_lie_within (rights_of access) (rights_of r.standing.access) && rights_lie_within (rights_of deny) (rights_of r.standing.deny))))
+
+-- ---- the owner's share in the core
+
+abbrev pub opener_named : Option ClientRow → Option OwnerRow → Option Opener
+opener_named (Some c) (Some o) = Some (record { client = c.number; id = c.id; owner = o.name.owner })
+opener_named _ _ = None
+
+-- the owner of an open
+unfoldable pub opener_by : NfsLists → ℕ → ℕ → Option Opener
+opener_by l client owner = opener_named (find (is_client client true) l.clients) (find (is_owner owner) l.owners)
+
+abbrev pub share_by_opener : CoreState → ℕ → Option Opener → Option Claim
+share_by_opener s file None = None
+share_by_opener s file (Some o) = share_held s o file
+
+-- the share that stands for an open
+abbrev pub share_of_open : CoreState → NfsLists → StateidRow → ℕ → Option Claim
+share_of_open s l r owner = share_by_opener s r.file (opener_by l r.client owner)
+
+-- ---- CLOSE
+
+abbrev pub close_done : CoreState → NfsLists → Option ℕ → CloseArgs → StateidRow → ℕ → Turn → Option NfsStatus → Plan
+close_done s l current a r owner turn (Some status) = failed l current owner turn 4 a.seqid status
+close_done s l current a r owner turn None =
+    Does (gives (share_of_open s l r owner)) (done_lists s l r owner turn 4 a.seqid turn.confirmed (Some r.number) r.standing.access r.standing.deny true) current (state_told s r)
+
+abbrev pub close_by : CoreState → NfsLists → Option ℕ → CloseArgs → Checked → Plan
+close_by s l current a (Refused status) = Does [] l current (Ended status)
+close_by s l current a (Repeated owner) = repeated s l current (find (is_kept owner) l.kept)
+close_by s l current a (Passed r owner turn) = close_done s l current a r owner turn (standing_fault r turn a.stateid.seqid true)
+
+unfoldable pub close : CoreState → NfsLists → Option ℕ → CloseArgs → Plan
+close s l current a = renewing s l (state_client s l a.stateid) (λ t m. close_by t m current a (checked t m current 4 a.seqid a.stateid))
+
+-- ---- DELEGRETURN
+
+abbrev pub number_returned : Option ℕ → NfsStatus
+number_returned None = statuses.StaleStateid
+number_returned (Some number) = statuses.BadStateid
+
+-- there are no delegations
+abbrev pub returned : CoreState → Option ℕ → Stateid → NfsStatus
+returned s None stateid = statuses.NoFileHandle
+returned s (Some at) stateid = number_returned (number_of s stateid.other)
+
+unfoldable pub deleg_return : CoreState → NfsLists → Option ℕ → Stateid → Plan
+deleg_return s l current stateid = renewing s l (state_client s l stateid) (λ t m. Does [] m current (Ended (returned t current stateid)))
+
+-- what was found is there: the open, which isn't closed, and its owner
+abbrev pub IsChecked : NfsLists → Checked → Type 0
+IsChecked l (Passed r owner turn) = (find (is_stateid r.number) l.stateids ≡ Some r) × (IsSome (find (is_owner owner) l.owners) × (r.standing.closed ≡ false))
+IsChecked l _ = Unit {0}

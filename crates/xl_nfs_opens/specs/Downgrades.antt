@@ -1,0 +1,50 @@
+-- OPEN_DOWNGRADE (RFC 7530 16.19).
+use Rattle.std.specs.Prelude.{ℕ, true, false, if◌then◌else◌, List, [], ◌∷◌, Option, Some, None}
+use Rattle.std.specs.List.{find}
+use Rattle.xl_matrix.specs.declared.claim.Claim.{Claim}
+use Rattle.xl_nfs.specs.declared.opens.OpenDowngradeArgs.{OpenDowngradeArgs}
+use Rattle.xl_nfs.specs.declared.status.NfsStatus.{NfsStatus}
+use Rattle.xl_nfs.specs.declared.status.NfsStatus.TheVariants.{Inval}
+use Rattle.xl_nfs_state.specs.State.{NfsLists, is_kept}
+use Rattle.xl_nfs_state.specs.declared.owner.Turn.{Turn}
+use Rattle.xl_nfs_state.specs.declared.stateid.StateidRow.{StateidRow}
+use Rattle.xl_core.specs.Deeds.{Deed, Weakens}
+use Rattle.xl_core.specs.Settle.{share_has}
+use Rattle.xl_matrix.specs.declared.claim.Rwd.{Rwd}
+use Rattle.xl_core.specs.State.{CoreState}
+use Rattle.xl_nfs_opens.specs.Closing.{checked, standing_fault, failed, done_lists, state_told, can_weaken, share_of_open}
+use Rattle.xl_nfs_opens.specs.Opens.{rights_of, repeated}
+use Rattle.xl_nfs_opens.specs.Plans.{Plan, Does}
+use Rattle.xl_nfs_opens.specs.Renewing.{state_client, renewing}
+use Rattle.xl_nfs_opens.specs.declared.opener.Checked.{Checked}
+use Rattle.xl_nfs_opens.specs.declared.opener.Checked.TheVariants.{Refused, Repeated, Passed}
+use Rattle.xl_nfs_opens.specs.declared.told.Told.TheVariants.{Ended}
+
+-- the share has no more than these rights from then on, where they lie within what it has
+abbrev pub weakens : Option Claim → Rwd → Rwd → List Deed
+weakens None access deny = []
+weakens (Some claim) access deny = if share_has claim.what access deny then Weakens claim access deny ∷ [] else []
+
+-- the stateid is as it should be, and both lie within what the open has
+abbrev pub range_fault : StateidRow → OpenDowngradeArgs → Option NfsStatus
+range_fault r a = if can_weaken r a.access a.deny then None else Some Inval
+
+abbrev pub first_fault : Option NfsStatus → Option NfsStatus → Option NfsStatus
+first_fault None later = later
+first_fault (Some status) later = Some status
+
+unfoldable pub downgrade_fault : StateidRow → Turn → OpenDowngradeArgs → Option NfsStatus
+downgrade_fault r turn a = first_fault (standing_fault r turn a.stateid.seqid true) (range_fault r a)
+
+abbrev pub downgrade_done : CoreState → NfsLists → Option ℕ → OpenDowngradeArgs → StateidRow → ℕ → Turn → Option NfsStatus → Plan
+downgrade_done s l current a r owner turn (Some status) = failed l current owner turn 21 a.seqid status
+downgrade_done s l current a r owner turn None =
+    Does (weakens (share_of_open s l r owner) (rights_of a.access) (rights_of a.deny)) (done_lists s l r owner turn 21 a.seqid turn.confirmed None a.access a.deny false) current (state_told s r)
+
+abbrev pub downgrade_by : CoreState → NfsLists → Option ℕ → OpenDowngradeArgs → Checked → Plan
+downgrade_by s l current a (Refused status) = Does [] l current (Ended status)
+downgrade_by s l current a (Repeated owner) = repeated s l current (find (is_kept owner) l.kept)
+downgrade_by s l current a (Passed r owner turn) = downgrade_done s l current a r owner turn (downgrade_fault r turn a)
+
+unfoldable pub open_downgrade : CoreState → NfsLists → Option ℕ → OpenDowngradeArgs → Plan
+open_downgrade s l current a = renewing s l (state_client s l a.stateid) (λ t m. downgrade_by t m current a (checked t m current 21 a.seqid a.stateid))

@@ -1,0 +1,23 @@
+-- What is said of opens.
+use Rattle.std.specs.Prelude.{◌≡◌, ◌+◌, Bool, List, ℕ}
+use Rattle.xl_nfs.specs.Opens.{OpenArgsItem}
+use Rattle.xl_nfs_state.specs.State.{NfsLists, with_stateids, without, is_whose}
+use Rattle.xl_nfs_state.specs.declared.stateid.Whose.TheVariants as whose
+use Rattle.xl_core.specs.State.{CoreState}
+use Rattle.xl_nfs_opens.specs.Opens.{can_enter, open_row, open_turn}
+use Rattle.xl_nfs_opens.specs.Plans.{Outcome}
+use Rattle.xl_nfs_opens.specs.Seqids.{opener_number, seated}
+use Rattle.xl_nfs_opens.specs.declared.opener.Opener.{Opener}
+use Rattle.xl_nfs_opens.specs.declared.told.Told.TheVariants.{Kept}
+
+-- these bytes are told again, and nothing changes: neither what is remembered nor the core
+abbrev pub IsRepeated : List ℕ → NfsLists → CoreState → Outcome → Type 0
+IsRepeated bytes l s r = (r.0 ≡ Kept bytes) × (r.3 ≡ l) × (r.4 ≡ s)
+
+-- what stands under this number gone
+abbrev pub freed : ℕ → NfsLists → NfsLists
+freed number l = with_stateids l (without (is_whose (whose.Stateid number)) l.stateids)
+
+-- the open of the next number can come once its owner is seated
+abbrev pub can_come : CoreState → NfsLists → Opener → OpenArgsItem → ℕ → Bool → Bool
+can_come s l o a file confirmed = can_enter (open_row (s.counter + 1) o (opener_number o l) file a) (freed (s.counter + 1) (seated o (open_turn a confirmed) l))

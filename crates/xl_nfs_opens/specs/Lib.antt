@@ -1,0 +1,12 @@
+pub mod Short
+pub mod Leases
+pub mod Files
+pub mod Seqids
+pub mod Plans
+pub mod Results
+pub mod Renewing
+pub mod Opens
+pub mod Closing
+pub mod Downgrades
+pub mod Laws
+pub mod Owners

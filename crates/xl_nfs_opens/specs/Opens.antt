@@ -1,0 +1,353 @@
+-- OPEN (RFC 7530 16.16).
+use Rattle.std.specs.Prelude.{ℕ, ◌+◌, Bool, true, false, not, ◌&&◌, ◌||◌, ◌==◌, nat_le, nat_lt, if◌then◌else◌, List, [], ◌∷◌, ◌++◌, length, Option, Some, None, is_some, Result, Ok, Err}
+use Rattle.std.specs.List.{find}
+use Rattle.std.specs.Option.{option_and_then}
+use Rattle.xl_base.specs.declared.name.Owner.TheVariants as owners
+use Rattle.xl_base.specs.declared.name.Protocol.TheVariants.{Nfs}
+use Rattle.xl_matrix.specs.declared.claim.Claim.{Claim}
+use Rattle.xl_matrix.specs.declared.claim.Rwd.{Rwd}
+use Rattle.xl_names.specs.Names.{number_of}
+use Rattle.xl_names.specs.declared.name.Name.TheVariants.{NfsShare, NfsParty}
+use Rattle.xl_nfs.specs.Opens.{OpenArgsItem, OpenHowItem, NoCreate, Create, Unchecked, Guarded, Exclusive, OpenClaimItem, Null, Previous, DelegateCurrent, DelegatePrevious}
+use Rattle.xl_nfs.specs.Results.{ResultItem, OpenAnswer, nfs_result}
+use Rattle.xl_nfs.specs.declared.status.NfsStatus.{NfsStatus}
+use Rattle.xl_nfs.specs.declared.status.NfsStatus.TheVariants as statuses
+use Rattle.xl_nfs_state.specs.Filed.{changed}
+use Rattle.xl_nfs_state.specs.Keys.{same_place, place_of}
+use Rattle.xl_nfs_state.specs.Rows.{with_standing}
+use Rattle.xl_nfs_state.specs.State.{NfsLists, with_stateids, without, without_owner, is_client, is_stateid, is_kept, is_whose, owned_on, can_hang, opens, most_opens}
+use Rattle.xl_nfs_state.specs.Verdict.{verdict, next_seqid}
+use Rattle.xl_nfs_state.specs.declared.client.ClientRow.{ClientRow}
+use Rattle.xl_nfs_state.specs.declared.kept.KeptRow.{KeptRow}
+use Rattle.xl_nfs_state.specs.declared.owner.OwnerRow.{OwnerRow}
+use Rattle.xl_nfs_state.specs.declared.owner.Turn.{Turn}
+use Rattle.xl_nfs_state.specs.declared.seqid.SeqidVerdict.{SeqidVerdict}
+use Rattle.xl_nfs_state.specs.declared.seqid.SeqidVerdict.TheVariants as verdicts
+use Rattle.xl_nfs_state.specs.declared.stateid.Holder.TheVariants as holders
+use Rattle.xl_nfs_state.specs.declared.stateid.StateidRow.{StateidRow}
+use Rattle.xl_nfs_state.specs.declared.stateid.Whose.TheVariants as whose
+use Rattle.xl_table.specs.Relock.{either_right, is_share_of}
+use Rattle.xl_wait.specs.declared.waiter.Rooms.{Rooms}
+use Rattle.xl_core.specs.Deeds.{Deed, GivesBack, Draws}
+use Rattle.xl_core.specs.Limits.{most_hosts, most_owners}
+use Rattle.xl_core.specs.Limits as limits
+use Rattle.xl_core.specs.Settle.{give_back}
+use Rattle.xl_core.specs.State.{CoreState, drawn}
+use Rattle.xl_core.specs.declared.ask.Act.TheVariants.{Share}
+use Rattle.xl_core.specs.declared.ask.Answer.{Answer}
+use Rattle.xl_core.specs.declared.ask.Answer.TheVariants as answers
+use Rattle.xl_core.specs.declared.ask.Ask.{Ask}
+use Rattle.xl_core.specs.declared.ask.Who.TheVariants.{Named}
+use Rattle.std.specs.List.{filter}
+use Rattle.xl_nfs_opens.specs.Leases.{number_in}
+use Rattle.xl_nfs_opens.specs.Files.{file_named}
+use Rattle.xl_nfs_opens.specs.Plans.{Plan, Does, Behind, Asking}
+use Rattle.xl_nfs_opens.specs.Renewing.{stateid_of, number_of as number_in_other, state_client, renewing}
+use Rattle.xl_nfs_opens.specs.Results.{spelled}
+use Rattle.xl_nfs_opens.specs.Seqids.{advances, is_opener, is_room_for, opener_number, seated, kept_for, remembered}
+use Rattle.xl_nfs_opens.specs.declared.opener.Judged.{Judged}
+use Rattle.xl_nfs_opens.specs.declared.opener.Judged.TheVariants as judgements
+use Rattle.xl_nfs_opens.specs.declared.opener.Opener.{Opener}
+use Rattle.xl_nfs_opens.specs.declared.told.Told.{Told}
+use Rattle.xl_nfs_opens.specs.declared.told.Told.TheVariants.{Ended, Opened, Kept}
+
+-- ---- access and deny (share_access4, share_deny4): 1 is reading, 2 writing, 3 both
+
+abbrev pub rights_of : ℕ → Rwd
+rights_of bits = record { r = (bits == 1) || (bits == 3); w = (bits == 2) || (bits == 3); d = false }
+
+abbrev pub bits_of : Bool → Bool → ℕ
+bits_of true true = 3
+bits_of false true = 2
+bits_of true false = 1
+bits_of false false = 0
+
+-- the rights of both
+unfoldable pub either_bits : ℕ → ℕ → ℕ
+either_bits a b = bits_of (either_right (rights_of a) (rights_of b)).r (either_right (rights_of a) (rights_of b)).w
+
+-- ---- what is opened
+
+-- a claim by a name is made in the root, and one of a file that was open before a restart at the file; no delegation from before a client's restart is kept
+abbrev pub check_claim : ℕ → OpenClaimItem → Option NfsStatus
+check_claim at (Null name) = if at == 0 then None else Some statuses.NotDir
+check_claim at (Previous type) = if at == 0 then Some statuses.IsDir else None
+check_claim at (DelegateCurrent a) = if at == 0 then None else Some statuses.NotDir
+check_claim at (DelegatePrevious name) = Some statuses.NotSupp
+
+-- something is asked for, and no other bits
+abbrev pub check_bits : OpenArgsItem → Option NfsStatus
+check_bits a = if nat_le 1 a.access && (nat_le a.access 3 && nat_le a.deny 3) then None else Some statuses.Inval
+
+-- no file is made: an unchecked creation opens what is there
+abbrev pub check_how : OpenHowItem → Option NfsStatus
+check_how NoCreate = None
+check_how (Create (Unchecked a)) = None
+check_how (Create (Guarded a)) = Some statuses.NotSupp
+check_how (Create (Exclusive v)) = Some statuses.NotSupp
+
+abbrev pub found_name : Option ℕ → Result ℕ NfsStatus
+found_name None = Err statuses.NoEnt
+found_name (Some file) = Ok file
+
+abbrev pub named_file : List (List ℕ) → List ℕ → Option ℕ
+named_file files name = if length name == 0 then None else file_named files name
+
+-- there are no delegations
+abbrev pub by_delegation : Option ℕ → Result ℕ NfsStatus
+by_delegation None = Err statuses.NoEnt
+by_delegation (Some file) = Err statuses.BadStateid
+
+abbrev pub file_of_claim : List (List ℕ) → ℕ → OpenClaimItem → Result ℕ NfsStatus
+file_of_claim files at (Null name) = found_name (named_file files name)
+file_of_claim files at (Previous type) = Ok at
+file_of_claim files at (DelegateCurrent a) = by_delegation (named_file files a.name)
+file_of_claim files at (DelegatePrevious name) = Err statuses.NotSupp
+
+-- a check that fails, before the others
+abbrev pub or_else : Option NfsStatus → Result ℕ NfsStatus → Result ℕ NfsStatus
+or_else None rest = rest
+or_else (Some status) rest = Err status
+
+-- the file that is opened, or the first check that fails
+unfoldable pub opened_file : List (List ℕ) → ℕ → OpenArgsItem → Result ℕ NfsStatus
+opened_file files at a = or_else (check_claim at a.claim) (or_else (check_bits a) (or_else (check_how a.how) (file_of_claim files at a.claim)))
+
+-- ---- the owner
+
+abbrev pub judged_row : OwnerRow → SeqidVerdict → Judged
+judged_row r verdicts.Repeat = judgements.Repeats r.number
+judged_row r verdicts.Next = if r.turn.confirmed then judgements.Next else judgements.Anew r.number
+judged_row r verdicts.New = judgements.New
+judged_row r (verdicts.Bad last) = if r.turn.confirmed then judgements.Bad else judgements.Anew r.number
+
+abbrev pub judged_by : ℕ → Option OwnerRow → Judged
+judged_by seqid None = judgements.New
+judged_by seqid (Some r) = judged_row r (verdict (Some r.turn) 18 seqid)
+
+-- what the owner's seqid says; one that was never confirmed and doesn't repeat is new
+unfoldable pub judged : NfsLists → Opener → ℕ → Judged
+judged l o seqid = judged_by seqid (find (is_opener o) l.owners)
+
+-- ---- a repeat
+
+abbrev pub opened_by : NfsLists → Option ℕ → Option ℕ → Option ℕ
+opened_by l current None = current
+opened_by l current (Some number) = handle_of current (find (is_stateid number) l.stateids) where
+  handle_of : Option ℕ → Option StateidRow → Option ℕ
+  handle_of current None = current
+  handle_of current (Some r) = Some r.file
+
+abbrev pub handle_by : {F : Type 0} → CoreState → NfsLists → Option ℕ → Result (ResultItem × List ℕ) F → Option ℕ
+handle_by s l current (Ok (OpenAnswer (Ok r), rest)) = opened_by l current (number_in_other s r.stateid.other)
+handle_by s l current read = current
+
+-- an OPEN that was OK makes its file the current one, also when it comes again
+unfoldable pub handle_again : CoreState → NfsLists → Option ℕ → List ℕ → Option ℕ
+handle_again s l current bytes = handle_by s l current (nfs_result.at bytes)
+
+-- the kept result is the answer, and nothing changes
+abbrev pub repeated : CoreState → NfsLists → Option ℕ → Option KeptRow → Plan
+repeated s l current None = Does [] l current (Ended statuses.BadSeqid)
+repeated s l current (Some k) = Does [] l (handle_again s l current k.result) (Kept k.result)
+
+-- ---- the owner's share in the core
+
+abbrev pub share_by : List Claim → ℕ → Option ℕ → Option Claim
+share_by claims file None = None
+share_by claims file (Some number) = find (is_share_of file (owners.Name Nfs number)) claims
+
+-- the owner's share on the file; it has one at most
+unfoldable pub share_held : CoreState → Opener → ℕ → Option Claim
+share_held s o file = share_by s.claims file (number_of (NfsShare o.id o.owner) s.names)
+
+abbrev pub gives : Option Claim → List Deed
+gives None = []
+gives (Some claim) = GivesBack claim ∷ []
+
+-- the state without the share
+abbrev pub given_up : CoreState → Option Claim → CoreState
+given_up s None = s
+given_up s (Some claim) = (give_back s claim).1
+
+-- the owner's shares on the files of these are given back
+abbrev pub gives_all : CoreState → Opener → List StateidRow → List Deed
+gives_all s o [] = []
+gives_all s o (r ∷ rs) = gives (share_held s o r.file) ++ gives_all (given_up s (share_held s o r.file)) o rs
+
+-- ---- what is asked
+
+abbrev pub no_rows : Rooms
+no_rows = record { hosts = 0; owners = 0; opens = 0 }
+
+abbrev pub all_rooms : Rooms
+all_rooms = record { hosts = most_hosts; owners = most_owners; opens = limits.most_opens }
+
+abbrev pub reclaims : OpenClaimItem → Bool
+reclaims (Previous type) = true
+reclaims _ = false
+
+-- The share of an owner, which never waits. The rows that it adds are counted before; clients aren't recorded yet.
+unfoldable pub share_ask : Opener → OpenArgsItem → ℕ → Ask
+share_ask o a file = record {
+  file = file;
+  owner = Named (NfsShare o.id o.owner);
+  party = Named (NfsParty o.id);
+  act = Share (rights_of a.access) (rights_of a.deny);
+  wish = [];
+  conn = None;
+  blocking = false;
+  reclaim = reclaims a.claim;
+  monitored = false;
+  rows = no_rows;
+}
+
+abbrev pub is_granted : Answer → Bool
+is_granted (answers.Granted c) = true
+is_granted answer = false
+
+-- the status by the core's answer
+abbrev pub answer_status : Bool → Answer → NfsStatus
+answer_status reclaim (answers.Granted c) = statuses.Ok
+answer_status reclaim (answers.Conflict c) = if reclaim then statuses.ReclaimConflict else statuses.ShareDenied
+answer_status reclaim (answers.Queued id) = statuses.Delay
+answer_status reclaim (answers.Recall c) = statuses.Delay
+answer_status reclaim (answers.Grace until) = statuses.Grace
+answer_status reclaim (answers.NoGrace clock) = statuses.NoGrace
+answer_status reclaim answers.NotRecorded = statuses.ReclaimBad
+answer_status reclaim (answers.Full limit) = statuses.Resource
+answer_status reclaim answers.NotHeld = statuses.ServerFault
+answer_status reclaim answers.StoreFailed = statuses.ServerFault
+
+-- ---- what is remembered
+
+-- the owner's requests have come this far; a reclaim confirms its owner
+abbrev pub open_turn : OpenArgsItem → Bool → Turn
+open_turn a confirmed = record { seqid = a.seqid; op = 18; confirmed = confirmed; closed = None }
+
+-- of a request that is refused so
+abbrev pub refused_lists : Opener → OpenArgsItem → Bool → NfsStatus → NfsLists → NfsLists
+refused_lists o a confirmed status l = if advances status then remembered o (open_turn a confirmed) (spelled 18 (Ended status)) l else l
+
+abbrev pub refused : NfsLists → Option ℕ → Opener → OpenArgsItem → Bool → NfsStatus → Plan
+refused l current o a confirmed status = Does [] (refused_lists o a confirmed status l) current (Ended status)
+
+abbrev pub live : Option StateidRow → Option StateidRow
+live None = None
+live (Some r) = if r.standing.closed then None else Some r
+
+-- the open that the owner has on the file
+abbrev pub open_held : NfsLists → Opener → ℕ → Option StateidRow
+open_held l o file = live (option_and_then (λ r. find (owned_on r.number file) l.stateids) (find (is_opener o) l.owners))
+
+-- there is room for the owner and for the open, beside so many opens of others
+abbrev pub has_room : ℕ → NfsLists → Opener → ℕ → Bool
+has_room others l o file = is_room_for o l && (is_some (open_held l o file) || nat_lt (opens l.stateids + others) most_opens)
+
+-- the open of this number, new
+abbrev pub open_row : ℕ → Opener → ℕ → ℕ → OpenArgsItem → StateidRow
+open_row number o owner file a = record {
+  number = number;
+  client = o.client;
+  file = file;
+  holder = holders.Open owner;
+  standing = record { seqid = 1; access = a.access; deny = a.deny; closed = false };
+}
+
+-- what a stateid stands on is there, nothing else stands in its place, and there is room for it
+abbrev pub can_enter : StateidRow → NfsLists → Bool
+can_enter r l = not (is_some (find (λ s. same_place (place_of r) (place_of s)) l.stateids)) && (can_hang l r && nat_lt (opens l.stateids) most_opens)
+
+abbrev pub entered_in : StateidRow → NfsLists → NfsLists
+entered_in r l = if can_enter r l then with_stateids l (l.stateids ++ r ∷ []) else l
+
+-- an open comes, and nothing stays that stood under its number before
+unfoldable pub entered : StateidRow → NfsLists → NfsLists
+entered r l = entered_in r (with_stateids l (without (is_whose (whose.Stateid r.number)) l.stateids))
+
+-- what changes of this stateid
+abbrev pub stood : ℕ → StateidRow → ℕ → ℕ → Bool → NfsLists → NfsLists
+stood number r access deny closed l =
+    with_stateids l (changed (is_stateid number) (with_standing (record { seqid = next_seqid r.standing.seqid; access = access; deny = deny; closed = closed })) l.stateids)
+
+-- OPEN4_RESULT_CONFIRM
+abbrev pub flags_of : Bool → ℕ
+flags_of confirmed = if confirmed then 0 else 2
+
+abbrev pub opened_told : CoreState → ℕ → ℕ → Bool → Told
+opened_told s number seqid confirmed = Opened (stateid_of s number seqid) (flags_of confirmed)
+
+-- the owner has no open on the file: a new one takes the next number
+abbrev pub granted_new : CoreState → NfsLists → Opener → OpenArgsItem → ℕ → Bool → Plan
+granted_new s l o a file confirmed =
+    let number = opener_number o l in
+    let told = opened_told (drawn s) (s.counter + 1) 1 confirmed in
+    Does (Draws ∷ []) (kept_for number (spelled 18 told) (entered (open_row (s.counter + 1) o number file a) (seated o (open_turn a confirmed) l))) (Some file) told
+
+-- it has one: that has the rights of both from then on
+abbrev pub granted_more : CoreState → NfsLists → Opener → OpenArgsItem → ℕ → Bool → StateidRow → Plan
+granted_more s l o a file confirmed r =
+    let number = opener_number o l in
+    let told = opened_told s r.number (next_seqid r.standing.seqid) confirmed in
+    Does [] (kept_for number (spelled 18 told) (seated o (open_turn a confirmed) (stood r.number r (either_bits r.standing.access a.access) (either_bits r.standing.deny a.deny) false l))) (Some file) told
+
+abbrev pub granted_by : CoreState → NfsLists → Opener → OpenArgsItem → ℕ → Bool → Option StateidRow → Plan
+granted_by s l o a file confirmed None = granted_new s l o a file confirmed
+granted_by s l o a file confirmed (Some r) = granted_more s l o a file confirmed r
+
+-- what becomes of the request by the core's answer
+abbrev pub answered : NfsLists → Option ℕ → Opener → OpenArgsItem → ℕ → Bool → Answer → CoreState → Plan
+answered l current o a file confirmed answer s =
+    if is_granted answer then granted_by s l o a file (confirmed || reclaims a.claim) (open_held l o file)
+    else refused l current o a confirmed (answer_status (reclaims a.claim) answer)
+
+-- ---- the checks in their order
+
+abbrev pub open_on : ℕ → NfsLists → Option ℕ → Opener → OpenArgsItem → Bool → ℕ → Plan
+open_on others l current o a confirmed file =
+    if has_room others l o file then Asking all_rooms (share_ask o a file) (answered l current o a file confirmed)
+    else Does [] l current (Ended statuses.Resource)
+
+abbrev pub open_by : ℕ → NfsLists → Option ℕ → Opener → OpenArgsItem → Bool → Result ℕ NfsStatus → Plan
+open_by others l current o a confirmed (Err status) = refused l current o a confirmed status
+open_by others l current o a confirmed (Ok file) = open_on others l current o a confirmed file
+
+-- of an owner that is confirmed, or new
+unfoldable pub open_as : List (List ℕ) → ℕ → NfsLists → Option ℕ → ℕ → Opener → OpenArgsItem → Bool → Plan
+open_as files others l current at o a confirmed = open_by others l current o a confirmed (opened_file files at a)
+
+abbrev pub open_judged : List (List ℕ) → ℕ → CoreState → NfsLists → Option ℕ → ℕ → Opener → OpenArgsItem → Judged → Plan
+open_judged files others s l current at o a judgements.Bad = Does [] l current (Ended statuses.BadSeqid)
+open_judged files others s l current at o a (judgements.Repeats number) = repeated s l current (find (is_kept number) l.kept)
+open_judged files others s l current at o a (judgements.Anew number) =
+    Behind (gives_all s o (filter (is_whose (whose.Owner number)) l.stateids)) (without_owner number l) (λ t. open_as files others (without_owner number l) current at o a false)
+open_judged files others s l current at o a judgements.New = open_as files others l current at o a false
+open_judged files others s l current at o a judgements.Next = open_as files others l current at o a true
+
+abbrev pub opener_of : ClientRow → OpenArgsItem → Opener
+opener_of c a = record { client = c.number; id = c.id; owner = a.owner.owner }
+
+abbrev pub open_of : List (List ℕ) → ℕ → CoreState → NfsLists → Option ℕ → ℕ → OpenArgsItem → Option ClientRow → Plan
+open_of files others s l current at a None = Does [] l current (Ended statuses.StaleClientId)
+open_of files others s l current at a (Some c) = open_judged files others s l current at (opener_of c a) a (judged l (opener_of c a) a.seqid)
+
+-- the confirmed client of a clientid
+abbrev pub client_in : CoreState → NfsLists → ℕ → Option ClientRow
+client_in s l clientid = option_and_then (λ number. find (is_client number true) l.clients) (number_in s clientid)
+
+abbrev pub open_at : List (List ℕ) → ℕ → CoreState → NfsLists → OpenArgsItem → Option ℕ → Plan
+open_at files others s l a None = Does [] l None (Ended statuses.NoFileHandle)
+open_at files others s l a (Some at) = open_of files others s l (Some at) at a (client_in s l a.owner.clientid)
+
+-- the client that a delegation names
+abbrev pub claim_client : CoreState → NfsLists → OpenClaimItem → Option ℕ
+claim_client s l (DelegateCurrent a) = state_client s l a.stateid
+claim_client s l _ = None
+
+-- behind the renewal of that client
+unfoldable pub open_claimed : List (List ℕ) → ℕ → CoreState → NfsLists → Option ℕ → OpenArgsItem → Plan
+open_claimed files others s l current a = renewing s l (claim_client s l a.claim) (λ t m. open_at files others t m a current)
+
+-- OPEN: the client, and that of the delegation by which a file is claimed, are renewed before
+unfoldable pub open_file : List (List ℕ) → ℕ → CoreState → NfsLists → Option ℕ → OpenArgsItem → Plan
+open_file files others s l current a = renewing s l (number_in s a.owner.clientid) (λ t m. open_claimed files others t m current a)

@@ -1,0 +1,58 @@
+-- Whose leases an operation renews (RFC 7530 9.5), and the numbers in a stateid.
+use Rattle.std.specs.Prelude.{ℕ, ◌==◌, true, if◌then◌else◌, List, [], ◌∷◌, ◌++◌, take, drop, Option, Some, None}
+use Rattle.std.specs.Int.{w32, w64, to_be_bytes, from_be_bytes}
+use Rattle.std.specs.List.{find}
+use Rattle.xl_nfs.specs.declared.basics.Stateid.{Stateid}
+use Rattle.xl_nfs_state.specs.State.{NfsLists, is_client, is_stateid}
+use Rattle.xl_nfs_state.specs.declared.client.ClientRow.{ClientRow}
+use Rattle.xl_nfs_state.specs.declared.stateid.StateidRow.{StateidRow}
+use Rattle.xl_core.specs.Deeds.{Deed, Renews}
+use Rattle.xl_core.specs.State.{CoreState}
+use Rattle.xl_nfs_opens.specs.Leases.{lease_end, renewed}
+use Rattle.xl_nfs_opens.specs.Plans.{Plan, Behind}
+
+-- ---- stateids (RFC 7530 9.1.4)
+
+-- the stateid of this number and seqid: its `other` is the epoch of this start and the number
+unfoldable pub stateid_of : CoreState → ℕ → ℕ → Stateid
+stateid_of s number seqid = record { seqid = seqid; other = to_be_bytes w32 s.stable.epoch ++ to_be_bytes w64 number }
+
+-- the number in a stateid, where it is of this start
+unfoldable pub number_of : CoreState → List ℕ → Option ℕ
+number_of s other = if from_be_bytes w32 (take 4 other) == s.stable.epoch then Some (from_be_bytes w64 (drop 4 other)) else None
+
+-- ---- leases
+
+-- the client of an open that isn't closed
+abbrev pub client_if_live : Option StateidRow → Option ℕ
+client_if_live None = None
+client_if_live (Some r) = if r.standing.closed then None else Some r.client
+
+abbrev pub state_numbered : NfsLists → Option ℕ → Option ℕ
+state_numbered l None = None
+state_numbered l (Some number) = client_if_live (find (is_stateid number) l.stateids)
+
+-- the number of the client that a live stateid names; its seqid is not looked at
+abbrev pub state_client : CoreState → NfsLists → Stateid → Option ℕ
+state_client s l stateid = state_numbered l (number_of s stateid.other)
+
+abbrev pub renewals_by : Option ClientRow → List Deed
+renewals_by None = []
+renewals_by (Some r) = Renews r.id ∷ []
+
+-- the lease of the client of this number, where it is confirmed, is renewed
+abbrev pub renewals : NfsLists → Option ℕ → List Deed
+renewals l None = []
+renewals l (Some number) = renewals_by (find (is_client number true) l.clients)
+
+abbrev pub renewed_if : CoreState → NfsLists → ℕ → Option ClientRow → NfsLists
+renewed_if s l number None = l
+renewed_if s l number (Some r) = renewed (lease_end s) number l
+
+abbrev pub renewed_for : CoreState → NfsLists → Option ℕ → NfsLists
+renewed_for s l None = l
+renewed_for s l (Some number) = renewed_if s l number (find (is_client number true) l.clients)
+
+-- behind the renewal of that lease
+abbrev pub renewing : CoreState → NfsLists → Option ℕ → (CoreState → NfsLists → Plan) → Plan
+renewing s l client rest = Behind (renewals l client) (renewed_for s l client) (λ t. rest t (renewed_for s l client))

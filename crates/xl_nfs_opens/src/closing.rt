@@ -1,0 +1,416 @@
+//! The check of a stateid, OPEN_CONFIRM, CLOSE and DELEGRETURN (RFC 7530 9.1.4, 16.18, 16.2, 16.8).
+ghost use Rattle.xl_nfs_state.specs.Verdict.{verdict};
+ghost use Rattle.xl_nfs_opens.specs.Seqids.{counted};
+ghost use Rattle.xl_nfs_opens.specs.Opens.{stood};
+ghost use Rattle.xl_nfs.specs.Outcomes.{is_ok};
+ghost use Rattle.std.specs.Prelude.{◌≡◌, ℕ, false, true, None, Some, IsSome, IfSome, IfOk, OnOk};
+ghost use Rattle.std.specs.List.{find};
+ghost use Rattle.xl_base.specs.Lists.{IsIn};
+ghost use Rattle.xl_core.specs.State.{CoreState};
+ghost use Rattle.xl_nfs_state.specs.State.{is_owner, is_stateid};
+ghost use Rattle.xl_nfs_opens.specs.Closing.{checked, close, close_by, close_done, confirm_by, confirm_done, deleg_return, failed, next_turn, open_confirm, opener_by, owner_checked, returned, row_checked, seqid_checked, share_of_open, standing_fault, state_told, IsChecked};
+ghost use Rattle.xl_nfs_opens.specs.Plans.{carried};
+ghost use Rattle.xl_nfs_opens.specs.Results.{spelled, ToldFits};
+ghost use Rattle.xl_nfs_opens.specs.Short.{IsReady, Leaves};
+
+use crate::done::{Done, ended_as};
+use crate::entering::stand;
+use crate::opener::{Checked, Opener};
+use crate::renewing::{number_of, renew_for, state_client, stateid_of};
+use crate::repeats::repeat;
+use crate::results::result_bytes;
+use crate::seqids::{advances, count};
+use crate::shares::{give, share_held};
+use crate::told::Told;
+use std::alloc::{AllocError, Global};
+use xl_base::Sequence;
+use xl_core::Core;
+use xl_matrix::Claim;
+use xl_nfs::{CloseArgs, NfsStatus, OpenConfirmArgs, Stateid, operation};
+use xl_nfs_state::{Holder, NfsState, OwnerRow, SeqidVerdict, StateidRow, Turn, verdict};
+
+/// By the owner's seqid.
+fn check_seqid(row: &StateidRow, op: u32, seqid: u32, owner: u64, turn: Turn) -> Checked
+    ensures { result ≡ seqid_checked row.now owner turn (verdict (Some turn) op seqid) }
+{
+    let closed = row.standing.closed;
+    match verdict(Some(turn), op, seqid) {
+        SeqidVerdict::Repeat => Checked::Repeated(owner),
+        SeqidVerdict::Next if !closed => Checked::Passed(*row, owner, turn),
+        _ if closed => Checked::Refused(NfsStatus::BadStateid),
+        _ => Checked::Refused(NfsStatus::BadSeqid),
+    }
+}
+
+/// By the owner of the open.
+fn check_owner(state: &NfsState, row: &StateidRow, op: u32, seqid: u32, owner: u64) -> Checked
+    ensures { result ≡ owner_checked row.now op seqid owner (find (is_owner owner) state.now.owners) }
+{
+    match state.find_owner(owner) {
+        Some(found) => check_seqid(row, op, seqid, owner, found.turn),
+        None => Checked::Refused(NfsStatus::BadStateid),
+    }
+}
+
+/// By the stateid that is found: it is of an open, and of the current file.
+fn check_row(state: &NfsState, at: u32, op: u32, seqid: u32, row: &StateidRow) -> Checked
+    ensures { result ≡ row_checked state.now at op seqid (Some row.now) }
+{
+    match row.holder {
+        Holder::Open(owner) if row.file == at => check_owner(state, row, op, seqid, owner),
+        _ => Checked::Refused(NfsStatus::BadStateid),
+    }
+}
+
+/// What is found for a stateid, and what its owner's seqid says.
+#[tactic(auto, unfolding(crate::specs::Closing::checked))]
+pub(crate) fn check(
+    state: &NfsState,
+    core: &Core,
+    current: Option<u32>,
+    op: u32,
+    seqid: u32,
+    stateid: &Stateid,
+) -> Checked
+    ensures { result ≡ checked core.now state.now current op seqid stateid.now }
+{
+    let Some(at) = current else {
+        return Checked::Refused(NfsStatus::NoFileHandle);
+    };
+    let Some(number) = number_of(core, &stateid.other) else {
+        return Checked::Refused(NfsStatus::StaleStateid);
+    };
+    match state.find_stateid(number) {
+        Some(row) => check_row(state, at, op, seqid, row),
+        None => Checked::Refused(NfsStatus::BadStateid),
+    }
+}
+
+/// What is wrong with the stateid's own seqid, or with its owner, which has to be confirmed, or not.
+#[tactic(auto, unfolding(crate::specs::Closing::standing_fault))]
+pub(crate) fn standing_fault(
+    row: &StateidRow,
+    turn: Turn,
+    seqid: u32,
+    confirmed: bool,
+) -> Option<NfsStatus>
+    ensures value { result ≡ standing_fault row.now turn seqid confirmed }
+    ensures fails { IfSome result (λ status. is_ok status ≡ false) }
+{
+    if seqid < row.standing.seqid {
+        Some(NfsStatus::OldStateid)
+    } else if row.standing.seqid < seqid || turn.confirmed != confirmed {
+        Some(NfsStatus::BadStateid)
+    } else {
+        None
+    }
+}
+
+/// How far the owner's requests have come with this one.
+pub(crate) fn next_turn(op: u32, seqid: u32, confirmed: bool, closed: Option<u64>) -> Turn
+    ensures { result ≡ next_turn op seqid confirmed closed }
+{
+    Turn {
+        seqid,
+        op,
+        confirmed,
+        closed,
+    }
+}
+
+/// It failed so; the result is kept where it counts.
+pub(crate) fn fail(
+    alloc: Global,
+    state: &mut NfsState,
+    current: Option<u32>,
+    owner: u64,
+    turn: Turn,
+    op: u32,
+    seqid: u32,
+    status: NfsStatus,
+) -> Result<Done, AllocError>
+    requires there { IsSome (find (is_owner owner) state.old.owners) }
+    requires fits { ToldFits op (Told.Ended status) }
+    ensures done { (n : ℕ) (s : CoreState) → IfOk result (λ r. carried n s state.old current (failed state.old current owner turn op seqid status) ≡ (r.0, r.1, r.2, state.new, s)) }
+    ensures told { IfOk result (λ r. r.0 ≡ Told.Ended status) }
+{
+    let told = Told::Ended(status);
+    if advances(status) {
+        let bytes = result_bytes(alloc, op, &told)?;
+        let next = next_turn(op, seqid, turn.confirmed, None);
+        count(state, owner, turn.closed, next, bytes)?;
+    }
+    Ok((told, current, Sequence::new(alloc)))
+}
+
+/// The stateid as it is then.
+fn state_told(core: &Core, row: &StateidRow) -> Told
+    ensures { result ≡ state_told core.now row.now }
+{
+    let seqid = row.standing.seqid.wrapping_add(1);
+    Told::State(stateid_of(core, row.number, seqid))
+}
+
+/// It was done: the open has these rights from then on, or is closed.
+pub(crate) fn finish(
+    alloc: Global,
+    state: &mut NfsState,
+    core: &Core,
+    row: &StateidRow,
+    owner: u64,
+    closed_before: Option<u64>,
+    op: u32,
+    turn: Turn,
+    standing: (u32, u32, bool),
+) -> Result<Told, AllocError>
+    requires owner { IsSome (find (is_owner owner) state.old.owners) }
+    requires there { find (is_stateid row.now.number) state.old.stateids ≡ Some row.now }
+    requires open { row.now.standing.closed ≡ false }
+    ensures told { IfOk result (λ told. told ≡ state_told core.now row.now) }
+    ensures lists { OnOk result (state.new ≡ counted owner closed_before turn (spelled op (state_told core.now row.now)) (stood row.now.number row.now standing.0 standing.1 standing.2 state.old)) }
+{
+    let (access, deny, closed) = standing;
+    let told = state_told(core, row);
+    let bytes = result_bytes(alloc, op, &told)?;
+    stand(state, row, access, deny, closed);
+    count(state, owner, closed_before, turn, bytes)?;
+    Ok(told)
+}
+
+/// OPEN_CONFIRM of an open that was found.
+#[tactic(auto, using(crate::proofs::ResultLaws::fits_20))]
+fn confirm_passed(
+    alloc: Global,
+    state: &mut NfsState,
+    core: &Core,
+    current: Option<u32>,
+    args: &OpenConfirmArgs,
+    row: &StateidRow,
+    owner: u64,
+    turn: Turn,
+) -> Result<Done, AllocError>
+    requires owner { IsSome (find (is_owner owner) state.old.owners) }
+    requires there { find (is_stateid row.now.number) state.old.stateids ≡ Some row.now }
+    requires open { row.now.standing.closed ≡ false }
+    ensures done { (n : ℕ) → IfOk result (λ r. carried n core.now state.old current (confirm_done core.now state.old current args.now row.now owner turn (standing_fault row.now turn args.now.stateid.seqid false)) ≡ (r.0, r.1, r.2, state.new, core.now)) }
+{
+    let op = operation::OPEN_CONFIRM;
+    if let Some(status) = standing_fault(row, turn, args.stateid.seqid, false) {
+        let done = fail(alloc, state, current, owner, turn, op, args.seqid, status)?;
+        return Ok(done);
+    }
+    let next = next_turn(op, args.seqid, true, None);
+    let standing = (row.standing.access, row.standing.deny, false);
+    let told = finish(
+        alloc,
+        state,
+        core,
+        row,
+        owner,
+        turn.closed,
+        op,
+        next,
+        standing,
+    )?;
+    Ok((told, current, Sequence::new(alloc)))
+}
+
+/// OPEN_CONFIRM by what is found for its stateid.
+fn confirm_by(
+    alloc: Global,
+    state: &mut NfsState,
+    core: &Core,
+    current: Option<u32>,
+    args: &OpenConfirmArgs,
+    found: Checked,
+) -> Result<Done, AllocError>
+    requires found { IsChecked state.old found }
+    ensures done { (n : ℕ) → IfOk result (λ r. carried n core.now state.old current (confirm_by core.now state.old current args.now found) ≡ (r.0, r.1, r.2, state.new, core.now)) }
+{
+    match found {
+        Checked::Refused(status) => Ok(ended_as(alloc, status, current)),
+        Checked::Repeated(owner) => repeat(alloc, state, core, current, owner),
+        Checked::Passed(row, owner, turn) => {
+            confirm_passed(alloc, state, core, current, args, &row, owner, turn)
+        }
+    }
+}
+
+/// OPEN_CONFIRM.
+#[tactic(auto, unfolding(crate::specs::Closing::open_confirm), using(crate::proofs::CheckLaws::passed_there, crate::proofs::LeaveLaws::leaves_then, crate::proofs::LeaveLaws::ready_then))]
+pub fn open_confirm(
+    alloc: Global,
+    state: &mut NfsState,
+    core: &mut Core,
+    current: Option<u32>,
+    args: &OpenConfirmArgs,
+) -> Result<Done, AllocError>
+    requires ready { IsReady 0 core.old }
+    ensures done { (n : ℕ) → IfOk result (λ r. carried n core.old state.old current (open_confirm core.old state.old current args.now) ≡ (r.0, r.1, r.2, state.new, core.new)) }
+    ensures leaves { OnOk result (Leaves 0 core.old core.new) }
+{
+    let client = state_client(state, core, &args.stateid);
+    renew_for(alloc, state, core, client)?;
+    let op = operation::OPEN_CONFIRM;
+    let found = check(state, core, current, op, args.seqid, &args.stateid);
+    let done = confirm_by(alloc, state, core, current, args, found)?;
+    Ok(done)
+}
+
+/// The owner of an open.
+#[tactic(auto, unfolding(crate::specs::Closing::opener_by))]
+fn opener_by(
+    alloc: Global,
+    state: &NfsState,
+    client: u32,
+    owner: u64,
+) -> Result<Option<Opener>, AllocError>
+    ensures { IfOk result (λ opener. opener ≡ opener_by state.now client owner) }
+{
+    let Some(client_row) = state.find_client(client, true) else {
+        return Ok(None);
+    };
+    let Some(owner_row) = state.find_owner(owner) else {
+        return Ok(None);
+    };
+    Ok(Some(Opener {
+        client: client_row.number,
+        id: Sequence::from_slice(alloc, client_row.id.as_slice())?,
+        owner: Sequence::from_slice(alloc, owner_row.name.owner.as_slice())?,
+    }))
+}
+
+/// The share that stands for an open.
+pub(crate) fn share_of_open(
+    alloc: Global,
+    state: &NfsState,
+    core: &Core,
+    row: &StateidRow,
+    owner: u64,
+) -> Result<Option<Claim>, AllocError>
+    ensures value { IfOk result (λ share. share ≡ share_of_open core.now state.now row.now owner) }
+    ensures held { IfOk result (λ share. IfSome share (λ claim. IsIn claim core.now.claims)) }
+{
+    let Some(opener) = opener_by(alloc, state, row.client, owner)? else {
+        return Ok(None);
+    };
+    share_held(alloc, core, &opener, row.file)
+}
+
+/// CLOSE of an open that was found.
+#[tactic(auto, using(crate::proofs::ResultLaws::fits_4, crate::proofs::LeaveLaws::leaves_self))]
+fn close_passed(
+    alloc: Global,
+    state: &mut NfsState,
+    core: &mut Core,
+    current: Option<u32>,
+    args: &CloseArgs,
+    row: &StateidRow,
+    owner: u64,
+    turn: Turn,
+) -> Result<Done, AllocError>
+    requires ready { IsReady 0 core.old }
+    requires owner { IsSome (find (is_owner owner) state.old.owners) }
+    requires there { find (is_stateid row.now.number) state.old.stateids ≡ Some row.now }
+    requires open { row.now.standing.closed ≡ false }
+    ensures done { (n : ℕ) → IfOk result (λ r. carried n core.old state.old current (close_done core.old state.old current args.now row.now owner turn (standing_fault row.now turn args.now.stateid.seqid true)) ≡ (r.0, r.1, r.2, state.new, core.new)) }
+    ensures leaves { OnOk result (Leaves 0 core.old core.new) }
+{
+    let op = operation::CLOSE;
+    if let Some(status) = standing_fault(row, turn, args.stateid.seqid, true) {
+        let done = fail(alloc, state, current, owner, turn, op, args.seqid, status)?;
+        return Ok(done);
+    }
+    let share = share_of_open(alloc, state, core, row, owner)?;
+    let next = next_turn(op, args.seqid, turn.confirmed, Some(row.number));
+    let standing = (row.standing.access, row.standing.deny, true);
+    let told = finish(
+        alloc,
+        state,
+        core,
+        row,
+        owner,
+        turn.closed,
+        op,
+        next,
+        standing,
+    )?;
+    give(alloc, core, share);
+    Ok((told, current, Sequence::new(alloc)))
+}
+
+/// CLOSE by what is found for its stateid.
+fn close_by(
+    alloc: Global,
+    state: &mut NfsState,
+    core: &mut Core,
+    current: Option<u32>,
+    args: &CloseArgs,
+    found: Checked,
+) -> Result<Done, AllocError>
+    requires ready { IsReady 0 core.old }
+    requires found { IsChecked state.old found }
+    ensures done { (n : ℕ) → IfOk result (λ r. carried n core.old state.old current (close_by core.old state.old current args.now found) ≡ (r.0, r.1, r.2, state.new, core.new)) }
+    ensures leaves { OnOk result (Leaves 0 core.old core.new) }
+{
+    match found {
+        Checked::Refused(status) => Ok(ended_as(alloc, status, current)),
+        Checked::Repeated(owner) => repeat(alloc, state, core, current, owner),
+        Checked::Passed(row, owner, turn) => {
+            close_passed(alloc, state, core, current, args, &row, owner, turn)
+        }
+    }
+}
+
+/// CLOSE.
+#[tactic(auto, unfolding(crate::specs::Closing::close), using(crate::proofs::CheckLaws::passed_there, crate::proofs::LeaveLaws::leaves_then, crate::proofs::LeaveLaws::ready_then))]
+pub fn close(
+    alloc: Global,
+    state: &mut NfsState,
+    core: &mut Core,
+    current: Option<u32>,
+    args: &CloseArgs,
+) -> Result<Done, AllocError>
+    requires ready { IsReady 0 core.old }
+    ensures done { (n : ℕ) → IfOk result (λ r. carried n core.old state.old current (close core.old state.old current args.now) ≡ (r.0, r.1, r.2, state.new, core.new)) }
+    ensures leaves { OnOk result (Leaves 0 core.old core.new) }
+{
+    let client = state_client(state, core, &args.stateid);
+    renew_for(alloc, state, core, client)?;
+    let op = operation::CLOSE;
+    let found = check(state, core, current, op, args.seqid, &args.stateid);
+    let done = close_by(alloc, state, core, current, args, found)?;
+    Ok(done)
+}
+
+/// The status of a DELEGRETURN: there are no delegations.
+fn returned(core: &Core, current: Option<u32>, stateid: &Stateid) -> NfsStatus
+    ensures { result ≡ returned core.now current stateid.now }
+{
+    if current.is_none() {
+        return NfsStatus::NoFileHandle;
+    }
+    match number_of(core, &stateid.other) {
+        Some(_) => NfsStatus::BadStateid,
+        None => NfsStatus::StaleStateid,
+    }
+}
+
+/// DELEGRETURN.
+#[tactic(auto, unfolding(crate::specs::Closing::deleg_return), using(crate::proofs::LeaveLaws::leaves_then, crate::proofs::LeaveLaws::ready_then))]
+pub fn deleg_return(
+    alloc: Global,
+    state: &mut NfsState,
+    core: &mut Core,
+    current: Option<u32>,
+    stateid: &Stateid,
+) -> Result<Done, AllocError>
+    requires ready { IsReady 0 core.old }
+    ensures done { (n : ℕ) → IfOk result (λ r. carried n core.old state.old current (deleg_return core.old state.old current stateid.now) ≡ (r.0, r.1, r.2, state.new, core.new)) }
+    ensures leaves { OnOk result (Leaves 0 core.old core.new) }
+{
+    let client = state_client(state, core, stateid);
+    renew_for(alloc, state, core, client)?;
+    let status = returned(core, current, stateid);
+    Ok(ended_as(alloc, status, current))
+}

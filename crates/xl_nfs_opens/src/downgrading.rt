@@ -1,0 +1,137 @@
+//! OPEN_DOWNGRADE (RFC 7530 16.19).
+ghost use Rattle.std.specs.Prelude.{◌≡◌, ℕ, false, true, None, Some, IsSome, IfOk, IfSome, OnOk};
+ghost use Rattle.std.specs.List.{find};
+ghost use Rattle.xl_nfs.specs.Outcomes.{is_ok};
+ghost use Rattle.xl_nfs_state.specs.State.{is_owner, is_stateid};
+ghost use Rattle.xl_nfs_opens.specs.Closing.{can_weaken, standing_fault, IsChecked};
+ghost use Rattle.xl_nfs_opens.specs.Downgrades.{downgrade_by, downgrade_done, downgrade_fault, open_downgrade};
+ghost use Rattle.xl_nfs_opens.specs.Plans.{carried};
+ghost use Rattle.xl_nfs_opens.specs.Short.{IsReady, Leaves};
+
+use crate::closing::{check, fail, finish, next_turn, share_of_open, standing_fault};
+use crate::done::{Done, ended_as};
+use crate::opener::Checked;
+use crate::renewing::{renew_for, state_client};
+use crate::repeats::repeat;
+use crate::shares::{rights_of, weaken};
+use std::alloc::{AllocError, Global};
+use xl_base::Sequence;
+use xl_core::Core;
+use xl_matrix::rights_within;
+use xl_nfs::{NfsStatus, OpenDowngradeArgs, operation};
+use xl_nfs_state::{NfsState, StateidRow, Turn};
+
+/// Whether an access is left, and both lie within what the open has.
+#[tactic(auto, unfolding(crate::specs::Closing::can_weaken))]
+fn can_weaken(row: &StateidRow, access: u32, deny: u32) -> bool
+    ensures { result ≡ can_weaken row.now access deny }
+{
+    1 <= access
+        && access <= 3
+        && deny <= 3
+        && rights_within(rights_of(access), rights_of(row.standing.access))
+        && rights_within(rights_of(deny), rights_of(row.standing.deny))
+}
+
+/// What is wrong with the stateid, or with what is asked.
+#[tactic(auto, unfolding(crate::specs::Downgrades::downgrade_fault))]
+fn downgrade_fault(row: &StateidRow, turn: Turn, args: &OpenDowngradeArgs) -> Option<NfsStatus>
+    ensures value { result ≡ downgrade_fault row.now turn args.now }
+    ensures fails { IfSome result (λ status. is_ok status ≡ false) }
+{
+    if let Some(status) = standing_fault(row, turn, args.stateid.seqid, true) {
+        return Some(status);
+    }
+    if can_weaken(row, args.access, args.deny) {
+        None
+    } else {
+        Some(NfsStatus::Inval)
+    }
+}
+
+/// OPEN_DOWNGRADE of an open that was found.
+#[tactic(auto, using(crate::proofs::ResultLaws::fits_21, crate::proofs::LeaveLaws::leaves_self))]
+fn downgrade_passed(
+    alloc: Global,
+    state: &mut NfsState,
+    core: &mut Core,
+    current: Option<u32>,
+    args: &OpenDowngradeArgs,
+    row: &StateidRow,
+    owner: u64,
+    turn: Turn,
+) -> Result<Done, AllocError>
+    requires ready { IsReady 0 core.old }
+    requires owner { IsSome (find (is_owner owner) state.old.owners) }
+    requires there { find (is_stateid row.now.number) state.old.stateids ≡ Some row.now }
+    requires open { row.now.standing.closed ≡ false }
+    ensures done { (n : ℕ) → IfOk result (λ r. carried n core.old state.old current (downgrade_done core.old state.old current args.now row.now owner turn (downgrade_fault row.now turn args.now)) ≡ (r.0, r.1, r.2, state.new, core.new)) }
+    ensures leaves { OnOk result (Leaves 0 core.old core.new) }
+{
+    let op = operation::OPEN_DOWNGRADE;
+    if let Some(status) = downgrade_fault(row, turn, args) {
+        let done = fail(alloc, state, current, owner, turn, op, args.seqid, status)?;
+        return Ok(done);
+    }
+    let share = share_of_open(alloc, state, core, row, owner)?;
+    let next = next_turn(op, args.seqid, turn.confirmed, None);
+    let standing = (args.access, args.deny, false);
+    let told = finish(
+        alloc,
+        state,
+        core,
+        row,
+        owner,
+        turn.closed,
+        op,
+        next,
+        standing,
+    )?;
+    let (access, deny) = (rights_of(args.access), rights_of(args.deny));
+    weaken(alloc, core, share, access, deny);
+    Ok((told, current, Sequence::new(alloc)))
+}
+
+/// OPEN_DOWNGRADE by what is found for its stateid.
+fn downgrade_by(
+    alloc: Global,
+    state: &mut NfsState,
+    core: &mut Core,
+    current: Option<u32>,
+    args: &OpenDowngradeArgs,
+    found: Checked,
+) -> Result<Done, AllocError>
+    requires ready { IsReady 0 core.old }
+    requires found { IsChecked state.old found }
+    ensures done { (n : ℕ) → IfOk result (λ r. carried n core.old state.old current (downgrade_by core.old state.old current args.now found) ≡ (r.0, r.1, r.2, state.new, core.new)) }
+    ensures leaves { OnOk result (Leaves 0 core.old core.new) }
+{
+    match found {
+        Checked::Refused(status) => Ok(ended_as(alloc, status, current)),
+        Checked::Repeated(owner) => repeat(alloc, state, core, current, owner),
+        Checked::Passed(row, owner, turn) => {
+            downgrade_passed(alloc, state, core, current, args, &row, owner, turn)
+        }
+    }
+}
+
+/// OPEN_DOWNGRADE.
+#[tactic(auto, unfolding(crate::specs::Downgrades::open_downgrade), using(crate::proofs::CheckLaws::passed_there, crate::proofs::LeaveLaws::leaves_then, crate::proofs::LeaveLaws::ready_then))]
+pub fn open_downgrade(
+    alloc: Global,
+    state: &mut NfsState,
+    core: &mut Core,
+    current: Option<u32>,
+    args: &OpenDowngradeArgs,
+) -> Result<Done, AllocError>
+    requires ready { IsReady 0 core.old }
+    ensures done { (n : ℕ) → IfOk result (λ r. carried n core.old state.old current (open_downgrade core.old state.old current args.now) ≡ (r.0, r.1, r.2, state.new, core.new)) }
+    ensures leaves { OnOk result (Leaves 0 core.old core.new) }
+{
+    let client = state_client(state, core, &args.stateid);
+    renew_for(alloc, state, core, client)?;
+    let op = operation::OPEN_DOWNGRADE;
+    let found = check(state, core, current, op, args.seqid, &args.stateid);
+    let done = downgrade_by(alloc, state, core, current, args, found)?;
+    Ok(done)
+}

@@ -1,0 +1,81 @@
+//! Laws of opens. The functions do nothing: each has laws as its clauses.
+ghost use Rattle.std.specs.Prelude.{◌≡◌, ◌==◌, ◌+◌, ◌<◌, ◌^◌, ℕ, true, false, if◌then◌else◌, List, [], Bool, Option, Some, None, option_map};
+ghost use Rattle.std.specs.List.{find};
+ghost use Rattle.xl_matrix.specs.Rights.{rights_lie_within};
+ghost use Rattle.xl_nfs.specs.Opens.{OpenArgsItem};
+ghost use Rattle.xl_nfs.specs.declared.basics.Stateid.{Stateid};
+ghost use Rattle.xl_nfs.specs.declared.opens.CloseArgs.{CloseArgs};
+ghost use Rattle.xl_nfs.specs.declared.opens.OpenConfirmArgs.{OpenConfirmArgs};
+ghost use Rattle.xl_nfs.specs.declared.opens.OpenDowngradeArgs.{OpenDowngradeArgs};
+ghost use Rattle.xl_nfs.specs.declared.status.NfsStatus.{NfsStatus};
+ghost use Rattle.xl_nfs.specs.declared.status.NfsStatus.TheVariants.{BadSeqid};
+ghost use Rattle.xl_nfs_state.specs.declared.stateid.Holder.TheVariants.{Open as OfOpen};
+ghost use Rattle.xl_nfs_state.specs.Rows.{with_turn};
+ghost use Rattle.xl_nfs_state.specs.State.{NfsLists, is_kept, is_owner, is_stateid};
+ghost use Rattle.xl_nfs_state.specs.Verdict.{next_seqid};
+ghost use Rattle.xl_nfs_state.specs.declared.kept.KeptRow.{KeptRow};
+ghost use Rattle.xl_nfs_state.specs.declared.owner.OwnerRow.{OwnerRow};
+ghost use Rattle.xl_nfs_state.specs.declared.owner.Turn.{Turn as OwnerTurn};
+ghost use Rattle.xl_nfs_state.specs.declared.stateid.StateidRow.{StateidRow};
+ghost use Rattle.xl_nfs_opens.specs.Closing.{checked, close_by, close_done, confirm_by, failed_lists};
+ghost use Rattle.xl_nfs_opens.specs.Downgrades.{downgrade_by};
+ghost use Rattle.xl_nfs_opens.specs.Laws.{can_come, IsRepeated};
+ghost use Rattle.xl_nfs_opens.specs.Opens.{either_bits, granted_new, judged, open_judged, rights_of};
+ghost use Rattle.xl_nfs_opens.specs.Renewing.{number_of};
+ghost use Rattle.xl_nfs_opens.specs.Seqids.{advances, counted, is_opener, opener_number};
+ghost use Rattle.xl_nfs_opens.specs.declared.opener.Checked.TheVariants.{Passed, Repeated};
+ghost use Rattle.xl_nfs_opens.specs.declared.opener.Judged.TheVariants.{Next, Repeats};
+ghost use Rattle.xl_nfs_opens.specs.declared.opener.Opener.{Opener as OpenOwner};
+ghost use Rattle.xl_core.specs.State.{CoreState};
+ghost use Rattle.xl_nfs_opens.specs.Plans.{carried};
+ghost use Rattle.xl_nfs_opens.specs.declared.told.Told.TheVariants.{Ended};
+
+/// A request that comes again is told the bytes that were kept of it, and nothing changes: neither what is remembered nor
+/// the core, but for the lease that each request renews before (RFC 7530 9.1.8). The last OPEN of an owner comes again by
+/// its seqid, whatever else it asks.
+pub fn repeats_change_nothing()
+    ensures opens { (n : ℕ) (files : List (List ℕ)) (others : ℕ) (s : CoreState) (l : NfsLists) (current : Option ℕ) (at : ℕ) (o : OpenOwner) (a : OpenArgsItem) (number : ℕ) (k : KeptRow) → find (is_kept number) l.kept ≡ Some k → IsRepeated k.result l s (carried n s l current (open_judged files others s l current at o a (Repeats number))) }
+    ensures confirms { (n : ℕ) (s : CoreState) (l : NfsLists) (current : Option ℕ) (a : OpenConfirmArgs) (number : ℕ) (k : KeptRow) → find (is_kept number) l.kept ≡ Some k → IsRepeated k.result l s (carried n s l current (confirm_by s l current a (Repeated number))) }
+    ensures downgrades { (n : ℕ) (s : CoreState) (l : NfsLists) (current : Option ℕ) (a : OpenDowngradeArgs) (number : ℕ) (k : KeptRow) → find (is_kept number) l.kept ≡ Some k → IsRepeated k.result l s (carried n s l current (downgrade_by s l current a (Repeated number))) }
+    ensures closes { (n : ℕ) (s : CoreState) (l : NfsLists) (current : Option ℕ) (a : CloseArgs) (number : ℕ) (k : KeptRow) → find (is_kept number) l.kept ≡ Some k → IsRepeated k.result l s (carried n s l current (close_by s l current a (Repeated number))) }
+    ensures last { (l : NfsLists) (o : OpenOwner) (r : OwnerRow) (seqid : ℕ) → find (is_opener o) l.owners ≡ Some r → seqid ≡ r.turn.seqid → r.turn.op ≡ 18 → seqid < 2 ^ 32 → judged l o seqid ≡ Repeats r.number }
+{}
+
+/// A request on an open that is judged further has the seqid after its owner's last (RFC 7530 9.1.7). One that counts makes
+/// that its owner's last, and no other owner's; and one that ends so that it doesn't count leaves all as it was.
+pub fn seqids_advance_by_one()
+    ensures next { (s : CoreState) (l : NfsLists) (current : Option ℕ) (op seqid : ℕ) (stateid : Stateid) (x : StateidRow) (w : ℕ) (t : OwnerTurn) → checked s l current op seqid stateid ≡ Passed x w t → seqid ≡ next_seqid t.seqid }
+    ensures counted { (owner number : ℕ) (closed : Option ℕ) (turn : OwnerTurn) (bytes : List ℕ) (l : NfsLists) → find (is_owner number) (counted owner closed turn bytes l).owners ≡ option_map (λ r. if number == owner then with_turn turn r else r) (find (is_owner number) l.owners) }
+    ensures only { (l : NfsLists) (owner : ℕ) (turn : OwnerTurn) (op seqid : ℕ) (status : NfsStatus) → advances status ≡ false → failed_lists l owner turn op seqid status ≡ l }
+{}
+
+/// Once an open is closed, nothing more is done by its stateid: no request on it is judged further, whatever its seqids are
+/// (RFC 7530 16.2).
+pub fn closed_opens_are_over()
+    ensures { (s : CoreState) (l : NfsLists) (current : Option ℕ) (op seqid number : ℕ) (stateid : Stateid) (r x : StateidRow) (w : ℕ) (t : OwnerTurn) → number_of s stateid.other ≡ Some number → find (is_stateid number) l.stateids ≡ Some r → r.standing.closed ≡ true → checked s l current op seqid stateid ≡ Passed x w t → ⊥ }
+{}
+
+/// The access, and the deny, of an open that is opened again have those that were asked and those that it had (RFC 7530
+/// 9.9).
+pub fn opens_have_what_was_asked()
+    ensures { (had asked : ℕ) → rights_lie_within (rights_of asked) (rights_of (either_bits had asked)) ≡ true }
+{}
+
+/// An OPEN of a confirmed owner that is known is judged further exactly with the seqid after the owner's last; its last OPEN
+/// comes again by its seqid (see `repeats_change_nothing`); any other is told BAD_SEQID, and nothing changes (RFC 7530 9.1.7).
+pub fn opens_come_in_order()
+    ensures next { (l : NfsLists) (o : OpenOwner) (r : OwnerRow) (seqid : ℕ) → find (is_opener o) l.owners ≡ Some r → r.turn.confirmed ≡ true → seqid ≡ next_seqid r.turn.seqid → judged l o seqid ≡ Next }
+    ensures others { (n : ℕ) (files : List (List ℕ)) (others : ℕ) (s : CoreState) (l : NfsLists) (current : Option ℕ) (at : ℕ) (o : OpenOwner) (a : OpenArgsItem) (r : OwnerRow) → find (is_opener o) l.owners ≡ Some r → r.turn.confirmed ≡ true → (a.seqid ≡ next_seqid r.turn.seqid → ⊥) → (a.seqid ≡ r.turn.seqid → r.turn.op ≡ 18 → ⊥) → carried n s l current (open_judged files others s l current at o a (judged l o a.seqid)) ≡ (Ended BadSeqid, current, [], l, s) }
+{}
+
+/// A new open is known by its number from then on: of its owner and file, with the access and the deny that were asked,
+/// where it can come (RFC 7530 9.1.4, 16.16).
+pub fn new_opens_are_known()
+    ensures { (n : ℕ) (s : CoreState) (l : NfsLists) (current : Option ℕ) (o : OpenOwner) (a : OpenArgsItem) (file : ℕ) (confirmed : Bool) → can_come s l o a file confirmed ≡ true → find (is_stateid (s.counter + 1)) (carried n s l current (granted_new s l o a file confirmed)).3.stateids ≡ Some (record { number = s.counter + 1; client = o.client; file = file; holder = OfOpen (opener_number o l); standing = record { seqid = 1; access = a.access; deny = a.deny; closed = false } }) }
+{}
+
+/// An open that is closed is marked so, and stays known by its number for its owner's CLOSE to come again (RFC 7530 9.1.8,
+/// 16.2). What the owner's request before closed is another open.
+pub fn closed_opens_are_marked()
+    ensures { (n : ℕ) (s : CoreState) (l : NfsLists) (current : Option ℕ) (a : CloseArgs) (r : StateidRow) (owner by : ℕ) (turn : OwnerTurn) → find (is_stateid r.number) l.stateids ≡ Some r → r.holder ≡ OfOpen by → (turn.closed ≡ Some r.number → ⊥) → option_map (λ (x : StateidRow). x.standing.closed) (find (is_stateid r.number) (carried n s l current (close_done s l current a r owner turn None)).3.stateids) ≡ Some true }
+{}

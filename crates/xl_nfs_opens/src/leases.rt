@@ -1,0 +1,64 @@
+//! Clientids and leases.
+ghost use Rattle.std.specs.Prelude.{◌≡◌, ℕ, ◌+◌, [], ◌∷◌, OnOk};
+ghost use Rattle.xl_core.specs.Deeds.{all_done, all_told_of, Renews};
+ghost use Rattle.xl_core.specs.State.{drawn};
+ghost use Rattle.xl_nfs_opens.specs.Leases.{clientid_of, number_in, lease_end};
+ghost use Rattle.xl_nfs_opens.specs.Short.{IsReady, Leaves};
+
+use std::alloc::{AllocError, Global};
+use xl_base::{Moment, Party, Protocol, Sequence};
+use xl_core::{Core, Effect};
+use xl_names::Name;
+
+/// One more than the greatest number of a client: what a clientid's epoch counts.
+const NUMBERS: u64 = 1 << 32;
+
+/// The clientid of the client of this number.
+pub fn clientid_of(core: &Core, number: u32) -> u64
+    ensures { result ≡ clientid_of core.now number }
+{
+    u64::from(core.stable().epoch()) * NUMBERS + u64::from(number)
+}
+
+/// The number in a clientid, where it is of this start.
+pub fn number_in(core: &Core, clientid: u64) -> Option<u32>
+    ensures { result ≡ number_in core.now clientid }
+{
+    if clientid / NUMBERS == u64::from(core.stable().epoch()) {
+        Some((clientid % NUMBERS) as u32)
+    } else {
+        None
+    }
+}
+
+/// When a lease ends that is renewed now.
+pub fn lease_end(core: &Core) -> Moment
+    ensures { result ≡ lease_end core.now }
+{
+    Moment(core.clock().0.saturating_add(core.times().lease))
+}
+
+/// Renews the lease of the client of this id string.
+#[tactic(auto, unfolding(xl_core::specs::Ticks::renew))]
+pub fn renewed(alloc: Global, core: &mut Core, id: &[u8]) -> Result<(), AllocError>
+    requires ready { IsReady 0 core.old }
+    ensures state { (n : ℕ) → OnOk result (all_done n core.old (Renews id.now ∷ []) ≡ core.new) }
+    ensures told { (n : ℕ) → all_told_of n core.old (Renews id.now ∷ []) ≡ [] }
+    ensures leaves { OnOk result (Leaves 0 core.old core.new) }
+{
+    core.renew(alloc, id)?;
+    Ok(())
+}
+
+/// Gives out the next number.
+#[tactic(auto, using(crate::proofs::LeaveLaws::drawn_leaves, crate::proofs::LeaveLaws::drawn_number, crate::proofs::LeaveLaws::drawn_stable))]
+pub fn drawn(core: &mut Core) -> u32
+    requires ready { IsReady 0 core.old }
+    ensures state { core.new ≡ drawn core.old }
+    ensures number { result ≡ core.old.counter + 1 }
+    ensures counter { core.new.counter ≡ core.old.counter + 1 }
+    ensures stable { core.new.stable ≡ core.old.stable }
+    ensures leaves { Leaves 1 core.old core.new }
+{
+    core.draw()
+}

@@ -1,0 +1,177 @@
+//! How what an operation told is spelled.
+ghost use Rattle.std.specs.Prelude.{◌≡◌, ◌+◌, ◌≤◌, ◌++◌, if◌then◌else◌, length, Ok, IfOk, OnOk};
+ghost use Rattle.xl_nfs.specs.Ops.{is_numbered};
+ghost use Rattle.xl_nfs.specs.Results.{shown_result, GetFhAnswer, SetClientIdAnswer, NotSupportedAnswer, OpenAnswer, IllegalAnswer, ResultFits, nfs_result};
+ghost use Rattle.xl_base.specs.Handles.{handle};
+ghost use Rattle.xl_nfs_state.specs.Bytes.{most_result_bytes};
+ghost use Rattle.xl_nfs_opens.specs.Results.{ended_as, open_result_of, spelled, state_as, ToldFits};
+
+use crate::told::Told;
+use std::alloc::{AllocError, Global};
+use xl_base::{Sequence, handle_of};
+use xl_nfs::{
+    Bitmap, ChangeInfo, ClientConfirm, Delegation, LockFault, NfsResult, NfsStatus, OpenResult,
+    Stateid, operation, write_result,
+};
+use xl_nfs_state::ResultBytes;
+use xl_rpc::XdrOut;
+
+/// The operation of this number ended so.
+#[tactic(auto, unfolding(crate::specs::Results::ended_as))]
+fn ended_as<'a>(number: u32, status: NfsStatus) -> NfsResult<'a>
+    ensures { shown_result result ≡ ended_as number status }
+{
+    match number {
+        operation::CLOSE => NfsResult::Close(Err(status)),
+        operation::DELEGRETURN => NfsResult::DelegReturn(status),
+        operation::GETFH => NfsResult::GetFh(Err(status)),
+        operation::LOCK => NfsResult::Lock(Err(LockFault::Other(status))),
+        operation::LOCKT => NfsResult::LockT(Err(LockFault::Other(status))),
+        operation::LOCKU => NfsResult::LockU(Err(status)),
+        operation::LOOKUP => NfsResult::Lookup(status),
+        operation::OPEN => NfsResult::Open(Err(status)),
+        operation::OPEN_CONFIRM => NfsResult::OpenConfirm(Err(status)),
+        operation::OPEN_DOWNGRADE => NfsResult::OpenDowngrade(Err(status)),
+        operation::PUTFH => NfsResult::PutFh(status),
+        operation::PUTROOTFH => NfsResult::PutRootFh(status),
+        operation::RENEW => NfsResult::Renew(status),
+        operation::SETCLIENTID => NfsResult::SetClientId(Err(status)),
+        operation::SETCLIENTID_CONFIRM => NfsResult::SetClientIdConfirm(status),
+        operation::RELEASE_LOCKOWNER => NfsResult::ReleaseLockOwner(status),
+        _ => other_as(number),
+    }
+}
+
+/// The same of an operation whose arguments are never read, and of no operation.
+fn other_as<'a>(number: u32) -> NfsResult<'a>
+    ensures { shown_result result ≡ (if is_numbered number then NotSupportedAnswer number else IllegalAnswer) }
+{
+    if 3 <= number && number <= 39 {
+        NfsResult::NotSupported(number)
+    } else {
+        NfsResult::Illegal
+    }
+}
+
+/// The operation of this number gives this stateid.
+fn state_as<'a>(number: u32, stateid: Stateid) -> NfsResult<'a>
+    ensures { shown_result result ≡ state_as number stateid }
+{
+    match number {
+        operation::CLOSE => NfsResult::Close(Ok(stateid)),
+        operation::OPEN_CONFIRM => NfsResult::OpenConfirm(Ok(stateid)),
+        _ => NfsResult::OpenDowngrade(Ok(stateid)),
+    }
+}
+
+/// OPEN gives this stateid.
+fn opened_as<'a>(stateid: Stateid, flags: u32) -> NfsResult<'a>
+    ensures { shown_result result ≡ OpenAnswer (Ok (open_result_of stateid flags)) }
+{
+    NfsResult::Open(Ok(OpenResult {
+        stateid,
+        change: ChangeInfo {
+            atomic: true,
+            before: 0,
+            after: 0,
+        },
+        flags,
+        attributes: Bitmap { words: &[] },
+        delegation: Delegation::None,
+    }))
+}
+
+/// Writes bytes as they stand.
+#[tactic(auto, using(crate::proofs::ResultLaws::unpadded))]
+fn put_bytes(out: &mut XdrOut, bytes: &[u8]) -> Result<(), AllocError>
+    requires { length bytes.now ≤ most_result_bytes }
+    ensures { OnOk result (out.new ≡ out.old ++ bytes.now) }
+{
+    let mut whole = out.new_beside();
+    whole.fixed(bytes)?;
+    whole.truncate(bytes.len());
+    out.append(&whole)?;
+    Ok(())
+}
+
+/// Writes that the operation of this number ended so.
+fn put_ended(out: &mut XdrOut, number: u32, status: NfsStatus) -> Result<(), AllocError>
+    requires { ResultFits (ended_as number status) }
+    ensures ok { OnOk result (out.new ≡ out.old ++ nfs_result.spell (ended_as number status)) }
+    ensures little { OnOk result (length out.new ≤ length out.old + 56) }
+{
+    write_result(out, &ended_as(number, status))?;
+    Ok(())
+}
+
+/// Writes what GETFH gives.
+#[tactic(auto, using(crate::proofs::ResultLaws::handle_fits))]
+fn put_handle(out: &mut XdrOut, file: u32) -> Result<(), AllocError>
+    ensures ok { OnOk result (out.new ≡ out.old ++ nfs_result.spell (GetFhAnswer (Ok (handle file)))) }
+    ensures little { OnOk result (length out.new ≤ length out.old + 56) }
+{
+    write_result(out, &NfsResult::GetFh(Ok(&handle_of(file))))?;
+    Ok(())
+}
+
+/// Writes what SETCLIENTID gives.
+#[tactic(auto, using(crate::proofs::ResultLaws::client_fits))]
+fn put_client(out: &mut XdrOut, confirm: ClientConfirm) -> Result<(), AllocError>
+    ensures ok { OnOk result (out.new ≡ out.old ++ nfs_result.spell (SetClientIdAnswer (Ok confirm))) }
+    ensures little { OnOk result (length out.new ≤ length out.old + 56) }
+{
+    write_result(out, &NfsResult::SetClientId(Ok(confirm)))?;
+    Ok(())
+}
+
+/// Writes what OPEN gives.
+#[tactic(auto, using(crate::proofs::ResultLaws::open_fits))]
+fn put_opened(out: &mut XdrOut, stateid: Stateid, flags: u32) -> Result<(), AllocError>
+    ensures ok { OnOk result (out.new ≡ out.old ++ nfs_result.spell (OpenAnswer (Ok (open_result_of stateid flags)))) }
+    ensures little { OnOk result (length out.new ≤ length out.old + 56) }
+{
+    write_result(out, &opened_as(stateid, flags))?;
+    Ok(())
+}
+
+/// Writes the stateid that the operation of this number gives.
+#[tactic(auto, using(crate::proofs::ResultLaws::state_fits))]
+fn put_state(out: &mut XdrOut, number: u32, stateid: Stateid) -> Result<(), AllocError>
+    ensures ok { OnOk result (out.new ≡ out.old ++ nfs_result.spell (state_as number stateid)) }
+    ensures little { OnOk result (length out.new ≤ length out.old + 56) }
+{
+    write_result(out, &state_as(number, stateid))?;
+    Ok(())
+}
+
+/// Writes what the operation of this number told.
+#[tactic(auto, using(crate::proofs::ResultLaws::bytes_grown))]
+pub fn put_result(out: &mut XdrOut, number: u32, told: &Told) -> Result<(), AllocError>
+    requires fits { ToldFits number told.now }
+    ensures ok { OnOk result (out.new ≡ out.old ++ spelled number told.now) }
+    ensures little { OnOk result (length out.new ≤ length out.old + 56) }
+{
+    match told {
+        Told::Ended(status) => put_ended(out, number, *status)?,
+        Told::Handle(file) => put_handle(out, *file)?,
+        Told::Client(confirm) => put_client(out, *confirm)?,
+        Told::Opened(stateid, flags) => put_opened(out, *stateid, *flags)?,
+        Told::State(stateid) => put_state(out, number, *stateid)?,
+        Told::Kept(bytes) => put_bytes(out, bytes.as_slice())?,
+    }
+    Ok(())
+}
+
+/// What the operation of this number told, as its result is spelled.
+pub(crate) fn result_bytes(
+    alloc: Global,
+    number: u32,
+    told: &Told,
+) -> Result<ResultBytes, AllocError>
+    requires fits { ToldFits number told.now }
+    ensures { IfOk result (λ bytes. bytes ≡ spelled number told.now) }
+{
+    let mut out = XdrOut::new(alloc);
+    put_result(&mut out, number, told)?;
+    Ok(ResultBytes::new(Sequence::from_vec(out.done())))
+}
