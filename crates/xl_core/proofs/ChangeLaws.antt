@@ -209,17 +209,17 @@ unlocked_way s a (Empty offset) act good client = freed_way s a (Empty offset) a
 unlocked_way s a (Bytes first last) act good client =
     go (posix claim.owner)
   where
-  claim : Claim
-  claim = known_claim a (Bytes first last) false s.names
+    claim : Claim
+    claim = known_claim a (Bytes first last) false s.names
 
-  by : (h f : Bool) → holds_byte claim.file claim.owner first last s.claims ≡ h → AskWay s a (left_so s claim first last h f)
-  by false f none = Stays answers.NotHeld refl refl
-  by true false holds = Stays (answers.Full most_claims) refl refl
-  by true true holds = Frees claim first last (ap asks_to_hold act) (ap asks_share act) refl (holder_is s a (Bytes first last) first last good client holds) refl
+    by : (h f : Bool) → holds_byte claim.file claim.owner first last s.claims ≡ h → AskWay s a (left_so s claim first last h f)
+    by false f none = Stays answers.NotHeld refl refl
+    by true false holds = Stays (answers.Full most_claims) refl refl
+    by true true holds = Frees claim first last (ap asks_to_hold act) (ap asks_share act) refl (holder_is s a (Bytes first last) first last good client holds) refl
 
-  go : (b : Bool) → AskWay s a (if b then unlocked_bytes s claim first last else unlocked_one s claim (Bytes first last))
-  go true = by (holds_byte claim.file claim.owner first last s.claims) (nat_le (left_by_unlock s claim first last) most_claims) refl
-  go false = freed_way s a (Bytes first last) act good client
+    go : (b : Bool) → AskWay s a (if b then unlocked_bytes s claim first last else unlocked_one s claim (Bytes first last))
+    go true = by (holds_byte claim.file claim.owner first last s.claims) (nat_le (left_by_unlock s claim first last) most_claims) refl
+    go false = freed_way s a (Bytes first last) act good client
 
 acted_way : (n : ℕ) (left : Rooms) (s : CoreState) (a : Ask) (act : Act) → a.act ≡ act → IsGood s → is_client a.owner a.party ≡ true → AskWay s a (acted n left s a act)
 acted_way n left s a (acts.Share access deny) is good client = asked_way n left s a _ (ap (λ (x : Act). asked_claims a (asked_whats x) s.names) (sym is)) (ap asks_to_hold is)

@@ -42,12 +42,7 @@ fn plea_of(parts: &Parts, left: &Rooms, ask: &Ask) -> Plea
 }
 
 /// One who waits for these claims.
-fn waiter_of(
-    alloc: Global,
-    id: u32,
-    ask: &Ask,
-    claims: &[Claim],
-) -> Result<Waiter, AllocError>
+fn waiter_of(alloc: Global, id: u32, ask: &Ask, claims: &[Claim]) -> Result<Waiter, AllocError>
     ensures { IfOk result (λ w. w ≡ waiter_of id ask.now claims.now) }
 {
     Ok(Waiter {
@@ -66,12 +61,7 @@ fn waiter_of(
 }
 
 /// Lets the asker wait, for which there is room.
-fn wait(
-    alloc: Global,
-    parts: &mut Parts,
-    ask: &Ask,
-    claims: &[Claim],
-) -> Result<Answer, AllocError>
+fn wait(alloc: Global, parts: &mut Parts, ask: &Ask, claims: &[Claim]) -> Result<Answer, AllocError>
     requires room { length parts.old.queue < most_waiters }
     requires names { length (both_entered ask.now parts.old.names) ≤ most_names }
     requires numbers { parts.old.counter + numbers_left < 2 ^ 32 }

@@ -196,10 +196,6 @@ elements_apart file owner c (d ∷ ds) other =
 
 -- ---- one taken out
 
--- the claim has the names and the file of that one
-abbrev pub IsAlike : Claim → Claim → Type 0
-IsAlike a b = (a.file ≡ b.file) × (a.owner ≡ b.owner) × (a.party ≡ b.party)
-
 -- each of the owner's ranges on the file is of this party
 abbrev pub AreOfParty : Claim → List Claim → Type 0
 AreOfParty c cs = AllByRecursion (λ d. is_range_of c.file c.owner d ≡ true → d.party ≡ c.party) cs

@@ -13,8 +13,8 @@ ghost use Rattle.xl_table.specs.Changes.{spliced, written, IsOn, MayBeWritten};
 use crate::files::{OnFile, on_file, open_file};
 use crate::page::Page;
 use crate::pages::{between, splice as splice_pages};
-use crate::relock::{fresh_claims, mode_of, united};
 use crate::placing::place_of;
+use crate::relock::{fresh_claims, mode_of, united};
 use crate::section::group_places;
 use crate::touching::touched_places;
 use std::alloc::{AllocError, Global};
@@ -107,12 +107,7 @@ fn share(alloc: Global, pages: &[Page], count: usize, claim: &Claim) -> Result<C
 }
 
 /// A range of an SMB open behind those that it has on the file. These are the file's claims, of `count` on all files.
-fn element(
-    alloc: Global,
-    pages: &[Page],
-    count: usize,
-    claim: &Claim,
-) -> Result<Change, AllocError>
+fn element(alloc: Global, pages: &[Page], count: usize, claim: &Claim) -> Result<Change, AllocError>
     requires full { AreFull pages.now }
     requires kept { IsKept (paged pages.now) }
     requires count { length (paged pages.now) ≤ count }
