@@ -1,15 +1,17 @@
 -- The number of a name that has one, or is still to come.
-use Rattle.std.proofs.Common.{◌≡◌, ℕ, ◌+◌, ◌≤◌, true, false, List, [], ◌∷◌, ◌++◌, length, Some, None, arith, refl, sym, subst, ◌∙◌}
+use Rattle.std.proofs.Common.{◌≡◌, ℕ, ◌+◌, ◌≤◌, true, false, List, [], ◌∷◌, ◌++◌, length, Some, None, arith, refl, sym, subst, ◌∙◌, Bool, map, ap, append_assoc}
 use Rattle.std.proofs.lemmas.Bool.{or_parts}
 use Rattle.std.proofs.lemmas.List.{length-append}
 use Rattle.xl_names.proofs.NameLaws.{kept_from_number, new_from_none, place_new, number_stays, number_entered, same_name_is}
 use Rattle.xl_names.specs.Names.{number_of, place_of, is_kept, entered, same_name, most_names}
 use Rattle.xl_names.specs.declared.name.Name.{Name}
-use Rattle.xl_core.specs.Asking.{coming, who_entered, both_entered}
+use Rattle.xl_core.specs.Asking.{coming, who_entered, both_entered, range_what, asked_claim, asked_claims}
 use Rattle.xl_core.proofs.KnownLaws.{length_who}
 use Rattle.xl_core.specs.declared.ask.Ask.{Ask}
 use Rattle.xl_core.specs.declared.ask.Who.{Who}
 use Rattle.xl_core.specs.declared.ask.Who.TheVariants.{Named}
+use Rattle.xl_matrix.specs.declared.claim.Claim.{Claim}
+use Rattle.xl_matrix.specs.declared.claim.Extent.{Extent}
 
 pub place_known : (name : Name) (names : List Name) (number : ℕ) → number_of name names ≡ Some number → number ≡ place_of name names
 place_known name names number e = sym (kept_from_number name names number e).1
@@ -59,3 +61,10 @@ no_room who name names is full new fits =
 
 pub owner_fits : (a : Ask) (names : List Name) → length (both_entered a names) ≤ most_names → length (who_entered a.owner names) ≤ most_names
 owner_fits a names fits = omega (arith, fits, length_who a.party (who_entered a.owner names))
+
+-- one more of the claims that are asked for
+pub claims_more : (a : Ask) (names : List Name) (out new : List Claim) (range : Extent × Bool) (rest : List (Extent × Bool)) (whole : List Claim) → new ≡ out ++ asked_claim a (range_what range) names ∷ [] → out ++ asked_claims a (map range_what (range ∷ rest)) names ≡ whole → new ++ asked_claims a (map range_what rest) names ≡ whole
+claims_more a names out new range rest whole e so_far =
+    ap (λ (cs : List Claim). cs ++ asked_claims a (map range_what rest) names) e
+    ∙ append_assoc out (asked_claim a (range_what range) names ∷ []) (asked_claims a (map range_what rest) names)
+    ∙ so_far

@@ -21,6 +21,7 @@ use Rattle.xl_table.proofs.ShareLaws.{united_share}
 use Rattle.xl_table.proofs.WriteBack.{relocked_is}
 use Rattle.xl_core.specs.Good.{caches_of}
 use Rattle.xl_core.specs.Judge.{all_granted}
+use Rattle.xl_matrix.specs.Owners.{posix}
 
 -- a claim before these caches, where it is one
 abbrev with_cache : Claim → List Claim → List Claim
@@ -83,8 +84,12 @@ shared_caches c cs share =
 
 caches_by : (c : Claim) (w : What) (cs : List Claim) → c.what ≡ w → caches_of (granted_by c w cs) ≡ caches_of cs
 caches_by c (Share access deny) cs is = shared_caches c cs (ap is_share is)
-caches_by c (Range (Bytes first last) exclusive) cs is = relocked_caches c.file c.owner c.party first last (Some (mode_of exclusive)) cs
-caches_by c (Range (Empty offset) exclusive) cs is = refl
+caches_by c (Range (Bytes first last) exclusive) cs is =
+    elim (cases_Bool (posix c.owner)) [
+      | inl named ↦ rw named (relocked_caches c.file c.owner c.party first last (Some (mode_of exclusive)) cs)
+      | inr unnamed ↦ rw unnamed (inserted_caches c cs (ap is_cache is))
+    ]
+caches_by c (Range (Empty offset) exclusive) cs is = inserted_caches c cs (ap is_cache is)
 caches_by c (Cache kind running) cs is = refl
 
 -- what is granted leaves the caches

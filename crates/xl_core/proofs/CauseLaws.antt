@@ -1,8 +1,8 @@
 -- Each answer of an ask is given exactly where its cause stands.
-use Rattle.std.proofs.Common.{◌≡◌, ℕ, ◌+◌, ◌≤◌, Bool, true, false, not, if◌then◌else◌, ◌&&◌, nat_le, leb, max, ◌⊎◌, inl, inr, List, [], ◌∷◌, length, Option, Some, None, refl, sym, ap, subst, ◌∙◌, ◌↔◌, arith}
-use Rattle.std.specs.List.{filter, list_any}
+use Rattle.std.proofs.Common.{◌≡◌, ℕ, ◌+◌, ◌≤◌, Bool, true, false, not, if◌then◌else◌, ◌&&◌, nat_le, leb, max, ◌⊎◌, inl, inr, List, [], ◌∷◌, length, Option, Some, None, refl, sym, ap, subst, ◌∙◌, ◌↔◌, arith, map, is_some}
+use Rattle.std.specs.List.{filter, list_any, AllByRecursion}
 use Rattle.std.proofs.lemmas.Bool.Decides.{nat_tests}
-use Rattle.std.proofs.lemmas.Bool.{cases_Bool, both_ways, and_from, and_right, or_parts, leb-true, le-leb, lt-leb, leb-false}
+use Rattle.std.proofs.lemmas.Bool.{cases_Bool, both_ways, and_from, and_right, or_parts, leb-true, le-leb, lt-leb, leb-false, and_parts}
 use Rattle.xl_base.specs.Lists.{IsIn}
 use Rattle.xl_base.proofs.Members.{in_filter_from}
 use Rattle.xl_matrix.specs.declared.claim.Claim.{Claim}
@@ -17,18 +17,18 @@ use Rattle.xl_spans.specs.declared.span.Mode.{Mode}
 use Rattle.xl_spans.proofs.Bytes.{AreRanges}
 use Rattle.xl_spans.proofs.Chains.{canonical_ranges}
 use Rattle.xl_table.specs.Flat.{blocks, is_blocked}
-use Rattle.xl_table.specs.Held.{is_range, spans_of, IsPosixBy}
+use Rattle.xl_table.specs.Held.{is_range, spans_of, IsShareOrLock}
 use Rattle.xl_table.specs.Least.{least}
 use Rattle.xl_table.specs.Relock.{most_claims, holds_byte, granted_claims}
 use Rattle.xl_wait.specs.declared.waiter.Rooms.{Rooms}
 use Rattle.xl_core.specs.State.{CoreState}
-use Rattle.xl_core.specs.Asking.{both_entered, asked_whats, alone, asked_what, asked_claim, asked_claims, known_claim, is_client, is_named, may_hold, may_ask, IsRealExtent, IsFitAct, IsFit}
-use Rattle.xl_core.specs.Blockers.{test_blockers}
-use Rattle.xl_core.specs.Causes.{limits_of_grant, limits_of_wait, IsClaimDue, stands_against, IsTestDue, HasNoByte, HasByte, left_by_unlock, IsUnlockDue}
-use Rattle.xl_core.specs.Decide.{Answered, plea_of, answered, claims_asked, test_answered, tested, unlocked_claims, unlocked_bytes, unlocked, acted, ask}
+use Rattle.xl_core.specs.Asking.{both_entered, asked_whats, alone, asked_what, asked_claim, asked_claims, known_claim, is_client, is_named, may_hold, may_ask, IsRealExtent, IsFitAct, IsFit, IsOrdered, AreMore, may_hold_all, range_what, known_owner}
+use Rattle.xl_core.specs.Blockers.{test_blockers, blockers}
+use Rattle.xl_core.specs.Causes.{limits_of_grant, limits_of_wait, IsClaimDue, stands_against, IsTestDue, HasNoByte, HasByte, left_by_unlock, IsUnlockDue, IsElementDue, IsEachDue}
+use Rattle.xl_core.specs.Decide.{Answered, plea_of, answered, claims_asked, test_answered, tested, unlocked_claims, unlocked_bytes, unlocked, acted, ask, unlocked_one, freed}
 use Rattle.xl_core.specs.Good.{IsGood}
-use Rattle.xl_core.specs.Judge.{Ruled, judged}
-use Rattle.xl_core.specs.Limits.{first_passed, IsRoom}
+use Rattle.xl_core.specs.Judge.{Ruled, judged, check_held, held_by, room_by, check_room, held_with, waits, or_else, unless, row, row_left}
+use Rattle.xl_core.specs.Limits.{first_passed, IsRoom, grant_limits, IsLeastPassed}
 use Rattle.xl_core.specs.declared.ask.Act.{Act}
 use Rattle.xl_core.specs.declared.ask.Act.TheVariants.{Share, Ranges, Test, Unlock}
 use Rattle.xl_core.specs.declared.ask.Answer.{Answer}
@@ -39,7 +39,13 @@ use Rattle.xl_table.proofs.LeastLaws.{least_in, least_none, least_empty}
 use Rattle.xl_core.proofs.DecideLaws.{blockers_none, none_blockers, blockers_some, some_blocks, blocks_some}
 use Rattle.xl_core.proofs.KnownLaws.{known_posix}
 use Rattle.xl_core.proofs.LimitLaws.{grant_found, wait_found, grant_least, wait_least}
-use Rattle.xl_core.proofs.RowLaws.{ruled_by, least_blocker, late, judged_is}
+use Rattle.xl_core.proofs.RowLaws.{ruled_by, least_blocker, late, judged_is, judged_row}
+use Rattle.xl_matrix.specs.Owners.{posix}
+use Rattle.xl_core.specs.declared.judge.Ruling.{Ruling}
+use Rattle.xl_core.specs.declared.judge.Ruling.TheVariants.{Gets, Waits, Told}
+use Rattle.xl_core.specs.declared.judge.Plea.{Plea}
+use Rattle.xl_table.specs.Elements.{element_held}
+use Rattle.xl_core.specs.declared.ask.Effect.{Effect}
 
 abbrev first_is : Answered → Answer
 first_is r = r.0
@@ -337,9 +343,61 @@ unlock_back s claim first last (answers.Grace until) is due = absurd due
 unlock_back s claim first last answers.NotRecorded is due = absurd due
 unlock_back s claim first last answers.StoreFailed is due = absurd due
 
-pub unlock_is : (n : ℕ) (left : Rooms) (s : CoreState) (a : Ask) (first last : ℕ) → a.act ≡ Unlock (Bytes first last) → ask n left s a ≡ unlocked_bytes s (known_claim a (Bytes first last) false s.names) first last
-unfolding ask unlocked
-unlock_is n left s a first last e = ap (λ (act : Act). acted n left s a act) e
+unlock_acted : (n : ℕ) (left : Rooms) (s : CoreState) (a : Ask) (extent : Extent) → a.act ≡ Unlock extent → ask n left s a ≡ unlocked s (known_claim a extent false s.names) extent
+unfolding ask
+unlock_acted n left s a extent e = ap (λ (act : Act). acted n left s a act) e
+
+pub unlock_is : (n : ℕ) (left : Rooms) (s : CoreState) (a : Ask) (first last : ℕ) → a.act ≡ Unlock (Bytes first last) → is_client a.owner a.party ≡ true → is_named a.owner ≡ true → ask n left s a ≡ unlocked_bytes s (known_claim a (Bytes first last) false s.names) first last
+unfolding unlocked
+unlock_is n left s a first last e client named =
+    unlock_acted n left s a (Bytes first last) e
+    ∙ ap (λ (b : Bool). let claim = known_claim a (Bytes first last) false s.names in if b then unlocked_bytes s claim first last else unlocked_one s claim (Bytes first last)) (known_posix a s.names client named)
+
+-- an open's unlock takes out an element
+pub element_is : (n : ℕ) (left : Rooms) (s : CoreState) (a : Ask) (extent : Extent) → a.act ≡ Unlock extent → posix (known_owner a.owner s.names) ≡ false → ask n left s a ≡ unlocked_one s (known_claim a extent false s.names) extent
+unfolding unlocked
+element_is n left s a (Bytes first last) e unnamed =
+    unlock_acted n left s a (Bytes first last) e
+    ∙ ap (λ (b : Bool). let claim = known_claim a (Bytes first last) false s.names in if b then unlocked_bytes s claim first last else unlocked_one s claim (Bytes first last)) unnamed
+element_is n left s a (extents.Empty offset) e unnamed = unlock_acted n left s a (extents.Empty offset) e
+
+-- one without a byte is unlocked so by whomever
+pub empty_is : (n : ℕ) (left : Rooms) (s : CoreState) (a : Ask) (offset : ℕ) → a.act ≡ Unlock (extents.Empty offset) → ask n left s a ≡ unlocked_one s (known_claim a (extents.Empty offset) false s.names) (extents.Empty offset)
+unfolding unlocked
+empty_is n left s a offset e = unlock_acted n left s a (extents.Empty offset) e
+
+element_forth : (s : CoreState) (claim : Claim) (extent : Extent) → IsElementDue s claim extent (unlocked_one s claim extent).0
+element_forth s claim extent = by (element_held claim extent s.claims) refl where
+  by : (o : Option Claim) → element_held claim extent s.claims ≡ o → IsElementDue s claim extent (freed s claim o).0
+  by None none = none
+  by (Some c) some = (refl, ap (λ (o : Option Claim). is_some o) some)
+
+element_back : (s : CoreState) (claim : Claim) (extent : Extent) (answer : Answer) → IsElementDue s claim extent answer → (unlocked_one s claim extent).0 ≡ answer
+element_back s claim extent (answers.Granted c) due = by (element_held claim extent s.claims) due.1 ∙ ap answers.Granted (sym due.0) where
+  by : (o : Option Claim) → is_some o ≡ true → (freed s claim o).0 ≡ answers.Granted claim
+  by None none = absurd (both_ways false refl none)
+  by (Some d) some = refl
+element_back s claim extent answers.NotHeld due = ap (λ (o : Option Claim). (freed s claim o).0) due
+element_back s claim extent (answers.Conflict c) due = absurd due
+element_back s claim extent (answers.Queued number) due = absurd due
+element_back s claim extent (answers.NoGrace clock) due = absurd due
+element_back s claim extent (answers.Full limit) due = absurd due
+element_back s claim extent (answers.Recall c) due = absurd due
+element_back s claim extent (answers.Grace until) due = absurd due
+element_back s claim extent answers.NotRecorded due = absurd due
+element_back s claim extent answers.StoreFailed due = absurd due
+
+element_either : (s : CoreState) (claim : Claim) (extent : Extent) (r : Answered) (answer : Answer) → r ≡ unlocked_one s claim extent → (r.0 ≡ answer) ↔ IsElementDue s claim extent answer
+element_either s claim extent r answer is = (
+  λ e. subst (λ (x : Answer). IsElementDue s claim extent x) (sym (ap first_is is) ∙ e) (element_forth s claim extent),
+  λ due. ap first_is is ∙ element_back s claim extent answer due,
+)
+
+pub element_due : (n : ℕ) (left : Rooms) (s : CoreState) (a : Ask) (extent : Extent) (answer : Answer) → a.act ≡ Unlock extent → posix (known_owner a.owner s.names) ≡ false → ((ask n left s a).0 ≡ answer) ↔ IsElementDue s (known_claim a extent false s.names) extent answer
+element_due n left s a extent answer act unnamed = element_either s (known_claim a extent false s.names) extent (ask n left s a) answer (element_is n left s a extent act unnamed)
+
+pub empty_due : (n : ℕ) (left : Rooms) (s : CoreState) (a : Ask) (offset : ℕ) (answer : Answer) → a.act ≡ Unlock (extents.Empty offset) → ((ask n left s a).0 ≡ answer) ↔ IsElementDue s (known_claim a (extents.Empty offset) false s.names) (extents.Empty offset) answer
+empty_due n left s a offset answer act = element_either s (known_claim a (extents.Empty offset) false s.names) (extents.Empty offset) (ask n left s a) answer (empty_is n left s a offset act)
 
 pub unlock_due : (n : ℕ) (left : Rooms) (s : CoreState) (a : Ask) (first last : ℕ) (answer : Answer) → a.act ≡ Unlock (Bytes first last) → is_client a.owner a.party ≡ true → is_named a.owner ≡ true → first ≤ last → IsGood s
     → ((ask n left s a).0 ≡ answer) ↔ IsUnlockDue s (known_claim a (Bytes first last) false s.names) first last answer
@@ -349,7 +407,7 @@ unlock_due n left s a first last answer act client named ends good =
       ends = ends;
       ranges = canonical_ranges (spans_of claim.file claim.owner s.claims) (good.kept.sound.canonical claim.file claim.owner (known_posix a s.names client named));
     } in
-    let same = ap first_is (unlock_is n left s a first last act) in (
+    let same = ap first_is (unlock_is n left s a first last act client named) in (
       λ e. subst (λ (x : Answer). IsUnlockDue s claim first last x) (sym same ∙ e) (unlock_forth s claim first last is),
       λ due. same ∙ unlock_back s claim first last answer is due,
     )
@@ -362,26 +420,35 @@ some_what what = Some what
 pub same_what : (v w : What) → some_what v ≡ some_what w → v ≡ w
 same_what v w e = cc
 
-pub real_range : (extent : Extent) (exclusive : Bool) → IsRealExtent extent → IsPosixBy (whats.Range extent exclusive)
+pub real_range : (extent : Extent) (exclusive : Bool) → IsOrdered extent → IsShareOrLock (whats.Range extent exclusive)
 real_range (Bytes first last) exclusive h = h
-real_range (extents.Empty offset) exclusive h = absurd h
+real_range (extents.Empty offset) exclusive h = tt
 
-by_fit : (act : Act) (what : What) → IsFitAct act → asked_what act ≡ Some what → IsPosixBy what
-by_fit (Share access deny) what fit e = subst (λ (w : What). IsPosixBy w) (same_what (whats.Share access deny) what e) tt
-by_fit (Ranges []) what fit e = absurd fit
-by_fit (Ranges (range ∷ [])) what fit e = subst (λ (w : What). IsPosixBy w) (same_what (whats.Range range.0 range.1) what e) (real_range range.0 range.1 fit)
-by_fit (Ranges (range ∷ more ∷ rest)) what fit e = absurd fit
-by_fit (Test extent exclusive) what fit e = absurd cc
-by_fit (Unlock extent) what fit e = absurd cc
+by_fit : (who : Who) (blocking : Bool) (act : Act) (what : What) → IsFitAct who blocking act → asked_what act ≡ Some what → IsShareOrLock what
+by_fit who blocking (Share access deny) what fit e = subst (λ (w : What). IsShareOrLock w) (same_what (whats.Share access deny) what e) tt
+by_fit who blocking (Ranges []) what fit e = absurd fit
+by_fit who blocking (Ranges (range ∷ [])) what fit e = subst (λ (w : What). IsShareOrLock w) (same_what (whats.Range range.0 range.1) what e) (real_range range.0 range.1 fit.0)
+by_fit who blocking (Ranges (range ∷ more ∷ rest)) what fit e = absurd cc
+by_fit who blocking (Test extent exclusive) what fit e = absurd cc
+by_fit who blocking (Unlock extent) what fit e = absurd cc
 
 -- what a fit ask is for may be held
-pub fit_what : (a : Ask) (what : What) → IsFit a → asked_what a.act ≡ Some what → IsPosixBy what
-fit_what a what fit e = by_fit a.act what fit.act e
+pub fit_what : (a : Ask) (what : What) → IsFit a → asked_what a.act ≡ Some what → IsShareOrLock what
+fit_what a what fit e = by_fit a.owner a.blocking a.act what fit.act e
+
+-- so may each of the ranges
+pub fit_ranges : (who : Who) (blocking : Bool) (ranges : List (Extent × Bool)) → AreMore who blocking ranges → AllByRecursion (λ (w : What). IsShareOrLock w) (map range_what ranges)
+fit_ranges who blocking [] fit = tt
+fit_ranges who blocking (range ∷ ranges) fit = (real_range range.0 range.1 fit.2, fit_ranges who blocking ranges fit.3)
+
+pub own_ranges : (who : Who) (ranges : List (Extent × Bool)) → may_hold_all who ranges ≡ true → AllByRecursion (λ (w : What). may_hold who w ≡ true) (map range_what ranges)
+own_ranges who [] may = tt
+own_ranges who (range ∷ ranges) may = let both = and_parts (may_hold who (range_what range)) (may_hold_all who ranges) may in (both.0, own_ranges who ranges both.1)
 
 act_owned : (who : Who) (act : Act) (what : What) → may_ask who act ≡ true → asked_what act ≡ Some what → may_hold who what ≡ true
 act_owned who (Share access deny) what may e = subst (λ (w : What). may_hold who w ≡ true) (same_what (whats.Share access deny) what e) refl
 act_owned who (Ranges []) what may e = absurd cc
-act_owned who (Ranges (range ∷ [])) what may e = subst (λ (w : What). may_hold who w ≡ true) (same_what (whats.Range range.0 range.1) what e) may
+act_owned who (Ranges (range ∷ [])) what may e = subst (λ (w : What). may_hold who w ≡ true) (same_what (whats.Range range.0 range.1) what e) (and_parts (may_hold who (range_what range)) true may).0
 act_owned who (Ranges (range ∷ more ∷ rest)) what may e = absurd cc
 act_owned who (Test extent exclusive) what may e = absurd cc
 act_owned who (Unlock extent) what may e = absurd cc
@@ -390,15 +457,11 @@ act_owned who (Unlock extent) what may e = absurd cc
 pub fit_owned : (a : Ask) (what : What) → IsFit a → asked_what a.act ≡ Some what → may_hold a.owner what ≡ true
 fit_owned a what fit e = act_owned a.owner a.act what fit.own e
 
--- who unlocks has a name
-pub fit_named : (a : Ask) (extent : Extent) → IsFit a → a.act ≡ Unlock extent → is_named a.owner ≡ true
-fit_named a extent fit e = subst (λ (act : Act). may_ask a.owner act ≡ true) e fit.own
-
 pub real_extent : (a : Ask) (first last : ℕ) (exclusive : Bool) → IsFit a → a.act ≡ Ranges ((Bytes first last, exclusive) ∷ []) → first ≤ last
-real_extent a first last exclusive fit e = subst (λ (act : Act). IsFitAct act) e fit.act
+real_extent a first last exclusive fit e = (subst (λ (act : Act). IsFitAct a.owner a.blocking act) e fit.act).0
 
 pub real_unlock : (a : Ask) (first last : ℕ) → IsFit a → a.act ≡ Unlock (Bytes first last) → first ≤ last
-real_unlock a first last fit e = subst (λ (act : Act). IsFitAct act) e fit.act
+real_unlock a first last fit e = subst (λ (act : Act). IsFitAct a.owner a.blocking act) e fit.act
 
 -- nothing stands against the claim, so it is granted
 pub lock_free : (n : ℕ) (left : Rooms) (s : CoreState) (a : Ask) (what : What) → asked_what a.act ≡ Some what → a.reclaim ≡ false → is_blocked s.claims (asked_claim a what s.names) ≡ false
@@ -408,3 +471,54 @@ lock_free n left s a what act timely free room =
 
 pub test_leaves : (n : ℕ) (left : Rooms) (s : CoreState) (a : Ask) (extent : Extent) (exclusive : Bool) → a.act ≡ Test extent exclusive → (ask n left s a).2 ≡ s
 test_leaves n left s a extent exclusive act = ap (λ (r : Answered). r.2) (test_is n left s a extent exclusive act)
+
+-- ---- several ranges
+
+-- what is told of the ruling on several claims, of which this is the first
+abbrev tells : Claim → Ruling → Answer → Type 0
+tells first Gets answer = answer ≡ answers.Granted first
+tells first Waits answer = Unit {0}
+tells first (Told told) answer = answer ≡ told
+
+row_due : (left : Rooms) (p : Plea) (first : Claim) (cs : List Claim) (s : CoreState) (answer : Answer) → p.blocking ≡ false → tells first (row left p cs s) answer → IsEachDue left p.rows p.kept first cs s answer
+unfolding check_held check_room held_with blockers
+row_due left p first [] s answer hurries is = is
+row_due left p first (c ∷ cs) s answer hurries is =
+    (λ d e. conflict d e, λ limit free least. so None (Some limit) (none_blockers [] s c free) (grant_least left p.rows (length (granted_claims c s.claims)) p.kept (Some limit) least), λ free room. row_due left p first cs (record s { claims = granted_claims c s.claims }) answer hurries (rest free room))
+  where
+    limits : List (ℕ × Bool)
+    limits = grant_limits left p.rows (length (granted_claims c s.claims)) p.kept
+
+    later : Ruling
+    later = row left p cs (record s { claims = granted_claims c s.claims })
+
+    ruling : Option Claim → Option ℕ → Ruling
+    ruling o l = unless (or_else (held_by p o s).0 (room_by l s).0) later
+
+    so : (o : Option Claim) (l : Option ℕ) → least s.names (blockers [] s c) ≡ o → first_passed limits ≡ l → tells first (ruling o l) answer
+    so o l e k = subst (λ (x : Option Claim). tells first (ruling x l) answer) e (subst (λ (x : Option ℕ). tells first (ruling (least s.names (blockers [] s c)) x) answer) k is)
+
+    conflict : (d : Claim) → least s.names (blockers [] s c) ≡ Some d → answer ≡ answers.Conflict d
+    conflict d e = subst (λ (b : Bool). tells first (if b then waits p.crowded else Told (answers.Conflict d)) answer) hurries (so (Some d) (first_passed limits) e refl)
+
+    rest : is_blocked s.claims c ≡ false → IsRoom limits → tells first later answer
+    rest free room = so None None (none_blockers [] s c free) (grant_least left p.rows (length (granted_claims c s.claims)) p.kept None room)
+
+pub ranges_asked : (n : ℕ) (left : Rooms) (s : CoreState) (a : Ask) (ranges : List (Extent × Bool)) → a.act ≡ Ranges ranges → ask n left s a ≡ claims_asked n left s a (asked_claims a (map range_what ranges) s.names)
+unfolding ask
+ranges_asked n left s a ranges e = ap (λ (act : Act). acted n left s a act) e
+
+-- each of several is judged beside those before it
+pub each_due : (n : ℕ) (left : Rooms) (s : CoreState) (a : Ask) (c : Claim) (cs : List Claim) (r : Answered) → a.reclaim ≡ false → a.blocking ≡ false → r ≡ claims_asked n left s a (c ∷ cs) → IsEachDue left a.rows (length (both_entered a s.names)) c (c ∷ cs) s r.0
+unfolding claims_asked plea_of
+each_due n left s a c cs r timely hurries is =
+    row_due left p c (c ∷ cs) s r.0 hurries
+    (subst (λ (x : Answer). tells c (row left p (c ∷ cs) s) x) (sym (ap first_is is ∙ ap (λ (x : Ruled). (answered a (c ∷ cs) c x.0 x.1 x.2).0) (judged_row n s.waiters left p (c ∷ cs) s timely))) (by (row left p (c ∷ cs) s) [] _))
+  where
+    p : Plea
+    p = plea_of left s a
+
+    by : (ruling : Ruling) (told : List Effect) (t : CoreState) → tells c ruling (answered a (c ∷ cs) c ruling told t).0
+    by Gets told t = refl
+    by Waits told t = tt
+    by (Told x) told t = refl

@@ -1,8 +1,8 @@
 -- An ask changes only what its owner has on its file, and only where it is granted.
-use Rattle.std.proofs.Common.{◌≡◌, ℕ, ◌+◌, ◌≤◌, Bool, true, false, if◌then◌else◌, List, [], ◌∷◌, ◌++◌, map, Option, Some, None, refl, sym, ap, subst, ◌∙◌, nat_le}
+use Rattle.std.proofs.Common.{◌≡◌, ℕ, ◌+◌, ◌≤◌, Bool, true, false, if◌then◌else◌, List, [], ◌∷◌, ◌++◌, map, Option, Some, None, refl, sym, ap, subst, ◌∙◌, nat_le, inl, inr}
 use Rattle.std.specs.List.{AllByRecursion}
-use Rattle.std.proofs.lemmas.Bool.{both_ways}
-use Rattle.xl_base.proofs.Members.{in_append_left}
+use Rattle.std.proofs.lemmas.Bool.{both_ways, cases_Bool, and_parts}
+use Rattle.xl_base.proofs.Members.{in_append_left, all_in}
 use Rattle.xl_base.specs.declared.name.Owner.{Owner}
 use Rattle.xl_matrix.specs.Owners.{posix}
 use Rattle.xl_matrix.specs.declared.claim.Claim.{Claim}
@@ -12,19 +12,19 @@ use Rattle.xl_matrix.specs.declared.claim.Rwd.{Rwd}
 use Rattle.xl_matrix.specs.declared.claim.What.{What}
 use Rattle.xl_matrix.specs.declared.claim.What.TheVariants.{Share, Range, Cache}
 use Rattle.xl_spans.specs.Spans.{relocked}
-use Rattle.xl_table.specs.Held.{mode_of, is_share, spans_of, IsKept}
+use Rattle.xl_table.specs.Held.{mode_of, is_share, spans_of, IsKept, is_of, is_range, with_span}
 use Rattle.xl_table.specs.Least.{least}
-use Rattle.xl_table.specs.Relock.{most_claims, holds_byte, with_share, shares_of, old_shares, unites, united_by, granted_by, granted_claims}
+use Rattle.xl_table.specs.Relock.{most_claims, holds_byte, with_share, shares_of, old_shares, unites, united_by, granted_by, granted_claims, relocked_in}
 use Rattle.xl_table.proofs.ShareLaws.{not_united, shares_of-shared, shares_of-shared_apart, spans_of-shared, shares_of-relocked}
-use Rattle.xl_table.proofs.WriteBack.{spans_of-relocked, spans_of-relocked_apart}
+use Rattle.xl_table.proofs.WriteBack.{spans_of-relocked, spans_of-relocked_apart, is_of-true}
 use Rattle.xl_wait.specs.declared.waiter.Rooms.{Rooms}
 use Rattle.xl_core.specs.State.{CoreState}
 use Rattle.xl_core.specs.Asking.{asker, range_what, asked_whats, asked_what, asked_claim, asked_claims, known_claim, is_client, is_named}
 use Rattle.xl_core.specs.Blockers.{test_blockers}
 use Rattle.xl_core.specs.Causes.{asks_share, left_by_unlock, IsOwn}
-use Rattle.xl_core.specs.Decide.{Answered, waiter_of, waiting, named, claims_asked, test_answered, tested, unlocked_claims, unlocked, acted, ask}
+use Rattle.xl_core.specs.Decide.{Answered, waiter_of, waiting, named, claims_asked, test_answered, tested, unlocked_claims, unlocked, acted, ask, unlocked_one, unlocked_bytes, freed}
 use Rattle.xl_core.specs.Frames.{asks_to_hold}
-use Rattle.xl_core.specs.Good.{IsGood}
+use Rattle.xl_core.specs.Good.{IsGood, are_kept, IsHeld}
 use Rattle.xl_core.specs.Judge.{all_granted, held_with}
 use Rattle.xl_core.specs.declared.ask.Act.{Act}
 use Rattle.xl_core.specs.declared.ask.Act.TheVariants.{Ranges, Test, Unlock}
@@ -34,9 +34,19 @@ use Rattle.xl_core.specs.declared.ask.Answer.TheVariants as answers
 use Rattle.xl_core.specs.declared.ask.Ask.{Ask}
 use Rattle.xl_core.proofs.CauseLaws.{same_list, left_so, unlock_by, unlock_is}
 use Rattle.xl_core.proofs.GoodLaws.{AskCase, Goes, Queues, Refuses, ask_case, holder_kept}
-use Rattle.xl_core.proofs.CacheLaws.{relocked_caches, all_granted_caches}
-use Rattle.xl_core.proofs.KnownLaws.{both_go_on, known_owner_is, known_posix, asked_known}
+use Rattle.xl_core.proofs.CacheLaws.{relocked_caches, all_granted_caches, removed_caches, range_no_cache}
+use Rattle.xl_core.proofs.KnownLaws.{both_go_on, known_owner_is, known_posix, asker_posix}
 use Rattle.xl_core.proofs.RowLaws.{is_refusal}
+use Rattle.xl_table.specs.Flat.{inserted, removed, with_what}
+use Rattle.xl_table.specs.Order.{goes_first}
+use Rattle.xl_table.specs.Elements.{is_held, element_held}
+use Rattle.xl_table.proofs.InsertLaws.{spans_of-inserted_apart, spans_of-inserted_other}
+use Rattle.xl_table.proofs.FlatLaws.{held_iff}
+use Rattle.xl_base.specs.Lists.{IsIn}
+use Rattle.std.proofs.lemmas.Option.{same_Some}
+use Rattle.xl_matrix.specs.Equal.{same_claims}
+use Rattle.xl_matrix.proofs.EqualLaws.{same_claims-true}
+use Rattle.xl_spans.specs.declared.span.Span.{Span}
 
 -- ---- what a grant leaves to each owner
 
@@ -44,9 +54,37 @@ use Rattle.xl_core.proofs.RowLaws.{is_refusal}
 abbrev pub IsAt : Claim → Bool → ℕ → Owner → Type 0
 IsAt c share file owner = (file ≡ c.file) × (owner ≡ c.owner) × (is_share c.what ≡ share)
 
+-- the claim is of another owner, or on another file
+other_of : (c : Claim) (file : ℕ) (owner : Owner) → ((file ≡ c.file) × (owner ≡ c.owner) → ⊥) → is_of file owner c ≡ false
+other_of c file owner apart =
+    elim (cases_Bool (is_of file owner c)) [
+      | inl own ↦ let at = is_of-true file owner c own in absurd (apart (sym at.0, sym at.1))
+      | inr other ↦ other
+    ]
+
+range_no_share : (w : What) (shares : List (Rwd × Rwd)) → is_share w ≡ false → with_share w shares ≡ shares
+range_no_share (Share access deny) shares h = absurd (both_ways true h refl)
+range_no_share (Range extent exclusive) shares h = refl
+range_no_share (Cache kind running) shares h = refl
+
+-- what is no share leaves the shares
+shares_inserted : (c : Claim) (cs : List Claim) (file : ℕ) (owner : Owner) → is_share c.what ≡ false → shares_of file owner (inserted c cs) ≡ shares_of file owner cs
+unfolding inserted
+shares_inserted c [] file owner other =
+    elim (cases_Bool (is_of file owner c)) [ inl own ↦ rw own (range_no_share c.what [] other) | inr apart ↦ rw apart refl ]
+shares_inserted c (d ∷ ds) file owner other =
+    elim (cases_Bool (goes_first d c)) [
+      | inl early ↦ rw early (ap (λ (shares : List (Rwd × Rwd)). if is_of file owner d then with_share d.what shares else shares) (shares_inserted c ds file owner other))
+      | inr late ↦ rw late (elim (cases_Bool (is_of file owner c)) [ inl own ↦ rw own (range_no_share c.what _ other) | inr apart ↦ rw apart refl ])
+    ]
+
 spans_by : (c : Claim) (w : What) (cs : List Claim) (file : ℕ) (owner : Owner) → c.what ≡ w → (IsAt c false file owner → ⊥) → spans_of file owner (granted_by c w cs) ≡ spans_of file owner cs
-spans_by c (Range (Bytes first last) exclusive) cs file owner is apart = spans_of-relocked_apart c.file c.owner c.party first last (Some (mode_of exclusive)) cs file owner (λ at. apart (at.0, at.1, ap is_share is))
-spans_by c (Range (Empty offset) exclusive) cs file owner is apart = refl
+spans_by c (Range (Bytes first last) exclusive) cs file owner is apart =
+    elim (cases_Bool (posix c.owner)) [
+      | inl named ↦ rw named (spans_of-relocked_apart c.file c.owner c.party first last (Some (mode_of exclusive)) cs file owner (λ at. apart (at.0, at.1, ap is_share is)))
+      | inr unnamed ↦ rw unnamed (spans_of-inserted_apart file owner c cs (other_of c file owner (λ at. apart (at.0, at.1, ap is_share is))))
+    ]
+spans_by c (Range (Empty offset) exclusive) cs file owner is apart = spans_of-inserted_apart file owner c cs (other_of c file owner (λ at. apart (at.0, at.1, ap is_share is)))
 spans_by c (Share access deny) cs file owner is apart = spans_of-shared c cs file owner (ap is_share is)
 spans_by c (Cache kind running) cs file owner is apart = refl
 
@@ -55,8 +93,12 @@ unfolding granted_claims
 spans_apart c cs file owner apart = spans_by c c.what cs file owner refl apart
 
 shares_by : (c : Claim) (w : What) (cs : List Claim) (file : ℕ) (owner : Owner) → c.what ≡ w → (IsAt c true file owner → ⊥) → shares_of file owner (granted_by c w cs) ≡ shares_of file owner cs
-shares_by c (Range (Bytes first last) exclusive) cs file owner is apart = shares_of-relocked c.file c.owner c.party first last (Some (mode_of exclusive)) cs file owner
-shares_by c (Range (Empty offset) exclusive) cs file owner is apart = refl
+shares_by c (Range (Bytes first last) exclusive) cs file owner is apart =
+    elim (cases_Bool (posix c.owner)) [
+      | inl named ↦ rw named (shares_of-relocked c.file c.owner c.party first last (Some (mode_of exclusive)) cs file owner)
+      | inr unnamed ↦ rw unnamed (shares_inserted c cs file owner (ap is_share is))
+    ]
+shares_by c (Range (Empty offset) exclusive) cs file owner is apart = shares_inserted c cs file owner (ap is_share is)
 shares_by c (Share access deny) cs file owner is apart = shares_of-shared_apart c cs file owner (λ at. apart (at.0, at.1, ap is_share is))
 shares_by c (Cache kind running) cs file owner is apart = refl
 
@@ -72,7 +114,15 @@ granted_share c access deny cs is = ap (λ (w : What). shares_of c.file c.owner 
 pub granted_spans : (c : Claim) (first last : ℕ) (exclusive : Bool) (cs : List Claim) → IsKept cs → c.what ≡ Range (Bytes first last) exclusive → posix c.owner ≡ true → first ≤ last → spans_of c.file c.owner (granted_claims c cs) ≡ relocked (spans_of c.file c.owner cs) first last (Some (mode_of exclusive))
 unfolding granted_claims
 granted_spans c first last exclusive cs kept is own ends =
-    ap (λ (w : What). spans_of c.file c.owner (granted_by c w cs)) is ∙ spans_of-relocked c.file c.owner c.party first last (Some (mode_of exclusive)) cs kept own ends
+    ap (λ (w : What). spans_of c.file c.owner (granted_by c w cs)) is
+    ∙ ap (λ (b : Bool). spans_of c.file c.owner (if b then relocked_in c.file c.owner c.party first last (Some (mode_of exclusive)) cs else inserted c cs)) own
+    ∙ spans_of-relocked c.file c.owner c.party first last (Some (mode_of exclusive)) cs kept own ends
+
+-- one without bytes leaves the spans
+pub empty_spans : (c : Claim) (offset : ℕ) (exclusive : Bool) (cs : List Claim) → c.what ≡ Range (Empty offset) exclusive → spans_of c.file c.owner (granted_claims c cs) ≡ spans_of c.file c.owner cs
+unfolding granted_claims
+empty_spans c offset exclusive cs is =
+    ap (λ (w : What). spans_of c.file c.owner (granted_by c w cs)) is ∙ spans_of-inserted_other c.file c.owner c cs (λ spans. ap (λ (w : What). with_span w spans) is)
 
 -- each of these is of this owner on this file, and a share or not
 abbrev AreAt : ℕ → Owner → Bool → List Claim → Type 0
@@ -97,13 +147,14 @@ holder_is s a extent first last good client holds =
     let claim = known_claim a extent false s.names in
     known_owner_is a s.names claim.party good.few client (holder_kept s a extent false first last good client holds)
 
--- an ask is refused, finds a test free, has what it asks for, waits, or unlocks what its owner has
+-- an ask is refused, finds a test free, has what it asks for, waits, or unlocks bytes or a range that its owner has
 pub data AskWay (s : CoreState) (a : Ask) (r : Answered) : Type 0 where
   Stays : (answer : Answer) → is_refusal answer ≡ true → r ≡ (answer, [], s) → AskWay s a r
   Tests : (c : Claim) → asks_to_hold a.act ≡ false → r ≡ (answers.Granted c, [], s) → AskWay s a r
   Holds : (c : Claim) (claims : List Claim) → claims ≡ asked_claims a (asked_whats a.act) s.names → asks_to_hold a.act ≡ true → r ≡ (answers.Granted c, [], named a (held_with claims s)) → AskWay s a r
-  Waits : (claims : List Claim) → claims ≡ asked_claims a (asked_whats a.act) s.names → r ≡ (answers.Queued (s.counter + 1), [], waiting a claims s) → AskWay s a r
+  Waits : (claims : List Claim) → a.blocking ≡ true → claims ≡ asked_claims a (asked_whats a.act) s.names → asks_to_hold a.act ≡ true → r ≡ (answers.Queued (s.counter + 1), [], waiting a claims s) → AskWay s a r
   Frees : (claim : Claim) (first last : ℕ) → asks_to_hold a.act ≡ false → asks_share a.act ≡ false → claim.file ≡ a.file → claim.owner ≡ asker a s.names → r ≡ (answers.Granted claim, [], record s { claims = unlocked_claims claim first last s.claims }) → AskWay s a r
+  Gives : (claim d : Claim) → asks_to_hold a.act ≡ false → asks_share a.act ≡ false → d.file ≡ a.file → d.owner ≡ asker a s.names → is_range d.what ≡ true → r ≡ (answers.Granted claim, [], record s { claims = removed d s.claims }) → AskWay s a r
 
 asked_way : (n : ℕ) (left : Rooms) (s : CoreState) (a : Ask) (claims : List Claim) → claims ≡ asked_claims a (asked_whats a.act) s.names → asks_to_hold a.act ≡ true → AskWay s a (claims_asked n left s a claims)
 unfolding claims_asked
@@ -111,7 +162,7 @@ asked_way n left s a [] e holds = Stays answers.NotHeld refl refl
 asked_way n left s a (c ∷ cs) e holds = by (claims_asked n left s a (c ∷ cs)) (ask_case n left s a c cs) where
   by : (r : Answered) → AskCase left s a (c ∷ cs) c r → AskWay s a r
   by r (Goes pass is) = Holds c (c ∷ cs) e holds is
-  by r (Queues may room is) = Waits (c ∷ cs) e is
+  by r (Queues may room is) = Waits (c ∷ cs) may e holds is
   by r (Refuses answer refused is) = Stays answer refused is
 
 tested_way : (s : CoreState) (a : Ask) (claim : Claim) → asks_to_hold a.act ≡ false → AskWay s a (tested s a claim, [], s)
@@ -122,17 +173,53 @@ tested_way s a claim holds = by a.reclaim (least s.names (test_blockers s claim)
   by false None = Tests claim holds refl
   by false (Some c) = Stays (answers.Conflict c) refl refl
 
+-- an element that is held is one of these, so its owner is known
+pub element_is_held : (claim : Claim) (extent : Extent) (cs : List Claim) (d : Claim) → element_held claim extent cs ≡ Some d → IsIn d cs × (exclusive : Bool) × (d ≡ with_what claim (Range extent exclusive))
+unfolding element_held
+element_is_held claim extent cs d e = first (is_held (with_what claim (Range extent true)) cs) (is_held (with_what claim (Range extent false)) cs) refl refl e where
+  alone : Bool → Claim
+  alone exclusive = with_what claim (Range extent exclusive)
+
+  there : (exclusive : Bool) → is_held (alone exclusive) cs ≡ true → Some (alone exclusive) ≡ Some d → IsIn d cs × (exclusive : Bool) × (d ≡ with_what claim (Range extent exclusive))
+  there exclusive held same =
+      let is : alone exclusive ≡ d = same_Some (alone exclusive) d same in
+      (subst (λ (c : Claim). IsIn c cs) is ((held_iff true (alone exclusive) cs (sym held)).0 refl), exclusive, sym is)
+
+  first : (x y : Bool) → is_held (alone true) cs ≡ x → is_held (alone false) cs ≡ y → (if x then Some (alone true) else if y then Some (alone false) else None) ≡ Some d → IsIn d cs × (exclusive : Bool) × (d ≡ with_what claim (Range extent exclusive))
+  first true y a b same = there true a same
+  first false true a b same = there false b same
+  first false false a b same = absurd cc
+
+freed_way : (s : CoreState) (a : Ask) (extent : Extent) → a.act ≡ Unlock extent → IsGood s → is_client a.owner a.party ≡ true → AskWay s a (unlocked_one s (known_claim a extent false s.names) extent)
+freed_way s a extent act good client = by (element_held claim extent s.claims) refl where
+  claim : Claim
+  claim = known_claim a extent false s.names
+
+  by : (o : Option Claim) → element_held claim extent s.claims ≡ o → AskWay s a (freed s claim o)
+  by None none = Stays answers.NotHeld refl refl
+  by (Some d) e =
+      let found = element_is_held claim extent s.claims d e in
+      let kept : are_kept s.names d.owner d.party ≡ true = (all_in (IsHeld s.names) d s.claims good.known found.0).1 in
+      let owner : claim.owner ≡ asker a s.names = known_owner_is a s.names d.party good.few client (subst (λ (c : Claim). are_kept s.names c.owner d.party ≡ true) found.2 kept) in
+      Gives claim d (ap asks_to_hold act) (ap asks_share act) (ap (λ (c : Claim). c.file) found.2) (ap (λ (c : Claim). c.owner) found.2 ∙ owner) (ap (λ (c : Claim). is_range c.what) found.2) refl
+
 unlocked_way : (s : CoreState) (a : Ask) (extent : Extent) → a.act ≡ Unlock extent → IsGood s → is_client a.owner a.party ≡ true → AskWay s a (unlocked s (known_claim a extent false s.names) extent)
 unfolding unlocked
-unlocked_way s a (Empty offset) act good client = Stays answers.NotHeld refl refl
-unlocked_way s a (Bytes first last) act good client = by (holds_byte claim.file claim.owner first last s.claims) (nat_le (left_by_unlock s claim first last) most_claims) refl where
-  claim : Claim
-  claim = known_claim a (Bytes first last) false s.names
+unlocked_way s a (Empty offset) act good client = freed_way s a (Empty offset) act good client
+unlocked_way s a (Bytes first last) act good client =
+    go (posix claim.owner)
+  where
+    claim : Claim
+    claim = known_claim a (Bytes first last) false s.names
 
-  by : (h f : Bool) → holds_byte claim.file claim.owner first last s.claims ≡ h → AskWay s a (left_so s claim first last h f)
-  by false f none = Stays answers.NotHeld refl refl
-  by true false holds = Stays (answers.Full most_claims) refl refl
-  by true true holds = Frees claim first last (ap asks_to_hold act) (ap asks_share act) refl (holder_is s a (Bytes first last) first last good client holds) refl
+    by : (h f : Bool) → holds_byte claim.file claim.owner first last s.claims ≡ h → AskWay s a (left_so s claim first last h f)
+    by false f none = Stays answers.NotHeld refl refl
+    by true false holds = Stays (answers.Full most_claims) refl refl
+    by true true holds = Frees claim first last (ap asks_to_hold act) (ap asks_share act) refl (holder_is s a (Bytes first last) first last good client holds) refl
+
+    go : (b : Bool) → AskWay s a (if b then unlocked_bytes s claim first last else unlocked_one s claim (Bytes first last))
+    go true = by (holds_byte claim.file claim.owner first last s.claims) (nat_le (left_by_unlock s claim first last) most_claims) refl
+    go false = freed_way s a (Bytes first last) act good client
 
 acted_way : (n : ℕ) (left : Rooms) (s : CoreState) (a : Ask) (act : Act) → a.act ≡ act → IsGood s → is_client a.owner a.party ≡ true → AskWay s a (acted n left s a act)
 acted_way n left s a (acts.Share access deny) is good client = asked_way n left s a _ (ap (λ (x : Act). asked_claims a (asked_whats x) s.names) (sym is)) (ap asks_to_hold is)
@@ -151,6 +238,31 @@ not_queued n none = none n refl
 
 not_granted : (c : Claim) → ((claim : Claim) → answers.Granted c ≡ answers.Granted claim → ⊥) → ⊥
 not_granted c none = none c refl
+
+pub spans_of-removed_apart : (file : ℕ) (owner : Owner) (d : Claim) (cs : List Claim) → is_of file owner d ≡ false → spans_of file owner (removed d cs) ≡ spans_of file owner cs
+spans_of-removed_apart file owner d [] apart = refl
+spans_of-removed_apart file owner d (c ∷ cs) apart =
+    elim (cases_Bool (same_claims c d)) [
+      | inl same ↦ let none : is_of file owner c ≡ false = ap (is_of file owner) (same_claims-true c d same) ∙ apart in rw (same, none) refl
+      | inr other ↦ rw other (ap (λ (spans : List Span). if is_of file owner c then with_span c.what spans else spans) (spans_of-removed_apart file owner d cs apart))
+    ]
+
+pub shares_removed : (file : ℕ) (owner : Owner) (d : Claim) (cs : List Claim) → is_range d.what ≡ true → shares_of file owner (removed d cs) ≡ shares_of file owner cs
+shares_removed file owner d [] range = refl
+shares_removed file owner d (c ∷ cs) range =
+    elim (cases_Bool (same_claims c d)) [
+      | inl same ↦ rw same (sym (skipped (is_of file owner c) (range_no_share c.what (shares_of file owner cs) (range_is_no_share c.what (ap (λ (x : Claim). is_range x.what) (same_claims-true c d same) ∙ range)))))
+      | inr other ↦ rw other (ap (λ (shares : List (Rwd × Rwd)). if is_of file owner c then with_share c.what shares else shares) (shares_removed file owner d cs range))
+    ]
+  where
+    skipped : (b : Bool) {more rest : List (Rwd × Rwd)} → more ≡ rest → (if b then more else rest) ≡ rest
+    skipped true e = e
+    skipped false e = refl
+
+    range_is_no_share : (w : What) → is_range w ≡ true → is_share w ≡ false
+    range_is_no_share (Range extent exclusive) h = refl
+    range_is_no_share (Share access deny) h = absurd (both_ways false refl h)
+    range_is_no_share (Cache kind running) h = absurd (both_ways false refl h)
 
 -- all that is asked for is of the asker on its file, and of one kind
 asked_at : (a : Ask) (s : CoreState) (act : Act) → AreAt a.file (asker a s.names) (asks_share act) (asked_claims a (asked_whats act) s.names)
@@ -182,7 +294,7 @@ way_own s a r (Holds c claims is holds e) =
       stay = λ w h. h;
       names = both_go_on a s.names;
     })
-way_own s a r (Waits claims is e) =
+way_own s a r (Waits claims waits is may e) =
     subst (λ (x : Answered). IsOwn s a x.0 x.2) (sym e)
     (record {
       claims = λ none. refl;
@@ -206,6 +318,18 @@ way_own s a r (Frees claim first last holds act file owner e) =
       stay = λ w h. h;
       names = λ number name h. h;
     })
+way_own s a r (Gives claim d holds act file owner range e) =
+    subst (λ (x : Answered). IsOwn s a x.0 x.2) (sym e)
+    (record {
+      claims = λ none. absurd (not_granted claim none);
+      waiters = λ none. refl;
+      refused = λ none nobody. absurd (not_granted claim none);
+      spans = λ at who apart. spans_of-removed_apart at who d s.claims (other_of d at who (λ same. apart (same.0 ∙ file, same.1 ∙ owner, act)));
+      shares = λ at who apart. shares_removed at who d s.claims range;
+      caches = removed_caches d s.claims (range_no_cache d.what range);
+      stay = λ w h. h;
+      names = λ number name h. h;
+    })
 
 pub ask_own : (n : ℕ) (left : Rooms) (s : CoreState) (a : Ask) → IsGood s → is_client a.owner a.party ≡ true → IsOwn s a (ask n left s a).0 (ask n left s a).2
 ask_own n left s a good client = way_own s a (ask n left s a) (ask_way n left s a good client)
@@ -223,8 +347,9 @@ granted_way s a what c r act holds (Stays answer refused e) at = absurd (refused
 granted_way s a what c r act holds (Tests d nothing e) at = absurd (both_ways (asks_to_hold a.act) nothing holds)
 granted_way s a what c r act holds (Holds d claims is held e) at =
     ap (λ (x : Answered). x.2.claims) e ∙ ap (λ (cs : List Claim). all_granted cs s.claims) (is ∙ ap (λ (w : List What). asked_claims a w s.names) (same_list what (asked_whats a.act) act))
-granted_way s a what c r act holds (Waits claims is e) at = let two : answers.Queued (s.counter + 1) ≡ answers.Granted c = sym (ap (λ (x : Answered). x.0) e) ∙ at in absurd cc
+granted_way s a what c r act holds (Waits claims waits is may e) at = let two : answers.Queued (s.counter + 1) ≡ answers.Granted c = sym (ap (λ (x : Answered). x.0) e) ∙ at in absurd cc
 granted_way s a what c r act holds (Frees claim first last nothing share file owner e) at = absurd (both_ways (asks_to_hold a.act) nothing holds)
+granted_way s a what c r act holds (Gives claim d nothing share file owner range e) at = absurd (both_ways (asks_to_hold a.act) nothing holds)
 
 -- the owner has what it was granted
 pub ask_held : (n : ℕ) (left : Rooms) (s : CoreState) (a : Ask) (first last : ℕ) (exclusive : Bool) (c : Claim) → IsGood s → is_client a.owner a.party ≡ true → is_named a.owner ≡ true → first ≤ last → a.act ≡ Ranges ((Bytes first last, exclusive) ∷ []) → (ask n left s a).0 ≡ answers.Granted c
@@ -232,7 +357,7 @@ pub ask_held : (n : ℕ) (left : Rooms) (s : CoreState) (a : Ask) (first last : 
 ask_held n left s a first last exclusive c good client named ends act at =
     let what = Range (Bytes first last) exclusive in
     ap (λ (cs : List Claim). spans_of a.file (asker a s.names) cs) (granted_way s a what c (ask n left s a) (ap asked_what act) (ap asks_to_hold act) (ask_way n left s a good client) at)
-    ∙ granted_spans (asked_claim a what s.names) first last exclusive s.claims good.kept refl (asked_known a what s.names client named ends).0.1 ends
+    ∙ granted_spans (asked_claim a what s.names) first last exclusive s.claims good.kept refl (asker_posix a s.names client named) ends
 
 -- and the share, united with the one that it had where it is NFSv4's
 pub ask_shares : (n : ℕ) (left : Rooms) (s : CoreState) (a : Ask) (access deny : Rwd) (c : Claim) → IsGood s → is_client a.owner a.party ≡ true → a.act ≡ acts.Share access deny → (ask n left s a).0 ≡ answers.Granted c
@@ -256,7 +381,7 @@ ask_left n left s a first last c good client named ends act at = by (holds_byte 
   claim = known_claim a (Bytes first last) false s.names
 
   is : (h f : Bool) → holds_byte claim.file claim.owner first last s.claims ≡ h → nat_le (left_by_unlock s claim first last) most_claims ≡ f → ask n left s a ≡ left_so s claim first last h f
-  is h f e k = unlock_is n left s a first last act ∙ unlock_by s claim first last h f e k
+  is h f e k = unlock_is n left s a first last act client named ∙ unlock_by s claim first last h f e k
 
   by : (h f : Bool) → holds_byte claim.file claim.owner first last s.claims ≡ h → nat_le (left_by_unlock s claim first last) most_claims ≡ f
       → spans_of a.file (asker a s.names) (ask n left s a).2.claims ≡ relocked (spans_of a.file (asker a s.names) s.claims) first last None
@@ -274,7 +399,8 @@ waits_way s a number r (Stays answer refused e) at = absurd (both_ways (is_refus
 waits_way s a number r (Tests c holds e) at = let two : answers.Granted c ≡ answers.Queued number = sym (ap (λ (x : Answered). x.0) e) ∙ at in absurd cc
 waits_way s a number r (Holds c claims is holds e) at = let two : answers.Granted c ≡ answers.Queued number = sym (ap (λ (x : Answered). x.0) e) ∙ at in absurd cc
 waits_way s a number r (Frees c first last holds act file owner e) at = let two : answers.Granted c ≡ answers.Queued number = sym (ap (λ (x : Answered). x.0) e) ∙ at in absurd cc
-waits_way s a number r (Waits claims is e) at =
+waits_way s a number r (Gives c d holds act file owner range e) at = let two : answers.Granted c ≡ answers.Queued number = sym (ap (λ (x : Answered). x.0) e) ∙ at in absurd cc
+waits_way s a number r (Waits claims waits is may e) at =
     ap (λ (x : Answered). x.2.waiters) e ∙ (λ i. s.waiters ++ waiter_of (same_number (s.counter + 1) number (sym (ap (λ (x : Answered). x.0) e) ∙ at) i) a (is i) ∷ [])
   where
     same_number : (x y : ℕ) → answers.Queued x ≡ answers.Queued y → x ≡ y

@@ -1,6 +1,6 @@
 -- Claims of known clients stay so, and stay compatible, when a claim that nothing blocks is granted, and when a range is
 -- unlocked.
-use Rattle.std.proofs.Common.{◌≡◌, ℕ, ◌+◌, ◌<◌, ◌≤◌, Bool, true, false, not, cond, eqb, leb, ◌&&◌, ◌||◌, ◌⊎◌, inl, inr, List, [], ◌∷◌, length, map, Option, Some, None, refl, sym, ap, subst, ◌∙◌, arith}
+use Rattle.std.proofs.Common.{◌≡◌, ℕ, ◌+◌, ◌<◌, ◌≤◌, Bool, true, false, not, cond, eqb, leb, ◌&&◌, ◌||◌, ◌⊎◌, inl, inr, List, [], ◌∷◌, length, map, Option, Some, None, refl, sym, ap, subst, ◌∙◌, arith, if◌then◌else◌}
 use Rattle.std.specs.List.{AllByRecursion, list_any}
 use Rattle.std.proofs.lemmas.Bool.{cases_Bool, and_parts, and_from, and_left, and_right, and_cases, or_left, or_right, or_parts, not-true, not-false, not_from_false, or_cases, eqb-true, eq-eqb, leb-true, lt-leb, le-leb, both_ways}
 use Rattle.xl_base.specs.Lists.{IsIn, Pairwise}
@@ -18,7 +18,7 @@ use Rattle.xl_matrix.specs.declared.claim.Extent.{Extent}
 use Rattle.xl_matrix.specs.declared.claim.Extent.TheVariants.{Bytes, Empty}
 use Rattle.xl_matrix.specs.declared.claim.What.{What}
 use Rattle.xl_matrix.specs.declared.claim.What.TheVariants.{Share, Range, Cache}
-use Rattle.xl_matrix.proofs.EqualLaws.{eqb-sym, same_owners-sym, same_parties-sym, same_parties-self}
+use Rattle.xl_matrix.proofs.EqualLaws.{eqb-sym, same_owners-sym, same_owners-true, same_parties-sym, same_parties-self}
 use Rattle.xl_matrix.specs.declared.claim.Rwd.{Rwd}
 use Rattle.xl_matrix.proofs.PartLaws.{compat_bytes}
 use Rattle.xl_matrix.proofs.SideLaws.{compat-sym}
@@ -29,15 +29,17 @@ use Rattle.xl_spans.specs.declared.span.Mode.{Mode}
 use Rattle.xl_spans.specs.declared.span.Span.{Span}
 use Rattle.xl_spans.proofs.Bytes.{relocked_mode, AreRanges}
 use Rattle.xl_spans.proofs.Chains.{canonical_ranges, canonical_rest, relocked_canonical, IsChain}
-use Rattle.xl_table.specs.Flat.{blocks, is_blocked, is_own, is_met_by_own}
-use Rattle.xl_table.specs.Held.{IsPosixBy, may_own, is_share, is_cache, mode_of, is_range, with_span, is_of, spans_of, IsKept}
+use Rattle.xl_table.specs.Flat.{inserted, blocks, is_blocked, is_own, is_replaced, is_met_by_own}
+use Rattle.xl_table.specs.Held.{IsShareOrLock, may_own, is_share, is_cache, mode_of, is_range, with_span, is_of, spans_of, IsKept}
 use Rattle.xl_table.proofs.FlatLaws.{all_inserted as all_put, pairwise_into}
 use Rattle.xl_core.specs.Good.{IsRangeBy, IsRange, are_kept, IsKnown, IsHeldBy, IsHeld, is_single_by, is_single}
 use Rattle.xl_table.specs.Relock.{most_claims, all_inserted, is_exclusive, range_claim, is_range_of, unranged, relocked_in, is_share_of, unshared, old_shares, united, shared_in, granted_by, granted_claims}
 use Rattle.xl_core.proofs.KnownLaws.{one_party}
+use Rattle.xl_table.proofs.ElementLaws.{real_element, sound_element}
+use Rattle.xl_table.proofs.OrderLaws.{inserted_ordered}
 use Rattle.xl_table.proofs.UnionLaws.{united_fits}
 use Rattle.xl_table.proofs.ShareLaws.{united_share, sound_shared, ordered_shared}
-use Rattle.xl_table.proofs.WriteBack.{is_of-true, IsOfParty, relocked_is, left_all, left_pairwise, all_all_inserted, pairwise_all_inserted, kept_relocked}
+use Rattle.xl_table.proofs.WriteBack.{is_of-true, IsOfParty, relocked_is, left_all, left_pairwise, all_all_inserted, pairwise_all_inserted, kept_relocked, all_one_party}
 
 -- ---- what the claims of an owner do to a byte
 
@@ -116,16 +118,20 @@ mode_of_span s (t ∷ ts) x canonical h inside =
 abbrev Agrees : Claim → Claim → Type 0
 Agrees a b = (x : ℕ) → locks_agree a.owner (lock_on a x) b.owner (lock_on b x) ≡ true
 
-is_range_what : (w : What) → IsRangeBy w → (extent : Extent) × (exclusive : Bool) × (w ≡ Range extent exclusive)
-is_range_what (Range (Bytes first last) exclusive) h = (Bytes first last, exclusive, refl)
-is_range_what (Range (Empty offset) exclusive) h = absurd h
-is_range_what (Share access deny) h = absurd h
-is_range_what (Cache kind running) h = absurd h
+is_range_what : (w : What) → is_range w ≡ true → (extent : Extent) × (exclusive : Bool) × (w ≡ Range extent exclusive)
+is_range_what (Range extent exclusive) h = (extent, exclusive, refl)
+is_range_what (Share access deny) h = absurd (both_ways false refl h)
+is_range_what (Cache kind running) h = absurd (both_ways false refl h)
 
-agree_from : (a b : Claim) → IsRange a → IsRange b → a.file ≡ b.file → compat a b ≡ true → Agrees a b
+ranged : (w : What) → IsRangeBy w → is_range w ≡ true
+ranged (Range extent exclusive) h = refl
+ranged (Share access deny) h = absurd h
+ranged (Cache kind running) h = absurd h
+
+agree_from : (a b : Claim) → IsRange a → is_range b.what ≡ true → a.file ≡ b.file → compat a b ≡ true → Agrees a b
 agree_from a b range other one fits =
-    let p = is_range_what a.what range.0 in
-    let q = is_range_what b.what other.0 in
+    let p = is_range_what a.what (ranged a.what range.0) in
+    let q = is_range_what b.what other in
     (compat_bytes a b p.0 q.0 p.1 q.1 p.2 q.2 one range.1).0 fits
 
 other_file : (a b : Claim) → eqb a.file b.file ≡ false → compat a b ≡ true
@@ -135,22 +141,16 @@ other_file a b two = or_left (not (eqb a.file b.file)) (fit_by a b a.what b.what
 -- a claim that locks a byte is a range
 locks_range : (party : Party) (w : What) (x : ℕ) (b : Bool) → IsHeldBy party w → lock_by w x ≡ Some b → IsRangeBy w
 locks_range party (Range (Bytes first last) exclusive) x b h e = h
-locks_range party (Range (Empty offset) exclusive) x b h e = absurd h
+locks_range party (Range (Empty offset) exclusive) x b h e = cc
 locks_range party (Share access deny) x b h e = cc
 locks_range party (Cache kind running) x b h e = cc
 
--- and of who may own one
-locks_posix : (owner : Owner) (w : What) (x : ℕ) (b : Bool) → may_own owner w ≡ true → lock_by w x ≡ Some b → posix owner ≡ true
-locks_posix owner (Range extent exclusive) x b h e = h
-locks_posix owner (Share access deny) x b h e = cc
-locks_posix owner (Cache kind running) x b h e = cc
-
-fits_from : (a b : Claim) → IsRange a → IsRange b → (a.file ≡ b.file → Agrees a b) → compat a b ≡ true
+fits_from : (a b : Claim) → IsRange a → is_range b.what ≡ true → (a.file ≡ b.file → Agrees a b) → compat a b ≡ true
 fits_from a b range other agrees =
     elim (cases_Bool (eqb a.file b.file)) [
       | inl one ↦
-          let p = is_range_what a.what range.0 in
-          let q = is_range_what b.what other.0 in
+          let p = is_range_what a.what (ranged a.what range.0) in
+          let q = is_range_what b.what other in
           let same = eqb-true a.file b.file one in
           (compat_bytes a b p.0 q.0 p.1 q.1 p.2 q.2 same range.1).1 (agrees same)
       | inr two ↦ other_file a b two
@@ -194,16 +194,10 @@ abbrev IsCachesParty : Claim → Claim → Type 0
 IsCachesParty a b = is_cache b.what ≡ true → a.file ≡ b.file → same_parties a.party b.party ≡ true
 
 -- a range stands beside each share, beside a range that it agrees with, and beside its party's cache
-fits_known : (a b : Claim) (w : What) → b.what ≡ w → IsRange a → IsHeldBy b.party b.what × (may_own b.owner b.what ≡ true) → IsCachesParty a b → (IsRange b → a.file ≡ b.file → Agrees a b) → compat a b ≡ true
-fits_known a b (Share access deny) is range known caches agrees = fits_share a b access deny range is
-fits_known a b (Range (Bytes first last) exclusive) is range known caches agrees = fits_from a b range (real, own) (agrees (real, own)) where
-  own : posix b.owner ≡ true
-  own = subst (λ (v : What). may_own b.owner v ≡ true) is known.1
-
-  real : IsRangeBy b.what
-  real = subst (λ (v : What). IsRangeBy v) (sym is) (subst (λ (v : What). IsHeldBy b.party v) is known.0)
-fits_known a b (Range (Empty offset) exclusive) is range known caches agrees = absurd (subst (λ (v : What). IsHeldBy b.party v) is known.0)
-fits_known a b (Cache kind running) is range known caches agrees =
+fits_known : (a b : Claim) (w : What) → b.what ≡ w → IsRange a → IsCachesParty a b → (is_range b.what ≡ true → a.file ≡ b.file → Agrees a b) → compat a b ≡ true
+fits_known a b (Share access deny) is range caches agrees = fits_share a b access deny range is
+fits_known a b (Range extent exclusive) is range caches agrees = fits_from a b range (ap is_range is) (agrees (ap is_range is))
+fits_known a b (Cache kind running) is range caches agrees =
     elim (cases_Bool (eqb a.file b.file)) [
       | inr two ↦ other_file a b two
       | inl one ↦ fits_of a b (cache_party a b kind running range is ∙ caches (ap is_cache is) (eqb-true a.file b.file one))
@@ -235,17 +229,17 @@ pub record AreGood (names : List Name) (cs : List Claim) : Type 0 where
 
 -- ---- one share of an owner on a file
 
-single_by : (a b : Claim) (w v : What) → IsRangeBy w → is_single_by a b w v ≡ true
+single_by : (a b : Claim) (w v : What) → is_range w ≡ true → is_single_by a b w v ≡ true
 single_by a b (Range extent exclusive) v h = refl
-single_by a b (Share access deny) v h = absurd h
-single_by a b (Cache kind running) v h = absurd h
+single_by a b (Share access deny) v h = absurd (both_ways false refl h)
+single_by a b (Cache kind running) v h = absurd (both_ways false refl h)
 
-single_range : (a b : Claim) → IsRange a → is_single a b ≡ true
-single_range a b range = rw (single_by a b a.what b.what range.0) (not_from_false (eqb a.file b.file && false) (and_right (eqb a.file b.file) false refl))
+single_range : (a b : Claim) → is_range a.what ≡ true → is_single a b ≡ true
+single_range a b range = rw (single_by a b a.what b.what range) (not_from_false (eqb a.file b.file && false) (and_right (eqb a.file b.file) false refl))
 
 all_single : (cs : List Claim) → AllByRecursion IsRange cs → Pairwise is_single cs
 all_single [] all = tt
-all_single (c ∷ cs) all = (all_from (λ d. is_single c d ≡ true) cs (λ d h. single_range c d all.0), all_single cs all.1)
+all_single (c ∷ cs) all = (all_from (λ d. is_single c d ≡ true) cs (λ d h. single_range c d (ranged c.what all.0.0)), all_single cs all.1)
 
 single_by-sym : (a b : Claim) (w v : What) → is_single_by a b w v ≡ is_single_by b a v w
 single_by-sym a b (Share access deny) (Share rights denied) = ap not (same_owners-sym a.owner b.owner)
@@ -302,7 +296,7 @@ new_mode names file owner party first last asked cs x m is e =
 
 -- a byte of a new span agrees with another's claim: it was asked for, or the owner had it
 new_agrees : (names : List Name) (file : ℕ) (owner : Owner) (party : Party) (first last : ℕ) (asked : Option Bool) (cs : List Claim) (c : Claim) (x : ℕ) (m : Mode)
-    → IsRelock names file owner party first last asked cs → IsIn c cs → IsRange c → is_of file owner c ≡ false → file ≡ c.file
+    → IsRelock names file owner party first last asked cs → IsIn c cs → is_range c.what ≡ true → is_of file owner c ≡ false → file ≡ c.file
     → mode_at (new_spans file owner first last asked cs) x ≡ Some m → locks_agree owner (Some (is_exclusive m)) c.owner (lock_on c x) ≡ true
 new_agrees names file owner party first last asked cs c x m is there range other one e =
     elim (cases_Bool (within first last x)) [
@@ -319,7 +313,7 @@ new_agrees names file owner party first last asked cs c x m is there range other
         let apart : found.0 ≡ c → ⊥ = λ same. both_ways (is_of file owner c) other (ap (is_of file owner) (sym same) ∙ found.2) in
         let fits = pairwise_two cs found.0 c is.good.compatible found.1 there apart in
         let known = (all_in (IsHeld names) found.0 cs is.good.known found.1).0 in
-        let agrees = agree_from found.0 c (locks_range found.0.party found.0.what x (is_exclusive m) known.0 found.3, locks_posix found.0.owner found.0.what x (is_exclusive m) known.1 found.3) range (parts.0 ∙ one) fits x in
+        let agrees = agree_from found.0 c (locks_range found.0.party found.0.what x (is_exclusive m) known.0 found.3, ap (λ (o : Owner). posix o) parts.1 ∙ is.own) range (parts.0 ∙ one) fits x in
         subst (λ (o : Owner). locks_agree o (Some (is_exclusive m)) c.owner (lock_on c x) ≡ true) parts.1
         (subst (λ (l : Option Bool). locks_agree found.0.owner l c.owner (lock_on c x) ≡ true) found.3 agrees)
 
@@ -378,21 +372,16 @@ new_caches names file owner party first last asked cs s c is new ends there cach
     by_old other found =
         let parts = is_of-true file owner found.0 found.2 in
         let known = (all_in (IsHeld names) found.0 cs is.good.known found.1).0 in
-        let range : IsRange found.0 = (locks_range found.0.party found.0.what s.first (is_exclusive s.mode) known.0 found.3, locks_posix found.0.owner found.0.what s.first (is_exclusive s.mode) known.1 found.3) in
+        let range : IsRange found.0 = (locks_range found.0.party found.0.what s.first (is_exclusive s.mode) known.0 found.3, ap (λ (o : Owner). posix o) parts.1 ∙ is.own) in
         let fits = pairwise_two cs found.0 c is.good.compatible found.1 there (λ same. both_ways (is_of file owner c) other (ap (is_of file owner) (sym same) ∙ found.2)) in
         subst (λ (p : Party). same_parties p c.party ≡ true) (own_party found.0 found.1 found.2)
         (sym (cache_party found.0 c what.0 what.1 range what.2) ∙ fit_of found.0 c (parts.0 ∙ one) fits)
-
-ranged : (w : What) → IsRangeBy w → is_range w ≡ true
-ranged (Range extent exclusive) h = refl
-ranged (Share access deny) h = absurd h
-ranged (Cache kind running) h = absurd h
 
 -- a new span stands beside each claim that is left
 new_fits : (names : List Name) (file : ℕ) (owner : Owner) (party : Party) (first last : ℕ) (asked : Option Bool) (cs : List Claim) (s : Span) (c : Claim)
     → IsRelock names file owner party first last asked cs → IsIn s (new_spans file owner first last asked cs) → IsRange (range_claim file owner party s) → IsIn c (unranged file owner cs) → compat (range_claim file owner party s) c ≡ true
 new_fits names file owner party first last asked cs s c is new real there =
-    fits_known (range_claim file owner party s) c c.what refl real (all_in (IsHeld names) c cs is.good.known held.0).0 (new_caches names file owner party first last asked cs s c is new real.0 held.0) (λ range one x. at x range one (cases_Bool (within s.first s.last x)))
+    fits_known (range_claim file owner party s) c c.what refl real (new_caches names file owner party first last asked cs s c is new real.0 held.0) (λ range one x. at x range one (cases_Bool (within s.first s.last x)))
   where
     held : IsIn c cs × (is_range_of file owner c ≡ false)
     held = left_of file owner cs c there
@@ -400,18 +389,18 @@ new_fits names file owner party first last asked cs s c is new real there =
     canonical : IsCanonical (new_spans file owner first last asked cs)
     canonical = relocked_canonical (spans_of file owner cs) first last (mode_asked asked) is.ends (is.good.kept.sound.canonical file owner is.own)
 
-    at : (x : ℕ) → IsRange c → file ≡ c.file → (within s.first s.last x ≡ true) ⊎ (within s.first s.last x ≡ false) → locks_agree owner (lock_on (range_claim file owner party s) x) c.owner (lock_on c x) ≡ true
+    at : (x : ℕ) → is_range c.what ≡ true → file ≡ c.file → (within s.first s.last x ≡ true) ⊎ (within s.first s.last x ≡ false) → locks_agree owner (lock_on (range_claim file owner party s) x) c.owner (lock_on c x) ≡ true
     at x range one (inr outside) = rw outside refl
     at x range one (inl inside) =
         elim (cases_Bool (is_of file owner c)) [
-          | inl own ↦ absurd (both_ways (is_range_of file owner c) held.1 (and_from (is_of file owner c) (is_range c.what) own (ranged c.what range.0)))
+          | inl own ↦ absurd (both_ways (is_range_of file owner c) held.1 (and_from (is_of file owner c) (is_range c.what) own range))
           | inr other ↦ rw inside (new_agrees names file owner party first last asked cs c x s.mode is held.0 range other one (mode_of_span s (new_spans file owner first last asked cs) x canonical new inside))
         ]
 
 -- two spans of one owner do not meet
 apart_fit : (file : ℕ) (owner : Owner) (party : Party) (s t : Span) → IsRange (range_claim file owner party s) → IsRange (range_claim file owner party t) → s.last < t.first → compat (range_claim file owner party s) (range_claim file owner party t) ≡ true
 apart_fit file owner party s t real other apart =
-    fits_from (range_claim file owner party s) (range_claim file owner party t) real other (λ one x. elim (cases_Bool (within s.first s.last x)) [
+    fits_from (range_claim file owner party s) (range_claim file owner party t) real refl (λ one x. elim (cases_Bool (within s.first s.last x)) [
       | inl inside ↦
           let before : leb t.first x ≡ false = lt-leb t.first x (omega (arith, apart, (inside_ends s x inside).1)) in
           rw (inside, and_left (leb t.first x) (leb x t.last) before) refl
@@ -433,7 +422,7 @@ new_pairwise file owner party (s ∷ ss) canonical real = (
 
 new_known : (names : List Name) (file : ℕ) (owner : Owner) (party : Party) (ss : List Span) → posix owner ≡ true → are_kept names owner party ≡ true → AreRanges ss → AllByRecursion (IsHeld names) (map (range_claim file owner party) ss)
 new_known names file owner party [] own kept ranges = tt
-new_known names file owner party (s ∷ ss) own kept ranges = (((ranges.0, own), kept), new_known names file owner party ss own kept ranges.1)
+new_known names file owner party (s ∷ ss) own kept ranges = (((ranges.0, or_left (posix owner) _ own), kept), new_known names file owner party ss own kept ranges.1)
 
 new_ranges : (file : ℕ) (owner : Owner) (party : Party) (ss : List Span) → posix owner ≡ true → AreRanges ss → AllByRecursion IsRange (map (range_claim file owner party) ss)
 new_ranges file owner party [] own ranges = tt
@@ -451,7 +440,7 @@ relocked_good names file owner party first last asked cs distinct good ends own 
   compatible = subst (λ (ds : List Claim). Pairwise compat ds) same
       (pairwise_all_inserted compat compat-sym new left (new_pairwise file owner party spans canonical ranges) (left_pairwise compat file owner cs good.compatible) across);
   single = subst (λ (ds : List Claim). Pairwise is_single ds) same
-      (pairwise_all_inserted is_single is_single-sym new left (all_single new ranges) (left_pairwise is_single file owner cs good.single) (λ c d h k. single_range c d (all_in IsRange c new ranges h)));
+      (pairwise_all_inserted is_single is_single-sym new left (all_single new ranges) (left_pairwise is_single file owner cs good.single) (λ c d h k. single_range c d (ranged c.what (all_in IsRange c new ranges h).0)));
   known = subst (λ (ds : List Claim). AllByRecursion (IsHeld names) ds) same
       (all_all_inserted (IsHeld names) new left known (left_all (IsHeld names) file owner cs good.known));
 } where
@@ -609,17 +598,82 @@ shared_good names c cs share kept distinct good free fits = record {
       united_fits c d cs share (share_fits_held c cs d share free found.0 (mine d found.0) found.1)
       (all_from (λ o. is_share_of c.file c.owner o ≡ true → (o.party ≡ c.party) × (compat o d ≡ true)) cs (λ o k. before d found.0 found.1 o k))
 
-granted_by_good : (names : List Name) (c : Claim) (w : What) (cs : List Claim) → c.what ≡ w → IsPosixBy w → may_own c.owner w ≡ true → are_kept names c.owner c.party ≡ true
-    → AreDistinct names → AreGood names cs → list_any (λ d. blocks c d) cs ≡ false → length (granted_by c w cs) ≤ most_claims → AreGood names (granted_by c w cs)
-granted_by_good names c (Range (Bytes first last) exclusive) cs is ends own kept distinct good free fits =
-    relocked_good names c.file c.owner c.party first last (Some exclusive) cs distinct good ends own kept
-    (λ d h other. subst (λ (e : Claim). compat e d ≡ true) (is_lock c first last exclusive is) (free_from c cs free d h other)) fits
+-- ---- a range of an open
+
+-- what doesn't block an ask, and isn't the asker's own that it replaces, fits it
+unblocked_other : (ask c : Claim) → blocks ask c ≡ false → is_own ask c ≡ false → compat ask c ≡ true
+unfolding blocks
+unblocked_other ask c free other =
+    elim (and_cases (not (is_own ask c)) (not (compat ask c) || is_met_by_own ask c) free) [
+      | inr e ↦ not-false (compat ask c) (or_parts (not (compat ask c)) (is_met_by_own ask c) e).0
+      | inl e ↦ absurd (both_ways (is_own ask c) other (not-false (is_own ask c) e))
+    ]
+
+range_share : (a b : Claim) (w v : What) → is_range w ≡ true → is_share v ≡ true → fit_by a b w v ≡ true
+unfolding fit_by
+range_share a b (Range extent exclusive) (Share access deny) h k = refl
+range_share a b (Range extent exclusive) (Range place alone) h k = absurd (both_ways false refl k)
+range_share a b (Range extent exclusive) (Cache kind running) h k = absurd (both_ways false refl k)
+range_share a b (Share access deny) v h k = absurd (both_ways false refl h)
+range_share a b (Cache kind running) v h k = absurd (both_ways false refl h)
+
+-- an open's own that an ask replaces is a share
+not_replaced : (owner : Owner) (w : What) → posix owner ≡ false → is_share w ≡ false → is_replaced owner w ≡ false
+not_replaced owner (Share access deny) e h = absurd (both_ways true h refl)
+not_replaced owner (Range extent exclusive) e h = e
+not_replaced owner (Cache kind running) e h = refl
+
+element_fits : (c : Claim) (cs : List Claim) (d : Claim) → is_range c.what ≡ true → posix c.owner ≡ false → list_any (λ e. blocks c e) cs ≡ false → IsIn d cs → compat c d ≡ true
+element_fits c cs d range unnamed free there =
+    elim (cases_Bool (is_share d.what)) [
+      | inl share ↦ fits_of c d (range_share c d c.what d.what range share)
+      | inr other ↦ elim (cases_Bool (same_owners c.owner d.owner)) [
+        | inl same ↦ unblocked_other c d (free_of c cs d free there) (and_right (same_owners c.owner d.owner) (is_replaced d.owner d.what) (not_replaced d.owner d.what (ap (λ (o : Owner). posix o) (sym (same_owners-true c.owner d.owner same)) ∙ unnamed) other))
+        | inr apart ↦ unblocked_other c d (free_of c cs d free there) (and_left (same_owners c.owner d.owner) (is_replaced d.owner d.what) apart)
+      ]
+    ]
   where
-    is_lock : (c : Claim) (first last : ℕ) (exclusive : Bool) → c.what ≡ Range (Bytes first last) exclusive → c ≡ lock_claim c.file c.owner c.party first last exclusive
-    is_lock c first last exclusive is = λ i. record { file = c.file; owner = c.owner; party = c.party; what = is i }
-granted_by_good names c (Range (Empty offset) exclusive) cs is ends own kept distinct good free fits = absurd ends
-granted_by_good names c (Share access deny) cs is ends own kept distinct good free fits = shared_good names c cs (ap is_share is) kept distinct good free fits
-granted_by_good names c (Cache kind running) cs is ends own kept distinct good free fits = absurd ends
+    free_of : (ask : Claim) (ds : List Claim) (e : Claim) → list_any (λ x. blocks ask x) ds ≡ false → IsIn e ds → blocks ask e ≡ false
+    free_of ask [] e none h = absurd h
+    free_of ask (x ∷ xs) e none h =
+        let parts = or_parts (blocks ask x) (list_any (λ y. blocks ask y) xs) none in
+        elim h [
+          | inl same ↦ ap (blocks ask) (sym same) ∙ parts.0
+          | inr more ↦ free_of ask xs e parts.1 more
+        ]
+
+element_good : (names : List Name) (c : Claim) (cs : List Claim) → is_range c.what ≡ true → posix c.owner ≡ false → IsShareOrLock c.what → may_own c.owner c.what ≡ true → are_kept names c.owner c.party ≡ true
+    → AreDistinct names → AreGood names cs → list_any (λ d. blocks c d) cs ≡ false → length (inserted c cs) ≤ most_claims → AreGood names (inserted c cs)
+element_good names c cs range unnamed order own kept distinct good free fits = record {
+  kept = record {
+    sound = sound_element c cs good.kept.sound unnamed (real_element c c.what refl order own) (all_one_party c cs (λ d h mine k. party_of names c.file c.owner c.party cs d distinct good.known kept h mine));
+    ordered = inserted_ordered c cs good.kept.ordered;
+    room = fits;
+  };
+  compatible = pairwise_into compat compat-sym c cs (all_from (λ d. compat c d ≡ true) cs (λ d h. element_fits c cs d range unnamed free h)) good.compatible;
+  single = pairwise_into is_single is_single-sym c cs (all_from (λ d. is_single c d ≡ true) cs (λ d h. single_range c d range)) good.single;
+  known = all_put (IsHeld names) c cs ((held_range c.party c.what range order, own), kept) good.known;
+} where
+  held_range : (party : Party) (w : What) → is_range w ≡ true → IsShareOrLock w → IsHeldBy party w
+  held_range party (Range extent exclusive) h o = o
+  held_range party (Share access deny) h o = tt
+  held_range party (Cache kind running) h o = absurd (both_ways false refl h)
+
+granted_by_good : (names : List Name) (c : Claim) (w : What) (cs : List Claim) → c.what ≡ w → IsShareOrLock w → may_own c.owner w ≡ true → are_kept names c.owner c.party ≡ true
+    → AreDistinct names → AreGood names cs → list_any (λ d. blocks c d) cs ≡ false → length (granted_by c w cs) ≤ most_claims → AreGood names (granted_by c w cs)
+granted_by_good names c (Range (Bytes first last) exclusive) cs is ends own kept distinct good free fits = by (posix c.owner) refl fits where
+  is_lock : (c : Claim) (first last : ℕ) (exclusive : Bool) → c.what ≡ Range (Bytes first last) exclusive → c ≡ lock_claim c.file c.owner c.party first last exclusive
+  is_lock c first last exclusive is = λ i. record { file = c.file; owner = c.owner; party = c.party; what = is i }
+
+  by : (b : Bool) → posix c.owner ≡ b → length (if b then relocked_in c.file c.owner c.party first last (Some (mode_of exclusive)) cs else inserted c cs) ≤ most_claims → AreGood names (if b then relocked_in c.file c.owner c.party first last (Some (mode_of exclusive)) cs else inserted c cs)
+  by true named room =
+      relocked_good names c.file c.owner c.party first last (Some exclusive) cs distinct good ends named kept
+      (λ d h other. subst (λ (e : Claim). compat e d ≡ true) (is_lock c first last exclusive is) (free_from c cs free d h other)) room
+  by false unnamed room = element_good names c cs (ap is_range is) unnamed (subst IsShareOrLock (sym is) ends) (ap (may_own c.owner) is ∙ own) kept distinct good free room
+granted_by_good names c (Range (Empty offset) exclusive) cs is none own kept distinct good free fits =
+    element_good names c cs (ap is_range is) (not-true (posix c.owner) own) (subst IsShareOrLock (sym is) none) (ap (may_own c.owner) is ∙ own) kept distinct good free fits
+granted_by_good names c (Share access deny) cs is none own kept distinct good free fits = shared_good names c cs (ap is_share is) kept distinct good free fits
+granted_by_good names c (Cache kind running) cs is none own kept distinct good free fits = absurd none
 
 -- the claims stay so where one is granted that nothing blocks
 pub granted_good : (names : List Name) (c : Claim) (cs : List Claim) → AreDistinct names → AreGood names cs → IsKnown names c → is_blocked cs c ≡ false → length (granted_claims c cs) ≤ most_claims → AreGood names (granted_claims c cs)

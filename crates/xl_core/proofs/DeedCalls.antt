@@ -1,8 +1,8 @@
 -- What the deeds' laws need of one ask and of one turn.
-use Rattle.std.proofs.Common.{◌≡◌, ℕ, ◌+◌, ◌≤◌, Bool, true, false, inl, inr, List, [], ◌∷◌, ◌++◌, Option, Some, None, refl, sym, ap, subst, ◌∙◌, slice_get}
-use Rattle.std.proofs.lemmas.Bool.{both_ways, le-leb}
+use Rattle.std.proofs.Common.{◌≡◌, ℕ, ◌+◌, ◌≤◌, Bool, true, false, inl, inr, List, [], ◌∷◌, ◌++◌, Option, Some, None, refl, sym, ap, subst, ◌∙◌, slice_get, is_some, map, ◌&&◌, not}
+use Rattle.std.proofs.lemmas.Bool.{both_ways, le-leb, cases_Bool, and_parts, not-true}
 use Rattle.xl_base.specs.Lists.{IsIn}
-use Rattle.xl_base.proofs.Members.{all_in, in_append_right}
+use Rattle.xl_base.proofs.Members.{all_in, in_append_right, all_from}
 use Rattle.xl_base.specs.declared.name.Owner.{Owner}
 use Rattle.xl_matrix.specs.Owners.{posix}
 use Rattle.xl_matrix.specs.declared.claim.Claim.{Claim}
@@ -10,31 +10,43 @@ use Rattle.xl_matrix.specs.declared.claim.Extent.TheVariants.{Bytes, Empty}
 use Rattle.xl_matrix.specs.declared.claim.What.{What}
 use Rattle.xl_matrix.specs.declared.claim.What.TheVariants.{Share, Range}
 use Rattle.xl_spans.specs.Spans.{relocked}
-use Rattle.xl_table.specs.Held.{spans_of}
+use Rattle.xl_table.specs.Held.{spans_of, is_of, is_range, may_own}
 use Rattle.xl_wait.specs.declared.waiter.Rooms.{Rooms}
 use Rattle.xl_wait.specs.declared.waiter.Waiter.{Waiter}
 use Rattle.xl_core.specs.State.{CoreState}
-use Rattle.xl_core.specs.Asking.{asked_whats, asked_what, asked_claim, asked_claims, known_claim, IsFit, IsFitAct}
+use Rattle.xl_core.specs.Asking.{asked_whats, asked_what, asked_claim, asked_claims, known_claim, IsFit, IsFitAct, is_named, is_client, range_what, known_owner, both_entered, may_hold_all, may_ask}
 use Rattle.xl_core.specs.Causes.{left_by_unlock, IsTurn}
 use Rattle.xl_core.specs.Deeds.{with_waiter, queue_with, KeepNames}
-use Rattle.xl_core.specs.Decide.{Answered, waiter_of, unlocked_claims, ask}
-use Rattle.xl_core.specs.Dues.{IsGrantDue, IsAnswerDue}
+use Rattle.xl_core.specs.Decide.{Answered, waiter_of, unlocked_claims, ask, named, claims_asked, plea_of, freed, unlocked_one}
+use Rattle.xl_core.specs.Dues.{IsGrantDue, IsAnswerDue, IsBytesDue}
 use Rattle.xl_table.specs.Held.{IsGrantable}
-use Rattle.xl_core.specs.Good.{IsGood}
+use Rattle.xl_core.specs.Good.{IsGood, IsKnown, IsHeld, are_kept}
 use Rattle.xl_core.specs.Frames.{asks_to_hold}
-use Rattle.xl_table.specs.Relock.{most_claims, shares_of, granted_claims}
+use Rattle.xl_table.specs.Relock.{most_claims, shares_of, granted_claims, is_range_of}
 use Rattle.xl_core.specs.declared.ask.Act.{Act}
 use Rattle.xl_core.specs.declared.ask.Act.TheVariants as acts
 use Rattle.xl_core.specs.declared.ask.Answer.{Answer}
 use Rattle.xl_core.specs.declared.ask.Answer.TheVariants as answers
 use Rattle.xl_core.specs.declared.ask.Ask.{Ask}
 use Rattle.xl_core.specs.declared.ask.Effect.{Effect}
-use Rattle.xl_core.proofs.CauseLaws.{same_list, unlock_by, unlock_is, is_holds, lock_due, lock_free, test_due, unlock_due, fit_what, fit_owned, fit_named}
-use Rattle.xl_core.proofs.ChangeLaws.{ask_way, granted_way, ask_own, ask_waits}
+use Rattle.xl_core.proofs.CauseLaws.{same_list, unlock_by, unlock_is, is_holds, lock_due, lock_free, test_due, unlock_due, fit_what, fit_owned, each_due, real_unlock, element_due, element_is, empty_due, ranges_asked, own_ranges, fit_ranges, real_range}
+use Rattle.xl_core.proofs.ChangeLaws.{ask_way, granted_way, ask_own, ask_waits, AskWay, Stays, Tests, Holds, Waits, Frees, Gives, element_is_held, spans_of-removed_apart, shares_removed}
 use Rattle.xl_core.proofs.SettleLaws.{turn_is_known}
-use Rattle.xl_core.proofs.KnownLaws.{asked_known, known_posix}
+use Rattle.xl_core.proofs.KnownLaws.{asked_known, known_posix, known_named, known_party_is, asked_all_known, both_distinct, both_go_on}
 use Rattle.xl_table.proofs.ShareLaws.{shares_of-relocked}
-use Rattle.xl_table.proofs.WriteBack.{spans_of-relocked, spans_of-relocked_apart}
+use Rattle.xl_table.proofs.WriteBack.{spans_of-relocked, spans_of-relocked_apart, is_of-true}
+use Rattle.xl_core.proofs.ElementLaws.{open_of, elements_relocked}
+use Rattle.xl_core.proofs.GoodLaws.{AskCase, Goes, Queues as ToWait, Refuses, ask_case, claims_on, good_claims}
+use Rattle.xl_core.proofs.ClaimLaws.{AreGood}
+use Rattle.xl_core.proofs.RowLaws.{is_refusal, AllPass}
+use Rattle.xl_core.specs.Judge.{all_granted, held_with}
+use Rattle.xl_core.specs.Places.{claims_like}
+use Rattle.xl_names.specs.Names.{AreDistinct}
+use Rattle.xl_table.specs.Elements.{elements_of, unlocked_elements, element_held, taken_out}
+use Rattle.xl_table.specs.Flat.{removed}
+use Rattle.xl_table.proofs.ElementLaws.{AreOfParty, elements_unlocked, elements_removed_apart}
+use Rattle.std.specs.List.{AllByRecursion}
+use Rattle.xl_matrix.specs.declared.claim.Extent.{Extent}
 
 -- ---- what an ask leaves of the claims
 
@@ -54,6 +66,54 @@ ask_enters n left s a what c good fit act at =
       granted_way s a what c (ask n left s a) act (what_holds a.act what act) (ask_way n left s a good fit.party) at ∙ ap (λ (x : Claim). granted_claims x s.claims) (sym same),
     )
 
+-- several granted ranges pass, each behind those before it, and are entered so
+pub record AreEntered (left : Rooms) (s : CoreState) (a : Ask) (ranges : List (Extent × Bool)) (c : Claim) (new : List Claim) : Type 0 where
+  pub claims : new ≡ all_granted (asked_claims a (map range_what ranges) s.names) s.claims
+  pub distinct : AreDistinct (both_entered a s.names)
+  pub good : AreGood (both_entered a s.names) s.claims
+  pub known : AllByRecursion (IsKnown (both_entered a s.names)) (asked_claims a (map range_what ranges) s.names)
+  pub pass : AllPass left (plea_of left s a) s.claims (asked_claims a (map range_what ranges) s.names)
+  pub like : claims_like c ranges ≡ asked_claims a (map range_what ranges) s.names
+
+pub ranges_enter : (n : ℕ) (left : Rooms) (s : CoreState) (a : Ask) (range : Extent × Bool) (ranges : List (Extent × Bool)) (c : Claim) → IsGood s → IsFit a → a.act ≡ acts.Ranges (range ∷ ranges) → (ask n left s a).0 ≡ answers.Granted c → AreEntered left s a (range ∷ ranges) c (ask n left s a).2.claims
+unfolding held_with
+ranges_enter n left s a range ranges c good fit act at = by (claims_asked n left s a (first ∷ rest)) (ask_case n left s a first rest) refl where
+  first : Claim
+  first = asked_claim a (range_what range) s.names
+
+  rest : List Claim
+  rest = asked_claims a (map range_what ranges) s.names
+
+  is : ask n left s a ≡ claims_asked n left s a (first ∷ rest)
+  is = ranges_asked n left s a (range ∷ ranges) act
+
+  real : IsFitAct a.owner a.blocking (acts.Ranges (range ∷ ranges))
+  real = subst (λ (x : Act). IsFitAct a.owner a.blocking x) act fit.act
+
+  may : may_hold_all a.owner (range ∷ ranges) ≡ true
+  may = subst (λ (x : Act). may_ask a.owner x ≡ true) act fit.own
+
+  all_like : (rs : List (Extent × Bool)) → claims_like first rs ≡ asked_claims a (map range_what rs) s.names
+  all_like [] = refl
+  all_like (r ∷ rs) = ap (λ (cs : List Claim). asked_claim a (range_what r) s.names ∷ cs) (all_like rs)
+
+  same_claim : (x y : Claim) → answers.Granted x ≡ answers.Granted y → x ≡ y
+  same_claim x y e = cc
+
+  by : (r : Answered) → AskCase left s a (first ∷ rest) first r → claims_asked n left s a (first ∷ rest) ≡ r → AreEntered left s a (range ∷ ranges) c (ask n left s a).2.claims
+  by r (Goes pass e) so =
+      let whole : ask n left s a ≡ (answers.Granted first, [], named a (held_with (first ∷ rest) s)) = is ∙ so ∙ e in
+      record {
+        claims = ap (λ (x : Answered). x.2.claims) whole;
+        distinct = both_distinct a s.names good.distinct;
+        good = claims_on s.names (both_entered a s.names) s.claims (both_go_on a s.names) (good_claims s good);
+        known = asked_all_known a (map range_what (range ∷ ranges)) s.names fit.party (own_ranges a.owner (range ∷ ranges) may) (real_range range.0 range.1 real.0, fit_ranges a.owner a.blocking ranges real.1);
+        pass = pass;
+        like = ap (λ (x : Claim). claims_like x (range ∷ ranges)) (same_claim c first (sym at ∙ ap (λ (x : Answered). x.0) whole)) ∙ all_like (range ∷ ranges);
+      }
+  by r (ToWait waits room e) so = let two : answers.Queued (s.counter + 1) ≡ answers.Granted c = sym (ap (λ (x : Answered). x.0) (is ∙ so ∙ e)) ∙ at in absurd cc
+  by r (Refuses answer refused e) so = absurd (both_ways (is_refusal answer) (ap is_refusal (sym (ap (λ (x : Answered). x.0) (is ∙ so ∙ e)) ∙ at)) refused)
+
 -- one that isn't granted leaves all
 pub ask_keeps_claims : (n : ℕ) (left : Rooms) (s : CoreState) (a : Ask) → IsGood s → IsFit a → ((c : Claim) → (ask n left s a).0 ≡ answers.Granted c → ⊥) → (ask n left s a).2.claims ≡ s.claims
 ask_keeps_claims n left s a good fit none = (ask_own n left s a good fit.party).claims none
@@ -66,16 +126,16 @@ pub record Clears (c : Claim) (first last : ℕ) (old new : List Claim) : Type 0
   pub spans : spans_of c.file c.owner new ≡ relocked (spans_of c.file c.owner old) first last None
   pub apart : (file : ℕ) (owner : Owner) → ((file ≡ c.file) × (owner ≡ c.owner) → ⊥) → spans_of file owner new ≡ spans_of file owner old
   pub shares : (file : ℕ) (owner : Owner) → shares_of file owner new ≡ shares_of file owner old
+  pub elements : (file number : ℕ) → elements_of file (open_of number) new ≡ elements_of file (open_of number) old
 
-pub ask_clears : (n : ℕ) (left : Rooms) (s : CoreState) (a : Ask) (first last : ℕ) (c : Claim) → IsGood s → IsFit a → a.act ≡ acts.Unlock (Bytes first last) → (ask n left s a).0 ≡ answers.Granted c → Clears c first last s.claims (ask n left s a).2.claims
-ask_clears n left s a first last c good fit act at =
+pub ask_clears : (n : ℕ) (left : Rooms) (s : CoreState) (a : Ask) (first last : ℕ) (c : Claim) → IsGood s → IsFit a → is_named a.owner ≡ true → a.act ≡ acts.Unlock (Bytes first last) → (ask n left s a).0 ≡ answers.Granted c → Clears c first last s.claims (ask n left s a).2.claims
+ask_clears n left s a first last c good fit named act at =
     let claim = known_claim a (Bytes first last) false s.names in
-    let ends : first ≤ last = subst (λ (x : Act). IsFitAct x) act fit.act in
-    let named = fit_named a (Bytes first last) fit act in
+    let ends : first ≤ last = real_unlock a first last fit act in
     let own = known_posix a s.names fit.party named in
     let due = (unlock_due n left s a first last (answers.Granted c) act fit.party named ends good).0 at in
     let left_so : (ask n left s a).2.claims ≡ unlocked_claims claim first last s.claims =
-    ap (λ (x : Answered). x.2.claims) (unlock_is n left s a first last act ∙ unlock_by s claim first last true true (is_holds s claim first last due.1) (le-leb (left_by_unlock s claim first last) most_claims due.2)) in
+    ap (λ (x : Answered). x.2.claims) (unlock_is n left s a first last act fit.party named ∙ unlock_by s claim first last true true (is_holds s claim first last due.1) (le-leb (left_by_unlock s claim first last) most_claims due.2)) in
     subst (λ (x : Claim). Clears x first last s.claims (ask n left s a).2.claims) (sym due.0)
     (subst (λ (cs : List Claim). Clears claim first last s.claims cs) (sym left_so)
     (record {
@@ -85,7 +145,64 @@ ask_clears n left s a first last c good fit act at =
       spans = spans_of-relocked claim.file claim.owner claim.party first last None s.claims good.kept own ends;
       apart = λ file owner apart. spans_of-relocked_apart claim.file claim.owner claim.party first last None s.claims file owner apart;
       shares = λ file owner. shares_of-relocked claim.file claim.owner claim.party first last None s.claims file owner;
+      elements = λ file number. elements_relocked claim.file claim.owner claim.party first last None s.claims file number own;
     }))
+
+-- what an unlock of an open's range leaves
+pub record Releases (c : Claim) (extent : Extent) (old new : List Claim) : Type 0 where
+  pub what : c.what ≡ Range extent false
+  pub unnamed : posix c.owner ≡ false
+  pub mine : elements_of c.file c.owner new ≡ unlocked_elements extent (elements_of c.file c.owner old)
+  pub elements : (file : ℕ) (owner : Owner) → is_of file owner c ≡ false → elements_of file owner new ≡ elements_of file owner old
+  pub spans : (file : ℕ) (owner : Owner) → is_of file owner c ≡ false → spans_of file owner new ≡ spans_of file owner old
+  pub shares : (file : ℕ) (owner : Owner) → shares_of file owner new ≡ shares_of file owner old
+
+-- a POSIX owner holds no range without a byte
+pub no_empty : (claim : Claim) (offset : ℕ) (s : CoreState) → IsGood s → posix claim.owner ≡ true → is_some (element_held claim (Empty offset) s.claims) ≡ true → ⊥
+no_empty claim offset s good named some = by (element_held claim (Empty offset) s.claims) refl some where
+  by : (o : Option Claim) → element_held claim (Empty offset) s.claims ≡ o → is_some o ≡ true → ⊥
+  by None e h = both_ways false refl h
+  by (Some d) e h =
+      let found = element_is_held claim (Empty offset) s.claims d e in
+      let own = (all_in (IsHeld s.names) d s.claims good.known found.0).0.1 in
+      let unnamed : not (posix claim.owner) ≡ true = subst (λ (x : Claim). may_own x.owner x.what ≡ true) found.2 own in
+      both_ways (posix claim.owner) (not-true (posix claim.owner) unnamed) named
+
+-- the asker's ranges on the file are of its party
+own_party : (s : CoreState) (a : Ask) (extent : Extent) → IsGood s → is_client a.owner a.party ≡ true → AreOfParty (known_claim a extent false s.names) s.claims
+own_party s a extent good client =
+    let claim = known_claim a extent false s.names in
+    all_from (λ d. is_range_of claim.file claim.owner d ≡ true → d.party ≡ claim.party) s.claims (λ d h own.
+    known_party_is a s.names d.party good.distinct good.few client
+    (subst (λ (o : Owner). are_kept s.names o d.party ≡ true) (is_of-true claim.file claim.owner d (and_parts (is_of claim.file claim.owner d) (is_range d.what) own).0).1 (all_in (IsHeld s.names) d s.claims good.known h).1))
+
+pub ask_releases : (n : ℕ) (left : Rooms) (s : CoreState) (a : Ask) (extent : Extent) (c : Claim) → IsGood s → IsFit a → posix (known_owner a.owner s.names) ≡ false → a.act ≡ acts.Unlock extent → (ask n left s a).0 ≡ answers.Granted c → Releases c extent s.claims (ask n left s a).2.claims
+ask_releases n left s a extent c good fit unnamed act at = by (element_held claim extent s.claims) refl where
+  claim : Claim
+  claim = known_claim a extent false s.names
+
+  is : ask n left s a ≡ unlocked_one s claim extent
+  is = element_is n left s a extent act unnamed
+
+  same : c ≡ claim
+  same = ((element_due n left s a extent (answers.Granted c) act unnamed).0 at).0
+
+  by : (o : Option Claim) → element_held claim extent s.claims ≡ o → Releases c extent s.claims (ask n left s a).2.claims
+  by None none = let two : answers.NotHeld ≡ answers.Granted c = sym (ap (λ (x : Option Claim). (freed s claim x).0) none) ∙ sym (ap (λ (x : Answered). x.0) is) ∙ at in absurd cc
+  by (Some d) found =
+      let left_so : (ask n left s a).2.claims ≡ removed d s.claims = ap (λ (x : Answered). x.2.claims) is ∙ ap (λ (x : Option Claim). (freed s claim x).2.claims) found in
+      let one = element_is_held claim extent s.claims d found in
+      let there : (file : ℕ) (owner : Owner) → is_of file owner claim ≡ false → is_of file owner d ≡ false = λ file owner other. ap (λ (x : Claim). is_of file owner x) one.2 ∙ other in
+      subst (λ (x : Claim). Releases x extent s.claims (ask n left s a).2.claims) (sym same)
+      (subst (λ (cs : List Claim). Releases claim extent s.claims cs) (sym left_so)
+      (record {
+        what = refl;
+        unnamed = unnamed;
+        mine = ap (λ (x : Option Claim). elements_of claim.file claim.owner (taken_out x s.claims)) (sym found) ∙ elements_unlocked claim extent s.claims (own_party s a extent good fit.party);
+        elements = λ file owner other. elements_removed_apart file owner d s.claims (ap (λ (b : Bool). b && is_range d.what) (there file owner other));
+        spans = λ file owner other. spans_of-removed_apart file owner d s.claims (there file owner other);
+        shares = λ file owner. shares_removed file owner d s.claims (ap (λ (x : Claim). is_range x.what) one.2);
+      }))
 
 -- ---- who waits, and the names
 
@@ -106,19 +223,32 @@ queues_or s a (answers.Full limit) = Doesnt (λ d e. absurd cc) refl
 queues_or s a answers.NotHeld = Doesnt (λ d e. absurd cc) refl
 queues_or s a answers.StoreFailed = Doesnt (λ d e. absurd cc) refl
 
+-- who is told to wait asks for what is to be held, and may wait
+queued_way : (s : CoreState) (a : Ask) (id : ℕ) (r : Answered) → AskWay s a r → r.0 ≡ answers.Queued id → (a.blocking ≡ true) × (asks_to_hold a.act ≡ true)
+queued_way s a id r (Stays answer refused e) at = absurd (both_ways (is_refusal answer) (ap is_refusal (sym (ap (λ (x : Answered). x.0) e) ∙ at)) refused)
+queued_way s a id r (Tests c holds e) at = let two : answers.Granted c ≡ answers.Queued id = sym (ap (λ (x : Answered). x.0) e) ∙ at in absurd cc
+queued_way s a id r (Holds c claims is holds e) at = let two : answers.Granted c ≡ answers.Queued id = sym (ap (λ (x : Answered). x.0) e) ∙ at in absurd cc
+queued_way s a id r (Waits claims waits is holds e) at = (waits, holds)
+queued_way s a id r (Frees c first last holds act file owner e) at = let two : answers.Granted c ≡ answers.Queued id = sym (ap (λ (x : Answered). x.0) e) ∙ at in absurd cc
+queued_way s a id r (Gives c d holds act file owner range e) at = let two : answers.Granted c ≡ answers.Queued id = sym (ap (λ (x : Answered). x.0) e) ∙ at in absurd cc
+
+pub ask_may : (n : ℕ) (left : Rooms) (s : CoreState) (a : Ask) (id : ℕ) → IsGood s → is_client a.owner a.party ≡ true → (ask n left s a).0 ≡ answers.Queued id → a.blocking ≡ true
+ask_may n left s a id good client at = (queued_way s a id (ask n left s a) (ask_way n left s a good client) at).0
+
+asks_queue : (n : ℕ) (left : Rooms) (s : CoreState) (a : Ask) (id : ℕ) → IsGood s → is_client a.owner a.party ≡ true → (ask n left s a).0 ≡ answers.Queued id → asks_to_hold a.act ≡ true
+asks_queue n left s a id good client at = (queued_way s a id (ask n left s a) (ask_way n left s a good client) at).1
+
 what_queued : (n : ℕ) (left : Rooms) (s : CoreState) (a : Ask) (what : What) (id : ℕ) → IsGood s → IsFit a → asked_what a.act ≡ Some what → (ask n left s a).0 ≡ answers.Queued id → (ask n left s a).2.waiters ≡ with_waiter s a id (asked_what a.act) s.waiters
 what_queued n left s a what id good fit act at = ask_waits n left s a id good fit.party at ∙ ap (λ (asked : List What). s.waiters ++ waiter_of id a (asked_claims a asked s.names) ∷ []) (same_list what (asked_whats a.act) act) ∙ ap (λ (o : Option What). with_waiter s a id o s.waiters) (sym act)
 
-act_queued : (n : ℕ) (left : Rooms) (s : CoreState) (a : Ask) (act : Act) (id : ℕ) → a.act ≡ act → IsFitAct act → IsGood s → IsFit a → (ask n left s a).0 ≡ answers.Queued id → (ask n left s a).2.waiters ≡ with_waiter s a id (asked_what a.act) s.waiters
+act_queued : (n : ℕ) (left : Rooms) (s : CoreState) (a : Ask) (act : Act) (id : ℕ) → a.act ≡ act → IsFitAct a.owner a.blocking act → IsGood s → IsFit a → (ask n left s a).0 ≡ answers.Queued id → (ask n left s a).2.waiters ≡ with_waiter s a id (asked_what a.act) s.waiters
 act_queued n left s a (acts.Share access deny) id is real good fit at = what_queued n left s a (Share access deny) id good fit (ap asked_what is) at
 act_queued n left s a (acts.Ranges []) id is real good fit at = absurd real
 act_queued n left s a (acts.Ranges (range ∷ [])) id is real good fit at = what_queued n left s a (Range range.0 range.1) id good fit (ap asked_what is) at
-act_queued n left s a (acts.Ranges (range ∷ more ∷ rest)) id is real good fit at = absurd real
+act_queued n left s a (acts.Ranges (range ∷ more ∷ rest)) id is real good fit at = absurd (both_ways a.blocking real.1.1 (ask_may n left s a id good fit.party at))
 act_queued n left s a (acts.Test extent exclusive) id is real good fit at =
     absurd ((test_due n left s a extent exclusive (answers.Queued id) is).0 at)
-act_queued n left s a (acts.Unlock (Bytes first last)) id is real good fit at =
-    absurd ((unlock_due n left s a first last (answers.Queued id) is fit.party (fit_named a (Bytes first last) fit is) real good).0 at)
-act_queued n left s a (acts.Unlock (Empty offset)) id is real good fit at = absurd real
+act_queued n left s a (acts.Unlock extent) id is real good fit at = absurd (both_ways (asks_to_hold a.act) (ap asks_to_hold is) (asks_queue n left s a id good fit.party at))
 
 -- one who is told to wait comes last, and no other ask changes who waits
 pub ask_queue : (n : ℕ) (left : Rooms) (s : CoreState) (a : Ask) → IsGood s → IsFit a → (ask n left s a).2.waiters ≡ queue_with s a (ask n left s a).0 s.waiters
@@ -139,14 +269,21 @@ what_due n left s a what fit act = record {
   cause = (lock_due n left s a what (ask n left s a).0 act).0 refl;
 }
 
-act_due : (n : ℕ) (left : Rooms) (s : CoreState) (a : Ask) (act : Act) → a.act ≡ act → IsFitAct act → IsGood s → IsFit a → IsAnswerDue left s a act (ask n left s a).0
+act_due : (n : ℕ) (left : Rooms) (s : CoreState) (a : Ask) (act : Act) → a.act ≡ act → IsFitAct a.owner a.blocking act → IsGood s → IsFit a → IsAnswerDue left s a act (ask n left s a).0
 act_due n left s a (acts.Share access deny) is real good fit = what_due n left s a (Share access deny) fit (ap asked_what is)
 act_due n left s a (acts.Ranges []) is real good fit = absurd real
 act_due n left s a (acts.Ranges (range ∷ [])) is real good fit = what_due n left s a (Range range.0 range.1) fit (ap asked_what is)
-act_due n left s a (acts.Ranges (range ∷ more ∷ rest)) is real good fit = absurd real
+act_due n left s a (acts.Ranges (range ∷ more ∷ rest)) is real good fit =
+    λ timely. each_due n left s a (asked_claim a (range_what range) s.names) (asked_claims a (map range_what (more ∷ rest)) s.names) (ask n left s a) timely real.1.1 (ranges_asked n left s a (range ∷ more ∷ rest) is)
 act_due n left s a (acts.Test extent exclusive) is real good fit = (test_due n left s a extent exclusive (ask n left s a).0 is).0 refl
-act_due n left s a (acts.Unlock (Bytes first last)) is real good fit = (unlock_due n left s a first last (ask n left s a).0 is fit.party (fit_named a (Bytes first last) fit is) real good).0 refl
-act_due n left s a (acts.Unlock (Empty offset)) is real good fit = absurd real
+act_due n left s a (acts.Unlock (Bytes first last)) is real good fit = by (posix claim.owner) refl where
+  claim : Claim
+  claim = known_claim a (Bytes first last) false s.names
+
+  by : (b : Bool) → posix claim.owner ≡ b → IsBytesDue s claim first last b (ask n left s a).0
+  by true named = (unlock_due n left s a first last (ask n left s a).0 is fit.party (sym (known_named a s.names fit.party) ∙ named) real good).0 refl
+  by false unnamed = (element_due n left s a (Bytes first last) (ask n left s a).0 is unnamed).0 refl
+act_due n left s a (acts.Unlock (Empty offset)) is real good fit = (empty_due n left s a offset (ask n left s a).0 is).0 refl
 
 pub answer_is_due : (n : ℕ) (left : Rooms) (s : CoreState) (a : Ask) → IsGood s → IsFit a → IsAnswerDue left s a a.act (ask n left s a).0
 answer_is_due n left s a good fit = act_due n left s a a.act refl fit.act good fit

@@ -1,7 +1,7 @@
 -- What one deed makes of each place, and who waits after it.
-use Rattle.std.proofs.Common.{◌≡◌, ℕ, ◌≤◌, Bool, true, false, cond, if◌then◌else◌, ◌==◌, ◌⊎◌, inl, inr, List, [], ◌∷◌, ◌++◌, map, Option, Some, None, IfSome, refl, sym, ap, subst, ◌∙◌, slice_get}
-use Rattle.std.proofs.lemmas.Bool.{cases_Bool, both_ways, and_from, eq-eqb}
-use Rattle.std.specs.List.{list_any}
+use Rattle.std.proofs.Common.{◌≡◌, ℕ, ◌≤◌, Bool, true, false, cond, if◌then◌else◌, ◌==◌, ◌⊎◌, inl, inr, List, [], ◌∷◌, ◌++◌, map, Option, Some, None, IfSome, refl, sym, ap, subst, ◌∙◌, slice_get, ◌&&◌, length}
+use Rattle.std.proofs.lemmas.Bool.{cases_Bool, both_ways, and_from, eq-eqb, and_parts}
+use Rattle.std.specs.List.{list_any, AllByRecursion}
 use Rattle.xl_base.specs.Lists.{IsIn, Pairwise}
 use Rattle.xl_base.specs.declared.name.Owner.{Owner}
 use Rattle.xl_base.specs.declared.name.Party.{Party}
@@ -20,12 +20,12 @@ use Rattle.xl_spans.specs.Spans.{within, mode_at, relocked}
 use Rattle.xl_spans.specs.declared.span.Mode.{Mode}
 use Rattle.xl_spans.specs.declared.span.Span.{Span}
 use Rattle.xl_table.specs.Flat.{removed}
-use Rattle.xl_table.specs.Held.{IsPosixBy, may_own, IsGrantable, is_share, mode_of, is_of, spans_of, IsKept}
+use Rattle.xl_table.specs.Held.{IsShareOrLock, may_own, IsGrantable, is_share, mode_of, is_of, spans_of, IsKept}
 use Rattle.xl_wait.specs.Waiting.{cancelled}
 use Rattle.xl_wait.specs.declared.waiter.Rooms.{Rooms}
 use Rattle.xl_wait.specs.declared.waiter.Waiter.{Waiter}
 use Rattle.xl_core.specs.State.{CoreState, drawn}
-use Rattle.xl_core.specs.Asking.{asker, asked_what, asked_claim, known_claim, is_client, IsFit, IsFitAct, IsRealExtent}
+use Rattle.xl_core.specs.Asking.{asker, asked_what, asked_claim, known_claim, is_client, IsFit, IsFitAct, IsRealExtent, known_owner, range_what, asked_claims, both_entered}
 use Rattle.xl_core.specs.Causes.{asks_share, IsTurn, IsTurnDue, IsClaimDue, IsUnlockDue}
 use Rattle.xl_core.specs.Asking.{party_named}
 use Rattle.xl_core.specs.Leases.{Lease}
@@ -33,11 +33,11 @@ use Rattle.xl_core.specs.Ticks.{advanced, renew, end_some, unleased, expire}
 use Rattle.xl_names.specs.declared.name.Name.TheVariants.{NfsParty}
 use Rattle.xl_base.specs.declared.event.Moment.{Moment}
 use Rattle.xl_core.specs.Deeds.{Deed, Asks, GivesBack, Weakens, Cancels, Ends, Serves, Draws, Advances, Renews, Expires, queue_without_party, turned, given, done, IsFitDeed, with_waiter, queue_with, queue_without, waits_after, KeepNames}
-use Rattle.xl_core.specs.Decide.{ask}
+use Rattle.xl_core.specs.Decide.{ask, plea_of}
 use Rattle.xl_core.specs.Dues.{IsGrantDue, IsAnswerDue, IsTurnOwed, IsDue}
-use Rattle.xl_core.specs.Good.{IsGood, are_apart}
-use Rattle.xl_core.specs.Places.{Place, ByteOf, ShareOf, byte_held, share_held, held_in, held_at, part_by, part_of, held_as, entered_by, entered_at, cleared_by, cleared_at, entered_for, cleared_for, answered_at, ended_at, ended_some, told_at, made, else_was}
-use Rattle.xl_table.specs.Relock.{is_share_of, with_share, shares_of, old_shares, united_by, granted_claims}
+use Rattle.xl_core.specs.Good.{IsGood, are_apart, IsKnown}
+use Rattle.xl_core.specs.Places.{Place, ByteOf, ShareOf, byte_held, share_held, held_in, held_at, part_by, part_of, held_as, entered_by, entered_at, cleared_by, cleared_at, entered_for, answered_at, ended_at, ended_some, told_at, made, else_was, unlocked_at, RangesOf, all_entered_at, all_entered_for, unlocked_for, then_entered}
+use Rattle.xl_table.specs.Relock.{is_share_of, with_share, shares_of, old_shares, united_by, granted_claims, is_range_of}
 use Rattle.xl_table.proofs.ShareLaws.{united_share}
 use Rattle.xl_core.specs.Settle.{settle, cancel, give_back, weaken, end_party}
 use Rattle.xl_core.specs.declared.ask.Act.{Act}
@@ -47,67 +47,100 @@ use Rattle.xl_core.specs.declared.ask.Answer.TheVariants as answers
 use Rattle.xl_core.specs.declared.ask.Ask.{Ask}
 use Rattle.xl_core.specs.declared.ask.Effect.{Effect}
 use Rattle.xl_core.specs.declared.ask.Effect.TheVariants.{Served}
-use Rattle.xl_core.proofs.CauseLaws.{test_leaves}
-use Rattle.xl_core.proofs.ChangeLaws.{spans_apart, shares_apart, granted_share, granted_spans}
-use Rattle.xl_core.proofs.DeedCalls.{Clears, ask_enters, ask_keeps_claims, ask_clears, turn_known, answer_is_due, ask_queue, ask_names}
+use Rattle.xl_core.proofs.CauseLaws.{test_leaves, empty_due}
+use Rattle.xl_core.proofs.ChangeLaws.{spans_apart, shares_apart, granted_share, granted_spans, empty_spans}
+use Rattle.xl_core.proofs.DeedCalls.{Clears, ask_enters, ask_keeps_claims, ask_clears, turn_known, answer_is_due, ask_queue, ask_names, Releases, ask_releases, ranges_enter, no_empty}
 use Rattle.xl_core.proofs.DeedLeaves.{spans_of-given, shares_of-given_apart, shares_of-given, has_of, Ended, ended_is}
 use Rattle.xl_core.proofs.GoodLaws.{ask_good, settle_good, cancel_good, give_back_good, drawn_good, end_party_good, advanced_good, renew_good, expire_good}
 use Rattle.xl_core.proofs.SettleLaws.{none_settled, turn_is, without}
 use Rattle.xl_core.proofs.WeakenLaws.{weaken_good, weakened_queue, weakened_names, weaken_made}
 use Rattle.xl_table.proofs.WriteBack.{is_of-true}
+use Rattle.xl_table.specs.Elements.{elements_of, unlocked_elements}
+use Rattle.xl_core.proofs.ElementLaws.{open_of, not_open, share_no_range, with_element, elements_granted}
+use Rattle.xl_core.proofs.KnownLaws.{known_named}
+use Rattle.xl_core.specs.Judge.{all_granted}
+use Rattle.xl_core.proofs.RowLaws.{AllPass}
+use Rattle.xl_core.proofs.ClaimLaws.{AreGood, granted_good}
+use Rattle.xl_core.proofs.LimitLaws.{grant_room}
+use Rattle.xl_core.specs.declared.judge.Plea.{Plea}
+use Rattle.xl_core.specs.Limits.{grant_limits}
+use Rattle.xl_table.proofs.ElementLaws.{elements_removed_apart}
+use Rattle.xl_names.specs.Names.{AreDistinct}
+use Rattle.xl_matrix.specs.declared.claim.Extent.{Extent}
 
 -- ---- a claim that is entered
 
 is_of_from : (file : ℕ) (owner : Owner) (c : Claim) → file ≡ c.file → owner ≡ c.owner → is_of file owner c ≡ true
 is_of_from file owner c e f = and_from (c.file == file) (same_owners c.owner owner) (eq-eqb c.file file (sym e)) (subst (λ (o : Owner). same_owners c.owner o ≡ true) (sym f) (same_owners-self c.owner))
 
-locked_byte : (byte : ℕ) (inside exclusive : Bool) (mode : Option Mode) → byte_held byte (cond inside (Some (mode_of exclusive)) mode) ≡ else_was (entered_by (if inside then Range (Bytes byte byte) exclusive ∷ [] else [])) (byte_held byte mode)
-locked_byte byte true true mode = refl
-locked_byte byte true false mode = refl
-locked_byte byte false exclusive mode = refl
+locked_byte : (owner : Owner) (byte : ℕ) (inside exclusive : Bool) (mode : Option Mode) → posix owner ≡ true → byte_held owner byte (cond inside (Some (mode_of exclusive)) mode) ≡ else_was (entered_by (if posix owner && inside then Range (Bytes byte byte) exclusive ∷ [] else [])) (byte_held owner byte mode)
+locked_byte owner byte true true mode own = rw own refl
+locked_byte owner byte true false mode own = rw own refl
+locked_byte owner byte false exclusive mode own = rw own refl
+
+-- a byte of no POSIX owner's has no lock of its own
+no_lock : (owner : Owner) (byte : ℕ) (mode : Option Mode) → posix owner ≡ false → byte_held owner byte mode ≡ []
+no_lock owner byte None unnamed = refl
+no_lock owner byte (Some mode) unnamed = rw unnamed refl
 
 no_byte_of : (file : ℕ) (owner : Owner) (byte : ℕ) (w : What) → is_share w ≡ true → part_by w (ByteOf file owner byte) ≡ []
 no_byte_of file owner byte (Share access deny) h = refl
 no_byte_of file owner byte (Range extent exclusive) h = absurd (both_ways false refl h)
 no_byte_of file owner byte (Cache kind running) h = absurd (both_ways false refl h)
 
-byte_made : (c : Claim) (w : What) (cs : List Claim) (byte : ℕ) → c.what ≡ w → IsKept cs → IsPosixBy w → may_own c.owner w ≡ true → byte_held byte (mode_at (spans_of c.file c.owner (granted_claims c cs)) byte) ≡ else_was (entered_by (part_by (held_as cs c w) (ByteOf c.file c.owner byte))) (byte_held byte (mode_at (spans_of c.file c.owner cs) byte))
-byte_made c (Range (Bytes first last) exclusive) cs byte is kept real own =
-    let old = spans_of c.file c.owner cs in
-    ap (λ (ss : List Span). byte_held byte (mode_at ss byte)) (granted_spans c first last exclusive cs kept is own real)
-    ∙ ap (λ (m : Option Mode). byte_held byte m) (relocked_mode old first last (Some (mode_of exclusive)) byte real (canonical_ranges old (kept.sound.canonical c.file c.owner own)))
-    ∙ locked_byte byte (within first last byte) exclusive (mode_at old byte)
-byte_made c (Range (Empty offset) exclusive) cs byte is kept real own = absurd real
-byte_made c (Share access deny) cs byte is kept real own =
-    ap (λ (ss : List Span). byte_held byte (mode_at ss byte)) (spans_apart c cs c.file c.owner (λ at. absurd (both_ways (is_share c.what) at.2 (ap is_share is))))
-    ∙ ap (λ (part : List What). else_was (entered_by part) (byte_held byte (mode_at (spans_of c.file c.owner cs) byte))) (sym (no_byte_of c.file c.owner byte (held_as cs c (Share access deny)) (united_share c.owner (Share access deny) (old_shares c.file c.owner cs) refl)))
-byte_made c (Cache kind running) cs byte is kept real own = absurd real
+byte_made : (c : Claim) (w : What) (cs : List Claim) (byte : ℕ) → c.what ≡ w → IsKept cs → IsShareOrLock w → byte_held c.owner byte (mode_at (spans_of c.file c.owner (granted_claims c cs)) byte) ≡ else_was (entered_by (part_by (held_as cs c w) (ByteOf c.file c.owner byte))) (byte_held c.owner byte (mode_at (spans_of c.file c.owner cs) byte))
+byte_made c (Range (Bytes first last) exclusive) cs byte is kept real = by (posix c.owner) refl where
+  old : List Span
+  old = spans_of c.file c.owner cs
+
+  by : (b : Bool) → posix c.owner ≡ b → byte_held c.owner byte (mode_at (spans_of c.file c.owner (granted_claims c cs)) byte) ≡ else_was (entered_by (if posix c.owner && within first last byte then Range (Bytes byte byte) exclusive ∷ [] else [])) (byte_held c.owner byte (mode_at old byte))
+  by true own =
+      ap (λ (ss : List Span). byte_held c.owner byte (mode_at ss byte)) (granted_spans c first last exclusive cs kept is own real)
+      ∙ ap (λ (m : Option Mode). byte_held c.owner byte m) (relocked_mode old first last (Some (mode_of exclusive)) byte real (canonical_ranges old (kept.sound.canonical c.file c.owner own)))
+      ∙ locked_byte c.owner byte (within first last byte) exclusive (mode_at old byte) own
+  by false unnamed =
+      no_lock c.owner byte _ unnamed
+      ∙ sym (no_lock c.owner byte (mode_at old byte) unnamed)
+      ∙ ap (λ (b : Bool). else_was (entered_by (if b && within first last byte then Range (Bytes byte byte) exclusive ∷ [] else [])) (byte_held c.owner byte (mode_at old byte))) (sym unnamed)
+byte_made c (Range (Empty offset) exclusive) cs byte is kept real = by (posix c.owner) refl where
+  by : (b : Bool) → posix c.owner ≡ b → byte_held c.owner byte (mode_at (spans_of c.file c.owner (granted_claims c cs)) byte) ≡ byte_held c.owner byte (mode_at (spans_of c.file c.owner cs) byte)
+  by b e = ap (λ (ss : List Span). byte_held c.owner byte (mode_at ss byte)) (empty_spans c offset exclusive cs is)
+byte_made c (Share access deny) cs byte is kept real =
+    ap (λ (ss : List Span). byte_held c.owner byte (mode_at ss byte)) (spans_apart c cs c.file c.owner (λ at. absurd (both_ways (is_share c.what) at.2 (ap is_share is))))
+    ∙ ap (λ (part : List What). else_was (entered_by part) (byte_held c.owner byte (mode_at (spans_of c.file c.owner cs) byte))) (sym (no_byte_of c.file c.owner byte (held_as cs c (Share access deny)) (united_share c.owner (Share access deny) (old_shares c.file c.owner cs) refl)))
+byte_made c (Cache kind running) cs byte is kept real = absurd real
 
 held_share : (file : ℕ) (owner : Owner) (w : What) (had : List What) → is_share w ≡ true → map share_held (with_share w []) ≡ else_was (entered_by (part_by w (ShareOf file owner))) had
 held_share file owner (Share access deny) had h = refl
 held_share file owner (Range extent exclusive) had h = absurd (both_ways false refl h)
 held_share file owner (Cache kind running) had h = absurd (both_ways false refl h)
 
-share_made : (c : Claim) (w : What) (cs : List Claim) → c.what ≡ w → IsPosixBy w → map share_held (shares_of c.file c.owner (granted_claims c cs)) ≡ else_was (entered_by (part_by (held_as cs c w) (ShareOf c.file c.owner))) (map share_held (shares_of c.file c.owner cs))
+share_made : (c : Claim) (w : What) (cs : List Claim) → c.what ≡ w → IsShareOrLock w → map share_held (shares_of c.file c.owner (granted_claims c cs)) ≡ else_was (entered_by (part_by (held_as cs c w) (ShareOf c.file c.owner))) (map share_held (shares_of c.file c.owner cs))
 share_made c (Share access deny) cs is real =
     let old = old_shares c.file c.owner cs in
     ap (λ (shares : List (Rwd × Rwd)). map share_held shares) (granted_share c access deny cs is)
     ∙ ap (λ (w : What). map share_held (with_share (united_by c.owner w old) [])) is
     ∙ held_share c.file c.owner (united_by c.owner (Share access deny) old) (map share_held (shares_of c.file c.owner cs)) (united_share c.owner (Share access deny) old refl)
 share_made c (Range (Bytes first last) exclusive) cs is real = ap (λ (shares : List (Rwd × Rwd)). map share_held shares) (shares_apart c cs c.file c.owner (λ at. absurd (both_ways (is_share c.what) (ap is_share is) at.2)))
-share_made c (Range (Empty offset) exclusive) cs is real = absurd real
+share_made c (Range (Empty offset) exclusive) cs is real = ap (λ (shares : List (Rwd × Rwd)). map share_held shares) (shares_apart c cs c.file c.owner (λ at. absurd (both_ways (is_share c.what) (ap is_share is) at.2)))
 share_made c (Cache kind running) cs is real = absurd real
 
 pub entered_made : (c : Claim) (cs : List Claim) (p : Place) → IsKept cs → IsGrantable c → held_in (granted_claims c cs) p ≡ else_was (entered_at cs c p) (held_in cs p)
 entered_made c cs (ByteOf file owner byte) kept real =
     elim (cases_Bool (is_of file owner c)) [
-      | inr other ↦ rw other (ap (λ (ss : List Span). byte_held byte (mode_at ss byte)) (spans_apart c cs file owner (λ at. absurd (both_ways (is_of file owner c) other (is_of_from file owner c at.0 at.1)))))
+      | inr other ↦ rw other (ap (λ (ss : List Span). byte_held owner byte (mode_at ss byte)) (spans_apart c cs file owner (λ at. absurd (both_ways (is_of file owner c) other (is_of_from file owner c at.0 at.1)))))
       | inl own ↦
           let here = is_of-true file owner c own in
-          rw own (subst (λ (f : ℕ). byte_held byte (mode_at (spans_of f owner (granted_claims c cs)) byte) ≡ else_was (entered_by (part_by (held_as cs c c.what) (ByteOf f owner byte))) (byte_held byte (mode_at (spans_of f owner cs) byte))) here.0
-          (subst (λ (o : Owner). byte_held byte (mode_at (spans_of c.file o (granted_claims c cs)) byte) ≡ else_was (entered_by (part_by (held_as cs c c.what) (ByteOf c.file o byte))) (byte_held byte (mode_at (spans_of c.file o cs) byte))) here.1
-          (byte_made c c.what cs byte refl kept real.0 real.1)))
+          rw own (subst (λ (f : ℕ). byte_held owner byte (mode_at (spans_of f owner (granted_claims c cs)) byte) ≡ else_was (entered_by (part_by (held_as cs c c.what) (ByteOf f owner byte))) (byte_held owner byte (mode_at (spans_of f owner cs) byte))) here.0
+          (subst (λ (o : Owner). byte_held o byte (mode_at (spans_of c.file o (granted_claims c cs)) byte) ≡ else_was (entered_by (part_by (held_as cs c c.what) (ByteOf c.file o byte))) (byte_held o byte (mode_at (spans_of c.file o cs) byte))) here.1
+          (byte_made c c.what cs byte refl kept real.0)))
     ]
+entered_made c cs (RangesOf file number) kept real =
+    elements_granted c cs file number kept real.0 ∙ by (is_range_of file (open_of number) c)
+  where
+    by : (b : Bool) → with_element b c.what (elements_of file (open_of number) cs) ≡ else_was (if b then Some (elements_of file (open_of number) cs ++ c.what ∷ []) else None) (elements_of file (open_of number) cs)
+    by true = refl
+    by false = refl
 entered_made c cs (ShareOf file owner) kept real =
     elim (cases_Bool (is_of file owner c)) [
       | inr other ↦ rw other (ap (λ (shares : List (Rwd × Rwd)). map share_held shares) (shares_apart c cs file owner (λ at. absurd (both_ways (is_of file owner c) other (is_of_from file owner c at.0 at.1)))))
@@ -118,24 +151,40 @@ entered_made c cs (ShareOf file owner) kept real =
           (share_made c c.what cs refl real.0)))
     ]
 
+-- claims that pass, one behind another, are entered one behind another
+all_entered_made : (left : Rooms) (p : Plea) (names : List Name) (asked held : List Claim) (place : Place) → AreDistinct names → AreGood names held → AllByRecursion (IsKnown names) asked → AllPass left p held asked
+    → held_in (all_granted asked held) place ≡ else_was (all_entered_at held asked place) (held_in held place)
+all_entered_made left p names [] held place distinct good known pass = refl
+all_entered_made left p names (c ∷ cs) held place distinct good known pass =
+    all_entered_made left p names cs (granted_claims c held) place distinct next known.1 pass.2
+    ∙ ap (λ (had : List What). else_was (all_entered_at (granted_claims c held) cs place) had) (entered_made c held place good.kept known.0.0)
+    ∙ by (entered_at held c place) (all_entered_at (granted_claims c held) cs place)
+  where
+    next : AreGood names (granted_claims c held)
+    next = granted_good names c held distinct good known.0 pass.0 (grant_room left p.rows (length (granted_claims c held)) p.kept pass.1).1
+
+    by : (first later : Option (List What)) → else_was later (else_was first (held_in held place)) ≡ else_was (then_entered first later) (held_in held place)
+    by first None = refl
+    by first (Some has) = refl
+
 -- ---- answers
 
 -- the answer grants, or makes nothing of any place
 pub data Grants (answer : Answer) : Type 0 where
   Does : (c : Claim) → answer ≡ answers.Granted c → Grants answer
-  Doesnt : ((c : Claim) → answer ≡ answers.Granted c → ⊥) → ((held : List Claim) (p : Place) → (entered_for held answer p ≡ None) × (cleared_for answer p ≡ None)) → Grants answer
+  Doesnt : ((c : Claim) → answer ≡ answers.Granted c → ⊥) → ((held : List Claim) (p : Place) (ranges : List (Extent × Bool)) (extent : Extent) → (entered_for held answer p ≡ None) × (all_entered_for held ranges answer p ≡ None) × (unlocked_for held extent answer p ≡ None)) → Grants answer
 
 pub grants_or : (answer : Answer) → Grants answer
 grants_or (answers.Granted c) = Does c refl
-grants_or (answers.Conflict c) = Doesnt (λ d e. absurd cc) (λ held p. (refl, refl))
-grants_or (answers.Queued id) = Doesnt (λ d e. absurd cc) (λ held p. (refl, refl))
-grants_or (answers.Recall c) = Doesnt (λ d e. absurd cc) (λ held p. (refl, refl))
-grants_or (answers.Grace until) = Doesnt (λ d e. absurd cc) (λ held p. (refl, refl))
-grants_or (answers.NoGrace clock) = Doesnt (λ d e. absurd cc) (λ held p. (refl, refl))
-grants_or answers.NotRecorded = Doesnt (λ d e. absurd cc) (λ held p. (refl, refl))
-grants_or (answers.Full limit) = Doesnt (λ d e. absurd cc) (λ held p. (refl, refl))
-grants_or answers.NotHeld = Doesnt (λ d e. absurd cc) (λ held p. (refl, refl))
-grants_or answers.StoreFailed = Doesnt (λ d e. absurd cc) (λ held p. (refl, refl))
+grants_or (answers.Conflict c) = Doesnt (λ d e. absurd cc) (λ held p ranges extent. (refl, refl, refl))
+grants_or (answers.Queued id) = Doesnt (λ d e. absurd cc) (λ held p ranges extent. (refl, refl, refl))
+grants_or (answers.Recall c) = Doesnt (λ d e. absurd cc) (λ held p ranges extent. (refl, refl, refl))
+grants_or (answers.Grace until) = Doesnt (λ d e. absurd cc) (λ held p ranges extent. (refl, refl, refl))
+grants_or (answers.NoGrace clock) = Doesnt (λ d e. absurd cc) (λ held p ranges extent. (refl, refl, refl))
+grants_or answers.NotRecorded = Doesnt (λ d e. absurd cc) (λ held p ranges extent. (refl, refl, refl))
+grants_or (answers.Full limit) = Doesnt (λ d e. absurd cc) (λ held p ranges extent. (refl, refl, refl))
+grants_or answers.NotHeld = Doesnt (λ d e. absurd cc) (λ held p ranges extent. (refl, refl, refl))
+grants_or answers.StoreFailed = Doesnt (λ d e. absurd cc) (λ held p ranges extent. (refl, refl, refl))
 
 -- ---- an ask
 
@@ -146,68 +195,113 @@ claim_made n left s a what p good fit act =
       | Does c e ↦
           let is = ask_enters n left s a what c good fit act e in
           ap (λ (cs : List Claim). held_in cs p) is.1 ∙ entered_made c s.claims p good.kept is.0 ∙ ap (λ (answer : Answer). else_was (entered_for s.claims answer p) (held_at s p)) (sym e)
-      | Doesnt none nothing ↦ ap (λ (cs : List Claim). held_in cs p) (ask_keeps_claims n left s a good fit none) ∙ ap (λ (o : Option (List What)). else_was o (held_at s p)) (sym (nothing s.claims p).0)
+      | Doesnt none nothing ↦ ap (λ (cs : List Claim). held_in cs p) (ask_keeps_claims n left s a good fit none) ∙ ap (λ (o : Option (List What)). else_was o (held_at s p)) (sym (nothing s.claims p [] (Empty 0)).0)
     ]
 
-unlocked_byte : (byte : ℕ) (inside exclusive : Bool) (mode : Option Mode) → byte_held byte (cond inside None mode) ≡ else_was (cleared_by (if inside then Range (Bytes byte byte) exclusive ∷ [] else [])) (byte_held byte mode)
-unlocked_byte byte true exclusive mode = refl
-unlocked_byte byte false exclusive mode = refl
+unlocked_byte : (owner : Owner) (byte : ℕ) (inside exclusive : Bool) (mode : Option Mode) → posix owner ≡ true → byte_held owner byte (cond inside None mode) ≡ else_was (cleared_by (if posix owner && inside then Range (Bytes byte byte) exclusive ∷ [] else [])) (byte_held owner byte mode)
+unlocked_byte owner byte true exclusive mode own = rw own refl
+unlocked_byte owner byte false exclusive mode own = rw own refl
 
-clears_byte : (c : Claim) (first last : ℕ) (old new : List Claim) (byte : ℕ) → IsKept old → Clears c first last old new → byte_held byte (mode_at (spans_of c.file c.owner new) byte) ≡ else_was (cleared_by (part_by c.what (ByteOf c.file c.owner byte))) (byte_held byte (mode_at (spans_of c.file c.owner old) byte))
+clears_byte : (c : Claim) (first last : ℕ) (old new : List Claim) (byte : ℕ) → IsKept old → Clears c first last old new → byte_held c.owner byte (mode_at (spans_of c.file c.owner new) byte) ≡ else_was (cleared_by (part_by c.what (ByteOf c.file c.owner byte))) (byte_held c.owner byte (mode_at (spans_of c.file c.owner old) byte))
 clears_byte c first last old new byte kept is =
     let ss = spans_of c.file c.owner old in
-    ap (λ (x : List Span). byte_held byte (mode_at x byte)) is.spans
-    ∙ ap (λ (m : Option Mode). byte_held byte m) (relocked_mode ss first last None byte is.ends (canonical_ranges ss (kept.sound.canonical c.file c.owner is.own)))
-    ∙ unlocked_byte byte (within first last byte) false (mode_at ss byte)
-    ∙ ap (λ (w : What). else_was (cleared_by (part_by w (ByteOf c.file c.owner byte))) (byte_held byte (mode_at ss byte))) (sym is.what)
+    ap (λ (x : List Span). byte_held c.owner byte (mode_at x byte)) is.spans
+    ∙ ap (λ (m : Option Mode). byte_held c.owner byte m) (relocked_mode ss first last None byte is.ends (canonical_ranges ss (kept.sound.canonical c.file c.owner is.own)))
+    ∙ unlocked_byte c.owner byte (within first last byte) false (mode_at ss byte) is.own
+    ∙ ap (λ (w : What). else_was (cleared_by (part_by w (ByteOf c.file c.owner byte))) (byte_held c.owner byte (mode_at ss byte))) (sym is.what)
 
-cleared_made : (c : Claim) (first last : ℕ) (old new : List Claim) (p : Place) → IsKept old → Clears c first last old new → held_in new p ≡ else_was (cleared_at c p) (held_in old p)
+cleared_made : (c : Claim) (first last : ℕ) (old new : List Claim) (p : Place) → IsKept old → Clears c first last old new → held_in new p ≡ else_was (unlocked_at old (Bytes first last) c p) (held_in old p)
 cleared_made c first last old new (ByteOf file owner byte) kept is =
     elim (cases_Bool (is_of file owner c)) [
-      | inr other ↦ rw other (ap (λ (ss : List Span). byte_held byte (mode_at ss byte)) (is.apart file owner (λ at. absurd (both_ways (is_of file owner c) other (is_of_from file owner c at.0 at.1)))))
+      | inr other ↦ rw other (ap (λ (ss : List Span). byte_held owner byte (mode_at ss byte)) (is.apart file owner (λ at. absurd (both_ways (is_of file owner c) other (is_of_from file owner c at.0 at.1)))))
       | inl own ↦
           let here = is_of-true file owner c own in
-          rw own (subst (λ (f : ℕ). byte_held byte (mode_at (spans_of f owner new) byte) ≡ else_was (cleared_by (part_by c.what (ByteOf f owner byte))) (byte_held byte (mode_at (spans_of f owner old) byte))) here.0
-          (subst (λ (o : Owner). byte_held byte (mode_at (spans_of c.file o new) byte) ≡ else_was (cleared_by (part_by c.what (ByteOf c.file o byte))) (byte_held byte (mode_at (spans_of c.file o old) byte))) here.1
+          rw own (subst (λ (f : ℕ). byte_held owner byte (mode_at (spans_of f owner new) byte) ≡ else_was (cleared_by (part_by c.what (ByteOf f owner byte))) (byte_held owner byte (mode_at (spans_of f owner old) byte))) here.0
+          (subst (λ (o : Owner). byte_held o byte (mode_at (spans_of c.file o new) byte) ≡ else_was (cleared_by (part_by c.what (ByteOf c.file o byte))) (byte_held o byte (mode_at (spans_of c.file o old) byte))) here.1
           (clears_byte c first last old new byte kept is)))
     ]
-cleared_made c first last old new (ShareOf file owner) kept is =
-    ap (λ (shares : List (Rwd × Rwd)). map share_held shares) (is.shares file owner)
-    ∙ ap (λ (o : Option (List What)). else_was o (map share_held (shares_of file owner old))) (sym (no_share_cleared (is_of file owner c)))
-  where
-    no_share_cleared : (b : Bool) → cleared_by (if b then part_by c.what (ShareOf file owner) else []) ≡ None
-    no_share_cleared true = ap (λ (w : What). cleared_by (part_by w (ShareOf file owner))) is.what
-    no_share_cleared false = refl
+cleared_made c first last old new (RangesOf file number) kept is = let other = not_open file number c is.own in rw other (is.elements file number)
+cleared_made c first last old new (ShareOf file owner) kept is = ap (λ (shares : List (Rwd × Rwd)). map share_held shares) (is.shares file owner)
 
-unlock_made : (n : ℕ) (left : Rooms) (s : CoreState) (a : Ask) (first last : ℕ) (p : Place) → IsGood s → IsFit a → a.act ≡ acts.Unlock (Bytes first last) → held_at (ask n left s a).2 p ≡ else_was (cleared_for (ask n left s a).0 p) (held_at s p)
-unlock_made n left s a first last p good fit act =
+-- an open's unlock
+released_made : (c : Claim) (extent : Extent) (old new : List Claim) (p : Place) → Releases c extent old new → held_in new p ≡ else_was (unlocked_at old extent c p) (held_in old p)
+released_made c extent old new (ByteOf file owner byte) is =
+    elim (cases_Bool (is_of file owner c)) [
+      | inr other ↦ rw other (ap (λ (ss : List Span). byte_held owner byte (mode_at ss byte)) (is.spans file owner other))
+      | inl own ↦
+          let unnamed : posix owner ≡ false = ap (λ (o : Owner). posix o) (sym (is_of-true file owner c own).1) ∙ is.unnamed in
+          rw own (no_lock owner byte _ unnamed ∙ sym (no_lock owner byte (mode_at (spans_of file owner old) byte) unnamed)
+          ∙ ap (λ (part : List What). else_was (cleared_by part) (byte_held owner byte (mode_at (spans_of file owner old) byte))) (sym (ap (λ (w : What). part_by w (ByteOf file owner byte)) is.what ∙ no_part extent unnamed)))
+    ]
+  where
+    no_part : (e : Extent) → posix owner ≡ false → part_by (Range e false) (ByteOf file owner byte) ≡ []
+    no_part (Bytes first last) unnamed = rw unnamed refl
+    no_part (Empty offset) unnamed = refl
+released_made c extent old new (ShareOf file owner) is = ap (λ (shares : List (Rwd × Rwd)). map share_held shares) (is.shares file owner)
+released_made c extent old new (RangesOf file number) is =
+    elim (cases_Bool (is_of file (open_of number) c)) [
+      | inr other ↦ rw other (is.elements file (open_of number) other)
+      | inl own ↦
+          let here = is_of-true file (open_of number) c own in
+          rw own (subst (λ (f : ℕ). elements_of f (open_of number) new ≡ unlocked_elements extent (elements_of f (open_of number) old)) here.0
+          (subst (λ (o : Owner). elements_of c.file o new ≡ unlocked_elements extent (elements_of c.file o old)) here.1 is.mine))
+    ]
+
+unlock_made : (n : ℕ) (left : Rooms) (s : CoreState) (a : Ask) (extent : Extent) (p : Place) → IsGood s → IsFit a → a.act ≡ acts.Unlock extent → ((c : Claim) → (ask n left s a).0 ≡ answers.Granted c → held_in (ask n left s a).2.claims p ≡ else_was (unlocked_at s.claims extent c p) (held_in s.claims p))
+    → held_at (ask n left s a).2 p ≡ else_was (unlocked_for s.claims extent (ask n left s a).0 p) (held_at s p)
+unlock_made n left s a extent p good fit act does =
+    let r = ask n left s a in
+    elim (grants_or r.0) [
+      | Does c e ↦ does c e ∙ ap (λ (answer : Answer). else_was (unlocked_for s.claims extent answer p) (held_at s p)) (sym e)
+      | Doesnt none nothing ↦ ap (λ (cs : List Claim). held_in cs p) (ask_keeps_claims n left s a good fit none) ∙ ap (λ (o : Option (List What)). else_was o (held_at s p)) (sym (nothing s.claims p [] extent).2)
+    ]
+
+unlock_by_owner : (n : ℕ) (left : Rooms) (s : CoreState) (a : Ask) (extent : Extent) (p : Place) (b : Bool) → IsGood s → IsFit a → a.act ≡ acts.Unlock extent → posix (known_owner a.owner s.names) ≡ b → (c : Claim) → (ask n left s a).0 ≡ answers.Granted c → held_in (ask n left s a).2.claims p ≡ else_was (unlocked_at s.claims extent c p) (held_in s.claims p)
+unlock_by_owner n left s a (Bytes first last) p true good fit act named c e =
+    cleared_made c first last s.claims (ask n left s a).2.claims p good.kept (ask_clears n left s a first last c good fit (sym (known_named a s.names fit.party) ∙ named) act e)
+unlock_by_owner n left s a (Empty offset) p true good fit act named c e =
+    absurd (no_empty (known_claim a (Empty offset) false s.names) offset s good named ((empty_due n left s a offset (answers.Granted c) act).0 e).1)
+unlock_by_owner n left s a extent p false good fit act unnamed c e =
+    released_made c extent s.claims (ask n left s a).2.claims p (ask_releases n left s a extent c good fit unnamed act e)
+
+-- several ranges of an open
+ranges_made : (n : ℕ) (left : Rooms) (s : CoreState) (a : Ask) (range : Extent × Bool) (ranges : List (Extent × Bool)) (p : Place) → IsGood s → IsFit a → a.act ≡ acts.Ranges (range ∷ ranges) → held_at (ask n left s a).2 p ≡ else_was (all_entered_for s.claims (range ∷ ranges) (ask n left s a).0 p) (held_at s p)
+ranges_made n left s a range ranges p good fit act =
     let r = ask n left s a in
     elim (grants_or r.0) [
       | Does c e ↦
-          cleared_made c first last s.claims r.2.claims p good.kept (ask_clears n left s a first last c good fit act e)
-          ∙ ap (λ (answer : Answer). else_was (cleared_for answer p) (held_at s p)) (sym e)
-      | Doesnt none nothing ↦ ap (λ (cs : List Claim). held_in cs p) (ask_keeps_claims n left s a good fit none) ∙ ap (λ (o : Option (List What)). else_was o (held_at s p)) (sym (nothing s.claims p).1)
+          let is = ranges_enter n left s a range ranges c good fit act e in
+          ap (λ (cs : List Claim). held_in cs p) is.claims
+          ∙ all_entered_made left (plea_of left s a) (both_entered a s.names) (asked_claims a (map range_what (range ∷ ranges)) s.names) s.claims p is.distinct is.good is.known is.pass
+          ∙ ap (λ (cs : List Claim). else_was (all_entered_at s.claims cs p) (held_at s p)) (sym is.like)
+          ∙ ap (λ (answer : Answer). else_was (all_entered_for s.claims (range ∷ ranges) answer p) (held_at s p)) (sym e)
+      | Doesnt none nothing ↦ ap (λ (cs : List Claim). held_in cs p) (ask_keeps_claims n left s a good fit none) ∙ ap (λ (o : Option (List What)). else_was o (held_at s p)) (sym (nothing s.claims p (range ∷ ranges) (Empty 0)).1)
     ]
 
-act_made : (n : ℕ) (left : Rooms) (s : CoreState) (a : Ask) (act : Act) (p : Place) → a.act ≡ act → IsFitAct act → IsGood s → IsFit a → held_at (ask n left s a).2 p ≡ else_was (answered_at s.claims act (ask n left s a).0 p) (held_at s p)
+act_made : (n : ℕ) (left : Rooms) (s : CoreState) (a : Ask) (act : Act) (p : Place) → a.act ≡ act → IsFitAct a.owner a.blocking act → IsGood s → IsFit a → held_at (ask n left s a).2 p ≡ else_was (answered_at s.claims act (ask n left s a).0 p) (held_at s p)
 act_made n left s a (acts.Share access deny) p is real good fit = claim_made n left s a (Share access deny) p good fit (ap asked_what is)
 act_made n left s a (acts.Ranges []) p is real good fit = absurd real
-act_made n left s a (acts.Ranges (range ∷ [])) p is real good fit = claim_made n left s a (Range range.0 range.1) p good fit (ap asked_what is)
-act_made n left s a (acts.Ranges (range ∷ more ∷ rest)) p is real good fit = absurd real
+act_made n left s a (acts.Ranges (range ∷ ranges)) p is real good fit = ranges_made n left s a range ranges p good fit is
 act_made n left s a (acts.Test extent exclusive) p is real good fit = ap (λ (t : CoreState). held_at t p) (test_leaves n left s a extent exclusive is)
-act_made n left s a (acts.Unlock (Bytes first last)) p is real good fit = unlock_made n left s a first last p good fit is
-act_made n left s a (acts.Unlock (Empty offset)) p is real good fit = absurd real
+act_made n left s a (acts.Unlock extent) p is real good fit = unlock_made n left s a extent p good fit is (unlock_by_owner n left s a extent p (posix (known_owner a.owner s.names)) good fit is refl)
 
 -- ---- a claim given back, a party ended
 
 given_made : (claim : Claim) (w : What) (s : CoreState) (p : Place) → claim.what ≡ w → IsGood s → IsIn claim s.claims → is_share w ≡ true → held_in (removed claim s.claims) p ≡ else_was (cleared_at claim p) (held_in s.claims p)
 given_made claim (Share access deny) s (ByteOf file owner byte) is good there share =
-    ap (λ (ss : List Span). byte_held byte (mode_at ss byte)) (spans_of-given file owner claim s.claims (ap is_share is))
+    ap (λ (ss : List Span). byte_held owner byte (mode_at ss byte)) (spans_of-given file owner claim s.claims (ap is_share is))
     ∙ ap (λ (o : Option (List What)). else_was o (held_at s (ByteOf file owner byte))) (sym (no_byte_cleared (is_of file owner claim)))
   where
     no_byte_cleared : (b : Bool) → cleared_by (if b then part_by claim.what (ByteOf file owner byte) else []) ≡ None
     no_byte_cleared true = ap (λ (w : What). cleared_by (part_by w (ByteOf file owner byte))) is
     no_byte_cleared false = refl
+given_made claim (Share access deny) s (RangesOf file number) is good there share =
+    elements_removed_apart file (open_of number) claim s.claims (share_no_range file (open_of number) claim (ap is_share is))
+    ∙ ap (λ (o : Option (List What)). else_was o (held_at s (RangesOf file number))) (sym (none_cleared (is_of file (open_of number) claim)))
+  where
+    none_cleared : (b : Bool) → cleared_by (if b then part_by claim.what (RangesOf file number) else []) ≡ None
+    none_cleared true = ap (λ (w : What). cleared_by (part_by w (RangesOf file number))) is
+    none_cleared false = refl
 given_made claim (Share access deny) s (ShareOf file owner) is good there share =
     elim (cases_Bool (is_of file owner claim)) [
       | inr other ↦ rw other (ap (λ (shares : List (Rwd × Rwd)). map share_held shares) (shares_of-given_apart file owner claim s.claims other))
@@ -222,13 +316,22 @@ give_back_made : (s : CoreState) (claim : Claim) (p : Place) → IsGood s → Is
 unfolding give_back
 give_back_made s claim p good there share = given_made claim claim.what s p refl good there share
 
-by_ended : (b : Bool) (s t : CoreState) (p : Place) (file : ℕ) (owner : Owner) → Ended b s t file owner → ((byte : ℕ) → held_at t (ByteOf file owner byte) ≡ else_was (if b then Some [] else None) (held_at s (ByteOf file owner byte))) × (held_at t (ShareOf file owner) ≡ else_was (if b then Some [] else None) (held_at s (ShareOf file owner)))
-by_ended true s t p file owner is = (λ byte. ap (λ (ss : List Span). byte_held byte (mode_at ss byte)) is.0, ap (λ (shares : List (Rwd × Rwd)). map share_held shares) is.1)
-by_ended false s t p file owner is = (λ byte. ap (λ (ss : List Span). byte_held byte (mode_at ss byte)) is.0, ap (λ (shares : List (Rwd × Rwd)). map share_held shares) is.1)
+byte_ended : (b : Bool) (s t : CoreState) (file : ℕ) (owner : Owner) (byte : ℕ) → Ended b s t file owner → held_at t (ByteOf file owner byte) ≡ else_was (if b then Some [] else None) (held_at s (ByteOf file owner byte))
+byte_ended true s t file owner byte is = ap (λ (ss : List Span). byte_held owner byte (mode_at ss byte)) is.0
+byte_ended false s t file owner byte is = ap (λ (ss : List Span). byte_held owner byte (mode_at ss byte)) is.0
+
+share_ended : (b : Bool) (s t : CoreState) (file : ℕ) (owner : Owner) → Ended b s t file owner → held_at t (ShareOf file owner) ≡ else_was (if b then Some [] else None) (held_at s (ShareOf file owner))
+share_ended true s t file owner is = ap (λ (shares : List (Rwd × Rwd)). map share_held shares) is.1
+share_ended false s t file owner is = ap (λ (shares : List (Rwd × Rwd)). map share_held shares) is.1
+
+ranges_ended : (b : Bool) (s t : CoreState) (file number : ℕ) → Ended b s t file (open_of number) → held_at t (RangesOf file number) ≡ else_was (if b then Some [] else None) (held_at s (RangesOf file number))
+ranges_ended true s t file number is = is.2
+ranges_ended false s t file number is = is.2
 
 end_party_made : (s : CoreState) (party : Party) (p : Place) → IsGood s → held_at (end_party s party).1 p ≡ else_was (ended_at s.claims party p) (held_at s p)
-end_party_made s party (ByteOf file owner byte) good = (by_ended (has_of file owner party s.claims) s (end_party s party).1 (ByteOf file owner byte) file owner (ended_is s party file owner good)).0 byte
-end_party_made s party (ShareOf file owner) good = (by_ended (has_of file owner party s.claims) s (end_party s party).1 (ShareOf file owner) file owner (ended_is s party file owner good)).1
+end_party_made s party (ByteOf file owner byte) good = byte_ended (has_of file owner party s.claims) s (end_party s party).1 file owner byte (ended_is s party file owner good)
+end_party_made s party (ShareOf file owner) good = share_ended (has_of file owner party s.claims) s (end_party s party).1 file owner (ended_is s party file owner good)
+end_party_made s party (RangesOf file number) good = ranges_ended (has_of file (open_of number) party s.claims) s (end_party s party).1 file number (ended_is s party file (open_of number) good)
 
 -- ---- a turn
 

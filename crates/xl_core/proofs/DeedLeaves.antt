@@ -15,9 +15,10 @@ use Rattle.xl_matrix.specs.declared.claim.What.{What}
 use Rattle.xl_matrix.specs.declared.claim.What.TheVariants.{Share, Range, Cache}
 use Rattle.xl_spans.specs.declared.span.Span.{Span}
 use Rattle.xl_table.specs.Flat.{removed}
-use Rattle.xl_table.specs.Held.{is_of, with_span, spans_of}
+use Rattle.xl_table.specs.Held.{is_of, with_span, spans_of, is_range}
 use Rattle.xl_core.specs.Good.{are_kept, IsHeld, is_single_by, is_single, IsGood}
 use Rattle.xl_table.specs.Held.{is_share}
+use Rattle.xl_table.specs.Elements.{elements_of}
 use Rattle.xl_table.specs.Relock.{is_share_of, with_share, shares_of}
 use Rattle.xl_core.specs.Settle.{end_party}
 use Rattle.xl_core.specs.State.{CoreState}
@@ -154,8 +155,8 @@ party_cases file owner party (c ∷ cs) =
     of_another d own away = rw own at away
 
 all_gone : (file : ℕ) (owner : Owner) (party : Party) (cs : List Claim) → ((d : Claim) → IsIn d cs → is_of file owner d ≡ true → same_parties d.party party ≡ true)
-    → (spans_of file owner (filter (stays party) cs) ≡ []) × (shares_of file owner (filter (stays party) cs) ≡ [])
-all_gone file owner party [] each = (refl, refl)
+    → (spans_of file owner (filter (stays party) cs) ≡ []) × (shares_of file owner (filter (stays party) cs) ≡ []) × (elements_of file owner (filter (stays party) cs) ≡ [])
+all_gone file owner party [] each = (refl, refl, refl)
 all_gone file owner party (c ∷ cs) each =
     let rest = all_gone file owner party cs (λ d h own. each d (inr h) own) in
     elim (cases_Bool (is_of file owner c)) [
@@ -167,14 +168,14 @@ all_gone file owner party (c ∷ cs) each =
     ]
 
 none_gone : (file : ℕ) (owner : Owner) (party : Party) (cs : List Claim) → ((d : Claim) → IsIn d cs → is_of file owner d ≡ true → same_parties d.party party ≡ false)
-    → (spans_of file owner (filter (stays party) cs) ≡ spans_of file owner cs) × (shares_of file owner (filter (stays party) cs) ≡ shares_of file owner cs)
-none_gone file owner party [] each = (refl, refl)
+    → (spans_of file owner (filter (stays party) cs) ≡ spans_of file owner cs) × (shares_of file owner (filter (stays party) cs) ≡ shares_of file owner cs) × (elements_of file owner (filter (stays party) cs) ≡ elements_of file owner cs)
+none_gone file owner party [] each = (refl, refl, refl)
 none_gone file owner party (c ∷ cs) each =
     let rest = none_gone file owner party cs (λ d h own. each d (inr h) own) in
     elim (cases_Bool (is_of file owner c)) [
       | inl own ↦
           let stay = each c (inl refl) own in
-          rw stay (rw own (ap (λ (spans : List Span). with_span c.what spans) rest.0, ap (λ (shares : List (Rwd × Rwd)). with_share c.what shares) rest.1))
+          rw stay (rw own (ap (λ (spans : List Span). with_span c.what spans) rest.0, ap (λ (shares : List (Rwd × Rwd)). with_share c.what shares) rest.1, ap (λ (ws : List What). if is_range c.what then c.what ∷ ws else ws) rest.2))
       | inr other ↦ elim (cases_Bool (same_parties c.party party)) [
         | inl goes ↦ rw goes (rw other rest)
         | inr stay ↦ rw stay (rw other rest)
@@ -208,8 +209,8 @@ has_none file owner party (d ∷ ds) none =
 
 -- an owner that had something of the party has nothing on the file, each other one what it had
 abbrev pub Ended : Bool → CoreState → CoreState → ℕ → Owner → Type 0
-Ended true s t file owner = (spans_of file owner t.claims ≡ []) × (shares_of file owner t.claims ≡ [])
-Ended false s t file owner = (spans_of file owner t.claims ≡ spans_of file owner s.claims) × (shares_of file owner t.claims ≡ shares_of file owner s.claims)
+Ended true s t file owner = (spans_of file owner t.claims ≡ []) × (shares_of file owner t.claims ≡ []) × (elements_of file owner t.claims ≡ [])
+Ended false s t file owner = (spans_of file owner t.claims ≡ spans_of file owner s.claims) × (shares_of file owner t.claims ≡ shares_of file owner s.claims) × (elements_of file owner t.claims ≡ elements_of file owner s.claims)
 
 -- the party of each claim of an owner
 of_party : (s : CoreState) (file : ℕ) (owner : Owner) (c d : Claim) → IsGood s → IsIn c s.claims → IsIn d s.claims → is_of file owner c ≡ true → is_of file owner d ≡ true → d.party ≡ c.party

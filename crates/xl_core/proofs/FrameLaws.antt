@@ -26,7 +26,7 @@ use Rattle.xl_base.specs.declared.event.Moment.{Moment}
 use Rattle.xl_names.specs.declared.name.Name.TheVariants.{NfsParty}
 use Rattle.xl_core.specs.Leases.{later, first_ended}
 use Rattle.xl_core.specs.Ticks.{advanced, renew, end_some, unleased, expire, behind_told, expired_then, expired_for, tick}
-use Rattle.xl_core.proofs.ChangeLaws.{AskWay, Stays, Tests, Holds, Waits, Frees, ask_way}
+use Rattle.xl_core.proofs.ChangeLaws.{AskWay, Stays, Tests, Holds, Waits, Frees, Gives, ask_way}
 use Rattle.xl_core.proofs.GoodLaws.{fewer_cancelled, fewer_filtered, Turned, turn_by, each_turn}
 use Rattle.xl_core.proofs.RowLaws.{is_refusal}
 use Rattle.xl_core.proofs.SettleLaws.{apart_ids, all_out}
@@ -64,10 +64,11 @@ unfolding held_with
 way_frame s a r (Stays answer refused e) = subst (AskFrame s a) (sym e) (refused_frame s a answer refused)
 way_frame s a r (Tests c holds e) = subst (AskFrame s a) (sym e) (record { stable = refl; clock = refl; made = refl; failed = refl; counter = omega arith; names = sym (names_held a c s.names false holds); leave = tt; waiters = nobody s.waiters })
 way_frame s a r (Holds c claims is holds e) = subst (AskFrame s a) (sym e) (record { stable = refl; clock = refl; made = refl; failed = refl; counter = omega arith; names = sym (names_held a c s.names true holds); leave = tt; waiters = nobody s.waiters })
-way_frame s a r (Waits claims is e) =
+way_frame s a r (Waits claims waits is may e) =
     subst (AskFrame s a) (sym e)
     (record { stable = refl; clock = refl; made = refl; failed = refl; counter = refl; names = refl; leave = tt; waiters = ap (λ (cs : List Claim). s.waiters ++ waiter_of (s.counter + 1) a cs ∷ []) is })
 way_frame s a r (Frees c first last holds act file owner e) = subst (AskFrame s a) (sym e) (record { stable = refl; clock = refl; made = refl; failed = refl; counter = omega arith; names = sym (names_held a c s.names false holds); leave = tt; waiters = nobody s.waiters })
+way_frame s a r (Gives c d holds act file owner range e) = subst (AskFrame s a) (sym e) (record { stable = refl; clock = refl; made = refl; failed = refl; counter = omega arith; names = sym (names_held a c s.names false holds); leave = tt; waiters = nobody s.waiters })
 
 pub ask_frame : (n : ℕ) (left : Rooms) (s : CoreState) (a : Ask) → IsGood s → is_client a.owner a.party ≡ true → AskFrame s a (ask n left s a)
 ask_frame n left s a good client = way_frame s a (ask n left s a) (ask_way n left s a good client)
@@ -79,8 +80,9 @@ ask_quiet n left s a good client = by (ask n left s a) (ask_way n left s a good 
   by r (Stays answer refused e) = ap (λ (x : Answered). x.1) e
   by r (Tests c holds e) = ap (λ (x : Answered). x.1) e
   by r (Holds c claims is holds e) = ap (λ (x : Answered). x.1) e
-  by r (Waits claims is e) = ap (λ (x : Answered). x.1) e
+  by r (Waits claims waits is may e) = ap (λ (x : Answered). x.1) e
   by r (Frees c first last holds act file owner e) = ap (λ (x : Answered). x.1) e
+  by r (Gives c d holds act file owner range e) = ap (λ (x : Answered). x.1) e
 
 -- ---- a turn
 

@@ -1,7 +1,7 @@
 -- The state stays good: by each ask, each turn, each cancel, and when a party leaves.
-use Rattle.std.proofs.Common.{◌≡◌, ℕ, ◌+◌, ◌≤◌, Bool, true, false, not, ◌==◌, nat_le, inl, inr, List, [], ◌∷◌, ◌++◌, length, Option, Some, None, IfSome, refl, sym, ap, subst, ◌∙◌, arith, zero, suc}
+use Rattle.std.proofs.Common.{◌≡◌, ℕ, ◌+◌, ◌≤◌, Bool, true, false, not, ◌==◌, nat_le, inl, inr, List, [], ◌∷◌, ◌++◌, length, Option, Some, None, IfSome, refl, sym, ap, subst, ◌∙◌, arith, zero, suc, map, if◌then◌else◌}
 use Rattle.std.specs.List.{AllByRecursion, filter, list_any}
-use Rattle.std.proofs.lemmas.Bool.{cases_Bool, both_ways, ne_eqb, not_from_false, leb-true}
+use Rattle.std.proofs.lemmas.Bool.{cases_Bool, both_ways, ne_eqb, not_from_false, leb-true, and_parts}
 use Rattle.std.proofs.lemmas.List.{length-append}
 use Rattle.xl_base.specs.Lists.{IsIn, Pairwise}
 use Rattle.xl_base.proofs.Members.{all_in, all_from, all_append, in_filter_from, pairwise_append, pairwise_filter}
@@ -22,7 +22,7 @@ use Rattle.xl_names.specs.declared.name.Name.{Name}
 use Rattle.xl_spans.specs.Spans.{meets}
 use Rattle.xl_spans.specs.declared.span.Span.{Span}
 use Rattle.xl_table.specs.Flat.{removed, is_blocked}
-use Rattle.xl_table.specs.Held.{is_of, spans_of, has_one_party, IsPosixBy}
+use Rattle.xl_table.specs.Held.{is_of, spans_of, has_one_party, IsShareOrLock}
 use Rattle.xl_table.specs.Relock.{most_claims, holds_byte, granted_claims}
 use Rattle.xl_table.proofs.FlatLaws.{all_removed, pairwise_removed}
 use Rattle.xl_table.proofs.KeptLaws.{kept_empty, kept_removed}
@@ -33,12 +33,12 @@ use Rattle.xl_wait.specs.declared.waiter.Waiter.{Waiter}
 use Rattle.xl_core.specs.State.{CoreState, started, step_begun, drawn}
 use Rattle.xl_core.specs.Leases.{Lease, moment_after, later, with_lease, without_lease, first_ended}
 use Rattle.xl_core.specs.Ticks.{advanced, renew, end_some, unleased, expire, expired_then, expired_for, tick}
-use Rattle.xl_core.specs.Asking.{party_named}
+use Rattle.xl_core.specs.Asking.{party_named, IsOrdered, range_what}
 use Rattle.xl_core.specs.declared.lease.Times.{Times}
 use Rattle.xl_names.specs.declared.name.Name.TheVariants.{NfsParty}
 use Rattle.xl_core.specs.Asking.{both_entered, asked_claim, asked_claims, known_claim, is_client, is_named, may_hold, may_ask, IsRealExtent, IsFitAct, IsFit}
 use Rattle.xl_core.specs.Causes.{limits_of_wait, left_by_unlock}
-use Rattle.xl_core.specs.Decide.{Answered, plea_of, waiter_of, waiting, named, answered, claims_asked, unlocked_claims, unlocked_bytes, unlocked, acted, ask}
+use Rattle.xl_core.specs.Decide.{Answered, plea_of, waiter_of, waiting, named, answered, claims_asked, unlocked_claims, unlocked_bytes, unlocked, acted, ask, freed, unlocked_one}
 use Rattle.xl_core.specs.Good.{are_kept, IsKnown, IsHeld, is_single, are_apart, IsWaiter, IsGood, stands_in_the_way}
 use Rattle.xl_core.specs.Judge.{Ruled, all_granted, held_with, judged}
 use Rattle.xl_core.specs.Limits.{most_waiters, grant_limits, first_passed}
@@ -53,20 +53,21 @@ use Rattle.xl_core.specs.declared.ask.Effect.TheVariants.{Served}
 use Rattle.xl_core.specs.declared.judge.Plea.{Plea}
 use Rattle.xl_core.specs.declared.judge.Ruling.{Ruling}
 use Rattle.xl_core.specs.declared.judge.Ruling.TheVariants.{Gets, Waits, Told}
-use Rattle.xl_core.proofs.CauseLaws.{left_so, real_range}
+use Rattle.xl_core.proofs.CauseLaws.{left_so, real_range, own_ranges, fit_ranges}
 use Rattle.xl_core.proofs.ClaimLaws.{AreGood, relocked_good, granted_good}
 use Rattle.xl_core.proofs.DecideLaws.{none_blockers}
-use Rattle.xl_core.proofs.KnownLaws.{GoOn, both_go_on, both_distinct, held_on, waiters_on, one_party, asker_kept, asked_known, kept_on, known_posix, known_party_is}
+use Rattle.xl_core.proofs.KnownLaws.{GoOn, both_go_on, both_distinct, held_on, waiters_on, one_party, asker_kept, asked_known, kept_on, known_posix, known_party_is, asked_all_known}
 use Rattle.xl_core.proofs.LimitLaws.{grant_room, wait_room}
 use Rattle.xl_core.proofs.RowLaws.{AllPass, is_refusal, IsRuled, judged_ruled, ruled_by, passed_by, judged_is}
 use Rattle.xl_core.proofs.TurnLaws.{alone, blocked_rests, rests_blocked, free_moves, move_first}
+use Rattle.xl_table.specs.Elements.{element_held}
 
 -- ---- a good state, part by part
 
 pub good_claims : (s : CoreState) → IsGood s → AreGood s.names s.claims
 good_claims s good = record { kept = good.kept; compatible = good.compatible; single = good.single; known = good.known }
 
-claims_on : (names more : List Name) (cs : List Claim) → GoOn names more → AreGood names cs → AreGood more cs
+pub claims_on : (names more : List Name) (cs : List Claim) → GoOn names more → AreGood names cs → AreGood more cs
 claims_on names more cs on good = record { kept = good.kept; compatible = good.compatible; single = good.single; known = held_on names more cs on good.known }
 
 pub good_from : (t : CoreState) → AreGood t.names t.claims → AreDistinct t.names → length t.names ≤ most_names → AllByRecursion (IsWaiter t.names t.counter) t.waiters → Pairwise are_apart t.waiters → length t.waiters ≤ most_waiters → IsGood t
@@ -183,7 +184,7 @@ waiting_good left s a c good known waits room =
     ]))
     (omega (arith, fits.1, length-append s.waiters (new ∷ [])))
 
-claim_good : (n : ℕ) (left : Rooms) (s : CoreState) (a : Ask) (what : What) → IsGood s → is_client a.owner a.party ≡ true → may_hold a.owner what ≡ true → IsPosixBy what → IsGood (claims_asked n left s a (asked_claims a (what ∷ []) s.names)).2
+claim_good : (n : ℕ) (left : Rooms) (s : CoreState) (a : Ask) (what : What) → IsGood s → is_client a.owner a.party ≡ true → may_hold a.owner what ≡ true → IsShareOrLock what → IsGood (claims_asked n left s a (asked_claims a (what ∷ []) s.names)).2
 claim_good n left s a what good client may real = by (claims_asked n left s a (c ∷ [])) (ask_case n left s a c []) where
   c : Claim
   c = asked_claim a what s.names
@@ -194,6 +195,21 @@ claim_good n left s a what good client may real = by (claims_asked n left s a (c
   by : (r : Answered) → AskCase left s a (c ∷ []) c r → IsGood r.2
   by r (Goes pass e) = subst (λ (x : Answered). IsGood x.2) (sym e) (goes_good left s a c [] good known pass)
   by r (Queues waits room e) = subst (λ (x : Answered). IsGood x.2) (sym e) (waiting_good left s a c good known waits room)
+  by r (Refuses answer refused e) = subst (λ (x : Answered). IsGood x.2) (sym e) good
+
+-- several claims, where nobody waits
+claims_good : (n : ℕ) (left : Rooms) (s : CoreState) (a : Ask) (what : What) (whats : List What) → IsGood s → is_client a.owner a.party ≡ true → a.blocking ≡ false → AllByRecursion (λ (w : What). may_hold a.owner w ≡ true) (what ∷ whats) → AllByRecursion (λ (w : What). IsShareOrLock w) (what ∷ whats)
+    → IsGood (claims_asked n left s a (asked_claims a (what ∷ whats) s.names)).2
+claims_good n left s a what whats good client hurries may real = by (claims_asked n left s a (c ∷ cs)) (ask_case n left s a c cs) where
+  c : Claim
+  c = asked_claim a what s.names
+
+  cs : List Claim
+  cs = asked_claims a whats s.names
+
+  by : (r : Answered) → AskCase left s a (c ∷ cs) c r → IsGood r.2
+  by r (Goes pass e) = subst (λ (x : Answered). IsGood x.2) (sym e) (goes_good left s a c cs good (asked_all_known a (what ∷ whats) s.names client may real) pass)
+  by r (Queues waits room e) = absurd (both_ways a.blocking hurries waits)
   by r (Refuses answer refused e) = subst (λ (x : Answered). IsGood x.2) (sym e) good
 
 -- ---- an unlock
@@ -226,20 +242,42 @@ unlocked_bytes_good s claim first last good ends own kept = go (holds_byte claim
       (relocked_good s.names claim.file claim.owner claim.party first last None s.claims good.distinct (good_claims s good) ends own (kept holds) tt (leb-true (left_by_unlock s claim first last) most_claims fits))
       good.distinct good.few good.waiters good.apart good.crowd
 
-unlock_good : (s : CoreState) (a : Ask) (extent : Extent) → IsGood s → is_client a.owner a.party ≡ true → is_named a.owner ≡ true → IsRealExtent extent → IsGood (unlocked s (known_claim a extent false s.names) extent).2
+without_good : (s : CoreState) (claim : Claim) → IsGood s → IsGood (record s { claims = removed claim s.claims })
+without_good s claim good =
+    good_from (record s { claims = removed claim s.claims })
+    (record {
+      kept = kept_removed claim s.claims good.kept;
+      compatible = pairwise_removed compat claim s.claims good.compatible;
+      single = pairwise_removed is_single claim s.claims good.single;
+      known = all_removed (IsHeld s.names) claim s.claims good.known;
+    })
+    good.distinct good.few good.waiters good.apart good.crowd
+
+freed_good : (s : CoreState) (claim : Claim) (o : Option Claim) → IsGood s → IsGood (freed s claim o).2
+freed_good s claim None good = good
+freed_good s claim (Some c) good = without_good s c good
+
+unlock_good : (s : CoreState) (a : Ask) (extent : Extent) → IsGood s → is_client a.owner a.party ≡ true → IsOrdered extent → IsGood (unlocked s (known_claim a extent false s.names) extent).2
 unfolding unlocked
-unlock_good s a (Bytes first last) good client named ends = unlocked_bytes_good s (known_claim a (Bytes first last) false s.names) first last good ends (known_posix a s.names client named) (holder_kept s a (Bytes first last) false first last good client)
-unlock_good s a (Empty offset) good client named ends = absurd ends
+unlock_good s a (Bytes first last) good client ends = by (posix claim.owner) refl where
+  claim : Claim
+  claim = known_claim a (Bytes first last) false s.names
+
+  by : (b : Bool) → posix claim.owner ≡ b → IsGood (if b then unlocked_bytes s claim first last else unlocked_one s claim (Bytes first last)).2
+  by true named = unlocked_bytes_good s claim first last good ends named (holder_kept s a (Bytes first last) false first last good client)
+  by false unnamed = freed_good s claim (element_held claim (Bytes first last) s.claims) good
+unlock_good s a (Empty offset) good client ends = let claim = known_claim a (Empty offset) false s.names in freed_good s claim (element_held claim (Empty offset) s.claims) good
 
 -- ---- an ask
 
-acted_good : (n : ℕ) (left : Rooms) (s : CoreState) (a : Ask) (act : Act) → IsGood s → is_client a.owner a.party ≡ true → may_ask a.owner act ≡ true → IsFitAct act → IsGood (acted n left s a act).2
+acted_good : (n : ℕ) (left : Rooms) (s : CoreState) (a : Ask) (act : Act) → IsGood s → is_client a.owner a.party ≡ true → may_ask a.owner act ≡ true → IsFitAct a.owner a.blocking act → IsGood (acted n left s a act).2
 acted_good n left s a (Share access deny) good client may fit = claim_good n left s a (whats.Share access deny) good client refl tt
 acted_good n left s a (Ranges []) good client may fit = absurd fit
-acted_good n left s a (Ranges (range ∷ [])) good client may fit = claim_good n left s a (whats.Range range.0 range.1) good client may (real_range range.0 range.1 fit)
-acted_good n left s a (Ranges (range ∷ more ∷ rest)) good client may fit = absurd fit
+acted_good n left s a (Ranges (range ∷ [])) good client may fit = claim_good n left s a (whats.Range range.0 range.1) good client (own_ranges a.owner (range ∷ []) may).0 (real_range range.0 range.1 fit.0)
+acted_good n left s a (Ranges (range ∷ more ∷ rest)) good client may fit =
+    claims_good n left s a (range_what range) (map range_what (more ∷ rest)) good client fit.1.1 (own_ranges a.owner (range ∷ more ∷ rest) may) (real_range range.0 range.1 fit.0, fit_ranges a.owner a.blocking (more ∷ rest) fit.1)
 acted_good n left s a (Test extent exclusive) good client may fit = good
-acted_good n left s a (Unlock extent) good client may fit = unlock_good s a extent good client may fit
+acted_good n left s a (Unlock extent) good client may fit = unlock_good s a extent good client fit
 
 -- each ask leaves the state good
 pub ask_good : (n : ℕ) (left : Rooms) (s : CoreState) (a : Ask) → IsGood s → IsFit a → IsGood (ask n left s a).2
@@ -386,15 +424,7 @@ cancel_good s id good =
 
 pub give_back_good : (s : CoreState) (claim : Claim) → IsGood s → IsGood (give_back s claim).1
 unfolding give_back
-give_back_good s claim good =
-    good_from (record s { claims = removed claim s.claims })
-    (record {
-      kept = kept_removed claim s.claims good.kept;
-      compatible = pairwise_removed compat claim s.claims good.compatible;
-      single = pairwise_removed is_single claim s.claims good.single;
-      known = all_removed (IsHeld s.names) claim s.claims good.known;
-    })
-    good.distinct good.few good.waiters good.apart good.crowd
+give_back_good s claim good = without_good s claim good
 
 pub fewer_filtered : (keep : Waiter → Bool) (ws : List Waiter) → length (filter keep ws) ≤ length ws
 fewer_filtered keep [] = omega arith

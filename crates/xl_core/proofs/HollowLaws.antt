@@ -20,7 +20,7 @@ use Rattle.xl_core.specs.Causes.{limits_of_grant}
 use Rattle.xl_core.specs.Deeds.{Deed, Asks, queue_with, queue_after}
 use Rattle.xl_core.specs.Decide.{ask}
 use Rattle.xl_core.specs.Limits.{is_passed, IsRoom}
-use Rattle.xl_core.specs.Places.{Place, ByteOf, held_in, held_at, entered_for, else_was, stands, IsChangedBy}
+use Rattle.xl_core.specs.Places.{Place, ByteOf, held_in, held_at, else_was, stands, IsChangedBy, all_entered_for}
 use Rattle.xl_core.specs.Smallest.{all_room, smallest_lock}
 use Rattle.xl_core.specs.declared.ask.Act.TheVariants.{Test}
 use Rattle.xl_core.specs.declared.ask.Answer.{Answer}
@@ -49,7 +49,7 @@ abbrev first_place : Place
 first_place = ByteOf 1 (asker smallest_lock []) 0
 
 first_held : (n : ℕ) (stable : Stable) (clock : Moment) (times : Times) → stands n (started stable clock times) (Asks all_room smallest_lock ∷ []) first_place [] ≡ Range (Bytes 0 0) true ∷ []
-first_held n stable clock times = ap (λ (answer : Answer). else_was (entered_for [] answer first_place) []) (first_granted n stable clock times)
+first_held n stable clock times = ap (λ (answer : Answer). else_was (all_entered_for [] ((Bytes 0 0, true) ∷ []) answer first_place) []) (first_granted n stable clock times)
 
 pub nothing_kept : (n : ℕ) (stable : Stable) (clock : Moment) (times : Times) (t : CoreState) → t.claims ≡ [] → IsChangedBy n (started stable clock times) (Asks all_room smallest_lock ∷ []) t → ⊥
 nothing_kept n stable clock times t none changed =

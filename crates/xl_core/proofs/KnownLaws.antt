@@ -1,5 +1,5 @@
 -- Names that are kept: claims of known clients stay known, an owner has one client, and who asks is known.
-use Rattle.std.proofs.Common.{◌≡◌, ℕ, zero, suc, ◌+◌, ◌≤◌, Bool, true, false, if◌then◌else◌, ◌&&◌, ◌||◌, List, [], ◌∷◌, ◌++◌, length, Option, Some, None, inl, inr, refl, sym, ap, ◌∙◌, slice_get, arith}
+use Rattle.std.proofs.Common.{◌≡◌, ℕ, zero, suc, ◌+◌, ◌≤◌, Bool, true, false, not, ◌-◌, ◌^◌, ◌==◌, if◌then◌else◌, ◌&&◌, ◌||◌, List, [], ◌∷◌, ◌++◌, length, Option, Some, None, inl, inr, refl, sym, ap, ◌∙◌, slice_get, arith}
 use Rattle.std.specs.List.{AllByRecursion}
 use Rattle.std.proofs.lemmas.Bool.{cases_Bool, both_ways, and_parts, and_from, eqb-true, eq-eqb}
 use Rattle.std.proofs.lemmas.List.{length-append}
@@ -15,6 +15,7 @@ use Rattle.xl_base.specs.declared.name.Protocol.TheVariants.{Nlm, Nfs, Smb}
 use Rattle.xl_base.proofs.Members.{all_weaker}
 use Rattle.xl_matrix.specs.Owners.{posix}
 use Rattle.xl_matrix.specs.declared.claim.Claim.{Claim}
+use Rattle.xl_matrix.specs.declared.claim.Extent.TheVariants.{Bytes, Empty}
 use Rattle.xl_matrix.specs.declared.claim.What.{What}
 use Rattle.xl_matrix.specs.declared.claim.What.TheVariants.{Share, Range, Cache}
 use Rattle.xl_names.specs.Names.{protocol_of, same_name, number_of, place_of, is_kept, entered, AreDistinct, most_names}
@@ -22,8 +23,8 @@ use Rattle.xl_names.specs.declared.name.Name.{Name}
 use Rattle.xl_names.specs.declared.name.Name.TheVariants.{NlmRange, NlmShare, NlmParty, NfsRange, NfsShare, NfsParty, SmbLease}
 use Rattle.xl_names.proofs.NameLaws.{same_name_is, same_name_self, kept_from_number, number_at, name_at, number_entered, distinct_entered}
 use Rattle.xl_wait.specs.declared.waiter.Waiter.{Waiter}
-use Rattle.xl_core.specs.Asking.{owner_in, party_in, who_entered, asker, asking_party, both_entered, coming, asked_claim, no_number, number_or, known_owner, known_party, client_of, is_name, is_client, is_named, may_hold}
-use Rattle.xl_table.specs.Held.{IsPosixBy, may_own}
+use Rattle.xl_core.specs.Asking.{owner_in, party_in, who_entered, asker, asking_party, both_entered, coming, asked_claim, asked_claims, no_number, number_or, known_owner, known_party, client_of, is_name, is_client, is_named, may_hold}
+use Rattle.xl_table.specs.Held.{IsShareOrLock, may_own}
 use Rattle.xl_core.specs.Good.{agree, are_kept, IsKnown, IsHeld, IsWaiter}
 use Rattle.xl_core.specs.declared.ask.Ask.{Ask}
 use Rattle.xl_core.specs.declared.ask.Who.{Who}
@@ -234,20 +235,36 @@ client_posix (NfsShare owner name) client is number = refl
 client_posix (NfsParty owner) client is number = cc
 client_posix (SmbLease guid key) client is number = cc
 
-asker_posix : (a : Ask) (names : List Name) → is_client a.owner a.party ≡ true → is_named a.owner ≡ true → posix (asker a names) ≡ true
-asker_posix a names h named =
-    let is = is_client_is a.owner a.party h named in
-    ap (λ (w : Who). posix (owner_in w names)) is.2 ∙ client_posix is.0 is.1 is.4 (place_of is.0 names)
+-- who has a name, and only who has one, is a POSIX owner
+pub asker_named : (a : Ask) (names : List Name) → is_client a.owner a.party ≡ true → posix (asker a names) ≡ is_named a.owner
+asker_named a names h = by (who_asks a.owner a.party h) where
+  by : Asker a.owner a.party → posix (asker a names) ≡ is_named a.owner
+  by (ByName name client e f is) = ap (λ (w : Who). posix (owner_in w names)) e ∙ client_posix name client is (place_of name names) ∙ sym (ap is_named e)
+  by (AsOpen number e f) = ap (λ (w : Who). posix (owner_in w names)) e ∙ sym (ap is_named e)
+
+pub asker_posix : (a : Ask) (names : List Name) → is_client a.owner a.party ≡ true → is_named a.owner ≡ true → posix (asker a names) ≡ true
+asker_posix a names h named = asker_named a names h ∙ named
+
+pub known_named : (a : Ask) (names : List Name) → is_client a.owner a.party ≡ true → posix (known_owner a.owner names) ≡ is_named a.owner
+known_named a names h = by (who_asks a.owner a.party h) where
+  by : Asker a.owner a.party → posix (known_owner a.owner names) ≡ is_named a.owner
+  by (ByName name client e f is) = ap (λ (w : Who). posix (known_owner w names)) e ∙ client_posix name client is (number_or (number_of name names)) ∙ sym (ap is_named e)
+  by (AsOpen number e f) = ap (λ (w : Who). posix (known_owner w names)) e ∙ sym (ap is_named e)
 
 -- what may be asked for may be owned
 asked_owned : (a : Ask) (what : What) (names : List Name) → is_client a.owner a.party ≡ true → may_hold a.owner what ≡ true → may_own (asker a names) what ≡ true
 asked_owned a (Share access deny) names h may = refl
-asked_owned a (Range extent exclusive) names h may = asker_posix a names h may
+asked_owned a (Range (Bytes first last) exclusive) names h may = ap (λ (b : Bool). b || not ((first == 0) && (last == 2 ^ 64 - 1))) (asker_named a names h) ∙ may
+asked_owned a (Range (Empty offset) exclusive) names h may = ap not (asker_named a names h) ∙ may
 asked_owned a (Cache kind running) names h may = refl
 
 -- the claim that is asked for is known once its names are entered
-pub asked_known : (a : Ask) (what : What) (names : List Name) → is_client a.owner a.party ≡ true → may_hold a.owner what ≡ true → IsPosixBy what → IsKnown (both_entered a names) (asked_claim a what names)
-asked_known a what names h may posix_what = ((posix_what, asked_owned a what names h may), asker_kept a names h)
+pub asked_known : (a : Ask) (what : What) (names : List Name) → is_client a.owner a.party ≡ true → may_hold a.owner what ≡ true → IsShareOrLock what → IsKnown (both_entered a names) (asked_claim a what names)
+asked_known a what names h may order = ((order, asked_owned a what names h may), asker_kept a names h)
+
+pub asked_all_known : (a : Ask) (ws : List What) (names : List Name) → is_client a.owner a.party ≡ true → AllByRecursion (λ (w : What). may_hold a.owner w ≡ true) ws → AllByRecursion (λ (w : What). IsShareOrLock w) ws → AllByRecursion (IsKnown (both_entered a names)) (asked_claims a ws names)
+asked_all_known a [] names h own order = tt
+asked_all_known a (w ∷ ws) names h own order = (asked_known a w names h own.0 order.0, asked_all_known a ws names h own.1 order.1)
 
 -- ---- who asks, where no name is entered
 

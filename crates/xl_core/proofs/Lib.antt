@@ -26,3 +26,5 @@ pub mod DeedLists
 pub mod DeedRows
 pub mod DeedClients
 pub mod HollowLaws
+pub mod ElementLaws
+pub mod OpenLaws

@@ -1,5 +1,5 @@
 -- A row of steps: what each step keeps, the row keeps. Why a ruling is what it is, and what it leaves.
-use Rattle.std.proofs.Common.{◌≡◌, ℕ, Bool, true, false, if◌then◌else◌, List, [], ◌∷◌, ◌++◌, length, Option, Some, None, refl, sym, ap, subst, append_assoc}
+use Rattle.std.proofs.Common.{◌≡◌, ℕ, Bool, true, false, if◌then◌else◌, List, [], ◌∷◌, ◌++◌, length, Option, Some, None, refl, sym, ap, subst, append_assoc, ◌∙◌}
 use Rattle.std.proofs.lemmas.Bool.{or_left, or_right}
 use Rattle.xl_matrix.specs.declared.claim.Claim.{Claim}
 use Rattle.xl_wait.specs.declared.waiter.Rooms.{Rooms}
@@ -7,7 +7,7 @@ use Rattle.xl_wait.specs.declared.waiter.Waiter.{Waiter}
 use Rattle.xl_core.specs.State.{CoreState}
 use Rattle.xl_core.specs.Blockers.{blockers}
 use Rattle.xl_core.specs.Good.{stands_in_the_way}
-use Rattle.xl_core.specs.Judge.{Ruled, Step, followed, after, all_granted, held_with, check_grace, waits, stopped, held_by, check_held, start_breaks, room_by, check_room, record_name, enter_all, each, judged}
+use Rattle.xl_core.specs.Judge.{Ruled, Step, followed, after, all_granted, held_with, check_grace, waits, stopped, held_by, check_held, start_breaks, room_by, check_room, record_name, enter_all, each, judged, row, row_left}
 use Rattle.xl_core.specs.Limits.{grant_limits, first_passed}
 use Rattle.xl_table.specs.Flat.{is_blocked}
 use Rattle.xl_table.specs.Least.{least}
@@ -192,3 +192,46 @@ judged_is n earlier left p c s timely = go (least_blocker earlier s c) (passed_b
   go (Some d) l e k = rw (timely, e) refl
   go None (Some limit) e k = rw (timely, e, k) refl
   go None None e k = rw (timely, e, k) refl
+
+-- ---- several claims: the ruling is that on the first that is stopped
+
+stopped_left : (d : Claim) (asked : List Claim) (s : CoreState) (b : Bool) (o : Option ℕ) → row_left (if b then waits o else Told (Conflict d)) asked s ≡ s
+stopped_left d asked s true None = refl
+stopped_left d asked s true (Some limit) = refl
+stopped_left d asked s false o = refl
+
+-- what the row comes to, where this is ruled
+abbrev comes_to : List Claim → CoreState → Ruling → Ruled
+comes_to asked s ruling = (ruling, [], row_left ruling asked s)
+
+-- each behind those before it, where those count as held, or where they are held
+each_row : (n : ℕ) (earlier : List Waiter) (left : Rooms) (p : Plea) (asked : List Claim) (s : CoreState) (before rest : List Claim)
+    → each earlier left p before rest (after (record_name n p) (enter_all asked)) s ≡ comes_to asked s (row left p rest (held_with before s))
+unfolding record_name enter_all check_held start_breaks check_room held_with blockers
+each_row n earlier left p asked s before [] = refl
+each_row n earlier left p asked s before (c ∷ cs) = go (least s.names (blockers earlier there c)) (first_passed (grant_limits left p.rows (length (granted_claims c there.claims)) p.kept)) refl refl (each_row n earlier left p asked s (before ++ c ∷ []) cs) where
+  there : CoreState
+  there = record s { claims = all_granted before s.claims }
+
+  go : (o : Option Claim) (l : Option ℕ) → least s.names (blockers earlier there c) ≡ o → first_passed (grant_limits left p.rows (length (granted_claims c there.claims)) p.kept) ≡ l
+      → each earlier left p (before ++ c ∷ []) cs (after (record_name n p) (enter_all asked)) s ≡ comes_to asked s (row left p cs (held_with (before ++ c ∷ []) s))
+      → each earlier left p before (c ∷ cs) (after (record_name n p) (enter_all asked)) s ≡ comes_to asked s (row left p (c ∷ cs) there)
+  go (Some d) l e k later = rw e (λ i. (stopped p d, [], sym (stopped_left d asked s p.blocking p.crowded) i))
+  go None (Some limit) e k later = rw (e, k) refl
+  go None None e k later =
+      rw (e, k) (subst (λ (held : List Claim). each earlier left p (before ++ c ∷ []) cs (after (record_name n p) (enter_all asked)) s ≡ comes_to asked s (row left p cs (record s { claims = held })))
+      (granted_behind before c s.claims) later)
+
+pub judged_row : (n : ℕ) (earlier : List Waiter) (left : Rooms) (p : Plea) (asked : List Claim) (s : CoreState) → p.reclaim ≡ false → judged n earlier left p asked s ≡ (row left p asked s, [], row_left (row left p asked s) asked s)
+unfolding judged check_grace held_with
+judged_row n earlier left p asked s timely =
+    let rest : CoreState → Ruled = each earlier left p [] asked (after (record_name n p) (enter_all asked)) in
+    ap (λ (b : Bool). let r : Option Ruling × List Effect × CoreState = if b then (Some (Told (NoGrace s.clock)), [], s) else (None, [], s) in followed r.0 r.1 r.2 rest) timely
+    ∙ each_row n earlier left p asked s [] asked
+
+-- a reclaim comes too late, whatever is asked for
+pub judged_late : (n : ℕ) (earlier : List Waiter) (left : Rooms) (p : Plea) (asked : List Claim) (s : CoreState) (o : Option Ruling) (ruling : Ruling) → check_grace p s ≡ (o, [], s) → o ≡ Some ruling → judged n earlier left p asked s ≡ (ruling, [], s)
+unfolding judged
+judged_late n earlier left p asked s o ruling e is =
+    let rest : CoreState → Ruled = each earlier left p [] asked (after (record_name n p) (enter_all asked)) in
+    ap (λ (x : Option Ruling × List Effect × CoreState). followed x.0 x.1 x.2 rest) e ∙ ap (λ (x : Option Ruling). followed x [] s rest) is

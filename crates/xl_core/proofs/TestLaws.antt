@@ -14,6 +14,7 @@ use Rattle.xl_matrix.specs.Extents.{meeting}
 use Rattle.xl_matrix.specs.Matrix.{compat, fit_by, ranges_meet}
 use Rattle.xl_matrix.specs.Owners.{posix}
 use Rattle.xl_matrix.specs.declared.claim.Claim.{Claim}
+use Rattle.xl_matrix.specs.declared.claim.Extent.{Extent}
 use Rattle.xl_matrix.specs.declared.claim.Extent.TheVariants.{Bytes, Empty}
 use Rattle.xl_matrix.specs.declared.claim.What.{What}
 use Rattle.xl_matrix.specs.declared.claim.What.TheVariants.{Share, Range, Cache}
@@ -21,7 +22,7 @@ use Rattle.xl_names.specs.Names.{protocol_of, number_of, place_of, most_names}
 use Rattle.xl_names.specs.declared.name.Name.{Name}
 use Rattle.xl_names.proofs.NameLaws.{kept_from_number, new_from_none, place_new}
 use Rattle.xl_table.specs.Flat.{is_met, blocks, is_blocked}
-use Rattle.xl_table.specs.Held.{IsPosixBy, is_range, is_cache}
+use Rattle.xl_table.specs.Held.{IsShareOrLock, is_range, is_cache}
 use Rattle.xl_table.specs.Least.{least}
 use Rattle.xl_table.proofs.LeastLaws.{one_passes}
 use Rattle.xl_wait.specs.declared.waiter.Rooms.{Rooms}
@@ -45,23 +46,22 @@ use Rattle.xl_core.proofs.KnownLaws.{kept_named, is_client_is, client_posix, get
 
 -- ---- only ranges block a range, and by their owners alone
 
-met : (e : Bool) (p q o : Owner) (first last start end : ℕ) (alone : Bool) → ranges_meet p (Bytes first last) o (Bytes start end) ≡ ranges_meet q (Bytes first last) o (Bytes start end)
-    → is_met p (Range (Bytes first last) e) o (Range (Bytes start end) alone) ≡ is_met q (Range (Bytes first last) e) o (Range (Bytes start end) alone)
-met true p q o first last start end alone meet = meet
-met false p q o first last start end alone meet = refl
+met : (e : Bool) (p q o : Owner) (first last : ℕ) (place : Extent) (alone : Bool) → ranges_meet p (Bytes first last) o place ≡ ranges_meet q (Bytes first last) o place
+    → is_met p (Range (Bytes first last) e) o (Range place alone) ≡ is_met q (Range (Bytes first last) e) o (Range place alone)
+met true p q o first last place alone meet = meet
+met false p q o first last place alone meet = refl
 
 by_none : (own apart file same : Bool) → (own && (not (apart || true) || (file && (same && false)))) ≡ false
 by_none true true file same = and_right file (same && false) (and_right same false refl)
 by_none true false file same = and_right file (same && false) (and_right same false refl)
 by_none false apart file same = refl
 
-blocks_by : (a b d : Claim) (first last : ℕ) (exclusive : Bool) (w : What) → d.what ≡ w → IsPosixBy w → a.file ≡ b.file → a.what ≡ Range (Bytes first last) exclusive → b.what ≡ Range (Bytes first last) exclusive → posix a.owner ≡ posix b.owner → same_owners a.owner d.owner ≡ same_owners b.owner d.owner
+blocks_by : (a b d : Claim) (first last : ℕ) (exclusive : Bool) (w : What) → d.what ≡ w → IsShareOrLock w → a.file ≡ b.file → a.what ≡ Range (Bytes first last) exclusive → b.what ≡ Range (Bytes first last) exclusive → posix a.owner ≡ posix b.owner → same_owners a.owner d.owner ≡ same_owners b.owner d.owner
     → stands_against a d ≡ blocks b d
 unfolding blocks compat fit_by
-blocks_by a b d first last exclusive (Range (Bytes start end) alone) is real file what other posix_is same =
-    let meet : ranges_meet a.owner (Bytes first last) d.owner (Bytes start end) ≡ ranges_meet b.owner (Bytes first last) d.owner (Bytes start end) = ap (λ (p : Bool). meeting (not p && not (posix d.owner)) (Bytes first last) (Bytes start end)) posix_is in
-    rw (is, what, other, file, same, met exclusive a.owner b.owner d.owner first last start end alone meet, meet, posix_is) refl
-blocks_by a b d first last exclusive (Range (Empty offset) alone) is real file what other posix_is same = absurd real
+blocks_by a b d first last exclusive (Range place alone) is real file what other posix_is same =
+    let meet : ranges_meet a.owner (Bytes first last) d.owner place ≡ ranges_meet b.owner (Bytes first last) d.owner place = ap (λ (p : Bool). meeting (not p && not (posix d.owner)) (Bytes first last) place) posix_is in
+    rw (is, what, other, file, same, met exclusive a.owner b.owner d.owner first last place alone meet, meet, posix_is) refl
 blocks_by a b d first last exclusive (Cache kind running) is real file what other posix_is same = absurd real
 blocks_by a b d first last true (Share access deny) is real file what other posix_is same = rw (is, other) (sym (by_none (not (same_owners b.owner d.owner && true)) (not (eqb b.file d.file)) (eqb b.file d.file) (same_owners b.owner d.owner)))
 blocks_by a b d first last false (Share access deny) is real file what other posix_is same = rw (is, other) (sym (by_none (not (same_owners b.owner d.owner && true)) (not (eqb b.file d.file)) (eqb b.file d.file) (same_owners b.owner d.owner)))
@@ -88,7 +88,7 @@ same_to name names (owners.Name protocol number) party None e few kept =
     ∙ sym (apart_number (protocol_of name) (protocol_of is.name) (place_of name names) is.number (λ same. omega (arith, same, small, place)))
     ∙ ap (λ (x : Owner). same_owners (owners.Name (protocol_of name) (place_of name names)) x) (sym is.owner_is)
 
-held_posix : (party : Party) (w : What) → is_cache w ≡ false → IsHeldBy party w → IsPosixBy w
+held_posix : (party : Party) (w : What) → is_cache w ≡ false → IsHeldBy party w → IsShareOrLock w
 held_posix party (Share access deny) other held = tt
 held_posix party (Range extent exclusive) other held = held
 held_posix party (Cache kind running) other held = absurd (both_ways true other refl)

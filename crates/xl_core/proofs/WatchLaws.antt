@@ -1,7 +1,7 @@
 -- Who is blocked stays so by what changes on other files; so who may have a turn waits on a file that is kept as unsettled.
 use Rattle.std.proofs.Common.{◌≡◌, ℕ, ◌+◌, Bool, true, false, not, ◌||◌, ◌&&◌, ◌==◌, inl, inr, List, [], ◌∷◌, ◌++◌, map, length, Option, Some, None, IfSome, is_some, if◌then◌else◌, option_map, refl, sym, ap, subst, ◌∙◌}
 use Rattle.std.specs.List.{AllByRecursion, filter, list_any}
-use Rattle.std.proofs.lemmas.Bool.{cases_Bool, both_ways, or_parts, eqb-true}
+use Rattle.std.proofs.lemmas.Bool.{cases_Bool, both_ways, or_parts, eqb-true, and_parts}
 use Rattle.xl_base.specs.Lists.{placed}
 use Rattle.xl_base.proofs.Members.{all_from, all_weaker, all_append}
 use Rattle.xl_base.specs.declared.name.Owner.{Owner}
@@ -46,11 +46,12 @@ use Rattle.xl_core.specs.declared.ask.Effect.{Effect}
 use Rattle.xl_core.specs.declared.unsettled.Unsettled.{Unsettled}
 use Rattle.xl_core.specs.declared.unsettled.Unsettled.TheVariants.{Nothing, File, All}
 use Rattle.xl_core.proofs.CauseLaws.{lock_due, test_leaves}
-use Rattle.xl_core.proofs.ChangeLaws.{AskWay, Stays, Tests, Holds, Waits, Frees, ask_way}
+use Rattle.xl_core.proofs.ChangeLaws.{AskWay, Stays, Tests, Holds, Waits, Frees, ask_way, Gives}
 use Rattle.xl_core.proofs.GoodLaws.{cancelled_all}
 use Rattle.xl_core.proofs.RowLaws.{is_refusal}
 use Rattle.xl_core.proofs.SettleLaws.{settle_rests, settled_is, none_settled, turn_is}
 use Rattle.xl_core.proofs.TurnLaws.{one_in_the_way}
+use Rattle.xl_matrix.specs.Owners.{posix}
 
 -- ---- what changes on another file blocks nothing, and freed nothing
 
@@ -112,8 +113,12 @@ blocked_shared ask c cs apart =
     ∙ any_within (blocks ask) (λ d. not (is_share_of c.file c.owner d)) cs (λ d out. same_file c.file ask d (is_of-true c.file c.owner d (first_of_both (is_of c.file c.owner d) (is_share d.what) (left_out (is_share_of c.file c.owner d) out))).0 apart)
 
 blocked_by : (ask c : Claim) (w : What) (cs : List Claim) → IsElsewhere c.file ask → is_blocked (granted_by c w cs) ask ≡ is_blocked cs ask
-blocked_by ask c (Range (Bytes first last) exclusive) cs apart = blocked_relocked ask c.file c.owner c.party first last (Some (mode_of exclusive)) cs apart
-blocked_by ask c (Range (Empty offset) exclusive) cs apart = refl
+blocked_by ask c (Range (Bytes first last) exclusive) cs apart =
+    elim (cases_Bool (posix c.owner)) [
+      | inl named ↦ rw named (blocked_relocked ask c.file c.owner c.party first last (Some (mode_of exclusive)) cs apart)
+      | inr unnamed ↦ rw unnamed (any_inserted (blocks ask) c cs (blocks_elsewhere ask c apart))
+    ]
+blocked_by ask c (Range (Empty offset) exclusive) cs apart = any_inserted (blocks ask) c cs (blocks_elsewhere ask c apart)
 blocked_by ask c (Share access deny) cs apart = blocked_shared ask c cs apart
 blocked_by ask c (Cache kind running) cs apart = refl
 
@@ -199,34 +204,39 @@ way_up u s a answer t (Holds c claims is holds e) given all =
     let there = subst (λ (cs : List Claim). AllByRecursion (λ d. d.file ≡ a.file) cs) (sym is) (asked_there a (asked_whats a.act) s.names) in
     subst (λ (x : Answered). AreHeldUp (with_file a.file u) x.2) (sym e)
     (all_still_up u (with_file a.file u) s.claims (all_granted claims s.claims) s.waiters (λ c n. let apart = both_apart a.file c.file u n in (apart.0, blocked_all_granted c a.file claims s.claims there apart.1)) all)
-way_up u s a answer t (Waits claims is e) given all = absurd (both_ways (is_granted answer) (ap (λ (x : Answered). is_granted x.0) e) given)
+way_up u s a answer t (Waits claims waits is may e) given all = absurd (both_ways (is_granted answer) (ap (λ (x : Answered). is_granted x.0) e) given)
 way_up u s a answer t (Frees claim first last holds act file owner e) given all =
     subst (λ (x : Answered). AreHeldUp (with_file a.file u) x.2) (sym e)
     (all_still_up u (with_file a.file u) s.claims _ s.waiters
     (λ c n. let apart = both_apart a.file c.file u n in (apart.0, blocked_relocked c claim.file claim.owner claim.party first last None s.claims (subst (λ (f : ℕ). (f == c.file) ≡ false) (sym file) apart.1))) all)
+way_up u s a answer t (Gives claim d holds act file owner range e) given all =
+    subst (λ (x : Answered). AreHeldUp (with_file a.file u) x.2) (sym e)
+    (all_still_up u (with_file a.file u) s.claims _ s.waiters
+    (λ c n. let apart = both_apart a.file c.file u n in (apart.0, blocked_removed c d s.claims (subst (λ (f : ℕ). (f == c.file) ≡ false) (sym file) apart.1))) all)
 
 -- who comes to wait is blocked
-comes_up : (u : Unsettled) (left : Rooms) (s : CoreState) (a : Ask) (number : ℕ) → (ask 0 left s a).0 ≡ answers.Queued number → IsFitAct a.act → IsHeldUp u s.claims (asked_claims a (asked_whats a.act) s.names)
-comes_up u left s a number at fit = by a.act refl fit where
+comes_up : (u : Unsettled) (left : Rooms) (s : CoreState) (a : Ask) (number : ℕ) → (ask 0 left s a).0 ≡ answers.Queued number → a.blocking ≡ true → IsFitAct a.owner a.blocking a.act → IsHeldUp u s.claims (asked_claims a (asked_whats a.act) s.names)
+comes_up u left s a number at waits fit = by a.act refl fit where
   blocked : (what : What) → asked_what a.act ≡ Some what → is_blocked s.claims (asked_claim a what s.names) ≡ true
   blocked what is = ((lock_due 0 left s a what (answers.Queued number) is).0 at).3
 
-  by : (act : Act) → a.act ≡ act → IsFitAct act → IsHeldUp u s.claims (asked_claims a (asked_whats act) s.names)
+  by : (act : Act) → a.act ≡ act → IsFitAct a.owner a.blocking act → IsHeldUp u s.claims (asked_claims a (asked_whats act) s.names)
   by (acts.Share access deny) is fit = λ e. blocked (Share access deny) (ap asked_what is)
   by (acts.Ranges []) is fit = absurd fit
   by (acts.Ranges (range ∷ [])) is fit = λ e. blocked (range_what range) (ap asked_what is)
-  by (acts.Ranges (range ∷ more ∷ rest)) is fit = absurd fit
+  by (acts.Ranges (range ∷ more ∷ rest)) is fit = absurd (both_ways a.blocking fit.1.1 waits)
   by (acts.Test extent exclusive) is fit = tt
   by (acts.Unlock extent) is fit = tt
 
-same_up : (u : Unsettled) (left : Rooms) (s : CoreState) (a : Ask) (answer : Answer) (t : CoreState) → ask 0 left s a ≡ (answer, [], t) → AskWay s a (answer, [], t) → IsFitAct a.act → is_granted answer ≡ false → AreHeldUp u s → AreHeldUp u t
+same_up : (u : Unsettled) (left : Rooms) (s : CoreState) (a : Ask) (answer : Answer) (t : CoreState) → ask 0 left s a ≡ (answer, [], t) → AskWay s a (answer, [], t) → IsFitAct a.owner a.blocking a.act → is_granted answer ≡ false → AreHeldUp u s → AreHeldUp u t
 same_up u left s a answer t is (Stays other refused e) fit given all = subst (λ (x : Answered). AreHeldUp u x.2) (sym e) all
 same_up u left s a answer t is (Tests c holds e) fit given all = subst (λ (x : Answered). AreHeldUp u x.2) (sym e) all
 same_up u left s a answer t is (Holds c claims of holds e) fit given all = absurd (both_ways (is_granted answer) given (ap (λ (x : Answered). is_granted x.0) e))
-same_up u left s a answer t is (Waits claims of e) fit given all =
+same_up u left s a answer t is (Gives claim d holds act file owner range e) fit given all = absurd (both_ways (is_granted answer) given (ap (λ (x : Answered). is_granted x.0) e))
+same_up u left s a answer t is (Waits claims waits of may e) fit given all =
     subst (λ (x : Answered). AreHeldUp u x.2) (sym e)
     (all_append (λ (w : Waiter). IsHeldUp u s.claims w.asked) s.waiters (waiter_of (s.counter + 1) a claims ∷ []) all
-    (subst (λ (cs : List Claim). IsHeldUp u s.claims cs) (sym of) (comes_up u left s a (s.counter + 1) (ap (λ (x : Answered). x.0) is ∙ ap (λ (x : Answered). x.0) e) fit), tt))
+    (subst (λ (cs : List Claim). IsHeldUp u s.claims cs) (sym of) (comes_up u left s a (s.counter + 1) (ap (λ (x : Answered). x.0) is ∙ ap (λ (x : Answered). x.0) e) waits fit), tt))
 same_up u left s a answer t is (Frees claim first last holds act file owner e) fit given all = absurd (both_ways (is_granted answer) given (ap (λ (x : Answered). is_granted x.0) e))
 
 pub ask_up : (u : Unsettled) (left : Rooms) (s t : CoreState) (a : Ask) (answer : Answer) → ((n : ℕ) → ask n left s a ≡ (answer, [], t)) → IsGood s → IsFit a → AreHeldUp u s → AreHeldUp (left_by_ask a answer u) t

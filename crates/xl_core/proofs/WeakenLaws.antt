@@ -1,6 +1,6 @@
 -- A share that is made weaker: its owner has it so, and all else stands as it stood.
 use Rattle.std.proofs.Common.{◌≡◌, ℕ, Bool, true, false, not, ◌&&◌, if◌then◌else◌, ◌==◌, inl, inr, List, [], ◌∷◌, map, Option, None, refl, sym, ap, subst, ◌∙◌}
-use Rattle.std.proofs.lemmas.Bool.{cases_Bool, both_ways, and_from, eq-eqb}
+use Rattle.std.proofs.lemmas.Bool.{cases_Bool, both_ways, and_from, eq-eqb, and_right}
 use Rattle.xl_base.specs.Lists.{IsIn}
 use Rattle.xl_base.proofs.Members.{all_in, all_weaker}
 use Rattle.xl_base.specs.declared.name.Owner.{Owner}
@@ -22,11 +22,14 @@ use Rattle.xl_table.proofs.FitLaws.{weakened_fits}
 use Rattle.xl_table.proofs.FlatLaws.{all_inserted as all_put, all_removed, pairwise_removed, pairwise_others, pairwise_into}
 use Rattle.xl_table.proofs.InsertLaws.{spans_of-inserted_other, sound_changed_other}
 use Rattle.xl_table.proofs.KeptLaws.{kept_changed}
+use Rattle.xl_table.proofs.ElementLaws.{elements_apart, elements_removed_apart}
+use Rattle.xl_table.specs.Elements.{elements_of}
+use Rattle.xl_core.proofs.ElementLaws.{open_of, share_no_range}
 use Rattle.xl_table.proofs.ShareLaws.{shares_of-inserted_apart, shares_of-inserted_own, is_own}
 use Rattle.xl_table.proofs.WriteBack.{is_of-true}
 use Rattle.xl_core.specs.State.{CoreState}
 use Rattle.xl_core.specs.Good.{IsHeld, is_single_by, is_single, IsGood, caches_of}
-use Rattle.xl_core.specs.Places.{Place, ByteOf, ShareOf, byte_held, share_held, held_at, entered_by, weakened_at, else_was}
+use Rattle.xl_core.specs.Places.{Place, ByteOf, ShareOf, RangesOf, byte_held, share_held, held_at, entered_by, weakened_at, else_was}
 use Rattle.xl_core.specs.Settle.{share_has, weaken}
 use Rattle.xl_core.specs.Whole.{state_of}
 use Rattle.xl_core.specs.declared.parts.Parts.{Parts}
@@ -137,6 +140,13 @@ pub weakened_names : (s : CoreState) (share : Claim) (access deny : Rwd) → (we
 unfolding weaken
 weakened_names s share access deny = refl
 
+-- nor an open's ranges
+weakened_elements : (s : CoreState) (share : Claim) (access deny : Rwd) (file : ℕ) (owner : Owner) → share_has share.what access deny ≡ true → elements_of file owner (weaken s share access deny).1.claims ≡ elements_of file owner s.claims
+unfolding weaken changed
+weakened_elements s share access deny file owner less =
+    elements_apart file owner (with_what share (Share access deny)) (removed share s.claims) (and_right (is_of file owner share) false refl)
+    ∙ elements_removed_apart file owner share s.claims (share_no_range file owner share (share_less share.what access deny less))
+
 -- ---- places
 
 no_byte : (b : Bool) → entered_by (if b then [] else []) ≡ None
@@ -146,8 +156,10 @@ no_byte false = refl
 -- what is left at each place
 pub weaken_made : (s : CoreState) (share : Claim) (access deny : Rwd) (p : Place) → IsGood s → IsIn share s.claims → share_has share.what access deny ≡ true → held_at (weaken s share access deny).1 p ≡ else_was (weakened_at share access deny p) (held_at s p)
 weaken_made s share access deny (ByteOf file owner byte) good there less =
-    ap (λ (ss : List Span). byte_held byte (mode_at ss byte)) (weakened_spans s share access deny file owner less)
+    ap (λ (ss : List Span). byte_held owner byte (mode_at ss byte)) (weakened_spans s share access deny file owner less)
     ∙ ap (λ (o : Option (List What)). else_was o (held_at s (ByteOf file owner byte))) (sym (no_byte (is_of file owner share)))
+weaken_made s share access deny (RangesOf file number) good there less =
+    weakened_elements s share access deny file (open_of number) less ∙ ap (λ (o : Option (List What)). else_was o (held_at s (RangesOf file number))) (sym (no_byte (is_of file (open_of number) share)))
 weaken_made s share access deny (ShareOf file owner) good there less =
     elim (cases_Bool (is_of file owner share)) [
       | inr other ↦ rw other (ap (λ (shares : List (Rwd × Rwd)). map share_held shares) (weakened_apart s share access deny file owner other))

@@ -1,5 +1,5 @@
 -- Who asks: the numbers of names, which may still have to come, and the claim that an ask is for.
-use Rattle.std.specs.Prelude.{◌≡◌, ℕ, ◌≤◌, ◌==◌, Bool, true, false, if◌then◌else◌, List, [], ◌∷◌, map, Option, Some, None, option_map}
+use Rattle.std.specs.Prelude.{◌≡◌, ℕ, ◌≤◌, ◌-◌, ◌^◌, ◌==◌, Bool, true, false, not, ◌&&◌, ◌||◌, if◌then◌else◌, List, [], ◌∷◌, map, Option, Some, None, option_map}
 use Rattle.xl_base.specs.declared.name.Owner.{Owner}
 use Rattle.xl_base.specs.declared.name.Owner.TheVariants as owners
 use Rattle.xl_base.specs.declared.name.Party.{Party}
@@ -128,32 +128,53 @@ abbrev pub is_named : Who → Bool
 is_named (Named name) = true
 is_named (Open number) = false
 
--- a share may be anyone's, a range only one's who has a name; ranges of SMB opens come later
+-- a share may be anyone's; a range with bytes one's who has a name, or an SMB open's where it hasn't all bytes; an empty
+-- range is an SMB open's alone
 abbrev pub may_hold : Who → What → Bool
 may_hold who (whats.Share access deny) = true
-may_hold who _ = is_named who
+may_hold who (whats.Range (Bytes first last) exclusive) = is_named who || not ((first == 0) && (last == 2 ^ 64 - 1))
+may_hold who (whats.Range (Empty offset) exclusive) = not (is_named who)
+may_hold who (whats.Cache kind running) = is_named who
 
--- so may it be asked for, and only who has a name tests and unlocks
+-- each of these may be held
+abbrev pub may_hold_all : Who → List (Extent × Bool) → Bool
+may_hold_all who [] = true
+may_hold_all who (range ∷ ranges) = may_hold who (range_what range) && may_hold_all who ranges
+
+-- so may it be asked for; only who has a name tests
 abbrev pub may_ask : Who → Act → Bool
 may_ask who (Share access deny) = true
-may_ask who _ = is_named who
+may_ask who (Ranges ranges) = may_hold_all who ranges
+may_ask who (Test extent exclusive) = is_named who
+may_ask who (Unlock extent) = true
 
--- a range with bytes, in their order
+-- a range with its bytes in order
 abbrev pub IsRealExtent : Extent → Type 0
 IsRealExtent (Bytes first last) = first ≤ last
 IsRealExtent (Empty offset) = ⊥
 
--- a share, or one such range
-abbrev pub IsFitAct : Act → Type 0
-IsFitAct (Share access deny) = Unit {0}
-IsFitAct (Ranges ((extent, exclusive) ∷ [])) = IsRealExtent extent
-IsFitAct (Ranges _) = ⊥
-IsFitAct (Test extent exclusive) = IsRealExtent extent
-IsFitAct (Unlock extent) = IsRealExtent extent
+-- such a range, or one without bytes, which only an SMB open unlocks
+abbrev pub IsOrdered : Extent → Type 0
+IsOrdered (Bytes first last) = first ≤ last
+IsOrdered (Empty offset) = Unit {0}
+
+-- Of several ranges all are an SMB open's, and the ask doesn't wait: a request with several locks of which one may wait is
+-- refused before (MS-SMB2 3.3.5.14.2).
+abbrev pub AreMore : Who → Bool → List (Extent × Bool) → Type 0
+AreMore who blocking [] = Unit {0}
+AreMore who blocking (range ∷ ranges) = (is_named who ≡ false) × (blocking ≡ false) × IsOrdered range.0 × AreMore who blocking ranges
+
+-- a share, ranges of which there is one at least, a test of one with bytes, or an unlock of one
+abbrev pub IsFitAct : Who → Bool → Act → Type 0
+IsFitAct who blocking (Share access deny) = Unit {0}
+IsFitAct who blocking (Ranges []) = ⊥
+IsFitAct who blocking (Ranges (range ∷ ranges)) = IsOrdered range.0 × AreMore who blocking ranges
+IsFitAct who blocking (Test extent exclusive) = IsRealExtent extent
+IsFitAct who blocking (Unlock extent) = IsOrdered extent
 
 -- Which asks the core takes: a client's by its name for a share, one range with bytes, a test or an unlock; and an SMB
--- open's, which is its own party, for a share.
+-- open's, which is its own party, for a share, for ranges, or for the unlock of one.
 pub record IsFit (a : Ask) : Type 0 where
-  pub act : IsFitAct a.act
+  pub act : IsFitAct a.owner a.blocking a.act
   pub own : may_ask a.owner a.act ≡ true
   pub party : is_client a.owner a.party ≡ true

@@ -1,9 +1,12 @@
 -- Why an ask or a turn is answered as it is, and what a turn leaves.
-use Rattle.std.specs.Prelude.{◌≡◌, ℕ, ◌+◌, ◌<◌, ◌≤◌, Bool, true, false, ◌&&◌, ◌⊎◌, List, [], ◌∷◌, ◌++◌, length, Some, None}
+use Rattle.std.specs.Prelude.{◌≡◌, ℕ, ◌+◌, ◌<◌, ◌≤◌, Bool, true, false, ◌&&◌, ◌⊎◌, List, [], ◌∷◌, ◌++◌, length, Some, None, is_some}
 use Rattle.std.specs.List.{AllByRecursion, list_any, slice_get}
 use Rattle.xl_base.specs.Lists.{IsIn}
 use Rattle.xl_base.specs.declared.name.Owner.{Owner}
 use Rattle.xl_matrix.specs.declared.claim.Claim.{Claim}
+use Rattle.xl_matrix.specs.declared.claim.Extent.{Extent}
+use Rattle.xl_table.specs.Elements.{element_held}
+use Rattle.xl_core.specs.Judge.{held_with}
 use Rattle.xl_names.specs.declared.name.Name.{Name}
 use Rattle.xl_spans.specs.Spans.{within, mode_at}
 use Rattle.xl_table.specs.Flat.{blocks}
@@ -80,6 +83,22 @@ IsUnlockDue s claim first last (Granted c) = (c ≡ claim) × HasByte s claim.fi
 IsUnlockDue s claim first last (Full limit) = (limit ≡ most_claims) × HasByte s claim.file claim.owner first last × (most_claims < left_by_unlock s claim first last)
 IsUnlockDue s claim first last NotHeld = HasNoByte s claim.file claim.owner first last
 IsUnlockDue s claim first last _ = ⊥
+
+-- Why an unlock by an SMB open is: it has an element of just this range, or none.
+abbrev pub IsElementDue : CoreState → Claim → Extent → Answer → Type 0
+IsElementDue s claim extent (Granted c) = (c ≡ claim) × (is_some (element_held claim extent s.claims) ≡ true)
+IsElementDue s claim extent NotHeld = element_held claim extent s.claims ≡ None
+IsElementDue s claim extent _ = ⊥
+
+-- Why an ask for several ranges that doesn't wait is: each is judged where those before it are held. The first that something
+-- held blocks is told of the least that does; the first that passes a limit, of the least limit. Where there is no such all are
+-- granted. So many names are kept then.
+abbrev pub IsEachDue : Rooms → Rooms → ℕ → Claim → List Claim → CoreState → Answer → Type 0
+IsEachDue left rows kept first [] s answer = answer ≡ Granted first
+IsEachDue left rows kept first (c ∷ cs) s answer =
+    ((d : Claim) → least s.names (blockers [] s c) ≡ Some d → answer ≡ Conflict d)
+    × ((limit : ℕ) → is_blocked s.claims c ≡ false → IsLeastPassed (grant_limits left rows (length (granted_claims c s.claims)) kept) limit → answer ≡ Full limit)
+    × (is_blocked s.claims c ≡ false → IsRoom (grant_limits left rows (length (granted_claims c s.claims)) kept) → IsEachDue left rows kept first cs (held_with (c ∷ []) s) answer)
 
 -- ---- what a turn is
 

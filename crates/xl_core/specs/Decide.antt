@@ -11,6 +11,9 @@ use Rattle.xl_table.specs.Least.{least}
 use Rattle.xl_core.specs.Blockers.{test_blockers}
 use Rattle.xl_core.specs.Judge.{judged}
 use Rattle.xl_core.specs.Limits.{wait_limits, first_passed}
+use Rattle.xl_matrix.specs.Owners.{posix}
+use Rattle.xl_table.specs.Elements.{element_held}
+use Rattle.xl_table.specs.Flat.{removed}
 use Rattle.xl_table.specs.Relock.{most_claims, relocked_in, holds_byte}
 use Rattle.xl_core.specs.declared.ask.Act.{Act}
 use Rattle.xl_core.specs.declared.ask.Act.TheVariants.{Share, Ranges, Test, Unlock}
@@ -85,10 +88,19 @@ unlocked_bytes s claim first last =
     else if not (nat_le (length (unlocked_claims claim first last s.claims)) most_claims) then (Full most_claims, [], s)
     else (Granted claim, [], record s { claims = unlocked_claims claim first last s.claims })
 
--- an unlock of a range; one without a byte holds nothing
+-- the held claim is taken out, or there is none
+abbrev pub freed : CoreState → Claim → Option Claim → Answered
+freed s claim None = (NotHeld, [], s)
+freed s claim (Some c) = (Granted claim, [], record s { claims = removed c s.claims })
+
+-- one element of an SMB open of just this range is given up, exclusive before shared (MS-FSA 2.1.5.9)
+abbrev pub unlocked_one : CoreState → Claim → Extent → Answered
+unlocked_one s claim extent = freed s claim (element_held claim extent s.claims)
+
+-- an unlock of a range, by its owner
 unfoldable pub unlocked : CoreState → Claim → Extent → Answered
-unlocked s claim (Bytes first last) = unlocked_bytes s claim first last
-unlocked s claim (Empty offset) = (NotHeld, [], s)
+unlocked s claim (Bytes first last) = if posix claim.owner then unlocked_bytes s claim first last else unlocked_one s claim (Bytes first last)
+unlocked s claim (Empty offset) = unlocked_one s claim (Empty offset)
 
 -- ---- an ask
 

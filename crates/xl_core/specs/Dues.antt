@@ -1,12 +1,15 @@
 -- What is due to a deed: the answer that its cause gives, and what nothing stands against.
-use Rattle.std.specs.Prelude.{◌≡◌, ℕ, false, List, [], ◌∷◌, Option, Some, None, IfSome}
+use Rattle.std.specs.Prelude.{◌≡◌, ℕ, Bool, true, false, List, [], ◌∷◌, length, map, Option, Some, None, IfSome}
+use Rattle.xl_matrix.specs.Owners.{posix}
+use Rattle.xl_matrix.specs.declared.claim.Claim.{Claim}
+use Rattle.xl_matrix.specs.declared.claim.Extent.{Extent}
 use Rattle.xl_matrix.specs.declared.claim.Extent.TheVariants as extents
 use Rattle.xl_matrix.specs.declared.claim.What.{What}
 use Rattle.xl_wait.specs.declared.waiter.Rooms.{Rooms}
 use Rattle.xl_core.specs.State.{CoreState}
-use Rattle.xl_core.specs.Asking.{asked_what, asked_claim, known_claim}
+use Rattle.xl_core.specs.Asking.{range_what, both_entered, asked_what, asked_claim, asked_claims, known_claim}
 use Rattle.xl_core.specs.Limits.{IsRoom}
-use Rattle.xl_core.specs.Causes.{limits_of_grant, IsClaimDue, IsTestDue, IsUnlockDue, IsTurn}
+use Rattle.xl_core.specs.Causes.{limits_of_grant, IsClaimDue, IsTestDue, IsUnlockDue, IsElementDue, IsEachDue, IsTurn}
 use Rattle.xl_core.specs.Decide.{ask}
 use Rattle.xl_core.specs.Deeds.{Deed, Asks, Serves, Expires, done}
 use Rattle.xl_core.specs.Leases.{first_ended}
@@ -30,13 +33,28 @@ abbrev pub IsWhatDue : Rooms → CoreState → Ask → Option What → Answer �
 IsWhatDue left s a None answer = Unit {0}
 IsWhatDue left s a (Some what) answer = IsGrantDue left s a what answer
 
+-- what is due to an ask for these ranges: to one what is due to its claim, to several that each be judged beside those
+-- before it
+abbrev pub IsRangesDue : Rooms → CoreState → Ask → List (Extent × Bool) → Answer → Type 0
+IsRangesDue left s a [] answer = Unit {0}
+IsRangesDue left s a (range ∷ []) answer = IsGrantDue left s a (range_what range) answer
+IsRangesDue left s a (range ∷ more ∷ ranges) answer =
+    a.reclaim ≡ false
+    → IsEachDue left a.rows (length (both_entered a s.names)) (asked_claim a (range_what range) s.names) (asked_claims a (map range_what (range ∷ more ∷ ranges)) s.names) s answer
+
+-- what is due to an unlock of a range by this claim's owner: of bytes, or of an element
+abbrev pub IsBytesDue : CoreState → Claim → ℕ → ℕ → Bool → Answer → Type 0
+IsBytesDue s claim first last true answer = IsUnlockDue s claim first last answer
+IsBytesDue s claim first last false answer = IsElementDue s claim (extents.Bytes first last) answer
+
 -- what an ask is answered is what is due to it
 abbrev pub IsAnswerDue : Rooms → CoreState → Ask → Act → Answer → Type 0
 IsAnswerDue left s a (acts.Share access deny) answer = IsWhatDue left s a (asked_what (acts.Share access deny)) answer
-IsAnswerDue left s a (acts.Ranges ranges) answer = IsWhatDue left s a (asked_what (acts.Ranges ranges)) answer
+IsAnswerDue left s a (acts.Ranges ranges) answer = IsRangesDue left s a ranges answer
 IsAnswerDue left s a (acts.Test extent exclusive) answer = IsTestDue s a (known_claim a extent exclusive s.names) answer
-IsAnswerDue left s a (acts.Unlock (extents.Bytes first last)) answer = IsUnlockDue s (known_claim a (extents.Bytes first last) false s.names) first last answer
-IsAnswerDue left s a (acts.Unlock (extents.Empty offset)) answer = Unit {0}
+IsAnswerDue left s a (acts.Unlock (extents.Bytes first last)) answer =
+    let claim = known_claim a (extents.Bytes first last) false s.names in IsBytesDue s claim first last (posix claim.owner) answer
+IsAnswerDue left s a (acts.Unlock (extents.Empty offset)) answer = IsElementDue s (known_claim a (extents.Empty offset) false s.names) (extents.Empty offset) answer
 
 -- there is a turn unless each waiter is blocked, and it is the turn of the first who is not
 pub record IsTurnOwed (n : ℕ) (left : Rooms) (s : CoreState) : Type 0 where

@@ -19,7 +19,7 @@ use Rattle.xl_matrix.specs.declared.claim.What.TheVariants.{Share, Range, Cache}
 use Rattle.xl_names.specs.Names.{protocol_of, AreDistinct, most_names}
 use Rattle.xl_names.specs.declared.name.Name.{Name}
 use Rattle.xl_table.specs.Flat.{is_blocked}
-use Rattle.xl_table.specs.Held.{is_cache, may_own, IsKept, IsGrantable, IsPosixBy}
+use Rattle.xl_table.specs.Held.{is_cache, may_own, IsKept, IsGrantable, IsShareOrLock}
 use Rattle.xl_wait.specs.declared.waiter.Waiter.{Waiter}
 use Rattle.xl_core.specs.State.{CoreState}
 use Rattle.xl_core.specs.Asking.{client_of, is_name}
@@ -58,10 +58,10 @@ IsKnown names c = IsGrantable c × (are_kept names c.owner c.party ≡ true)
 -- break, where one runs, leaves less
 abbrev pub IsHeldBy : Party → What → Type 0
 IsHeldBy party (Share access deny) = Unit {0}
-IsHeldBy party (Range extent exclusive) = IsPosixBy (Range extent exclusive)
+IsHeldBy party (Range extent exclusive) = IsShareOrLock (Range extent exclusive)
 IsHeldBy party (Cache kind running) = is_cache_of party kind running ≡ true
 
--- such a claim of a client that is known by name, or of an open, which has no ranges
+-- such a claim of a client that is known by name, or of an open
 abbrev pub IsHeld : List Name → Claim → Type 0
 IsHeld names c = (IsHeldBy c.party c.what × (may_own c.owner c.what ≡ true)) × (are_kept names c.owner c.party ≡ true)
 

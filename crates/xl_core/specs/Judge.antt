@@ -1,6 +1,11 @@
 -- The order of decisions: one judgement of those who ask and of those who wait, as a row of steps.
-use Rattle.std.specs.Prelude.{ℕ, if◌then◌else◌, List, [], ◌∷◌, ◌++◌, length, Option, Some, None}
+use Rattle.std.specs.Prelude.{◌≡◌, ℕ, ◌≤◌, Bool, true, false, if◌then◌else◌, List, [], ◌∷◌, ◌++◌, length, Option, Some, None}
+use Rattle.std.specs.List.{AllByRecursion}
+use Rattle.xl_base.specs.Lists.{Pairwise}
+use Rattle.xl_matrix.specs.Owners.{posix}
 use Rattle.xl_matrix.specs.declared.claim.Claim.{Claim}
+use Rattle.xl_names.specs.Names.{most_names}
+use Rattle.xl_table.specs.Held.{has_one_party, is_range, IsGrantable}
 use Rattle.xl_wait.specs.declared.waiter.Rooms.{Rooms}
 use Rattle.xl_wait.specs.declared.waiter.Waiter.{Waiter}
 use Rattle.xl_core.specs.State.{CoreState}
@@ -101,3 +106,53 @@ each earlier left p before (c ∷ cs) rest =
 -- succeed in the step: all of them are granted, or none.
 unfoldable pub judged : ℕ → List Waiter → Rooms → Plea → List Claim → CoreState → Ruled
 judged n earlier left p asked = after (check_grace p) (each earlier left p [] asked (after (record_name n p) (enter_all asked)))
+
+-- ---- several claims
+
+-- a ruling by the first of two that has one
+abbrev pub or_else : Option Ruling → Option Ruling → Option Ruling
+or_else (Some ruling) later = Some ruling
+or_else None later = later
+
+-- what stops a claim, if anything: what is held, or a limit
+abbrev pub stop_of : Rooms → Plea → Claim → CoreState → Option Ruling
+stop_of left p c s = or_else (check_held [] p [] c s).0 (check_room left p [] c s).0
+
+abbrev pub unless : Option Ruling → Ruling → Ruling
+unless (Some ruling) later = ruling
+unless None later = later
+
+-- the ruling on these, each where those before it are held: that on the first that is stopped; they are had where none is
+abbrev pub row : Rooms → Plea → List Claim → CoreState → Ruling
+row left p [] s = Gets
+row left p (c ∷ cs) s = unless (stop_of left p c s) (row left p cs (held_with (c ∷ []) s))
+
+-- the state after it: all of them are held, or none
+abbrev pub row_left : Ruling → List Claim → CoreState → CoreState
+row_left Gets asked s = held_with asked s
+row_left Waits asked s = s
+row_left (Told answer) asked s = s
+
+-- the state behind what stopped a claim: the claim is held where nothing did
+abbrev pub stop_left : Option Ruling → Claim → CoreState → CoreState
+stop_left None c s = held_with (c ∷ []) s
+stop_left (Some ruling) c s = s
+
+abbrev pub gets : Ruling → Bool
+gets Gets = true
+gets Waits = false
+gets (Told answer) = false
+
+-- one claim that may be granted, or several ranges of an SMB open, each of which may
+abbrev pub AreElements : List Claim → Type 0
+AreElements cs = AllByRecursion (λ c. IsGrantable c × (is_range c.what ≡ true) × (posix c.owner ≡ false)) cs
+
+abbrev pub IsRow : List Claim → Type 0
+IsRow [] = Unit {0}
+IsRow (c ∷ []) = IsGrantable c
+IsRow (c ∷ d ∷ cs) = AreElements (c ∷ d ∷ cs) × Pairwise has_one_party (c ∷ d ∷ cs)
+
+-- there is room for the names that are kept then, where something is asked for
+abbrev pub IsFew : Plea → List Claim → Type 0
+IsFew p [] = Unit {0}
+IsFew p (c ∷ cs) = p.kept ≤ most_names

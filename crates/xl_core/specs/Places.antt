@@ -1,24 +1,28 @@
 -- Places where something is held, and what a deed makes of each.
-use Rattle.std.specs.Prelude.{◌≡◌, ℕ, Bool, false, if◌then◌else◌, List, [], ◌∷◌, map, Option, Some, None}
+use Rattle.std.specs.Prelude.{◌≡◌, ℕ, Bool, false, ◌&&◌, if◌then◌else◌, List, [], ◌∷◌, ◌++◌, map, Option, Some, None}
 use Rattle.std.specs.List.{list_any}
 use Rattle.xl_base.specs.declared.name.Owner.{Owner}
+use Rattle.xl_base.specs.declared.name.Owner.TheVariants as owners
 use Rattle.xl_base.specs.declared.name.Party.{Party}
 use Rattle.xl_matrix.specs.Equal.{same_parties}
 use Rattle.xl_matrix.specs.declared.claim.Claim.{Claim}
+use Rattle.xl_matrix.specs.Owners.{posix}
+use Rattle.xl_matrix.specs.declared.claim.Extent.{Extent}
 use Rattle.xl_matrix.specs.declared.claim.Extent.TheVariants.{Bytes}
 use Rattle.xl_matrix.specs.declared.claim.Rwd.{Rwd}
 use Rattle.xl_matrix.specs.declared.claim.What.{What}
 use Rattle.xl_matrix.specs.declared.claim.What.TheVariants as whats
 use Rattle.xl_spans.specs.Spans.{within, mode_at}
 use Rattle.xl_spans.specs.declared.span.Mode.{Mode}
+use Rattle.xl_table.specs.Elements.{elements_of, unlocked_elements}
 use Rattle.xl_table.specs.Flat.{with_what}
 use Rattle.xl_table.specs.Held.{is_of, spans_of}
 use Rattle.xl_names.specs.declared.name.Name.TheVariants.{NfsParty}
 use Rattle.xl_core.specs.State.{CoreState}
 use Rattle.xl_core.specs.Decide.{ask}
-use Rattle.xl_core.specs.Asking.{party_named}
+use Rattle.xl_core.specs.Asking.{party_named, range_what}
 use Rattle.xl_core.specs.Deeds.{Deed, Asks, GivesBack, Weakens, Ends, Serves, Expires, given, done}
-use Rattle.xl_table.specs.Relock.{is_exclusive, shares_of, old_shares, united_by}
+use Rattle.xl_table.specs.Relock.{is_exclusive, is_range_of, shares_of, old_shares, united_by, granted_claims}
 use Rattle.xl_core.specs.declared.ask.Act.{Act}
 use Rattle.xl_core.specs.declared.ask.Act.TheVariants as acts
 use Rattle.xl_core.specs.declared.ask.Answer.{Answer}
@@ -28,23 +32,26 @@ use Rattle.xl_core.specs.declared.ask.Effect.TheVariants.{Served}
 
 -- ---- places
 
--- a byte of a file as its owner may have it locked; an owner's share of a file
+-- a byte of a file as its POSIX owner may have it locked; an owner's share of a file; the ranges of an SMB open on a file,
+-- which stand one by one
 pub data Place : Type 0 where
   ByteOf : ℕ → Owner → ℕ → Place
   ShareOf : ℕ → Owner → Place
+  RangesOf : ℕ → ℕ → Place
 
-abbrev pub byte_held : ℕ → Option Mode → List What
-byte_held byte None = []
-byte_held byte (Some mode) = whats.Range (Bytes byte byte) (is_exclusive mode) ∷ []
+abbrev pub byte_held : Owner → ℕ → Option Mode → List What
+byte_held owner byte None = []
+byte_held owner byte (Some mode) = if posix owner then whats.Range (Bytes byte byte) (is_exclusive mode) ∷ [] else []
 
 abbrev pub share_held : Rwd × Rwd → What
 share_held share = whats.Share share.0 share.1
 
 abbrev pub held_in : List Claim → Place → List What
-held_in claims (ByteOf file owner byte) = byte_held byte (mode_at (spans_of file owner claims) byte)
+held_in claims (ByteOf file owner byte) = byte_held owner byte (mode_at (spans_of file owner claims) byte)
 held_in claims (ShareOf file owner) = map share_held (shares_of file owner claims)
+held_in claims (RangesOf file number) = elements_of file (owners.Open number) claims
 
--- what is held there: nothing, the lock of that one byte, or the share
+-- what is held there: nothing, the lock of that one byte, the share, or the open's ranges as they were locked
 abbrev pub held_at : CoreState → Place → List What
 held_at s p = held_in s.claims p
 
@@ -54,9 +61,10 @@ held_at s p = held_in s.claims p
 abbrev pub is_at : Place → Claim → Bool
 is_at (ByteOf file owner byte) c = is_of file owner c
 is_at (ShareOf file owner) c = is_of file owner c
+is_at (RangesOf file number) c = is_of file (owners.Open number) c
 
 abbrev pub part_by : What → Place → List What
-part_by (whats.Range (Bytes first last) exclusive) (ByteOf file owner byte) = if within first last byte then whats.Range (Bytes byte byte) exclusive ∷ [] else []
+part_by (whats.Range (Bytes first last) exclusive) (ByteOf file owner byte) = if posix owner && within first last byte then whats.Range (Bytes byte byte) exclusive ∷ [] else []
 part_by (whats.Share access deny) (ShareOf file owner) = whats.Share access deny ∷ []
 part_by _ _ = []
 
@@ -73,9 +81,21 @@ abbrev pub held_as : List Claim → Claim → What → What
 held_as held c (whats.Share access deny) = united_by c.owner (whats.Share access deny) (old_shares c.file c.owner held)
 held_as held c what = what
 
--- a claim that is entered is held then at each place that it reaches, whatever was there but for a share that it is united with
+-- a claim that is entered is held then at each place that it reaches, whatever was there but for a share that it is united
+-- with; a range of an SMB open is held once more, behind its others
 abbrev pub entered_at : List Claim → Claim → Place → Option (List What)
-entered_at held c p = entered_by (if is_at p c then part_by (held_as held c c.what) p else [])
+entered_at held c (ByteOf file owner byte) = entered_by (if is_of file owner c then part_by (held_as held c c.what) (ByteOf file owner byte) else [])
+entered_at held c (ShareOf file owner) = entered_by (if is_of file owner c then part_by (held_as held c c.what) (ShareOf file owner) else [])
+entered_at held c (RangesOf file number) = if is_range_of file (owners.Open number) c then Some (elements_of file (owners.Open number) held ++ c.what ∷ []) else None
+
+abbrev pub then_entered : Option (List What) → Option (List What) → Option (List What)
+then_entered first None = first
+then_entered first (Some later) = Some later
+
+-- claims that are entered, one after another
+abbrev pub all_entered_at : List Claim → List Claim → Place → Option (List What)
+all_entered_at held [] p = None
+all_entered_at held (c ∷ cs) p = then_entered (entered_at held c p) (all_entered_at (granted_claims c held) cs p)
 
 abbrev pub cleared_by : List What → Option (List What)
 cleared_by [] = None
@@ -95,16 +115,31 @@ abbrev pub entered_for : List Claim → Answer → Place → Option (List What)
 entered_for held (Granted c) p = entered_at held c p
 entered_for held answer p = None
 
-abbrev pub cleared_for : Answer → Place → Option (List What)
-cleared_for (Granted c) p = cleared_at c p
-cleared_for answer p = None
+-- the claims that are asked for where this is the first of them
+abbrev pub claims_like : Claim → List (Extent × Bool) → List Claim
+claims_like c ranges = map (λ range. with_what c (range_what range)) ranges
 
--- a granted share or lock is entered, a granted unlock clears its range; a test and any other answer leave all
+abbrev pub all_entered_for : List Claim → List (Extent × Bool) → Answer → Place → Option (List What)
+all_entered_for held ranges (Granted c) p = all_entered_at held (claims_like c ranges) p
+all_entered_for held ranges answer p = None
+
+-- an unlock clears its bytes; of an SMB open it takes out one element
+abbrev pub unlocked_at : List Claim → Extent → Claim → Place → Option (List What)
+unlocked_at held extent c (ByteOf file owner byte) = cleared_at c (ByteOf file owner byte)
+unlocked_at held extent c (ShareOf file owner) = None
+unlocked_at held extent c (RangesOf file number) = if is_of file (owners.Open number) c then Some (unlocked_elements extent (elements_of file (owners.Open number) held)) else None
+
+abbrev pub unlocked_for : List Claim → Extent → Answer → Place → Option (List What)
+unlocked_for held extent (Granted c) p = unlocked_at held extent c p
+unlocked_for held extent answer p = None
+
+-- a granted share or lock is entered, of several ranges each; a granted unlock clears its range; a test and any other answer
+-- leave all
 abbrev pub answered_at : List Claim → Act → Answer → Place → Option (List What)
 answered_at held (acts.Share access deny) answer p = entered_for held answer p
-answered_at held (acts.Ranges ranges) answer p = entered_for held answer p
+answered_at held (acts.Ranges ranges) answer p = all_entered_for held ranges answer p
 answered_at held (acts.Test extent exclusive) answer p = None
-answered_at held (acts.Unlock extent) answer p = cleared_for answer p
+answered_at held (acts.Unlock extent) answer p = unlocked_for held extent answer p
 
 -- a party that ends leaves nothing at a place where it has something
 abbrev pub ended_at : List Claim → Party → Place → Option (List What)

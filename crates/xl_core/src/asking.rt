@@ -1,10 +1,10 @@
 //! The numbers of those who ask.
-ghost use Rattle.std.specs.Prelude.{◌≡◌, ◌≤◌, true, length, OnOk};
+ghost use Rattle.std.specs.Prelude.{◌≡◌, ◌≤◌, true, length, map, OnOk, IfOk};
 ghost use Rattle.xl_names.specs.Names.{same_name, place_of, is_kept, entered, most_names};
-ghost use Rattle.xl_core.specs.Asking.{owner_in, party_in, who_entered, asker, asking_party, both_entered, coming, is_client, asked_claim, number_or, known_owner, known_party, known_claim};
+ghost use Rattle.xl_core.specs.Asking.{owner_in, party_in, who_entered, asker, asking_party, both_entered, coming, is_client, range_what, asked_claim, asked_claims, number_or, known_owner, known_party, known_claim};
 
 use crate::ask::{Ask, Who};
-use std::alloc::AllocError;
+use std::alloc::{AllocError, Global};
 use xl_base::{Owner, Party};
 use xl_matrix::{Claim, Extent, What};
 use xl_names::{Name, NameErr, Names};
@@ -137,6 +137,23 @@ pub(crate) fn asked_claim(names: &Names, ask: &Ask, what: What) -> Claim
         party: party_behind(names, &ask.party, &ask.owner),
         what,
     }
+}
+
+/// The claims that an ask for these ranges is for, in order.
+#[tactic(auto, using(crate::proofs::AskLaws::claims_more))]
+pub(crate) fn asked_claims(
+    alloc: Global,
+    names: &Names,
+    ask: &Ask,
+    ranges: &[(Extent, bool)],
+) -> Result<Vec<Claim>, AllocError>
+    ensures { IfOk result (λ v. v.items ≡ asked_claims ask.now (map range_what ranges.now) names.now) }
+{
+    let mut claims = Vec::new(alloc);
+    for range in ranges {
+        claims.push(asked_claim(names, ask, What::Range(range.0, range.1)))?;
+    }
+    Ok(claims)
 }
 
 fn number_or(number: Option<u32>) -> u32

@@ -4,21 +4,22 @@ ghost use Rattle.std.specs.List.{AllByRecursion};
 ghost use Rattle.xl_base.specs.Limits.{most_waiters, numbers_left};
 ghost use Rattle.xl_matrix.specs.Owners.{posix};
 ghost use Rattle.xl_names.specs.Names.{most_names};
-ghost use Rattle.xl_table.specs.Held.{is_range, has_one_party, IsPosixBy, IsGrantable};
-ghost use Rattle.xl_core.specs.Asking.{both_entered, asked_whats, asked_claims, IsFitAct, IsFit, IsRealExtent, is_client, is_named, may_hold};
-ghost use Rattle.xl_core.specs.Decide.{plea_of, waiter_of, waiting, claims_asked, tested, unlocked_bytes, unlocked, ask};
+ghost use Rattle.xl_table.specs.Held.{is_range, has_one_party, IsShareOrLock, IsGrantable};
+ghost use Rattle.xl_core.specs.Asking.{both_entered, asked_whats, asked_claims, IsFitAct, IsFit, IsOrdered, is_client, may_hold, may_hold_all};
+ghost use Rattle.xl_core.specs.Decide.{plea_of, waiter_of, waiting, claims_asked, tested, unlocked_bytes, unlocked_one, unlocked, ask};
 ghost use Rattle.xl_core.specs.Good.{IsGood};
+ghost use Rattle.xl_core.specs.Judge.{IsRow};
 ghost use Rattle.xl_core.specs.Whole.{state_of};
 ghost use Rattle.xl_core.specs.declared.ask.Act.TheVariants.{Ranges};
 
 use crate::ask::{Act, Answer, Ask};
-use crate::asking::{asked_claim, count_names, enter_both, known_claim};
-use crate::judge::{Plea, Ruling, judge};
+use crate::asking::{asked_claim, asked_claims, count_names, enter_both, known_claim};
+use crate::judge::{Plea, Ruling, judge_all};
 use crate::limits::passed_by_wait;
 use crate::parts::Parts;
 use std::alloc::{AllocError, Global};
 use xl_base::Sequence;
-use xl_matrix::{Claim, Extent, What};
+use xl_matrix::{Claim, Extent, What, is_posix};
 use xl_table::CLAIMS;
 use xl_wait::{QueueErr, Rooms, Waiter};
 
@@ -40,15 +41,14 @@ fn plea_of(parts: &Parts, left: &Rooms, ask: &Ask) -> Plea
     }
 }
 
-/// One who waits for a claim.
-fn waiter_of(alloc: Global, id: u32, ask: &Ask, claim: &Claim) -> Result<Waiter, AllocError>
-    ensures { IfOk result (λ w. w ≡ waiter_of id ask.now (claim.now ∷ [])) }
+/// One who waits for these claims.
+fn waiter_of(alloc: Global, id: u32, ask: &Ask, claims: &[Claim]) -> Result<Waiter, AllocError>
+    ensures { IfOk result (λ w. w ≡ waiter_of id ask.now claims.now) }
 {
-    let asked = [*claim];
     Ok(Waiter {
         id,
         conn: ask.conn,
-        asked: Sequence::from_slice(alloc, &asked)?,
+        asked: Sequence::from_slice(alloc, claims)?,
         wish: Sequence::from_slice(alloc, ask.wish.as_slice())?,
         blocking: ask.blocking,
         monitored: ask.monitored,
@@ -61,17 +61,17 @@ fn waiter_of(alloc: Global, id: u32, ask: &Ask, claim: &Claim) -> Result<Waiter,
 }
 
 /// Lets the asker wait, for which there is room.
-fn wait(alloc: Global, parts: &mut Parts, ask: &Ask, claim: &Claim) -> Result<Answer, AllocError>
+fn wait(alloc: Global, parts: &mut Parts, ask: &Ask, claims: &[Claim]) -> Result<Answer, AllocError>
     requires room { length parts.old.queue < most_waiters }
     requires names { length (both_entered ask.now parts.old.names) ≤ most_names }
     requires numbers { parts.old.counter + numbers_left < 2 ^ 32 }
-    ensures state { IfOk result (λ answer. state_of parts.new ≡ waiting ask.now (claim.now ∷ []) (state_of parts.old)) }
+    ensures state { IfOk result (λ answer. state_of parts.new ≡ waiting ask.now claims.now (state_of parts.old)) }
     ensures answer { IfOk result (λ answer. answer ≡ Answer.Queued (parts.old.counter + 1)) }
     ensures made { parts.new.made ≡ parts.old.made }
     ensures failed { parts.new.failed ≡ parts.old.failed }
 {
     let id = parts.counter + 1;
-    let waiter = waiter_of(alloc, id, ask, claim)?;
+    let waiter = waiter_of(alloc, id, ask, claims)?;
     enter_both(&mut parts.names, ask)?;
     match parts.queue.push(waiter) {
         Ok(()) => {}
@@ -82,30 +82,33 @@ fn wait(alloc: Global, parts: &mut Parts, ask: &Ask, claim: &Claim) -> Result<An
     Ok(Answer::Queued(id))
 }
 
-/// Answers an ask for a claim.
+/// Answers an ask for these claims.
 #[tactic(auto, unfolding(crate::specs::Decide::claims_asked))]
-fn ask_claim(
+fn ask_claims(
     alloc: Global,
     parts: &mut Parts,
     left: &Rooms,
     ask: &Ask,
-    claim: &Claim,
+    claims: &[Claim],
 ) -> Result<Answer, AllocError>
     requires client { is_client ask.now.owner ask.now.party ≡ true }
-    requires grantable { IsGrantable claim.now }
-    requires party { AllByRecursion (λ c. has_one_party claim.now c ≡ true) parts.old.table }
+    requires row { IsRow claims.now }
+    requires party { AllByRecursion (λ c. AllByRecursion (λ d. has_one_party c d ≡ true) parts.old.table) claims.now }
     requires numbers { parts.old.counter + numbers_left < 2 ^ 32 }
-    ensures answer { (n : ℕ) → IfOk result (λ answer. claims_asked n left.now (state_of parts.old) ask.now (claim.now ∷ []) ≡ (answer, [], state_of parts.new)) }
+    ensures answer { (n : ℕ) → IfOk result (λ answer. claims_asked n left.now (state_of parts.old) ask.now claims.now ≡ (answer, [], state_of parts.new)) }
     ensures made { parts.new.made ≡ parts.old.made }
     ensures failed { parts.new.failed ≡ parts.old.failed }
 {
+    let [first, ..] = claims else {
+        return Ok(Answer::NotHeld);
+    };
     let plea = plea_of(parts, left, ask);
-    match judge(alloc, parts, left, &plea, claim)? {
+    match judge_all(alloc, parts, left, &plea, claims)? {
         Ruling::Gets => {
             enter_both(&mut parts.names, ask)?;
-            Ok(Answer::Granted(*claim))
+            Ok(Answer::Granted(*first))
         }
-        Ruling::Waits => wait(alloc, parts, ask, claim),
+        Ruling::Waits => wait(alloc, parts, ask, claims),
         Ruling::Told(answer) => Ok(answer),
     }
 }
@@ -151,6 +154,22 @@ fn unlock_bytes(
     Ok(Answer::Granted(*claim))
 }
 
+/// Gives up one range of an SMB open.
+#[tactic(auto, unfolding(crate::specs::Decide::unlocked_one))]
+fn unlock_one(parts: &mut Parts, claim: &Claim, extent: Extent) -> Answer
+    ensures answer { unlocked_one (state_of parts.old) claim.now extent ≡ (result, [], state_of parts.new) }
+    ensures made { parts.new.made ≡ parts.old.made }
+    ensures failed { parts.new.failed ≡ parts.old.failed }
+{
+    match parts.table.element_held(claim, extent) {
+        Some(held) => {
+            parts.table.remove(&held);
+            Answer::Granted(*claim)
+        }
+        None => Answer::NotHeld,
+    }
+}
+
 /// Answers an unlock of a range.
 #[tactic(auto, unfolding(crate::specs::Decide::unlocked))]
 fn unlock(
@@ -160,16 +179,21 @@ fn unlock(
     extent: Extent,
 ) -> Result<Answer, AllocError>
     requires range { is_range claim.now.what ≡ true }
-    requires posix { posix claim.now.owner ≡ true }
-    requires real { IsRealExtent extent }
+    requires order { IsOrdered extent }
     requires party { AllByRecursion (λ c. has_one_party claim.now c ≡ true) parts.old.table }
     ensures answer { IfOk result (λ answer. unlocked (state_of parts.old) claim.now extent ≡ (answer, [], state_of parts.new)) }
     ensures made { parts.new.made ≡ parts.old.made }
     ensures failed { parts.new.failed ≡ parts.old.failed }
 {
     match extent {
-        Extent::Bytes(first, last) => unlock_bytes(alloc, parts, claim, first, last),
-        Extent::Empty(_) => Ok(Answer::NotHeld),
+        Extent::Bytes(first, last) => {
+            if is_posix(claim.owner) {
+                unlock_bytes(alloc, parts, claim, first, last)
+            } else {
+                Ok(unlock_one(parts, claim, extent))
+            }
+        }
+        Extent::Empty(_) => Ok(unlock_one(parts, claim, extent)),
     }
 }
 
@@ -183,27 +207,15 @@ fn ask_for(
 ) -> Result<Answer, AllocError>
     requires client { is_client ask.now.owner ask.now.party ≡ true }
     requires own { may_hold ask.now.owner what ≡ true }
-    requires real { IsPosixBy what }
+    requires real { IsShareOrLock what }
     requires good { IsGood (state_of parts.old) }
     requires numbers { parts.old.counter + numbers_left < 2 ^ 32 }
     ensures answer { (n : ℕ) → IfOk result (λ answer. claims_asked n left.now (state_of parts.old) ask.now (asked_claims ask.now (what ∷ []) parts.old.names) ≡ (answer, [], state_of parts.new)) }
     ensures made { parts.new.made ≡ parts.old.made }
     ensures failed { parts.new.failed ≡ parts.old.failed }
 {
-    let claim = asked_claim(&parts.names, ask, what);
-    ask_claim(alloc, parts, left, ask, &claim)
-}
-
-/// The range, where there is one alone.
-fn only_range(ranges: &[(Extent, bool)]) -> Option<(Extent, bool)>
-    requires { IsFitAct (Ranges ranges.now) }
-    ensures one { IfSome result (λ range. (asked_whats (Ranges ranges.now) ≡ What.Range range.0 range.1 ∷ []) × IsPosixBy (What.Range range.0 range.1)) }
-    ensures none { result ≡ None → asked_whats (Ranges ranges.now) ≡ [] }
-{
-    match ranges {
-        [range] => Some(*range),
-        _ => None,
-    }
+    let claims = [asked_claim(&parts.names, ask, what)];
+    ask_claims(alloc, parts, left, ask, &claims)
 }
 
 /// Answers an ask for ranges.
@@ -214,21 +226,17 @@ fn ask_ranges(
     ask: &Ask,
     ranges: &[(Extent, bool)],
 ) -> Result<Answer, AllocError>
-    requires fit { IsFitAct (Ranges ranges.now) }
+    requires fit { IsFitAct ask.now.owner ask.now.blocking (Ranges ranges.now) }
     requires client { is_client ask.now.owner ask.now.party ≡ true }
-    requires own { is_named ask.now.owner ≡ true }
+    requires own { may_hold_all ask.now.owner ranges.now ≡ true }
     requires good { IsGood (state_of parts.old) }
     requires numbers { parts.old.counter + numbers_left < 2 ^ 32 }
     ensures answer { (n : ℕ) → IfOk result (λ answer. claims_asked n left.now (state_of parts.old) ask.now (asked_claims ask.now (asked_whats (Ranges ranges.now)) parts.old.names) ≡ (answer, [], state_of parts.new)) }
     ensures made { parts.new.made ≡ parts.old.made }
     ensures failed { parts.new.failed ≡ parts.old.failed }
 {
-    match only_range(ranges) {
-        Some((extent, exclusive)) => {
-            ask_for(alloc, parts, left, ask, What::Range(extent, exclusive))
-        }
-        None => Ok(Answer::NotHeld),
-    }
+    let claims = asked_claims(alloc, &parts.names, ask, ranges)?;
+    ask_claims(alloc, parts, left, ask, &claims)
 }
 
 /// Answers an ask.

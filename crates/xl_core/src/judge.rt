@@ -1,11 +1,11 @@
 //! The order of decisions, read for those who ask and for those who wait.
-ghost use Rattle.std.specs.Prelude.{◌≡◌, ℕ, ◌≤◌, List, [], ◌∷◌, length, true, Some, None, Ok, IfOk, IfSome};
+ghost use Rattle.std.specs.Prelude.{◌≡◌, ℕ, ◌≤◌, List, [], ◌∷◌, length, true, false, Some, None, Ok, IfOk, IfSome};
 ghost use Rattle.std.specs.List.{AllByRecursion};
 ghost use Rattle.xl_table.specs.Changes.{written, MayBeWritten};
-ghost use Rattle.xl_table.specs.Held.{has_one_party, IsGrantable};
+ghost use Rattle.xl_table.specs.Held.{has_one_party, IsGrantable, IsKept};
 ghost use Rattle.xl_table.specs.Relock.{granted_claims};
 ghost use Rattle.xl_wait.specs.declared.waiter.Waiter.{Waiter};
-ghost use Rattle.xl_core.specs.Judge.{check_grace, stopped, check_held, check_room, judged};
+ghost use Rattle.xl_core.specs.Judge.{check_grace, stopped, check_held, check_room, judged, stop_of, stop_left, gets, row, row_left, IsRow, IsFew};
 ghost use Rattle.xl_core.specs.Whole.{state_of};
 ghost use Rattle.xl_core.specs.declared.judge.Ruling.TheVariants.{Gets, Waits};
 ghost use Rattle.xl_names.specs.Names.{most_names};
@@ -49,6 +49,7 @@ pub(crate) struct Plea {
 fn check_grace(parts: &Parts, plea: &Plea) -> Option<Ruling>
     ensures ruling { check_grace plea.now (state_of parts.now) ≡ (result, [], state_of parts.now) }
     ensures told { IfSome result (λ r. (r ≡ Gets → ⊥) × (r ≡ Waits → ⊥)) }
+    ensures timely { result ≡ None → plea.now.reclaim ≡ false }
 {
     if plea.reclaim {
         return Some(Ruling::Told(Answer::NoGrace(parts.clock)));
@@ -111,19 +112,93 @@ fn check_room(
     }
 }
 
-/// What comes of a plea for one claim. Only what is held changes.
-#[tactic(auto, unfolding(crate::specs::Judge::judged, crate::specs::Judge::start_breaks, crate::specs::Judge::record_name, crate::specs::Judge::enter_all, crate::specs::Judge::held_with))]
-pub(crate) fn judge(
+/// What stops a claim, where those before it are held by now. Where nothing does, it is held too.
+#[tactic(auto, unfolding(crate::specs::Judge::held_with))]
+fn judge_one(
     alloc: Global,
     parts: &mut Parts,
     left: &Rooms,
     plea: &Plea,
     claim: &Claim,
-) -> Result<Ruling, AllocError>
+) -> Result<Option<Ruling>, AllocError>
     requires grantable { IsGrantable claim.now }
     requires party { AllByRecursion (λ c. has_one_party claim.now c ≡ true) parts.old.table }
-    ensures judged { (n : ℕ) (earlier : List Waiter) → IfOk result (λ r. judged n earlier left.now plea.now (claim.now ∷ []) (state_of parts.old) ≡ (r, [], state_of parts.new)) }
-    ensures gets { result ≡ Ok Gets → plea.now.kept ≤ most_names }
+    ensures stop { IfOk result (λ r. stop_of left.now plea.now claim.now (state_of parts.old) ≡ r) }
+    ensures state { IfOk result (λ r. state_of parts.new ≡ stop_left r claim.now (state_of parts.old)) }
+    ensures kept { result ≡ Ok None → IsKept parts.old.table }
+    ensures few { result ≡ Ok None → plea.now.kept ≤ most_names }
+    ensures gets { result ≡ Ok (Some Gets) → ⊥ }
+    ensures waits { result ≡ Ok (Some Waits) → plea.now.crowded ≡ None }
+    ensures queue { parts.new.queue ≡ parts.old.queue }
+    ensures names { parts.new.names ≡ parts.old.names }
+    ensures counter { parts.new.counter ≡ parts.old.counter }
+    ensures made { parts.new.made ≡ parts.old.made }
+    ensures failed { parts.new.failed ≡ parts.old.failed }
+{
+    if let Some(ruling) = check_held(alloc, parts, plea, claim)? {
+        return Ok(Some(ruling));
+    }
+    let change = parts.table.granted(alloc, claim)?;
+    if let Some(ruling) = check_room(parts, left, plea, claim, &change) {
+        return Ok(Some(ruling));
+    }
+    parts.table.write(&change)?;
+    Ok(None)
+}
+
+/// Whether all that is pleaded for is had.
+fn has_all(ruling: Ruling) -> bool
+    ensures { result ≡ gets ruling }
+{
+    matches!(ruling, Ruling::Gets)
+}
+
+/// What comes of these claims, each where those before it are held: all of them are held then, or none.
+fn judge_row(
+    alloc: Global,
+    parts: &mut Parts,
+    left: &Rooms,
+    plea: &Plea,
+    claims: &[Claim],
+) -> Result<Ruling, AllocError>
+    requires row { IsRow claims.now }
+    requires party { AllByRecursion (λ c. AllByRecursion (λ d. has_one_party c d ≡ true) parts.old.table) claims.now }
+    ensures row { IfOk result (λ r. r ≡ row left.now plea.now claims.now (state_of parts.old)) }
+    ensures state { IfOk result (λ r. state_of parts.new ≡ row_left r claims.now (state_of parts.old)) }
+    ensures few { result ≡ Ok Gets → IsFew plea.now claims.now }
+    ensures waits { result ≡ Ok Waits → plea.now.crowded ≡ None }
+    ensures queue { parts.new.queue ≡ parts.old.queue }
+    ensures names { parts.new.names ≡ parts.old.names }
+    ensures counter { parts.new.counter ≡ parts.old.counter }
+    ensures made { parts.new.made ≡ parts.old.made }
+    ensures failed { parts.new.failed ≡ parts.old.failed }
+{
+    let [claim, rest @ ..] = claims else {
+        return Ok(Ruling::Gets);
+    };
+    if let Some(ruling) = judge_one(alloc, parts, left, plea, claim)? {
+        return Ok(ruling);
+    }
+    let ruling = judge_row(alloc, parts, left, plea, rest)?;
+    if !has_all(ruling) {
+        parts.table.take_back(claim);
+    }
+    Ok(ruling)
+}
+
+/// What comes of a plea for these claims, of which there is one at least. Only what is held changes.
+#[tactic(auto, using(crate::proofs::RowLaws::judged_late, crate::proofs::RowLaws::judged_row))]
+pub(crate) fn judge_all(
+    alloc: Global,
+    parts: &mut Parts,
+    left: &Rooms,
+    plea: &Plea,
+    claims: &[Claim],
+) -> Result<Ruling, AllocError>
+    requires row { IsRow claims.now }
+    requires party { AllByRecursion (λ c. AllByRecursion (λ d. has_one_party c d ≡ true) parts.old.table) claims.now }
+    ensures judged { (n : ℕ) (earlier : List Waiter) → IfOk result (λ r. judged n earlier left.now plea.now claims.now (state_of parts.old) ≡ (r, [], state_of parts.new)) }
+    ensures few { result ≡ Ok Gets → IsFew plea.now claims.now }
     ensures waits { result ≡ Ok Waits → plea.now.crowded ≡ None }
     ensures queue { parts.new.queue ≡ parts.old.queue }
     ensures names { parts.new.names ≡ parts.old.names }
@@ -134,13 +209,28 @@ pub(crate) fn judge(
     if let Some(ruling) = check_grace(parts, plea) {
         return Ok(ruling);
     }
-    if let Some(ruling) = check_held(alloc, parts, plea, claim)? {
-        return Ok(ruling);
-    }
-    let change = parts.table.granted(alloc, claim)?;
-    if let Some(ruling) = check_room(parts, left, plea, claim, &change) {
-        return Ok(ruling);
-    }
-    parts.table.write(&change)?;
-    Ok(Ruling::Gets)
+    let ruling = judge_row(alloc, parts, left, plea, claims)?;
+    Ok(ruling)
+}
+
+/// What comes of a plea for one claim. Only what is held changes.
+pub(crate) fn judge(
+    alloc: Global,
+    parts: &mut Parts,
+    left: &Rooms,
+    plea: &Plea,
+    claim: &Claim,
+) -> Result<Ruling, AllocError>
+    requires grantable { IsGrantable claim.now }
+    requires party { AllByRecursion (λ c. has_one_party claim.now c ≡ true) parts.old.table }
+    ensures judged { (n : ℕ) (earlier : List Waiter) → IfOk result (λ r. judged n earlier left.now plea.now (claim.now ∷ []) (state_of parts.old) ≡ (r, [], state_of parts.new)) }
+    ensures queue { parts.new.queue ≡ parts.old.queue }
+    ensures names { parts.new.names ≡ parts.old.names }
+    ensures counter { parts.new.counter ≡ parts.old.counter }
+    ensures made { parts.new.made ≡ parts.old.made }
+    ensures failed { parts.new.failed ≡ parts.old.failed }
+{
+    let claims = [*claim];
+    let ruling = judge_all(alloc, parts, left, plea, &claims)?;
+    Ok(ruling)
 }

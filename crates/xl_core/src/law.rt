@@ -25,7 +25,7 @@ ghost use Rattle.xl_wait.specs.Waiting.{is_waiting, cancelled};
 ghost use Rattle.xl_wait.specs.declared.waiter.Rooms.{Rooms};
 ghost use Rattle.xl_wait.specs.declared.waiter.Waiter.{Waiter};
 ghost use Rattle.xl_core.specs.State.{CoreState, started, step_begun, drawn};
-ghost use Rattle.xl_core.specs.Asking.{asker, asked_whats, asked_what, asked_claim, asked_claims, known_claim, IsFit};
+ghost use Rattle.xl_core.specs.Asking.{asker, asked_whats, asked_what, asked_claim, asked_claims, known_claim, is_named, IsFit};
 ghost use Rattle.xl_core.specs.Causes.{IsSameAsker, IsConflict, IsCacheInTheWay, limits_of_grant, IsClaimDue, IsTestDue, IsUnlockDue, IsTurn, IsOwn};
 ghost use Rattle.xl_core.specs.Decide.{waiter_of, ask};
 ghost use Rattle.xl_core.specs.Frames.{drawn_by, names_after, come_by, serves_none, IsFrame, IsTicked};
@@ -70,7 +70,7 @@ pub fn caches_may_be_held()
 pub fn answers_have_causes()
     ensures claims { (n : ℕ) (left : Rooms) (s : CoreState) (a : Ask) (what : What) (answer : Answer) → asked_what a.act ≡ Some what → ((ask n left s a).0 ≡ answer) ↔ IsClaimDue left s a (asked_claim a what s.names) answer }
     ensures tests { (n : ℕ) (left : Rooms) (s : CoreState) (a : Ask) (extent : Extent) (exclusive : Bool) (answer : Answer) → a.act ≡ Act.Test extent exclusive → ((ask n left s a).0 ≡ answer) ↔ IsTestDue s a (known_claim a extent exclusive s.names) answer }
-    ensures unlocks { (n : ℕ) (left : Rooms) (s : CoreState) (a : Ask) (first last : ℕ) (answer : Answer) → IsGood s → IsFit a → a.act ≡ Act.Unlock (Extent.Bytes first last) → ((ask n left s a).0 ≡ answer) ↔ IsUnlockDue s (known_claim a (Extent.Bytes first last) false s.names) first last answer }
+    ensures unlocks { (n : ℕ) (left : Rooms) (s : CoreState) (a : Ask) (first last : ℕ) (answer : Answer) → IsGood s → IsFit a → is_named a.owner ≡ true → a.act ≡ Act.Unlock (Extent.Bytes first last) → ((ask n left s a).0 ≡ answer) ↔ IsUnlockDue s (known_claim a (Extent.Bytes first last) false s.names) first last answer }
     ensures least { (names : List Name) (claims : List Claim) (c : Claim) → least names claims ≡ Some c → IsIn c claims × AllByRecursion (λ d. range_before names d c ≡ false) claims }
 {}
 
@@ -79,10 +79,10 @@ pub fn answers_have_causes()
 /// unlocked no more.
 pub fn free_asks_are_granted()
     ensures granted { (n : ℕ) (left : Rooms) (s : CoreState) (a : Ask) (what : What) → asked_what a.act ≡ Some what → a.reclaim ≡ false → is_blocked s.claims (asked_claim a what s.names) ≡ false → IsRoom (limits_of_grant left s a (asked_claim a what s.names)) → (ask n left s a).0 ≡ Answer.Granted (asked_claim a what s.names) }
-    ensures held { (n : ℕ) (left : Rooms) (s : CoreState) (a : Ask) (first last : ℕ) (exclusive : Bool) (c : Claim) → IsGood s → IsFit a → a.act ≡ Act.Ranges ((Extent.Bytes first last, exclusive) ∷ []) → (ask n left s a).0 ≡ Answer.Granted c → spans_of a.file (asker a s.names) (ask n left s a).2.claims ≡ relocked (spans_of a.file (asker a s.names) s.claims) first last (Some (mode_of exclusive)) }
+    ensures held { (n : ℕ) (left : Rooms) (s : CoreState) (a : Ask) (first last : ℕ) (exclusive : Bool) (c : Claim) → IsGood s → IsFit a → is_named a.owner ≡ true → a.act ≡ Act.Ranges ((Extent.Bytes first last, exclusive) ∷ []) → (ask n left s a).0 ≡ Answer.Granted c → spans_of a.file (asker a s.names) (ask n left s a).2.claims ≡ relocked (spans_of a.file (asker a s.names) s.claims) first last (Some (mode_of exclusive)) }
     ensures shared { (n : ℕ) (left : Rooms) (s : CoreState) (a : Ask) (access deny : Rwd) (c : Claim) → IsGood s → IsFit a → unites (asker a s.names) ≡ false → a.act ≡ Act.Share access deny → (ask n left s a).0 ≡ Answer.Granted c → shares_of a.file (asker a s.names) (ask n left s a).2.claims ≡ (access, deny) ∷ [] }
     ensures united { (n : ℕ) (left : Rooms) (s : CoreState) (a : Ask) (access deny : Rwd) (c : Claim) → IsGood s → IsFit a → a.act ≡ Act.Share access deny → (ask n left s a).0 ≡ Answer.Granted c → shares_of a.file (asker a s.names) (ask n left s a).2.claims ≡ with_share (united_by (asker a s.names) (What.Share access deny) (old_shares a.file (asker a s.names) s.claims)) [] }
-    ensures given_up { (n : ℕ) (left : Rooms) (s : CoreState) (a : Ask) (first last : ℕ) (c : Claim) → IsGood s → IsFit a → a.act ≡ Act.Unlock (Extent.Bytes first last) → (ask n left s a).0 ≡ Answer.Granted c → spans_of a.file (asker a s.names) (ask n left s a).2.claims ≡ relocked (spans_of a.file (asker a s.names) s.claims) first last None }
+    ensures given_up { (n : ℕ) (left : Rooms) (s : CoreState) (a : Ask) (first last : ℕ) (c : Claim) → IsGood s → IsFit a → is_named a.owner ≡ true → a.act ≡ Act.Unlock (Extent.Bytes first last) → (ask n left s a).0 ≡ Answer.Granted c → spans_of a.file (asker a s.names) (ask n left s a).2.claims ≡ relocked (spans_of a.file (asker a s.names) s.claims) first last None }
 {}
 
 /// An ask changes only what its owner has on its file, a share for a share and ranges for a range, and that only where
@@ -155,7 +155,7 @@ pub fn only_turns_serve()
 /// A test foretells the lock: the same lock of the same asker, not blocking, meets a conflict exactly where the test is
 /// denied, or where a held cache blocks the lock: of caches a test is not told. No ask gets a cache yet.
 pub fn a_test_foretells()
-    ensures { (n : ℕ) (left : Rooms) (s : CoreState) (test lock : Ask) (first last : ℕ) (exclusive : Bool) → IsGood s → IsFit lock → IsSameAsker test lock → test.act ≡ Act.Test (Extent.Bytes first last) exclusive → lock.act ≡ Act.Ranges ((Extent.Bytes first last, exclusive) ∷ []) → lock.blocking ≡ false → IsConflict (ask n left s lock).0 ↔ (IsConflict (ask n left s test).0 ⊎ IsCacheInTheWay s lock (asked_claim lock (What.Range (Extent.Bytes first last) exclusive) s.names)) }
+    ensures { (n : ℕ) (left : Rooms) (s : CoreState) (test lock : Ask) (first last : ℕ) (exclusive : Bool) → IsGood s → IsFit lock → is_named lock.owner ≡ true → IsSameAsker test lock → test.act ≡ Act.Test (Extent.Bytes first last) exclusive → lock.act ≡ Act.Ranges ((Extent.Bytes first last, exclusive) ∷ []) → lock.blocking ≡ false → IsConflict (ask n left s lock).0 ↔ (IsConflict (ask n left s test).0 ⊎ IsCacheInTheWay s lock (asked_claim lock (What.Range (Extent.Bytes first last) exclusive) s.names)) }
 {}
 
 /// A granted ask leaves the record, the clock and the last number that was given out.

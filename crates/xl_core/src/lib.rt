@@ -12,6 +12,7 @@ pub mod law;
 mod lease;
 mod leaving;
 mod limits;
+pub mod opens;
 mod parts;
 mod settling;
 mod ticking;

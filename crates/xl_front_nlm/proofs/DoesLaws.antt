@@ -129,7 +129,7 @@ lock_fits n count hosts s a =
     bytes_fit n s (λ at. lock_plan hosts s a at) (aimed count a.lock)
     (λ at e. elim (cases_Bool (does_wait s a at)) [
       | inl waits ↦ rw waits tt
-      | inr fresh ↦ rw fresh (record { act = aim_real count a.lock at e; own = refl; party = own_client a.lock.caller_name }, tt)
+      | inr fresh ↦ rw fresh (record { act = (aim_real count a.lock at e, tt); own = refl; party = own_client a.lock.caller_name }, tt)
     ])
 
 waits : (s : CoreState) (at : Aim) (exclusive : Bool) (o : Option ℕ) (id : ℕ) → waiter_by s.waiters at exclusive o ≡ Some id → is_waiting id s.waiters ≡ true

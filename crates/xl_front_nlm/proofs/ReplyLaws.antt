@@ -5,6 +5,7 @@ use Rattle.std.proofs.lemmas.List.{length-append, length-replicate}
 use Rattle.std.specs.Int.{w32, cast_unsigned}
 use Rattle.std.specs.Prelude.{if◌then◌else◌}
 use Rattle.xl_base.specs.Codec.{big_endian}
+use Rattle.xl_base.specs.Limits.{most_message_bytes}
 use Rattle.xl_programs.proofs.ReplyLaws.{length-unsigned, longer, reply_little}
 use Rattle.xl_nlm.specs.Arguments.{TextFits}
 use Rattle.xl_nlm.specs.Items.{HolderItem, TestResItem, ResItem, ShareResItem, ReplyItem, Void, TestAnswer, Answer, ShareAnswer}
@@ -79,5 +80,5 @@ results_short (Answer r) fits = res_short r fits
 results_short (ShareAnswer r) fits = share_res_short r fits
 
 -- a reply with results fits a record
-pub whole_short : (bytes : List ℕ) (xid : ℕ) (v : Verdict) (r : ReplyItem) → bytes ≡ reply xid v ++ results r → ReplyFits r → length bytes ≤ 65536
+pub whole_short : (bytes : List ℕ) (xid : ℕ) (v : Verdict) (r : ReplyItem) → bytes ≡ reply xid v ++ results r → ReplyFits r → length bytes ≤ most_message_bytes
 whole_short bytes xid v r e fits = omega (arith, ap length e, length-append (reply xid v) (results r), reply_little xid v, results_short r fits)

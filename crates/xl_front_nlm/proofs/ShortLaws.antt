@@ -5,6 +5,7 @@ use Rattle.xl_base.specs.declared.name.Owner.TheVariants as owners
 use Rattle.xl_names.specs.declared.name.Name.{Name}
 use Rattle.xl_names.specs.declared.name.Name.TheVariants.{NlmRange, NlmShare, NlmParty, NfsRange, NfsShare, NfsParty, SmbLease}
 use Rattle.xl_format.specs.Formats.{chosen_part}
+use Rattle.xl_nlm.specs.Arguments.{TextFits}
 use Rattle.xl_nlm.specs.Replies.{holder, is_denied}
 use Rattle.xl_core.specs.declared.ask.Answer.{Answer}
 use Rattle.xl_core.specs.declared.ask.Answer.TheVariants as answers
@@ -13,7 +14,7 @@ use Rattle.xl_front_nlm.specs.Short.{IsShort, AreShort}
 use Rattle.xl_front_nlm.specs.declared.outcome.Outcome.{Outcome}
 use Rattle.xl_front_nlm.specs.declared.outcome.Outcome.TheVariants.{Answered}
 
-parts_short : (name : Name) → IsShort name → length (parts_by (Some name)).1 ≤ 1024
+parts_short : (name : Name) → IsShort name → TextFits (parts_by (Some name)).1
 parts_short (NlmRange caller svid oh) short = short.1
 parts_short (NlmShare caller oh) short = omega arith
 parts_short (NlmParty caller) short = omega arith
@@ -22,12 +23,12 @@ parts_short (NfsShare client owner) short = omega arith
 parts_short (NfsParty client) short = omega arith
 parts_short (SmbLease guid key) short = omega arith
 
-name_short : (names : List Name) (n : ℕ) → AreShort names → length (parts_by (slice_get names n)).1 ≤ 1024
+name_short : (names : List Name) (n : ℕ) → AreShort names → TextFits (parts_by (slice_get names n)).1
 name_short [] n short = omega arith
 name_short (name ∷ names) zero short = parts_short name short.0
 name_short (name ∷ names) (suc n) short = name_short names n short.1
 
-pub owner_short : (names : List Name) (o : Owner) → AreShort names → length (owner_parts names o).1 ≤ 1024
+pub owner_short : (names : List Name) (o : Owner) → AreShort names → TextFits (owner_parts names o).1
 owner_short names (owners.Name protocol number) short = name_short names number short
 owner_short names (owners.Open number) short = omega arith
 

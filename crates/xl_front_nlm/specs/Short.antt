@@ -4,6 +4,7 @@ use Rattle.std.specs.List.{AllByRecursion}
 use Rattle.xl_base.specs.Limits.{numbers_left}
 use Rattle.xl_names.specs.declared.name.Name.{Name}
 use Rattle.xl_names.specs.declared.name.Name.TheVariants.{NlmRange}
+use Rattle.xl_nlm.specs.Arguments.{TextFits}
 use Rattle.xl_core.specs.State.{CoreState, GoesOn}
 use Rattle.xl_core.specs.Good.{IsGood}
 use Rattle.xl_core.specs.declared.ask.Ask.{Ask}
@@ -13,7 +14,7 @@ use Rattle.xl_front_nlm.specs.declared.grant.Grant.{Grant}
 
 -- TEST tells the oh of an owner of NLM ranges, and GRANTED its caller too
 abbrev pub IsShort : Name → Type 0
-IsShort (NlmRange caller svid oh) = (length caller ≤ 1024) × (length oh ≤ 1024)
+IsShort (NlmRange caller svid oh) = TextFits caller × TextFits oh
 IsShort _ = Unit {0}
 
 abbrev pub AreShort : List Name → Type 0
@@ -27,7 +28,7 @@ abbrev pub IsShortAsk : Ask → Type 0
 IsShortAsk a = IsShortWho a.owner × IsShortWho a.party
 
 abbrev pub IsShortGrant : Grant → Type 0
-IsShortGrant g = (length g.caller ≤ 1024) × (length g.oh ≤ 1024)
+IsShortGrant g = TextFits g.caller × TextFits g.oh
 
 -- one number and one waiter, and short names
 pub record Grows (old new : CoreState) : Type 0 where

@@ -1,6 +1,6 @@
 //! How what became of a call is told.
-ghost use Rattle.std.specs.Prelude.{◌≡◌, ◌≤◌, length, option_map};
-ghost use Rattle.xl_nlm.specs.Arguments.{CallFits};
+ghost use Rattle.std.specs.Prelude.{◌≡◌, option_map};
+ghost use Rattle.xl_nlm.specs.Arguments.{CallFits, TextFits};
 ghost use Rattle.xl_nlm.specs.Items.{shown_call, shown_holder, shown_test_res, shown_reply};
 ghost use Rattle.xl_nlm.specs.Replies.{holder, test_res, ReplyFits};
 ghost use Rattle.xl_format.specs.Formats.{chosen_part};
@@ -73,7 +73,7 @@ fn test_status(outcome: Outcome) -> NlmStatus
 fn owner_parts(names: &Names, owner: Owner) -> (i32, &[u8])
     requires { AreShort names.now }
     ensures value { (result.0, result.1.now) ≡ owner_parts names.now owner }
-    ensures fits { length result.1.now ≤ 1024 }
+    ensures fits { TextFits result.1.now }
 {
     let Owner::Name(_, number) = owner else {
         return (0, &[]);
@@ -87,7 +87,7 @@ fn owner_parts(names: &Names, owner: Owner) -> (i32, &[u8])
 /// Bytes that an owner holds, as TEST tells them.
 #[tactic(auto, unfolding(xl_nlm::specs::Replies::holder))]
 fn holder_by(exclusive: bool, svid: i32, oh: &[u8], first: u64, last: u64) -> Holder<'_>
-    requires { length oh.now ≤ 1024 }
+    requires { TextFits oh.now }
     ensures value { shown_holder result ≡ holder_by (svid, oh.now) (Range (Bytes first last) exclusive) }
     ensures fits { holder.Fit (shown_holder result) }
 {
@@ -130,7 +130,7 @@ fn test_holder(names: &Names, outcome: Outcome) -> Option<Holder<'_>>
 /// The results of TEST.
 #[tactic(auto, unfolding(xl_nlm::specs::Replies::test_res, xl_nlm::specs::Replies::status), using(crate::proofs::ShortLaws::told_as_denied))]
 fn test_result<'a>(names: &'a Names, cookie: &'a [u8], outcome: Outcome) -> TestRes<'a>
-    requires cookie { length cookie.now ≤ 1024 }
+    requires cookie { TextFits cookie.now }
     requires names { AreShort names.now }
     ensures value { shown_test_res result ≡ test_result cookie.now names.now outcome }
     ensures fits { test_res.Fit (shown_test_res result) }
@@ -145,7 +145,7 @@ fn test_result<'a>(names: &'a Names, cookie: &'a [u8], outcome: Outcome) -> Test
 /// The results of LOCK, CANCEL, UNLOCK and NM_LOCK.
 #[tactic(auto, unfolding(xl_nlm::specs::Replies::res, xl_nlm::specs::Replies::status))]
 fn res_of(cookie: &[u8], outcome: Outcome) -> NlmReply<'_>
-    requires { length cookie.now ≤ 1024 }
+    requires { TextFits cookie.now }
     ensures value { shown_reply result ≡ res_of cookie.now outcome }
     ensures fits { ReplyFits (shown_reply result) }
 {
@@ -158,7 +158,7 @@ fn res_of(cookie: &[u8], outcome: Outcome) -> NlmReply<'_>
 /// The results of SHARE and UNSHARE.
 #[tactic(auto, unfolding(xl_nlm::specs::Replies::share_res, xl_nlm::specs::Replies::status))]
 fn share_res_of(cookie: &[u8], outcome: Outcome) -> NlmReply<'_>
-    requires { length cookie.now ≤ 1024 }
+    requires { TextFits cookie.now }
     ensures value { shown_reply result ≡ share_res_of cookie.now outcome }
     ensures fits { ReplyFits (shown_reply result) }
 {

@@ -26,6 +26,7 @@ use Rattle.xl_core.proofs.FrameLaws.{ask_frame}
 use Rattle.xl_front_smb.specs.Files.{open_ask}
 use Rattle.xl_front_smb.specs.Short.{IsOpenAsk, Leaves}
 use Rattle.xl_front_smb.proofs.LeaveLaws.{frame_leaves}
+use Rattle.xl_core.proofs.DeedCalls.{ask_may}
 
 -- ---- the ask of a CREATE is one
 
@@ -47,15 +48,8 @@ open_is a conn file number c e = subst (λ (x : Ask). IsOpenAsk x) (sym e) (open
 
 -- ---- it is not told to wait
 
--- it asks for a share
-share_of : (act : Act) (owner : Who) → is_named owner ≡ false → may_ask owner act ≡ true → IsFitAct act → (what : What) × (asked_what act ≡ Some what)
-share_of (acts.Share access deny) owner unnamed may fit = (whats.Share access deny, refl)
-share_of (acts.Ranges ranges) owner unnamed may fit = absurd (true≢false (sym may ∙ unnamed))
-share_of (acts.Test extent exclusive) owner unnamed may fit = absurd (true≢false (sym may ∙ unnamed))
-share_of (acts.Unlock extent) owner unnamed may fit = absurd (true≢false (sym may ∙ unnamed))
-
-never_waits : (n : ℕ) (left : Rooms) (s : CoreState) (a : Ask) (what : What) (id : ℕ) → asked_what a.act ≡ Some what → a.blocking ≡ false → (ask n left s a).0 ≡ answers.Queued id → ⊥
-never_waits n left s a what id act waits at = true≢false (sym ((lock_due n left s a what (answers.Queued id) act).0 at).2 ∙ waits)
+never_waits : (n : ℕ) (left : Rooms) (s : CoreState) (a : Ask) (id : ℕ) → IsGood s → is_client a.owner a.party ≡ true → a.blocking ≡ false → (ask n left s a).0 ≡ answers.Queued id → ⊥
+never_waits n left s a id good client waits at = true≢false (sym (ask_may n left s a id good client at) ∙ waits)
 
 -- ---- it enters no name, and draws no number
 
@@ -90,9 +84,8 @@ framed s t told given known come g k c frame = subst (λ (x : List Waiter). IsFr
 
 asked_leaves : (n : ℕ) (left : Rooms) (s : CoreState) (a : Ask) → IsGood s → IsOpenAsk a → IsGood (ask n left s a).2 → Leaves 0 s (ask n left s a).2
 asked_leaves n left s a good given kept =
-    let what = share_of a.act a.owner given.unnamed given.fit.own given.fit.act in
     let r = ask n left s a in
-    let idles = idle a s.names r.0 (λ id at. never_waits n left s a what.0 id what.1 given.waits at) (same_names a.owner a.party s.names given.unnamed given.fit.party) in
+    let idles = idle a s.names r.0 (λ id at. never_waits n left s a id good given.fit.party given.waits at) (same_names a.owner a.party s.names given.unnamed given.fit.party) in
     frame_leaves s r.2 r.1 0 kept (framed s r.2 r.1 (drawn_by r.0) (names_after a r.0 s.names) (come_by a r.0 s.names) idles.0 idles.1 idles.2 (ask_frame n left s a good given.fit.party))
 
 pub ask_leaves : (n : ℕ) (left : Rooms) (s new : CoreState) (a : Ask) (answer : Answer) (effects : List Effect) → ask n left s a ≡ (answer, effects, new) → IsGood s → IsOpenAsk a → IsGood new → Leaves 0 s new

@@ -3,6 +3,7 @@ use Rattle.std.proofs.Common.{◌≡◌, ℕ, ◌+◌, ◌-◌, ◌≤◌, Bool,
 use Rattle.std.specs.Prelude.{◌==◌, ◌^◌, nat_lt, if◌then◌else◌, Result, Ok, Err, is_ok}
 use Rattle.std.proofs.lemmas.Bool.{false≢true}
 use Rattle.std.proofs.lemmas.Bool.Decides.{nat_tests}
+use Rattle.xl_base.specs.Limits.{most_message_bytes}
 use Rattle.xl_smb.specs.Calls.{CallItem, command_of_call}
 use Rattle.xl_smb.specs.Heads.{command_of, has_mark, head_at, head_of, is_notice}
 use Rattle.xl_smb.specs.Lengths.{reply_length}
@@ -70,19 +71,19 @@ stands h told.Echoed body e answer = subst (λ b. ReplyStands (reply_head h 0 (t
 pub reply_stands : (h head : SmbHead) (t : Told) (body : ReplyItem) → head ≡ head_by h t → Some body ≡ body_of t → IsAnswer (command_of h.command) t → ReplyStands head body
 reply_stands h head t body is e answer = subst (λ x. ReplyStands x body) (sym is) (stands h t body (sym e) answer)
 
-little : (t : Told) (body : ReplyItem) → body_of t ≡ Some body → 64 + reply_length body ≤ 65536
+little : (t : Told) (body : ReplyItem) → body_of t ≡ Some body → 64 + reply_length body ≤ most_message_bytes
 little told.Nothing body e = absurd (none_some e)
-little (told.Failed s) body e = subst (λ b. 64 + reply_length b ≤ 65536) (same_Some e) (omega arith)
-little told.Negotiated body e = subst (λ b. 64 + reply_length b ≤ 65536) (same_Some e) (omega arith)
-little (told.SetUp session) body e = subst (λ b. 64 + reply_length b ≤ 65536) (same_Some e) (omega arith)
-little told.LoggedOff body e = subst (λ b. 64 + reply_length b ≤ 65536) (same_Some e) (omega arith)
-little (told.Connected tree) body e = subst (λ b. 64 + reply_length b ≤ 65536) (same_Some e) (omega arith)
-little told.Disconnected body e = subst (λ b. 64 + reply_length b ≤ 65536) (same_Some e) (omega arith)
-little (told.Opened id) body e = subst (λ b. 64 + reply_length b ≤ 65536) (same_Some e) (omega arith)
-little told.Closed body e = subst (λ b. 64 + reply_length b ≤ 65536) (same_Some e) (omega arith)
-little told.Echoed body e = subst (λ b. 64 + reply_length b ≤ 65536) (same_Some e) (omega arith)
+little (told.Failed s) body e = subst (λ b. 64 + reply_length b ≤ most_message_bytes) (same_Some e) (omega arith)
+little told.Negotiated body e = subst (λ b. 64 + reply_length b ≤ most_message_bytes) (same_Some e) (omega arith)
+little (told.SetUp session) body e = subst (λ b. 64 + reply_length b ≤ most_message_bytes) (same_Some e) (omega arith)
+little told.LoggedOff body e = subst (λ b. 64 + reply_length b ≤ most_message_bytes) (same_Some e) (omega arith)
+little (told.Connected tree) body e = subst (λ b. 64 + reply_length b ≤ most_message_bytes) (same_Some e) (omega arith)
+little told.Disconnected body e = subst (λ b. 64 + reply_length b ≤ most_message_bytes) (same_Some e) (omega arith)
+little (told.Opened id) body e = subst (λ b. 64 + reply_length b ≤ most_message_bytes) (same_Some e) (omega arith)
+little told.Closed body e = subst (λ b. 64 + reply_length b ≤ most_message_bytes) (same_Some e) (omega arith)
+little told.Echoed body e = subst (λ b. 64 + reply_length b ≤ most_message_bytes) (same_Some e) (omega arith)
 
-pub reply_little : (t : Told) (body : ReplyItem) → Some body ≡ body_of t → 64 + reply_length body ≤ 65536
+pub reply_little : (t : Told) (body : ReplyItem) → Some body ≡ body_of t → 64 + reply_length body ≤ most_message_bytes
 reply_little t body e = little t body (sym e)
 
 -- ---- the header of a message is that of its frame

@@ -9,13 +9,16 @@ use Rattle.xl_format.specs.Formats.{u64, i32, flag, text, ◌⋆◌, seen, nothi
 use Rattle.xl_nlm.specs.declared.item.Rights.{Rights}
 use Rattle.xl_nlm.specs.Items.{LockItem, TestArgsItem, LockArgsItem, CancelArgsItem, UnlockArgsItem, ShareArgsItem, NotifyItem, CallItem, Null, Test, Lock, Cancel, Unlock, Granted, Share, Unshare, NmLock, FreeAll}
 
--- a name or a netobj has at most 1,024 bytes
-abbrev pub TextFits : List ℕ → Type 0
-TextFits bytes = OpaqueFits 1024 bytes
+-- bytes of a name or a netobj (LM_MAXSTRLEN, MAXNETOBJ_SZ)
+abbrev pub most_text_bytes : ℕ
+most_text_bytes = 1024
 
--- a name of at most 1,024 bytes
+abbrev pub TextFits : List ℕ → Type 0
+TextFits bytes = OpaqueFits most_text_bytes bytes
+
+-- a name or a netobj
 abbrev pub name : Format (List ℕ) RpcBad
-name = text 1024 refl
+name = text most_text_bytes refl
 
 -- nlm4_lock
 unfoldable pub lock : Format LockItem RpcBad

@@ -14,6 +14,7 @@ use Rattle.xl_matrix.specs.declared.claim.Extent.TheVariants.{Bytes, Empty}
 use Rattle.xl_matrix.specs.declared.claim.What.{What}
 use Rattle.xl_matrix.specs.declared.claim.What.TheVariants.{Share, Range, Cache}
 use Rattle.xl_matrix.specs.Equal.{same_claims}
+use Rattle.xl_matrix.specs.Owners.{posix}
 use Rattle.xl_spans.specs.Spans.{relocked}
 use Rattle.xl_spans.specs.declared.span.Mode.{Mode}
 use Rattle.xl_spans.specs.declared.span.Span.{Span}
@@ -98,6 +99,75 @@ parts_of file cs = record {
   own = here_on file cs;
   late = all_from (λ c. nat_lt file c.file ≡ true) (filter (λ c. nat_lt file c.file) cs) (λ c h. (in_filter_from (λ d. nat_lt file d.file) c cs h).1);
 }
+
+early_other : (file : ℕ) (cs : List Claim) → AllByRecursion (λ c. nat_lt c.file file ≡ true) cs → AllByRecursion (λ c. (c.file == file) ≡ false) cs
+early_other file cs all = all_weaker (λ c. nat_lt c.file file ≡ true) (λ c. (c.file == file) ≡ false) cs (λ c h. step c.file file h) all where
+  step : (n m : ℕ) → nat_lt n m ≡ true → (n == m) ≡ false
+  step n m h = grind (arith, nat_tests)
+
+late_other : (file : ℕ) (cs : List Claim) → AllByRecursion (λ c. nat_lt file c.file ≡ true) cs → AllByRecursion (λ c. (c.file == file) ≡ false) cs
+late_other file cs all = all_weaker (λ c. nat_lt file c.file ≡ true) (λ c. (c.file == file) ≡ false) cs (λ c h. step c.file file h) all where
+  step : (n m : ℕ) → nat_lt m n ≡ true → (n == m) ≡ false
+  step n m h = grind (arith, nat_tests)
+
+-- a filter that all claims of other files pass
+filtered_parts : (p : Claim → Bool) (file : ℕ) (front on back : List Claim) → ((c : Claim) → (c.file == file) ≡ false → p c ≡ true) → AreParts file front on back → filter p (front ++ (on ++ back)) ≡ front ++ (filter p on ++ back)
+filtered_parts p file front on back out parts =
+    filter-append p front (on ++ back)
+    ∙ ap (λ (ds : List Claim). ds ++ filter p (on ++ back)) (all_pass p front (all_weaker (λ c. (c.file == file) ≡ false) (λ c. p c ≡ true) front out (early_other file front parts.early)))
+    ∙ ap (λ (ds : List Claim). front ++ ds) (filter-append p on back ∙ ap (λ (ds : List Claim). filter p on ++ ds) (all_pass p back (all_weaker (λ c. (c.file == file) ≡ false) (λ c. p c ≡ true) back out (late_other file back parts.late))))
+
+-- and one that none of them passes
+picked_parts : (p : Claim → Bool) (file : ℕ) (front on back : List Claim) → ((c : Claim) → (c.file == file) ≡ false → p c ≡ false) → AreParts file front on back → filter p (front ++ (on ++ back)) ≡ filter p on
+picked_parts p file front on back out parts =
+    filter-append p front (on ++ back)
+    ∙ ap (λ (ds : List Claim). ds ++ filter p (on ++ back)) (none_pass p front (all_weaker (λ c. (c.file == file) ≡ false) (λ c. p c ≡ false) front out (early_other file front parts.early)))
+    ∙ filter-append p on back
+    ∙ ap (λ (ds : List Claim). filter p on ++ ds) (none_pass p back (all_weaker (λ c. (c.file == file) ≡ false) (λ c. p c ≡ false) back out (late_other file back parts.late)))
+    ∙ append-nil (filter p on)
+
+pub here_parts : (file : ℕ) (front on back : List Claim) → AreParts file front on back → here file (front ++ (on ++ back)) ≡ on
+here_parts file front on back parts = picked_parts (λ c. c.file == file) file front on back (λ c h. h) parts ∙ all_pass (λ c. c.file == file) on parts.own
+
+-- what is done to a file's claims alone leaves the other parts
+pub alone_parts : (file : ℕ) (act : List Claim → List Claim) (front on back : List Claim) → AreParts file front on back → alone file act (front ++ (on ++ back)) ≡ front ++ (act on ++ back)
+alone_parts file act front on back parts =
+    ap (λ (ds : List Claim). ds ++ (act (here file whole) ++ filter (λ c. nat_lt file c.file) whole)) earlier
+    ∙ ap (λ (ds : List Claim). front ++ (act ds ++ filter (λ c. nat_lt file c.file) whole)) own
+    ∙ ap (λ (ds : List Claim). front ++ (act on ++ ds)) later
+  where
+    whole : List Claim
+    whole = front ++ (on ++ back)
+
+    split : (p : Claim → Bool) → filter p whole ≡ filter p front ++ (filter p on ++ filter p back)
+    split p = filter-append p front (on ++ back) ∙ ap (λ (ds : List Claim). filter p front ++ ds) (filter-append p on back)
+
+    same_early : (n m : ℕ) → (n == m) ≡ true → nat_lt n m ≡ false
+    same_early n m h = grind (arith, nat_tests)
+
+    same_late : (n m : ℕ) → (n == m) ≡ true → nat_lt m n ≡ false
+    same_late n m h = grind (arith, nat_tests)
+
+    turned : (n m : ℕ) → nat_lt n m ≡ true → nat_lt m n ≡ false
+    turned n m h = grind (arith, nat_tests)
+
+    earlier : filter (λ c. nat_lt c.file file) whole ≡ front
+    earlier =
+        split (λ c. nat_lt c.file file)
+        ∙ ap (λ (ds : List Claim). ds ++ (filter (λ c. nat_lt c.file file) on ++ filter (λ c. nat_lt c.file file) back)) (all_pass (λ c. nat_lt c.file file) front parts.early)
+        ∙ ap (λ (ds : List Claim). front ++ (ds ++ filter (λ c. nat_lt c.file file) back)) (none_pass (λ c. nat_lt c.file file) on (all_weaker (λ c. (c.file == file) ≡ true) (λ c. nat_lt c.file file ≡ false) on (λ c h. same_early c.file file h) parts.own))
+        ∙ ap (λ (ds : List Claim). front ++ ds) (none_pass (λ c. nat_lt c.file file) back (all_weaker (λ c. nat_lt file c.file ≡ true) (λ c. nat_lt c.file file ≡ false) back (λ c h. turned file c.file h) parts.late))
+        ∙ append-nil front
+
+    own : here file whole ≡ on
+    own = here_parts file front on back parts
+
+    later : filter (λ c. nat_lt file c.file) whole ≡ back
+    later =
+        split (λ c. nat_lt file c.file)
+        ∙ ap (λ (ds : List Claim). ds ++ (filter (λ c. nat_lt file c.file) on ++ filter (λ c. nat_lt file c.file) back)) (none_pass (λ c. nat_lt file c.file) front (all_weaker (λ c. nat_lt c.file file ≡ true) (λ c. nat_lt file c.file ≡ false) front (λ c h. turned c.file file h) parts.early))
+        ∙ ap (λ (ds : List Claim). ds ++ filter (λ c. nat_lt file c.file) back) (none_pass (λ c. nat_lt file c.file) on (all_weaker (λ c. (c.file == file) ≡ true) (λ c. nat_lt file c.file ≡ false) on (λ c h. same_late c.file file h) parts.own))
+        ∙ all_pass (λ c. nat_lt file c.file) back parts.late
 
 -- what passes the parts on is done to the file's claims alone
 pub done_alone : (file : ℕ) (act : List Claim → List Claim) → ((front on back : List Claim) → AreParts file front on back → act (front ++ (on ++ back)) ≡ front ++ (act on ++ back)) → (cs : List Claim) → Pairwise goes_first cs → act cs ≡ alone file act cs
@@ -209,32 +279,6 @@ changed_on claim to cs = all_put (λ c. (c.file == claim.file) ≡ true) (with_w
 
 -- ---- a range locked or unlocked, a share granted
 
-early_other : (file : ℕ) (cs : List Claim) → AllByRecursion (λ c. nat_lt c.file file ≡ true) cs → AllByRecursion (λ c. (c.file == file) ≡ false) cs
-early_other file cs all = all_weaker (λ c. nat_lt c.file file ≡ true) (λ c. (c.file == file) ≡ false) cs (λ c h. step c.file file h) all where
-  step : (n m : ℕ) → nat_lt n m ≡ true → (n == m) ≡ false
-  step n m h = grind (arith, nat_tests)
-
-late_other : (file : ℕ) (cs : List Claim) → AllByRecursion (λ c. nat_lt file c.file ≡ true) cs → AllByRecursion (λ c. (c.file == file) ≡ false) cs
-late_other file cs all = all_weaker (λ c. nat_lt file c.file ≡ true) (λ c. (c.file == file) ≡ false) cs (λ c h. step c.file file h) all where
-  step : (n m : ℕ) → nat_lt m n ≡ true → (n == m) ≡ false
-  step n m h = grind (arith, nat_tests)
-
--- a filter that all claims of other files pass
-filtered_parts : (p : Claim → Bool) (file : ℕ) (front on back : List Claim) → ((c : Claim) → (c.file == file) ≡ false → p c ≡ true) → AreParts file front on back → filter p (front ++ (on ++ back)) ≡ front ++ (filter p on ++ back)
-filtered_parts p file front on back out parts =
-    filter-append p front (on ++ back)
-    ∙ ap (λ (ds : List Claim). ds ++ filter p (on ++ back)) (all_pass p front (all_weaker (λ c. (c.file == file) ≡ false) (λ c. p c ≡ true) front out (early_other file front parts.early)))
-    ∙ ap (λ (ds : List Claim). front ++ ds) (filter-append p on back ∙ ap (λ (ds : List Claim). filter p on ++ ds) (all_pass p back (all_weaker (λ c. (c.file == file) ≡ false) (λ c. p c ≡ true) back out (late_other file back parts.late))))
-
--- and one that none of them passes
-picked_parts : (p : Claim → Bool) (file : ℕ) (front on back : List Claim) → ((c : Claim) → (c.file == file) ≡ false → p c ≡ false) → AreParts file front on back → filter p (front ++ (on ++ back)) ≡ filter p on
-picked_parts p file front on back out parts =
-    filter-append p front (on ++ back)
-    ∙ ap (λ (ds : List Claim). ds ++ filter p (on ++ back)) (none_pass p front (all_weaker (λ c. (c.file == file) ≡ false) (λ c. p c ≡ false) front out (early_other file front parts.early)))
-    ∙ filter-append p on back
-    ∙ ap (λ (ds : List Claim). filter p on ++ ds) (none_pass p back (all_weaker (λ c. (c.file == file) ≡ false) (λ c. p c ≡ false) back out (late_other file back parts.late)))
-    ∙ append-nil (filter p on)
-
 entered_parts : (file : ℕ) (ns front on back : List Claim) → AreOn file ns → AreParts file front on back → all_inserted ns (front ++ (on ++ back)) ≡ front ++ (all_inserted ns on ++ back)
 entered_parts file [] front on back own parts = refl
 entered_parts file (n ∷ ns) front on back own parts =
@@ -283,6 +327,10 @@ unfolding granted_claims
 granted_parts c front on back parts = by c.what where
   by : (w : What) → granted_by c w (front ++ (on ++ back)) ≡ front ++ (granted_by c w on ++ back)
   by (Share access deny) = shared_parts c front on back parts
-  by (Range (Bytes first last) exclusive) = relocked_parts c.file c.owner c.party first last (Some (mode_of exclusive)) front on back parts
-  by (Range (Empty offset) exclusive) = refl
+  by (Range (Bytes first last) exclusive) =
+      elim (cases_Bool (posix c.owner)) [
+        | inl own ↦ rw own (relocked_parts c.file c.owner c.party first last (Some (mode_of exclusive)) front on back parts)
+        | inr unnamed ↦ rw unnamed (inserted_parts c front on back parts)
+      ]
+  by (Range (Empty offset) exclusive) = inserted_parts c front on back parts
   by (Cache kind running) = refl

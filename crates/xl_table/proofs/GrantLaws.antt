@@ -1,5 +1,5 @@
 -- What a grant or an unlock makes of a file's claims, it makes of the flat list.
-use Rattle.std.proofs.Common.{◌≡◌, ℕ, zero, suc, get_or, ◌+◌, ◌-◌, ◌≤◌, true, ◌==◌, nat_lt, List, [], ◌∷◌, ◌++◌, length, take, drop, None, Some, refl, sym, ap, subst, ◌∙◌, arith}
+use Rattle.std.proofs.Common.{◌≡◌, ℕ, zero, suc, get_or, ◌+◌, ◌-◌, ◌≤◌, true, false, ◌==◌, nat_lt, List, [], ◌∷◌, ◌++◌, length, take, drop, None, Some, inl, inr, refl, sym, ap, subst, ◌∙◌, arith}
 use Rattle.std.proofs.Math.ListN.{set}
 use Rattle.std.specs.List.{AllByRecursion, filter}
 use Rattle.std.proofs.lemmas.List.{length-append, length-drop, length-take-le}
@@ -15,10 +15,14 @@ use Rattle.xl_table.specs.declared.files.OnFile.{OnFile}
 use Rattle.xl_table.specs.Pages.{paged, AreFull}
 use Rattle.xl_table.specs.Changes.{spliced, written, IsOn, MayBeWritten}
 use Rattle.xl_table.specs.Files.{joined, AreOn, IsFiled, IsAt, here, alone}
-use Rattle.xl_table.specs.Held.{is_range, is_share, has_one_party, mode_of, may_own, IsGrantable, IsPosixBy, IsSound, IsKept}
+use Rattle.xl_table.specs.Held.{is_range, is_real, is_share, has_one_party, mode_of, may_own, IsGrantable, IsShareOrLock, IsSound, IsKept}
 use Rattle.xl_table.specs.Order.{goes_first}
 use Rattle.xl_table.specs.Relock.{relocked_in, granted_by, granted_claims}
 use Rattle.xl_table.proofs.AloneLaws.{in_files, done_alone, relocked_parts, granted_parts}
+use Rattle.std.proofs.lemmas.Bool.{cases_Bool, not-true}
+use Rattle.xl_table.specs.Flat.{inserted}
+use Rattle.xl_table.proofs.ElementLaws.{real_element, sound_element}
+use Rattle.xl_table.proofs.OrderLaws.{inserted_ordered}
 use Rattle.xl_table.proofs.FileLaws.{here_at, here_on, set_joined, set_filed, IsDone}
 use Rattle.xl_table.proofs.ShareLaws.{sound_shared, ordered_shared}
 use Rattle.xl_table.proofs.WriteBack.{of_party, sound_relocked, ordered_relocked, kept_filter}
@@ -111,17 +115,24 @@ record IsLeft (cs : List Claim) : Type 0 where
   sound : IsSound cs
   ordered : Pairwise goes_first cs
 
+left_entered : (c : Claim) (cs : List Claim) → IsKept cs → posix c.owner ≡ false → is_real c ≡ true → AllByRecursion (λ d. has_one_party c d ≡ true) cs → IsLeft (inserted c cs)
+left_entered c cs kept unnamed real one = record { sound = sound_element c cs kept.sound unnamed real one; ordered = inserted_ordered c cs kept.ordered }
+
 left_granted : (c : Claim) (cs : List Claim) → IsKept cs → IsGrantable c → AllByRecursion (λ d. has_one_party c d ≡ true) cs → IsLeft (granted_claims c cs)
 unfolding granted_claims
 left_granted c cs kept p one = by c.what refl p.0 p.1 where
-  by : (w : What) → c.what ≡ w → IsPosixBy w → may_own c.owner w ≡ true → IsLeft (granted_by c w cs)
-  by (Share access deny) is posix_by own = record { sound = sound_shared c cs kept (ap is_share is); ordered = ordered_shared c cs kept }
-  by (Range (Bytes first last) exclusive) is posix_by own = record {
-    sound = sound_relocked c.file c.owner c.party first last (Some (mode_of exclusive)) cs kept own posix_by (of_party c cs (ap is_range is) one);
-    ordered = ordered_relocked c.file c.owner c.party first last (Some (mode_of exclusive)) cs kept.ordered;
-  }
-  by (Range (Empty offset) exclusive) is posix_by own = absurd posix_by
-  by (Cache kind running) is posix_by own = absurd posix_by
+  by : (w : What) → c.what ≡ w → IsShareOrLock w → may_own c.owner w ≡ true → IsLeft (granted_by c w cs)
+  by (Share access deny) is none own = record { sound = sound_shared c cs kept (ap is_share is); ordered = ordered_shared c cs kept }
+  by (Range (Bytes first last) exclusive) is ends own =
+      elim (cases_Bool (posix c.owner)) [
+        | inl named ↦ rw named (record {
+          sound = sound_relocked c.file c.owner c.party first last (Some (mode_of exclusive)) cs kept named ends (of_party c cs (ap is_range is) one);
+          ordered = ordered_relocked c.file c.owner c.party first last (Some (mode_of exclusive)) cs kept.ordered;
+        })
+        | inr unnamed ↦ rw unnamed (left_entered c cs kept unnamed (real_element c (Range (Bytes first last) exclusive) is ends own) one)
+      ]
+  by (Range (Empty offset) exclusive) is none own = left_entered c cs kept (not-true (posix c.owner) own) (real_element c (Range (Empty offset) exclusive) is none own) one
+  by (Cache kind running) is none own = absurd none
 
 pub grant_written : (c : Claim) (n : ℕ) (cs on : List Claim) (change : Change) → IsKept cs → IsGrantable c → AllByRecursion (λ d. has_one_party c d ≡ true) cs → on ≡ here c.file cs → n ≡ length cs
     → spliced change on ≡ granted_claims c on → IsOn c.file n on change → IsWrittenAs change cs (granted_claims c cs)

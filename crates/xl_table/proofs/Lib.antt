@@ -19,3 +19,4 @@ pub mod PlaceLaws
 pub mod ClearLaws
 pub mod PageLaws
 pub mod TouchLaws
+pub mod ElementLaws

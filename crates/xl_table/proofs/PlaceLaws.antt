@@ -17,6 +17,7 @@ use Rattle.xl_matrix.specs.declared.claim.Claim.{Claim}
 use Rattle.xl_matrix.specs.Equal.{same_claims}
 use Rattle.xl_table.specs.Order.{no_later, owner_key, party_key, place_in_group, key_from, key_by, key, goes_first}
 use Rattle.xl_table.specs.Flat.{inserted, removed, changed, with_what, locks_by, locks, lesser, holder_from, holder}
+use Rattle.xl_table.specs.Elements.{taken_back}
 use Rattle.xl_table.specs.Sections.{is_no_later_than, is_upto, IsParted}
 use Rattle.xl_table.proofs.AloneLaws.{equal_here}
 use Rattle.xl_table.proofs.FlatLaws.{held_iff}
@@ -180,6 +181,11 @@ found_is_held claim i cs found = sym found.held
 
 pub found_removed : (claim : Claim) (i : ℕ) (cs new : List Claim) → IsFoundAt claim i cs → new ≡ take i cs ++ drop (i + 1) cs → new ≡ removed claim cs
 found_removed claim i cs new found e = let n : i + 1 ≡ suc i = omega arith in e ∙ ap (λ (m : ℕ). take i cs ++ drop m cs) n ∙ sym found.rest
+
+-- the one before the place is taken out
+pub last_removed : (claim : Claim) (i : ℕ) (cs new : List Claim) → i ≡ prefix_len (λ held. goes_first held claim) cs → 0 < i → new ≡ take (i - 1) cs ++ drop i cs → new ≡ taken_back claim cs
+unfolding taken_back
+last_removed claim i cs new at some e = let next : i ≡ suc (i - 1) = omega (arith, some) in e ∙ ap (λ (n : ℕ). take (i - 1) cs ++ drop n cs) next ∙ ap (λ (n : ℕ). remove cs (n - 1)) at
 
 pub found_changed : (claim : Claim) (to : What) (i n : ℕ) (cs new : List Claim) → IsFoundAt claim i cs → inserted (with_what claim to) (remove cs i) ≡ take n (remove cs i) ++ with_what claim to ∷ drop n (remove cs i) → new ≡ take n (remove cs i) ++ with_what claim to ∷ drop n (remove cs i) → new ≡ changed claim to cs
 unfolding changed

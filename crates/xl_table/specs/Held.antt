@@ -5,7 +5,7 @@ use Rattle.xl_base.specs.Lists.{Pairwise}
 use Rattle.xl_base.specs.declared.name.Owner.{Owner}
 use Rattle.xl_matrix.specs.declared.claim.Extent.TheVariants.{Bytes, Empty}
 use Rattle.xl_matrix.specs.declared.claim.What.{What}
-use Rattle.xl_matrix.specs.declared.claim.What.TheVariants.{Share, Range}
+use Rattle.xl_matrix.specs.declared.claim.What.TheVariants.{Share, Range, Cache}
 use Rattle.xl_matrix.specs.declared.claim.Claim.{Claim}
 use Rattle.xl_matrix.specs.Owners.{posix}
 pub use Rattle.xl_matrix.specs.Blocks.{is_share, is_range, is_cache}
@@ -26,20 +26,23 @@ is_real_by owner _ = true
 abbrev pub is_real : Claim → Bool
 is_real claim = is_real_by claim.owner claim.what
 
--- a share, or a range as a POSIX owner may have it, with its bytes in order
-abbrev pub IsPosixBy : What → Type 0
-IsPosixBy (Share access deny) = Unit {0}
-IsPosixBy (Range (Bytes first last) exclusive) = first ≤ last
-IsPosixBy _ = ⊥
+-- a share, or a range with its bytes in order, or without any
+abbrev pub IsShareOrLock : What → Type 0
+IsShareOrLock (Share access deny) = Unit {0}
+IsShareOrLock (Range (Bytes first last) exclusive) = first ≤ last
+IsShareOrLock (Range (Empty offset) exclusive) = Unit {0}
+IsShareOrLock (Cache kind running) = ⊥
 
--- a share is anyone's, a range a POSIX owner's alone
+-- a share is anyone's; a range with bytes is a POSIX owner's, or an SMB open's where it hasn't all of them; an empty one
+-- is an SMB open's
 abbrev pub may_own : Owner → What → Bool
-may_own owner (Range extent exclusive) = posix owner
+may_own owner (Range (Bytes first last) exclusive) = posix owner || not ((first == 0) && (last == 2 ^ 64 - 1))
+may_own owner (Range (Empty offset) exclusive) = not (posix owner)
 may_own owner _ = true
 
--- what may be granted: a share of anyone, or such a range of a POSIX owner
+-- what may be granted: a share of anyone, or such a range
 abbrev pub IsGrantable : Claim → Type 0
-IsGrantable c = IsPosixBy c.what × (may_own c.owner c.what ≡ true)
+IsGrantable c = IsShareOrLock c.what × (may_own c.owner c.what ≡ true)
 
 -- two ranges of one owner on one file have one party
 abbrev pub has_one_party : Claim → Claim → Bool

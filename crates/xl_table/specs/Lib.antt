@@ -9,3 +9,4 @@ pub mod Least
 pub mod Clear
 pub mod Bounds
 pub mod Pages
+pub mod Elements

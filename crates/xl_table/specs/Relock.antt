@@ -1,4 +1,4 @@
--- What a share, a lock and an unlock of a POSIX range do to the claims (XNFS C702 chapter 10, RFC 7530 16.10, 16.12 and 16.16).
+-- What a share, a lock, and an unlock of a POSIX range do to the claims (XNFS C702 chapter 10, RFC 7530 16.10, 16.12 and 16.16).
 use Rattle.std.specs.Prelude.{ℕ, Bool, true, false, not, ◌&&◌, ◌||◌, nat_lt, if◌then◌else◌, List, [], ◌∷◌, map, Option, Some}
 use Rattle.std.specs.List.{filter, list_any}
 use Rattle.xl_base.specs.declared.name.Owner.{Owner}
@@ -6,11 +6,12 @@ use Rattle.xl_base.specs.declared.name.Owner.TheVariants as owners
 use Rattle.xl_base.specs.declared.name.Party.{Party}
 use Rattle.xl_base.specs.declared.name.Protocol.TheVariants.{Nlm, Nfs, Smb}
 use Rattle.xl_matrix.specs.Equal.{same_owners}
+use Rattle.xl_matrix.specs.Owners.{posix}
 use Rattle.xl_matrix.specs.declared.claim.Claim.{Claim}
-use Rattle.xl_matrix.specs.declared.claim.Extent.TheVariants.{Bytes}
+use Rattle.xl_matrix.specs.declared.claim.Extent.TheVariants.{Bytes, Empty}
 use Rattle.xl_matrix.specs.declared.claim.What.{What}
 use Rattle.xl_matrix.specs.declared.claim.Rwd.{Rwd}
-use Rattle.xl_matrix.specs.declared.claim.What.TheVariants.{Share, Range}
+use Rattle.xl_matrix.specs.declared.claim.What.TheVariants.{Share, Range, Cache}
 use Rattle.xl_spans.specs.Spans.{relocked, meets}
 use Rattle.xl_spans.specs.declared.span.Mode.{Mode}
 use Rattle.xl_spans.specs.declared.span.Mode.TheVariants.{Shared, Exclusive}
@@ -128,12 +129,13 @@ shared_in c cs = inserted (united c cs) (unshared c.file c.owner cs)
 
 -- ---- a granted claim
 
--- the claims after a grant, by what is granted: a share, or a range with bytes of a POSIX owner; nothing is said yet of an
--- SMB range or a cache
+-- the claims after a grant, by what is granted: a share; a range with bytes of a POSIX owner; or a range of an SMB open, which
+-- comes behind the others that it has on the file (MS-FSA 2.1.5.8). Nothing is said yet of a cache
 abbrev pub granted_by : Claim → What → List Claim → List Claim
 granted_by c (Share access deny) cs = shared_in c cs
-granted_by c (Range (Bytes first last) exclusive) cs = relocked_in c.file c.owner c.party first last (Some (mode_of exclusive)) cs
-granted_by c _ cs = cs
+granted_by c (Range (Bytes first last) exclusive) cs = if posix c.owner then relocked_in c.file c.owner c.party first last (Some (mode_of exclusive)) cs else inserted c cs
+granted_by c (Range (Empty offset) exclusive) cs = inserted c cs
+granted_by c (Cache kind running) cs = cs
 
 -- the claims once this one is granted, by its kind and its owner
 unfoldable pub granted_claims : Claim → List Claim → List Claim

@@ -6,17 +6,19 @@ ghost use Rattle.xl_spans.specs.declared.span.Mode.{Mode};
 ghost use Rattle.xl_table.specs.Held.{IsKept, IsGrantable, is_range, is_share, has_one_party, mode_of};
 ghost use Rattle.xl_table.specs.Relock.{relocked_in, shared_in, granted_claims};
 ghost use Rattle.xl_table.specs.Files.{joined, IsFiled, IsAt};
+ghost use Rattle.xl_table.specs.Flat.{inserted};
 ghost use Rattle.xl_table.specs.Pages.{paged, AreFull};
 ghost use Rattle.xl_table.specs.Changes.{spliced, written, IsOn, MayBeWritten};
 
 use crate::files::{OnFile, on_file, open_file};
 use crate::page::Page;
 use crate::pages::{between, splice as splice_pages};
+use crate::placing::place_of;
 use crate::relock::{fresh_claims, mode_of, united};
 use crate::section::group_places;
 use crate::touching::touched_places;
 use std::alloc::{AllocError, Global};
-use xl_matrix::{Claim, Extent, What};
+use xl_matrix::{Claim, Extent, What, is_posix};
 use xl_spans::Mode;
 
 /// What a grant or an unlock makes of a table's claims. It is worked out before it is written, so that the room that it
@@ -104,6 +106,20 @@ fn share(alloc: Global, pages: &[Page], count: usize, claim: &Claim) -> Result<C
     Ok(make_change(claim.file, count, start, end, entered))
 }
 
+/// A range of an SMB open behind those that it has on the file. These are the file's claims, of `count` on all files.
+fn element(alloc: Global, pages: &[Page], count: usize, claim: &Claim) -> Result<Change, AllocError>
+    requires full { AreFull pages.now }
+    requires kept { IsKept (paged pages.now) }
+    requires count { length (paged pages.now) ≤ count }
+    requires room { count ≤ 16384 }
+    ensures claims { IfOk result (λ change. spliced change (paged pages.now) ≡ inserted claim.now (paged pages.now)) }
+    ensures on { IfOk result (λ change. IsOn claim.now.file count (paged pages.now) change) }
+{
+    let place = place_of(pages, claim);
+    let entered = one(alloc, *claim)?;
+    Ok(make_change(claim.file, count, place, place, entered))
+}
+
 /// What a grant changes. These are the file's claims, of `count` on all files.
 #[tactic(auto, unfolding(crate::specs::Relock::granted_claims))]
 fn grant_on(
@@ -122,12 +138,16 @@ fn grant_on(
     ensures on { IfOk result (λ change. IsOn claim.now.file count (paged pages.now) change) }
 {
     match claim.what {
+        What::Share(_, _) => Ok(share(alloc, pages, count, claim)?),
         What::Range(Extent::Bytes(first, last), exclusive) => {
+            if !is_posix(claim.owner) {
+                return Ok(element(alloc, pages, count, claim)?);
+            }
             let mode = Some(mode_of(exclusive));
             Ok(relock(alloc, pages, count, claim, first, last, mode)?)
         }
-        What::Share(_, _) => Ok(share(alloc, pages, count, claim)?),
-        _ => Ok(make_change(claim.file, count, 0, 0, Vec::new(alloc))),
+        What::Range(Extent::Empty(_), _) => Ok(element(alloc, pages, count, claim)?),
+        What::Cache(_, _) => Ok(make_change(claim.file, count, 0, 0, Vec::new(alloc))),
     }
 }
 

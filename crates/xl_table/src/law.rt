@@ -1,5 +1,5 @@
 //! Laws of the flat list. The functions do nothing; what they ensure holds of every list of claims.
-ghost use Rattle.std.specs.Prelude.{◌≡◌, ℕ, ◌<◌, Bool, true, false, List, [], length, None};
+ghost use Rattle.std.specs.Prelude.{◌≡◌, ℕ, ◌<◌, Bool, true, false, List, [], ◌∷◌, ◌++◌, length, None};
 ghost use Rattle.std.specs.List.{AllByRecursion, filter, list_any};
 ghost use Rattle.xl_base.specs.Lists.{IsIn, Pairwise, placed};
 ghost use Rattle.xl_base.specs.declared.name.Owner.{Owner};
@@ -11,10 +11,11 @@ ghost use Rattle.xl_matrix.specs.Owners.{posix};
 ghost use Rattle.xl_matrix.specs.Matrix.{compat};
 ghost use Rattle.xl_matrix.specs.Weaker.{weaker};
 ghost use Rattle.xl_spans.specs.Spans.{IsCanonical};
+ghost use Rattle.xl_table.specs.Elements.{elements_of, unlocked_elements, element_held, taken_out, taken_back};
 ghost use Rattle.xl_table.specs.Order.{goes_first};
 ghost use Rattle.xl_table.specs.Flat.{inserted, removed, changed, with_what, is_own, blocks};
 ghost use Rattle.xl_table.specs.Held.{is_range, is_real, is_share, has_one_party, mode_of, is_of, spans_of, begins_first, IsSound};
-ghost use Rattle.xl_table.specs.Relock.{is_share_of, united, relocked_in, is_cut};
+ghost use Rattle.xl_table.specs.Relock.{is_share_of, is_range_of, united, relocked_in, is_cut};
 
 /// Claims stay pairwise compatible: when one that goes with each of them is entered, and so when one is that nothing
 /// blocks, where what it replaces is gone; when one is taken out; when one is made weaker, as a cache by its break; and
@@ -49,4 +50,21 @@ pub fn united_shares_stay_compatible()
 #[tactic(auto, using(crate::proofs::RoomLaws::unlock_grows))]
 pub fn unlocks_grow_only_by_a_cut()
     ensures { (file : ℕ) (owner : Owner) (party : Party) (first last : ℕ) (held : List Claim) → IsSound held → posix owner ≡ true → length held < length (relocked_in file owner party first last None held) → list_any (is_cut first last) (spans_of file owner held) ≡ true }
+{}
+
+/// An SMB open's ranges on a file are a list of elements in the order of locking (MS-FSA 2.1.5.8). One that is granted comes
+/// behind the others, and what any other claim does leaves them. An unlock takes out one that is equal to its range, an
+/// exclusive one before a shared one (MS-FSA 2.1.5.9); where there is none it takes out none.
+#[tactic(auto, using(crate::proofs::ElementLaws::elements_entered, crate::proofs::ElementLaws::elements_apart, crate::proofs::ElementLaws::elements_unlocked, crate::proofs::ElementLaws::elements_removed_apart))]
+pub fn opens_hold_elements()
+    ensures entered { (file : ℕ) (owner : Owner) (claim : Claim) (held : List Claim) → is_range_of file owner claim ≡ true → posix owner ≡ false → Pairwise goes_first held → elements_of file owner (inserted claim held) ≡ elements_of file owner held ++ claim.what ∷ [] }
+    ensures apart { (file : ℕ) (owner : Owner) (claim : Claim) (held : List Claim) → is_range_of file owner claim ≡ false → elements_of file owner (inserted claim held) ≡ elements_of file owner held }
+    ensures unlocked { (ask : Claim) (extent : Extent) (held : List Claim) → AllByRecursion (λ c. is_range_of ask.file ask.owner c ≡ true → c.party ≡ ask.party) held → elements_of ask.file ask.owner (taken_out (element_held ask extent held) held) ≡ unlocked_elements extent (elements_of ask.file ask.owner held) }
+    ensures others { (file : ℕ) (owner : Owner) (claim : Claim) (held : List Claim) → is_range_of file owner claim ≡ false → elements_of file owner (removed claim held) ≡ elements_of file owner held }
+{}
+
+/// What was granted to an SMB open last may be taken back, and leaves the claims as they were, in their order.
+#[tactic(auto, using(crate::proofs::ElementLaws::back_entered))]
+pub fn a_lock_is_taken_back()
+    ensures { (claim : Claim) (held : List Claim) → taken_back claim (inserted claim held) ≡ held }
 {}

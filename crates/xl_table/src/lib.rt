@@ -22,7 +22,8 @@ mod touching;
 pub use block::is_answer_due;
 pub use change::Change;
 pub use law::{
-    stays_compatible, stays_sound, united_shares_stay_compatible, unlocks_grow_only_by_a_cut,
+    a_lock_is_taken_back, opens_hold_elements, stays_compatible, stays_sound,
+    united_shares_stay_compatible, unlocks_grow_only_by_a_cut,
 };
 pub use table::{CLAIMS, Table, TableErr};
 pub use xl_matrix::is_blocked_by;

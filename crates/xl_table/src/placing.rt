@@ -7,6 +7,7 @@ ghost use Rattle.xl_base.specs.Lists.{IsIn, Pairwise};
 ghost use Rattle.xl_table.specs.Order.{goes_first};
 ghost use Rattle.xl_table.specs.Files.{joined, IsFiled, IsAt};
 ghost use Rattle.xl_table.specs.Flat.{inserted, removed, changed, with_what};
+ghost use Rattle.xl_table.specs.Elements.{is_held, taken_back, CameLast};
 
 use crate::files::{OnFile, find_file, on_file};
 use crate::marks::Mark;
@@ -18,7 +19,7 @@ use xl_matrix::{Claim, What, same_claim};
 
 /// The place of a claim: behind all that stand no later.
 #[tactic(auto, using(crate::proofs::SectionLaws::upto_parted, crate::proofs::PlaceLaws::placed_upto))]
-fn place_of(pages: &[Page], claim: &Claim) -> usize
+pub(crate) fn place_of(pages: &[Page], claim: &Claim) -> usize
     requires ordered { Pairwise goes_first (paged pages.now) }
     requires full { AreFull pages.now }
     requires room { length (paged pages.now) < 2 ^ 32 }
@@ -97,7 +98,8 @@ fn has_in(pages: &[Page], claim: &Claim) -> bool
 /// Whether a claim is held.
 pub(crate) fn is_held(lists: &[OnFile], claim: &Claim) -> bool
     requires { IsFiled lists.now }
-    ensures { IsTrue result ↔ IsIn claim.now (joined lists.now) }
+    ensures test { result ≡ is_held claim.now (joined lists.now) }
+    ensures held { IsTrue result ↔ IsIn claim.now (joined lists.now) }
 {
     has_in(on_file(lists, claim.file), claim)
 }
@@ -163,6 +165,32 @@ pub(crate) fn take_out(lists: &mut Vec<OnFile>, claim: &Claim) -> bool
     match find_file(lists.as_slice(), claim.file) {
         Some(at) => take_from(&mut lists[at].pages, claim),
         None => false,
+    }
+}
+
+/// Takes out that of a file's claims which stands last of those no later than this one.
+fn take_last(pages: &mut Vec<Page>, claim: &Claim)
+    requires some { 0 < prefix_len (λ held. goes_first held claim.now) (paged pages.old.items) }
+    requires ordered { Pairwise goes_first (paged pages.old.items) }
+    requires full { AreFull pages.old.items }
+    requires room { length (paged pages.old.items) < 2 ^ 32 }
+    ensures claims { paged pages.new.items ≡ taken_back claim.now (paged pages.old.items) }
+    ensures full { AreFull pages.new.items }
+{
+    let place = place_of(pages.as_slice(), claim);
+    take_between(pages, place - 1, place);
+}
+
+/// Takes a claim back that was the last to come among its like.
+pub(crate) fn take_back(lists: &mut Vec<OnFile>, claim: &Claim)
+    requires filed { IsFiled lists.old.items }
+    requires last { CameLast claim.now (joined lists.old.items) }
+    requires room { length (joined lists.old.items) ≤ 16384 }
+    ensures claims { joined lists.new.items ≡ taken_back claim.now (joined lists.old.items) }
+    ensures filed { IsFiled lists.new.items }
+{
+    if let Some(at) = find_file(lists.as_slice(), claim.file) {
+        take_last(&mut lists[at].pages, claim);
     }
 }
 

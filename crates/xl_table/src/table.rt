@@ -1,6 +1,7 @@
 //! The table of claims.
 ghost use Rattle.std.specs.Prelude.{◌≡◌, ℕ, ◌≤◌, ◌==◌, ◌&&◌, not, true, false, List, [], length, None, IsTrue, ◌↔◌, IfOk, IfSome, OnOk, OnErr};
 ghost use Rattle.std.specs.List.{AllByRecursion, filter, find};
+ghost use Rattle.xl_table.specs.Flat.{with_what};
 ghost use Rattle.xl_table.specs.declared.table.TableErr.TheVariants.{NoMemory};
 
 use crate::change::{Change, grant, unlock, write};
@@ -11,7 +12,7 @@ use crate::listing::{
     count_all, drop_party, is_blocked, keep_ranges, list_all, list_blockers, list_due, list_file,
     list_party,
 };
-use crate::placing::{is_held, put, replace, take_out};
+use crate::placing::{is_held, put, replace, take_back, take_out};
 use crate::relock::spans_in;
 use crate::section::{caches_on, find_share, ranges_by, shares_on};
 use crate::touching::{has_byte, has_range};
@@ -19,7 +20,7 @@ use std::alloc::{AllocError, AllocFailed, Global};
 use std::marker::Model;
 use thiserror::Error;
 use xl_base::{Moment, Owner, Party};
-use xl_matrix::{Claim, What};
+use xl_matrix::{Claim, Extent, What};
 use xl_names::Names;
 use xl_spans::Span;
 
@@ -42,6 +43,18 @@ impl<T: Drop> From<AllocFailed<T>> for TableErr {
 
     fn from(_e: AllocFailed<T>) -> TableErr {
         TableErr::NoMemory
+    }
+}
+
+/// The range in this mode, of the one who asks.
+fn element(ask: &Claim, extent: Extent, exclusive: bool) -> Claim
+    ensures { result ≡ with_what ask.now (What.Range extent exclusive) }
+{
+    Claim {
+        file: ask.file,
+        owner: ask.owner,
+        party: ask.party,
+        what: What::Range(extent, exclusive),
     }
 }
 
@@ -79,6 +92,7 @@ impl Table {
     ghost use Rattle.xl_table.specs.Held.{is_range, is_share, is_cache, has_one_party, spans_of, IsGrantable, IsSound, IsKept};
     ghost use Rattle.xl_table.specs.Relock.{is_share_of, holds_byte, holds_range, relocked_in, granted_claims};
     ghost use Rattle.xl_table.specs.Changes.{written, MayBeWritten};
+    ghost use Rattle.xl_table.specs.Elements.{is_held, element_held, taken_back, CameLast};
     ghost use Rattle.xl_table.specs.Least.{least};
 
     /// The table without claims; it takes no memory.
@@ -115,7 +129,8 @@ impl Table {
 
     /// Whether this claim is held. It takes no memory.
     pub fn contains(&self, claim: &Claim) -> bool
-        ensures { IsTrue result ↔ IsIn claim.now self.now }
+        ensures test { result ≡ is_held claim.now self.now }
+        ensures held { IsTrue result ↔ IsIn claim.now self.now }
     {
         is_held(&self.lists, claim)
     }
@@ -207,13 +222,33 @@ impl Table {
         caches_on(alloc, &self.lists, file)
     }
 
+    /// The held claim that the unlock of a range by an SMB open takes out: one of just this range, an exclusive one before
+    /// a shared one (MS-FSA 2.1.5.9). None where it holds none; a part of a range, or what covers several, is none. `ask` has
+    /// the open's names and the file. It takes no memory.
+    #[tactic(auto, unfolding(crate::specs::Elements::element_held))]
+    pub fn element_held(&self, ask: &Claim, extent: Extent) -> Option<Claim>
+        ensures { result ≡ element_held ask.now extent self.now }
+    {
+        let exclusive = element(ask, extent, true);
+        if self.contains(&exclusive) {
+            return Some(exclusive);
+        }
+        let shared = element(ask, extent, false);
+        if self.contains(&shared) {
+            return Some(shared);
+        }
+        None
+    }
+
     /// What a grant of the claim changes, once nothing stands in its way: a share takes the place of its owner's on the
-    /// file, or is united with it (NFSv4); a range of an NLM or NFSv4 owner gets its mode, in place of those it had.
+    /// file, or is united with it (NFSv4); a range of an NLM or NFSv4 owner gets its mode, in place of those it had; a range
+    /// of an SMB open comes behind those that it has on the file (MS-FSA 2.1.5.8).
     pub fn granted(&self, alloc: Global, claim: &Claim) -> Result<Change, AllocError>
         requires grantable { IsGrantable claim.now }
         requires party { AllByRecursion (λ c. has_one_party claim.now c ≡ true) self.now }
         ensures claims { IfOk result (λ change. written change self.now ≡ granted_claims claim.now self.now) }
         ensures fits { IfOk result (λ change. MayBeWritten change self.now) }
+        ensures kept { IsKept self.now }
     {
         Ok(grant(alloc, &self.lists, self.count, claim)?)
     }
@@ -304,6 +339,18 @@ impl Table {
         if take_out(&mut self.lists, claim) {
             self.count -= 1;
         }
+    }
+
+    /// Takes back a claim that was the last to come among those that stand at its place: the table is then as it was before
+    /// that came. It takes no memory.
+    #[tactic(auto, using(crate::proofs::ElementLaws::last_kept, crate::proofs::ElementLaws::last_count, crate::proofs::ElementLaws::last_before))]
+    pub fn take_back(&mut self, claim: &Claim)
+        requires last { CameLast claim.now self.old }
+        ensures claims { self.new ≡ taken_back claim.now self.old }
+        ensures before { (before : List Claim) → self.old ≡ inserted claim.now before → self.new ≡ before }
+    {
+        take_back(&mut self.lists, claim);
+        self.count -= 1;
     }
 
     /// The claims of a party, in the table's order.

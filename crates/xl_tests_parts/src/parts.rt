@@ -5,6 +5,7 @@ use std::str::Split;
 mod asks;
 mod base;
 mod caches;
+mod elements;
 mod exact;
 mod matrix;
 mod names;

@@ -221,7 +221,7 @@ lock_well n hosts s who file first last exclusive core ours one at real short =
     claim = asked_claim a what s.names
 
     fit : IsFit a
-    fit = record { act = real; own = refl; party = refl }
+    fit = record { act = (real, tt); own = refl; party = refl }
 
     small : (number : ℕ) → owner_at number ≡ asker a s.names → number < 5
     small number e = known_small (both_entered a s.names) number (asking_party a s.names) (both_few who file act rows s one core)
@@ -305,7 +305,7 @@ unlock_well n left s who file first last rows core one at real short = by (holds
   small holds = known_small s.names (number_or (number_of (name_by who) s.names)) claim.party few_names_kept (holder_kept s a (Bytes first last) false first last core.good refl holds)
 
   is : (h f : Bool) → holds_byte claim.file claim.owner first last s.claims ≡ h → nat_le (left_by_unlock s claim first last) most_claims ≡ f → ask n left s a ≡ left_so s claim first last h f
-  is h f e k = unlock_is n left s a first last refl ∙ unlock_by s claim first last h f e k
+  is h f e k = unlock_is n left s a first last refl refl refl ∙ unlock_by s claim first last h f e k
 
   done : (r : Answered) → ask n left s a ≡ r → IsPlain r.0 → AreFew r.2.claims → IsDrawnWell s (ask n left s a)
   done r e plain few =

@@ -76,7 +76,12 @@ pub(crate) fn ask_of(alloc: Global, core: &mut Core, ask: &Ask) -> Result<Answer
     Ok(answer)
 }
 
-fn lock(alloc: Global, core: &mut Core, file: u32, caller: u8) -> Result<Answer, AllocError>
+pub(crate) fn lock(
+    alloc: Global,
+    core: &mut Core,
+    file: u32,
+    caller: u8,
+) -> Result<Answer, AllocError>
     requires good { IsGood core.old }
     requires few { core.old.counter ≤ 100 }
     ensures good { OnOk result (IsGood core.new) }

@@ -39,20 +39,10 @@ fn start(
     Ok(House::start(alloc, exports, keeper, Moment(5)))
 }
 
-/// Opens a connection, and says whether it has number 0.
-fn connect(alloc: Global, house: &mut House<MemoryKeeper>) -> bool {
-    matches!(house.step(alloc, Event::Open(Kind::Rpc)), Ok(0))
-}
-
 /// A house with an rpc connection, which has number 0.
-fn connected(alloc: Global) -> Result<House<MemoryKeeper>, Fail> {
-    let Ok(mut house) = start(alloc, 0)? else {
-        return Err(Fail::from("no start"));
-    };
-    if !connect(alloc, &mut house) {
-        return Err(Fail::from("no connection"));
-    }
-    Ok(house)
+fn connected(alloc: Global, mut house: House<MemoryKeeper>) -> House<MemoryKeeper> {
+    let _ = house.step(alloc, Event::Open(Kind::Rpc));
+    house
 }
 
 fn told_of(alloc: Global, entries: &[Entry]) -> Result<Vec<u8>, AllocError> {
@@ -122,13 +112,27 @@ fn is_told_at(
     }
 }
 
-#[test]
-fn clients(rt: HostRuntime) -> Result<(), Fail> {
-    let mut house = connected(rt.alloc())?;
+/// Whether each of the rows is told so on connection 0.
+fn are_told(alloc: Global, house: &mut House<MemoryKeeper>) -> Result<bool, Fail> {
     for row in &CLIENT {
-        assert!(rt; is_told_at(rt.alloc(), &mut house, row)?);
+        if !is_told_at(alloc, house, row)? {
+            return Ok(false);
+        }
     }
-    Ok(())
+    Ok(true)
+}
+
+/// How many entries the journal of a house has at its end.
+fn entries_of(house: House<MemoryKeeper>) -> usize {
+    let (journal, _) = house.end();
+    journal.entries.len()
+}
+
+/// Whether a house that has a connection tells the rows so, each in two entries.
+fn answers(alloc: Global, mut house: House<MemoryKeeper>) -> Result<bool, Fail> {
+    let told = are_told(alloc, &mut house);
+    let entries = entries_of(house);
+    Ok(told? && entries == 13)
 }
 
 fn is_begun(journal: &Journal) -> bool {
@@ -139,12 +143,6 @@ fn is_begun(journal: &Journal) -> bool {
 fn is_ended(house: House<MemoryKeeper>) -> bool {
     let (journal, keeper) = house.end();
     is_begun(&journal) && keeper.held().epoch() == 8
-}
-
-#[test]
-fn ends(rt: HostRuntime) -> Result<(), Fail> {
-    assert!(rt; is_ended(connected(rt.alloc())?));
-    Ok(())
 }
 
 /// The epoch of the one record that was given to a keeper; 0 where none was.
@@ -163,22 +161,53 @@ fn is_halted(ended: &Ended<MemoryKeeper>, loaded: u32) -> bool {
         && ended.journal.head.record.epoch() == loaded
 }
 
-/// Whether a house does not start where this call of its keeper fails, which holds what it held.
-fn is_refused(alloc: Global, failing: u64, loaded: u32, given: u32) -> Result<bool, Fail> {
-    match start(alloc, failing)? {
-        Ok(_) => Ok(false),
-        Err(ended) => Ok(
-            is_halted(&ended, loaded)
-                && ended.keeper.held().epoch() == 7
-                && given_to(&ended.keeper) == given,
-        ),
+/// Whether a start ended so, and the keeper holds what it held, and was given a record of this epoch.
+fn is_end(ended: Ended<MemoryKeeper>, loaded: u32, given: u32) -> bool {
+    is_halted(&ended, loaded)
+        && ended.keeper.held().epoch() == 7
+        && given_to(&ended.keeper) == given
+}
+
+/// What is asked of a start.
+enum Wanted {
+    /// It goes on, and a connection's clients are answered so.
+    Answers,
+    /// It goes on, and its journal and its keeper have a connection and the next epoch at the end.
+    Ends,
+    /// It ends, with this epoch in the journal's head and with this one given to the keeper.
+    Refused(u32, u32),
+}
+
+fn is_as_wanted(alloc: Global, house: House<MemoryKeeper>, wanted: &Wanted) -> Result<bool, Fail> {
+    let house = connected(alloc, house);
+    match wanted {
+        Wanted::Answers => answers(alloc, house),
+        Wanted::Ends => Ok(is_ended(house)),
+        Wanted::Refused(_, _) => Ok(entries_of(house) == 0),
     }
 }
 
-/// The load fails, and the store.
+fn is_end_wanted(ended: Ended<MemoryKeeper>, wanted: &Wanted) -> bool {
+    match wanted {
+        Wanted::Refused(loaded, given) => is_end(ended, *loaded, *given),
+        _ => is_end(ended, u32::MAX, u32::MAX),
+    }
+}
+
+/// Whether a start is as wanted where this call of its keeper fails.
+fn starts_so(alloc: Global, failing: u64, wanted: &Wanted) -> Result<bool, Fail> {
+    match start(alloc, failing)? {
+        Ok(house) => is_as_wanted(alloc, house, wanted),
+        Err(ended) => Ok(is_end_wanted(ended, wanted)),
+    }
+}
+
+/// No call of the keeper fails; then the load does, and the store.
 #[test]
-fn faults(rt: HostRuntime) -> Result<(), Fail> {
-    assert!(rt; is_refused(rt.alloc(), 1, 0, 0)?);
-    assert!(rt; is_refused(rt.alloc(), 2, 7, 8)?);
+fn starts(rt: HostRuntime) -> Result<(), Fail> {
+    assert!(rt; starts_so(rt.alloc(), 0, &Wanted::Answers)?);
+    assert!(rt; starts_so(rt.alloc(), 0, &Wanted::Ends)?);
+    assert!(rt; starts_so(rt.alloc(), 1, &Wanted::Refused(0, 0))?);
+    assert!(rt; starts_so(rt.alloc(), 2, &Wanted::Refused(7, 8))?);
     Ok(())
 }

@@ -120,6 +120,28 @@ B 0 : nfs 2 putfh f1 confirm 1 n5 4
 18 c0 : told BAD_STATEID 0 2 putfh OK confirm BAD_STATEID
 1 share nfs:63/6f r -
 1 share nlm:61/- r w
+--
+# An owner closes, and opens the same file again: by another stateid, and that which was closed is over (RFC 7530 9.1.4, 16.2).
+F a.txt
+O rpc
+B 0 : nfs 1 setclientid none client none none
+B 0 : nfs 1 setconfirm k1 v2
+B 0 : nfs 2 root open 3 1 0 k1 owner byname a.txt
+B 0 : nfs 2 putfh f1 confirm 1 n3 4
+B 0 : nfs 2 putfh f1 close 5 2 n3
+B 0 : nfs 2 root open 6 3 0 k1 owner byname a.txt
+B 0 : nfs 2 putfh f1 close 7 3 n3
+B 0 : nfs 2 putfh f1 close 7 1 n4
+=>
+0 0 9
+1 c0 : told OK 0 1 setclientid OK k1 v2
+2 c0 : told OK 0 1 setconfirm OK
+3 c0 : told OK 0 2 root OK open OK 1 n3 cinfo 2 none
+4 c0 : told OK 0 2 putfh OK confirm OK 2 n3
+5 c0 : told OK 0 2 putfh OK close OK 3 n3
+6 c0 : told OK 0 2 root OK open OK 1 n4 cinfo 0 none
+7 c0 : told BAD_STATEID 0 2 putfh OK close BAD_STATEID
+8 c0 : told OK 0 2 putfh OK close OK 2 n4
 ";
 
 /// What is checked, each before the next: most requests have two faults, of which the first is told.

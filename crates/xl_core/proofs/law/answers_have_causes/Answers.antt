@@ -1,5 +1,5 @@
 use Rattle.xl_matrix.specs.declared.claim.Extent.TheVariants.{Bytes}
-use Rattle.xl_core.proofs.CauseLaws.{lock_due, test_due, unlock_due, fit_named, real_unlock}
+use Rattle.xl_core.proofs.CauseLaws.{lock_due, test_due, unlock_due, real_unlock}
 use Rattle.xl_table.proofs.LeastLaws.{least_first}
 use Rattle.xl_core.proofs.law.answers_have_causes.Goals as goal
 
@@ -10,7 +10,7 @@ pub returns-clause-tests : goal.returns-clause-tests
 returns-clause-tests c = test_due
 
 pub returns-clause-unlocks : goal.returns-clause-unlocks
-returns-clause-unlocks c = λ n left s a first last answer good fit act. unlock_due n left s a first last answer act fit.party (fit_named a (Bytes first last) fit act) (real_unlock a first last fit act) good
+returns-clause-unlocks c = λ n left s a first last answer good fit named act. unlock_due n left s a first last answer act fit.party named (real_unlock a first last fit act) good
 
 pub returns-clause-least : goal.returns-clause-least
 returns-clause-least c = least_first

@@ -1,0 +1,39 @@
+use Rattle.std.proofs.Common.{rules, ◌≡◌, ◌∷◌, ◌-◌, List, Ok, take, drop, length, ap, sym, ◌∙◌}
+use Rattle.xl_core.specs.Whole.{state_of}
+use Rattle.xl_core.proofs.DoorLaws.{head_rest, none_left, rest_row, rest_alone, came_behind, came_last, back_state, ahead_state}
+use Rattle.xl_core.proofs.judge.+judge_row.Goals as goal
+
+pub returns-in_default-clause-state : goal.returns-in_default-clause-state
+returns-in_default-clause-state t c = none_left c.args.claims.now (state_of c.args.parts.now) c.in_default.len_below
+
+pub judge_row-requires : goal.judge_row-requires
+judge_row-requires t c =
+    let is = head_rest c.args.claims.now _ c.in-len1-up.len_at_least in (
+      search rules,
+      (
+        rest_row c.args.claims.now _ _ is c.requires.row,
+        rest_alone c.args.parts.now c.judge_one.new.parts c.args.claims.now _ _ c.in_ok-ruling.field-0 is c.requires.row c.requires.party c.in_ok-ruling.ensures.state c.in_default-2.is,
+      ),
+    )
+
+pub take_back-requires : goal.take_back-requires
+take_back-requires t c =
+    let is = head_rest c.args.claims.now _ c.in-len1-up.len_at_least in
+    let behind = came_behind c.args.parts.now c.judge_one.new.parts c.judge_row.new.parts c.args.left.now c.args.plea.now c.args.claims.now _ _ c.in_ok-ruling.field-0 c.in_ok-ruling-2.ruling
+    is c.requires.row c.in_ok-ruling.ensures.state c.in_default-2.is c.in_ok-ruling-2.ensures.row c.in_ok-ruling-2.ensures.state (sym c.if-not-has_all.ensures) in
+    record { last = came_last _ c.args.parts.now.table c.judge_row.new.parts.table (c.in_ok-ruling.ensures.kept (ap Ok c.in_default-2.is)) behind }
+
+pub returns-then-not-has_all-clause-state : goal.returns-then-not-has_all-clause-state
+returns-then-not-has_all-clause-state t c =
+    let is = head_rest c.args.claims.now _ c.in-len1-up.len_at_least in
+    let behind = came_behind c.args.parts.now c.judge_one.new.parts c.judge_row.new.parts c.args.left.now c.args.plea.now c.args.claims.now _ _ c.in_ok-ruling.field-0 c.in_ok-ruling-2.ruling
+    is c.requires.row c.in_ok-ruling.ensures.state c.in_default-2.is c.in_ok-ruling-2.ensures.row c.in_ok-ruling-2.ensures.state (sym c.if-not-has_all.ensures) in
+    back_state c.args.parts.now c.judge_one.new.parts c.judge_row.new.parts c.take_back.new.self c.args.claims.now _ _ c.in_ok-ruling.field-0 c.in_ok-ruling-2.ruling
+    (c.take_back.ensures.before c.args.parts.now.table behind)
+    c.in_ok-ruling.ensures.state c.in_default-2.is c.in_ok-ruling-2.ensures.state (sym c.if-not-has_all.ensures)
+
+pub returns-else-not-has_all-clause-state : goal.returns-else-not-has_all-clause-state
+returns-else-not-has_all-clause-state t c =
+    let is = head_rest c.args.claims.now _ c.in-len1-up.len_at_least in
+    ahead_state c.args.parts.now c.judge_one.new.parts c.judge_row.new.parts c.args.claims.now _ _ c.in_ok-ruling.field-0 c.in_ok-ruling-2.ruling
+    is c.in_ok-ruling.ensures.state c.in_default-2.is c.in_ok-ruling-2.ensures.state (sym c.if-not-has_all.ensures)
