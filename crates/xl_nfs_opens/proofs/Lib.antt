@@ -9,3 +9,4 @@ pub mod OpenLaws
 pub mod RenewLaws
 pub mod OpenerLaws
 pub mod EnterLaws
+pub mod KeptLaws

@@ -1,5 +1,5 @@
 //! Laws of opens. The functions do nothing: each has laws as its clauses.
-ghost use Rattle.std.specs.Prelude.{◌≡◌, ◌==◌, ◌+◌, ◌<◌, ◌^◌, ℕ, true, false, if◌then◌else◌, List, [], Bool, Option, Some, None, option_map};
+ghost use Rattle.std.specs.Prelude.{◌≡◌, ◌==◌, ◌+◌, ◌<◌, ◌^◌, ℕ, true, false, if◌then◌else◌, List, [], Bool, Option, Some, None, is_some, option_map};
 ghost use Rattle.std.specs.List.{find};
 ghost use Rattle.xl_matrix.specs.Rights.{rights_lie_within};
 ghost use Rattle.xl_nfs.specs.Opens.{OpenArgsItem};
@@ -17,12 +17,13 @@ ghost use Rattle.xl_nfs_state.specs.declared.kept.KeptRow.{KeptRow};
 ghost use Rattle.xl_nfs_state.specs.declared.owner.OwnerRow.{OwnerRow};
 ghost use Rattle.xl_nfs_state.specs.declared.owner.Turn.{Turn as OwnerTurn};
 ghost use Rattle.xl_nfs_state.specs.declared.stateid.StateidRow.{StateidRow};
-ghost use Rattle.xl_nfs_opens.specs.Closing.{checked, close_by, close_done, confirm_by, failed_lists};
-ghost use Rattle.xl_nfs_opens.specs.Downgrades.{downgrade_by};
+ghost use Rattle.xl_nfs_opens.specs.Closing.{checked, close_by, close_done, confirm_by, confirm_done, failed_lists};
+ghost use Rattle.xl_nfs_opens.specs.Downgrades.{downgrade_by, downgrade_done};
 ghost use Rattle.xl_nfs_opens.specs.Laws.{can_come, IsRepeated};
-ghost use Rattle.xl_nfs_opens.specs.Opens.{either_bits, granted_new, judged, open_judged, rights_of};
+ghost use Rattle.xl_nfs_opens.specs.Opens.{either_bits, granted_more, granted_new, judged, open_judged, refused_lists, rights_of};
 ghost use Rattle.xl_nfs_opens.specs.Renewing.{number_of};
-ghost use Rattle.xl_nfs_opens.specs.Seqids.{advances, counted, is_opener, opener_number};
+ghost use Rattle.xl_nfs_opens.specs.Results.{spelled};
+ghost use Rattle.xl_nfs_opens.specs.Seqids.{advances, counted, is_opener, is_room_for, opener_number};
 ghost use Rattle.xl_nfs_opens.specs.declared.opener.Checked.TheVariants.{Passed, Repeated};
 ghost use Rattle.xl_nfs_opens.specs.declared.opener.Judged.TheVariants.{Next, Repeats};
 ghost use Rattle.xl_nfs_opens.specs.declared.opener.Opener.{Opener as OpenOwner};
@@ -78,4 +79,17 @@ pub fn new_opens_are_known()
 /// 16.2). What the owner's request before closed is another open.
 pub fn closed_opens_are_marked()
     ensures { (n : ℕ) (s : CoreState) (l : NfsLists) (current : Option ℕ) (a : CloseArgs) (r : StateidRow) (owner by : ℕ) (turn : OwnerTurn) → find (is_stateid r.number) l.stateids ≡ Some r → r.holder ≡ OfOpen by → (turn.closed ≡ Some r.number → ⊥) → option_map (λ (x : StateidRow). x.standing.closed) (find (is_stateid r.number) (carried n s l current (close_done s l current a r owner turn None)).3.stateids) ≡ Some true }
+{}
+
+/// The result of a request that counts is kept for its owner, as it was told, in the place of the one before: of an OPEN, of
+/// a new owner's too where there is room for it, OPEN_CONFIRM, OPEN_DOWNGRADE and CLOSE, whether they were done or refused
+/// (RFC 7530 9.1.8). It is what a repeat is told (see `repeats_change_nothing`).
+pub fn results_are_kept()
+    ensures first { (n : ℕ) (s : CoreState) (l : NfsLists) (current : Option ℕ) (o : OpenOwner) (a : OpenArgsItem) (file : ℕ) (confirmed : Bool) → is_room_for o l ≡ true → find (is_kept (opener_number o l)) (carried n s l current (granted_new s l o a file confirmed)).3.kept ≡ Some (record { owner = opener_number o l; result = spelled 18 (carried n s l current (granted_new s l o a file confirmed)).0 }) }
+    ensures more { (n : ℕ) (s : CoreState) (l : NfsLists) (current : Option ℕ) (o : OpenOwner) (a : OpenArgsItem) (file : ℕ) (confirmed : Bool) (r : StateidRow) → is_room_for o l ≡ true → find (is_kept (opener_number o l)) (carried n s l current (granted_more s l o a file confirmed r)).3.kept ≡ Some (record { owner = opener_number o l; result = spelled 18 (carried n s l current (granted_more s l o a file confirmed r)).0 }) }
+    ensures refused { (o : OpenOwner) (a : OpenArgsItem) (confirmed : Bool) (status : NfsStatus) (l : NfsLists) → advances status ≡ true → is_room_for o l ≡ true → find (is_kept (opener_number o l)) (refused_lists o a confirmed status l).kept ≡ Some (record { owner = opener_number o l; result = spelled 18 (Ended status) }) }
+    ensures confirms { (n : ℕ) (s : CoreState) (l : NfsLists) (current : Option ℕ) (a : OpenConfirmArgs) (r : StateidRow) (owner : ℕ) (turn : OwnerTurn) → is_some (find (is_owner owner) l.owners) ≡ true → find (is_kept owner) (carried n s l current (confirm_done s l current a r owner turn None)).3.kept ≡ Some (record { owner = owner; result = spelled 20 (carried n s l current (confirm_done s l current a r owner turn None)).0 }) }
+    ensures downgrades { (n : ℕ) (s : CoreState) (l : NfsLists) (current : Option ℕ) (a : OpenDowngradeArgs) (r : StateidRow) (owner : ℕ) (turn : OwnerTurn) → is_some (find (is_owner owner) l.owners) ≡ true → find (is_kept owner) (carried n s l current (downgrade_done s l current a r owner turn None)).3.kept ≡ Some (record { owner = owner; result = spelled 21 (carried n s l current (downgrade_done s l current a r owner turn None)).0 }) }
+    ensures closes { (n : ℕ) (s : CoreState) (l : NfsLists) (current : Option ℕ) (a : CloseArgs) (r : StateidRow) (owner : ℕ) (turn : OwnerTurn) → is_some (find (is_owner owner) l.owners) ≡ true → find (is_kept owner) (carried n s l current (close_done s l current a r owner turn None)).3.kept ≡ Some (record { owner = owner; result = spelled 4 (carried n s l current (close_done s l current a r owner turn None)).0 }) }
+    ensures fails { (l : NfsLists) (owner : ℕ) (turn : OwnerTurn) (op seqid : ℕ) (status : NfsStatus) → advances status ≡ true → is_some (find (is_owner owner) l.owners) ≡ true → find (is_kept owner) (failed_lists l owner turn op seqid status).kept ≡ Some (record { owner = owner; result = spelled op (Ended status) }) }
 {}
