@@ -10,3 +10,4 @@ pub mod RenewLaws
 pub mod OpenerLaws
 pub mod EnterLaws
 pub mod KeptLaws
+pub mod PassLaws

@@ -1,11 +1,17 @@
 -- What is said of opens.
-use Rattle.std.specs.Prelude.{◌≡◌, ◌+◌, Bool, List, ℕ}
+use Rattle.std.specs.Prelude.{◌≡◌, ◌+◌, Bool, List, ℕ, Some}
+use Rattle.std.specs.List.{find}
 use Rattle.xl_nfs.specs.Opens.{OpenArgsItem}
-use Rattle.xl_nfs_state.specs.State.{NfsLists, with_stateids, without, is_whose}
+use Rattle.xl_nfs.specs.declared.basics.Stateid.{Stateid}
+use Rattle.xl_nfs_state.specs.State.{NfsLists, with_stateids, without, is_owner, is_stateid, is_whose}
+use Rattle.xl_nfs_state.specs.declared.owner.OwnerRow.{OwnerRow}
+use Rattle.xl_nfs_state.specs.declared.stateid.Holder.TheVariants as holders
+use Rattle.xl_nfs_state.specs.declared.stateid.StateidRow.{StateidRow}
 use Rattle.xl_nfs_state.specs.declared.stateid.Whose.TheVariants as whose
 use Rattle.xl_core.specs.State.{CoreState}
 use Rattle.xl_nfs_opens.specs.Opens.{can_enter, open_row, open_turn}
 use Rattle.xl_nfs_opens.specs.Plans.{Outcome}
+use Rattle.xl_nfs_opens.specs.Renewing.{number_of as number_in_other}
 use Rattle.xl_nfs_opens.specs.Seqids.{opener_number, seated}
 use Rattle.xl_nfs_opens.specs.declared.opener.Opener.{Opener}
 use Rattle.xl_nfs_opens.specs.declared.told.Told.TheVariants.{Kept}
@@ -21,3 +27,10 @@ freed number l = with_stateids l (without (is_whose (whose.Stateid number)) l.st
 -- the open of the next number can come once its owner is seated
 abbrev pub can_come : CoreState → NfsLists → Opener → OpenArgsItem → ℕ → Bool → Bool
 can_come s l o a file confirmed = can_enter (open_row (s.counter + 1) o (opener_number o l) file a) (freed (s.counter + 1) (seated o (open_turn a confirmed) l))
+
+-- the stateid is of this start, and of this open, which is of the owner of number w
+pub record IsOpenOf (s : CoreState) (l : NfsLists) (stateid : Stateid) (r : StateidRow) (w : ℕ) (o : OwnerRow) : Type 0 where
+  pub number : number_in_other s stateid.other ≡ Some r.number
+  pub found : find (is_stateid r.number) l.stateids ≡ Some r
+  pub holder : r.holder ≡ holders.Open w
+  pub owner : find (is_owner w) l.owners ≡ Some o

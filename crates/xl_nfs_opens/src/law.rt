@@ -19,12 +19,12 @@ ghost use Rattle.xl_nfs_state.specs.declared.owner.Turn.{Turn as OwnerTurn};
 ghost use Rattle.xl_nfs_state.specs.declared.stateid.StateidRow.{StateidRow};
 ghost use Rattle.xl_nfs_opens.specs.Closing.{checked, close_by, close_done, confirm_by, confirm_done, failed_lists};
 ghost use Rattle.xl_nfs_opens.specs.Downgrades.{downgrade_by, downgrade_done};
-ghost use Rattle.xl_nfs_opens.specs.Laws.{can_come, IsRepeated};
+ghost use Rattle.xl_nfs_opens.specs.Laws.{can_come, IsOpenOf, IsRepeated};
 ghost use Rattle.xl_nfs_opens.specs.Opens.{either_bits, granted_more, granted_new, judged, open_judged, refused_lists, rights_of};
 ghost use Rattle.xl_nfs_opens.specs.Renewing.{number_of};
 ghost use Rattle.xl_nfs_opens.specs.Results.{spelled};
 ghost use Rattle.xl_nfs_opens.specs.Seqids.{advances, counted, is_opener, is_room_for, opener_number};
-ghost use Rattle.xl_nfs_opens.specs.declared.opener.Checked.TheVariants.{Passed, Repeated};
+ghost use Rattle.xl_nfs_opens.specs.declared.opener.Checked.TheVariants.{Passed, Refused, Repeated};
 ghost use Rattle.xl_nfs_opens.specs.declared.opener.Judged.TheVariants.{Next, Repeats};
 ghost use Rattle.xl_nfs_opens.specs.declared.opener.Opener.{Opener as OpenOwner};
 ghost use Rattle.xl_core.specs.State.{CoreState};
@@ -92,4 +92,13 @@ pub fn results_are_kept()
     ensures downgrades { (n : ℕ) (s : CoreState) (l : NfsLists) (current : Option ℕ) (a : OpenDowngradeArgs) (r : StateidRow) (owner : ℕ) (turn : OwnerTurn) → is_some (find (is_owner owner) l.owners) ≡ true → find (is_kept owner) (carried n s l current (downgrade_done s l current a r owner turn None)).3.kept ≡ Some (record { owner = owner; result = spelled 21 (carried n s l current (downgrade_done s l current a r owner turn None)).0 }) }
     ensures closes { (n : ℕ) (s : CoreState) (l : NfsLists) (current : Option ℕ) (a : CloseArgs) (r : StateidRow) (owner : ℕ) (turn : OwnerTurn) → is_some (find (is_owner owner) l.owners) ≡ true → find (is_kept owner) (carried n s l current (close_done s l current a r owner turn None)).3.kept ≡ Some (record { owner = owner; result = spelled 4 (carried n s l current (close_done s l current a r owner turn None)).0 }) }
     ensures fails { (l : NfsLists) (owner : ℕ) (turn : OwnerTurn) (op seqid : ℕ) (status : NfsStatus) → advances status ≡ true → is_some (find (is_owner owner) l.owners) ≡ true → find (is_kept owner) (failed_lists l owner turn op seqid status).kept ≡ Some (record { owner = owner; result = spelled op (Ended status) }) }
+{}
+
+/// OPEN_CONFIRM, OPEN_DOWNGRADE and CLOSE on an open that is there, where its file is the current one: with the seqid after
+/// its owner's last they are judged further, unless it is closed; with the owner's last seqid and operation they are a
+/// repeat, also on one that is closed; any other is told BAD_SEQID on one that isn't closed (RFC 7530 9.1.7, 9.1.8).
+pub fn known_opens_are_judged()
+    ensures next { (s : CoreState) (l : NfsLists) (op seqid : ℕ) (stateid : Stateid) (r : StateidRow) (w : ℕ) (o : OwnerRow) → IsOpenOf s l stateid r w o → seqid ≡ next_seqid o.turn.seqid → r.standing.closed ≡ false → checked s l (Some r.file) op seqid stateid ≡ Passed r w o.turn }
+    ensures last { (s : CoreState) (l : NfsLists) (op seqid : ℕ) (stateid : Stateid) (r : StateidRow) (w : ℕ) (o : OwnerRow) → IsOpenOf s l stateid r w o → seqid ≡ o.turn.seqid → op ≡ o.turn.op → seqid < 2 ^ 32 → checked s l (Some r.file) op seqid stateid ≡ Repeated w }
+    ensures others { (s : CoreState) (l : NfsLists) (op seqid : ℕ) (stateid : Stateid) (r : StateidRow) (w : ℕ) (o : OwnerRow) → IsOpenOf s l stateid r w o → (seqid ≡ next_seqid o.turn.seqid → ⊥) → (seqid ≡ o.turn.seqid → op ≡ o.turn.op → ⊥) → r.standing.closed ≡ false → checked s l (Some r.file) op seqid stateid ≡ Refused BadSeqid }
 {}
