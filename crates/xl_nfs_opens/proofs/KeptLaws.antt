@@ -77,7 +77,7 @@ owner_behind r (x ∷ rs) =
       | inr e ↦ rw e (owner_behind r rs)
     ]
 
-gone_owners : (closed : Option ℕ) (l : NfsLists) → (closed_gone closed l).owners ≡ l.owners
+pub gone_owners : (closed : Option ℕ) (l : NfsLists) → (closed_gone closed l).owners ≡ l.owners
 gone_owners None l = refl
 gone_owners (Some number) l = refl
 
@@ -114,7 +114,7 @@ come_owners r l =
       | inr e ↦ rw e refl
     ]
 
-entered_owners : (r : StateidRow) (l : NfsLists) → (entered r l).owners ≡ l.owners
+pub entered_owners : (r : StateidRow) (l : NfsLists) → (entered r l).owners ≡ l.owners
 unfolding entered
 entered_owners r l = come_owners r (with_stateids l (without (is_whose (whose.Stateid r.number)) l.stateids))
 

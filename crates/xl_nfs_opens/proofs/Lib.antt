@@ -11,3 +11,4 @@ pub mod OpenerLaws
 pub mod EnterLaws
 pub mod KeptLaws
 pub mod PassLaws
+pub mod TurnLaws

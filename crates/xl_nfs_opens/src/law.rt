@@ -1,6 +1,7 @@
 //! Laws of opens. The functions do nothing: each has laws as its clauses.
 ghost use Rattle.std.specs.Prelude.{◌≡◌, ◌==◌, ◌+◌, ◌<◌, ◌^◌, ℕ, true, false, if◌then◌else◌, List, [], Bool, Option, Some, None, is_some, option_map};
 ghost use Rattle.std.specs.List.{find};
+ghost use Rattle.std.specs.Option.{option_and_then};
 ghost use Rattle.xl_matrix.specs.Rights.{rights_lie_within};
 ghost use Rattle.xl_nfs.specs.Opens.{OpenArgsItem};
 ghost use Rattle.xl_nfs.specs.declared.basics.Stateid.{Stateid};
@@ -10,8 +11,8 @@ ghost use Rattle.xl_nfs.specs.declared.opens.OpenDowngradeArgs.{OpenDowngradeArg
 ghost use Rattle.xl_nfs.specs.declared.status.NfsStatus.{NfsStatus};
 ghost use Rattle.xl_nfs.specs.declared.status.NfsStatus.TheVariants.{BadSeqid};
 ghost use Rattle.xl_nfs_state.specs.declared.stateid.Holder.TheVariants.{Open as OfOpen};
-ghost use Rattle.xl_nfs_state.specs.Rows.{with_turn};
-ghost use Rattle.xl_nfs_state.specs.State.{NfsLists, is_kept, is_owner, is_stateid};
+ghost use Rattle.xl_nfs_state.specs.Rows.{with_standing, with_turn};
+ghost use Rattle.xl_nfs_state.specs.State.{NfsLists, IsRising, is_kept, is_owner, is_stateid};
 ghost use Rattle.xl_nfs_state.specs.Verdict.{next_seqid};
 ghost use Rattle.xl_nfs_state.specs.declared.kept.KeptRow.{KeptRow};
 ghost use Rattle.xl_nfs_state.specs.declared.owner.OwnerRow.{OwnerRow};
@@ -19,7 +20,7 @@ ghost use Rattle.xl_nfs_state.specs.declared.owner.Turn.{Turn as OwnerTurn};
 ghost use Rattle.xl_nfs_state.specs.declared.stateid.StateidRow.{StateidRow};
 ghost use Rattle.xl_nfs_opens.specs.Closing.{checked, close_by, close_done, confirm_by, confirm_done, failed_lists};
 ghost use Rattle.xl_nfs_opens.specs.Downgrades.{downgrade_by, downgrade_done};
-ghost use Rattle.xl_nfs_opens.specs.Laws.{can_come, IsOpenOf, IsRepeated};
+ghost use Rattle.xl_nfs_opens.specs.Laws.{can_come, HasCome, IsOpenOf, IsRepeated};
 ghost use Rattle.xl_nfs_opens.specs.Opens.{either_bits, granted_more, granted_new, judged, open_judged, refused_lists, rights_of};
 ghost use Rattle.xl_nfs_opens.specs.Renewing.{number_of};
 ghost use Rattle.xl_nfs_opens.specs.Results.{spelled};
@@ -101,4 +102,20 @@ pub fn known_opens_are_judged()
     ensures next { (s : CoreState) (l : NfsLists) (op seqid : ℕ) (stateid : Stateid) (r : StateidRow) (w : ℕ) (o : OwnerRow) → IsOpenOf s l stateid r w o → seqid ≡ next_seqid o.turn.seqid → r.standing.closed ≡ false → checked s l (Some r.file) op seqid stateid ≡ Passed r w o.turn }
     ensures last { (s : CoreState) (l : NfsLists) (op seqid : ℕ) (stateid : Stateid) (r : StateidRow) (w : ℕ) (o : OwnerRow) → IsOpenOf s l stateid r w o → seqid ≡ o.turn.seqid → op ≡ o.turn.op → seqid < 2 ^ 32 → checked s l (Some r.file) op seqid stateid ≡ Repeated w }
     ensures others { (s : CoreState) (l : NfsLists) (op seqid : ℕ) (stateid : Stateid) (r : StateidRow) (w : ℕ) (o : OwnerRow) → IsOpenOf s l stateid r w o → (seqid ≡ next_seqid o.turn.seqid → ⊥) → (seqid ≡ o.turn.seqid → op ≡ o.turn.op → ⊥) → r.standing.closed ≡ false → checked s l (Some r.file) op seqid stateid ≡ Refused BadSeqid }
+{}
+
+/// An OPEN that counts makes its seqid the last of its owner, and of no other: of a new open, of one that is opened again,
+/// and of one that is refused so; and one that ends so that it doesn't count leaves all as it was (RFC 7530 9.1.7).
+pub fn opens_advance_by_one()
+    ensures first { (n : ℕ) (s : CoreState) (l : NfsLists) (current : Option ℕ) (o : OpenOwner) (a : OpenArgsItem) (file : ℕ) (confirmed : Bool) → IsRising l.owners → is_room_for o l ≡ true → HasCome o (record { seqid = a.seqid; op = 18; confirmed = confirmed; closed = None }) l (carried n s l current (granted_new s l o a file confirmed)).3 }
+    ensures more { (n : ℕ) (s : CoreState) (l : NfsLists) (current : Option ℕ) (o : OpenOwner) (a : OpenArgsItem) (file : ℕ) (confirmed : Bool) (r : StateidRow) → IsRising l.owners → is_room_for o l ≡ true → HasCome o (record { seqid = a.seqid; op = 18; confirmed = confirmed; closed = None }) l (carried n s l current (granted_more s l o a file confirmed r)).3 }
+    ensures refused { (o : OpenOwner) (a : OpenArgsItem) (confirmed : Bool) (status : NfsStatus) (l : NfsLists) → advances status ≡ true → IsRising l.owners → is_room_for o l ≡ true → HasCome o (record { seqid = a.seqid; op = 18; confirmed = confirmed; closed = None }) l (refused_lists o a confirmed status l) }
+    ensures only { (o : OpenOwner) (a : OpenArgsItem) (confirmed : Bool) (status : NfsStatus) (l : NfsLists) → advances status ≡ false → refused_lists o a confirmed status l ≡ l }
+{}
+
+/// An open that its owner opens again keeps its number, file and owner; it has the access and the deny that it had and those
+/// that were asked, its seqid is the next, and it isn't closed (RFC 7530 9.9, 16.16). What the owner's request before closed
+/// is another open.
+pub fn opens_again_are_widened()
+    ensures { (n : ℕ) (s : CoreState) (l : NfsLists) (current : Option ℕ) (o : OpenOwner) (a : OpenArgsItem) (file : ℕ) (confirmed : Bool) (r : StateidRow) (by : ℕ) → find (is_stateid r.number) l.stateids ≡ Some r → r.holder ≡ OfOpen by → (option_and_then (λ (y : OwnerRow). y.turn.closed) (find (is_opener o) l.owners) ≡ Some r.number → ⊥) → find (is_stateid r.number) (carried n s l current (granted_more s l o a file confirmed r)).3.stateids ≡ Some (with_standing (record { seqid = next_seqid r.standing.seqid; access = either_bits r.standing.access a.access; deny = either_bits r.standing.deny a.deny; closed = false }) r) }
 {}
