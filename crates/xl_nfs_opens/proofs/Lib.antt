@@ -12,3 +12,4 @@ pub mod EnterLaws
 pub mod KeptLaws
 pub mod PassLaws
 pub mod TurnLaws
+pub mod StatusLaws

@@ -9,8 +9,16 @@ use Rattle.xl_nfs_state.specs.declared.owner.Turn.{Turn}
 use Rattle.xl_nfs_state.specs.declared.stateid.Holder.TheVariants as holders
 use Rattle.xl_nfs_state.specs.declared.stateid.StateidRow.{StateidRow}
 use Rattle.xl_nfs_state.specs.declared.stateid.Whose.TheVariants as whose
+use Rattle.xl_matrix.specs.declared.claim.Claim.{Claim}
+use Rattle.xl_matrix.specs.declared.claim.What.TheVariants as whats
+use Rattle.xl_nfs.specs.declared.status.NfsStatus.{NfsStatus}
+use Rattle.xl_nfs.specs.declared.status.NfsStatus.TheVariants as statuses
+use Rattle.xl_core.specs.Asking.{asked_claim}
+use Rattle.xl_core.specs.Causes.{IsClaimDue}
 use Rattle.xl_core.specs.State.{CoreState}
-use Rattle.xl_nfs_opens.specs.Opens.{can_enter, open_row, open_turn}
+use Rattle.xl_core.specs.declared.ask.Answer.TheVariants as answers
+use Rattle.xl_core.specs.declared.ask.Ask.{Ask}
+use Rattle.xl_nfs_opens.specs.Opens.{all_rooms, can_enter, open_row, open_turn, rights_of, share_ask}
 use Rattle.xl_nfs_opens.specs.Plans.{Outcome}
 use Rattle.xl_nfs_opens.specs.Renewing.{number_of as number_in_other}
 use Rattle.xl_nfs_opens.specs.Seqids.{is_opener, opener_number, seated}
@@ -40,3 +48,16 @@ pub record IsOpenOf (s : CoreState) (l : NfsLists) (stateid : Stateid) (r : Stat
 pub record HasCome (o : Opener) (turn : Turn) (old new : NfsLists) : Type 0 where
   pub own : option_map (λ (x : OwnerRow). x.turn) (find (is_opener o) new.owners) ≡ Some turn
   pub others : (number : ℕ) → (number ≡ opener_number o old → ⊥) → find (is_owner number) new.owners ≡ find (is_owner number) old.owners
+
+-- the share that an OPEN of this file asks for
+abbrev pub share_claim : CoreState → Opener → OpenArgsItem → ℕ → Claim
+share_claim s o a file = asked_claim (share_ask o a file) (whats.Share (rights_of a.access) (rights_of a.deny)) s.names
+
+-- OK where nothing stands against the share and there is room for it, SHARE_DENIED where something does, RESOURCE where a
+-- limit is passed, and NO_GRACE for a reclaim, which comes too late; nothing else is told
+abbrev pub IsOpenTold : CoreState → Ask → Claim → NfsStatus → Type 0
+IsOpenTold s a claim statuses.Ok = IsClaimDue all_rooms s a claim (answers.Granted claim)
+IsOpenTold s a claim statuses.ShareDenied = (c : Claim) × IsClaimDue all_rooms s a claim (answers.Conflict c)
+IsOpenTold s a claim statuses.Resource = (limit : ℕ) × IsClaimDue all_rooms s a claim (answers.Full limit)
+IsOpenTold s a claim statuses.NoGrace = IsClaimDue all_rooms s a claim (answers.NoGrace s.clock)
+IsOpenTold s a claim _ = ⊥

@@ -1,5 +1,5 @@
 //! Laws of opens. The functions do nothing: each has laws as its clauses.
-ghost use Rattle.std.specs.Prelude.{◌≡◌, ◌==◌, ◌+◌, ◌<◌, ◌^◌, ℕ, true, false, if◌then◌else◌, List, [], Bool, Option, Some, None, is_some, option_map};
+ghost use Rattle.std.specs.Prelude.{◌≡◌, ◌↔◌, ◌==◌, ◌+◌, ◌<◌, ◌^◌, ℕ, true, false, if◌then◌else◌, List, [], Bool, Option, Some, None, Ok, is_some, option_map};
 ghost use Rattle.std.specs.List.{find};
 ghost use Rattle.std.specs.Option.{option_and_then};
 ghost use Rattle.xl_matrix.specs.Rights.{rights_lie_within};
@@ -20,16 +20,16 @@ ghost use Rattle.xl_nfs_state.specs.declared.owner.Turn.{Turn as OwnerTurn};
 ghost use Rattle.xl_nfs_state.specs.declared.stateid.StateidRow.{StateidRow};
 ghost use Rattle.xl_nfs_opens.specs.Closing.{checked, close_by, close_done, confirm_by, confirm_done, failed_lists};
 ghost use Rattle.xl_nfs_opens.specs.Downgrades.{downgrade_by, downgrade_done};
-ghost use Rattle.xl_nfs_opens.specs.Laws.{can_come, HasCome, IsOpenOf, IsRepeated};
-ghost use Rattle.xl_nfs_opens.specs.Opens.{either_bits, granted_more, granted_new, judged, open_judged, refused_lists, rights_of};
+ghost use Rattle.xl_nfs_opens.specs.Laws.{can_come, HasCome, IsOpenOf, IsOpenTold, IsRepeated, share_claim};
+ghost use Rattle.xl_nfs_opens.specs.Opens.{either_bits, granted_more, granted_new, has_room, judged, open_judged, opened_file, refused_lists, rights_of, share_ask};
 ghost use Rattle.xl_nfs_opens.specs.Renewing.{number_of};
 ghost use Rattle.xl_nfs_opens.specs.Results.{spelled};
 ghost use Rattle.xl_nfs_opens.specs.Seqids.{advances, counted, is_opener, is_room_for, opener_number};
 ghost use Rattle.xl_nfs_opens.specs.declared.opener.Checked.TheVariants.{Passed, Refused, Repeated};
-ghost use Rattle.xl_nfs_opens.specs.declared.opener.Judged.TheVariants.{Next, Repeats};
+ghost use Rattle.xl_nfs_opens.specs.declared.opener.Judged.TheVariants.{New as NewOwner, Next, Repeats};
 ghost use Rattle.xl_nfs_opens.specs.declared.opener.Opener.{Opener as OpenOwner};
 ghost use Rattle.xl_core.specs.State.{CoreState};
-ghost use Rattle.xl_nfs_opens.specs.Plans.{carried};
+ghost use Rattle.xl_nfs_opens.specs.Plans.{carried, status_of};
 ghost use Rattle.xl_nfs_opens.specs.declared.told.Told.TheVariants.{Ended};
 
 /// A request that comes again is told the bytes that were kept of it, and nothing changes: neither what is remembered nor
@@ -118,4 +118,12 @@ pub fn opens_advance_by_one()
 /// is another open.
 pub fn opens_again_are_widened()
     ensures { (n : ℕ) (s : CoreState) (l : NfsLists) (current : Option ℕ) (o : OpenOwner) (a : OpenArgsItem) (file : ℕ) (confirmed : Bool) (r : StateidRow) (by : ℕ) → find (is_stateid r.number) l.stateids ≡ Some r → r.holder ≡ OfOpen by → (option_and_then (λ (y : OwnerRow). y.turn.closed) (find (is_opener o) l.owners) ≡ Some r.number → ⊥) → find (is_stateid r.number) (carried n s l current (granted_more s l o a file confirmed r)).3.stateids ≡ Some (with_standing (record { seqid = next_seqid r.standing.seqid; access = either_bits r.standing.access a.access; deny = either_bits r.standing.deny a.deny; closed = false }) r) }
+{}
+
+/// An OPEN that is judged further, of a file that it may open, where there is room for its owner and for the open, is told
+/// each status exactly where that has its cause: OK where nothing held stands against its share, SHARE_DENIED where
+/// something does, RESOURCE where the core has no room, NO_GRACE where it reclaims, and no other (RFC 7530 9.9, 16.16).
+pub fn open_statuses_have_causes()
+    ensures known { (n : ℕ) (files : List (List ℕ)) (others : ℕ) (s : CoreState) (l : NfsLists) (current : Option ℕ) (at : ℕ) (o : OpenOwner) (a : OpenArgsItem) (file : ℕ) (status : NfsStatus) → judged l o a.seqid ≡ Next → opened_file files at a ≡ Ok file → has_room others l o file ≡ true → (status_of (carried n s l current (open_judged files others s l current at o a (judged l o a.seqid))).0 ≡ status) ↔ IsOpenTold s (share_ask o a file) (share_claim s o a file) status }
+    ensures new { (n : ℕ) (files : List (List ℕ)) (others : ℕ) (s : CoreState) (l : NfsLists) (current : Option ℕ) (at : ℕ) (o : OpenOwner) (a : OpenArgsItem) (file : ℕ) (status : NfsStatus) → judged l o a.seqid ≡ NewOwner → opened_file files at a ≡ Ok file → has_room others l o file ≡ true → (status_of (carried n s l current (open_judged files others s l current at o a (judged l o a.seqid))).0 ≡ status) ↔ IsOpenTold s (share_ask o a file) (share_claim s o a file) status }
 {}
