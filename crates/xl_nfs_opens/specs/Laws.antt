@@ -1,5 +1,5 @@
 -- What is said of opens.
-use Rattle.std.specs.Prelude.{◌≡◌, ◌+◌, Bool, List, ℕ, Some, option_map}
+use Rattle.std.specs.Prelude.{◌≡◌, ◌+◌, Bool, true, false, List, [], ◌∷◌, ℕ, Option, Some, None, option_map}
 use Rattle.std.specs.List.{find}
 use Rattle.xl_nfs.specs.Opens.{OpenArgsItem}
 use Rattle.xl_nfs.specs.declared.basics.Stateid.{Stateid}
@@ -9,7 +9,9 @@ use Rattle.xl_nfs_state.specs.declared.owner.Turn.{Turn}
 use Rattle.xl_nfs_state.specs.declared.stateid.Holder.TheVariants as holders
 use Rattle.xl_nfs_state.specs.declared.stateid.StateidRow.{StateidRow}
 use Rattle.xl_nfs_state.specs.declared.stateid.Whose.TheVariants as whose
+use Rattle.xl_matrix.specs.Rights.{rights_lie_within}
 use Rattle.xl_matrix.specs.declared.claim.Claim.{Claim}
+use Rattle.xl_matrix.specs.declared.claim.Rwd.{Rwd}
 use Rattle.xl_matrix.specs.declared.claim.What.TheVariants as whats
 use Rattle.xl_nfs.specs.declared.status.NfsStatus.{NfsStatus}
 use Rattle.xl_nfs.specs.declared.status.NfsStatus.TheVariants as statuses
@@ -22,6 +24,8 @@ use Rattle.xl_nfs_opens.specs.Opens.{all_rooms, can_enter, open_row, open_turn, 
 use Rattle.xl_nfs_opens.specs.Plans.{Outcome}
 use Rattle.xl_nfs_opens.specs.Renewing.{number_of as number_in_other}
 use Rattle.xl_nfs_opens.specs.Seqids.{is_opener, opener_number, seated}
+use Rattle.xl_nfs_opens.specs.declared.opener.Judged.{Judged}
+use Rattle.xl_nfs_opens.specs.declared.opener.Judged.TheVariants as judgements
 use Rattle.xl_nfs_opens.specs.declared.opener.Opener.{Opener}
 use Rattle.xl_nfs_opens.specs.declared.told.Told.TheVariants.{Kept}
 
@@ -61,3 +65,16 @@ IsOpenTold s a claim statuses.ShareDenied = (c : Claim) × IsClaimDue all_rooms 
 IsOpenTold s a claim statuses.Resource = (limit : ℕ) × IsClaimDue all_rooms s a claim (answers.Full limit)
 IsOpenTold s a claim statuses.NoGrace = IsClaimDue all_rooms s a claim (answers.NoGrace s.clock)
 IsOpenTold s a claim _ = ⊥
+
+-- an OPEN that is judged so goes on: of an owner that is confirmed, or of a new one
+abbrev pub goes_on : Judged → Option Bool
+goes_on judgements.Next = Some true
+goes_on judgements.New = Some false
+goes_on judgements.Bad = None
+goes_on (judgements.Repeats number) = None
+goes_on (judgements.Anew number) = None
+
+-- one share, with this access and this deny at least
+abbrev pub IsShared : Rwd → Rwd → List (Rwd × Rwd) → Type 0
+IsShared access deny (share ∷ []) = (rights_lie_within access share.0 ≡ true) × (rights_lie_within deny share.1 ≡ true)
+IsShared access deny _ = ⊥
