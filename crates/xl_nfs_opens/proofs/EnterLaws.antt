@@ -4,13 +4,14 @@ use Rattle.std.proofs.lemmas.Bool.{cases_Bool, eq-eqb, eqb-true}
 use Rattle.std.proofs.lemmas.Option.{same_Some}
 use Rattle.std.specs.Bool.{◌==◌}
 use Rattle.std.specs.List.{find}
+use Rattle.std.specs.Option.{option_and_then}
 use Rattle.std.specs.Prelude.{◌&&◌}
 use Rattle.xl_nfs.specs.Opens.{OpenArgsItem}
 use Rattle.xl_nfs.specs.declared.opens.CloseArgs.{CloseArgs}
 use Rattle.xl_nfs.specs.declared.status.NfsStatus.TheVariants as statuses
 use Rattle.xl_nfs_state.specs.Filed.{changed}
 use Rattle.xl_nfs_state.specs.Rows.{with_standing}
-use Rattle.xl_nfs_state.specs.State.{NfsLists, without, is_kept, is_owner, is_stateid, is_under, is_whose}
+use Rattle.xl_nfs_state.specs.State.{NfsLists, next_owner, without, is_kept, is_owner, is_stateid, is_under, is_whose}
 use Rattle.xl_nfs_state.specs.Verdict.{next_seqid}
 use Rattle.xl_nfs_state.specs.declared.owner.OwnerRow.{OwnerRow}
 use Rattle.xl_nfs_state.specs.declared.owner.Turn.{Turn}
@@ -22,10 +23,10 @@ use Rattle.xl_nfs_state.specs.declared.stateid.Whose.TheVariants as whose
 use Rattle.xl_core.specs.State.{CoreState, drawn}
 use Rattle.xl_nfs_opens.specs.Closing.{next_turn, state_told, close_done}
 use Rattle.xl_nfs_opens.specs.Laws.{can_come}
-use Rattle.xl_nfs_opens.specs.Opens.{entered, open_row, open_turn, opened_told, granted_new, judged_by, judged, open_judged, stood}
+use Rattle.xl_nfs_opens.specs.Opens.{either_bits, entered, open_row, open_turn, opened_told, granted_more, granted_new, judged_by, judged, open_judged, stood}
 use Rattle.xl_nfs_opens.specs.Plans.{carried}
 use Rattle.xl_nfs_opens.specs.Results.{spelled}
-use Rattle.xl_nfs_opens.specs.Seqids.{is_opener, closed_gone, turned, kept_for, counted, opener_number, seated}
+use Rattle.xl_nfs_opens.specs.Seqids.{is_opener, closed_gone, turned, kept_for, counted, opener_number, seated, seated_by, seated_new}
 use Rattle.xl_nfs_opens.specs.declared.opener.Judged.{Judged}
 use Rattle.xl_nfs_opens.specs.declared.opener.Judged.TheVariants as judgements
 use Rattle.xl_nfs_opens.specs.declared.opener.Opener.{Opener}
@@ -100,6 +101,28 @@ close_marks n s l current a r owner by turn found holds other =
     let there : find (is_stateid r.number) (closed_gone turn.closed after).stateids ≡ Some (with_standing to r) = still_there turn.closed after (with_standing to r) by (changed_found r.number to l.stateids r found) holds other in
     ap (λ (ss : List StateidRow). option_map (λ (x : StateidRow). x.standing.closed) (find (is_stateid r.number) ss)) (kept_stateids owner (spelled 4 (state_told s r)) (closed_gone turn.closed after))
     ∙ ap (λ (x : Option StateidRow). option_map (λ (x : StateidRow). x.standing.closed) x) there
+
+-- ---- an open is opened again
+
+seated_new_there : (o : Opener) (turn : Turn) (l : NfsLists) (r : StateidRow) (next : Option ℕ) → find (is_stateid r.number) l.stateids ≡ Some r → find (is_stateid r.number) (seated_new o turn l next).stateids ≡ Some r
+seated_new_there o turn l r None found = found
+seated_new_there o turn l r (Some number) found = found
+
+seated_by_there : (o : Opener) (turn : Turn) (l : NfsLists) (r : StateidRow) (by : ℕ) (x : Option OwnerRow) → find (is_stateid r.number) l.stateids ≡ Some r → r.holder ≡ holders.Open by → (option_and_then (λ (y : OwnerRow). y.turn.closed) x ≡ Some r.number → ⊥) → find (is_stateid r.number) (seated_by o turn l x).stateids ≡ Some r
+seated_by_there o turn l r by None found holds other = seated_new_there o turn l r (next_owner l.owners) found
+seated_by_there o turn l r by (Some y) found holds other = still_there y.turn.closed (turned y.number turn l) r by found holds other
+
+seated_there : (o : Opener) (turn : Turn) (l : NfsLists) (r : StateidRow) (by : ℕ) → find (is_stateid r.number) l.stateids ≡ Some r → r.holder ≡ holders.Open by → (option_and_then (λ (y : OwnerRow). y.turn.closed) (find (is_opener o) l.owners) ≡ Some r.number → ⊥) → find (is_stateid r.number) (seated o turn l).stateids ≡ Some r
+unfolding seated
+seated_there o turn l r by found holds other = seated_by_there o turn l r by (find (is_opener o) l.owners) found holds other
+
+pub more_is_had : (n : ℕ) (s : CoreState) (l : NfsLists) (current : Option ℕ) (o : Opener) (a : OpenArgsItem) (file : ℕ) (confirmed : Bool) (r : StateidRow) (by : ℕ) → find (is_stateid r.number) l.stateids ≡ Some r → r.holder ≡ holders.Open by → (option_and_then (λ (y : OwnerRow). y.turn.closed) (find (is_opener o) l.owners) ≡ Some r.number → ⊥)
+    → find (is_stateid r.number) (carried n s l current (granted_more s l o a file confirmed r)).3.stateids ≡ Some (with_standing (record { seqid = next_seqid r.standing.seqid; access = either_bits r.standing.access a.access; deny = either_bits r.standing.deny a.deny; closed = false }) r)
+more_is_had n s l current o a file confirmed r by found holds other =
+    let to : Standing = record { seqid = next_seqid r.standing.seqid; access = either_bits r.standing.access a.access; deny = either_bits r.standing.deny a.deny; closed = false } in
+    let after : NfsLists = stood r.number r (either_bits r.standing.access a.access) (either_bits r.standing.deny a.deny) false l in
+    ap (λ (ss : List StateidRow). find (is_stateid r.number) ss) (kept_stateids (opener_number o l) (spelled 18 (opened_told s r.number (next_seqid r.standing.seqid) confirmed)) (seated o (open_turn a confirmed) after))
+    ∙ seated_there o (open_turn a confirmed) after (with_standing to r) by (changed_found r.number to l.stateids r found) holds other
 
 -- ---- the seqid of an OPEN
 

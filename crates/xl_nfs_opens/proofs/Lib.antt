@@ -10,3 +10,7 @@ pub mod OpenLaws
 pub mod RenewLaws
 pub mod OpenerLaws
 pub mod EnterLaws
+pub mod KeptLaws
+pub mod PassLaws
+pub mod TurnLaws
+pub mod StatusLaws

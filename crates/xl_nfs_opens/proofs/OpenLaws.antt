@@ -149,7 +149,7 @@ turned_at number owner turn (r ∷ rs) =
     still : (m k : ℕ) (v : Turn) (x : OwnerRow) (xs : List OwnerRow) → (m == x.number) ≡ false → (k == x.number) ≡ true → find (is_owner m) xs ≡ option_map (λ y. if m == k then with_turn v y else y) (find (is_owner m) xs)
     still m k v x xs d e = rw (apart m k x.number d e) (same (find (is_owner m) xs))
 
-kept_owners : (owner : ℕ) (bytes : List ℕ) (l : NfsLists) → (kept_for owner bytes l).owners ≡ l.owners
+pub kept_owners : (owner : ℕ) (bytes : List ℕ) (l : NfsLists) → (kept_for owner bytes l).owners ≡ l.owners
 kept_owners owner bytes l =
     elim (cases_Bool (is_some (find (is_kept owner) l.kept))) [
       | inl e ↦ rw e refl

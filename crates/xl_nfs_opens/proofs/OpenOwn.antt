@@ -212,7 +212,7 @@ answered_own n l current o a file confirmed Client answer s =
       | inr e ↦ rw e (tt, tt)
     ]
 
-ask_fits : (o : Opener) (a : OpenArgsItem) (file : ℕ) → IsFit (share_ask o a file)
+pub ask_fits : (o : Opener) (a : OpenArgsItem) (file : ℕ) → IsFit (share_ask o a file)
 unfolding share_ask
 ask_fits o a file = record { act = tt; own = refl; party = own_client o.id }
 

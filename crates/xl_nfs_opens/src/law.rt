@@ -1,6 +1,7 @@
 //! Laws of opens. The functions do nothing: each has laws as its clauses.
-ghost use Rattle.std.specs.Prelude.{◌≡◌, ◌==◌, ◌+◌, ◌<◌, ◌^◌, ℕ, true, false, if◌then◌else◌, List, [], Bool, Option, Some, None, option_map};
-ghost use Rattle.std.specs.List.{find};
+ghost use Rattle.std.specs.Prelude.{◌≡◌, ◌↔◌, ◌==◌, ◌+◌, ◌<◌, ◌^◌, ℕ, true, false, if◌then◌else◌, List, [], Bool, Option, Some, None, Ok, Err, is_some, option_map};
+ghost use Rattle.std.specs.List.{filter, find};
+ghost use Rattle.std.specs.Option.{option_and_then};
 ghost use Rattle.xl_matrix.specs.Rights.{rights_lie_within};
 ghost use Rattle.xl_nfs.specs.Opens.{OpenArgsItem};
 ghost use Rattle.xl_nfs.specs.declared.basics.Stateid.{Stateid};
@@ -8,26 +9,33 @@ ghost use Rattle.xl_nfs.specs.declared.opens.CloseArgs.{CloseArgs};
 ghost use Rattle.xl_nfs.specs.declared.opens.OpenConfirmArgs.{OpenConfirmArgs};
 ghost use Rattle.xl_nfs.specs.declared.opens.OpenDowngradeArgs.{OpenDowngradeArgs};
 ghost use Rattle.xl_nfs.specs.declared.status.NfsStatus.{NfsStatus};
-ghost use Rattle.xl_nfs.specs.declared.status.NfsStatus.TheVariants.{BadSeqid};
+ghost use Rattle.xl_nfs.specs.declared.status.NfsStatus.TheVariants.{BadSeqid, Ok as Fine, Resource};
 ghost use Rattle.xl_nfs_state.specs.declared.stateid.Holder.TheVariants.{Open as OfOpen};
-ghost use Rattle.xl_nfs_state.specs.Rows.{with_turn};
-ghost use Rattle.xl_nfs_state.specs.State.{NfsLists, is_kept, is_owner, is_stateid};
+ghost use Rattle.xl_nfs_state.specs.Rows.{with_standing, with_turn};
+ghost use Rattle.xl_nfs_state.specs.State.{NfsLists, IsRising, is_kept, is_owner, is_stateid, is_whose, without_owner};
+ghost use Rattle.xl_nfs_state.specs.declared.stateid.Whose.TheVariants.{Owner as OfOwner};
 ghost use Rattle.xl_nfs_state.specs.Verdict.{next_seqid};
 ghost use Rattle.xl_nfs_state.specs.declared.kept.KeptRow.{KeptRow};
 ghost use Rattle.xl_nfs_state.specs.declared.owner.OwnerRow.{OwnerRow};
 ghost use Rattle.xl_nfs_state.specs.declared.owner.Turn.{Turn as OwnerTurn};
 ghost use Rattle.xl_nfs_state.specs.declared.stateid.StateidRow.{StateidRow};
-ghost use Rattle.xl_nfs_opens.specs.Closing.{checked, close_by, close_done, confirm_by, failed_lists};
-ghost use Rattle.xl_nfs_opens.specs.Downgrades.{downgrade_by};
-ghost use Rattle.xl_nfs_opens.specs.Laws.{can_come, IsRepeated};
-ghost use Rattle.xl_nfs_opens.specs.Opens.{either_bits, granted_new, judged, open_judged, rights_of};
+ghost use Rattle.xl_nfs_opens.specs.Closing.{checked, close_by, close_done, confirm_by, confirm_done, failed_lists};
+ghost use Rattle.xl_nfs_opens.specs.Downgrades.{downgrade_by, downgrade_done};
+ghost use Rattle.xl_nfs_opens.specs.Laws.{can_come, goes_on, HasCome, IsOpenOf, IsOpenTold, IsRepeated, IsShared, share_claim};
+ghost use Rattle.xl_nfs_opens.specs.Opens.{either_bits, gives_all, granted_more, granted_new, has_room, judged, open_judged, opened_file, refused_lists, rights_of, share_ask};
 ghost use Rattle.xl_nfs_opens.specs.Renewing.{number_of};
-ghost use Rattle.xl_nfs_opens.specs.Seqids.{advances, counted, is_opener, opener_number};
-ghost use Rattle.xl_nfs_opens.specs.declared.opener.Checked.TheVariants.{Passed, Repeated};
-ghost use Rattle.xl_nfs_opens.specs.declared.opener.Judged.TheVariants.{Next, Repeats};
+ghost use Rattle.xl_nfs_opens.specs.Results.{spelled};
+ghost use Rattle.xl_nfs_opens.specs.Seqids.{advances, counted, is_opener, is_room_for, opener_number};
+ghost use Rattle.xl_nfs_opens.specs.declared.opener.Checked.TheVariants.{Passed, Refused, Repeated};
+ghost use Rattle.xl_nfs_opens.specs.declared.opener.Judged.TheVariants.{Anew, Next, Repeats};
 ghost use Rattle.xl_nfs_opens.specs.declared.opener.Opener.{Opener as OpenOwner};
+ghost use Rattle.xl_matrix.specs.declared.claim.What.TheVariants.{Share};
+ghost use Rattle.xl_table.specs.Relock.{old_shares, shares_of, united_by, with_share};
+ghost use Rattle.xl_core.specs.Asking.{asker};
+ghost use Rattle.xl_core.specs.Deeds.{all_done};
+ghost use Rattle.xl_core.specs.Good.{IsGood};
 ghost use Rattle.xl_core.specs.State.{CoreState};
-ghost use Rattle.xl_nfs_opens.specs.Plans.{carried};
+ghost use Rattle.xl_nfs_opens.specs.Plans.{carried, status_of};
 ghost use Rattle.xl_nfs_opens.specs.declared.told.Told.TheVariants.{Ended};
 
 /// A request that comes again is told the bytes that were kept of it, and nothing changes: neither what is remembered nor
@@ -78,4 +86,61 @@ pub fn new_opens_are_known()
 /// 16.2). What the owner's request before closed is another open.
 pub fn closed_opens_are_marked()
     ensures { (n : ℕ) (s : CoreState) (l : NfsLists) (current : Option ℕ) (a : CloseArgs) (r : StateidRow) (owner by : ℕ) (turn : OwnerTurn) → find (is_stateid r.number) l.stateids ≡ Some r → r.holder ≡ OfOpen by → (turn.closed ≡ Some r.number → ⊥) → option_map (λ (x : StateidRow). x.standing.closed) (find (is_stateid r.number) (carried n s l current (close_done s l current a r owner turn None)).3.stateids) ≡ Some true }
+{}
+
+/// The result of a request that counts is kept for its owner, as it was told, in the place of the one before: of an OPEN, of
+/// a new owner's too where there is room for it, OPEN_CONFIRM, OPEN_DOWNGRADE and CLOSE, whether they were done or refused
+/// (RFC 7530 9.1.8). It is what a repeat is told (see `repeats_change_nothing`).
+pub fn results_are_kept()
+    ensures first { (n : ℕ) (s : CoreState) (l : NfsLists) (current : Option ℕ) (o : OpenOwner) (a : OpenArgsItem) (file : ℕ) (confirmed : Bool) → is_room_for o l ≡ true → find (is_kept (opener_number o l)) (carried n s l current (granted_new s l o a file confirmed)).3.kept ≡ Some (record { owner = opener_number o l; result = spelled 18 (carried n s l current (granted_new s l o a file confirmed)).0 }) }
+    ensures more { (n : ℕ) (s : CoreState) (l : NfsLists) (current : Option ℕ) (o : OpenOwner) (a : OpenArgsItem) (file : ℕ) (confirmed : Bool) (r : StateidRow) → is_room_for o l ≡ true → find (is_kept (opener_number o l)) (carried n s l current (granted_more s l o a file confirmed r)).3.kept ≡ Some (record { owner = opener_number o l; result = spelled 18 (carried n s l current (granted_more s l o a file confirmed r)).0 }) }
+    ensures refused { (o : OpenOwner) (a : OpenArgsItem) (confirmed : Bool) (status : NfsStatus) (l : NfsLists) → advances status ≡ true → is_room_for o l ≡ true → find (is_kept (opener_number o l)) (refused_lists o a confirmed status l).kept ≡ Some (record { owner = opener_number o l; result = spelled 18 (Ended status) }) }
+    ensures confirms { (n : ℕ) (s : CoreState) (l : NfsLists) (current : Option ℕ) (a : OpenConfirmArgs) (r : StateidRow) (owner : ℕ) (turn : OwnerTurn) → is_some (find (is_owner owner) l.owners) ≡ true → find (is_kept owner) (carried n s l current (confirm_done s l current a r owner turn None)).3.kept ≡ Some (record { owner = owner; result = spelled 20 (carried n s l current (confirm_done s l current a r owner turn None)).0 }) }
+    ensures downgrades { (n : ℕ) (s : CoreState) (l : NfsLists) (current : Option ℕ) (a : OpenDowngradeArgs) (r : StateidRow) (owner : ℕ) (turn : OwnerTurn) → is_some (find (is_owner owner) l.owners) ≡ true → find (is_kept owner) (carried n s l current (downgrade_done s l current a r owner turn None)).3.kept ≡ Some (record { owner = owner; result = spelled 21 (carried n s l current (downgrade_done s l current a r owner turn None)).0 }) }
+    ensures closes { (n : ℕ) (s : CoreState) (l : NfsLists) (current : Option ℕ) (a : CloseArgs) (r : StateidRow) (owner : ℕ) (turn : OwnerTurn) → is_some (find (is_owner owner) l.owners) ≡ true → find (is_kept owner) (carried n s l current (close_done s l current a r owner turn None)).3.kept ≡ Some (record { owner = owner; result = spelled 4 (carried n s l current (close_done s l current a r owner turn None)).0 }) }
+    ensures fails { (l : NfsLists) (owner : ℕ) (turn : OwnerTurn) (op seqid : ℕ) (status : NfsStatus) → advances status ≡ true → is_some (find (is_owner owner) l.owners) ≡ true → find (is_kept owner) (failed_lists l owner turn op seqid status).kept ≡ Some (record { owner = owner; result = spelled op (Ended status) }) }
+{}
+
+/// OPEN_CONFIRM, OPEN_DOWNGRADE and CLOSE on an open that is there, where its file is the current one: with the seqid after
+/// its owner's last they are judged further, unless it is closed; with the owner's last seqid and operation they are a
+/// repeat, also on one that is closed; any other is told BAD_SEQID on one that isn't closed (RFC 7530 9.1.7, 9.1.8).
+pub fn known_opens_are_judged()
+    ensures next { (s : CoreState) (l : NfsLists) (op seqid : ℕ) (stateid : Stateid) (r : StateidRow) (w : ℕ) (o : OwnerRow) → IsOpenOf s l stateid r w o → seqid ≡ next_seqid o.turn.seqid → r.standing.closed ≡ false → checked s l (Some r.file) op seqid stateid ≡ Passed r w o.turn }
+    ensures last { (s : CoreState) (l : NfsLists) (op seqid : ℕ) (stateid : Stateid) (r : StateidRow) (w : ℕ) (o : OwnerRow) → IsOpenOf s l stateid r w o → seqid ≡ o.turn.seqid → op ≡ o.turn.op → seqid < 2 ^ 32 → checked s l (Some r.file) op seqid stateid ≡ Repeated w }
+    ensures others { (s : CoreState) (l : NfsLists) (op seqid : ℕ) (stateid : Stateid) (r : StateidRow) (w : ℕ) (o : OwnerRow) → IsOpenOf s l stateid r w o → (seqid ≡ next_seqid o.turn.seqid → ⊥) → (seqid ≡ o.turn.seqid → op ≡ o.turn.op → ⊥) → r.standing.closed ≡ false → checked s l (Some r.file) op seqid stateid ≡ Refused BadSeqid }
+{}
+
+/// An OPEN that counts makes its seqid the last of its owner, and of no other: of a new open, of one that is opened again,
+/// and of one that is refused so; and one that ends so that it doesn't count leaves all as it was (RFC 7530 9.1.7).
+pub fn opens_advance_by_one()
+    ensures first { (n : ℕ) (s : CoreState) (l : NfsLists) (current : Option ℕ) (o : OpenOwner) (a : OpenArgsItem) (file : ℕ) (confirmed : Bool) → IsRising l.owners → is_room_for o l ≡ true → HasCome o (record { seqid = a.seqid; op = 18; confirmed = confirmed; closed = None }) l (carried n s l current (granted_new s l o a file confirmed)).3 }
+    ensures more { (n : ℕ) (s : CoreState) (l : NfsLists) (current : Option ℕ) (o : OpenOwner) (a : OpenArgsItem) (file : ℕ) (confirmed : Bool) (r : StateidRow) → IsRising l.owners → is_room_for o l ≡ true → HasCome o (record { seqid = a.seqid; op = 18; confirmed = confirmed; closed = None }) l (carried n s l current (granted_more s l o a file confirmed r)).3 }
+    ensures refused { (o : OpenOwner) (a : OpenArgsItem) (confirmed : Bool) (status : NfsStatus) (l : NfsLists) → advances status ≡ true → IsRising l.owners → is_room_for o l ≡ true → HasCome o (record { seqid = a.seqid; op = 18; confirmed = confirmed; closed = None }) l (refused_lists o a confirmed status l) }
+    ensures only { (o : OpenOwner) (a : OpenArgsItem) (confirmed : Bool) (status : NfsStatus) (l : NfsLists) → advances status ≡ false → refused_lists o a confirmed status l ≡ l }
+{}
+
+/// An open that its owner opens again keeps its number, file and owner; it has the access and the deny that it had and those
+/// that were asked, its seqid is the next, and it isn't closed (RFC 7530 9.9, 16.16). What the owner's request before closed
+/// is another open.
+pub fn opens_again_are_widened()
+    ensures { (n : ℕ) (s : CoreState) (l : NfsLists) (current : Option ℕ) (o : OpenOwner) (a : OpenArgsItem) (file : ℕ) (confirmed : Bool) (r : StateidRow) (by : ℕ) → find (is_stateid r.number) l.stateids ≡ Some r → r.holder ≡ OfOpen by → (option_and_then (λ (y : OwnerRow). y.turn.closed) (find (is_opener o) l.owners) ≡ Some r.number → ⊥) → find (is_stateid r.number) (carried n s l current (granted_more s l o a file confirmed r)).3.stateids ≡ Some (with_standing (record { seqid = next_seqid r.standing.seqid; access = either_bits r.standing.access a.access; deny = either_bits r.standing.deny a.deny; closed = false }) r) }
+{}
+
+/// An OPEN that is judged further is told each status exactly where that has its cause (RFC 7530 9.9, 16.16). What it opens
+/// can't be opened: the first check that fails, and the core stays as it is. There is no room for its owner or for the open:
+/// RESOURCE, and nothing changes. Else OK where nothing held stands against its share, SHARE_DENIED where something does,
+/// RESOURCE where the core has no room, NO_GRACE where it reclaims, and no other. So is that of an owner that was never
+/// confirmed, once the shares of its opens are given back and it is gone.
+pub fn open_statuses_have_causes()
+    ensures told { (n : ℕ) (files : List (List ℕ)) (others : ℕ) (s : CoreState) (l : NfsLists) (current : Option ℕ) (at : ℕ) (o : OpenOwner) (a : OpenArgsItem) (confirmed : Bool) (file : ℕ) (status : NfsStatus) → goes_on (judged l o a.seqid) ≡ Some confirmed → opened_file files at a ≡ Ok file → has_room others l o file ≡ true → (status_of (carried n s l current (open_judged files others s l current at o a (judged l o a.seqid))).0 ≡ status) ↔ IsOpenTold s (share_ask o a file) (share_claim s o a file) status }
+    ensures anew { (n : ℕ) (files : List (List ℕ)) (others : ℕ) (s t : CoreState) (l : NfsLists) (current : Option ℕ) (at : ℕ) (o : OpenOwner) (a : OpenArgsItem) (number file : ℕ) (status : NfsStatus) → judged l o a.seqid ≡ Anew number → t ≡ all_done n s (gives_all s o (filter (is_whose (OfOwner number)) l.stateids)) → opened_file files at a ≡ Ok file → has_room others (without_owner number l) o file ≡ true → (status_of (carried n s l current (open_judged files others s l current at o a (judged l o a.seqid))).0 ≡ status) ↔ IsOpenTold t (share_ask o a file) (share_claim t o a file) status }
+    ensures fails { (n : ℕ) (files : List (List ℕ)) (others : ℕ) (s : CoreState) (l : NfsLists) (current : Option ℕ) (at : ℕ) (o : OpenOwner) (a : OpenArgsItem) (confirmed : Bool) (status : NfsStatus) → goes_on (judged l o a.seqid) ≡ Some confirmed → opened_file files at a ≡ Err status → carried n s l current (open_judged files others s l current at o a (judged l o a.seqid)) ≡ (Ended status, current, [], refused_lists o a confirmed status l, s) }
+    ensures full { (n : ℕ) (files : List (List ℕ)) (others : ℕ) (s : CoreState) (l : NfsLists) (current : Option ℕ) (at : ℕ) (o : OpenOwner) (a : OpenArgsItem) (confirmed : Bool) (file : ℕ) → goes_on (judged l o a.seqid) ≡ Some confirmed → opened_file files at a ≡ Ok file → has_room others l o file ≡ false → carried n s l current (open_judged files others s l current at o a (judged l o a.seqid)) ≡ (Ended Resource, current, [], l, s) }
+{}
+
+/// An OPEN that is OK leaves its owner with one share on the file: what was asked, united with what it had there; so it has
+/// the access and the deny that were asked (RFC 7530 9.9).
+pub fn opens_are_shares()
+    ensures united { (n : ℕ) (files : List (List ℕ)) (others : ℕ) (s : CoreState) (l : NfsLists) (current : Option ℕ) (at : ℕ) (o : OpenOwner) (a : OpenArgsItem) (confirmed : Bool) (file : ℕ) → IsGood s → goes_on (judged l o a.seqid) ≡ Some confirmed → opened_file files at a ≡ Ok file → has_room others l o file ≡ true → status_of (carried n s l current (open_judged files others s l current at o a (judged l o a.seqid))).0 ≡ Fine → shares_of file (asker (share_ask o a file) s.names) (carried n s l current (open_judged files others s l current at o a (judged l o a.seqid))).4.claims ≡ with_share (united_by (asker (share_ask o a file) s.names) (Share (rights_of a.access) (rights_of a.deny)) (old_shares file (asker (share_ask o a file) s.names) s.claims)) [] }
+    ensures asked { (n : ℕ) (files : List (List ℕ)) (others : ℕ) (s : CoreState) (l : NfsLists) (current : Option ℕ) (at : ℕ) (o : OpenOwner) (a : OpenArgsItem) (confirmed : Bool) (file : ℕ) → IsGood s → goes_on (judged l o a.seqid) ≡ Some confirmed → opened_file files at a ≡ Ok file → has_room others l o file ≡ true → status_of (carried n s l current (open_judged files others s l current at o a (judged l o a.seqid))).0 ≡ Fine → IsShared (rights_of a.access) (rights_of a.deny) (shares_of file (asker (share_ask o a file) s.names) (carried n s l current (open_judged files others s l current at o a (judged l o a.seqid))).4.claims) }
 {}

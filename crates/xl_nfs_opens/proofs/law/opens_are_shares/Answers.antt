@@ -1,0 +1,8 @@
+use Rattle.xl_nfs_opens.proofs.StatusLaws.{ok_share, ok_has_asked}
+use Rattle.xl_nfs_opens.proofs.law.opens_are_shares.Goals as goal
+
+pub returns-clause-united : goal.returns-clause-united
+returns-clause-united c = ok_share
+
+pub returns-clause-asked : goal.returns-clause-asked
+returns-clause-asked c = ok_has_asked
