@@ -3,6 +3,7 @@ pub mod TextLaws
 pub mod CheckLaws
 pub mod LeaveLaws
 pub mod EndLaws
+pub mod GoneLaws
 pub mod AskLaws
 pub mod PlanLaws
 pub mod DoesLaws

@@ -1,11 +1,15 @@
 //! Laws of the front. The functions do nothing: each has laws as its clauses.
-ghost use Rattle.std.specs.Prelude.{◌≡◌, ℕ, true, List};
+ghost use Rattle.std.specs.Prelude.{◌≡◌, ℕ, ◌==◌, true, List};
 ghost use Rattle.std.specs.List.{AllByRecursion};
 ghost use Rattle.xl_base.specs.declared.journal.Exports.{Exports};
 ghost use Rattle.xl_core.specs.Deeds.{all_done, all_told_of, answers_of, AreFit};
 ghost use Rattle.xl_core.specs.State.{CoreState};
+ghost use Rattle.xl_smb_state.specs.Links.{IsSound, AreDistinct};
+ghost use Rattle.xl_smb_state.specs.State.{covers_holder, opens_under};
+ghost use Rattle.xl_smb_state.specs.declared.row.Scope.{Scope};
 ghost use Rattle.xl_front_smb.specs.Ending.{smb_end_deeds, smb_end};
 ghost use Rattle.xl_front_smb.specs.FrontSmb.{sent_by, smb_deeds, smb_reply, smb_step};
+ghost use Rattle.xl_front_smb.specs.Laws.{rows_but, Without};
 ghost use Rattle.xl_front_smb.specs.Owners.{AreOwn, is_end};
 ghost use Rattle.xl_front_smb.specs.State.{FrontSmb};
 
@@ -40,4 +44,15 @@ pub fn deeds_are_the_connections()
 #[tactic(auto, using(crate::proofs::DoesLaws::step_replies))]
 pub fn replies_go_back()
     ensures { (n : ℕ) (exports : Exports) (others : ℕ) (f : FrontSmb) (s : CoreState) (conn : ℕ) (bytes : List ℕ) → (smb_step n exports others f s conn bytes).0 ≡ sent_by conn (smb_reply exports others f s conn bytes (answers_of n s (smb_deeds n exports others f s conn bytes))) }
+{}
+
+/// The end of a connection leaves nothing of it, and all else (MS-SMB2 3.3.7.1): of claims and waiters just those of no open
+/// under it, of the lists just the opens that are not under it, and the sessions and tree connects that are not on it; and
+/// the connection is gone.
+pub fn an_ended_connection_leaves_nothing()
+    ensures core { (f : FrontSmb) (s : CoreState) (conn : ℕ) → Without (opens_under (Scope.Connection conn) f.state) s (smb_end f s conn).2 }
+    ensures opens { (f : FrontSmb) (s : CoreState) (conn : ℕ) → AreDistinct f.state → (smb_end f s conn).1.state.opens ≡ rows_but (λ e. covers_holder (Scope.Connection conn) e.1.holder) f.state.opens }
+    ensures sessions { (f : FrontSmb) (s : CoreState) (conn : ℕ) → AreDistinct f.state → (smb_end f s conn).1.state.sessions ≡ rows_but (λ e. e.1.connection == conn) f.state.sessions }
+    ensures trees { (f : FrontSmb) (s : CoreState) (conn : ℕ) → IsSound f.state → AreDistinct f.state → (smb_end f s conn).1.state.trees ≡ rows_but (λ e. e.1.connection == conn) f.state.trees }
+    ensures connections { (f : FrontSmb) (s : CoreState) (conn : ℕ) → AreDistinct f.state → (smb_end f s conn).1.state.connections ≡ rows_but (λ e. conn == e.0) f.state.connections }
 {}
