@@ -11,10 +11,12 @@ use Rattle.xl_base.specs.declared.name.Party.TheVariants as parties
 use Rattle.xl_matrix.specs.Equal.{same_parties}
 use Rattle.xl_matrix.specs.declared.claim.Claim.{Claim}
 use Rattle.xl_wait.specs.declared.waiter.Waiter.{Waiter}
+use Rattle.xl_smb.specs.Calls.{Logoff, TreeDisconnect, Close}
+use Rattle.xl_smb.specs.declared.lock.CloseCall.{CloseCall}
 use Rattle.xl_smb.specs.declared.file.FileId.{FileId}
 use Rattle.xl_smb.specs.declared.head.SmbHead.{SmbHead}
 use Rattle.xl_smb_state.specs.Links.{IsTreeLinked, IsSound, AreDistinct}
-use Rattle.xl_smb_state.specs.State.{Lists, keys_where, session_of, sessions_on, trees_of, tree_dropped, session_dropped, covers_holder, opens_under, closed}
+use Rattle.xl_smb_state.specs.State.{Lists, client_of, keys_where, session_of, sessions_on, trees_of, tree_dropped, session_dropped, covers_holder, opens_under, closed}
 use Rattle.xl_smb_state.specs.declared.row.Connection.{Connection}
 use Rattle.xl_smb_state.specs.declared.row.Open.{Open}
 use Rattle.xl_smb_state.specs.declared.row.Place.{Place}
@@ -23,18 +25,19 @@ use Rattle.xl_smb_state.specs.declared.row.Scope.TheVariants as scope
 use Rattle.xl_smb_state.specs.declared.row.Session.{Session}
 use Rattle.xl_smb_state.specs.declared.row.Tree.{Tree}
 use Rattle.xl_smb_state.proofs.RowLaws.{unequal_both, equal_self, equal_from, none_some, same_Some}
-use Rattle.xl_core.specs.Deeds.{all_done}
+use Rattle.xl_core.specs.Deeds.{all_done, all_told_of}
 use Rattle.xl_core.specs.Settle.{end_party, waits_for}
 use Rattle.xl_core.specs.State.{CoreState}
 use Rattle.xl_core.proofs.SettleLaws.{party_claims, party_waiters}
 use Rattle.xl_front_smb.specs.Ending.{ends, all_ended, all_closed, trees_dropped, session_gone, sessions_gone, connection_gone, smb_end}
-use Rattle.xl_front_smb.specs.Checks.{session_named, tree_named, open_named, in_session, on_tree, on_open}
+use Rattle.xl_front_smb.specs.Checks.{session_named, tree_named, open_named, negotiated_by, in_session, on_tree, on_open}
 use Rattle.xl_front_smb.specs.Files.{close_open, close}
-use Rattle.xl_front_smb.specs.Plans.{Fails, Does}
+use Rattle.xl_front_smb.specs.Plans.{Plan, Does, Outcome, carried}
+use Rattle.xl_front_smb.specs.Requests.{commanded, planned}
 use Rattle.xl_front_smb.specs.Sessions.{logoff, disconnect, tree_disconnect}
 use Rattle.xl_front_smb.specs.declared.status.SmbStatus.TheVariants.{UserSessionDeleted}
-use Rattle.xl_front_smb.specs.declared.told.Told.TheVariants.{LoggedOff}
-use Rattle.xl_front_smb.specs.Laws.{rows_but, is_among, waits_among, Without}
+use Rattle.xl_front_smb.specs.declared.told.Told.TheVariants.{Failed, LoggedOff, Disconnected, Closed}
+use Rattle.xl_front_smb.specs.Laws.{rows_but, is_among, waits_among, Without, outcome_of, IsInSession, IsOnTree}
 use Rattle.xl_front_smb.specs.State.{FrontSmb}
 use Rattle.xl_front_smb.proofs.EndLaws.{ended_done}
 
@@ -297,34 +300,63 @@ end_connections f s conn distinct =
 
 -- ---- LOGOFF
 
-pub logoff_is : (s : CoreState) (l : Lists) (conn : ℕ) (h : SmbHead) (session : ℕ) → session_named s l conn h.session_id ≡ Some session
-    → logoff s l conn h ≡ Does (ends (opens_under (scope.Session session) l)) (session_gone session (all_closed (opens_under (scope.Session session) l) l)) LoggedOff
-unfolding logoff
-logoff_is s l conn h session at = ap (in_session (λ k. Does (ends (opens_under (scope.Session k) l)) (session_gone k (all_closed (opens_under (scope.Session k) l) l)) LoggedOff)) at
+planned_is : (s : CoreState) (files : List (List ℕ)) (others : ℕ) (l : Lists) (conn : ℕ) (h : SmbHead) (client : List ℕ) → client_of conn l ≡ Some client
+    → (planned s files others l conn h Logoff ≡ logoff s l conn h) × (planned s files others l conn h TreeDisconnect ≡ tree_disconnect s l conn client h)
+    × ((c : CloseCall) → planned s files others l conn h (Close c) ≡ close s l conn client h c.file_id)
+unfolding planned commanded
+planned_is s files others l conn h client at = (
+  ap (negotiated_by (λ _. logoff s l conn h)) at,
+  ap (negotiated_by (λ k. tree_disconnect s l conn k h)) at,
+  λ c. ap (negotiated_by (λ k. close s l conn k h c.file_id)) at,
+)
 
-pub logoff_fails : (s : CoreState) (l : Lists) (conn : ℕ) (h : SmbHead) → session_named s l conn h.session_id ≡ None → logoff s l conn h ≡ Fails UserSessionDeleted
+logoff_by : (s : CoreState) (l : Lists) (conn : ℕ) (h : SmbHead) (o : Option ℕ) → session_named s l conn h.session_id ≡ o
+    → logoff s l conn h ≡ in_session (λ k. Does (ends (opens_under (scope.Session k) l)) (session_gone k (all_closed (opens_under (scope.Session k) l) l)) LoggedOff) o
 unfolding logoff
-logoff_fails s l conn h at = ap (in_session (λ k. Does (ends (opens_under (scope.Session k) l)) (session_gone k (all_closed (opens_under (scope.Session k) l) l)) LoggedOff)) at
+logoff_by s l conn h o at = ap (in_session (λ k. Does (ends (opens_under (scope.Session k) l)) (session_gone k (all_closed (opens_under (scope.Session k) l) l)) LoggedOff)) at
+
+disconnect_by : (s : CoreState) (l : Lists) (conn : ℕ) (client : List ℕ) (h : SmbHead) (o : Option ℕ) → session_named s l conn h.session_id ≡ o
+    → tree_disconnect s l conn client h ≡ in_session (λ k. on_tree (disconnect l) (tree_named l conn client h k)) o
+unfolding tree_disconnect
+disconnect_by s l conn client h o at = ap (in_session (λ k. on_tree (disconnect l) (tree_named l conn client h k))) at
+
+close_by : (s : CoreState) (l : Lists) (conn : ℕ) (client : List ℕ) (h : SmbHead) (id : FileId) (o : Option ℕ) → session_named s l conn h.session_id ≡ o
+    → close s l conn client h id ≡ in_session (λ k. on_tree (λ _. on_open (close_open l) (open_named s l conn id)) (tree_named l conn client h k)) o
+unfolding close
+close_by s l conn client h id o at = ap (in_session (λ k. on_tree (λ _. on_open (close_open l) (open_named s l conn id)) (tree_named l conn client h k))) at
+
+-- what holds of an outcome holds of a request's that is planned so
+by_plan : (P : Outcome → Type 0) (n : ℕ) (s : CoreState) (l : Lists) (made plan : Plan) → made ≡ plan → P (carried n s l plan) → P (carried n s l made)
+by_plan P n s l made plan e p = subst (λ (x : Plan). P (carried n s l x)) (sym e) p
+
+module _ (n : ℕ) (s : CoreState) (files : List (List ℕ)) (others : ℕ) (l : Lists) (conn : ℕ) (h : SmbHead) (client : List ℕ) where
+  pub logged_off : (P : Outcome → Type 0) (session : ℕ) → IsInSession s l conn h client session
+      → P (LoggedOff, all_told_of n s (ends (opens_under (scope.Session session) l)), session_gone session (all_closed (opens_under (scope.Session session) l) l), all_done n s (ends (opens_under (scope.Session session) l)))
+      → P (outcome_of n s files others l conn h Logoff)
+  logged_off P session named = by_plan P n s l _ _ ((planned_is s files others l conn h client named.0).0 ∙ logoff_by s l conn h (Some session) named.1)
+
+  pub logoff_refused : client_of conn l ≡ Some client → session_named s l conn h.session_id ≡ None → outcome_of n s files others l conn h Logoff ≡ (Failed UserSessionDeleted, [], l, s)
+  logoff_refused known none = ap (carried n s l) ((planned_is s files others l conn h client known).0 ∙ logoff_by s l conn h None none)
 
 -- ---- TREE_DISCONNECT
 
-pub disconnect_is : (s : CoreState) (l : Lists) (conn : ℕ) (client : List ℕ) (h : SmbHead) (session : ℕ) (place : Place) → session_named s l conn h.session_id ≡ Some session → tree_named l conn client h session ≡ Some place
-    → tree_disconnect s l conn client h ≡ disconnect l place
-unfolding tree_disconnect
-disconnect_is s l conn client h session place at on = ap (in_session (λ k. on_tree (disconnect l) (tree_named l conn client h k))) at ∙ ap (on_tree (disconnect l)) on
-
-pub tree_opens : (l : Lists) (tree : ℕ) → AreDistinct l → (tree_dropped tree (all_closed (opens_under (scope.Tree tree) l) l)).opens ≡ rows_but (λ e. covers_holder (scope.Tree tree) e.1.holder) l.opens
-tree_opens l tree distinct = opens_out (scope.Tree tree) l distinct
-
-pub tree_trees : (l : Lists) (tree : ℕ) (numbers : List ℕ) → AreDistinct l → (tree_dropped tree (all_closed numbers l)).trees ≡ rows_but (λ e. eqb tree e.0) l.trees
-tree_trees l tree numbers distinct = ap (remove_entry (nat_eq tree)) (closed_trees numbers l) ∙ out_one tree l.trees distinct.trees
+  pub disconnected : (P : Outcome → Type 0) (session : ℕ) (place : Place) → IsOnTree s l conn h client session place
+      → P (Disconnected, all_told_of n s (ends (opens_under (scope.Tree place.tree) l)), tree_dropped place.tree (all_closed (opens_under (scope.Tree place.tree) l) l), all_done n s (ends (opens_under (scope.Tree place.tree) l)))
+      → P (outcome_of n s files others l conn h TreeDisconnect)
+  disconnected P session place named =
+      by_plan P n s l _ _ ((planned_is s files others l conn h client named.0.0).1 ∙ disconnect_by s l conn client h (Some session) named.0.1 ∙ ap (on_tree (disconnect l)) named.1)
 
 -- ---- CLOSE
 
-pub close_is : (s : CoreState) (l : Lists) (conn : ℕ) (client : List ℕ) (h : SmbHead) (id : FileId) (session : ℕ) (place : Place) (number : ℕ)
-    → session_named s l conn h.session_id ≡ Some session → tree_named l conn client h session ≡ Some place → open_named s l conn id ≡ Some number → close s l conn client h id ≡ close_open l number
-unfolding close
-close_is s l conn client h id session place number first second third =
-    ap (in_session (λ k. on_tree (λ _. on_open (close_open l) (open_named s l conn id)) (tree_named l conn client h k))) first
-    ∙ ap (on_tree (λ _. on_open (close_open l) (open_named s l conn id))) second
-    ∙ ap (on_open (close_open l)) third
+  pub closes_open : (P : Outcome → Type 0) (c : CloseCall) (session : ℕ) (place : Place) (number : ℕ) → IsOnTree s l conn h client session place → open_named s l conn c.file_id ≡ Some number
+      → P (Closed, all_told_of n s (ends (number ∷ [])), closed number l, all_done n s (ends (number ∷ [])))
+      → P (outcome_of n s files others l conn h (Close c))
+  closes_open P c session place number named third =
+      by_plan P n s l _ _
+      ((planned_is s files others l conn h client named.0.0).2 c
+      ∙ close_by s l conn client h c.file_id (Some session) named.0.1
+      ∙ ap (on_tree (λ _. on_open (close_open l) (open_named s l conn c.file_id))) named.1
+      ∙ ap (on_open (close_open l)) third)
+
+pub tree_trees : (l : Lists) (tree : ℕ) (numbers : List ℕ) → AreDistinct l → (tree_dropped tree (all_closed numbers l)).trees ≡ rows_but (λ e. eqb tree e.0) l.trees
+tree_trees l tree numbers distinct = ap (remove_entry (nat_eq tree)) (closed_trees numbers l) ∙ out_one tree l.trees distinct.trees

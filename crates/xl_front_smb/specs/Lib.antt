@@ -9,6 +9,6 @@ pub mod Checks
 pub mod Ending
 pub mod Sessions
 pub mod Files
-pub mod Laws
 pub mod Requests
+pub mod Laws
 pub mod FrontSmb
