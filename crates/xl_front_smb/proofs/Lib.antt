@@ -8,3 +8,4 @@ pub mod AskLaws
 pub mod PlanLaws
 pub mod DoesLaws
 pub mod OwnLaws
+pub mod CreateLaws

@@ -1,10 +1,11 @@
 //! Laws of the front. The functions do nothing: each has laws as its clauses.
-ghost use Rattle.std.specs.Prelude.{◌≡◌, ℕ, ◌==◌, true, List, [], ◌∷◌, Some, None};
+ghost use Rattle.std.specs.Prelude.{◌≡◌, ℕ, ◌==◌, ◌↔◌, true, List, [], ◌∷◌, Some, None};
 ghost use Rattle.std.specs.List.{AllByRecursion};
 ghost use Rattle.xl_base.specs.declared.journal.Exports.{Exports};
 ghost use Rattle.xl_core.specs.Deeds.{all_done, all_told_of, answers_of, AreFit};
 ghost use Rattle.xl_core.specs.State.{CoreState};
 ghost use Rattle.xl_smb.specs.Calls.{CallItem};
+ghost use Rattle.xl_smb.specs.Creates.{CreateCallItem};
 ghost use Rattle.xl_smb.specs.declared.lock.CloseCall.{CloseCall};
 ghost use Rattle.xl_smb.specs.declared.head.SmbHead.{SmbHead};
 ghost use Rattle.xl_smb_state.specs.Links.{IsSound, AreDistinct};
@@ -14,7 +15,7 @@ ghost use Rattle.xl_smb_state.specs.declared.row.Scope.{Scope};
 ghost use Rattle.xl_front_smb.specs.Ending.{smb_end_deeds, smb_end};
 ghost use Rattle.xl_front_smb.specs.FrontSmb.{sent_by, smb_deeds, smb_reply, smb_step};
 ghost use Rattle.xl_front_smb.specs.Checks.{session_named, open_named};
-ghost use Rattle.xl_front_smb.specs.Laws.{rows_but, Without, outcome_of, IsInSession, IsOnTree};
+ghost use Rattle.xl_front_smb.specs.Laws.{rows_but, Without, outcome_of, IsInSession, IsOnTree, IsCreateDue};
 ghost use Rattle.xl_front_smb.specs.Owners.{AreOwn, is_end};
 ghost use Rattle.xl_front_smb.specs.State.{FrontSmb};
 ghost use Rattle.xl_front_smb.specs.declared.status.SmbStatus.{SmbStatus};
@@ -97,4 +98,11 @@ pub fn a_close_leaves_nothing()
     ensures trees { (n : ℕ) (s : CoreState) (files : List (List ℕ)) (others : ℕ) (l : Lists) (conn : ℕ) (h : SmbHead) (client : List ℕ) (c : CloseCall) (session : ℕ) (place : Place) (number : ℕ) → IsOnTree s l conn h client session place → open_named s l conn c.file_id ≡ Some number → (outcome_of n s files others l conn h (CallItem.Close c)).2.trees ≡ l.trees }
     ensures sessions { (n : ℕ) (s : CoreState) (files : List (List ℕ)) (others : ℕ) (l : Lists) (conn : ℕ) (h : SmbHead) (client : List ℕ) (c : CloseCall) (session : ℕ) (place : Place) (number : ℕ) → IsOnTree s l conn h client session place → open_named s l conn c.file_id ≡ Some number → (outcome_of n s files others l conn h (CallItem.Close c)).2.sessions ≡ l.sessions }
     ensures connections { (n : ℕ) (s : CoreState) (files : List (List ℕ)) (others : ℕ) (l : Lists) (conn : ℕ) (h : SmbHead) (client : List ℕ) (c : CloseCall) (session : ℕ) (place : Place) (number : ℕ) → IsOnTree s l conn h client session place → open_named s l conn c.file_id ≡ Some number → (outcome_of n s files others l conn h (CallItem.Close c)).2.connections ≡ l.connections }
+{}
+
+/// CREATE is told its status exactly where that has its cause, in the order of its checks (MS-SMB2 3.3.5.9): it is open where
+/// the core is due to grant the share, SHARING_VIOLATION where something held stands against that, INSUFFICIENT_RESOURCES
+/// where it passes a limit.
+pub fn creates_have_causes()
+    ensures { (n : ℕ) (s : CoreState) (files : List (List ℕ)) (others : ℕ) (l : Lists) (conn : ℕ) (h : SmbHead) (c : CreateCallItem) (told : Told) → ((outcome_of n s files others l conn h (CallItem.Create c)).0 ≡ told) ↔ IsCreateDue s files others l conn h c told }
 {}
