@@ -3,7 +3,9 @@ pub mod TextLaws
 pub mod CheckLaws
 pub mod LeaveLaws
 pub mod EndLaws
+pub mod GoneLaws
 pub mod AskLaws
 pub mod PlanLaws
 pub mod DoesLaws
 pub mod OwnLaws
+pub mod CreateLaws

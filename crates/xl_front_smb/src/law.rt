@@ -1,13 +1,25 @@
 //! Laws of the front. The functions do nothing: each has laws as its clauses.
-ghost use Rattle.std.specs.Prelude.{◌≡◌, ℕ, true, List};
+ghost use Rattle.std.specs.Prelude.{◌≡◌, ℕ, ◌==◌, ◌↔◌, true, List, [], ◌∷◌, Some, None};
 ghost use Rattle.std.specs.List.{AllByRecursion};
 ghost use Rattle.xl_base.specs.declared.journal.Exports.{Exports};
 ghost use Rattle.xl_core.specs.Deeds.{all_done, all_told_of, answers_of, AreFit};
 ghost use Rattle.xl_core.specs.State.{CoreState};
+ghost use Rattle.xl_smb.specs.Calls.{CallItem};
+ghost use Rattle.xl_smb.specs.Creates.{CreateCallItem};
+ghost use Rattle.xl_smb.specs.declared.lock.CloseCall.{CloseCall};
+ghost use Rattle.xl_smb.specs.declared.head.SmbHead.{SmbHead};
+ghost use Rattle.xl_smb_state.specs.Links.{IsSound, AreDistinct};
+ghost use Rattle.xl_smb_state.specs.State.{Lists, client_of, covers_holder, opens_under};
+ghost use Rattle.xl_smb_state.specs.declared.row.Place.{Place};
+ghost use Rattle.xl_smb_state.specs.declared.row.Scope.{Scope};
 ghost use Rattle.xl_front_smb.specs.Ending.{smb_end_deeds, smb_end};
 ghost use Rattle.xl_front_smb.specs.FrontSmb.{sent_by, smb_deeds, smb_reply, smb_step};
+ghost use Rattle.xl_front_smb.specs.Checks.{session_named, open_named};
+ghost use Rattle.xl_front_smb.specs.Laws.{rows_but, Without, outcome_of, IsInSession, IsOnTree, IsCreateDue};
 ghost use Rattle.xl_front_smb.specs.Owners.{AreOwn, is_end};
 ghost use Rattle.xl_front_smb.specs.State.{FrontSmb};
+ghost use Rattle.xl_front_smb.specs.declared.status.SmbStatus.{SmbStatus};
+ghost use Rattle.xl_front_smb.specs.declared.told.Told.{Told};
 
 /// A message leaves the core as its deeds do, and tells of what they tell of; so does the end of a connection.
 #[tactic(auto, using(crate::proofs::DoesLaws::step_does, crate::proofs::DoesLaws::step_tells, crate::proofs::DoesLaws::end_does, crate::proofs::DoesLaws::end_tells))]
@@ -40,4 +52,57 @@ pub fn deeds_are_the_connections()
 #[tactic(auto, using(crate::proofs::DoesLaws::step_replies))]
 pub fn replies_go_back()
     ensures { (n : ℕ) (exports : Exports) (others : ℕ) (f : FrontSmb) (s : CoreState) (conn : ℕ) (bytes : List ℕ) → (smb_step n exports others f s conn bytes).0 ≡ sent_by conn (smb_reply exports others f s conn bytes (answers_of n s (smb_deeds n exports others f s conn bytes))) }
+{}
+
+/// The end of a connection leaves nothing of it, and all else (MS-SMB2 3.3.7.1): of claims and waiters just those of no open
+/// under it, of the lists just the opens that are not under it, and the sessions and tree connects that are not on it; and
+/// the connection is gone.
+pub fn an_ended_connection_leaves_nothing()
+    ensures core { (f : FrontSmb) (s : CoreState) (conn : ℕ) → Without (opens_under (Scope.Connection conn) f.state) s (smb_end f s conn).2 }
+    ensures opens { (f : FrontSmb) (s : CoreState) (conn : ℕ) → AreDistinct f.state → (smb_end f s conn).1.state.opens ≡ rows_but (λ e. covers_holder (Scope.Connection conn) e.1.holder) f.state.opens }
+    ensures sessions { (f : FrontSmb) (s : CoreState) (conn : ℕ) → AreDistinct f.state → (smb_end f s conn).1.state.sessions ≡ rows_but (λ e. e.1.connection == conn) f.state.sessions }
+    ensures trees { (f : FrontSmb) (s : CoreState) (conn : ℕ) → IsSound f.state → AreDistinct f.state → (smb_end f s conn).1.state.trees ≡ rows_but (λ e. e.1.connection == conn) f.state.trees }
+    ensures connections { (f : FrontSmb) (s : CoreState) (conn : ℕ) → AreDistinct f.state → (smb_end f s conn).1.state.connections ≡ rows_but (λ e. conn == e.0) f.state.connections }
+{}
+
+/// LOGOFF in a session that is there leaves nothing of it, and all else (MS-SMB2 3.3.5.6): of claims and waiters just those
+/// of no open under it, of the lists just the opens that are not under it, the tree connects that are not of it, and the
+/// other sessions. In no session it is refused, and changes nothing.
+pub fn a_logoff_leaves_nothing()
+    ensures told { (n : ℕ) (s : CoreState) (files : List (List ℕ)) (others : ℕ) (l : Lists) (conn : ℕ) (h : SmbHead) (client : List ℕ) (session : ℕ) → IsInSession s l conn h client session → (outcome_of n s files others l conn h CallItem.Logoff).0 ≡ Told.LoggedOff }
+    ensures core { (n : ℕ) (s : CoreState) (files : List (List ℕ)) (others : ℕ) (l : Lists) (conn : ℕ) (h : SmbHead) (client : List ℕ) (session : ℕ) → IsInSession s l conn h client session → Without (opens_under (Scope.Session session) l) s (outcome_of n s files others l conn h CallItem.Logoff).3 }
+    ensures opens { (n : ℕ) (s : CoreState) (files : List (List ℕ)) (others : ℕ) (l : Lists) (conn : ℕ) (h : SmbHead) (client : List ℕ) (session : ℕ) → IsInSession s l conn h client session → AreDistinct l → (outcome_of n s files others l conn h CallItem.Logoff).2.opens ≡ rows_but (λ e. covers_holder (Scope.Session session) e.1.holder) l.opens }
+    ensures trees { (n : ℕ) (s : CoreState) (files : List (List ℕ)) (others : ℕ) (l : Lists) (conn : ℕ) (h : SmbHead) (client : List ℕ) (session : ℕ) → IsInSession s l conn h client session → AreDistinct l → (outcome_of n s files others l conn h CallItem.Logoff).2.trees ≡ rows_but (λ e. e.1.session == session) l.trees }
+    ensures sessions { (n : ℕ) (s : CoreState) (files : List (List ℕ)) (others : ℕ) (l : Lists) (conn : ℕ) (h : SmbHead) (client : List ℕ) (session : ℕ) → IsInSession s l conn h client session → AreDistinct l → (outcome_of n s files others l conn h CallItem.Logoff).2.sessions ≡ rows_but (λ e. session == e.0) l.sessions }
+    ensures connections { (n : ℕ) (s : CoreState) (files : List (List ℕ)) (others : ℕ) (l : Lists) (conn : ℕ) (h : SmbHead) (client : List ℕ) (session : ℕ) → IsInSession s l conn h client session → (outcome_of n s files others l conn h CallItem.Logoff).2.connections ≡ l.connections }
+    ensures refused { (n : ℕ) (s : CoreState) (files : List (List ℕ)) (others : ℕ) (l : Lists) (conn : ℕ) (h : SmbHead) (client : List ℕ) → client_of conn l ≡ Some client → session_named s l conn h.session_id ≡ None → outcome_of n s files others l conn h CallItem.Logoff ≡ (Told.Failed SmbStatus.UserSessionDeleted, [], l, s) }
+{}
+
+/// TREE_DISCONNECT on a tree connect that is there leaves nothing of it, and all else (MS-SMB2 3.3.5.8): of claims and
+/// waiters just those of no open under it, of the lists just the opens that are not under it, and the other tree connects.
+pub fn a_tree_disconnect_leaves_nothing()
+    ensures told { (n : ℕ) (s : CoreState) (files : List (List ℕ)) (others : ℕ) (l : Lists) (conn : ℕ) (h : SmbHead) (client : List ℕ) (session : ℕ) (place : Place) → IsOnTree s l conn h client session place → (outcome_of n s files others l conn h CallItem.TreeDisconnect).0 ≡ Told.Disconnected }
+    ensures core { (n : ℕ) (s : CoreState) (files : List (List ℕ)) (others : ℕ) (l : Lists) (conn : ℕ) (h : SmbHead) (client : List ℕ) (session : ℕ) (place : Place) → IsOnTree s l conn h client session place → Without (opens_under (Scope.Tree place.tree) l) s (outcome_of n s files others l conn h CallItem.TreeDisconnect).3 }
+    ensures opens { (n : ℕ) (s : CoreState) (files : List (List ℕ)) (others : ℕ) (l : Lists) (conn : ℕ) (h : SmbHead) (client : List ℕ) (session : ℕ) (place : Place) → IsOnTree s l conn h client session place → AreDistinct l → (outcome_of n s files others l conn h CallItem.TreeDisconnect).2.opens ≡ rows_but (λ e. covers_holder (Scope.Tree place.tree) e.1.holder) l.opens }
+    ensures trees { (n : ℕ) (s : CoreState) (files : List (List ℕ)) (others : ℕ) (l : Lists) (conn : ℕ) (h : SmbHead) (client : List ℕ) (session : ℕ) (place : Place) → IsOnTree s l conn h client session place → AreDistinct l → (outcome_of n s files others l conn h CallItem.TreeDisconnect).2.trees ≡ rows_but (λ e. place.tree == e.0) l.trees }
+    ensures sessions { (n : ℕ) (s : CoreState) (files : List (List ℕ)) (others : ℕ) (l : Lists) (conn : ℕ) (h : SmbHead) (client : List ℕ) (session : ℕ) (place : Place) → IsOnTree s l conn h client session place → (outcome_of n s files others l conn h CallItem.TreeDisconnect).2.sessions ≡ l.sessions }
+    ensures connections { (n : ℕ) (s : CoreState) (files : List (List ℕ)) (others : ℕ) (l : Lists) (conn : ℕ) (h : SmbHead) (client : List ℕ) (session : ℕ) (place : Place) → IsOnTree s l conn h client session place → (outcome_of n s files others l conn h CallItem.TreeDisconnect).2.connections ≡ l.connections }
+{}
+
+/// CLOSE of an open under the connection leaves nothing of it, and all else (MS-SMB2 3.3.5.10): of claims and waiters just
+/// those that are not the open's, of the lists the other opens, and each session and tree connect.
+pub fn a_close_leaves_nothing()
+    ensures told { (n : ℕ) (s : CoreState) (files : List (List ℕ)) (others : ℕ) (l : Lists) (conn : ℕ) (h : SmbHead) (client : List ℕ) (c : CloseCall) (session : ℕ) (place : Place) (number : ℕ) → IsOnTree s l conn h client session place → open_named s l conn c.file_id ≡ Some number → (outcome_of n s files others l conn h (CallItem.Close c)).0 ≡ Told.Closed }
+    ensures core { (n : ℕ) (s : CoreState) (files : List (List ℕ)) (others : ℕ) (l : Lists) (conn : ℕ) (h : SmbHead) (client : List ℕ) (c : CloseCall) (session : ℕ) (place : Place) (number : ℕ) → IsOnTree s l conn h client session place → open_named s l conn c.file_id ≡ Some number → Without (number ∷ []) s (outcome_of n s files others l conn h (CallItem.Close c)).3 }
+    ensures opens { (n : ℕ) (s : CoreState) (files : List (List ℕ)) (others : ℕ) (l : Lists) (conn : ℕ) (h : SmbHead) (client : List ℕ) (c : CloseCall) (session : ℕ) (place : Place) (number : ℕ) → IsOnTree s l conn h client session place → open_named s l conn c.file_id ≡ Some number → AreDistinct l → (outcome_of n s files others l conn h (CallItem.Close c)).2.opens ≡ rows_but (λ e. number == e.0) l.opens }
+    ensures trees { (n : ℕ) (s : CoreState) (files : List (List ℕ)) (others : ℕ) (l : Lists) (conn : ℕ) (h : SmbHead) (client : List ℕ) (c : CloseCall) (session : ℕ) (place : Place) (number : ℕ) → IsOnTree s l conn h client session place → open_named s l conn c.file_id ≡ Some number → (outcome_of n s files others l conn h (CallItem.Close c)).2.trees ≡ l.trees }
+    ensures sessions { (n : ℕ) (s : CoreState) (files : List (List ℕ)) (others : ℕ) (l : Lists) (conn : ℕ) (h : SmbHead) (client : List ℕ) (c : CloseCall) (session : ℕ) (place : Place) (number : ℕ) → IsOnTree s l conn h client session place → open_named s l conn c.file_id ≡ Some number → (outcome_of n s files others l conn h (CallItem.Close c)).2.sessions ≡ l.sessions }
+    ensures connections { (n : ℕ) (s : CoreState) (files : List (List ℕ)) (others : ℕ) (l : Lists) (conn : ℕ) (h : SmbHead) (client : List ℕ) (c : CloseCall) (session : ℕ) (place : Place) (number : ℕ) → IsOnTree s l conn h client session place → open_named s l conn c.file_id ≡ Some number → (outcome_of n s files others l conn h (CallItem.Close c)).2.connections ≡ l.connections }
+{}
+
+/// CREATE is told its status exactly where that has its cause, in the order of its checks (MS-SMB2 3.3.5.9): it is open where
+/// the core is due to grant the share, SHARING_VIOLATION where something held stands against that, INSUFFICIENT_RESOURCES
+/// where it passes a limit.
+pub fn creates_have_causes()
+    ensures { (n : ℕ) (s : CoreState) (files : List (List ℕ)) (others : ℕ) (l : Lists) (conn : ℕ) (h : SmbHead) (c : CreateCallItem) (told : Told) → ((outcome_of n s files others l conn h (CallItem.Create c)).0 ≡ told) ↔ IsCreateDue s files others l conn h c told }
 {}

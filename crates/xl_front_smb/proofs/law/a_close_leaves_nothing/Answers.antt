@@ -1,0 +1,24 @@
+use Rattle.std.proofs.Common.{◌≡◌, ℕ, eqb, List, [], ◌∷◌, refl}
+use Rattle.xl_front_smb.specs.Laws.{rows_but, Without}
+use Rattle.xl_front_smb.specs.Plans.{Outcome}
+use Rattle.xl_front_smb.specs.declared.told.Told.TheVariants.{Closed}
+use Rattle.xl_front_smb.proofs.GoneLaws.{done_without, out_one, closes_open}
+use Rattle.xl_front_smb.proofs.law.a_close_leaves_nothing.Goals as goal
+
+pub returns-clause-told : goal.returns-clause-told
+returns-clause-told c = λ n s files others l conn h client call session place number named at. closes_open n s files others l conn h client (λ (r : Outcome). r.0 ≡ Closed) call session place number named at refl
+
+pub returns-clause-core : goal.returns-clause-core
+returns-clause-core c = λ n s files others l conn h client call session place number named at. closes_open n s files others l conn h client (λ (r : Outcome). Without (number ∷ []) s r.3) call session place number named at (done_without n (number ∷ []) s)
+
+pub returns-clause-opens : goal.returns-clause-opens
+returns-clause-opens c = λ n s files others l conn h client call session place number named at distinct. closes_open n s files others l conn h client (λ (r : Outcome). r.2.opens ≡ rows_but (λ e. eqb number e.0) l.opens) call session place number named at (out_one number l.opens distinct.opens)
+
+pub returns-clause-trees : goal.returns-clause-trees
+returns-clause-trees c = λ n s files others l conn h client call session place number named at. closes_open n s files others l conn h client (λ (r : Outcome). r.2.trees ≡ l.trees) call session place number named at refl
+
+pub returns-clause-sessions : goal.returns-clause-sessions
+returns-clause-sessions c = λ n s files others l conn h client call session place number named at. closes_open n s files others l conn h client (λ (r : Outcome). r.2.sessions ≡ l.sessions) call session place number named at refl
+
+pub returns-clause-connections : goal.returns-clause-connections
+returns-clause-connections c = λ n s files others l conn h client call session place number named at. closes_open n s files others l conn h client (λ (r : Outcome). r.2.connections ≡ l.connections) call session place number named at refl

@@ -1,0 +1,118 @@
+-- Words of the laws: what ends leave, and what a request comes to.
+use Rattle.std.specs.Prelude.{◌≡◌, ◌↔◌, ℕ, ◌+◌, ◌==◌, nat_lt, Bool, true, false, not, List, Option, Some, None}
+use Rattle.std.specs.List.{filter, list_any}
+use Rattle.xl_base.specs.Lists.{IsIn}
+use Rattle.xl_base.specs.declared.name.Owner.TheVariants as owners
+use Rattle.xl_base.specs.declared.name.Party.{Party}
+use Rattle.xl_base.specs.declared.name.Party.TheVariants as parties
+use Rattle.xl_matrix.specs.Equal.{same_parties}
+use Rattle.xl_matrix.specs.declared.claim.Claim.{Claim}
+use Rattle.xl_matrix.specs.declared.claim.What.TheVariants.{Share}
+use Rattle.xl_smb.specs.Calls.{CallItem}
+use Rattle.xl_smb.specs.Creates.{CreateCallItem}
+use Rattle.xl_smb.specs.declared.head.SmbHead.{SmbHead}
+use Rattle.xl_smb_state.specs.State.{Lists, client_of}
+use Rattle.xl_smb_state.specs.declared.row.Place.{Place}
+use Rattle.xl_wait.specs.declared.waiter.Rooms.{Rooms}
+use Rattle.xl_wait.specs.declared.waiter.Waiter.{Waiter}
+use Rattle.xl_core.specs.Causes.{IsClaimDue}
+use Rattle.xl_core.specs.Settle.{waits_for}
+use Rattle.xl_core.specs.State.{CoreState, drawn}
+use Rattle.xl_core.specs.declared.ask.Answer.TheVariants as answers
+use Rattle.xl_core.specs.declared.ask.Ask.{Ask}
+use Rattle.xl_front_smb.specs.Checks.{id_of, session_named, tree_named}
+use Rattle.xl_front_smb.specs.Files.{access_of, deny_of, open_ask, rooms_left, has_room_for_open, overwrites}
+use Rattle.xl_front_smb.specs.Plans.{Outcome, carried}
+use Rattle.xl_front_smb.specs.Requests.{planned}
+use Rattle.xl_front_smb.specs.Texts.{file_spelled}
+use Rattle.xl_front_smb.specs.declared.status.SmbStatus.{SmbStatus}
+use Rattle.xl_front_smb.specs.declared.status.SmbStatus.TheVariants as status
+use Rattle.xl_front_smb.specs.declared.told.Told.{Told}
+use Rattle.xl_front_smb.specs.declared.told.Told.TheVariants.{Failed, Opened}
+
+-- the rows that don't pass
+abbrev pub rows_but : {X : Type 0} → (ℕ × X → Bool) → List (ℕ × X) → List (ℕ × X)
+rows_but test rows = filter (λ e. not (test e)) rows
+
+-- the party is one of these opens
+abbrev pub is_among : List ℕ → Party → Bool
+is_among numbers party = list_any (λ number. same_parties party (parties.Open number)) numbers
+
+-- the waiter waits for one of these opens
+abbrev pub waits_among : List ℕ → Waiter → Bool
+waits_among numbers w = list_any (λ number. waits_for (parties.Open number) w) numbers
+
+-- of the claims just those stay that are none of these opens', and of the waiters
+pub record Without (numbers : List ℕ) (old new : CoreState) : Type 0 where
+  pub claims : (c : Claim) → IsIn c new.claims ↔ (IsIn c old.claims × (is_among numbers c.party ≡ false))
+  pub waiters : (w : Waiter) → IsIn w new.waiters ↔ (IsIn w old.waiters × (waits_among numbers w ≡ false))
+
+-- ---- requests
+
+-- what a request comes to
+abbrev pub outcome_of : ℕ → CoreState → List (List ℕ) → ℕ → Lists → ℕ → SmbHead → CallItem → Outcome
+outcome_of n s files others l conn h call = carried n s l (planned s files others l conn h call)
+
+-- it is this client's, in this session
+abbrev pub IsInSession : CoreState → Lists → ℕ → SmbHead → List ℕ → ℕ → Type 0
+IsInSession s l conn h client session = (client_of conn l ≡ Some client) × (session_named s l conn h.session_id ≡ Some session)
+
+-- and on the tree connect at this place
+abbrev pub IsOnTree : CoreState → Lists → ℕ → SmbHead → List ℕ → ℕ → Place → Type 0
+IsOnTree s l conn h client session place = IsInSession s l conn h client session × (tree_named l conn client h session ≡ Some place)
+
+-- ---- why CREATE is told so (MS-SMB2 3.3.5.9)
+
+-- it fails so where this is the case, else what the rest tells
+abbrev pub FailsIf : Bool → SmbStatus → (Told → Type 0) → Told → Type 0
+FailsIf true status due told = told ≡ Failed status
+FailsIf false status due told = due told
+
+-- it fails so where there is no such thing, else what the rest tells
+abbrev pub OnceFound : {X : Type 0} → SmbStatus → (X → Told → Type 0) → Option X → Told → Type 0
+OnceFound status due None told = told ≡ Failed status
+OnceFound status due (Some x) told = due x told
+
+-- SHARING_VIOLATION where something held stands against the share, INSUFFICIENT_RESOURCES where it passes a limit
+abbrev pub IsRefusalDue : Rooms → CoreState → Ask → Claim → SmbStatus → Type 0
+IsRefusalDue left s a claim status.SharingViolation = (c : Claim) × IsClaimDue left s a claim (answers.Conflict c)
+IsRefusalDue left s a claim status.InsufficientResources = (limit : ℕ) × IsClaimDue left s a claim (answers.Full limit)
+IsRefusalDue left s a claim _ = ⊥
+
+-- open under this id where the core is due to grant the share, which nothing held stands against
+abbrev pub IsOpenDue : Rooms → CoreState → Ask → Claim → ℕ → Told → Type 0
+IsOpenDue left s a claim id (Opened opened) = (opened ≡ id) × IsClaimDue left s a claim (answers.Granted claim)
+IsOpenDue left s a claim id (Failed refused) = IsRefusalDue left s a claim refused
+IsOpenDue left s a claim id _ = ⊥
+
+-- the share that the open of this number is for
+abbrev pub open_claim : ℕ → ℕ → CreateCallItem → Claim
+open_claim file number c = record {
+  file = file;
+  owner = owners.Open number;
+  party = parties.Open number;
+  what = Share (access_of c.desired_access) (deny_of (access_of c.desired_access) c.share_access);
+}
+
+-- the open of the next number
+abbrev pub IsNextDue : CoreState → ℕ → Lists → ℕ → CreateCallItem → ℕ → Told → Type 0
+IsNextDue s others l conn c file = IsOpenDue (rooms_left others l) (drawn s) (open_ask conn file (s.counter + 1) c) (open_claim file (s.counter + 1) c) (id_of s (s.counter + 1))
+
+-- of the file that is found, which is only opened
+abbrev pub IsFileDue : CoreState → ℕ → Lists → ℕ → CreateCallItem → ℕ → Told → Type 0
+IsFileDue s others l conn c file = FailsIf (c.disposition == 2) status.ObjectNameCollision (FailsIf (not (has_room_for_open others l (s.counter + 1))) status.InsufficientResources (IsNextDue s others l conn c file))
+
+-- by the disposition and the name
+abbrev pub IsDispositionDue : CoreState → List (List ℕ) → ℕ → Lists → ℕ → CreateCallItem → Told → Type 0
+IsDispositionDue s files others l conn c =
+    FailsIf (nat_lt 5 c.disposition) status.InvalidParameter
+    (FailsIf (overwrites c.disposition) status.NotSupported
+    (OnceFound status.ObjectNameNotFound (IsFileDue s others l conn c) (file_spelled files c.name)))
+
+-- of a client, in a session, on a tree connect of it
+abbrev pub IsCreateDue : CoreState → List (List ℕ) → ℕ → Lists → ℕ → SmbHead → CreateCallItem → Told → Type 0
+IsCreateDue s files others l conn h c =
+    OnceFound status.InvalidParameter
+    (λ client. OnceFound status.UserSessionDeleted
+    (λ session. OnceFound status.NetworkNameDeleted (λ (place : Place). IsDispositionDue s files others l conn c) (tree_named l conn client h session)) (session_named s l conn h.session_id))
+    (client_of conn l)
