@@ -1,12 +1,12 @@
 -- What a stateid of an open that is there is judged by.
-use Rattle.std.proofs.Common.{◌≡◌, ℕ, ◌<◌, ◌^◌, Bool, true, false, Option, Some, refl, sym, ap, subst, ◌∙◌, inl, inr, arith}
+use Rattle.std.proofs.Common.{◌≡◌, ℕ, ◌<◌, ◌^◌, false, Option, Some, refl, ap, ◌∙◌, inl, inr, arith}
 use Rattle.std.proofs.lemmas.Bool.{cases_Bool, eq-eqb, eqb-true}
 use Rattle.std.specs.Bool.{◌==◌}
 use Rattle.std.specs.List.{find}
-use Rattle.std.specs.Prelude.{if◌then◌else◌, ◌&&◌}
+use Rattle.std.specs.Prelude.{◌&&◌}
 use Rattle.xl_nfs.specs.declared.basics.Stateid.{Stateid}
 use Rattle.xl_nfs.specs.declared.status.NfsStatus.TheVariants as statuses
-use Rattle.xl_nfs_state.specs.State.{NfsLists, is_owner, is_stateid}
+use Rattle.xl_nfs_state.specs.State.{NfsLists, is_owner}
 use Rattle.xl_nfs_state.specs.Verdict.{next_seqid, verdict}
 use Rattle.xl_nfs_state.specs.declared.owner.OwnerRow.{OwnerRow}
 use Rattle.xl_nfs_state.specs.declared.stateid.Holder.{Holder}
@@ -15,7 +15,6 @@ use Rattle.xl_nfs_state.specs.declared.stateid.StateidRow.{StateidRow}
 use Rattle.xl_core.specs.State.{CoreState}
 use Rattle.xl_nfs_opens.specs.Closing.{seqid_checked, owner_checked, holder_checked, row_checked, number_checked, checked}
 use Rattle.xl_nfs_opens.specs.Laws.{IsOpenOf}
-use Rattle.xl_nfs_opens.specs.Renewing.{number_of}
 use Rattle.xl_nfs_opens.specs.declared.opener.Checked.TheVariants.{Refused, Repeated, Passed}
 
 row_known : (l : NfsLists) (op seqid : ℕ) (r : StateidRow) (w : ℕ) (o : OwnerRow) → r.holder ≡ holders.Open w → find (is_owner w) l.owners ≡ Some o → row_checked l r.file op seqid (Some r) ≡ seqid_checked r w o.turn (verdict (Some o.turn) op seqid)
