@@ -9,7 +9,7 @@ use Rattle.xl_nfs.specs.Opens.{OpenArgsItem}
 use Rattle.xl_nfs.specs.declared.status.NfsStatus.{NfsStatus}
 use Rattle.xl_nfs_state.specs.Filed.{changed}
 use Rattle.xl_nfs_state.specs.Rows.{with_turn}
-use Rattle.xl_nfs_state.specs.State.{NfsLists, IsRising, is_kept, is_owner, is_whose, next_owner, with_stateids, without}
+use Rattle.xl_nfs_state.specs.State.{NfsLists, IsRising, is_owner, next_owner}
 use Rattle.xl_nfs_state.specs.Verdict.{next_seqid}
 use Rattle.xl_nfs_state.specs.declared.owner.OwnerRow.{OwnerRow}
 use Rattle.xl_nfs_state.specs.declared.owner.Turn.{Turn}
@@ -19,7 +19,7 @@ use Rattle.xl_nfs_opens.specs.Laws.{HasCome}
 use Rattle.xl_nfs_opens.specs.Opens.{either_bits, entered, granted_more, granted_new, open_row, open_turn, opened_told, refused_lists, stood}
 use Rattle.xl_nfs_opens.specs.Plans.{carried}
 use Rattle.xl_nfs_opens.specs.Results.{spelled}
-use Rattle.xl_nfs_opens.specs.Seqids.{advances, closed_gone, is_opener, is_room_for, kept_for, new_owner, number_by, opener_number, remembered, seated, seated_by, turned}
+use Rattle.xl_nfs_opens.specs.Seqids.{advances, is_opener, is_room_for, new_owner, number_by, opener_number, remembered, seated, seated_by, turned}
 use Rattle.xl_nfs_opens.specs.declared.opener.Opener.{Opener}
 use Rattle.xl_nfs_opens.specs.declared.told.Told.TheVariants.{Ended}
 use Rattle.xl_nfs_opens.proofs.KeptLaws.{entered_owners, gone_owners}

@@ -19,7 +19,7 @@ ghost use Rattle.xl_nfs_state.specs.declared.kept.KeptRow.{KeptRow};
 ghost use Rattle.xl_nfs_state.specs.declared.owner.OwnerRow.{OwnerRow};
 ghost use Rattle.xl_nfs_state.specs.declared.owner.Turn.{Turn as OwnerTurn};
 ghost use Rattle.xl_nfs_state.specs.declared.stateid.StateidRow.{StateidRow};
-ghost use Rattle.xl_nfs_opens.specs.Closing.{checked, close_by, close_done, confirm_by, confirm_done, failed_lists};
+ghost use Rattle.xl_nfs_opens.specs.Closing.{checked, close_by, close_done, confirm_by, confirm_done, failed_lists, standing_fault};
 ghost use Rattle.xl_nfs_opens.specs.Downgrades.{downgrade_by, downgrade_done};
 ghost use Rattle.xl_nfs_opens.specs.Laws.{can_come, goes_on, HasCome, IsOpenOf, IsOpenTold, IsRepeated, IsShared, share_claim};
 ghost use Rattle.xl_nfs_opens.specs.Opens.{either_bits, gives_all, granted_more, granted_new, has_room, judged, open_judged, opened_file, refused_lists, rights_of, share_ask};
@@ -143,4 +143,11 @@ pub fn open_statuses_have_causes()
 pub fn opens_are_shares()
     ensures united { (n : ℕ) (files : List (List ℕ)) (others : ℕ) (s : CoreState) (l : NfsLists) (current : Option ℕ) (at : ℕ) (o : OpenOwner) (a : OpenArgsItem) (confirmed : Bool) (file : ℕ) → IsGood s → goes_on (judged l o a.seqid) ≡ Some confirmed → opened_file files at a ≡ Ok file → has_room others l o file ≡ true → status_of (carried n s l current (open_judged files others s l current at o a (judged l o a.seqid))).0 ≡ Fine → shares_of file (asker (share_ask o a file) s.names) (carried n s l current (open_judged files others s l current at o a (judged l o a.seqid))).4.claims ≡ with_share (united_by (asker (share_ask o a file) s.names) (Share (rights_of a.access) (rights_of a.deny)) (old_shares file (asker (share_ask o a file) s.names) s.claims)) [] }
     ensures asked { (n : ℕ) (files : List (List ℕ)) (others : ℕ) (s : CoreState) (l : NfsLists) (current : Option ℕ) (at : ℕ) (o : OpenOwner) (a : OpenArgsItem) (confirmed : Bool) (file : ℕ) → IsGood s → goes_on (judged l o a.seqid) ≡ Some confirmed → opened_file files at a ≡ Ok file → has_room others l o file ≡ true → status_of (carried n s l current (open_judged files others s l current at o a (judged l o a.seqid))).0 ≡ Fine → IsShared (rights_of a.access) (rights_of a.deny) (shares_of file (asker (share_ask o a file) s.names) (carried n s l current (open_judged files others s l current at o a (judged l o a.seqid))).4.claims) }
+{}
+
+/// Of a request on an open that is judged further, the stateid passes exactly where its seqid is the open's own and the owner
+/// is confirmed, or of OPEN_CONFIRM isn't yet (RFC 7530 9.1.4, 16.18); and an OPEN_CONFIRM that is done confirms the owner.
+pub fn current_stateids_stand()
+    ensures stands { (r : StateidRow) (turn : OwnerTurn) (seqid : ℕ) (confirmed : Bool) → (standing_fault r turn seqid confirmed ≡ None) ↔ ((seqid ≡ r.standing.seqid) × (turn.confirmed ≡ confirmed)) }
+    ensures confirms { (n : ℕ) (s : CoreState) (l : NfsLists) (current : Option ℕ) (a : OpenConfirmArgs) (r : StateidRow) (owner : ℕ) (turn : OwnerTurn) (o : OwnerRow) → find (is_owner owner) l.owners ≡ Some o → find (is_owner owner) (carried n s l current (confirm_done s l current a r owner turn None)).3.owners ≡ Some (with_turn (record { seqid = a.seqid; op = 20; confirmed = true; closed = None }) o) }
 {}
