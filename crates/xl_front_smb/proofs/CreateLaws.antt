@@ -1,27 +1,35 @@
 -- CREATE is told what it is for its cause, and what is open is held.
-use Rattle.std.proofs.Common.{◌≡◌, ◌↔◌, ℕ, ◌+◌, Bool, true, false, not, List, Option, Some, None, if◌then◌else◌, refl, sym, ap, subst, ◌∙◌}
-use Rattle.std.specs.Prelude.{◌==◌, nat_lt}
-use Rattle.std.proofs.lemmas.Bool.{false≢true}
+use Rattle.std.proofs.Common.{◌≡◌, ◌↔◌, ℕ, ◌+◌, Bool, true, false, not, eqb, cond, List, [], ◌∷◌, ◌++◌, Option, Some, None, if◌then◌else◌, refl, sym, ap, subst, ◌∙◌, inl, inr}
+use Rattle.std.specs.Prelude.{◌==◌, nat_eq, nat_lt, map}
+use Rattle.std.specs.Map.{lookup}
+use Rattle.std.proofs.lemmas.Bool.{cases_Bool, false≢true}
+use Rattle.xl_base.specs.declared.name.Owner.TheVariants as owners
 use Rattle.xl_matrix.specs.declared.claim.Claim.{Claim}
 use Rattle.xl_matrix.specs.declared.claim.What.TheVariants.{Share}
 use Rattle.xl_smb.specs.Calls.{Create}
 use Rattle.xl_smb.specs.Creates.{CreateCallItem}
 use Rattle.xl_smb.specs.declared.head.SmbHead.{SmbHead}
-use Rattle.xl_smb_state.specs.State.{Lists, client_of}
+use Rattle.xl_smb_state.specs.State.{Lists, client_of, open_of}
 use Rattle.xl_smb_state.specs.declared.row.Place.{Place}
+use Rattle.xl_smb_state.proofs.RowLaws.{equal_self, some_none}
 use Rattle.xl_wait.specs.declared.waiter.Rooms.{Rooms}
 use Rattle.xl_core.specs.Asking.{asked_what, asked_claim}
 use Rattle.xl_core.specs.Causes.{IsClaimDue}
 use Rattle.xl_core.specs.Decide.{ask}
+use Rattle.xl_core.specs.Good.{IsGood}
+use Rattle.xl_core.specs.Places.{ShareOf, share_held, held_at}
 use Rattle.xl_core.specs.State.{CoreState, drawn}
 use Rattle.xl_core.specs.declared.ask.Answer.{Answer}
 use Rattle.xl_core.specs.declared.ask.Answer.TheVariants as answers
 use Rattle.xl_core.specs.declared.ask.Ask.{Ask}
+use Rattle.xl_core.specs.declared.ask.Effect.{Effect}
 use Rattle.xl_core.proofs.CauseLaws.{lock_due}
+use Rattle.xl_core.proofs.ChangeLaws.{ask_shared}
+use Rattle.xl_core.proofs.GoodLaws.{drawn_good}
 use Rattle.xl_front_smb.specs.Checks.{id_of, session_named, tree_named, negotiated_by, in_session, on_tree}
 use Rattle.xl_front_smb.specs.Files.{access_of, deny_of, open_ask, open_row, rooms_left, open_as, has_room_for_open, open_file, open_found, overwrites, create_on, create}
-use Rattle.xl_front_smb.specs.Laws.{outcome_of, FailsIf, OnceFound, IsRefusalDue, IsOpenDue, open_claim, IsNextDue, IsFileDue, IsDispositionDue, IsCreateDue}
-use Rattle.xl_front_smb.specs.Plans.{Plan, Fails, carried, refusal, opened_told}
+use Rattle.xl_front_smb.specs.Laws.{outcome_of, IsOnTree, FailsIf, OnceFound, IsRefusalDue, IsOpenDue, open_claim, IsNextDue, IsFileDue, IsDispositionDue, IsCreateDue}
+use Rattle.xl_front_smb.specs.Plans.{Plan, Fails, Outcome, carried, opened_told, opened_lists}
 use Rattle.xl_front_smb.specs.Replies.{tree_id}
 use Rattle.xl_front_smb.specs.Requests.{commanded, planned}
 use Rattle.xl_front_smb.specs.Texts.{file_spelled}
@@ -29,6 +37,7 @@ use Rattle.xl_front_smb.specs.declared.status.SmbStatus.{SmbStatus}
 use Rattle.xl_front_smb.specs.declared.status.SmbStatus.TheVariants as status
 use Rattle.xl_front_smb.specs.declared.told.Told.{Told}
 use Rattle.xl_front_smb.specs.declared.told.Told.TheVariants.{Nothing, Failed, Negotiated, SetUp, LoggedOff, Connected, Disconnected, Opened, Closed, Echoed}
+use Rattle.xl_front_smb.proofs.PlanLaws.{open_new}
 
 -- ---- by what the core is due to answer
 
@@ -134,3 +143,97 @@ create_due n s files others l conn h c told =
     (λ client. by_session n s l (λ session. on_tree (create_on s files others l client c) (tree_named l conn client h session)) _ (session_named s l conn h.session_id)
     (λ session. by_tree n s l (create_on s files others l client c) (λ k. IsDispositionDue s files others l k c) (record { connection = conn; session = session; tree = tree_id h.route }) _
     (create_exactly n s l files others client c (record { connection = conn; session = session; tree = tree_id h.route })))) told
+
+-- ---- what is open is held
+
+not_open : {refused : SmbStatus} {id : ℕ} → Failed refused ≡ Opened id → ⊥
+not_open e = cc
+
+same_number : {id opened : ℕ} → Opened id ≡ Opened opened → id ≡ opened
+same_number e = cc
+
+-- who is told that it is open was granted its share
+granted_from : (id opened : ℕ) (answer : Answer) → opened_told (Opened id) answer ≡ Opened opened → (id ≡ opened) × (c : Claim) × (answer ≡ answers.Granted c)
+granted_from id opened (answers.Granted c) e = (same_number e, c, refl)
+granted_from id opened (answers.Conflict c) e = absurd (not_open e)
+granted_from id opened (answers.Full limit) e = absurd (not_open e)
+granted_from id opened (answers.Queued number) e = absurd (not_open e)
+granted_from id opened (answers.NoGrace clock) e = absurd (not_open e)
+granted_from id opened (answers.Recall c) e = absurd (not_open e)
+granted_from id opened (answers.Grace until) e = absurd (not_open e)
+granted_from id opened answers.NotRecorded e = absurd (not_open e)
+granted_from id opened answers.NotHeld e = absurd (not_open e)
+granted_from id opened answers.StoreFailed e = absurd (not_open e)
+
+lookup_last : {X : Type 0} (k : ℕ) (x : X) (es : List (ℕ × X)) → lookup (nat_eq k) es ≡ None → lookup (nat_eq k) (es ++ (k, x) ∷ []) ≡ Some x
+lookup_last k x [] none = ap (λ b. cond b (Some x) None) (equal_self k)
+lookup_last k x (e ∷ es) none = elim (cases_Bool (eqb k e.0)) [ inl h ↦ absurd (some_none (rw h at none)) | inr h ↦ rw h (lookup_last k x es (rw h at none)) ]
+
+-- what is told open by a plan, and passes each of these checks, is the open that is asked for
+opened_by : (n : ℕ) (s : CoreState) (l : Lists) (id : ℕ) (unknown changes makes room : Bool) (plan : Plan)
+    → (carried n s l (if unknown then Fails status.InvalidParameter else if changes then Fails status.NotSupported else if makes then Fails status.ObjectNameCollision else if room then plan else Fails status.InsufficientResources)).0 ≡ Opened id
+    → ((if unknown then Fails status.InvalidParameter else if changes then Fails status.NotSupported else if makes then Fails status.ObjectNameCollision else if room then plan else Fails status.InsufficientResources) ≡ plan) × (room ≡ true)
+opened_by n s l id true changes makes room plan e = absurd (not_open e)
+opened_by n s l id false true makes room plan e = absurd (not_open e)
+opened_by n s l id false false true room plan e = absurd (not_open e)
+opened_by n s l id false false false true plan e = (refl, refl)
+opened_by n s l id false false false false plan e = absurd (not_open e)
+
+-- the plan of a file that is found
+unfoldable found_plan : CoreState → ℕ → Lists → List ℕ → Place → CreateCallItem → ℕ → Plan
+found_plan s others l client place c file =
+    if nat_lt 5 c.disposition then Fails status.InvalidParameter
+    else if overwrites c.disposition then Fails status.NotSupported
+    else if c.disposition == 2 then Fails status.ObjectNameCollision
+    else if has_room_for_open others l (s.counter + 1) then open_as s others l client place c file (s.counter + 1) else Fails status.InsufficientResources
+
+found_is : (s : CoreState) (files : List (List ℕ)) (others : ℕ) (l : Lists) (conn : ℕ) (h : SmbHead) (client : List ℕ) (c : CreateCallItem) (session file : ℕ) (place : Place) → IsOnTree s l conn h client session place → file_spelled files c.name ≡ Some file
+    → planned s files others l conn h (Create c) ≡ found_plan s others l client place c file
+unfolding planned commanded create found_plan
+found_is s files others l conn h client c session file place named at =
+    ap (negotiated_by (λ k. in_session (λ j. on_tree (create_on s files others l k c) (tree_named l conn k h j)) (session_named s l conn h.session_id))) named.0.0
+    ∙ ap (in_session (λ j. on_tree (create_on s files others l client c) (tree_named l conn client h j))) named.0.1
+    ∙ ap (on_tree (create_on s files others l client c)) named.1
+    ∙ ap (λ (found : Option ℕ). if nat_lt 5 c.disposition then Fails status.InvalidParameter else if overwrites c.disposition then Fails status.NotSupported else open_found s others l client place c found) at
+
+module _ (n : ℕ) (s : CoreState) (files : List (List ℕ)) (others : ℕ) (l : Lists) (conn : ℕ) (h : SmbHead) (client : List ℕ) (c : CreateCallItem) (session file id : ℕ) (place : Place)
+    (named : IsOnTree s l conn h client session place) (at : file_spelled files c.name ≡ Some file) (e : (outcome_of n s files others l conn h (Create c)).0 ≡ Opened id) where
+  -- the number, the ask and its answer
+  abbrev number : ℕ
+  number = s.counter + 1
+
+  abbrev asks : Ask
+  asks = open_ask place.connection file number c
+
+  abbrev answered : Answer × List Effect × CoreState
+  answered = ask n (rooms_left others l) (drawn s) asks
+
+  abbrev is_planned : planned s files others l conn h (Create c) ≡ found_plan s others l client place c file
+  is_planned = found_is s files others l conn h client c session file place named at
+
+  passes : (found_plan s others l client place c file ≡ open_as s others l client place c file number) × (has_room_for_open others l number ≡ true)
+  unfolding found_plan
+  passes =
+      opened_by n s l id (nat_lt 5 c.disposition) (overwrites c.disposition) (c.disposition == 2) (has_room_for_open others l number) (open_as s others l client place c file number)
+      (ap (λ (p : Plan). (carried n s l p).0) (sym is_planned) ∙ e)
+
+  abbrev is_asked : outcome_of n s files others l conn h (Create c) ≡ carried n s l (open_as s others l client place c file number)
+  is_asked = ap (carried n s l) (is_planned ∙ passes.0)
+
+  granted : (id_of s number ≡ id) × (g : Claim) × (answered.0 ≡ answers.Granted g)
+  granted = granted_from (id_of s number) id answered.0 (ap (λ (o : Outcome). o.0) (sym is_asked) ∙ e)
+
+  pub open_numbered : id ≡ id_of s (s.counter + 1)
+  open_numbered = sym granted.0
+
+  pub open_stands : open_of (s.counter + 1) (outcome_of n s files others l conn h (Create c)).2 ≡ Some (open_row file client place)
+  open_stands =
+      ap (λ (o : Outcome). open_of number o.2) is_asked
+      ∙ ap (λ (a : Answer). open_of number (opened_lists l number (open_row file client place) a)) granted.2
+      ∙ lookup_last number (open_row file client place) l.opens (open_new others l number passes.1)
+
+  pub open_shares : IsGood s → held_at (outcome_of n s files others l conn h (Create c)).3 (ShareOf file (owners.Open (s.counter + 1))) ≡ Share (access_of c.desired_access) (deny_of (access_of c.desired_access) c.share_access) ∷ []
+  unfolding open_ask
+  open_shares good =
+      ap (λ (o : Outcome). held_at o.3 (ShareOf file (owners.Open number))) is_asked
+      ∙ ap (map share_held) (ask_shared n (rooms_left others l) (drawn s) asks (access_of c.desired_access) (deny_of (access_of c.desired_access) c.share_access) granted.1 (drawn_good s good) (equal_self number) refl refl granted.2)

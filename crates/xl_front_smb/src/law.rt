@@ -1,23 +1,29 @@
 //! Laws of the front. The functions do nothing: each has laws as its clauses.
-ghost use Rattle.std.specs.Prelude.{◌≡◌, ℕ, ◌==◌, ◌↔◌, true, List, [], ◌∷◌, Some, None};
+ghost use Rattle.std.specs.Prelude.{◌≡◌, ℕ, ◌+◌, ◌==◌, ◌↔◌, true, List, [], ◌∷◌, Some, None};
 ghost use Rattle.std.specs.List.{AllByRecursion};
+ghost use Rattle.xl_base.specs.declared.name.Owner.{Owner};
 ghost use Rattle.xl_base.specs.declared.journal.Exports.{Exports};
 ghost use Rattle.xl_core.specs.Deeds.{all_done, all_told_of, answers_of, AreFit};
+ghost use Rattle.xl_core.specs.Good.{IsGood};
+ghost use Rattle.xl_core.specs.Places.{ShareOf, held_at};
 ghost use Rattle.xl_core.specs.State.{CoreState};
+ghost use Rattle.xl_matrix.specs.declared.claim.What.{What};
 ghost use Rattle.xl_smb.specs.Calls.{CallItem};
 ghost use Rattle.xl_smb.specs.Creates.{CreateCallItem};
 ghost use Rattle.xl_smb.specs.declared.lock.CloseCall.{CloseCall};
 ghost use Rattle.xl_smb.specs.declared.head.SmbHead.{SmbHead};
 ghost use Rattle.xl_smb_state.specs.Links.{IsSound, AreDistinct};
-ghost use Rattle.xl_smb_state.specs.State.{Lists, client_of, covers_holder, opens_under};
+ghost use Rattle.xl_smb_state.specs.State.{Lists, client_of, open_of, covers_holder, opens_under};
 ghost use Rattle.xl_smb_state.specs.declared.row.Place.{Place};
 ghost use Rattle.xl_smb_state.specs.declared.row.Scope.{Scope};
 ghost use Rattle.xl_front_smb.specs.Ending.{smb_end_deeds, smb_end};
+ghost use Rattle.xl_front_smb.specs.Files.{access_of, deny_of, open_row};
 ghost use Rattle.xl_front_smb.specs.FrontSmb.{sent_by, smb_deeds, smb_reply, smb_step};
-ghost use Rattle.xl_front_smb.specs.Checks.{session_named, open_named};
+ghost use Rattle.xl_front_smb.specs.Checks.{id_of, session_named, open_named};
 ghost use Rattle.xl_front_smb.specs.Laws.{rows_but, Without, outcome_of, IsInSession, IsOnTree, IsCreateDue};
 ghost use Rattle.xl_front_smb.specs.Owners.{AreOwn, is_end};
 ghost use Rattle.xl_front_smb.specs.State.{FrontSmb};
+ghost use Rattle.xl_front_smb.specs.Texts.{file_spelled};
 ghost use Rattle.xl_front_smb.specs.declared.status.SmbStatus.{SmbStatus};
 ghost use Rattle.xl_front_smb.specs.declared.told.Told.{Told};
 
@@ -105,4 +111,12 @@ pub fn a_close_leaves_nothing()
 /// where it passes a limit.
 pub fn creates_have_causes()
     ensures { (n : ℕ) (s : CoreState) (files : List (List ℕ)) (others : ℕ) (l : Lists) (conn : ℕ) (h : SmbHead) (c : CreateCallItem) (told : Told) → ((outcome_of n s files others l conn h (CallItem.Create c)).0 ≡ told) ↔ IsCreateDue s files others l conn h c told }
+{}
+
+/// What CREATE tells to be open is held (MS-SMB2 3.3.5.9): it has the next number; the open stands under it, of this file and
+/// client, on this tree connect; and its share of the file has just the access that was asked, and denies what isn't shared.
+pub fn opened_files_are_held()
+    ensures number { (n : ℕ) (s : CoreState) (files : List (List ℕ)) (others : ℕ) (l : Lists) (conn : ℕ) (h : SmbHead) (client : List ℕ) (c : CreateCallItem) (session file id : ℕ) (place : Place) → IsOnTree s l conn h client session place → file_spelled files c.name ≡ Some file → (outcome_of n s files others l conn h (CallItem.Create c)).0 ≡ Told.Opened id → id ≡ id_of s (s.counter + 1) }
+    ensures row { (n : ℕ) (s : CoreState) (files : List (List ℕ)) (others : ℕ) (l : Lists) (conn : ℕ) (h : SmbHead) (client : List ℕ) (c : CreateCallItem) (session file id : ℕ) (place : Place) → IsOnTree s l conn h client session place → file_spelled files c.name ≡ Some file → (outcome_of n s files others l conn h (CallItem.Create c)).0 ≡ Told.Opened id → open_of (s.counter + 1) (outcome_of n s files others l conn h (CallItem.Create c)).2 ≡ Some (open_row file client place) }
+    ensures share { (n : ℕ) (s : CoreState) (files : List (List ℕ)) (others : ℕ) (l : Lists) (conn : ℕ) (h : SmbHead) (client : List ℕ) (c : CreateCallItem) (session file id : ℕ) (place : Place) → IsOnTree s l conn h client session place → file_spelled files c.name ≡ Some file → (outcome_of n s files others l conn h (CallItem.Create c)).0 ≡ Told.Opened id → IsGood s → held_at (outcome_of n s files others l conn h (CallItem.Create c)).3 (ShareOf file (Owner.Open (s.counter + 1))) ≡ What.Share (access_of c.desired_access) (deny_of (access_of c.desired_access) c.share_access) ∷ [] }
 {}

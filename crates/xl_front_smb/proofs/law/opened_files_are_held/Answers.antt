@@ -1,0 +1,11 @@
+use Rattle.xl_front_smb.proofs.CreateLaws.{open_numbered, open_stands, open_shares}
+use Rattle.xl_front_smb.proofs.law.opened_files_are_held.Goals as goal
+
+pub returns-clause-number : goal.returns-clause-number
+returns-clause-number c = λ n s files others l conn h client call session file id place named at e. open_numbered n s files others l conn h client call session file id place named at e
+
+pub returns-clause-row : goal.returns-clause-row
+returns-clause-row c = λ n s files others l conn h client call session file id place named at e. open_stands n s files others l conn h client call session file id place named at e
+
+pub returns-clause-share : goal.returns-clause-share
+returns-clause-share c = λ n s files others l conn h client call session file id place named at e good. open_shares n s files others l conn h client call session file id place named at e good
