@@ -8,9 +8,12 @@ use Rattle.std.specs.Prelude.{◌||◌}
 use Rattle.xl_nfs.specs.Opens.{OpenArgsItem}
 use Rattle.xl_nfs.specs.declared.status.NfsStatus.{NfsStatus}
 use Rattle.xl_nfs_state.specs.Filed.{changed}
+use Rattle.xl_nfs_state.specs.Keys.{same_kind}
 use Rattle.xl_nfs_state.specs.Rows.{with_turn}
 use Rattle.xl_nfs_state.specs.State.{NfsLists, IsRising, is_owner, next_owner}
 use Rattle.xl_nfs_state.specs.Verdict.{next_seqid}
+use Rattle.xl_nfs_state.specs.declared.owner.OwnerKind.{OwnerKind}
+use Rattle.xl_nfs_state.specs.declared.owner.OwnerKind.TheVariants.{Open as Opens, Lock as Locks}
 use Rattle.xl_nfs_state.specs.declared.owner.OwnerRow.{OwnerRow}
 use Rattle.xl_nfs_state.specs.declared.owner.Turn.{Turn}
 use Rattle.xl_nfs_state.specs.declared.stateid.StateidRow.{StateidRow}
@@ -54,8 +57,12 @@ own_turned o turn (x ∷ rs) r rising found =
           rw (differs r.number x.number (λ d. omega (arith, d, above))) (rw e (own_turned o turn rs r rising.1 rest))
     ]
 
+own_kind : (kind : OwnerKind) → same_kind kind kind ≡ true
+own_kind Opens = refl
+own_kind Locks = refl
+
 is_own : (o : Opener) (turn : Turn) (number : ℕ) → is_opener o (new_owner o turn number) ≡ true
-is_own o turn number = rw (eq-eqb o.client o.client refl) (own_client o.owner)
+is_own o turn number = rw (eq-eqb o.client o.client refl) (rw (own_kind o.kind) (own_client o.owner))
 
 own_behind : (o : Opener) (turn : Turn) (number : ℕ) (rs : List OwnerRow) → find (is_opener o) rs ≡ None → option_map (λ (x : OwnerRow). x.turn) (find (is_opener o) (rs ++ new_owner o turn number ∷ [])) ≡ Some turn
 own_behind o turn number [] none = rw (is_own o turn number) refl

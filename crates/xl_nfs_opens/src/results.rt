@@ -210,11 +210,7 @@ pub fn put_result(out: &mut XdrOut, number: u32, told: &Told) -> Result<(), Allo
 
 /// What the operation of this number told, as its result is spelled.
 #[tactic(auto, using(crate::proofs::HeldLaws::most_most))]
-pub fn result_bytes(
-    alloc: Global,
-    number: u32,
-    told: &Told,
-) -> Result<ResultBytes, AllocError>
+pub fn result_bytes(alloc: Global, number: u32, told: &Told) -> Result<ResultBytes, AllocError>
     requires fits { ToldFits number told.now }
     ensures { IfOk result (λ bytes. bytes ≡ spelled number told.now) }
 {
