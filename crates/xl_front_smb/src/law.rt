@@ -18,9 +18,9 @@ ghost use Rattle.xl_smb_state.specs.declared.row.Place.{Place};
 ghost use Rattle.xl_smb_state.specs.declared.row.Scope.{Scope};
 ghost use Rattle.xl_front_smb.specs.Ending.{smb_end_deeds, smb_end};
 ghost use Rattle.xl_front_smb.specs.Files.{access_of, deny_of, open_row};
-ghost use Rattle.xl_front_smb.specs.FrontSmb.{sent_by, smb_deeds, smb_reply, smb_step};
+ghost use Rattle.xl_front_smb.specs.FrontSmb.{answered, sent_by, smb_deeds, smb_reply, smb_step};
 ghost use Rattle.xl_front_smb.specs.Checks.{id_of, session_named, tree_named, open_named};
-ghost use Rattle.xl_front_smb.specs.Laws.{rows_but, Without, outcome_of, IsInSession, IsOnTree, IsCreateDue};
+ghost use Rattle.xl_front_smb.specs.Laws.{rows_but, Without, outcome_of, IsRequest, IsInSession, IsOnTree, IsCreateDue};
 ghost use Rattle.xl_front_smb.specs.Owners.{AreOwn, is_end};
 ghost use Rattle.xl_front_smb.specs.State.{FrontSmb};
 ghost use Rattle.xl_front_smb.specs.Texts.{file_spelled};
@@ -69,6 +69,12 @@ pub fn an_ended_connection_leaves_nothing()
     ensures sessions { (f : FrontSmb) (s : CoreState) (conn : ℕ) → AreDistinct f.state → (smb_end f s conn).1.state.sessions ≡ rows_but (λ e. e.1.connection == conn) f.state.sessions }
     ensures trees { (f : FrontSmb) (s : CoreState) (conn : ℕ) → IsSound f.state → AreDistinct f.state → (smb_end f s conn).1.state.trees ≡ rows_but (λ e. e.1.connection == conn) f.state.trees }
     ensures connections { (f : FrontSmb) (s : CoreState) (conn : ℕ) → AreDistinct f.state → (smb_end f s conn).1.state.connections ≡ rows_but (λ e. conn == e.0) f.state.connections }
+{}
+
+/// A message that is a request alone in its frame, of a command that is served, is answered, tells of and leaves what that
+/// request comes to (MS-SMB2 3.3.5.2), of which the laws of each command speak.
+pub fn requests_come_to_their_outcomes()
+    ensures { (n : ℕ) (exports : Exports) (others : ℕ) (f : FrontSmb) (s : CoreState) (conn : ℕ) (bytes : List ℕ) (h : SmbHead) (call : CallItem) → IsRequest bytes h call → smb_step n exports others f s conn bytes ≡ answered conn h (outcome_of n s exports.files others f.state conn h call) }
 {}
 
 /// LOGOFF in a session that is there leaves nothing of it, and all else (MS-SMB2 3.3.5.6): of claims and waiters just those
