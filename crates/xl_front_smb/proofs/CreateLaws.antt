@@ -10,10 +10,10 @@ use Rattle.xl_smb.specs.Calls.{Create}
 use Rattle.xl_smb.specs.Creates.{CreateCallItem}
 use Rattle.xl_smb.specs.declared.head.SmbHead.{SmbHead}
 use Rattle.xl_smb_state.specs.State.{Lists, client_of, open_of}
+use Rattle.xl_smb_state.specs.declared.row.Open.{Open}
 use Rattle.xl_smb_state.specs.declared.row.Place.{Place}
 use Rattle.xl_smb_state.proofs.RowLaws.{equal_self, some_none}
 use Rattle.xl_wait.specs.declared.waiter.Rooms.{Rooms}
-use Rattle.xl_core.specs.Asking.{asked_what, asked_claim}
 use Rattle.xl_core.specs.Causes.{IsClaimDue}
 use Rattle.xl_core.specs.Decide.{ask}
 use Rattle.xl_core.specs.Good.{IsGood}
@@ -24,7 +24,7 @@ use Rattle.xl_core.specs.declared.ask.Answer.TheVariants as answers
 use Rattle.xl_core.specs.declared.ask.Ask.{Ask}
 use Rattle.xl_core.specs.declared.ask.Effect.{Effect}
 use Rattle.xl_core.proofs.CauseLaws.{lock_due}
-use Rattle.xl_core.proofs.ChangeLaws.{ask_shared}
+use Rattle.xl_core.proofs.ChangeLaws.{ask_own, ask_shared}
 use Rattle.xl_core.proofs.GoodLaws.{drawn_good}
 use Rattle.xl_front_smb.specs.Checks.{id_of, session_named, tree_named, negotiated_by, in_session, on_tree}
 use Rattle.xl_front_smb.specs.Files.{access_of, deny_of, open_ask, open_row, rooms_left, open_as, has_room_for_open, open_file, open_found, overwrites, create_on, create}
@@ -237,3 +237,83 @@ module _ (n : ℕ) (s : CoreState) (files : List (List ℕ)) (others : ℕ) (l :
   open_shares good =
       ap (λ (o : Outcome). held_at o.3 (ShareOf file (owners.Open number))) is_asked
       ∙ ap (map share_held) (ask_shared n (rooms_left others l) (drawn s) asks (access_of c.desired_access) (deny_of (access_of c.desired_access) c.share_access) granted.1 (drawn_good s good) (equal_self number) refl refl granted.2)
+
+-- ---- what is refused changes nothing
+
+opened_failed : {id : ℕ} {refused : SmbStatus} → Opened id ≡ Failed refused → ⊥
+opened_failed e = cc
+
+same_lists : (l : Lists) (key id : ℕ) (row : Open) (refused : SmbStatus) (answer : Answer) → opened_told (Opened id) answer ≡ Failed refused → opened_lists l key row answer ≡ l
+same_lists l key id row refused (answers.Granted c) e = absurd (opened_failed e)
+same_lists l key id row refused (answers.Conflict c) e = refl
+same_lists l key id row refused (answers.Full limit) e = refl
+same_lists l key id row refused (answers.Queued waiter) e = refl
+same_lists l key id row refused (answers.NoGrace clock) e = refl
+same_lists l key id row refused (answers.Recall c) e = refl
+same_lists l key id row refused (answers.Grace until) e = refl
+same_lists l key id row refused answers.NotRecorded e = refl
+same_lists l key id row refused answers.NotHeld e = refl
+same_lists l key id row refused answers.StoreFailed e = refl
+
+same_claims : (n : ℕ) (left : Rooms) (s : CoreState) (conn file number id : ℕ) (c : CreateCallItem) (refused : SmbStatus) → IsGood s → opened_told (Opened id) (ask n left (drawn s) (open_ask conn file number c)).0 ≡ Failed refused
+    → (ask n left (drawn s) (open_ask conn file number c)).2.claims ≡ s.claims
+unfolding open_ask drawn
+same_claims n left s conn file number id c refused good e =
+    (ask_own n left (drawn s) (open_ask conn file number c) (drawn_good s good) (equal_self number)).claims (λ g at. not_open (sym e ∙ ap (opened_told (Opened id)) at))
+
+module _ (n : ℕ) (s : CoreState) (l : Lists) (good : IsGood s) where
+  -- where the plan comes to fail, lists and claims stay
+  abbrev Keeps : Plan → Type 0
+  Keeps plan = (refused : SmbStatus) → (carried n s l plan).0 ≡ Failed refused → ((carried n s l plan).2 ≡ l) × ((carried n s l plan).3.claims ≡ s.claims)
+
+  fails_keeps : (refused : SmbStatus) → Keeps (Fails refused)
+  fails_keeps refused told e = (refl, refl)
+
+  keeps_if : (b : Bool) (refused : SmbStatus) (plan : Plan) → Keeps plan → Keeps (if b then Fails refused else plan)
+  keeps_if true refused plan rest = fails_keeps refused
+  keeps_if false refused plan rest = rest
+
+  keeps_room : (b : Bool) (refused : SmbStatus) (plan : Plan) → Keeps plan → Keeps (if b then plan else Fails refused)
+  keeps_room true refused plan rest = rest
+  keeps_room false refused plan rest = fails_keeps refused
+
+  asks_keeps : (others : ℕ) (client : List ℕ) (place : Place) (c : CreateCallItem) (file : ℕ) → Keeps (open_as s others l client place c file (s.counter + 1))
+  asks_keeps others client place c file refused e =
+      let number = s.counter + 1 in (
+        same_lists l number (id_of s number) (open_row file client place) refused (ask n (rooms_left others l) (drawn s) (open_ask place.connection file number c)).0 e,
+        same_claims n (rooms_left others l) s place.connection file number (id_of s number) c refused good e,
+      )
+
+  found_keeps : (others : ℕ) (client : List ℕ) (place : Place) (c : CreateCallItem) (found : Option ℕ) → Keeps (open_found s others l client place c found)
+  found_keeps others client place c None = fails_keeps status.ObjectNameNotFound
+  found_keeps others client place c (Some file) =
+      keeps_if (c.disposition == 2) status.ObjectNameCollision (open_file s others l client place c file)
+      (keeps_room (has_room_for_open others l (s.counter + 1)) status.InsufficientResources (open_as s others l client place c file (s.counter + 1)) (asks_keeps others client place c file))
+
+  create_keeps : (files : List (List ℕ)) (others : ℕ) (client : List ℕ) (c : CreateCallItem) (place : Place) → Keeps (create_on s files others l client c place)
+  create_keeps files others client c place =
+      keeps_if (nat_lt 5 c.disposition) status.InvalidParameter _
+      (keeps_if (overwrites c.disposition) status.NotSupported (open_found s others l client place c (file_spelled files c.name)) (found_keeps others client place c (file_spelled files c.name)))
+
+  client_keeps : (go : List ℕ → Plan) (found : Option (List ℕ)) → ((client : List ℕ) → Keeps (go client)) → Keeps (negotiated_by go found)
+  client_keeps go None rest = fails_keeps status.InvalidParameter
+  client_keeps go (Some client) rest = rest client
+
+  session_keeps : (go : ℕ → Plan) (found : Option ℕ) → ((session : ℕ) → Keeps (go session)) → Keeps (in_session go found)
+  session_keeps go None rest = fails_keeps status.UserSessionDeleted
+  session_keeps go (Some session) rest = rest session
+
+  tree_keeps : (go : Place → Plan) (found : Option Place) → ((place : Place) → Keeps (go place)) → Keeps (on_tree go found)
+  tree_keeps go None rest = fails_keeps status.NetworkNameDeleted
+  tree_keeps go (Some place) rest = rest place
+
+  planned_keeps : (files : List (List ℕ)) (others conn : ℕ) (h : SmbHead) (c : CreateCallItem) → Keeps (planned s files others l conn h (Create c))
+  unfolding planned commanded create
+  planned_keeps files others conn h c =
+      client_keeps (λ client. commanded s files others l conn h (Create c) client) (client_of conn l)
+      (λ client. session_keeps (λ session. on_tree (create_on s files others l client c) (tree_named l conn client h session)) (session_named s l conn h.session_id)
+      (λ session. tree_keeps (create_on s files others l client c) (tree_named l conn client h session) (create_keeps files others client c)))
+
+pub refused_keeps : (n : ℕ) (s : CoreState) (files : List (List ℕ)) (others : ℕ) (l : Lists) (conn : ℕ) (h : SmbHead) (c : CreateCallItem) (refused : SmbStatus) → IsGood s → (outcome_of n s files others l conn h (Create c)).0 ≡ Failed refused
+    → ((outcome_of n s files others l conn h (Create c)).2 ≡ l) × ((outcome_of n s files others l conn h (Create c)).3.claims ≡ s.claims)
+refused_keeps n s files others l conn h c refused good e = planned_keeps n s l good files others conn h c refused e

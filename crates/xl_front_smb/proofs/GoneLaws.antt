@@ -1,9 +1,9 @@
 -- What the ends of opens, sessions and connections leave.
-use Rattle.std.proofs.Common.{◌≡◌, ◌↔◌, ℕ, Bool, true, false, not, ◌||◌, eqb, cond, List, [], ◌∷◌, Option, Some, None, is_some, refl, sym, ap, subst, ◌∙◌, inl, inr}
+use Rattle.std.proofs.Common.{◌≡◌, ◌↔◌, ℕ, Bool, true, false, not, ◌||◌, eqb, cond, List, [], ◌∷◌, Option, Some, None, refl, sym, ap, subst, ◌∙◌, inl, inr}
 use Rattle.std.specs.Prelude.{nat_eq}
-use Rattle.std.specs.List.{AllByRecursion, IsDistinct, list_any, filter}
+use Rattle.std.specs.List.{AllByRecursion, IsDistinct, list_any}
 use Rattle.std.specs.Map.{keys_of, lookup, remove_entry}
-use Rattle.std.proofs.lemmas.Bool.{cases_Bool, true≢false, false≢true}
+use Rattle.std.proofs.lemmas.Bool.{cases_Bool, true≢false}
 use Rattle.std.proofs.lemmas.Map.Keys.{IsDistinct-head, IsDistinct-tail}
 use Rattle.std.proofs.lemmas.Map.Made.{IsDistinct-keys_filter}
 use Rattle.xl_base.specs.Lists.{IsIn}
@@ -16,8 +16,7 @@ use Rattle.xl_smb.specs.declared.lock.CloseCall.{CloseCall}
 use Rattle.xl_smb.specs.declared.file.FileId.{FileId}
 use Rattle.xl_smb.specs.declared.head.SmbHead.{SmbHead}
 use Rattle.xl_smb_state.specs.Links.{IsTreeLinked, IsSound, AreDistinct}
-use Rattle.xl_smb_state.specs.State.{Lists, client_of, keys_where, session_of, sessions_on, trees_of, tree_dropped, session_dropped, covers_holder, opens_under, closed}
-use Rattle.xl_smb_state.specs.declared.row.Connection.{Connection}
+use Rattle.xl_smb_state.specs.State.{Lists, client_of, keys_where, sessions_on, trees_of, tree_dropped, covers_holder, opens_under, closed}
 use Rattle.xl_smb_state.specs.declared.row.Open.{Open}
 use Rattle.xl_smb_state.specs.declared.row.Place.{Place}
 use Rattle.xl_smb_state.specs.declared.row.Scope.{Scope}
@@ -35,7 +34,7 @@ use Rattle.xl_front_smb.specs.Files.{close_open, close}
 use Rattle.xl_front_smb.specs.Plans.{Plan, Does, Outcome, carried}
 use Rattle.xl_front_smb.specs.Requests.{commanded, planned}
 use Rattle.xl_front_smb.specs.Sessions.{logoff, disconnect, tree_disconnect}
-use Rattle.xl_front_smb.specs.declared.status.SmbStatus.TheVariants.{UserSessionDeleted}
+use Rattle.xl_front_smb.specs.declared.status.SmbStatus.TheVariants.{UserSessionDeleted, NetworkNameDeleted, FileClosed}
 use Rattle.xl_front_smb.specs.declared.told.Told.TheVariants.{Failed, LoggedOff, Disconnected, Closed}
 use Rattle.xl_front_smb.specs.Laws.{rows_but, is_among, waits_among, Without, outcome_of, IsInSession, IsOnTree}
 use Rattle.xl_front_smb.specs.State.{FrontSmb}
@@ -338,7 +337,7 @@ module _ (n : ℕ) (s : CoreState) (files : List (List ℕ)) (others : ℕ) (l :
   pub logoff_refused : client_of conn l ≡ Some client → session_named s l conn h.session_id ≡ None → outcome_of n s files others l conn h Logoff ≡ (Failed UserSessionDeleted, [], l, s)
   logoff_refused known none = ap (carried n s l) ((planned_is s files others l conn h client known).0 ∙ logoff_by s l conn h None none)
 
--- ---- TREE_DISCONNECT
+  -- ---- TREE_DISCONNECT
 
   pub disconnected : (P : Outcome → Type 0) (session : ℕ) (place : Place) → IsOnTree s l conn h client session place
       → P (Disconnected, all_told_of n s (ends (opens_under (scope.Tree place.tree) l)), tree_dropped place.tree (all_closed (opens_under (scope.Tree place.tree) l) l), all_done n s (ends (opens_under (scope.Tree place.tree) l)))
@@ -346,7 +345,14 @@ module _ (n : ℕ) (s : CoreState) (files : List (List ℕ)) (others : ℕ) (l :
   disconnected P session place named =
       by_plan P n s l _ _ ((planned_is s files others l conn h client named.0.0).1 ∙ disconnect_by s l conn client h (Some session) named.0.1 ∙ ap (on_tree (disconnect l)) named.1)
 
--- ---- CLOSE
+  pub disconnect_lost : client_of conn l ≡ Some client → session_named s l conn h.session_id ≡ None → outcome_of n s files others l conn h TreeDisconnect ≡ (Failed UserSessionDeleted, [], l, s)
+  disconnect_lost known none = ap (carried n s l) ((planned_is s files others l conn h client known).1 ∙ disconnect_by s l conn client h None none)
+
+  pub disconnect_refused : (session : ℕ) → IsInSession s l conn h client session → tree_named l conn client h session ≡ None → outcome_of n s files others l conn h TreeDisconnect ≡ (Failed NetworkNameDeleted, [], l, s)
+  disconnect_refused session named none =
+      ap (carried n s l) ((planned_is s files others l conn h client named.0).1 ∙ disconnect_by s l conn client h (Some session) named.1 ∙ ap (on_tree (disconnect l)) none)
+
+  -- ---- CLOSE
 
   pub closes_open : (P : Outcome → Type 0) (c : CloseCall) (session : ℕ) (place : Place) (number : ℕ) → IsOnTree s l conn h client session place → open_named s l conn c.file_id ≡ Some number
       → P (Closed, all_told_of n s (ends (number ∷ [])), closed number l, all_done n s (ends (number ∷ [])))
@@ -357,6 +363,21 @@ module _ (n : ℕ) (s : CoreState) (files : List (List ℕ)) (others : ℕ) (l :
       ∙ close_by s l conn client h c.file_id (Some session) named.0.1
       ∙ ap (on_tree (λ _. on_open (close_open l) (open_named s l conn c.file_id))) named.1
       ∙ ap (on_open (close_open l)) third)
+
+  pub close_lost : (c : CloseCall) → client_of conn l ≡ Some client → session_named s l conn h.session_id ≡ None → outcome_of n s files others l conn h (Close c) ≡ (Failed UserSessionDeleted, [], l, s)
+  close_lost c known none = ap (carried n s l) ((planned_is s files others l conn h client known).2 c ∙ close_by s l conn client h c.file_id None none)
+
+  pub close_apart : (c : CloseCall) (session : ℕ) → IsInSession s l conn h client session → tree_named l conn client h session ≡ None → outcome_of n s files others l conn h (Close c) ≡ (Failed NetworkNameDeleted, [], l, s)
+  close_apart c session named none =
+      ap (carried n s l) ((planned_is s files others l conn h client named.0).2 c ∙ close_by s l conn client h c.file_id (Some session) named.1 ∙ ap (on_tree (λ _. on_open (close_open l) (open_named s l conn c.file_id))) none)
+
+  pub close_refused : (c : CloseCall) (session : ℕ) (place : Place) → IsOnTree s l conn h client session place → open_named s l conn c.file_id ≡ None → outcome_of n s files others l conn h (Close c) ≡ (Failed FileClosed, [], l, s)
+  close_refused c session place named none =
+      ap (carried n s l)
+      ((planned_is s files others l conn h client named.0.0).2 c
+      ∙ close_by s l conn client h c.file_id (Some session) named.0.1
+      ∙ ap (on_tree (λ _. on_open (close_open l) (open_named s l conn c.file_id))) named.1
+      ∙ ap (on_open (close_open l)) none)
 
 pub tree_trees : (l : Lists) (tree : ℕ) (numbers : List ℕ) → AreDistinct l → (tree_dropped tree (all_closed numbers l)).trees ≡ rows_but (λ e. eqb tree e.0) l.trees
 tree_trees l tree numbers distinct = ap (remove_entry (nat_eq tree)) (closed_trees numbers l) ∙ out_one tree l.trees distinct.trees

@@ -9,3 +9,4 @@ pub mod PlanLaws
 pub mod DoesLaws
 pub mod OwnLaws
 pub mod CreateLaws
+pub mod MessageLaws

@@ -1,5 +1,5 @@
 -- Words of the laws: what ends leave, and what a request comes to.
-use Rattle.std.specs.Prelude.{◌≡◌, ◌↔◌, ℕ, ◌+◌, ◌==◌, nat_lt, Bool, true, false, not, List, Option, Some, None}
+use Rattle.std.specs.Prelude.{◌≡◌, ◌↔◌, ℕ, ◌+◌, ◌==◌, nat_lt, Bool, true, false, not, List, Option, Some, None, is_some, Ok}
 use Rattle.std.specs.List.{filter, list_any}
 use Rattle.xl_base.specs.Lists.{IsIn}
 use Rattle.xl_base.specs.declared.name.Owner.TheVariants as owners
@@ -10,6 +10,8 @@ use Rattle.xl_matrix.specs.declared.claim.Claim.{Claim}
 use Rattle.xl_matrix.specs.declared.claim.What.TheVariants.{Share}
 use Rattle.xl_smb.specs.Calls.{CallItem}
 use Rattle.xl_smb.specs.Creates.{CreateCallItem}
+use Rattle.xl_smb.specs.Heads.{command_of, head_of}
+use Rattle.xl_smb.specs.Messages.{Call, message_at}
 use Rattle.xl_smb.specs.declared.head.SmbHead.{SmbHead}
 use Rattle.xl_smb_state.specs.State.{Lists, client_of}
 use Rattle.xl_smb_state.specs.declared.row.Place.{Place}
@@ -22,6 +24,7 @@ use Rattle.xl_core.specs.declared.ask.Answer.TheVariants as answers
 use Rattle.xl_core.specs.declared.ask.Ask.{Ask}
 use Rattle.xl_front_smb.specs.Checks.{id_of, session_named, tree_named}
 use Rattle.xl_front_smb.specs.Files.{access_of, deny_of, open_ask, rooms_left, has_room_for_open, overwrites}
+use Rattle.xl_front_smb.specs.FrontSmb.{head_heard}
 use Rattle.xl_front_smb.specs.Plans.{Outcome, carried}
 use Rattle.xl_front_smb.specs.Requests.{planned}
 use Rattle.xl_front_smb.specs.Texts.{file_spelled}
@@ -52,6 +55,14 @@ pub record Without (numbers : List ℕ) (old new : CoreState) : Type 0 where
 -- what a request comes to
 abbrev pub outcome_of : ℕ → CoreState → List (List ℕ) → ℕ → Lists → ℕ → SmbHead → CallItem → Outcome
 outcome_of n s files others l conn h call = carried n s l (planned s files others l conn h call)
+
+-- the message is a request of this header, alone in its frame, for this call
+pub record IsRequest (bytes : List ℕ) (h : SmbHead) (call : CallItem) : Type 0 where
+  pub heard : head_heard (head_of bytes) ≡ Some h
+  pub alone : (h.next_command == 0) ≡ true
+  pub numbered : nat_lt 18 h.command ≡ false
+  pub served : is_some (command_of h.command) ≡ true
+  pub read : message_at bytes ≡ Ok (Call h call)
 
 -- it is this client's, in this session
 abbrev pub IsInSession : CoreState → Lists → ℕ → SmbHead → List ℕ → ℕ → Type 0

@@ -10,5 +10,5 @@ pub mod Ending
 pub mod Sessions
 pub mod Files
 pub mod Requests
-pub mod Laws
 pub mod FrontSmb
+pub mod Laws

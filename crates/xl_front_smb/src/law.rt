@@ -18,9 +18,9 @@ ghost use Rattle.xl_smb_state.specs.declared.row.Place.{Place};
 ghost use Rattle.xl_smb_state.specs.declared.row.Scope.{Scope};
 ghost use Rattle.xl_front_smb.specs.Ending.{smb_end_deeds, smb_end};
 ghost use Rattle.xl_front_smb.specs.Files.{access_of, deny_of, open_row};
-ghost use Rattle.xl_front_smb.specs.FrontSmb.{sent_by, smb_deeds, smb_reply, smb_step};
-ghost use Rattle.xl_front_smb.specs.Checks.{id_of, session_named, open_named};
-ghost use Rattle.xl_front_smb.specs.Laws.{rows_but, Without, outcome_of, IsInSession, IsOnTree, IsCreateDue};
+ghost use Rattle.xl_front_smb.specs.FrontSmb.{answered, sent_by, smb_deeds, smb_reply, smb_step};
+ghost use Rattle.xl_front_smb.specs.Checks.{id_of, session_named, tree_named, open_named};
+ghost use Rattle.xl_front_smb.specs.Laws.{rows_but, Without, outcome_of, IsRequest, IsInSession, IsOnTree, IsCreateDue};
 ghost use Rattle.xl_front_smb.specs.Owners.{AreOwn, is_end};
 ghost use Rattle.xl_front_smb.specs.State.{FrontSmb};
 ghost use Rattle.xl_front_smb.specs.Texts.{file_spelled};
@@ -71,6 +71,12 @@ pub fn an_ended_connection_leaves_nothing()
     ensures connections { (f : FrontSmb) (s : CoreState) (conn : ℕ) → AreDistinct f.state → (smb_end f s conn).1.state.connections ≡ rows_but (λ e. conn == e.0) f.state.connections }
 {}
 
+/// A message that is a request alone in its frame, of a command that is served, is answered, tells of and leaves what that
+/// request comes to (MS-SMB2 3.3.5.2), of which the laws of each command speak.
+pub fn requests_come_to_their_outcomes()
+    ensures { (n : ℕ) (exports : Exports) (others : ℕ) (f : FrontSmb) (s : CoreState) (conn : ℕ) (bytes : List ℕ) (h : SmbHead) (call : CallItem) → IsRequest bytes h call → smb_step n exports others f s conn bytes ≡ answered conn h (outcome_of n s exports.files others f.state conn h call) }
+{}
+
 /// LOGOFF in a session that is there leaves nothing of it, and all else (MS-SMB2 3.3.5.6): of claims and waiters just those
 /// of no open under it, of the lists just the opens that are not under it, the tree connects that are not of it, and the
 /// other sessions. In no session it is refused, and changes nothing.
@@ -85,7 +91,8 @@ pub fn a_logoff_leaves_nothing()
 {}
 
 /// TREE_DISCONNECT on a tree connect that is there leaves nothing of it, and all else (MS-SMB2 3.3.5.8): of claims and
-/// waiters just those of no open under it, of the lists just the opens that are not under it, and the other tree connects.
+/// waiters just those of no open under it, of the lists just the opens that are not under it, and the other tree connects. In no session, or
+/// where the tree connect isn't one of it, it is refused, and changes nothing.
 pub fn a_tree_disconnect_leaves_nothing()
     ensures told { (n : ℕ) (s : CoreState) (files : List (List ℕ)) (others : ℕ) (l : Lists) (conn : ℕ) (h : SmbHead) (client : List ℕ) (session : ℕ) (place : Place) → IsOnTree s l conn h client session place → (outcome_of n s files others l conn h CallItem.TreeDisconnect).0 ≡ Told.Disconnected }
     ensures core { (n : ℕ) (s : CoreState) (files : List (List ℕ)) (others : ℕ) (l : Lists) (conn : ℕ) (h : SmbHead) (client : List ℕ) (session : ℕ) (place : Place) → IsOnTree s l conn h client session place → Without (opens_under (Scope.Tree place.tree) l) s (outcome_of n s files others l conn h CallItem.TreeDisconnect).3 }
@@ -93,10 +100,13 @@ pub fn a_tree_disconnect_leaves_nothing()
     ensures trees { (n : ℕ) (s : CoreState) (files : List (List ℕ)) (others : ℕ) (l : Lists) (conn : ℕ) (h : SmbHead) (client : List ℕ) (session : ℕ) (place : Place) → IsOnTree s l conn h client session place → AreDistinct l → (outcome_of n s files others l conn h CallItem.TreeDisconnect).2.trees ≡ rows_but (λ e. place.tree == e.0) l.trees }
     ensures sessions { (n : ℕ) (s : CoreState) (files : List (List ℕ)) (others : ℕ) (l : Lists) (conn : ℕ) (h : SmbHead) (client : List ℕ) (session : ℕ) (place : Place) → IsOnTree s l conn h client session place → (outcome_of n s files others l conn h CallItem.TreeDisconnect).2.sessions ≡ l.sessions }
     ensures connections { (n : ℕ) (s : CoreState) (files : List (List ℕ)) (others : ℕ) (l : Lists) (conn : ℕ) (h : SmbHead) (client : List ℕ) (session : ℕ) (place : Place) → IsOnTree s l conn h client session place → (outcome_of n s files others l conn h CallItem.TreeDisconnect).2.connections ≡ l.connections }
+    ensures unnamed { (n : ℕ) (s : CoreState) (files : List (List ℕ)) (others : ℕ) (l : Lists) (conn : ℕ) (h : SmbHead) (client : List ℕ) → client_of conn l ≡ Some client → session_named s l conn h.session_id ≡ None → outcome_of n s files others l conn h CallItem.TreeDisconnect ≡ (Told.Failed SmbStatus.UserSessionDeleted, [], l, s) }
+    ensures refused { (n : ℕ) (s : CoreState) (files : List (List ℕ)) (others : ℕ) (l : Lists) (conn : ℕ) (h : SmbHead) (client : List ℕ) (session : ℕ) → IsInSession s l conn h client session → tree_named l conn client h session ≡ None → outcome_of n s files others l conn h CallItem.TreeDisconnect ≡ (Told.Failed SmbStatus.NetworkNameDeleted, [], l, s) }
 {}
 
 /// CLOSE of an open under the connection leaves nothing of it, and all else (MS-SMB2 3.3.5.10): of claims and waiters just
-/// those that are not the open's, of the lists the other opens, and each session and tree connect.
+/// those that are not the open's, of the lists the other opens, and each session and tree connect. In no session,
+/// on no tree connect of it, or of no open under the connection it is refused, and changes nothing.
 pub fn a_close_leaves_nothing()
     ensures told { (n : ℕ) (s : CoreState) (files : List (List ℕ)) (others : ℕ) (l : Lists) (conn : ℕ) (h : SmbHead) (client : List ℕ) (c : CloseCall) (session : ℕ) (place : Place) (number : ℕ) → IsOnTree s l conn h client session place → open_named s l conn c.file_id ≡ Some number → (outcome_of n s files others l conn h (CallItem.Close c)).0 ≡ Told.Closed }
     ensures core { (n : ℕ) (s : CoreState) (files : List (List ℕ)) (others : ℕ) (l : Lists) (conn : ℕ) (h : SmbHead) (client : List ℕ) (c : CloseCall) (session : ℕ) (place : Place) (number : ℕ) → IsOnTree s l conn h client session place → open_named s l conn c.file_id ≡ Some number → Without (number ∷ []) s (outcome_of n s files others l conn h (CallItem.Close c)).3 }
@@ -104,6 +114,9 @@ pub fn a_close_leaves_nothing()
     ensures trees { (n : ℕ) (s : CoreState) (files : List (List ℕ)) (others : ℕ) (l : Lists) (conn : ℕ) (h : SmbHead) (client : List ℕ) (c : CloseCall) (session : ℕ) (place : Place) (number : ℕ) → IsOnTree s l conn h client session place → open_named s l conn c.file_id ≡ Some number → (outcome_of n s files others l conn h (CallItem.Close c)).2.trees ≡ l.trees }
     ensures sessions { (n : ℕ) (s : CoreState) (files : List (List ℕ)) (others : ℕ) (l : Lists) (conn : ℕ) (h : SmbHead) (client : List ℕ) (c : CloseCall) (session : ℕ) (place : Place) (number : ℕ) → IsOnTree s l conn h client session place → open_named s l conn c.file_id ≡ Some number → (outcome_of n s files others l conn h (CallItem.Close c)).2.sessions ≡ l.sessions }
     ensures connections { (n : ℕ) (s : CoreState) (files : List (List ℕ)) (others : ℕ) (l : Lists) (conn : ℕ) (h : SmbHead) (client : List ℕ) (c : CloseCall) (session : ℕ) (place : Place) (number : ℕ) → IsOnTree s l conn h client session place → open_named s l conn c.file_id ≡ Some number → (outcome_of n s files others l conn h (CallItem.Close c)).2.connections ≡ l.connections }
+    ensures unnamed { (n : ℕ) (s : CoreState) (files : List (List ℕ)) (others : ℕ) (l : Lists) (conn : ℕ) (h : SmbHead) (client : List ℕ) (c : CloseCall) → client_of conn l ≡ Some client → session_named s l conn h.session_id ≡ None → outcome_of n s files others l conn h (CallItem.Close c) ≡ (Told.Failed SmbStatus.UserSessionDeleted, [], l, s) }
+    ensures apart { (n : ℕ) (s : CoreState) (files : List (List ℕ)) (others : ℕ) (l : Lists) (conn : ℕ) (h : SmbHead) (client : List ℕ) (c : CloseCall) (session : ℕ) → IsInSession s l conn h client session → tree_named l conn client h session ≡ None → outcome_of n s files others l conn h (CallItem.Close c) ≡ (Told.Failed SmbStatus.NetworkNameDeleted, [], l, s) }
+    ensures refused { (n : ℕ) (s : CoreState) (files : List (List ℕ)) (others : ℕ) (l : Lists) (conn : ℕ) (h : SmbHead) (client : List ℕ) (c : CloseCall) (session : ℕ) (place : Place) → IsOnTree s l conn h client session place → open_named s l conn c.file_id ≡ None → outcome_of n s files others l conn h (CallItem.Close c) ≡ (Told.Failed SmbStatus.FileClosed, [], l, s) }
 {}
 
 /// CREATE is told its status exactly where that has its cause, in the order of its checks (MS-SMB2 3.3.5.9): it is open where
@@ -115,8 +128,10 @@ pub fn creates_have_causes()
 
 /// What CREATE tells to be open is held (MS-SMB2 3.3.5.9): it has the next number; the open stands under it, of this file and
 /// client, on this tree connect; and its share of the file has just the access that was asked, and denies what isn't shared.
+/// A CREATE that is refused changes neither the lists nor what is held.
 pub fn opened_files_are_held()
     ensures number { (n : ℕ) (s : CoreState) (files : List (List ℕ)) (others : ℕ) (l : Lists) (conn : ℕ) (h : SmbHead) (client : List ℕ) (c : CreateCallItem) (session file id : ℕ) (place : Place) → IsOnTree s l conn h client session place → file_spelled files c.name ≡ Some file → (outcome_of n s files others l conn h (CallItem.Create c)).0 ≡ Told.Opened id → id ≡ id_of s (s.counter + 1) }
     ensures row { (n : ℕ) (s : CoreState) (files : List (List ℕ)) (others : ℕ) (l : Lists) (conn : ℕ) (h : SmbHead) (client : List ℕ) (c : CreateCallItem) (session file id : ℕ) (place : Place) → IsOnTree s l conn h client session place → file_spelled files c.name ≡ Some file → (outcome_of n s files others l conn h (CallItem.Create c)).0 ≡ Told.Opened id → open_of (s.counter + 1) (outcome_of n s files others l conn h (CallItem.Create c)).2 ≡ Some (open_row file client place) }
     ensures share { (n : ℕ) (s : CoreState) (files : List (List ℕ)) (others : ℕ) (l : Lists) (conn : ℕ) (h : SmbHead) (client : List ℕ) (c : CreateCallItem) (session file id : ℕ) (place : Place) → IsOnTree s l conn h client session place → file_spelled files c.name ≡ Some file → (outcome_of n s files others l conn h (CallItem.Create c)).0 ≡ Told.Opened id → IsGood s → held_at (outcome_of n s files others l conn h (CallItem.Create c)).3 (ShareOf file (Owner.Open (s.counter + 1))) ≡ What.Share (access_of c.desired_access) (deny_of (access_of c.desired_access) c.share_access) ∷ [] }
+    ensures refused { (n : ℕ) (s : CoreState) (files : List (List ℕ)) (others : ℕ) (l : Lists) (conn : ℕ) (h : SmbHead) (c : CreateCallItem) (status : SmbStatus) → IsGood s → (outcome_of n s files others l conn h (CallItem.Create c)).0 ≡ Told.Failed status → ((outcome_of n s files others l conn h (CallItem.Create c)).2 ≡ l) × ((outcome_of n s files others l conn h (CallItem.Create c)).3.claims ≡ s.claims) }
 {}

@@ -1,8 +1,8 @@
-use Rattle.std.proofs.Common.{◌≡◌, ℕ, eqb, List, [], ◌∷◌, refl}
+use Rattle.std.proofs.Common.{◌≡◌, eqb, [], ◌∷◌, refl}
 use Rattle.xl_front_smb.specs.Laws.{rows_but, Without}
 use Rattle.xl_front_smb.specs.Plans.{Outcome}
 use Rattle.xl_front_smb.specs.declared.told.Told.TheVariants.{Closed}
-use Rattle.xl_front_smb.proofs.GoneLaws.{done_without, out_one, closes_open}
+use Rattle.xl_front_smb.proofs.GoneLaws.{done_without, out_one, closes_open, close_lost, close_apart, close_refused}
 use Rattle.xl_front_smb.proofs.law.a_close_leaves_nothing.Goals as goal
 
 pub returns-clause-told : goal.returns-clause-told
@@ -22,3 +22,12 @@ returns-clause-sessions c = λ n s files others l conn h client call session pla
 
 pub returns-clause-connections : goal.returns-clause-connections
 returns-clause-connections c = λ n s files others l conn h client call session place number named at. closes_open n s files others l conn h client (λ (r : Outcome). r.2.connections ≡ l.connections) call session place number named at refl
+
+pub returns-clause-unnamed : goal.returns-clause-unnamed
+returns-clause-unnamed c = λ n s files others l conn h client call known none. close_lost n s files others l conn h client call known none
+
+pub returns-clause-apart : goal.returns-clause-apart
+returns-clause-apart c = λ n s files others l conn h client call session named none. close_apart n s files others l conn h client call session named none
+
+pub returns-clause-refused : goal.returns-clause-refused
+returns-clause-refused c = λ n s files others l conn h client call session place named none. close_refused n s files others l conn h client call session place named none

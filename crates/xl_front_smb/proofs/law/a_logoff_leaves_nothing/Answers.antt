@@ -1,4 +1,4 @@
-use Rattle.std.proofs.Common.{◌≡◌, ℕ, eqb, List, refl}
+use Rattle.std.proofs.Common.{◌≡◌, eqb, refl}
 use Rattle.xl_smb_state.specs.State.{covers_holder, opens_under}
 use Rattle.xl_smb_state.specs.declared.row.Scope.TheVariants as scope
 use Rattle.xl_front_smb.specs.Laws.{rows_but, Without}

@@ -1,10 +1,10 @@
-use Rattle.std.proofs.Common.{◌≡◌, ℕ, eqb, List, refl}
+use Rattle.std.proofs.Common.{◌≡◌, eqb, refl}
 use Rattle.xl_smb_state.specs.State.{covers_holder, opens_under}
 use Rattle.xl_smb_state.specs.declared.row.Scope.TheVariants as scope
 use Rattle.xl_front_smb.specs.Laws.{rows_but, Without}
 use Rattle.xl_front_smb.specs.Plans.{Outcome}
 use Rattle.xl_front_smb.specs.declared.told.Told.TheVariants.{Disconnected}
-use Rattle.xl_front_smb.proofs.GoneLaws.{done_without, opens_out, tree_trees, closed_sessions, closed_connections, disconnected}
+use Rattle.xl_front_smb.proofs.GoneLaws.{done_without, opens_out, tree_trees, closed_sessions, closed_connections, disconnected, disconnect_lost, disconnect_refused}
 use Rattle.xl_front_smb.proofs.law.a_tree_disconnect_leaves_nothing.Goals as goal
 
 pub returns-clause-told : goal.returns-clause-told
@@ -24,3 +24,9 @@ returns-clause-sessions c = λ n s files others l conn h client session place na
 
 pub returns-clause-connections : goal.returns-clause-connections
 returns-clause-connections c = λ n s files others l conn h client session place named. disconnected n s files others l conn h client (λ (r : Outcome). r.2.connections ≡ l.connections) session place named (closed_connections (opens_under (scope.Tree place.tree) l) l)
+
+pub returns-clause-unnamed : goal.returns-clause-unnamed
+returns-clause-unnamed c = λ n s files others l conn h client known none. disconnect_lost n s files others l conn h client known none
+
+pub returns-clause-refused : goal.returns-clause-refused
+returns-clause-refused c = λ n s files others l conn h client session named none. disconnect_refused n s files others l conn h client session named none

@@ -1,4 +1,4 @@
-use Rattle.xl_front_smb.proofs.CreateLaws.{open_numbered, open_stands, open_shares}
+use Rattle.xl_front_smb.proofs.CreateLaws.{open_numbered, open_stands, open_shares, refused_keeps}
 use Rattle.xl_front_smb.proofs.law.opened_files_are_held.Goals as goal
 
 pub returns-clause-number : goal.returns-clause-number
@@ -9,3 +9,6 @@ returns-clause-row c = λ n s files others l conn h client call session file id 
 
 pub returns-clause-share : goal.returns-clause-share
 returns-clause-share c = λ n s files others l conn h client call session file id place named at e good. open_shares n s files others l conn h client call session file id place named at e good
+
+pub returns-clause-refused : goal.returns-clause-refused
+returns-clause-refused c = λ n s files others l conn h call status good e. refused_keeps n s files others l conn h call status good e
