@@ -1,13 +1,8 @@
 -- What a check of a lock's stateid lets pass is there.
-use Rattle.std.proofs.Common.{◌≡◌, ℕ, true, Option, Some, None, refl, sym, subst, inl, inr}
+use Rattle.std.proofs.Common.{◌≡◌, ℕ, Option, Some, None, refl, sym, subst, inl, inr}
 use Rattle.std.proofs.lemmas.Bool.{cases_Bool}
 use Rattle.std.specs.Bool.{◌==◌}
 use Rattle.std.specs.List.{find}
-use Rattle.xl_names.specs.declared.name.Name.{Name}
-use Rattle.xl_core.specs.Asking.{may_ask}
-use Rattle.xl_core.specs.declared.ask.Act.{Act}
-use Rattle.xl_core.specs.declared.ask.Act.TheVariants as acts
-use Rattle.xl_core.specs.declared.ask.Who.TheVariants.{Named}
 use Rattle.xl_nfs.specs.declared.basics.Stateid.{Stateid}
 use Rattle.xl_nfs_state.specs.State.{NfsLists, is_owner, is_stateid}
 use Rattle.xl_nfs_state.specs.declared.stateid.Holder.{Holder}
@@ -45,12 +40,3 @@ found_there s l (Some at) op seqid stateid = number_there l at op seqid (number_
 
 pub locks_there : (s : CoreState) (l : NfsLists) (current : Option ℕ) (op seqid : ℕ) (stateid : Stateid) (c : Checked) → c ≡ locks_found s l current op seqid stateid → IsChecked l c
 locks_there s l current op seqid stateid c e = subst (λ (x : Checked). IsChecked l x) (sym e) (found_there s l current op seqid stateid)
-
--- ---- asks
-
--- who has a name may ask for anything
-pub named_asks : (name : Name) (act : Act) → may_ask (Named name) act ≡ true
-named_asks name (acts.Share access deny) = refl
-named_asks name (acts.Ranges ranges) = refl
-named_asks name (acts.Test extent exclusive) = refl
-named_asks name (acts.Unlock extent) = refl

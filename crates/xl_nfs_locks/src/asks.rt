@@ -1,6 +1,8 @@
 //! What the core is asked for a lock owner.
-ghost use Rattle.std.specs.Prelude.{◌≡◌, ◌≤◌, IfOk};
-ghost use Rattle.xl_core.specs.Asking.{IsFit, IsFitAct};
+ghost use Rattle.std.specs.Prelude.{◌≡◌, ◌≤◌, IfOk, true, false};
+ghost use Rattle.xl_core.specs.Asking.{may_ask, IsFit, IsFitAct};
+ghost use Rattle.xl_core.specs.declared.ask.Who.TheVariants.{Named};
+ghost use Rattle.xl_names.specs.declared.name.Name.TheVariants.{NfsRange};
 ghost use Rattle.xl_nfs_locks.specs.Ranges.{lock_ask, range_ask, test_ask, unlock_ask};
 ghost use Rattle.xl_nfs_opens.specs.Short.{IsNfsAsk};
 
@@ -21,7 +23,7 @@ const NO_ROWS: Rooms = Rooms {
 };
 
 /// An ask of a lock owner, which never waits.
-#[tactic(auto, using(xl_nfs_opens::proofs::OwnerLaws::own_client, crate::proofs::FoundLaws::named_asks))]
+#[tactic(auto, using(xl_nfs_opens::proofs::OwnerLaws::own_client))]
 fn range_ask(
     alloc: Global,
     owner: &Opener,
@@ -29,7 +31,8 @@ fn range_ask(
     act: Act,
     reclaim: bool,
 ) -> Result<Ask, AllocError>
-    requires act { IsFitAct act }
+    requires act { IsFitAct (Named (NfsRange owner.now.id owner.now.owner)) false act }
+    requires own { may_ask (Named (NfsRange owner.now.id owner.now.owner)) act ≡ true }
     ensures value { IfOk result (λ ask. ask ≡ range_ask owner.now file act reclaim) }
     ensures fit { IfOk result (λ ask. IsFit ask) }
     ensures nfs { IfOk result (λ ask. IsNfsAsk ask) }
