@@ -64,7 +64,7 @@ pub record IsRequest (bytes : List ℕ) (h : SmbHead) (call : CallItem) : Type 0
   pub served : is_some (command_of h.command) ≡ true
   pub read : message_at bytes ≡ Ok (Call h call)
 
--- it is this client's, in this session
+-- it is this client's, under the session that it names
 abbrev pub IsInSession : CoreState → Lists → ℕ → SmbHead → List ℕ → ℕ → Type 0
 IsInSession s l conn h client session = (client_of conn l ≡ Some client) × (session_named s l conn h.session_id ≡ Some session)
 
