@@ -1,4 +1,4 @@
-"""Calls of NLM and of NFSv4.0 in captures, and how long a replay takes."""
+"""Calls of NLM, of NFSv4.0 and of SMB 2.1 in captures, and how long a replay takes."""
 import os
 import struct
 import subprocess
@@ -58,12 +58,85 @@ def confirm(number, by):
     return struct.pack(">I", 36) + clientid(number) + struct.pack(">Q", by)
 
 
-def write_capture(path, files, records):
+def put_fh(file):
+    return struct.pack(">I", 22) + opaque(b"XLK1" + struct.pack(">I", file))
+
+
+def stateid(number, seqid):
+    """The stateid of this number of a replay, whose epoch is 1."""
+    return struct.pack(">2IQ", seqid, 1, number)
+
+
+def open_file(seqid, client, owner, name):
+    """OPEN for reading and writing, which denies nothing."""
+    arguments = struct.pack(">4I", 18, seqid, 3, 0) + clientid(client) + opaque(owner)
+    return arguments + struct.pack(">2I", 0, 0) + opaque(name)
+
+
+def open_confirm(opened, seqid):
+    return struct.pack(">I", 20) + opened + struct.pack(">I", seqid)
+
+
+WRITE_LOCK = 2
+
+
+def first_lock(offset, length, opened, open_seqid, client, owner):
+    """LOCK of an owner that has none under the open."""
+    arguments = struct.pack(">3I2QI", 12, WRITE_LOCK, 0, offset, length, 1) + struct.pack(">I", open_seqid) + opened
+    return arguments + struct.pack(">I", 0) + clientid(client) + opaque(owner)
+
+
+def nfs_lock(offset, length, locks, seqid):
+    return struct.pack(">3I2QI", 12, WRITE_LOCK, 0, offset, length, 0) + locks + struct.pack(">I", seqid)
+
+
+def nfs_unlock(offset, length, locks, seqid):
+    return struct.pack(">3I", 14, WRITE_LOCK, seqid) + locks + struct.pack(">2Q", offset, length)
+
+
+def message(number, command, body, tree=0, session=0):
+    """A framed request of SMB 2.1."""
+    head = struct.pack("<4sHHIHHIIQIIQ", b"\xfeSMB", 64, 0, 0, command, 1, 0, 0, number, 0, tree, session) + bytes(16)
+    return struct.pack(">I", len(head + body)) + head + body
+
+
+def smb_number(number):
+    """The session's id, or either half of the open's, of this number of a replay, whose epoch is 1."""
+    return 2**32 + number
+
+
+NEGOTIATE = struct.pack("<HHHHI16sQH", 36, 1, 1, 0, 0, bytes([17] * 16), 0, 0x0210)
+SESSION_SETUP = struct.pack("<HBBIIHHQ", 25, 0, 1, 0, 0, 88, 0, 0)
+ECHO = struct.pack("<HH", 4, 0)
+
+
+def tree_connect(path):
+    path = path.encode("utf-16-le")
+    return struct.pack("<4H", 9, 0, 72, len(path)) + path
+
+
+def create(name, access=3, share=7):
+    """CREATE that opens what is there, without an oplock."""
+    name = name.encode("utf-16-le")
+    fixed = struct.pack("<HBBIQQ5I", 57, 0, 0, 0, 0, 0, access, 0, share, 1, 0)
+    return fixed + struct.pack("<HHII", 120, len(name), 0, 0) + name
+
+
+EXCLUSIVE_AT_ONCE, UNLOCKED = 0x12, 4
+
+
+def smb_lock(opened, offset, length, flags):
+    """LOCK of one element."""
+    fixed = struct.pack("<HHI2Q", 48, 1, 0, smb_number(opened), smb_number(opened))
+    return fixed + struct.pack("<2Q2I", offset, length, flags, 0)
+
+
+def write_capture(path, files, records, kind="rpc"):
     """A capture of one connection."""
     with open(path, "w") as out:
         for file in range(files):
             out.write(f"F f{file}\n")
-        out.write("O rpc\n")
+        out.write(f"O {kind}\n")
         for data in records:
             out.write(f"B 0 {data.hex()}\n")
 
