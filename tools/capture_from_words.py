@@ -12,6 +12,7 @@ reads the file WORDS, or standard input where none is named, and writes a captur
     open [NAME] [smb]             opens a connection, by which all goes that follows; a call before any opens one
     use NAME                      goes on by that connection
     end [NAME]                    ends the connection, or the one of that name
+    smb REQUEST [WORD ..]         a request of SMB 2.1 by the connection, which an `open smb` opened
     call PROGRAM VERSION PROCEDURE [BYTES]   any call, with these arguments
     bytes BYTES                   bytes of the connection's stream as they stand
     answer CALL STATUS            the caller answers the server's call of that number: granted, denied, ..
@@ -25,8 +26,15 @@ in hex, `-` no byte. OP is an operation of NFSv4.0:
 
 {operations}
 
-CLIENTID is its epoch and its number, as 1.5; VERIFIER and CONFIRM are a number or eight bytes, `0x..`; `op` is any
-operation, with these bytes behind its number.
+CLIENTID is its epoch and its number, as 1.5, and STATEID is that and its seqid, as 1.5.1; VERIFIER and CONFIRM are a number
+or eight bytes, `0x..`; the first SEQID of first_lock is the open owner's; `op` is any operation, with these bytes behind its
+number. REQUEST is one of SMB 2.1:
+
+{requests}
+
+ELEMENT is {element}, ACCESS and SHARED are letters of rwd, LEVEL is
+{levels}. OPEN, and ID below, is an epoch and a number, as 1.3. Each request also
+takes session=ID and tree=N, which those that follow on the connection keep, and message=N.
 
 Each call also takes xid=N, fragments=N (its record in fragments of N bytes) and pieces=N (its bytes in lines of N).
 Empty lines and the words from one on that begins with `#` are passed over. In the capture a comment above
@@ -40,7 +48,7 @@ import argparse
 import itertools
 import sys
 
-from xlock import nfs, nlm, protocols, rpc, words
+from xlock import nfs, nlm, protocols, rpc, smb, words
 from xlock.captures import CaptureError, Writer
 from xlock.words import Usage, WordError
 
@@ -52,8 +60,8 @@ def usages():
     return "\n".join(f"    {name} {modules[name].USAGES[name]}".rstrip() for name in modules)
 
 
-def operations():
-    return "\n".join(f"    {name} {usage}".rstrip() for name, (_, usage) in nfs.OPS.items())
+def listed(usages):
+    return "\n".join(f"    {name} {usage}".rstrip() for name, (_, usage) in usages.items())
 
 
 class Maker:
@@ -64,6 +72,8 @@ class Maker:
         self.later = later
         self.names = {}
         """The connections, by name."""
+        self.senders = {}
+        """What makes the requests of each connection of SMB."""
         self.current = None
         self.xid = 0
         self.modules = protocols.word_modules()
@@ -125,6 +135,11 @@ class Maker:
         call = rpc.Call(self.next_xid(options), module.PROGRAM, module.VERSION, procedure, arguments)
         self.send(rpc.call_bytes(call), options)
 
+    def do_smb(self, given):
+        if self.current not in self.senders:
+            raise WordError("no connection of SMB is open: `open smb` opens one")
+        self.out.bytes(self.current, smb.framed(self.senders[self.current].request(given)))
+
     def do_call(self, given):
         options, given = self.own_options(given)
         positions, _, _ = Usage("call", "PROGRAM VERSION PROCEDURE [BYTES]").read(given)
@@ -147,6 +162,8 @@ class Maker:
         kind = "smb" if flags else "rpc"
         self.check_served(["O", kind])
         self.current = self.out.open(kind)
+        if kind == "smb":
+            self.senders[self.current] = smb.Sender()
         if positions:
             self.names[positions[0]] = self.current
 
@@ -195,7 +212,9 @@ def capture_of(text, later=False):
 
 def main():
     form = argparse.RawDescriptionHelpFormatter
-    parser = argparse.ArgumentParser(description=__doc__.format(usages=usages(), operations=operations()), formatter_class=form)
+    told = {"usages": usages(), "operations": listed(nfs.OPS), "requests": listed(smb.USAGES)}
+    told |= {"element": smb.ELEMENT, "levels": ", ".join(smb.LEVELS)}
+    parser = argparse.ArgumentParser(description=__doc__.format(**told), formatter_class=form)
     parser.add_argument("words", nargs="?", metavar="WORDS", help="the file with the words; standard input without it")
     later = "also writes lines that the program doesn't read yet: " + ", ".join(protocols.LATER)
     parser.add_argument("--later", action="store_true", help=later)

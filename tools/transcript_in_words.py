@@ -56,13 +56,22 @@ def reply_in_words(record, call, module):
     return "bytes 0x" + record.hex()
 
 
+def request_in_words(message):
+    """A request of SMB; bytes that are none in hex."""
+    try:
+        return smb.request_in_words(message)
+    except smb.SmbError:
+        return "bytes 0x" + message.hex()
+
+
 def event_in_words(event, files):
     """An event, and what its reply is read by."""
     if event.what == "message" and event.kind == "rpc":
         return call_in_words(event.data, files)
+    if event.what == "message":
+        return request_in_words(event.data), None, None
     said = {
         "open": lambda: f"open{' smb' if event.kind == 'smb' else ''}",
-        "message": lambda: "bytes 0x" + event.data.hex(),
         "end": lambda: "end",
         "called": lambda: called_in_words(event),
         "tick": lambda: f"T {event.number}",
@@ -93,6 +102,36 @@ def message_in(out):
     return b"".join(cutter.feed(out.data))
 
 
+def sent_in_words(message):
+    """What a message of SMB that is no reply to the event says, and which request it answers."""
+    try:
+        head = smb.read_head(message)
+        of = f"{smb.NAMES.get(head.command, 'command ' + str(head.command))}, message {head.message}: "
+        return ("" if head.is_notice else of) + smb.reply_in_words(message)
+    except smb.SmbError:
+        return "bytes 0x" + message.hex()
+
+
+def answers(message, event):
+    """Whether a message of SMB is the reply to this one, and no later one to a request that waited."""
+    try:
+        request, reply = smb.read_head(event.data), smb.read_head(message)
+        is_first = not reply.is_async or smb.STATUSES.get(reply.status) == "PENDING"
+        return is_first and not reply.is_notice and (request.command, request.message) == (reply.command, reply.message)
+    except smb.SmbError:
+        return False
+
+
+def smb_told(event, place, outs):
+    """The answer to a message of SMB, and the lines of what else was sent."""
+    own = next((out for out in outs if out.connection == event.connection and answers(message_in(out), event)), None)
+    others = [line_of(place, f"c{out.connection}", sent_in_words(message_in(out))) for out in outs if out is not own]
+    try:
+        return (smb.reply_in_words(message_in(own)) if own else ""), others
+    except smb.SmbError:
+        return "bytes 0x" + message_in(own).hex(), others
+
+
 def line_of(place, where, said, answer=""):
     line = f"{place:<3} {where:<4} {said}"
     return f"{line + ' ':<{WIDTH}} {answer}" if answer else line
@@ -103,6 +142,10 @@ def told_lines(event, place, outs, files):
     said, call, module = event_in_words(event, files)
     where = f"c{event.connection}" if event.what in ("open", "message", "end") else ""
     answer, others = "", []
+    if event.what == "message" and event.kind == "smb":
+        to_connections = [out for out in outs if out.connection is not None]
+        answer, others = smb_told(event, place, to_connections)
+        outs = [out for out in outs if out.connection is None]
     for out in outs:
         if out.connection is None:
             told, _, _ = call_in_words(message_in(out), files, xdr.u64(out.call))
@@ -110,7 +153,7 @@ def told_lines(event, place, outs, files):
         elif out.connection == event.connection and not answer:
             answer = reply_in_words(message_in(out), call, module)
         else:
-            others.append(line_of(place, f"c{out.connection}", "bytes 0x" + message_in(out).hex()))
+            others.append(line_of(place, f"c{out.connection}", sent_in_words(message_in(out))))
     return [line_of(place, where, said, answer)] + others
 
 

@@ -29,6 +29,29 @@ COMES = (
     "00000001 74000000 00000000 00000003 00000023 00000000 00000007 00000001 63000000 00000009 00000003 74637000"
     "00000003 312e3200 00000003 00000024 00000001 00000005 00000000 00000006 0000001e 00000001 00000005"
 ).replace(" ", "")
+# PUTROOTFH, and OPEN for reading of a.txt, which denies writing, by the owner o of the client 1.5, with the seqid 7.
+OPENS = (
+    "8000006c 00000001 00000000 00000002 000186a3 00000004 00000001 00000000 00000000 00000000 00000000"
+    "00000000 00000000 00000002 00000018 00000012 00000007 00000001 00000002 00000001 00000005 00000001 6f000000"
+    "00000000 00000000 00000005 612e7478 74000000"
+).replace(" ", "")
+# LOCK of the bytes 0 to 9, exclusive, by the new owner l under the open 1.5.2, and LOCKU of byte 4 to the end.
+LOCKS = (
+    "800000a8 00000001 00000000 00000002 000186a3 00000004 00000001 00000000 00000000 00000000 00000000"
+    "00000000 00000000 00000002 0000000c 00000002 00000000 00000000 00000000 00000000 0000000a 00000001"
+    "00000003 00000002 00000001 00000000 00000005 00000009 00000001 00000001 00000001 6c000000"
+    "0000000e 00000001 0000000a 00000001 00000001 00000000 00000006 00000000 00000004 ffffffff ffffffff"
+).replace(" ", "")
+# NEGOTIATE of dialect 2.1 by the guid of sixteen bytes 11, laid out by MS-SMB2 2.2.1 and 2.2.3.
+NEGOTIATES = (
+    "00000066 fe534d42 4000 0000 00000000 0000 0100" + "00" * 48 + "2400 0100 0100 0000 00000000" + "11" * 16 + "00" * 8 + "1002"
+).replace(" ", "")
+# LOCK (2.2.26) of the open 1.3 as the second message, in the session 1.1 and the tree 2: one element, bytes 0 to 9, exclusive.
+SMB_LOCKS = (
+    "00000070 fe534d42 4000 0000 00000000 0a00 0100 00000000 00000000 0100000000000000 00000000 02000000"
+    "0100000001000000" + "00" * 16 + "3000 0100 00000000 0300000001000000 0300000001000000"
+    "0000000000000000 0a00000000000000 12000000 00000000"
+).replace(" ", "")
 
 # What a text of words comes to, comments aside.
 CAPTURES = [
@@ -44,6 +67,12 @@ CAPTURES = [
         "compound set_client_id c 7 program=9 netid=tcp address=1.2 ident=3 then confirm 1.5 6 then renew 1.5 tag=t",
         ["O rpc", f"B 0 {COMES}"],
     ),
+    ("compound put_root_fh then open 7 1.5 o a.txt r w", ["O rpc", f"B 0 {OPENS}"]),
+    ("compound first_lock 0 10 x 1.5.2 3 1.1 l 9 then unlock 4 end s 1.6.1 10", ["O rpc", f"B 0 {LOCKS}"]),
+    (
+        "open smb\nsmb negotiate\nsmb lock 1.3 0 10 x session=1.1 tree=2",
+        ["O smb", f"B 0 {NEGOTIATES}", f"B 0 {SMB_LOCKS}"],
+    ),
     ("open\nO rpc\nB 1 00\n", ["O rpc", "O rpc", "B 1 00"]),
     ("open smb\nB 0 00\n", ["O smb", "B 0 00"]),
     ("call 100003 4 0", ["O rpc", "B 0 80000028" + "00000001 00000000 00000002 000186a3 00000004 00000000".replace(" ", "") + "0" * 32]),
@@ -53,6 +82,7 @@ REFUSED = [
     "fly", "lock a 7 a.txt 0 10", "lock a 7 a.txt 0 10 y", "lock a 7 A.txt 0 10 x", "lock a 7 a.txt 0 -1 x", "use b",
     "share a a.txt d -", "answer 1 perhaps", "R", "unlock a 7 a.txt 0 10 block", "Q", "B 0 0",
     "compound renew", "compound renew 1", "compound confirm 1.5 0x00", "compound open a.txt", "compound get_fh then", "nfs_null 1",
+    "compound lock 0 10 y 1.5.1 2", "compound close 2 1.5.x", "smb echo",
 ]  # fmt: skip
 
 # Each call is said again as it was written.
@@ -75,8 +105,30 @@ compound put_fh a.txt then put_fh / then put_fh 0x00 then get_fh
 compound put_root_fh then lookup - then lookup A#.txt tag=0x00
 compound set_client_id c 7 program=9 netid=tcp address=1.2 ident=3 then confirm 1.5 6 then renew 4294967295.0 tag=t
 compound set_client_id 0x00ff
+compound open 1 1.1 o a.txt rw then open 2 1.1 o a.txt r w then open_previous 3 1.1 o w then open_confirm 1.3.1 4
+compound open_downgrade 1.3.2 5 r then close 6 1.3.3 then return_delegation 1.4.1 then release_lock_owner 1.1 l
+compound first_lock 0 end x 1.3.2 3 1.1 l 9 wait reclaim then lock 5 6 s 1.5.1 10 then lock_test 0 1 x 1.1 l wait
+compound unlock 0 10 x 1.5.2 11
 call 100003 4 1 0x000000000000000100000000
 T 90000
+"""
+
+# The same of requests of SMB.
+REQUESTS = """\
+smb negotiate
+smb session_setup
+smb tree_connect \\\\x\\xl session=1.1
+smb create a.txt rwd session=1.1 tree=2
+smb create a.txt r rd oplock=batch disposition=3 session=1.1 tree=2
+smb lock 1.3 0 10 x wait session=1.1 tree=2
+smb lock 1.3 0 10 unlock then 20 0 unlock session=1.1 tree=2
+smb cancel async=5 session=1.1
+smb cancel message=5 session=1.1 tree=2
+smb break 1.3 level2 session=1.1 tree=2
+smb close 1.3 session=1.1 tree=2
+smb tree_disconnect session=1.1 tree=2
+smb logoff session=1.1
+smb echo
 """
 
 # Results of COMPOUNDs by RFC 7531, and what is said of them.
@@ -85,7 +137,21 @@ RESULTS = [
     ("00000000 00000000 00000002 00000023 00000000 00000001 00000005 00000000 00000006 00000024 00000000", "OK clientid=1.5 confirm=6"),
     ("00002726 00000000 00000002 00000018 00000000 0000001e 00002726", "STALE_CLIENTID at renew"),
     ("0000273c 00000000 00000001 0000273c 0000273c", "OP_ILLEGAL at op"),
-    ("00002714 00000000 00000001 0000000c 00002714", "NOTSUPP at op 12"),
+    ("00002714 00000000 00000001 00000007 00002714", "NOTSUPP at op 7"),
+    (
+        "00000000 00000000 00000001 00000012 00000000 00000001 00000001 00000000 00000003 00000001 00000000 00000001"
+        "00000000 00000000 00000002 00000000 00000000",
+        "OK stateid=1.3.1 to_confirm",
+    ),
+    (
+        "0000271a 00000000 00000001 0000000c 0000271a 00000000 00000000 00000000 0000000a 00000002 00000001 00000005 00000001 6c000000",
+        "DENIED at lock by x bytes 0 to 9 of l of client 1.5",
+    ),
+    (
+        "0000271a 00000000 00000001 0000000d 0000271a 00000000 00000000 ffffffff ffffffff 00000001 00000000 00000000 00000003 6e6c6d00",
+        "DENIED at lock_test by s bytes 0 to the end of nlm",
+    ),
+    ("00000000 00000000 00000001 0000000e 00000000 00000002 00000001 00000000 00000006", "OK stateid=1.6.2"),
     ("00002734 00000000 00000001 00000018 00000000", "BADXDR behind put_root_fh"),
     ("00002722 00000001 74000000 00000000", "RESOURCE tag=t"),
     ("00002725 00000000 00000000", "MINOR_VERS_MISMATCH"),
@@ -112,6 +178,12 @@ class Words(unittest.TestCase):
     def test_said_again(self):
         said = in_words(capture_of(CALLS), "")
         self.assertEqual([line[9:] for line in said[1:]], CALLS.splitlines())
+
+    def test_requests_said_again(self):
+        named = [line.split() for line in REQUESTS.splitlines()]
+        whole = [line + ["session=0.0"] * ("session" not in " ".join(line)) + ["tree=0"] * ("tree=" not in " ".join(line)) for line in named]
+        said = in_words(capture_of("open smb\n" + "\n".join(map(" ".join, whole))), "")
+        self.assertEqual([line[9:] for line in said[1:]], REQUESTS.splitlines())
 
     def test_results(self):
         for results, wanted in RESULTS:
