@@ -22,13 +22,13 @@ use Rattle.xl_table.specs.Least.{least}
 use Rattle.xl_table.specs.Relock.{most_claims, holds_byte, granted_claims}
 use Rattle.xl_wait.specs.declared.waiter.Rooms.{Rooms}
 use Rattle.xl_core.specs.State.{CoreState}
-use Rattle.xl_core.specs.Asking.{both_entered, asked_whats, alone, asked_what, asked_claim, asked_claims, known_claim, is_client, is_named, may_hold, may_ask, IsRealExtent, IsFitAct, IsFit, IsOrdered, AreMore, may_hold_all, range_what, known_owner}
+use Rattle.xl_core.specs.Asking.{both_entered, asked_whats, alone, asked_what, asked_claim, asked_claims, known_claim, is_client, is_named, may_hold, may_ask, IsFitAct, IsFit, IsOrdered, AreMore, may_hold_all, range_what, known_owner}
 use Rattle.xl_core.specs.Blockers.{test_blockers, blockers}
 use Rattle.xl_core.specs.Causes.{limits_of_grant, limits_of_wait, IsClaimDue, stands_against, IsTestDue, HasNoByte, HasByte, left_by_unlock, IsUnlockDue, IsElementDue, IsEachDue}
 use Rattle.xl_core.specs.Decide.{Answered, plea_of, answered, claims_asked, test_answered, tested, unlocked_claims, unlocked_bytes, unlocked, acted, ask, unlocked_one, freed}
 use Rattle.xl_core.specs.Good.{IsGood}
-use Rattle.xl_core.specs.Judge.{Ruled, judged, check_held, held_by, room_by, check_room, held_with, waits, or_else, unless, row, row_left}
-use Rattle.xl_core.specs.Limits.{first_passed, IsRoom, grant_limits, IsLeastPassed}
+use Rattle.xl_core.specs.Judge.{Ruled, judged, check_held, held_by, room_by, check_room, held_with, waits, or_else, unless, row}
+use Rattle.xl_core.specs.Limits.{first_passed, IsRoom, grant_limits}
 use Rattle.xl_core.specs.declared.ask.Act.{Act}
 use Rattle.xl_core.specs.declared.ask.Act.TheVariants.{Share, Ranges, Test, Unlock}
 use Rattle.xl_core.specs.declared.ask.Answer.{Answer}

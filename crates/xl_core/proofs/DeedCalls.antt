@@ -1,8 +1,7 @@
 -- What the deeds' laws need of one ask and of one turn.
-use Rattle.std.proofs.Common.{◌≡◌, ℕ, ◌+◌, ◌≤◌, Bool, true, false, inl, inr, List, [], ◌∷◌, ◌++◌, Option, Some, None, refl, sym, ap, subst, ◌∙◌, slice_get, is_some, map, ◌&&◌, not}
-use Rattle.std.proofs.lemmas.Bool.{both_ways, le-leb, cases_Bool, and_parts, not-true}
-use Rattle.xl_base.specs.Lists.{IsIn}
-use Rattle.xl_base.proofs.Members.{all_in, in_append_right, all_from}
+use Rattle.std.proofs.Common.{◌≡◌, ℕ, ◌+◌, ◌≤◌, Bool, true, false, List, [], ◌∷◌, ◌++◌, Option, Some, None, refl, sym, ap, subst, ◌∙◌, is_some, map, ◌&&◌, not}
+use Rattle.std.proofs.lemmas.Bool.{both_ways, le-leb, and_parts, not-true}
+use Rattle.xl_base.proofs.Members.{all_in, all_from}
 use Rattle.xl_base.specs.declared.name.Owner.{Owner}
 use Rattle.xl_matrix.specs.Owners.{posix}
 use Rattle.xl_matrix.specs.declared.claim.Claim.{Claim}
@@ -12,7 +11,6 @@ use Rattle.xl_matrix.specs.declared.claim.What.TheVariants.{Share, Range}
 use Rattle.xl_spans.specs.Spans.{relocked}
 use Rattle.xl_table.specs.Held.{spans_of, is_of, is_range, may_own}
 use Rattle.xl_wait.specs.declared.waiter.Rooms.{Rooms}
-use Rattle.xl_wait.specs.declared.waiter.Waiter.{Waiter}
 use Rattle.xl_core.specs.State.{CoreState}
 use Rattle.xl_core.specs.Asking.{asked_whats, asked_what, asked_claim, asked_claims, known_claim, IsFit, IsFitAct, is_named, is_client, range_what, known_owner, both_entered, may_hold_all, may_ask}
 use Rattle.xl_core.specs.Causes.{left_by_unlock, IsTurn}
@@ -38,6 +36,8 @@ use Rattle.xl_table.proofs.WriteBack.{spans_of-relocked, spans_of-relocked_apart
 use Rattle.xl_core.proofs.ElementLaws.{open_of, elements_relocked}
 use Rattle.xl_core.proofs.GoodLaws.{AskCase, Goes, Queues as ToWait, Refuses, ask_case, claims_on, good_claims}
 use Rattle.xl_core.proofs.ClaimLaws.{AreGood}
+use Rattle.xl_core.proofs.CacheLaws.{range_no_cache, relocked_caches, removed_caches}
+use Rattle.xl_core.specs.Good.{caches_of}
 use Rattle.xl_core.proofs.RowLaws.{is_refusal, AllPass}
 use Rattle.xl_core.specs.Judge.{all_granted, held_with}
 use Rattle.xl_core.specs.Places.{claims_like}
@@ -127,6 +127,7 @@ pub record Clears (c : Claim) (first last : ℕ) (old new : List Claim) : Type 0
   pub apart : (file : ℕ) (owner : Owner) → ((file ≡ c.file) × (owner ≡ c.owner) → ⊥) → spans_of file owner new ≡ spans_of file owner old
   pub shares : (file : ℕ) (owner : Owner) → shares_of file owner new ≡ shares_of file owner old
   pub elements : (file number : ℕ) → elements_of file (open_of number) new ≡ elements_of file (open_of number) old
+  pub caches : caches_of new ≡ caches_of old
 
 pub ask_clears : (n : ℕ) (left : Rooms) (s : CoreState) (a : Ask) (first last : ℕ) (c : Claim) → IsGood s → IsFit a → is_named a.owner ≡ true → a.act ≡ acts.Unlock (Bytes first last) → (ask n left s a).0 ≡ answers.Granted c → Clears c first last s.claims (ask n left s a).2.claims
 ask_clears n left s a first last c good fit named act at =
@@ -146,6 +147,7 @@ ask_clears n left s a first last c good fit named act at =
       apart = λ file owner apart. spans_of-relocked_apart claim.file claim.owner claim.party first last None s.claims file owner apart;
       shares = λ file owner. shares_of-relocked claim.file claim.owner claim.party first last None s.claims file owner;
       elements = λ file number. elements_relocked claim.file claim.owner claim.party first last None s.claims file number own;
+      caches = relocked_caches claim.file claim.owner claim.party first last None s.claims;
     }))
 
 -- what an unlock of an open's range leaves
@@ -156,6 +158,7 @@ pub record Releases (c : Claim) (extent : Extent) (old new : List Claim) : Type 
   pub elements : (file : ℕ) (owner : Owner) → is_of file owner c ≡ false → elements_of file owner new ≡ elements_of file owner old
   pub spans : (file : ℕ) (owner : Owner) → is_of file owner c ≡ false → spans_of file owner new ≡ spans_of file owner old
   pub shares : (file : ℕ) (owner : Owner) → shares_of file owner new ≡ shares_of file owner old
+  pub caches : caches_of new ≡ caches_of old
 
 -- a POSIX owner holds no range without a byte
 pub no_empty : (claim : Claim) (offset : ℕ) (s : CoreState) → IsGood s → posix claim.owner ≡ true → is_some (element_held claim (Empty offset) s.claims) ≡ true → ⊥
@@ -202,6 +205,7 @@ ask_releases n left s a extent c good fit unnamed act at = by (element_held clai
         elements = λ file owner other. elements_removed_apart file owner d s.claims (ap (λ (b : Bool). b && is_range d.what) (there file owner other));
         spans = λ file owner other. spans_of-removed_apart file owner d s.claims (there file owner other);
         shares = λ file owner. shares_removed file owner d s.claims (ap (λ (x : Claim). is_range x.what) one.2);
+        caches = removed_caches d s.claims (range_no_cache d.what (ap (λ (x : Claim). is_range x.what) one.2));
       }))
 
 -- ---- who waits, and the names

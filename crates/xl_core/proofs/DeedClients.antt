@@ -1,7 +1,6 @@
 -- Whose client has what.
-use Rattle.std.proofs.Common.{◌≡◌, ℕ, true, List, Option, Some, None, refl, sym, ap, ◌∙◌, option_map, slice_get}
+use Rattle.std.proofs.Common.{◌≡◌, ℕ, true, List, Option, Some, sym, ap, ◌∙◌, option_map, slice_get}
 use Rattle.std.proofs.lemmas.Option.{same_Some}
-use Rattle.xl_base.specs.Lists.{IsIn}
 use Rattle.xl_base.specs.declared.name.Owner.TheVariants as owners
 use Rattle.xl_base.specs.declared.name.Party.{Party}
 use Rattle.xl_base.specs.declared.name.Party.TheVariants as parties

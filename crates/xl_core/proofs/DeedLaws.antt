@@ -1,13 +1,14 @@
 -- What one deed makes of each place, and who waits after it.
-use Rattle.std.proofs.Common.{◌≡◌, ℕ, ◌≤◌, Bool, true, false, cond, if◌then◌else◌, ◌==◌, ◌⊎◌, inl, inr, List, [], ◌∷◌, ◌++◌, map, Option, Some, None, IfSome, refl, sym, ap, subst, ◌∙◌, slice_get, ◌&&◌, length}
-use Rattle.std.proofs.lemmas.Bool.{cases_Bool, both_ways, and_from, eq-eqb, and_parts}
-use Rattle.std.specs.List.{list_any, AllByRecursion}
+use Rattle.std.proofs.Common.{◌≡◌, ℕ, Bool, true, false, cond, if◌then◌else◌, ◌==◌, inl, inr, List, [], ◌∷◌, ◌++◌, map, Option, Some, None, IfSome, refl, sym, ap, subst, ◌∙◌, slice_get, ◌&&◌, length}
+use Rattle.std.proofs.lemmas.Bool.{cases_Bool, both_ways, and_from, eq-eqb}
+use Rattle.std.specs.List.{AllByRecursion}
 use Rattle.xl_base.specs.Lists.{IsIn, Pairwise}
 use Rattle.xl_base.specs.declared.name.Owner.{Owner}
 use Rattle.xl_base.specs.declared.name.Party.{Party}
 use Rattle.xl_matrix.proofs.EqualLaws.{same_owners-self}
-use Rattle.xl_matrix.specs.Equal.{same_owners, same_parties}
+use Rattle.xl_matrix.specs.Equal.{same_owners}
 use Rattle.xl_matrix.specs.Owners.{posix}
+use Rattle.xl_matrix.specs.declared.claim.CacheKind.{CacheKind}
 use Rattle.xl_matrix.specs.declared.claim.Claim.{Claim}
 use Rattle.xl_matrix.specs.declared.claim.Extent.TheVariants.{Bytes, Empty}
 use Rattle.xl_matrix.specs.declared.claim.Rwd.{Rwd}
@@ -16,28 +17,28 @@ use Rattle.xl_matrix.specs.declared.claim.What.TheVariants.{Share, Range, Cache}
 use Rattle.xl_names.specs.declared.name.Name.{Name}
 use Rattle.xl_spans.proofs.Bytes.{relocked_mode}
 use Rattle.xl_spans.proofs.Chains.{canonical_ranges}
-use Rattle.xl_spans.specs.Spans.{within, mode_at, relocked}
+use Rattle.xl_spans.specs.Spans.{within, mode_at}
 use Rattle.xl_spans.specs.declared.span.Mode.{Mode}
 use Rattle.xl_spans.specs.declared.span.Span.{Span}
 use Rattle.xl_table.specs.Flat.{removed}
-use Rattle.xl_table.specs.Held.{IsShareOrLock, may_own, IsGrantable, is_share, mode_of, is_of, spans_of, IsKept}
+use Rattle.xl_table.specs.Held.{IsShareOrLock, IsGrantable, is_share, is_range, is_cache, mode_of, is_of, spans_of, IsKept}
 use Rattle.xl_wait.specs.Waiting.{cancelled}
 use Rattle.xl_wait.specs.declared.waiter.Rooms.{Rooms}
 use Rattle.xl_wait.specs.declared.waiter.Waiter.{Waiter}
 use Rattle.xl_core.specs.State.{CoreState, drawn}
-use Rattle.xl_core.specs.Asking.{asker, asked_what, asked_claim, known_claim, is_client, IsFit, IsFitAct, IsRealExtent, known_owner, range_what, asked_claims, both_entered}
-use Rattle.xl_core.specs.Causes.{asks_share, IsTurn, IsTurnDue, IsClaimDue, IsUnlockDue}
+use Rattle.xl_core.specs.Asking.{asked_what, known_claim, IsFit, IsFitAct, known_owner, range_what, asked_claims, both_entered}
+use Rattle.xl_core.specs.Causes.{IsTurn, IsTurnDue}
 use Rattle.xl_core.specs.Asking.{party_named}
-use Rattle.xl_core.specs.Leases.{Lease}
-use Rattle.xl_core.specs.Ticks.{advanced, renew, end_some, unleased, expire}
+use Rattle.xl_core.specs.Breaks.{may_be_left, ack, first_due, client_of}
+use Rattle.xl_core.specs.Ticks.{advanced, renew, end_some, unleased, expire, lapsed_by, lapse}
 use Rattle.xl_names.specs.declared.name.Name.TheVariants.{NfsParty}
 use Rattle.xl_base.specs.declared.event.Moment.{Moment}
-use Rattle.xl_core.specs.Deeds.{Deed, Asks, GivesBack, Weakens, Cancels, Ends, Serves, Draws, Advances, Renews, Expires, queue_without_party, turned, given, done, IsFitDeed, with_waiter, queue_with, queue_without, waits_after, KeepNames}
+use Rattle.xl_core.specs.Deeds.{Deed, Asks, GivesBack, Weakens, Acks, Cancels, Ends, Serves, Draws, Advances, Lapses, Renews, Expires, queue_without_party, queue_without_client, turned, done, IsFitDeed, queue_without, waits_after, KeepNames}
 use Rattle.xl_core.specs.Decide.{ask, plea_of}
-use Rattle.xl_core.specs.Dues.{IsGrantDue, IsAnswerDue, IsTurnOwed, IsDue}
+use Rattle.xl_core.specs.Dues.{IsDue}
 use Rattle.xl_core.specs.Good.{IsGood, are_apart, IsKnown}
-use Rattle.xl_core.specs.Places.{Place, ByteOf, ShareOf, byte_held, share_held, held_in, held_at, part_by, part_of, held_as, entered_by, entered_at, cleared_by, cleared_at, entered_for, answered_at, ended_at, ended_some, told_at, made, else_was, unlocked_at, RangesOf, all_entered_at, all_entered_for, unlocked_for, then_entered}
-use Rattle.xl_table.specs.Relock.{is_share_of, with_share, shares_of, old_shares, united_by, granted_claims, is_range_of}
+use Rattle.xl_core.specs.Places.{Place, ByteOf, ShareOf, byte_held, share_held, held_in, held_at, part_by, held_as, entered_by, entered_at, CacheOf, is_cache_on, acked_at, lapsed_at, cleared_by, cleared_at, entered_for, answered_at, ended_at, ended_some, told_at, made, else_was, unlocked_at, RangesOf, all_entered_at, all_entered_for, unlocked_for, then_entered}
+use Rattle.xl_table.specs.Relock.{with_share, shares_of, old_shares, united_by, granted_claims, is_range_of}
 use Rattle.xl_table.proofs.ShareLaws.{united_share}
 use Rattle.xl_core.specs.Settle.{settle, cancel, give_back, weaken, end_party}
 use Rattle.xl_core.specs.declared.ask.Act.{Act}
@@ -46,12 +47,15 @@ use Rattle.xl_core.specs.declared.ask.Answer.{Answer}
 use Rattle.xl_core.specs.declared.ask.Answer.TheVariants as answers
 use Rattle.xl_core.specs.declared.ask.Ask.{Ask}
 use Rattle.xl_core.specs.declared.ask.Effect.{Effect}
-use Rattle.xl_core.specs.declared.ask.Effect.TheVariants.{Served}
 use Rattle.xl_core.proofs.CauseLaws.{test_leaves, empty_due}
 use Rattle.xl_core.proofs.ChangeLaws.{spans_apart, shares_apart, granted_share, granted_spans, empty_spans}
 use Rattle.xl_core.proofs.DeedCalls.{Clears, ask_enters, ask_keeps_claims, ask_clears, turn_known, answer_is_due, ask_queue, ask_names, Releases, ask_releases, ranges_enter, no_empty}
 use Rattle.xl_core.proofs.DeedLeaves.{spans_of-given, shares_of-given_apart, shares_of-given, has_of, Ended, ended_is}
-use Rattle.xl_core.proofs.GoodLaws.{ask_good, settle_good, cancel_good, give_back_good, drawn_good, end_party_good, advanced_good, renew_good, expire_good}
+use Rattle.xl_core.proofs.GoodLaws.{ask_good, settle_good, cancel_good, give_back_good, drawn_good, end_party_good, advanced_good, renew_good, expire_good, lapse_good}
+use Rattle.xl_core.proofs.BreakLaws.{is_cache_left, ack_good}
+use Rattle.xl_core.proofs.CacheLaws.{removed_caches, granted_caches}
+use Rattle.xl_core.proofs.CachePlaces.{held_of_caches, rest_of_made, ended_cache_made}
+use Rattle.xl_core.proofs.DueLaws.{due_is}
 use Rattle.xl_core.proofs.SettleLaws.{none_settled, turn_is, without}
 use Rattle.xl_core.proofs.WeakenLaws.{weaken_good, weakened_queue, weakened_names, weaken_made}
 use Rattle.xl_table.proofs.WriteBack.{is_of-true}
@@ -63,7 +67,6 @@ use Rattle.xl_core.proofs.RowLaws.{AllPass}
 use Rattle.xl_core.proofs.ClaimLaws.{AreGood, granted_good}
 use Rattle.xl_core.proofs.LimitLaws.{grant_room}
 use Rattle.xl_core.specs.declared.judge.Plea.{Plea}
-use Rattle.xl_core.specs.Limits.{grant_limits}
 use Rattle.xl_table.proofs.ElementLaws.{elements_removed_apart}
 use Rattle.xl_names.specs.Names.{AreDistinct}
 use Rattle.xl_matrix.specs.declared.claim.Extent.{Extent}
@@ -135,6 +138,7 @@ entered_made c cs (ByteOf file owner byte) kept real =
           (subst (λ (o : Owner). byte_held o byte (mode_at (spans_of c.file o (granted_claims c cs)) byte) ≡ else_was (entered_by (part_by (held_as cs c c.what) (ByteOf c.file o byte))) (byte_held o byte (mode_at (spans_of c.file o cs) byte))) here.1
           (byte_made c c.what cs byte refl kept real.0)))
     ]
+entered_made c cs (CacheOf file party) kept real = held_of_caches file party cs (granted_claims c cs) (granted_caches c cs)
 entered_made c cs (RangesOf file number) kept real =
     elements_granted c cs file number kept real.0 ∙ by (is_range_of file (open_of number) c)
   where
@@ -220,6 +224,7 @@ cleared_made c first last old new (ByteOf file owner byte) kept is =
           (subst (λ (o : Owner). byte_held o byte (mode_at (spans_of c.file o new) byte) ≡ else_was (cleared_by (part_by c.what (ByteOf c.file o byte))) (byte_held o byte (mode_at (spans_of c.file o old) byte))) here.1
           (clears_byte c first last old new byte kept is)))
     ]
+cleared_made c first last old new (CacheOf file party) kept is = held_of_caches file party old new is.caches
 cleared_made c first last old new (RangesOf file number) kept is = let other = not_open file number c is.own in rw other (is.elements file number)
 cleared_made c first last old new (ShareOf file owner) kept is = ap (λ (shares : List (Rwd × Rwd)). map share_held shares) (is.shares file owner)
 
@@ -238,6 +243,7 @@ released_made c extent old new (ByteOf file owner byte) is =
     no_part (Bytes first last) unnamed = rw unnamed refl
     no_part (Empty offset) unnamed = refl
 released_made c extent old new (ShareOf file owner) is = ap (λ (shares : List (Rwd × Rwd)). map share_held shares) (is.shares file owner)
+released_made c extent old new (CacheOf file party) is = held_of_caches file party old new is.caches
 released_made c extent old new (RangesOf file number) is =
     elim (cases_Bool (is_of file (open_of number) c)) [
       | inr other ↦ rw other (is.elements file (open_of number) other)
@@ -287,34 +293,45 @@ act_made n left s a (acts.Unlock extent) p is real good fit = unlock_made n left
 
 -- ---- a claim given back, a party ended
 
-given_made : (claim : Claim) (w : What) (s : CoreState) (p : Place) → claim.what ≡ w → IsGood s → IsIn claim s.claims → is_share w ≡ true → held_in (removed claim s.claims) p ≡ else_was (cleared_at claim p) (held_in s.claims p)
-given_made claim (Share access deny) s (ByteOf file owner byte) is good there share =
+given_made : (claim : Claim) (w : What) (s : CoreState) (p : Place) → claim.what ≡ w → IsGood s → IsIn claim s.claims → is_range w ≡ false → held_in (removed claim s.claims) p ≡ else_was (cleared_at claim p) (held_in s.claims p)
+given_made claim (Share access deny) s (ByteOf file owner byte) is good there other =
     ap (λ (ss : List Span). byte_held owner byte (mode_at ss byte)) (spans_of-given file owner claim s.claims (ap is_share is))
     ∙ ap (λ (o : Option (List What)). else_was o (held_at s (ByteOf file owner byte))) (sym (no_byte_cleared (is_of file owner claim)))
   where
     no_byte_cleared : (b : Bool) → cleared_by (if b then part_by claim.what (ByteOf file owner byte) else []) ≡ None
     no_byte_cleared true = ap (λ (w : What). cleared_by (part_by w (ByteOf file owner byte))) is
     no_byte_cleared false = refl
-given_made claim (Share access deny) s (RangesOf file number) is good there share =
+given_made claim (Share access deny) s (RangesOf file number) is good there other =
     elements_removed_apart file (open_of number) claim s.claims (share_no_range file (open_of number) claim (ap is_share is))
     ∙ ap (λ (o : Option (List What)). else_was o (held_at s (RangesOf file number))) (sym (none_cleared (is_of file (open_of number) claim)))
   where
     none_cleared : (b : Bool) → cleared_by (if b then part_by claim.what (RangesOf file number) else []) ≡ None
     none_cleared true = ap (λ (w : What). cleared_by (part_by w (RangesOf file number))) is
     none_cleared false = refl
-given_made claim (Share access deny) s (ShareOf file owner) is good there share =
+given_made claim (Share access deny) s (CacheOf file party) is good there other =
+    held_of_caches file party s.claims (removed claim s.claims) (removed_caches claim s.claims (ap is_cache is))
+    ∙ ap (λ (o : Option (List What)). else_was o (held_at s (CacheOf file party))) (sym (none_cleared (is_cache_on file party claim)))
+  where
+    none_cleared : (b : Bool) → cleared_by (if b then part_by claim.what (CacheOf file party) else []) ≡ None
+    none_cleared true = ap (λ (w : What). cleared_by (part_by w (CacheOf file party))) is
+    none_cleared false = refl
+given_made claim (Share access deny) s (ShareOf file owner) is good there other =
     elim (cases_Bool (is_of file owner claim)) [
-      | inr other ↦ rw other (ap (λ (shares : List (Rwd × Rwd)). map share_held shares) (shares_of-given_apart file owner claim s.claims other))
+      | inr apart ↦ rw apart (ap (λ (shares : List (Rwd × Rwd)). map share_held shares) (shares_of-given_apart file owner claim s.claims apart))
       | inl own ↦
           rw own (ap (λ (shares : List (Rwd × Rwd)). map share_held shares) (shares_of-given file owner claim s.claims good.single there (and_from (is_of file owner claim) (is_share claim.what) own (ap is_share is)))
           ∙ ap (λ (w : What). else_was (cleared_by (part_by w (ShareOf file owner))) (held_at s (ShareOf file owner))) (sym is))
     ]
-given_made claim (Range extent exclusive) s p is good there share = absurd (both_ways false refl share)
-given_made claim (Cache kind running) s p is good there share = absurd (both_ways false refl share)
+given_made claim (Range extent exclusive) s p is good there other = absurd (both_ways true other refl)
+given_made claim (Cache kind running) s p is good there other = rest_of_made claim None s.claims p good.single there (ap is_cache is)
 
-give_back_made : (s : CoreState) (claim : Claim) (p : Place) → IsGood s → IsIn claim s.claims → is_share claim.what ≡ true → held_at (give_back s claim).1 p ≡ else_was (cleared_at claim p) (held_at s p)
+give_back_made : (s : CoreState) (claim : Claim) (p : Place) → IsGood s → IsIn claim s.claims → is_range claim.what ≡ false → held_at (give_back s claim).1 p ≡ else_was (cleared_at claim p) (held_at s p)
 unfolding give_back
-give_back_made s claim p good there share = given_made claim claim.what s p refl good there share
+give_back_made s claim p good there other = given_made claim claim.what s p refl good there other
+
+ack_made : (s : CoreState) (cache : Claim) (to : Option CacheKind) (p : Place) → IsGood s → IsIn cache s.claims → may_be_left cache.what to ≡ true → held_at (ack s cache to).1 p ≡ else_was (acked_at cache to p) (held_at s p)
+unfolding ack
+ack_made s cache to p good there may = rest_of_made cache to s.claims p good.single there (is_cache_left cache.what to may)
 
 byte_ended : (b : Bool) (s t : CoreState) (file : ℕ) (owner : Owner) (byte : ℕ) → Ended b s t file owner → held_at t (ByteOf file owner byte) ≡ else_was (if b then Some [] else None) (held_at s (ByteOf file owner byte))
 byte_ended true s t file owner byte is = ap (λ (ss : List Span). byte_held owner byte (mode_at ss byte)) is.0
@@ -328,9 +345,14 @@ ranges_ended : (b : Bool) (s t : CoreState) (file number : ℕ) → Ended b s t 
 ranges_ended true s t file number is = is.2
 ranges_ended false s t file number is = is.2
 
+ended_caches_made : (s : CoreState) (party : Party) (file : ℕ) (holder : Party) → held_at (end_party s party).1 (CacheOf file holder) ≡ else_was (ended_at s.claims party (CacheOf file holder)) (held_at s (CacheOf file holder))
+unfolding end_party
+ended_caches_made s party file holder = ended_cache_made file holder party s.claims
+
 end_party_made : (s : CoreState) (party : Party) (p : Place) → IsGood s → held_at (end_party s party).1 p ≡ else_was (ended_at s.claims party p) (held_at s p)
 end_party_made s party (ByteOf file owner byte) good = byte_ended (has_of file owner party s.claims) s (end_party s party).1 file owner byte (ended_is s party file owner good)
 end_party_made s party (ShareOf file owner) good = share_ended (has_of file owner party s.claims) s (end_party s party).1 file owner (ended_is s party file owner good)
+end_party_made s party (CacheOf file holder) good = ended_caches_made s party file holder
 end_party_made s party (RangesOf file number) good = ranges_ended (has_of file (open_of number) party s.claims) s (end_party s party).1 file number (ended_is s party file (open_of number) good)
 
 -- ---- a turn
@@ -385,11 +407,13 @@ pub deed_good : (n : ℕ) (s : CoreState) (d : Deed) → IsGood s → IsFitDeed 
 deed_good n s (Asks left a) good fit = ask_good n left s a good fit
 deed_good n s (GivesBack claim) good fit = give_back_good s claim good
 deed_good n s (Weakens share access deny) good fit = weaken_good s share access deny good fit.0 fit.1
+deed_good n s (Acks cache to) good fit = ack_good s cache to good fit.0 fit.1
 deed_good n s (Cancels id) good fit = cancel_good s id good
 deed_good n s (Ends party) good fit = end_party_good s party good
 deed_good n s (Serves left) good fit = turn_good s (settle n left s) good (settle_good n left s good)
 deed_good n s Draws good fit = drawn_good s good
 deed_good n s (Advances now) good fit = advanced_good s now good
+deed_good n s (Lapses cache) good fit = lapse_good s cache good
 deed_good n s (Renews client) good fit = renew_good s client good
 deed_good n s (Expires client) good fit = expire_good s client good
 
@@ -413,16 +437,26 @@ expire_made : (s : CoreState) (client : List ℕ) (p : Place) → IsGood s → h
 unfolding expire
 expire_made s client p good = expired_made s client (party_named s.names (NfsParty client)) p good
 
+lapsed_made : (s : CoreState) (cache : Claim) (client : Option (List ℕ)) (p : Place) → IsGood s → IsIn cache s.claims → is_cache cache.what ≡ true → held_at (lapsed_by s cache client).1 p ≡ else_was (lapsed_at s cache client p) (held_at s p)
+lapsed_made s cache None p good there is = rest_of_made cache None s.claims p good.single there is
+lapsed_made s cache (Some client) p good there is = expire_made s client p good
+
+lapse_made : (s : CoreState) (cache : Claim) (p : Place) → IsGood s → first_due s ≡ Some cache → held_at (lapse s cache).1 p ≡ else_was (lapsed_at s cache (client_of s.names cache.party) p) (held_at s p)
+unfolding lapse
+lapse_made s cache p good first = let is = due_is s cache first in lapsed_made s cache (client_of s.names cache.party) p good is.0 is.1
+
 -- at each place there is what the deed made of it
 pub deed_makes : (n : ℕ) (s : CoreState) (d : Deed) (p : Place) → IsGood s → IsFitDeed s d → held_at (done n s d) p ≡ else_was (made n s d p) (held_at s p)
 deed_makes n s (Asks left a) p good fit = act_made n left s a a.act p refl fit.act good fit
 deed_makes n s (GivesBack claim) p good fit = give_back_made s claim p good fit.0 fit.1
 deed_makes n s (Weakens share access deny) p good fit = weaken_made s share access deny p good fit.0 fit.1
+deed_makes n s (Acks cache to) p good fit = ack_made s cache to p good fit.0 fit.1
 deed_makes n s (Cancels id) p good fit = ap (λ (cs : List Claim). held_in cs p) (cancel_is s id).0
 deed_makes n s (Ends party) p good fit = end_party_made s party p good
 deed_makes n s (Serves left) p good fit = turn_made left s (settle n left s) p good (turn_is n left s good)
 deed_makes n s Draws p good fit = ap (λ (cs : List Claim). held_in cs p) (drawn_is s).0
 deed_makes n s (Advances now) p good fit = ap (λ (cs : List Claim). held_in cs p) (advanced_still s now).0
+deed_makes n s (Lapses cache) p good fit = lapse_made s cache p good fit
 deed_makes n s (Renews client) p good fit = ap (λ (cs : List Claim). held_in cs p) (renew_still s client).0
 deed_makes n s (Expires client) p good fit = expire_made s client p good
 
@@ -442,15 +476,29 @@ expire_queue : (s : CoreState) (client : List ℕ) → (expire s client).1.waite
 unfolding expire
 expire_queue s client = expired_queue s client (party_named s.names (NfsParty client))
 
+ack_still : (s : CoreState) (cache : Claim) (to : Option CacheKind) → ((ack s cache to).1.waiters ≡ s.waiters) × ((ack s cache to).1.names ≡ s.names)
+unfolding ack
+ack_still s cache to = (refl, refl)
+
+lapsed_queue : (s : CoreState) (cache : Claim) (client : Option (List ℕ)) → (lapsed_by s cache client).1.waiters ≡ queue_without_client s.names client s.waiters
+lapsed_queue s cache None = refl
+lapsed_queue s cache (Some client) = expire_queue s client
+
+lapse_queue : (s : CoreState) (cache : Claim) → (lapse s cache).1.waiters ≡ queue_without_client s.names (client_of s.names cache.party) s.waiters
+unfolding lapse
+lapse_queue s cache = lapsed_queue s cache (client_of s.names cache.party)
+
 pub deed_queues : (n : ℕ) (s : CoreState) (d : Deed) → IsGood s → IsFitDeed s d → (done n s d).waiters ≡ waits_after n s d s.waiters
 deed_queues n s (Asks left a) good fit = ask_queue n left s a good fit
 deed_queues n s (GivesBack claim) good fit = given_queue s claim
 deed_queues n s (Weakens share access deny) good fit = weakened_queue s share access deny
+deed_queues n s (Acks cache to) good fit = (ack_still s cache to).0
 deed_queues n s (Cancels id) good fit = (cancel_is s id).1
 deed_queues n s (Ends party) good fit = ended_queue s party
 deed_queues n s (Serves left) good fit = turn_queue left s (settle n left s) good (turn_is n left s good)
 deed_queues n s Draws good fit = (drawn_is s).1
 deed_queues n s (Advances now) good fit = (advanced_still s now).1
+deed_queues n s (Lapses cache) good fit = lapse_queue s cache
 deed_queues n s (Renews client) good fit = (renew_still s client).1
 deed_queues n s (Expires client) good fit = expire_queue s client
 
@@ -473,15 +521,25 @@ expire_names : (s : CoreState) (client : List ℕ) → (expire s client).1.names
 unfolding expire
 expire_names s client = expired_names s client (party_named s.names (NfsParty client))
 
+lapsed_names : (s : CoreState) (cache : Claim) (client : Option (List ℕ)) → (lapsed_by s cache client).1.names ≡ s.names
+lapsed_names s cache None = refl
+lapsed_names s cache (Some client) = expire_names s client
+
+lapse_names : (s : CoreState) (cache : Claim) → (lapse s cache).1.names ≡ s.names
+unfolding lapse
+lapse_names s cache = lapsed_names s cache (client_of s.names cache.party)
+
 pub deed_names : (n : ℕ) (s : CoreState) (d : Deed) → IsGood s → IsFitDeed s d → KeepNames s.names (done n s d).names
 deed_names n s (Asks left a) good fit = ask_names n left s a good fit
 deed_names n s (GivesBack claim) good fit = same_names s.names (give_back s claim).1.names (given_names s claim)
 deed_names n s (Weakens share access deny) good fit = same_names s.names (weaken s share access deny).1.names (weakened_names s share access deny)
+deed_names n s (Acks cache to) good fit = same_names s.names (ack s cache to).1.names (ack_still s cache to).1
 deed_names n s (Cancels id) good fit = same_names s.names (cancel s id).1.names (cancel_is s id).2
 deed_names n s (Ends party) good fit = same_names s.names (end_party s party).1.names (ended_names s party)
 deed_names n s (Serves left) good fit = turn_names left s (settle n left s) (turn_is n left s good)
 deed_names n s Draws good fit = same_names s.names (drawn s).names (drawn_is s).2
 deed_names n s (Advances now) good fit = same_names s.names (advanced s now).names (advanced_still s now).2
+deed_names n s (Lapses cache) good fit = same_names s.names (lapse s cache).1.names (lapse_names s cache)
 deed_names n s (Renews client) good fit = same_names s.names (renew s client).1.names (renew_still s client).2
 deed_names n s (Expires client) good fit = same_names s.names (expire s client).1.names (expire_names s client)
 
@@ -489,10 +547,12 @@ pub deed_due : (n : ℕ) (s : CoreState) (d : Deed) → IsGood s → IsFitDeed s
 deed_due n s (Asks left a) good fit = answer_is_due n left s a good fit
 deed_due n s (GivesBack claim) good fit = tt
 deed_due n s (Weakens share access deny) good fit = tt
+deed_due n s (Acks cache to) good fit = tt
 deed_due n s (Cancels id) good fit = tt
 deed_due n s (Ends party) good fit = tt
 deed_due n s (Serves left) good fit = record { none = none_settled n left s; first = turn_is n left s good }
 deed_due n s Draws good fit = tt
 deed_due n s (Advances now) good fit = tt
+deed_due n s (Lapses cache) good fit = fit
 deed_due n s (Renews client) good fit = tt
 deed_due n s (Expires client) good fit = fit

@@ -41,6 +41,12 @@ no_share (Share access deny) shares h = absurd (both_ways true h refl)
 no_share (Range extent exclusive) shares h = refl
 no_share (Cache kind running) shares h = refl
 
+-- a share is no range
+pub share_given : (w : What) → is_share w ≡ true → is_range w ≡ false
+share_given (Share access deny) h = refl
+share_given (Range extent exclusive) h = absurd (both_ways false refl h)
+share_given (Cache kind running) h = absurd (both_ways false refl h)
+
 -- no range changes
 pub spans_of-given : (file : ℕ) (owner : Owner) (claim : Claim) (cs : List Claim) → is_share claim.what ≡ true → spans_of file owner (removed claim cs) ≡ spans_of file owner cs
 spans_of-given file owner claim [] share = refl

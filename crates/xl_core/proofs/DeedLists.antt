@@ -1,13 +1,12 @@
 -- What deeds in a row keep, by induction over them.
-use Rattle.std.proofs.Common.{◌≡◌, ℕ, List, [], ◌∷◌, ◌++◌, Option, refl, sym, ap, subst, ◌∙◌, append_assoc}
+use Rattle.std.proofs.Common.{◌≡◌, ℕ, List, [], ◌∷◌, ◌++◌, refl, sym, ap, ◌∙◌, append_assoc}
 use Rattle.xl_matrix.specs.declared.claim.What.{What}
-use Rattle.xl_names.specs.declared.name.Name.{Name}
 use Rattle.xl_wait.specs.declared.waiter.Waiter.{Waiter}
 use Rattle.xl_core.specs.State.{CoreState}
-use Rattle.xl_core.specs.Deeds.{Deed, given, done, all_done, all_told_of, IsFitDeed, AreFit, waits_after, queue_after, KeepNames}
+use Rattle.xl_core.specs.Deeds.{Deed, given, done, all_done, all_told_of, AreFit, queue_after, KeepNames}
 use Rattle.xl_core.specs.Dues.{AreDue}
 use Rattle.xl_core.specs.Good.{IsGood}
-use Rattle.xl_core.specs.Places.{Place, held_at, made, else_was, stands}
+use Rattle.xl_core.specs.Places.{Place, held_at, stands}
 use Rattle.xl_core.specs.declared.ask.Effect.{Effect}
 use Rattle.xl_core.proofs.DeedLaws.{deed_good, deed_makes, deed_queues, deed_names, deed_due}
 
@@ -38,6 +37,10 @@ deeds_due n s (d ∷ ds) good fit = (deed_due n s d good fit.0, deeds_due n (don
 pub done_append : (n : ℕ) (s : CoreState) (ds es : List Deed) → all_done n s (ds ++ es) ≡ all_done n (all_done n s ds) es
 done_append n s [] es = refl
 done_append n s (d ∷ ds) es = done_append n (done n s d) ds es
+
+pub told_append : (n : ℕ) (s : CoreState) (ds es : List Deed) → all_told_of n s (ds ++ es) ≡ all_told_of n s ds ++ all_told_of n (all_done n s ds) es
+told_append n s [] es = refl
+told_append n s (d ∷ ds) es = ap (λ (told : List Effect). (given n s d).1 ++ told) (told_append n (done n s d) ds es) ∙ sym (append_assoc (given n s d).1 (all_told_of n (done n s d) ds) (all_told_of n (all_done n (done n s d) ds) es))
 
 pub fit_append : (n : ℕ) (s : CoreState) (ds es : List Deed) → AreFit n s ds → AreFit n (all_done n s ds) es → AreFit n s (ds ++ es)
 fit_append n s [] es fit more = more

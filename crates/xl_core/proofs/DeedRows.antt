@@ -1,5 +1,5 @@
 -- Where each operation is its deeds, so is the row of them.
-use Rattle.std.proofs.Common.{◌≡◌, ℕ, Bool, true, false, List, [], ◌∷◌, ◌++◌, refl, sym, ap, subst, ◌∙◌}
+use Rattle.std.proofs.Common.{◌≡◌, ℕ, true, false, List, [], ◌∷◌, refl, sym, ap, subst, ◌∙◌}
 use Rattle.xl_core.specs.State.{CoreState}
 use Rattle.xl_core.specs.Deeds.{Deed, all_done, AreFit}
 use Rattle.xl_core.specs.Good.{IsGood}

@@ -19,7 +19,7 @@ use Rattle.xl_core.specs.declared.ask.Effect.{Effect}
 use Rattle.xl_core.specs.declared.parts.Parts.{Parts}
 use Rattle.xl_core.specs.declared.settling.Called.{Called}
 use Rattle.xl_core.proofs.GoodLaws.{ask_good, settle_good, asked_one_party, unlocked_one_party, known_one_party}
-use Rattle.xl_core.proofs.KnownLaws.{asked_known, known_posix, asker_named}
+use Rattle.xl_core.proofs.KnownLaws.{asked_known, asker_named}
 use Rattle.xl_core.proofs.TurnLaws.{called_known}
 use Rattle.xl_core.specs.Judge.{AreElements, IsRow, held_with, stop_left, gets, row, row_left}
 use Rattle.xl_core.specs.declared.ask.Act.TheVariants.{Ranges}

@@ -1,5 +1,5 @@
 -- What a grant and an unlock leave of the ranges of SMB opens.
-use Rattle.std.proofs.Common.{◌≡◌, ℕ, Bool, true, false, not, ◌&&◌, ◌==◌, if◌then◌else◌, List, [], ◌∷◌, ◌++◌, map, Option, Some, None, inl, inr, refl, sym, ap, ◌∙◌}
+use Rattle.std.proofs.Common.{◌≡◌, ℕ, Bool, true, false, not, ◌&&◌, if◌then◌else◌, List, [], ◌∷◌, ◌++◌, map, Option, Some, inl, inr, refl, sym, ap, ◌∙◌}
 use Rattle.std.specs.List.{AllByRecursion, filter}
 use Rattle.std.proofs.lemmas.Bool.{cases_Bool, both_ways, and_parts, and_right}
 use Rattle.xl_base.specs.declared.name.Owner.{Owner}
@@ -14,7 +14,7 @@ use Rattle.xl_spans.specs.declared.span.Mode.{Mode}
 use Rattle.xl_spans.specs.declared.span.Span.{Span}
 use Rattle.xl_table.specs.Elements.{elements_of}
 use Rattle.xl_table.specs.Flat.{inserted}
-use Rattle.xl_table.specs.Held.{is_of, is_range, is_share, mode_of, spans_of, IsKept, IsGrantable, IsShareOrLock}
+use Rattle.xl_table.specs.Held.{is_of, is_range, is_share, mode_of, spans_of, IsKept, IsShareOrLock}
 use Rattle.xl_table.specs.Relock.{all_inserted, range_claim, is_range_of, unranged, relocked_in, is_share_of, unshared, united, old_shares, shared_in, granted_by, granted_claims}
 use Rattle.xl_spans.specs.Spans.{relocked}
 use Rattle.xl_table.proofs.ElementLaws.{elements_entered, elements_apart}

@@ -4,6 +4,7 @@ use Rattle.std.specs.List.{AllByRecursion, filter}
 use Rattle.std.proofs.lemmas.Bool.{cases_Bool, both_ways, eq-eqb}
 use Rattle.xl_base.specs.Lists.{Pairwise}
 use Rattle.xl_base.specs.declared.name.Party.{Party}
+use Rattle.xl_matrix.specs.declared.claim.CacheKind.{CacheKind}
 use Rattle.xl_matrix.specs.declared.claim.Claim.{Claim}
 use Rattle.xl_matrix.specs.declared.claim.Rwd.{Rwd}
 use Rattle.xl_names.specs.declared.name.Name.{Name}
@@ -25,7 +26,8 @@ use Rattle.xl_core.specs.declared.ask.Effect.TheVariants.{Begun, Served, Cancell
 use Rattle.xl_base.specs.declared.event.Moment.{Moment}
 use Rattle.xl_names.specs.declared.name.Name.TheVariants.{NfsParty}
 use Rattle.xl_core.specs.Leases.{later, first_ended}
-use Rattle.xl_core.specs.Ticks.{advanced, renew, end_some, unleased, expire, behind_told, expired_then, expired_for, tick}
+use Rattle.xl_core.specs.Breaks.{ack, first_due, client_of}
+use Rattle.xl_core.specs.Ticks.{advanced, renew, end_some, expire, behind_told, expired_then, expired_for, expire_all, lapsed_by, lapse, lapsed_then, lapsed_for, tick}
 use Rattle.xl_core.proofs.ChangeLaws.{AskWay, Stays, Tests, Holds, Waits, Frees, Gives, ask_way}
 use Rattle.xl_core.proofs.GoodLaws.{fewer_cancelled, fewer_filtered, Turned, turn_by, each_turn}
 use Rattle.xl_core.proofs.RowLaws.{is_refusal}
@@ -114,6 +116,10 @@ pub weaken_frame : (s : CoreState) (share : Claim) (access deny : Rwd) → IsFra
 unfolding weaken
 weaken_frame s share access deny = record { stable = refl; clock = refl; made = refl; failed = refl; counter = omega arith; names = refl; leave = tt; waiters = nobody s.waiters }
 
+pub ack_frame : (s : CoreState) (cache : Claim) (to : Option CacheKind) → IsFrame s (ack s cache to).0 (ack s cache to).1 0 s.names []
+unfolding ack
+ack_frame s cache to = record { stable = refl; clock = refl; made = refl; failed = refl; counter = omega arith; names = refl; leave = tt; waiters = nobody s.waiters }
+
 pub drawn_frame : (s : CoreState) → IsFrame s [] (drawn s) 1 s.names []
 unfolding drawn
 drawn_frame s = record { stable = refl; clock = refl; made = refl; failed = refl; counter = refl; names = refl; leave = tt; waiters = nobody s.waiters }
@@ -169,6 +175,10 @@ give_back_unserved s claim = refl
 pub weaken_unserved : (s : CoreState) (share : Claim) (access deny : Rwd) → serves_none (weaken s share access deny).0 ≡ true
 unfolding weaken
 weaken_unserved s share access deny = refl
+
+pub ack_unserved : (s : CoreState) (cache : Claim) (to : Option CacheKind) → serves_none (ack s cache to).0 ≡ true
+unfolding ack
+ack_unserved s cache to = refl
 
 pub end_party_unserved : (s : CoreState) (party : Party) → serves_none (end_party s party).0 ≡ true
 unfolding end_party
@@ -235,15 +245,40 @@ expired_left : (fuel : ℕ) (s : CoreState) → IsLeft s (expired_for fuel s)
 expired_left zero s = left_so s
 expired_left (suc fuel) s = then_left (expired_for fuel) s (first_ended s.clock s.leases) (λ t. expired_left fuel t)
 
+without_left : (s : CoreState) (cache : Claim) (client : Option (List ℕ)) → IsLeft s (lapsed_by s cache client)
+without_left s cache None = (record { clock = sym (clock_stays s.clock); stable = refl; made = refl; failed = refl; counter = refl; names = refl; waiters = omega arith }, refl)
+without_left s cache (Some client) = expire_left s client
+
+pub lapse_left : (s : CoreState) (cache : Claim) → IsLeft s (lapse s cache)
+unfolding lapse
+lapse_left s cache = without_left s cache (client_of s.names cache.party)
+
+lapsed_then_left : (rest : CoreState → List Effect × CoreState) (s : CoreState) (o : Option Claim) → ((t : CoreState) → IsLeft t (rest t)) → IsLeft s (lapsed_then rest s o)
+lapsed_then_left rest s None each = left_so s
+lapsed_then_left rest s (Some cache) each = left_on s (lapse s cache).1 (lapse s cache).0 (rest (lapse s cache).1) (lapse_left s cache) (each (lapse s cache).1)
+
+lapsed_left : (fuel : ℕ) (s : CoreState) → IsLeft s (lapsed_for fuel s)
+lapsed_left zero s = left_so s
+lapsed_left (suc fuel) s = lapsed_then_left (lapsed_for fuel) s (first_due s) (λ t. lapsed_left fuel t)
+
+all_left : (s : CoreState) → IsLeft s (expire_all s)
+unfolding expire_all
+all_left s = expired_left (length s.leases) s
+
+ticked_left : (s : CoreState) (now : Moment) → IsLeft (advanced s now) (tick s now)
+unfolding tick
+ticked_left s now =
+    let r = lapsed_for (length s.claims) (advanced s now) in
+    left_on (advanced s now) r.1 r.0 (expire_all r.1) (lapsed_left (length s.claims) (advanced s now)) (all_left r.1)
+
 pub advanced_ticked : (s : CoreState) (now : Moment) → IsTicked s now (advanced s now)
 unfolding advanced
 advanced_ticked s now = record { clock = refl; stable = refl; made = refl; failed = refl; counter = refl; names = refl; waiters = omega arith }
 
 pub tick_frame : (s : CoreState) (now : Moment) → IsTicked s now (tick s now).1
-unfolding tick
 tick_frame s now =
     let first = advanced_ticked s now in
-    let next = (expired_left (length s.leases) (advanced s now)).0 in
+    let next = (ticked_left s now).0 in
     record {
       clock = next.clock ∙ clock_stays (advanced s now).clock ∙ first.clock;
       stable = next.stable ∙ first.stable;
@@ -255,8 +290,7 @@ tick_frame s now =
     }
 
 pub tick_unserved : (s : CoreState) (now : Moment) → serves_none (tick s now).0 ≡ true
-unfolding tick
-tick_unserved s now = (expired_left (length s.leases) (advanced s now)).1
+tick_unserved s now = (ticked_left s now).1
 
 pub renew_unserved : (s : CoreState) (client : List ℕ) → serves_none (renew s client).0 ≡ true
 unfolding renew

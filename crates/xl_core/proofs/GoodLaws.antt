@@ -1,7 +1,7 @@
 -- The state stays good: by each ask, each turn, each cancel, and when a party leaves.
 use Rattle.std.proofs.Common.{◌≡◌, ℕ, ◌+◌, ◌≤◌, Bool, true, false, not, ◌==◌, nat_le, inl, inr, List, [], ◌∷◌, ◌++◌, length, Option, Some, None, IfSome, refl, sym, ap, subst, ◌∙◌, arith, zero, suc, map, if◌then◌else◌}
 use Rattle.std.specs.List.{AllByRecursion, filter, list_any}
-use Rattle.std.proofs.lemmas.Bool.{cases_Bool, both_ways, ne_eqb, not_from_false, leb-true, and_parts}
+use Rattle.std.proofs.lemmas.Bool.{cases_Bool, both_ways, ne_eqb, not_from_false, leb-true}
 use Rattle.std.proofs.lemmas.List.{length-append}
 use Rattle.xl_base.specs.Lists.{IsIn, Pairwise}
 use Rattle.xl_base.proofs.Members.{all_in, all_from, all_append, in_filter_from, pairwise_append, pairwise_filter}
@@ -32,11 +32,12 @@ use Rattle.xl_wait.specs.declared.waiter.Rooms.{Rooms}
 use Rattle.xl_wait.specs.declared.waiter.Waiter.{Waiter}
 use Rattle.xl_core.specs.State.{CoreState, started, step_begun, drawn}
 use Rattle.xl_core.specs.Leases.{Lease, moment_after, later, with_lease, without_lease, first_ended}
-use Rattle.xl_core.specs.Ticks.{advanced, renew, end_some, unleased, expire, expired_then, expired_for, tick}
+use Rattle.xl_core.specs.Breaks.{first_due, client_of}
+use Rattle.xl_core.specs.Ticks.{advanced, renew, end_some, unleased, expire, expired_then, expired_for, expire_all, lapsed_by, lapse, lapsed_then, lapsed_for, tick}
 use Rattle.xl_core.specs.Asking.{party_named, IsOrdered, range_what}
 use Rattle.xl_core.specs.declared.lease.Times.{Times}
 use Rattle.xl_names.specs.declared.name.Name.TheVariants.{NfsParty}
-use Rattle.xl_core.specs.Asking.{both_entered, asked_claim, asked_claims, known_claim, is_client, is_named, may_hold, may_ask, IsRealExtent, IsFitAct, IsFit}
+use Rattle.xl_core.specs.Asking.{both_entered, asked_claim, asked_claims, known_claim, is_client, may_hold, may_ask, IsFitAct, IsFit}
 use Rattle.xl_core.specs.Causes.{limits_of_wait, left_by_unlock}
 use Rattle.xl_core.specs.Decide.{Answered, plea_of, waiter_of, waiting, named, answered, claims_asked, unlocked_claims, unlocked_bytes, unlocked, acted, ask, freed, unlocked_one}
 use Rattle.xl_core.specs.Good.{are_kept, IsKnown, IsHeld, is_single, are_apart, IsWaiter, IsGood, stands_in_the_way}
@@ -56,7 +57,7 @@ use Rattle.xl_core.specs.declared.judge.Ruling.TheVariants.{Gets, Waits, Told}
 use Rattle.xl_core.proofs.CauseLaws.{left_so, real_range, own_ranges, fit_ranges}
 use Rattle.xl_core.proofs.ClaimLaws.{AreGood, relocked_good, granted_good}
 use Rattle.xl_core.proofs.DecideLaws.{none_blockers}
-use Rattle.xl_core.proofs.KnownLaws.{GoOn, both_go_on, both_distinct, held_on, waiters_on, one_party, asker_kept, asked_known, kept_on, known_posix, known_party_is, asked_all_known}
+use Rattle.xl_core.proofs.KnownLaws.{GoOn, both_go_on, both_distinct, held_on, waiters_on, one_party, asker_kept, asked_known, kept_on, known_party_is, asked_all_known}
 use Rattle.xl_core.proofs.LimitLaws.{grant_room, wait_room}
 use Rattle.xl_core.proofs.RowLaws.{AllPass, is_refusal, IsRuled, judged_ruled, ruled_by, passed_by, judged_is}
 use Rattle.xl_core.proofs.TurnLaws.{alone, blocked_rests, rests_blocked, free_moves, move_first}
@@ -242,7 +243,7 @@ unlocked_bytes_good s claim first last good ends own kept = go (holds_byte claim
       (relocked_good s.names claim.file claim.owner claim.party first last None s.claims good.distinct (good_claims s good) ends own (kept holds) tt (leb-true (left_by_unlock s claim first last) most_claims fits))
       good.distinct good.few good.waiters good.apart good.crowd
 
-without_good : (s : CoreState) (claim : Claim) → IsGood s → IsGood (record s { claims = removed claim s.claims })
+pub without_good : (s : CoreState) (claim : Claim) → IsGood s → IsGood (record s { claims = removed claim s.claims })
 without_good s claim good =
     good_from (record s { claims = removed claim s.claims })
     (record {
@@ -467,6 +468,33 @@ expired_good : (fuel : ℕ) (s : CoreState) → IsGood s → IsGood (expired_for
 expired_good zero s good = good
 expired_good (suc fuel) s good = then_good (expired_for fuel) s (first_ended s.clock s.leases) good (λ t h. expired_good fuel t h)
 
+lapsed_by_good : (s : CoreState) (cache : Claim) (client : Option (List ℕ)) → IsGood s → IsGood (lapsed_by s cache client).1
+lapsed_by_good s cache None good = without_good s cache good
+lapsed_by_good s cache (Some client) good = expire_good s client good
+
+pub lapse_good : (s : CoreState) (cache : Claim) → IsGood s → IsGood (lapse s cache).1
+unfolding lapse
+lapse_good s cache good = lapsed_by_good s cache (client_of s.names cache.party) good
+
+pub lapsed_is_good : (s t : CoreState) (cache : Claim) (effects : List Effect) → IsGood s → lapse s cache ≡ (effects, t) → IsGood t
+lapsed_is_good s t cache effects good e = subst (λ (r : List Effect × CoreState). IsGood r.1) e (lapse_good s cache good)
+
+lapsed_then_good : (rest : CoreState → List Effect × CoreState) (s : CoreState) (o : Option Claim) → IsGood s → ((t : CoreState) → IsGood t → IsGood (rest t).1) → IsGood (lapsed_then rest s o).1
+lapsed_then_good rest s None good later = good
+lapsed_then_good rest s (Some cache) good later = later (lapse s cache).1 (lapse_good s cache good)
+
+pub lapsed_good : (fuel : ℕ) (s : CoreState) → IsGood s → IsGood (lapsed_for fuel s).1
+lapsed_good zero s good = good
+lapsed_good (suc fuel) s good = lapsed_then_good (lapsed_for fuel) s (first_due s) good (λ t h. lapsed_good fuel t h)
+
+-- the state that so many breaks leave is good
+pub all_lapsed_good : (fuel : ℕ) (s t : CoreState) → IsGood s → (lapsed_for fuel s).1 ≡ t → IsGood t
+all_lapsed_good fuel s t good e = subst IsGood e (lapsed_good fuel s good)
+
+expire_all_good : (s : CoreState) → IsGood s → IsGood (expire_all s).1
+unfolding expire_all
+expire_all_good s good = expired_good (length s.leases) s good
+
 pub tick_good : (s : CoreState) (now : Moment) → IsGood s → IsGood (tick s now).1
 unfolding tick
-tick_good s now good = expired_good (length s.leases) (advanced s now) (advanced_good s now good)
+tick_good s now good = expire_all_good (lapsed_for (length s.claims) (advanced s now)).1 (lapsed_good (length s.claims) (advanced s now) (advanced_good s now good))

@@ -1,13 +1,12 @@
 -- Machines that keep nothing, or drop who waits, don't do what their deeds say.
-use Rattle.std.proofs.Common.{◌≡◌, ℕ, pos, ◌==◌, ◌&&◌, ◌||◌, Bool, true, false, List, [], ◌∷◌, Option, Some, None, refl, sym, ap, subst, ◌∙◌}
-use Rattle.std.specs.List.{AllByRecursion, list_any}
+use Rattle.std.proofs.Common.{◌≡◌, ℕ, ◌==◌, Bool, true, false, List, [], ◌∷◌, refl, sym, ap, ◌∙◌}
+use Rattle.std.specs.List.{AllByRecursion}
 use Rattle.std.proofs.lemmas.Bool.{and_right}
 use Rattle.xl_base.specs.Stable.{Stable}
 use Rattle.xl_base.specs.declared.event.Moment.{Moment}
 use Rattle.xl_matrix.specs.declared.claim.Claim.{Claim}
 use Rattle.xl_matrix.specs.declared.claim.Extent.{Extent}
 use Rattle.xl_matrix.specs.declared.claim.Extent.TheVariants.{Bytes}
-use Rattle.xl_matrix.specs.declared.claim.What.{What}
 use Rattle.xl_matrix.specs.declared.claim.What.TheVariants.{Range}
 use Rattle.xl_spans.specs.Spans.{relocked}
 use Rattle.xl_table.specs.Flat.{inserted}
@@ -17,10 +16,10 @@ use Rattle.xl_wait.specs.declared.waiter.Waiter.{Waiter}
 use Rattle.xl_core.specs.State.{CoreState, started}
 use Rattle.xl_core.specs.Asking.{asker, asked_claim}
 use Rattle.xl_core.specs.Causes.{limits_of_grant}
-use Rattle.xl_core.specs.Deeds.{Deed, Asks, queue_with, queue_after}
+use Rattle.xl_core.specs.Deeds.{Asks, queue_with, queue_after}
 use Rattle.xl_core.specs.Decide.{ask}
-use Rattle.xl_core.specs.Limits.{is_passed, IsRoom}
-use Rattle.xl_core.specs.Places.{Place, ByteOf, held_in, held_at, else_was, stands, IsChangedBy, all_entered_for}
+use Rattle.xl_core.specs.Limits.{IsRoom}
+use Rattle.xl_core.specs.Places.{Place, ByteOf, held_in, else_was, stands, IsChangedBy, all_entered_for}
 use Rattle.xl_core.specs.Smallest.{all_room, smallest_lock}
 use Rattle.xl_core.specs.declared.ask.Act.TheVariants.{Test}
 use Rattle.xl_core.specs.declared.ask.Answer.{Answer}

@@ -1,5 +1,5 @@
 -- What a map of leases holds once one is put in, and how the first that has ended is found.
-use Rattle.std.proofs.Common.{◌≡◌, ℕ, zero, suc, ◌+◌, ◌<◌, if◌then◌else◌, List, [], ◌∷◌, length, Bool, true, false, Option, Some, drop, refl, sym, ap, subst, ◌∙◌, slice_get, arith}
+use Rattle.std.proofs.Common.{◌≡◌, ℕ, zero, suc, ◌+◌, ◌<◌, if◌then◌else◌, List, [], ◌∷◌, length, true, false, Option, Some, drop, refl, ap, subst, ◌∙◌, slice_get, arith}
 use Rattle.std.specs.Prelude.{bytes_eq}
 use Rattle.indexmap.specs.IndexMap.{insert_entry}
 use Rattle.xl_base.specs.declared.event.Moment.{Moment}

@@ -9,6 +9,11 @@ pub mod ClaimLaws
 pub mod GoodLaws
 pub mod CacheLaws
 pub mod HeldCaches
+pub mod BreakLaws
+pub mod DueLaws
+pub mod DeadlineLaws
+pub mod BeginLaws
+pub mod CachePlaces
 pub mod ChangeLaws
 pub mod SettleLaws
 pub mod FrameLaws

@@ -1,7 +1,6 @@
 -- What a LOCK and an unlock of an SMB open make of its ranges.
-use Rattle.std.proofs.Common.{◌≡◌, ℕ, Bool, true, false, ◌&&◌, List, [], ◌∷◌, ◌++◌, map, Option, Some, None, inl, inr, refl, sym, ap, subst, ◌∙◌, append_assoc, ◌↔◌}
+use Rattle.std.proofs.Common.{◌≡◌, ℕ, Bool, true, false, ◌&&◌, List, [], ◌∷◌, ◌++◌, map, refl, sym, ap, subst, ◌∙◌, append_assoc, ◌↔◌}
 use Rattle.std.specs.List.{AllByRecursion}
-use Rattle.std.proofs.lemmas.Bool.{cases_Bool, both_ways}
 use Rattle.std.proofs.lemmas.List.{append-nil}
 use Rattle.xl_base.specs.declared.name.Owner.{Owner}
 use Rattle.xl_matrix.specs.Owners.{posix}
@@ -10,7 +9,6 @@ use Rattle.xl_matrix.specs.declared.claim.Extent.{Extent}
 use Rattle.xl_matrix.specs.declared.claim.What.{What}
 use Rattle.xl_names.specs.declared.name.Name.{Name}
 use Rattle.xl_table.specs.Elements.{elements_of, unlocked_elements}
-use Rattle.xl_table.specs.Held.{is_of, is_range}
 use Rattle.xl_table.specs.Relock.{is_range_of, granted_claims}
 use Rattle.xl_table.proofs.ShareLaws.{is_own}
 use Rattle.xl_wait.specs.declared.waiter.Rooms.{Rooms}
@@ -20,7 +18,6 @@ use Rattle.xl_core.specs.Causes.{IsElementDue}
 use Rattle.xl_core.specs.Decide.{plea_of, ask}
 use Rattle.xl_core.specs.Good.{IsKnown, IsGood}
 use Rattle.xl_core.specs.Judge.{all_granted}
-use Rattle.xl_core.specs.Limits.{grant_limits}
 use Rattle.xl_core.specs.declared.ask.Act.{Act}
 use Rattle.xl_core.specs.declared.ask.Act.TheVariants as acts
 use Rattle.xl_core.specs.declared.ask.Answer.{Answer}
@@ -31,7 +28,7 @@ use Rattle.xl_core.specs.declared.ask.Who.TheVariants as who
 use Rattle.xl_core.specs.declared.judge.Plea.{Plea}
 use Rattle.xl_core.proofs.CauseLaws.{element_due}
 use Rattle.xl_core.proofs.ClaimLaws.{AreGood, granted_good}
-use Rattle.xl_core.proofs.DeedCalls.{Releases, ask_releases, ranges_enter}
+use Rattle.xl_core.proofs.DeedCalls.{ask_releases, ranges_enter}
 use Rattle.xl_core.proofs.ElementLaws.{open_of, with_element, elements_granted}
 use Rattle.xl_core.proofs.LimitLaws.{grant_room}
 use Rattle.xl_core.proofs.RowLaws.{AllPass}

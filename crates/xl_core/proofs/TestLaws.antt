@@ -15,7 +15,7 @@ use Rattle.xl_matrix.specs.Matrix.{compat, fit_by, ranges_meet}
 use Rattle.xl_matrix.specs.Owners.{posix}
 use Rattle.xl_matrix.specs.declared.claim.Claim.{Claim}
 use Rattle.xl_matrix.specs.declared.claim.Extent.{Extent}
-use Rattle.xl_matrix.specs.declared.claim.Extent.TheVariants.{Bytes, Empty}
+use Rattle.xl_matrix.specs.declared.claim.Extent.TheVariants.{Bytes}
 use Rattle.xl_matrix.specs.declared.claim.What.{What}
 use Rattle.xl_matrix.specs.declared.claim.What.TheVariants.{Share, Range, Cache}
 use Rattle.xl_names.specs.Names.{protocol_of, number_of, place_of, most_names}

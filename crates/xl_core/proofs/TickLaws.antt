@@ -1,19 +1,21 @@
 -- A reading of the clock is the clock's rise and the expiries behind it, after which no lease is left that has ended.
-use Rattle.std.proofs.Common.{◌≡◌, ℕ, zero, suc, ◌+◌, ◌≤◌, Bool, true, false, inl, inr, ◌⊎◌, List, [], ◌∷◌, ◌++◌, length, Option, Some, None, refl, sym, ap, subst, ◌∙◌, arith}
+use Rattle.std.proofs.Common.{◌≡◌, ℕ, zero, suc, ◌+◌, ◌≤◌, inl, inr, ◌⊎◌, List, [], ◌∷◌, ◌++◌, length, Option, Some, None, refl, sym, ap, subst, ◌∙◌, arith}
 use Rattle.std.specs.Prelude.{bytes_eq}
 use Rattle.std.specs.Cmp.Lexicographic.{bytes_decides}
 use Rattle.std.proofs.lemmas.Bool.{cases_Bool, both_ways}
 use Rattle.std.proofs.lemmas.Option.{same_Some}
-use Rattle.xl_base.specs.Lists.{IsIn}
 use Rattle.xl_base.specs.declared.event.Moment.{Moment}
 use Rattle.xl_base.specs.declared.name.Party.{Party}
 use Rattle.xl_names.specs.declared.name.Name.TheVariants.{NfsParty}
 use Rattle.xl_core.specs.State.{CoreState}
 use Rattle.xl_core.specs.Asking.{party_named}
-use Rattle.xl_core.specs.Deeds.{Deed, Advances, Expires, all_done, all_told_of, expiry_then, expiries, tick_deeds, AreFit}
+use Rattle.xl_matrix.specs.declared.claim.Claim.{Claim}
+use Rattle.xl_core.specs.Breaks.{first_due}
+use Rattle.xl_core.specs.Deeds.{Deed, all_done, all_told_of, expiry_then, expiries, expiries_of, lapse_then, lapses, tick_deeds, AreFit}
+use Rattle.xl_core.proofs.DeedLists.{done_append, told_append, fit_append}
 use Rattle.xl_core.specs.Leases.{Lease, without_lease, has_ended, comes_before, first_of, first_among, first_ended}
 use Rattle.xl_core.specs.Settle.{end_party}
-use Rattle.xl_core.specs.Ticks.{advanced, end_some, unleased, expire, expired_then, expired_for, tick}
+use Rattle.xl_core.specs.Ticks.{advanced, end_some, unleased, expire, expired_then, expired_for, expire_all, lapse, lapsed_then, lapsed_for, tick}
 use Rattle.xl_core.specs.declared.ask.Effect.{Effect}
 
 -- ---- the deeds
@@ -43,16 +45,69 @@ expiries_fit : (n fuel : ℕ) (s : CoreState) → AreFit n s (expiries fuel s)
 expiries_fit n zero s = tt
 expiries_fit n (suc fuel) s = then_fits n (expiries fuel) s (first_ended s.clock s.leases) refl (λ t. expiries_fit n fuel t)
 
+module _ (n : ℕ) (later : CoreState → List Deed) (rest : CoreState → List Effect × CoreState) where
+  lapse_done : (s : CoreState) (o : Option Claim) → ((t : CoreState) → all_done n t (later t) ≡ (rest t).1) → all_done n s (lapse_then later s o) ≡ (lapsed_then rest s o).1
+  lapse_done s None each = refl
+  lapse_done s (Some cache) each = each (lapse s cache).1
+
+  lapse_tells : (s : CoreState) (o : Option Claim) → ((t : CoreState) → all_told_of n t (later t) ≡ (rest t).0) → all_told_of n s (lapse_then later s o) ≡ (lapsed_then rest s o).0
+  lapse_tells s None each = refl
+  lapse_tells s (Some cache) each = ap (λ (told : List Effect). (lapse s cache).0 ++ told) (each (lapse s cache).1)
+
+lapse_fits : (n : ℕ) (later : CoreState → List Deed) (s : CoreState) (o : Option Claim) → first_due s ≡ o → ((t : CoreState) → AreFit n t (later t)) → AreFit n s (lapse_then later s o)
+lapse_fits n later s None e each = tt
+lapse_fits n later s (Some cache) e each = (e, each (lapse s cache).1)
+
+lapses_done : (n fuel : ℕ) (s : CoreState) → all_done n s (lapses fuel s) ≡ (lapsed_for fuel s).1
+lapses_done n zero s = refl
+lapses_done n (suc fuel) s = lapse_done n (lapses fuel) (lapsed_for fuel) s (first_due s) (λ t. lapses_done n fuel t)
+
+lapses_tell : (n fuel : ℕ) (s : CoreState) → all_told_of n s (lapses fuel s) ≡ (lapsed_for fuel s).0
+lapses_tell n zero s = refl
+lapses_tell n (suc fuel) s = lapse_tells n (lapses fuel) (lapsed_for fuel) s (first_due s) (λ t. lapses_tell n fuel t)
+
+lapses_fit : (n fuel : ℕ) (s : CoreState) → AreFit n s (lapses fuel s)
+lapses_fit n zero s = tt
+lapses_fit n (suc fuel) s = lapse_fits n (lapses fuel) s (first_due s) refl (λ t. lapses_fit n fuel t)
+
+all_expire : (n : ℕ) (s : CoreState) → (all_done n s (expiries_of s) ≡ (expire_all s).1) × (all_told_of n s (expiries_of s) ≡ (expire_all s).0) × AreFit n s (expiries_of s)
+unfolding expire_all
+all_expire n s = (expiries_done n (length s.leases) s, expiries_tell n (length s.leases) s, expiries_fit n (length s.leases) s)
+
+-- the state once the breaks are over whose deadline has come
+abbrev lapsed_at : CoreState → Moment → CoreState
+lapsed_at s now = (lapsed_for (length s.claims) (advanced s now)).1
+
+abbrev first_deeds : CoreState → Moment → List Deed
+first_deeds s now = lapses (length s.claims) (advanced s now)
+
+first_done : (n : ℕ) (s : CoreState) (now : Moment) → all_done n (advanced s now) (first_deeds s now) ≡ lapsed_at s now
+first_done n s now = lapses_done n (length s.claims) (advanced s now)
+
 pub tick_done : (n : ℕ) (s : CoreState) (now : Moment) → all_done n s (tick_deeds s now) ≡ (tick s now).1
 unfolding tick
-tick_done n s now = expiries_done n (length s.leases) (advanced s now)
+tick_done n s now =
+    let u = lapsed_at s now in
+    done_append n (advanced s now) (first_deeds s now) (expiries_of u)
+    ∙ ap (λ (t : CoreState). all_done n t (expiries_of u)) (first_done n s now)
+    ∙ (all_expire n u).0
 
 pub tick_tells : (n : ℕ) (s : CoreState) (now : Moment) → all_told_of n s (tick_deeds s now) ≡ (tick s now).0
 unfolding tick
-tick_tells n s now = expiries_tell n (length s.leases) (advanced s now)
+tick_tells n s now =
+    let u = lapsed_at s now in
+    told_append n (advanced s now) (first_deeds s now) (expiries_of u)
+    ∙ ap (λ (t : CoreState). all_told_of n (advanced s now) (first_deeds s now) ++ all_told_of n t (expiries_of u)) (first_done n s now)
+    ∙ ap (λ (told : List Effect). told ++ all_told_of n u (expiries_of u)) (lapses_tell n (length s.claims) (advanced s now))
+    ∙ ap (λ (told : List Effect). (lapsed_for (length s.claims) (advanced s now)).0 ++ told) (all_expire n u).1
 
 pub tick_fits : (n : ℕ) (s : CoreState) (now : Moment) → AreFit n s (tick_deeds s now)
-tick_fits n s now = (tt, expiries_fit n (length s.leases) (advanced s now))
+tick_fits n s now =
+    let u = lapsed_at s now in (
+      tt,
+      fit_append n (advanced s now) (first_deeds s now) (expiries_of u) (lapses_fit n (length s.claims) (advanced s now))
+          (subst (λ (t : CoreState). AreFit n t (expiries_of u)) (sym (first_done n s now)) (all_expire n u).2),
+    )
 
 -- ---- none is left
 
@@ -131,10 +186,10 @@ none_left : (fuel : ℕ) → LeavesNone (expired_for fuel) fuel
 none_left zero s few = no_leases s.clock s.leases few
 none_left (suc fuel) s few = then_none (expired_for fuel) fuel s (first_ended s.clock s.leases) refl few (none_left fuel)
 
-advanced_leases : (s : CoreState) (now : Moment) → (advanced s now).leases ≡ s.leases
-unfolding advanced
-advanced_leases s now = refl
+none_of_all : (s : CoreState) → first_ended (expire_all s).1.clock (expire_all s).1.leases ≡ None
+unfolding expire_all
+none_of_all s = none_left (length s.leases) s (omega arith)
 
 pub none_ended : (s : CoreState) (now : Moment) → (let t = (tick s now).1 in first_ended t.clock t.leases ≡ None)
 unfolding tick
-none_ended s now = none_left (length s.leases) (advanced s now) (subst (λ (ls : List Lease). length ls ≤ length s.leases) (sym (advanced_leases s now)) (omega arith))
+none_ended s now = none_of_all (lapsed_at s now)

@@ -1,7 +1,7 @@
 -- Who is blocked stays so by what changes on other files; so who may have a turn waits on a file that is kept as unsettled.
 use Rattle.std.proofs.Common.{◌≡◌, ℕ, ◌+◌, Bool, true, false, not, ◌||◌, ◌&&◌, ◌==◌, inl, inr, List, [], ◌∷◌, ◌++◌, map, length, Option, Some, None, IfSome, is_some, if◌then◌else◌, option_map, refl, sym, ap, subst, ◌∙◌}
 use Rattle.std.specs.List.{AllByRecursion, filter, list_any}
-use Rattle.std.proofs.lemmas.Bool.{cases_Bool, both_ways, or_parts, eqb-true, and_parts}
+use Rattle.std.proofs.lemmas.Bool.{cases_Bool, both_ways, or_parts, eqb-true}
 use Rattle.xl_base.specs.Lists.{placed}
 use Rattle.xl_base.proofs.Members.{all_from, all_weaker, all_append}
 use Rattle.xl_base.specs.declared.name.Owner.{Owner}
@@ -10,6 +10,7 @@ use Rattle.xl_matrix.proofs.EqualLaws.{same_claims-true, eqb-sym}
 use Rattle.xl_matrix.specs.Blocks.{is_own}
 use Rattle.xl_matrix.specs.Equal.{same_claims}
 use Rattle.xl_matrix.specs.Matrix.{compat}
+use Rattle.xl_matrix.specs.declared.claim.CacheKind.{CacheKind}
 use Rattle.xl_matrix.specs.declared.claim.Claim.{Claim}
 use Rattle.xl_matrix.specs.declared.claim.Extent.TheVariants.{Bytes, Empty}
 use Rattle.xl_matrix.specs.declared.claim.Rwd.{Rwd}
@@ -35,6 +36,7 @@ use Rattle.xl_core.specs.Decide.{Answered, waiter_of, ask}
 use Rattle.xl_core.specs.Good.{IsWaiter, IsGood, stands_in_the_way, IsSettled}
 use Rattle.xl_core.specs.Judge.{all_granted, held_with}
 use Rattle.xl_core.specs.Settle.{settle, cancel, give_back, weaken}
+use Rattle.xl_core.specs.Breaks.{with_rest, ack}
 use Rattle.xl_core.specs.Ticks.{renew}
 use Rattle.xl_core.specs.Watch.{is_among, with_file, is_granted, may_free, left_by_ask, may_turn, IsHeldUp, AreHeldUp}
 use Rattle.xl_core.specs.declared.ask.Act.{Act}
@@ -274,6 +276,16 @@ unfolding weaken
 weaken_up u s share access deny all =
     all_still_up u (with_file share.file u) s.claims (changed share (Share access deny) s.claims) s.waiters
     (λ c n. let apart = both_apart share.file c.file u n in (apart.0, blocked_changed c share (Share access deny) s.claims apart.1)) all
+
+-- what is left of a cache blocks on its file alone
+blocked_rest : (ask cache : Claim) (to : Option CacheKind) (cs : List Claim) → IsElsewhere cache.file ask → is_blocked (with_rest cache to cs) ask ≡ is_blocked cs ask
+blocked_rest ask cache None cs apart = blocked_removed ask cache cs apart
+blocked_rest ask cache (Some kind) cs apart = blocked_changed ask cache (Cache kind None) cs apart
+
+pub ack_up : (u : Unsettled) (s : CoreState) (cache : Claim) (to : Option CacheKind) → AreHeldUp u s → AreHeldUp (with_file cache.file u) (ack s cache to).1
+unfolding ack
+ack_up u s cache to all =
+    all_still_up u (with_file cache.file u) s.claims (with_rest cache to s.claims) s.waiters (λ c n. let apart = both_apart cache.file c.file u n in (apart.0, blocked_rest c cache to s.claims apart.1)) all
 
 pub begun_up : (u : Unsettled) (s : CoreState) → AreHeldUp u s → AreHeldUp u (step_begun s)
 unfolding step_begun

@@ -29,11 +29,12 @@ use Rattle.xl_table.proofs.ShareLaws.{shares_of-inserted_apart, shares_of-insert
 use Rattle.xl_table.proofs.WriteBack.{is_of-true}
 use Rattle.xl_core.specs.State.{CoreState}
 use Rattle.xl_core.specs.Good.{IsHeld, is_single_by, is_single, IsGood, caches_of}
-use Rattle.xl_core.specs.Places.{Place, ByteOf, ShareOf, RangesOf, byte_held, share_held, held_at, entered_by, weakened_at, else_was}
+use Rattle.xl_core.specs.Places.{Place, ByteOf, ShareOf, RangesOf, CacheOf, is_cache_on, byte_held, share_held, held_at, entered_by, weakened_at, else_was}
 use Rattle.xl_core.specs.Settle.{share_has, weaken}
 use Rattle.xl_core.specs.Whole.{state_of}
 use Rattle.xl_core.specs.declared.parts.Parts.{Parts}
 use Rattle.xl_core.proofs.CacheLaws.{share_no_cache, inserted_caches, removed_caches}
+use Rattle.xl_core.proofs.CachePlaces.{held_of_caches}
 use Rattle.xl_core.proofs.ClaimLaws.{AreGood, is_single-sym}
 use Rattle.xl_core.proofs.DeedLeaves.{spans_of-given, shares_of-given_apart, shares_of-given}
 use Rattle.xl_core.proofs.GoodLaws.{good_claims, good_from}
@@ -158,6 +159,9 @@ pub weaken_made : (s : CoreState) (share : Claim) (access deny : Rwd) (p : Place
 weaken_made s share access deny (ByteOf file owner byte) good there less =
     ap (λ (ss : List Span). byte_held owner byte (mode_at ss byte)) (weakened_spans s share access deny file owner less)
     ∙ ap (λ (o : Option (List What)). else_was o (held_at s (ByteOf file owner byte))) (sym (no_byte (is_of file owner share)))
+weaken_made s share access deny (CacheOf file party) good there less =
+    held_of_caches file party s.claims (weaken s share access deny).1.claims (weakened_caches s share access deny less)
+    ∙ ap (λ (o : Option (List What)). else_was o (held_at s (CacheOf file party))) (sym (no_byte (is_cache_on file party (with_what share (Share access deny)))))
 weaken_made s share access deny (RangesOf file number) good there less =
     weakened_elements s share access deny file (open_of number) less ∙ ap (λ (o : Option (List What)). else_was o (held_at s (RangesOf file number))) (sym (no_byte (is_of file (open_of number) share)))
 weaken_made s share access deny (ShareOf file owner) good there less =

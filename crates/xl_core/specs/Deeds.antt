@@ -1,10 +1,11 @@
 -- What is done to the core: its calls as values, what each gives, and who waits after them.
-use Rattle.std.specs.Prelude.{◌≡◌, ℕ, zero, suc, true, not, length, List, [], ◌∷◌, ◌++◌, Option, Some, None}
+use Rattle.std.specs.Prelude.{◌≡◌, ℕ, zero, suc, Bool, true, false, not, ◌||◌, length, List, [], ◌∷◌, ◌++◌, Option, Some, None}
 use Rattle.std.specs.List.{filter, slice_get}
 use Rattle.xl_base.specs.Lists.{IsIn}
 use Rattle.xl_base.specs.declared.event.Moment.{Moment}
 use Rattle.xl_base.specs.declared.name.Party.{Party}
-use Rattle.xl_matrix.specs.Equal.{same_parties}
+use Rattle.xl_matrix.specs.Equal.{same_parties, same_claims}
+use Rattle.xl_matrix.specs.declared.claim.CacheKind.{CacheKind}
 use Rattle.xl_matrix.specs.declared.claim.Claim.{Claim}
 use Rattle.xl_matrix.specs.declared.claim.Rwd.{Rwd}
 use Rattle.xl_matrix.specs.declared.claim.What.{What}
@@ -16,10 +17,12 @@ use Rattle.xl_wait.specs.declared.waiter.Waiter.{Waiter}
 use Rattle.xl_core.specs.State.{CoreState, drawn}
 use Rattle.xl_core.specs.Asking.{party_named, asked_what, asked_claim, IsFit}
 use Rattle.xl_core.specs.Decide.{waiter_of, ask}
-use Rattle.xl_table.specs.Held.{is_share}
+use Rattle.xl_table.specs.Flat.{removed}
+use Rattle.xl_table.specs.Held.{is_range}
+use Rattle.xl_core.specs.Breaks.{may_be_left, with_rest, ack, first_due, client_of}
 use Rattle.xl_core.specs.Leases.{first_ended}
 use Rattle.xl_core.specs.Settle.{settle, waits_for, cancel, give_back, share_has, weaken, end_party}
-use Rattle.xl_core.specs.Ticks.{advanced, renew, expire}
+use Rattle.xl_core.specs.Ticks.{advanced, renew, expire, lapse, lapsed_for}
 use Rattle.xl_core.specs.declared.ask.Answer.{Answer}
 use Rattle.xl_core.specs.declared.ask.Answer.TheVariants.{Queued}
 use Rattle.xl_core.specs.declared.ask.Ask.{Ask}
@@ -29,17 +32,20 @@ use Rattle.xl_core.specs.declared.ask.Effect.TheVariants.{Served}
 -- ---- a call of the core as a value
 
 -- an ask, with the room left in the fronts' tables; a claim given back; a share made weaker, to this access and deny; the
--- waiter of this number taken out; a party ended; a turn; a number given out; the clock read; the lease of the NFSv4 client
+-- break of this cache answered, so that this much is left of it; the waiter of this number taken out; a party ended; a
+-- turn; a number given out; the clock read; the break of this cache over without an answer; the lease of the NFSv4 client
 -- of this id string renewed; such a client expired
 pub data Deed : Type 0 where
   Asks : Rooms → Ask → Deed
   GivesBack : Claim → Deed
   Weakens : Claim → Rwd → Rwd → Deed
+  Acks : Claim → Option CacheKind → Deed
   Cancels : ℕ → Deed
   Ends : Party → Deed
   Serves : Rooms → Deed
   Draws : Deed
   Advances : Moment → Deed
+  Lapses : Claim → Deed
   Renews : List ℕ → Deed
   Expires : List ℕ → Deed
 
@@ -63,11 +69,13 @@ abbrev pub given : ℕ → CoreState → Deed → Given
 given n s (Asks left a) = answered (ask n left s a)
 given n s (GivesBack claim) = unanswered (give_back s claim)
 given n s (Weakens share access deny) = unanswered (weaken s share access deny)
+given n s (Acks cache to) = unanswered (ack s cache to)
 given n s (Cancels id) = unanswered (cancel s id)
 given n s (Ends party) = unanswered (end_party s party)
 given n s (Serves left) = turned s (settle n left s)
 given n s Draws = (None, [], drawn s)
 given n s (Advances now) = (None, [], advanced s now)
+given n s (Lapses cache) = unanswered (lapse s cache)
 given n s (Renews client) = unanswered (renew s client)
 given n s (Expires client) = unanswered (expire s client)
 
@@ -95,13 +103,17 @@ answers_of n s (d ∷ ds) = with_answer (given n s d).0 (answers_of n (done n s 
 
 -- ---- which deeds the core takes
 
--- an ask that is fit, a share that is held, which may come to have no more than it has, a waiter who stands, and of the
--- clients whose lease has ended the one whose id string stands first; claims of other kinds are not given back yet
+-- an ask that is fit; a share or a cache that is held, given back; a share that is held, which comes to have no more than it
+-- has; a cache that is held and whose break runs, of which no more is left than the break leaves; a waiter who stands; of the
+-- caches whose deadline has come the one that is due first; and of the clients whose lease has ended the one whose id string
+-- stands first. Ranges are unlocked by an ask.
 abbrev pub IsFitDeed : CoreState → Deed → Type 0
 IsFitDeed s (Asks left a) = IsFit a
-IsFitDeed s (GivesBack claim) = IsIn claim s.claims × (is_share claim.what ≡ true)
+IsFitDeed s (GivesBack claim) = IsIn claim s.claims × (is_range claim.what ≡ false)
 IsFitDeed s (Weakens share access deny) = IsIn share s.claims × (share_has share.what access deny ≡ true)
+IsFitDeed s (Acks cache to) = IsIn cache s.claims × (may_be_left cache.what to ≡ true)
 IsFitDeed s (Cancels id) = is_waiting id s.waiters ≡ true
+IsFitDeed s (Lapses cache) = first_due s ≡ Some cache
 IsFitDeed s (Expires client) = first_ended s.clock s.leases ≡ Some client
 IsFitDeed s _ = Unit {0}
 
@@ -130,12 +142,18 @@ abbrev pub queue_without_party : Option Party → List Waiter → List Waiter
 queue_without_party None waiters = waiters
 queue_without_party (Some party) waiters = filter (λ w. not (waits_for party w)) waiters
 
+-- those of a client that expires wait no more
+abbrev pub queue_without_client : List Name → Option (List ℕ) → List Waiter → List Waiter
+queue_without_client names None waiters = waiters
+queue_without_client names (Some client) waiters = queue_without_party (party_named names (NfsParty client)) waiters
+
 -- who waits after one deed, of those who waited
 abbrev pub waits_after : ℕ → CoreState → Deed → List Waiter → List Waiter
 waits_after n s (Asks left a) waiters = queue_with s a (ask n left s a).0 waiters
 waits_after n s (Cancels id) waiters = cancelled id waiters
 waits_after n s (Ends party) waiters = filter (λ w. not (waits_for party w)) waiters
 waits_after n s (Serves left) waiters = queue_without (given n s (Serves left)).1 waiters
+waits_after n s (Lapses cache) waiters = queue_without_client s.names (client_of s.names cache.party) waiters
 waits_after n s (Expires client) waiters = queue_without_party (party_named s.names (NfsParty client)) waiters
 waits_after n s _ waiters = waiters
 
@@ -155,9 +173,22 @@ abbrev pub expiries : ℕ → CoreState → List Deed
 expiries zero s = []
 expiries (suc fuel) s = expiry_then (expiries fuel) s (first_ended s.clock s.leases)
 
--- what a reading of the clock does: it rises, and each client whose lease has ended expires
+abbrev pub lapse_then : (CoreState → List Deed) → CoreState → Option Claim → List Deed
+lapse_then rest s None = []
+lapse_then rest s (Some cache) = Lapses cache ∷ rest (lapse s cache).1
+
+-- so many breaks over at most, each the one that is due first
+abbrev pub lapses : ℕ → CoreState → List Deed
+lapses zero s = []
+lapses (suc fuel) s = lapse_then (lapses fuel) s (first_due s)
+
+abbrev pub expiries_of : CoreState → List Deed
+expiries_of s = expiries (length s.leases) s
+
+-- what a reading of the clock does: it rises, each break is over whose deadline has come, and each client whose lease has
+-- ended expires
 abbrev pub tick_deeds : CoreState → Moment → List Deed
-tick_deeds s now = Advances now ∷ expiries (length s.leases) (advanced s now)
+tick_deeds s now = Advances now ∷ (lapses (length s.claims) (advanced s now) ++ expiries_of (lapsed_for (length s.claims) (advanced s now)).1)
 
 -- ---- caches
 
@@ -166,10 +197,19 @@ abbrev pub caches_without_party : Option Party → List Claim → List Claim
 caches_without_party None caches = caches
 caches_without_party (Some party) caches = filter (λ c. not (same_parties c.party party)) caches
 
--- the caches after one deed, of those that were held: those of a party that ends, or expires, go; no deed makes one, or
--- changes one
+-- the cache goes, or those of its client that expires
+abbrev pub caches_without : List Name → Claim → Option (List ℕ) → List Claim → List Claim
+caches_without names cache None caches = removed cache caches
+caches_without names cache (Some client) caches = caches_without_party (party_named names (NfsParty client)) caches
+
+-- The caches after one deed, of those that were held: one that is given back goes; of one whose break is answered that is
+-- left which the answer says; one whose deadline passed goes, or those of its client; and those of a party that ends go.
+-- No deed makes one.
 abbrev pub caches_after : CoreState → Deed → List Claim → List Claim
+caches_after s (GivesBack claim) caches = removed claim caches
+caches_after s (Acks cache to) caches = with_rest cache to caches
 caches_after s (Ends party) caches = caches_without_party (Some party) caches
+caches_after s (Lapses cache) caches = caches_without s.names cache (client_of s.names cache.party) caches
 caches_after s (Expires client) caches = caches_without_party (party_named s.names (NfsParty client)) caches
 caches_after s _ caches = caches
 
@@ -177,6 +217,33 @@ caches_after s _ caches = caches
 abbrev pub all_caches_after : ℕ → CoreState → List Deed → List Claim → List Claim
 all_caches_after n s [] caches = caches
 all_caches_after n s (d ∷ ds) caches = all_caches_after n (done n s d) ds (caches_after s d caches)
+
+-- ---- breaks that run
+
+-- the claim is this party's
+abbrev pub is_of_some : Option Party → Claim → Bool
+is_of_some None c = false
+is_of_some (Some party) c = same_parties c.party party
+
+-- the cache is this one, or its client's that expires
+abbrev pub is_lapsed : List Name → Claim → Option (List ℕ) → Claim → Bool
+is_lapsed names cache None c = same_claims cache c
+is_lapsed names cache (Some client) c = is_of_some (party_named names (NfsParty client)) c
+
+-- The deed ends the break that runs of this cache: it is the party's answer, gives the cache back, ends its party, is the
+-- passing of the deadline, or the expiry of the client.
+abbrev pub ends_break : CoreState → Claim → Deed → Bool
+ends_break s c (GivesBack claim) = same_claims claim c
+ends_break s c (Acks cache to) = same_claims cache c
+ends_break s c (Ends party) = same_parties c.party party
+ends_break s c (Lapses cache) = is_lapsed s.names cache (client_of s.names cache.party) c
+ends_break s c (Expires client) = is_of_some (party_named s.names (NfsParty client)) c
+ends_break s c _ = false
+
+-- one of these does, in the state that those before it left
+abbrev pub any_ends_break : ℕ → CoreState → Claim → List Deed → Bool
+any_ends_break n s c [] = false
+any_ends_break n s c (d ∷ ds) = ends_break s c d || any_ends_break n (done n s d) c ds
 
 -- ---- names
 

@@ -11,7 +11,8 @@ use Rattle.xl_core.specs.Asking.{range_what, both_entered, asked_what, asked_cla
 use Rattle.xl_core.specs.Limits.{IsRoom}
 use Rattle.xl_core.specs.Causes.{limits_of_grant, IsClaimDue, IsTestDue, IsUnlockDue, IsElementDue, IsEachDue, IsTurn}
 use Rattle.xl_core.specs.Decide.{ask}
-use Rattle.xl_core.specs.Deeds.{Deed, Asks, Serves, Expires, done}
+use Rattle.xl_core.specs.Breaks.{first_due}
+use Rattle.xl_core.specs.Deeds.{Deed, Asks, Serves, Lapses, Expires, done}
 use Rattle.xl_core.specs.Leases.{first_ended}
 use Rattle.xl_table.specs.Flat.{is_blocked}
 use Rattle.xl_core.specs.Good.{IsSettled}
@@ -61,11 +62,12 @@ pub record IsTurnOwed (n : ℕ) (left : Rooms) (s : CoreState) : Type 0 where
   pub none : settle n left s ≡ None → IsSettled s
   pub first : IfSome (settle n left s) (λ r. IsTurn left s r.0 r.1)
 
--- what is due to a deed: an ask its answer, a turn to who may have it; and of those whose lease has ended the first by id
--- string expires
+-- what is due to a deed: an ask its answer, a turn to who may have it; of the breaks whose deadline has come the one that is
+-- due first is over; and of those whose lease has ended the first by id string expires
 abbrev pub IsDue : ℕ → CoreState → Deed → Type 0
 IsDue n s (Asks left a) = IsAnswerDue left s a a.act (ask n left s a).0
 IsDue n s (Serves left) = IsTurnOwed n left s
+IsDue n s (Lapses cache) = first_due s ≡ Some cache
 IsDue n s (Expires client) = first_ended s.clock s.leases ≡ Some client
 IsDue n s _ = Unit {0}
 

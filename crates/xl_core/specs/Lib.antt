@@ -6,6 +6,8 @@ pub mod Limits
 pub mod Judge
 pub mod Decide
 pub mod Settle
+pub mod Breaks
+pub mod Begin
 pub mod Ticks
 pub mod Watch
 pub mod Good

@@ -1,10 +1,11 @@
 -- Places where something is held, and what a deed makes of each.
-use Rattle.std.specs.Prelude.{◌≡◌, ℕ, Bool, false, ◌&&◌, if◌then◌else◌, List, [], ◌∷◌, ◌++◌, map, Option, Some, None}
-use Rattle.std.specs.List.{list_any}
+use Rattle.std.specs.Prelude.{◌≡◌, ℕ, Bool, false, ◌&&◌, ◌==◌, if◌then◌else◌, List, [], ◌∷◌, ◌++◌, map, Option, Some, None}
+use Rattle.std.specs.List.{filter, list_any}
 use Rattle.xl_base.specs.declared.name.Owner.{Owner}
 use Rattle.xl_base.specs.declared.name.Owner.TheVariants as owners
 use Rattle.xl_base.specs.declared.name.Party.{Party}
 use Rattle.xl_matrix.specs.Equal.{same_parties}
+use Rattle.xl_matrix.specs.declared.claim.CacheKind.{CacheKind}
 use Rattle.xl_matrix.specs.declared.claim.Claim.{Claim}
 use Rattle.xl_matrix.specs.Owners.{posix}
 use Rattle.xl_matrix.specs.declared.claim.Extent.{Extent}
@@ -16,12 +17,13 @@ use Rattle.xl_spans.specs.Spans.{within, mode_at}
 use Rattle.xl_spans.specs.declared.span.Mode.{Mode}
 use Rattle.xl_table.specs.Elements.{elements_of, unlocked_elements}
 use Rattle.xl_table.specs.Flat.{with_what}
-use Rattle.xl_table.specs.Held.{is_of, spans_of}
+use Rattle.xl_table.specs.Held.{is_cache, is_of, spans_of}
 use Rattle.xl_names.specs.declared.name.Name.TheVariants.{NfsParty}
 use Rattle.xl_core.specs.State.{CoreState}
 use Rattle.xl_core.specs.Decide.{ask}
 use Rattle.xl_core.specs.Asking.{party_named, range_what}
-use Rattle.xl_core.specs.Deeds.{Deed, Asks, GivesBack, Weakens, Ends, Serves, Expires, given, done}
+use Rattle.xl_core.specs.Breaks.{client_of}
+use Rattle.xl_core.specs.Deeds.{Deed, Asks, GivesBack, Weakens, Acks, Ends, Serves, Lapses, Expires, given, done}
 use Rattle.xl_table.specs.Relock.{is_exclusive, is_range_of, shares_of, old_shares, united_by, granted_claims}
 use Rattle.xl_core.specs.declared.ask.Act.{Act}
 use Rattle.xl_core.specs.declared.ask.Act.TheVariants as acts
@@ -33,11 +35,12 @@ use Rattle.xl_core.specs.declared.ask.Effect.TheVariants.{Served}
 -- ---- places
 
 -- a byte of a file as its POSIX owner may have it locked; an owner's share of a file; the ranges of an SMB open on a file,
--- which stand one by one
+-- which stand one by one; a party's cache of a file
 pub data Place : Type 0 where
   ByteOf : ℕ → Owner → ℕ → Place
   ShareOf : ℕ → Owner → Place
   RangesOf : ℕ → ℕ → Place
+  CacheOf : ℕ → Party → Place
 
 abbrev pub byte_held : Owner → ℕ → Option Mode → List What
 byte_held owner byte None = []
@@ -46,26 +49,34 @@ byte_held owner byte (Some mode) = if posix owner then whats.Range (Bytes byte b
 abbrev pub share_held : Rwd × Rwd → What
 share_held share = whats.Share share.0 share.1
 
+-- the claim is a cache that this party has on this file
+abbrev pub is_cache_on : ℕ → Party → Claim → Bool
+is_cache_on file party c = is_cache c.what && ((c.file == file) && same_parties c.party party)
+
 abbrev pub held_in : List Claim → Place → List What
 held_in claims (ByteOf file owner byte) = byte_held owner byte (mode_at (spans_of file owner claims) byte)
 held_in claims (ShareOf file owner) = map share_held (shares_of file owner claims)
 held_in claims (RangesOf file number) = elements_of file (owners.Open number) claims
+held_in claims (CacheOf file party) = map (λ c. c.what) (filter (is_cache_on file party) claims)
 
--- what is held there: nothing, the lock of that one byte, the share, or the open's ranges as they were locked
+-- what is held there: nothing, the lock of that one byte, the share, the open's ranges as they were locked, or the cache
+-- with the break of it that runs
 abbrev pub held_at : CoreState → Place → List What
 held_at s p = held_in s.claims p
 
 -- ---- a claim at a place
 
--- the claim is one of the place's owner, on its file
+-- the claim is one of the place's owner, on its file, or the cache of the place's party there
 abbrev pub is_at : Place → Claim → Bool
 is_at (ByteOf file owner byte) c = is_of file owner c
 is_at (ShareOf file owner) c = is_of file owner c
 is_at (RangesOf file number) c = is_of file (owners.Open number) c
+is_at (CacheOf file party) c = is_cache_on file party c
 
 abbrev pub part_by : What → Place → List What
 part_by (whats.Range (Bytes first last) exclusive) (ByteOf file owner byte) = if posix owner && within first last byte then whats.Range (Bytes byte byte) exclusive ∷ [] else []
 part_by (whats.Share access deny) (ShareOf file owner) = whats.Share access deny ∷ []
+part_by (whats.Cache kind running) (CacheOf file party) = whats.Cache kind running ∷ []
 part_by _ _ = []
 
 -- what of the claim is held at the place
@@ -87,6 +98,7 @@ abbrev pub entered_at : List Claim → Claim → Place → Option (List What)
 entered_at held c (ByteOf file owner byte) = entered_by (if is_of file owner c then part_by (held_as held c c.what) (ByteOf file owner byte) else [])
 entered_at held c (ShareOf file owner) = entered_by (if is_of file owner c then part_by (held_as held c c.what) (ShareOf file owner) else [])
 entered_at held c (RangesOf file number) = if is_range_of file (owners.Open number) c then Some (elements_of file (owners.Open number) held ++ c.what ∷ []) else None
+entered_at held c (CacheOf file party) = None
 
 abbrev pub then_entered : Option (List What) → Option (List What) → Option (List What)
 then_entered first None = first
@@ -109,6 +121,11 @@ cleared_at c p = cleared_by (part_of c p)
 abbrev pub weakened_at : Claim → Rwd → Rwd → Place → Option (List What)
 weakened_at share access deny p = entered_by (part_of (with_what share (whats.Share access deny)) p)
 
+-- of a cache whose break is answered this much is left at its party's place
+abbrev pub acked_at : Claim → Option CacheKind → Place → Option (List What)
+acked_at cache None p = cleared_at cache p
+acked_at cache (Some kind) p = entered_by (part_of (with_what cache (whats.Cache kind None)) p)
+
 -- ---- what a deed makes of a place, or none where it leaves it
 
 abbrev pub entered_for : List Claim → Answer → Place → Option (List What)
@@ -127,6 +144,7 @@ all_entered_for held ranges answer p = None
 abbrev pub unlocked_at : List Claim → Extent → Claim → Place → Option (List What)
 unlocked_at held extent c (ByteOf file owner byte) = cleared_at c (ByteOf file owner byte)
 unlocked_at held extent c (ShareOf file owner) = None
+unlocked_at held extent c (CacheOf file party) = None
 unlocked_at held extent c (RangesOf file number) = if is_of file (owners.Open number) c then Some (unlocked_elements extent (elements_of file (owners.Open number) held)) else None
 
 abbrev pub unlocked_for : List Claim → Extent → Answer → Place → Option (List What)
@@ -149,6 +167,11 @@ abbrev pub ended_some : List Claim → Option Party → Place → Option (List W
 ended_some claims None p = None
 ended_some claims (Some party) p = ended_at claims party p
 
+-- a cache whose deadline passed is gone, or its client has expired
+abbrev pub lapsed_at : CoreState → Claim → Option (List ℕ) → Place → Option (List What)
+lapsed_at s cache None p = cleared_at cache p
+lapsed_at s cache (Some client) p = ended_some s.claims (party_named s.names (NfsParty client)) p
+
 -- a waiter that is granted what it waited for has that
 abbrev pub told_at : List Claim → List Effect → Place → Option (List What)
 told_at held (Served id answer ∷ effects) p = entered_for held answer p
@@ -159,8 +182,10 @@ abbrev pub made : ℕ → CoreState → Deed → Place → Option (List What)
 made n s (Asks left a) p = answered_at s.claims a.act (ask n left s a).0 p
 made n s (GivesBack claim) p = cleared_at claim p
 made n s (Weakens share access deny) p = weakened_at share access deny p
+made n s (Acks cache to) p = acked_at cache to p
 made n s (Ends party) p = ended_at s.claims party p
 made n s (Serves left) p = told_at s.claims (given n s (Serves left)).1 p
+made n s (Lapses cache) p = lapsed_at s cache (client_of s.names cache.party) p
 made n s (Expires client) p = ended_some s.claims (party_named s.names (NfsParty client)) p
 made n s d p = None
 

@@ -8,6 +8,7 @@ ghost use Rattle.xl_core.specs.Asking.{IsFit};
 ghost use Rattle.xl_core.specs.Good.{IsGood};
 ghost use Rattle.xl_core.specs.Decide.{ask};
 ghost use Rattle.xl_core.specs.Settle.{settle, cancel, give_back, share_has, weaken, end_party};
+ghost use Rattle.xl_core.specs.Breaks.{may_be_left, ack};
 ghost use Rattle.xl_core.specs.Ticks.{renew, tick};
 ghost use Rattle.xl_core.specs.Whole.{state_of};
 
@@ -20,7 +21,7 @@ use indexmap::IndexMap;
 use std::alloc::{AllocError, Global};
 use std::marker::Model;
 use xl_base::{Keeper, Moment, Party, Record, Sequence};
-use xl_matrix::{Claim, Rwd};
+use xl_matrix::{CacheKind, Claim, Rwd};
 use xl_names::Names;
 use xl_table::Table;
 use xl_wait::{Queue, Rooms};
@@ -220,6 +221,19 @@ impl Core {
         )
     }
 
+    /// Takes the answer to the break of a cache that is held: this much of it is left, or nothing, which lies within what the
+    /// break leaves (MS-SMB2 3.3.5.22). There is nothing to tell. It takes no memory.
+    #[tactic(auto, using(crate::proofs::BreakLaws::ack_good))]
+    pub fn ack(&mut self, alloc: Global, cache: &Claim, to: Option<CacheKind>) -> Sequence<Effect>
+        requires held { IsIn cache.now self.old.claims }
+        requires runs { may_be_left cache.now.what to ≡ true }
+        requires good { IsGood self.old }
+        ensures state { ack self.old cache.now to ≡ (result, self.new) }
+        ensures good { IsGood self.new }
+    {
+        unsettled::ack(alloc, &mut self.parts, &mut self.unsettled, cache, to)
+    }
+
     /// Gives out the next number. At least 65,536 numbers must be left to give out. It takes no memory.
     #[tactic(auto, using(crate::proofs::GoodLaws::drawn_good, crate::proofs::WatchLaws::drawn_up))]
     pub fn draw(&mut self) -> u32
@@ -253,9 +267,11 @@ impl Core {
         unsettled::renew(alloc, &mut self.parts, &mut self.unsettled, client)
     }
 
-    /// The clock reads this moment, where that is later than what it read. Then each client whose lease has ended by then
-    /// expires, in the order of the id strings by bytes: all that it has goes, and that is told. No expiry stores the
-    /// record yet.
+    /// The clock reads this moment, where that is later than what it read. Then each break is over whose deadline has come
+    /// by then, by the deadlines, of equal ones by the file and the text of the party: an SMB cache goes (MS-SMB2 3.3.6.1),
+    /// and the client of a delegation expires (RFC 7530 10.4.6). Then each client whose lease has ended expires, in the
+    /// order of the id strings by bytes. Of a client that expires all goes, and that is told. No expiry stores the record
+    /// yet.
     #[tactic(auto, using(crate::proofs::GoodLaws::tick_good))]
     pub fn tick<K: Keeper>(
         &mut self,

@@ -8,6 +8,7 @@ ghost use Rattle.xl_base.specs.declared.event.Moment.{Moment};
 ghost use Rattle.xl_base.specs.declared.name.Owner.{Owner};
 ghost use Rattle.xl_base.specs.declared.name.Party.{Party};
 ghost use Rattle.xl_matrix.specs.Equal.{same_parties};
+ghost use Rattle.xl_matrix.specs.declared.claim.CacheKind.{CacheKind};
 ghost use Rattle.xl_matrix.specs.declared.claim.Claim.{Claim};
 ghost use Rattle.xl_matrix.specs.declared.claim.Extent.{Extent};
 ghost use Rattle.xl_matrix.specs.declared.claim.Rwd.{Rwd};
@@ -34,6 +35,9 @@ ghost use Rattle.xl_core.specs.Limits.{IsRoom};
 ghost use Rattle.xl_core.specs.Settle.{settle, AllRest, waits_for, cancel, give_back, share_has, weaken, end_party};
 ghost use Rattle.xl_core.specs.declared.ask.Act.{Act};
 ghost use Rattle.xl_core.specs.declared.ask.Answer.{Answer};
+ghost use Rattle.xl_cache.specs.Planning.{is_running, is_obstacle, planned, is_slow};
+ghost use Rattle.xl_core.specs.Begin.{with_break, once_broken, idle_caches};
+ghost use Rattle.xl_core.specs.Breaks.{may_be_left, ack};
 ghost use Rattle.xl_core.specs.Ticks.{renew, tick};
 ghost use Rattle.xl_core.specs.declared.ask.Ask.{Ask};
 ghost use Rattle.xl_core.specs.declared.lease.Times.{Times};
@@ -49,6 +53,7 @@ pub fn stays_good()
     ensures cancelled { (s : CoreState) (id : ℕ) → IsGood s → IsGood (cancel s id).1 }
     ensures given_back { (s : CoreState) (claim : Claim) → IsGood s → IsGood (give_back s claim).1 }
     ensures weakened { (s : CoreState) (share : Claim) (access deny : Rwd) → IsGood s → IsIn share s.claims → share_has share.what access deny ≡ true → IsGood (weaken s share access deny).1 }
+    ensures acked { (s : CoreState) (cache : Claim) (to : Option CacheKind) → IsGood s → IsIn cache s.claims → may_be_left cache.what to ≡ true → IsGood (ack s cache to).1 }
     ensures drawn { (s : CoreState) → IsGood s → IsGood (drawn s) }
     ensures ended { (s : CoreState) (party : Party) → IsGood s → IsGood (end_party s party).1 }
     ensures renewed { (s : CoreState) (client : List ℕ) → IsGood s → IsGood (renew s client).1 }
@@ -57,11 +62,25 @@ pub fn stays_good()
 
 /// The state stays good where a cache that its party may have comes to be held beside claims with which it goes, and there
 /// is room; and where a held cache becomes another one that its party may have: one that goes with all others, or one that
-/// is less, or that a break of it begins. No call does so yet.
+/// is less, or that a break of it begins. Of these only one is a call's yet: the answer to a break leaves less.
 pub fn caches_may_be_held()
     ensures entered { (s : CoreState) (c : Claim) → IsGood s → IsHeld s.names c → is_cache c.what ≡ true → AllByRecursion (λ d. compat c d ≡ true) s.claims → length s.claims < most_claims → IsGood (holding s (inserted c s.claims)) }
     ensures raised { (s : CoreState) (c : Claim) (to : What) → IsGood s → IsIn c s.claims → IsHeld s.names (with_what c to) → is_cache to ≡ true → AllByRecursion (λ d. compat (with_what c to) d ≡ true) (removed c s.claims) → IsGood (holding s (changed c to s.claims)) }
     ensures weakened { (s : CoreState) (c : Claim) (to : What) → IsGood s → IsIn c s.claims → IsHeld s.names (with_what c to) → is_cache to ≡ true → weaker (with_what c to) c ≡ true → IsGood (holding s (changed c to s.claims)) }
+{}
+
+/// Where the breaks begin that an ask for a share or a range begins, the state stays good: each of these caches is held at its
+/// full kind until its break is answered, or is gone where that needs no answer. What is not in the ask's way stands as it
+/// is, and so does a cache whose break runs already. Then none is left to begin: each cache in the way is gone, or its break
+/// runs; and so many caches fewer are left whose break may begin as breaks began. No call begins a break yet.
+#[tactic(auto, using(crate::proofs::BeginLaws::broken_good, crate::proofs::BeginLaws::broken_stand, crate::proofs::BeginLaws::apart_stand, crate::proofs::BeginLaws::running_stand, crate::proofs::BeginLaws::none_begins_again, crate::proofs::BeginLaws::fewer_idle))]
+pub fn breaks_may_begin()
+    ensures good { (deadline : Moment) (s : CoreState) (ask : Claim) → IsGood s → is_cache ask.what ≡ false → IsGood (holding s (once_broken deadline ask s.claims)) }
+    ensures broken { (deadline : Moment) (ask : Claim) (held : List Claim) (b : Claim × Option CacheKind) → IsIn b (planned ask held).breaks → is_slow b ≡ true → IsIn (with_break b.0 b.0.what b.1 deadline) (once_broken deadline ask held) }
+    ensures apart { (deadline : Moment) (ask : Claim) (held : List Claim) (c : Claim) → IsIn c held → is_obstacle ask held c ≡ false → IsIn c (once_broken deadline ask held) }
+    ensures running { (deadline : Moment) (ask : Claim) (held : List Claim) (c : Claim) → IsIn c held → is_running c.what ≡ true → IsIn c (once_broken deadline ask held) }
+    ensures once { (deadline : Moment) (ask : Claim) (held : List Claim) → (planned ask (once_broken deadline ask held)).breaks ≡ [] }
+    ensures fewer { (deadline : Moment) (ask : Claim) (held : List Claim) → idle_caches (once_broken deadline ask held) + length (planned ask held).breaks ≡ idle_caches held }
 {}
 
 /// Each answer is given exactly where its cause stands, which `IsClaimDue`, `IsTestDue` and `IsUnlockDue` say; of
@@ -136,18 +155,20 @@ pub fn calls_have_frames()
     ensures cancels { (s : CoreState) (id : ℕ) → is_waiting id s.waiters ≡ true → IsFrame s (cancel s id).0 (cancel s id).1 0 s.names [] }
     ensures gives_back { (s : CoreState) (claim : Claim) → IsFrame s (give_back s claim).0 (give_back s claim).1 0 s.names [] }
     ensures weakens { (s : CoreState) (share : Claim) (access deny : Rwd) → IsFrame s (weaken s share access deny).0 (weaken s share access deny).1 0 s.names [] }
+    ensures acks { (s : CoreState) (cache : Claim) (to : Option CacheKind) → IsFrame s (ack s cache to).0 (ack s cache to).1 0 s.names [] }
     ensures ends { (s : CoreState) (party : Party) → IsGood s → IsFrame s (end_party s party).0 (end_party s party).1 0 s.names [] }
     ensures draws { (s : CoreState) → IsFrame s [] (drawn s) 1 s.names [] }
     ensures renews { (s : CoreState) (client : List ℕ) → IsFrame s (renew s client).0 (renew s client).1 0 s.names [] }
     ensures ticks { (s : CoreState) (now : Moment) → IsTicked s now (tick s now).1 }
 {}
 
-/// Nobody is served but by a turn: not where a waiter cancels, a claim is given back, a share is made weaker, a party ends,
-/// or the clock is read. (An ask tells of nothing, see `calls_have_frames`.)
+/// Nobody is served but by a turn: not where a waiter cancels, a claim is given back, a share is made weaker, a break is
+/// answered, a party ends, or the clock is read. (An ask tells of nothing, see `calls_have_frames`.)
 pub fn only_turns_serve()
     ensures cancels { (s : CoreState) (id : ℕ) → serves_none (cancel s id).0 ≡ true }
     ensures gives_back { (s : CoreState) (claim : Claim) → serves_none (give_back s claim).0 ≡ true }
     ensures weakens { (s : CoreState) (share : Claim) (access deny : Rwd) → serves_none (weaken s share access deny).0 ≡ true }
+    ensures acks { (s : CoreState) (cache : Claim) (to : Option CacheKind) → serves_none (ack s cache to).0 ≡ true }
     ensures ends { (s : CoreState) (party : Party) → serves_none (end_party s party).0 ≡ true }
     ensures ticks { (s : CoreState) (now : Moment) → serves_none (tick s now).0 ≡ true }
 {}

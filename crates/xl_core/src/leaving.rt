@@ -5,6 +5,7 @@ ghost use Rattle.xl_matrix.specs.Equal.{same_parties};
 ghost use Rattle.xl_wait.specs.Waiting.{cancelled};
 ghost use Rattle.xl_core.specs.Good.{IsGood};
 ghost use Rattle.xl_base.specs.Lists.{IsIn};
+ghost use Rattle.xl_core.specs.Breaks.{ack};
 ghost use Rattle.xl_core.specs.Settle.{waits_for, numbers_for, all_told, all_cancelled, cancel, give_back, weaken, end_party};
 ghost use Rattle.xl_core.specs.Whole.{state_of};
 
@@ -12,7 +13,7 @@ use crate::ask::Effect;
 use crate::parts::Parts;
 use std::alloc::{AllocError, Global};
 use xl_base::{Party, Sequence};
-use xl_matrix::{Claim, Rwd, What, same_party};
+use xl_matrix::{CacheKind, Claim, Rwd, What, same_party};
 use xl_wait::{Queue, Waiter};
 
 /// Takes one waiter out.
@@ -53,6 +54,25 @@ pub(crate) fn weaken(
     ensures { weaken (state_of parts.old) share.now access deny ≡ (result, state_of parts.new) }
 {
     parts.table.change(share, What::Share(access, deny));
+    Sequence::new(alloc)
+}
+
+/// Leaves this much of a cache.
+#[tactic(auto, unfolding(crate::specs::Breaks::ack), using(crate::proofs::BreakLaws::acked_sound))]
+pub(crate) fn ack(
+    alloc: Global,
+    parts: &mut Parts,
+    cache: &Claim,
+    to: Option<CacheKind>,
+) -> Sequence<Effect>
+    requires held { IsIn cache.now parts.old.table }
+    requires good { IsGood (state_of parts.old) }
+    ensures { ack (state_of parts.old) cache.now to ≡ (result, state_of parts.new) }
+{
+    match to {
+        Some(kind) => parts.table.change(cache, What::Cache(kind, None)),
+        None => parts.table.remove(cache),
+    }
     Sequence::new(alloc)
 }
 

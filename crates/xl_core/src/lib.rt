@@ -7,6 +7,7 @@ mod asking;
 mod decide;
 pub mod deeds;
 mod doors;
+mod due;
 mod judge;
 pub mod law;
 mod lease;

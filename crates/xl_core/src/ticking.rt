@@ -1,18 +1,22 @@
 //! What the clock does.
 ghost use Rattle.std.specs.Prelude.{◌≡◌, ℕ, ◌++◌, [], ◌∷◌, length, option_map, IfOk, OnOk};
+ghost use Rattle.xl_core.specs.Breaks.{client_of};
 ghost use Rattle.xl_names.specs.declared.name.Name.TheVariants.{NfsParty};
 ghost use Rattle.xl_core.specs.Asking.{party_named};
 ghost use Rattle.xl_core.specs.Leases.{first_ended};
 ghost use Rattle.xl_core.specs.Good.{IsGood};
-ghost use Rattle.xl_core.specs.Ticks.{advanced, renew, end_some, expire, expired_for, tick};
+ghost use Rattle.xl_core.specs.Ticks.{advanced, renew, end_some, expire, expired_for, expire_all, lapse, lapsed_for, tick};
 ghost use Rattle.xl_core.specs.Whole.{state_of};
 
 use crate::ask::Effect;
-use crate::lease::{drop_lease, first_ended, later, moment_after, put_lease};
+use crate::due::first_due;
+use crate::lease;
+use crate::lease::{drop_lease, later, moment_after, put_lease};
 use crate::leaving::end_party;
 use crate::parts::Parts;
 use std::alloc::{AllocError, Global};
 use xl_base::{Moment, Party, Protocol, Sequence};
+use xl_matrix::Claim;
 use xl_names::{Name, Names};
 
 /// The clock reads this moment, where that is later.
@@ -91,7 +95,7 @@ fn expire(
 fn next_ended(alloc: Global, parts: &Parts) -> Result<Option<Sequence<u8>>, AllocError>
     ensures { IfOk result (λ client. client ≡ first_ended parts.now.clock parts.now.leases.entries) }
 {
-    match first_ended(&parts.leases, parts.clock) {
+    match lease::first_ended(&parts.leases, parts.clock) {
         Some(client) => Ok(Some(Sequence::from_slice(alloc, client.as_slice())?)),
         None => Ok(None),
     }
@@ -130,7 +134,72 @@ fn expire_ended(
     expire_ended(alloc, parts, effects, most - 1)
 }
 
-/// Reads the clock: each client whose lease has ended expires.
+/// Lets each client expire whose lease has ended, and tells that behind what was told before.
+#[tactic(auto, unfolding(crate::specs::Ticks::expire_all))]
+fn expire_all(
+    alloc: Global,
+    parts: &mut Parts,
+    effects: &mut Sequence<Effect>,
+) -> Result<(), AllocError>
+    requires good { IsGood (state_of parts.old) }
+    ensures state { OnOk result ((expire_all (state_of parts.old)).1 ≡ state_of parts.new) }
+    ensures told { OnOk result (effects.new ≡ effects.old ++ (expire_all (state_of parts.old)).0) }
+{
+    let most = parts.leases.len();
+    expire_ended(alloc, parts, effects, most)
+}
+
+/// A copy of the id string of the party, where it is an NFSv4 client.
+fn client_of(alloc: Global, names: &Names, party: Party) -> Result<Option<Sequence<u8>>, AllocError>
+    ensures { IfOk result (λ client. client ≡ client_of names.now party) }
+{
+    let Party::Name(Protocol::Nfs, number) = party else {
+        return Ok(None);
+    };
+    match names.as_slice().get(number as usize) {
+        Some(Name::NfsParty(id)) => Ok(Some(Sequence::from_slice(alloc, id.as_slice())?)),
+        _ => Ok(None),
+    }
+}
+
+/// Ends the break of a cache that nobody answered.
+#[tactic(auto, unfolding(crate::specs::Ticks::lapse))]
+fn lapse(alloc: Global, parts: &mut Parts, cache: &Claim) -> Result<Sequence<Effect>, AllocError>
+    requires good { IsGood (state_of parts.old) }
+    ensures { IfOk result (λ effects. lapse (state_of parts.old) cache.now ≡ (effects, state_of parts.new)) }
+{
+    match client_of(alloc, &parts.names, cache.party)? {
+        Some(client) => expire(alloc, parts, client),
+        None => {
+            parts.table.remove(cache);
+            Ok(Sequence::new(alloc))
+        }
+    }
+}
+
+/// Ends so many breaks at most whose deadline has come, and tells that behind what was told before.
+fn lapse_due(
+    alloc: Global,
+    parts: &mut Parts,
+    effects: &mut Sequence<Effect>,
+    most: usize,
+) -> Result<(), AllocError>
+    requires good { IsGood (state_of parts.old) }
+    ensures state { OnOk result ((lapsed_for most (state_of parts.old)).1 ≡ state_of parts.new) }
+    ensures told { OnOk result (effects.new ≡ effects.old ++ (lapsed_for most (state_of parts.old)).0) }
+{
+    if most == 0 {
+        return Ok(());
+    }
+    let Some(cache) = first_due(alloc, parts)? else {
+        return Ok(());
+    };
+    let told = lapse(alloc, parts, &cache)?;
+    push_all(effects, told)?;
+    lapse_due(alloc, parts, effects, most - 1)
+}
+
+/// Reads the clock: each break is over whose deadline has come, and each client expires whose lease has ended.
 #[tactic(auto, unfolding(crate::specs::Ticks::tick))]
 pub(crate) fn tick(
     alloc: Global,
@@ -140,9 +209,10 @@ pub(crate) fn tick(
     requires good { IsGood (state_of parts.old) }
     ensures { IfOk result (λ effects. tick (state_of parts.old) now ≡ (effects, state_of parts.new)) }
 {
-    let most = parts.leases.len();
+    let most = parts.table.len();
     advance(parts, now);
     let mut effects = Sequence::new(alloc);
-    expire_ended(alloc, parts, &mut effects, most)?;
+    lapse_due(alloc, parts, &mut effects, most)?;
+    expire_all(alloc, parts, &mut effects)?;
     Ok(effects)
 }

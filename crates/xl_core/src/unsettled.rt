@@ -6,6 +6,7 @@ ghost use Rattle.xl_core.specs.Decide.{ask};
 ghost use Rattle.xl_core.specs.Good.{IsGood};
 ghost use Rattle.xl_base.specs.Lists.{IsIn};
 ghost use Rattle.xl_core.specs.Settle.{settle, cancel, give_back, weaken, end_party};
+ghost use Rattle.xl_core.specs.Breaks.{ack};
 ghost use Rattle.xl_core.specs.Ticks.{renew, tick};
 ghost use Rattle.xl_core.specs.Watch.{with_file, may_free, left_by_ask, may_turn, AreHeldUp};
 ghost use Rattle.xl_core.specs.Whole.{state_of};
@@ -15,7 +16,7 @@ use crate::parts::Parts;
 use crate::{decide, leaving, settling, ticking};
 use std::alloc::{AllocError, Global};
 use xl_base::{Moment, Party, Sequence};
-use xl_matrix::{Claim, Rwd};
+use xl_matrix::{CacheKind, Claim, Rwd};
 use xl_wait::{Queue, Rooms};
 
 /// The files whose claims changed since all who wait were last found blocked.
@@ -184,6 +185,24 @@ pub(crate) fn weaken(
 {
     *unsettled = with_file(share.file, *unsettled);
     leaving::weaken(alloc, parts, share, access, deny)
+}
+
+/// Leaves this much of a cache. Its file is unsettled then.
+pub(crate) fn ack(
+    alloc: Global,
+    parts: &mut Parts,
+    unsettled: &mut Unsettled,
+    cache: &Claim,
+    to: Option<CacheKind>,
+) -> Sequence<Effect>
+    requires held { IsIn cache.now parts.old.table }
+    requires good { IsGood (state_of parts.old) }
+    requires held_up { AreHeldUp unsettled.old (state_of parts.old) }
+    ensures state { ack (state_of parts.old) cache.now to ≡ (result, state_of parts.new) }
+    ensures held_up { AreHeldUp unsettled.new (state_of parts.new) }
+{
+    *unsettled = with_file(cache.file, *unsettled);
+    leaving::ack(alloc, parts, cache, to)
 }
 
 /// Takes out all claims and waiters of a party. All files are unsettled then.

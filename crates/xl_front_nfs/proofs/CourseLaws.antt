@@ -12,7 +12,7 @@ use Rattle.xl_core.specs.declared.ask.Effect.{Effect}
 use Rattle.xl_nfs_state.specs.State.{NfsLists}
 use Rattle.xl_nfs_opens.specs.Plans.{Outcome, carried}
 use Rattle.xl_nfs_opens.specs.Results.{ToldFits}
-use Rattle.xl_front_nfs.specs.Steps.{planned, Runs, Garbled, Course, noted, is_served, ran, step_then, steps_in}
+use Rattle.xl_front_nfs.specs.Steps.{planned, Runs, Garbled, Course, noted, ran, step_then, steps_in}
 use Rattle.xl_rpc.specs.declared.fault.RpcBad.{RpcBad}
 use Rattle.xl_nfs_opens.specs.declared.told.Told.{Told}
 use Rattle.xl_nfs_opens.specs.declared.told.Told.TheVariants.{Ended}
@@ -20,24 +20,11 @@ use Rattle.xl_front_nfs.proofs.PlanLaws.{plan_fits, number_small}
 
 -- ---- one operation
 
-abbrev unread_status : ℕ → NfsStatus
-unread_status number = if is_served number then statuses.BadXdr else statuses.NotSupp
-
-unread_not_ok : (number : ℕ) → is_ok (unread_status number) ≡ false
-unread_not_ok number =
-    elim (cases_Bool (is_served number)) [
-      | inl e ↦ rw e refl
-      | inr e ↦ rw e refl
-    ]
-
-pub refused : (n : ℕ) (files : List (List ℕ)) (others : ℕ) (c next : Course) (s : CoreState) (number : ℕ) (status : NfsStatus) (effects : List Effect) (more : Bool) → status ≡ unread_status number → effects ≡ []
-    → noted c number (Ended status, c.current, effects, c.lists, s) ≡ (more, next, s) → ran files others n c s (Garbled number) ≡ (false, next, s)
+pub refused : (n : ℕ) (files : List (List ℕ)) (others : ℕ) (c next : Course) (s : CoreState) (number : ℕ) (more : Bool) → noted c number (Ended statuses.BadXdr, c.current, [], c.lists, s) ≡ (more, next, s) → ran files others n c s (Garbled number) ≡ (false, next, s)
 unfolding ran
-refused n files others c next s number status effects more is none e =
-    let no : more ≡ false = sym (ap (λ (r : Ran Course). r.0) e) ∙ ap is_ok is ∙ unread_not_ok number in
-    ap (λ (t : NfsStatus). noted c number (Ended t, c.current, [], c.lists, s)) (sym is)
-    ∙ ap (λ (told : List Effect). noted c number (Ended status, c.current, told, c.lists, s)) (sym none)
-    ∙ e ∙ (λ i. (no i, next, s))
+refused n files others c next s number more e =
+    let no : more ≡ false = sym (ap (λ (r : Ran Course). r.0) e) in
+    e ∙ (λ i. (no i, next, s))
 
 pub told_fits_op : (n : ℕ) (files : List (List ℕ)) (others : ℕ) (s new : CoreState) (l lists : NfsLists) (current handle : Option ℕ) (item : OpItem) (number : ℕ) (told : Told) (effects : List Effect) → OpFits item → number ≡ op_number item
     → carried n s l current (planned files others s l current item) ≡ (told, handle, effects, lists, new) → ToldFits number told

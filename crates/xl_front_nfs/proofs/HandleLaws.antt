@@ -9,7 +9,7 @@ use Rattle.xl_base.specs.Handles.{file_at}
 use Rattle.xl_base.specs.Lists.{IsIn}
 use Rattle.xl_base.specs.declared.event.Moment.{Moment}
 use Rattle.xl_nfs.specs.Clients.{SetClientIdArgsItem}
-use Rattle.xl_nfs.specs.Ops.{OpItem, Close, DelegReturn, GetFh, Lookup, Open, OpenConfirm, OpenDowngrade, PutFh, PutRootFh, Renew, SetClientId, SetClientIdConfirm, Illegal}
+use Rattle.xl_nfs.specs.Ops.{OpItem, Close, DelegReturn, GetFh, Lock, LockT, LockU, Lookup, Open, OpenConfirm, OpenDowngrade, PutFh, PutRootFh, Renew, SetClientId, SetClientIdConfirm, ReleaseLockOwner, NotSupported, Illegal}
 use Rattle.xl_nfs.specs.Outcomes.{is_ok}
 use Rattle.xl_nfs_state.specs.State.{NfsLists, is_client, is_client_named, is_due}
 use Rattle.xl_nfs_state.specs.declared.client.ClientRow.{ClientRow}
@@ -17,6 +17,11 @@ use Rattle.xl_core.specs.Deeds.{Deed}
 use Rattle.xl_core.specs.Rows.{Ran, go_on, all_ran, more_deeds, all_deeds}
 use Rattle.xl_core.specs.State.{CoreState}
 use Rattle.xl_front_nfs.specs.Clients.{renew_found, renew_number, renew, has_room, set_by, set_client_id, number_kept, without_named, without_number, confirm_over, confirm_held, confirmed_by, confirm_found, confirm_number, set_client_id_confirm}
+use Rattle.xl_nfs_locks.specs.FirstLocks.{lock}
+use Rattle.xl_nfs_locks.specs.Releases.{release}
+use Rattle.xl_nfs_locks.specs.Tests.{lock_test}
+use Rattle.xl_nfs_locks.specs.Unlocks.{unlock}
+use Rattle.xl_nfs_locks.proofs.EndLaws.{lock_ends, test_ends, unlock_ends, release_ends}
 use Rattle.xl_nfs_opens.specs.Leases.{number_in}
 use Rattle.xl_front_nfs.specs.Handles.{put_root_fh, put_file, put_fh, get_fh, found_file, look_up}
 use Rattle.xl_nfs_opens.specs.Files.{file_named}
@@ -111,8 +116,12 @@ handle_stays n files others s l current (OpenConfirm a) = (carried_well (Well 20
 handle_stays n files others s l current (OpenDowngrade a) = (carried_well (Well 21 current) n current (open_downgrade s l current a) s l (downgrade_ends s l current a)).1
 handle_stays n files others s l current (Close a) = (carried_well (Well 4 current) n current (close s l current a) s l (close_ends s l current a)).1
 handle_stays n files others s l current (DelegReturn stateid) = (carried_well (Well 8 current) n current (deleg_return s l current stateid) s l (return_ends s l current stateid)).1
+handle_stays n files others s l current (Lock a) = (carried_well (Well 12 current) n current (lock s l current a) s l (lock_ends s l current a)).1
+handle_stays n files others s l current (LockT a) = (carried_well (Well 13 current) n current (lock_test s l current a) s l (test_ends s l current a)).1
+handle_stays n files others s l current (LockU a) = (carried_well (Well 14 current) n current (unlock s l current a) s l (unlock_ends s l current a)).1
+handle_stays n files others s l current (ReleaseLockOwner a) = (carried_well (Well 39 current) n current (release s l current a) s l (release_ends s l current a)).1
+handle_stays n files others s l current (NotSupported number) = λ _. refl
 handle_stays n files others s l current (Illegal number) = λ _. refl
-handle_stays n files others s l current item = λ _. refl
 
 -- ---- nothing is done behind an operation that failed
 

@@ -8,3 +8,4 @@ pub mod StepLaws
 pub mod DoesLaws
 pub mod OwnLaws
 pub mod HandleLaws
+pub mod OrderlyLaws

@@ -10,7 +10,7 @@ use Rattle.xl_base.specs.declared.journal.Exports.{Exports}
 use Rattle.xl_base.specs.declared.name.Party.{Party}
 use Rattle.xl_names.specs.declared.name.Name.TheVariants.{NfsParty}
 use Rattle.xl_nfs.specs.Clients.{SetClientIdArgsItem}
-use Rattle.xl_nfs.specs.Ops.{OpItem, Close, DelegReturn, GetFh, Lookup, Open, OpenConfirm, OpenDowngrade, PutFh, PutRootFh, Renew, SetClientId, SetClientIdConfirm, Illegal}
+use Rattle.xl_nfs.specs.Ops.{OpItem, Close, DelegReturn, GetFh, Lock, LockT, LockU, Lookup, Open, OpenConfirm, OpenDowngrade, PutFh, PutRootFh, Renew, SetClientId, SetClientIdConfirm, ReleaseLockOwner, NotSupported, Illegal}
 use Rattle.xl_nfs.specs.declared.clients.ClientConfirm.{ClientConfirm}
 use Rattle.xl_nfs_state.specs.State.{NfsLists, is_client, is_client_named}
 use Rattle.xl_nfs_state.specs.declared.client.ClientRow.{ClientRow}
@@ -19,7 +19,9 @@ use Rattle.xl_core.proofs.DeedLists.{deeds_good}
 use Rattle.xl_core.proofs.DeedRows.{row_takes}
 use Rattle.xl_core.specs.Clients.{IsOf}
 use Rattle.xl_core.specs.Good.{IsGood}
-use Rattle.xl_nfs_opens.proofs.OpenOwn.{Owned, by_append, open_own, confirm_own, downgrade_own, close_own, return_own}
+use Rattle.xl_nfs_opens.proofs.OpenOwn.{Owned, by_append, open_own, confirm_own, downgrade_own, return_own}
+use Rattle.xl_nfs_opens.proofs.CloseOwn.{close_own}
+use Rattle.xl_nfs_locks.proofs.LockOwn.{lock_own, test_own, unlock_own, release_own}
 use Rattle.std.proofs.Common.{sym}
 use Rattle.xl_core.specs.Asking.{party_named}
 use Rattle.xl_core.specs.Deeds.{Deed, Asks, GivesBack, Weakens, Draws, Ends, Renews, done, AreFit}
@@ -182,8 +184,12 @@ plan_own n files others s l current (OpenConfirm a) good = confirm_own n s l cur
 plan_own n files others s l current (OpenDowngrade a) good = downgrade_own n s l current a good
 plan_own n files others s l current (Close a) good = close_own n s l current a good
 plan_own n files others s l current (DelegReturn stateid) good = return_own n s l current stateid good
+plan_own n files others s l current (Lock a) good = lock_own n s l current a good
+plan_own n files others s l current (LockT a) good = test_own n s l current a good
+plan_own n files others s l current (LockU a) good = unlock_own n s l current a good
+plan_own n files others s l current (ReleaseLockOwner a) good = release_own n s l current a good
+plan_own n files others s l current (NotSupported number) good = (tt, tt)
 plan_own n files others s l current (Illegal number) good = (tt, tt)
-plan_own n files others s l current item good = (tt, tt)
 
 -- ---- the row
 

@@ -6,12 +6,17 @@ use Rattle.std.specs.List.{find}
 use Rattle.std.specs.Prelude.{nat_le, bytes_eq, if◌then◌else◌}
 use Rattle.xl_base.specs.Handles.{file_at}
 use Rattle.xl_nfs.specs.Clients.{SetClientIdArgsItem}
-use Rattle.xl_nfs.specs.Ops.{OpItem, Close, DelegReturn, GetFh, Lookup, Open, OpenConfirm, OpenDowngrade, PutFh, PutRootFh, Renew, SetClientId, SetClientIdConfirm, Illegal, op_number, OpFits, op}
+use Rattle.xl_nfs.specs.Ops.{OpItem, Close, DelegReturn, GetFh, Lock, LockT, LockU, Lookup, Open, OpenConfirm, OpenDowngrade, PutFh, PutRootFh, Renew, SetClientId, SetClientIdConfirm, ReleaseLockOwner, NotSupported, Illegal, op_number, OpFits, op}
 use Rattle.xl_nfs.specs.declared.status.NfsStatus.TheVariants as statuses
 use Rattle.xl_nfs_state.specs.State.{NfsLists, is_client, is_client_named}
 use Rattle.xl_nfs_state.specs.declared.client.ClientRow.{ClientRow}
 use Rattle.xl_core.specs.State.{CoreState}
 use Rattle.xl_front_nfs.specs.Clients.{renew_found, renew_number, renew, number_kept, has_room, set_by, without_named, set_client_id, without_number, confirm_over, confirm_held, confirmed_by, confirm_found, confirm_number, set_client_id_confirm}
+use Rattle.xl_nfs_locks.specs.FirstLocks.{lock}
+use Rattle.xl_nfs_locks.specs.Releases.{release}
+use Rattle.xl_nfs_locks.specs.Tests.{lock_test}
+use Rattle.xl_nfs_locks.specs.Unlocks.{unlock}
+use Rattle.xl_nfs_locks.proofs.EndLaws.{lock_ends, test_ends, unlock_ends, release_ends}
 use Rattle.xl_nfs_opens.specs.Leases.{number_in}
 use Rattle.xl_front_nfs.specs.Handles.{put_root_fh, put_file, put_fh, get_fh, found_file, look_up}
 use Rattle.xl_nfs_opens.specs.Files.{file_named}
@@ -21,7 +26,7 @@ use Rattle.xl_nfs_opens.specs.Opens.{open_file}
 use Rattle.xl_nfs_opens.proofs.EndLaws.{Well, carried_well, open_ends, confirm_ends, downgrade_ends, close_ends, return_ends}
 use Rattle.xl_nfs_opens.specs.Plans.{Plan, carried}
 use Rattle.xl_nfs_opens.specs.Results.{ToldFits}
-use Rattle.xl_front_nfs.specs.Steps.{planned, is_served}
+use Rattle.xl_front_nfs.specs.Steps.{planned}
 use Rattle.xl_nfs_opens.specs.declared.told.Told.TheVariants.{Ended}
 use Rattle.xl_nfs_opens.proofs.ResultLaws.{fault_fits, plain_15, plain_22, plain_24, plain_30, plain_36}
 
@@ -108,17 +113,17 @@ plan_fits n files others s l current (OpenConfirm a) le = (carried_well (Well 20
 plan_fits n files others s l current (OpenDowngrade a) le = (carried_well (Well 21 current) n current (open_downgrade s l current a) s l (downgrade_ends s l current a)).0
 plan_fits n files others s l current (Close a) le = (carried_well (Well 4 current) n current (close s l current a) s l (close_ends s l current a)).0
 plan_fits n files others s l current (DelegReturn stateid) le = (carried_well (Well 8 current) n current (deleg_return s l current stateid) s l (return_ends s l current stateid)).0
+plan_fits n files others s l current (Lock a) le = (carried_well (Well 12 current) n current (lock s l current a) s l (lock_ends s l current a)).0
+plan_fits n files others s l current (LockT a) le = (carried_well (Well 13 current) n current (lock_test s l current a) s l (test_ends s l current a)).0
+plan_fits n files others s l current (LockU a) le = (carried_well (Well 14 current) n current (unlock s l current a) s l (unlock_ends s l current a)).0
+plan_fits n files others s l current (ReleaseLockOwner a) le = (carried_well (Well 39 current) n current (release s l current a) s l (release_ends s l current a)).0
 plan_fits n files others s l current (Illegal number) le = fault_fits number statuses.OpIllegal le (record { ok = refl; denied = refl })
-plan_fits n files others s l current item le = fault_fits (op_number item) statuses.NotSupp le (record { ok = refl; denied = refl })
+plan_fits n files others s l current (NotSupported number) le = fault_fits number statuses.NotSupp le (record { ok = refl; denied = refl })
 
 -- of an operation that was read the number is one of 32 bits
 pub number_small : (item : OpItem) → OpFits item → op_number item < 2 ^ 32
 unfolding op
 number_small item fits = fits.0
 
-pub unread_fits : (number : ℕ) → number < 2 ^ 32 → ToldFits number (Ended (if is_served number then statuses.BadXdr else statuses.NotSupp))
-unread_fits number le =
-    elim (cases_Bool (is_served number)) [
-      | inl e ↦ rw e (fault_fits number statuses.BadXdr le (record { ok = refl; denied = refl }))
-      | inr e ↦ rw e (fault_fits number statuses.NotSupp le (record { ok = refl; denied = refl }))
-    ]
+pub garbled_fits : (number : ℕ) → number < 2 ^ 32 → ToldFits number (Ended statuses.BadXdr)
+garbled_fits number le = fault_fits number statuses.BadXdr le (record { ok = refl; denied = refl })

@@ -5,3 +5,4 @@ pub mod Steps
 pub mod Courses
 pub mod FrontNfs
 pub mod Theirs
+pub mod Requests

@@ -1,6 +1,6 @@
 -- A COMPOUND (RFC 7530 14.2, 16.1): its operations in a row, up to the first that fails.
-use Rattle.std.specs.Prelude.{ℕ, zero, suc, ◌+◌, Bool, false, ◌||◌, ◌==◌, if◌then◌else◌, List, [], ◌∷◌, ◌++◌, length, Option, None, Result, Ok, Err}
-use Rattle.xl_nfs.specs.Ops.{OpItem, Close, DelegReturn, GetFh, Lookup, Open, OpenConfirm, OpenDowngrade, PutFh, PutRootFh, Renew, SetClientId, SetClientIdConfirm, Illegal, op_number, op_at}
+use Rattle.std.specs.Prelude.{ℕ, zero, suc, ◌+◌, Bool, false, List, [], ◌∷◌, ◌++◌, length, Option, None, Result, Ok, Err}
+use Rattle.xl_nfs.specs.Ops.{OpItem, Close, DelegReturn, GetFh, Lock, LockT, LockU, Lookup, Open, OpenConfirm, OpenDowngrade, PutFh, PutRootFh, Renew, SetClientId, SetClientIdConfirm, ReleaseLockOwner, NotSupported, Illegal, op_number, op_at}
 use Rattle.xl_nfs.specs.Outcomes.{is_ok}
 use Rattle.xl_nfs.specs.declared.status.NfsStatus.{NfsStatus}
 use Rattle.xl_nfs.specs.declared.status.NfsStatus.TheVariants as statuses
@@ -12,6 +12,10 @@ use Rattle.xl_core.specs.Rows.{Ran}
 use Rattle.xl_core.specs.State.{CoreState}
 use Rattle.xl_core.specs.declared.ask.Effect.{Effect}
 use Rattle.xl_front_nfs.specs.Clients.{renew, set_client_id, set_client_id_confirm}
+use Rattle.xl_nfs_locks.specs.FirstLocks.{lock}
+use Rattle.xl_nfs_locks.specs.Releases.{release}
+use Rattle.xl_nfs_locks.specs.Tests.{lock_test}
+use Rattle.xl_nfs_locks.specs.Unlocks.{unlock}
 use Rattle.xl_nfs_opens.specs.Closing.{open_confirm, close, deleg_return}
 use Rattle.xl_nfs_opens.specs.Downgrades.{open_downgrade}
 use Rattle.xl_front_nfs.specs.Handles.{put_root_fh, put_fh, get_fh, look_up}
@@ -23,7 +27,7 @@ use Rattle.xl_front_nfs.specs.State.{FrontNfs}
 -- ---- the table
 
 -- What each operation does, where these files are exported, and beside so many opens of other protocols. The others are
--- not served.
+-- not served, and their arguments aren't read.
 unfoldable pub planned : List (List ℕ) → ℕ → CoreState → NfsLists → Option ℕ → OpItem → Plan
 planned files others s l current PutRootFh = put_root_fh l
 planned files others s l current (PutFh fh) = put_fh (length files) l fh
@@ -37,8 +41,12 @@ planned files others s l current (OpenConfirm a) = open_confirm s l current a
 planned files others s l current (OpenDowngrade a) = open_downgrade s l current a
 planned files others s l current (Close a) = close s l current a
 planned files others s l current (DelegReturn stateid) = deleg_return s l current stateid
+planned files others s l current (Lock a) = lock s l current a
+planned files others s l current (LockT a) = lock_test s l current a
+planned files others s l current (LockU a) = unlock s l current a
+planned files others s l current (ReleaseLockOwner a) = release s l current a
 planned files others s l current (Illegal number) = Fails statuses.OpIllegal
-planned files others s l current _ = Fails statuses.NotSupp
+planned files others s l current (NotSupported number) = Fails statuses.NotSupp
 
 -- ---- the operations of a request
 
@@ -85,20 +93,9 @@ noted c number r = (
   r.4,
 )
 
--- the operations that are served, by number
-abbrev pub is_served_beside : ℕ → Bool
-is_served_beside number = number == 10 || (number == 15 || (number == 22 || (number == 24 || (number == 30 || (number == 35 || number == 36)))))
-
-abbrev pub is_served : ℕ → Bool
-is_served number = number == 4 || (number == 8 || (number == 18 || (number == 20 || (number == 21 || is_served_beside number))))
-
--- the arguments of an operation that is not served aren't read
-abbrev pub unread : ℕ → Plan
-unread number = Fails (if is_served number then statuses.BadXdr else statuses.NotSupp)
-
 abbrev pub plan_of : List (List ℕ) → ℕ → Course → CoreState → Step → Plan
 plan_of files others c s (Runs op) = planned files others s c.lists c.current op
-plan_of files others c s (Garbled number) = unread number
+plan_of files others c s (Garbled number) = Fails statuses.BadXdr
 plan_of files others c s Cut = Fails statuses.BadXdr
 
 abbrev pub done_by : ℕ → Course → CoreState → ℕ → Plan → Ran Course

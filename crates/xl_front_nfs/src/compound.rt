@@ -2,7 +2,6 @@
 ghost use Rattle.std.specs.Prelude.{◌≡◌, ℕ, ◌+◌, ◌*◌, ◌<◌, ◌≤◌, ◌++◌, List, false, true, length, if◌then◌else◌, IfOk, OnOk};
 ghost use Rattle.xl_nfs.specs.Ops.{shown_op, OpFits};
 ghost use Rattle.xl_nfs.specs.Outcomes.{is_ok};
-ghost use Rattle.xl_nfs.specs.declared.status.NfsStatus.TheVariants.{BadXdr, NotSupp};
 ghost use Rattle.xl_nfs_state.specs.Bytes.{most_result_bytes};
 ghost use Rattle.xl_nfs_state.specs.State.{NfsLists};
 ghost use Rattle.xl_rpc.specs.Xdr.{unsigned_at};
@@ -11,14 +10,14 @@ ghost use Rattle.xl_core.specs.State.{CoreState, MayBe};
 ghost use Rattle.xl_front_nfs.specs.Courses.{course_of};
 ghost use Rattle.xl_nfs_opens.specs.Results.{ToldFits};
 ghost use Rattle.xl_nfs_opens.specs.Short.{IsReady, Leaves};
-ghost use Rattle.xl_front_nfs.specs.Steps.{is_served, steps_in, fault_of, noted, ran, Runs, Garbled};
+ghost use Rattle.xl_front_nfs.specs.Steps.{steps_in, fault_of, noted, ran, Runs, Garbled};
 
 use crate::serving::serve;
 use std::alloc::{AllocError, Global};
 use xl_base::{Keeper, Sequence};
 use xl_core::{Core, Effect};
-use xl_nfs::{NfsOp, NfsStatus, next_op, operation};
-use xl_nfs_opens::{Done, Told, put_result};
+use xl_nfs::{NfsOp, NfsStatus, next_op};
+use xl_nfs_opens::{Done, ended_as, put_result};
 use xl_nfs_state::NfsState;
 use xl_rpc::{Xdr, XdrOut};
 
@@ -108,46 +107,13 @@ fn do_op<K: Keeper>(
     Ok(more)
 }
 
-/// Whether the operation of this number is served.
-fn is_served(number: u32) -> bool
-    ensures { result ≡ is_served number }
-{
-    matches!(
-        number,
-        operation::CLOSE
-            | operation::DELEGRETURN
-            | operation::GETFH
-            | operation::LOOKUP
-            | operation::OPEN
-            | operation::OPEN_CONFIRM
-            | operation::OPEN_DOWNGRADE
-            | operation::PUTFH
-            | operation::PUTROOTFH
-            | operation::RENEW
-            | operation::SETCLIENTID
-            | operation::SETCLIENTID_CONFIRM
-    )
-}
-
-/// How an operation ends whose arguments can't be read.
-fn unread_status(number: u32) -> NfsStatus
-    ensures { result ≡ (if is_served number then BadXdr else NotSupp) }
-{
-    if is_served(number) {
-        NfsStatus::BadXdr
-    } else {
-        NfsStatus::NotSupp
-    }
-}
-
 /// Refuses an operation whose arguments can't be read.
 fn refuse(alloc: Global, progress: &mut Progress, number: u32) -> Result<(), AllocError>
     requires few { progress.old.count < 64 }
     ensures done { (n : ℕ) (files : List (List ℕ)) (others : ℕ) (lists : NfsLists) (core : CoreState) → OnOk result (ran files others n (course_of lists progress.old) core (Garbled number) ≡ (false, course_of lists progress.new, core)) }
     ensures little { OnOk result (length progress.new.results ≤ length progress.old.results + most_result_bytes) }
 {
-    let status = unread_status(number);
-    let done = (Told::Ended(status), progress.current, Sequence::new(alloc));
+    let done = ended_as(alloc, NfsStatus::BadXdr, progress.current);
     note(progress, number, done)?;
     Ok(())
 }

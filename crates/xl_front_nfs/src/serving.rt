@@ -14,6 +14,7 @@ use std::alloc::{AllocError, Global};
 use xl_base::{Keeper, Sequence};
 use xl_core::Core;
 use xl_nfs::{NfsOp, NfsStatus};
+use xl_nfs_locks::{lock, lock_test, release, unlock};
 use xl_nfs_opens::{
     Done, beside, close, deleg_return, ended_as, open_confirm, open_downgrade, open_file,
 };
@@ -64,17 +65,20 @@ pub(crate) fn serve<K: Keeper>(
             Ok(done)
         }
         NfsOp::Close(args) => {
-            let done = close(alloc, state, core, current, args)?;
+            let done = close(alloc, state, core, keeper, current, args)?;
             Ok(done)
         }
         NfsOp::DelegReturn(stateid) => {
             let done = deleg_return(alloc, state, core, current, stateid)?;
             Ok(done)
         }
-        NfsOp::Lock(_)
-        | NfsOp::LockT(_)
-        | NfsOp::LockU(_)
-        | NfsOp::ReleaseLockOwner(_)
-        | NfsOp::NotSupported(_) => Ok(ended_as(alloc, NfsStatus::NotSupp, current)),
+        NfsOp::Lock(args) => lock(alloc, state, core, keeper, current, args),
+        NfsOp::LockT(args) => lock_test(alloc, state, core, keeper, current, args),
+        NfsOp::LockU(args) => unlock(alloc, state, core, keeper, current, args),
+        NfsOp::ReleaseLockOwner(args) => {
+            let done = release(alloc, state, core, current, args)?;
+            Ok(done)
+        }
+        NfsOp::NotSupported(_) => Ok(ended_as(alloc, NfsStatus::NotSupp, current)),
     }
 }

@@ -231,7 +231,8 @@ fn replied<K: Keeper>(
 /// Answers a call of NFS version 4.0 (RFC 7530) from the connection of this number: the reply, without its frame and at
 /// most 65,536 bytes long, and what the core told of besides. The procedures served are NULL and COMPOUND. A COMPOUND's
 /// operations are done in order, up to the first that isn't OK; PUTROOTFH, PUTFH, GETFH, LOOKUP, SETCLIENTID,
-/// SETCLIENTID_CONFIRM and RENEW are served, other numbers from 3 to 39 are NOTSUPP and all else OP_ILLEGAL. A head that
+/// SETCLIENTID_CONFIRM, RENEW, OPEN, OPEN_CONFIRM, OPEN_DOWNGRADE, CLOSE, DELEGRETURN, LOCK, LOCKT, LOCKU and RELEASE_LOCKOWNER
+/// are served, other numbers from 3 to 39 are NOTSUPP and all else OP_ILLEGAL. A head that
 /// can't be read, and bytes behind NULL, are GARBAGE_ARGS; bytes behind the last operation are not looked at. At least
 /// 65,664 numbers must be left to give out; a COMPOUND takes 128 at most. After an error nothing is known of the front
 /// and the core.

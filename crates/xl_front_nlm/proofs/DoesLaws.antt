@@ -24,7 +24,7 @@ use Rattle.xl_table.specs.Relock.{is_share_of}
 use Rattle.xl_table.specs.Held.{is_share}
 use Rattle.xl_table.specs.Held.{is_of}
 use Rattle.xl_core.specs.declared.ask.Answer.{Answer}
-use Rattle.xl_core.proofs.DeedLeaves.{found_in}
+use Rattle.xl_core.proofs.DeedLeaves.{share_given, found_in}
 use Rattle.xl_front_nlm.proofs.AimLaws.{aim_real}
 use Rattle.xl_front_nlm.proofs.AskLaws.{own_client}
 use Rattle.xl_front_nlm.proofs.StandLaws.{found_waits}
@@ -142,7 +142,7 @@ share_fits : (s : CoreState) (file : ℕ) (o : Option ℕ) (claim : Claim) → s
 share_fits s file None claim e = absurd cc
 share_fits s file (Some number) claim e =
     let found = found_in (is_share_of file (owners.Name Nlm number)) s.claims claim e in
-    (found.0, (and_parts (is_of file (owners.Name Nlm number) claim) (is_share claim.what) found.1).1)
+    (found.0, share_given claim.what (and_parts (is_of file (owners.Name Nlm number) claim) (is_share claim.what) found.1).1)
 
 pub plan_takes : (n count : ℕ) (hosts : List (List ℕ)) (s : CoreState) (call : CallItem) → AreFit n s (deeds_of (planned count hosts s call))
 unfolding planned

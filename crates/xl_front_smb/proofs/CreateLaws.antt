@@ -33,10 +33,10 @@ use Rattle.xl_front_smb.specs.Plans.{Plan, Fails, Outcome, carried, opened_told,
 use Rattle.xl_front_smb.specs.Replies.{tree_id}
 use Rattle.xl_front_smb.specs.Requests.{commanded, planned}
 use Rattle.xl_front_smb.specs.Texts.{file_spelled}
-use Rattle.xl_front_smb.specs.declared.status.SmbStatus.{SmbStatus}
-use Rattle.xl_front_smb.specs.declared.status.SmbStatus.TheVariants as status
+use Rattle.xl_smb_locks.specs.declared.status.SmbStatus.{SmbStatus}
+use Rattle.xl_smb_locks.specs.declared.status.SmbStatus.TheVariants as status
 use Rattle.xl_front_smb.specs.declared.told.Told.{Told}
-use Rattle.xl_front_smb.specs.declared.told.Told.TheVariants.{Nothing, Failed, Negotiated, SetUp, LoggedOff, Connected, Disconnected, Opened, Closed, Echoed}
+use Rattle.xl_front_smb.specs.declared.told.Told.TheVariants.{Nothing, Failed, Negotiated, SetUp, LoggedOff, Connected, Disconnected, Opened, Closed, Locked, Pending, Echoed}
 use Rattle.xl_front_smb.proofs.PlanLaws.{open_new}
 
 -- ---- by what the core is due to answer
@@ -66,6 +66,10 @@ refusal_back left s a claim id r exact status.InvalidOplockProtocol due = absurd
 refusal_back left s a claim id r exact status.FileClosed due = absurd due
 refusal_back left s a claim id r exact status.InvalidDeviceState due = absurd due
 refusal_back left s a claim id r exact status.UserSessionDeleted due = absurd due
+refusal_back left s a claim id r exact status.LockNotGranted due = absurd due
+refusal_back left s a claim id r exact status.RangeNotLocked due = absurd due
+refusal_back left s a claim id r exact status.InvalidLockRange due = absurd due
+refusal_back left s a claim id r exact status.Cancelled due = absurd due
 
 due_back : (left : Rooms) (s : CoreState) (a : Ask) (claim : Claim) (id : ℕ) (r : Answer) → ((answer : Answer) → IsClaimDue left s a claim answer → r ≡ answer) → (told : Told) → IsOpenDue left s a claim id told → opened_told (Opened id) r ≡ told
 due_back left s a claim id r exact (Opened opened) due = ap (opened_told (Opened id)) (exact (answers.Granted claim) due.1) ∙ ap Opened (sym due.0)
@@ -77,6 +81,8 @@ due_back left s a claim id r exact LoggedOff due = absurd due
 due_back left s a claim id r exact (Connected tree) due = absurd due
 due_back left s a claim id r exact Disconnected due = absurd due
 due_back left s a claim id r exact Closed due = absurd due
+due_back left s a claim id r exact Locked due = absurd due
+due_back left s a claim id r exact (Pending number) due = absurd due
 due_back left s a claim id r exact Echoed due = absurd due
 
 -- this is told exactly where that is due

@@ -1,5 +1,5 @@
 -- A message's step is what its deeds leave and tell, and so is the end of a connection.
-use Rattle.std.proofs.Common.{◌≡◌, ℕ, List, Option, Some, None, refl, sym, ap, append-nil}
+use Rattle.std.proofs.Common.{◌≡◌, ℕ, List, ◌++◌, Option, Some, None, refl, sym, ap, append-nil}
 use Rattle.xl_base.specs.declared.journal.Exports.{Exports}
 use Rattle.xl_smb.specs.Heads.{head_of}
 use Rattle.xl_smb.specs.declared.head.SmbHead.{SmbHead}
@@ -8,9 +8,10 @@ use Rattle.xl_smb_state.specs.declared.row.Scope.TheVariants as scope
 use Rattle.xl_core.specs.Decide.{ask}
 use Rattle.xl_core.specs.Deeds.{all_done, all_told_of, answers_of}
 use Rattle.xl_core.specs.State.{CoreState, drawn}
+use Rattle.xl_smb_locks.specs.Locks.{no_rows}
 use Rattle.xl_front_smb.specs.Ending.{smb_end_deeds, smb_end}
-use Rattle.xl_front_smb.specs.FrontSmb.{sent_by, head_heard, plan_for, deeds_for, smb_deeds, reply_for, smb_reply, stepped, smb_step}
-use Rattle.xl_front_smb.specs.Plans.{Plan, Fails, Does, Opens, deeds_of, told_by, carried}
+use Rattle.xl_front_smb.specs.FrontSmb.{sent_by, head_heard, plan_for, deeds_for, smb_deeds, reply_for, smb_reply, dismissed_on, finals_for, smb_replies, stepped, smb_step}
+use Rattle.xl_front_smb.specs.Plans.{Plan, Fails, Does, Opens, Locks, deeds_of, told_by, lists_by, carried}
 use Rattle.xl_front_smb.specs.Replies.{reply_of}
 use Rattle.xl_front_smb.specs.State.{FrontSmb}
 use Rattle.xl_front_smb.specs.declared.told.Told.{Told}
@@ -22,16 +23,25 @@ plan_does : (n : ℕ) (s : CoreState) (l : Lists) (plan : Plan) → (carried n s
 plan_does n s l (Fails status) = refl
 plan_does n s l (Does deeds lists told) = refl
 plan_does n s l (Opens left a number row told) = refl
+plan_does n s l (Locks a refused row) = refl
 
 plan_tells : (n : ℕ) (s : CoreState) (l : Lists) (plan : Plan) → (carried n s l plan).1 ≡ all_told_of n s (deeds_of plan)
 plan_tells n s l (Fails status) = refl
 plan_tells n s l (Does deeds lists told) = refl
 plan_tells n s l (Opens left a number row told) = sym (append-nil (ask n left (drawn s) a).1)
+plan_tells n s l (Locks a refused row) = sym (append-nil (ask n no_rows s a).1)
 
 plan_replies : (n : ℕ) (s : CoreState) (l : Lists) (plan : Plan) → (carried n s l plan).0 ≡ told_by plan (answers_of n s (deeds_of plan))
 plan_replies n s l (Fails status) = refl
 plan_replies n s l (Does deeds lists told) = refl
 plan_replies n s l (Opens left a number row told) = refl
+plan_replies n s l (Locks a refused row) = refl
+
+plan_keeps : (n : ℕ) (s : CoreState) (l : Lists) (plan : Plan) → (carried n s l plan).2 ≡ lists_by l plan (answers_of n s (deeds_of plan))
+plan_keeps n s l (Fails status) = refl
+plan_keeps n s l (Does deeds lists told) = refl
+plan_keeps n s l (Opens left a number row told) = refl
+plan_keeps n s l (Locks a refused row) = refl
 
 -- ---- a message
 
@@ -44,9 +54,13 @@ heard_tells n exports others f s conn bytes None = refl
 heard_tells n exports others f s conn bytes (Some h) = plan_tells n s f.state (plan_for exports others f s conn bytes h)
 
 heard_replies : (n : ℕ) (exports : Exports) (others : ℕ) (f : FrontSmb) (s : CoreState) (conn : ℕ) (bytes : List ℕ) (h : Option SmbHead)
-    → (stepped n exports others f s conn bytes h).0 ≡ sent_by conn (reply_for exports others f s conn bytes (answers_of n s (deeds_for exports others f s conn bytes h)) h)
+    → (stepped n exports others f s conn bytes h).0
+    ≡ finals_for exports others f s conn bytes (answers_of n s (deeds_for exports others f s conn bytes h)) (all_told_of n s (deeds_for exports others f s conn bytes h)) h
+    ++ sent_by conn (reply_for exports others f s conn bytes (answers_of n s (deeds_for exports others f s conn bytes h)) h)
 heard_replies n exports others f s conn bytes None = refl
-heard_replies n exports others f s conn bytes (Some h) = ap (λ (t : Told). sent_by conn (reply_of h t)) (plan_replies n s f.state (plan_for exports others f s conn bytes h))
+heard_replies n exports others f s conn bytes (Some h) =
+    let plan = plan_for exports others f s conn bytes h in
+    λ j. (dismissed_on conn (plan_tells n s f.state plan j) (plan_keeps n s f.state plan j)).0 ++ sent_by conn (reply_of h (plan_replies n s f.state plan j))
 
 pub step_does : (n : ℕ) (exports : Exports) (others : ℕ) (f : FrontSmb) (s : CoreState) (conn : ℕ) (bytes : List ℕ) → (smb_step n exports others f s conn bytes).3 ≡ all_done n s (smb_deeds n exports others f s conn bytes)
 unfolding smb_step smb_deeds
@@ -56,8 +70,8 @@ pub step_tells : (n : ℕ) (exports : Exports) (others : ℕ) (f : FrontSmb) (s 
 unfolding smb_step smb_deeds
 step_tells n exports others f s conn bytes = heard_tells n exports others f s conn bytes (head_heard (head_of bytes))
 
-pub step_replies : (n : ℕ) (exports : Exports) (others : ℕ) (f : FrontSmb) (s : CoreState) (conn : ℕ) (bytes : List ℕ) → (smb_step n exports others f s conn bytes).0 ≡ sent_by conn (smb_reply exports others f s conn bytes (answers_of n s (smb_deeds n exports others f s conn bytes)))
-unfolding smb_step smb_reply smb_deeds
+pub step_replies : (n : ℕ) (exports : Exports) (others : ℕ) (f : FrontSmb) (s : CoreState) (conn : ℕ) (bytes : List ℕ) → (smb_step n exports others f s conn bytes).0 ≡ smb_replies exports others f s conn bytes (answers_of n s (smb_deeds n exports others f s conn bytes)) (all_told_of n s (smb_deeds n exports others f s conn bytes))
+unfolding smb_step smb_replies smb_reply smb_deeds
 step_replies n exports others f s conn bytes = heard_replies n exports others f s conn bytes (head_heard (head_of bytes))
 
 -- ---- the end of a connection

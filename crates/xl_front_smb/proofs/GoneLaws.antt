@@ -34,7 +34,7 @@ use Rattle.xl_front_smb.specs.Files.{close_open, close}
 use Rattle.xl_front_smb.specs.Plans.{Plan, Does, Outcome, carried}
 use Rattle.xl_front_smb.specs.Requests.{commanded, planned}
 use Rattle.xl_front_smb.specs.Sessions.{logoff, disconnect, tree_disconnect}
-use Rattle.xl_front_smb.specs.declared.status.SmbStatus.TheVariants.{UserSessionDeleted, NetworkNameDeleted, FileClosed}
+use Rattle.xl_smb_locks.specs.declared.status.SmbStatus.TheVariants.{UserSessionDeleted, NetworkNameDeleted, FileClosed}
 use Rattle.xl_front_smb.specs.declared.told.Told.TheVariants.{Failed, LoggedOff, Disconnected, Closed}
 use Rattle.xl_front_smb.specs.Laws.{rows_but, is_among, waits_among, Without, outcome_of, IsInSession, IsOnTree}
 use Rattle.xl_front_smb.specs.State.{FrontSmb}

@@ -1,7 +1,6 @@
 pub mod ReplyLaws
 pub mod TextLaws
 pub mod CheckLaws
-pub mod LeaveLaws
 pub mod EndLaws
 pub mod GoneLaws
 pub mod AskLaws
@@ -10,3 +9,7 @@ pub mod DoesLaws
 pub mod OwnLaws
 pub mod CreateLaws
 pub mod MessageLaws
+pub mod FinalLaws
+pub mod WaitLaws
+pub mod LockLaws
+pub mod RangeLaws

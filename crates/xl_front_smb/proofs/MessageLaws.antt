@@ -13,7 +13,7 @@ use Rattle.xl_front_smb.specs.Laws.{outcome_of, IsRequest}
 use Rattle.xl_front_smb.specs.Plans.{Plan, Fails, carried}
 use Rattle.xl_front_smb.specs.Requests.{planned, read_as, requested}
 use Rattle.xl_front_smb.specs.State.{FrontSmb}
-use Rattle.xl_front_smb.specs.declared.status.SmbStatus.TheVariants.{InvalidParameter, NotSupported}
+use Rattle.xl_smb_locks.specs.declared.status.SmbStatus.TheVariants.{InvalidParameter, NotSupported}
 
 passed_all : (alone beyond served : Bool) (plan : Plan) → alone ≡ true → beyond ≡ false → served ≡ true
     → (if not alone then Fails InvalidParameter else if beyond then Fails InvalidParameter else if not served then Fails NotSupported else plan) ≡ plan

@@ -1,9 +1,9 @@
 -- The core takes the deeds, and they are of the connection's opens.
-use Rattle.std.proofs.Common.{◌≡◌, ℕ, ◌+◌, Bool, true, false, not, eqb, List, [], ◌∷◌, Option, Some, None, if◌then◌else◌, refl, ap, ◌∙◌, inl, inr}
-use Rattle.std.specs.Prelude.{◌==◌, nat_eq, nat_lt, length, is_some, Result, Ok, Err}
-use Rattle.std.specs.List.{AllByRecursion}
+use Rattle.std.proofs.Common.{◌≡◌, ℕ, zero, suc, ◌+◌, ◌≤◌, Bool, true, false, not, ◌&&◌, eqb, List, [], ◌∷◌, Option, Some, None, if◌then◌else◌, refl, sym, ap, subst, ◌∙◌, inl, inr, arith, option_map}
+use Rattle.std.specs.Prelude.{◌==◌, ◌^◌, nat_eq, nat_lt, length, is_some, Result, Ok, Err}
+use Rattle.std.specs.List.{AllByRecursion, find}
 use Rattle.std.specs.Map.{lookup}
-use Rattle.std.proofs.lemmas.Bool.{cases_Bool, false≢true, and_parts}
+use Rattle.std.proofs.lemmas.Bool.{cases_Bool, false≢true, true≢false, and_parts}
 use Rattle.xl_base.specs.Lists.{IsIn}
 use Rattle.xl_base.specs.declared.journal.Exports.{Exports}
 use Rattle.xl_base.specs.declared.name.Party.TheVariants as parties
@@ -16,32 +16,47 @@ use Rattle.xl_smb.specs.declared.breaks.Break.{Break}
 use Rattle.xl_smb.specs.declared.breaks.Break.TheVariants as held
 use Rattle.xl_smb.specs.declared.fault.SmbBad.{SmbBad}
 use Rattle.xl_smb.specs.declared.file.FileId.{FileId}
+use Rattle.xl_smb.specs.declared.head.Route.{Route}
+use Rattle.xl_smb.specs.declared.head.Route.TheVariants.{Tree, Async}
 use Rattle.xl_smb.specs.declared.head.SmbHead.{SmbHead}
+use Rattle.xl_smb.specs.declared.lock.LockElement.{LockElement}
+use Rattle.xl_smb.specs.Locks.{LockItem, elements_of}
 use Rattle.xl_smb_state.specs.Links.{is_tree_at, is_client, has_place}
-use Rattle.xl_smb_state.specs.State.{Lists, keys_where, connection_of, connection_changed, client_of, session_of, tree_of, open_of, covers_holder, opens_under}
+use Rattle.xl_smb_state.specs.State.{Lists, keys_where, connection_of, connection_changed, client_of, session_of, tree_of, open_of, covers, covers_holder, opens_under, waiting_of, waiting_under, is_message}
 use Rattle.xl_smb_state.specs.declared.row.Open.{Open}
 use Rattle.xl_smb_state.specs.declared.row.Place.{Place}
 use Rattle.xl_smb_state.specs.declared.row.Scope.{Scope}
 use Rattle.xl_smb_state.specs.declared.row.Scope.TheVariants as scope
-use Rattle.xl_smb_state.specs.declared.row.Tree.{Tree}
+use Rattle.xl_smb_state.specs.declared.row.Tree as tree
+use Rattle.xl_smb_state.specs.declared.row.Waiting.{Waiting}
 use Rattle.xl_smb_state.proofs.RowLaws.{none_some, same_Some, equal_from, equal_self}
-use Rattle.xl_core.specs.Deeds.{AreFit}
+use Rattle.xl_core.specs.Deeds.{Cancels, AreFit}
+use Rattle.xl_core.specs.declared.ask.Who.{Who}
+use Rattle.xl_core.specs.declared.ask.Who.TheVariants as who
+use Rattle.xl_wait.specs.Waiting.{is_waiting}
+use Rattle.xl_smb_locks.specs.Elements.{is_count, unlocks_first, any_waits, lock_fault}
+use Rattle.xl_smb_locks.specs.Locks.{unlock_ask, lock_ask, unlocks}
+use Rattle.xl_smb_locks.specs.declared.status.SmbStatus.{SmbStatus}
+use Rattle.xl_smb_locks.proofs.FitLaws.{lock_fits, lock_owns, unlock_owns}
+use Rattle.xl_smb_locks.proofs.UnlockLaws.{unlocks_fit, unlocks_are}
 use Rattle.xl_core.specs.State.{CoreState}
 use Rattle.xl_core.specs.Settle.{end_party}
 use Rattle.xl_front_smb.specs.Checks.{is_fresh, kept_if, session_named, is_open_on, file_number, number_in, negotiated_by, in_session, on_tree, on_open}
 use Rattle.xl_front_smb.specs.Ending.{ends, smb_end_deeds}
-use Rattle.xl_front_smb.specs.Files.{open_as, has_room_for_open, open_file, open_found, overwrites, create_on, create, close_open, close, lock, level_refused, break_by, acknowledge}
+use Rattle.xl_front_smb.specs.Files.{open_ask, open_as, has_room_for_open, open_file, open_found, overwrites, create_on, create, close_open, close, level_refused, break_by, acknowledge}
+use Rattle.xl_front_smb.specs.Locks.{waiting_row, place_of, has_room_to_wait, unlock_by, lock_by, lock_found, lock, came_by, request_named, cancel_named, cancel}
 use Rattle.xl_front_smb.specs.FrontSmb.{head_heard, deeds_for, smb_deeds}
-use Rattle.xl_front_smb.specs.Owners.{is_session_on, is_tree_on, is_on, IsOwn, AreOwn, is_end}
+use Rattle.xl_front_smb.specs.Owners.{is_session_on, is_tree_on, is_on, IsAskerOn, IsAskedBy, IsOwn, AreOwn, is_end}
 use Rattle.xl_front_smb.specs.Plans.{Plan, Fails, Does, deeds_of}
 use Rattle.xl_front_smb.specs.Requests.{commanded, planned, read_as, requested}
 use Rattle.xl_front_smb.specs.Sessions.{offers, negotiate, has_room_for_session, set_up_as, set_up, session_setup, logoff, has_room_for_tree, connect_as, connect, tree_connect, disconnect, tree_disconnect}
 use Rattle.xl_front_smb.specs.State.{FrontSmb}
 use Rattle.xl_front_smb.specs.Replies.{tree_id}
 use Rattle.xl_front_smb.specs.Texts.{is_share, file_spelled}
-use Rattle.xl_front_smb.specs.declared.status.SmbStatus.TheVariants.{InvalidParameter, ObjectNameCollision, InsufficientResources, NotSupported, BadNetworkName, InvalidOplockProtocol, InvalidDeviceState}
-use Rattle.xl_front_smb.specs.declared.told.Told.TheVariants.{Negotiated, SetUp}
+use Rattle.xl_smb_locks.specs.declared.status.SmbStatus.TheVariants.{InvalidParameter, ObjectNameCollision, InsufficientResources, NotSupported, BadNetworkName, InvalidOplockProtocol, InvalidDeviceState}
+use Rattle.xl_front_smb.specs.declared.told.Told.TheVariants.{Nothing, Negotiated, SetUp}
 use Rattle.xl_front_smb.proofs.AskLaws.{open_fits, open_owns}
+use Rattle.xl_front_smb.proofs.LockLaws.{counted}
 
 -- the core takes the plan's deeds, and they are the connection's
 abbrev IsTheirs : ℕ → CoreState → Lists → ℕ → Plan → Type 0
@@ -54,7 +69,7 @@ module _ (P : Plan → Type 0) where
   session_kept test go number true is fails goes = goes number is
   session_kept test go number false is fails goes = fails
 
-  by_session : (test : ℕ → Bool) (go : ℕ → Plan) (o : Option ℕ) → P (in_session go None) → ((k : ℕ) → test k ≡ true → P (go k)) → P (in_session go (kept_if test o))
+  pub by_session : (test : ℕ → Bool) (go : ℕ → Plan) (o : Option ℕ) → P (in_session go None) → ((k : ℕ) → test k ≡ true → P (go k)) → P (in_session go (kept_if test o))
   by_session test go None fails goes = fails
   by_session test go (Some number) fails goes = session_kept test go number (test number) refl fails goes
 
@@ -62,15 +77,15 @@ module _ (P : Plan → Type 0) where
   open_kept test go number true is fails goes = goes number is
   open_kept test go number false is fails goes = fails
 
-  by_open : (test : ℕ → Bool) (go : ℕ → Plan) (o : Option ℕ) → P (on_open go None) → ((k : ℕ) → test k ≡ true → P (go k)) → P (on_open go (kept_if test o))
+  pub by_open : (test : ℕ → Bool) (go : ℕ → Plan) (o : Option ℕ) → P (on_open go None) → ((k : ℕ) → test k ≡ true → P (go k)) → P (on_open go (kept_if test o))
   by_open test go None fails goes = fails
   by_open test go (Some number) fails goes = open_kept test go number (test number) refl fails goes
 
-  by_tree : (go : Place → Plan) (place : Place) (b : Bool) → P (on_tree go None) → (b ≡ true → P (go place)) → P (on_tree go (if b then Some place else None))
+  pub by_tree : (go : Place → Plan) (place : Place) (b : Bool) → P (on_tree go None) → (b ≡ true → P (go place)) → P (on_tree go (if b then Some place else None))
   by_tree go place true fails goes = goes refl
   by_tree go place false fails goes = fails
 
-  by_client : (go : List ℕ → Plan) (o : Option (List ℕ)) → P (negotiated_by go None) → ((client : List ℕ) → P (go client)) → P (negotiated_by go o)
+  pub by_client : (go : List ℕ → Plan) (o : Option (List ℕ)) → P (negotiated_by go None) → ((client : List ℕ) → P (go client)) → P (negotiated_by go o)
   by_client go None fails goes = fails
   by_client go (Some client) fails goes = goes client
 
@@ -87,8 +102,8 @@ ends_in conn l last under (number ∷ numbers) on within = ((under, on, within n
 ends_own : (n : ℕ) (s : CoreState) (l : Lists) (conn : ℕ) (under : Scope) → is_on conn l under ≡ true → AreFit n s (ends (opens_under under l)) × AllByRecursion (IsOwn conn l s.counter) (ends (opens_under under l))
 ends_own n s l conn under on = (ends_fit n s (opens_under under l), ends_in conn l s.counter under (opens_under under l) on (λ k within. within))
 
--- an open that is found, and passes, is among those that pass
-found_in : (test : Open → Bool) (es : List (ℕ × Open)) (number : ℕ) (row : Open) → lookup (nat_eq number) es ≡ Some row → test row ≡ true → IsIn number (keys_where test es)
+-- a row that is found, and passes, is among those that pass
+found_in : {X : Type 0} (test : X → Bool) (es : List (ℕ × X)) (number : ℕ) (row : X) → lookup (nat_eq number) es ≡ Some row → test row ≡ true → IsIn number (keys_where test es)
 found_in test [] number row at is = absurd (none_some at)
 found_in test (e ∷ es) number row at is =
     elim (cases_Bool (eqb number e.0)) [
@@ -105,7 +120,7 @@ open_in : (conn number : ℕ) (l : Lists) (found : Option Open) → open_of numb
 open_in conn number l None at is = absurd (false≢true is)
 open_in conn number l (Some row) at is = found_in (λ (r : Open). covers_holder (scope.Connection conn) r.holder) l.opens number row at is
 
-tree_from : (place : Place) (found : Option Tree) → is_tree_at place found ≡ true → is_tree_on place.connection found ≡ true
+tree_from : (place : Place) (found : Option tree.Tree) → is_tree_at place found ≡ true → is_tree_on place.connection found ≡ true
 tree_from place None h = absurd (false≢true h)
 tree_from place (Some row) h = (and_parts (row.connection == place.connection) (row.session == place.session) h).0
 
@@ -159,8 +174,15 @@ disconnect_theirs n s l conn client h =
     by_session P (λ number. is_session_on conn (session_of number l)) _ (number_in s h.session_id) (tt, tt)
     (λ k is. by_tree P (disconnect l) _ (has_place _ client l) (tt, tt) (λ there. ends_own n s l conn (scope.Tree _) (place_on l client _ there)))
 
+-- an ask of an open that is new, or stands under the connection
+asked_own : (conn : ℕ) (l : Lists) (last number : ℕ) (owner party : Who) → owner ≡ who.Open number → party ≡ who.Open number → IsAskerOn conn l last number → IsAskedBy conn l last owner party
+asked_own conn l last number owner party is same on = subst (λ (x : Who). IsAskedBy conn l last x party) (sym is) (same, on)
+
 opens_by : (n : ℕ) (s : CoreState) (others : ℕ) (l : Lists) (conn : ℕ) (client : List ℕ) (place : Place) (c : CreateCallItem) (file : ℕ) (room : Bool) → IsTheirs n s l conn (if room then open_as s others l client place c file (s.counter + 1) else Fails InsufficientResources)
-opens_by n s others l conn client place c file true = ((tt, (open_fits place.connection file (s.counter + 1) c, tt)), (tt, (open_owns place.connection file (s.counter + 1) c, tt)))
+opens_by n s others l conn client place c file true =
+    let owns = open_owns place.connection file (s.counter + 1) c in
+    let a = open_ask place.connection file (s.counter + 1) c in
+    ((tt, (open_fits place.connection file (s.counter + 1) c, tt)), (tt, (asked_own conn l s.counter (s.counter + 1) a.owner a.party owns.0 owns.1 (inl refl), tt)))
 opens_by n s others l conn client place c file false = (tt, tt)
 
 found_by : (n : ℕ) (s : CoreState) (others : ℕ) (l : Lists) (conn : ℕ) (client : List ℕ) (place : Place) (c : CreateCallItem) (file : ℕ) (makes : Bool) → IsTheirs n s l conn (if makes then Fails ObjectNameCollision else open_file s others l client place c file)
@@ -192,12 +214,86 @@ close_theirs n s l conn client h id =
     (λ there. by_open P (λ number. is_open_on conn (open_of number l)) (close_open l) (file_number s id) (tt, tt)
     (λ number on. ((tt, tt), ((scope.Connection conn, equal_self conn, open_in conn number l (open_of number l) refl on), tt)))))
 
-lock_theirs : (n : ℕ) (s : CoreState) (l : Lists) (conn : ℕ) (client : List ℕ) (h : SmbHead) (id : FileId) → IsTheirs n s l conn (lock s l conn client h id)
+-- ---- LOCK
+
+unlock_theirs : (n : ℕ) (s : CoreState) (l : Lists) (conn file number : ℕ) (es : List LockElement) → IsIn number (opens_under (scope.Connection conn) l) → IsTheirs n s l conn (unlock_by l (unlocks s file number es))
+unlock_theirs n s l conn file number es there = (
+  unlocks_fit n s file number es,
+  unlocks_are (IsOwn conn l s.counter) s file number es (λ e. let owns = unlock_owns file number e in asked_own conn l s.counter number (unlock_ask file number e).owner (unlock_ask file number e).party owns.0 owns.1 (inr there)),
+)
+
+no_wait : (waits room : Bool) → waits ≡ false → (waits && room) ≡ false
+no_wait true room h = absurd (true≢false h)
+no_wait false room h = refl
+
+lock_by_theirs : (n : ℕ) (s : CoreState) (l : Lists) (conn : ℕ) (row : Waiting) (file number : ℕ) (es : List LockElement) (o : Option SmbStatus) → lock_fault es ≡ o → 1 ≤ length es → IsIn number (opens_under (scope.Connection conn) l) → IsTheirs n s l conn (lock_by s l conn row file number es o)
+lock_by_theirs n s l conn row file number es (Some status) fault some there = (tt, tt)
+lock_by_theirs n s l conn row file number es None fault some there =
+    let blocking = any_waits es && has_room_to_wait l (s.counter + 1) in
+    let a = lock_ask conn file number es blocking in
+    let owns = lock_owns conn file number es blocking in
+    (((lock_fits conn file number blocking es fault some (no_wait (any_waits es) (has_room_to_wait l (s.counter + 1)))).fit, tt), (asked_own conn l s.counter number a.owner a.party owns.0 owns.1 (inr there), tt))
+
+lock_on_theirs : (n : ℕ) (s : CoreState) (l : Lists) (conn : ℕ) (h : SmbHead) (number : ℕ) (place : Place) (es : List LockElement) (row : Open) (count first : Bool) → is_count (length es) ≡ count → IsIn number (opens_under (scope.Connection conn) l)
+    → IsTheirs n s l conn
+    (if not count then Fails InvalidParameter else if first then unlock_by l (unlocks s row.file number es) else lock_by s l conn (waiting_row h (place_of row.holder place) number) row.file number es (lock_fault es))
+lock_on_theirs n s l conn h number place es row false first is there = (tt, tt)
+lock_on_theirs n s l conn h number place es row true true is there = unlock_theirs n s l conn row.file number es there
+lock_on_theirs n s l conn h number place es row true false is there = lock_by_theirs n s l conn (waiting_row h (place_of row.holder place) number) row.file number es (lock_fault es) refl (counted (length es) is) there
+
+lock_found_theirs : (n : ℕ) (s : CoreState) (l : Lists) (conn : ℕ) (h : SmbHead) (number : ℕ) (place : Place) (es : List LockElement) (o : Option Open) → IsIn number (opens_under (scope.Connection conn) l) → IsTheirs n s l conn (lock_found s l conn h number place es o)
+lock_found_theirs n s l conn h number place es None there = (tt, tt)
+lock_found_theirs n s l conn h number place es (Some row) there = lock_on_theirs n s l conn h number place es row (is_count (length es)) (unlocks_first es) refl there
+
+lock_theirs : (n : ℕ) (s : CoreState) (l : Lists) (conn : ℕ) (client : List ℕ) (h : SmbHead) (c : LockItem) → IsTheirs n s l conn (lock s l conn client h c)
 unfolding lock
-lock_theirs n s l conn client h id =
+lock_theirs n s l conn client h c =
     let P = IsTheirs n s l conn in
     by_session P (λ number. is_session_on conn (session_of number l)) _ (number_in s h.session_id) (tt, tt)
-    (λ k is. by_tree P _ _ (has_place _ client l) (tt, tt) (λ there. by_open P (λ number. is_open_on conn (open_of number l)) _ (file_number s id) (tt, tt) (λ number on. (tt, tt))))
+    (λ k is. by_tree P _ _ (has_place _ client l) (tt, tt)
+    (λ there. by_open P (λ number. is_open_on conn (open_of number l)) _ (file_number s c.file_id) (tt, tt)
+    (λ number on. lock_found_theirs n s l conn h number _ (elements_of c.elements) (open_of number l) (open_in conn number l (open_of number l) refl on))))
+
+-- ---- CANCEL
+
+-- the request that is named waits under the connection
+request_at : (conn id : ℕ) (l : Lists) (found : Option Waiting) → waiting_of id l ≡ found → came_by conn found ≡ true → IsIn id (waiting_under (scope.Connection conn) l)
+request_at conn id l None at is = absurd (false≢true is)
+request_at conn id l (Some row) at is = found_in (λ (r : Waiting). covers (scope.Connection conn) r.place) l.waiting id row at is
+
+first_in : (conn message id : ℕ) (es : List (ℕ × Waiting)) → option_map (λ e. e.0) (find (λ e. is_message conn message e.1) es) ≡ Some id → IsIn id (keys_where (λ (r : Waiting). covers (scope.Connection conn) r.place) es)
+first_in conn message id [] h = absurd (none_some h)
+first_in conn message id (e ∷ es) h =
+    elim (cases_Bool (is_message conn message e.1)) [
+      | inl here ↦ rw (and_parts (e.1.place.connection == conn) (e.1.header.message_id == message) here).0 (inl (same_Some (rw here at h)))
+      | inr other ↦ elim (cases_Bool (e.1.place.connection == conn)) [
+        | inl on ↦ rw on (inr (first_in conn message id es (rw other at h)))
+        | inr apart ↦ rw apart (first_in conn message id es (rw other at h))
+      ]
+    ]
+
+async_in : (conn id : ℕ) (l : Lists) (number : ℕ) (small came : Bool) → came_by conn (waiting_of id l) ≡ came → (if small && came then Some id else None) ≡ Some number → IsIn number (waiting_under (scope.Connection conn) l)
+async_in conn id l number true true is h = subst (λ (k : ℕ). IsIn k (waiting_under (scope.Connection conn) l)) (same_Some h) (request_at conn id l (waiting_of id l) refl is)
+async_in conn id l number true false is h = absurd (none_some h)
+async_in conn id l number false came is h = absurd (none_some h)
+
+pub named_in : (conn : ℕ) (l : Lists) (message : ℕ) (route : Route) (number : ℕ) → request_named conn l message route ≡ Some number → IsIn number (waiting_under (scope.Connection conn) l)
+named_in conn l message (Async id) number h = async_in conn id l number (nat_lt id (2 ^ 32)) (came_by conn (waiting_of id l)) refl h
+named_in conn l message (Tree tree) number h = first_in conn message number l.waiting h
+
+cancel_waiting : (n : ℕ) (s : CoreState) (l : Lists) (conn id : ℕ) (waits : Bool) → is_waiting id s.waiters ≡ waits → IsIn id (waiting_under (scope.Connection conn) l) → IsTheirs n s l conn (if waits then Does (Cancels id ∷ []) l Nothing else Does [] l Nothing)
+cancel_waiting n s l conn id true is there = ((is, tt), (there, tt))
+cancel_waiting n s l conn id false is there = (tt, tt)
+
+cancel_theirs_by : (n : ℕ) (s : CoreState) (l : Lists) (conn : ℕ) (o : Option ℕ) → ((number : ℕ) → o ≡ Some number → IsIn number (waiting_under (scope.Connection conn) l)) → IsTheirs n s l conn (cancel_named s l o)
+cancel_theirs_by n s l conn None there = (tt, tt)
+cancel_theirs_by n s l conn (Some id) there = cancel_waiting n s l conn id (is_waiting id s.waiters) refl (there id refl)
+
+cancel_theirs : (n : ℕ) (s : CoreState) (l : Lists) (conn : ℕ) (h : SmbHead) → IsTheirs n s l conn (cancel s l conn h)
+unfolding cancel
+cancel_theirs n s l conn h = cancel_theirs_by n s l conn (request_named conn l h.message_id h.route) (named_in conn l h.message_id h.route)
+
+-- ---- acknowledgements
 
 level_by : (n : ℕ) (s : CoreState) (l : Lists) (conn : ℕ) (lease above : Bool) → IsTheirs n s l conn (if lease then Fails InvalidParameter else if above then Fails InvalidOplockProtocol else Fails InvalidDeviceState)
 level_by n s l conn true above = (tt, tt)
@@ -224,8 +320,8 @@ commanded_theirs n s files others l conn h (TreeConnect path) client = connect_t
 commanded_theirs n s files others l conn h TreeDisconnect client = disconnect_theirs n s l conn client h
 commanded_theirs n s files others l conn h (Create c) client = create_theirs n s files others l conn client h c
 commanded_theirs n s files others l conn h (Close c) client = close_theirs n s l conn client h c.file_id
-commanded_theirs n s files others l conn h (Lock c) client = lock_theirs n s l conn client h c.file_id
-commanded_theirs n s files others l conn h Cancel client = (tt, tt)
+commanded_theirs n s files others l conn h (Lock c) client = lock_theirs n s l conn client h c
+commanded_theirs n s files others l conn h Cancel client = cancel_theirs n s l conn h
 commanded_theirs n s files others l conn h Echo client = (tt, tt)
 commanded_theirs n s files others l conn h (OplockBreak b) client = acknowledge_theirs n s l conn h b
 commanded_theirs n s files others l conn h (Negotiate c) client = (tt, tt)

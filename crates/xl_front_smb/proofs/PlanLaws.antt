@@ -19,7 +19,7 @@ use Rattle.xl_front_smb.specs.Files.{all_opens, has_room_for_open, close_open, c
 use Rattle.xl_front_smb.specs.Plans.{Plan, Fails, Outcome, carried}
 use Rattle.xl_front_smb.specs.Sessions.{has_room_for_session, set_up_as, set_up, has_room_for_tree, connect_as, connect}
 use Rattle.xl_front_smb.specs.Texts.{is_share}
-use Rattle.xl_front_smb.specs.declared.status.SmbStatus.TheVariants.{InsufficientResources, BadNetworkName}
+use Rattle.xl_smb_locks.specs.declared.status.SmbStatus.TheVariants.{InsufficientResources, BadNetworkName}
 use Rattle.xl_front_smb.specs.declared.told.Told.TheVariants.{Closed}
 
 -- ---- a connection on which nobody has negotiated
@@ -44,15 +44,15 @@ fresh_unnamed conn l h = fresh_none (connection_of conn l) h
 
 -- ---- where there is room
 
-room_of : (a b : Bool) → (a && not b) ≡ true → (a ≡ true) × (b ≡ false)
+pub room_of : (a b : Bool) → (a && not b) ≡ true → (a ≡ true) × (b ≡ false)
 room_of true false h = (refl, refl)
 room_of true true h = absurd (false≢true h)
 room_of false b h = absurd (false≢true h)
 
-below : (n most : ℕ) → nat_lt n most ≡ true → n < most
+pub below : (n most : ℕ) → nat_lt n most ≡ true → n < most
 below n most h = ltb-true n most h
 
-none_of : {X : Type 0} (o : Option X) → is_some o ≡ false → o ≡ None
+pub none_of : {X : Type 0} (o : Option X) → is_some o ≡ false → o ≡ None
 none_of None h = refl
 none_of (Some x) h = absurd (true≢false h)
 

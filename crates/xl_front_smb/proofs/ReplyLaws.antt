@@ -12,10 +12,9 @@ use Rattle.xl_smb.specs.Replies.{ReplyItem}
 use Rattle.xl_smb.specs.declared.fault.SmbBad.{SmbBad}
 use Rattle.xl_smb.specs.declared.fault.SmbBad.TheVariants.{Short, Magic}
 use Rattle.xl_smb.specs.declared.head.SmbHead.{SmbHead}
-use Rattle.xl_front_smb.specs.Replies.{credits_for, tree_id, reply_head, head_by, body_of, IsAnswer}
-use Rattle.xl_front_smb.specs.Statuses.{status_number}
-use Rattle.xl_front_smb.specs.declared.status.SmbStatus.{SmbStatus}
-use Rattle.xl_front_smb.specs.declared.status.SmbStatus.TheVariants as status
+use Rattle.xl_front_smb.specs.Replies.{credits_for, tree_id, reply_head, pending_head, head_by, body_of, IsAnswer}
+use Rattle.xl_smb_locks.specs.Statuses.{status_number}
+use Rattle.xl_smb_locks.proofs.FinalLaws.{fails}
 use Rattle.xl_front_smb.specs.declared.told.Told.{Told}
 use Rattle.xl_front_smb.specs.declared.told.Told.TheVariants as told
 
@@ -40,22 +39,12 @@ no_notice h status tree session = one_fails (status == 0) (h.command == 18) true
 
 -- ---- a reply stands behind its header
 
-fails : (s : SmbStatus) → (status_number s == 0) ≡ false
-fails status.InvalidParameter = refl
-fails status.ObjectNameNotFound = refl
-fails status.ObjectNameCollision = refl
-fails status.SharingViolation = refl
-fails status.InsufficientResources = refl
-fails status.NotSupported = refl
-fails status.NetworkNameDeleted = refl
-fails status.BadNetworkName = refl
-fails status.InvalidOplockProtocol = refl
-fails status.FileClosed = refl
-fails status.InvalidDeviceState = refl
-fails status.UserSessionDeleted = refl
+no_pending : (h : SmbHead) (id : ℕ) → is_notice (pending_head h id) ≡ false
+unfolding is_notice pending_head
+no_pending h id = refl
 
 stands : (h : SmbHead) (t : Told) (body : ReplyItem) → body_of t ≡ Some body → IsAnswer (command_of h.command) t → ReplyStands (head_by h t) body
-unfolding reply_head
+unfolding reply_head pending_head
 stands h told.Nothing body e answer = absurd (none_some e)
 stands h (told.Failed s) body e answer = subst (λ b. ReplyStands (reply_head h (status_number s) (tree_id h.route) h.session_id) b) (same_Some e) (record { reply = refl; form = refl; no_notice = no_notice h (status_number s) (tree_id h.route) h.session_id; command = fails s; has = tt })
 stands h told.Negotiated body e answer = subst (λ b. ReplyStands (reply_head h 0 (tree_id h.route) h.session_id) b) (same_Some e) (record { reply = refl; form = refl; no_notice = no_notice h 0 (tree_id h.route) h.session_id; command = (refl, answer); has = omega arith })
@@ -65,6 +54,8 @@ stands h (told.Connected tree) body e answer = subst (λ b. ReplyStands (reply_h
 stands h told.Disconnected body e answer = subst (λ b. ReplyStands (reply_head h 0 (tree_id h.route) h.session_id) b) (same_Some e) (record { reply = refl; form = refl; no_notice = no_notice h 0 (tree_id h.route) h.session_id; command = (refl, answer); has = tt })
 stands h (told.Opened id) body e answer = subst (λ b. ReplyStands (reply_head h 0 (tree_id h.route) h.session_id) b) (same_Some e) (record { reply = refl; form = refl; no_notice = no_notice h 0 (tree_id h.route) h.session_id; command = (refl, answer); has = record { contexts = omega arith; within = refl } })
 stands h told.Closed body e answer = subst (λ b. ReplyStands (reply_head h 0 (tree_id h.route) h.session_id) b) (same_Some e) (record { reply = refl; form = refl; no_notice = no_notice h 0 (tree_id h.route) h.session_id; command = (refl, answer); has = tt })
+stands h told.Locked body e answer = subst (λ b. ReplyStands (reply_head h 0 (tree_id h.route) h.session_id) b) (same_Some e) (record { reply = refl; form = refl; no_notice = no_notice h 0 (tree_id h.route) h.session_id; command = (refl, answer); has = tt })
+stands h (told.Pending id) body e answer = subst (λ b. ReplyStands (pending_head h id) b) (same_Some e) (record { reply = refl; form = refl; no_notice = no_pending h id; command = refl; has = tt })
 stands h told.Echoed body e answer = subst (λ b. ReplyStands (reply_head h 0 (tree_id h.route) h.session_id) b) (same_Some e) (record { reply = refl; form = refl; no_notice = no_notice h 0 (tree_id h.route) h.session_id; command = (refl, answer); has = tt })
 
 -- the header and the body as the code has them
@@ -81,6 +72,8 @@ little (told.Connected tree) body e = subst (λ b. 64 + reply_length b ≤ most_
 little told.Disconnected body e = subst (λ b. 64 + reply_length b ≤ most_message_bytes) (same_Some e) (omega arith)
 little (told.Opened id) body e = subst (λ b. 64 + reply_length b ≤ most_message_bytes) (same_Some e) (omega arith)
 little told.Closed body e = subst (λ b. 64 + reply_length b ≤ most_message_bytes) (same_Some e) (omega arith)
+little told.Locked body e = subst (λ b. 64 + reply_length b ≤ most_message_bytes) (same_Some e) (omega arith)
+little (told.Pending id) body e = subst (λ b. 64 + reply_length b ≤ most_message_bytes) (same_Some e) (omega arith)
 little told.Echoed body e = subst (λ b. 64 + reply_length b ≤ most_message_bytes) (same_Some e) (omega arith)
 
 pub reply_little : (t : Told) (body : ReplyItem) → Some body ≡ body_of t → 64 + reply_length body ≤ most_message_bytes

@@ -12,7 +12,7 @@ use Rattle.xl_core.specs.State.{CoreState}
 use Rattle.xl_front_smb.specs.Owners.{is_session_on}
 use Rattle.xl_front_smb.specs.Plans.{Plan, Fails}
 use Rattle.xl_front_smb.specs.Replies.{tree_id}
-use Rattle.xl_front_smb.specs.declared.status.SmbStatus.TheVariants.{InvalidParameter, NetworkNameDeleted, FileClosed, UserSessionDeleted}
+use Rattle.xl_smb_locks.specs.declared.status.SmbStatus.TheVariants.{InvalidParameter, NetworkNameDeleted, FileClosed, UserSessionDeleted}
 
 -- ---- the ids of sessions and opens: the epoch of this start, and the number
 

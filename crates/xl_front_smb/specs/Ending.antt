@@ -1,12 +1,12 @@
 -- The end of opens, sessions and connections (MS-SMB2 3.3.4.17, 3.3.5.6, 3.3.7.1).
-use Rattle.std.specs.Prelude.{ℕ, List, [], ◌∷◌, map}
+use Rattle.std.specs.Prelude.{ℕ, ◌==◌, not, List, [], ◌∷◌, map, filter}
 use Rattle.xl_base.specs.declared.name.Party.TheVariants as parties
 use Rattle.xl_core.specs.Deeds.{Deed, Ends}
 use Rattle.xl_core.specs.Settle.{end_party}
 use Rattle.xl_core.specs.State.{CoreState}
 use Rattle.xl_core.specs.Ticks.{behind_told}
 use Rattle.xl_core.specs.declared.ask.Effect.{Effect}
-use Rattle.xl_smb_state.specs.State.{Lists, connection_dropped, session_dropped, sessions_on, tree_dropped, trees_of, opens_under, closed}
+use Rattle.xl_smb_state.specs.State.{Lists, waiting_dropped, connection_dropped, session_dropped, sessions_on, tree_dropped, trees_of, opens_under, closed}
 use Rattle.xl_smb_state.specs.declared.row.Scope.TheVariants as scope
 use Rattle.xl_front_smb.specs.State.{FrontSmb}
 
@@ -44,6 +44,15 @@ sessions_gone (number ∷ numbers) l = sessions_gone numbers (session_gone numbe
 unfoldable pub connection_gone : ℕ → Lists → Lists
 connection_gone conn l = connection_dropped conn (sessions_gone (sessions_on conn l) l)
 
+-- the requests that wait and came by a connection are forgotten
+abbrev pub requests_gone : ℕ → Lists → Lists
+requests_gone conn l = record l { waiting = filter (λ e. not (e.1.place.connection == conn)) l.waiting }
+
+-- these are forgotten one after the other
+abbrev pub requests_dropped : List ℕ → Lists → Lists
+requests_dropped [] l = l
+requests_dropped (number ∷ numbers) l = requests_dropped numbers (waiting_dropped number l)
+
 -- ---- the end of a connection
 
 -- What the end of a connection does to the core: each open under it ends, in the order in which they came.
@@ -53,7 +62,7 @@ smb_end_deeds f conn = ends (opens_under (scope.Connection conn) f.state)
 abbrev pub ended_with : Lists → List Effect × CoreState → List Effect × FrontSmb × CoreState
 ended_with l r = (r.0, record { state = l }, r.1)
 
--- What the core tells of then, and the front and the core afterwards: the connection goes with its sessions and their tree
--- connects.
+-- What the core tells of then, and the front and the core afterwards: the connection goes with its sessions, their tree
+-- connects, and the requests that wait, which get no reply.
 unfoldable pub smb_end : FrontSmb → CoreState → ℕ → List Effect × FrontSmb × CoreState
-smb_end f s conn = ended_with (connection_gone conn (all_closed (opens_under (scope.Connection conn) f.state) f.state)) (all_ended (opens_under (scope.Connection conn) f.state) s)
+smb_end f s conn = ended_with (requests_gone conn (connection_gone conn (all_closed (opens_under (scope.Connection conn) f.state) f.state))) (all_ended (opens_under (scope.Connection conn) f.state) s)

@@ -1,4 +1,4 @@
--- Opens: CREATE, CLOSE, LOCK, and acknowledgements of breaks (MS-SMB2 3.3.5.9, 3.3.5.10, 3.3.5.14, 3.3.5.22).
+-- Opens: CREATE, CLOSE, and acknowledgements of breaks (MS-SMB2 3.3.5.9, 3.3.5.10, 3.3.5.22).
 use Rattle.std.specs.Prelude.{ℕ, ◌+◌, ◌-◌, Bool, false, not, ◌&&◌, ◌||◌, ◌==◌, nat_lt, bit_and, if◌then◌else◌, List, [], ◌∷◌, length, Option, Some, None, is_some}
 use Rattle.xl_base.specs.declared.name.Party.TheVariants as parties
 use Rattle.xl_matrix.specs.declared.claim.Rwd.{Rwd}
@@ -22,7 +22,7 @@ use Rattle.xl_core.specs.declared.ask.Who.TheVariants as who
 use Rattle.xl_front_smb.specs.Checks.{id_of, session_named, tree_named, open_named, in_session, on_tree, on_open}
 use Rattle.xl_front_smb.specs.Plans.{Plan, Fails, Does, Opens}
 use Rattle.xl_front_smb.specs.Texts.{file_spelled}
-use Rattle.xl_front_smb.specs.declared.status.SmbStatus.TheVariants.{InvalidParameter, ObjectNameNotFound, ObjectNameCollision, InsufficientResources, NotSupported, InvalidOplockProtocol, InvalidDeviceState}
+use Rattle.xl_smb_locks.specs.declared.status.SmbStatus.TheVariants.{InvalidParameter, ObjectNameNotFound, ObjectNameCollision, InsufficientResources, NotSupported, InvalidOplockProtocol, InvalidDeviceState}
 use Rattle.xl_front_smb.specs.declared.told.Told.TheVariants.{Opened, Closed}
 
 -- ---- access and sharing (2.2.13, 2.2.13.1.1)
@@ -119,7 +119,7 @@ create_on s files others l client c place =
 unfoldable pub create : CoreState → List (List ℕ) → ℕ → Lists → ℕ → List ℕ → SmbHead → CreateCallItem → Plan
 create s files others l conn client h c = in_session (λ session. on_tree (create_on s files others l client c) (tree_named l conn client h session)) (session_named s l conn h.session_id)
 
--- ---- CLOSE and LOCK
+-- ---- CLOSE
 
 -- the open ends with all that it holds
 abbrev pub close_open : Lists → ℕ → Plan
@@ -129,11 +129,6 @@ close_open l number = Does (Ends (parties.Open number) ∷ []) (closed number l)
 unfoldable pub close : CoreState → Lists → ℕ → List ℕ → SmbHead → FileId → Plan
 close s l conn client h id =
     in_session (λ session. on_tree (λ place. on_open (close_open l) (open_named s l conn id)) (tree_named l conn client h session)) (session_named s l conn h.session_id)
-
--- LOCK, which is not served yet, has the same checks
-unfoldable pub lock : CoreState → Lists → ℕ → List ℕ → SmbHead → FileId → Plan
-lock s l conn client h id =
-    in_session (λ session. on_tree (λ place. on_open (λ number. Fails NotSupported) (open_named s l conn id)) (tree_named l conn client h session)) (session_named s l conn h.session_id)
 
 -- ---- acknowledgements: no cache is held yet, and no break runs
 

@@ -28,8 +28,8 @@ use Rattle.xl_front_smb.specs.FrontSmb.{head_heard}
 use Rattle.xl_front_smb.specs.Plans.{Outcome, carried}
 use Rattle.xl_front_smb.specs.Requests.{planned}
 use Rattle.xl_front_smb.specs.Texts.{file_spelled}
-use Rattle.xl_front_smb.specs.declared.status.SmbStatus.{SmbStatus}
-use Rattle.xl_front_smb.specs.declared.status.SmbStatus.TheVariants as status
+use Rattle.xl_smb_locks.specs.declared.status.SmbStatus.{SmbStatus}
+use Rattle.xl_smb_locks.specs.declared.status.SmbStatus.TheVariants as status
 use Rattle.xl_front_smb.specs.declared.told.Told.{Told}
 use Rattle.xl_front_smb.specs.declared.told.Told.TheVariants.{Failed, Opened}
 

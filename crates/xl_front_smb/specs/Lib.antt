@@ -1,6 +1,5 @@
 pub mod State
 pub mod Short
-pub mod Statuses
 pub mod Replies
 pub mod Texts
 pub mod Owners
@@ -9,6 +8,8 @@ pub mod Checks
 pub mod Ending
 pub mod Sessions
 pub mod Files
+pub mod Locks
 pub mod Requests
 pub mod FrontSmb
 pub mod Laws
+pub mod LockLaws

@@ -3,7 +3,7 @@ use Rattle.std.specs.Prelude.{◌≡◌, ℕ, min, max, ◌==◌, if◌then◌el
 use Rattle.xl_smb.specs.Creates.{CreateReplyItem}
 use Rattle.xl_smb.specs.Messages.{Reply, spelling}
 use Rattle.xl_smb.specs.Places.{zeros}
-use Rattle.xl_smb.specs.Replies.{ReplyItem, Negotiate, SessionSetup, Logoff, TreeConnect, TreeDisconnect, Create, Close, Echo, Error}
+use Rattle.xl_smb.specs.Replies.{ReplyItem, Negotiate, SessionSetup, Logoff, TreeConnect, TreeDisconnect, Create, Close, Lock, Echo, Error}
 use Rattle.xl_smb.specs.Sessions.{NegotiateReplyItem, SetupReplyItem}
 use Rattle.xl_smb.specs.declared.command.Command.{Command}
 use Rattle.xl_smb.specs.declared.command.Command.TheVariants as command
@@ -13,7 +13,7 @@ use Rattle.xl_smb.specs.declared.head.Route.TheVariants.{Tree, Async}
 use Rattle.xl_smb.specs.declared.head.SmbHead.{SmbHead}
 use Rattle.xl_smb.specs.declared.lock.CloseReply.{CloseReply}
 use Rattle.xl_smb.specs.declared.session.TreeConnectReply.{TreeConnectReply}
-use Rattle.xl_front_smb.specs.Statuses.{status_number}
+use Rattle.xl_smb_locks.specs.Statuses.{status_number}
 use Rattle.xl_front_smb.specs.declared.told.Told.{Told}
 use Rattle.xl_front_smb.specs.declared.told.Told.TheVariants as told
 
@@ -44,10 +44,26 @@ reply_head h status tree session = record {
   signature = zeros 16;
 }
 
+-- STATUS_PENDING names the AsyncId in the place of the tree connect
+unfoldable pub pending_head : SmbHead → ℕ → SmbHead
+pending_head h id = record {
+  credit_charge = h.credit_charge;
+  status = 0x103;
+  command = h.command;
+  credits = credits_for h.credits;
+  flags = 3;
+  next_command = 0;
+  message_id = h.message_id;
+  route = Async id;
+  session_id = h.session_id;
+  signature = zeros 16;
+}
+
 abbrev pub head_by : SmbHead → Told → SmbHead
 head_by h (told.Failed status) = reply_head h (status_number status) (tree_id h.route) h.session_id
 head_by h (told.SetUp session) = reply_head h 0 (tree_id h.route) session
 head_by h (told.Connected tree) = reply_head h 0 tree h.session_id
+head_by h (told.Pending id) = pending_head h id
 head_by h _ = reply_head h 0 (tree_id h.route) h.session_id
 
 -- ---- the body
@@ -85,6 +101,8 @@ body_of (told.Connected tree) = Some (TreeConnect connected)
 body_of told.Disconnected = Some TreeDisconnect
 body_of (told.Opened id) = Some (Create (opened id))
 body_of told.Closed = Some (Close closed)
+body_of told.Locked = Some Lock
+body_of (told.Pending id) = Some Error
 body_of told.Echoed = Some Echo
 
 -- ---- the reply
@@ -108,4 +126,6 @@ IsAnswer c (told.Connected tree) = c ≡ Some command.TreeConnect
 IsAnswer c told.Disconnected = c ≡ Some command.TreeDisconnect
 IsAnswer c (told.Opened id) = c ≡ Some command.Create
 IsAnswer c told.Closed = c ≡ Some command.Close
+IsAnswer c told.Locked = c ≡ Some command.Lock
+IsAnswer c (told.Pending id) = Unit {0}
 IsAnswer c told.Echoed = c ≡ Some command.Echo

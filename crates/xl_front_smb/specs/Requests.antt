@@ -8,13 +8,14 @@ use Rattle.xl_smb.specs.declared.head.SmbHead.{SmbHead}
 use Rattle.xl_smb_state.specs.State.{Lists, client_of}
 use Rattle.xl_core.specs.State.{CoreState}
 use Rattle.xl_front_smb.specs.Checks.{negotiated_by}
-use Rattle.xl_front_smb.specs.Files.{create, close, lock, acknowledge}
+use Rattle.xl_front_smb.specs.Files.{create, close, acknowledge}
+use Rattle.xl_front_smb.specs.Locks.{lock, cancel}
 use Rattle.xl_front_smb.specs.Plans.{Plan, Fails, Does}
 use Rattle.xl_front_smb.specs.Sessions.{negotiate, session_setup, logoff, tree_connect, tree_disconnect}
-use Rattle.xl_front_smb.specs.declared.status.SmbStatus.TheVariants.{InvalidParameter, NotSupported}
-use Rattle.xl_front_smb.specs.declared.told.Told.TheVariants.{Nothing, Echoed}
+use Rattle.xl_smb_locks.specs.declared.status.SmbStatus.TheVariants.{InvalidParameter, NotSupported}
+use Rattle.xl_front_smb.specs.declared.told.Told.TheVariants.{Echoed}
 
--- the table, for a client that has negotiated; nothing waits yet that a CANCEL could reach
+-- the table, for a client that has negotiated
 unfoldable pub commanded : CoreState → List (List ℕ) → ℕ → Lists → ℕ → SmbHead → CallItem → List ℕ → Plan
 commanded s files others l conn h (SessionSetup c) client = session_setup s l conn h
 commanded s files others l conn h Logoff client = logoff s l conn h
@@ -22,8 +23,8 @@ commanded s files others l conn h (TreeConnect path) client = tree_connect s l c
 commanded s files others l conn h TreeDisconnect client = tree_disconnect s l conn client h
 commanded s files others l conn h (Create c) client = create s files others l conn client h c
 commanded s files others l conn h (Close c) client = close s l conn client h c.file_id
-commanded s files others l conn h (Lock c) client = lock s l conn client h c.file_id
-commanded s files others l conn h Cancel client = Does [] l Nothing
+commanded s files others l conn h (Lock c) client = lock s l conn client h c
+commanded s files others l conn h Cancel client = cancel s l conn h
 commanded s files others l conn h Echo client = Does [] l Echoed
 commanded s files others l conn h (OplockBreak b) client = acknowledge s l conn h b
 commanded s files others l conn h (Negotiate c) client = Fails InvalidParameter

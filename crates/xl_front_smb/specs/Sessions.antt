@@ -13,7 +13,7 @@ use Rattle.xl_front_smb.specs.Checks.{id_of, session_named, tree_named, is_fresh
 use Rattle.xl_front_smb.specs.Ending.{ends, all_closed, session_gone}
 use Rattle.xl_front_smb.specs.Plans.{Plan, Fails, Does}
 use Rattle.xl_front_smb.specs.Texts.{is_share}
-use Rattle.xl_front_smb.specs.declared.status.SmbStatus.TheVariants.{InvalidParameter, InsufficientResources, NotSupported, BadNetworkName}
+use Rattle.xl_smb_locks.specs.declared.status.SmbStatus.TheVariants.{InvalidParameter, InsufficientResources, NotSupported, BadNetworkName}
 use Rattle.xl_front_smb.specs.declared.told.Told.TheVariants.{Negotiated, SetUp, LoggedOff, Connected, Disconnected}
 
 -- SMB 2.1 is offered

@@ -16,7 +16,6 @@ use crate::checks::{session_named, tree_named};
 use crate::ids::id_of;
 use crate::numbers::drawn;
 use crate::outcome::{Done, failed};
-use crate::status::SmbStatus;
 use crate::texts::file_spelled;
 use crate::told::Told;
 use std::alloc::{AllocError, Global};
@@ -24,6 +23,7 @@ use xl_base::{Keeper, Sequence};
 use xl_core::{Act, Answer, Ask, Core, Effect, Who};
 use xl_matrix::Rwd;
 use xl_smb::{CreateCall, SmbHead};
+use xl_smb_locks::SmbStatus;
 use xl_smb_state::{Holder, OPENS, Open, Place, SmbState};
 use xl_wait::Rooms;
 
@@ -176,7 +176,7 @@ fn opened(
 }
 
 /// Opens a file under the next number.
-#[tactic(auto, using(crate::proofs::LeaveLaws::ready_drawn, crate::proofs::LeaveLaws::drawn_then, crate::proofs::PlanLaws::open_room, crate::proofs::PlanLaws::open_within, crate::proofs::PlanLaws::open_new))]
+#[tactic(auto, using(xl_smb_locks::proofs::LeaveLaws::ready_drawn, xl_smb_locks::proofs::LeaveLaws::drawn_then, crate::proofs::PlanLaws::open_room, crate::proofs::PlanLaws::open_within, crate::proofs::PlanLaws::open_new))]
 fn open_as<K: Keeper>(
     alloc: Global,
     state: &mut SmbState,
@@ -213,7 +213,7 @@ fn has_room(state: &SmbState, others: u32, number: u32) -> bool
 }
 
 /// Opens a file, where there is room.
-#[tactic(auto, using(crate::proofs::LeaveLaws::leaves_self))]
+#[tactic(auto, using(xl_smb_locks::proofs::LeaveLaws::leaves_self))]
 fn open_file<K: Keeper>(
     alloc: Global,
     state: &mut SmbState,
@@ -249,7 +249,7 @@ fn overwrites(disposition: u32) -> bool
 }
 
 /// Opens a file on a tree connect, where there is one of this name and it is only to be opened.
-#[tactic(auto, using(crate::proofs::LeaveLaws::leaves_self))]
+#[tactic(auto, using(xl_smb_locks::proofs::LeaveLaws::leaves_self))]
 fn create_on<K: Keeper>(
     alloc: Global,
     files: &[Sequence<u8>],
@@ -287,7 +287,7 @@ fn create_on<K: Keeper>(
 }
 
 /// CREATE: in a session, on a tree connect of it.
-#[tactic(auto, unfolding(crate::specs::Files::create), using(crate::proofs::LeaveLaws::leaves_self))]
+#[tactic(auto, unfolding(crate::specs::Files::create), using(xl_smb_locks::proofs::LeaveLaws::leaves_self))]
 pub(crate) fn create<K: Keeper>(
     alloc: Global,
     files: &[Sequence<u8>],

@@ -4,7 +4,7 @@ ghost use Rattle.xl_base.specs.declared.name.Party.TheVariants as parties;
 ghost use Rattle.xl_smb_state.specs.State.{session_of, sessions_on, trees_of, opens_under};
 ghost use Rattle.xl_smb_state.specs.declared.row.Scope.TheVariants as scope;
 ghost use Rattle.xl_core.specs.Settle.{end_party};
-ghost use Rattle.xl_front_smb.specs.Ending.{all_ended, all_closed, trees_dropped, session_gone, sessions_gone, connection_gone, smb_end};
+ghost use Rattle.xl_front_smb.specs.Ending.{all_ended, all_closed, trees_dropped, session_gone, sessions_gone, connection_gone, requests_gone, requests_dropped, smb_end};
 ghost use Rattle.xl_front_smb.specs.Short.{IsReady, Leaves};
 
 use crate::front::SmbFront;
@@ -41,7 +41,7 @@ pub(crate) fn end_one(
 }
 
 /// Ends these opens, one after the other.
-#[tactic(auto, using(crate::proofs::LeaveLaws::leaves_self, crate::proofs::LeaveLaws::leaves_on, crate::proofs::LeaveLaws::ready_on, crate::proofs::EndLaws::ended_step))]
+#[tactic(auto, using(xl_smb_locks::proofs::LeaveLaws::leaves_self, xl_smb_locks::proofs::LeaveLaws::leaves_on, xl_smb_locks::proofs::LeaveLaws::ready_on, crate::proofs::EndLaws::ended_step))]
 fn end_all(alloc: Global, core: &mut Core, numbers: &[u32]) -> Result<Sequence<Effect>, AllocError>
     requires ready { IsReady 0 core.old }
     ensures state { IfOk result (λ effects. all_ended numbers.now core.old ≡ (effects, core.new)) }
@@ -151,8 +151,32 @@ fn end_connection(alloc: Global, state: &mut SmbState, conn: u64) -> Result<(), 
     Ok(())
 }
 
+/// Forgets these requests that wait.
+#[tactic(auto, using(crate::proofs::FinalLaws::drop_there, crate::proofs::FinalLaws::drop_none))]
+fn drop_requests(state: &mut SmbState, numbers: &[u32])
+    ensures { state.new ≡ requests_dropped numbers.now state.old }
+{
+    'requests: for number in numbers {
+        if state.find_waiting(*number).is_some() {
+            state.drop_waiting(*number);
+        }
+    }
+}
+
+/// Forgets the requests that wait and came by a connection.
+#[tactic(auto, using(crate::proofs::FinalLaws::forgotten))]
+fn forget_requests(alloc: Global, state: &mut SmbState, conn: u64) -> Result<(), AllocError>
+    ensures { OnOk result (state.new ≡ requests_gone conn state.old) }
+{
+    state.links();
+    let numbers = state.waiting_under(alloc, Scope::Connection(conn))?;
+    drop_requests(state, &numbers);
+    Ok(())
+}
+
 /// The connection of this number ends: each open under it ends with all that it holds and waits for, in the order in which
-/// they came, and its sessions and tree connects go. What the core tells of is handed on; nothing is sent.
+/// they came, its sessions and tree connects go, and its requests that wait are forgotten. What the core tells of is handed
+/// on; nothing is sent.
 #[tactic(auto, unfolding(crate::specs::Ending::smb_end))]
 pub fn smb_end(
     alloc: Global,
@@ -166,5 +190,6 @@ pub fn smb_end(
 {
     let effects = end_under(alloc, &mut front.state, core, Scope::Connection(conn))?;
     end_connection(alloc, &mut front.state, conn)?;
+    forget_requests(alloc, &mut front.state, conn)?;
     Ok(effects)
 }

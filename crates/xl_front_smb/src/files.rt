@@ -1,4 +1,4 @@
-//! Opens: CREATE, CLOSE, LOCK, and acknowledgements of breaks.
+//! Opens: CLOSE, and acknowledgements of breaks.
 ghost use Rattle.std.specs.Prelude.{◌≡◌, ℕ, ◌+◌, ◌<◌, Some, IsSome, length, IfOk, OnOk};
 ghost use Rattle.xl_smb.specs.Creates.{shown_create_call};
 ghost use Rattle.xl_smb.specs.declared.command.Command.TheVariants as command;
@@ -7,7 +7,7 @@ ghost use Rattle.xl_smb_state.specs.State.{open_of};
 ghost use Rattle.xl_smb_state.specs.declared.row.Holder.TheVariants as holder;
 ghost use Rattle.xl_core.specs.Asking.{IsFit};
 ghost use Rattle.xl_core.specs.State.{CoreState, MayBe};
-ghost use Rattle.xl_front_smb.specs.Files.{all_opens, close_open, close, lock, level_refused, break_by, acknowledge};
+ghost use Rattle.xl_front_smb.specs.Files.{all_opens, close_open, close, level_refused, break_by, acknowledge};
 ghost use Rattle.xl_front_smb.specs.Plans.{Fails, carried};
 ghost use Rattle.xl_front_smb.specs.Replies.{IsAnswer};
 ghost use Rattle.xl_front_smb.specs.Short.{IsReady, Leaves};
@@ -15,12 +15,12 @@ ghost use Rattle.xl_front_smb.specs.Short.{IsReady, Leaves};
 use crate::checks::{open_named, session_named, tree_named};
 use crate::ending::end_one;
 use crate::outcome::{Done, failed};
-use crate::status::SmbStatus;
 use crate::told::Told;
 use std::alloc::{AllocError, Global};
 use xl_base::Sequence;
 use xl_core::Core;
 use xl_smb::{Break, FileId, SmbHead};
+use xl_smb_locks::SmbStatus;
 use xl_smb_state::SmbState;
 
 /// An open ends with all that it holds.
@@ -44,7 +44,7 @@ fn close_open(
 }
 
 /// CLOSE: in a session, on a tree connect of it, of an open under the connection.
-#[tactic(auto, unfolding(crate::specs::Files::close), using(crate::proofs::LeaveLaws::leaves_self))]
+#[tactic(auto, unfolding(crate::specs::Files::close), using(xl_smb_locks::proofs::LeaveLaws::leaves_self))]
 pub(crate) fn close(
     alloc: Global,
     state: &mut SmbState,
@@ -70,30 +70,6 @@ pub(crate) fn close(
     };
     let done = close_open(alloc, state, core, number)?;
     Ok(done)
-}
-
-/// Why a LOCK fails, which is not served yet: by the same checks as CLOSE, or at last.
-#[tactic(auto, unfolding(crate::specs::Files::lock))]
-pub(crate) fn lock(
-    state: &SmbState,
-    core: &Core,
-    conn: u64,
-    client: &[u8; 16],
-    head: &SmbHead,
-    id: FileId,
-) -> SmbStatus
-    ensures { lock core.now state.now conn client.now head.now id ≡ Fails result }
-{
-    let Some(session) = session_named(core, state, conn, head.session_id) else {
-        return SmbStatus::UserSessionDeleted;
-    };
-    if tree_named(state, conn, client, head, session).is_none() {
-        return SmbStatus::NetworkNameDeleted;
-    }
-    match open_named(core, state, conn, id) {
-        Some(_) => SmbStatus::NotSupported,
-        None => SmbStatus::FileClosed,
-    }
 }
 
 /// Why this level can't be acknowledged, as no break runs.

@@ -1,11 +1,18 @@
 //! Laws of the front. The functions do nothing: each has laws as its clauses.
-ghost use Rattle.std.specs.Prelude.{◌≡◌, ℕ, ◌+◌, ◌==◌, ◌↔◌, true, List, [], ◌∷◌, Some, None};
+ghost use Rattle.std.specs.Prelude.{◌≡◌, ℕ, ◌+◌, ◌==◌, ◌↔◌, ◌⊎◌, true, false, List, [], ◌∷◌, ◌++◌, map, Some, None};
 ghost use Rattle.std.specs.List.{AllByRecursion};
 ghost use Rattle.xl_base.specs.declared.name.Owner.{Owner};
 ghost use Rattle.xl_base.specs.declared.journal.Exports.{Exports};
 ghost use Rattle.xl_core.specs.Deeds.{all_done, all_told_of, answers_of, AreFit};
 ghost use Rattle.xl_core.specs.Good.{IsGood};
-ghost use Rattle.xl_core.specs.Places.{ShareOf, held_at};
+ghost use Rattle.xl_core.specs.Places.{RangesOf, ShareOf, held_at};
+ghost use Rattle.xl_core.specs.Settle.{cancel};
+ghost use Rattle.xl_core.specs.declared.ask.Effect.{Effect};
+ghost use Rattle.xl_base.specs.Lists.{IsIn};
+ghost use Rattle.xl_wait.specs.Waiting.{is_waiting};
+ghost use Rattle.xl_smb.specs.Locks.{LockItem, elements_of};
+ghost use Rattle.xl_smb_locks.specs.Elements.{unlocks_first};
+ghost use Rattle.xl_smb_state.specs.declared.row.Open.{Open};
 ghost use Rattle.xl_core.specs.State.{CoreState};
 ghost use Rattle.xl_matrix.specs.declared.claim.What.{What};
 ghost use Rattle.xl_smb.specs.Calls.{CallItem};
@@ -13,18 +20,19 @@ ghost use Rattle.xl_smb.specs.Creates.{CreateCallItem};
 ghost use Rattle.xl_smb.specs.declared.lock.CloseCall.{CloseCall};
 ghost use Rattle.xl_smb.specs.declared.head.SmbHead.{SmbHead};
 ghost use Rattle.xl_smb_state.specs.Links.{IsSound, AreDistinct};
-ghost use Rattle.xl_smb_state.specs.State.{Lists, client_of, open_of, covers_holder, opens_under};
+ghost use Rattle.xl_smb_state.specs.State.{Lists, client_of, open_of, covers_holder, opens_under, waiting_under};
 ghost use Rattle.xl_smb_state.specs.declared.row.Place.{Place};
 ghost use Rattle.xl_smb_state.specs.declared.row.Scope.{Scope};
 ghost use Rattle.xl_front_smb.specs.Ending.{smb_end_deeds, smb_end};
 ghost use Rattle.xl_front_smb.specs.Files.{access_of, deny_of, open_row};
-ghost use Rattle.xl_front_smb.specs.FrontSmb.{answered, sent_by, smb_deeds, smb_reply, smb_step};
+ghost use Rattle.xl_front_smb.specs.FrontSmb.{answered, smb_deeds, smb_replies, smb_step};
 ghost use Rattle.xl_front_smb.specs.Checks.{id_of, session_named, tree_named, open_named};
+ghost use Rattle.xl_front_smb.specs.LockLaws.{IsOfOpen, held_as, all_unlocked};
 ghost use Rattle.xl_front_smb.specs.Laws.{rows_but, Without, outcome_of, IsRequest, IsInSession, IsOnTree, IsCreateDue};
 ghost use Rattle.xl_front_smb.specs.Owners.{AreOwn, is_end};
 ghost use Rattle.xl_front_smb.specs.State.{FrontSmb};
 ghost use Rattle.xl_front_smb.specs.Texts.{file_spelled};
-ghost use Rattle.xl_front_smb.specs.declared.status.SmbStatus.{SmbStatus};
+ghost use Rattle.xl_smb_locks.specs.declared.status.SmbStatus.{SmbStatus};
 ghost use Rattle.xl_front_smb.specs.declared.told.Told.{Told};
 
 /// A message leaves the core as its deeds do, and tells of what they tell of; so does the end of a connection.
@@ -44,8 +52,8 @@ pub fn deeds_are_taken()
 {}
 
 /// Each deed of a message draws a number, ends an open under the connection that the message came by, or under a session or
-/// a tree connect on it, or asks for a new open: no other open's claims are reached. The end of a connection ends the opens
-/// under it alone.
+/// a tree connect on it, cancels a request that came by it, or is an ask of an open under it or of a new one: no other open's
+/// claims are reached. The end of a connection ends the opens under it alone.
 #[tactic(auto, using(crate::proofs::OwnLaws::step_own, crate::proofs::OwnLaws::end_own, crate::proofs::OwnLaws::ends_alone))]
 pub fn deeds_are_the_connections()
     ensures messages { (n : ℕ) (exports : Exports) (others : ℕ) (f : FrontSmb) (s : CoreState) (conn : ℕ) (bytes : List ℕ) → AreOwn f s conn (smb_deeds n exports others f s conn bytes) }
@@ -53,11 +61,12 @@ pub fn deeds_are_the_connections()
     ensures alone { (f : FrontSmb) (conn : ℕ) → AllByRecursion (λ d. is_end d ≡ true) (smb_end_deeds f conn) }
 {}
 
-/// A message is answered by one message at most, which goes back to the connection that it came by: a function of the
-/// message, of the state that it meets, and of what its deeds are answered.
+/// What is sent for a message are the final replies to those whom it cancels, and behind them one reply at most, which goes
+/// back to the connection that it came by: functions of the message, of the state that it meets, and of what its deeds are
+/// answered and tell of.
 #[tactic(auto, using(crate::proofs::DoesLaws::step_replies))]
 pub fn replies_go_back()
-    ensures { (n : ℕ) (exports : Exports) (others : ℕ) (f : FrontSmb) (s : CoreState) (conn : ℕ) (bytes : List ℕ) → (smb_step n exports others f s conn bytes).0 ≡ sent_by conn (smb_reply exports others f s conn bytes (answers_of n s (smb_deeds n exports others f s conn bytes))) }
+    ensures { (n : ℕ) (exports : Exports) (others : ℕ) (f : FrontSmb) (s : CoreState) (conn : ℕ) (bytes : List ℕ) → (smb_step n exports others f s conn bytes).0 ≡ smb_replies exports others f s conn bytes (answers_of n s (smb_deeds n exports others f s conn bytes)) (all_told_of n s (smb_deeds n exports others f s conn bytes)) }
 {}
 
 /// The end of a connection leaves nothing of it, and all else (MS-SMB2 3.3.7.1): of claims and waiters just those of no open
@@ -134,4 +143,24 @@ pub fn opened_files_are_held()
     ensures row { (n : ℕ) (s : CoreState) (files : List (List ℕ)) (others : ℕ) (l : Lists) (conn : ℕ) (h : SmbHead) (client : List ℕ) (c : CreateCallItem) (session file id : ℕ) (place : Place) → IsOnTree s l conn h client session place → file_spelled files c.name ≡ Some file → (outcome_of n s files others l conn h (CallItem.Create c)).0 ≡ Told.Opened id → open_of (s.counter + 1) (outcome_of n s files others l conn h (CallItem.Create c)).2 ≡ Some (open_row file client place) }
     ensures share { (n : ℕ) (s : CoreState) (files : List (List ℕ)) (others : ℕ) (l : Lists) (conn : ℕ) (h : SmbHead) (client : List ℕ) (c : CreateCallItem) (session file id : ℕ) (place : Place) → IsOnTree s l conn h client session place → file_spelled files c.name ≡ Some file → (outcome_of n s files others l conn h (CallItem.Create c)).0 ≡ Told.Opened id → IsGood s → held_at (outcome_of n s files others l conn h (CallItem.Create c)).3 (ShareOf file (Owner.Open (s.counter + 1))) ≡ What.Share (access_of c.desired_access) (deny_of (access_of c.desired_access) c.share_access) ∷ [] }
     ensures refused { (n : ℕ) (s : CoreState) (files : List (List ℕ)) (others : ℕ) (l : Lists) (conn : ℕ) (h : SmbHead) (c : CreateCallItem) (status : SmbStatus) → IsGood s → (outcome_of n s files others l conn h (CallItem.Create c)).0 ≡ Told.Failed status → ((outcome_of n s files others l conn h (CallItem.Create c)).2 ≡ l) × ((outcome_of n s files others l conn h (CallItem.Create c)).3.claims ≡ s.claims) }
+{}
+
+/// LOCK of locks of an open that is found (MS-SMB2 3.3.5.14.2): where it is told that they are locked each range is held once
+/// more, in order behind those that the open had on its file, and the lists stand; where it is told to fail nothing changed.
+/// What others hold stands, as the core's laws of one ask say.
+pub fn locked_ranges_are_held()
+    ensures held { (n : ℕ) (s : CoreState) (files : List (List ℕ)) (others : ℕ) (l : Lists) (conn : ℕ) (h : SmbHead) (client : List ℕ) (c : LockItem) (session : ℕ) (place : Place) (number : ℕ) (row : Open) → IsOfOpen s l conn h client c.file_id session place number row → unlocks_first (elements_of c.elements) ≡ false → IsGood s → (outcome_of n s files others l conn h (CallItem.Lock c)).0 ≡ Told.Locked → (held_at (outcome_of n s files others l conn h (CallItem.Lock c)).3 (RangesOf row.file number) ≡ held_at s (RangesOf row.file number) ++ map held_as (elements_of c.elements)) × ((outcome_of n s files others l conn h (CallItem.Lock c)).2 ≡ l) }
+    ensures refused { (n : ℕ) (s : CoreState) (files : List (List ℕ)) (others : ℕ) (l : Lists) (conn : ℕ) (h : SmbHead) (client : List ℕ) (c : LockItem) (session : ℕ) (place : Place) (number : ℕ) (row : Open) → IsOfOpen s l conn h client c.file_id session place number row → unlocks_first (elements_of c.elements) ≡ false → IsGood s → (status : SmbStatus) → (outcome_of n s files others l conn h (CallItem.Lock c)).0 ≡ Told.Failed status → ((outcome_of n s files others l conn h (CallItem.Lock c)).2 ≡ l) × ((outcome_of n s files others l conn h (CallItem.Lock c)).3 ≡ s) }
+{}
+
+/// LOCK of unlocks of an open that is found (MS-SMB2 3.3.5.14.1): where it is told that they are done each has taken out one
+/// range that is equal, an exclusive one before a shared one, and the lists stand.
+pub fn unlocked_ranges_are_given_up()
+    ensures { (n : ℕ) (s : CoreState) (files : List (List ℕ)) (others : ℕ) (l : Lists) (conn : ℕ) (h : SmbHead) (client : List ℕ) (c : LockItem) (session : ℕ) (place : Place) (number : ℕ) (row : Open) → IsOfOpen s l conn h client c.file_id session place number row → unlocks_first (elements_of c.elements) ≡ true → IsGood s → (outcome_of n s files others l conn h (CallItem.Lock c)).0 ≡ Told.Locked → (held_at (outcome_of n s files others l conn h (CallItem.Lock c)).3 (RangesOf row.file number) ≡ all_unlocked (elements_of c.elements) (held_at s (RangesOf row.file number))) × ((outcome_of n s files others l conn h (CallItem.Lock c)).2 ≡ l) }
+{}
+
+/// CANCEL of a client takes out one at most who waits by its connection, tells of it, and has no reply of its own; all else
+/// stands (MS-SMB2 3.3.5.16).
+pub fn a_cancel_takes_one()
+    ensures { (n : ℕ) (s : CoreState) (files : List (List ℕ)) (others : ℕ) (l : Lists) (conn : ℕ) (h : SmbHead) (client : List ℕ) → client_of conn l ≡ Some client → (outcome_of n s files others l conn h CallItem.Cancel ≡ (Told.Nothing, [], l, s)) ⊎ ((id : ℕ) × IsIn id (waiting_under (Scope.Connection conn) l) × (is_waiting id s.waiters ≡ true) × (outcome_of n s files others l conn h CallItem.Cancel ≡ (Told.Nothing, Effect.Cancelled id ∷ [], l, (cancel s id).1))) }
 {}

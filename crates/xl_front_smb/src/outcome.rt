@@ -1,11 +1,11 @@
 //! What a request comes to.
 ghost use Rattle.std.specs.Prelude.{◌≡◌, []};
 
-use crate::status::SmbStatus;
 use crate::told::Told;
 use std::alloc::Global;
 use xl_base::Sequence;
 use xl_core::Effect;
+use xl_smb_locks::SmbStatus;
 
 /// What a request is told, and what the core told of besides.
 pub(crate) type Done = (Told, Sequence<Effect>);

@@ -5,7 +5,7 @@ ghost use Rattle.xl_base.specs.Limits.{most_message_bytes};
 ghost use Rattle.xl_smb.specs.Creates.{shown_create_reply};
 ghost use Rattle.xl_smb.specs.Replies.{shown_reply};
 ghost use Rattle.xl_smb.specs.Sessions.{shown_negotiate_reply};
-ghost use Rattle.xl_front_smb.specs.Replies.{credits_for, tree_id, reply_head, head_by, file_of, negotiated, opened, body_of, reply_of, IsAnswer};
+ghost use Rattle.xl_front_smb.specs.Replies.{credits_for, tree_id, reply_head, pending_head, head_by, file_of, negotiated, opened, body_of, reply_of, IsAnswer};
 
 use crate::told::Told;
 use std::alloc::{AllocError, Global};
@@ -51,6 +51,28 @@ fn reply_head(head: &SmbHead, status: u32, tree: u32, session: u64) -> SmbHead
     }
 }
 
+/// The status of a request that waits (MS-SMB2 3.3.4.2).
+const PENDING: u32 = 0x103;
+
+/// The header of STATUS_PENDING, which names the AsyncId.
+#[tactic(auto, unfolding(crate::specs::Replies::pending_head))]
+fn pending_head(head: &SmbHead, id: u32) -> SmbHead
+    ensures { result ≡ pending_head head.now id }
+{
+    SmbHead {
+        credit_charge: head.credit_charge,
+        status: PENDING,
+        command: head.command,
+        credits: credits_for(head.credits),
+        flags: 3,
+        next_command: 0,
+        message_id: head.message_id,
+        route: Route::Async(u64::from(id)),
+        session_id: head.session_id,
+        signature: [0; 16],
+    }
+}
+
 /// The header of the reply that tells this.
 fn head_by(head: &SmbHead, told: Told) -> SmbHead
     ensures { result ≡ head_by head.now told }
@@ -60,12 +82,14 @@ fn head_by(head: &SmbHead, told: Told) -> SmbHead
         Told::Failed(status) => reply_head(head, status.number(), tree, head.session_id),
         Told::SetUp(session) => reply_head(head, 0, tree, session),
         Told::Connected(tree) => reply_head(head, 0, tree, head.session_id),
+        Told::Pending(id) => pending_head(head, id),
         Told::Nothing
         | Told::Negotiated
         | Told::LoggedOff
         | Told::Disconnected
         | Told::Opened(_)
         | Told::Closed
+        | Told::Locked
         | Told::Echoed => reply_head(head, 0, tree, head.session_id),
     }
 }
@@ -140,6 +164,8 @@ fn body_of(told: Told) -> Option<SmbReply<'static>>
         })),
         Told::Disconnected => Some(SmbReply::TreeDisconnect),
         Told::Opened(id) => Some(SmbReply::Create(opened(id))),
+        Told::Locked => Some(SmbReply::Lock),
+        Told::Pending(_) => Some(SmbReply::Error),
         Told::Closed => Some(SmbReply::Close(CloseReply {
             flags: 0,
             status: file_of(0),

@@ -12,22 +12,23 @@ ghost use Rattle.xl_front_smb.specs.Short.{IsReady, Leaves};
 
 use crate::checks::client_on;
 use crate::creates::create;
-use crate::files::{acknowledge, close, lock};
+use crate::files::{acknowledge, close};
+use crate::locks::{cancel, lock};
 use crate::outcome::{Done, failed, told};
 use crate::sessions::{logoff, negotiate, session_setup, tree_connect, tree_disconnect};
-use crate::status::SmbStatus;
 use crate::told::Told;
 use std::alloc::{AllocError, Global};
 use xl_base::{Keeper, Sequence};
 use xl_core::Core;
 use xl_smb::{Command, SmbCall, SmbHead, SmbMessage, read};
+use xl_smb_locks::SmbStatus;
 use xl_smb_state::SmbState;
 
 /// The greatest number of a command (MS-SMB2 2.2.1.2).
 const LAST_COMMAND: u16 = 18;
 
 /// What a request of a client that has negotiated comes to.
-#[tactic(auto, unfolding(crate::specs::Requests::commanded), using(crate::proofs::LeaveLaws::leaves_self, crate::proofs::LeaveLaws::leaves_more, crate::proofs::LeaveLaws::ready_less))]
+#[tactic(auto, unfolding(crate::specs::Requests::commanded), using(xl_smb_locks::proofs::LeaveLaws::leaves_self, xl_smb_locks::proofs::LeaveLaws::leaves_more, xl_smb_locks::proofs::LeaveLaws::ready_less))]
 fn commanded<K: Keeper>(
     alloc: Global,
     files: &[Sequence<u8>],
@@ -40,10 +41,10 @@ fn commanded<K: Keeper>(
     call: &SmbCall,
     client: &[u8; 16],
 ) -> Result<Done, AllocError>
-    requires ready { IsReady 1 core.old }
+    requires ready { IsReady 2 core.old }
     requires client { client_of conn state.old ≡ Some client.now }
     ensures done { (n : ℕ) → IfOk result (λ r. MayBe n core.new → carried n core.old state.old (commanded core.old files.now others state.old conn head.now (shown_call call.now) client.now) ≡ (r.0, r.1, state.new, core.new)) }
-    ensures leaves { OnOk result (Leaves 1 core.old core.new) }
+    ensures leaves { OnOk result (Leaves 2 core.old core.new) }
     ensures answer { IfOk result (λ r. IsAnswer (command_of_call (shown_call call.now)) r.0) }
     ensures keeper { keeper.new ≡ keeper.old }
 {
@@ -56,11 +57,8 @@ fn commanded<K: Keeper>(
             alloc, files, state, core, keeper, others, conn, client, head, args,
         )?),
         SmbCall::Close(args) => { Ok(close(alloc, state, core, conn, client, head, args.file_id)?) }
-        SmbCall::Lock(args) => Ok(failed(
-            alloc,
-            lock(state, core, conn, client, head, args.file_id),
-        )),
-        SmbCall::Cancel => Ok(told(alloc, Told::Nothing)),
+        SmbCall::Lock(args) => Ok(lock(alloc, state, core, keeper, conn, client, head, args)?),
+        SmbCall::Cancel => Ok(cancel(alloc, state, core, conn, head)?),
         SmbCall::Echo => Ok(told(alloc, Told::Echoed)),
         SmbCall::OplockBreak(held) => {
             Ok(failed(alloc, acknowledge(state, core, conn, head, *held)))
@@ -71,7 +69,7 @@ fn commanded<K: Keeper>(
 }
 
 /// What a request comes to, other than NEGOTIATE.
-#[tactic(auto, using(crate::proofs::LeaveLaws::leaves_self))]
+#[tactic(auto, using(xl_smb_locks::proofs::LeaveLaws::leaves_self))]
 fn once_negotiated<K: Keeper>(
     alloc: Global,
     files: &[Sequence<u8>],
@@ -83,9 +81,9 @@ fn once_negotiated<K: Keeper>(
     head: &SmbHead,
     call: &SmbCall,
 ) -> Result<Done, AllocError>
-    requires ready { IsReady 1 core.old }
+    requires ready { IsReady 2 core.old }
     ensures done { (n : ℕ) → IfOk result (λ r. MayBe n core.new → carried n core.old state.old (negotiated_by (commanded core.old files.now others state.old conn head.now (shown_call call.now)) (client_of conn state.old)) ≡ (r.0, r.1, state.new, core.new)) }
-    ensures leaves { OnOk result (Leaves 1 core.old core.new) }
+    ensures leaves { OnOk result (Leaves 2 core.old core.new) }
     ensures answer { IfOk result (λ r. IsAnswer (command_of_call (shown_call call.now)) r.0) }
     ensures keeper { keeper.new ≡ keeper.old }
 {
@@ -98,7 +96,7 @@ fn once_negotiated<K: Keeper>(
 }
 
 /// What a request comes to.
-#[tactic(auto, unfolding(crate::specs::Requests::planned), using(crate::proofs::LeaveLaws::leaves_self))]
+#[tactic(auto, unfolding(crate::specs::Requests::planned), using(xl_smb_locks::proofs::LeaveLaws::leaves_self))]
 fn planned<K: Keeper>(
     alloc: Global,
     files: &[Sequence<u8>],
@@ -110,9 +108,9 @@ fn planned<K: Keeper>(
     head: &SmbHead,
     call: &SmbCall,
 ) -> Result<Done, AllocError>
-    requires ready { IsReady 1 core.old }
+    requires ready { IsReady 2 core.old }
     ensures done { (n : ℕ) → IfOk result (λ r. MayBe n core.new → carried n core.old state.old (planned core.old files.now others state.old conn head.now (shown_call call.now)) ≡ (r.0, r.1, state.new, core.new)) }
-    ensures leaves { OnOk result (Leaves 1 core.old core.new) }
+    ensures leaves { OnOk result (Leaves 2 core.old core.new) }
     ensures answer { IfOk result (λ r. IsAnswer (command_of_call (shown_call call.now)) r.0) }
     ensures keeper { keeper.new ≡ keeper.old }
 {
@@ -135,7 +133,7 @@ fn planned<K: Keeper>(
 }
 
 /// What a request of this header comes to.
-#[tactic(auto, unfolding(crate::specs::Requests::requested), using(crate::proofs::LeaveLaws::leaves_self, crate::proofs::ReplyLaws::answers_head))]
+#[tactic(auto, unfolding(crate::specs::Requests::requested), using(xl_smb_locks::proofs::LeaveLaws::leaves_self, crate::proofs::ReplyLaws::answers_head))]
 pub(crate) fn requested<K: Keeper>(
     alloc: Global,
     files: &[Sequence<u8>],
@@ -147,10 +145,10 @@ pub(crate) fn requested<K: Keeper>(
     bytes: &[u8],
     head: &SmbHead,
 ) -> Result<Done, AllocError>
-    requires ready { IsReady 1 core.old }
+    requires ready { IsReady 2 core.old }
     requires head { head_of bytes.now ≡ Ok head.now }
     ensures done { (n : ℕ) → IfOk result (λ r. MayBe n core.new → carried n core.old state.old (requested core.old files.now others state.old conn bytes.now head.now) ≡ (r.0, r.1, state.new, core.new)) }
-    ensures leaves { OnOk result (Leaves 1 core.old core.new) }
+    ensures leaves { OnOk result (Leaves 2 core.old core.new) }
     ensures answer { IfOk result (λ r. IsAnswer (command_of head.now.command) r.0) }
     ensures keeper { keeper.new ≡ keeper.old }
 {

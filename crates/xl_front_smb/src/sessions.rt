@@ -16,12 +16,12 @@ use crate::ending::{end_session, end_under};
 use crate::ids::id_of;
 use crate::numbers::drawn;
 use crate::outcome::{Done, failed, told};
-use crate::status::SmbStatus;
 use crate::texts::is_share;
 use crate::told::Told;
 use std::alloc::{AllocError, Global};
 use xl_core::Core;
 use xl_smb::{NegotiateCall, SmbHead};
+use xl_smb_locks::SmbStatus;
 use xl_smb_state::{Connection, Place, SESSIONS, Scope, Session, SmbState, TREES, Tree};
 
 /// The number of SMB 2.1.
@@ -83,7 +83,7 @@ fn set_up_as(
 }
 
 /// A new session, where there is room.
-#[tactic(auto, using(crate::proofs::LeaveLaws::leaves_self))]
+#[tactic(auto, using(xl_smb_locks::proofs::LeaveLaws::leaves_self))]
 fn set_up(
     alloc: Global,
     state: &mut SmbState,
@@ -104,7 +104,7 @@ fn set_up(
 }
 
 /// SESSION_SETUP: a new session, or one that is there already.
-#[tactic(auto, unfolding(crate::specs::Sessions::session_setup), using(crate::proofs::LeaveLaws::leaves_self))]
+#[tactic(auto, unfolding(crate::specs::Sessions::session_setup), using(xl_smb_locks::proofs::LeaveLaws::leaves_self))]
 pub(crate) fn session_setup(
     alloc: Global,
     state: &mut SmbState,
@@ -129,7 +129,7 @@ pub(crate) fn session_setup(
 }
 
 /// LOGOFF: the opens under the session end, and it goes with its tree connects.
-#[tactic(auto, unfolding(crate::specs::Sessions::logoff), using(crate::proofs::LeaveLaws::leaves_self, crate::proofs::EndLaws::ended_told, crate::proofs::EndLaws::ended_done, crate::proofs::EndLaws::session_left))]
+#[tactic(auto, unfolding(crate::specs::Sessions::logoff), using(xl_smb_locks::proofs::LeaveLaws::leaves_self, crate::proofs::EndLaws::ended_told, crate::proofs::EndLaws::ended_done, crate::proofs::EndLaws::session_left))]
 pub(crate) fn logoff(
     alloc: Global,
     state: &mut SmbState,
@@ -189,7 +189,7 @@ fn connect_as(
 }
 
 /// A new tree connect of a session, where there is room and the path is that of the share.
-#[tactic(auto, using(crate::proofs::LeaveLaws::leaves_self))]
+#[tactic(auto, using(xl_smb_locks::proofs::LeaveLaws::leaves_self))]
 fn connect(
     alloc: Global,
     state: &mut SmbState,
@@ -215,7 +215,7 @@ fn connect(
 }
 
 /// TREE_CONNECT: in a session, to the one share.
-#[tactic(auto, unfolding(crate::specs::Sessions::tree_connect), using(crate::proofs::LeaveLaws::leaves_self))]
+#[tactic(auto, unfolding(crate::specs::Sessions::tree_connect), using(xl_smb_locks::proofs::LeaveLaws::leaves_self))]
 pub(crate) fn tree_connect(
     alloc: Global,
     state: &mut SmbState,
@@ -256,7 +256,7 @@ fn disconnect(
 }
 
 /// TREE_DISCONNECT: in a session, on a tree connect of it.
-#[tactic(auto, unfolding(crate::specs::Sessions::tree_disconnect), using(crate::proofs::LeaveLaws::leaves_self))]
+#[tactic(auto, unfolding(crate::specs::Sessions::tree_disconnect), using(xl_smb_locks::proofs::LeaveLaws::leaves_self))]
 pub(crate) fn tree_disconnect(
     alloc: Global,
     state: &mut SmbState,

@@ -4,7 +4,7 @@ ghost use Rattle.std.specs.List.{AllByRecursion};
 ghost use Rattle.xl_base.specs.Limits.{most_message_bytes};
 ghost use Rattle.xl_programs.specs.Sent.{FitsFrame};
 ghost use Rattle.xl_core.specs.State.{MayBe};
-ghost use Rattle.xl_front_smb.specs.FrontSmb.{sent_by, smb_step};
+ghost use Rattle.xl_front_smb.specs.FrontSmb.{sent_by, dismissed_on, smb_step, smb_shown};
 ghost use Rattle.xl_front_smb.specs.Short.{IsReady, Leaves};
 
 use crate::front::SmbFront;
@@ -15,6 +15,8 @@ use xl_base::{Exports, Keeper, Out, Sequence};
 use xl_core::{Core, Effect};
 use xl_programs::sent_to;
 use xl_smb::read_head;
+use xl_smb_locks::{dismiss, push_all, tell};
+use xl_smb_state::{Scope, SmbState};
 
 /// What is sent to a connection, where it is answered.
 fn sent_by(alloc: Global, conn: u64, reply: Option<Vec<u8>>) -> Result<Sequence<Out>, AllocError>
@@ -28,14 +30,33 @@ fn sent_by(alloc: Global, conn: u64, reply: Option<Vec<u8>>) -> Result<Sequence<
     }
 }
 
-/// Answers a message of the SMB connection of this number, all of one frame: the reply, where there is one, without its
-/// frame and at most 65,536 bytes long, and what the core told of besides. The other fronts have this number of opens.
+/// Tells those who waited by this connection, and of whom these effects tell that they wait no more.
+fn dismiss_on(
+    alloc: Global,
+    state: &mut SmbState,
+    conn: u64,
+    effects: &[Effect],
+) -> Result<Sequence<Out>, AllocError>
+    ensures state { IfOk result (λ outs. dismissed_on conn effects.now state.old ≡ (outs, state.new)) }
+    ensures little { IfOk result (λ outs. AllByRecursion FitsFrame outs) }
+{
+    if let [] = effects {
+        return Ok(Sequence::new(alloc));
+    }
+    let numbers = state.waiting_under(alloc, Scope::Connection(conn))?;
+    let outs = dismiss(alloc, state, effects, &numbers)?;
+    Ok(outs)
+}
+
+/// Answers a message of the SMB connection of this number, all of one frame: the final replies to the requests that it
+/// cancels, in order of arrival, and its own reply, where there is one, each without its frame and at most 65,536 bytes
+/// long; and what the core told of besides. The other fronts have this number of opens.
 ///
-/// NEGOTIATE, SESSION_SETUP, LOGOFF, TREE_CONNECT, TREE_DISCONNECT, CREATE, CLOSE and ECHO are served. LOCK is
-/// NOT_SUPPORTED, a CANCEL finds nothing that waits, and as no cache is held each acknowledgement of a break is refused. A
-/// CANCEL gets no reply, nor does what has no header of SMB 2.1 or is a reply by its flags. At least 65,538 numbers must be
-/// left to give out; a message takes two at most. After an error nothing is known of the front and the core.
-#[tactic(auto, unfolding(crate::specs::FrontSmb::smb_step), using(crate::proofs::LeaveLaws::leaves_self, crate::proofs::LeaveLaws::leaves_more, crate::proofs::LeaveLaws::ready_less))]
+/// NEGOTIATE, SESSION_SETUP, LOGOFF, TREE_CONNECT, TREE_DISCONNECT, CREATE, CLOSE, LOCK, CANCEL and ECHO are served; as no
+/// cache is held each acknowledgement of a break is refused. A CANCEL gets no reply, nor does what has no header of SMB 2.1
+/// or is a reply by its flags. At least 65,538 numbers must be left to give out; a message takes two at most. After an error
+/// nothing is known of the front and the core.
+#[tactic(auto, unfolding(crate::specs::FrontSmb::smb_step), using(xl_smb_locks::proofs::LeaveLaws::leaves_self, xl_smb_locks::proofs::LeaveLaws::leaves_more, xl_smb_locks::proofs::LeaveLaws::ready_less, xl_smb_locks::proofs::FinalLaws::fit_both))]
 pub fn smb_step<K: Keeper>(
     alloc: Global,
     exports: &Exports,
@@ -70,6 +91,22 @@ pub fn smb_step<K: Keeper>(
         bytes,
         &head,
     )?;
+    let mut outs = dismiss_on(alloc, &mut front.state, conn, effects.as_slice())?;
     let reply = reply_of(alloc, &head, told)?;
-    Ok((sent_by(alloc, conn, reply)?, effects))
+    push_all(&mut outs, sent_by(alloc, conn, reply)?)?;
+    Ok((outs, effects))
+}
+
+/// What is sent for an effect of the core, without its frame: the final reply to a request that waited, and was served or
+/// waits no more (MS-SMB2 3.3.4.4). The request is forgotten then. All else sends nothing.
+#[tactic(auto, unfolding(crate::specs::FrontSmb::smb_shown))]
+pub fn smb_shown(
+    alloc: Global,
+    front: &mut SmbFront,
+    effect: &Effect,
+) -> Result<Sequence<Out>, AllocError>
+    ensures state { IfOk result (λ outs. smb_shown front.old effect.now ≡ (outs, front.new)) }
+    ensures little { IfOk result (λ outs. AllByRecursion FitsFrame outs) }
+{
+    tell(alloc, &mut front.state, effect)
 }

@@ -1,6 +1,6 @@
 //! What a request is told.
 
-use crate::status::SmbStatus;
+use xl_smb_locks::SmbStatus;
 
 /// What a request is told.
 #[derive(Clone, Copy)]
@@ -23,6 +23,10 @@ pub enum Told {
     Opened(u64),
     /// The open has ended (CLOSE).
     Closed,
+    /// The ranges are locked, or unlocked (LOCK).
+    Locked,
+    /// It waits under this AsyncId: STATUS_PENDING (MS-SMB2 3.3.4.2).
+    Pending(u32),
     /// The server is there (ECHO).
     Echoed,
 }

@@ -15,14 +15,15 @@ use Rattle.xl_programs.specs.declared.program.Program.{Program}
 use Rattle.xl_programs.specs.declared.program.Program.TheVariants.{Nlm, Nfs}
 use Rattle.xl_programs.specs.Sent.{sent_to}
 use Rattle.xl_core.specs.State.{CoreState, step_begun}
-use Rattle.xl_core.specs.Deeds.{Deed, turned, all_done, answers_of, expiry_then, expiries, AreFit}
+use Rattle.xl_core.specs.Deeds.{Deed, turned, all_done, all_told_of, answers_of, expiry_then, expiries, expiries_of, lapse_then, lapses, tick_deeds, AreFit}
 use Rattle.xl_core.specs.Good.{IsGood}
 use Rattle.xl_core.specs.Settle.{settle}
 use Rattle.xl_core.specs.declared.ask.Effect.{Effect}
 use Rattle.xl_base.specs.declared.event.Moment.{Moment}
 use Rattle.std.proofs.lemmas.Bool.{eq-eqb}
 use Rattle.xl_core.specs.Leases.{first_ended}
-use Rattle.xl_core.specs.Ticks.{advanced, expire}
+use Rattle.xl_core.specs.Breaks.{first_due}
+use Rattle.xl_core.specs.Ticks.{advanced, expire, lapse, lapsed_for}
 use Rattle.xl_core.proofs.TickLaws.{tick_done, tick_fits}
 use Rattle.xl_core.proofs.DeedLists.{done_append, fit_append}
 use Rattle.xl_front_nlm.proofs.AnswerLaws.{answer_does, answer_takes}
@@ -332,12 +333,25 @@ expiries_may : (now : Moment) (fuel : ℕ) (s : CoreState) → AllByRecursion (�
 expiries_may now zero s = tt
 expiries_may now (suc fuel) s = expiry_may now (expiries fuel) s (first_ended s.clock s.leases) (λ t. expiries_may now fuel t)
 
+lapse_may : (now : Moment) (later : CoreState → List Deed) (s : CoreState) (o : Option Claim) → ((t : CoreState) → AllByRecursion (λ d. may_do (Tick now) d ≡ true) (later t)) → AllByRecursion (λ d. may_do (Tick now) d ≡ true) (lapse_then later s o)
+lapse_may now later s None each = tt
+lapse_may now later s (Some cache) each = (refl, each (lapse s cache).1)
+
+lapses_may : (now : Moment) (fuel : ℕ) (s : CoreState) → AllByRecursion (λ d. may_do (Tick now) d ≡ true) (lapses fuel s)
+lapses_may now zero s = tt
+lapses_may now (suc fuel) s = lapse_may now (lapses fuel) s (first_due s) (λ t. lapses_may now fuel t)
+
+tick_may : (now : Moment) (s : CoreState) → AllByRecursion (λ d. may_do (Tick now) d ≡ true) (tick_deeds s now)
+tick_may now s =
+    let u = (lapsed_for (length s.claims) (advanced s now)).1 in
+    (eq-eqb now.0 now.0 refl, all_append (λ d. may_do (Tick now) d ≡ true) (lapses (length s.claims) (advanced s now)) (expiries_of u) (lapses_may now (length s.claims) (advanced s now)) (expiries_may now (length u.leases) u))
+
 pub own_may : (n : ℕ) (s : Whole) (event : Event) → IsGood (step_begun s.core) → AllByRecursion (λ d. may_do event d ≡ true) (own_deeds n s event)
 own_may n s (Open kind) good = tt
 own_may n s (Message number bytes) good = message_may n number bytes s.exports s.front (step_begun s.core) (kind_of s.connections number) good
 own_may n s (End number) good = end_may s.front (kind_of s.connections number) number
 own_may n s (Called number bytes) good = refusal_may s.front.nlm.hosts number bytes _
-own_may n s (Tick moment) good = (eq-eqb moment.0 moment.0 refl, expiries_may moment (length (step_begun s.core).leases) (advanced (step_begun s.core) moment))
+own_may n s (Tick moment) good = tick_may moment (step_begun s.core)
 own_may n s Restart good = tt
 
 pub behind_follows : (n : ℕ) (s : Whole) (event : Event) → Follow (behind_own n s event)
@@ -367,7 +381,7 @@ record_sends n exports f s number (Asked r) = program_sends n exports f s number
 
 message_sends : (n : ℕ) (exports : Exports) (f : Fronts) (s : CoreState) (kind : Option Kind) (number : ℕ) (bytes : List ℕ)
     → (let g = message_given n exports f s kind number bytes in
-    (heard_by n exports f s kind number bytes).0 ≡ (all_shown exports g.1 g.2 g.0).0 ++ message_replies n exports f s (all_done n s (message_deeds n exports f s kind number bytes)).names kind number bytes (answers_of n s (message_deeds n exports f s kind number bytes)))
+    (heard_by n exports f s kind number bytes).0 ≡ (all_shown exports g.1 g.2 g.0).0 ++ message_replies n exports f s (all_done n s (message_deeds n exports f s kind number bytes)).names kind number bytes (answers_of n s (message_deeds n exports f s kind number bytes)) (all_told_of n s (message_deeds n exports f s kind number bytes)))
 message_sends n exports f s None number bytes = refl
 message_sends n exports f s (Some Smb) number bytes =
     let x = with_smb f (smb_step n exports (nfs_opens f) f.smb s number bytes) in

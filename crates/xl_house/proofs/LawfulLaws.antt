@@ -13,7 +13,7 @@ use Rattle.xl_core.specs.State.{CoreState, started, step_begun}
 use Rattle.xl_core.specs.Deeds.{all_done, AreFit, queue_after, KeepNames}
 use Rattle.xl_core.specs.Dues.{AreDue}
 use Rattle.xl_core.specs.Good.{IsGood}
-use Rattle.xl_core.specs.Places.{Place, ByteOf, ShareOf, RangesOf, held_at, stands, IsChangedBy}
+use Rattle.xl_core.specs.Places.{Place, ByteOf, ShareOf, RangesOf, CacheOf, held_at, stands, IsChangedBy}
 use Rattle.xl_core.proofs.DeedLists.{deeds_make, deeds_queue, deeds_names, deeds_due}
 use Rattle.xl_core.proofs.GoodLaws.{begun_good}
 use Rattle.xl_house.specs.Done.{deeds, messages}
@@ -31,6 +31,7 @@ unfolding step_begun
 begun_held s (ByteOf file owner byte) = refl
 begun_held s (ShareOf file owner) = refl
 begun_held s (RangesOf file number) = refl
+begun_held s (CacheOf file party) = refl
 
 pub begun_waits : (s : CoreState) → (step_begun s).waiters ≡ s.waiters
 unfolding step_begun
@@ -57,6 +58,7 @@ unfolding step
 emptied n s (ByteOf file owner byte) = refl
 emptied n s (ShareOf file owner) = refl
 emptied n s (RangesOf file number) = refl
+emptied n s (CacheOf file party) = refl
 
 lawful_by : (n : ℕ) (s : Whole) (event : Event) → IsFree s → IsLawfulBy n s event (step n s event).next
 lawful_by n s (Open kind) free = changed n s (Open kind) refl free

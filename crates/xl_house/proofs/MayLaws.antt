@@ -86,6 +86,7 @@ open_may : (number : ℕ) (bytes : List ℕ) (conn : ℕ) (l : Lists) (last : �
 open_may number bytes conn l last Draws own = refl
 open_may number bytes conn l last (Ends party) own = refl
 open_may number bytes conn l last (Asks left a) own = refl
+open_may number bytes conn l last (Cancels id) own = refl
 open_may number bytes conn l last d own = absurd own
 
 pub smb_may : (n : ℕ) (exports : Exports) (others : ℕ) (f : FrontSmb) (s : CoreState) (number : ℕ) (bytes : List ℕ) → May number bytes (smb_deeds n exports others f s number bytes)

@@ -1,10 +1,14 @@
 -- No out to a connection before its opening or after its end.
-use Rattle.std.proofs.Common.{◌≡◌, ℕ, zero, suc, ◌+◌, Bool, true, false, not, eqb, ltb, inl, inr, Option, Some, None, List, [], ◌∷◌, ◌++◌, length, map, refl, sym, ap, subst, ◌∙◌}
-use Rattle.std.proofs.lemmas.Bool.{cases_Bool, eqb-true}
-use Rattle.std.specs.List.{AllByRecursion, filter}
-use Rattle.xl_base.proofs.Members.{all_append}
+use Rattle.std.proofs.Common.{◌≡◌, ℕ, zero, suc, ◌+◌, Bool, true, false, not, eqb, ltb, inl, inr, Option, Some, None, List, [], ◌∷◌, ◌++◌, length, map, refl, sym, ap, subst, ◌∙◌, arith}
+use Rattle.std.proofs.lemmas.Bool.{cases_Bool, eqb-true, true≢false}
+use Rattle.std.proofs.lemmas.Bool.Decides.{nat_tests}
+use Rattle.std.specs.Prelude.{◌||◌, nat_le, is_some, if◌then◌else◌, option_map}
+use Rattle.std.specs.List.{AllByRecursion, filter, find}
+use Rattle.xl_base.proofs.Members.{all_append, all_weaker, in_append_left, in_filter_from}
 use Rattle.xl_base.specs.Lists.{IsIn}
 use Rattle.xl_base.specs.declared.event.Event.{Event}
+use Rattle.xl_base.specs.declared.event.Dest.{Dest}
+use Rattle.xl_base.specs.declared.event.Dest.TheVariants.{Conn, Back}
 use Rattle.xl_base.specs.declared.event.Event.TheVariants.{Open, Message, End, Called, Tick, Restart}
 use Rattle.xl_base.specs.declared.event.Kind.{Kind}
 use Rattle.xl_base.specs.declared.event.Kind.TheVariants.{Rpc, Smb}
@@ -16,9 +20,7 @@ use Rattle.xl_matrix.specs.declared.claim.Claim.{Claim}
 use Rattle.xl_programs.specs.Programs.{RequestItem, IncomingItem, Unanswered, Refused, Asked, incoming_at}
 use Rattle.xl_programs.specs.declared.program.Program.{Program}
 use Rattle.xl_programs.specs.declared.program.Program.TheVariants.{Nlm, Nfs}
-use Rattle.xl_programs.specs.Sent.{sent_to}
 use Rattle.xl_core.specs.State.{CoreState, step_begun}
-use Rattle.xl_core.specs.Deeds.{answers_of}
 use Rattle.xl_core.specs.Settle.{settle}
 use Rattle.xl_core.specs.Ticks.{tick}
 use Rattle.xl_core.specs.declared.ask.Effect.{Effect}
@@ -30,13 +32,16 @@ use Rattle.xl_front_nlm.specs.FrontNlm.{nlm_step}
 use Rattle.xl_front_nlm.specs.Grants.{news, told_by, shown}
 use Rattle.xl_front_nlm.specs.State.{FrontState}
 use Rattle.xl_front_smb.specs.Ending.{smb_end}
-use Rattle.xl_front_smb.specs.FrontSmb.{sent_by, smb_deeds, smb_reply, smb_step}
-use Rattle.xl_front_smb.proofs.DoesLaws as smb
+use Rattle.xl_front_smb.specs.FrontSmb.{smb_shown, smb_step}
+use Rattle.xl_front_smb.specs.State.{smb_begin}
+use Rattle.xl_front_smb.proofs.WaitLaws as smb_waits
+use Rattle.xl_smb_state.specs.State.{Lists, connection_of, connection_added}
+use Rattle.xl_smb_state.specs.declared.row.Waiting.{Waiting}
 use Rattle.xl_house.specs.declared.parts.Fronts.{Fronts}
 use Rattle.xl_front_nlm.specs.declared.grant.Grant.{Grant}
 use Rattle.xl_house.proofs.MachineLaws.{next_place}
-use Rattle.xl_house.specs.Journals.{IsLegal, IsOrderly, IsTimely, opened_after}
-use Rattle.xl_house.specs.Machine.{Whole, Sent, begin, with_connection, without, kind_of, framed, showing, all_shown, with_nlm, with_nfs, with_smb, after_call, after_end, ticked, nfs_opens, smb_opens, rooms_of, after_turn, settled_for, settled, program_heard, record_heard, packet_heard, heard_by, ended_by, heard, connected, settled_turn, step, most_connections}
+use Rattle.xl_house.specs.Journals.{is_restart, IsLegal, IsOrderly, IsTimely, opened_after}
+use Rattle.xl_house.specs.Machine.{Whole, Sent, FrontGiven, begin, begun_by, begun, with_connection, without, kind_of, framed_by, framed, showing, all_shown, front_done, with_nlm, with_nfs, with_smb, after_call, after_end, ticked, nfs_opens, smb_opens, rooms_of, after_turn, settled_for, settled, program_heard, record_heard, packet_heard, heard_by, ended_by, heard, connected, settled_turn, step, most_connections}
 use Rattle.xl_house.specs.declared.connections.Connection.{Connection}
 
 abbrev numbers : List Connection → List ℕ
@@ -48,38 +53,21 @@ AreTimely before after outs = AllByRecursion (λ o. IsTimely before after o.dest
 timely_append : (before after : List ℕ) (xs ys : List Out) → AreTimely before after xs → AreTimely before after ys → AreTimely before after (xs ++ ys)
 timely_append before after xs ys front back = all_append (λ o. IsTimely before after o.dest) xs ys front back
 
--- ---- what is shown are calls
+-- ---- requests of SMB wait on connections of SMB that are open
 
-by_news : (before after : List ℕ) (f : FrontState) (s : CoreState) (o : Option (Claim × Grant × List ℕ)) → AreTimely before after (map (framed Rpc) (told_by f s o).0)
-by_news before after f s None = tt
-by_news before after f s (Some told) = (tt, tt)
+-- the connections that are open, and speak SMB
+abbrev IsOpen : List Connection → ℕ → Type 0
+IsOpen cs number = kind_of cs number ≡ Some Smb
 
-shown_timely : (before after : List ℕ) (exports : Exports) (f : Fronts) (s : CoreState) (effect : Effect) → AreTimely before after (map (framed Rpc) (showing exports f s effect).0)
-unfolding shown
-shown_timely before after exports f s effect = by_news before after f.nlm s (news exports s effect)
+abbrev Rows : Type 0
+Rows = List (ℕ × Waiting)
 
-all_timely : (before after : List ℕ) (exports : Exports) (f : Fronts) (s : CoreState) (effects : List Effect) → AreTimely before after (all_shown exports f s effects).0
-all_timely before after exports f s [] = tt
-all_timely before after exports f s (effect ∷ effects) =
-    let r = showing exports f s effect in
-    timely_append before after (map (framed Rpc) r.0) (all_shown exports r.1 r.2 effects).0 (shown_timely before after exports f s effect) (all_timely before after exports r.1 r.2 effects)
+abbrev AreOn : List Connection → Rows → Type 0
+AreOn cs rows = AllByRecursion (λ e. IsOpen cs e.1.place.connection) rows
 
--- so is what settling sends
-turns_timely : (before after : List ℕ) (exports : Exports) (rest : Fronts → CoreState → Sent) (f : Fronts) (s : CoreState) (o : Option (List Effect × CoreState)) → ((g : Fronts) (t : CoreState) → AreTimely before after (rest g t).0) → AreTimely before after (after_turn exports rest f s o).0
-turns_timely before after exports rest f s None rests = tt
-turns_timely before after exports rest f s (Some turn) rests =
-    let done = all_shown exports f turn.1 turn.0 in
-    timely_append before after done.0 (rest done.1 done.2).0 (all_timely before after exports f turn.1 turn.0) (rests done.1 done.2)
-
-settled_for_timely : (fuel n : ℕ) (before after : List ℕ) (exports : Exports) (f : Fronts) (s : CoreState) → AreTimely before after (settled_for fuel n exports f s).0
-settled_for_timely zero n before after exports f s = tt
-settled_for_timely (suc fuel) n before after exports f s = turns_timely before after exports (settled_for fuel n exports) f s (settle n (rooms_of f) s) (λ g t. settled_for_timely fuel n before after exports g t)
-
-settled_timely : (n : ℕ) (before after : List ℕ) (exports : Exports) (f : Fronts) (s : CoreState) → AreTimely before after (settled n exports f s).0
-unfolding settled
-settled_timely n before after exports f s = settled_for_timely (length s.waiters) n before after exports f s
-
--- ---- an event
+-- what is sent goes to such connections
+abbrev GoOn : List Connection → List Out → Type 0
+GoOn cs outs = AllByRecursion (λ o. smb_waits.GoesTo (IsOpen cs) o.dest) outs
 
 -- an opened connection that is found is among these
 found : (cs : List Connection) (number : ℕ) (kind : Kind) → kind_of cs number ≡ Some kind → IsIn number (numbers cs)
@@ -91,65 +79,168 @@ found (c ∷ cs) number kind e =
       | inr other ↦ inr (found cs number kind (rw other at e))
     ]
 
-program_timely : (n : ℕ) (opened : List ℕ) (exports : Exports) (f : Fronts) (s : CoreState) (number : ℕ) (r : RequestItem) (program : Program) → IsIn number opened → AreTimely opened opened (program_heard n exports f s number r program).0
-program_timely n opened exports f s number r Nlm there =
-    let x = with_nlm f (nlm_step n exports f.nlm s number r) in
-    timely_append opened opened (all_shown exports x.2 x.3 x.1).0 (map (framed Rpc) x.0) (all_timely opened opened exports x.2 x.3 x.1)
-    (subst (λ (outs : List Out). AreTimely opened opened (map (framed Rpc) outs)) (sym (nlm.step_replies n exports f.nlm s number r)) ((there, there), tt))
-program_timely n opened exports f s number r Nfs there =
-    let x = with_nfs f (nfs_step n exports (smb_opens f) f.nfs s number r) in
-    timely_append opened opened (all_shown exports x.2 x.3 x.1).0 (map (framed Rpc) x.0) (all_timely opened opened exports x.2 x.3 x.1)
-    (subst (λ (outs : List Out). AreTimely opened opened (map (framed Rpc) outs)) (sym (nfs.request_replies n exports (smb_opens f) f.nfs s number r)) ((there, there), tt))
+framed_timely : (cs : List Connection) (o : Out) → smb_waits.GoesTo (IsOpen cs) o.dest → IsTimely (numbers cs) (numbers cs) (framed Smb o).dest
+framed_timely cs o goes = by o.dest refl goes where
+  by : (d : Dest) → o.dest ≡ d → smb_waits.GoesTo (IsOpen cs) d → IsTimely (numbers cs) (numbers cs) (framed_by Smb o d).dest
+  by (Conn number) is goes = (found cs number Smb goes, found cs number Smb goes)
+  by (Back call) is goes = subst (λ (d : Dest). IsTimely (numbers cs) (numbers cs) d) (sym is) tt
 
-record_timely : (n : ℕ) (opened : List ℕ) (exports : Exports) (f : Fronts) (s : CoreState) (number : ℕ) (incoming : IncomingItem) → IsIn number opened → AreTimely opened opened (record_heard n exports f s number incoming).0
-record_timely n opened exports f s number Unanswered there = tt
-record_timely n opened exports f s number (Refused xid verdict) there = ((there, there), tt)
-record_timely n opened exports f s number (Asked r) there = program_timely n opened exports f s number r r.program there
+finals_timely : (cs : List Connection) (outs : List Out) → GoOn cs outs → AreTimely (numbers cs) (numbers cs) (map (framed Smb) outs)
+finals_timely cs [] go = tt
+finals_timely cs (o ∷ os) go = (framed_timely cs o go.0, finals_timely cs os go.1)
 
-answer_timely : (opened : List ℕ) (number : ℕ) (answer : Option (List ℕ)) → IsIn number opened → AreTimely opened opened (map (framed Smb) (sent_by number answer))
-answer_timely opened number None there = tt
-answer_timely opened number (Some bytes) there = ((there, there), tt)
+-- ---- what is shown are calls, and final replies to requests that wait
 
-packet_timely : (n : ℕ) (opened : List ℕ) (exports : Exports) (f : Fronts) (s : CoreState) (number : ℕ) (bytes : List ℕ) → IsIn number opened → AreTimely opened opened (packet_heard n exports f s number bytes).0
-packet_timely n opened exports f s number bytes there =
-    let others = nfs_opens f in
-    let x = with_smb f (smb_step n exports others f.smb s number bytes) in
-    timely_append opened opened (all_shown exports x.2 x.3 x.1).0 (map (framed Smb) x.0) (all_timely opened opened exports x.2 x.3 x.1)
-    (subst (λ (outs : List Out). AreTimely opened opened (map (framed Smb) outs)) (sym (smb.step_replies n exports others f.smb s number bytes))
-    (answer_timely opened number (smb_reply exports others f.smb s number bytes (answers_of n s (smb_deeds n exports others f.smb s number bytes))) there))
+by_news : (before after : List ℕ) (f : FrontState) (s : CoreState) (o : Option (Claim × Grant × List ℕ)) → AreTimely before after (map (framed Rpc) (told_by f s o).0)
+by_news before after f s None = tt
+by_news before after f s (Some told) = (tt, tt)
 
-by_timely : (n : ℕ) (exports : Exports) (f : Fronts) (s : CoreState) (cs : List Connection) (number : ℕ) (bytes : List ℕ) (kind : Option Kind) → kind_of cs number ≡ kind → AreTimely (numbers cs) (numbers cs) (heard_by n exports f s kind number bytes).0
-by_timely n exports f s cs number bytes None e = tt
-by_timely n exports f s cs number bytes (Some Smb) e = packet_timely n (numbers cs) exports f s number bytes (found cs number Smb e)
-by_timely n exports f s cs number bytes (Some Rpc) e = record_timely n (numbers cs) exports f s number (incoming_at bytes) (found cs number Rpc e)
+abbrev Waits : List Connection → Fronts → Type 0
+Waits cs f = AreOn cs f.smb.state.waiting
 
-ended_timely : (before after : List ℕ) (exports : Exports) (f : Fronts) (s : CoreState) (kind : Option Kind) (number : ℕ) → AreTimely before after (ended_by exports f s kind number).0
-ended_timely before after exports f s None number = tt
-ended_timely before after exports f s (Some Rpc) number = tt
-ended_timely before after exports f s (Some Smb) number = let r = after_end f (smb_end f.smb s number) in all_timely before after exports r.1 r.2 r.0
+shown_timely : (cs : List Connection) (exports : Exports) (f : Fronts) (s : CoreState) (effect : Effect) → Waits cs f → AreTimely (numbers cs) (numbers cs) (showing exports f s effect).0 × Waits cs (showing exports f s effect).1
+unfolding shown
+shown_timely cs exports f s effect waits =
+    let told = smb_waits.shown_on (IsOpen cs) f.smb effect waits in (
+      timely_append (numbers cs) (numbers cs) (map (framed Rpc) (told_by f.nlm s (news exports s effect)).0) (map (framed Smb) (smb_shown f.smb effect).0) (by_news (numbers cs) (numbers cs) f.nlm s (news exports s effect)) (finals_timely cs (smb_shown f.smb effect).0 told.0),
+      told.1,
+    )
 
-heard_timely : (n : ℕ) (s : Whole) (e : Event) → (let opened = numbers s.connections in AreTimely opened (opened_after opened s.place e) (heard n s e).0)
+all_timely : (cs : List Connection) (exports : Exports) (f : Fronts) (s : CoreState) (effects : List Effect) → Waits cs f → AreTimely (numbers cs) (numbers cs) (all_shown exports f s effects).0 × Waits cs (all_shown exports f s effects).1
+all_timely cs exports f s [] waits = (tt, waits)
+all_timely cs exports f s (effect ∷ effects) waits =
+    let r = showing exports f s effect in
+    let first = shown_timely cs exports f s effect waits in
+    let rest = all_timely cs exports r.1 r.2 effects first.1 in
+    (timely_append (numbers cs) (numbers cs) r.0 (all_shown exports r.1 r.2 effects).0 first.0 rest.0, rest.1)
+
+-- so is what settling sends
+abbrev IsTimelySent : List Connection → Sent → Type 0
+IsTimelySent cs r = AreTimely (numbers cs) (numbers cs) r.0 × Waits cs r.1
+
+turns_timely : (cs : List Connection) (exports : Exports) (rest : Fronts → CoreState → Sent) (f : Fronts) (s : CoreState) (o : Option (List Effect × CoreState)) → Waits cs f → ((g : Fronts) (t : CoreState) → Waits cs g → IsTimelySent cs (rest g t)) → IsTimelySent cs (after_turn exports rest f s o)
+turns_timely cs exports rest f s None waits rests = (tt, waits)
+turns_timely cs exports rest f s (Some turn) waits rests =
+    let done = all_shown exports f turn.1 turn.0 in
+    let first = all_timely cs exports f turn.1 turn.0 waits in
+    let next = rests done.1 done.2 first.1 in
+    (timely_append (numbers cs) (numbers cs) done.0 (rest done.1 done.2).0 first.0 next.0, next.1)
+
+settled_for_timely : (fuel n : ℕ) (cs : List Connection) (exports : Exports) (f : Fronts) (s : CoreState) → Waits cs f → IsTimelySent cs (settled_for fuel n exports f s)
+settled_for_timely zero n cs exports f s waits = (tt, waits)
+settled_for_timely (suc fuel) n cs exports f s waits = turns_timely cs exports (settled_for fuel n exports) f s (settle n (rooms_of f) s) waits (λ g t on. settled_for_timely fuel n cs exports g t on)
+
+settled_timely : (n : ℕ) (cs : List Connection) (exports : Exports) (f : Fronts) (s : CoreState) → Waits cs f → IsTimelySent cs (settled n exports f s)
+unfolding settled
+settled_timely n cs exports f s waits = settled_for_timely (length s.waiters) n cs exports f s waits
+
+-- ---- an event
+
+-- what a front gave is sent behind what is shown
+done_timely : (cs : List Connection) (kind : Kind) (exports : Exports) (r : FrontGiven) → Waits cs r.2 → AreTimely (numbers cs) (numbers cs) (map (framed kind) r.0) → IsTimelySent cs (front_done kind exports r)
+done_timely cs kind exports r waits replies =
+    let told = all_timely cs exports r.2 r.3 r.1 waits in
+    (timely_append (numbers cs) (numbers cs) (all_shown exports r.2 r.3 r.1).0 (map (framed kind) r.0) told.0 replies, told.1)
+
+program_timely : (n : ℕ) (cs : List Connection) (exports : Exports) (f : Fronts) (s : CoreState) (number : ℕ) (r : RequestItem) (program : Program) → IsIn number (numbers cs) → Waits cs f → IsTimelySent cs (program_heard n exports f s number r program)
+program_timely n cs exports f s number r Nlm there waits =
+    done_timely cs Rpc exports (with_nlm f (nlm_step n exports f.nlm s number r)) waits
+    (subst (λ (outs : List Out). AreTimely (numbers cs) (numbers cs) (map (framed Rpc) outs)) (sym (nlm.step_replies n exports f.nlm s number r)) ((there, there), tt))
+program_timely n cs exports f s number r Nfs there waits =
+    done_timely cs Rpc exports (with_nfs f (nfs_step n exports (smb_opens f) f.nfs s number r)) waits
+    (subst (λ (outs : List Out). AreTimely (numbers cs) (numbers cs) (map (framed Rpc) outs)) (sym (nfs.request_replies n exports (smb_opens f) f.nfs s number r)) ((there, there), tt))
+
+record_timely : (n : ℕ) (cs : List Connection) (exports : Exports) (f : Fronts) (s : CoreState) (number : ℕ) (incoming : IncomingItem) → IsIn number (numbers cs) → Waits cs f → IsTimelySent cs (record_heard n exports f s number incoming)
+record_timely n cs exports f s number Unanswered there waits = (tt, waits)
+record_timely n cs exports f s number (Refused xid verdict) there waits = (((there, there), tt), waits)
+record_timely n cs exports f s number (Asked r) there waits = program_timely n cs exports f s number r r.program there waits
+
+packet_timely : (n : ℕ) (cs : List Connection) (exports : Exports) (f : Fronts) (s : CoreState) (number : ℕ) (bytes : List ℕ) → IsOpen cs number → Waits cs f → IsTimelySent cs (packet_heard n exports f s number bytes)
+packet_timely n cs exports f s number bytes there waits =
+    let heard = smb_waits.step_on (IsOpen cs) n exports (nfs_opens f) f.smb s number bytes there waits in
+    done_timely cs Smb exports (with_smb f (smb_step n exports (nfs_opens f) f.smb s number bytes)) heard.1 (finals_timely cs (smb_step n exports (nfs_opens f) f.smb s number bytes).0 heard.0)
+
+by_timely : (n : ℕ) (exports : Exports) (f : Fronts) (s : CoreState) (cs : List Connection) (number : ℕ) (bytes : List ℕ) (kind : Option Kind) → kind_of cs number ≡ kind → Waits cs f → IsTimelySent cs (heard_by n exports f s kind number bytes)
+by_timely n exports f s cs number bytes None e waits = (tt, waits)
+by_timely n exports f s cs number bytes (Some Smb) e waits = packet_timely n cs exports f s number bytes e waits
+by_timely n exports f s cs number bytes (Some Rpc) e waits = record_timely n cs exports f s number (incoming_at bytes) (found cs number Rpc e) waits
+
+-- the other connections stay open where one ends
+stays_open : (cs : List Connection) (number other : ℕ) → eqb other number ≡ false → IsOpen cs other → IsOpen (without cs number) other
+unfolding kind_of without
+stays_open [] number other apart e = e
+stays_open (c ∷ cs) number other apart e =
+    elim (cases_Bool (eqb c.number number)) [
+      | inl gone ↦ rw gone (stays_open cs number other apart (not_this (eqb c.number other) (differs c.number number other gone apart) e))
+      | inr here ↦ rw here (elim (cases_Bool (eqb c.number other)) [
+        | inl is ↦ rw is (rw is at e)
+        | inr isnt ↦ rw isnt (stays_open cs number other apart (rw isnt at e))
+      ])
+    ] where
+      differs : (a b c : ℕ) → eqb a b ≡ true → eqb c b ≡ false → eqb a c ≡ false
+      differs a b c same apart = grind (arith, nat_tests)
+
+      not_this : (b : Bool) → b ≡ false → option_map (λ (x : Connection). x.kind) (if b then Some c else find (λ (x : Connection). eqb x.number other) cs) ≡ Some Smb → option_map (λ (x : Connection). x.kind) (find (λ (x : Connection). eqb x.number other) cs) ≡ Some Smb
+      not_this true isnt e = absurd (true≢false isnt)
+      not_this false isnt e = e
+
+-- and where one more opens
+still_open : (cs : List Connection) (place : ℕ) (kind : Kind) (other : ℕ) → IsOpen cs other → IsOpen (with_connection cs place kind) other
+unfolding kind_of with_connection
+still_open cs place kind other e = by (ltb (length cs) most_connections) where
+  behind_all : (ds : List Connection) (d : Connection) → option_map (λ (x : Connection). x.kind) (find (λ (x : Connection). eqb x.number other) ds) ≡ Some Smb → option_map (λ (x : Connection). x.kind) (find (λ (x : Connection). eqb x.number other) (ds ++ d ∷ [])) ≡ Some Smb
+  behind_all [] d e = absurd cc
+  behind_all (c ∷ ds) d e = elim (cases_Bool (eqb c.number other)) [ inl is ↦ rw is (rw is at e) | inr isnt ↦ rw isnt (behind_all ds d (rw isnt at e)) ]
+
+  by : (room : Bool) → option_map (λ (x : Connection). x.kind) (find (λ (x : Connection). eqb x.number other) (if room then cs ++ record { number = place; kind = kind } ∷ [] else cs)) ≡ Some Smb
+  by true = behind_all cs (record { number = place; kind = kind }) e
+  by false = e
+
+two_kinds : (cs : List Connection) (number other : ℕ) (kind : Option Kind) → kind_of cs number ≡ kind → (kind ≡ Some Smb → ⊥) → IsOpen cs other → eqb other number ≡ false
+two_kinds cs number other kind e apart there = by (eqb other number) refl where
+  by : (b : Bool) → eqb other number ≡ b → b ≡ false
+  by true same = absurd (apart (sym e ∙ ap (kind_of cs) (sym (eqb-true other number same)) ∙ there))
+  by false other = refl
+
+-- an opening brings no request
+begun_on : (ks : List Connection) (f : Fronts) (cs : List Connection) (place : ℕ) (kind : Kind) → Waits ks f → Waits ks (begun f cs place kind)
+unfolding smb_begin
+begun_on ks f cs place kind waits = by (ltb (length cs) most_connections) kind where
+  added : (l : Lists) (b : Bool) → AreOn ks l.waiting → AreOn ks (if b then l else connection_added place (record { client = None }) l).waiting
+  added l true on = on
+  added l false on = on
+
+  by : (room : Bool) (k : Kind) → Waits ks (if room then begun_by f place k else f)
+  by false k = waits
+  by true Rpc = waits
+  by true Smb = added f.smb.state (is_some (connection_of place f.smb.state) || nat_le most_connections (length f.smb.state.connections)) waits
+
+-- what an end leaves waits on connections that stay open
+ended_on : (cs : List Connection) (exports : Exports) (f : Fronts) (s : CoreState) (number : ℕ) (kind : Option Kind) → kind_of cs number ≡ kind → Waits cs f → IsTimelySent (without cs number) (ended_by exports f s kind number)
+ended_on cs exports f s number None e waits = (tt, all_weaker (λ e. IsOpen cs e.1.place.connection) (λ e. IsOpen (without cs number) e.1.place.connection) f.smb.state.waiting (λ r on. stays_open cs number r.1.place.connection (two_kinds cs number r.1.place.connection None e (λ h. no_kind h) on) on) waits) where
+  no_kind : None ≡ Some Smb → ⊥
+  no_kind h = cc
+ended_on cs exports f s number (Some Rpc) e waits = (tt, all_weaker (λ e. IsOpen cs e.1.place.connection) (λ e. IsOpen (without cs number) e.1.place.connection) f.smb.state.waiting (λ r on. stays_open cs number r.1.place.connection (two_kinds cs number r.1.place.connection (Some Rpc) e (λ h. other_kind h) on) on) waits) where
+  other_kind : Some Rpc ≡ Some Smb → ⊥
+  other_kind h = cc
+ended_on cs exports f s number (Some Smb) e waits =
+    let r = after_end f (smb_end f.smb s number) in
+    all_timely (without cs number) exports r.1 r.2 r.0
+    (smb_waits.end_on (IsOpen cs) (IsOpen (without cs number)) f.smb s number (λ other apart on. stays_open cs number other apart on) waits)
+
+-- the connections that are open before the event and after it
+abbrev both_open : List Connection → Event → List Connection
+both_open cs (End number) = without cs number
+both_open cs event = cs
+
+heard_timely : (n : ℕ) (s : Whole) (e : Event) → Waits s.connections s.front → IsTimelySent (both_open s.connections e) (heard n s e)
 unfolding heard
-heard_timely n s (Open kind) = tt
-heard_timely n s (Message number bytes) = by_timely n s.exports s.front (step_begun s.core) s.connections number bytes (kind_of s.connections number) refl
-heard_timely n s (End number) = let opened = numbers s.connections in ended_timely opened (opened_after opened s.place (End number)) s.exports s.front (step_begun s.core) (kind_of s.connections number) number
-heard_timely n s (Called call reply) = let r = after_call s.front (nlm_called n s.front.nlm (step_begun s.core) call reply) in all_timely (numbers s.connections) (numbers s.connections) s.exports r.1 r.2 r.0
-heard_timely n s (Tick moment) = let r = tick (step_begun s.core) moment in all_timely (numbers s.connections) (numbers s.connections) s.exports (ticked s.front r.1.clock) r.1 r.0
-heard_timely n s Restart = tt
-
-turn_timely : (n : ℕ) (s : Whole) (e : Event) → (let opened = numbers s.connections in AreTimely opened (opened_after opened s.place e) (settled_turn n s (connected s.connections s.place e) (heard n s e)).outs)
-turn_timely n s e =
-    let opened = numbers s.connections in
-    timely_append opened (opened_after opened s.place e) (heard n s e).0 (settled n s.exports (heard n s e).1 (heard n s e).2).0 (heard_timely n s e) (settled_timely n opened (opened_after opened s.place e) s.exports (heard n s e).1 (heard n s e).2)
-
-timely : (n : ℕ) (s : Whole) (e : Event) → (let opened = numbers s.connections in AreTimely opened (opened_after opened s.place e) (step n s e).outs)
-unfolding step
-timely n s (Open kind) = turn_timely n s (Open kind)
-timely n s (Message number bytes) = turn_timely n s (Message number bytes)
-timely n s (End number) = turn_timely n s (End number)
-timely n s (Called call reply) = turn_timely n s (Called call reply)
-timely n s (Tick moment) = turn_timely n s (Tick moment)
-timely n s Restart = tt
+heard_timely n s (Open kind) waits = (tt, begun_on s.connections s.front s.connections s.place kind waits)
+heard_timely n s (Message number bytes) waits = by_timely n s.exports s.front (step_begun s.core) s.connections number bytes (kind_of s.connections number) refl waits
+heard_timely n s (End number) waits = ended_on s.connections s.exports s.front (step_begun s.core) number (kind_of s.connections number) refl waits
+heard_timely n s (Called call reply) waits = let r = after_call s.front (nlm_called n s.front.nlm (step_begun s.core) call reply) in all_timely s.connections s.exports r.1 r.2 r.0 waits
+heard_timely n s (Tick moment) waits = let r = tick (step_begun s.core) moment in all_timely s.connections s.exports (ticked s.front r.1.clock) r.1 r.0 waits
+heard_timely n s Restart waits = (tt, waits)
 
 -- ---- which are opened
 
@@ -188,16 +279,65 @@ open_is n s (Called call reply) = refl
 open_is n s (Tick moment) = refl
 open_is n s Restart = refl
 
-orderly : (s : Whole) (es : List Entry) → IsLegal s es → IsOrderly (numbers s.connections) s.place es
-orderly s [] legal = tt
-orderly s (e ∷ es) legal =
+-- ---- no out before an opening or after an end
+
+stays_in : (opened : List ℕ) (place number : ℕ) (room : Bool) → IsIn number opened → IsIn number (if room then opened ++ place ∷ [] else opened)
+stays_in opened place number true there = in_append_left number opened (place ∷ []) there
+stays_in opened place number false there = there
+
+-- what is open before and after is open before, and after
+in_both : (cs : List Connection) (place : ℕ) (e : Event) (number : ℕ) → is_restart e ≡ false → IsIn number (numbers (both_open cs e)) → IsIn number (numbers cs) × IsIn number (opened_after (numbers cs) place e)
+in_both cs place (Open kind) number other there = (there, stays_in (numbers cs) place number (ltb (length (numbers cs)) most_connections) there)
+in_both cs place (Message by bytes) number other there = (there, there)
+in_both cs place (End ended) number other there =
+    let left = subst (λ (ns : List ℕ). IsIn number ns) (left_is cs ended) there in
+    ((in_filter_from (λ c. not (eqb c ended)) number (numbers cs) left).0, left)
+in_both cs place (Called call reply) number other there = (there, there)
+in_both cs place (Tick moment) number other there = (there, there)
+in_both cs place Restart number other there = absurd cc
+
+abbrev Timely : List ℕ → List ℕ → Out → Type 0
+Timely before after o = IsTimely before after o.dest
+
+dest_both : (cs : List Connection) (place : ℕ) (e : Event) (d : Dest) → is_restart e ≡ false → IsTimely (numbers (both_open cs e)) (numbers (both_open cs e)) d → IsTimely (numbers cs) (opened_after (numbers cs) place e) d
+dest_both cs place e (Conn number) other there = in_both cs place e number other there.0
+dest_both cs place e (Back call) other there = tt
+
+turn_timely : (n : ℕ) (s : Whole) (e : Event) → is_restart e ≡ false → Waits s.connections s.front
+    → (let opened = numbers s.connections in AreTimely opened (opened_after opened s.place e) (settled_turn n s (connected s.connections s.place e) (heard n s e)).outs) × Waits (both_open s.connections e) (settled n s.exports (heard n s e).1 (heard n s e).2).1
+turn_timely n s e other waits =
+    let opened = numbers s.connections in
+    let cs = both_open s.connections e in
+    let first = heard_timely n s e waits in
+    let next = settled_timely n cs s.exports (heard n s e).1 (heard n s e).2 first.1 in (
+      all_weaker (Timely (numbers cs) (numbers cs)) (Timely opened (opened_after opened s.place e)) ((heard n s e).0 ++ (settled n s.exports (heard n s e).1 (heard n s e).2).0) (λ o on. dest_both s.connections s.place e o.dest other on)
+          (timely_append (numbers cs) (numbers cs) (heard n s e).0 (settled n s.exports (heard n s e).1 (heard n s e).2).0 first.0 next.0),
+      next.1,
+    )
+
+-- a step is timely, and leaves requests that wait on connections that are open then
+timely : (n : ℕ) (s : Whole) (e : Event) → Waits s.connections s.front → (let opened = numbers s.connections in AreTimely opened (opened_after opened s.place e) (step n s e).outs) × Waits (step n s e).next.connections (step n s e).next.front
+unfolding step connected
+timely n s (Open kind) waits =
+    let r = turn_timely n s (Open kind) refl waits in
+    (r.0, all_weaker (λ e. IsOpen s.connections e.1.place.connection) (λ e. IsOpen (with_connection s.connections s.place kind) e.1.place.connection) _ (λ x on. still_open s.connections s.place kind x.1.place.connection on) r.1)
+timely n s (Message number bytes) waits = turn_timely n s (Message number bytes) refl waits
+timely n s (End number) waits = turn_timely n s (End number) refl waits
+timely n s (Called call reply) waits = turn_timely n s (Called call reply) refl waits
+timely n s (Tick moment) waits = turn_timely n s (Tick moment) refl waits
+timely n s Restart waits = (tt, tt)
+
+orderly : (s : Whole) (es : List Entry) → Waits s.connections s.front → IsLegal s es → IsOrderly (numbers s.connections) s.place es
+orderly s [] waits legal = tt
+orderly s (e ∷ es) waits legal =
     let next = (step e.stores s e.event).next in
-    let opened = numbers s.connections in (
-      subst (λ (outs : List Out). AreTimely opened (opened_after opened s.place e.event) outs) (sym legal.0.1) (timely e.stores s e.event),
+    let opened = numbers s.connections in
+    let now = timely e.stores s e.event waits in (
+      subst (λ (outs : List Out). AreTimely opened (opened_after opened s.place e.event) outs) (sym legal.0.1) now.0,
       subst (λ p. IsOrderly (opened_after opened s.place e.event) p es) (next_place e.stores s e.event)
-          (subst (λ (now : List ℕ). IsOrderly now next.place es) (open_is e.stores s e.event) (orderly next es legal.1)),
+          (subst (λ (left : List ℕ). IsOrderly left next.place es) (open_is e.stores s e.event) (orderly next es now.1 legal.1)),
     )
 
 -- a legal journal from a first start is orderly
 pub legal_orderly : (head : Head) (es : List Entry) → IsLegal (begin head) es → IsOrderly [] 0 es
-legal_orderly head es legal = orderly (begin head) es legal
+legal_orderly head es legal = orderly (begin head) es tt legal

@@ -3,7 +3,6 @@ use Rattle.std.proofs.Common.{◌≡◌, ℕ, ◌+◌, ◌<◌, ◌≤◌, Bool,
 use Rattle.std.proofs.Math.ListN.{get_or}
 use Rattle.std.proofs.lemmas.List.{drop_more}
 use Rattle.std.proofs.lemmas.Bool.{cases_Bool}
-use Rattle.xl_base.specs.declared.event.Kind.TheVariants.{Rpc}
 use Rattle.xl_base.specs.declared.event.Out.{Out}
 use Rattle.xl_base.specs.declared.journal.Exports.{Exports}
 use Rattle.xl_matrix.specs.declared.claim.Claim.{Claim}
@@ -18,7 +17,7 @@ use Rattle.xl_front_nlm.specs.Grants.{news, told_by, shown}
 use Rattle.xl_front_nlm.specs.State.{FrontState}
 use Rattle.xl_house.specs.declared.parts.Fronts.{Fronts}
 use Rattle.xl_front_nlm.specs.declared.grant.Grant.{Grant}
-use Rattle.xl_house.specs.Machine.{Sent, is_grant, grants, behind, and_then, in_frames, framed, showing, all_shown}
+use Rattle.xl_house.specs.Machine.{Sent, is_grant, grants, behind, showing, all_shown}
 use Rattle.xl_names.specs.declared.name.Name.{Name}
 use Rattle.xl_front_nlm.specs.Short.{AreShort}
 use Rattle.xl_house.specs.Shown.{IsShown, IsReadyFor, LeavesBy}
@@ -128,17 +127,17 @@ all_leaves exports f g s t effects old outs e ready =
     }
 
 -- one more effect of those that are left
-pub show_next : (exports : Exports) (f g : Fronts) (s t : CoreState) (effects : List Effect) (i : ℕ) (effect : Effect) (sent outs new : List Out) → i < length effects → effect ≡ get_or effects i effect → showing exports f s effect ≡ (sent, g, t) → new ≡ outs ++ map (framed Rpc) sent
+pub show_next : (exports : Exports) (f g : Fronts) (s t : CoreState) (effects : List Effect) (i : ℕ) (effect : Effect) (outs new : List Out) → i < length effects → effect ≡ get_or effects i effect → behind outs (showing exports f s effect) ≡ (new, g, t)
     → (behind new (all_shown exports g t (drop (i + 1) effects)) ≡ behind outs (all_shown exports f s (drop i effects))) × (t.counter + grants (drop (i + 1) effects) ≤ s.counter + grants (drop i effects))
-show_next exports f g s t effects i effect sent outs new there at is joined =
+show_next exports f g s t effects i effect outs new there at is =
     let rest = drop (i + 1) effects in
     let all : drop i effects ≡ effect ∷ rest = drop_more effects i effect there ∙ ap (λ (x : Effect). x ∷ rest) (sym at) in
-    let more = all_shown exports g t rest in
+    let r = showing exports f s effect in
+    let more = all_shown exports r.1 r.2 rest in
     let counted : grants (effect ∷ rest) ≡ number_of (is_grant effect) + grants rest = one_more (is_grant effect) (grants rest) in
-    let most = (subst (λ (x : CoreState). IsShown (number_of (is_grant effect)) s x) (ap (λ (r : Sent). r.2) is) (shown_most exports f s effect)).most in (
-      (λ j. (joined j ++ more.0, more.1, more.2))
-          ∙ (λ j. (append_assoc outs (map (framed Rpc) sent) more.0 j, more.1, more.2))
-          ∙ ap (λ (r : Sent). behind outs (and_then (λ h u. all_shown exports h u rest) (in_frames r))) (sym is)
+    let most = (subst (λ (x : CoreState). IsShown (number_of (is_grant effect)) s x) (ap (λ (q : Sent). q.2) is) (shown_most exports f s effect)).most in (
+      ap (λ (q : Sent). behind q.0 (all_shown exports q.1 q.2 rest)) (sym is)
+          ∙ (λ j. (append_assoc outs r.0 more.0 j, more.1, more.2))
           ∙ ap (λ (x : List Effect). behind outs (all_shown exports f s x)) (sym all),
       omega (arith, most, counted, ap (λ (x : List Effect). grants x) all),
     )

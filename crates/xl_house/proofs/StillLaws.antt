@@ -3,16 +3,17 @@ use Rattle.std.proofs.Common.{◌≡◌, ℕ, ◌+◌, Option, Some, None, IfSom
 use Rattle.xl_names.specs.declared.name.Name.{Name}
 use Rattle.xl_wait.specs.declared.waiter.Waiter.{Waiter}
 use Rattle.xl_core.specs.State.{CoreState, drawn}
-use Rattle.xl_core.specs.Deeds.{Deed, Asks, GivesBack, Weakens, Cancels, Ends, Serves, Draws, Advances, Renews, Expires, turned, done, all_done, IsFitDeed, AreFit}
+use Rattle.xl_core.specs.Deeds.{Deed, Asks, GivesBack, Weakens, Acks, Cancels, Ends, Serves, Draws, Advances, Lapses, Renews, Expires, turned, done, all_done, IsFitDeed, AreFit}
 use Rattle.xl_core.specs.Frames.{IsFrame, IsTicked, drawn_by, names_after, come_by}
 use Rattle.xl_core.specs.Decide.{ask}
 use Rattle.xl_core.specs.Good.{IsGood}
 use Rattle.xl_base.specs.declared.event.Moment.{Moment}
 use Rattle.xl_core.specs.Settle.{settle, cancel, give_back, weaken, end_party}
-use Rattle.xl_core.specs.Ticks.{advanced, renew, expire}
+use Rattle.xl_core.specs.Breaks.{ack}
+use Rattle.xl_core.specs.Ticks.{advanced, renew, expire, lapse}
 use Rattle.xl_core.specs.declared.ask.Effect.{Effect}
 use Rattle.xl_core.proofs.DeedLaws.{deed_good}
-use Rattle.xl_core.proofs.FrameLaws.{ask_frame, turn_frame, cancel_frame, give_back_frame, weaken_frame, drawn_frame, end_party_frame, advanced_ticked, renew_frame, expire_left}
+use Rattle.xl_core.proofs.FrameLaws.{ask_frame, turn_frame, cancel_frame, give_back_frame, weaken_frame, ack_frame, drawn_frame, end_party_frame, advanced_ticked, renew_frame, expire_left, lapse_left}
 
 pub record IsStill (s t : CoreState) : Type 0 where
   pub stable : t.stable ≡ s.stable
@@ -39,12 +40,14 @@ deed_still : (n : ℕ) (s : CoreState) (d : Deed) → IsGood s → IsFitDeed s d
 deed_still n s (Asks left a) good fit = let r = ask n left s a in framed_still s r.1 r.2 (drawn_by r.0) (names_after a r.0 s.names) (come_by a r.0 s.names) (ask_frame n left s a good fit.party)
 deed_still n s (GivesBack claim) good fit = let r = give_back s claim in framed_still s r.0 r.1 0 s.names [] (give_back_frame s claim)
 deed_still n s (Weakens share access deny) good fit = let r = weaken s share access deny in framed_still s r.0 r.1 0 s.names [] (weaken_frame s share access deny)
+deed_still n s (Acks cache to) good fit = let r = ack s cache to in framed_still s r.0 r.1 0 s.names [] (ack_frame s cache to)
 deed_still n s (Cancels id) good fit = let r = cancel s id in framed_still s r.0 r.1 0 s.names [] (cancel_frame s id fit)
 deed_still n s (Ends party) good fit = let r = end_party s party in framed_still s r.0 r.1 0 s.names [] (end_party_frame s party good)
 deed_still n s (Serves left) good fit = turned_still s (settle n left s) (turn_frame n left s good)
 deed_still n s Draws good fit = framed_still s [] (drawn s) 1 s.names [] (drawn_frame s)
 deed_still n s (Advances now) good fit = ticked_still s now (advanced s now) (advanced_ticked s now)
 deed_still n s (Renews client) good fit = let r = renew s client in framed_still s r.0 r.1 0 s.names [] (renew_frame s client)
+deed_still n s (Lapses cache) good fit = ticked_still s s.clock (lapse s cache).1 (lapse_left s cache).0
 deed_still n s (Expires client) good fit = ticked_still s s.clock (expire s client).1 (expire_left s client).0
 
 pub deeds_still : (n : ℕ) (s : CoreState) (ds : List Deed) → IsGood s → AreFit n s ds → IsStill s (all_done n s ds)

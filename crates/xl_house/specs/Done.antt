@@ -13,7 +13,7 @@ use Rattle.xl_programs.specs.declared.program.Program.{Program}
 use Rattle.xl_programs.specs.declared.program.Program.TheVariants.{Nlm, Nfs}
 use Rattle.xl_programs.specs.Sent.{refusal_of, sent_to}
 use Rattle.xl_core.specs.State.{CoreState, step_begun}
-use Rattle.xl_core.specs.Deeds.{Deed, Serves, all_done, answers_of, tick_deeds}
+use Rattle.xl_core.specs.Deeds.{Deed, Serves, all_done, all_told_of, answers_of, tick_deeds}
 use Rattle.xl_core.specs.Settle.{settle}
 use Rattle.xl_core.specs.Ticks.{tick}
 use Rattle.xl_core.specs.declared.ask.Answer.{Answer}
@@ -25,7 +25,7 @@ use Rattle.xl_house.specs.declared.parts.Fronts.{Fronts}
 use Rattle.xl_front_nfs.specs.FrontNfs.{nfs_deeds, nfs_reply, nfs_step}
 use Rattle.xl_front_nfs.specs.Theirs.{AreTheirs}
 use Rattle.xl_front_smb.specs.Ending.{smb_end, smb_end_deeds}
-use Rattle.xl_front_smb.specs.FrontSmb.{sent_by, smb_deeds, smb_reply, smb_step}
+use Rattle.xl_front_smb.specs.FrontSmb.{smb_deeds, smb_replies, smb_step}
 use Rattle.xl_front_smb.specs.Owners.{AreOwn}
 use Rattle.xl_core.specs.Clients.{AreOfSome}
 use Rattle.xl_house.specs.Machine.{Whole, FrontGiven, showing, with_nlm, with_nfs, with_smb, after_call, after_end, begun, ticked, nfs_opens, smb_opens, kind_of, framed, all_shown, rooms_of, settled, heard}
@@ -73,10 +73,11 @@ message_owns n exports f s (Some Rpc) number bytes = record_owns n exports f s (
 message_owns n exports f s (Some Smb) number bytes = AreOwn f.smb s number (smb_deeds n exports (nfs_opens f) f.smb s number bytes)
 message_owns n exports f s None number bytes = Unit {0}
 
-abbrev pub message_replies : ℕ → Exports → Fronts → CoreState → List Name → Option Kind → ℕ → List ℕ → List Answer → List Out
-message_replies n exports f s names (Some Rpc) number bytes answers = map (framed Rpc) (record_replies n exports f s names number (incoming_at bytes) answers)
-message_replies n exports f s names (Some Smb) number bytes answers = map (framed Smb) (sent_by number (smb_reply exports (nfs_opens f) f.smb s number bytes answers))
-message_replies n exports f s names None number bytes answers = []
+-- by what its deeds are answered, and what they tell of
+abbrev pub message_replies : ℕ → Exports → Fronts → CoreState → List Name → Option Kind → ℕ → List ℕ → List Answer → List Effect → List Out
+message_replies n exports f s names (Some Rpc) number bytes answers effects = map (framed Rpc) (record_replies n exports f s names number (incoming_at bytes) answers)
+message_replies n exports f s names (Some Smb) number bytes answers effects = map (framed Smb) (smb_replies exports (nfs_opens f) f.smb s number bytes answers effects)
+message_replies n exports f s names None number bytes answers effects = []
 
 -- ---- the end of a connection
 
@@ -102,10 +103,11 @@ own_deeds n s (Called number bytes) = called_deeds s.front.nlm (step_begun s.cor
 own_deeds n s (Tick now) = tick_deeds (step_begun s.core) now
 own_deeds n s event = []
 
--- what it is answered: a function of the message and of what its deeds are answered
+-- what it is answered: a function of the message and of what its deeds are answered and tell of
 abbrev pub own_replies : ℕ → Whole → Event → List Out
 own_replies n s (Message number bytes) =
     message_replies n s.exports s.front (step_begun s.core) (all_done n (step_begun s.core) (own_deeds n s (Message number bytes))).names (kind_of s.connections number) number bytes (answers_of n (step_begun s.core) (own_deeds n s (Message number bytes)))
+    (all_told_of n (step_begun s.core) (own_deeds n s (Message number bytes)))
 own_replies n s event = []
 
 -- ---- turns

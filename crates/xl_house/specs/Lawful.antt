@@ -7,7 +7,7 @@ use Rattle.xl_base.specs.declared.event.Event.TheVariants.{Message, End, Called,
 use Rattle.xl_base.specs.declared.journal.Entry.{Entry}
 use Rattle.xl_names.specs.declared.name.Name.{Name}
 use Rattle.xl_core.specs.State.{CoreState, step_begun}
-use Rattle.xl_core.specs.Deeds.{Deed, Asks, GivesBack, Weakens, Cancels, Ends, Serves, Draws, Advances, Renews, Expires, queue_after, KeepNames}
+use Rattle.xl_core.specs.Deeds.{Deed, Asks, GivesBack, Weakens, Cancels, Ends, Serves, Draws, Advances, Lapses, Renews, Expires, queue_after, KeepNames}
 use Rattle.xl_core.specs.Dues.{AreDue}
 use Rattle.xl_core.specs.Places.{Place, held_at, IsChangedBy}
 use Rattle.xl_core.specs.declared.ask.Act.{Act}
@@ -68,8 +68,8 @@ is_unlock (Unlock extent) = true
 is_unlock act = false
 
 -- which event does what itself: a message asks, gives back, makes a share weaker, cancels, ends, renews or draws a number,
--- the end of a connection ends, the end of a call unlocks, and a reading of the clock has it show that moment and lets
--- clients expire
+-- the end of a connection ends, the end of a call unlocks, and a reading of the clock has it show that moment, ends breaks
+-- and lets clients expire
 abbrev pub may_do : Event → Deed → Bool
 may_do (Message number bytes) (Asks left a) = true
 may_do (Message number bytes) (GivesBack claim) = true
@@ -81,6 +81,7 @@ may_do (Message number bytes) Draws = true
 may_do (End number) (Ends party) = true
 may_do (Called number bytes) (Asks left a) = is_unlock a.act
 may_do (Tick now) (Advances moment) = moment.0 == now.0
+may_do (Tick now) (Lapses cache) = true
 may_do (Tick now) (Expires client) = true
 may_do event deed = false
 

@@ -34,7 +34,7 @@ use Rattle.xl_front_nfs.specs.State.{FrontNfs, empty_nfs_front, nfs_tick, nfs_sh
 use Rattle.xl_front_nlm.specs.State.{FrontState, empty_front}
 use Rattle.xl_nfs_state.specs.State.{opens}
 use Rattle.xl_front_smb.specs.Ending.{smb_end}
-use Rattle.xl_front_smb.specs.FrontSmb.{smb_step}
+use Rattle.xl_front_smb.specs.FrontSmb.{smb_shown, smb_step}
 use Rattle.xl_front_smb.specs.State.{FrontSmb, empty_smb_front, opens_held, smb_begin}
 use Rattle.xl_house.specs.declared.parts.Fronts.{Fronts}
 use Rattle.xl_house.specs.declared.connections.Connection.{Connection}
@@ -116,16 +116,13 @@ before done outs = (done.0 ++ outs, done.1, done.2)
 abbrev pub and_then : (Fronts → CoreState → Sent) → Sent → Sent
 and_then rest done = behind done.0 (rest done.1 done.2)
 
--- the fronts of ONC RPC hear of an effect; that of NLM may tell of it. Of SMB nothing waits, and no cache is held.
-abbrev pub with_news : Fronts → Effect → List Out × FrontState × CoreState → List Out × Fronts × CoreState
-with_news f effect r = (r.0, record f { nlm = r.1; nfs = nfs_shown f.nfs effect }, r.2)
+-- all fronts hear of an effect; that of NLM may tell of it by a call, and then that of SMB by a final reply
+abbrev pub with_news : Fronts → Effect → List Out × FrontState × CoreState → List Out × FrontSmb → Sent
+with_news f effect r q = (map (framed Rpc) r.0 ++ map (framed Smb) q.0, record f { nlm = r.1; nfs = nfs_shown f.nfs effect; smb = q.1 }, r.2)
 
-abbrev pub showing : Exports → Fronts → CoreState → Effect → List Out × Fronts × CoreState
-showing exports f s effect = with_news f effect (shown exports f.nlm s effect)
-
--- what the fronts of ONC RPC send, in its frames
-abbrev pub in_frames : Sent → Sent
-in_frames done = (map (framed Rpc) done.0, done.1, done.2)
+-- what the fronts send for an effect, in its frames
+abbrev pub showing : Exports → Fronts → CoreState → Effect → Sent
+showing exports f s effect = with_news f effect (shown exports f.nlm s effect) (smb_shown f.smb effect)
 
 -- the effect tells of a grant, and how many of these do
 abbrev pub is_grant : Effect → Bool
@@ -139,7 +136,7 @@ grants (effect ∷ effects) = if is_grant effect then grants effects + 1 else gr
 -- what the fronts send for these effects, in order
 abbrev pub all_shown : Exports → Fronts → CoreState → List Effect → Sent
 all_shown exports f s [] = ([], f, s)
-all_shown exports f s (effect ∷ effects) = and_then (λ g t. all_shown exports g t effects) (in_frames (showing exports f s effect))
+all_shown exports f s (effect ∷ effects) = and_then (λ g t. all_shown exports g t effects) (showing exports f s effect)
 
 -- ---- settling
 

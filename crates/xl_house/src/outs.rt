@@ -13,6 +13,7 @@ use xl_core::Effect;
 use xl_frame::wrap;
 use xl_front_nfs::nfs_shown;
 use xl_front_nlm::shown;
+use xl_front_smb::smb_shown;
 
 /// An out in its frame, where it goes to a connection of this kind; a call has none.
 fn framed(alloc: Global, kind: Kind, out: Out) -> Result<Out, AllocError>
@@ -43,26 +44,30 @@ pub(crate) fn send_all(
     Ok(())
 }
 
-/// What the fronts send for an effect, of which both hear.
-fn shown_by_fronts(
+/// Adds what the fronts send for an effect, of which all hear.
+fn show(
     alloc: Global,
     exports: &Exports,
     parts: &mut Parts,
     effect: &Effect,
-) -> Result<Sequence<Out>, AllocError>
+    outs: &mut Sequence<Out>,
+) -> Result<(), AllocError>
     requires ready { IsReady parts.old.core }
-    ensures state { IfOk result (λ sent. showing exports.now parts.old.front parts.old.core effect.now ≡ (sent, parts.new.front, parts.new.core)) }
+    ensures state { OnOk result (behind outs.old (showing exports.now parts.old.front parts.old.core effect.now) ≡ (outs.new, parts.new.front, parts.new.core)) }
     ensures leaves { OnOk result (Leaves parts.old.core parts.new.core) }
-    ensures little { IfOk result (λ sent. AllByRecursion FitsFrame sent) }
 {
     nfs_shown(&mut parts.front.nfs, effect);
-    shown(
+    let calls = shown(
         alloc,
         exports,
         &mut parts.front.nlm,
         &mut parts.core,
         effect,
-    )
+    )?;
+    send_all(alloc, Kind::Rpc, calls, outs)?;
+    let finals = smb_shown(alloc, &mut parts.front.smb, effect)?;
+    send_all(alloc, Kind::Smb, finals, outs)?;
+    Ok(())
 }
 
 /// Adds what the fronts send for each of these effects.
@@ -77,8 +82,7 @@ fn show_each(
     ensures { OnOk result (behind outs.old (all_shown exports.now parts.old.front parts.old.core effects.now) ≡ (outs.new, parts.new.front, parts.new.core)) }
 {
     for effect in effects {
-        let sent = shown_by_fronts(alloc, exports, parts, effect)?;
-        send_all(alloc, Kind::Rpc, sent, outs)?;
+        show(alloc, exports, parts, effect, outs)?;
     }
     Ok(())
 }

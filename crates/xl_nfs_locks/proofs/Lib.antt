@@ -1,2 +1,9 @@
 pub mod FoundLaws
 pub mod LockLaws
+pub mod FirstLaws
+pub mod EndLaws
+pub mod LockOwn
+pub mod ByteLaws
+pub mod StatusLaws
+pub mod KeepLaws
+pub mod CloseLaws

@@ -1,5 +1,5 @@
 -- What a LOCK tells that isn't OK has a spelling.
-use Rattle.std.proofs.Common.{◌≡◌, ℕ, Bool, true, false, Option, Some, None, Result, Ok, Err, refl, sym, subst, true≢false, inl, inr, arith}
+use Rattle.std.proofs.Common.{◌≡◌, ℕ, ◌<◌, ◌^◌, Bool, true, false, Option, Some, None, Result, Ok, Err, refl, sym, subst, true≢false, inl, inr, arith}
 use Rattle.std.proofs.lemmas.Bool.{cases_Bool}
 use Rattle.xl_nfs.specs.declared.basics.LockType.{LockType}
 use Rattle.xl_nfs.specs.declared.status.NfsStatus.{NfsStatus}
@@ -21,35 +21,35 @@ use Rattle.xl_nfs_opens.specs.declared.told.Told.TheVariants.{Ended}
 use Rattle.xl_nfs_opens.proofs.EndLaws.{IfFault, standing_is_fault}
 use Rattle.xl_nfs_opens.proofs.ResultLaws.{IsFault, fault_fits}
 
-fault_told : (s : NfsStatus) → IsFault s → ToldFits 12 (Ended s)
-fault_told s f = fault_fits 12 s (omega arith) f
+fault_told : (number : ℕ) → number < 2 ^ 32 → (s : NfsStatus) → IsFault s → ToldFits number (Ended s)
+fault_told number le s f = fault_fits number s le f
 
-told_by : (s : CoreState) (l : NfsLists) (reclaim : Bool) (answer : Answer) → is_granted answer ≡ false → ToldFits 12 (lock_told s l reclaim answer)
-told_by s l reclaim (answers.Granted c) granted = absurd (true≢false granted)
-told_by s l true (answers.Conflict c) granted = fault_told statuses.ReclaimConflict (record { ok = refl; denied = refl })
-told_by s l false (answers.Conflict c) granted = tt
-told_by s l reclaim (answers.Queued id) granted = fault_told statuses.Delay (record { ok = refl; denied = refl })
-told_by s l reclaim (answers.Recall c) granted = fault_told statuses.Delay (record { ok = refl; denied = refl })
-told_by s l reclaim (answers.Grace until) granted = fault_told statuses.Grace (record { ok = refl; denied = refl })
-told_by s l reclaim (answers.NoGrace clock) granted = fault_told statuses.NoGrace (record { ok = refl; denied = refl })
-told_by s l reclaim answers.NotRecorded granted = fault_told statuses.ReclaimBad (record { ok = refl; denied = refl })
-told_by s l reclaim (answers.Full limit) granted = fault_told statuses.Resource (record { ok = refl; denied = refl })
-told_by s l reclaim answers.NotHeld granted = fault_told statuses.ServerFault (record { ok = refl; denied = refl })
-told_by s l reclaim answers.StoreFailed granted = fault_told statuses.ServerFault (record { ok = refl; denied = refl })
+pub told_by : (number : ℕ) → number < 2 ^ 32 → (s : CoreState) (l : NfsLists) (reclaim : Bool) (answer : Answer) → is_granted answer ≡ false → ToldFits number (lock_told s l reclaim answer)
+told_by number le s l reclaim (answers.Granted c) granted = absurd (true≢false granted)
+told_by number le s l true (answers.Conflict c) granted = fault_told number le statuses.ReclaimConflict (record { ok = refl; denied = refl })
+told_by number le s l false (answers.Conflict c) granted = tt
+told_by number le s l reclaim (answers.Queued id) granted = fault_told number le statuses.Delay (record { ok = refl; denied = refl })
+told_by number le s l reclaim (answers.Recall c) granted = fault_told number le statuses.Delay (record { ok = refl; denied = refl })
+told_by number le s l reclaim (answers.Grace until) granted = fault_told number le statuses.Grace (record { ok = refl; denied = refl })
+told_by number le s l reclaim (answers.NoGrace clock) granted = fault_told number le statuses.NoGrace (record { ok = refl; denied = refl })
+told_by number le s l reclaim answers.NotRecorded granted = fault_told number le statuses.ReclaimBad (record { ok = refl; denied = refl })
+told_by number le s l reclaim (answers.Full limit) granted = fault_told number le statuses.Resource (record { ok = refl; denied = refl })
+told_by number le s l reclaim answers.NotHeld granted = fault_told number le statuses.ServerFault (record { ok = refl; denied = refl })
+told_by number le s l reclaim answers.StoreFailed granted = fault_told number le statuses.ServerFault (record { ok = refl; denied = refl })
 
 -- what is told by the core's answer
 pub lock_told_fits : (s : CoreState) (l : NfsLists) (reclaim : Bool) (answer : Answer) (told : Told) → is_granted answer ≡ false → told ≡ lock_told s l reclaim answer → ToldFits 12 told
-lock_told_fits s l reclaim answer told granted is = subst (λ (t : Told). ToldFits 12 t) (sym is) (told_by s l reclaim answer granted)
+lock_told_fits s l reclaim answer told granted is = subst (λ (t : Told). ToldFits 12 t) (sym is) (told_by 12 (omega arith) s l reclaim answer granted)
 
 -- what is wrong with the stateid
 pub standing_fits : (r : StateidRow) (turn : Turn) (seqid : ℕ) (status : NfsStatus) → Some status ≡ standing_fault r turn seqid true → ToldFits 12 (Ended status)
-standing_fits r turn seqid status is = fault_told status (subst (λ (o : Option NfsStatus). IfFault o) (sym is) (standing_is_fault r turn seqid true))
+standing_fits r turn seqid status is = fault_told 12 (omega arith) status (subst (λ (o : Option NfsStatus). IfFault o) (sym is) (standing_is_fault r turn seqid true))
 
-abbrev OrFault : Result ℕ NfsStatus → Type 0
+abbrev pub OrFault : Result ℕ NfsStatus → Type 0
 OrFault (Ok last) = Unit {0}
 OrFault (Err status) = IsFault status
 
-end_fault : (kind : LockType) (access : ℕ) (found : Option ℕ) → OrFault (lock_end kind access found)
+pub end_fault : (kind : LockType) (access : ℕ) (found : Option ℕ) → OrFault (lock_end kind access found)
 end_fault kind access None = record { ok = refl; denied = refl }
 end_fault kind access (Some last) =
     elim (cases_Bool (may_lock kind access)) [
@@ -59,4 +59,8 @@ end_fault kind access (Some last) =
 
 -- the range, or the open's access
 pub end_fits : (kind : LockType) (access : ℕ) (found : Option ℕ) (status : NfsStatus) → Err status ≡ lock_end kind access found → ToldFits 12 (Ended status)
-end_fits kind access found status is = fault_told status (subst (λ (o : Result ℕ NfsStatus). OrFault o) (sym is) (end_fault kind access found))
+end_fits kind access found status is = fault_told 12 (omega arith) status (subst (λ (o : Result ℕ NfsStatus). OrFault o) (sym is) (end_fault kind access found))
+
+-- the lock owner is of another client
+pub inval_fits : ToldFits 12 (Ended statuses.Inval)
+inval_fits = fault_told 12 (omega arith) statuses.Inval (record { ok = refl; denied = refl })

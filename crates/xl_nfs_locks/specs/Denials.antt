@@ -17,7 +17,8 @@ use Rattle.xl_nfs_state.specs.declared.client.ClientRow.{ClientRow}
 use Rattle.xl_core.specs.State.{CoreState}
 use Rattle.xl_core.specs.declared.ask.Answer.{Answer}
 use Rattle.xl_core.specs.declared.ask.Answer.TheVariants as answers
-use Rattle.xl_nfs_locks.specs.Ranges.{all_ones, length_of}
+use Rattle.xl_nfs_locks.specs.Ranges.{length_of}
+use Rattle.xl_nfs_opens.specs.Asks.{all_ones}
 use Rattle.xl_nfs_opens.specs.Leases.{clientid_of}
 use Rattle.xl_nfs_opens.specs.Opens.{answer_status}
 use Rattle.xl_nfs_opens.specs.declared.told.HeldLock.{HeldLock}

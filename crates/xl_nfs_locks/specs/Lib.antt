@@ -5,3 +5,5 @@ pub mod Unlocks
 pub mod Denials
 pub mod Tests
 pub mod Locks
+pub mod FirstLocks
+pub mod Laws

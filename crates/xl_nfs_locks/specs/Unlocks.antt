@@ -12,7 +12,8 @@ use Rattle.xl_core.specs.State.{CoreState}
 use Rattle.xl_core.specs.declared.ask.Answer.{Answer}
 use Rattle.xl_core.specs.declared.ask.Answer.TheVariants as answers
 use Rattle.xl_nfs_locks.specs.Checks.{locks_found}
-use Rattle.xl_nfs_locks.specs.Ranges.{last_byte, unlock_ask}
+use Rattle.xl_nfs_locks.specs.Ranges.{last_byte}
+use Rattle.xl_nfs_opens.specs.Asks.{unlock_ask}
 use Rattle.xl_nfs_opens.specs.Closing.{standing_fault, failed, done_lists, state_told, opener_by}
 use Rattle.xl_nfs_opens.specs.Opens.{all_rooms, answer_status, repeated}
 use Rattle.xl_nfs_opens.specs.Plans.{Plan, Does, Asking}

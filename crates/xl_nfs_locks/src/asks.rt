@@ -1,80 +1,16 @@
 //! What the core is asked for a lock owner.
-ghost use Rattle.std.specs.Prelude.{◌≡◌, ◌≤◌, IfOk, true, false};
-ghost use Rattle.xl_core.specs.Asking.{may_ask, IsFit, IsFitAct};
-ghost use Rattle.xl_core.specs.declared.ask.Who.TheVariants.{Named};
-ghost use Rattle.xl_names.specs.declared.name.Name.TheVariants.{NfsRange};
-ghost use Rattle.xl_nfs_locks.specs.Ranges.{lock_ask, range_ask, test_ask, unlock_ask};
+ghost use Rattle.std.specs.Prelude.{◌≡◌, ◌≤◌, IfOk};
+ghost use Rattle.xl_core.specs.Asking.{IsFit};
+ghost use Rattle.xl_nfs_locks.specs.Ranges.{lock_ask, test_ask};
 ghost use Rattle.xl_nfs_opens.specs.Short.{IsNfsAsk};
 
 use crate::ranges::is_exclusive;
 use std::alloc::{AllocError, Global};
 use xl_base::Sequence;
-use xl_core::{Act, Ask, Who};
+use xl_core::{Act, Ask};
 use xl_matrix::Extent;
-use xl_names::Name;
 use xl_nfs::LockType;
-use xl_nfs_opens::Opener;
-use xl_wait::Rooms;
-
-const NO_ROWS: Rooms = Rooms {
-    hosts: 0,
-    owners: 0,
-    opens: 0,
-};
-
-/// An ask of a lock owner, which never waits.
-#[tactic(auto, using(xl_nfs_opens::proofs::OwnerLaws::own_client))]
-fn range_ask(
-    alloc: Global,
-    owner: &Opener,
-    file: u32,
-    act: Act,
-    reclaim: bool,
-) -> Result<Ask, AllocError>
-    requires act { IsFitAct (Named (NfsRange owner.now.id owner.now.owner)) false act }
-    requires own { may_ask (Named (NfsRange owner.now.id owner.now.owner)) act ≡ true }
-    ensures value { IfOk result (λ ask. ask ≡ range_ask owner.now file act reclaim) }
-    ensures fit { IfOk result (λ ask. IsFit ask) }
-    ensures nfs { IfOk result (λ ask. IsNfsAsk ask) }
-{
-    let id = Sequence::from_slice(alloc, owner.id.as_slice())?;
-    let client = Sequence::from_slice(alloc, owner.id.as_slice())?;
-    let bytes = Sequence::from_slice(alloc, owner.owner.as_slice())?;
-    Ok(Ask {
-        file,
-        owner: Who::Named(Name::NfsRange(id, bytes)),
-        party: Who::Named(Name::NfsParty(client)),
-        act,
-        wish: Sequence::new(alloc),
-        conn: None,
-        blocking: false,
-        reclaim,
-        monitored: false,
-        rows: NO_ROWS,
-    })
-}
-
-/// What is asked for LOCKU.
-pub(crate) fn unlock_ask(
-    alloc: Global,
-    owner: &Opener,
-    file: u32,
-    first: u64,
-    last: u64,
-) -> Result<Ask, AllocError>
-    requires ends { first ≤ last }
-    ensures value { IfOk result (λ ask. ask ≡ unlock_ask owner.now file first last) }
-    ensures fit { IfOk result (λ ask. IsFit ask) }
-    ensures nfs { IfOk result (λ ask. IsNfsAsk ask) }
-{
-    range_ask(
-        alloc,
-        owner,
-        file,
-        Act::Unlock(Extent::Bytes(first, last)),
-        false,
-    )
-}
+use xl_nfs_opens::{Opener, range_ask};
 
 /// What is asked for LOCKT.
 pub(crate) fn test_ask(

@@ -4,13 +4,17 @@
 mod asks;
 mod checking;
 mod denials;
+mod joining;
+pub mod law;
 mod locking;
+mod locks;
+pub mod orderly;
 mod ranges;
 mod releasing;
 mod testing;
 mod unlocking;
 
-pub use locking::lock_known;
+pub use locks::lock;
 pub use releasing::release;
 pub use testing::lock_test;
 pub use unlocking::unlock;

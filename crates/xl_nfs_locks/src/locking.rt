@@ -50,7 +50,7 @@ fn refuse(
 }
 
 /// Whether it is granted.
-fn is_granted(answer: Answer) -> bool
+pub(crate) fn is_granted(answer: Answer) -> bool
     ensures { result ≡ is_granted answer }
 {
     matches!(answer, Answer::Granted(_))
@@ -143,7 +143,7 @@ fn access_above(state: &NfsState, holder: Holder) -> u32
 }
 
 /// The last byte, or the first check that fails: the range, and the open's access.
-fn lock_end(kind: LockType, access: u32, offset: u64, len: u64) -> Result<u64, NfsStatus>
+pub(crate) fn lock_end(kind: LockType, access: u32, offset: u64, len: u64) -> Result<u64, NfsStatus>
     ensures value { result ≡ lock_end kind access (last_byte offset len) }
     ensures ends { IfOk result (λ last. offset ≤ last) }
 {
@@ -267,7 +267,7 @@ fn lock_found<K: Keeper>(
 /// a lock that stands against it; INVAL for a range of no bytes or past the last one, OPENMODE where the open's access
 /// doesn't allow it; BAD_STATEID, OLD_STATEID, STALE_STATEID and BAD_SEQID by the lock's stateid.
 #[tactic(auto, unfolding(crate::specs::Locks::lock_known), using(crate::proofs::FoundLaws::locks_there, xl_nfs_opens::proofs::LeaveLaws::leaves_then, xl_nfs_opens::proofs::LeaveLaws::ready_then))]
-pub fn lock_known<K: Keeper>(
+pub(crate) fn lock_known<K: Keeper>(
     alloc: Global,
     state: &mut NfsState,
     core: &mut Core,

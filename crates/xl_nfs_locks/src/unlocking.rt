@@ -10,7 +10,6 @@ ghost use Rattle.xl_nfs_opens.specs.Closing.{standing_fault, IsChecked};
 ghost use Rattle.xl_nfs_opens.specs.Plans.{carried};
 ghost use Rattle.xl_nfs_opens.specs.Short.{IsReady, Leaves};
 
-use crate::asks::unlock_ask;
 use crate::checking::find_locks;
 use crate::ranges::last_byte;
 use std::alloc::{AllocError, Global};
@@ -19,7 +18,7 @@ use xl_core::{Answer, Core};
 use xl_nfs::{NfsStatus, UnlockArgs, operation};
 use xl_nfs_opens::{
     Checked, Done, Opener, Told, answer_status, asked, ended_as, fail, finish, next_turn,
-    opener_by, renew_for, repeat, standing_fault, state_client,
+    opener_by, renew_for, repeat, standing_fault, state_client, unlock_ask,
 };
 use xl_nfs_state::{NfsState, StateidRow, Turn};
 

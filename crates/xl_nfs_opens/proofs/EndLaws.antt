@@ -63,13 +63,13 @@ carried_well P n current (Asking left a rest) s l well = let r = ask n left s a 
 abbrev pub Well : ℕ → Option ℕ → Told → Option ℕ → Type 0
 Well number current told handle = ToldFits number told × (is_ok (status_of told) ≡ false → handle ≡ current)
 
-abbrev Ends : ℕ → Option ℕ → Plan → Type 0
+abbrev pub Ends : ℕ → Option ℕ → Plan → Type 0
 Ends number current plan = EndsWell (Well number current) current plan
 
-fault : (s : NfsStatus) → is_ok s ≡ false → is_denied s ≡ false → IsFault s
+pub fault : (s : NfsStatus) → is_ok s ≡ false → is_denied s ≡ false → IsFault s
 fault s ok denied = record { ok = ok; denied = denied }
 
-ended : (number : ℕ) → number < 2 ^ 32 → (current : Option ℕ) (status : NfsStatus) → IsFault status → Well number current (Ended status) current
+pub ended : (number : ℕ) → number < 2 ^ 32 → (current : Option ℕ) (status : NfsStatus) → IsFault status → Well number current (Ended status) current
 ended number le current status f = (fault_fits number status le f, λ _. refl)
 
 -- ---- a repeat
@@ -78,7 +78,7 @@ again : {F : Type 0} (s : CoreState) (l : NfsLists) (current : Option ℕ) (read
 again s l current (Ok (OpenAnswer (Ok r), rest)) e = absurd (true≢false e)
 again s l current read e = refl
 
-repeat_ends : (number : ℕ) → number < 2 ^ 32 → (s : CoreState) (l : NfsLists) (current : Option ℕ) (o : Option KeptRow) → Ends number current (repeated s l current o)
+pub repeat_ends : (number : ℕ) → number < 2 ^ 32 → (s : CoreState) (l : NfsLists) (current : Option ℕ) (o : Option KeptRow) → Ends number current (repeated s l current o)
 unfolding handle_again kept_status
 repeat_ends number le s l current None = ended number le current statuses.BadSeqid (fault statuses.BadSeqid refl refl)
 repeat_ends number le s l current (Some k) =
@@ -93,7 +93,7 @@ abbrev pub IfFault : Option NfsStatus → Type 0
 IfFault None = Unit {0}
 IfFault (Some status) = IsFault status
 
-abbrev OrFault : Result ℕ NfsStatus → Type 0
+abbrev pub OrFault : Result ℕ NfsStatus → Type 0
 OrFault (Ok file) = Unit {0}
 OrFault (Err status) = IsFault status
 
@@ -223,7 +223,7 @@ open_ends files others s l current a = λ t u. at_ends files others u _ a curren
 
 -- ---- what names an open
 
-abbrev Refuses : Checked → Type 0
+abbrev pub Refuses : Checked → Type 0
 Refuses (Refused status) = IsFault status
 Refuses c = Unit {0}
 
@@ -241,7 +241,7 @@ seqid_fault r owner turn verdicts.Next =
 seqid_fault r owner turn verdicts.New = closed_fault r.standing.closed
 seqid_fault r owner turn (verdicts.Bad last) = closed_fault r.standing.closed
 
-owner_fault : (r : StateidRow) (op seqid owner : ℕ) (o : Option OwnerRow) → Refuses (owner_checked r op seqid owner o)
+pub owner_fault : (r : StateidRow) (op seqid owner : ℕ) (o : Option OwnerRow) → Refuses (owner_checked r op seqid owner o)
 owner_fault r op seqid owner None = fault statuses.BadStateid refl refl
 owner_fault r op seqid owner (Some o) = seqid_fault r owner o.turn (verdict (Some o.turn) op seqid)
 
@@ -262,7 +262,7 @@ number_fault : (l : NfsLists) (at op seqid : ℕ) (o : Option ℕ) → Refuses (
 number_fault l at op seqid None = fault statuses.StaleStateid refl refl
 number_fault l at op seqid (Some number) = row_fault l at op seqid (find (is_stateid number) l.stateids)
 
-checked_fault : (s : CoreState) (l : NfsLists) (current : Option ℕ) (op seqid : ℕ) (stateid : Stateid) → Refuses (checked s l current op seqid stateid)
+pub checked_fault : (s : CoreState) (l : NfsLists) (current : Option ℕ) (op seqid : ℕ) (stateid : Stateid) → Refuses (checked s l current op seqid stateid)
 unfolding checked
 checked_fault s l None op seqid stateid = fault statuses.NoFileHandle refl refl
 checked_fault s l (Some at) op seqid stateid = number_fault l at op seqid (number_of s stateid.other)
@@ -323,7 +323,7 @@ unfolding open_downgrade
 downgrade_ends s l current a = λ t. (let m = renewed_for s l (state_client s l a.stateid) in downgrade_by_ends t m current a (checked t m current 21 a.seqid a.stateid) (checked_fault t m current 21 a.seqid a.stateid))
 
 close_done_ends : (s : CoreState) (l : NfsLists) (current : Option ℕ) (a : CloseArgs) (r : StateidRow) (owner : ℕ) (turn : Turn) (o : Option NfsStatus) → IfFault o → Ends 4 current (close_done s l current a r owner turn o)
-close_done_ends s l current a r owner turn None f = (tt, λ _. refl)
+close_done_ends s l current a r owner turn None f = λ t. (tt, λ _. refl)
 close_done_ends s l current a r owner turn (Some status) f = ended 4 (omega arith) current status f
 
 close_by_ends : (s : CoreState) (l : NfsLists) (current : Option ℕ) (a : CloseArgs) (c : Checked) → Refuses c → Ends 4 current (close_by s l current a c)

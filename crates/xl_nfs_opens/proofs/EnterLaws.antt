@@ -20,8 +20,9 @@ use Rattle.xl_nfs_state.specs.declared.stateid.Holder.TheVariants as holders
 use Rattle.xl_nfs_state.specs.declared.stateid.Standing.{Standing}
 use Rattle.xl_nfs_state.specs.declared.stateid.StateidRow.{StateidRow}
 use Rattle.xl_nfs_state.specs.declared.stateid.Whose.TheVariants as whose
+use Rattle.xl_core.specs.Deeds.{all_done}
 use Rattle.xl_core.specs.State.{CoreState, drawn}
-use Rattle.xl_nfs_opens.specs.Closing.{next_turn, state_told, close_done}
+use Rattle.xl_nfs_opens.specs.Closing.{ends_locks, locks_under, next_turn, state_told, close_done}
 use Rattle.xl_nfs_opens.specs.Laws.{can_come}
 use Rattle.xl_nfs_opens.specs.Opens.{either_bits, entered, open_row, open_turn, opened_told, granted_more, granted_new, judged_by, judged, open_judged, stood}
 use Rattle.xl_nfs_opens.specs.Plans.{carried}
@@ -35,7 +36,7 @@ use Rattle.xl_nfs_opens.proofs.OwnerLaws.{number_gone}
 
 -- ---- an open comes
 
-found_behind : (r : StateidRow) (ss : List StateidRow) → find (is_stateid r.number) ss ≡ None → find (is_stateid r.number) (ss ++ r ∷ []) ≡ Some r
+pub found_behind : (r : StateidRow) (ss : List StateidRow) → find (is_stateid r.number) ss ≡ None → find (is_stateid r.number) (ss ++ r ∷ []) ≡ Some r
 found_behind r [] e = rw (eq-eqb r.number r.number refl) refl
 found_behind r (s ∷ ss) e =
     elim (cases_Bool (r.number == s.number)) [
@@ -43,7 +44,7 @@ found_behind r (s ∷ ss) e =
       | inr h ↦ rw h (found_behind r ss (rw h at e))
     ]
 
-kept_stateids : (owner : ℕ) (bytes : List ℕ) (l : NfsLists) → (kept_for owner bytes l).stateids ≡ l.stateids
+pub kept_stateids : (owner : ℕ) (bytes : List ℕ) (l : NfsLists) → (kept_for owner bytes l).stateids ≡ l.stateids
 kept_stateids owner bytes l =
     elim (cases_Bool (is_some (find (is_kept owner) l.kept))) [
       | inl e ↦ rw e refl
@@ -63,7 +64,7 @@ new_open_comes n s l current o a file confirmed room =
 
 -- ---- an open is closed
 
-changed_found : (number : ℕ) (to : Standing) (ss : List StateidRow) (r : StateidRow) → find (is_stateid number) ss ≡ Some r → find (is_stateid number) (changed (is_stateid number) (with_standing to) ss) ≡ Some (with_standing to r)
+pub changed_found : (number : ℕ) (to : Standing) (ss : List StateidRow) (r : StateidRow) → find (is_stateid number) ss ≡ Some r → find (is_stateid number) (changed (is_stateid number) (with_standing to) ss) ≡ Some (with_standing to r)
 changed_found number to [] r e = absurd (true≢false (ap is_some (sym e)))
 changed_found number to (s ∷ ss) r e =
     elim (cases_Bool (number == s.number)) [
@@ -71,7 +72,7 @@ changed_found number to (s ∷ ss) r e =
       | inr h ↦ rw h (rw h (changed_found number to ss r (rw h at e)))
     ]
 
-left_found : (p q : StateidRow → Bool) (ss : List StateidRow) (r : StateidRow) → find p ss ≡ Some r → q r ≡ false → find p (without q ss) ≡ Some r
+pub left_found : {A : Type 0} (p q : A → Bool) (ss : List A) (r : A) → find p ss ≡ Some r → q r ≡ false → find p (without q ss) ≡ Some r
 left_found p q [] r e stays = absurd (true≢false (ap is_some (sym e)))
 left_found p q (s ∷ ss) r e stays =
     elim (cases_Bool (p s)) [
@@ -96,11 +97,13 @@ still_there (Some m) l r by found holds other =
 pub close_marks : (n : ℕ) (s : CoreState) (l : NfsLists) (current : Option ℕ) (a : CloseArgs) (r : StateidRow) (owner by : ℕ) (turn : Turn) → find (is_stateid r.number) l.stateids ≡ Some r → r.holder ≡ holders.Open by → (turn.closed ≡ Some r.number → ⊥) → option_map (λ (x : StateidRow). x.standing.closed) (find (is_stateid r.number) (carried n s l current (close_done s l current a r owner turn None)).3.stateids) ≡ Some true
 unfolding counted
 close_marks n s l current a r owner by turn found holds other =
+    let t = all_done n s (ends_locks l r (locks_under l r.number)) in
     let to : Standing = record { seqid = next_seqid r.standing.seqid; access = r.standing.access; deny = r.standing.deny; closed = true } in
     let after : NfsLists = turned owner (next_turn 4 a.seqid turn.confirmed (Some r.number)) (stood r.number r r.standing.access r.standing.deny true l) in
     let there : find (is_stateid r.number) (closed_gone turn.closed after).stateids ≡ Some (with_standing to r) = still_there turn.closed after (with_standing to r) by (changed_found r.number to l.stateids r found) holds other in
-    ap (λ (ss : List StateidRow). option_map (λ (x : StateidRow). x.standing.closed) (find (is_stateid r.number) ss)) (kept_stateids owner (spelled 4 (state_told s r)) (closed_gone turn.closed after))
-    ∙ ap (λ (x : Option StateidRow). option_map (λ (x : StateidRow). x.standing.closed) x) there
+    let left : find (is_stateid r.number) (without (is_whose (whose.Under r.number)) (closed_gone turn.closed after).stateids) ≡ Some (with_standing to r) = left_found (is_stateid r.number) (is_whose (whose.Under r.number)) (closed_gone turn.closed after).stateids (with_standing to r) there (not_under r.number by r.holder holds) in
+    ap (λ (ss : List StateidRow). option_map (λ (x : StateidRow). x.standing.closed) (find (is_stateid r.number) (without (is_whose (whose.Under r.number)) ss))) (kept_stateids owner (spelled 4 (state_told t r)) (closed_gone turn.closed after))
+    ∙ ap (λ (x : Option StateidRow). option_map (λ (x : StateidRow). x.standing.closed) x) left
 
 -- ---- an open is opened again
 

@@ -14,12 +14,13 @@ use Rattle.xl_nfs_state.specs.declared.kept.KeptRow.{KeptRow}
 use Rattle.xl_nfs_state.specs.declared.owner.OwnerRow.{OwnerRow}
 use Rattle.xl_nfs_state.specs.declared.owner.Turn.{Turn}
 use Rattle.xl_nfs_state.specs.declared.stateid.StateidRow.{StateidRow}
+use Rattle.xl_core.specs.Deeds.{all_done}
 use Rattle.xl_core.specs.State.{CoreState, drawn}
 use Rattle.xl_nfs_state.specs.declared.stateid.Whose.TheVariants as whose
 use Rattle.xl_nfs.specs.declared.opens.CloseArgs.{CloseArgs}
 use Rattle.xl_nfs.specs.declared.opens.OpenConfirmArgs.{OpenConfirmArgs}
 use Rattle.xl_nfs.specs.declared.opens.OpenDowngradeArgs.{OpenDowngradeArgs}
-use Rattle.xl_nfs_opens.specs.Closing.{close_done, confirm_done, failed_lists, next_turn, state_told}
+use Rattle.xl_nfs_opens.specs.Closing.{ends_locks, locks_under, close_done, confirm_done, failed_lists, next_turn, state_told}
 use Rattle.xl_nfs_opens.specs.Downgrades.{downgrade_done}
 use Rattle.xl_nfs_opens.specs.declared.told.Told.TheVariants.{Ended}
 use Rattle.xl_nfs_opens.specs.Opens.{can_enter, either_bits, entered, entered_in, granted_more, granted_new, open_row, open_turn, opened_told, refused_lists, stood}
@@ -135,7 +136,9 @@ pub downgrade_kept : (n : ℕ) (s : CoreState) (l : NfsLists) (current : Option 
 downgrade_kept n s l current a r owner turn there = counted_kept owner turn.closed (next_turn 21 a.seqid turn.confirmed None) (spelled 21 (state_told s r)) (stood r.number r a.access a.deny false l) there
 
 pub close_kept : (n : ℕ) (s : CoreState) (l : NfsLists) (current : Option ℕ) (a : CloseArgs) (r : StateidRow) (owner : ℕ) (turn : Turn) → is_some (find (is_owner owner) l.owners) ≡ true → find (is_kept owner) (carried n s l current (close_done s l current a r owner turn None)).3.kept ≡ Some (record { owner = owner; result = spelled 4 (carried n s l current (close_done s l current a r owner turn None)).0 })
-close_kept n s l current a r owner turn there = counted_kept owner turn.closed (next_turn 4 a.seqid turn.confirmed (Some r.number)) (spelled 4 (state_told s r)) (stood r.number r r.standing.access r.standing.deny true l) there
+close_kept n s l current a r owner turn there =
+    let t = all_done n s (ends_locks l r (locks_under l r.number)) in
+    counted_kept owner turn.closed (next_turn 4 a.seqid turn.confirmed (Some r.number)) (spelled 4 (state_told t r)) (stood r.number r r.standing.access r.standing.deny true l) there
 
 pub failure_kept : (l : NfsLists) (owner : ℕ) (turn : Turn) (op seqid : ℕ) (status : NfsStatus) → advances status ≡ true → is_some (find (is_owner owner) l.owners) ≡ true → find (is_kept owner) (failed_lists l owner turn op seqid status).kept ≡ Some (record { owner = owner; result = spelled op (Ended status) })
 failure_kept l owner turn op seqid status counts there = rw counts (counted_kept owner turn.closed (next_turn op seqid turn.confirmed None) (spelled op (Ended status)) l there)

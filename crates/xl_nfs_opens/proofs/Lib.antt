@@ -6,6 +6,8 @@ pub mod CheckLaws
 pub mod BehindLaws
 pub mod EndLaws
 pub mod OpenOwn
+pub mod UnderLaws
+pub mod CloseOwn
 pub mod OpenLaws
 pub mod RenewLaws
 pub mod OpenerLaws
@@ -14,3 +16,8 @@ pub mod KeptLaws
 pub mod PassLaws
 pub mod TurnLaws
 pub mod StatusLaws
+pub mod OrderLaws
+pub mod PassedLaws
+pub mod KeepLaws
+pub mod KnownLaws
+pub mod ShutLaws

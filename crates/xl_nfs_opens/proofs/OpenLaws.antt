@@ -116,7 +116,7 @@ passed_next s l (Some at) op seqid stateid x w t e = by (number_of s stateid.oth
     by (Some number) f = found_next l x at op seqid w t (find (is_stateid number) l.stateids) f
 
 -- a request that counts sets its owner's turn, and no other's
-turned_at : (number owner : ℕ) (turn : Turn) (rs : List OwnerRow) → find (is_owner number) (changed (is_owner owner) (with_turn turn) rs) ≡ option_map (λ r. if number == owner then with_turn turn r else r) (find (is_owner number) rs)
+pub turned_at : (number owner : ℕ) (turn : Turn) (rs : List OwnerRow) → find (is_owner number) (changed (is_owner owner) (with_turn turn) rs) ≡ option_map (λ r. if number == owner then with_turn turn r else r) (find (is_owner number) rs)
 turned_at number owner turn [] = refl
 turned_at number owner turn (r ∷ rs) =
     elim (cases_Bool (owner == r.number)) [

@@ -39,7 +39,7 @@ use Rattle.xl_table.proofs.WriteBack.{is_of-true}
 use Rattle.xl_table.specs.Held.{is_of, is_share}
 use Rattle.xl_table.specs.Relock.{is_share_of}
 use Rattle.xl_core.proofs.DeedClients.{party_of_owner}
-use Rattle.xl_core.proofs.DeedLeaves.{found_in}
+use Rattle.xl_core.proofs.DeedLeaves.{share_given, found_in}
 use Rattle.xl_core.proofs.DeedLists.{deeds_good, fit_append}
 use Rattle.xl_core.specs.Asking.{IsFit, party_named}
 use Rattle.xl_core.specs.Settle.{share_has}
@@ -97,7 +97,7 @@ renews_own n s l Client (Some number) each = by (find (is_client number true) l.
     by None e = (tt, tt)
     by (Some r) e = ((tt, tt), (each number r refl e, tt))
 
-renewing_own : (n : ℕ) (s : CoreState) (l : NfsLists) (Client : List ℕ → Type 0) (who : Option ℕ) (rest : CoreState → NfsLists → Plan) → IsGood s
+pub renewing_own : (n : ℕ) (s : CoreState) (l : NfsLists) (Client : List ℕ → Type 0) (who : Option ℕ) (rest : CoreState → NfsLists → Plan) → IsGood s
     → ((number : ℕ) (r : ClientRow) → who ≡ Some number → find (is_client number true) l.clients ≡ Some r → Client r.id)
     → ((t : CoreState) → t.stable ≡ s.stable → IsGood t → Owned n t Client (rest t (renewed_for s l who))) → Owned n s Client (renewing s l who rest)
 renewing_own n s l Client who rest good each later =
@@ -136,7 +136,7 @@ found_as s l (Some k) o = by (find (is_client k true) l.clients) o
 number_as : (s t : CoreState) (clientid : ℕ) → t.stable ≡ s.stable → number_in t clientid ≡ number_in s clientid
 number_as s t clientid e = ap (λ (x : Stable). if clientid / 2 ^ 32 == x.epoch then Some (clientid % 2 ^ 32) else None) e
 
-named_as : (s t : CoreState) (l : NfsLists) (who : Option ℕ) (clientid : ℕ) (id : List ℕ) → t.stable ≡ s.stable → is_named t (renewed_for s l who) clientid true id → is_named s l clientid true id
+pub named_as : (s t : CoreState) (l : NfsLists) (who : Option ℕ) (clientid : ℕ) (id : List ℕ) → t.stable ≡ s.stable → is_named t (renewed_for s l who) clientid true id → is_named s l clientid true id
 named_as s t l who clientid id e is = sym (found_as s l who (number_in s clientid)) ∙ ap (λ (o : Option ℕ). option_map (λ r. r.id) (option_and_then (λ m. find (is_client m true) (renewed_for s l who).clients) o)) (sym (number_as s t clientid e)) ∙ is
 
 other_as : (s t : CoreState) (other : List ℕ) → t.stable ≡ s.stable → number_in_other t other ≡ number_in_other s other
@@ -155,10 +155,10 @@ numbered_as s l (Some k) o = by (find (is_client k true) l.clients) o
 state_as_before : (s t : CoreState) (l : NfsLists) (who : Option ℕ) (stateid : Stateid) → t.stable ≡ s.stable → state_client t (renewed_for s l who) stateid ≡ state_client s l stateid
 state_as_before s t l who stateid e = ap (λ (o : Option ℕ). state_numbered (renewed_for s l who) o) (other_as s t stateid.other e) ∙ numbered_as s l who (number_in_other s stateid.other)
 
-holder_as : (s t : CoreState) (l : NfsLists) (who : Option ℕ) (stateid : Stateid) (id : List ℕ) → t.stable ≡ s.stable → is_holder t (renewed_for s l who) stateid id → is_holder s l stateid id
+pub holder_as : (s t : CoreState) (l : NfsLists) (who : Option ℕ) (stateid : Stateid) (id : List ℕ) → t.stable ≡ s.stable → is_holder t (renewed_for s l who) stateid id → is_holder s l stateid id
 holder_as s t l who stateid id e is = sym (found_as s l who (state_client s l stateid)) ∙ ap (λ (o : Option ℕ). option_map (λ r. r.id) (option_and_then (λ m. find (is_client m true) (renewed_for s l who).clients) o)) (sym (state_as_before s t l who stateid e)) ∙ is
 
-by_number : (l : NfsLists) (o : Option ℕ) (number : ℕ) (r : ClientRow) → o ≡ Some number → find (is_client number true) l.clients ≡ Some r → option_map (λ c. c.id) (option_and_then (λ m. find (is_client m true) l.clients) o) ≡ Some r.id
+pub by_number : (l : NfsLists) (o : Option ℕ) (number : ℕ) (r : ClientRow) → o ≡ Some number → find (is_client number true) l.clients ≡ Some r → option_map (λ c. c.id) (option_and_then (λ m. find (is_client m true) l.clients) o) ≡ Some r.id
 by_number l o number r e found = ap (λ (x : Option ℕ). option_map (λ c. c.id) (option_and_then (λ m. find (is_client m true) l.clients) x)) e ∙ ap (λ (x : Option ClientRow). option_map (λ c. c.id) x) found
 
 -- ---- shares
@@ -170,13 +170,13 @@ share_is s o file (Some number) claim good known e =
     let parts = and_parts (is_of file (owners.Name Nfs number) claim) (is_share claim.what) found.1 in
     let owner = (is_of-true file (owners.Name Nfs number) claim parts.0).1 in
     let kept = (all_in (IsHeld s.names) claim s.claims good.known found.0).1 in
-    ((found.0, parts.1), party_of_owner s.names (NfsShare o.id o.owner) (NfsParty o.id) number claim.party good.distinct known refl (subst (λ (x : Owner). are_kept s.names x claim.party ≡ true) owner kept))
+    ((found.0, share_given claim.what parts.1), party_of_owner s.names (NfsShare o.id o.owner) (NfsParty o.id) number claim.party good.distinct known refl (subst (λ (x : Owner). are_kept s.names x claim.party ≡ true) owner kept))
 
 held_is : (s : CoreState) (o : Opener) (file : ℕ) (claim : Claim) → IsGood s → share_held s o file ≡ Some claim → IsFitDeed s (GivesBack claim) × IsOf s (NfsParty o.id) (GivesBack claim)
 unfolding share_held
 held_is s o file claim good e = share_is s o file (number_of (NfsShare o.id o.owner) s.names) claim good refl e
 
-gives_own : (n : ℕ) (s : CoreState) (Client : List ℕ → Type 0) (share : Option Claim) → ((claim : Claim) → share ≡ Some claim → IsFitDeed s (GivesBack claim) × IsBy s Client (GivesBack claim)) → AreFit n s (gives share) × AreBy n s Client (gives share)
+pub gives_own : (n : ℕ) (s : CoreState) (Client : List ℕ → Type 0) (share : Option Claim) → ((claim : Claim) → share ≡ Some claim → IsFitDeed s (GivesBack claim) × IsBy s Client (GivesBack claim)) → AreFit n s (gives share) × AreBy n s Client (gives share)
 gives_own n s Client None each = (tt, tt)
 gives_own n s Client (Some claim) each = let one = each claim refl in ((one.0, tt), (one.1, tt))
 
@@ -187,7 +187,7 @@ given_is n s (Some claim) = refl
 held_own : (n : ℕ) (s : CoreState) (Client : List ℕ → Type 0) (o : Opener) (file : ℕ) → IsGood s → Client o.id → AreFit n s (gives (share_held s o file)) × AreBy n s Client (gives (share_held s o file))
 held_own n s Client o file good is = gives_own n s Client (share_held s o file) (λ claim e. (let one = held_is s o file claim good e in (one.0, (o.id, is, one.1))))
 
-all_given : (n : ℕ) (s : CoreState) (Client : List ℕ → Type 0) (o : Opener) (rows : List StateidRow) → IsGood s → Client o.id → AreFit n s (gives_all s o rows) × AreBy n s Client (gives_all s o rows)
+pub all_given : (n : ℕ) (s : CoreState) (Client : List ℕ → Type 0) (o : Opener) (rows : List StateidRow) → IsGood s → Client o.id → AreFit n s (gives_all s o rows) × AreBy n s Client (gives_all s o rows)
 all_given n s Client o [] good is = (tt, tt)
 all_given n s Client o (r ∷ rs) good is =
     let share = share_held s o r.file in
@@ -235,7 +235,7 @@ as_own : (n : ℕ) (files : List (List ℕ)) (others : ℕ) (s : CoreState) (l :
 unfolding open_as
 as_own n files others s l current at o a confirmed Client is = by_own n others s l current o a confirmed Client (opened_file files at a) is
 
-repeat_own : (n : ℕ) (s : CoreState) (l : NfsLists) (current : Option ℕ) (Client : List ℕ → Type 0) (o : Option KeptRow) → Owned n s Client (repeated s l current o)
+pub repeat_own : (n : ℕ) (s : CoreState) (l : NfsLists) (current : Option ℕ) (Client : List ℕ → Type 0) (o : Option KeptRow) → Owned n s Client (repeated s l current o)
 repeat_own n s l current Client None = (tt, tt)
 repeat_own n s l current Client (Some k) = (tt, tt)
 
@@ -282,7 +282,7 @@ open_own n files others s l current a good =
 row_client : (x r : StateidRow) (owner w : ℕ) (turn v : Turn) → Passed x owner turn ≡ Passed r w v → x ≡ r
 row_client x r owner w turn v e = cc
 
-next_client : (x r : StateidRow) (owner w : ℕ) (turn t : Turn) (b : Bool) → (if b then Refused statuses.BadStateid else Passed x owner turn) ≡ Passed r w t → (if b then None else Some x.client) ≡ Some r.client
+pub next_client : (x r : StateidRow) (owner w : ℕ) (turn t : Turn) (b : Bool) → (if b then Refused statuses.BadStateid else Passed x owner turn) ≡ Passed r w t → (if b then None else Some x.client) ≡ Some r.client
 next_client x r owner w turn t true e = absurd cc
 next_client x r owner w turn t false e = ap (λ (y : StateidRow). Some y.client) (row_client x r owner w turn t e)
 
@@ -292,7 +292,7 @@ seqid_client x r owner w turn t verdicts.Next e = next_client x r owner w turn t
 seqid_client x r owner w turn t verdicts.New e = absurd cc
 seqid_client x r owner w turn t (verdicts.Bad last) e = absurd cc
 
-owner_client : (x r : StateidRow) (op seqid owner w : ℕ) (t : Turn) (o : Option OwnerRow) → owner_checked x op seqid owner o ≡ Passed r w t → client_if_live (Some x) ≡ Some r.client
+pub owner_client : (x r : StateidRow) (op seqid owner w : ℕ) (t : Turn) (o : Option OwnerRow) → owner_checked x op seqid owner o ≡ Passed r w t → client_if_live (Some x) ≡ Some r.client
 owner_client x r op seqid owner w t None e = absurd cc
 owner_client x r op seqid owner w t (Some o) e = seqid_client x r owner w o.turn t (verdict (Some o.turn) op seqid) e
 
@@ -313,7 +313,7 @@ number_client : (l : NfsLists) (r : StateidRow) (at op seqid w : ℕ) (t : Turn)
 number_client l r at op seqid w t None e = absurd cc
 number_client l r at op seqid w t (Some number) e = found_client l r at op seqid w t (find (is_stateid number) l.stateids) e
 
-checked_client : (s : CoreState) (l : NfsLists) (current : Option ℕ) (op seqid : ℕ) (stateid : Stateid) (r : StateidRow) (w : ℕ) (t : Turn) → checked s l current op seqid stateid ≡ Passed r w t → state_client s l stateid ≡ Some r.client
+pub checked_client : (s : CoreState) (l : NfsLists) (current : Option ℕ) (op seqid : ℕ) (stateid : Stateid) (r : StateidRow) (w : ℕ) (t : Turn) → checked s l current op seqid stateid ≡ Passed r w t → state_client s l stateid ≡ Some r.client
 unfolding checked
 checked_client s l None op seqid stateid r w t e = absurd cc
 checked_client s l (Some at) op seqid stateid r w t e = number_client l r at op seqid w t (number_in_other s stateid.other) e
@@ -328,12 +328,12 @@ opener_held s Client file (Some c) (Some o) claim good each e =
     let one = held_is s (record { client = c.number; id = c.id; kind = o.name.kind; owner = o.name.owner }) file claim good e in
     (one.0, (c.id, each c refl, one.1))
 
-open_share : (s : CoreState) (l : NfsLists) (Client : List ℕ → Type 0) (r : StateidRow) (owner : ℕ) (claim : Claim) → IsGood s → ((c : ClientRow) → find (is_client r.client true) l.clients ≡ Some c → Client c.id) → share_of_open s l r owner ≡ Some claim
+pub open_share : (s : CoreState) (l : NfsLists) (Client : List ℕ → Type 0) (r : StateidRow) (owner : ℕ) (claim : Claim) → IsGood s → ((c : ClientRow) → find (is_client r.client true) l.clients ≡ Some c → Client c.id) → share_of_open s l r owner ≡ Some claim
     → IsFitDeed s (GivesBack claim) × ((id : List ℕ) × Client id × (party_named s.names (NfsParty id) ≡ Some claim.party))
 unfolding opener_by
 open_share s l Client r owner claim good each e = opener_held s Client r.file (find (is_client r.client true) l.clients) (find (is_owner owner) l.owners) claim good each e
 
-state_own : (n : ℕ) (s : CoreState) (l : NfsLists) (stateid : Stateid) (by : CoreState → NfsLists → Plan) → IsGood s
+pub state_own : (n : ℕ) (s : CoreState) (l : NfsLists) (stateid : Stateid) (by : CoreState → NfsLists → Plan) → IsGood s
     → ((t : CoreState) → t.stable ≡ s.stable → IsGood t → Owned n t (λ id. is_holder s l stateid id) (by t (renewed_for s l (state_client s l stateid)))) → Owned n s (λ id. is_holder s l stateid id) (renewing s l (state_client s l stateid) by)
 state_own n s l stateid by good each = renewing_own n s l (λ id. is_holder s l stateid id) (state_client s l stateid) by good (λ number r e found. by_number l (state_client s l stateid) number r e found) each
 
@@ -374,23 +374,6 @@ downgrade_own n s l current a good = state_own n s l a.stateid (λ t m. downgrad
     let m = renewed_for s l (state_client s l a.stateid) in
     downgrade_by_own n t m current a (λ id. is_holder s l a.stateid id) (checked t m current 21 a.seqid a.stateid) left
     (λ r w v x e found. holder_as s t l (state_client s l a.stateid) a.stateid x.id stable (by_number m (state_client t m a.stateid) r.client x (checked_client t m current 21 a.seqid a.stateid r w v e) found)))
-
-close_done_own : (n : ℕ) (s : CoreState) (l : NfsLists) (current : Option ℕ) (a : CloseArgs) (r : StateidRow) (owner : ℕ) (turn : Turn) (Client : List ℕ → Type 0) (o : Option NfsStatus) → IsGood s → ((c : ClientRow) → find (is_client r.client true) l.clients ≡ Some c → Client c.id) → Owned n s Client (close_done s l current a r owner turn o)
-close_done_own n s l current a r owner turn Client None good each = gives_own n s Client (share_of_open s l r owner) (λ claim e. open_share s l Client r owner claim good each e)
-close_done_own n s l current a r owner turn Client (Some status) good each = (tt, tt)
-
-close_by_own : (n : ℕ) (s : CoreState) (l : NfsLists) (current : Option ℕ) (a : CloseArgs) (Client : List ℕ → Type 0) (c : Checked) → IsGood s → ((r : StateidRow) (w : ℕ) (v : Turn) (x : ClientRow) → c ≡ Passed r w v → find (is_client r.client true) l.clients ≡ Some x → Client x.id) → Owned n s Client (close_by s l current a c)
-close_by_own n s l current a Client (Refused status) good each = (tt, tt)
-close_by_own n s l current a Client (Repeated owner) good each = repeat_own n s l current Client (find (is_kept owner) l.kept)
-close_by_own n s l current a Client (Passed r owner turn) good each = close_done_own n s l current a r owner turn Client (standing_fault r turn a.stateid.seqid true) good (λ x found. each r owner turn x refl found)
-
-pub close_own : (n : ℕ) (s : CoreState) (l : NfsLists) (current : Option ℕ) (a : CloseArgs) → IsGood s → Owned n s (Names s l (Close a)) (close s l current a)
-unfolding close
-close_own n s l current a good = state_own n s l a.stateid (λ t m. close_by t m current a (checked t m current 4 a.seqid a.stateid)) good
-    (λ t stable left.
-    let m = renewed_for s l (state_client s l a.stateid) in
-    close_by_own n t m current a (λ id. is_holder s l a.stateid id) (checked t m current 4 a.seqid a.stateid) left
-    (λ r w v x e found. holder_as s t l (state_client s l a.stateid) a.stateid x.id stable (by_number m (state_client t m a.stateid) r.client x (checked_client t m current 4 a.seqid a.stateid r w v e) found)))
 
 pub return_own : (n : ℕ) (s : CoreState) (l : NfsLists) (current : Option ℕ) (stateid : Stateid) → IsGood s → Owned n s (Names s l (DelegReturn stateid)) (deleg_return s l current stateid)
 unfolding deleg_return

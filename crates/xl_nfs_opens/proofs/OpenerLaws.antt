@@ -19,7 +19,7 @@ pub is_itself : (x : ClientRow) (b : Bool) → x.confirmed ≡ b → is_client x
 is_itself x b e = subst (λ (k : Bool). (x.number == x.number && beq k x.confirmed) ≡ true) e (rw (eq-eqb x.number x.number refl) ((booleans_Decides x.confirmed x.confirmed).1 refl))
 
 -- a client that is found is there by its own number
-number_there : (number : ℕ) (xs : List ClientRow) (r : ClientRow) → find (is_client number true) xs ≡ Some r → IsSome (find (is_client r.number true) xs)
+pub number_there : (number : ℕ) (xs : List ClientRow) (r : ClientRow) → find (is_client number true) xs ≡ Some r → IsSome (find (is_client r.number true) xs)
 number_there number [] r found = absurd (true≢false (ap is_some (sym found)))
 number_there number (x ∷ xs) r found =
     elim (cases_Bool (is_client number true x)) [

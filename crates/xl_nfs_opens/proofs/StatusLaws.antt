@@ -18,6 +18,7 @@ use Rattle.xl_nfs_state.specs.declared.stateid.StateidRow.{StateidRow}
 use Rattle.xl_table.specs.Relock.{either_right, old_shares, shares_of, united_by, united_what, united_with, unites, with_share}
 use Rattle.xl_core.proofs.CauseLaws.{lock_due}
 use Rattle.xl_core.proofs.ChangeLaws.{ask_shares}
+use Rattle.xl_core.proofs.DeedLists.{deeds_good}
 use Rattle.xl_core.specs.Asking.{asker}
 use Rattle.xl_core.specs.Deeds.{all_done}
 use Rattle.xl_core.specs.Good.{IsGood}
@@ -34,7 +35,7 @@ use Rattle.xl_nfs_opens.specs.declared.opener.Judged.{Judged}
 use Rattle.xl_nfs_opens.specs.declared.opener.Judged.TheVariants as judgements
 use Rattle.xl_nfs_opens.specs.declared.opener.Opener.{Opener}
 use Rattle.xl_nfs_opens.specs.declared.told.Told.TheVariants.{Ended}
-use Rattle.xl_nfs_opens.proofs.OpenOwn.{ask_fits}
+use Rattle.xl_nfs_opens.proofs.OpenOwn.{all_given, ask_fits}
 use Rattle.xl_matrix.specs.declared.claim.What.TheVariants as whats
 
 claim_forth : (s : CoreState) (a : Ask) (claim : Claim) (answer : Answer) → a.blocking ≡ false → IsClaimDue all_rooms s a claim answer → IsOpenTold s a claim (answer_status a.reclaim answer)
@@ -199,7 +200,7 @@ within_either p q x e =
     let second = and_parts (implies p.w q.w) (implies p.d q.d) first.1 in
     rw (either_implies p.r q.r x.r first.0) (rw (either_implies p.w q.w x.w second.0) (either_implies p.d q.d x.d second.1))
 
-within_self : (p : Rwd) → rights_lie_within p p ≡ true
+pub within_self : (p : Rwd) → rights_lie_within p p ≡ true
 within_self p = rw (self_implies p.r) (rw (self_implies p.w) (self_implies p.d))
 
 united_has : (access deny x y : Rwd) (cs : List Claim) → rights_lie_within access x ≡ true → rights_lie_within deny y ≡ true → IsShared access deny (with_share (united_with (whats.Share x y) cs) [])
@@ -223,3 +224,15 @@ pub ok_has_asked : (n : ℕ) (files : List (List ℕ)) (others : ℕ) (s : CoreS
     → IsShared (rights_of a.access) (rights_of a.deny) (shares_of file (asker (share_ask o a file) s.names) (carried n s l current (open_judged files others s l current at o a (judged l o a.seqid))).4.claims)
 ok_has_asked n files others s l current at o a confirmed file good goes found room ok =
     subst (λ (shares : List (Rwd × Rwd)). IsShared (rights_of a.access) (rights_of a.deny) shares) (sym (ok_share n files others s l current at o a confirmed file good goes found room ok)) (joined_has (rights_of a.access) (rights_of a.deny) (asker (share_ask o a file) s.names) (old_shares file (asker (share_ask o a file) s.names) s.claims))
+
+-- so does one of an owner that was never confirmed, once what it had is gone
+pub anew_has_asked : (n : ℕ) (files : List (List ℕ)) (others : ℕ) (s t : CoreState) (l : NfsLists) (current : Option ℕ) (at : ℕ) (o : Opener) (a : OpenArgsItem) (number file : ℕ) → IsGood s → judged l o a.seqid ≡ judgements.Anew number → t ≡ all_done n s (gives_all s o (filter (is_whose (whose.Owner number)) l.stateids)) → opened_file files at a ≡ Ok file → has_room others (without_owner number l) o file ≡ true → status_of (carried n s l current (open_judged files others s l current at o a (judged l o a.seqid))).0 ≡ statuses.Ok
+    → IsShared (rights_of a.access) (rights_of a.deny) (shares_of file (asker (share_ask o a file) t.names) (carried n s l current (open_judged files others s l current at o a (judged l o a.seqid))).4.claims)
+anew_has_asked n files others s t l current at o a number file good anew after found room ok =
+    let m = without_owner number l in
+    let rows = filter (is_whose (whose.Owner number)) l.stateids in
+    let well : IsGood t = subst IsGood (sym after) (deeds_good n s (gives_all s o rows) good (all_given n s (λ _. Unit {0}) o rows good tt).0) in
+    let told = ap (λ (j : Judged). status_of (carried n s l current (open_judged files others s l current at o a j)).0) anew ∙ ap (λ (u : CoreState). status_of (carried n u m current (open_as files others m current at o a false)).0) (sym after) in
+    let claims = ap (λ (j : Judged). (carried n s l current (open_judged files others s l current at o a j)).4.claims) anew ∙ ap (λ (u : CoreState). (carried n u m current (open_as files others m current at o a false)).4.claims) (sym after) in
+    let shares = ap (λ (cs : List Claim). shares_of file (asker (share_ask o a file) t.names) cs) claims ∙ as_share n files others t m current at o a false file well found room (sym told ∙ ok) in
+    subst (λ (shares : List (Rwd × Rwd)). IsShared (rights_of a.access) (rights_of a.deny) shares) (sym shares) (joined_has (rights_of a.access) (rights_of a.deny) (asker (share_ask o a file) t.names) (old_shares file (asker (share_ask o a file) t.names) t.claims))

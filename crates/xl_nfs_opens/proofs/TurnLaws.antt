@@ -38,7 +38,7 @@ differs a b other =
 
 -- ---- the owner's own
 
-behind : (x : OwnerRow) (p : OwnerRow → Bool) (rs : List OwnerRow) (r : OwnerRow) → AllByRecursion (λ q. x.number < q.number) rs → find p rs ≡ Some r → x.number < r.number
+pub behind : (x : OwnerRow) (p : OwnerRow → Bool) (rs : List OwnerRow) (r : OwnerRow) → AllByRecursion (λ q. x.number < q.number) rs → find p rs ≡ Some r → x.number < r.number
 behind x p [] r below found = absurd (true≢false (ap is_some (sym found)))
 behind x p (y ∷ rs) r below found =
     elim (cases_Bool (p y)) [
@@ -61,7 +61,7 @@ own_kind : (kind : OwnerKind) → same_kind kind kind ≡ true
 own_kind Opens = refl
 own_kind Locks = refl
 
-is_own : (o : Opener) (turn : Turn) (number : ℕ) → is_opener o (new_owner o turn number) ≡ true
+pub is_own : (o : Opener) (turn : Turn) (number : ℕ) → is_opener o (new_owner o turn number) ≡ true
 is_own o turn number = rw (eq-eqb o.client o.client refl) (rw (own_kind o.kind) (own_client o.owner))
 
 own_behind : (o : Opener) (turn : Turn) (number : ℕ) (rs : List OwnerRow) → find (is_opener o) rs ≡ None → option_map (λ (x : OwnerRow). x.turn) (find (is_opener o) (rs ++ new_owner o turn number ∷ [])) ≡ Some turn

@@ -1,7 +1,7 @@
 -- The check of a stateid (RFC 7530 9.1.4, 9.1.7), and what opens come to: OPEN_CONFIRM, OPEN_DOWNGRADE, CLOSE and DELEGRETURN (RFC 7530 16.18, 16.19, 16.2, 16.8).
-use Rattle.std.specs.Prelude.{◌≡◌, ℕ, Bool, true, false, ◌&&◌, ◌==◌, nat_le, nat_lt, if◌then◌else◌, [], Option, Some, None, IsSome}
+use Rattle.std.specs.Prelude.{◌≡◌, ℕ, Bool, true, false, ◌&&◌, ◌==◌, nat_le, nat_lt, if◌then◌else◌, List, [], ◌∷◌, ◌++◌, Option, Some, None, IsSome}
 use Rattle.std.specs.Bool.{beq}
-use Rattle.std.specs.List.{find}
+use Rattle.std.specs.List.{filter, find}
 use Rattle.xl_matrix.specs.declared.claim.Claim.{Claim}
 use Rattle.xl_matrix.specs.Rights.{rights_lie_within}
 use Rattle.xl_nfs.specs.declared.basics.Stateid.{Stateid}
@@ -9,7 +9,7 @@ use Rattle.xl_nfs.specs.declared.opens.CloseArgs.{CloseArgs}
 use Rattle.xl_nfs.specs.declared.opens.OpenConfirmArgs.{OpenConfirmArgs}
 use Rattle.xl_nfs.specs.declared.status.NfsStatus.{NfsStatus}
 use Rattle.xl_nfs.specs.declared.status.NfsStatus.TheVariants as statuses
-use Rattle.xl_nfs_state.specs.State.{NfsLists, is_client, is_owner, is_stateid, is_kept}
+use Rattle.xl_nfs_state.specs.State.{NfsLists, with_stateids, without, is_client, is_owner, is_stateid, is_kept, is_whose}
 use Rattle.xl_nfs_state.specs.Verdict.{verdict, next_seqid}
 use Rattle.xl_nfs_state.specs.declared.client.ClientRow.{ClientRow}
 use Rattle.xl_nfs_state.specs.declared.owner.OwnerRow.{OwnerRow}
@@ -19,9 +19,12 @@ use Rattle.xl_nfs_state.specs.declared.seqid.SeqidVerdict.TheVariants as verdict
 use Rattle.xl_nfs_state.specs.declared.stateid.Holder.{Holder}
 use Rattle.xl_nfs_state.specs.declared.stateid.Holder.TheVariants as holders
 use Rattle.xl_nfs_state.specs.declared.stateid.StateidRow.{StateidRow}
+use Rattle.xl_nfs_state.specs.declared.stateid.Whose.TheVariants as whose
+use Rattle.xl_core.specs.Deeds.{Deed, Asks}
 use Rattle.xl_core.specs.State.{CoreState}
-use Rattle.xl_nfs_opens.specs.Opens.{rights_of, repeated, share_held, gives, stood}
-use Rattle.xl_nfs_opens.specs.Plans.{Plan, Does}
+use Rattle.xl_nfs_opens.specs.Asks.{all_ones, unlock_ask}
+use Rattle.xl_nfs_opens.specs.Opens.{all_rooms, rights_of, repeated, share_held, gives, stood}
+use Rattle.xl_nfs_opens.specs.Plans.{Plan, Does, Behind}
 use Rattle.xl_nfs_opens.specs.Renewing.{stateid_of, number_of, state_client, renewing}
 use Rattle.xl_nfs_opens.specs.Results.{spelled}
 use Rattle.xl_nfs_opens.specs.Seqids.{advances, counted}
@@ -133,12 +136,41 @@ share_by_opener s file (Some o) = share_held s o file
 abbrev pub share_of_open : CoreState → NfsLists → StateidRow → ℕ → Option Claim
 share_of_open s l r owner = share_by_opener s r.file (opener_by l r.client owner)
 
+-- ---- the locks under an open
+
+-- the owner of locks
+abbrev pub lock_owner : Holder → ℕ
+lock_owner (holders.Lock owner under opener) = owner
+lock_owner _ = 0
+
+-- a lock owner gives up all bytes of the file
+abbrev pub gives_up : ℕ → Option Opener → List Deed
+gives_up file None = []
+gives_up file (Some o) = Asks all_rooms (unlock_ask o file 0 all_ones) ∷ []
+
+-- so does each owner of these locks, which are under the open
+abbrev pub ends_locks : NfsLists → StateidRow → List StateidRow → List Deed
+ends_locks l r [] = []
+ends_locks l r (q ∷ qs) = gives_up r.file (opener_by l r.client (lock_owner q.holder)) ++ ends_locks l r qs
+
+abbrev pub locks_under : NfsLists → ℕ → List StateidRow
+locks_under l number = filter (is_whose (whose.Under number)) l.stateids
+
+-- the lists without the locks under the open of this number
+abbrev pub locks_gone : ℕ → NfsLists → NfsLists
+locks_gone number l = with_stateids l (without (is_whose (whose.Under number)) l.stateids)
+
 -- ---- CLOSE
 
+-- the share goes, and the stateids of the locks; the open is closed
+abbrev pub share_closed : CoreState → NfsLists → Option ℕ → CloseArgs → StateidRow → ℕ → Turn → Plan
+share_closed s l current a r owner turn =
+    Does (gives (share_of_open s l r owner)) (locks_gone r.number (done_lists s l r owner turn 4 a.seqid turn.confirmed (Some r.number) r.standing.access r.standing.deny true)) current (state_told s r)
+
+-- the locks under it end before its share
 abbrev pub close_done : CoreState → NfsLists → Option ℕ → CloseArgs → StateidRow → ℕ → Turn → Option NfsStatus → Plan
 close_done s l current a r owner turn (Some status) = failed l current owner turn 4 a.seqid status
-close_done s l current a r owner turn None =
-    Does (gives (share_of_open s l r owner)) (done_lists s l r owner turn 4 a.seqid turn.confirmed (Some r.number) r.standing.access r.standing.deny true) current (state_told s r)
+close_done s l current a r owner turn None = Behind (ends_locks l r (locks_under l r.number)) l (λ t. share_closed t l current a r owner turn)
 
 abbrev pub close_by : CoreState → NfsLists → Option ℕ → CloseArgs → Checked → Plan
 close_by s l current a (Refused status) = Does [] l current (Ended status)

@@ -6,7 +6,9 @@ pub mod Plans
 pub mod Results
 pub mod Renewing
 pub mod Opens
+pub mod Asks
 pub mod Closing
 pub mod Downgrades
 pub mod Laws
+pub mod Orderly
 pub mod Owners

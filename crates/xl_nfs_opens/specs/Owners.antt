@@ -3,8 +3,9 @@ use Rattle.std.specs.Prelude.{◌≡◌, ℕ, Bool, true, false, ◌⊎◌, List
 use Rattle.std.specs.List.{find}
 use Rattle.std.specs.Option.{option_and_then}
 use Rattle.xl_names.specs.declared.name.Name.TheVariants.{NfsParty}
+use Rattle.xl_nfs.specs.Locks.{LockerItem, New, Known}
 use Rattle.xl_nfs.specs.Opens.{OpenClaimItem, DelegateCurrent}
-use Rattle.xl_nfs.specs.Ops.{OpItem, Close, DelegReturn, Open, OpenConfirm, OpenDowngrade, Renew, SetClientIdConfirm}
+use Rattle.xl_nfs.specs.Ops.{OpItem, Close, DelegReturn, Lock, LockT, LockU, Open, OpenConfirm, OpenDowngrade, Renew, SetClientIdConfirm, ReleaseLockOwner}
 use Rattle.xl_nfs.specs.declared.basics.Stateid.{Stateid}
 use Rattle.xl_nfs_state.specs.State.{NfsLists, is_client}
 use Rattle.xl_core.specs.Clients.{IsOf}
@@ -28,6 +29,11 @@ abbrev pub is_claimant : CoreState → NfsLists → OpenClaimItem → List ℕ �
 is_claimant s l (DelegateCurrent a) id = is_holder s l a.stateid id
 is_claimant s l _ id = ⊥
 
+-- the same of a lock owner, and of the open that it names
+abbrev pub is_locker : CoreState → NfsLists → LockerItem → List ℕ → Type 0
+is_locker s l (New x) id = is_holder s l x.open_stateid id ⊎ is_named s l x.owner.clientid true id
+is_locker s l (Known x) id = is_holder s l x.stateid id
+
 -- the operation names the client of this id string: by the clientid of its record, or by a live stateid
 abbrev pub Names : CoreState → NfsLists → OpItem → List ℕ → Type 0
 Names s l (Renew clientid) id = is_named s l clientid true id
@@ -37,6 +43,10 @@ Names s l (OpenConfirm a) id = is_holder s l a.stateid id
 Names s l (OpenDowngrade a) id = is_holder s l a.stateid id
 Names s l (Close a) id = is_holder s l a.stateid id
 Names s l (DelegReturn stateid) id = is_holder s l stateid id
+Names s l (Lock a) id = is_locker s l a.locker id
+Names s l (LockT a) id = is_named s l a.owner.clientid true id
+Names s l (LockU a) id = is_holder s l a.stateid id
+Names s l (ReleaseLockOwner a) id = is_named s l a.clientid true id
 Names s l _ id = ⊥
 
 -- ---- deeds

@@ -8,12 +8,13 @@ ghost use Rattle.std.specs.List.{find};
 ghost use Rattle.xl_base.specs.Lists.{IsIn};
 ghost use Rattle.xl_core.specs.State.{CoreState};
 ghost use Rattle.xl_nfs_state.specs.State.{is_owner, is_stateid};
-ghost use Rattle.xl_nfs_opens.specs.Closing.{checked, close, close_by, close_done, confirm_by, confirm_done, deleg_return, failed, next_turn, open_confirm, opener_by, owner_checked, returned, row_checked, seqid_checked, share_of_open, standing_fault, state_told, IsChecked};
+ghost use Rattle.xl_nfs_opens.specs.Closing.{checked, close, close_by, close_done, share_closed, confirm_by, confirm_done, deleg_return, failed, next_turn, open_confirm, opener_by, owner_checked, returned, row_checked, seqid_checked, share_of_open, standing_fault, state_told, IsChecked};
 ghost use Rattle.xl_nfs_opens.specs.Plans.{carried};
 ghost use Rattle.xl_nfs_opens.specs.Results.{spelled, ToldFits};
 ghost use Rattle.xl_nfs_opens.specs.Short.{IsReady, Leaves};
 
 use crate::done::{Done, ended_as};
+use crate::ending::end_locks;
 use crate::entering::stand;
 use crate::opener::{Checked, Opener};
 use crate::renewing::{number_of, renew_for, state_client, stateid_of};
@@ -23,11 +24,11 @@ use crate::seqids::{advances, count};
 use crate::shares::{give, share_held};
 use crate::told::Told;
 use std::alloc::{AllocError, Global};
-use xl_base::Sequence;
+use xl_base::{Keeper, Sequence};
 use xl_core::Core;
 use xl_matrix::Claim;
 use xl_nfs::{CloseArgs, NfsStatus, OpenConfirmArgs, Stateid, operation};
-use xl_nfs_state::{Holder, NfsState, OwnerRow, SeqidVerdict, StateidRow, Turn, verdict};
+use xl_nfs_state::{Holder, NfsState, SeqidVerdict, StateidRow, Turn, Whose, verdict};
 
 /// By the owner's seqid.
 fn check_seqid(row: &StateidRow, op: u32, seqid: u32, owner: u64, turn: Turn) -> Checked
@@ -64,7 +65,7 @@ fn check_row(state: &NfsState, at: u32, op: u32, seqid: u32, row: &StateidRow) -
 
 /// What is found for a stateid, and what its owner's seqid says.
 #[tactic(auto, unfolding(crate::specs::Closing::checked))]
-pub(crate) fn check(
+pub fn check(
     state: &NfsState,
     core: &Core,
     current: Option<u32>,
@@ -144,7 +145,7 @@ pub fn fail(
 }
 
 /// The stateid as it is then.
-fn state_told(core: &Core, row: &StateidRow) -> Told
+pub fn state_told(core: &Core, row: &StateidRow) -> Told
     ensures { result ≡ state_told core.now row.now }
 {
     let seqid = row.standing.seqid.wrapping_add(1);
@@ -298,9 +299,9 @@ pub(crate) fn share_of_open(
     share_held(alloc, core, &opener, row.file)
 }
 
-/// CLOSE of an open that was found.
-#[tactic(auto, using(crate::proofs::ResultLaws::fits_4, crate::proofs::LeaveLaws::leaves_self))]
-fn close_passed(
+/// The share of an open goes, and the stateids of the locks under it; the open is closed.
+#[tactic(auto, using(crate::proofs::LeaveLaws::leaves_self))]
+fn close_share(
     alloc: Global,
     state: &mut NfsState,
     core: &mut Core,
@@ -314,14 +315,10 @@ fn close_passed(
     requires owner { IsSome (find (is_owner owner) state.old.owners) }
     requires there { find (is_stateid row.now.number) state.old.stateids ≡ Some row.now }
     requires open { row.now.standing.closed ≡ false }
-    ensures done { (n : ℕ) → IfOk result (λ r. carried n core.old state.old current (close_done core.old state.old current args.now row.now owner turn (standing_fault row.now turn args.now.stateid.seqid true)) ≡ (r.0, r.1, r.2, state.new, core.new)) }
+    ensures done { (n : ℕ) → IfOk result (λ r. carried n core.old state.old current (share_closed core.old state.old current args.now row.now owner turn) ≡ (r.0, r.1, r.2, state.new, core.new)) }
     ensures leaves { OnOk result (Leaves 0 core.old core.new) }
 {
     let op = operation::CLOSE;
-    if let Some(status) = standing_fault(row, turn, args.stateid.seqid, true) {
-        let done = fail(alloc, state, current, owner, turn, op, args.seqid, status)?;
-        return Ok(done);
-    }
     let share = share_of_open(alloc, state, core, row, owner)?;
     let next = next_turn(op, args.seqid, turn.confirmed, Some(row.number));
     let standing = (row.standing.access, row.standing.deny, true);
@@ -336,51 +333,87 @@ fn close_passed(
         next,
         standing,
     )?;
+    state.drop_stateids(Whose::Under(row.number));
     give(alloc, core, share);
     Ok((told, current, Sequence::new(alloc)))
 }
 
-/// CLOSE by what is found for its stateid.
-fn close_by(
+/// CLOSE of an open that was found: the locks under it end before its share.
+#[tactic(auto, using(crate::proofs::ResultLaws::fits_4, crate::proofs::LeaveLaws::leaves_self, crate::proofs::LeaveLaws::leaves_then, crate::proofs::LeaveLaws::ready_then))]
+fn close_passed<K: Keeper>(
     alloc: Global,
     state: &mut NfsState,
     core: &mut Core,
+    keeper: &mut K,
+    current: Option<u32>,
+    args: &CloseArgs,
+    row: &StateidRow,
+    owner: u64,
+    turn: Turn,
+) -> Result<Done, AllocError>
+    requires ready { IsReady 2 core.old }
+    requires owner { IsSome (find (is_owner owner) state.old.owners) }
+    requires there { find (is_stateid row.now.number) state.old.stateids ≡ Some row.now }
+    requires open { row.now.standing.closed ≡ false }
+    ensures done { (n : ℕ) → IfOk result (λ r. carried n core.old state.old current (close_done core.old state.old current args.now row.now owner turn (standing_fault row.now turn args.now.stateid.seqid true)) ≡ (r.0, r.1, r.2, state.new, core.new)) }
+    ensures leaves { OnOk result (Leaves 0 core.old core.new) }
+    ensures keeper { keeper.new ≡ keeper.old }
+{
+    let op = operation::CLOSE;
+    if let Some(status) = standing_fault(row, turn, args.stateid.seqid, true) {
+        let done = fail(alloc, state, current, owner, turn, op, args.seqid, status)?;
+        return Ok(done);
+    }
+    end_locks(alloc, state, core, keeper, row)?;
+    let done = close_share(alloc, state, core, current, args, row, owner, turn)?;
+    Ok(done)
+}
+
+/// CLOSE by what is found for its stateid.
+fn close_by<K: Keeper>(
+    alloc: Global,
+    state: &mut NfsState,
+    core: &mut Core,
+    keeper: &mut K,
     current: Option<u32>,
     args: &CloseArgs,
     found: Checked,
 ) -> Result<Done, AllocError>
-    requires ready { IsReady 0 core.old }
+    requires ready { IsReady 2 core.old }
     requires found { IsChecked state.old found }
     ensures done { (n : ℕ) → IfOk result (λ r. carried n core.old state.old current (close_by core.old state.old current args.now found) ≡ (r.0, r.1, r.2, state.new, core.new)) }
     ensures leaves { OnOk result (Leaves 0 core.old core.new) }
+    ensures keeper { keeper.new ≡ keeper.old }
 {
     match found {
         Checked::Refused(status) => Ok(ended_as(alloc, status, current)),
         Checked::Repeated(owner) => repeat(alloc, state, core, current, owner),
         Checked::Passed(row, owner, turn) => {
-            close_passed(alloc, state, core, current, args, &row, owner, turn)
+            close_passed(alloc, state, core, keeper, current, args, &row, owner, turn)
         }
     }
 }
 
 /// CLOSE.
 #[tactic(auto, unfolding(crate::specs::Closing::close), using(crate::proofs::CheckLaws::passed_there, crate::proofs::LeaveLaws::leaves_then, crate::proofs::LeaveLaws::ready_then))]
-pub fn close(
+pub fn close<K: Keeper>(
     alloc: Global,
     state: &mut NfsState,
     core: &mut Core,
+    keeper: &mut K,
     current: Option<u32>,
     args: &CloseArgs,
 ) -> Result<Done, AllocError>
-    requires ready { IsReady 0 core.old }
+    requires ready { IsReady 2 core.old }
     ensures done { (n : ℕ) → IfOk result (λ r. carried n core.old state.old current (close core.old state.old current args.now) ≡ (r.0, r.1, r.2, state.new, core.new)) }
     ensures leaves { OnOk result (Leaves 0 core.old core.new) }
+    ensures keeper { keeper.new ≡ keeper.old }
 {
     let client = state_client(state, core, &args.stateid);
     renew_for(alloc, state, core, client)?;
     let op = operation::CLOSE;
     let found = check(state, core, current, op, args.seqid, &args.stateid);
-    let done = close_by(alloc, state, core, current, args, found)?;
+    let done = close_by(alloc, state, core, keeper, current, args, found)?;
     Ok(done)
 }
 

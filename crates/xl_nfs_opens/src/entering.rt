@@ -52,9 +52,10 @@ pub(crate) fn flags_of(confirmed: bool) -> u32
     if confirmed { 0 } else { 2 }
 }
 
-/// The open that the owner of this number has on the file.
+/// What the owner of this number has on the file, unless it is an open that was closed: an open owner its open, and a lock
+/// owner its locks.
 #[tactic(auto, using(crate::proofs::OwnerLaws::open_there))]
-fn held_by(state: &NfsState, owner: u64, file: u32) -> Option<StateidRow>
+pub fn held_on(state: &NfsState, owner: u64, file: u32) -> Option<StateidRow>
     ensures value { result ≡ live (find (owned_on owner file) state.now.stateids) }
     ensures there { IfSome result (λ row. (find (is_stateid row.number) state.now.stateids ≡ Some row) × (row.standing.closed ≡ false)) }
 {
@@ -71,7 +72,7 @@ pub(crate) fn open_held(state: &NfsState, opener: &Opener, file: u32) -> Option<
     ensures there { IfSome result (λ row. (find (is_stateid row.number) state.now.stateids ≡ Some row) × (row.standing.closed ≡ false)) }
 {
     let row = find_opener(state, opener)?;
-    held_by(state, row.number, file)
+    held_on(state, row.number, file)
 }
 
 /// Whether there is room for the owner and for the open, beside so many opens of others.
@@ -144,7 +145,7 @@ pub(crate) fn enter(
 }
 
 /// What changes of the open, which isn't closed.
-pub(crate) fn stand(state: &mut NfsState, row: &StateidRow, access: u32, deny: u32, closed: bool)
+pub fn stand(state: &mut NfsState, row: &StateidRow, access: u32, deny: u32, closed: bool)
     requires there { find (is_stateid row.now.number) state.old.stateids ≡ Some row.now }
     requires open { row.now.standing.closed ≡ false }
     ensures { state.new ≡ stood row.now.number row.now access deny closed state.old }

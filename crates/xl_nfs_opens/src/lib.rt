@@ -3,15 +3,18 @@
 #![tactic(auto)]
 
 mod aims;
+mod asks;
 mod closing;
 mod done;
 mod downgrading;
+mod ending;
 mod entering;
 mod files;
 pub mod law;
 mod leases;
 mod opener;
 mod opening;
+pub mod orderly;
 mod renewing;
 mod repeats;
 mod results;
@@ -19,19 +22,21 @@ mod seqids;
 mod shares;
 mod told;
 
+pub use asks::{range_ask, unlock_ask};
 pub use closing::{
-    check_owner, close, deleg_return, fail, finish, next_turn, open_confirm, opener_by,
-    standing_fault,
+    check, check_owner, close, deleg_return, fail, finish, next_turn, open_confirm, opener_by,
+    standing_fault, state_told,
 };
 pub use done::{Done, beside, ended_as};
 pub use downgrading::open_downgrade;
+pub use entering::{held_on, stand};
 pub use files::file_named;
 pub use leases::{clientid_of, drawn, lease_end, number_in, renewed};
 pub use opener::{Checked, Opener};
 pub use opening::{answer_status, client_in, open_file};
-pub use renewing::{number_of, renew_for, state_client};
+pub use renewing::{number_of, renew_for, state_client, stateid_of};
 pub use repeats::repeat;
 pub use results::{put_result, result_bytes};
-pub use seqids::{advances, count};
+pub use seqids::{advances, count, find_opener, is_room_for, opener_number, remember};
 pub use shares::asked;
 pub use told::{HeldLock, HolderBytes, Told};

@@ -12,7 +12,7 @@ use xl_nfs_state::NfsState;
 
 /// The stateid of this number and seqid.
 #[tactic(auto, unfolding(crate::specs::Renewing::stateid_of))]
-pub(crate) fn stateid_of(core: &Core, number: u64, seqid: u32) -> Stateid
+pub fn stateid_of(core: &Core, number: u64, seqid: u32) -> Stateid
     ensures { result ≡ stateid_of core.now number seqid }
 {
     let [a, b, c, d] = core.stable().epoch().to_be_bytes();

@@ -88,7 +88,7 @@ pub fn count(
 }
 
 /// The row of the owner.
-pub(crate) fn find_opener<'a>(state: &'a NfsState, opener: &Opener) -> Option<&'a OwnerRow>
+pub fn find_opener<'a>(state: &'a NfsState, opener: &Opener) -> Option<&'a OwnerRow>
     ensures { option_copied result ≡ find (is_opener opener.now) state.now.owners }
 {
     state.find_owner_named(OwnerNamed {
@@ -99,14 +99,14 @@ pub(crate) fn find_opener<'a>(state: &'a NfsState, opener: &Opener) -> Option<&'
 }
 
 /// Whether there is room for the owner.
-pub(crate) fn is_room_for(state: &NfsState, opener: &Opener) -> bool
+pub fn is_room_for(state: &NfsState, opener: &Opener) -> bool
     ensures { result ≡ is_room_for opener.now state.now }
 {
     find_opener(state, opener).is_some() || state.next_owner().is_some()
 }
 
 /// The number of the owner, or that which it gets.
-pub(crate) fn opener_number(state: &NfsState, opener: &Opener) -> u64
+pub fn opener_number(state: &NfsState, opener: &Opener) -> u64
     ensures { result ≡ opener_number opener.now state.now }
 {
     match find_opener(state, opener) {
@@ -163,7 +163,7 @@ pub(crate) fn seat(
 
 /// A request of the owner counted; where there is no room for a new owner nothing is kept of it.
 #[tactic(auto, unfolding(crate::specs::Seqids::remembered))]
-pub(crate) fn remember(
+pub fn remember(
     alloc: Global,
     state: &mut NfsState,
     opener: &Opener,

@@ -30,7 +30,8 @@ const ALL_ROOMS: Rooms = Rooms {
     opens: MOST_OPENS,
 };
 
-const NO_ROWS: Rooms = Rooms {
+/// The rows that are added beside what was counted before: none.
+pub(crate) const NO_ROWS: Rooms = Rooms {
     hosts: 0,
     owners: 0,
     opens: 0,

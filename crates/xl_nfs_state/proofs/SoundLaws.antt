@@ -180,7 +180,7 @@ rising_more : (os : List OwnerRow) (o : OwnerRow) → AllByRecursion (λ p. p.nu
 rising_more [] o above h = (tt, tt)
 rising_more (p ∷ os) o above h = (all_append (λ q. p.number < q.number) os (o ∷ []) h.0 (above.0, tt), rising_more os o above.1 h.1)
 
-rising_left : (drops : OwnerRow → Bool) (os : List OwnerRow) → IsRising os → IsRising (without drops os)
+pub rising_left : (drops : OwnerRow → Bool) (os : List OwnerRow) → IsRising os → IsRising (without drops os)
 rising_left drops [] h = tt
 rising_left drops (o ∷ os) h =
     elim (cases_Bool (drops o)) [
@@ -188,7 +188,7 @@ rising_left drops (o ∷ os) h =
       | inr stays ↦ rw stays (all_left _ _ drops os (λ p e k. k) h.0, rising_left drops os h.1)
     ]
 
-rising_changed : (which : OwnerRow → Bool) (turn : Turn) (os : List OwnerRow) → IsRising os → IsRising (changed which (with_turn turn) os)
+pub rising_changed : (which : OwnerRow → Bool) (turn : Turn) (os : List OwnerRow) → IsRising os → IsRising (changed which (with_turn turn) os)
 rising_changed which turn [] h = tt
 rising_changed which turn (o ∷ os) h =
     elim (cases_Bool (which o)) [
@@ -246,11 +246,17 @@ last_none (p ∷ q ∷ os) h =
     let place : length (p ∷ q ∷ os) - 1 ≡ suc (length (q ∷ os) - 1) = omega arith in
     last_none (q ∷ os) (sym (ap (slice_get (p ∷ q ∷ os)) place) ∙ h)
 
+-- an owner of the next number comes behind the others
+pub rising_added : (os : List OwnerRow) (o : OwnerRow) → IsRising os → st.next_owner os ≡ Some o.number → IsRising (os ++ o ∷ [])
+rising_added os o rising next =
+    let parts = next_parts os o.number next in
+    rising_more os o (all_weaker _ _ os (λ p h. omega (arith, h, parts.1)) (rising_last os rising)) rising
+
 pub owner_added : (l : NfsLists) (row : OwnerRow) → IsSound l → st.next_owner l.owners ≡ Some row.number → has_client row.name.client l.clients ≡ true → IsSound (with_owners l (l.owners ++ row ∷ []))
 owner_added l row sound next client =
     let parts = next_parts l.owners row.number next in
     owners_stay l (l.owners ++ row ∷ []) sound (omega (arith, parts.0, length-append l.owners (row ∷ [])))
-    (rising_more l.owners row (all_weaker _ _ l.owners (λ o h. omega (arith, h, parts.1)) (rising_last l.owners sound.rising)) sound.rising)
+    (rising_added l.owners row sound.rising next)
     (all_append (λ o. has_client o.name.client l.clients ≡ true) l.owners (row ∷ []) sound.owners (client, tt))
     (λ owner client kind h. any_more (st.fits_owner owner client kind) l.owners (row ∷ []) h)
     (λ owner h. any_more (is_owner owner) l.owners (row ∷ []) h)

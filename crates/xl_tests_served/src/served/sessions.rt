@@ -231,8 +231,8 @@ B 39 : smb shut ask .6 s5 closing 04000000010000000400000001000000
 45 c39 : answer FILE_CLOSED shut did .6 s5 error
 1 share smb:4 rw -
 --
-# nothing is told of a CANCEL, also where it is refused before; LOCK's tree, its open, and that it isn't served yet; the tree of
-# a request that asks to be told later isn't looked at (MS-SMB2 3.3.5.14, 3.3.5.16)
+# nothing is told of a CANCEL, also where it is refused before; the tree of a request that asks to be told later isn't looked
+# at (MS-SMB2 3.3.5.16)
 F a.txt
 O smb
 B 0 : smb cancel ask .0 s0 empty
@@ -241,22 +241,13 @@ B 0 : smb cancel 0000000048000000 0900000000000000 00000000 .0 s0 empty
 B 0 : smb negotiate ask .0 s0 hello
 B 0 : smb setup ask .0 s0 guest
 B 0 : smb tree ask .0 s1 xl
-B 0 : smb create ask .2 s1 made .3 .0 .7 .1 .0 named-a
-B 0 : smb 0a000100 ask .9 s1 3000010000000000 id3 00000000000000000a00000000000000 0200000000000000
-B 0 : smb 0a000100 ask .2 s1 3000010000000000 id9 00000000000000000a00000000000000 0200000000000000
-B 0 : smb 0a000100 ask .2 s1 3000010000000000 id3 00000000000000000a00000000000000 0200000000000000
 B 0 : smb echo 0200000000000000 0900000000000000 00000000 .9 s1 empty
 =>
-0 0 12
+0 0 8
 4 c0 : answer OK negotiate did .0 s0 welcome
 5 c0 : answer OK setup did .0 s1 guested
 6 c0 : answer OK tree did .2 s1 disk
-7 c0 : answer OK create did .2 s1 created id3 none
-8 c0 : answer NETWORK_NAME_DELETED 0a000100 did .9 s1 error
-9 c0 : answer FILE_CLOSED 0a000100 did .2 s1 error
-10 c0 : answer NOT_SUPPORTED 0a000100 did .2 s1 error
-11 c0 : answer OK echo did .0 s1 empty
-1 share smb:3 rw -
+7 c0 : answer OK echo did .0 s1 empty
 ";
 
 /// What CREATE checks, and what it asks for.

@@ -1,4 +1,4 @@
-use Rattle.std.proofs.Common.{rules, ◌≡◌, ◌∷◌, ◌-◌, List, Ok, take, drop, length, ap, sym, ◌∙◌}
+use Rattle.std.proofs.Common.{rules, Ok, ap, sym}
 use Rattle.xl_core.specs.Whole.{state_of}
 use Rattle.xl_core.proofs.DoorLaws.{head_rest, none_left, rest_row, rest_alone, came_behind, came_last, back_state, ahead_state}
 use Rattle.xl_core.proofs.judge.+judge_row.Goals as goal

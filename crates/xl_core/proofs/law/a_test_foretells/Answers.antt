@@ -1,8 +1,3 @@
-use Rattle.std.proofs.Common.{ap}
-use Rattle.xl_matrix.specs.declared.claim.Extent.TheVariants.{Bytes}
-use Rattle.xl_matrix.specs.declared.claim.What.TheVariants.{Range}
-use Rattle.xl_core.specs.Asking.{asked_what}
-use Rattle.xl_core.proofs.CauseLaws.{fit_owned}
 use Rattle.xl_core.proofs.TestLaws.{test_foretells}
 use Rattle.xl_core.proofs.law.a_test_foretells.Goals as goal
 

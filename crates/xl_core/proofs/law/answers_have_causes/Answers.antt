@@ -1,4 +1,3 @@
-use Rattle.xl_matrix.specs.declared.claim.Extent.TheVariants.{Bytes}
 use Rattle.xl_core.proofs.CauseLaws.{lock_due, test_due, unlock_due, real_unlock}
 use Rattle.xl_table.proofs.LeastLaws.{least_first}
 use Rattle.xl_core.proofs.law.answers_have_causes.Goals as goal

@@ -1,4 +1,4 @@
-use Rattle.xl_core.proofs.FrameLaws.{ask_frame, ask_quiet, turn_frame, cancel_frame, give_back_frame, weaken_frame, end_party_frame, drawn_frame, renew_frame, tick_frame}
+use Rattle.xl_core.proofs.FrameLaws.{ask_frame, ask_quiet, turn_frame, cancel_frame, give_back_frame, weaken_frame, ack_frame, end_party_frame, drawn_frame, renew_frame, tick_frame}
 use Rattle.xl_core.proofs.law.calls_have_frames.Goals as goal
 
 pub returns-clause-asks : goal.returns-clause-asks
@@ -30,3 +30,6 @@ returns-clause-ticks c = tick_frame
 
 pub returns-clause-weakens : goal.returns-clause-weakens
 returns-clause-weakens c = weaken_frame
+
+pub returns-clause-acks : goal.returns-clause-acks
+returns-clause-acks c = ack_frame

@@ -1,7 +1,3 @@
-use Rattle.std.proofs.Common.{ap}
-use Rattle.xl_matrix.specs.declared.claim.Extent.TheVariants.{Bytes}
-use Rattle.xl_matrix.specs.declared.claim.What.TheVariants.{Range}
-use Rattle.xl_core.specs.Asking.{asked_what}
 use Rattle.xl_core.proofs.CauseLaws.{lock_free, real_extent, real_unlock}
 use Rattle.xl_core.proofs.ChangeLaws.{ask_held, ask_shares, ask_shared, ask_left}
 use Rattle.xl_core.proofs.law.free_asks_are_granted.Goals as goal

@@ -1,4 +1,4 @@
-use Rattle.xl_core.proofs.FrameLaws.{cancel_unserved, give_back_unserved, weaken_unserved, end_party_unserved, tick_unserved}
+use Rattle.xl_core.proofs.FrameLaws.{cancel_unserved, give_back_unserved, weaken_unserved, ack_unserved, end_party_unserved, tick_unserved}
 use Rattle.xl_core.proofs.law.only_turns_serve.Goals as goal
 
 pub returns-clause-cancels : goal.returns-clause-cancels
@@ -15,3 +15,6 @@ returns-clause-ticks c = tick_unserved
 
 pub returns-clause-weakens : goal.returns-clause-weakens
 returns-clause-weakens c = weaken_unserved
+
+pub returns-clause-acks : goal.returns-clause-acks
+returns-clause-acks c = ack_unserved

@@ -1,3 +1,4 @@
+use Rattle.xl_core.proofs.BreakLaws.{ack_good}
 use Rattle.xl_core.proofs.GoodLaws.{started_good, begun_good, ask_good, settle_good, cancel_good, give_back_good, drawn_good, end_party_good, renew_good, tick_good}
 use Rattle.xl_core.proofs.WeakenLaws.{weaken_good}
 use Rattle.xl_core.proofs.law.stays_good.Goals as goal
@@ -34,3 +35,6 @@ returns-clause-ticked c = tick_good
 
 pub returns-clause-weakened : goal.returns-clause-weakened
 returns-clause-weakened c = weaken_good
+
+pub returns-clause-acked : goal.returns-clause-acked
+returns-clause-acked c = ack_good

@@ -1,4 +1,4 @@
-use Rattle.std.proofs.Common.{◌≡◌, List, subst}
+use Rattle.std.proofs.Common.{List, subst}
 use Rattle.xl_core.specs.State.{CoreState}
 use Rattle.xl_core.specs.Watch.{AreHeldUp}
 use Rattle.xl_core.specs.Whole.{state_of}

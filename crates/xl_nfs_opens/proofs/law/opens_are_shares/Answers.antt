@@ -1,4 +1,4 @@
-use Rattle.xl_nfs_opens.proofs.StatusLaws.{ok_share, ok_has_asked}
+use Rattle.xl_nfs_opens.proofs.StatusLaws.{anew_has_asked, ok_share, ok_has_asked}
 use Rattle.xl_nfs_opens.proofs.law.opens_are_shares.Goals as goal
 
 pub returns-clause-united : goal.returns-clause-united
@@ -6,3 +6,6 @@ returns-clause-united c = ok_share
 
 pub returns-clause-asked : goal.returns-clause-asked
 returns-clause-asked c = ok_has_asked
+
+pub returns-clause-anew : goal.returns-clause-anew
+returns-clause-anew c = anew_has_asked

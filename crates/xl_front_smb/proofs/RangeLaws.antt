@@ -1,0 +1,245 @@
+-- What LOCK leaves of an open's ranges, and what CANCEL leaves.
+use Rattle.std.proofs.Common.{◌≡◌, ℕ, ◌+◌, ◌≤◌, Bool, true, false, not, ◌&&◌, if◌then◌else◌, List, [], ◌∷◌, ◌++◌, length, map, Option, Some, None, refl, sym, ap, subst, ◌∙◌, ◌⊎◌, inl, inr}
+use Rattle.std.proofs.lemmas.Bool.{cases_Bool, true≢false}
+use Rattle.xl_base.specs.Lists.{IsIn}
+use Rattle.xl_base.specs.declared.name.Owner.TheVariants as owners
+use Rattle.xl_matrix.specs.declared.claim.Claim.{Claim}
+use Rattle.xl_matrix.specs.declared.claim.Extent.{Extent}
+use Rattle.xl_matrix.specs.declared.claim.What.{What}
+use Rattle.xl_smb.specs.Calls.{Lock, Cancel}
+use Rattle.xl_smb.specs.Locks.{LockItem, elements_of}
+use Rattle.xl_smb.specs.declared.head.SmbHead.{SmbHead}
+use Rattle.xl_smb.specs.declared.lock.LockElement.{LockElement}
+use Rattle.xl_smb_state.specs.State.{Lists, client_of, open_of, waiting_under}
+use Rattle.xl_smb_state.specs.declared.row.Open.{Open}
+use Rattle.xl_smb_state.specs.declared.row.Place.{Place}
+use Rattle.xl_smb_state.specs.declared.row.Scope.TheVariants as scope
+use Rattle.xl_smb_state.specs.declared.row.Waiting.{Waiting}
+use Rattle.xl_table.specs.Elements.{unlocked_elements}
+use Rattle.xl_table.specs.Elements.{elements_of as ranges_of}
+use Rattle.xl_wait.specs.Waiting.{is_waiting}
+use Rattle.xl_core.specs.Asking.{range_what}
+use Rattle.xl_core.specs.Decide.{Answered, ask}
+use Rattle.xl_core.specs.Deeds.{Deed, Asks, all_done}
+use Rattle.xl_core.specs.Good.{IsGood}
+use Rattle.xl_core.specs.Places.{RangesOf, held_at}
+use Rattle.xl_core.specs.Settle.{cancel as cancel_of}
+use Rattle.xl_core.specs.State.{CoreState}
+use Rattle.xl_core.specs.declared.ask.Answer.{Answer}
+use Rattle.xl_core.specs.declared.ask.Answer.TheVariants as answers
+use Rattle.xl_core.specs.declared.ask.Effect.TheVariants.{Cancelled}
+use Rattle.xl_core.proofs.ChangeLaws.{ask_own}
+use Rattle.xl_core.proofs.GoodLaws.{ask_good}
+use Rattle.xl_core.proofs.OpenLaws.{ranges_locked, range_unlocked}
+use Rattle.xl_smb_locks.specs.Elements.{extent_of, is_count, unlocks_first, any_waits, unlock_fault, lock_fault, refusal}
+use Rattle.xl_smb_locks.specs.Locks.{no_rows, range_of, unlock_ask, unlock_told, unlock_next, unlocks, lock_ask, lock_told}
+use Rattle.xl_smb_locks.specs.declared.locking.Locking.{Locking}
+use Rattle.xl_smb_locks.specs.declared.locking.Locking.TheVariants as locking
+use Rattle.xl_smb_locks.specs.declared.status.SmbStatus.{SmbStatus}
+use Rattle.xl_smb_locks.proofs.FitLaws.{unlock_fits, lock_fits}
+use Rattle.xl_smb_locks.proofs.UnlockLaws.{any_stores}
+use Rattle.xl_front_smb.specs.Checks.{session_named, tree_named, open_named, negotiated_by, in_session, on_tree, on_open}
+use Rattle.xl_front_smb.specs.Laws.{outcome_of}
+use Rattle.xl_front_smb.specs.LockLaws.{IsOfOpen, held_as, all_unlocked}
+use Rattle.xl_front_smb.specs.Locks.{waiting_row, place_of, has_room_to_wait, unlock_by, lock_by, lock_on, lock_found, lock, request_named, cancel_named, cancel}
+use Rattle.xl_front_smb.specs.Plans.{Plan, Outcome, told_as, lists_as, carried}
+use Rattle.xl_front_smb.specs.Requests.{commanded, planned}
+use Rattle.xl_front_smb.specs.declared.told.Told.TheVariants as told
+use Rattle.xl_front_smb.proofs.LockLaws.{counted, waits_not}
+use Rattle.xl_front_smb.proofs.OwnLaws.{named_in}
+
+-- ---- locks
+
+granted_by : (refused : SmbStatus) (answer : Answer) → told_as (lock_told refused answer) ≡ told.Locked → (c : Claim) × (answer ≡ answers.Granted c)
+granted_by refused (answers.Granted c) h = (c, refl)
+granted_by refused (answers.Conflict c) h = absurd cc
+granted_by refused (answers.Queued id) h = absurd cc
+granted_by refused (answers.Recall c) h = absurd cc
+granted_by refused (answers.Grace until) h = absurd cc
+granted_by refused (answers.NoGrace clock) h = absurd cc
+granted_by refused answers.NotRecorded h = absurd cc
+granted_by refused (answers.Full limit) h = absurd cc
+granted_by refused answers.NotHeld h = absurd cc
+granted_by refused answers.StoreFailed h = absurd cc
+
+-- refused, they are neither had nor wait
+refused_by : (refused : SmbStatus) (answer : Answer) (status : SmbStatus) → told_as (lock_told refused answer) ≡ told.Failed status → ((c : Claim) → answer ≡ answers.Granted c → ⊥) × ((id : ℕ) → answer ≡ answers.Queued id → ⊥)
+refused_by refused (answers.Granted c) status h = absurd cc
+refused_by refused (answers.Conflict c) status h = (λ d e. cc, λ id e. cc)
+refused_by refused (answers.Queued id) status h = absurd cc
+refused_by refused (answers.Recall c) status h = (λ d e. cc, λ id e. cc)
+refused_by refused (answers.Grace until) status h = (λ d e. cc, λ id e. cc)
+refused_by refused (answers.NoGrace clock) status h = (λ d e. cc, λ id e. cc)
+refused_by refused answers.NotRecorded status h = (λ d e. cc, λ id e. cc)
+refused_by refused (answers.Full limit) status h = (λ d e. cc, λ id e. cc)
+refused_by refused answers.NotHeld status h = (λ d e. cc, λ id e. cc)
+refused_by refused answers.StoreFailed status h = (λ d e. cc, λ id e. cc)
+
+kept_by : (row : Waiting) (l : Lists) (refused : SmbStatus) (answer : Answer) → ((id : ℕ) → answer ≡ answers.Queued id → ⊥) → lists_as row l (lock_told refused answer) ≡ l
+kept_by row l refused (answers.Granted c) none = refl
+kept_by row l refused (answers.Conflict c) none = refl
+kept_by row l refused (answers.Queued id) none = absurd (none id refl)
+kept_by row l refused (answers.Recall c) none = refl
+kept_by row l refused (answers.Grace until) none = refl
+kept_by row l refused (answers.NoGrace clock) none = refl
+kept_by row l refused answers.NotRecorded none = refl
+kept_by row l refused (answers.Full limit) none = refl
+kept_by row l refused answers.NotHeld none = refl
+kept_by row l refused answers.StoreFailed none = refl
+
+all_held : (es : List LockElement) → map range_what (map range_of es) ≡ map held_as es
+all_held [] = refl
+all_held (e ∷ es) = ap (λ (ws : List What). held_as e ∷ ws) (all_held es)
+
+not_locked : {s : SmbStatus} → told.Failed s ≡ told.Locked → ⊥
+not_locked h = cc
+
+-- what holds of an outcome that was told Locked: the ranges are held once more, and the lists stand
+abbrev Holds : ℕ → ℕ → List LockElement → CoreState → Lists → Outcome → Type 0
+Holds file number es s l r = r.0 ≡ told.Locked → (held_at r.3 (RangesOf file number) ≡ held_at s (RangesOf file number) ++ map held_as es) × (r.2 ≡ l)
+
+-- and of one that was told to fail: nothing changed
+abbrev Stays : CoreState → Lists → Outcome → Type 0
+Stays s l r = (status : SmbStatus) → r.0 ≡ told.Failed status → (r.2 ≡ l) × (r.3 ≡ s)
+
+asked_holds : (n : ℕ) (s : CoreState) (l : Lists) (conn file number : ℕ) (es : List LockElement) (blocking : Bool) (row : Waiting) → IsGood s → lock_fault es ≡ None → 1 ≤ length es → (any_waits es ≡ false → blocking ≡ false)
+    → (let r = ask n no_rows s (lock_ask conn file number es blocking) in told_as (lock_told (refusal es) r.0) ≡ told.Locked → (held_at r.2 (RangesOf file number) ≡ held_at s (RangesOf file number) ++ map held_as es) × (lists_as row l (lock_told (refusal es) r.0) ≡ l))
+unfolding lock_ask
+asked_holds n s l conn file number es blocking row good fault some waits is =
+    let a = lock_ask conn file number es blocking in
+    let got = granted_by (refusal es) (ask n no_rows s a).0 is in
+    let fit = (lock_fits conn file number blocking es fault some waits).fit in (
+      ranges_locked n no_rows s a (map range_of es) number got.0 good fit refl refl got.1 ∙ ap (λ (ws : List What). ranges_of file (owners.Open number) s.claims ++ ws) (all_held es),
+      kept_by row l (refusal es) (ask n no_rows s a).0 (λ id e. different (sym got.1 ∙ e)),
+    )
+  where
+    different : {c : Claim} {id : ℕ} → answers.Granted c ≡ answers.Queued id → ⊥
+    different h = cc
+
+asked_stays : (n : ℕ) (s : CoreState) (l : Lists) (conn file number : ℕ) (es : List LockElement) (blocking : Bool) (row : Waiting) → IsGood s → lock_fault es ≡ None → 1 ≤ length es → (any_waits es ≡ false → blocking ≡ false)
+    → (status : SmbStatus) → (let r = ask n no_rows s (lock_ask conn file number es blocking) in told_as (lock_told (refusal es) r.0) ≡ told.Failed status → (lists_as row l (lock_told (refusal es) r.0) ≡ l) × (r.2 ≡ s))
+asked_stays n s l conn file number es blocking row good fault some waits status is =
+    let a = lock_ask conn file number es blocking in
+    let none = refused_by (refusal es) (ask n no_rows s a).0 status is in
+    let fit = (lock_fits conn file number blocking es fault some waits).fit in
+    (kept_by row l (refusal es) (ask n no_rows s a).0 none.1, (ask_own n no_rows s a good fit.party).refused none.0 none.1)
+
+by_holds : (n : ℕ) (s : CoreState) (l : Lists) (conn : ℕ) (row : Waiting) (file number : ℕ) (es : List LockElement) (o : Option SmbStatus) → IsGood s → lock_fault es ≡ o → 1 ≤ length es → Holds file number es s l (carried n s l (lock_by s l conn row file number es o)) × Stays s l (carried n s l (lock_by s l conn row file number es o))
+by_holds n s l conn row file number es (Some status) good fault some = (λ h. absurd (not_locked h), λ other h. (refl, refl))
+by_holds n s l conn row file number es None good fault some =
+    let room = has_room_to_wait l (s.counter + 1) in
+    let waits = waits_not (any_waits es) room (any_waits es && room) refl in
+    (asked_holds n s l conn file number es (any_waits es && room) row good fault some waits, asked_stays n s l conn file number es (any_waits es && room) row good fault some waits)
+
+-- ---- a request
+
+module _ (n : ℕ) (s : CoreState) (files : List (List ℕ)) (others : ℕ) (l : Lists) (conn : ℕ) (h : SmbHead) (client : List ℕ) where
+  lock_planned : (c : LockItem) → client_of conn l ≡ Some client → planned s files others l conn h (Lock c) ≡ lock s l conn client h c
+  unfolding planned commanded
+  lock_planned c at = ap (negotiated_by (λ k. lock s l conn k h c)) at
+
+  lock_named : (c : LockItem) (session : ℕ) (place : Place) (number : ℕ) (row : Open) → IsOfOpen s l conn h client c.file_id session place number row → lock s l conn client h c ≡ lock_on s l conn h number place (elements_of c.elements) row
+  unfolding lock
+  lock_named c session place number row of =
+      ap (in_session (λ k. on_tree (λ p. on_open (λ m. lock_found s l conn h m p (elements_of c.elements) (open_of m l)) (open_named s l conn c.file_id)) (tree_named l conn client h k))) of.0.0.1
+      ∙ ap (on_tree (λ p. on_open (λ m. lock_found s l conn h m p (elements_of c.elements) (open_of m l)) (open_named s l conn c.file_id))) of.0.1
+      ∙ ap (on_open (λ m. lock_found s l conn h m place (elements_of c.elements) (open_of m l))) of.1
+      ∙ ap (lock_found s l conn h number place (elements_of c.elements)) of.2
+
+  -- what holds of LOCK's plan for an open holds of the request's outcome
+  by_lock : (P : Outcome → Type 0) (c : LockItem) (session : ℕ) (place : Place) (number : ℕ) (row : Open) → IsOfOpen s l conn h client c.file_id session place number row → P (carried n s l (lock_on s l conn h number place (elements_of c.elements) row)) → P (outcome_of n s files others l conn h (Lock c))
+  by_lock P c session place number row of p = subst (λ (x : Plan). P (carried n s l x)) (sym (lock_planned c of.0.0.0 ∙ lock_named c session place number row of)) p
+
+  -- LOCK of locks
+  locks_on : (number : ℕ) (place : Place) (es : List LockElement) (row : Open) (count : Bool) → is_count (length es) ≡ count → unlocks_first es ≡ false → IsGood s
+      → Holds row.file number es s l (carried n s l (lock_on s l conn h number place es row)) × Stays s l (carried n s l (lock_on s l conn h number place es row))
+  locks_on number place es row true is first good =
+      rw (is, first) (by_holds n s l conn (waiting_row h (place_of row.holder place) number) row.file number es (lock_fault es) good refl (counted (length es) is))
+  locks_on number place es row false is first good = rw is (λ e. absurd (not_locked e), λ other e. (refl, refl))
+
+  pub locked_holds : (c : LockItem) (session : ℕ) (place : Place) (number : ℕ) (row : Open) → IsOfOpen s l conn h client c.file_id session place number row → unlocks_first (elements_of c.elements) ≡ false → IsGood s
+      → Holds row.file number (elements_of c.elements) s l (outcome_of n s files others l conn h (Lock c)) × Stays s l (outcome_of n s files others l conn h (Lock c))
+  locked_holds c session place number row of first good =
+      by_lock (λ r. Holds row.file number (elements_of c.elements) s l r × Stays s l r) c session place number row of (locks_on number place (elements_of c.elements) row (is_count (length (elements_of c.elements))) refl first good)
+
+-- ---- unlocks
+
+given_up : (answer : Answer) (rest : List Deed × Locking) (file number : ℕ) (e : LockElement) → (unlock_told (unlock_ask file number e) answer rest).1 ≡ locking.Done → ((c : Claim) × (answer ≡ answers.Granted c)) × (rest.1 ≡ locking.Done)
+given_up (answers.Granted c) rest file number e h = ((c, refl), h)
+given_up (answers.Conflict c) rest file number e h = absurd cc
+given_up (answers.Queued id) rest file number e h = absurd cc
+given_up (answers.Recall c) rest file number e h = absurd cc
+given_up (answers.Grace until) rest file number e h = absurd cc
+given_up (answers.NoGrace clock) rest file number e h = absurd cc
+given_up answers.NotRecorded rest file number e h = absurd cc
+given_up (answers.Full limit) rest file number e h = absurd cc
+given_up answers.NotHeld rest file number e h = absurd cc
+given_up answers.StoreFailed rest file number e h = absurd cc
+
+sound_by : (fault : Option SmbStatus) (next : List Deed × Locking) → (unlock_next fault next).1 ≡ locking.Done → (fault ≡ None) × (next.1 ≡ locking.Done)
+sound_by None next h = (refl, h)
+sound_by (Some status) next h = absurd cc
+
+unlock_takes : (n : ℕ) (s : CoreState) (file number : ℕ) (e : LockElement) (c : Claim) → IsGood s → (ask n no_rows s (unlock_ask file number e)).0 ≡ answers.Granted c
+    → ranges_of file (owners.Open number) (ask n no_rows s (unlock_ask file number e)).2.claims ≡ unlocked_elements (extent_of e) (ranges_of file (owners.Open number) s.claims)
+unfolding unlock_ask
+unlock_takes n s file number e c good at = range_unlocked n no_rows s (unlock_ask file number e) (extent_of e) number c good (unlock_fits file number e).fit refl refl at
+
+pub unlocks_take : (n : ℕ) (s : CoreState) (file number : ℕ) (es : List LockElement) → IsGood s → (unlocks s file number es).1 ≡ locking.Done
+    → held_at (all_done n s (unlocks s file number es).0) (RangesOf file number) ≡ all_unlocked es (held_at s (RangesOf file number))
+unlocks_take n s file number [] good h = refl
+unlocks_take n s file number (e ∷ es) good h =
+    let a = unlock_ask file number e in
+    let r = ask 0 no_rows s a in
+    let rest = unlocks r.2 file number es in
+    let sound = sound_by (unlock_fault e) (unlock_told a r.0 rest) h in
+    let got = given_up r.0 rest file number e sound.1 in
+    let deeds : (unlocks s file number (e ∷ es)).0 ≡ Asks no_rows a ∷ rest.0
+    = ap (λ (o : Option SmbStatus). (unlock_next o (unlock_told a r.0 rest)).0) sound.0 ∙ ap (λ (x : Answer). (unlock_told a x rest).0) got.0.1 in
+    let same : (ask n no_rows s a).2 ≡ r.2 = ap (λ (x : Answered). x.2) (any_stores n s file number e) in
+    ap (λ (ds : List Deed). held_at (all_done n s ds) (RangesOf file number)) deeds
+    ∙ ap (λ (t : CoreState). held_at (all_done n t rest.0) (RangesOf file number)) same
+    ∙ unlocks_take n r.2 file number es (ask_good 0 no_rows s a good (unlock_fits file number e).fit) got.1
+    ∙ ap (all_unlocked es) (unlock_takes 0 s file number e got.0.0 good got.0.1)
+
+module _ (n : ℕ) (s : CoreState) (files : List (List ℕ)) (others : ℕ) (l : Lists) (conn : ℕ) (h : SmbHead) (client : List ℕ) where
+  abbrev Takes : ℕ → ℕ → List LockElement → Outcome → Type 0
+  Takes file number es r = r.0 ≡ told.Locked → (held_at r.3 (RangesOf file number) ≡ all_unlocked es (held_at s (RangesOf file number))) × (r.2 ≡ l)
+
+  done_by : (r : Locking) → told_as r ≡ told.Locked → r ≡ locking.Done
+  done_by locking.Done h = refl
+  done_by (locking.Failed status) h = absurd cc
+  done_by (locking.Waits id) h = absurd cc
+
+  unlocks_on : (number : ℕ) (place : Place) (es : List LockElement) (row : Open) (count : Bool) → is_count (length es) ≡ count → unlocks_first es ≡ true → IsGood s → Takes row.file number es (carried n s l (lock_on s l conn h number place es row))
+  unlocks_on number place es row true is first good = rw (is, first) (λ e. (unlocks_take n s row.file number es good (done_by (unlocks s row.file number es).1 e), refl))
+  unlocks_on number place es row false is first good = rw is (λ e. absurd (not_locked e))
+
+  pub unlocked_takes : (c : LockItem) (session : ℕ) (place : Place) (number : ℕ) (row : Open) → IsOfOpen s l conn h client c.file_id session place number row → unlocks_first (elements_of c.elements) ≡ true → IsGood s → Takes row.file number (elements_of c.elements) (outcome_of n s files others l conn h (Lock c))
+  unlocked_takes c session place number row of first good =
+      by_lock n s files others l conn h client (Takes row.file number (elements_of c.elements)) c session place number row of (unlocks_on number place (elements_of c.elements) row (is_count (length (elements_of c.elements))) refl first good)
+
+  -- ---- CANCEL
+
+  cancel_planned : client_of conn l ≡ Some client → planned s files others l conn h Cancel ≡ cancel s l conn h
+  unfolding planned commanded
+  cancel_planned at = ap (negotiated_by (λ k. cancel s l conn h)) at
+
+  abbrev CancelsOne : Outcome → Type 0
+  CancelsOne r = (r ≡ (told.Nothing, [], l, s)) ⊎ ((id : ℕ) × IsIn id (waiting_under (scope.Connection conn) l) × (is_waiting id s.waiters ≡ true) × (r ≡ (told.Nothing, Cancelled id ∷ [], l, (cancel_of s id).1)))
+
+  cancel_waiter : (id : ℕ) (waits : Bool) → is_waiting id s.waiters ≡ waits → IsIn id (waiting_under (scope.Connection conn) l) → CancelsOne (carried n s l (cancel_named s l (Some id)))
+  unfolding cancel_of
+  cancel_waiter id true is there = rw is (inr (id, there, is, refl))
+  cancel_waiter id false is there = rw is (inl refl)
+
+  cancel_by : (o : Option ℕ) → ((number : ℕ) → o ≡ Some number → IsIn number (waiting_under (scope.Connection conn) l)) → CancelsOne (carried n s l (cancel_named s l o))
+  cancel_by None there = inl refl
+  cancel_by (Some id) there = cancel_waiter id (is_waiting id s.waiters) refl (there id refl)
+
+  cancel_one : CancelsOne (carried n s l (cancel s l conn h))
+  unfolding cancel
+  cancel_one = cancel_by (request_named conn l h.message_id h.route) (named_in conn l h.message_id h.route)
+
+  pub cancels_one : client_of conn l ≡ Some client → CancelsOne (outcome_of n s files others l conn h Cancel)
+  cancels_one at = subst (λ (x : Plan). CancelsOne (carried n s l x)) (sym (cancel_planned at)) cancel_one

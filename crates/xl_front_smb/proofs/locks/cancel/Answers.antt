@@ -1,0 +1,6 @@
+use Rattle.xl_front_smb.proofs.LockLaws.{cancel_leaves_by}
+use Rattle.xl_front_smb.proofs.locks.cancel.Goals as goal
+
+pub returns-clause-leaves : goal.returns-clause-leaves
+returns-clause-leaves c =
+    cancel_leaves_by c.args.core.now c.cancel.new.self c.in-Some.id c.in_ok-effects.effects c.queue.result.now c.is_waiting.result c.in_ok-effects.ensures.state c.is_waiting.ensures c.queue.ensures c.if-not-is_waiting.false c.in_ok-effects.ensures.good

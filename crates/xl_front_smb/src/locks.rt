@@ -1,0 +1,316 @@
+//! LOCK and CANCEL.
+ghost use Rattle.std.specs.Prelude.{◌≡◌, ℕ, ◌+◌, ◌≤◌, ◌==◌, ◌&&◌, true, Some, None, length, IfOk, OnOk, option_copied};
+ghost use Rattle.std.specs.List.{list_any};
+ghost use Rattle.xl_smb.specs.Locks.{shown_lock, elements_of};
+ghost use Rattle.xl_smb.specs.declared.command.Command.TheVariants as command;
+ghost use Rattle.xl_smb_state.specs.State.{open_of};
+ghost use Rattle.xl_wait.specs.Waiting.{is_waiting};
+ghost use Rattle.xl_core.specs.State.{MayBe};
+ghost use Rattle.xl_smb_locks.specs.Elements.{is_count, any_waits, unlocks_first, lock_fault, refusal};
+ghost use Rattle.xl_smb_locks.specs.Locks.{lock_ask, unlocks};
+ghost use Rattle.xl_front_smb.specs.Locks.{header_of, place_of, waiting_row, has_room_to_wait, unlock_by, lock_by, lock_on, lock_found, lock, came_by, request_named, cancel_named, cancel};
+ghost use Rattle.xl_front_smb.specs.Plans.{Locks, lists_as, told_as, carried};
+ghost use Rattle.xl_front_smb.specs.Replies.{IsAnswer};
+ghost use Rattle.xl_front_smb.specs.Short.{IsReady, Leaves};
+
+use crate::checks::{open_named, session_named, tree_named};
+use crate::outcome::{Done, failed, told};
+use crate::replies::tree_id;
+use crate::told::Told;
+use std::alloc::{AllocError, Global};
+use xl_base::{Keeper, Sequence};
+use xl_core::Core;
+use xl_smb::{LockCall, LockElement, Route, SmbHead};
+use xl_smb_locks::{
+    Locking, SmbStatus, any_waits, elements_of, is_count, lock_fault, unlocks_first,
+};
+use xl_smb_state::{Header, Holder, Open, Place, Request, SmbState, WAITING, Waiting};
+use xl_wait::{Queue, Waiter};
+
+/// What the final reply of a request repeats of its header.
+fn header_of(head: &SmbHead) -> Header
+    ensures { result ≡ header_of head.now }
+{
+    Header {
+        credit_charge: head.credit_charge,
+        flags: head.flags,
+        message_id: head.message_id,
+        tree_id: tree_id(head.route),
+        session_id: head.session_id,
+    }
+}
+
+/// Where an open stands.
+fn place_of(by: Holder, other: &Place) -> Place
+    ensures { result ≡ place_of by other.now }
+{
+    match by {
+        Holder::Tree(place) => place,
+        Holder::Nobody(_) => *other,
+    }
+}
+
+/// What is kept of a LOCK that waits.
+fn waiting_row(alloc: Global, head: &SmbHead, place: Place, number: u32) -> Waiting
+    ensures { result ≡ waiting_row head.now place number }
+{
+    Waiting {
+        header: header_of(head),
+        place,
+        opened: number,
+        request: Request::Lock,
+        behind: Sequence::new(alloc),
+    }
+}
+
+/// Whether there is room for a request that waits, and none has this number yet.
+fn has_room_to_wait(state: &SmbState, id: u32) -> bool
+    ensures { result ≡ has_room_to_wait state.now id }
+{
+    state.count_waiting() < WAITING && state.find_waiting(id).is_none()
+}
+
+/// What locks and unlocks are told.
+fn told_as(locking: Locking) -> Told
+    ensures value { result ≡ told_as locking }
+    ensures answer { IsAnswer (Some command.Lock) result }
+{
+    match locking {
+        Locking::Done => Told::Locked,
+        Locking::Failed(status) => Told::Failed(status),
+        Locking::Waits(id) => Told::Pending(id),
+    }
+}
+
+/// Keeps a request that waits.
+#[tactic(auto, using(crate::proofs::LockLaws::wait_room, crate::proofs::LockLaws::wait_new))]
+fn keep(state: &mut SmbState, row: Waiting, locking: Locking) -> Result<(), AllocError>
+    requires { (id : ℕ) → locking ≡ Locking.Waits id → has_room_to_wait state.old id ≡ true }
+    ensures { OnOk result (state.new ≡ lists_as row state.old locking) }
+{
+    if let Locking::Waits(id) = locking {
+        state.add_waiting(id, row)?;
+    }
+    Ok(())
+}
+
+/// Locks all ranges, or none.
+#[tactic(auto, using(crate::proofs::LockLaws::waits_not, crate::proofs::LockLaws::room_to_wait, crate::proofs::LockLaws::locks_done))]
+fn lock_all<K: Keeper>(
+    alloc: Global,
+    state: &mut SmbState,
+    core: &mut Core,
+    keeper: &mut K,
+    conn: u64,
+    row: Waiting,
+    file: u32,
+    number: u32,
+    elements: &[LockElement],
+) -> Result<Done, AllocError>
+    requires ready { IsReady 2 core.old }
+    requires sound { lock_fault elements.now ≡ None }
+    requires some { 1 ≤ length elements.now }
+    ensures done { (n : ℕ) → IfOk result (λ r. MayBe n core.new → carried n core.old state.old (Locks (lock_ask conn file number elements.now (any_waits elements.now && has_room_to_wait state.old (core.old.counter + 1))) (refusal elements.now) row) ≡ (r.0, r.1, state.new, core.new)) }
+    ensures leaves { OnOk result (Leaves 2 core.old core.new) }
+    ensures answer { IfOk result (λ r. IsAnswer (Some command.Lock) r.0) }
+    ensures keeper { keeper.new ≡ keeper.old }
+{
+    let blocking = any_waits(elements) && has_room_to_wait(state, core.counter() + 1);
+    let (locking, effects) = xl_smb_locks::lock(
+        alloc, core, keeper, conn, file, number, elements, blocking,
+    )?;
+    keep(state, row, locking)?;
+    Ok((told_as(locking), effects))
+}
+
+/// Unlocks the ranges in order.
+fn unlock_all<K: Keeper>(
+    alloc: Global,
+    state: &SmbState,
+    core: &mut Core,
+    keeper: &mut K,
+    file: u32,
+    number: u32,
+    elements: &[LockElement],
+) -> Result<Done, AllocError>
+    requires ready { IsReady 0 core.old }
+    ensures done { (n : ℕ) → IfOk result (λ r. carried n core.old state.now (unlock_by state.now (unlocks core.old file number elements.now)) ≡ (r.0, r.1, state.now, core.new)) }
+    ensures leaves { OnOk result (Leaves 0 core.old core.new) }
+    ensures answer { IfOk result (λ r. IsAnswer (Some command.Lock) r.0) }
+    ensures keeper { keeper.new ≡ keeper.old }
+{
+    let locking = xl_smb_locks::unlock(alloc, core, keeper, file, number, elements)?;
+    Ok((told_as(locking), Sequence::new(alloc)))
+}
+
+/// Locks or unlocks ranges of an open.
+#[tactic(auto, using(xl_smb_locks::proofs::LeaveLaws::leaves_self, xl_smb_locks::proofs::LeaveLaws::leaves_more, xl_smb_locks::proofs::LeaveLaws::ready_less, crate::proofs::LockLaws::counted))]
+fn lock_on<K: Keeper>(
+    alloc: Global,
+    state: &mut SmbState,
+    core: &mut Core,
+    keeper: &mut K,
+    conn: u64,
+    head: &SmbHead,
+    number: u32,
+    place: &Place,
+    elements: &[LockElement],
+    row: &Open,
+) -> Result<Done, AllocError>
+    requires ready { IsReady 2 core.old }
+    ensures done { (n : ℕ) → IfOk result (λ r. MayBe n core.new → carried n core.old state.old (lock_on core.old state.old conn head.now number place.now elements.now row.now) ≡ (r.0, r.1, state.new, core.new)) }
+    ensures leaves { OnOk result (Leaves 2 core.old core.new) }
+    ensures answer { IfOk result (λ r. IsAnswer (Some command.Lock) r.0) }
+    ensures keeper { keeper.new ≡ keeper.old }
+{
+    if !is_count(elements.len()) {
+        return Ok(failed(alloc, SmbStatus::InvalidParameter));
+    }
+    if unlocks_first(elements) {
+        return Ok(unlock_all(alloc, state, core, keeper, row.file, number, elements)?);
+    }
+    if let Some(status) = lock_fault(elements) {
+        return Ok(failed(alloc, status));
+    }
+    let waiting = waiting_row(alloc, head, place_of(row.holder, place), number);
+    let done = lock_all(
+        alloc, state, core, keeper, conn, waiting, row.file, number, elements,
+    )?;
+    Ok(done)
+}
+
+/// The row of an open.
+fn open_row(state: &SmbState, number: u32) -> Option<Open>
+    ensures { result ≡ open_of number state.now }
+{
+    match state.find_open(number) {
+        Some(row) => Some(*row),
+        None => None,
+    }
+}
+
+/// Locks or unlocks ranges of an open that is found.
+#[tactic(auto, using(xl_smb_locks::proofs::LeaveLaws::leaves_self))]
+fn lock_found<K: Keeper>(
+    alloc: Global,
+    state: &mut SmbState,
+    core: &mut Core,
+    keeper: &mut K,
+    conn: u64,
+    head: &SmbHead,
+    number: u32,
+    place: &Place,
+    call: &LockCall<'_>,
+) -> Result<Done, AllocError>
+    requires ready { IsReady 2 core.old }
+    ensures done { (n : ℕ) → IfOk result (λ r. MayBe n core.new → carried n core.old state.old (lock_found core.old state.old conn head.now number place.now (elements_of (shown_lock call.now).elements) (open_of number state.old)) ≡ (r.0, r.1, state.new, core.new)) }
+    ensures leaves { OnOk result (Leaves 2 core.old core.new) }
+    ensures answer { IfOk result (λ r. IsAnswer (Some command.Lock) r.0) }
+    ensures keeper { keeper.new ≡ keeper.old }
+{
+    let Some(row) = open_row(state, number) else {
+        return Ok(failed(alloc, SmbStatus::FileClosed));
+    };
+    let elements = elements_of(alloc, call.elements)?;
+    let done = lock_on(
+        alloc, state, core, keeper, conn, head, number, place, &elements, &row,
+    )?;
+    Ok(done)
+}
+
+/// LOCK: in a session, on a tree connect of it, of an open under the connection.
+#[tactic(auto, unfolding(crate::specs::Locks::lock), using(xl_smb_locks::proofs::LeaveLaws::leaves_self))]
+pub(crate) fn lock<K: Keeper>(
+    alloc: Global,
+    state: &mut SmbState,
+    core: &mut Core,
+    keeper: &mut K,
+    conn: u64,
+    client: &[u8; 16],
+    head: &SmbHead,
+    call: &LockCall<'_>,
+) -> Result<Done, AllocError>
+    requires ready { IsReady 2 core.old }
+    ensures done { (n : ℕ) → IfOk result (λ r. MayBe n core.new → carried n core.old state.old (lock core.old state.old conn client.now head.now (shown_lock call.now)) ≡ (r.0, r.1, state.new, core.new)) }
+    ensures leaves { OnOk result (Leaves 2 core.old core.new) }
+    ensures answer { IfOk result (λ r. IsAnswer (Some command.Lock) r.0) }
+    ensures keeper { keeper.new ≡ keeper.old }
+{
+    let Some(session) = session_named(core, state, conn, head.session_id) else {
+        return Ok(failed(alloc, SmbStatus::UserSessionDeleted));
+    };
+    let Some(place) = tree_named(state, conn, client, head, session) else {
+        return Ok(failed(alloc, SmbStatus::NetworkNameDeleted));
+    };
+    let Some(number) = open_named(core, state, conn, call.file_id) else {
+        return Ok(failed(alloc, SmbStatus::FileClosed));
+    };
+    let done = lock_found(alloc, state, core, keeper, conn, head, number, &place, call)?;
+    Ok(done)
+}
+
+/// Whether a request came by this connection.
+fn came_by(conn: u64, found: Option<&Waiting>) -> bool
+    ensures { result ≡ came_by conn (option_copied found.entry) }
+{
+    match found {
+        Some(row) => row.place.connection == conn,
+        None => false,
+    }
+}
+
+/// The request that a CANCEL names: by its AsyncId, or as the first of this MessageId.
+fn request_named(state: &SmbState, conn: u64, message: u64, route: Route) -> Option<u32>
+    ensures { result ≡ request_named conn state.now message route }
+{
+    match route {
+        Route::Async(id) => {
+            let number = u32::try_from(id).ok()?;
+            if came_by(conn, state.find_waiting(number)) {
+                Some(number)
+            } else {
+                None
+            }
+        }
+        Route::Tree(_) => state.waiting_by_message(conn, message),
+    }
+}
+
+/// Whether one of these has this number.
+fn has_waiter(waiters: &[Waiter], id: u32) -> bool
+    ensures { result ≡ list_any (λ w. w.id == id) waiters.now }
+{
+    waiters.iter().any(|waiter| waiter.id == id)
+}
+
+/// Whether a waiter of this number stands in the queue.
+#[tactic(auto, using(crate::proofs::LockLaws::waiting_is))]
+fn is_waiting(queue: &Queue, id: u32) -> bool
+    ensures { result ≡ is_waiting id queue.now }
+{
+    has_waiter(queue.waiters(), id)
+}
+
+/// CANCEL: the request that it names waits no more.
+#[tactic(auto, unfolding(crate::specs::Locks::cancel), using(xl_smb_locks::proofs::LeaveLaws::leaves_self))]
+pub(crate) fn cancel(
+    alloc: Global,
+    state: &SmbState,
+    core: &mut Core,
+    conn: u64,
+    head: &SmbHead,
+) -> Result<Done, AllocError>
+    requires ready { IsReady 0 core.old }
+    ensures done { (n : ℕ) → IfOk result (λ r. carried n core.old state.now (cancel core.old state.now conn head.now) ≡ (r.0, r.1, state.now, core.new)) }
+    ensures leaves { OnOk result (Leaves 0 core.old core.new) }
+    ensures answer { IfOk result (λ r. IsAnswer (Some command.Cancel) r.0) }
+{
+    let Some(id) = request_named(state, conn, head.message_id, head.route) else {
+        return Ok(told(alloc, Told::Nothing));
+    };
+    if !is_waiting(core.queue(), id) {
+        return Ok(told(alloc, Told::Nothing));
+    }
+    let effects = core.cancel(alloc, id)?;
+    Ok((Told::Nothing, effects))
+}

@@ -1,0 +1,105 @@
+-- Locks and unlocks of an open's ranges are those of one list of elements.
+use Rattle.std.proofs.Common.{◌≡◌, ℕ, ◌+◌, ◌-◌, Bool, true, false, not, ◌&&◌, ◌||◌, if◌then◌else◌, List, [], ◌∷◌, ◌++◌, map, refl, sym, ap, subst, ◌∙◌, arith, inl, inr}
+use Rattle.std.specs.Prelude.{◌==◌}
+use Rattle.std.specs.List.{list_any}
+use Rattle.std.specs.Set.{remove_key}
+use Rattle.std.proofs.lemmas.Bool.{cases_Bool, true≢false}
+use Rattle.std.proofs.lemmas.Bool.Decides.{nat_tests}
+use Rattle.xl_exact.specs.Elements.{has_range, is_exclusive_at, unlocked}
+use Rattle.xl_exact.specs.declared.element.Element.{Element}
+use Rattle.xl_matrix.specs.Equal.{same_extent, same_flag, same_what}
+use Rattle.xl_matrix.specs.declared.claim.Extent.{Extent}
+use Rattle.xl_matrix.specs.declared.claim.Extent.TheVariants.{Bytes, Empty}
+use Rattle.xl_matrix.specs.declared.claim.What.{What}
+use Rattle.xl_matrix.specs.declared.claim.What.TheVariants.{Range}
+use Rattle.xl_smb.specs.declared.lock.LockElement.{LockElement}
+use Rattle.xl_table.specs.Elements.{is_among, without, unlocked_elements}
+use Rattle.xl_smb_locks.specs.Elements.{extent_of}
+use Rattle.xl_smb_locks.specs.Exactly.{extent_at, what_of}
+
+-- ---- equal ranges
+
+both_empty : (a b la lb : ℕ) → (la == 0) ≡ true → (lb == 0) ≡ true → (a == b) ≡ ((a == b) && (la == lb))
+both_empty a b la lb x y = grind (arith, nat_tests)
+
+one_empty : (a b la lb : ℕ) → (la == 0) ≡ true → (lb == 0) ≡ false → false ≡ ((a == b) && (la == lb))
+one_empty a b la lb x y = grind (arith, nat_tests)
+
+other_empty : (a b la lb : ℕ) → (la == 0) ≡ false → (lb == 0) ≡ true → false ≡ ((a == b) && (la == lb))
+other_empty a b la lb x y = grind (arith, nat_tests)
+
+none_empty : (a b la lb : ℕ) → (la == 0) ≡ false → (lb == 0) ≡ false → ((a == b) && (a + (la - 1) == b + (lb - 1))) ≡ ((a == b) && (la == lb))
+none_empty a b la lb x y = grind (arith, nat_tests)
+
+by_empty : (a la b lb : ℕ) (za zb : Bool) → (la == 0) ≡ za → (lb == 0) ≡ zb → same_extent (if za then Empty a else Bytes a (a + (la - 1))) (if zb then Empty b else Bytes b (b + (lb - 1))) ≡ ((a == b) && (la == lb))
+by_empty a la b lb true true x y = both_empty a b la lb x y
+by_empty a la b lb true false x y = one_empty a b la lb x y
+by_empty a la b lb false true x y = other_empty a b la lb x y
+by_empty a la b lb false false x y = none_empty a b la lb x y
+
+equal_extents : (a la b lb : ℕ) → same_extent (extent_at a la) (extent_at b lb) ≡ ((a == b) && (la == lb))
+equal_extents a la b lb = by_empty a la b lb (la == 0) (lb == 0) refl refl
+
+equal_range : (first len : ℕ) (x : Element) (m : Bool) → same_what (what_of x) (Range (extent_at first len) m) ≡ (has_range first len x && same_flag x.exclusive m)
+unfolding same_what
+equal_range first len x m = ap (λ (b : Bool). b && same_flag x.exclusive m) (equal_extents x.first x.len first len)
+
+flag_true : (b : Bool) → same_flag b true ≡ b
+flag_true true = refl
+flag_true false = refl
+
+equal_exclusive : (first len : ℕ) (x : Element) → same_what (what_of x) (Range (extent_at first len) true) ≡ is_exclusive_at first len x
+equal_exclusive first len x = equal_range first len x true ∙ ap (λ (b : Bool). has_range first len x && b) (flag_true x.exclusive)
+
+flag_false : (h b : Bool) → (h && b) ≡ false → (h && same_flag b false) ≡ h
+flag_false true true none = absurd (true≢false none)
+flag_false true false none = refl
+flag_false false b none = refl
+
+-- where it isn't exclusive
+equal_shared : (first len : ℕ) (x : Element) → is_exclusive_at first len x ≡ false → same_what (what_of x) (Range (extent_at first len) false) ≡ has_range first len x
+equal_shared first len x none = equal_range first len x false ∙ flag_false (has_range first len x) x.exclusive none
+
+-- ---- lists
+
+among : (first len : ℕ) (es : List Element) → is_among (Range (extent_at first len) true) (map what_of es) ≡ list_any (is_exclusive_at first len) es
+among first len [] = refl
+among first len (x ∷ xs) = λ i. equal_exclusive first len x i || among first len xs i
+
+out_exclusive : (first len : ℕ) (es : List Element) → without (Range (extent_at first len) true) (map what_of es) ≡ map what_of (remove_key (is_exclusive_at first len) es)
+out_exclusive first len [] = refl
+out_exclusive first len (x ∷ xs) =
+    let same = equal_exclusive first len x in
+    elim (cases_Bool (is_exclusive_at first len x)) [
+      | inl h ↦ rw (same ∙ h, h) refl
+      | inr h ↦ rw (same ∙ h, h) (ap (λ (ws : List What). what_of x ∷ ws) (out_exclusive first len xs))
+    ]
+
+none_first : (x y : Bool) → (x || y) ≡ false → (x ≡ false) × (y ≡ false)
+none_first true y h = absurd (true≢false h)
+none_first false y h = (refl, h)
+
+out_shared : (first len : ℕ) (es : List Element) → list_any (is_exclusive_at first len) es ≡ false → without (Range (extent_at first len) false) (map what_of es) ≡ map what_of (remove_key (has_range first len) es)
+out_shared first len [] none = refl
+out_shared first len (x ∷ xs) none =
+    let two = none_first (is_exclusive_at first len x) (list_any (is_exclusive_at first len) xs) none in
+    let same = equal_shared first len x two.0 in
+    elim (cases_Bool (has_range first len x)) [
+      | inl h ↦ rw (same ∙ h, h) refl
+      | inr h ↦ rw (same ∙ h, h) (ap (λ (ws : List What). what_of x ∷ ws) (out_shared first len xs two.1))
+    ]
+
+by_any : (first len : ℕ) (es : List Element) (b : Bool) → list_any (is_exclusive_at first len) es ≡ b
+    → (if b then without (Range (extent_at first len) true) (map what_of es) else without (Range (extent_at first len) false) (map what_of es)) ≡ map what_of (if b then remove_key (is_exclusive_at first len) es else remove_key (has_range first len) es)
+by_any first len es true is = out_exclusive first len es
+by_any first len es false is = out_shared first len es is
+
+pub unlocks_exactly : (e : LockElement) (es : List Element) → unlocked_elements (extent_of e) (map what_of es) ≡ map what_of (unlocked e.offset e.length es)
+unfolding unlocked_elements unlocked
+unlocks_exactly e es =
+    ap (λ (b : Bool). if b then without (Range (extent_at e.offset e.length) true) (map what_of es) else without (Range (extent_at e.offset e.length) false) (map what_of es)) (among e.offset e.length es)
+    ∙ by_any e.offset e.length es (list_any (is_exclusive_at e.offset e.length) es) refl
+
+pub locks_exactly : (more : List Element) (es : List Element) → map what_of es ++ map what_of more ≡ map what_of (es ++ more)
+locks_exactly more [] = refl
+locks_exactly more (x ∷ xs) = ap (λ (ws : List What). what_of x ∷ ws) (locks_exactly more xs)

@@ -1,0 +1,8 @@
+pub mod LeaveLaws
+pub mod AskLaws
+pub mod FitLaws
+pub mod UnlockLaws
+pub mod FinalLaws
+pub mod OnLaws
+pub mod LockLaws
+mod ExactLaws

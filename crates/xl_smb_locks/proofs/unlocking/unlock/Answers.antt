@@ -1,0 +1,15 @@
+use Rattle.std.proofs.Common.{◌≡◌, refl, sym, ◌∙◌}
+use Rattle.xl_smb_locks.proofs.LeaveLaws.{leaves_on}
+use Rattle.xl_smb_locks.proofs.UnlockLaws.{one_more, missed_at}
+use Rattle.xl_smb_locks.proofs.unlocking.unlock.Goals as goal
+
+pub returns-then-not-is_granted-clause-state : goal.returns-then-not-is_granted-clause-state
+returns-then-not-is_granted-clause-state g c =
+    λ n. sym ((missed_at c.args.file c.args.number c.args.core.now c.elements.core c.unlock_one.new.core c.args.elements.now c.elements.element-index _ _ c.in_ok-answer.answer c.elements-test.true refl c.elements.invariant.0 (sym c.unlock_fault.ensures ∙ c.in_default.is) c.in_ok-answer.ensures.state (sym c.is_granted.ensures ∙ c.if-not-is_granted.true)).1 n)
+
+pub elements-preserved : goal.elements-preserved
+elements-preserved g c = (
+  one_more c.args.file c.args.number c.args.core.now c.elements.core c.unlock_one.new.core c.args.elements.now c.elements.element-index _ _ c.in_ok-answer.answer c.elements-test.true refl c.elements.invariant.0 (sym c.unlock_fault.ensures ∙ c.in_default.is) c.in_ok-answer.ensures.state (sym c.is_granted.ensures ∙ c.if-not-is_granted.false),
+  leaves_on c.args.core.now c.elements.core c.unlock_one.new.core c.elements.invariant.1 c.in_ok-answer.ensures.leaves,
+  c.in_ok-answer.ensures.keeper ∙ c.elements.invariant.2,
+)

@@ -1,0 +1,12 @@
+use Rattle.xl_core.proofs.FrameLaws.{may_be_made}
+use Rattle.xl_smb_locks.proofs.AskLaws.{ask_idles}
+use Rattle.xl_smb_locks.proofs.UnlockLaws.{unlock_waits, unlock_said}
+use Rattle.xl_smb_locks.proofs.unlocking.unlock_one.Goals as goal
+
+pub returns-clause-state : goal.returns-clause-state
+returns-clause-state g c =
+    unlock_said c.ask.new.self.made _ _ _ _ _ _ _ _ c.requires.ready.good c.unlock_ask-request.ensures.open c.unlock_ask-request.ensures.value (c.in_ok-answer.ensures.state c.ask.new.self.made (may_be_made c.ask.new.self))
+
+pub returns-clause-leaves : goal.returns-clause-leaves
+returns-clause-leaves g c =
+    ask_idles c.ask.new.self.made _ _ _ _ _ _ (c.in_ok-answer.ensures.state c.ask.new.self.made (may_be_made c.ask.new.self)) c.requires.ready.good c.unlock_ask-request.ensures.open (unlock_waits _ _ _ _ c.unlock_ask-request.ensures.value) c.in_ok-answer.ensures.good

@@ -1,0 +1,6 @@
+pub mod Statuses
+pub mod Short
+pub mod Elements
+pub mod Locks
+pub mod Finals
+pub mod Exactly

@@ -1,0 +1,85 @@
+-- What a LOCK does to the core, and what it comes to (MS-SMB2 3.3.5.14, MS-FSA 2.1.5.8, 2.1.5.9).
+use Rattle.std.specs.Prelude.{ℕ, Bool, true, false, List, [], ◌∷◌, map, Option, Some, None}
+use Rattle.xl_matrix.specs.declared.claim.Extent.{Extent}
+use Rattle.xl_smb.specs.declared.lock.LockElement.{LockElement}
+use Rattle.xl_wait.specs.declared.waiter.Rooms.{Rooms}
+use Rattle.xl_core.specs.Decide.{ask}
+use Rattle.xl_core.specs.Deeds.{Deed, Asks}
+use Rattle.xl_core.specs.State.{CoreState}
+use Rattle.xl_core.specs.declared.ask.Act.{Act}
+use Rattle.xl_core.specs.declared.ask.Act.TheVariants as acts
+use Rattle.xl_core.specs.declared.ask.Answer.{Answer}
+use Rattle.xl_core.specs.declared.ask.Answer.TheVariants as answers
+use Rattle.xl_core.specs.declared.ask.Ask.{Ask}
+use Rattle.xl_core.specs.declared.ask.Effect.{Effect}
+use Rattle.xl_core.specs.declared.ask.Who.TheVariants as who
+use Rattle.xl_smb_locks.specs.Elements.{extent_of, is_exclusive, unlock_fault}
+use Rattle.xl_smb_locks.specs.declared.locking.Locking.{Locking}
+use Rattle.xl_smb_locks.specs.declared.locking.Locking.TheVariants.{Done, Failed, Waits}
+use Rattle.xl_smb_locks.specs.declared.status.SmbStatus.{SmbStatus}
+use Rattle.xl_smb_locks.specs.declared.status.SmbStatus.TheVariants.{RangeNotLocked, InsufficientResources}
+
+-- ---- what the core is asked
+
+-- a lock adds no row to the fronts' tables
+abbrev pub no_rows : Rooms
+no_rows = record { hosts = 0; owners = 0; opens = 0 }
+
+-- an ask of the open of this number, which is its own party
+abbrev pub range_ask : Option ℕ → ℕ → ℕ → Act → Bool → Ask
+range_ask conn file number act blocking = record {
+  file = file;
+  owner = who.Open number;
+  party = who.Open number;
+  act = act;
+  wish = [];
+  conn = conn;
+  blocking = blocking;
+  reclaim = false;
+  monitored = false;
+  rows = no_rows;
+}
+
+-- one range is unlocked
+unfoldable pub unlock_ask : ℕ → ℕ → LockElement → Ask
+unlock_ask file number e = range_ask None file number (acts.Unlock (extent_of e)) false
+
+abbrev pub range_of : LockElement → Extent × Bool
+range_of e = (extent_of e, is_exclusive e)
+
+-- all ranges are locked in order, or none; who waits is told by this connection
+unfoldable pub lock_ask : ℕ → ℕ → ℕ → List LockElement → Bool → Ask
+lock_ask conn file number es blocking = range_ask (Some conn) file number (acts.Ranges (map range_of es)) blocking
+
+-- what was asked for is granted
+abbrev pub is_granted : Answer → Bool
+is_granted (answers.Granted c) = true
+is_granted answer = false
+
+-- ---- unlocks: in order, up to the first that fails; those before it stay
+
+abbrev pub unlock_told : Ask → Answer → List Deed × Locking → List Deed × Locking
+unlock_told a (answers.Granted c) rest = (Asks no_rows a ∷ rest.0, rest.1)
+unlock_told a answer rest = (Asks no_rows a ∷ [], Failed RangeNotLocked)
+
+abbrev pub unlock_next : Option SmbStatus → List Deed × Locking → List Deed × Locking
+unlock_next None next = next
+unlock_next (Some status) next = ([], Failed status)
+
+-- what the unlocks do, and what they come to
+abbrev pub unlocks : CoreState → ℕ → ℕ → List LockElement → List Deed × Locking
+unlocks s file number [] = ([], Done)
+unlocks s file number (e ∷ es) =
+    let r = ask 0 no_rows s (unlock_ask file number e) in unlock_next (unlock_fault e) (unlock_told (unlock_ask file number e) r.0 (unlocks r.2 file number es))
+
+-- ---- locks: all of them, or none
+
+-- what the answer makes of it, where a conflict is told so
+abbrev pub lock_told : SmbStatus → Answer → Locking
+lock_told refused (answers.Granted c) = Done
+lock_told refused (answers.Queued id) = Waits id
+lock_told refused (answers.Conflict c) = Failed refused
+lock_told refused answer = Failed InsufficientResources
+
+abbrev pub lock_done : SmbStatus → Answer × List Effect × CoreState → Locking × List Effect × CoreState
+lock_done refused r = (lock_told refused r.0, r.1, r.2)

@@ -1,0 +1,102 @@
+//! What the core is asked for an open's ranges.
+ghost use Rattle.std.specs.Prelude.{◌≡◌, map, None, false, length, ◌≤◌, IfOk};
+ghost use Rattle.std.specs.List.{list_any};
+ghost use Rattle.xl_core.specs.Asking.{may_ask, IsFitAct};
+ghost use Rattle.xl_core.specs.declared.ask.Who.TheVariants as who;
+ghost use Rattle.xl_smb_locks.specs.Elements.{wraps, unlock_fault, lock_fault, any_waits};
+ghost use Rattle.xl_smb_locks.specs.Locks.{range_ask, range_of, unlock_ask, lock_ask};
+ghost use Rattle.xl_smb_locks.specs.Short.{IsRangeAsk};
+
+use crate::elements::{extent_of, is_exclusive};
+use std::alloc::{AllocError, Global};
+use xl_base::Sequence;
+use xl_core::{Act, Ask, Who};
+use xl_matrix::Extent;
+use xl_smb::LockElement;
+use xl_wait::Rooms;
+
+/// A lock adds no row to the fronts' tables.
+pub(crate) const NO_ROWS: Rooms = Rooms {
+    hosts: 0,
+    owners: 0,
+    opens: 0,
+};
+
+/// An ask of the open of this number, which is its own party.
+fn range_ask(
+    alloc: Global,
+    conn: Option<u64>,
+    file: u32,
+    number: u32,
+    act: Act,
+    blocking: bool,
+) -> Ask
+    ensures { result ≡ range_ask conn file number act blocking }
+{
+    Ask {
+        file,
+        owner: Who::Open(number),
+        party: Who::Open(number),
+        act,
+        wish: Sequence::new(alloc),
+        conn,
+        blocking,
+        reclaim: false,
+        monitored: false,
+        rows: NO_ROWS,
+    }
+}
+
+/// What is asked for to unlock one range.
+#[tactic(auto, unfolding(crate::specs::Locks::unlock_ask), using(crate::proofs::FitLaws::unlock_is))]
+pub(crate) fn unlock_ask(alloc: Global, file: u32, number: u32, element: &LockElement) -> Ask
+    requires { wraps element.now ≡ false }
+    ensures value { result ≡ unlock_ask file number element.now }
+    ensures open { IsRangeAsk result }
+{
+    let act = Act::Unlock(extent_of(element));
+    range_ask(alloc, None, file, number, act, false)
+}
+
+/// The ranges of locks, in order.
+#[tactic(auto, using(crate::proofs::FitLaws::next_within))]
+fn ranges_of(
+    alloc: Global,
+    elements: &[LockElement],
+) -> Result<Sequence<(Extent, bool)>, AllocError>
+    requires { list_any wraps elements.now ≡ false }
+    ensures { IfOk result (λ ranges. ranges ≡ map range_of elements.now) }
+{
+    let mut ranges = Sequence::new(alloc);
+    'elements: for element in elements {
+        ranges.push((extent_of(element), is_exclusive(element)))?;
+    }
+    Ok(ranges)
+}
+
+/// What is asked for to lock all of these ranges, or none.
+#[tactic(auto, unfolding(crate::specs::Locks::lock_ask), using(crate::proofs::FitLaws::lock_is, crate::proofs::FitLaws::none_wraps))]
+pub(crate) fn lock_ask(
+    alloc: Global,
+    conn: u64,
+    file: u32,
+    number: u32,
+    elements: &[LockElement],
+    blocking: bool,
+) -> Result<Ask, AllocError>
+    requires sound { lock_fault elements.now ≡ None }
+    requires some { 1 ≤ length elements.now }
+    requires waits { any_waits elements.now ≡ false → blocking ≡ false }
+    ensures value { IfOk result (λ ask. ask ≡ lock_ask conn file number elements.now blocking) }
+    ensures open { IfOk result (λ ask. IsRangeAsk ask) }
+{
+    let ranges = ranges_of(alloc, elements)?;
+    Ok(range_ask(
+        alloc,
+        Some(conn),
+        file,
+        number,
+        Act::Ranges(ranges),
+        blocking,
+    ))
+}

@@ -1,0 +1,16 @@
+//! LOCK and the requests that wait, of SMB 2.1 (MS-SMB2 3.3.5.14, 3.3.4.2), over the core.
+#![tactic(auto)]
+
+mod asks;
+mod elements;
+mod finals;
+pub mod law;
+mod locking;
+mod status;
+mod unlocking;
+
+pub use elements::{any_waits, elements_of, is_count, lock_fault, unlocks_first};
+pub use finals::{dismiss, push_all, tell};
+pub use locking::{Locking, lock};
+pub use status::SmbStatus;
+pub use unlocking::unlock;
