@@ -236,7 +236,7 @@ handle_is_slow (Cache ReadDeleg running) left h = refl
 handle_is_slow (Cache WriteDeleg running) left h = refl
 
 -- the keeper of a covered share is in the way
-keeper_in_the_way : (ask : Claim) (held : List Claim) (share c : Claim) → IsIn share held → is_share share.what ≡ true → blocks ask share ≡ true → same_parties share.party ask.party ≡ false → keeps_open share c ≡ true → is_obstacle ask held c ≡ true
+pub keeper_in_the_way : (ask : Claim) (held : List Claim) (share c : Claim) → IsIn share held → is_share share.what ≡ true → blocks ask share ≡ true → same_parties share.party ask.party ≡ false → keeps_open share c ≡ true → is_obstacle ask held c ≡ true
 unfolding is_in_the_way
 keeper_in_the_way ask held share c i s b p k =
     let opens = (and_parts (keeps_handle_by c.what) _ k).1 in

@@ -22,12 +22,12 @@ use Rattle.xl_table.specs.Least.{least}
 use Rattle.xl_table.specs.Relock.{most_claims, holds_byte, granted_claims}
 use Rattle.xl_wait.specs.declared.waiter.Rooms.{Rooms}
 use Rattle.xl_core.specs.State.{CoreState}
-use Rattle.xl_core.specs.Asking.{both_entered, asked_whats, alone, asked_what, asked_claim, asked_claims, known_claim, is_client, is_named, may_hold, may_ask, IsFitAct, IsFit, IsOrdered, AreMore, may_hold_all, range_what, known_owner}
-use Rattle.xl_core.specs.Blockers.{test_blockers, blockers}
-use Rattle.xl_core.specs.Causes.{limits_of_grant, limits_of_wait, IsClaimDue, stands_against, IsTestDue, HasNoByte, HasByte, left_by_unlock, IsUnlockDue, IsElementDue, IsEachDue}
+use Rattle.xl_core.specs.Asking.{both_entered, awaits, asked_whats, alone, asked_what, asked_claim, asked_claims, known_claim, is_client, is_named, may_hold, may_ask, IsFitAct, IsFit, IsOrdered, AreMore, may_hold_all, range_what, known_owner}
+use Rattle.xl_core.specs.Blockers.{test_blockers, blockers, is_stopped, cache_against}
+use Rattle.xl_core.specs.Causes.{limits_of_grant, limits_of_wait, may_wait, IsClaimDue, stands_against, IsTestDue, HasNoByte, HasByte, left_by_unlock, IsUnlockDue, IsElementDue, IsEachDue}
 use Rattle.xl_core.specs.Decide.{Answered, plea_of, answered, claims_asked, test_answered, tested, unlocked_claims, unlocked_bytes, unlocked, acted, ask, unlocked_one, freed}
 use Rattle.xl_core.specs.Good.{IsGood}
-use Rattle.xl_core.specs.Judge.{Ruled, judged, check_held, held_by, room_by, check_room, held_with, waits, or_else, unless, row}
+use Rattle.xl_core.specs.Judge.{Ruled, judged, check_held, held_by, kept_off_by, check_caches, room_by, check_room, held_with, waits, does_wait, at_once, or_else, unless, row}
 use Rattle.xl_core.specs.Limits.{first_passed, IsRoom, grant_limits}
 use Rattle.xl_core.specs.declared.ask.Act.{Act}
 use Rattle.xl_core.specs.declared.ask.Act.TheVariants.{Share, Ranges, Test, Unlock}
@@ -36,10 +36,10 @@ use Rattle.xl_core.specs.declared.ask.Answer.TheVariants as answers
 use Rattle.xl_core.specs.declared.ask.Ask.{Ask}
 use Rattle.xl_core.specs.declared.ask.Who.{Who}
 use Rattle.xl_table.proofs.LeastLaws.{least_in, least_none, least_empty}
-use Rattle.xl_core.proofs.DecideLaws.{blockers_none, none_blockers, blockers_some, some_blocks, blocks_some}
+use Rattle.xl_core.proofs.DecideLaws.{blockers_none, none_blockers, blockers_some, some_stops, some_blocks, stops_some, cache_some, cache_blocked, free_unless, free_moves, free_clear, moves_cache}
 use Rattle.xl_core.proofs.KnownLaws.{known_posix}
 use Rattle.xl_core.proofs.LimitLaws.{grant_found, wait_found, grant_least, wait_least}
-use Rattle.xl_core.proofs.RowLaws.{ruled_by, least_blocker, late, judged_is, judged_row}
+use Rattle.xl_core.proofs.RowLaws.{ruled_by, least_blocker, late, judged_stopped, judged_kept_off, judged_is, judged_row}
 use Rattle.xl_matrix.specs.Owners.{posix}
 use Rattle.xl_core.specs.declared.judge.Ruling.{Ruling}
 use Rattle.xl_core.specs.declared.judge.Ruling.TheVariants.{Gets, Waits, Told}
@@ -77,58 +77,113 @@ lock_late : (n : ℕ) (left : Rooms) (s : CoreState) (a : Ask) (claim : Claim) �
 unfolding plea_of
 lock_late n left s a claim e = ap (ruled a claim) (late n s.waiters left (plea_of left s a) (claim ∷ []) s e)
 
--- what a timely ask is told, by the least that blocks it and by the least limits that its grant and its wait pass
-abbrev told_by : CoreState → Ask → Claim → Option Claim → Option ℕ → Bool → Option ℕ → Answer
-told_by s a claim (Some c) grant true (Some limit) = answers.Full limit
-told_by s a claim (Some c) grant true None = answers.Queued (s.counter + 1)
-told_by s a claim (Some c) grant false wait = answers.Conflict c
-told_by s a claim None (Some limit) b wait = answers.Full limit
-told_by s a claim None None b wait = answers.Granted claim
+-- what a timely ask is told, by the least that blocks it for good, the cache that keeps it off, and the least limits that its
+-- grant and its wait pass
+abbrev told_by : CoreState → Ask → Claim → Option Claim → Option Claim → Option ℕ → Bool → Bool → Option ℕ → Answer
+told_by s a claim (Some c) cache grant true awaiting (Some limit) = answers.Full limit
+told_by s a claim (Some c) cache grant true awaiting None = answers.Queued (s.counter + 1)
+told_by s a claim (Some c) cache grant false awaiting wait = answers.Conflict c
+told_by s a claim None (Some c) grant blocking true (Some limit) = answers.Full limit
+told_by s a claim None (Some c) grant blocking true None = answers.Queued (s.counter + 1)
+told_by s a claim None (Some c) grant blocking false wait = answers.Recall c
+told_by s a claim None None (Some limit) blocking awaiting wait = answers.Full limit
+told_by s a claim None None None blocking awaiting wait = answers.Granted claim
 
-lock_timely : (n : ℕ) (left : Rooms) (s : CoreState) (a : Ask) (claim : Claim) → a.reclaim ≡ false
-    → (ruled a claim (judged n s.waiters left (plea_of left s a) (claim ∷ []) s)).0
-    ≡ told_by s a claim (least_blocker s.waiters s claim) (first_passed (limits_of_grant left s a claim)) a.blocking (first_passed (limits_of_wait left s a))
+-- what is looked at
+abbrev told_now : Rooms → CoreState → Ask → Claim → Answer
+told_now left s a claim =
+    told_by s a claim (least_blocker s.waiters s claim) (cache_against s.claims claim) (first_passed (limits_of_grant left s a claim)) a.blocking (awaits a) (first_passed (limits_of_wait left s a))
+
+lock_timely : (n : ℕ) (left : Rooms) (s : CoreState) (a : Ask) (claim : Claim) → a.reclaim ≡ false → (ruled a claim (judged n s.waiters left (plea_of left s a) (claim ∷ []) s)).0 ≡ told_now left s a claim
 unfolding plea_of
 lock_timely n left s a claim e =
     ap (λ (r : Ruled). (ruled a claim r).0) (judged_is n s.waiters left (plea_of left s a) claim s e)
-    ∙ go (least_blocker s.waiters s claim) (first_passed (limits_of_grant left s a claim)) a.blocking (first_passed (limits_of_wait left s a)) refl refl
+    ∙ go (least_blocker s.waiters s claim) (cache_against s.claims claim) (first_passed (limits_of_grant left s a claim)) a.blocking (awaits a) (first_passed (limits_of_wait left s a)) refl refl refl
   where
-    go : (o : Option Claim) (l : Option ℕ) (b : Bool) (w : Option ℕ) → a.blocking ≡ b → first_passed (limits_of_wait left s a) ≡ w → (ruled a claim (ruled_by (plea_of left s a) s claim o l)).0 ≡ told_by s a claim o l b w
-    go (Some c) l true (Some limit) e k = rw (e, k) refl
-    go (Some c) l true None e k = rw (e, k) refl
-    go (Some c) l false w e k = rw e refl
-    go None (Some limit) b w e k = refl
-    go None None b w e k = refl
+    go : (o k : Option Claim) (l : Option ℕ) (b u : Bool) (w : Option ℕ) → a.blocking ≡ b → awaits a ≡ u → first_passed (limits_of_wait left s a) ≡ w → (ruled a claim (ruled_by (plea_of left s a) s claim o k l)).0 ≡ told_by s a claim o k l b u w
+    go (Some c) k l true u (Some limit) e f g = rw (e, g) refl
+    go (Some c) k l true u None e f g = rw (e, g) refl
+    go (Some c) k l false u w e f g = rw e refl
+    go None (Some c) l b true (Some limit) e f g = rw (f, g) refl
+    go None (Some c) l b true None e f g = rw (f, g) refl
+    go None (Some c) l b false w e f g = rw f refl
+    go None None (Some limit) b u w e f g = refl
+    go None None None b u w e f g = refl
 
-lock_forth : (left : Rooms) (s : CoreState) (a : Ask) (claim : Claim) → a.reclaim ≡ false
-    → IsClaimDue left s a claim (told_by s a claim (least_blocker s.waiters s claim) (first_passed (limits_of_grant left s a claim)) a.blocking (first_passed (limits_of_wait left s a)))
-lock_forth left s a claim timely = go (least_blocker s.waiters s claim) (first_passed (limits_of_grant left s a claim)) a.blocking (first_passed (limits_of_wait left s a)) refl refl refl refl where
-  go : (o : Option Claim) (l : Option ℕ) (b : Bool) (w : Option ℕ) → least_blocker s.waiters s claim ≡ o → first_passed (limits_of_grant left s a claim) ≡ l → a.blocking ≡ b → first_passed (limits_of_wait left s a) ≡ w → IsClaimDue left s a claim (told_by s a claim o l b w)
-  go (Some c) l true (Some limit) is grant may wait = (timely, inr (may, some_blocks s.waiters s claim c is, wait_found left a.rows (length s.waiters) (length (both_entered a s.names)) (Some limit) wait))
-  go (Some c) l true None is grant may wait = (refl, timely, may, some_blocks s.waiters s claim c is, wait_found left a.rows (length s.waiters) (length (both_entered a s.names)) None wait)
-  go (Some c) l false w is grant may wait = let held = blockers_some s.waiters s claim c is in (timely, may, is, held.0, held.1)
-  go None (Some limit) b w is grant may wait = (timely, inl (blockers_none s.waiters s claim is, grant_found left a.rows (length (granted_claims claim s.claims)) (length (both_entered a s.names)) (Some limit) grant))
-  go None None b w is grant may wait = (refl, timely, blockers_none s.waiters s claim is, grant_found left a.rows (length (granted_claims claim s.claims)) (length (both_entered a s.names)) None grant)
+-- who is stopped for good may wait where it blocks, and who isn't where it awaits answers
+may_stopped : (held : List Claim) (a : Ask) (claim : Claim) → is_stopped held claim ≡ true → a.blocking ≡ true → may_wait held a claim ≡ true
+may_stopped held a claim stops blocking = rw stops blocking
+
+may_moves : (held : List Claim) (a : Ask) (claim : Claim) → is_stopped held claim ≡ false → awaits a ≡ true → may_wait held a claim ≡ true
+may_moves held a claim moves waits = ap (λ (b : Bool). if b then a.blocking else awaits a) moves ∙ waits
+
+stopped_may : (held : List Claim) (a : Ask) (claim : Claim) → is_stopped held claim ≡ true → may_wait held a claim ≡ true → a.blocking ≡ true
+stopped_may held a claim stops may = sym (ap (λ (b : Bool). if b then a.blocking else awaits a) stops) ∙ may
+
+moves_may : (held : List Claim) (a : Ask) (claim : Claim) → is_stopped held claim ≡ false → may_wait held a claim ≡ true → awaits a ≡ true
+moves_may held a claim moves may = sym (ap (λ (b : Bool). if b then a.blocking else awaits a) moves) ∙ may
+
+lock_forth : (left : Rooms) (s : CoreState) (a : Ask) (claim : Claim) → a.reclaim ≡ false → IsClaimDue left s a claim (told_now left s a claim)
+lock_forth left s a claim timely =
+    go (least_blocker s.waiters s claim) (cache_against s.claims claim) (first_passed (limits_of_grant left s a claim)) a.blocking (awaits a) (first_passed (limits_of_wait left s a)) refl refl refl refl refl refl
+  where
+    go : (o k : Option Claim) (l : Option ℕ) (b u : Bool) (w : Option ℕ) → least_blocker s.waiters s claim ≡ o → cache_against s.claims claim ≡ k → first_passed (limits_of_grant left s a claim) ≡ l → a.blocking ≡ b → awaits a ≡ u → first_passed (limits_of_wait left s a) ≡ w
+        → IsClaimDue left s a claim (told_by s a claim o k l b u w)
+    go (Some c) k l true u (Some limit) is cache grant may answers wait =
+        (timely, inr (may_stopped s.claims a claim (some_stops s.waiters s claim c is) may, some_blocks s.waiters s claim c is, wait_found left a.rows (length s.waiters) (length (both_entered a s.names)) (Some limit) wait))
+    go (Some c) k l true u None is cache grant may answers wait =
+        (refl, timely, may_stopped s.claims a claim (some_stops s.waiters s claim c is) may, some_blocks s.waiters s claim c is, wait_found left a.rows (length s.waiters) (length (both_entered a s.names)) None wait)
+    go (Some c) k l false u w is cache grant may answers wait = let held = blockers_some s.waiters s claim c is in (timely, may, is, held.0, held.1)
+    go None (Some c) l b true (Some limit) is cache grant may answers wait =
+        (timely, inr (may_moves s.claims a claim (blockers_none s.waiters s claim is) answers, cache_blocked s.claims claim c cache, wait_found left a.rows (length s.waiters) (length (both_entered a s.names)) (Some limit) wait))
+    go None (Some c) l b true None is cache grant may answers wait =
+        (refl, timely, may_moves s.claims a claim (blockers_none s.waiters s claim is) answers, cache_blocked s.claims claim c cache, wait_found left a.rows (length s.waiters) (length (both_entered a s.names)) None wait)
+    go None (Some c) l b false w is cache grant may answers wait = let found = cache_some s.claims claim c cache in (timely, answers, blockers_none s.waiters s claim is, cache, found.0, found.1)
+    go None None (Some limit) b u w is cache grant may answers wait =
+        (timely, inl (free_unless s.claims claim (blockers_none s.waiters s claim is) cache, grant_found left a.rows (length (granted_claims claim s.claims)) (length (both_entered a s.names)) (Some limit) grant))
+    go None None None b u w is cache grant may answers wait =
+        (refl, timely, free_unless s.claims claim (blockers_none s.waiters s claim is) cache, grant_found left a.rows (length (granted_claims claim s.claims)) (length (both_entered a s.names)) None grant)
 
 -- a cause of another answer than that a reclaim comes too late brings it
-lock_back : (left : Rooms) (s : CoreState) (a : Ask) (claim : Claim) (answer : Answer) → a.reclaim ≡ false → IsClaimDue left s a claim answer
-    → told_by s a claim (least_blocker s.waiters s claim) (first_passed (limits_of_grant left s a claim)) a.blocking (first_passed (limits_of_wait left s a)) ≡ answer
+lock_back : (left : Rooms) (s : CoreState) (a : Ask) (claim : Claim) (answer : Answer) → a.reclaim ≡ false → IsClaimDue left s a claim answer → told_now left s a claim ≡ answer
 lock_back left s a claim answer timely due = go answer due where
-  at : (o : Option Claim) (l : Option ℕ) (b : Bool) (w : Option ℕ) → least_blocker s.waiters s claim ≡ o → first_passed (limits_of_grant left s a claim) ≡ l → a.blocking ≡ b → first_passed (limits_of_wait left s a) ≡ w
-      → told_by s a claim (least_blocker s.waiters s claim) (first_passed (limits_of_grant left s a claim)) a.blocking (first_passed (limits_of_wait left s a)) ≡ told_by s a claim o l b w
-  at o l b w e f g h = λ i. told_by s a claim (e i) (f i) (g i) (h i)
+  at : (o k : Option Claim) (l : Option ℕ) (b u : Bool) (w : Option ℕ) → least_blocker s.waiters s claim ≡ o → cache_against s.claims claim ≡ k → first_passed (limits_of_grant left s a claim) ≡ l → a.blocking ≡ b → awaits a ≡ u → first_passed (limits_of_wait left s a) ≡ w
+      → told_now left s a claim ≡ told_by s a claim o k l b u w
+  at o k l b u w e f g h i j = λ x. told_by s a claim (e x) (f x) (g x) (h x) (i x) (j x)
 
-  go : (x : Answer) → IsClaimDue left s a claim x → told_by s a claim (least_blocker s.waiters s claim) (first_passed (limits_of_grant left s a claim)) a.blocking (first_passed (limits_of_wait left s a)) ≡ x
-  go (answers.Granted c) due = at None None _ _ (none_blockers s.waiters s claim due.2) (grant_least left a.rows (length (granted_claims claim s.claims)) (length (both_entered a s.names)) None due.3) refl refl ∙ ap answers.Granted (sym due.0)
-  go (answers.Conflict c) due = at (Some c) _ false _ due.2 refl due.1 refl
-  go (answers.Queued number) due = let found = blocks_some s.waiters s claim due.3 in at (Some found.0) _ true None found.1 refl due.2 (wait_least left a.rows (length s.waiters) (length (both_entered a s.names)) None due.4) ∙ ap answers.Queued (sym due.0)
+  clear : is_blocked s.claims claim ≡ false → (least_blocker s.waiters s claim ≡ None) × (cache_against s.claims claim ≡ None)
+  clear free = (none_blockers s.waiters s claim (free_moves s.claims claim free), free_clear s.claims claim free)
+
+  told_wait : Option ℕ → Answer
+  told_wait None = answers.Queued (s.counter + 1)
+  told_wait (Some l) = answers.Full l
+
+  -- who waits, by what it waits for
+  waits : (limit : Option ℕ) → may_wait s.claims a claim ≡ true → is_blocked s.claims claim ≡ true → first_passed (limits_of_wait left s a) ≡ limit → told_now left s a claim ≡ told_wait limit
+  waits limit may blocked is = by (is_stopped s.claims claim) refl where
+    stopped_so : (c : Claim) (o : Option ℕ) → told_by s a claim (Some c) (cache_against s.claims claim) (first_passed (limits_of_grant left s a claim)) true (awaits a) o ≡ told_wait o
+    stopped_so c None = refl
+    stopped_so c (Some l) = refl
+
+    kept_so : (c : Claim) (o : Option ℕ) → told_by s a claim None (Some c) (first_passed (limits_of_grant left s a claim)) a.blocking true o ≡ told_wait o
+    kept_so c None = refl
+    kept_so c (Some l) = refl
+
+    by : (b : Bool) → is_stopped s.claims claim ≡ b → told_now left s a claim ≡ told_wait limit
+    by true stops = let found = stops_some s.waiters s claim stops in at (Some found.0) _ _ true _ limit found.1 refl refl (stopped_may s.claims a claim stops may) refl is ∙ stopped_so found.0 limit
+    by false moves = let found = moves_cache s.claims claim blocked moves in at None (Some found.0) _ _ true limit (none_blockers s.waiters s claim moves) found.1 refl refl (moves_may s.claims a claim moves may) is ∙ kept_so found.0 limit
+
+  go : (x : Answer) → IsClaimDue left s a claim x → told_now left s a claim ≡ x
+  go (answers.Granted c) due = let none = clear due.2 in at None None None _ _ _ none.0 none.1 (grant_least left a.rows (length (granted_claims claim s.claims)) (length (both_entered a s.names)) None due.3) refl refl refl ∙ ap answers.Granted (sym due.0)
+  go (answers.Conflict c) due = at (Some c) _ _ false _ _ due.2 refl refl due.1 refl refl
+  go (answers.Recall c) due = at None (Some c) _ _ false _ (none_blockers s.waiters s claim due.2) due.3 refl refl due.1 refl
+  go (answers.Queued number) due = waits None due.2 due.3 (wait_least left a.rows (length s.waiters) (length (both_entered a s.names)) None due.4) ∙ ap answers.Queued (sym due.0)
   go (answers.NoGrace clock) due = absurd (both_ways a.reclaim timely due.1)
   go (answers.Full limit) due =
       elim due.1 [
-        | inl grants ↦ at None (Some limit) _ _ (none_blockers s.waiters s claim grants.0) (grant_least left a.rows (length (granted_claims claim s.claims)) (length (both_entered a s.names)) (Some limit) grants.1) refl refl
-        | inr may ↦ let found = blocks_some s.waiters s claim may.1 in at (Some found.0) _ true (Some limit) found.1 refl may.0 (wait_least left a.rows (length s.waiters) (length (both_entered a s.names)) (Some limit) may.2)
+        | inl grants ↦ let none = clear grants.0 in at None None (Some limit) _ _ _ none.0 none.1 (grant_least left a.rows (length (granted_claims claim s.claims)) (length (both_entered a s.names)) (Some limit) grants.1) refl refl refl
+        | inr may ↦ waits (Some limit) may.0 may.1 (wait_least left a.rows (length s.waiters) (length (both_entered a s.names)) (Some limit) may.2)
       ]
-  go (answers.Recall c) due = absurd due
   go (answers.Grace until) due = absurd due
   go answers.NotRecorded due = absurd due
   go answers.NotHeld due = absurd due
@@ -141,16 +196,15 @@ late_back left s a claim (answers.Conflict c) late due = absurd (both_ways a.rec
 late_back left s a claim (answers.Queued number) late due = absurd (both_ways a.reclaim due.1 late)
 late_back left s a claim (answers.NoGrace clock) late due = ap answers.NoGrace (sym due.0)
 late_back left s a claim (answers.Full limit) late due = absurd (both_ways a.reclaim due.0 late)
-late_back left s a claim (answers.Recall c) late due = absurd due
+late_back left s a claim (answers.Recall c) late due = absurd (both_ways a.reclaim due.0 late)
 late_back left s a claim (answers.Grace until) late due = absurd due
 late_back left s a claim answers.NotRecorded late due = absurd due
 late_back left s a claim answers.NotHeld late due = absurd due
 late_back left s a claim answers.StoreFailed late due = absurd due
 
-pub lock_due : (n : ℕ) (left : Rooms) (s : CoreState) (a : Ask) (what : What) (answer : Answer) → asked_what a.act ≡ Some what → ((ask n left s a).0 ≡ answer) ↔ IsClaimDue left s a (asked_claim a what s.names) answer
-lock_due n left s a what answer act =
-    let claim = asked_claim a what s.names in
-    let is = ap first_is (lock_is n left s a what act) in
+-- an ask for one claim
+claim_exactly : (n : ℕ) (left : Rooms) (s : CoreState) (a : Ask) (claim : Claim) (r answer : Answer) → r ≡ (ruled a claim (judged n s.waiters left (plea_of left s a) (claim ∷ []) s)).0 → (r ≡ answer) ↔ IsClaimDue left s a claim answer
+claim_exactly n left s a claim r answer is =
     elim (cases_Bool a.reclaim) [
       | inl e ↦
           let told = is ∙ ap first_is (lock_late n left s a claim e) in (
@@ -163,6 +217,12 @@ lock_due n left s a what answer act =
             λ due. told ∙ lock_back left s a claim answer e due,
           )
     ]
+
+claim_due : (n : ℕ) (left : Rooms) (s : CoreState) (a : Ask) (claim : Claim) (r : Answer) → r ≡ (ruled a claim (judged n s.waiters left (plea_of left s a) (claim ∷ []) s)).0 → IsClaimDue left s a claim r
+claim_due n left s a claim r is = (claim_exactly n left s a claim r r is).0 refl
+
+pub lock_due : (n : ℕ) (left : Rooms) (s : CoreState) (a : Ask) (what : What) (answer : Answer) → asked_what a.act ≡ Some what → ((ask n left s a).0 ≡ answer) ↔ IsClaimDue left s a (asked_claim a what s.names) answer
+lock_due n left s a what answer act = claim_exactly n left s a (asked_claim a what s.names) (ask n left s a).0 answer (ap first_is (lock_is n left s a what act))
 
 -- ---- why a test is
 
@@ -475,44 +535,111 @@ test_leaves n left s a extent exclusive act = ap (λ (r : Answered). r.2) (test_
 -- ---- several ranges
 
 -- what is told of the ruling on several claims, of which this is the first
-abbrev tells : Claim → Ruling → Answer → Type 0
+abbrev pub tells : Claim → Ruling → Answer → Type 0
 tells first Gets answer = answer ≡ answers.Granted first
 tells first Waits answer = Unit {0}
 tells first (Told told) answer = answer ≡ told
 
-row_due : (left : Rooms) (p : Plea) (first : Claim) (cs : List Claim) (s : CoreState) (answer : Answer) → p.blocking ≡ false → tells first (row left p cs s) answer → IsEachDue left p.rows p.kept first cs s answer
-unfolding check_held check_room held_with blockers
-row_due left p first [] s answer hurries is = is
-row_due left p first (c ∷ cs) s answer hurries is =
-    (λ d e. conflict d e, λ limit free least. so None (Some limit) (none_blockers [] s c free) (grant_least left p.rows (length (granted_claims c s.claims)) p.kept (Some limit) least), λ free room. row_due left p first cs (record s { claims = granted_claims c s.claims }) answer hurries (rest free room))
+-- the first of these isn't waited for
+abbrev IsJudgedNow : Plea → List Claim → List Claim → Type 0
+IsJudgedNow p held [] = Unit {0}
+IsJudgedNow p held (c ∷ cs) = does_wait p held c ≡ false
+
+judged_at_once : (p : Plea) (held cs : List Claim) → IsJudgedNow (at_once p) held cs
+judged_at_once p held [] = tt
+judged_at_once p held (c ∷ cs) = by (is_blocked held c) (is_stopped held c) where
+  by : (x y : Bool) → (x && (if y then false else false)) ≡ false
+  by true true = refl
+  by true false = refl
+  by false y = refl
+
+all_due : (left : Rooms) (p : Plea) (first : Claim) (cs : List Claim) (s : CoreState) (answer : Answer) → IsJudgedNow p s.claims cs → tells first (row left p cs s) answer → IsEachDue left p.rows p.kept first cs s answer
+unfolding check_held check_caches check_room held_with blockers
+all_due left p first [] s answer now is = is
+all_due left p first (c ∷ cs) s answer now is = (
+  λ d e. conflict d e,
+  λ d moves e. recall d moves e,
+  λ limit free least. so None None (Some limit) (none_blockers [] s c (free_moves s.claims c free)) (free_clear s.claims c free) (grant_least left p.rows (length (granted_claims c s.claims)) p.kept (Some limit) least),
+  λ free room. all_due left (at_once p) first cs (record s { claims = granted_claims c s.claims }) answer (judged_at_once p (granted_claims c s.claims) cs) (rest free room),
+)
   where
     limits : List (ℕ × Bool)
     limits = grant_limits left p.rows (length (granted_claims c s.claims)) p.kept
 
     later : Ruling
-    later = row left p cs (record s { claims = granted_claims c s.claims })
+    later = row left (at_once p) cs (record s { claims = granted_claims c s.claims })
 
-    ruling : Option Claim → Option ℕ → Ruling
-    ruling o l = unless (or_else (held_by p o s).0 (room_by l s).0) later
+    ruling : Option Claim → Option Claim → Option ℕ → Ruling
+    ruling o k l = unless (or_else (held_by p o s).0 (or_else (kept_off_by p k s).0 (room_by l s).0)) later
 
-    so : (o : Option Claim) (l : Option ℕ) → least s.names (blockers [] s c) ≡ o → first_passed limits ≡ l → tells first (ruling o l) answer
-    so o l e k = subst (λ (x : Option Claim). tells first (ruling x l) answer) e (subst (λ (x : Option ℕ). tells first (ruling (least s.names (blockers [] s c)) x) answer) k is)
+    so : (o k : Option Claim) (l : Option ℕ) → least s.names (blockers [] s c) ≡ o → cache_against s.claims c ≡ k → first_passed limits ≡ l → tells first (ruling o k l) answer
+    so o k l e f g =
+        subst (λ (x : Option Claim). tells first (ruling x k l) answer) e
+        (subst (λ (y : Option Claim). tells first (ruling (least s.names (blockers [] s c)) y l) answer) f
+        (subst (λ (z : Option ℕ). tells first (ruling (least s.names (blockers [] s c)) (cache_against s.claims c) z) answer) g is))
+
+    hurries_so : (x y z u : Bool) → x ≡ true → y ≡ true → (x && (if y then z else u)) ≡ false → z ≡ false
+    hurries_so x y z u e f g = rw (e, f) at g
+
+    moves_so : (x y z u : Bool) → x ≡ true → y ≡ false → (x && (if y then z else u)) ≡ false → u ≡ false
+    moves_so x y z u e f g = rw (e, f) at g
 
     conflict : (d : Claim) → least s.names (blockers [] s c) ≡ Some d → answer ≡ answers.Conflict d
-    conflict d e = subst (λ (b : Bool). tells first (if b then waits p.crowded else Told (answers.Conflict d)) answer) hurries (so (Some d) (first_passed limits) e refl)
+    conflict d e =
+        let hurries : p.blocking ≡ false = hurries_so (is_blocked s.claims c) (is_stopped s.claims c) p.blocking p.awaits (some_blocks [] s c d e) (some_stops [] s c d e) now in
+        subst (λ (b : Bool). tells first (if b then waits p.crowded else Told (answers.Conflict d)) answer) hurries (so (Some d) (cache_against s.claims c) (first_passed limits) e refl refl)
+
+    recall : (d : Claim) → is_stopped s.claims c ≡ false → cache_against s.claims c ≡ Some d → answer ≡ answers.Recall d
+    recall d moves e =
+        let hurries : p.awaits ≡ false = moves_so (is_blocked s.claims c) (is_stopped s.claims c) p.blocking p.awaits (cache_blocked s.claims c d e) moves now in
+        subst (λ (b : Bool). tells first (if b then waits p.crowded else Told (answers.Recall d)) answer) hurries (so None (Some d) (first_passed limits) (none_blockers [] s c moves) e refl)
 
     rest : is_blocked s.claims c ≡ false → IsRoom limits → tells first later answer
-    rest free room = so None None (none_blockers [] s c free) (grant_least left p.rows (length (granted_claims c s.claims)) p.kept None room)
+    rest free room = so None None None (none_blockers [] s c (free_moves s.claims c free)) (free_clear s.claims c free) (grant_least left p.rows (length (granted_claims c s.claims)) p.kept None room)
+
+-- each of these is judged beside those before it, where the first isn't waited for
+pub row_due : (left : Rooms) (p : Plea) (first : Claim) (cs : List Claim) (s : CoreState) (answer : Answer) (c : Claim) (rest : List Claim) → cs ≡ c ∷ rest → does_wait p s.claims c ≡ false → tells first (row left p cs s) answer → IsEachDue left p.rows p.kept first cs s answer
+row_due left p first cs s answer c rest e now is = all_due left p first cs s answer (subst (λ (ds : List Claim). IsJudgedNow p s.claims ds) (sym e) now) is
 
 pub ranges_asked : (n : ℕ) (left : Rooms) (s : CoreState) (a : Ask) (ranges : List (Extent × Bool)) → a.act ≡ Ranges ranges → ask n left s a ≡ claims_asked n left s a (asked_claims a (map range_what ranges) s.names)
 unfolding ask
 ranges_asked n left s a ranges e = ap (λ (act : Act). acted n left s a act) e
 
--- each of several is judged beside those before it
-pub each_due : (n : ℕ) (left : Rooms) (s : CoreState) (a : Ask) (c : Claim) (cs : List Claim) (r : Answered) → a.reclaim ≡ false → a.blocking ≡ false → r ≡ claims_asked n left s a (c ∷ cs) → IsEachDue left a.rows (length (both_entered a s.names)) c (c ∷ cs) s r.0
+-- the first is told so where something blocks it, whatever is asked for behind it
+pub first_due : (n : ℕ) (left : Rooms) (s : CoreState) (a : Ask) (c : Claim) (cs : List Claim) (r : Answered) → is_blocked s.claims c ≡ true → r ≡ claims_asked n left s a (c ∷ cs) → IsClaimDue left s a c r.0
 unfolding claims_asked plea_of
-each_due n left s a c cs r timely hurries is =
-    row_due left p c (c ∷ cs) s r.0 hurries
+first_due n left s a c cs r blocked is = subst (λ (x : Answer). IsClaimDue left s a c x) (sym (ap first_is (is ∙ (λ i. let x = same i in answered a (c ∷ cs) c x.0 x.1 x.2)) ∙ told)) due where
+  p : Plea
+  p = plea_of left s a
+
+  alone : Ruled
+  alone = judged n s.waiters left p (c ∷ []) s
+
+  same : judged n s.waiters left p (c ∷ cs) s ≡ alone
+  same = elim (cases_Bool a.reclaim) [ inl late_one ↦ late n s.waiters left p (c ∷ cs) s late_one ∙ sym (late n s.waiters left p (c ∷ []) s late_one) | inr timely ↦ by timely (is_stopped s.claims c) refl ] where
+    by : a.reclaim ≡ false → (b : Bool) → is_stopped s.claims c ≡ b → judged n s.waiters left p (c ∷ cs) s ≡ alone
+    by timely true stops = let found = stops_some s.waiters s c stops in judged_stopped n s.waiters left p c found.0 cs s timely found.1 ∙ sym (judged_stopped n s.waiters left p c found.0 [] s timely found.1)
+    by timely false moves =
+        let found = moves_cache s.claims c blocked moves in
+        let none = none_blockers s.waiters s c moves in
+        judged_kept_off n s.waiters left p c found.0 cs s timely none found.1 ∙ sym (judged_kept_off n s.waiters left p c found.0 [] s timely none found.1)
+
+  -- what is answered isn't a grant, so it is the same for one claim
+  told : (answered a (c ∷ cs) c alone.0 alone.1 alone.2).0 ≡ (ruled a c alone).0
+  told = by alone.0 where
+    by : (ruling : Ruling) → (answered a (c ∷ cs) c ruling alone.1 alone.2).0 ≡ (ruled a c (ruling, alone.1, alone.2)).0
+    by Gets = refl
+    by Waits = refl
+    by (Told x) = refl
+
+  due : IsClaimDue left s a c (ruled a c alone).0
+  due = claim_due n left s a c (ruled a c alone).0 refl
+
+-- each of several is judged beside those before it, where nothing blocks the first
+pub each_due : (n : ℕ) (left : Rooms) (s : CoreState) (a : Ask) (c : Claim) (cs : List Claim) (r : Answered) → a.reclaim ≡ false → is_blocked s.claims c ≡ false → r ≡ claims_asked n left s a (c ∷ cs) → IsEachDue left a.rows (length (both_entered a s.names)) c (c ∷ cs) s r.0
+unfolding claims_asked plea_of
+each_due n left s a c cs r timely free is =
+    row_due left p c (c ∷ cs) s r.0 c cs refl (ap (λ (b : Bool). b && (if is_stopped s.claims c then a.blocking else awaits a)) free)
     (subst (λ (x : Answer). tells c (row left p (c ∷ cs) s) x) (sym (ap first_is is ∙ ap (λ (x : Ruled). (answered a (c ∷ cs) c x.0 x.1 x.2).0) (judged_row n s.waiters left p (c ∷ cs) s timely))) (by (row left p (c ∷ cs) s) [] _))
   where
     p : Plea

@@ -21,7 +21,7 @@ use Rattle.xl_wait.specs.declared.waiter.Rooms.{Rooms}
 use Rattle.xl_core.specs.State.{CoreState}
 use Rattle.xl_core.specs.Asking.{asker, range_what, asked_whats, asked_what, asked_claim, asked_claims, known_claim, is_client, is_named}
 use Rattle.xl_core.specs.Blockers.{test_blockers}
-use Rattle.xl_core.specs.Causes.{asks_share, left_by_unlock, IsOwn}
+use Rattle.xl_core.specs.Causes.{may_wait, asks_share, left_by_unlock, IsOwn}
 use Rattle.xl_core.specs.Decide.{Answered, waiter_of, waiting, named, claims_asked, test_answered, tested, unlocked_claims, unlocked, acted, ask, unlocked_one, unlocked_bytes, freed}
 use Rattle.xl_core.specs.Frames.{asks_to_hold}
 use Rattle.xl_core.specs.Good.{IsGood, are_kept, IsHeld}
@@ -37,7 +37,7 @@ use Rattle.xl_core.proofs.GoodLaws.{AskCase, Goes, Queues, Refuses, ask_case, ho
 use Rattle.xl_core.proofs.CacheLaws.{relocked_caches, all_granted_caches, removed_caches, range_no_cache}
 use Rattle.xl_core.proofs.KnownLaws.{both_go_on, known_owner_is, known_posix, asker_posix}
 use Rattle.xl_core.proofs.RowLaws.{is_refusal}
-use Rattle.xl_table.specs.Flat.{inserted, removed, with_what}
+use Rattle.xl_table.specs.Flat.{inserted, removed, with_what, is_blocked}
 use Rattle.xl_table.specs.Order.{goes_first}
 use Rattle.xl_table.specs.Elements.{is_held, element_held}
 use Rattle.xl_table.proofs.InsertLaws.{spans_of-inserted_apart, spans_of-inserted_other}
@@ -124,6 +124,15 @@ unfolding granted_claims
 empty_spans c offset exclusive cs is =
     ap (λ (w : What). spans_of c.file c.owner (granted_by c w cs)) is ∙ spans_of-inserted_other c.file c.owner c cs (λ spans. ap (λ (w : What). with_span w spans) is)
 
+-- where each of these is apart nothing changes there
+pub all_spans_left : (cs held : List Claim) (file : ℕ) (owner : Owner) → AllByRecursion (λ c. (file ≡ c.file) × (owner ≡ c.owner) × (is_share c.what ≡ false) → ⊥) cs → spans_of file owner (all_granted cs held) ≡ spans_of file owner held
+all_spans_left [] held file owner apart = refl
+all_spans_left (c ∷ cs) held file owner apart = all_spans_left cs (granted_claims c held) file owner apart.1 ∙ spans_apart c held file owner apart.0
+
+pub all_shares_left : (cs held : List Claim) (file : ℕ) (owner : Owner) → AllByRecursion (λ c. (file ≡ c.file) × (owner ≡ c.owner) × (is_share c.what ≡ true) → ⊥) cs → shares_of file owner (all_granted cs held) ≡ shares_of file owner held
+all_shares_left [] held file owner apart = refl
+all_shares_left (c ∷ cs) held file owner apart = all_shares_left cs (granted_claims c held) file owner apart.1 ∙ shares_apart c held file owner apart.0
+
 -- each of these is of this owner on this file, and a share or not
 abbrev AreAt : ℕ → Owner → Bool → List Claim → Type 0
 AreAt file owner share cs = AllByRecursion (λ c. (c.file ≡ file) × (c.owner ≡ owner) × (is_share c.what ≡ share)) cs
@@ -152,7 +161,7 @@ pub data AskWay (s : CoreState) (a : Ask) (r : Answered) : Type 0 where
   Stays : (answer : Answer) → is_refusal answer ≡ true → r ≡ (answer, [], s) → AskWay s a r
   Tests : (c : Claim) → asks_to_hold a.act ≡ false → r ≡ (answers.Granted c, [], s) → AskWay s a r
   Holds : (c : Claim) (claims : List Claim) → claims ≡ asked_claims a (asked_whats a.act) s.names → asks_to_hold a.act ≡ true → r ≡ (answers.Granted c, [], named a (held_with claims s)) → AskWay s a r
-  Waits : (claims : List Claim) → a.blocking ≡ true → claims ≡ asked_claims a (asked_whats a.act) s.names → asks_to_hold a.act ≡ true → r ≡ (answers.Queued (s.counter + 1), [], waiting a claims s) → AskWay s a r
+  Waits : (c : Claim) (cs : List Claim) → may_wait s.claims a c ≡ true → is_blocked s.claims c ≡ true → c ∷ cs ≡ asked_claims a (asked_whats a.act) s.names → asks_to_hold a.act ≡ true → r ≡ (answers.Queued (s.counter + 1), [], waiting a (c ∷ cs) s) → AskWay s a r
   Frees : (claim : Claim) (first last : ℕ) → asks_to_hold a.act ≡ false → asks_share a.act ≡ false → claim.file ≡ a.file → claim.owner ≡ asker a s.names → r ≡ (answers.Granted claim, [], record s { claims = unlocked_claims claim first last s.claims }) → AskWay s a r
   Gives : (claim d : Claim) → asks_to_hold a.act ≡ false → asks_share a.act ≡ false → d.file ≡ a.file → d.owner ≡ asker a s.names → is_range d.what ≡ true → r ≡ (answers.Granted claim, [], record s { claims = removed d s.claims }) → AskWay s a r
 
@@ -162,7 +171,7 @@ asked_way n left s a [] e holds = Stays answers.NotHeld refl refl
 asked_way n left s a (c ∷ cs) e holds = by (claims_asked n left s a (c ∷ cs)) (ask_case n left s a c cs) where
   by : (r : Answered) → AskCase left s a (c ∷ cs) c r → AskWay s a r
   by r (Goes pass is) = Holds c (c ∷ cs) e holds is
-  by r (Queues may room is) = Waits (c ∷ cs) may e holds is
+  by r (Queues may blocked room is) = Waits c cs may blocked e holds is
   by r (Refuses answer refused is) = Stays answer refused is
 
 tested_way : (s : CoreState) (a : Ask) (claim : Claim) → asks_to_hold a.act ≡ false → AskWay s a (tested s a claim, [], s)
@@ -294,7 +303,7 @@ way_own s a r (Holds c claims is holds e) =
       stay = λ w h. h;
       names = both_go_on a s.names;
     })
-way_own s a r (Waits claims waits is may e) =
+way_own s a r (Waits c cs may blocked is holds e) =
     subst (λ (x : Answered). IsOwn s a x.0 x.2) (sym e)
     (record {
       claims = λ none. refl;
@@ -303,7 +312,7 @@ way_own s a r (Waits claims waits is may e) =
       spans = λ at who apart. refl;
       shares = λ at who apart. refl;
       caches = refl;
-      stay = λ w h. in_append_left w s.waiters (waiter_of (s.counter + 1) a claims ∷ []) h;
+      stay = λ w h. in_append_left w s.waiters (waiter_of (s.counter + 1) a (c ∷ cs) ∷ []) h;
       names = both_go_on a s.names;
     })
 way_own s a r (Frees claim first last holds act file owner e) =
@@ -347,7 +356,7 @@ granted_way s a what c r act holds (Stays answer refused e) at = absurd (refused
 granted_way s a what c r act holds (Tests d nothing e) at = absurd (both_ways (asks_to_hold a.act) nothing holds)
 granted_way s a what c r act holds (Holds d claims is held e) at =
     ap (λ (x : Answered). x.2.claims) e ∙ ap (λ (cs : List Claim). all_granted cs s.claims) (is ∙ ap (λ (w : List What). asked_claims a w s.names) (same_list what (asked_whats a.act) act))
-granted_way s a what c r act holds (Waits claims waits is may e) at = let two : answers.Queued (s.counter + 1) ≡ answers.Granted c = sym (ap (λ (x : Answered). x.0) e) ∙ at in absurd cc
+granted_way s a what c r act holds (Waits d ds may blocked is held e) at = let two : answers.Queued (s.counter + 1) ≡ answers.Granted c = sym (ap (λ (x : Answered). x.0) e) ∙ at in absurd cc
 granted_way s a what c r act holds (Frees claim first last nothing share file owner e) at = absurd (both_ways (asks_to_hold a.act) nothing holds)
 granted_way s a what c r act holds (Gives claim d nothing share file owner range e) at = absurd (both_ways (asks_to_hold a.act) nothing holds)
 
@@ -400,7 +409,7 @@ waits_way s a number r (Tests c holds e) at = let two : answers.Granted c ≡ an
 waits_way s a number r (Holds c claims is holds e) at = let two : answers.Granted c ≡ answers.Queued number = sym (ap (λ (x : Answered). x.0) e) ∙ at in absurd cc
 waits_way s a number r (Frees c first last holds act file owner e) at = let two : answers.Granted c ≡ answers.Queued number = sym (ap (λ (x : Answered). x.0) e) ∙ at in absurd cc
 waits_way s a number r (Gives c d holds act file owner range e) at = let two : answers.Granted c ≡ answers.Queued number = sym (ap (λ (x : Answered). x.0) e) ∙ at in absurd cc
-waits_way s a number r (Waits claims waits is may e) at =
+waits_way s a number r (Waits c cs may blocked is holds e) at =
     ap (λ (x : Answered). x.2.waiters) e ∙ (λ i. s.waiters ++ waiter_of (same_number (s.counter + 1) number (sym (ap (λ (x : Answered). x.0) e) ∙ at) i) a (is i) ∷ [])
   where
     same_number : (x y : ℕ) → answers.Queued x ≡ answers.Queued y → x ≡ y

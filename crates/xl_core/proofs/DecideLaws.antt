@@ -1,34 +1,152 @@
--- What blocks an ask, by the least that does.
-use Rattle.std.proofs.Common.{◌≡◌, true, false, List, Option, Some, None, refl}
-use Rattle.std.specs.List.{filter}
-use Rattle.std.proofs.lemmas.Bool.{both_ways}
+-- What blocks an ask: for good, or a cache that a break may move.
+use Rattle.std.proofs.Common.{◌≡◌, Bool, true, false, not, ◌&&◌, ◌||◌, List, [], ◌∷◌, Option, Some, None, inl, inr, refl, subst, map, IfSome, IsSome}
+use Rattle.std.specs.List.{filter, list_any}
+use Rattle.std.proofs.lemmas.Bool.{cases_Bool, both_ways, and_parts, and_from, or_cases, or_left, not-true}
 use Rattle.xl_base.specs.Lists.{IsIn}
 use Rattle.xl_base.proofs.Members.{in_filter_from}
+use Rattle.xl_base.proofs.Searches.{any_found, any_from, any_none, none_passes as none_pass}
+use Rattle.xl_cache.specs.Planning.{is_running, keeps_open, is_covered, is_final, blocking_shares, covers, is_in_the_way, broken_claim, is_obstacle, planned}
+use Rattle.xl_cache.proofs.BreakLaws.{keeper_in_the_way}
+use Rattle.xl_cache.proofs.PlanLaws.{names_all, names_only}
+use Rattle.xl_matrix.specs.Equal.{same_parties}
+use Rattle.xl_matrix.specs.declared.claim.CacheKind.{CacheKind}
 use Rattle.xl_matrix.specs.declared.claim.Claim.{Claim}
 use Rattle.xl_table.specs.Flat.{blocks, is_blocked}
+use Rattle.xl_table.specs.Held.{is_share, is_cache}
 use Rattle.xl_table.specs.Least.{least}
 use Rattle.xl_table.proofs.LeastLaws.{least_in, least_none, least_empty, none_passes, none_stays, one_passes}
 use Rattle.xl_wait.specs.declared.waiter.Waiter.{Waiter}
 use Rattle.xl_core.specs.State.{CoreState}
-use Rattle.xl_core.specs.Blockers.{blockers}
+use Rattle.xl_core.specs.Blockers.{blockers, is_stopped, cache_by, cache_against}
 
-pub blockers_none : (earlier : List Waiter) (s : CoreState) (ask : Claim) → least s.names (blockers earlier s ask) ≡ None → is_blocked s.claims ask ≡ false
-unfolding blockers
-blockers_none earlier s ask e = none_passes (λ c. blocks ask c) s.claims (least_none s.names (filter (λ held. blocks ask held) s.claims) e)
+-- ---- for good
 
-pub none_blockers : (earlier : List Waiter) (s : CoreState) (ask : Claim) → is_blocked s.claims ask ≡ false → least s.names (blockers earlier s ask) ≡ None
+pub blockers_none : (earlier : List Waiter) (s : CoreState) (ask : Claim) → least s.names (blockers earlier s ask) ≡ None → is_stopped s.claims ask ≡ false
 unfolding blockers
-none_blockers earlier s ask free = least_empty s.names (filter (λ held. blocks ask held) s.claims) (none_stays (λ c. blocks ask c) s.claims free)
+blockers_none earlier s ask e = none_passes (is_final ask s.claims) s.claims (least_none s.names (filter (is_final ask s.claims) s.claims) e)
+
+pub none_blockers : (earlier : List Waiter) (s : CoreState) (ask : Claim) → is_stopped s.claims ask ≡ false → least s.names (blockers earlier s ask) ≡ None
+unfolding blockers
+none_blockers earlier s ask free = least_empty s.names (filter (is_final ask s.claims) s.claims) (none_stays (is_final ask s.claims) s.claims free)
+
+final_in : (earlier : List Waiter) (s : CoreState) (ask c : Claim) → least s.names (blockers earlier s ask) ≡ Some c → IsIn c s.claims × (is_final ask s.claims c ≡ true)
+unfolding blockers
+final_in earlier s ask c e = in_filter_from (is_final ask s.claims) c s.claims (least_in s.names (filter (is_final ask s.claims) s.claims) c e)
 
 pub blockers_some : (earlier : List Waiter) (s : CoreState) (ask c : Claim) → least s.names (blockers earlier s ask) ≡ Some c → IsIn c s.claims × (blocks ask c ≡ true)
-unfolding blockers
-blockers_some earlier s ask c e = in_filter_from (λ held. blocks ask held) c s.claims (least_in s.names (filter (λ held. blocks ask held) s.claims) c e)
+blockers_some earlier s ask c e = let found = final_in earlier s ask c e in (found.0, (and_parts (blocks ask c) _ found.1).0)
+
+pub some_stops : (earlier : List Waiter) (s : CoreState) (ask c : Claim) → least s.names (blockers earlier s ask) ≡ Some c → is_stopped s.claims ask ≡ true
+some_stops earlier s ask c e = let found = final_in earlier s ask c e in one_passes (is_final ask s.claims) s.claims c found.0 found.1
 
 pub some_blocks : (earlier : List Waiter) (s : CoreState) (ask c : Claim) → least s.names (blockers earlier s ask) ≡ Some c → is_blocked s.claims ask ≡ true
 some_blocks earlier s ask c e = let found = blockers_some earlier s ask c e in one_passes (λ d. blocks ask d) s.claims c found.0 found.1
 
-pub blocks_some : (earlier : List Waiter) (s : CoreState) (ask : Claim) → is_blocked s.claims ask ≡ true → (c : Claim) × (least s.names (blockers earlier s ask) ≡ Some c)
-blocks_some earlier s ask blocked = go (least s.names (blockers earlier s ask)) refl where
+pub stops_some : (earlier : List Waiter) (s : CoreState) (ask : Claim) → is_stopped s.claims ask ≡ true → (c : Claim) × (least s.names (blockers earlier s ask) ≡ Some c)
+stops_some earlier s ask stopped = go (least s.names (blockers earlier s ask)) refl where
   go : (o : Option Claim) → least s.names (blockers earlier s ask) ≡ o → (c : Claim) × (least s.names (blockers earlier s ask) ≡ Some c)
-  go None e = absurd (both_ways (is_blocked s.claims ask) (blockers_none earlier s ask e) blocked)
+  go None e = absurd (both_ways (is_stopped s.claims ask) (blockers_none earlier s ask e) stopped)
   go (Some c) e = (c, e)
+
+-- ---- caches
+
+-- what is in the way of an ask blocks it, or a share does that it covers
+obstacle_blocks : (ask : Claim) (held : List Claim) (c : Claim) → IsIn c held → is_obstacle ask held c ≡ true → is_blocked held ask ≡ true
+unfolding is_in_the_way
+obstacle_blocks ask held c there way =
+    elim (or_cases (is_cache c.what && blocks ask c) (covers ask (blocking_shares ask held) c) way) [
+      | inl soft ↦ one_passes (λ d. blocks ask d) held c there (and_parts (is_cache c.what) (blocks ask c) soft).1
+      | inr cover ↦
+          let shares = blocking_shares ask held in
+          let share = any_found (λ d. keeps_open d c) shares (and_parts (not (same_parties c.party ask.party)) (list_any (λ d. keeps_open d c) shares) cover).1 in
+          let is = in_filter_from (λ d. is_share d.what && blocks ask d) share.0 held share.1 in
+          one_passes (λ d. blocks ask d) held share.0 is.0 (and_parts (is_share share.0.what) (blocks ask share.0) is.1).1
+    ]
+
+-- what blocks an ask does so for good, or something is in its way
+blocks_so : (ask : Claim) (held : List Claim) (c : Claim) → IsIn c held → blocks ask c ≡ true → is_final ask held c ≡ false → (d : Claim) × IsIn d held × (is_obstacle ask held d ≡ true)
+unfolding is_covered is_in_the_way
+blocks_so ask held c there blocked moves =
+    elim (cases_Bool (is_cache c.what)) [
+      | inl soft ↦ (c, there, or_left (is_cache c.what && blocks ask c) (covers ask (blocking_shares ask held) c) (and_from (is_cache c.what) (blocks ask c) soft blocked))
+      | inr hard ↦
+          let covered : is_covered ask held c ≡ true = stays (blocks ask c) (is_cache c.what) (is_covered ask held c) blocked hard moves in
+          let parts = and_parts (is_share c.what) (not (same_parties c.party ask.party) && list_any (keeps_open c) held) covered in
+          let rest = and_parts (not (same_parties c.party ask.party)) (list_any (keeps_open c) held) parts.1 in
+          let keeper = any_found (keeps_open c) held rest.1 in
+          (keeper.0, keeper.1, keeper_in_the_way ask held c keeper.0 there parts.0 blocked (not-true (same_parties c.party ask.party) rest.0) keeper.2)
+    ]
+  where
+    stays : (x y z : Bool) → x ≡ true → y ≡ false → (x && (not y && not z)) ≡ false → z ≡ true
+    stays x y true e f h = refl
+    stays x y false e f h = let two : true ≡ false = rw (e, f) at h in absurd cc
+
+-- the cache that a plan names is in the ask's way
+pub cache_some : (held : List Claim) (ask c : Claim) → cache_against held ask ≡ Some c → IsIn c held × (is_obstacle ask held c ≡ true)
+unfolding cache_against
+cache_some held ask c e = by (planned ask held).awaited (planned ask held).breaks (names_only ask held).awaited (λ b i. (names_only ask held).begun b i) e where
+  same : (x y : Claim) → Some x ≡ Some y → x ≡ y
+  same x y k = cc
+
+  by : (o : Option Claim) (bs : List (Claim × Option CacheKind)) → IfSome o (λ d. IsIn d held × (is_obstacle ask held d ≡ true) × (is_running d.what ≡ true))
+      → ((b : Claim × Option CacheKind) → IsIn b bs → IsIn b.0 held × (is_obstacle ask held b.0 ≡ true) × (is_running b.0.what ≡ false)) → cache_by o bs ≡ Some c → IsIn c held × (is_obstacle ask held c ≡ true)
+  by (Some d) bs is begun k = subst (λ (x : Claim). IsIn x held × (is_obstacle ask held x ≡ true)) (same d c k) (is.0, is.1)
+  by None [] is begun k = absurd cc
+  by None (b ∷ bs) is begun k = let one = begun b (inl refl) in subst (λ (x : Claim). IsIn x held × (is_obstacle ask held x ≡ true)) (same b.0 c k) (one.0, one.1)
+
+-- where a plan names none nothing is
+cache_none : (held : List Claim) (ask c : Claim) → cache_against held ask ≡ None → IsIn c held → is_obstacle ask held c ≡ true → ⊥
+unfolding cache_against
+cache_none held ask c e there way =
+    elim (cases_Bool (is_running c.what)) [
+      | inl runs ↦ waited (planned ask held).awaited (planned ask held).breaks ((names_all ask held).awaited c there way runs) e
+      | inr idle ↦ begun (planned ask held).awaited (planned ask held).breaks ((names_all ask held).begun c there way idle) e
+    ]
+  where
+    waited : (o : Option Claim) (bs : List (Claim × Option CacheKind)) → IsSome o → cache_by o bs ≡ None → ⊥
+    waited (Some d) bs some k = cc
+    waited None bs some k = cc
+
+    begun : (o : Option Claim) (bs : List (Claim × Option CacheKind)) → IsIn c (map broken_claim bs) → cache_by o bs ≡ None → ⊥
+    begun (Some d) bs i k = cc
+    begun None [] i k = i
+    begun None (b ∷ bs) i k = cc
+
+-- ---- both
+
+pub stopped_blocked : (held : List Claim) (ask : Claim) → is_stopped held ask ≡ true → is_blocked held ask ≡ true
+stopped_blocked held ask h =
+    let found = any_found (is_final ask held) held h in
+    one_passes (λ d. blocks ask d) held found.0 found.1 (and_parts (blocks ask found.0) _ found.2).0
+
+pub cache_blocked : (held : List Claim) (ask c : Claim) → cache_against held ask ≡ Some c → is_blocked held ask ≡ true
+cache_blocked held ask c e = let found = cache_some held ask c e in obstacle_blocks ask held c found.0 found.1
+
+-- what neither blocks for good nor by a cache is free
+pub free_unless : (held : List Claim) (ask : Claim) → is_stopped held ask ≡ false → cache_against held ask ≡ None → is_blocked held ask ≡ false
+free_unless held ask moves clear =
+    any_none (blocks ask) held (λ c there.
+    elim (cases_Bool (blocks ask c)) [
+      | inr e ↦ e
+      | inl b ↦ let way = blocks_so ask held c there b (none_pass (is_final ask held) c held moves there) in absurd (cache_none held ask way.0 clear way.1 way.2)
+    ])
+
+pub free_moves : (held : List Claim) (ask : Claim) → is_blocked held ask ≡ false → is_stopped held ask ≡ false
+free_moves held ask free =
+    elim (cases_Bool (is_stopped held ask)) [
+      | inr e ↦ e
+      | inl stopped ↦ absurd (both_ways (is_blocked held ask) free (stopped_blocked held ask stopped))
+    ]
+
+pub free_clear : (held : List Claim) (ask : Claim) → is_blocked held ask ≡ false → cache_against held ask ≡ None
+free_clear held ask free = by (cache_against held ask) refl where
+  by : (o : Option Claim) → cache_against held ask ≡ o → o ≡ None
+  by None e = refl
+  by (Some c) e = absurd (both_ways (is_blocked held ask) free (cache_blocked held ask c e))
+
+-- what blocks, and not for good, is a cache's doing
+pub moves_cache : (held : List Claim) (ask : Claim) → is_blocked held ask ≡ true → is_stopped held ask ≡ false → (c : Claim) × (cache_against held ask ≡ Some c)
+moves_cache held ask blocked moves = by (cache_against held ask) refl where
+  by : (o : Option Claim) → cache_against held ask ≡ o → (c : Claim) × (cache_against held ask ≡ Some c)
+  by None e = absurd (both_ways (is_blocked held ask) (free_unless held ask moves e) blocked)
+  by (Some c) e = (c, e)

@@ -13,8 +13,8 @@ use Rattle.xl_table.specs.Held.{spans_of, is_of, is_range, may_own}
 use Rattle.xl_wait.specs.declared.waiter.Rooms.{Rooms}
 use Rattle.xl_core.specs.State.{CoreState}
 use Rattle.xl_core.specs.Asking.{asked_whats, asked_what, asked_claim, asked_claims, known_claim, IsFit, IsFitAct, is_named, is_client, range_what, known_owner, both_entered, may_hold_all, may_ask}
-use Rattle.xl_core.specs.Causes.{left_by_unlock, IsTurn}
-use Rattle.xl_core.specs.Deeds.{with_waiter, queue_with, KeepNames}
+use Rattle.xl_core.specs.Causes.{may_wait, left_by_unlock}
+use Rattle.xl_core.specs.Deeds.{queue_with, KeepNames}
 use Rattle.xl_core.specs.Decide.{Answered, waiter_of, unlocked_claims, ask, named, claims_asked, plea_of, freed, unlocked_one}
 use Rattle.xl_core.specs.Dues.{IsGrantDue, IsAnswerDue, IsBytesDue}
 use Rattle.xl_table.specs.Held.{IsGrantable}
@@ -27,9 +27,8 @@ use Rattle.xl_core.specs.declared.ask.Answer.{Answer}
 use Rattle.xl_core.specs.declared.ask.Answer.TheVariants as answers
 use Rattle.xl_core.specs.declared.ask.Ask.{Ask}
 use Rattle.xl_core.specs.declared.ask.Effect.{Effect}
-use Rattle.xl_core.proofs.CauseLaws.{same_list, unlock_by, unlock_is, is_holds, lock_due, lock_free, test_due, unlock_due, fit_what, fit_owned, each_due, real_unlock, element_due, element_is, empty_due, ranges_asked, own_ranges, fit_ranges, real_range}
+use Rattle.xl_core.proofs.CauseLaws.{same_list, unlock_by, unlock_is, is_holds, lock_due, lock_free, test_due, unlock_due, fit_what, fit_owned, first_due, each_due, real_unlock, element_due, element_is, empty_due, ranges_asked, own_ranges, fit_ranges, real_range}
 use Rattle.xl_core.proofs.ChangeLaws.{ask_way, granted_way, ask_own, ask_waits, AskWay, Stays, Tests, Holds, Waits, Frees, Gives, element_is_held, spans_of-removed_apart, shares_removed}
-use Rattle.xl_core.proofs.SettleLaws.{turn_is_known}
 use Rattle.xl_core.proofs.KnownLaws.{asked_known, known_posix, known_named, known_party_is, asked_all_known, both_distinct, both_go_on}
 use Rattle.xl_table.proofs.ShareLaws.{shares_of-relocked}
 use Rattle.xl_table.proofs.WriteBack.{spans_of-relocked, spans_of-relocked_apart, is_of-true}
@@ -43,7 +42,7 @@ use Rattle.xl_core.specs.Judge.{all_granted, held_with}
 use Rattle.xl_core.specs.Places.{claims_like}
 use Rattle.xl_names.specs.Names.{AreDistinct}
 use Rattle.xl_table.specs.Elements.{elements_of, unlocked_elements, element_held, taken_out}
-use Rattle.xl_table.specs.Flat.{removed}
+use Rattle.xl_table.specs.Flat.{removed, is_blocked}
 use Rattle.xl_table.proofs.ElementLaws.{AreOfParty, elements_unlocked, elements_removed_apart}
 use Rattle.std.specs.List.{AllByRecursion}
 use Rattle.xl_matrix.specs.declared.claim.Extent.{Extent}
@@ -111,7 +110,7 @@ ranges_enter n left s a range ranges c good fit act at = by (claims_asked n left
         pass = pass;
         like = ap (λ (x : Claim). claims_like x (range ∷ ranges)) (same_claim c first (sym at ∙ ap (λ (x : Answered). x.0) whole)) ∙ all_like (range ∷ ranges);
       }
-  by r (ToWait waits room e) so = let two : answers.Queued (s.counter + 1) ≡ answers.Granted c = sym (ap (λ (x : Answered). x.0) (is ∙ so ∙ e)) ∙ at in absurd cc
+  by r (ToWait may blocked room e) so = let two : answers.Queued (s.counter + 1) ≡ answers.Granted c = sym (ap (λ (x : Answered). x.0) (is ∙ so ∙ e)) ∙ at in absurd cc
   by r (Refuses answer refused e) so = absurd (both_ways (is_refusal answer) (ap is_refusal (sym (ap (λ (x : Answered). x.0) (is ∙ so ∙ e)) ∙ at)) refused)
 
 -- one that isn't granted leaves all
@@ -227,38 +226,24 @@ queues_or s a (answers.Full limit) = Doesnt (λ d e. absurd cc) refl
 queues_or s a answers.NotHeld = Doesnt (λ d e. absurd cc) refl
 queues_or s a answers.StoreFailed = Doesnt (λ d e. absurd cc) refl
 
--- who is told to wait asks for what is to be held, and may wait
-queued_way : (s : CoreState) (a : Ask) (id : ℕ) (r : Answered) → AskWay s a r → r.0 ≡ answers.Queued id → (a.blocking ≡ true) × (asks_to_hold a.act ≡ true)
+-- who is told to wait may wait, for what it asks first
+queued_way : (s : CoreState) (a : Ask) (id : ℕ) (r : Answered) → AskWay s a r → r.0 ≡ answers.Queued id → (c : Claim) × (cs : List Claim) × (may_wait s.claims a c ≡ true) × (is_blocked s.claims c ≡ true) × (c ∷ cs ≡ asked_claims a (asked_whats a.act) s.names)
 queued_way s a id r (Stays answer refused e) at = absurd (both_ways (is_refusal answer) (ap is_refusal (sym (ap (λ (x : Answered). x.0) e) ∙ at)) refused)
 queued_way s a id r (Tests c holds e) at = let two : answers.Granted c ≡ answers.Queued id = sym (ap (λ (x : Answered). x.0) e) ∙ at in absurd cc
 queued_way s a id r (Holds c claims is holds e) at = let two : answers.Granted c ≡ answers.Queued id = sym (ap (λ (x : Answered). x.0) e) ∙ at in absurd cc
-queued_way s a id r (Waits claims waits is holds e) at = (waits, holds)
+queued_way s a id r (Waits c cs may blocked is holds e) at = (c, cs, may, blocked, is)
 queued_way s a id r (Frees c first last holds act file owner e) at = let two : answers.Granted c ≡ answers.Queued id = sym (ap (λ (x : Answered). x.0) e) ∙ at in absurd cc
 queued_way s a id r (Gives c d holds act file owner range e) at = let two : answers.Granted c ≡ answers.Queued id = sym (ap (λ (x : Answered). x.0) e) ∙ at in absurd cc
 
-pub ask_may : (n : ℕ) (left : Rooms) (s : CoreState) (a : Ask) (id : ℕ) → IsGood s → is_client a.owner a.party ≡ true → (ask n left s a).0 ≡ answers.Queued id → a.blocking ≡ true
-ask_may n left s a id good client at = (queued_way s a id (ask n left s a) (ask_way n left s a good client) at).0
-
-asks_queue : (n : ℕ) (left : Rooms) (s : CoreState) (a : Ask) (id : ℕ) → IsGood s → is_client a.owner a.party ≡ true → (ask n left s a).0 ≡ answers.Queued id → asks_to_hold a.act ≡ true
-asks_queue n left s a id good client at = (queued_way s a id (ask n left s a) (ask_way n left s a good client) at).1
-
-what_queued : (n : ℕ) (left : Rooms) (s : CoreState) (a : Ask) (what : What) (id : ℕ) → IsGood s → IsFit a → asked_what a.act ≡ Some what → (ask n left s a).0 ≡ answers.Queued id → (ask n left s a).2.waiters ≡ with_waiter s a id (asked_what a.act) s.waiters
-what_queued n left s a what id good fit act at = ask_waits n left s a id good fit.party at ∙ ap (λ (asked : List What). s.waiters ++ waiter_of id a (asked_claims a asked s.names) ∷ []) (same_list what (asked_whats a.act) act) ∙ ap (λ (o : Option What). with_waiter s a id o s.waiters) (sym act)
-
-act_queued : (n : ℕ) (left : Rooms) (s : CoreState) (a : Ask) (act : Act) (id : ℕ) → a.act ≡ act → IsFitAct a.owner a.blocking act → IsGood s → IsFit a → (ask n left s a).0 ≡ answers.Queued id → (ask n left s a).2.waiters ≡ with_waiter s a id (asked_what a.act) s.waiters
-act_queued n left s a (acts.Share access deny) id is real good fit at = what_queued n left s a (Share access deny) id good fit (ap asked_what is) at
-act_queued n left s a (acts.Ranges []) id is real good fit at = absurd real
-act_queued n left s a (acts.Ranges (range ∷ [])) id is real good fit at = what_queued n left s a (Range range.0 range.1) id good fit (ap asked_what is) at
-act_queued n left s a (acts.Ranges (range ∷ more ∷ rest)) id is real good fit at = absurd (both_ways a.blocking real.1.1 (ask_may n left s a id good fit.party at))
-act_queued n left s a (acts.Test extent exclusive) id is real good fit at =
-    absurd ((test_due n left s a extent exclusive (answers.Queued id) is).0 at)
-act_queued n left s a (acts.Unlock extent) id is real good fit at = absurd (both_ways (asks_to_hold a.act) (ap asks_to_hold is) (asks_queue n left s a id good fit.party at))
+pub ask_may : (n : ℕ) (left : Rooms) (s : CoreState) (a : Ask) (id : ℕ) → IsGood s → is_client a.owner a.party ≡ true → (ask n left s a).0 ≡ answers.Queued id
+    → (c : Claim) × (cs : List Claim) × (may_wait s.claims a c ≡ true) × (is_blocked s.claims c ≡ true) × (c ∷ cs ≡ asked_claims a (asked_whats a.act) s.names)
+ask_may n left s a id good client at = queued_way s a id (ask n left s a) (ask_way n left s a good client) at
 
 -- one who is told to wait comes last, and no other ask changes who waits
 pub ask_queue : (n : ℕ) (left : Rooms) (s : CoreState) (a : Ask) → IsGood s → IsFit a → (ask n left s a).2.waiters ≡ queue_with s a (ask n left s a).0 s.waiters
 ask_queue n left s a good fit =
     elim (queues_or s a (ask n left s a).0) [
-      | Does id at ↦ act_queued n left s a a.act id refl fit.act good fit at ∙ ap (λ (answer : Answer). queue_with s a answer s.waiters) (sym at)
+      | Does id at ↦ ask_waits n left s a id good fit.party at ∙ ap (λ (answer : Answer). queue_with s a answer s.waiters) (sym at)
       | Doesnt none same ↦ (ask_own n left s a good fit.party).waiters none ∙ sym same
     ]
 
@@ -278,7 +263,10 @@ act_due n left s a (acts.Share access deny) is real good fit = what_due n left s
 act_due n left s a (acts.Ranges []) is real good fit = absurd real
 act_due n left s a (acts.Ranges (range ∷ [])) is real good fit = what_due n left s a (Range range.0 range.1) fit (ap asked_what is)
 act_due n left s a (acts.Ranges (range ∷ more ∷ rest)) is real good fit =
-    λ timely. each_due n left s a (asked_claim a (range_what range) s.names) (asked_claims a (map range_what (more ∷ rest)) s.names) (ask n left s a) timely real.1.1 (ranges_asked n left s a (range ∷ more ∷ rest) is)
+    let first = asked_claim a (range_what range) s.names in
+    let others = asked_claims a (map range_what (more ∷ rest)) s.names in
+    let asked = ranges_asked n left s a (range ∷ more ∷ rest) is in
+    (λ blocked. first_due n left s a first others (ask n left s a) blocked asked, λ timely free. each_due n left s a first others (ask n left s a) timely free asked)
 act_due n left s a (acts.Test extent exclusive) is real good fit = (test_due n left s a extent exclusive (ask n left s a).0 is).0 refl
 act_due n left s a (acts.Unlock (Bytes first last)) is real good fit = by (posix claim.owner) refl where
   claim : Claim
@@ -291,9 +279,3 @@ act_due n left s a (acts.Unlock (Empty offset)) is real good fit = (empty_due n 
 
 pub answer_is_due : (n : ℕ) (left : Rooms) (s : CoreState) (a : Ask) → IsGood s → IsFit a → IsAnswerDue left s a a.act (ask n left s a).0
 answer_is_due n left s a good fit = act_due n left s a a.act refl fit.act good fit
-
--- ---- a turn
-
--- who is served waited for a share or a real range
-pub turn_known : (left : Rooms) (s : CoreState) (effects : List Effect) (t : CoreState) → IsGood s → (turn : IsTurn left s effects t) → IsGrantable turn.claim
-turn_known left s effects t good turn = (turn_is_known left s effects t good turn).0

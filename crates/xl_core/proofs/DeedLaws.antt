@@ -1,6 +1,7 @@
 -- What one deed makes of each place, and who waits after it.
+use Rattle.xl_base.proofs.Members.{all_in, in_append_right}
 use Rattle.std.proofs.Common.{◌≡◌, ℕ, Bool, true, false, cond, if◌then◌else◌, ◌==◌, inl, inr, List, [], ◌∷◌, ◌++◌, map, Option, Some, None, IfSome, refl, sym, ap, subst, ◌∙◌, slice_get, ◌&&◌, length}
-use Rattle.std.proofs.lemmas.Bool.{cases_Bool, both_ways, and_from, eq-eqb}
+use Rattle.std.proofs.lemmas.Bool.{cases_Bool, both_ways, and_from, eq-eqb, not-true}
 use Rattle.std.specs.List.{AllByRecursion}
 use Rattle.xl_base.specs.Lists.{IsIn, Pairwise}
 use Rattle.xl_base.specs.declared.name.Owner.{Owner}
@@ -27,7 +28,7 @@ use Rattle.xl_wait.specs.declared.waiter.Rooms.{Rooms}
 use Rattle.xl_wait.specs.declared.waiter.Waiter.{Waiter}
 use Rattle.xl_core.specs.State.{CoreState, drawn}
 use Rattle.xl_core.specs.Asking.{asked_what, known_claim, IsFit, IsFitAct, known_owner, range_what, asked_claims, both_entered}
-use Rattle.xl_core.specs.Causes.{IsTurn, IsTurnDue}
+use Rattle.xl_core.specs.Causes.{IsTurn, held_once}
 use Rattle.xl_core.specs.Asking.{party_named}
 use Rattle.xl_core.specs.Breaks.{may_be_left, ack, first_due, client_of}
 use Rattle.xl_core.specs.Ticks.{advanced, renew, end_some, unleased, expire, lapsed_by, lapse}
@@ -37,10 +38,10 @@ use Rattle.xl_core.specs.Deeds.{Deed, Asks, GivesBack, Weakens, Acks, Cancels, E
 use Rattle.xl_core.specs.Decide.{ask, plea_of}
 use Rattle.xl_core.specs.Dues.{IsDue}
 use Rattle.xl_core.specs.Good.{IsGood, are_apart, IsKnown}
-use Rattle.xl_core.specs.Places.{Place, ByteOf, ShareOf, byte_held, share_held, held_in, held_at, part_by, held_as, entered_by, entered_at, CacheOf, is_cache_on, acked_at, lapsed_at, cleared_by, cleared_at, entered_for, answered_at, ended_at, ended_some, told_at, made, else_was, unlocked_at, RangesOf, all_entered_at, all_entered_for, unlocked_for, then_entered}
+use Rattle.xl_core.specs.Places.{Place, ByteOf, ShareOf, byte_held, share_held, held_in, held_at, part_by, held_as, entered_by, entered_at, CacheOf, is_cache_on, acked_at, lapsed_at, cleared_by, cleared_at, entered_for, answered_at, ended_at, ended_some, told_at, made, else_was, unlocked_at, RangesOf, all_entered_at, all_entered_for, unlocked_for, then_entered, asked_by, served_at}
 use Rattle.xl_table.specs.Relock.{with_share, shares_of, old_shares, united_by, granted_claims, is_range_of}
 use Rattle.xl_table.proofs.ShareLaws.{united_share}
-use Rattle.xl_core.specs.Settle.{settle, cancel, give_back, weaken, end_party}
+use Rattle.xl_core.specs.Settle.{settle, cancel, give_back, weaken, end_party, plea_again}
 use Rattle.xl_core.specs.declared.ask.Act.{Act}
 use Rattle.xl_core.specs.declared.ask.Act.TheVariants as acts
 use Rattle.xl_core.specs.declared.ask.Answer.{Answer}
@@ -49,9 +50,9 @@ use Rattle.xl_core.specs.declared.ask.Ask.{Ask}
 use Rattle.xl_core.specs.declared.ask.Effect.{Effect}
 use Rattle.xl_core.proofs.CauseLaws.{test_leaves, empty_due}
 use Rattle.xl_core.proofs.ChangeLaws.{spans_apart, shares_apart, granted_share, granted_spans, empty_spans}
-use Rattle.xl_core.proofs.DeedCalls.{Clears, ask_enters, ask_keeps_claims, ask_clears, turn_known, answer_is_due, ask_queue, ask_names, Releases, ask_releases, ranges_enter, no_empty}
+use Rattle.xl_core.proofs.DeedCalls.{Clears, ask_enters, ask_keeps_claims, ask_clears, answer_is_due, ask_queue, ask_names, Releases, ask_releases, ranges_enter, no_empty}
 use Rattle.xl_core.proofs.DeedLeaves.{spans_of-given, shares_of-given_apart, shares_of-given, has_of, Ended, ended_is}
-use Rattle.xl_core.proofs.GoodLaws.{ask_good, settle_good, cancel_good, give_back_good, drawn_good, end_party_good, advanced_good, renew_good, expire_good, lapse_good}
+use Rattle.xl_core.proofs.GoodLaws.{ask_good, settle_good, cancel_good, give_back_good, drawn_good, end_party_good, advanced_good, renew_good, expire_good, lapse_good, IsFirst, each_turn, good_claims}
 use Rattle.xl_core.proofs.BreakLaws.{is_cache_left, ack_good}
 use Rattle.xl_core.proofs.CacheLaws.{removed_caches, granted_caches}
 use Rattle.xl_core.proofs.CachePlaces.{held_of_caches, rest_of_made, ended_cache_made}
@@ -357,25 +358,42 @@ end_party_made s party (RangesOf file number) good = ranges_ended (has_of file (
 
 -- ---- a turn
 
--- what a turn makes of each place, and who waits after it
-due_made : (left : Rooms) (s t : CoreState) (w : Waiter) (claim : Claim) (answer : Answer) (p : Place) → IsGood s → IsGrantable claim → IsTurnDue left s w claim answer t.claims → held_at t p ≡ else_was (entered_for s.claims answer p) (held_at s p)
-due_made left s t w claim (answers.Granted c) p good real due =
-    ap (λ (cs : List Claim). held_in cs p) due.2 ∙ entered_made claim s.claims p good.kept real ∙ ap (λ (x : Claim). else_was (entered_at s.claims x p) (held_at s p)) (sym due.0)
-due_made left s t w claim (answers.Full limit) p good real due = ap (λ (cs : List Claim). held_in cs p) due.1
-due_made left s t w claim (answers.Conflict c) p good real due = absurd due
-due_made left s t w claim (answers.Queued id) p good real due = absurd due
-due_made left s t w claim (answers.Recall c) p good real due = absurd due
-due_made left s t w claim (answers.Grace until) p good real due = absurd due
-due_made left s t w claim (answers.NoGrace clock) p good real due = absurd due
-due_made left s t w claim answers.NotRecorded p good real due = absurd due
-due_made left s t w claim answers.NotHeld p good real due = absurd due
-due_made left s t w claim answers.StoreFailed p good real due = absurd due
+-- who is served waits for what stands under its number
+asked_there : (before : List Waiter) (w : Waiter) (behind : List Waiter) → Pairwise are_apart (before ++ w ∷ behind) → asked_by w.id (before ++ w ∷ behind) ≡ w.asked
+asked_there [] w behind apart = let same : (w.id == w.id) ≡ true = eq-eqb w.id w.id refl in rw same refl
+asked_there (v ∷ vs) w behind apart =
+    let other : (v.id == w.id) ≡ false = not-true (v.id == w.id) (all_in (λ x. are_apart v x ≡ true) w (vs ++ w ∷ behind) apart.0 (in_append_right w vs (w ∷ behind) (inl refl))) in
+    rw other (asked_there vs w behind apart.1)
 
-turn_made : (left : Rooms) (s : CoreState) (o : Option (List Effect × CoreState)) (p : Place) → IsGood s → IfSome o (λ r. IsTurn left s r.0 r.1) → held_at (turned s o).2 p ≡ else_was (told_at s.claims (turned s o).1 p) (held_at s p)
-turn_made left s None p good turn = refl
-turn_made left s (Some r) p good turn =
-    due_made left s r.1 turn.waiter turn.claim turn.answer p good (turn_known left s r.0 r.1 good turn) turn.due
-    ∙ ap (λ (effects : List Effect). else_was (told_at s.claims effects p) (held_at s p)) (sym turn.told)
+-- what a turn makes of each place
+once_made : (left : Rooms) (s : CoreState) (w : Waiter) (asked : List Claim) (answer : Answer) (p : Place) → IsGood s → AllByRecursion (IsKnown s.names) asked → ((d : Claim) → answer ≡ answers.Granted d → AllPass left (plea_again s w) s.claims asked)
+    → held_in (held_once asked answer s.claims) p ≡ else_was (served_at s.claims asked answer p) (held_at s p)
+once_made left s w asked (answers.Granted c) p good known pass = all_entered_made left (plea_again s w) s.names asked s.claims p good.distinct (good_claims s good) known (pass c refl)
+once_made left s w asked (answers.Queued number) p good known pass = refl
+once_made left s w asked (answers.Conflict c) p good known pass = refl
+once_made left s w asked (answers.Recall c) p good known pass = refl
+once_made left s w asked (answers.Grace until) p good known pass = refl
+once_made left s w asked (answers.NoGrace clock) p good known pass = refl
+once_made left s w asked answers.NotRecorded p good known pass = refl
+once_made left s w asked (answers.Full limit) p good known pass = refl
+once_made left s w asked answers.NotHeld p good known pass = refl
+once_made left s w asked answers.StoreFailed p good known pass = refl
+
+first_made : (left : Rooms) (s : CoreState) (turn : List Effect × CoreState) (p : Place) → IsGood s → IsFirst left s s.waiters turn → held_at turn.1 p ≡ else_was (told_at s turn.0 p) (held_at s p)
+first_made left s turn p good first =
+    let moved = first.moved in
+    let all = first.claim ∷ first.claims in
+    let known = subst (λ (cs : List Claim). AllByRecursion (IsKnown s.names) cs) first.asked first.is.1 in
+    let there : asked_by first.waiter.id s.waiters ≡ all =
+    ap (asked_by first.waiter.id) first.stood ∙ asked_there first.before first.waiter first.behind (subst (λ (ws : List Waiter). Pairwise are_apart ws) first.stood good.apart) ∙ first.asked in
+    ap (λ (t : CoreState). held_at t p) moved.new
+    ∙ once_made left s first.waiter all moved.answer p good known moved.pass
+    ∙ ap (λ (cs : List Claim). else_was (served_at s.claims cs moved.answer p) (held_at s p)) (sym there)
+    ∙ ap (λ (effects : List Effect). else_was (told_at s effects p) (held_at s p)) (sym moved.told)
+
+turn_made : (s : CoreState) (o : Option (List Effect × CoreState)) (p : Place) → IfSome o (λ r. held_at r.1 p ≡ else_was (told_at s r.0 p) (held_at s p)) → held_at (turned s o).2 p ≡ else_was (told_at s (turned s o).1 p) (held_at s p)
+turn_made s None p made = refl
+turn_made s (Some r) p made = made
 
 turn_queue : (left : Rooms) (s : CoreState) (o : Option (List Effect × CoreState)) → IsGood s → IfSome o (λ r. IsTurn left s r.0 r.1) → (turned s o).2.waiters ≡ queue_without (turned s o).1 s.waiters
 turn_queue left s None good turn = refl
@@ -453,7 +471,7 @@ deed_makes n s (Weakens share access deny) p good fit = weaken_made s share acce
 deed_makes n s (Acks cache to) p good fit = ack_made s cache to p good fit.0 fit.1
 deed_makes n s (Cancels id) p good fit = ap (λ (cs : List Claim). held_in cs p) (cancel_is s id).0
 deed_makes n s (Ends party) p good fit = end_party_made s party p good
-deed_makes n s (Serves left) p good fit = turn_made left s (settle n left s) p good (turn_is n left s good)
+deed_makes n s (Serves left) p good fit = turn_made s (settle n left s) p (each_turn n left s (λ r. held_at r.1 p ≡ else_was (told_at s r.0 p) (held_at s p)) good (λ turn first. first_made left s turn p good first))
 deed_makes n s Draws p good fit = ap (λ (cs : List Claim). held_in cs p) (drawn_is s).0
 deed_makes n s (Advances now) p good fit = ap (λ (cs : List Claim). held_in cs p) (advanced_still s now).0
 deed_makes n s (Lapses cache) p good fit = lapse_made s cache p good fit

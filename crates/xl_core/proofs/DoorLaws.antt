@@ -53,28 +53,12 @@ known_alone p a extent claim e good client =
 pub asked_grantable : (p : Parts) (a : Ask) (what : What) (claim : Claim) → claim ≡ asked_claim a what p.names → is_client a.owner a.party ≡ true → may_hold a.owner what ≡ true → IsShareOrLock what → IsGrantable claim
 asked_grantable p a what claim e client may real = subst (λ (x : Claim). IsGrantable x) (sym e) (asked_known a what p.names client may real).0
 
--- so may each of several ranges of an open, which are all of one party
-each_element : (a : Ask) (names : List Name) (ranges : List (Extent × Bool)) → is_client a.owner a.party ≡ true → is_named a.owner ≡ false → AllByRecursion (λ (w : What). may_hold a.owner w ≡ true) (map range_what ranges) → AllByRecursion (λ (w : What). IsShareOrLock w) (map range_what ranges) → AreElements (asked_claims a (map range_what ranges) names)
-each_element a names [] client unnamed own order = tt
-each_element a names (range ∷ ranges) client unnamed own order =
-    (((asked_known a (range_what range) names client own.0 order.0).0, refl, asker_named a names client ∙ unnamed), each_element a names ranges client unnamed own.1 order.1)
-
-of_one : (a : Ask) (names : List Name) (ws : List What) → Pairwise has_one_party (asked_claims a ws names)
-of_one a names [] = tt
-of_one a names (w ∷ ws) = (with_first ws, of_one a names ws) where
-  with_first : (vs : List What) → AllByRecursion (λ d. has_one_party (asked_claim a w names) d ≡ true) (asked_claims a vs names)
-  with_first [] = tt
-  with_first (v ∷ vs) = (or_right _ (same_parties (asking_party a names) (asking_party a names)) (same_parties-self (asking_party a names)), with_first vs)
-
+-- so may several ranges in one request
 pub ranges_row : (p : Parts) (a : Ask) (ranges : List (Extent × Bool)) (claims : List Claim) → claims ≡ asked_claims a (map range_what ranges) p.names → IsFitAct a.owner a.blocking (Ranges ranges) → is_client a.owner a.party ≡ true → may_hold_all a.owner ranges ≡ true → IsRow claims
-ranges_row p a ranges claims e fit client may = subst IsRow (sym e) (by ranges fit may) where
-  by : (rs : List (Extent × Bool)) → IsFitAct a.owner a.blocking (Ranges rs) → may_hold_all a.owner rs ≡ true → IsRow (asked_claims a (map range_what rs) p.names)
-  by [] none own = absurd none
-  by (range ∷ []) real own = (asked_known a (range_what range) p.names client (own_ranges a.owner (range ∷ []) own).0 (real_range range.0 range.1 real.0)).0
-  by (range ∷ more ∷ rest) real own = (
-    each_element a p.names (range ∷ more ∷ rest) client real.1.0 (own_ranges a.owner (range ∷ more ∷ rest) own) (real_range range.0 range.1 real.0, fit_ranges a.owner a.blocking (more ∷ rest) real.1),
-    of_one a p.names (map range_what (range ∷ more ∷ rest)),
-  )
+ranges_row p a ranges claims e fit client may = subst IsRow (sym e) (by ranges (ranges_pled a ranges p.names fit client may)) where
+  by : (rs : List (Extent × Bool)) → IsPled (asked_claims a (map range_what rs) p.names) → IsRow (asked_claims a (map range_what rs) p.names)
+  by [] none = absurd none
+  by (range ∷ rs) row = row
 
 pub ranges_alone : (p : Parts) (a : Ask) (ranges : List (Extent × Bool)) (claims : List Claim) → claims ≡ asked_claims a (map range_what ranges) p.names → IsGood (state_of p) → is_client a.owner a.party ≡ true → AllByRecursion (λ c. AllByRecursion (λ d. has_one_party c d ≡ true) p.table) claims
 ranges_alone p a ranges claims e good client = subst (λ (cs : List Claim). AllByRecursion (λ c. AllByRecursion (λ d. has_one_party c d ≡ true) p.table) cs) (sym e) (by ranges) where

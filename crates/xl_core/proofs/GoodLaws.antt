@@ -1,7 +1,7 @@
 -- The state stays good: by each ask, each turn, each cancel, and when a party leaves.
-use Rattle.std.proofs.Common.{◌≡◌, ℕ, ◌+◌, ◌≤◌, Bool, true, false, not, ◌==◌, nat_le, inl, inr, List, [], ◌∷◌, ◌++◌, length, Option, Some, None, IfSome, refl, sym, ap, subst, ◌∙◌, arith, zero, suc, map, if◌then◌else◌}
+use Rattle.std.proofs.Common.{◌≡◌, ℕ, ◌+◌, ◌≤◌, Bool, true, false, not, ◌&&◌, ◌||◌, ◌==◌, nat_le, inl, inr, List, [], ◌∷◌, ◌++◌, length, Option, Some, None, IfSome, refl, sym, ap, subst, ◌∙◌, arith, zero, suc, map, if◌then◌else◌}
 use Rattle.std.specs.List.{AllByRecursion, filter, list_any}
-use Rattle.std.proofs.lemmas.Bool.{cases_Bool, both_ways, ne_eqb, not_from_false, leb-true}
+use Rattle.std.proofs.lemmas.Bool.{cases_Bool, both_ways, and_parts, ne_eqb, not_from_false, leb-true}
 use Rattle.std.proofs.lemmas.List.{length-append}
 use Rattle.xl_base.specs.Lists.{IsIn, Pairwise}
 use Rattle.xl_base.proofs.Members.{all_in, all_from, all_append, in_filter_from, pairwise_append, pairwise_filter}
@@ -34,14 +34,15 @@ use Rattle.xl_core.specs.State.{CoreState, started, step_begun, drawn}
 use Rattle.xl_core.specs.Leases.{Lease, moment_after, later, with_lease, without_lease, first_ended}
 use Rattle.xl_core.specs.Breaks.{first_due, client_of}
 use Rattle.xl_core.specs.Ticks.{advanced, renew, end_some, unleased, expire, expired_then, expired_for, expire_all, lapsed_by, lapse, lapsed_then, lapsed_for, tick}
-use Rattle.xl_core.specs.Asking.{party_named, IsOrdered, range_what}
+use Rattle.xl_core.specs.Asking.{awaits, party_named, IsOrdered, range_what}
 use Rattle.xl_core.specs.declared.lease.Times.{Times}
 use Rattle.xl_names.specs.declared.name.Name.TheVariants.{NfsParty}
 use Rattle.xl_core.specs.Asking.{both_entered, asked_claim, asked_claims, known_claim, is_client, may_hold, may_ask, IsFitAct, IsFit}
-use Rattle.xl_core.specs.Causes.{limits_of_wait, left_by_unlock}
+use Rattle.xl_core.specs.Causes.{limits_of_wait, may_wait, left_by_unlock, IsEachDue, held_once}
 use Rattle.xl_core.specs.Decide.{Answered, plea_of, waiter_of, waiting, named, answered, claims_asked, unlocked_claims, unlocked_bytes, unlocked, acted, ask, freed, unlocked_one}
-use Rattle.xl_core.specs.Good.{are_kept, IsKnown, IsHeld, is_single, are_apart, IsWaiter, IsGood, stands_in_the_way}
-use Rattle.xl_core.specs.Judge.{Ruled, all_granted, held_with, judged}
+use Rattle.xl_core.specs.Good.{are_kept, IsKnown, IsHeld, is_single, are_apart, IsPled, IsWaiter, IsGood, is_held_up, holds_up}
+use Rattle.xl_core.specs.Blockers.{is_stopped}
+use Rattle.xl_core.specs.Judge.{Ruled, all_granted, held_with, does_wait, judged, row, row_left, IsRow}
 use Rattle.xl_core.specs.Limits.{most_waiters, grant_limits, first_passed}
 use Rattle.xl_core.specs.Settle.{plea_again, rests, all_of, turned, again, turn_or, first_turn, settle, waits_for, cancel, give_back, end_party}
 use Rattle.xl_core.specs.declared.ask.Act.{Act}
@@ -54,13 +55,13 @@ use Rattle.xl_core.specs.declared.ask.Effect.TheVariants.{Served}
 use Rattle.xl_core.specs.declared.judge.Plea.{Plea}
 use Rattle.xl_core.specs.declared.judge.Ruling.{Ruling}
 use Rattle.xl_core.specs.declared.judge.Ruling.TheVariants.{Gets, Waits, Told}
-use Rattle.xl_core.proofs.CauseLaws.{left_so, real_range, own_ranges, fit_ranges}
+use Rattle.xl_core.proofs.AskedLaws.{ranges_pled}
+use Rattle.xl_core.proofs.CauseLaws.{left_so, real_range, own_ranges, fit_ranges, tells, row_due}
 use Rattle.xl_core.proofs.ClaimLaws.{AreGood, relocked_good, granted_good}
-use Rattle.xl_core.proofs.DecideLaws.{none_blockers}
 use Rattle.xl_core.proofs.KnownLaws.{GoOn, both_go_on, both_distinct, held_on, waiters_on, one_party, asker_kept, asked_known, kept_on, known_party_is, asked_all_known}
 use Rattle.xl_core.proofs.LimitLaws.{grant_room, wait_room}
-use Rattle.xl_core.proofs.RowLaws.{AllPass, is_refusal, IsRuled, judged_ruled, ruled_by, passed_by, judged_is}
-use Rattle.xl_core.proofs.TurnLaws.{alone, blocked_rests, rests_blocked, free_moves, move_first}
+use Rattle.xl_core.proofs.RowLaws.{AllPass, is_refusal, IsRuled, judged_ruled, judged_row}
+use Rattle.xl_core.proofs.TurnLaws.{held_rests, rests_held, free_moves, move_first}
 use Rattle.xl_table.specs.Elements.{element_held}
 
 -- ---- a good state, part by part
@@ -139,7 +140,7 @@ unlocked_one_party s a extent exclusive good client =
 -- what becomes of an ask for these claims: it has all of them, it waits, or it is refused
 pub data AskCase (left : Rooms) (s : CoreState) (a : Ask) (claims : List Claim) (first : Claim) (r : Answered) : Type 0 where
   Goes : AllPass left (plea_of left s a) s.claims claims → r ≡ (answers.Granted first, [], named a (held_with claims s)) → AskCase left s a claims first r
-  Queues : a.blocking ≡ true → first_passed (limits_of_wait left s a) ≡ None → r ≡ (answers.Queued (s.counter + 1), [], waiting a claims s) → AskCase left s a claims first r
+  Queues : may_wait s.claims a first ≡ true → is_blocked s.claims first ≡ true → first_passed (limits_of_wait left s a) ≡ None → r ≡ (answers.Queued (s.counter + 1), [], waiting a claims s) → AskCase left s a claims first r
   Refuses : (answer : Answer) → is_refusal answer ≡ true → r ≡ (answer, [], s) → AskCase left s a claims first r
 
 pub ask_case : (n : ℕ) (left : Rooms) (s : CoreState) (a : Ask) (c : Claim) (cs : List Claim) → AskCase left s a (c ∷ cs) c (claims_asked n left s a (c ∷ cs))
@@ -148,9 +149,12 @@ ask_case n left s a c cs = by r.0 r.1 r.2 (judged_ruled n s.waiters left (plea_o
   r : Ruled
   r = judged n s.waiters left (plea_of left s a) (c ∷ cs) s
 
+  waits_so : (x y z u : Bool) → (x && (if y then z else u)) ≡ true → (x ≡ true) × ((if y then z else u) ≡ true)
+  waits_so x y z u e = and_parts x (if y then z else u) e
+
   by : (ruling : Ruling) (told : List Effect) (t : CoreState) → IsRuled left (plea_of left s a) (c ∷ cs) s ruling told t → AskCase left s a (c ∷ cs) c (answered a (c ∷ cs) c ruling told t)
   by Gets told t is = Goes is.2 (λ i. answered a (c ∷ cs) c Gets (is.0 i) (is.1 i))
-  by Waits told t is = Queues is.2 is.3 (λ i. answered a (c ∷ cs) c Waits (is.0 i) (is.1 i))
+  by Waits told t is = let both = waits_so (is_blocked s.claims c) (is_stopped s.claims c) a.blocking (awaits a) is.3 in Queues both.1 both.0 is.2 (λ i. answered a (c ∷ cs) c Waits (is.0 i) (is.1 i))
   by (Told answer) told t is = Refuses answer is.2 (λ i. answered a (c ∷ cs) c (Told answer) (is.0 i) (is.1 i))
 
 -- claims that pass, one behind another, leave the claims good
@@ -169,15 +173,15 @@ goes_good left s a c cs good known pass =
     good_from (record s { claims = all_granted (c ∷ cs) s.claims; names = more }) (all_granted_good left (plea_of left s a) more (c ∷ cs) s.claims distinct (claims_on s.names more s.claims on (good_claims s good)) known pass) distinct
     (grant_room left a.rows (length (granted_claims c s.claims)) (length more) pass.1).2 (waiters_on s.names more s.counter s.counter s.waiters on (omega arith) good.waiters) good.apart good.crowd
 
-waiting_good : (left : Rooms) (s : CoreState) (a : Ask) (c : Claim) → IsGood s → AllByRecursion (IsKnown (both_entered a s.names)) (c ∷ []) → a.blocking ≡ true → first_passed (limits_of_wait left s a) ≡ None → IsGood (waiting a (c ∷ []) s)
-waiting_good left s a c good known waits room =
+waiting_good : (left : Rooms) (s : CoreState) (a : Ask) (c : Claim) (cs : List Claim) → IsGood s → AllByRecursion (IsKnown (both_entered a s.names)) (c ∷ cs) → IsRow (c ∷ cs) → first_passed (limits_of_wait left s a) ≡ None → IsGood (waiting a (c ∷ cs) s)
+waiting_good left s a c cs good known row room =
     let more = both_entered a s.names in
     let next = s.counter + 1 in
-    let new = waiter_of next a (c ∷ []) in
+    let new = waiter_of next a (c ∷ cs) in
     let on = both_go_on a s.names in
     let fits = wait_room left a.rows (length s.waiters) (length more) room in
-    good_from (waiting a (c ∷ []) s) (claims_on s.names more s.claims on (good_claims s good)) (both_distinct a s.names good.distinct) fits.2
-    (all_append (IsWaiter more next) s.waiters (new ∷ []) (waiters_on s.names more s.counter next s.waiters on (omega arith) good.waiters) ((omega arith, known, refl, waits), tt))
+    good_from (waiting a (c ∷ cs) s) (claims_on s.names more s.claims on (good_claims s good)) (both_distinct a s.names good.distinct) fits.2
+    (all_append (IsWaiter more next) s.waiters (new ∷ []) (waiters_on s.names more s.counter next s.waiters on (omega arith) good.waiters) ((omega arith, known, row), tt))
     (pairwise_append are_apart s.waiters (new ∷ []) good.apart (tt, tt)
     (λ v w h k. elim k [
       | inl e ↦ subst (λ (x : Waiter). are_apart v x ≡ true) e (not_from_false (v.id == next) (ne_eqb v.id next (λ same. omega (arith, same, (all_in (IsWaiter s.names s.counter) v s.waiters good.waiters h).0))))
@@ -185,32 +189,11 @@ waiting_good left s a c good known waits room =
     ]))
     (omega (arith, fits.1, length-append s.waiters (new ∷ [])))
 
-claim_good : (n : ℕ) (left : Rooms) (s : CoreState) (a : Ask) (what : What) → IsGood s → is_client a.owner a.party ≡ true → may_hold a.owner what ≡ true → IsShareOrLock what → IsGood (claims_asked n left s a (asked_claims a (what ∷ []) s.names)).2
-claim_good n left s a what good client may real = by (claims_asked n left s a (c ∷ [])) (ask_case n left s a c []) where
-  c : Claim
-  c = asked_claim a what s.names
-
-  known : AllByRecursion (IsKnown (both_entered a s.names)) (c ∷ [])
-  known = (asked_known a what s.names client may real, tt)
-
-  by : (r : Answered) → AskCase left s a (c ∷ []) c r → IsGood r.2
-  by r (Goes pass e) = subst (λ (x : Answered). IsGood x.2) (sym e) (goes_good left s a c [] good known pass)
-  by r (Queues waits room e) = subst (λ (x : Answered). IsGood x.2) (sym e) (waiting_good left s a c good known waits room)
-  by r (Refuses answer refused e) = subst (λ (x : Answered). IsGood x.2) (sym e) good
-
--- several claims, where nobody waits
-claims_good : (n : ℕ) (left : Rooms) (s : CoreState) (a : Ask) (what : What) (whats : List What) → IsGood s → is_client a.owner a.party ≡ true → a.blocking ≡ false → AllByRecursion (λ (w : What). may_hold a.owner w ≡ true) (what ∷ whats) → AllByRecursion (λ (w : What). IsShareOrLock w) (what ∷ whats)
-    → IsGood (claims_asked n left s a (asked_claims a (what ∷ whats) s.names)).2
-claims_good n left s a what whats good client hurries may real = by (claims_asked n left s a (c ∷ cs)) (ask_case n left s a c cs) where
-  c : Claim
-  c = asked_claim a what s.names
-
-  cs : List Claim
-  cs = asked_claims a whats s.names
-
+claims_good : (n : ℕ) (left : Rooms) (s : CoreState) (a : Ask) (c : Claim) (cs : List Claim) → IsGood s → AllByRecursion (IsKnown (both_entered a s.names)) (c ∷ cs) → IsRow (c ∷ cs) → IsGood (claims_asked n left s a (c ∷ cs)).2
+claims_good n left s a c cs good known row = by (claims_asked n left s a (c ∷ cs)) (ask_case n left s a c cs) where
   by : (r : Answered) → AskCase left s a (c ∷ cs) c r → IsGood r.2
-  by r (Goes pass e) = subst (λ (x : Answered). IsGood x.2) (sym e) (goes_good left s a c cs good (asked_all_known a (what ∷ whats) s.names client may real) pass)
-  by r (Queues waits room e) = absurd (both_ways a.blocking hurries waits)
+  by r (Goes pass e) = subst (λ (x : Answered). IsGood x.2) (sym e) (goes_good left s a c cs good known pass)
+  by r (Queues may blocked room e) = subst (λ (x : Answered). IsGood x.2) (sym e) (waiting_good left s a c cs good known row room)
   by r (Refuses answer refused e) = subst (λ (x : Answered). IsGood x.2) (sym e) good
 
 -- ---- an unlock
@@ -272,11 +255,12 @@ unlock_good s a (Empty offset) good client ends = let claim = known_claim a (Emp
 -- ---- an ask
 
 acted_good : (n : ℕ) (left : Rooms) (s : CoreState) (a : Ask) (act : Act) → IsGood s → is_client a.owner a.party ≡ true → may_ask a.owner act ≡ true → IsFitAct a.owner a.blocking act → IsGood (acted n left s a act).2
-acted_good n left s a (Share access deny) good client may fit = claim_good n left s a (whats.Share access deny) good client refl tt
+acted_good n left s a (Share access deny) good client may fit =
+    let known = asked_known a (whats.Share access deny) s.names client refl tt in claims_good n left s a (asked_claim a (whats.Share access deny) s.names) [] good (known, tt) known.0
 acted_good n left s a (Ranges []) good client may fit = absurd fit
-acted_good n left s a (Ranges (range ∷ [])) good client may fit = claim_good n left s a (whats.Range range.0 range.1) good client (own_ranges a.owner (range ∷ []) may).0 (real_range range.0 range.1 fit.0)
-acted_good n left s a (Ranges (range ∷ more ∷ rest)) good client may fit =
-    claims_good n left s a (range_what range) (map range_what (more ∷ rest)) good client fit.1.1 (own_ranges a.owner (range ∷ more ∷ rest) may) (real_range range.0 range.1 fit.0, fit_ranges a.owner a.blocking (more ∷ rest) fit.1)
+acted_good n left s a (Ranges (range ∷ ranges)) good client may fit =
+    claims_good n left s a (asked_claim a (range_what range) s.names) (asked_claims a (map range_what ranges) s.names) good
+    (asked_all_known a (map range_what (range ∷ ranges)) s.names client (own_ranges a.owner (range ∷ ranges) may) (real_range range.0 range.1 fit.0, fit_ranges a.owner a.blocking ranges fit.1)) (ranges_pled a (range ∷ ranges) s.names fit client may)
 acted_good n left s a (Test extent exclusive) good client may fit = good
 acted_good n left s a (Unlock extent) good client may fit = unlock_good s a extent good client fit
 
@@ -290,14 +274,80 @@ ask_good n left s a good fit = acted_good n left s a a.act good fit.party fit.ow
 abbrev pub Turned : Type 0
 Turned = List Effect × CoreState
 
--- what a turn gives the waiter of this claim, by the limit that its grant passes
-abbrev pub turn_by : CoreState → Waiter → Claim → Option ℕ → Turned
-turn_by s w c (Some limit) = (Served w.id (answers.Full limit) ∷ [], record s { waiters = cancelled w.id s.waiters })
-turn_by s w c None = (Served w.id (answers.Granted c) ∷ [], record s { claims = granted_claims c s.claims; waiters = cancelled w.id s.waiters })
+-- What becomes of a waiter for these that isn't held up: each is judged beside those before it, and it has all of them or is
+-- refused.
+pub record IsMoved (left : Rooms) (s : CoreState) (w : Waiter) (c : Claim) (cs : List Claim) (turn : Turned) : Type 0 where
+  pub answer : Answer
+  pub told : turn.0 ≡ Served w.id answer ∷ []
+  pub new : turn.1 ≡ record s { claims = held_once (c ∷ cs) answer s.claims; waiters = cancelled w.id s.waiters }
+  pub due : IsEachDue left w.rows (length s.names) c (c ∷ cs) s answer
+  pub pass : (d : Claim) → answer ≡ answers.Granted d → AllPass left (plea_again s w) s.claims (c ∷ cs)
 
--- the limits of a waiter's grant; its names are kept already
-abbrev pub turn_limits : Rooms → CoreState → Waiter → Claim → List (ℕ × Bool)
-turn_limits left s w c = grant_limits left w.rows (length (granted_claims c s.claims)) (length s.names)
+-- a refusal leaves what is held
+refused_once : (asked : List Claim) (answer : Answer) (held : List Claim) → is_refusal answer ≡ true → held_once asked answer held ≡ held
+refused_once asked (answers.Granted c) held h = absurd (both_ways false refl h)
+refused_once asked (answers.Queued number) held h = refl
+refused_once asked (answers.Conflict c) held h = refl
+refused_once asked (answers.Recall c) held h = refl
+refused_once asked (answers.Grace until) held h = refl
+refused_once asked (answers.NoGrace clock) held h = refl
+refused_once asked answers.NotRecorded held h = refl
+refused_once asked (answers.Full limit) held h = refl
+refused_once asked answers.NotHeld held h = refl
+refused_once asked answers.StoreFailed held h = refl
+
+-- the first of its claims is not waited for
+free_now : (s : CoreState) (w : Waiter) (c : Claim) → is_held_up s.claims w c ≡ false → does_wait (plea_again s w) s.claims c ≡ false
+unfolding plea_again
+free_now s w c free = by (is_blocked s.claims c) (is_stopped s.claims c) w.blocking free where
+  by : (x y z : Bool) → (x && (z || not y)) ≡ false → (x && (if y then z else true)) ≡ false
+  by true true true e = e
+  by true true false e = refl
+  by true false true e = e
+  by true false false e = e
+  by false y z e = refl
+
+moved : (n : ℕ) (left : Rooms) (s : CoreState) (earlier : List Waiter) (w : Waiter) (c : Claim) (cs : List Claim) → w.asked ≡ c ∷ cs → is_held_up s.claims w c ≡ false → (let r = again n left s earlier w in IsMoved left s w c cs (turned w r.0 r.1 r.2))
+unfolding plea_again held_with
+moved n left s earlier w c cs asked free =
+    subst (λ (ds : List Claim). let r = judged n earlier left p ds s in IsMoved left s w c cs (turned w r.0 r.1 r.2)) (sym asked)
+    (by r.0 r.1 r.2 (judged_ruled n earlier left p (c ∷ cs) s) (row_due left p c (c ∷ cs) s (answer_by r.0) c cs refl (free_now s w c free) (subst (λ (x : Ruling). tells c (row left p (c ∷ cs) s) (answer_by x)) (sym (ap (λ (x : Ruled). x.0) whole)) (tells_by (row left p (c ∷ cs) s)))))
+  where
+    p : Plea
+    p = plea_again s w
+
+    r : Ruled
+    r = judged n earlier left p (c ∷ cs) s
+
+    whole : r ≡ (row left p (c ∷ cs) s, [], row_left (row left p (c ∷ cs) s) (c ∷ cs) s)
+    whole = judged_row n earlier left p (c ∷ cs) s refl
+
+    answer_by : Ruling → Answer
+    answer_by Gets = answers.Granted c
+    answer_by Waits = answers.NotHeld
+    answer_by (Told answer) = answer
+
+    tells_by : (ruling : Ruling) → tells c ruling (answer_by ruling)
+    tells_by Gets = refl
+    tells_by Waits = tt
+    tells_by (Told answer) = refl
+
+    by : (ruling : Ruling) (told : List Effect) (t : CoreState) → IsRuled left p (c ∷ cs) s ruling told t → IsEachDue left w.rows (length s.names) c (c ∷ cs) s (answer_by ruling) → IsMoved left s w c cs (turned w ruling told t)
+    by Gets told t is due = record {
+      answer = answers.Granted c;
+      told = ap (λ (xs : List Effect). xs ++ Served w.id (all_of w.asked) ∷ []) is.0 ∙ ap (λ (ds : List Claim). Served w.id (all_of ds) ∷ []) asked;
+      new = ap (λ (x : CoreState). record x { waiters = cancelled w.id x.waiters }) is.1;
+      due = due;
+      pass = λ d e. is.2;
+    }
+    by Waits told t is due = absurd (both_ways (does_wait p s.claims c) (free_now s w c free) is.3)
+    by (Told answer) told t is due = record {
+      answer = answer;
+      told = ap (λ (xs : List Effect). xs ++ Served w.id answer ∷ []) is.0;
+      new = ap (λ (x : CoreState). record x { waiters = cancelled w.id x.waiters }) is.1 ∙ ap (λ (held : List Claim). record s { claims = held; waiters = cancelled w.id s.waiters }) (sym (refused_once (c ∷ cs) answer s.claims is.2));
+      due = due;
+      pass = λ d e. absurd (both_ways (is_refusal answer) (ap is_refusal e) is.2);
+    }
 
 -- the first waiter that has a turn
 pub record IsFirst (left : Rooms) (s : CoreState) (ws : List Waiter) (turn : Turned) : Type 0 where
@@ -305,29 +355,13 @@ pub record IsFirst (left : Rooms) (s : CoreState) (ws : List Waiter) (turn : Tur
   pub waiter : Waiter
   pub behind : List Waiter
   pub claim : Claim
+  pub claims : List Claim
   pub stood : ws ≡ before ++ waiter ∷ behind
-  pub blocked : AllByRecursion (λ w. stands_in_the_way s.claims w.asked ≡ true) before
+  pub blocked : AllByRecursion (λ w. holds_up s.claims w w.asked ≡ true) before
   pub is : IsWaiter s.names s.counter waiter
-  pub asked : waiter.asked ≡ claim ∷ []
-  pub free : is_blocked s.claims claim ≡ false
-  pub turn_is : turn ≡ turn_by s waiter claim (first_passed (turn_limits left s waiter claim))
-
-moved : (n : ℕ) (left : Rooms) (s : CoreState) (earlier : List Waiter) (w : Waiter) (c : Claim) → w.asked ≡ c ∷ [] → is_blocked s.claims c ≡ false
-    → (let r = again n left s earlier w in turned w r.0 r.1 r.2 ≡ turn_by s w c (first_passed (turn_limits left s w c)))
-unfolding plea_again held_with
-moved n left s earlier w c asked free =
-    ap (λ (r : Ruled). turned w r.0 r.1 r.2)
-    (ap (λ (cs : List Claim). judged n earlier left p cs s) asked
-    ∙ judged_is n earlier left p c s refl
-    ∙ ap (λ (o : Option Claim). ruled_by p s c o (passed_by left p s c)) (none_blockers earlier s c free))
-    ∙ by (first_passed (turn_limits left s w c))
-  where
-    p : Plea
-    p = plea_again s w
-
-    by : (o : Option ℕ) → (let r = ruled_by p s c None o in turned w r.0 r.1 r.2 ≡ turn_by s w c o)
-    by None = ap (λ (cs : List Claim). (Served w.id (all_of cs) ∷ [], record s { claims = granted_claims c s.claims; waiters = cancelled w.id s.waiters })) asked
-    by (Some limit) = refl
+  pub asked : waiter.asked ≡ claim ∷ claims
+  pub free : is_held_up s.claims waiter claim ≡ false
+  pub moved : IsMoved left s waiter claim claims turn
 
 same_turn : (a b : Turned) → Some a ≡ Some b → a ≡ b
 same_turn a b e = cc
@@ -335,38 +369,47 @@ same_turn a b e = cc
 pub first_is : (n : ℕ) (left : Rooms) (s : CoreState) (earlier ws : List Waiter) (turn : Turned) → AllByRecursion (IsWaiter s.names s.counter) ws → first_turn n left s earlier ws ≡ Some turn → IsFirst left s ws turn
 first_is n left s earlier [] turn all e = absurd cc
 first_is n left s earlier (w ∷ ws) turn all e =
-    let one = alone w.asked all.0.2 in
     let r = again n left s earlier w in
     let later = first_turn n left s (earlier ++ w ∷ []) ws in
-    elim (cases_Bool (is_blocked s.claims one.0)) [
-      | inl blocked ↦
-          let rest = blocked_rests n left s earlier w one.0 one.1 all.0.3 blocked in
+    let one = pled w.asked all.0.2 in
+    elim (cases_Bool (is_held_up s.claims w one.0)) [
+      | inl up ↦
+          let rest = held_rests n left s earlier w one.0 one.1 one.2 up in
           let found = first_is n left s (earlier ++ w ∷ []) ws turn all.1 (sym (ap (λ (x : Ruled). turn_or w x later) rest) ∙ e) in
           record {
             before = w ∷ found.before;
             waiter = found.waiter;
             behind = found.behind;
             claim = found.claim;
+            claims = found.claims;
             stood = ap (λ (vs : List Waiter). w ∷ vs) found.stood;
-            blocked = ((rests_blocked n left s earlier w (ap (λ (x : Ruled). rests x.0 x.1) rest)).1, found.blocked);
+            blocked = ((rests_held n left s earlier w (ap (λ (x : Ruled). rests x.0 x.1) rest)).1, found.blocked);
             is = found.is;
             asked = found.asked;
             free = found.free;
-            turn_is = found.turn_is;
+            moved = found.moved;
           }
-      | inr free ↦ record {
-        before = [];
-        waiter = w;
-        behind = ws;
-        claim = one.0;
-        stood = refl;
-        blocked = tt;
-        is = all.0;
-        asked = one.1;
-        free = free;
-        turn_is = sym (same_turn (turned w r.0 r.1 r.2) turn (sym (move_first w r later (free_moves n left s earlier w one.0 one.1 free)) ∙ e)) ∙ moved n left s earlier w one.0 one.1 free;
-      }
+      | inr free ↦
+          let clear : holds_up s.claims w w.asked ≡ false = ap (holds_up s.claims w) one.2 ∙ free in
+          record {
+            before = [];
+            waiter = w;
+            behind = ws;
+            claim = one.0;
+            claims = one.1;
+            stood = refl;
+            blocked = tt;
+            is = all.0;
+            asked = one.2;
+            free = free;
+            moved = subst (IsMoved left s w one.0 one.1) (same_turn (turned w r.0 r.1 r.2) turn (sym (move_first w r later (free_moves n left s earlier w clear)) ∙ e)) (moved n left s earlier w one.0 one.1 one.2 free);
+          }
     ]
+  where
+    -- there is a first claim
+    pled : (asked : List Claim) → IsPled asked → (c : Claim) × (cs : List Claim) × (asked ≡ c ∷ cs)
+    pled [] none = absurd none
+    pled (c ∷ cs) some = (c, cs, refl)
 
 pub cancelled_all : (P : Waiter → Type 0) (id : ℕ) (ws : List Waiter) → AllByRecursion P ws → AllByRecursion P (cancelled id ws)
 cancelled_all P id [] all = tt
@@ -391,16 +434,26 @@ fewer_cancelled id (w ∷ ws) = elim (cases_Bool (w.id == id)) [ inl e ↦ rw e 
 fewer_crowd : (id : ℕ) (ws : List Waiter) → length ws ≤ most_waiters → length (cancelled id ws) ≤ most_waiters
 fewer_crowd id ws crowd = omega (arith, fewer_cancelled id ws, crowd)
 
-turn_good : (left : Rooms) (s : CoreState) (w : Waiter) (c : Claim) (o : Option ℕ) → IsGood s → IsKnown s.names c → is_blocked s.claims c ≡ false → first_passed (turn_limits left s w c) ≡ o → IsGood (turn_by s w c o).1
-turn_good left s w c (Some limit) good known free e =
-    good_from (record s { waiters = cancelled w.id s.waiters }) (good_claims s good) good.distinct good.few (cancelled_all (IsWaiter s.names s.counter) w.id s.waiters good.waiters) (cancelled_pairwise are_apart w.id s.waiters good.apart) (fewer_crowd w.id s.waiters good.crowd)
-turn_good left s w c None good known free e =
-    good_from (record s { claims = granted_claims c s.claims; waiters = cancelled w.id s.waiters })
-    (granted_good s.names c s.claims good.distinct (good_claims s good) known free (grant_room left w.rows (length (granted_claims c s.claims)) (length s.names) e).1) good.distinct good.few
-    (cancelled_all (IsWaiter s.names s.counter) w.id s.waiters good.waiters) (cancelled_pairwise are_apart w.id s.waiters good.apart) (fewer_crowd w.id s.waiters good.crowd)
+once_good : (left : Rooms) (s : CoreState) (w : Waiter) (asked : List Claim) (answer : Answer) → IsGood s → AllByRecursion (IsKnown s.names) asked → ((d : Claim) → answer ≡ answers.Granted d → AllPass left (plea_again s w) s.claims asked) → AreGood s.names (held_once asked answer s.claims)
+once_good left s w asked (answers.Granted c) good known pass = all_granted_good left (plea_again s w) s.names asked s.claims good.distinct (good_claims s good) known (pass c refl)
+once_good left s w asked (answers.Queued number) good known pass = good_claims s good
+once_good left s w asked (answers.Conflict c) good known pass = good_claims s good
+once_good left s w asked (answers.Recall c) good known pass = good_claims s good
+once_good left s w asked (answers.Grace until) good known pass = good_claims s good
+once_good left s w asked (answers.NoGrace clock) good known pass = good_claims s good
+once_good left s w asked answers.NotRecorded good known pass = good_claims s good
+once_good left s w asked (answers.Full limit) good known pass = good_claims s good
+once_good left s w asked answers.NotHeld good known pass = good_claims s good
+once_good left s w asked answers.StoreFailed good known pass = good_claims s good
 
-pub first_known : (left : Rooms) (s : CoreState) (ws : List Waiter) (turn : Turned) (first : IsFirst left s ws turn) → IsKnown s.names first.claim
-first_known left s ws turn first = (subst (λ (cs : List Claim). AllByRecursion (IsKnown s.names) cs) first.asked first.is.1).0
+turn_good : (left : Rooms) (s : CoreState) (turn : Turned) (first : IsFirst left s s.waiters turn) → IsGood s → IsGood turn.1
+turn_good left s turn first good =
+    let w = first.waiter in
+    let known = subst (λ (cs : List Claim). AllByRecursion (IsKnown s.names) cs) first.asked first.is.1 in
+    let claims = held_once (first.claim ∷ first.claims) first.moved.answer s.claims in
+    subst IsGood (sym first.moved.new)
+    (good_from (record s { claims = claims; waiters = cancelled w.id s.waiters }) (once_good left s w (first.claim ∷ first.claims) first.moved.answer good known first.moved.pass) good.distinct good.few
+    (cancelled_all (IsWaiter s.names s.counter) w.id s.waiters good.waiters) (cancelled_pairwise are_apart w.id s.waiters good.apart) (fewer_crowd w.id s.waiters good.crowd))
 
 pub each_turn : (n : ℕ) (left : Rooms) (s : CoreState) (P : Turned → Type 0) → IsGood s → ((turn : Turned) → IsFirst left s s.waiters turn → P turn) → IfSome (settle n left s) P
 unfolding settle
@@ -413,7 +466,7 @@ each_turn n left s P good holds = by (first_turn n left s [] s.waiters) refl whe
 pub settle_good : (n : ℕ) (left : Rooms) (s : CoreState) → IsGood s → IfSome (settle n left s) (λ r. IsGood r.1)
 settle_good n left s good =
     each_turn n left s (λ r. IsGood r.1) good
-    (λ turn first. subst (λ (x : Turned). IsGood x.1) (sym first.turn_is) (turn_good left s first.waiter first.claim _ good (first_known left s s.waiters turn first) first.free refl))
+    (λ turn first. turn_good left s turn first good)
 
 -- ---- who leaves
 

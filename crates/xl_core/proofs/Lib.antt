@@ -5,6 +5,7 @@ pub mod RowLaws
 pub mod TurnLaws
 pub mod LimitLaws
 pub mod CauseLaws
+pub mod AskedLaws
 pub mod ClaimLaws
 pub mod GoodLaws
 pub mod CacheLaws

@@ -1,24 +1,23 @@
 -- A row of steps: what each step keeps, the row keeps. Why a ruling is what it is, and what it leaves.
-use Rattle.std.proofs.Common.{◌≡◌, ℕ, Bool, true, false, if◌then◌else◌, List, [], ◌∷◌, ◌++◌, length, Option, Some, None, refl, sym, ap, subst, append_assoc, ◌∙◌}
-use Rattle.std.proofs.lemmas.Bool.{or_left, or_right}
+use Rattle.std.proofs.Common.{◌≡◌, ℕ, Bool, true, false, ◌&&◌, if◌then◌else◌, List, [], ◌∷◌, ◌++◌, length, Option, Some, None, refl, sym, ap, subst, append_assoc, ◌∙◌}
+use Rattle.std.proofs.lemmas.Bool.{both_ways}
 use Rattle.xl_matrix.specs.declared.claim.Claim.{Claim}
 use Rattle.xl_wait.specs.declared.waiter.Rooms.{Rooms}
 use Rattle.xl_wait.specs.declared.waiter.Waiter.{Waiter}
 use Rattle.xl_core.specs.State.{CoreState}
-use Rattle.xl_core.specs.Blockers.{blockers}
-use Rattle.xl_core.specs.Good.{stands_in_the_way}
-use Rattle.xl_core.specs.Judge.{Ruled, Step, followed, after, all_granted, held_with, check_grace, waits, stopped, held_by, check_held, start_breaks, room_by, check_room, record_name, enter_all, each, judged, row, row_left}
+use Rattle.xl_core.specs.Blockers.{blockers, is_stopped, cache_against}
+use Rattle.xl_core.specs.Judge.{Ruled, Step, followed, after, all_granted, held_with, check_grace, waits, stopped, held_by, check_held, kept_off, kept_off_by, check_caches, room_by, check_room, record_name, enter_all, does_wait, at_once, each, judged, row, row_left}
 use Rattle.xl_core.specs.Limits.{grant_limits, first_passed}
 use Rattle.xl_table.specs.Flat.{is_blocked}
 use Rattle.xl_table.specs.Least.{least}
 use Rattle.xl_table.specs.Relock.{granted_claims}
 use Rattle.xl_core.specs.declared.ask.Answer.{Answer}
-use Rattle.xl_core.specs.declared.ask.Answer.TheVariants.{Granted, Queued, NoGrace, Conflict, Full}
+use Rattle.xl_core.specs.declared.ask.Answer.TheVariants.{Granted, Queued, NoGrace, Conflict, Recall, Full}
 use Rattle.xl_core.specs.declared.ask.Effect.{Effect}
 use Rattle.xl_core.specs.declared.judge.Plea.{Plea}
 use Rattle.xl_core.specs.declared.judge.Ruling.{Ruling}
 use Rattle.xl_core.specs.declared.judge.Ruling.TheVariants.{Gets, Waits, Told}
-use Rattle.xl_core.proofs.DecideLaws.{blockers_none, some_blocks}
+use Rattle.xl_core.proofs.DecideLaws.{blockers_none, some_stops, stopped_blocked, cache_blocked, free_unless}
 
 -- ---- a row
 
@@ -60,10 +59,15 @@ is_refusal (Granted c) = false
 is_refusal (Queued number) = false
 is_refusal _ = true
 
+-- the first of these waits
+abbrev pub first_waits : Plea → List Claim → List Claim → Type 0
+first_waits p held [] = ⊥
+first_waits p held (c ∷ cs) = does_wait p held c ≡ true
+
 -- of a plea for all of these, of which the rest is still to be judged beside what counts as held
 abbrev IsRuledFrom : Rooms → Plea → List Claim → CoreState → List Claim → List Claim → Ending
 IsRuledFrom left p asked s held rest Gets told t = (told ≡ []) × (t ≡ held_with asked s) × AllPass left p held rest
-IsRuledFrom left p asked s held rest Waits told t = (told ≡ []) × (t ≡ s) × (p.blocking ≡ true) × (p.crowded ≡ None) × (stands_in_the_way held rest ≡ true)
+IsRuledFrom left p asked s held rest Waits told t = (told ≡ []) × (t ≡ s) × (p.crowded ≡ None) × first_waits p held rest
 IsRuledFrom left p asked s held rest (Told answer) told t = (told ≡ []) × (t ≡ s) × (is_refusal answer ≡ true)
 
 abbrev pub IsRuled : Rooms → Plea → List Claim → CoreState → Ending
@@ -84,29 +88,51 @@ granted_behind : (before : List Claim) (c : Claim) (held : List Claim) → all_g
 granted_behind [] c held = refl
 granted_behind (b ∷ bs) c held = granted_behind bs c (granted_claims b held)
 
--- nothing was told or changed, and this claim is free beside what counts as held
-abbrev IsFreeYet : CoreState → List Claim → Claim → Between
-IsFreeYet s held c told t = IsYet s told t × (is_blocked held c ≡ false)
+-- nothing was told or changed, and no break is wanted for this claim beside what counts as held
+abbrev MovesYet : CoreState → List Claim → Claim → Between
+MovesYet s held c told t = IsYet s told t × (is_stopped held c ≡ false)
+
+waits_stopped : (p : Plea) (held : List Claim) (c : Claim) → is_blocked held c ≡ true → is_stopped held c ≡ true → p.blocking ≡ true → does_wait p held c ≡ true
+waits_stopped p held c blocked stopped waits = rw (blocked, stopped) waits
+
+waits_kept_off : (p : Plea) (held : List Claim) (c : Claim) → is_blocked held c ≡ true → is_stopped held c ≡ false → p.awaits ≡ true → does_wait p held c ≡ true
+waits_kept_off p held c blocked moves waits = rw (blocked, moves) waits
 
 held_passes : (earlier : List Waiter) (left : Rooms) (p : Plea) (asked : List Claim) (s : CoreState) (before : List Claim) (c : Claim) (rest : List Claim)
-    → Steps (IsFreeYet s (all_granted before s.claims) c) (IsRuledFrom left p asked s (all_granted before s.claims) (c ∷ rest)) (check_held earlier p before c) [] s
+    → Steps (MovesYet s (all_granted before s.claims) c) (IsRuledFrom left p asked s (all_granted before s.claims) (c ∷ rest)) (check_held earlier p before c) [] s
 unfolding check_held held_with
 held_passes earlier left p asked s before c rest = by (least s.names (blockers earlier there c)) refl where
   there : CoreState
   there = record s { claims = all_granted before s.claims }
 
-  stops : (d : Claim) → is_blocked there.claims c ≡ true → (b : Bool) (o : Option ℕ) → p.blocking ≡ b → p.crowded ≡ o → IsRuledFrom left p asked s there.claims (c ∷ rest) (if b then waits o else Told (Conflict d)) [] s
-  stops d blocked true None waits room = (refl, refl, waits, room, or_left (is_blocked there.claims c) (stands_in_the_way (granted_claims c there.claims) rest) blocked)
-  stops d blocked true (Some limit) waits room = (refl, refl, refl)
-  stops d blocked false o waits room = (refl, refl, refl)
+  stops : (d : Claim) → is_stopped there.claims c ≡ true → (b : Bool) (o : Option ℕ) → p.blocking ≡ b → p.crowded ≡ o → IsRuledFrom left p asked s there.claims (c ∷ rest) (if b then waits o else Told (Conflict d)) [] s
+  stops d stopped true None waits room = (refl, refl, room, waits_stopped p there.claims c (stopped_blocked there.claims c stopped) stopped waits)
+  stops d stopped true (Some limit) waits room = (refl, refl, refl)
+  stops d stopped false o waits room = (refl, refl, refl)
 
-  by : (o : Option Claim) → least s.names (blockers earlier there c) ≡ o → (let r = held_by p o s in Passes (IsFreeYet s there.claims c) (IsRuledFrom left p asked s there.claims (c ∷ rest)) r.0 r.1 r.2)
+  by : (o : Option Claim) → least s.names (blockers earlier there c) ≡ o → (let r = held_by p o s in Passes (MovesYet s there.claims c) (IsRuledFrom left p asked s there.claims (c ∷ rest)) r.0 r.1 r.2)
   by None e = ((refl, refl), blockers_none earlier there c e)
-  by (Some d) e = stops d (some_blocks earlier there c d e) p.blocking p.crowded refl refl
+  by (Some d) e = stops d (some_stops earlier there c d e) p.blocking p.crowded refl refl
 
-breaks_pass : (E : Ending) (p : Plea) (s : CoreState) (held before : List Claim) (c : Claim) (told : List Effect) (t : CoreState) → IsFreeYet s held c told t → Steps (IsFreeYet s held c) E (start_breaks p before c) told t
-unfolding start_breaks
-breaks_pass E p s held before c told t yet = ((ap (λ (x : List Effect). x ++ []) yet.0.0, yet.0.1), yet.1)
+-- nothing blocks it
+abbrev IsFreeYet : CoreState → List Claim → Claim → Between
+IsFreeYet s held c told t = IsYet s told t × (is_blocked held c ≡ false)
+
+caches_pass : (left : Rooms) (p : Plea) (asked : List Claim) (s : CoreState) (before : List Claim) (c : Claim) (rest : List Claim) → is_stopped (all_granted before s.claims) c ≡ false
+    → Steps (IsFreeYet s (all_granted before s.claims) c) (IsRuledFrom left p asked s (all_granted before s.claims) (c ∷ rest)) (check_caches p before c) [] s
+unfolding check_caches held_with
+caches_pass left p asked s before c rest moves = by (cache_against held c) refl where
+  held : List Claim
+  held = all_granted before s.claims
+
+  keeps : (d : Claim) → is_blocked held c ≡ true → (b : Bool) (o : Option ℕ) → p.awaits ≡ b → p.crowded ≡ o → IsRuledFrom left p asked s held (c ∷ rest) (if b then waits o else Told (Recall d)) [] s
+  keeps d blocked true None waits room = (refl, refl, room, waits_kept_off p held c blocked moves waits)
+  keeps d blocked true (Some limit) waits room = (refl, refl, refl)
+  keeps d blocked false o waits room = (refl, refl, refl)
+
+  by : (o : Option Claim) → cache_against held c ≡ o → (let r = kept_off_by p o s in Passes (IsFreeYet s held c) (IsRuledFrom left p asked s held (c ∷ rest)) r.0 r.1 r.2)
+  by None e = ((refl, refl), free_unless held c moves e)
+  by (Some d) e = keeps d (cache_blocked held c d e) p.awaits p.crowded refl refl
 
 -- and passes no limit
 abbrev HasRoomYet : Rooms → Plea → CoreState → List Claim → Claim → Between
@@ -123,25 +149,39 @@ room_passes left p asked s before c rest free = by (first_passed (grant_limits l
   by None e = (((refl, refl), free), e)
   by (Some limit) e = (refl, refl, refl)
 
-end_passes : (n : ℕ) (left : Rooms) (p : Plea) (asked : List Claim) (s : CoreState) (held : List Claim) → Ends (IsRuledFrom left p asked s held []) (after (record_name n p) (enter_all asked)) [] s
+end_passes : (n : ℕ) (left : Rooms) (q p : Plea) (asked : List Claim) (s : CoreState) (held : List Claim) → Ends (IsRuledFrom left p asked s held []) (after (record_name n q) (enter_all asked)) [] s
 unfolding record_name enter_all
-end_passes n left p asked s held = (refl, refl, tt)
+end_passes n left q p asked s held = (refl, refl, tt)
+
+pass_at_once : (left : Rooms) (p : Plea) (held cs : List Claim) → AllPass left (at_once p) held cs → AllPass left p held cs
+pass_at_once left p held [] pass = tt
+pass_at_once left p held (c ∷ cs) pass = (pass.0, pass.1, pass_at_once left p (granted_claims c held) cs pass.2)
+
+-- none of those behind the first waits
+waits_not : (p : Plea) (held cs : List Claim) → first_waits (at_once p) held cs → ⊥
+waits_not p held [] h = h
+waits_not p held (c ∷ cs) h = by (is_blocked held c) (is_stopped held c) h where
+  by : (x y : Bool) → (x && (if y then false else false)) ≡ true → ⊥
+  by true true e = both_ways false refl e
+  by true false e = both_ways false refl e
+  by false y e = both_ways false refl e
 
 -- what stands once more counts as held, stands before
 ruled_before : (left : Rooms) (p : Plea) (asked : List Claim) (s : CoreState) (held : List Claim) (c : Claim) (rest : List Claim) → is_blocked held c ≡ false → first_passed (grant_limits left p.rows (length (granted_claims c held)) p.kept) ≡ None
-    → (ruling : Ruling) (told : List Effect) (t : CoreState) → IsRuledFrom left p asked s (granted_claims c held) rest ruling told t → IsRuledFrom left p asked s held (c ∷ rest) ruling told t
-ruled_before left p asked s held c rest free room Gets told t is = (is.0, is.1, (free, room, is.2))
-ruled_before left p asked s held c rest free room Waits told t is = (is.0, is.1, is.2, is.3, or_right (is_blocked held c) (stands_in_the_way (granted_claims c held) rest) is.4)
+    → (ruling : Ruling) (told : List Effect) (t : CoreState) → IsRuledFrom left (at_once p) asked s (granted_claims c held) rest ruling told t → IsRuledFrom left p asked s held (c ∷ rest) ruling told t
+ruled_before left p asked s held c rest free room Gets told t is = (is.0, is.1, (free, room, pass_at_once left p (granted_claims c held) rest is.2))
+ruled_before left p asked s held c rest free room Waits told t is = absurd (waits_not p (granted_claims c held) rest is.3)
 ruled_before left p asked s held c rest free room (Told answer) told t is = is
 
-each_passes : (n : ℕ) (earlier : List Waiter) (left : Rooms) (p : Plea) (asked : List Claim) (s : CoreState) (before rest : List Claim)
-    → Ends (IsRuledFrom left p asked s (all_granted before s.claims) rest) (each earlier left p before rest (after (record_name n p) (enter_all asked))) [] s
-each_passes n earlier left p asked s before [] = end_passes n left p asked s (all_granted before s.claims)
-each_passes n earlier left p asked s before (c ∷ cs) =
-    after_passes (IsFreeYet s held c) E (check_held earlier p before c) _ [] s (held_passes earlier left p asked s before c cs) (λ told t yet.
-    after_passes (IsFreeYet s held c) E (start_breaks p before c) _ told t (breaks_pass E p s held before c told t yet) (λ more u free. at more u free.0 (λ more u. Ends E (after (check_room left p before c) rest) more u)
+each_passes : (n : ℕ) (earlier : List Waiter) (left : Rooms) (q p : Plea) (asked : List Claim) (s : CoreState) (before rest : List Claim)
+    → Ends (IsRuledFrom left p asked s (all_granted before s.claims) rest) (each earlier left p before rest (after (record_name n q) (enter_all asked))) [] s
+each_passes n earlier left q p asked s before [] = end_passes n left q p asked s (all_granted before s.claims)
+each_passes n earlier left q p asked s before (c ∷ cs) =
+    after_passes (MovesYet s held c) E (check_held earlier p before c) _ [] s (held_passes earlier left p asked s before c cs) (λ told t moves.
+    at told t moves.0 (λ told t. Ends E (after (check_caches p before c) (after (check_room left p before c) rest)) told t)
+    (after_passes (IsFreeYet s held c) E (check_caches p before c) _ [] s (caches_pass left p asked s before c cs moves.1) (λ more u free. at more u free.0 (λ more u. Ends E (after (check_room left p before c) rest) more u)
     (after_passes (HasRoomYet left p s held c) E (check_room left p before c) rest [] s (room_passes left p asked s before c cs free.1) (λ last v room. at last v room.0.0 (λ last v. Ends E rest last v)
-    (later last v room (each_passes n earlier left p asked s (before ++ c ∷ []) cs))))))
+    (later last v room (each_passes n earlier left q (at_once p) asked s (before ++ c ∷ []) cs)))))))
   where
     held : List Claim
     held = all_granted before s.claims
@@ -150,15 +190,15 @@ each_passes n earlier left p asked s before (c ∷ cs) =
     E = IsRuledFrom left p asked s held (c ∷ cs)
 
     rest : CoreState → Ruled
-    rest = each earlier left p (before ++ c ∷ []) cs (after (record_name n p) (enter_all asked))
+    rest = each earlier left (at_once p) (before ++ c ∷ []) cs (after (record_name n q) (enter_all asked))
 
     at : (told : List Effect) (t : CoreState) → IsYet s told t → (P : List Effect → CoreState → Type 0) → P [] s → P told t
     at told t yet P h = subst (λ (x : List Effect). P x t) (sym yet.0) (subst (λ (x : CoreState). P [] x) (sym yet.1) h)
 
-    later : (told : List Effect) (t : CoreState) → HasRoomYet left p s held c told t → Ends (IsRuledFrom left p asked s (all_granted (before ++ c ∷ []) s.claims) cs) rest [] s → Ends E rest [] s
+    later : (told : List Effect) (t : CoreState) → HasRoomYet left p s held c told t → Ends (IsRuledFrom left (at_once p) asked s (all_granted (before ++ c ∷ []) s.claims) cs) rest [] s → Ends E rest [] s
     later told t room behind =
         ruled_before left p asked s held c cs room.0.1 room.1 (rest s).0 (rest s).1 (rest s).2
-        (subst (λ (x : List Claim). Ends (IsRuledFrom left p asked s x cs) rest [] s) (granted_behind before c s.claims) behind)
+        (subst (λ (x : List Claim). Ends (IsRuledFrom left (at_once p) asked s x cs) rest [] s) (granted_behind before c s.claims) behind)
 
 -- each ruling has its cause, tells nothing, and leaves what it says
 pub judged_ruled : (n : ℕ) (earlier : List Waiter) (left : Rooms) (p : Plea) (asked : List Claim) (s : CoreState) → Ends (IsRuled left p asked s) (judged n earlier left p asked) [] s
@@ -166,14 +206,9 @@ unfolding judged
 judged_ruled n earlier left p asked s =
     after_passes (IsYet s) (IsRuled left p asked s) (check_grace p) _ [] s (grace_passes left p asked s) (λ told t yet.
     subst (λ (x : List Effect). Ends (IsRuled left p asked s) (each earlier left p [] asked (after (record_name n p) (enter_all asked))) x t) (sym yet.0)
-    (subst (λ (x : CoreState). Ends (IsRuled left p asked s) (each earlier left p [] asked (after (record_name n p) (enter_all asked))) [] x) (sym yet.1) (each_passes n earlier left p asked s [] asked)))
+    (subst (λ (x : CoreState). Ends (IsRuled left p asked s) (each earlier left p [] asked (after (record_name n p) (enter_all asked))) [] x) (sym yet.1) (each_passes n earlier left p p asked s [] asked)))
 
--- ---- one claim: the ruling is a function of what is looked at
-
-abbrev pub ruled_by : Plea → CoreState → Claim → Option Claim → Option ℕ → Ruled
-ruled_by p s c (Some d) passed = (stopped p d, [], s)
-ruled_by p s c None (Some limit) = (Told (Full limit), [], s)
-ruled_by p s c None None = (Gets, [], held_with (c ∷ []) s)
+-- ---- the first claim: where something blocks it the ruling is a function of what is looked at
 
 abbrev pub least_blocker : List Waiter → CoreState → Claim → Option Claim
 least_blocker earlier s c = least s.names (blockers earlier s c)
@@ -185,49 +220,78 @@ pub late : (n : ℕ) (earlier : List Waiter) (left : Rooms) (p : Plea) (asked : 
 unfolding judged check_grace
 late n earlier left p asked s e = rw e refl
 
-pub judged_is : (n : ℕ) (earlier : List Waiter) (left : Rooms) (p : Plea) (c : Claim) (s : CoreState) → p.reclaim ≡ false → judged n earlier left p (c ∷ []) s ≡ ruled_by p s c (least_blocker earlier s c) (passed_by left p s c)
-unfolding judged check_grace check_held start_breaks check_room record_name enter_all held_with
-judged_is n earlier left p c s timely = go (least_blocker earlier s c) (passed_by left p s c) refl refl where
-  go : (o : Option Claim) (l : Option ℕ) → least_blocker earlier s c ≡ o → passed_by left p s c ≡ l → judged n earlier left p (c ∷ []) s ≡ ruled_by p s c o l
-  go (Some d) l e k = rw (timely, e) refl
-  go None (Some limit) e k = rw (timely, e, k) refl
-  go None None e k = rw (timely, e, k) refl
+-- one that something blocks for good
+pub judged_stopped : (n : ℕ) (earlier : List Waiter) (left : Rooms) (p : Plea) (c d : Claim) (cs : List Claim) (s : CoreState) → p.reclaim ≡ false → least_blocker earlier s c ≡ Some d → judged n earlier left p (c ∷ cs) s ≡ (stopped p d, [], s)
+unfolding judged check_grace check_held held_with
+judged_stopped n earlier left p c d cs s timely e = rw (timely, e) refl
+
+-- one that a cache keeps off
+pub judged_kept_off : (n : ℕ) (earlier : List Waiter) (left : Rooms) (p : Plea) (c d : Claim) (cs : List Claim) (s : CoreState) → p.reclaim ≡ false → least_blocker earlier s c ≡ None → cache_against s.claims c ≡ Some d → judged n earlier left p (c ∷ cs) s ≡ (kept_off p d, [], s)
+unfolding judged check_grace check_held check_caches held_with
+judged_kept_off n earlier left p c d cs s timely e k = rw (timely, e, k) refl
 
 -- ---- several claims: the ruling is that on the first that is stopped
-
-stopped_left : (d : Claim) (asked : List Claim) (s : CoreState) (b : Bool) (o : Option ℕ) → row_left (if b then waits o else Told (Conflict d)) asked s ≡ s
-stopped_left d asked s true None = refl
-stopped_left d asked s true (Some limit) = refl
-stopped_left d asked s false o = refl
 
 -- what the row comes to, where this is ruled
 abbrev comes_to : List Claim → CoreState → Ruling → Ruled
 comes_to asked s ruling = (ruling, [], row_left ruling asked s)
 
--- each behind those before it, where those count as held, or where they are held
-each_row : (n : ℕ) (earlier : List Waiter) (left : Rooms) (p : Plea) (asked : List Claim) (s : CoreState) (before rest : List Claim)
-    → each earlier left p before rest (after (record_name n p) (enter_all asked)) s ≡ comes_to asked s (row left p rest (held_with before s))
-unfolding record_name enter_all check_held start_breaks check_room held_with blockers
-each_row n earlier left p asked s before [] = refl
-each_row n earlier left p asked s before (c ∷ cs) = go (least s.names (blockers earlier there c)) (first_passed (grant_limits left p.rows (length (granted_claims c there.claims)) p.kept)) refl refl (each_row n earlier left p asked s (before ++ c ∷ []) cs) where
-  there : CoreState
-  there = record s { claims = all_granted before s.claims }
+waits_left : (asked : List Claim) (s : CoreState) (o : Option ℕ) → row_left (waits o) asked s ≡ s
+waits_left asked s None = refl
+waits_left asked s (Some limit) = refl
 
-  go : (o : Option Claim) (l : Option ℕ) → least s.names (blockers earlier there c) ≡ o → first_passed (grant_limits left p.rows (length (granted_claims c there.claims)) p.kept) ≡ l
-      → each earlier left p (before ++ c ∷ []) cs (after (record_name n p) (enter_all asked)) s ≡ comes_to asked s (row left p cs (held_with (before ++ c ∷ []) s))
-      → each earlier left p before (c ∷ cs) (after (record_name n p) (enter_all asked)) s ≡ comes_to asked s (row left p (c ∷ cs) there)
-  go (Some d) l e k later = rw e (λ i. (stopped p d, [], sym (stopped_left d asked s p.blocking p.crowded) i))
-  go None (Some limit) e k later = rw (e, k) refl
-  go None None e k later =
-      rw (e, k) (subst (λ (held : List Claim). each earlier left p (before ++ c ∷ []) cs (after (record_name n p) (enter_all asked)) s ≡ comes_to asked s (row left p cs (record s { claims = held })))
-      (granted_behind before c s.claims) later)
+stopped_left : (d : Claim) (asked : List Claim) (s : CoreState) (b : Bool) (o : Option ℕ) → row_left (if b then waits o else Told (Conflict d)) asked s ≡ s
+stopped_left d asked s true o = waits_left asked s o
+stopped_left d asked s false o = refl
+
+kept_left : (d : Claim) (asked : List Claim) (s : CoreState) (b : Bool) (o : Option ℕ) → row_left (if b then waits o else Told (Recall d)) asked s ≡ s
+kept_left d asked s true o = waits_left asked s o
+kept_left d asked s false o = refl
+
+-- each behind those before it, where those count as held, or where they are held
+each_row : (n : ℕ) (earlier : List Waiter) (left : Rooms) (q p : Plea) (asked : List Claim) (s : CoreState) (before rest : List Claim)
+    → each earlier left p before rest (after (record_name n q) (enter_all asked)) s ≡ comes_to asked s (row left p rest (held_with before s))
+unfolding record_name enter_all check_held check_caches check_room held_with blockers
+each_row n earlier left q p asked s before [] = refl
+each_row n earlier left q p asked s before (c ∷ cs) =
+    go (least s.names (blockers earlier there c)) (cache_against there.claims c) (first_passed (grant_limits left p.rows (length (granted_claims c there.claims)) p.kept)) refl refl refl (each_row n earlier left q (at_once p) asked s (before ++ c ∷ []) cs)
+  where
+    there : CoreState
+    there = record s { claims = all_granted before s.claims }
+
+    go : (o k : Option Claim) (l : Option ℕ) → least s.names (blockers earlier there c) ≡ o → cache_against there.claims c ≡ k → first_passed (grant_limits left p.rows (length (granted_claims c there.claims)) p.kept) ≡ l
+        → each earlier left (at_once p) (before ++ c ∷ []) cs (after (record_name n q) (enter_all asked)) s ≡ comes_to asked s (row left (at_once p) cs (held_with (before ++ c ∷ []) s))
+        → each earlier left p before (c ∷ cs) (after (record_name n q) (enter_all asked)) s ≡ comes_to asked s (row left p (c ∷ cs) there)
+    go (Some d) k l e f g later = rw e (λ i. (stopped p d, [], sym (stopped_left d asked s p.blocking p.crowded) i))
+    go None (Some d) l e f g later = rw (e, f) (λ i. (kept_off p d, [], sym (kept_left d asked s p.awaits p.crowded) i))
+    go None None (Some limit) e f g later = rw (e, f, g) refl
+    go None None None e f g later =
+        rw (e, f, g) (subst (λ (held : List Claim). each earlier left (at_once p) (before ++ c ∷ []) cs (after (record_name n q) (enter_all asked)) s ≡ comes_to asked s (row left (at_once p) cs (record s { claims = held })))
+        (granted_behind before c s.claims) later)
 
 pub judged_row : (n : ℕ) (earlier : List Waiter) (left : Rooms) (p : Plea) (asked : List Claim) (s : CoreState) → p.reclaim ≡ false → judged n earlier left p asked s ≡ (row left p asked s, [], row_left (row left p asked s) asked s)
 unfolding judged check_grace held_with
 judged_row n earlier left p asked s timely =
     let rest : CoreState → Ruled = each earlier left p [] asked (after (record_name n p) (enter_all asked)) in
     ap (λ (b : Bool). let r : Option Ruling × List Effect × CoreState = if b then (Some (Told (NoGrace s.clock)), [], s) else (None, [], s) in followed r.0 r.1 r.2 rest) timely
-    ∙ each_row n earlier left p asked s [] asked
+    ∙ each_row n earlier left p p asked s [] asked
+
+-- ---- one claim
+
+abbrev pub ruled_by : Plea → CoreState → Claim → Option Claim → Option Claim → Option ℕ → Ruled
+ruled_by p s c (Some d) cache passed = (stopped p d, [], s)
+ruled_by p s c None (Some d) passed = (kept_off p d, [], s)
+ruled_by p s c None None (Some limit) = (Told (Full limit), [], s)
+ruled_by p s c None None None = (Gets, [], held_with (c ∷ []) s)
+
+pub judged_is : (n : ℕ) (earlier : List Waiter) (left : Rooms) (p : Plea) (c : Claim) (s : CoreState) → p.reclaim ≡ false → judged n earlier left p (c ∷ []) s ≡ ruled_by p s c (least_blocker earlier s c) (cache_against s.claims c) (passed_by left p s c)
+unfolding judged check_grace check_held check_caches check_room record_name enter_all held_with
+judged_is n earlier left p c s timely = go (least_blocker earlier s c) (cache_against s.claims c) (passed_by left p s c) refl refl refl where
+  go : (o k : Option Claim) (l : Option ℕ) → least_blocker earlier s c ≡ o → cache_against s.claims c ≡ k → passed_by left p s c ≡ l → judged n earlier left p (c ∷ []) s ≡ ruled_by p s c o k l
+  go (Some d) k l e f g = rw (timely, e) refl
+  go None (Some d) l e f g = rw (timely, e, f) refl
+  go None None (Some limit) e f g = rw (timely, e, f, g) refl
+  go None None None e f g = rw (timely, e, f, g) refl
 
 -- a reclaim comes too late, whatever is asked for
 pub judged_late : (n : ℕ) (earlier : List Waiter) (left : Rooms) (p : Plea) (asked : List Claim) (s : CoreState) (o : Option Ruling) (ruling : Ruling) → check_grace p s ≡ (o, [], s) → o ≡ Some ruling → judged n earlier left p asked s ≡ (ruling, [], s)

@@ -8,23 +8,24 @@ use Rattle.xl_base.proofs.Members.{all_in, in_filter, in_filter_from, in_append_
 use Rattle.xl_base.specs.declared.name.Party.{Party}
 use Rattle.xl_matrix.specs.Equal.{same_parties}
 use Rattle.xl_matrix.specs.declared.claim.Claim.{Claim}
-use Rattle.xl_table.specs.Flat.{removed, is_blocked}
+use Rattle.xl_table.specs.Flat.{removed}
+use Rattle.xl_table.specs.Held.{spans_of}
+use Rattle.xl_table.specs.Relock.{shares_of}
 use Rattle.xl_wait.specs.Waiting.{cancelled}
 use Rattle.xl_wait.specs.declared.waiter.Rooms.{Rooms}
 use Rattle.xl_wait.specs.declared.waiter.Waiter.{Waiter}
 use Rattle.xl_core.specs.declared.ask.Effect.{Effect}
 use Rattle.xl_core.specs.State.{CoreState}
-use Rattle.xl_core.specs.Causes.{IsTurn}
-use Rattle.xl_core.specs.Good.{are_apart, IsKnown, IsGood, IsWaiter, stands_in_the_way, IsSettled}
-use Rattle.xl_core.specs.Judge.{Ruled}
-use Rattle.xl_core.specs.Limits.{first_passed}
+use Rattle.xl_core.specs.Causes.{IsEachDue, held_once, IsTurn}
+use Rattle.xl_core.specs.Good.{are_apart, caches_of, IsKnown, IsPled, IsGood, IsWaiter, holds_up, IsSettled}
+use Rattle.xl_core.specs.Judge.{Ruled, all_granted}
 use Rattle.xl_core.specs.Settle.{rests, turned, again, turn_or, first_turn, settle, AllRest, waits_for, numbers_for, all_cancelled, cancel, give_back, end_party}
-use Rattle.xl_core.specs.declared.ask.Answer.TheVariants.{Granted, Full}
-use Rattle.xl_core.proofs.CacheLaws.{granted_caches}
-use Rattle.xl_core.proofs.ChangeLaws.{spans_apart, shares_apart}
-use Rattle.xl_core.proofs.GoodLaws.{Turned, turn_by, turn_limits, IsFirst, each_turn}
-use Rattle.xl_core.proofs.LimitLaws.{grant_found}
-use Rattle.xl_core.proofs.TurnLaws.{alone, one_in_the_way, blocked_rests, rests_blocked, move_first}
+use Rattle.xl_core.specs.declared.ask.Answer.{Answer}
+use Rattle.xl_core.specs.declared.ask.Answer.TheVariants.{Granted, Queued, Conflict, Recall, Grace, NoGrace, NotRecorded, Full, NotHeld, StoreFailed}
+use Rattle.xl_core.proofs.CacheLaws.{all_granted_caches}
+use Rattle.xl_core.proofs.ChangeLaws.{all_spans_left, all_shares_left}
+use Rattle.xl_core.proofs.GoodLaws.{Turned, IsFirst, each_turn}
+use Rattle.xl_core.proofs.TurnLaws.{up_rests, rests_held, move_first}
 
 -- ---- there is no turn exactly where each waiter rests
 
@@ -34,7 +35,7 @@ none_rests n left s earlier (w ∷ ws) e =
     let r = again n left s earlier w in
     let later = first_turn n left s (earlier ++ w ∷ []) ws in
     elim (cases_Bool (rests r.0 r.1)) [
-      | inl rest ↦ let is = (rests_blocked n left s earlier w rest).0 in (is, none_rests n left s (earlier ++ w ∷ []) ws (sym (ap (λ (x : Ruled). turn_or w x later) is) ∙ e))
+      | inl rest ↦ let is = (rests_held n left s earlier w rest).0 in (is, none_rests n left s (earlier ++ w ∷ []) ws (sym (ap (λ (x : Ruled). turn_or w x later) is) ∙ e))
       | inr moves ↦ let two : Some (turned w r.0 r.1 r.2) ≡ None = sym (move_first w r later moves) ∙ e in absurd cc
     ]
 
@@ -46,26 +47,22 @@ pub settle_rests : (n : ℕ) (left : Rooms) (s : CoreState) → (settle n left s
 unfolding settle
 settle_rests n left s = (none_rests n left s [] s.waiters, rests_none n left s [] s.waiters)
 
--- ---- who rests has something in its way
+-- ---- who rests is held up
 
-pub rest_blocked : (n : ℕ) (left : Rooms) (s : CoreState) (earlier ws : List Waiter) → AllRest n left s earlier ws → AllByRecursion (λ w. stands_in_the_way s.claims w.asked ≡ true) ws
-rest_blocked n left s earlier [] all = tt
-rest_blocked n left s earlier (w ∷ ws) all =
-    ((rests_blocked n left s earlier w (ap (λ (x : Ruled). rests x.0 x.1) all.0)).1, rest_blocked n left s (earlier ++ w ∷ []) ws all.1)
+pub rest_held : (n : ℕ) (left : Rooms) (s : CoreState) (earlier ws : List Waiter) → AllRest n left s earlier ws → AllByRecursion (λ w. holds_up s.claims w w.asked ≡ true) ws
+rest_held n left s earlier [] all = tt
+rest_held n left s earlier (w ∷ ws) all = ((rests_held n left s earlier w (ap (λ (x : Ruled). rests x.0 x.1) all.0)).1, rest_held n left s (earlier ++ w ∷ []) ws all.1)
 
-blocked_rest : (n : ℕ) (left : Rooms) (s : CoreState) (earlier ws : List Waiter) → AllByRecursion (IsWaiter s.names s.counter) ws → AllByRecursion (λ w. stands_in_the_way s.claims w.asked ≡ true) ws → AllRest n left s earlier ws
-blocked_rest n left s earlier [] good all = tt
-blocked_rest n left s earlier (w ∷ ws) good all =
-    let one = alone w.asked good.0.2 in
-    let blocked = one_in_the_way s.claims one.0 (subst (λ (cs : List Claim). stands_in_the_way s.claims cs ≡ true) one.1 all.0) in
-    (blocked_rests n left s earlier w one.0 one.1 good.0.3 blocked, blocked_rest n left s (earlier ++ w ∷ []) ws good.1 all.1)
+held_rest : (n : ℕ) (left : Rooms) (s : CoreState) (earlier ws : List Waiter) → AllByRecursion (λ w. holds_up s.claims w w.asked ≡ true) ws → AllRest n left s earlier ws
+held_rest n left s earlier [] all = tt
+held_rest n left s earlier (w ∷ ws) all = (up_rests n left s earlier w all.0, held_rest n left s (earlier ++ w ∷ []) ws all.1)
 
--- and who has something in its way rests
-pub settled_is : (n : ℕ) (left : Rooms) (s : CoreState) → IsGood s → AllRest n left s [] s.waiters ↔ IsSettled s
-settled_is n left s good = (rest_blocked n left s [] s.waiters, blocked_rest n left s [] s.waiters good.waiters)
+-- and who is held up rests
+pub settled_is : (n : ℕ) (left : Rooms) (s : CoreState) → AllRest n left s [] s.waiters ↔ IsSettled s
+settled_is n left s = (rest_held n left s [] s.waiters, held_rest n left s [] s.waiters)
 
 pub none_settled : (n : ℕ) (left : Rooms) (s : CoreState) → settle n left s ≡ None → IsSettled s
-none_settled n left s e = rest_blocked n left s [] s.waiters ((settle_rests n left s).0 e)
+none_settled n left s e = rest_held n left s [] s.waiters ((settle_rests n left s).0 e)
 
 -- ---- what a turn is
 
@@ -75,44 +72,18 @@ without (v ∷ vs) w behind apart =
     let other : (v.id == w.id) ≡ false = not-true (v.id == w.id) (all_in (λ x. are_apart v x ≡ true) w (vs ++ w ∷ behind) apart.0 (in_append_right w vs (w ∷ behind) (inl refl))) in
     rw other (ap (λ (xs : List Waiter). v ∷ xs) (without vs w behind apart.1))
 
-due_by : (left : Rooms) (s : CoreState) (w : Waiter) (c : Claim) (o : Option ℕ) → first_passed (turn_limits left s w c) ≡ o → (before behind : List Waiter) → cancelled w.id s.waiters ≡ before ++ behind
-    → s.waiters ≡ before ++ w ∷ behind → AllByRecursion (λ v. stands_in_the_way s.claims v.asked ≡ true) before → w.asked ≡ c ∷ [] → is_blocked s.claims c ≡ false → IsTurn left s (turn_by s w c o).0 (turn_by s w c o).1
-due_by left s w c (Some limit) e before behind left_by stood blocked asked free = record {
-  before = before;
-  waiter = w;
-  behind = behind;
-  claim = c;
-  answer = Full limit;
-  stood = stood;
-  blocked = blocked;
-  asked = asked;
-  free = free;
-  due = (grant_found left w.rows _ _ (Some limit) e, refl);
-  told = refl;
-  waiters = left_by;
-  names = refl;
-  spans = λ file owner apart. refl;
-  shares = λ file owner apart. refl;
-  caches = refl;
-}
-due_by left s w c None e before behind left_by stood blocked asked free = record {
-  before = before;
-  waiter = w;
-  behind = behind;
-  claim = c;
-  answer = Granted c;
-  stood = stood;
-  blocked = blocked;
-  asked = asked;
-  free = free;
-  due = (refl, grant_found left w.rows _ _ None e, refl);
-  told = refl;
-  waiters = left_by;
-  names = refl;
-  spans = λ file owner apart. spans_apart c s.claims file owner apart;
-  shares = λ file owner apart. shares_apart c s.claims file owner apart;
-  caches = granted_caches c s.claims;
-}
+-- a grant enters what was asked for, and any other answer leaves what is held
+once_cases : (P : List Claim → Type 0) (asked held : List Claim) (answer : Answer) → P held → P (all_granted asked held) → P (held_once asked answer held)
+once_cases P asked held (Granted c) same all = all
+once_cases P asked held (Queued number) same all = same
+once_cases P asked held (Conflict c) same all = same
+once_cases P asked held (Recall c) same all = same
+once_cases P asked held (Grace until) same all = same
+once_cases P asked held (NoGrace clock) same all = same
+once_cases P asked held NotRecorded same all = same
+once_cases P asked held (Full limit) same all = same
+once_cases P asked held NotHeld same all = same
+once_cases P asked held StoreFailed same all = same
 
 pub waiters_left : (left : Rooms) (s : CoreState) (turn : Turned) (first : IsFirst left s s.waiters turn) → IsGood s → cancelled first.waiter.id s.waiters ≡ first.before ++ first.behind
 waiters_left left s turn first good =
@@ -120,17 +91,38 @@ waiters_left left s turn first good =
 
 first_turn_is : (left : Rooms) (s : CoreState) (turn : Turned) → IsGood s → IsFirst left s s.waiters turn → IsTurn left s turn.0 turn.1
 first_turn_is left s turn good first =
-    subst (λ (x : Turned). IsTurn left s x.0 x.1) (sym first.turn_is)
-    (due_by left s first.waiter first.claim _ refl first.before first.behind (waiters_left left s turn first good) first.stood first.blocked first.asked first.free)
+    let moved = first.moved in
+    let all = first.claim ∷ first.claims in
+    let held : turn.1.claims ≡ held_once first.waiter.asked moved.answer s.claims = ap (λ (t : CoreState). t.claims) moved.new ∙ ap (λ (cs : List Claim). held_once cs moved.answer s.claims) (sym first.asked) in
+    record {
+      before = first.before;
+      waiter = first.waiter;
+      behind = first.behind;
+      claim = first.claim;
+      claims = first.claims;
+      answer = moved.answer;
+      stood = first.stood;
+      blocked = first.blocked;
+      asked = first.asked;
+      free = first.free;
+      due = subst (λ (cs : List Claim). IsEachDue left first.waiter.rows (length s.names) first.claim cs s moved.answer) (sym first.asked) moved.due;
+      held = held;
+      told = moved.told;
+      waiters = ap (λ (t : CoreState). t.waiters) moved.new ∙ waiters_left left s turn first good;
+      names = ap (λ (t : CoreState). t.names) moved.new;
+      spans = λ file owner apart. ap (λ (cs : List Claim). spans_of file owner cs) held ∙ once_cases (λ cs. spans_of file owner cs ≡ spans_of file owner s.claims) first.waiter.asked s.claims moved.answer refl (all_spans_left first.waiter.asked s.claims file owner apart);
+      shares = λ file owner apart. ap (λ (cs : List Claim). shares_of file owner cs) held ∙ once_cases (λ cs. shares_of file owner cs ≡ shares_of file owner s.claims) first.waiter.asked s.claims moved.answer refl (all_shares_left first.waiter.asked s.claims file owner apart);
+      caches = ap (λ (cs : List Claim). caches_of cs) held ∙ once_cases (λ cs. caches_of cs ≡ caches_of s.claims) first.waiter.asked s.claims moved.answer refl (all_granted_caches first.waiter.asked s.claims);
+    }
 
 pub turn_is : (n : ℕ) (left : Rooms) (s : CoreState) → IsGood s → IfSome (settle n left s) (λ r. IsTurn left s r.0 r.1)
 turn_is n left s good = each_turn n left s (λ r. IsTurn left s r.0 r.1) good (λ turn first. first_turn_is left s turn good first)
 
--- who is served waited for a claim that is known
-pub turn_is_known : (left : Rooms) (s : CoreState) (effects : List Effect) (t : CoreState) → IsGood s → (turn : IsTurn left s effects t) → IsKnown s.names turn.claim
+-- who is served waited for claims that are known
+pub turn_is_known : (left : Rooms) (s : CoreState) (effects : List Effect) (t : CoreState) → IsGood s → (turn : IsTurn left s effects t) → AllByRecursion (IsKnown s.names) turn.waiter.asked × IsPled turn.waiter.asked
 turn_is_known left s effects t good turn =
     let is = all_in (IsWaiter s.names s.counter) turn.waiter s.waiters good.waiters (subst (λ (ws : List Waiter). IsIn turn.waiter ws) (sym turn.stood) (in_append_right turn.waiter turn.before (turn.waiter ∷ turn.behind) (inl refl))) in
-    (subst (λ (cs : List Claim). AllByRecursion (IsKnown s.names) cs) turn.asked is.1).0
+    (is.1, is.2)
 
 -- each turn leaves one waiter less
 fewer_by : (left : Rooms) (s : CoreState) (r : Turned) → IsTurn left s r.0 r.1 → length r.1.waiters + 1 ≡ length s.waiters

@@ -1,15 +1,38 @@
--- Which held claims block an ask.
-use Rattle.std.specs.Prelude.{List}
-use Rattle.std.specs.List.{filter}
+-- Which held claims stand against an ask: shares and ranges, and caches, whose breaks may make way.
+use Rattle.std.specs.Prelude.{Bool, List, [], ◌∷◌, Option, Some, None}
+use Rattle.std.specs.List.{filter, list_any}
+use Rattle.xl_cache.specs.Planning.{is_final, planned}
+use Rattle.xl_cache.specs.declared.planner.Plan.{Plan}
+use Rattle.xl_matrix.specs.declared.claim.CacheKind.{CacheKind}
 use Rattle.xl_matrix.specs.declared.claim.Claim.{Claim}
 use Rattle.xl_table.specs.Flat.{blocks}
 use Rattle.xl_table.specs.Held.{is_range}
 use Rattle.xl_wait.specs.declared.waiter.Waiter.{Waiter}
 use Rattle.xl_core.specs.State.{CoreState}
 
--- what blocks an ask that came behind these waiters
+-- what blocks for good an ask that came behind these waiters: shares and ranges that no break moves
 unfoldable pub blockers : List Waiter → CoreState → Claim → List Claim
-blockers earlier s ask = filter (λ held. blocks ask held) s.claims
+blockers earlier s ask = filter (is_final ask s.claims) s.claims
+
+-- something does
+abbrev pub is_stopped : List Claim → Claim → Bool
+is_stopped held ask = list_any (is_final ask held) held
+
+abbrev pub first_broken : List (Claim × Option CacheKind) → Option Claim
+first_broken [] = None
+first_broken (begun ∷ breaks) = Some begun.0
+
+-- the cache that a plan waits for, or else the first that it breaks
+abbrev pub cache_by : Option Claim → List (Claim × Option CacheKind) → Option Claim
+cache_by (Some c) breaks = Some c
+cache_by None breaks = first_broken breaks
+
+abbrev pub cache_in : Plan → Option Claim
+cache_in p = cache_by p.awaited p.breaks
+
+-- a cache that blocks the ask, or covers a share that does; one whose break runs, if there is one
+unfoldable pub cache_against : List Claim → Claim → Option Claim
+cache_against held ask = cache_in (planned ask held)
 
 -- what a test is told of: ranges alone
 unfoldable pub test_blockers : CoreState → Claim → List Claim

@@ -1,12 +1,13 @@
 -- Why an ask or a turn is answered as it is, and what a turn leaves.
-use Rattle.std.specs.Prelude.{◌≡◌, ℕ, ◌+◌, ◌<◌, ◌≤◌, Bool, true, false, ◌&&◌, ◌⊎◌, List, [], ◌∷◌, ◌++◌, length, Some, None, is_some}
+use Rattle.std.specs.Prelude.{◌≡◌, ℕ, ◌+◌, ◌<◌, ◌≤◌, Bool, true, false, ◌&&◌, if◌then◌else◌, ◌⊎◌, List, [], ◌∷◌, ◌++◌, length, Some, None, is_some}
 use Rattle.std.specs.List.{AllByRecursion, list_any, slice_get}
 use Rattle.xl_base.specs.Lists.{IsIn}
+use Rattle.xl_cache.specs.Planning.{is_obstacle}
 use Rattle.xl_base.specs.declared.name.Owner.{Owner}
 use Rattle.xl_matrix.specs.declared.claim.Claim.{Claim}
 use Rattle.xl_matrix.specs.declared.claim.Extent.{Extent}
 use Rattle.xl_table.specs.Elements.{element_held}
-use Rattle.xl_core.specs.Judge.{held_with}
+use Rattle.xl_core.specs.Judge.{all_granted, held_with}
 use Rattle.xl_names.specs.declared.name.Name.{Name}
 use Rattle.xl_spans.specs.Spans.{within, mode_at}
 use Rattle.xl_table.specs.Flat.{blocks}
@@ -14,17 +15,17 @@ use Rattle.xl_table.specs.Held.{is_range, is_share, is_cache, spans_of}
 use Rattle.xl_wait.specs.declared.waiter.Rooms.{Rooms}
 use Rattle.xl_wait.specs.declared.waiter.Waiter.{Waiter}
 use Rattle.xl_core.specs.State.{CoreState}
-use Rattle.xl_core.specs.Asking.{asker, both_entered}
+use Rattle.xl_core.specs.Asking.{awaits, asker, both_entered}
 use Rattle.xl_table.specs.Least.{least}
-use Rattle.xl_core.specs.Blockers.{blockers, test_blockers}
+use Rattle.xl_core.specs.Blockers.{blockers, is_stopped, cache_against, test_blockers}
 use Rattle.xl_core.specs.Limits.{grant_limits, wait_limits, IsRoom, IsLeastPassed}
 use Rattle.xl_table.specs.Flat.{is_blocked}
-use Rattle.xl_core.specs.Good.{caches_of, stands_in_the_way}
+use Rattle.xl_core.specs.Good.{caches_of, is_held_up, holds_up}
 use Rattle.xl_table.specs.Relock.{most_claims, shares_of, relocked_in, granted_claims}
 use Rattle.xl_core.specs.declared.ask.Act.{Act}
 use Rattle.xl_core.specs.declared.ask.Act.TheVariants.{Share}
 use Rattle.xl_core.specs.declared.ask.Answer.{Answer}
-use Rattle.xl_core.specs.declared.ask.Answer.TheVariants.{Granted, Conflict, Queued, NoGrace, Full, NotHeld}
+use Rattle.xl_core.specs.declared.ask.Answer.TheVariants.{Granted, Conflict, Queued, Recall, NoGrace, Full, NotHeld}
 use Rattle.xl_core.specs.declared.ask.Ask.{Ask}
 use Rattle.xl_core.specs.declared.ask.Effect.{Effect}
 use Rattle.xl_core.specs.declared.ask.Effect.TheVariants.{Served}
@@ -39,19 +40,27 @@ limits_of_wait left s a = wait_limits left a.rows (length s.waiters) (length (bo
 
 -- ---- why an ask is answered so
 
+-- who asks waits: for what blocks the claim for good where it waits for that, else for a cache in its way where it awaits the
+-- answer to its break
+abbrev pub may_wait : List Claim → Ask → Claim → Bool
+may_wait held a claim = if is_stopped held claim then a.blocking else awaits a
+
 -- Why a share or a lock is. A reclaim comes too late, as no grace runs. What nothing held blocks is granted where no limit is
--- passed. What something blocks waits, where it may and no limit is passed; else the least of what blocks it is told.
+-- passed. What something blocks waits, where it may and no limit is passed; else the least of what blocks it for good is told,
+-- or where nothing does a cache in its way.
 abbrev pub IsClaimDue : Rooms → CoreState → Ask → Claim → Answer → Type 0
 IsClaimDue left s a claim (Granted c) = (c ≡ claim) × (a.reclaim ≡ false) × (is_blocked s.claims claim ≡ false) × IsRoom (limits_of_grant left s a claim)
 IsClaimDue left s a claim (Conflict c) =
     (a.reclaim ≡ false) × (a.blocking ≡ false) × (least s.names (blockers s.waiters s claim) ≡ Some c) × IsIn c s.claims × (blocks claim c ≡ true)
+IsClaimDue left s a claim (Recall c) =
+    (a.reclaim ≡ false) × (awaits a ≡ false) × (is_stopped s.claims claim ≡ false) × (cache_against s.claims claim ≡ Some c) × IsIn c s.claims × (is_obstacle claim s.claims c ≡ true)
 IsClaimDue left s a claim (Queued number) =
-    (number ≡ s.counter + 1) × (a.reclaim ≡ false) × (a.blocking ≡ true) × (is_blocked s.claims claim ≡ true) × IsRoom (limits_of_wait left s a)
+    (number ≡ s.counter + 1) × (a.reclaim ≡ false) × (may_wait s.claims a claim ≡ true) × (is_blocked s.claims claim ≡ true) × IsRoom (limits_of_wait left s a)
 IsClaimDue left s a claim (NoGrace clock) = (clock ≡ s.clock) × (a.reclaim ≡ true)
 IsClaimDue left s a claim (Full limit) =
     (a.reclaim ≡ false)
     × (((is_blocked s.claims claim ≡ false) × IsLeastPassed (limits_of_grant left s a claim) limit)
-    ⊎ ((a.blocking ≡ true) × (is_blocked s.claims claim ≡ true) × IsLeastPassed (limits_of_wait left s a) limit))
+    ⊎ ((may_wait s.claims a claim ≡ true) × (is_blocked s.claims claim ≡ true) × IsLeastPassed (limits_of_wait left s a) limit))
 IsClaimDue left s a claim _ = ⊥
 
 -- a held range blocks a test of this range
@@ -90,46 +99,49 @@ IsElementDue s claim extent (Granted c) = (c ≡ claim) × (is_some (element_hel
 IsElementDue s claim extent NotHeld = element_held claim extent s.claims ≡ None
 IsElementDue s claim extent _ = ⊥
 
--- Why an ask for several ranges that doesn't wait is: each is judged where those before it are held. The first that something
--- held blocks is told of the least that does; the first that passes a limit, of the least limit. Where there is no such all are
--- granted. So many names are kept then.
+-- Why an ask for several ranges of which none waits is: each is judged where those before it are held. The first that
+-- something held blocks for good is told of the least that does; the first that a cache keeps off, of that; the first that
+-- passes a limit, of the least limit. Where there is no such all are granted. So many names are kept then.
 abbrev pub IsEachDue : Rooms → Rooms → ℕ → Claim → List Claim → CoreState → Answer → Type 0
 IsEachDue left rows kept first [] s answer = answer ≡ Granted first
 IsEachDue left rows kept first (c ∷ cs) s answer =
     ((d : Claim) → least s.names (blockers [] s c) ≡ Some d → answer ≡ Conflict d)
+    × ((d : Claim) → is_stopped s.claims c ≡ false → cache_against s.claims c ≡ Some d → answer ≡ Recall d)
     × ((limit : ℕ) → is_blocked s.claims c ≡ false → IsLeastPassed (grant_limits left rows (length (granted_claims c s.claims)) kept) limit → answer ≡ Full limit)
     × (is_blocked s.claims c ≡ false → IsRoom (grant_limits left rows (length (granted_claims c s.claims)) kept) → IsEachDue left rows kept first cs (held_with (c ∷ []) s) answer)
 
 -- ---- what a turn is
 
--- Why a waiter is so served, and which claims are held then; its names are kept already.
-abbrev pub IsTurnDue : Rooms → CoreState → Waiter → Claim → Answer → List Claim → Type 0
-IsTurnDue left s w claim (Granted c) claims = (c ≡ claim) × IsRoom (grant_limits left w.rows (length (granted_claims claim s.claims)) (length s.names)) × (claims ≡ granted_claims claim s.claims)
-IsTurnDue left s w claim (Full limit) claims = IsLeastPassed (grant_limits left w.rows (length (granted_claims claim s.claims)) (length s.names)) limit × (claims ≡ s.claims)
-IsTurnDue left s w claim _ claims = ⊥
+-- what is held once one who waits for these is told so
+abbrev pub held_once : List Claim → Answer → List Claim → List Claim
+held_once asked (Granted c) held = all_granted asked held
+held_once asked answer held = held
 
--- something held blocks what the waiter asks for
-abbrev pub IsBlockedWaiter : CoreState → Waiter → Type 0
-IsBlockedWaiter s w = stands_in_the_way s.claims w.asked ≡ true
+-- neither is what is told of one who waits that it wait on
+abbrev pub is_verdict : Answer → Bool
+is_verdict (Queued number) = false
+is_verdict answer = true
 
--- The first waiter that nothing held blocks is answered and waits no more; the others wait on. Only what its owner has
--- on its file changes, and no cache does.
+-- The first waiter that isn't held up is answered and waits no more; the others wait on. Its names are kept already. Only what
+-- the owners of what it asks for have on its file changes, and no cache does.
 pub record IsTurn (left : Rooms) (s : CoreState) (effects : List Effect) (new : CoreState) : Type 0 where
   pub before : List Waiter
   pub waiter : Waiter
   pub behind : List Waiter
   pub claim : Claim
+  pub claims : List Claim
   pub answer : Answer
   pub stood : s.waiters ≡ before ++ waiter ∷ behind
-  pub blocked : AllByRecursion (IsBlockedWaiter s) before
-  pub asked : waiter.asked ≡ claim ∷ []
-  pub free : is_blocked s.claims claim ≡ false
-  pub due : IsTurnDue left s waiter claim answer new.claims
+  pub blocked : AllByRecursion (λ w. holds_up s.claims w w.asked ≡ true) before
+  pub asked : waiter.asked ≡ claim ∷ claims
+  pub free : is_held_up s.claims waiter claim ≡ false
+  pub due : IsEachDue left waiter.rows (length s.names) claim waiter.asked s answer
+  pub held : new.claims ≡ held_once waiter.asked answer s.claims
   pub told : effects ≡ Served waiter.id answer ∷ []
   pub waiters : new.waiters ≡ before ++ behind
   pub names : new.names ≡ s.names
-  pub spans : (file : ℕ) (owner : Owner) → ((file ≡ claim.file) × (owner ≡ claim.owner) × (is_share claim.what ≡ false) → ⊥) → spans_of file owner new.claims ≡ spans_of file owner s.claims
-  pub shares : (file : ℕ) (owner : Owner) → ((file ≡ claim.file) × (owner ≡ claim.owner) × (is_share claim.what ≡ true) → ⊥) → shares_of file owner new.claims ≡ shares_of file owner s.claims
+  pub spans : (file : ℕ) (owner : Owner) → AllByRecursion (λ c. (file ≡ c.file) × (owner ≡ c.owner) × (is_share c.what ≡ false) → ⊥) waiter.asked → spans_of file owner new.claims ≡ spans_of file owner s.claims
+  pub shares : (file : ℕ) (owner : Owner) → AllByRecursion (λ c. (file ≡ c.file) × (owner ≡ c.owner) × (is_share c.what ≡ true) → ⊥) waiter.asked → shares_of file owner new.claims ≡ shares_of file owner s.claims
   pub caches : caches_of new.claims ≡ caches_of s.claims
 
 -- ---- what an ask may change

@@ -8,14 +8,13 @@ use Rattle.xl_matrix.specs.Equal.{same_parties, same_claims}
 use Rattle.xl_matrix.specs.declared.claim.CacheKind.{CacheKind}
 use Rattle.xl_matrix.specs.declared.claim.Claim.{Claim}
 use Rattle.xl_matrix.specs.declared.claim.Rwd.{Rwd}
-use Rattle.xl_matrix.specs.declared.claim.What.{What}
 use Rattle.xl_names.specs.declared.name.Name.{Name}
 use Rattle.xl_names.specs.declared.name.Name.TheVariants.{NfsParty}
 use Rattle.xl_wait.specs.Waiting.{is_waiting, cancelled}
 use Rattle.xl_wait.specs.declared.waiter.Rooms.{Rooms}
 use Rattle.xl_wait.specs.declared.waiter.Waiter.{Waiter}
 use Rattle.xl_core.specs.State.{CoreState, drawn}
-use Rattle.xl_core.specs.Asking.{party_named, asked_what, asked_claim, IsFit}
+use Rattle.xl_core.specs.Asking.{party_named, asked_whats, asked_claims, IsFit}
 use Rattle.xl_core.specs.Decide.{waiter_of, ask}
 use Rattle.xl_table.specs.Flat.{removed}
 use Rattle.xl_table.specs.Held.{is_range}
@@ -123,13 +122,9 @@ AreFit n s (d ∷ ds) = IsFitDeed s d × AreFit n (done n s d) ds
 
 -- ---- who waits
 
-abbrev pub with_waiter : CoreState → Ask → ℕ → Option What → List Waiter → List Waiter
-with_waiter s a id None waiters = waiters
-with_waiter s a id (Some what) waiters = waiters ++ waiter_of id a (asked_claim a what s.names ∷ []) ∷ []
-
 -- one who is told to wait comes last
 abbrev pub queue_with : CoreState → Ask → Answer → List Waiter → List Waiter
-queue_with s a (Queued id) waiters = with_waiter s a id (asked_what a.act) waiters
+queue_with s a (Queued id) waiters = waiters ++ waiter_of id a (asked_claims a (asked_whats a.act) s.names) ∷ []
 queue_with s a answer waiters = waiters
 
 -- one who is served waits no more

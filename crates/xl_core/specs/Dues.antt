@@ -34,14 +34,14 @@ abbrev pub IsWhatDue : Rooms → CoreState → Ask → Option What → Answer �
 IsWhatDue left s a None answer = Unit {0}
 IsWhatDue left s a (Some what) answer = IsGrantDue left s a what answer
 
--- what is due to an ask for these ranges: to one what is due to its claim, to several that each be judged beside those
--- before it
+-- what is due to an ask for these ranges: to one what is due to its claim, and to several the same where something blocks the
+-- first, and else that each be judged beside those before it
 abbrev pub IsRangesDue : Rooms → CoreState → Ask → List (Extent × Bool) → Answer → Type 0
 IsRangesDue left s a [] answer = Unit {0}
 IsRangesDue left s a (range ∷ []) answer = IsGrantDue left s a (range_what range) answer
 IsRangesDue left s a (range ∷ more ∷ ranges) answer =
-    a.reclaim ≡ false
-    → IsEachDue left a.rows (length (both_entered a s.names)) (asked_claim a (range_what range) s.names) (asked_claims a (map range_what (range ∷ more ∷ ranges)) s.names) s answer
+    (is_blocked s.claims (asked_claim a (range_what range) s.names) ≡ true → IsClaimDue left s a (asked_claim a (range_what range) s.names) answer)
+    × (a.reclaim ≡ false → is_blocked s.claims (asked_claim a (range_what range) s.names) ≡ false → IsEachDue left a.rows (length (both_entered a s.names)) (asked_claim a (range_what range) s.names) (asked_claims a (map range_what (range ∷ more ∷ ranges)) s.names) s answer)
 
 -- what is due to an unlock of a range by this claim's owner: of bytes, or of an element
 abbrev pub IsBytesDue : CoreState → Claim → ℕ → ℕ → Bool → Answer → Type 0

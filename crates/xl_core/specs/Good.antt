@@ -23,6 +23,8 @@ use Rattle.xl_table.specs.Held.{is_cache, may_own, IsKept, IsGrantable, IsShareO
 use Rattle.xl_wait.specs.declared.waiter.Waiter.{Waiter}
 use Rattle.xl_core.specs.State.{CoreState}
 use Rattle.xl_core.specs.Asking.{client_of, is_name}
+use Rattle.xl_core.specs.Blockers.{is_stopped}
+use Rattle.xl_core.specs.Judge.{IsRow}
 use Rattle.xl_core.specs.Limits.{most_waiters}
 use Rattle.xl_table.specs.Relock.{granted_claims}
 
@@ -81,9 +83,14 @@ is_single a b = not (a.file == b.file && not (is_single_by a b a.what b.what))
 abbrev pub are_apart : Waiter → Waiter → Bool
 are_apart v w = not (v.id == w.id)
 
--- one who waits, under a number that was given out, for one share or real range, and for as long as it takes
+-- claims that may be asked for in one request, of which there is one at least
+abbrev pub IsPled : List Claim → Type 0
+IsPled [] = ⊥
+IsPled (c ∷ cs) = IsRow (c ∷ cs)
+
+-- one who waits, under a number that was given out, for shares or ranges
 abbrev pub IsWaiter : List Name → ℕ → Waiter → Type 0
-IsWaiter names counter w = (w.id ≤ counter) × AllByRecursion (IsKnown names) w.asked × (length w.asked ≡ 1) × (w.blocking ≡ true)
+IsWaiter names counter w = (w.id ≤ counter) × AllByRecursion (IsKnown names) w.asked × IsPled w.asked
 
 -- ---- the state
 
@@ -121,6 +128,15 @@ abbrev pub stands_in_the_way : List Claim → List Claim → Bool
 stands_in_the_way held [] = false
 stands_in_the_way held (c ∷ cs) = is_blocked held c || stands_in_the_way (granted_claims c held) cs
 
--- each waiter has something in the way of what it asks for
+-- something held blocks the claim; where it does so for good the waiter waits for that, and else for a cache
+abbrev pub is_held_up : List Claim → Waiter → Claim → Bool
+is_held_up held w c = is_blocked held c && (w.blocking || not (is_stopped held c))
+
+-- of several claims the first is held up
+abbrev pub holds_up : List Claim → Waiter → List Claim → Bool
+holds_up held w [] = false
+holds_up held w (c ∷ cs) = is_held_up held w c
+
+-- each waiter is held up
 abbrev pub IsSettled : CoreState → Type 0
-IsSettled s = AllByRecursion (λ w. stands_in_the_way s.claims w.asked ≡ true) s.waiters
+IsSettled s = AllByRecursion (λ w. holds_up s.claims w w.asked ≡ true) s.waiters

@@ -1,19 +1,20 @@
 -- The order of decisions: one judgement of those who ask and of those who wait, as a row of steps.
-use Rattle.std.specs.Prelude.{◌≡◌, ℕ, ◌≤◌, Bool, true, false, if◌then◌else◌, List, [], ◌∷◌, ◌++◌, length, Option, Some, None}
+use Rattle.std.specs.Prelude.{◌≡◌, ℕ, ◌≤◌, Bool, true, false, ◌&&◌, if◌then◌else◌, List, [], ◌∷◌, ◌++◌, length, Option, Some, None}
 use Rattle.std.specs.List.{AllByRecursion}
 use Rattle.xl_base.specs.Lists.{Pairwise}
 use Rattle.xl_matrix.specs.Owners.{posix}
 use Rattle.xl_matrix.specs.declared.claim.Claim.{Claim}
 use Rattle.xl_names.specs.Names.{most_names}
+use Rattle.xl_table.specs.Flat.{is_blocked}
 use Rattle.xl_table.specs.Held.{has_one_party, is_range, IsGrantable}
 use Rattle.xl_wait.specs.declared.waiter.Rooms.{Rooms}
 use Rattle.xl_wait.specs.declared.waiter.Waiter.{Waiter}
 use Rattle.xl_core.specs.State.{CoreState}
 use Rattle.xl_table.specs.Least.{least}
-use Rattle.xl_core.specs.Blockers.{blockers}
+use Rattle.xl_core.specs.Blockers.{blockers, is_stopped, cache_against}
 use Rattle.xl_core.specs.Limits.{grant_limits, first_passed}
 use Rattle.xl_table.specs.Relock.{granted_claims}
-use Rattle.xl_core.specs.declared.ask.Answer.TheVariants.{Conflict, NoGrace, Full}
+use Rattle.xl_core.specs.declared.ask.Answer.TheVariants.{Conflict, Recall, NoGrace, Full}
 use Rattle.xl_core.specs.declared.ask.Effect.{Effect}
 use Rattle.xl_core.specs.declared.judge.Plea.{Plea}
 use Rattle.xl_core.specs.declared.judge.Ruling.{Ruling}
@@ -60,7 +61,7 @@ abbrev pub waits : Option ℕ → Ruling
 waits None = Waits
 waits (Some limit) = Told (Full limit)
 
--- what comes of a claim that something stands against: a wait, where it may wait, else a refusal that names this claim
+-- what comes of a claim that something blocks for good: a wait, where it may wait, else a refusal that names this claim
 abbrev pub stopped : Plea → Claim → Ruling
 stopped p c = if p.blocking then waits p.crowded else Told (Conflict c)
 
@@ -69,13 +70,22 @@ abbrev pub held_by : Plea → Option Claim → Step
 held_by p None s = (None, [], s)
 held_by p (Some c) s = (Some (stopped p c), [], s)
 
--- what is held against the claim, where those before it are held too
+-- what is held against the claim, where those before it are held too, and no break moves it
 unfoldable pub check_held : List Waiter → Plea → List Claim → Claim → Step
 check_held earlier p before c s = held_by p (least s.names (blockers earlier (held_with before s) c)) s
 
--- there are no caches yet, so no break begins
-unfoldable pub start_breaks : Plea → List Claim → Claim → Step
-start_breaks p before c s = (None, [], s)
+-- what comes of a claim that a cache keeps off: a wait for the answer to its break, where it awaits that, else it is told
+abbrev pub kept_off : Plea → Claim → Ruling
+kept_off p c = if p.awaits then waits p.crowded else Told (Recall c)
+
+-- ends where a cache keeps the claim off
+abbrev pub kept_off_by : Plea → Option Claim → Step
+kept_off_by p None s = (None, [], s)
+kept_off_by p (Some c) s = (Some (kept_off p c), [], s)
+
+-- the caches in the way of the claim, where those before it are held too
+unfoldable pub check_caches : Plea → List Claim → Claim → Step
+check_caches p before c s = kept_off_by p (cache_against (held_with before s).claims c) s
 
 -- ends where a limit is passed
 abbrev pub room_by : Option ℕ → Step
@@ -96,11 +106,19 @@ enter_all asked s = (Gets, [], held_with asked s)
 
 -- ---- the judgement
 
+-- something held blocks the claim, and who pleads waits for it
+abbrev pub does_wait : Plea → List Claim → Claim → Bool
+does_wait p held c = is_blocked held c && (if is_stopped held c then p.blocking else p.awaits)
+
+-- of several claims the first alone may wait (MS-SMB2 3.3.5.14.2)
+abbrev pub at_once : Plea → Plea
+at_once p = record p { blocking = false; awaits = false }
+
 -- each claim behind those before it, and the rest once all have passed
 abbrev pub each : List Waiter → Rooms → Plea → List Claim → List Claim → (CoreState → Ruled) → CoreState → Ruled
 each earlier left p before [] rest = rest
 each earlier left p before (c ∷ cs) rest =
-    after (check_held earlier p before c) (after (start_breaks p before c) (after (check_room left p before c) (each earlier left p (before ++ c ∷ []) cs rest)))
+    after (check_held earlier p before c) (after (check_caches p before c) (after (check_room left p before c) (each earlier left (at_once p) (before ++ c ∷ []) cs rest)))
 
 -- What comes of a plea for these claims, behind these waiters, where this room is left in the fronts' tables and n stores
 -- succeed in the step: all of them are granted, or none.
@@ -114,9 +132,9 @@ abbrev pub or_else : Option Ruling → Option Ruling → Option Ruling
 or_else (Some ruling) later = Some ruling
 or_else None later = later
 
--- what stops a claim, if anything: what is held, or a limit
+-- what stops a claim, if anything: what is held, a cache, or a limit
 abbrev pub stop_of : Rooms → Plea → Claim → CoreState → Option Ruling
-stop_of left p c s = or_else (check_held [] p [] c s).0 (check_room left p [] c s).0
+stop_of left p c s = or_else (check_held [] p [] c s).0 (or_else (check_caches p [] c s).0 (check_room left p [] c s).0)
 
 abbrev pub unless : Option Ruling → Ruling → Ruling
 unless (Some ruling) later = ruling
@@ -125,7 +143,7 @@ unless None later = later
 -- the ruling on these, each where those before it are held: that on the first that is stopped; they are had where none is
 abbrev pub row : Rooms → Plea → List Claim → CoreState → Ruling
 row left p [] s = Gets
-row left p (c ∷ cs) s = unless (stop_of left p c s) (row left p cs (held_with (c ∷ []) s))
+row left p (c ∷ cs) s = unless (stop_of left p c s) (row left (at_once p) cs (held_with (c ∷ []) s))
 
 -- the state after it: all of them are held, or none
 abbrev pub row_left : Ruling → List Claim → CoreState → CoreState

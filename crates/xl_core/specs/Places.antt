@@ -19,6 +19,7 @@ use Rattle.xl_table.specs.Elements.{elements_of, unlocked_elements}
 use Rattle.xl_table.specs.Flat.{with_what}
 use Rattle.xl_table.specs.Held.{is_cache, is_of, spans_of}
 use Rattle.xl_names.specs.declared.name.Name.TheVariants.{NfsParty}
+use Rattle.xl_wait.specs.declared.waiter.Waiter.{Waiter}
 use Rattle.xl_core.specs.State.{CoreState}
 use Rattle.xl_core.specs.Decide.{ask}
 use Rattle.xl_core.specs.Asking.{party_named, range_what}
@@ -172,10 +173,19 @@ abbrev pub lapsed_at : CoreState → Claim → Option (List ℕ) → Place → O
 lapsed_at s cache None p = cleared_at cache p
 lapsed_at s cache (Some client) p = ended_some s.claims (party_named s.names (NfsParty client)) p
 
--- a waiter that is granted what it waited for has that
-abbrev pub told_at : List Claim → List Effect → Place → Option (List What)
-told_at held (Served id answer ∷ effects) p = entered_for held answer p
-told_at held effects p = None
+-- what the waiter of this number asks for
+abbrev pub asked_by : ℕ → List Waiter → List Claim
+asked_by id [] = []
+asked_by id (w ∷ ws) = if w.id == id then w.asked else asked_by id ws
+
+abbrev pub served_at : List Claim → List Claim → Answer → Place → Option (List What)
+served_at held asked (Granted c) p = all_entered_at held asked p
+served_at held asked answer p = None
+
+-- a waiter that is granted what it waited for has all of that
+abbrev pub told_at : CoreState → List Effect → Place → Option (List What)
+told_at s (Served id answer ∷ effects) p = served_at s.claims (asked_by id s.waiters) answer p
+told_at s effects p = None
 
 -- what the deed makes of the place
 abbrev pub made : ℕ → CoreState → Deed → Place → Option (List What)
@@ -184,7 +194,7 @@ made n s (GivesBack claim) p = cleared_at claim p
 made n s (Weakens share access deny) p = weakened_at share access deny p
 made n s (Acks cache to) p = acked_at cache to p
 made n s (Ends party) p = ended_at s.claims party p
-made n s (Serves left) p = told_at s.claims (given n s (Serves left)).1 p
+made n s (Serves left) p = told_at s (given n s (Serves left)).1 p
 made n s (Lapses cache) p = lapsed_at s cache (client_of s.names cache.party) p
 made n s (Expires client) p = ended_some s.claims (party_named s.names (NfsParty client)) p
 made n s d p = None

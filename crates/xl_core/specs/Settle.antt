@@ -8,11 +8,12 @@ use Rattle.xl_matrix.specs.declared.claim.Claim.{Claim}
 use Rattle.xl_matrix.specs.declared.claim.Rwd.{Rwd}
 use Rattle.xl_matrix.specs.declared.claim.What.{What}
 use Rattle.xl_matrix.specs.declared.claim.What.TheVariants.{Share}
-use Rattle.xl_table.specs.Flat.{removed, changed, is_blocked}
+use Rattle.xl_table.specs.Flat.{removed, changed}
 use Rattle.xl_wait.specs.Waiting.{cancelled}
 use Rattle.xl_wait.specs.declared.waiter.Rooms.{Rooms}
 use Rattle.xl_wait.specs.declared.waiter.Waiter.{Waiter}
 use Rattle.xl_core.specs.State.{CoreState}
+use Rattle.xl_core.specs.Good.{holds_up}
 use Rattle.xl_core.specs.Judge.{Ruled, judged}
 use Rattle.xl_core.specs.declared.ask.Answer.{Answer}
 use Rattle.xl_core.specs.declared.ask.Answer.TheVariants.{Granted, NotHeld}
@@ -25,9 +26,9 @@ use Rattle.xl_core.specs.declared.judge.Ruling.TheVariants.{Gets, Waits, Told}
 
 -- ---- whose turn comes
 
--- what a waiter pleads: its names are kept already, and its wait passes no limit
+-- what a waiter pleads: its names are kept already, it waits for answers, and its wait passes no limit
 unfoldable pub plea_again : CoreState → Waiter → Plea
-plea_again s w = record { blocking = w.blocking; reclaim = false; rows = w.rows; kept = length s.names; crowded = None }
+plea_again s w = record { blocking = w.blocking; awaits = true; reclaim = false; rows = w.rows; kept = length s.names; crowded = None }
 
 -- it waits on, and nothing begins
 abbrev pub rests : Ruling → List Effect → Bool
@@ -69,20 +70,15 @@ abbrev pub AllRest : ℕ → Rooms → CoreState → List Waiter → List Waiter
 AllRest n left s earlier [] = Unit {0}
 AllRest n left s earlier (w ∷ ws) = (again n left s earlier w ≡ (Waits, [], s)) × AllRest n left s (earlier ++ w ∷ []) ws
 
--- ---- how the first that has a turn is found, among those who wait for one claim each
+-- ---- how the first that has a turn is found
 
--- a waiter that nothing held blocks
-abbrev pub called_by : CoreState → Waiter → List Claim → Option Called
-called_by s w (c ∷ []) = if is_blocked s.claims c then None else Some (record { id = w.id; claim = c; plea = plea_again s w })
-called_by s w _ = None
+abbrev pub called_of : CoreState → Waiter → Called
+called_of s w = record { id = w.id; asked = w.asked; plea = plea_again s w }
 
-abbrev pub first_some : Option Called → Option Called → Option Called
-first_some (Some called) later = Some called
-first_some None later = later
-
+-- the first of these that isn't held up
 abbrev pub first_called : CoreState → List Waiter → Option Called
 first_called s [] = None
-first_called s (w ∷ ws) = first_some (called_by s w w.asked) (first_called s ws)
+first_called s (w ∷ ws) = if holds_up s.claims w w.asked then first_called s ws else Some (called_of s w)
 
 -- ---- who leaves
 

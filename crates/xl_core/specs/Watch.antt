@@ -3,10 +3,10 @@
 use Rattle.std.specs.Prelude.{◌≡◌, ℕ, Bool, true, false, ◌==◌, if◌then◌else◌, List, [], ◌∷◌}
 use Rattle.std.specs.List.{AllByRecursion}
 use Rattle.xl_matrix.specs.declared.claim.Claim.{Claim}
-use Rattle.xl_table.specs.Flat.{is_blocked}
 use Rattle.xl_wait.specs.Waiting.{waits_on}
 use Rattle.xl_wait.specs.declared.waiter.Waiter.{Waiter}
 use Rattle.xl_core.specs.State.{CoreState}
+use Rattle.xl_core.specs.Good.{is_held_up}
 use Rattle.xl_core.specs.declared.ask.Act.{Act}
 use Rattle.xl_core.specs.declared.ask.Act.TheVariants.{Share, Ranges, Test, Unlock}
 use Rattle.xl_core.specs.declared.ask.Answer.{Answer}
@@ -48,11 +48,11 @@ may_turn Nothing ws = false
 may_turn (File file) ws = waits_on file ws
 may_turn All ws = true
 
--- something held blocks the first of the claims that are asked for, or its file is one of these
-abbrev pub IsHeldUp : Unsettled → List Claim → List Claim → Type 0
-IsHeldUp unsettled held [] = Unit {0}
-IsHeldUp unsettled held (c ∷ cs) = is_among unsettled c.file ≡ false → is_blocked held c ≡ true
+-- the first of the claims that are asked for is held up, or its file is one of these
+abbrev pub IsHeldUp : Unsettled → List Claim → Waiter → List Claim → Type 0
+IsHeldUp unsettled held w [] = ⊥
+IsHeldUp unsettled held w (c ∷ cs) = is_among unsettled c.file ≡ false → is_held_up held w c ≡ true
 
--- who is blocked by nothing waits on one of these files
+-- who isn't held up waits on one of these files
 abbrev pub AreHeldUp : Unsettled → CoreState → Type 0
-AreHeldUp unsettled s = AllByRecursion (λ w. IsHeldUp unsettled s.claims w.asked) s.waiters
+AreHeldUp unsettled s = AllByRecursion (λ w. IsHeldUp unsettled s.claims w w.asked) s.waiters

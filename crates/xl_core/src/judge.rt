@@ -5,12 +5,14 @@ ghost use Rattle.xl_table.specs.Changes.{written, MayBeWritten};
 ghost use Rattle.xl_table.specs.Held.{has_one_party, IsGrantable, IsKept};
 ghost use Rattle.xl_table.specs.Relock.{granted_claims};
 ghost use Rattle.xl_wait.specs.declared.waiter.Waiter.{Waiter};
-ghost use Rattle.xl_core.specs.Judge.{check_grace, stopped, check_held, check_room, judged, stop_of, stop_left, gets, row, row_left, IsRow, IsFew};
+ghost use Rattle.xl_core.specs.Blockers.{blockers, cache_against};
+ghost use Rattle.xl_core.specs.Judge.{check_grace, stopped, waits, check_held, kept_off, check_caches, check_room, at_once, judged, stop_of, stop_left, gets, row, row_left, IsRow, IsFew};
 ghost use Rattle.xl_core.specs.Whole.{state_of};
 ghost use Rattle.xl_core.specs.declared.judge.Ruling.TheVariants.{Gets, Waits};
 ghost use Rattle.xl_names.specs.Names.{most_names};
 
 use crate::ask::Answer;
+use crate::blockers::{cache_against, least_blocker};
 use crate::limits::passed_by_grant;
 use crate::parts::Parts;
 use std::alloc::{AllocError, Global};
@@ -32,8 +34,10 @@ pub(crate) enum Ruling {
 /// What is judged besides the claims: of one who asks, or of one who waits already.
 #[derive(Clone, Copy)]
 pub(crate) struct Plea {
-    /// Whether it waits where something held stands against it.
+    /// Whether it waits where something held blocks it for good.
     pub blocking: bool,
+    /// Whether it waits for the answer to a break.
+    pub awaits: bool,
     /// Whether it claims again what it had before a restart.
     pub reclaim: bool,
     /// The rows of the fronts' tables that its grant adds.
@@ -57,23 +61,33 @@ fn check_grace(parts: &Parts, plea: &Plea) -> Option<Ruling>
     None
 }
 
-/// Who is stopped by a held claim waits, where it may and its wait passes no limit.
-fn stopped(plea: &Plea, blocker: Claim) -> Ruling
-    ensures ruling { result ≡ stopped plea.now blocker }
+/// Who may wait waits, where its wait passes no limit.
+fn wait_for(plea: &Plea) -> Ruling
+    ensures ruling { result ≡ waits plea.now.crowded }
     ensures gets { result ≡ Gets → ⊥ }
     ensures waits { result ≡ Waits → plea.now.crowded ≡ None }
 {
-    if !plea.blocking {
-        return Ruling::Told(Answer::Conflict(blocker));
-    }
     match plea.crowded {
         Some(limit) => Ruling::Told(Answer::Full(limit)),
         None => Ruling::Waits,
     }
 }
 
-/// What is held against the claim.
-#[tactic(auto, unfolding(crate::specs::Judge::check_held, crate::specs::Judge::held_with, crate::specs::Blockers::blockers))]
+/// Who is stopped by a claim that no break moves waits, where it may.
+fn stopped(plea: &Plea, blocker: Claim) -> Ruling
+    ensures ruling { result ≡ stopped plea.now blocker }
+    ensures gets { result ≡ Gets → ⊥ }
+    ensures waits { result ≡ Waits → plea.now.crowded ≡ None }
+{
+    if plea.blocking {
+        wait_for(plea)
+    } else {
+        Ruling::Told(Answer::Conflict(blocker))
+    }
+}
+
+/// What is held against the claim, and no break moves it.
+#[tactic(auto, unfolding(crate::specs::Judge::check_held, crate::specs::Judge::held_with))]
 fn check_held(
     alloc: Global,
     parts: &Parts,
@@ -85,11 +99,58 @@ fn check_held(
     ensures waits { result ≡ Ok (Some Waits) → plea.now.crowded ≡ None }
 {
     Ok(
-        match parts.table.least_blocker(alloc, &parts.names, claim)? {
+        match least_blocker(alloc, parts, claim)? {
             Some(blocker) => Some(stopped(plea, blocker)),
             None => None,
         },
     )
+}
+
+/// Who is kept off by a cache waits for the answer to its break, where it awaits that.
+fn kept_off(plea: &Plea, cache: Claim) -> Ruling
+    ensures ruling { result ≡ kept_off plea.now cache }
+    ensures gets { result ≡ Gets → ⊥ }
+    ensures waits { result ≡ Waits → plea.now.crowded ≡ None }
+{
+    if plea.awaits {
+        wait_for(plea)
+    } else {
+        Ruling::Told(Answer::Recall(cache))
+    }
+}
+
+/// The caches in the way of the claim.
+#[tactic(auto, unfolding(crate::specs::Judge::check_caches, crate::specs::Judge::held_with))]
+fn check_caches(
+    alloc: Global,
+    parts: &Parts,
+    plea: &Plea,
+    claim: &Claim,
+) -> Result<Option<Ruling>, AllocError>
+    ensures ruling { IfOk result (λ r. check_caches plea.now [] claim.now (state_of parts.now) ≡ (r, [], state_of parts.now)) }
+    ensures gets { result ≡ Ok (Some Gets) → ⊥ }
+    ensures waits { result ≡ Ok (Some Waits) → plea.now.crowded ≡ None }
+{
+    Ok(
+        match cache_against(alloc, parts, claim)? {
+            Some(cache) => Some(kept_off(plea, cache)),
+            None => None,
+        },
+    )
+}
+
+/// What is pleaded of the claims behind the first, of which none may wait (MS-SMB2 3.3.5.14.2).
+fn at_once(plea: &Plea) -> Plea
+    ensures { result ≡ at_once plea.now }
+{
+    Plea {
+        blocking: false,
+        awaits: false,
+        reclaim: plea.reclaim,
+        rows: plea.rows,
+        kept: plea.kept,
+        crowded: plea.crowded,
+    }
 }
 
 /// The least limit that the claim passes.
@@ -138,6 +199,9 @@ fn judge_one(
     if let Some(ruling) = check_held(alloc, parts, plea, claim)? {
         return Ok(Some(ruling));
     }
+    if let Some(ruling) = check_caches(alloc, parts, plea, claim)? {
+        return Ok(Some(ruling));
+    }
     let change = parts.table.granted(alloc, claim)?;
     if let Some(ruling) = check_room(parts, left, plea, claim, &change) {
         return Ok(Some(ruling));
@@ -179,7 +243,7 @@ fn judge_row(
     if let Some(ruling) = judge_one(alloc, parts, left, plea, claim)? {
         return Ok(ruling);
     }
-    let ruling = judge_row(alloc, parts, left, plea, rest)?;
+    let ruling = judge_row(alloc, parts, left, &at_once(plea), rest)?;
     if !has_all(ruling) {
         parts.table.take_back(claim);
     }
@@ -210,27 +274,5 @@ pub(crate) fn judge_all(
         return Ok(ruling);
     }
     let ruling = judge_row(alloc, parts, left, plea, claims)?;
-    Ok(ruling)
-}
-
-/// What comes of a plea for one claim. Only what is held changes.
-pub(crate) fn judge(
-    alloc: Global,
-    parts: &mut Parts,
-    left: &Rooms,
-    plea: &Plea,
-    claim: &Claim,
-) -> Result<Ruling, AllocError>
-    requires grantable { IsGrantable claim.now }
-    requires party { AllByRecursion (λ c. has_one_party claim.now c ≡ true) parts.old.table }
-    ensures judged { (n : ℕ) (earlier : List Waiter) → IfOk result (λ r. judged n earlier left.now plea.now (claim.now ∷ []) (state_of parts.old) ≡ (r, [], state_of parts.new)) }
-    ensures queue { parts.new.queue ≡ parts.old.queue }
-    ensures names { parts.new.names ≡ parts.old.names }
-    ensures counter { parts.new.counter ≡ parts.old.counter }
-    ensures made { parts.new.made ≡ parts.old.made }
-    ensures failed { parts.new.failed ≡ parts.old.failed }
-{
-    let claims = [*claim];
-    let ruling = judge_all(alloc, parts, left, plea, &claims)?;
     Ok(ruling)
 }

@@ -113,14 +113,15 @@ pub fn nothing_else_changes()
 {}
 
 /// An asker that is told to wait stands at the end of the queue, under the number that it is told. There is no turn
-/// exactly where each waiter, judged behind those before it, waits on with nothing begun or changed; and that is where
-/// something held stands in the way of each. A turn is that of the first waiter that nothing held blocks:
-/// it has what it asked for, or is told the least limit that this would pass, and waits no more; all others wait on,
-/// and have what they had. So turns end, with nobody left whom nothing blocks.
+/// exactly where each waiter, judged behind those before it, waits on with nothing begun or changed; and that is where each
+/// is held up: something held blocks the first claim that it asks for, for good where it waits for that, and else a cache. A
+/// turn is that of the first waiter that isn't held up: it has what it asked for, or is told what blocks it or the least limit
+/// that this would pass, and waits no more; all others wait on, and have what they had. So turns end, with nobody left who
+/// isn't held up.
 pub fn nobody_is_forgotten()
     ensures waits { (n : ℕ) (left : Rooms) (s : CoreState) (a : Ask) (number : ℕ) → IsGood s → IsFit a → (ask n left s a).0 ≡ Answer.Queued number → (ask n left s a).2.waiters ≡ s.waiters ++ waiter_of number a (asked_claims a (asked_whats a.act) s.names) ∷ [] }
     ensures settled { (n : ℕ) (left : Rooms) (s : CoreState) → (settle n left s ≡ None) ↔ AllRest n left s [] s.waiters }
-    ensures blocked { (n : ℕ) (left : Rooms) (s : CoreState) → IsGood s → AllRest n left s [] s.waiters ↔ IsSettled s }
+    ensures blocked { (n : ℕ) (left : Rooms) (s : CoreState) → AllRest n left s [] s.waiters ↔ IsSettled s }
     ensures turns { (n : ℕ) (left : Rooms) (s : CoreState) → IsGood s → IfSome (settle n left s) (λ r. IsTurn left s r.0 r.1) }
     ensures fewer { (n : ℕ) (left : Rooms) (s : CoreState) → IsGood s → IfSome (settle n left s) (λ r. length r.1.waiters + 1 ≡ length s.waiters) }
 {}

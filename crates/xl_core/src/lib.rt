@@ -4,6 +4,7 @@
 
 mod ask;
 mod asking;
+mod blockers;
 mod decide;
 pub mod deeds;
 mod doors;

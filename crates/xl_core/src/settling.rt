@@ -1,12 +1,13 @@
 //! Whose turn comes, and what it gets.
 ghost use Rattle.std.specs.Prelude.{◌≡◌, ℕ, [], ◌∷◌, Ok, None, option_map, IfOk};
 ghost use Rattle.xl_wait.specs.declared.waiter.Waiter.{Waiter};
-ghost use Rattle.xl_core.specs.Good.{IsGood};
-ghost use Rattle.xl_core.specs.Settle.{plea_again, turned, settle, called_by, first_called};
+ghost use Rattle.xl_core.specs.Good.{is_held_up, holds_up, IsGood};
+ghost use Rattle.xl_core.specs.Settle.{plea_again, all_of, turned, settle, called_of, first_called};
 ghost use Rattle.xl_core.specs.Whole.{state_of};
 
 use crate::ask::{Answer, Effect};
-use crate::judge::{Plea, Ruling, judge};
+use crate::blockers::is_stopped;
+use crate::judge::{Plea, Ruling, judge_all};
 use crate::parts::Parts;
 use std::alloc::{AllocError, Global};
 use xl_base::Sequence;
@@ -14,12 +15,12 @@ use xl_matrix::Claim;
 use xl_wait::{Rooms, Waiter};
 
 /// A waiter whose turn has come.
-#[derive(Clone, Copy)]
+#[derive(Drop)]
 pub(crate) struct Called {
     /// The waiter's number.
     pub id: u32,
-    /// The claim that it asks for.
-    pub claim: Claim,
+    /// The claims that it asks for.
+    pub asked: Sequence<Claim>,
     /// What it pleads.
     pub plea: Plea,
 }
@@ -31,6 +32,7 @@ fn plea_again(parts: &Parts, waiter: &Waiter) -> Plea
 {
     Plea {
         blocking: waiter.blocking,
+        awaits: true,
         reclaim: false,
         rows: waiter.rows,
         kept: parts.names.as_slice().len(),
@@ -38,35 +40,68 @@ fn plea_again(parts: &Parts, waiter: &Waiter) -> Plea
     }
 }
 
-/// The waiter, where nothing held blocks it.
-fn called_by(parts: &Parts, waiter: &Waiter) -> Option<Called>
-    ensures { result ≡ called_by (state_of parts.now) waiter.now waiter.now.asked }
+/// Whether something held blocks the claim, for which the waiter waits.
+fn is_held_up(
+    alloc: Global,
+    parts: &Parts,
+    waiter: &Waiter,
+    claim: &Claim,
+) -> Result<bool, AllocError>
+    ensures { IfOk result (λ b. b ≡ is_held_up parts.now.table waiter.now claim.now) }
+{
+    if !parts.table.is_blocked(claim) {
+        return Ok(false);
+    }
+    if waiter.blocking {
+        return Ok(true);
+    }
+    Ok(!is_stopped(alloc, parts, claim)?)
+}
+
+/// Whether the first claim that the waiter asks for is held up.
+fn holds_up(alloc: Global, parts: &Parts, waiter: &Waiter) -> Result<bool, AllocError>
+    ensures { IfOk result (λ b. b ≡ holds_up parts.now.table waiter.now waiter.now.asked) }
 {
     match waiter.asked.as_slice() {
-        [claim] => {
-            if parts.table.is_blocked(claim) {
-                return None;
-            }
-            Some(Called {
-                id: waiter.id,
-                claim: *claim,
-                plea: plea_again(parts, waiter),
-            })
-        }
-        _ => None,
+        [claim, ..] => is_held_up(alloc, parts, waiter, claim),
+        [] => Ok(false),
     }
 }
 
-/// The first of these that nothing held blocks.
-fn first_called(parts: &Parts, waiters: &[Waiter]) -> Option<Called>
-    ensures { result ≡ first_called (state_of parts.now) waiters.now }
+/// The waiter, as it is called.
+fn called_of(alloc: Global, parts: &Parts, waiter: &Waiter) -> Result<Called, AllocError>
+    ensures { IfOk result (λ called. called ≡ called_of (state_of parts.now) waiter.now) }
+{
+    Ok(Called {
+        id: waiter.id,
+        asked: Sequence::from_slice(alloc, waiter.asked.as_slice())?,
+        plea: plea_again(parts, waiter),
+    })
+}
+
+/// The first of these that isn't held up.
+fn first_called(
+    alloc: Global,
+    parts: &Parts,
+    waiters: &[Waiter],
+) -> Result<Option<Called>, AllocError>
+    ensures { IfOk result (λ called. called ≡ first_called (state_of parts.now) waiters.now) }
 {
     for waiter in waiters {
-        if let Some(called) = called_by(parts, waiter) {
-            return Some(called);
+        if !holds_up(alloc, parts, waiter)? {
+            return Ok(Some(called_of(alloc, parts, waiter)?));
         }
     }
-    None
+    Ok(None)
+}
+
+fn all_of(asked: &[Claim]) -> Answer
+    ensures { result ≡ all_of asked.now }
+{
+    match asked {
+        [] => Answer::NotHeld,
+        [claim, ..] => Answer::Granted(*claim),
+    }
 }
 
 /// Takes the waiter out and tells what was ruled, unless it waits on.
@@ -76,13 +111,13 @@ fn serve(
     called: &Called,
     ruling: Ruling,
 ) -> Result<Sequence<Effect>, AllocError>
-    ensures turned { (w : Waiter) → w.id ≡ called.now.id → w.asked ≡ called.now.claim ∷ [] → IfOk result (λ effects. turned w ruling [] (state_of parts.old) ≡ (effects, state_of parts.new)) }
+    ensures turned { (w : Waiter) → w.id ≡ called.now.id → w.asked ≡ called.now.asked → IfOk result (λ effects. turned w ruling [] (state_of parts.old) ≡ (effects, state_of parts.new)) }
     ensures made { parts.new.made ≡ parts.old.made }
     ensures failed { parts.new.failed ≡ parts.old.failed }
 {
     let mut effects = Sequence::new(alloc);
     let answer = match ruling {
-        Ruling::Gets => Answer::Granted(called.claim),
+        Ruling::Gets => all_of(called.asked.as_slice()),
         Ruling::Waits => return Ok(effects),
         Ruling::Told(answer) => answer,
     };
@@ -104,9 +139,9 @@ pub(crate) fn settle(
     ensures made { parts.new.made ≡ parts.old.made }
     ensures failed { parts.new.failed ≡ parts.old.failed }
 {
-    let Some(called) = first_called(parts, parts.queue.waiters()) else {
+    let Some(called) = first_called(alloc, parts, parts.queue.waiters())? else {
         return Ok(None);
     };
-    let ruling = judge(alloc, parts, left, &called.plea, &called.claim)?;
+    let ruling = judge_all(alloc, parts, left, &called.plea, called.asked.as_slice())?;
     Ok(Some(serve(alloc, parts, &called, ruling)?))
 }

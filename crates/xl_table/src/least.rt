@@ -78,9 +78,10 @@ fn lesser(
     Ok(Some(*claim))
 }
 
-/// The least of these claims.
+/// The least of these claims: by first byte, then by last (a range without bytes before all that begin there), then exclusive
+/// before shared, then by the text of the owner. Shares stand before ranges.
 #[tactic(auto, unfolding(crate::specs::Least::least))]
-pub(crate) fn least(
+pub fn least_of(
     alloc: Global,
     names: &Names,
     claims: &[Claim],

@@ -7,7 +7,7 @@ ghost use Rattle.xl_table.specs.declared.table.TableErr.TheVariants.{NoMemory};
 use crate::change::{Change, grant, unlock, write};
 use crate::files::{OnFile, open_file};
 use crate::holding::find_holder;
-use crate::least::least;
+use crate::least::least_of;
 use crate::listing::{
     count_all, drop_party, is_blocked, keep_ranges, list_all, list_blockers, list_due, list_file,
     list_party,
@@ -160,7 +160,7 @@ impl Table {
         ensures { IfOk result (λ c. c ≡ least names.now (filter (λ held. blocks ask.now held) self.now)) }
     {
         let blockers = list_blockers(alloc, &self.lists, ask)?;
-        Ok(least(alloc, names, &blockers)?)
+        Ok(least_of(alloc, names, &blockers)?)
     }
 
     /// The least of the held ranges that block the ask, which a test is told of.
@@ -174,7 +174,7 @@ impl Table {
     {
         let mut blockers = list_blockers(alloc, &self.lists, ask)?;
         keep_ranges(&mut blockers);
-        Ok(least(alloc, names, &blockers)?)
+        Ok(least_of(alloc, names, &blockers)?)
     }
 
     /// The spans of an NLM or NFSv4 owner's ranges on a file: maximal runs of one mode, in the order of their bytes.
