@@ -4,6 +4,7 @@
 
 mod ask;
 mod asking;
+mod breaking;
 mod decide;
 pub mod deeds;
 mod doors;
