@@ -31,10 +31,17 @@ of_one a names (w ∷ ws) = (with_first ws, of_one a names ws) where
   with_first [] = tt
   with_first (v ∷ vs) = (or_right _ (same_parties (asking_party a names) (asking_party a names)) (same_parties-self (asking_party a names)), with_first vs)
 
+there : (a : Ask) (names : List Name) (ws : List What) → AllByRecursion (λ (c : Claim). c.file ≡ a.file) (asked_claims a ws names)
+there a names [] = tt
+there a names (w ∷ ws) = (refl, there a names ws)
+
 pub ranges_pled : (a : Ask) (ranges : List (Extent × Bool)) (names : List Name) → IsFitAct a.owner a.blocking (Ranges ranges) → is_client a.owner a.party ≡ true → may_hold_all a.owner ranges ≡ true → IsPled (asked_claims a (map range_what ranges) names)
 ranges_pled a [] names fit client may = absurd fit
-ranges_pled a (range ∷ []) names fit client may = (asked_known a (range_what range) names client (own_ranges a.owner (range ∷ []) may).0 (real_range range.0 range.1 fit.0)).0
+ranges_pled a (range ∷ []) names fit client may = ((asked_known a (range_what range) names client (own_ranges a.owner (range ∷ []) may).0 (real_range range.0 range.1 fit.0)).0, tt)
 ranges_pled a (range ∷ more ∷ rest) names fit client may = (
-  each_element a names (range ∷ more ∷ rest) client fit.1.0 (own_ranges a.owner (range ∷ more ∷ rest) may) (real_range range.0 range.1 fit.0, fit_ranges a.owner a.blocking (more ∷ rest) fit.1),
-  of_one a names (map range_what (range ∷ more ∷ rest)),
+  (
+    each_element a names (range ∷ more ∷ rest) client fit.1.0 (own_ranges a.owner (range ∷ more ∷ rest) may) (real_range range.0 range.1 fit.0, fit_ranges a.owner a.blocking (more ∷ rest) fit.1),
+    of_one a names (map range_what (range ∷ more ∷ rest)),
+  ),
+  there a names (map range_what (more ∷ rest)),
 )

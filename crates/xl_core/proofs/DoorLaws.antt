@@ -58,7 +58,7 @@ pub ranges_row : (p : Parts) (a : Ask) (ranges : List (Extent × Bool)) (claims 
 ranges_row p a ranges claims e fit client may = subst IsRow (sym e) (by ranges (ranges_pled a ranges p.names fit client may)) where
   by : (rs : List (Extent × Bool)) → IsPled (asked_claims a (map range_what rs) p.names) → IsRow (asked_claims a (map range_what rs) p.names)
   by [] none = absurd none
-  by (range ∷ rs) row = row
+  by (range ∷ rs) row = row.0
 
 pub ranges_alone : (p : Parts) (a : Ask) (ranges : List (Extent × Bool)) (claims : List Claim) → claims ≡ asked_claims a (map range_what ranges) p.names → IsGood (state_of p) → is_client a.owner a.party ≡ true → AllByRecursion (λ c. AllByRecursion (λ d. has_one_party c d ≡ true) p.table) claims
 ranges_alone p a ranges claims e good client = subst (λ (cs : List Claim). AllByRecursion (λ c. AllByRecursion (λ d. has_one_party c d ≡ true) p.table) cs) (sym e) (by ranges) where

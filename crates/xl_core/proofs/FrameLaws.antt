@@ -29,7 +29,7 @@ use Rattle.xl_core.specs.Leases.{later, first_ended}
 use Rattle.xl_core.specs.Breaks.{ack, first_due, client_of}
 use Rattle.xl_core.specs.Ticks.{advanced, renew, end_some, expire, behind_told, expired_then, expired_for, expire_all, lapsed_by, lapse, lapsed_then, lapsed_for, tick}
 use Rattle.xl_core.proofs.ChangeLaws.{AskWay, Stays, Tests, Holds, Waits, Frees, Gives, ask_way}
-use Rattle.xl_core.proofs.GoodLaws.{fewer_cancelled, fewer_filtered, Turned, turn_by, each_turn}
+use Rattle.xl_core.proofs.GoodLaws.{fewer_cancelled, fewer_filtered, Turned, IsFirst, each_turn}
 use Rattle.xl_core.proofs.RowLaws.{is_refusal}
 use Rattle.xl_core.proofs.SettleLaws.{apart_ids, all_out}
 
@@ -66,9 +66,9 @@ unfolding held_with
 way_frame s a r (Stays answer refused e) = subst (AskFrame s a) (sym e) (refused_frame s a answer refused)
 way_frame s a r (Tests c holds e) = subst (AskFrame s a) (sym e) (record { stable = refl; clock = refl; made = refl; failed = refl; counter = omega arith; names = sym (names_held a c s.names false holds); leave = tt; waiters = nobody s.waiters })
 way_frame s a r (Holds c claims is holds e) = subst (AskFrame s a) (sym e) (record { stable = refl; clock = refl; made = refl; failed = refl; counter = omega arith; names = sym (names_held a c s.names true holds); leave = tt; waiters = nobody s.waiters })
-way_frame s a r (Waits claims waits is may e) =
+way_frame s a r (Waits c cs may blocked is holds e) =
     subst (AskFrame s a) (sym e)
-    (record { stable = refl; clock = refl; made = refl; failed = refl; counter = refl; names = refl; leave = tt; waiters = ap (λ (cs : List Claim). s.waiters ++ waiter_of (s.counter + 1) a cs ∷ []) is })
+    (record { stable = refl; clock = refl; made = refl; failed = refl; counter = refl; names = refl; leave = tt; waiters = ap (λ (ds : List Claim). s.waiters ++ waiter_of (s.counter + 1) a ds ∷ []) is })
 way_frame s a r (Frees c first last holds act file owner e) = subst (AskFrame s a) (sym e) (record { stable = refl; clock = refl; made = refl; failed = refl; counter = omega arith; names = sym (names_held a c s.names false holds); leave = tt; waiters = nobody s.waiters })
 way_frame s a r (Gives c d holds act file owner range e) = subst (AskFrame s a) (sym e) (record { stable = refl; clock = refl; made = refl; failed = refl; counter = omega arith; names = sym (names_held a c s.names false holds); leave = tt; waiters = nobody s.waiters })
 
@@ -82,7 +82,7 @@ ask_quiet n left s a good client = by (ask n left s a) (ask_way n left s a good 
   by r (Stays answer refused e) = ap (λ (x : Answered). x.1) e
   by r (Tests c holds e) = ap (λ (x : Answered). x.1) e
   by r (Holds c claims is holds e) = ap (λ (x : Answered). x.1) e
-  by r (Waits claims waits is may e) = ap (λ (x : Answered). x.1) e
+  by r (Waits c cs may blocked is holds e) = ap (λ (x : Answered). x.1) e
   by r (Frees c first last holds act file owner e) = ap (λ (x : Answered). x.1) e
   by r (Gives c d holds act file owner range e) = ap (λ (x : Answered). x.1) e
 
@@ -92,15 +92,16 @@ stands_waiting : (before : List Waiter) (w : Waiter) (behind : List Waiter) → 
 stands_waiting [] w behind = let same : (w.id == w.id) ≡ true = eq-eqb w.id w.id refl in rw same refl
 stands_waiting (v ∷ vs) w behind = elim (cases_Bool (v.id == w.id)) [ inl e ↦ rw e refl | inr e ↦ rw e (stands_waiting vs w behind) ]
 
-turn_frame_by : (s : CoreState) (w : Waiter) (c : Claim) (o : Option ℕ) → is_waiting w.id s.waiters ≡ true → IsFrame s (turn_by s w c o).0 (turn_by s w c o).1 0 s.names []
-turn_frame_by s w c (Some limit) waits = record { stable = refl; clock = refl; made = refl; failed = refl; counter = omega arith; names = refl; leave = (waits, tt); waiters = nobody (cancelled w.id s.waiters) }
-turn_frame_by s w c None waits = record { stable = refl; clock = refl; made = refl; failed = refl; counter = omega arith; names = refl; leave = (waits, tt); waiters = nobody (cancelled w.id s.waiters) }
+first_frame : (left : Rooms) (s : CoreState) (turn : Turned) → IsFirst left s s.waiters turn → IsFrame s turn.0 turn.1 0 s.names []
+first_frame left s turn first =
+    let w = first.waiter in
+    let waits = subst (λ (ws : List Waiter). is_waiting w.id ws ≡ true) (sym first.stood) (stands_waiting first.before w first.behind) in
+    subst (λ (told : List Effect). IsFrame s told turn.1 0 s.names []) (sym first.moved.told)
+    (subst (λ (t : CoreState). IsFrame s (Served w.id first.moved.answer ∷ []) t 0 s.names []) (sym first.moved.new)
+    (record { stable = refl; clock = refl; made = refl; failed = refl; counter = omega arith; names = refl; leave = (waits, tt); waiters = nobody (cancelled w.id s.waiters) }))
 
 pub turn_frame : (n : ℕ) (left : Rooms) (s : CoreState) → IsGood s → IfSome (settle n left s) (λ r. IsFrame s r.0 r.1 0 s.names [])
-turn_frame n left s good =
-    each_turn n left s (λ r. IsFrame s r.0 r.1 0 s.names []) good
-    (λ turn first. subst (λ (x : Turned). IsFrame s x.0 x.1 0 s.names []) (sym first.turn_is)
-    (turn_frame_by s first.waiter first.claim _ (subst (λ (ws : List Waiter). is_waiting first.waiter.id ws ≡ true) (sym first.stood) (stands_waiting first.before first.waiter first.behind))))
+turn_frame n left s good = each_turn n left s (λ r. IsFrame s r.0 r.1 0 s.names []) good (λ turn first. first_frame left s turn first)
 
 -- ---- who leaves, and a number
 

@@ -42,7 +42,7 @@ use Rattle.xl_core.specs.Causes.{limits_of_wait, may_wait, left_by_unlock, IsEac
 use Rattle.xl_core.specs.Decide.{Answered, plea_of, waiter_of, waiting, named, answered, claims_asked, unlocked_claims, unlocked_bytes, unlocked, acted, ask, freed, unlocked_one}
 use Rattle.xl_core.specs.Good.{are_kept, IsKnown, IsHeld, is_single, are_apart, IsPled, IsWaiter, IsGood, is_held_up, holds_up}
 use Rattle.xl_core.specs.Blockers.{is_stopped}
-use Rattle.xl_core.specs.Judge.{Ruled, all_granted, held_with, does_wait, judged, row, row_left, IsRow}
+use Rattle.xl_core.specs.Judge.{Ruled, all_granted, held_with, does_wait, judged, row, row_left}
 use Rattle.xl_core.specs.Limits.{most_waiters, grant_limits, first_passed}
 use Rattle.xl_core.specs.Settle.{plea_again, rests, all_of, turned, again, turn_or, first_turn, settle, waits_for, cancel, give_back, end_party}
 use Rattle.xl_core.specs.declared.ask.Act.{Act}
@@ -173,7 +173,7 @@ goes_good left s a c cs good known pass =
     good_from (record s { claims = all_granted (c ∷ cs) s.claims; names = more }) (all_granted_good left (plea_of left s a) more (c ∷ cs) s.claims distinct (claims_on s.names more s.claims on (good_claims s good)) known pass) distinct
     (grant_room left a.rows (length (granted_claims c s.claims)) (length more) pass.1).2 (waiters_on s.names more s.counter s.counter s.waiters on (omega arith) good.waiters) good.apart good.crowd
 
-waiting_good : (left : Rooms) (s : CoreState) (a : Ask) (c : Claim) (cs : List Claim) → IsGood s → AllByRecursion (IsKnown (both_entered a s.names)) (c ∷ cs) → IsRow (c ∷ cs) → first_passed (limits_of_wait left s a) ≡ None → IsGood (waiting a (c ∷ cs) s)
+waiting_good : (left : Rooms) (s : CoreState) (a : Ask) (c : Claim) (cs : List Claim) → IsGood s → AllByRecursion (IsKnown (both_entered a s.names)) (c ∷ cs) → IsPled (c ∷ cs) → first_passed (limits_of_wait left s a) ≡ None → IsGood (waiting a (c ∷ cs) s)
 waiting_good left s a c cs good known row room =
     let more = both_entered a s.names in
     let next = s.counter + 1 in
@@ -189,7 +189,7 @@ waiting_good left s a c cs good known row room =
     ]))
     (omega (arith, fits.1, length-append s.waiters (new ∷ [])))
 
-claims_good : (n : ℕ) (left : Rooms) (s : CoreState) (a : Ask) (c : Claim) (cs : List Claim) → IsGood s → AllByRecursion (IsKnown (both_entered a s.names)) (c ∷ cs) → IsRow (c ∷ cs) → IsGood (claims_asked n left s a (c ∷ cs)).2
+claims_good : (n : ℕ) (left : Rooms) (s : CoreState) (a : Ask) (c : Claim) (cs : List Claim) → IsGood s → AllByRecursion (IsKnown (both_entered a s.names)) (c ∷ cs) → IsPled (c ∷ cs) → IsGood (claims_asked n left s a (c ∷ cs)).2
 claims_good n left s a c cs good known row = by (claims_asked n left s a (c ∷ cs)) (ask_case n left s a c cs) where
   by : (r : Answered) → AskCase left s a (c ∷ cs) c r → IsGood r.2
   by r (Goes pass e) = subst (λ (x : Answered). IsGood x.2) (sym e) (goes_good left s a c cs good known pass)
@@ -256,7 +256,7 @@ unlock_good s a (Empty offset) good client ends = let claim = known_claim a (Emp
 
 acted_good : (n : ℕ) (left : Rooms) (s : CoreState) (a : Ask) (act : Act) → IsGood s → is_client a.owner a.party ≡ true → may_ask a.owner act ≡ true → IsFitAct a.owner a.blocking act → IsGood (acted n left s a act).2
 acted_good n left s a (Share access deny) good client may fit =
-    let known = asked_known a (whats.Share access deny) s.names client refl tt in claims_good n left s a (asked_claim a (whats.Share access deny) s.names) [] good (known, tt) known.0
+    let known = asked_known a (whats.Share access deny) s.names client refl tt in claims_good n left s a (asked_claim a (whats.Share access deny) s.names) [] good (known, tt) (known.0, tt)
 acted_good n left s a (Ranges []) good client may fit = absurd fit
 acted_good n left s a (Ranges (range ∷ ranges)) good client may fit =
     claims_good n left s a (asked_claim a (range_what range) s.names) (asked_claims a (map range_what ranges) s.names) good

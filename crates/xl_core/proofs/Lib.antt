@@ -34,3 +34,4 @@ pub mod DeedClients
 pub mod HollowLaws
 pub mod ElementLaws
 pub mod OpenLaws
+pub mod BreakingLaws

@@ -73,7 +73,7 @@ without (v ∷ vs) w behind apart =
     rw other (ap (λ (xs : List Waiter). v ∷ xs) (without vs w behind apart.1))
 
 -- a grant enters what was asked for, and any other answer leaves what is held
-once_cases : (P : List Claim → Type 0) (asked held : List Claim) (answer : Answer) → P held → P (all_granted asked held) → P (held_once asked answer held)
+pub once_cases : (P : List Claim → Type 0) (asked held : List Claim) (answer : Answer) → P held → P (all_granted asked held) → P (held_once asked answer held)
 once_cases P asked held (Granted c) same all = all
 once_cases P asked held (Queued number) same all = same
 once_cases P asked held (Conflict c) same all = same

@@ -1,14 +1,24 @@
--- What the claims are once the breaks begin that an ask begins. No call begins one yet.
-use Rattle.std.specs.Prelude.{ℕ, Bool, not, ◌&&◌, if◌then◌else◌, List, length, Option, Some, None}
+-- What the claims are once the breaks begin that an ask begins, and what is told of these. No call begins one yet.
+use Rattle.std.specs.Prelude.{ℕ, ◌+◌, Bool, true, false, not, ◌&&◌, if◌then◌else◌, List, [], ◌∷◌, length, Option, Some, None}
 use Rattle.std.specs.List.{filter, filter_map}
+use Rattle.xl_base.specs.Lists.{sorted}
 use Rattle.xl_base.specs.declared.event.Moment.{Moment}
-use Rattle.xl_cache.specs.Planning.{is_running, blocking_shares, break_of, is_slow}
+use Rattle.xl_base.specs.declared.name.Party.{Party}
+use Rattle.xl_base.specs.declared.name.Party.TheVariants as parties
+use Rattle.xl_base.specs.declared.name.Protocol.TheVariants.{Nfs}
+use Rattle.xl_cache.specs.Planning.{is_running, blocking_shares, break_of, planned, is_slow}
 use Rattle.xl_matrix.specs.declared.claim.CacheKind.{CacheKind}
 use Rattle.xl_matrix.specs.declared.claim.Claim.{Claim}
 use Rattle.xl_matrix.specs.declared.claim.What.{What}
 use Rattle.xl_matrix.specs.declared.claim.What.TheVariants.{Cache}
+use Rattle.xl_names.specs.Texts.{party_text}
+use Rattle.xl_names.specs.declared.name.Name.{Name}
 use Rattle.xl_table.specs.Flat.{with_what}
 use Rattle.xl_table.specs.Held.{is_cache}
+use Rattle.xl_core.specs.Leases.{moment_after, comes_before}
+use Rattle.xl_core.specs.State.{CoreState}
+use Rattle.xl_core.specs.declared.ask.Effect.{Effect}
+use Rattle.xl_core.specs.declared.ask.Effect.TheVariants as effects
 
 -- the cache while a break of it runs, which is to leave this much, and whose answer is due then
 abbrev pub with_break : Claim → What → Option CacheKind → Moment → Claim
@@ -33,3 +43,47 @@ is_idle c = is_cache c.what && not (is_running c.what)
 -- how many breaks may begin at most
 abbrev pub idle_caches : List Claim → ℕ
 idle_caches held = length (filter is_idle held)
+
+-- ---- what is told
+
+-- of two breaks on a file the first is told first: by the text of the party
+abbrev pub told_before : List Name → Claim × Option CacheKind → Claim × Option CacheKind → Bool
+told_before names a b = comes_before (party_text names a.0.party) (party_text names b.0.party)
+
+-- the break is told by a call of the server's own, a recall: the cache is the delegation of an NFSv4 client (RFC 7530
+-- 10.4.1)
+abbrev pub is_recalled : Party → Bool
+is_recalled (parties.Name Nfs number) = true
+is_recalled _ = false
+
+abbrev pub is_recall : Claim × Option CacheKind → Bool
+is_recall begun = is_recalled begun.0.party
+
+-- how many of the breaks are told so
+abbrev pub recalls : List (Claim × Option CacheKind) → ℕ
+recalls breaks = length (filter is_recall breaks)
+
+-- the number of the break's call, where the last number that was given out is this one; and the last one then
+abbrev pub call_of : ℕ → Claim × Option CacheKind → Option ℕ
+call_of last begun = if is_recall begun then Some (last + 1) else None
+
+abbrev pub last_of : ℕ → Option ℕ → ℕ
+last_of last None = last
+last_of last (Some number) = number
+
+-- these breaks told in their order, where the last number that was given out is this one
+abbrev pub begun_told : ℕ → List (Claim × Option CacheKind) → List Effect
+begun_told last [] = []
+begun_told last (b ∷ bs) = effects.Begun b.0 b.1 (call_of last b) ∷ begun_told (last_of last (call_of last b)) bs
+
+-- the breaks that the ask begins, in the order in which they are told
+abbrev pub breaks_in_order : Claim → CoreState → List (Claim × Option CacheKind)
+breaks_in_order ask s = sorted (told_before s.names) (planned ask s.claims).breaks
+
+-- The breaks begin that the ask begins, and that is told; the answer to each is due within the break time, and each recall
+-- has drawn a number.
+unfoldable pub breaks_begun : Claim → CoreState → List Effect × CoreState
+breaks_begun ask s = (
+  begun_told s.counter (breaks_in_order ask s),
+  record s { claims = once_broken (moment_after s.clock s.times.break_time) ask s.claims; counter = s.counter + recalls (planned ask s.claims).breaks },
+)

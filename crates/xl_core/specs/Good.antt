@@ -83,10 +83,10 @@ is_single a b = not (a.file == b.file && not (is_single_by a b a.what b.what))
 abbrev pub are_apart : Waiter → Waiter → Bool
 are_apart v w = not (v.id == w.id)
 
--- claims that may be asked for in one request, of which there is one at least
+-- claims on one file that may be asked for in one request, of which there is one at least
 abbrev pub IsPled : List Claim → Type 0
 IsPled [] = ⊥
-IsPled (c ∷ cs) = IsRow (c ∷ cs)
+IsPled (c ∷ cs) = IsRow (c ∷ cs) × AllByRecursion (λ d. d.file ≡ c.file) cs
 
 -- one who waits, under a number that was given out, for shares or ranges
 abbrev pub IsWaiter : List Name → ℕ → Waiter → Type 0

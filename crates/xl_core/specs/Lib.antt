@@ -8,6 +8,7 @@ pub mod Decide
 pub mod Settle
 pub mod Breaks
 pub mod Begin
+pub mod Breaking
 pub mod Ticks
 pub mod Watch
 pub mod Good

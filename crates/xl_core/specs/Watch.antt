@@ -50,7 +50,7 @@ may_turn All ws = true
 
 -- the first of the claims that are asked for is held up, or its file is one of these
 abbrev pub IsHeldUp : Unsettled → List Claim → Waiter → List Claim → Type 0
-IsHeldUp unsettled held w [] = ⊥
+IsHeldUp unsettled held w [] = Unit {0}
 IsHeldUp unsettled held w (c ∷ cs) = is_among unsettled c.file ≡ false → is_held_up held w c ≡ true
 
 -- who isn't held up waits on one of these files

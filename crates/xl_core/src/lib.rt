@@ -5,6 +5,7 @@
 mod ask;
 mod asking;
 mod blockers;
+mod breaking;
 mod decide;
 pub mod deeds;
 mod doors;

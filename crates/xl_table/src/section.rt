@@ -1,6 +1,6 @@
 //! Parts of a file's claims, found by bisection.
 ghost use Rattle.std.specs.Prelude.{◌≡◌, ◌≤◌, ◌==◌, ◌&&◌, ◌∷◌, ◌<◌, ◌^◌, [], length, slice_range, IfOk};
-ghost use Rattle.std.specs.List.{filter, find, prefix_len, slice_get};
+ghost use Rattle.std.specs.List.{filter, find, list_any, prefix_len, slice_get};
 ghost use Rattle.xl_base.specs.Lists.{Pairwise};
 ghost use Rattle.xl_table.specs.Order.{goes_first};
 ghost use Rattle.xl_table.specs.Files.{joined, IsFiled};
@@ -123,6 +123,28 @@ pub(crate) fn caches_on(
 {
     let caches = caches_in(alloc, on_file(lists, file), file)?;
     Ok(caches)
+}
+
+/// Whether there is a cache among a file's claims.
+fn is_cache_in(pages: &[Page], file: u32) -> bool
+    requires ordered { Pairwise goes_first (paged pages.now) }
+    requires full { AreFull pages.now }
+    requires room { length (paged pages.now) < 2 ^ 32 }
+    ensures { result ≡ list_any (λ c. (c.file == file) && is_cache c.what) (paged pages.now) }
+{
+    let (start, end) = places(pages, &[u64::from(file), 2]);
+    start < end
+}
+
+/// Whether there is a cache on the file.
+#[tactic(auto, using(crate::proofs::FileLaws::ordered_here, crate::proofs::FileLaws::room_here))]
+pub(crate) fn has_cache(lists: &[OnFile], file: u32) -> bool
+    requires filed { IsFiled lists.now }
+    requires ordered { Pairwise goes_first (joined lists.now) }
+    requires room { length (joined lists.now) ≤ 16384 }
+    ensures { result ≡ list_any (λ c. (c.file == file) && is_cache c.what) (joined lists.now) }
+{
+    is_cache_in(on_file(lists, file), file)
 }
 
 pub(crate) fn group_of(file: u32, class: u64, owner: Owner) -> [u64; 5]

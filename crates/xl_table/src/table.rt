@@ -1,6 +1,6 @@
 //! The table of claims.
 ghost use Rattle.std.specs.Prelude.{◌≡◌, ℕ, ◌≤◌, ◌==◌, ◌&&◌, not, true, false, List, [], length, None, IsTrue, ◌↔◌, IfOk, IfSome, OnOk, OnErr};
-ghost use Rattle.std.specs.List.{AllByRecursion, filter, find};
+ghost use Rattle.std.specs.List.{AllByRecursion, filter, find, list_any};
 ghost use Rattle.xl_table.specs.Flat.{with_what};
 ghost use Rattle.xl_table.specs.declared.table.TableErr.TheVariants.{NoMemory};
 
@@ -14,7 +14,7 @@ use crate::listing::{
 };
 use crate::placing::{is_held, put, replace, take_back, take_out};
 use crate::relock::spans_in;
-use crate::section::{caches_on, find_share, ranges_by, shares_on};
+use crate::section::{caches_on, find_share, has_cache, ranges_by, shares_on};
 use crate::touching::{has_byte, has_range};
 use std::alloc::{AllocError, AllocFailed, Global};
 use std::marker::Model;
@@ -220,6 +220,13 @@ impl Table {
         ensures { IfOk result (λ v. v.items ≡ filter (λ held. (held.file == file) && is_cache held.what) self.now) }
     {
         caches_on(alloc, &self.lists, file)
+    }
+
+    /// Whether there is a cache on the file. It takes no memory.
+    pub fn has_cache(&self, file: u32) -> bool
+        ensures { result ≡ list_any (λ held. (held.file == file) && is_cache held.what) self.now }
+    {
+        has_cache(&self.lists, file)
     }
 
     /// The held claim that the unlock of a range by an SMB open takes out: one of just this range, an exclusive one before
