@@ -1,5 +1,5 @@
 //! What stands against an ask: shares and ranges, and caches.
-ghost use Rattle.std.specs.Prelude.{◌≡◌, IfOk};
+ghost use Rattle.std.specs.Prelude.{◌≡◌, List, IfOk};
 ghost use Rattle.xl_table.specs.Least.{least};
 ghost use Rattle.xl_wait.specs.declared.waiter.Waiter.{Waiter};
 ghost use Rattle.xl_core.specs.Blockers.{blockers, is_stopped, first_broken, cache_in, cache_against};
