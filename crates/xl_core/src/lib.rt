@@ -4,6 +4,7 @@
 
 mod ask;
 mod asking;
+pub mod begun;
 mod breaking;
 mod decide;
 pub mod deeds;
