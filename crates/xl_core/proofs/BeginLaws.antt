@@ -34,7 +34,7 @@ use Rattle.xl_core.specs.State.{CoreState}
 use Rattle.xl_core.specs.Begin.{with_break, once_begun, once_broken, is_idle, idle_caches}
 use Rattle.xl_core.specs.Good.{IsHeldBy, IsHeld, is_single_by, is_single, IsGood, holding}
 use Rattle.xl_core.proofs.ClaimLaws.{AreGood, is_single-sym}
-use Rattle.xl_core.proofs.GoodLaws.{good_claims, good_from}
+use Rattle.xl_core.proofs.StateLaws.{good_claims, good_from}
 
 -- ---- what becomes of a claim
 
@@ -347,6 +347,11 @@ module _ (deadline : Moment) (ask : Claim) (held : List Claim) where
       broken false = rw idle (omega (arith, rest))
 
 -- ---- the state
+
+-- the claims stay good
+pub broken_claims : (deadline : Moment) (names : List Name) (ask : Claim) (held : List Claim) → AreGood names held → is_cache ask.what ≡ false → AreGood names (once_broken deadline ask held)
+unfolding once_broken step
+broken_claims deadline names ask held good lock = step_good deadline ask held names lock good
 
 pub broken_good : (deadline : Moment) (s : CoreState) (ask : Claim) → IsGood s → is_cache ask.what ≡ false → IsGood (holding s (once_broken deadline ask s.claims))
 unfolding once_broken step

@@ -8,7 +8,6 @@ use Rattle.std.proofs.lemmas.Bool.Decides.{nat_tests}
 use Rattle.std.proofs.lemmas.Cmp.{nat_list_cmp_total}
 use Rattle.std.proofs.lemmas.List.{length-map}
 use Rattle.std.proofs.lemmas.List.MinMax.{ranks_by}
-use Rattle.std.proofs.lemmas.Option.{same_Some}
 use Rattle.xl_base.specs.Lists.{IsIn, Pairwise, placed, sorted}
 use Rattle.xl_base.specs.Stable.{same_protocol}
 use Rattle.xl_base.proofs.Members.{all_in, all_from, in_filter_from}
@@ -18,7 +17,7 @@ use Rattle.xl_base.specs.declared.name.Party.{Party}
 use Rattle.xl_base.specs.declared.name.Party.TheVariants as parties
 use Rattle.xl_base.specs.declared.name.Protocol.{Protocol}
 use Rattle.xl_base.specs.declared.name.Protocol.TheVariants.{Nlm, Nfs, Smb}
-use Rattle.xl_cache.specs.Planning.{is_in_the_way, blocking_shares, is_obstacle, covers, keeps_handle_by, keeps_open, is_covered, is_final, need_of, break_by, break_of, is_awaited, is_running, plan_with, planned, needs_answer_by, is_slow}
+use Rattle.xl_cache.specs.Planning.{is_in_the_way, blocking_shares, keeps_handle_by, keeps_open, is_covered, is_final, break_of, is_awaited, plan_with, planned, needs_answer_by, is_slow}
 use Rattle.xl_cache.specs.Targets.{needs_answer}
 use Rattle.xl_cache.proofs.PlanLaws.{obstacle_is_cache, break_is_of}
 use Rattle.xl_matrix.specs.Equal.{same_claims, same_parties}
@@ -350,7 +349,7 @@ all_held deadline ask held ordered single = held_so deadline ask (blocking_share
 
 -- ---- a plan looks at one file's claims
 
-abbrev is_there : Claim → Claim → Bool
+abbrev pub is_there : Claim → Claim → Bool
 is_there ask c = c.file == ask.file
 
 map_within : {B : Type 0} (f : Claim → Option B) (q : Claim → Bool) (cs : List Claim) → ((c : Claim) → q c ≡ false → f c ≡ None) → filter_map f (filter q cs) ≡ filter_map f cs
@@ -383,12 +382,12 @@ elsewhere n m k h other = grind (arith, nat_tests)
 keeps_there : (ask share c : Claim) → is_there ask share ≡ true → is_there ask c ≡ false → keeps_open share c ≡ false
 keeps_there ask share c here other = rw (elsewhere share.file c.file ask.file here other) (and_right (keeps_handle_by c.what) false refl)
 
-shares_there : (ask : Claim) (held : List Claim) → AllByRecursion (λ s. is_there ask s ≡ true) (blocking_shares ask held)
+pub shares_there : (ask : Claim) (held : List Claim) → AllByRecursion (λ s. is_there ask s ≡ true) (blocking_shares ask held)
 shares_there ask held =
     all_from (λ s. is_there ask s ≡ true) (blocking_shares ask held) (λ s h.
     blocks_here ask s (and_parts (is_share s.what) (blocks ask s) (in_filter_from (λ c. is_share c.what && blocks ask c) s held h).1).1)
 
-way_there : (ask : Claim) (shares : List Claim) (c : Claim) → AllByRecursion (λ s. is_there ask s ≡ true) shares → is_there ask c ≡ false → is_in_the_way ask shares c ≡ false
+pub way_there : (ask : Claim) (shares : List Claim) (c : Claim) → AllByRecursion (λ s. is_there ask s ≡ true) shares → is_there ask c ≡ false → is_in_the_way ask shares c ≡ false
 unfolding is_in_the_way
 way_there ask shares c there other =
     let none : list_any (λ share. keeps_open share c) shares ≡ false = any_none (λ share. keeps_open share c) shares (λ s h. keeps_there ask s c (all_in (λ x. is_there ask x ≡ true) s shares there h) other) in

@@ -1,5 +1,5 @@
 -- What blocks an ask: for good, or a cache that a break may move.
-use Rattle.std.proofs.Common.{◌≡◌, Bool, true, false, not, ◌&&◌, ◌||◌, List, [], ◌∷◌, Option, Some, None, inl, inr, refl, subst, map, IfSome, IsSome}
+use Rattle.std.proofs.Common.{◌≡◌, Bool, true, false, not, ◌&&◌, ◌||◌, List, [], ◌∷◌, Option, Some, None, inl, inr, refl, subst, map, IfSome, IsSome, sym, is_some}
 use Rattle.std.specs.List.{filter, list_any}
 use Rattle.std.proofs.lemmas.Bool.{cases_Bool, both_ways, and_parts, and_from, or_cases, or_left, not-true}
 use Rattle.xl_base.specs.Lists.{IsIn}
@@ -29,7 +29,7 @@ pub none_blockers : (earlier : List Waiter) (s : CoreState) (ask : Claim) → is
 unfolding blockers
 none_blockers earlier s ask free = least_empty s.names (filter (is_final ask s.claims) s.claims) (none_stays (is_final ask s.claims) s.claims free)
 
-final_in : (earlier : List Waiter) (s : CoreState) (ask c : Claim) → least s.names (blockers earlier s ask) ≡ Some c → IsIn c s.claims × (is_final ask s.claims c ≡ true)
+pub final_in : (earlier : List Waiter) (s : CoreState) (ask c : Claim) → least s.names (blockers earlier s ask) ≡ Some c → IsIn c s.claims × (is_final ask s.claims c ≡ true)
 unfolding blockers
 final_in earlier s ask c e = in_filter_from (is_final ask s.claims) c s.claims (least_in s.names (filter (is_final ask s.claims) s.claims) c e)
 
@@ -47,6 +47,11 @@ stops_some earlier s ask stopped = go (least s.names (blockers earlier s ask)) r
   go : (o : Option Claim) → least s.names (blockers earlier s ask) ≡ o → (c : Claim) × (least s.names (blockers earlier s ask) ≡ Some c)
   go None e = absurd (both_ways (is_stopped s.claims ask) (blockers_none earlier s ask e) stopped)
   go (Some c) e = (c, e)
+
+-- something does where there is a least
+pub stopped_is : (s : CoreState) (ask : Claim) (o : Option Claim) → ((earlier : List Waiter) → o ≡ least s.names (blockers earlier s ask)) → is_some o ≡ is_stopped s.claims ask
+stopped_is s ask None e = sym (blockers_none [] s ask (sym (e [])))
+stopped_is s ask (Some c) e = sym (some_stops [] s ask c (sym (e [])))
 
 -- ---- caches
 

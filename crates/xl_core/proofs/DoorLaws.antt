@@ -1,4 +1,5 @@
 -- What the code of an ask, of a turn and of the core's calls rests on.
+use Rattle.xl_base.proofs.Members.{all_weaker}
 use Rattle.std.proofs.Common.{◌≡◌, ℕ, true, false, List, Option, Some, None, IfSome, option_map, refl, sym, ap, subst, ◌∙◌, map, [], ◌∷◌, Bool, ◌-◌, ◌<◌, ◌≤◌, length, take, drop, slice_index_or, arith, if◌then◌else◌}
 use Rattle.std.specs.List.{AllByRecursion}
 use Rattle.xl_matrix.specs.declared.claim.Claim.{Claim}
@@ -10,7 +11,7 @@ use Rattle.xl_wait.specs.declared.waiter.Rooms.{Rooms}
 use Rattle.xl_core.specs.State.{CoreState}
 use Rattle.xl_core.specs.Asking.{is_client, is_named, may_hold, asked_claim, known_claim, IsFit, range_what, asked_claims, asking_party, may_hold_all, IsFitAct}
 use Rattle.xl_core.specs.Decide.{ask}
-use Rattle.xl_core.specs.Good.{IsGood}
+use Rattle.xl_core.specs.Good.{IsGood, IsPled, IsKnown}
 use Rattle.xl_core.specs.Settle.{settle, first_called}
 use Rattle.xl_core.specs.Whole.{state_of}
 use Rattle.xl_core.specs.declared.ask.Answer.{Answer}
@@ -66,11 +67,14 @@ ranges_alone p a ranges claims e good client = subst (λ (cs : List Claim). AllB
   by [] = tt
   by (range ∷ rest) = (asked_one_party (state_of p) a (range_what range) good client, by rest)
 
-pub called_grantable : (p : Parts) (called : Called) → IsGood (state_of p) → first_called (state_of p) p.queue ≡ Some called → IsGrantable called.claim
-called_grantable p called good e = (called_known (state_of p) p.queue called good.waiters e).0
+pub called_row : (p : Parts) (called : Called) → IsGood (state_of p) → first_called (state_of p) p.queue ≡ Some called → IsRow called.asked
+called_row p called good e = by called.asked (called_known (state_of p) p.queue called good.waiters e).1 where
+  by : (asked : List Claim) → IsPled asked → IsRow asked
+  by [] none = absurd none
+  by (c ∷ cs) some = some.0
 
-pub called_alone : (p : Parts) (called : Called) → IsGood (state_of p) → first_called (state_of p) p.queue ≡ Some called → AllByRecursion (λ c. has_one_party called.claim c ≡ true) p.table
-called_alone p called good e = known_one_party (state_of p) called.claim good (called_known (state_of p) p.queue called good.waiters e)
+pub called_alone : (p : Parts) (called : Called) → IsGood (state_of p) → first_called (state_of p) p.queue ≡ Some called → AllByRecursion (λ c. AllByRecursion (λ d. has_one_party c d ≡ true) p.table) called.asked
+called_alone p called good e = all_weaker (IsKnown (state_of p).names) (λ c. AllByRecursion (λ d. has_one_party c d ≡ true) p.table) called.asked (λ c known. known_one_party (state_of p) c good known) (called_known (state_of p) p.queue called good.waiters e).0
 
 pub ask_keeps : (left : Rooms) (s t : CoreState) (a : Ask) (answer : Answer) (effects : List Effect) → ((n : ℕ) → ask n left s a ≡ (answer, effects, t)) → IsGood s → IsFit a → IsGood t
 ask_keeps left s t a answer effects e good fit = subst (λ (r : Answer × List Effect × CoreState). IsGood r.2) (e 0) (ask_good 0 left s a good fit)

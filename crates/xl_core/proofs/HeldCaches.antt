@@ -22,7 +22,7 @@ use Rattle.xl_table.proofs.KeptLaws.{kept_inserted, kept_changed}
 use Rattle.xl_core.specs.State.{CoreState}
 use Rattle.xl_core.specs.Good.{IsHeld, is_single_by, is_single, IsGood, holding}
 use Rattle.xl_core.proofs.ClaimLaws.{AreGood, is_single-sym, fit_of}
-use Rattle.xl_core.proofs.GoodLaws.{good_claims, good_from}
+use Rattle.xl_core.proofs.StateLaws.{good_claims, good_from}
 
 cache_no_range : (w : What) → is_cache w ≡ true → is_range w ≡ false
 cache_no_range (Share access deny) h = refl

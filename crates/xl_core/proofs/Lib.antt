@@ -34,4 +34,6 @@ pub mod DeedClients
 pub mod HollowLaws
 pub mod ElementLaws
 pub mod OpenLaws
+pub mod StateLaws
 pub mod BreakingLaws
+pub mod BegunLaws

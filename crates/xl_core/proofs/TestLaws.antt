@@ -1,7 +1,8 @@
 -- A test foretells the lock.
+use Rattle.xl_cache.specs.Planning.{is_covered, is_final}
 use Rattle.std.proofs.Common.{◌≡◌, ℕ, ◌<◌, ◌≤◌, Bool, true, false, not, ◌&&◌, ◌||◌, ◌==◌, eqb, ◌⊎◌, List, [], ◌∷◌, length, Option, Some, None, inl, inr, refl, sym, ap, ◌∙◌, ◌↔◌, arith, slice_get}
 use Rattle.std.specs.List.{list_any}
-use Rattle.std.proofs.lemmas.Bool.{cases_Bool, both_ways, and_parts, and_right, ne_eqb, cases_lt}
+use Rattle.std.proofs.lemmas.Bool.{cases_Bool, both_ways, and_parts, and_right, ne_eqb, cases_lt, not-true}
 use Rattle.xl_base.specs.Lists.{IsIn}
 use Rattle.xl_base.proofs.Members.{all_in}
 use Rattle.xl_base.specs.Stable.{same_protocol}
@@ -28,8 +29,8 @@ use Rattle.xl_table.proofs.LeastLaws.{one_passes}
 use Rattle.xl_wait.specs.declared.waiter.Rooms.{Rooms}
 use Rattle.xl_core.specs.State.{CoreState}
 use Rattle.xl_core.specs.Asking.{asked_claim, asked_what, known_claim, known_owner, number_or, no_number, is_client, is_named, owner_in}
-use Rattle.xl_core.specs.Blockers.{test_blockers}
-use Rattle.xl_core.specs.Causes.{stands_against, IsSameAsker, IsCacheInTheWay, IsConflict}
+use Rattle.xl_core.specs.Blockers.{test_blockers, is_stopped}
+use Rattle.xl_core.specs.Causes.{stands_against, IsSameAsker, IsConflict}
 use Rattle.xl_core.specs.Decide.{ask}
 use Rattle.xl_core.specs.Frames.{drawn_by}
 use Rattle.xl_core.specs.Good.{are_kept, IsHeldBy, IsHeld, IsGood}
@@ -40,7 +41,7 @@ use Rattle.xl_core.specs.declared.ask.Who.{Who}
 use Rattle.xl_core.specs.declared.ask.Who.TheVariants.{Named}
 use Rattle.xl_core.proofs.CacheLaws.{range_no_cache}
 use Rattle.xl_core.proofs.CauseLaws.{lock_due, test_due, test_none, test_some, option_cases}
-use Rattle.xl_core.proofs.DecideLaws.{blocks_some, blockers_some}
+use Rattle.xl_core.proofs.DecideLaws.{blockers_some, stops_some, final_in}
 use Rattle.xl_core.proofs.FrameLaws.{ask_frame}
 use Rattle.xl_core.proofs.KnownLaws.{kept_named, is_client_is, client_posix, get_none}
 
@@ -108,8 +109,8 @@ meets_both s test lock first last exclusive d good client has same h other =
 
 pub test_foretells : (n : ℕ) (left : Rooms) (s : CoreState) (test lock : Ask) (first last : ℕ) (exclusive : Bool) → IsGood s → is_client lock.owner lock.party ≡ true → is_named lock.owner ≡ true → IsSameAsker test lock
     → test.act ≡ Test (Bytes first last) exclusive → lock.act ≡ Ranges ((Bytes first last, exclusive) ∷ []) → lock.blocking ≡ false
-    → IsConflict (ask n left s lock).0 ↔ (IsConflict (ask n left s test).0 ⊎ IsCacheInTheWay s lock (asked_claim lock (Range (Bytes first last) exclusive) s.names))
-test_foretells n left s test lock first last exclusive good client has same tests locks hurries = (back, λ either. elim either [ inl told ↦ forth told | inr way ↦ refused way.0 (one_passes (λ d. blocks asked d) s.claims way.1 way.2 way.4) ]) where
+    → IsConflict (ask n left s lock).0 ↔ IsConflict (ask n left s test).0
+test_foretells n left s test lock first last exclusive good client has same tests locks hurries = (back, forth) where
   what : What
   what = Range (Bytes first last) exclusive
 
@@ -122,17 +123,26 @@ test_foretells n left s test lock first last exclusive good client has same test
   alike : (d : Claim) → IsIn d s.claims → is_cache d.what ≡ false → stands_against known d ≡ blocks asked d
   alike d h other = meets_both s test lock first last exclusive d good client has same h other
 
-  refused : lock.reclaim ≡ false → is_blocked s.claims asked ≡ true → IsConflict (ask n left s lock).0
-  refused fresh blocked =
-      let found = blocks_some s.waiters s asked blocked in
+  refused : lock.reclaim ≡ false → is_stopped s.claims asked ≡ true → IsConflict (ask n left s lock).0
+  refused fresh stops =
+      let found = stops_some s.waiters s asked stops in
       let held = blockers_some s.waiters s asked found.0 found.1 in
       (found.0, (lock_due n left s lock what (Conflict found.0) (ap asked_what locks)).1 (fresh, hurries, found.1, held.0, held.1))
+
+  -- a range that blocks does so for good
+  range_stops : (d : Claim) → is_range d.what ≡ true → blocks asked d ≡ true → is_final asked s.claims d ≡ true
+  unfolding is_covered
+  range_stops d range blocked = by d.what refl range where
+    by : (w : What) → d.what ≡ w → is_range w ≡ true → is_final asked s.claims d ≡ true
+    by (Range extent mode) is r = rw (blocked, is) refl
+    by (Share access deny) is r = absurd (both_ways false refl r)
+    by (Cache kind running) is r = absurd (both_ways false refl r)
 
   forth : IsConflict (ask n left s test).0 → IsConflict (ask n left s lock).0
   forth told =
       let due = (test_due n left s test (Bytes first last) exclusive (Conflict told.0) tests).0 told.1 in
       let range = (and_parts (is_range told.0.what) (blocks known told.0) due.3).0 in
-      refused (sym same.reclaim ∙ due.0) (one_passes (λ d. blocks asked d) s.claims told.0 due.2 (sym (alike told.0 due.2 (range_no_cache told.0.what range)) ∙ due.3))
+      refused (sym same.reclaim ∙ due.0) (one_passes (is_final asked s.claims) s.claims told.0 due.2 (range_stops told.0 range (sym (alike told.0 due.2 (range_no_cache told.0.what range)) ∙ due.3)))
 
   denied : test.reclaim ≡ false → (c : Claim) → IsIn c s.claims → stands_against known c ≡ true → IsConflict (ask n left s test).0
   denied fresh c there stands =
@@ -143,13 +153,12 @@ test_foretells n left s test lock first last exclusive good client has same test
             (found.0, (test_due n left s test (Bytes first last) exclusive (Conflict found.0) tests).1 (fresh, found.1, held.0, held.1))
       ]
 
-  back : IsConflict (ask n left s lock).0 → IsConflict (ask n left s test).0 ⊎ IsCacheInTheWay s lock asked
+  back : IsConflict (ask n left s lock).0 → IsConflict (ask n left s test).0
   back told =
       let due = (lock_due n left s lock what (Conflict told.0) (ap asked_what locks)).0 told.1 in
-      elim (cases_Bool (is_cache told.0.what)) [
-        | inl cache ↦ inr (due.0, told.0, due.3, cache, due.4)
-        | inr other ↦ inl (denied (same.reclaim ∙ due.0) told.0 due.3 (alike told.0 due.3 other ∙ due.4))
-      ]
+      let final = (final_in s.waiters s asked told.0 due.2).1 in
+      let hard = (and_parts (not (is_cache told.0.what)) (not (is_covered asked s.claims told.0)) (and_parts (blocks asked told.0) (not (is_cache told.0.what) && not (is_covered asked s.claims told.0)) final).1).0 in
+      denied (same.reclaim ∙ due.0) told.0 due.3 (alike told.0 due.3 (not-true (is_cache told.0.what) hard) ∙ due.4)
 
 -- ---- what is granted leaves the record, the clock and the counter
 

@@ -161,7 +161,7 @@ blocks_elsewhere ask held apart =
     no_way true = refl
     no_way false = refl
 
-is_filled : List Claim → Bool
+abbrev is_filled : List Claim → Bool
 is_filled [] = false
 is_filled (c ∷ cs) = true
 

@@ -1,12 +1,13 @@
 -- What the claims are once the breaks begin that an ask begins, and what is told of these. No call begins one yet.
-use Rattle.std.specs.Prelude.{ℕ, ◌+◌, Bool, true, false, not, ◌&&◌, if◌then◌else◌, List, [], ◌∷◌, length, Option, Some, None}
-use Rattle.std.specs.List.{filter, filter_map}
+use Rattle.std.specs.Prelude.{ℕ, ◌+◌, ◌==◌, Bool, true, false, not, ◌&&◌, option_map, if◌then◌else◌, List, [], ◌∷◌, length, Option, Some, None}
+use Rattle.std.specs.List.{filter, filter_map, find}
 use Rattle.xl_base.specs.Lists.{sorted}
 use Rattle.xl_base.specs.declared.event.Moment.{Moment}
 use Rattle.xl_base.specs.declared.name.Party.{Party}
 use Rattle.xl_base.specs.declared.name.Party.TheVariants as parties
 use Rattle.xl_base.specs.declared.name.Protocol.TheVariants.{Nfs}
 use Rattle.xl_cache.specs.Planning.{is_running, blocking_shares, break_of, planned, is_slow}
+use Rattle.xl_matrix.specs.Equal.{same_parties}
 use Rattle.xl_matrix.specs.declared.claim.CacheKind.{CacheKind}
 use Rattle.xl_matrix.specs.declared.claim.Claim.{Claim}
 use Rattle.xl_matrix.specs.declared.claim.What.{What}
@@ -44,6 +45,10 @@ is_idle c = is_cache c.what && not (is_running c.what)
 abbrev pub idle_caches : List Claim → ℕ
 idle_caches held = length (filter is_idle held)
 
+-- all but the caches
+abbrev pub others_of : List Claim → List Claim
+others_of held = filter (λ c. not (is_cache c.what)) held
+
 -- ---- what is told
 
 -- of two breaks on a file the first is told first: by the text of the party
@@ -62,6 +67,10 @@ is_recall begun = is_recalled begun.0.party
 -- how many of the breaks are told so
 abbrev pub recalls : List (Claim × Option CacheKind) → ℕ
 recalls breaks = length (filter is_recall breaks)
+
+-- how many breaks may be told so at most
+abbrev pub idle_delegations : List Claim → ℕ
+idle_delegations held = length (filter (λ c. is_idle c && is_recalled c.party) held)
 
 -- the number of the break's call, where the last number that was given out is this one; and the last one then
 abbrev pub call_of : ℕ → Claim × Option CacheKind → Option ℕ
@@ -87,3 +96,23 @@ breaks_begun ask s = (
   begun_told s.counter (breaks_in_order ask s),
   record s { claims = once_broken (moment_after s.clock s.times.break_time) ask s.claims; counter = s.counter + recalls (planned ask s.claims).breaks },
 )
+
+-- ---- what the tellings say
+
+-- the breaks that these tell of, in order
+abbrev pub breaks_told : List Effect → List (Claim × Option CacheKind)
+breaks_told [] = []
+breaks_told (effects.Begun c to call ∷ told) = (c, to) ∷ breaks_told told
+breaks_told (effect ∷ told) = breaks_told told
+
+-- what is held of a cache once its break begins: the cache at its full kind, with the break that runs, or nothing
+abbrev pub left_held : Moment → Claim × Option CacheKind → List What
+left_held deadline begun = if is_slow begun then (with_break begun.0 begun.0.what begun.1 deadline).what ∷ [] else []
+
+-- the break is that of the party's cache on the file
+abbrev pub is_break_on : ℕ → Party → Claim × Option CacheKind → Bool
+is_break_on file party begun = is_cache begun.0.what && ((begun.0.file == file) && same_parties begun.0.party party)
+
+-- what is held of the party's cache on the file, where these tell of its break
+abbrev pub begun_at : Moment → ℕ → Party → List Effect → Option (List What)
+begun_at deadline file party told = option_map (left_held deadline) (find (is_break_on file party) (breaks_told told))

@@ -173,10 +173,6 @@ pub record IsSameAsker (a b : Ask) : Type 0 where
   pub party : a.party ≡ b.party
   pub reclaim : a.reclaim ≡ b.reclaim
 
--- a held cache blocks the lock, which is no reclaim; a test isn't told of caches
-abbrev pub IsCacheInTheWay : CoreState → Ask → Claim → Type 0
-IsCacheInTheWay s a claim = (a.reclaim ≡ false) × (c : Claim) × IsIn c s.claims × (is_cache c.what ≡ true) × (blocks claim c ≡ true)
-
 -- something held is told
 abbrev pub IsConflict : Answer → Type 0
 IsConflict answer = (c : Claim) × (answer ≡ Conflict c)

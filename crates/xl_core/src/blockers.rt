@@ -26,11 +26,11 @@ pub(crate) fn least_blocker(
 }
 
 /// Whether something blocks the claim for good.
+#[tactic(auto, using(crate::proofs::DecideLaws::stopped_is))]
 pub(crate) fn is_stopped(alloc: Global, parts: &Parts, claim: &Claim) -> Result<bool, AllocError>
     ensures { IfOk result (λ b. b ≡ is_stopped parts.now.table claim.now) }
 {
-    let found = final_blockers(alloc, parts, claim)?;
-    Ok(!found.is_empty())
+    Ok(least_blocker(alloc, parts, claim)?.is_some())
 }
 
 fn first_broken(breaks: &[(Claim, Option<CacheKind>)]) -> Option<Claim>

@@ -27,7 +27,7 @@ ghost use Rattle.xl_wait.specs.declared.waiter.Rooms.{Rooms};
 ghost use Rattle.xl_wait.specs.declared.waiter.Waiter.{Waiter};
 ghost use Rattle.xl_core.specs.State.{CoreState, started, step_begun, drawn};
 ghost use Rattle.xl_core.specs.Asking.{asker, asked_whats, asked_what, asked_claim, asked_claims, known_claim, is_named, IsFit};
-ghost use Rattle.xl_core.specs.Causes.{IsSameAsker, IsConflict, IsCacheInTheWay, limits_of_grant, IsClaimDue, IsTestDue, IsUnlockDue, IsTurn, IsOwn};
+ghost use Rattle.xl_core.specs.Causes.{IsSameAsker, IsConflict, limits_of_grant, IsClaimDue, IsTestDue, IsUnlockDue, IsTurn, IsOwn};
 ghost use Rattle.xl_core.specs.Decide.{waiter_of, ask};
 ghost use Rattle.xl_core.specs.Frames.{drawn_by, names_after, come_by, serves_none, IsFrame, IsTicked};
 ghost use Rattle.xl_core.specs.Good.{IsHeld, IsGood, IsSettled, holding, caches_of};
@@ -175,9 +175,9 @@ pub fn only_turns_serve()
 {}
 
 /// A test foretells the lock: the same lock of the same asker, not blocking, meets a conflict exactly where the test is
-/// denied, or where a held cache blocks the lock: of caches a test is not told. No ask gets a cache yet.
+/// denied. Of a cache that keeps the lock off neither is told as of a conflict.
 pub fn a_test_foretells()
-    ensures { (n : ℕ) (left : Rooms) (s : CoreState) (test lock : Ask) (first last : ℕ) (exclusive : Bool) → IsGood s → IsFit lock → is_named lock.owner ≡ true → IsSameAsker test lock → test.act ≡ Act.Test (Extent.Bytes first last) exclusive → lock.act ≡ Act.Ranges ((Extent.Bytes first last, exclusive) ∷ []) → lock.blocking ≡ false → IsConflict (ask n left s lock).0 ↔ (IsConflict (ask n left s test).0 ⊎ IsCacheInTheWay s lock (asked_claim lock (What.Range (Extent.Bytes first last) exclusive) s.names)) }
+    ensures { (n : ℕ) (left : Rooms) (s : CoreState) (test lock : Ask) (first last : ℕ) (exclusive : Bool) → IsGood s → IsFit lock → is_named lock.owner ≡ true → IsSameAsker test lock → test.act ≡ Act.Test (Extent.Bytes first last) exclusive → lock.act ≡ Act.Ranges ((Extent.Bytes first last, exclusive) ∷ []) → lock.blocking ≡ false → IsConflict (ask n left s lock).0 ↔ IsConflict (ask n left s test).0 }
 {}
 
 /// A granted ask leaves the record, the clock and the last number that was given out.

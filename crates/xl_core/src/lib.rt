@@ -4,6 +4,7 @@
 
 mod ask;
 mod asking;
+pub mod begun;
 mod blockers;
 mod breaking;
 mod decide;

@@ -1,4 +1,4 @@
-use Rattle.std.proofs.Common.{List, length, ap, subst, sym, refl, ◌∙◌, Option, arith}
+use Rattle.std.proofs.Common.{List, length, ap, subst, sym, ◌∙◌, Option, arith}
 use Rattle.xl_cache.specs.declared.planner.Plan.{Plan}
 use Rattle.xl_matrix.specs.declared.claim.CacheKind.{CacheKind}
 use Rattle.xl_matrix.specs.declared.claim.Claim.{Claim}

@@ -1,9 +1,9 @@
-use Rattle.std.proofs.Common.{◌≡◌, ◌+◌, List, length, map, ℕ, ap, ◌∙◌, Option, arith}
+use Rattle.std.proofs.Common.{◌+◌, List, ℕ, ap, ◌∙◌, Option, arith}
 use Rattle.xl_base.specs.Lists.{sorted}
 use Rattle.xl_matrix.specs.declared.claim.CacheKind.{CacheKind}
 use Rattle.xl_matrix.specs.declared.claim.Claim.{Claim}
 use Rattle.xl_core.specs.Begin.{told_before, recalls, begun_told}
-use Rattle.xl_core.specs.Breaking.{row_of, row_before}
+use Rattle.xl_core.specs.Breaking.{row_before}
 use Rattle.xl_core.specs.declared.breaking.Row.{Row}
 use Rattle.xl_core.proofs.BreakingLaws.{recalls_sorted, rows_told, rows_many}
 use Rattle.xl_core.proofs.breaking.tell_all.Goals as goal
