@@ -22,7 +22,7 @@ use Rattle.xl_table.specs.Least.{least}
 use Rattle.xl_table.specs.Relock.{most_claims, holds_byte, granted_claims}
 use Rattle.xl_wait.specs.declared.waiter.Rooms.{Rooms}
 use Rattle.xl_core.specs.State.{CoreState}
-use Rattle.xl_core.specs.Asking.{both_entered, awaits, asked_whats, alone, asked_what, asked_claim, asked_claims, known_claim, is_client, is_named, may_hold, may_ask, IsFitAct, IsFit, IsOrdered, AreMore, may_hold_all, range_what, known_owner}
+use Rattle.xl_core.specs.Asking.{both_entered, asked_whats, alone, asked_what, asked_claim, asked_claims, known_claim, is_client, is_named, may_hold, may_ask, IsFitAct, IsFit, IsOrdered, AreMore, may_hold_all, range_what, known_owner}
 use Rattle.xl_core.specs.Blockers.{test_blockers, blockers, is_stopped, cache_against}
 use Rattle.xl_core.specs.Causes.{limits_of_grant, limits_of_wait, may_wait, IsClaimDue, stands_against, IsTestDue, HasNoByte, HasByte, left_by_unlock, IsUnlockDue, IsElementDue, IsEachDue}
 use Rattle.xl_core.specs.Decide.{Answered, plea_of, answered, claims_asked, test_answered, tested, unlocked_claims, unlocked_bytes, unlocked, acted, ask, unlocked_one, freed}
@@ -92,15 +92,15 @@ told_by s a claim None None None blocking awaiting wait = answers.Granted claim
 -- what is looked at
 abbrev told_now : Rooms → CoreState → Ask → Claim → Answer
 told_now left s a claim =
-    told_by s a claim (least_blocker s.waiters s claim) (cache_against s.claims claim) (first_passed (limits_of_grant left s a claim)) a.blocking (awaits a) (first_passed (limits_of_wait left s a))
+    told_by s a claim (least_blocker s.waiters s claim) (cache_against s.claims claim) (first_passed (limits_of_grant left s a claim)) a.blocking a.awaits (first_passed (limits_of_wait left s a))
 
 lock_timely : (n : ℕ) (left : Rooms) (s : CoreState) (a : Ask) (claim : Claim) → a.reclaim ≡ false → (ruled a claim (judged n s.waiters left (plea_of left s a) (claim ∷ []) s)).0 ≡ told_now left s a claim
 unfolding plea_of
 lock_timely n left s a claim e =
     ap (λ (r : Ruled). (ruled a claim r).0) (judged_is n s.waiters left (plea_of left s a) claim s e)
-    ∙ go (least_blocker s.waiters s claim) (cache_against s.claims claim) (first_passed (limits_of_grant left s a claim)) a.blocking (awaits a) (first_passed (limits_of_wait left s a)) refl refl refl
+    ∙ go (least_blocker s.waiters s claim) (cache_against s.claims claim) (first_passed (limits_of_grant left s a claim)) a.blocking a.awaits (first_passed (limits_of_wait left s a)) refl refl refl
   where
-    go : (o k : Option Claim) (l : Option ℕ) (b u : Bool) (w : Option ℕ) → a.blocking ≡ b → awaits a ≡ u → first_passed (limits_of_wait left s a) ≡ w → (ruled a claim (ruled_by (plea_of left s a) s claim o k l)).0 ≡ told_by s a claim o k l b u w
+    go : (o k : Option Claim) (l : Option ℕ) (b u : Bool) (w : Option ℕ) → a.blocking ≡ b → a.awaits ≡ u → first_passed (limits_of_wait left s a) ≡ w → (ruled a claim (ruled_by (plea_of left s a) s claim o k l)).0 ≡ told_by s a claim o k l b u w
     go (Some c) k l true u (Some limit) e f g = rw (e, g) refl
     go (Some c) k l true u None e f g = rw (e, g) refl
     go (Some c) k l false u w e f g = rw e refl
@@ -114,20 +114,20 @@ lock_timely n left s a claim e =
 may_stopped : (held : List Claim) (a : Ask) (claim : Claim) → is_stopped held claim ≡ true → a.blocking ≡ true → may_wait held a claim ≡ true
 may_stopped held a claim stops blocking = rw stops blocking
 
-may_moves : (held : List Claim) (a : Ask) (claim : Claim) → is_stopped held claim ≡ false → awaits a ≡ true → may_wait held a claim ≡ true
-may_moves held a claim moves waits = ap (λ (b : Bool). if b then a.blocking else awaits a) moves ∙ waits
+may_moves : (held : List Claim) (a : Ask) (claim : Claim) → is_stopped held claim ≡ false → a.awaits ≡ true → may_wait held a claim ≡ true
+may_moves held a claim moves waits = ap (λ (b : Bool). if b then a.blocking else a.awaits) moves ∙ waits
 
 stopped_may : (held : List Claim) (a : Ask) (claim : Claim) → is_stopped held claim ≡ true → may_wait held a claim ≡ true → a.blocking ≡ true
-stopped_may held a claim stops may = sym (ap (λ (b : Bool). if b then a.blocking else awaits a) stops) ∙ may
+stopped_may held a claim stops may = sym (ap (λ (b : Bool). if b then a.blocking else a.awaits) stops) ∙ may
 
-moves_may : (held : List Claim) (a : Ask) (claim : Claim) → is_stopped held claim ≡ false → may_wait held a claim ≡ true → awaits a ≡ true
-moves_may held a claim moves may = sym (ap (λ (b : Bool). if b then a.blocking else awaits a) moves) ∙ may
+moves_may : (held : List Claim) (a : Ask) (claim : Claim) → is_stopped held claim ≡ false → may_wait held a claim ≡ true → a.awaits ≡ true
+moves_may held a claim moves may = sym (ap (λ (b : Bool). if b then a.blocking else a.awaits) moves) ∙ may
 
 lock_forth : (left : Rooms) (s : CoreState) (a : Ask) (claim : Claim) → a.reclaim ≡ false → IsClaimDue left s a claim (told_now left s a claim)
 lock_forth left s a claim timely =
-    go (least_blocker s.waiters s claim) (cache_against s.claims claim) (first_passed (limits_of_grant left s a claim)) a.blocking (awaits a) (first_passed (limits_of_wait left s a)) refl refl refl refl refl refl
+    go (least_blocker s.waiters s claim) (cache_against s.claims claim) (first_passed (limits_of_grant left s a claim)) a.blocking a.awaits (first_passed (limits_of_wait left s a)) refl refl refl refl refl refl
   where
-    go : (o k : Option Claim) (l : Option ℕ) (b u : Bool) (w : Option ℕ) → least_blocker s.waiters s claim ≡ o → cache_against s.claims claim ≡ k → first_passed (limits_of_grant left s a claim) ≡ l → a.blocking ≡ b → awaits a ≡ u → first_passed (limits_of_wait left s a) ≡ w
+    go : (o k : Option Claim) (l : Option ℕ) (b u : Bool) (w : Option ℕ) → least_blocker s.waiters s claim ≡ o → cache_against s.claims claim ≡ k → first_passed (limits_of_grant left s a claim) ≡ l → a.blocking ≡ b → a.awaits ≡ u → first_passed (limits_of_wait left s a) ≡ w
         → IsClaimDue left s a claim (told_by s a claim o k l b u w)
     go (Some c) k l true u (Some limit) is cache grant may answers wait =
         (timely, inr (may_stopped s.claims a claim (some_stops s.waiters s claim c is) may, some_blocks s.waiters s claim c is, wait_found left a.rows (length s.waiters) (length (both_entered a s.names)) (Some limit) wait))
@@ -147,7 +147,7 @@ lock_forth left s a claim timely =
 -- a cause of another answer than that a reclaim comes too late brings it
 lock_back : (left : Rooms) (s : CoreState) (a : Ask) (claim : Claim) (answer : Answer) → a.reclaim ≡ false → IsClaimDue left s a claim answer → told_now left s a claim ≡ answer
 lock_back left s a claim answer timely due = go answer due where
-  at : (o k : Option Claim) (l : Option ℕ) (b u : Bool) (w : Option ℕ) → least_blocker s.waiters s claim ≡ o → cache_against s.claims claim ≡ k → first_passed (limits_of_grant left s a claim) ≡ l → a.blocking ≡ b → awaits a ≡ u → first_passed (limits_of_wait left s a) ≡ w
+  at : (o k : Option Claim) (l : Option ℕ) (b u : Bool) (w : Option ℕ) → least_blocker s.waiters s claim ≡ o → cache_against s.claims claim ≡ k → first_passed (limits_of_grant left s a claim) ≡ l → a.blocking ≡ b → a.awaits ≡ u → first_passed (limits_of_wait left s a) ≡ w
       → told_now left s a claim ≡ told_by s a claim o k l b u w
   at o k l b u w e f g h i j = λ x. told_by s a claim (e x) (f x) (g x) (h x) (i x) (j x)
 
@@ -161,7 +161,7 @@ lock_back left s a claim answer timely due = go answer due where
   -- who waits, by what it waits for
   waits : (limit : Option ℕ) → may_wait s.claims a claim ≡ true → is_blocked s.claims claim ≡ true → first_passed (limits_of_wait left s a) ≡ limit → told_now left s a claim ≡ told_wait limit
   waits limit may blocked is = by (is_stopped s.claims claim) refl where
-    stopped_so : (c : Claim) (o : Option ℕ) → told_by s a claim (Some c) (cache_against s.claims claim) (first_passed (limits_of_grant left s a claim)) true (awaits a) o ≡ told_wait o
+    stopped_so : (c : Claim) (o : Option ℕ) → told_by s a claim (Some c) (cache_against s.claims claim) (first_passed (limits_of_grant left s a claim)) true a.awaits o ≡ told_wait o
     stopped_so c None = refl
     stopped_so c (Some l) = refl
 
@@ -639,7 +639,7 @@ first_due n left s a c cs r blocked is = subst (λ (x : Answer). IsClaimDue left
 pub each_due : (n : ℕ) (left : Rooms) (s : CoreState) (a : Ask) (c : Claim) (cs : List Claim) (r : Answered) → a.reclaim ≡ false → is_blocked s.claims c ≡ false → r ≡ claims_asked n left s a (c ∷ cs) → IsEachDue left a.rows (length (both_entered a s.names)) c (c ∷ cs) s r.0
 unfolding claims_asked plea_of
 each_due n left s a c cs r timely free is =
-    row_due left p c (c ∷ cs) s r.0 c cs refl (ap (λ (b : Bool). b && (if is_stopped s.claims c then a.blocking else awaits a)) free)
+    row_due left p c (c ∷ cs) s r.0 c cs refl (ap (λ (b : Bool). b && (if is_stopped s.claims c then a.blocking else a.awaits)) free)
     (subst (λ (x : Answer). tells c (row left p (c ∷ cs) s) x) (sym (ap first_is is ∙ ap (λ (x : Ruled). (answered a (c ∷ cs) c x.0 x.1 x.2).0) (judged_row n s.waiters left p (c ∷ cs) s timely))) (by (row left p (c ∷ cs) s) [] _))
   where
     p : Plea

@@ -24,7 +24,7 @@ use Rattle.xl_core.proofs.KnownLaws.{asked_known, asker_named}
 use Rattle.xl_core.proofs.TurnLaws.{called_known}
 use Rattle.xl_core.specs.Judge.{AreElements, IsRow, held_with, stop_left, gets, row, row_left}
 use Rattle.xl_core.specs.declared.ask.Act.TheVariants.{Ranges}
-use Rattle.xl_core.proofs.CauseLaws.{own_ranges, fit_ranges, real_range}
+use Rattle.xl_core.proofs.AskedLaws.{ranges_pled}
 use Rattle.std.proofs.lemmas.Bool.{or_right, both_ways}
 use Rattle.xl_matrix.proofs.EqualLaws.{same_parties-self}
 use Rattle.xl_matrix.specs.Equal.{same_parties}

@@ -34,7 +34,7 @@ use Rattle.xl_core.specs.State.{CoreState, started, step_begun, drawn}
 use Rattle.xl_core.specs.Leases.{Lease, moment_after, later, with_lease, without_lease, first_ended}
 use Rattle.xl_core.specs.Breaks.{first_due, client_of}
 use Rattle.xl_core.specs.Ticks.{advanced, renew, end_some, unleased, expire, expired_then, expired_for, expire_all, lapsed_by, lapse, lapsed_then, lapsed_for, tick}
-use Rattle.xl_core.specs.Asking.{awaits, party_named, IsOrdered, range_what}
+use Rattle.xl_core.specs.Asking.{party_named, IsOrdered, range_what}
 use Rattle.xl_core.specs.declared.lease.Times.{Times}
 use Rattle.xl_names.specs.declared.name.Name.TheVariants.{NfsParty}
 use Rattle.xl_core.specs.Asking.{both_entered, asked_claim, asked_claims, known_claim, is_client, may_hold, may_ask, IsFitAct, IsFit}
@@ -154,7 +154,7 @@ ask_case n left s a c cs = by r.0 r.1 r.2 (judged_ruled n s.waiters left (plea_o
 
   by : (ruling : Ruling) (told : List Effect) (t : CoreState) → IsRuled left (plea_of left s a) (c ∷ cs) s ruling told t → AskCase left s a (c ∷ cs) c (answered a (c ∷ cs) c ruling told t)
   by Gets told t is = Goes is.2 (λ i. answered a (c ∷ cs) c Gets (is.0 i) (is.1 i))
-  by Waits told t is = let both = waits_so (is_blocked s.claims c) (is_stopped s.claims c) a.blocking (awaits a) is.3 in Queues both.1 both.0 is.2 (λ i. answered a (c ∷ cs) c Waits (is.0 i) (is.1 i))
+  by Waits told t is = let both = waits_so (is_blocked s.claims c) (is_stopped s.claims c) a.blocking a.awaits is.3 in Queues both.1 both.0 is.2 (λ i. answered a (c ∷ cs) c Waits (is.0 i) (is.1 i))
   by (Told answer) told t is = Refuses answer is.2 (λ i. answered a (c ∷ cs) c (Told answer) (is.0 i) (is.1 i))
 
 -- claims that pass, one behind another, leave the claims good

@@ -107,6 +107,15 @@ meets_both s test lock first last exclusive d good client has same h other =
 
 -- ---- a test foretells the lock
 
+-- a range that blocks does so for good
+range_stops : (ask d : Claim) (held : List Claim) → is_range d.what ≡ true → blocks ask d ≡ true → is_final ask held d ≡ true
+unfolding is_covered
+range_stops ask d held range blocked = by d.what refl range where
+  by : (w : What) → d.what ≡ w → is_range w ≡ true → is_final ask held d ≡ true
+  by (Range extent mode) is r = rw (blocked, is) refl
+  by (Share access deny) is r = absurd (both_ways false refl r)
+  by (Cache kind running) is r = absurd (both_ways false refl r)
+
 pub test_foretells : (n : ℕ) (left : Rooms) (s : CoreState) (test lock : Ask) (first last : ℕ) (exclusive : Bool) → IsGood s → is_client lock.owner lock.party ≡ true → is_named lock.owner ≡ true → IsSameAsker test lock
     → test.act ≡ Test (Bytes first last) exclusive → lock.act ≡ Ranges ((Bytes first last, exclusive) ∷ []) → lock.blocking ≡ false
     → IsConflict (ask n left s lock).0 ↔ IsConflict (ask n left s test).0
@@ -129,20 +138,11 @@ test_foretells n left s test lock first last exclusive good client has same test
       let held = blockers_some s.waiters s asked found.0 found.1 in
       (found.0, (lock_due n left s lock what (Conflict found.0) (ap asked_what locks)).1 (fresh, hurries, found.1, held.0, held.1))
 
-  -- a range that blocks does so for good
-  range_stops : (d : Claim) → is_range d.what ≡ true → blocks asked d ≡ true → is_final asked s.claims d ≡ true
-  unfolding is_covered
-  range_stops d range blocked = by d.what refl range where
-    by : (w : What) → d.what ≡ w → is_range w ≡ true → is_final asked s.claims d ≡ true
-    by (Range extent mode) is r = rw (blocked, is) refl
-    by (Share access deny) is r = absurd (both_ways false refl r)
-    by (Cache kind running) is r = absurd (both_ways false refl r)
-
   forth : IsConflict (ask n left s test).0 → IsConflict (ask n left s lock).0
   forth told =
       let due = (test_due n left s test (Bytes first last) exclusive (Conflict told.0) tests).0 told.1 in
       let range = (and_parts (is_range told.0.what) (blocks known told.0) due.3).0 in
-      refused (sym same.reclaim ∙ due.0) (one_passes (is_final asked s.claims) s.claims told.0 due.2 (range_stops told.0 range (sym (alike told.0 due.2 (range_no_cache told.0.what range)) ∙ due.3)))
+      refused (sym same.reclaim ∙ due.0) (one_passes (is_final asked s.claims) s.claims told.0 due.2 (range_stops asked told.0 s.claims range (sym (alike told.0 due.2 (range_no_cache told.0.what range)) ∙ due.3)))
 
   denied : test.reclaim ≡ false → (c : Claim) → IsIn c s.claims → stands_against known c ≡ true → IsConflict (ask n left s test).0
   denied fresh c there stands =

@@ -33,7 +33,7 @@ use Rattle.xl_wait.specs.Waiting.{first_file, is_file, waits_on}
 use Rattle.xl_wait.specs.declared.waiter.Rooms.{Rooms}
 use Rattle.xl_wait.specs.declared.waiter.Waiter.{Waiter}
 use Rattle.xl_core.specs.State.{CoreState, step_begun, drawn}
-use Rattle.xl_core.specs.Asking.{range_what, asked_whats, asked_what, asked_claim, asked_claims, IsFitAct, IsFit, awaits}
+use Rattle.xl_core.specs.Asking.{range_what, asked_whats, asked_what, asked_claim, asked_claims, IsFitAct, IsFit}
 use Rattle.xl_core.specs.Causes.{IsTurn, may_wait, held_once}
 use Rattle.xl_core.specs.Decide.{Answered, waiter_of, ask}
 use Rattle.xl_core.specs.Good.{IsWaiter, IsGood, stands_in_the_way, IsSettled, is_held_up, holds_up, IsPled}
@@ -252,7 +252,7 @@ way_up u s a answer t (Gives claim d holds act at owner range e) given all =
 
 -- who comes to wait is held up
 comes_up : (u : Unsettled) (s : CoreState) (a : Ask) (c : Claim) (cs : List Claim) → may_wait s.claims a c ≡ true → is_blocked s.claims c ≡ true → IsHeldUp u s.claims (waiter_of (s.counter + 1) a (c ∷ cs)) (c ∷ cs)
-comes_up u s a c cs may blocked = λ e. by (is_blocked s.claims c) (is_stopped s.claims c) a.blocking (awaits a) may blocked where
+comes_up u s a c cs may blocked = λ e. by (is_blocked s.claims c) (is_stopped s.claims c) a.blocking a.awaits may blocked where
   by : (x y z v : Bool) → (if y then z else v) ≡ true → x ≡ true → (x && (z || not y)) ≡ true
   by true true true v m b = refl
   by true true false v m b = absurd (both_ways false refl m)

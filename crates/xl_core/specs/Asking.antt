@@ -128,10 +128,6 @@ abbrev pub is_named : Who → Bool
 is_named (Named name) = true
 is_named (Open number) = false
 
--- who asks waits for the answer to a break: an SMB open, and who waits for what is held as well
-abbrev pub awaits : Ask → Bool
-awaits a = a.blocking || not (is_named a.owner)
-
 -- a share may be anyone's; a range with bytes one's who has a name, or an SMB open's where it hasn't all bytes; an empty
 -- range is an SMB open's alone
 abbrev pub may_hold : Who → What → Bool

@@ -15,7 +15,7 @@ use Rattle.xl_table.specs.Held.{is_range, is_share, is_cache, spans_of}
 use Rattle.xl_wait.specs.declared.waiter.Rooms.{Rooms}
 use Rattle.xl_wait.specs.declared.waiter.Waiter.{Waiter}
 use Rattle.xl_core.specs.State.{CoreState}
-use Rattle.xl_core.specs.Asking.{awaits, asker, both_entered}
+use Rattle.xl_core.specs.Asking.{asker, both_entered}
 use Rattle.xl_table.specs.Least.{least}
 use Rattle.xl_core.specs.Blockers.{blockers, is_stopped, cache_against, test_blockers}
 use Rattle.xl_core.specs.Limits.{grant_limits, wait_limits, IsRoom, IsLeastPassed}
@@ -43,7 +43,7 @@ limits_of_wait left s a = wait_limits left a.rows (length s.waiters) (length (bo
 -- who asks waits: for what blocks the claim for good where it waits for that, else for a cache in its way where it awaits the
 -- answer to its break
 abbrev pub may_wait : List Claim → Ask → Claim → Bool
-may_wait held a claim = if is_stopped held claim then a.blocking else awaits a
+may_wait held a claim = if is_stopped held claim then a.blocking else a.awaits
 
 -- Why a share or a lock is. A reclaim comes too late, as no grace runs. What nothing held blocks is granted where no limit is
 -- passed. What something blocks waits, where it may and no limit is passed; else the least of what blocks it for good is told,
@@ -53,7 +53,7 @@ IsClaimDue left s a claim (Granted c) = (c ≡ claim) × (a.reclaim ≡ false) �
 IsClaimDue left s a claim (Conflict c) =
     (a.reclaim ≡ false) × (a.blocking ≡ false) × (least s.names (blockers s.waiters s claim) ≡ Some c) × IsIn c s.claims × (blocks claim c ≡ true)
 IsClaimDue left s a claim (Recall c) =
-    (a.reclaim ≡ false) × (awaits a ≡ false) × (is_stopped s.claims claim ≡ false) × (cache_against s.claims claim ≡ Some c) × IsIn c s.claims × (is_obstacle claim s.claims c ≡ true)
+    (a.reclaim ≡ false) × (a.awaits ≡ false) × (is_stopped s.claims claim ≡ false) × (cache_against s.claims claim ≡ Some c) × IsIn c s.claims × (is_obstacle claim s.claims c ≡ true)
 IsClaimDue left s a claim (Queued number) =
     (number ≡ s.counter + 1) × (a.reclaim ≡ false) × (may_wait s.claims a claim ≡ true) × (is_blocked s.claims claim ≡ true) × IsRoom (limits_of_wait left s a)
 IsClaimDue left s a claim (NoGrace clock) = (clock ≡ s.clock) × (a.reclaim ≡ true)

@@ -6,7 +6,7 @@ use Rattle.xl_matrix.specs.declared.claim.Extent.TheVariants.{Bytes, Empty}
 use Rattle.xl_wait.specs.declared.waiter.Rooms.{Rooms}
 use Rattle.xl_wait.specs.declared.waiter.Waiter.{Waiter}
 use Rattle.xl_core.specs.State.{CoreState}
-use Rattle.xl_core.specs.Asking.{both_entered, awaits, asked_whats, asked_claims, known_claim}
+use Rattle.xl_core.specs.Asking.{both_entered, asked_whats, asked_claims, known_claim}
 use Rattle.xl_table.specs.Least.{least}
 use Rattle.xl_core.specs.Blockers.{test_blockers}
 use Rattle.xl_core.specs.Judge.{judged}
@@ -35,7 +35,7 @@ Answered = Answer × List Effect × CoreState
 unfoldable pub plea_of : Rooms → CoreState → Ask → Plea
 plea_of left s a =
     let kept = length (both_entered a s.names) in
-    record { blocking = a.blocking; awaits = awaits a; reclaim = a.reclaim; rows = a.rows; kept = kept; crowded = first_passed (wait_limits left a.rows (length s.waiters) kept) }
+    record { blocking = a.blocking; awaits = a.awaits; reclaim = a.reclaim; rows = a.rows; kept = kept; crowded = first_passed (wait_limits left a.rows (length s.waiters) kept) }
 
 -- one who waits counts among the hosts from then on
 abbrev pub waiting_rows : Rooms → Rooms

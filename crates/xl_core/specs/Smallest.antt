@@ -31,6 +31,7 @@ smallest_lock = record {
   wish = [];
   conn = None;
   blocking = false;
+  awaits = false;
   reclaim = false;
   monitored = false;
   rows = record { hosts = 1; owners = 0; opens = 0 };

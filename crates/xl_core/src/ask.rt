@@ -44,8 +44,11 @@ pub struct Ask {
     pub wish: Sequence<CacheKind>,
     /// The connection that a late answer goes to; None where it is told by a call of its own.
     pub conn: Option<u64>,
-    /// Whether the asker waits where something held blocks it.
+    /// Whether the asker waits where something held blocks it for good: a share or a range that no break moves.
     pub blocking: bool,
+    /// Whether it waits where a cache keeps it off, for the answer to the break; else it is told of that cache (MS-SMB2
+    /// 3.3.5.9, RFC 7530 10.4.4).
+    pub awaits: bool,
     /// Whether it claims again what it had before a restart (RFC 7530 9.6.2).
     pub reclaim: bool,
     /// Whether the party's name is to be recorded before the grant.

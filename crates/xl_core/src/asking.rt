@@ -1,7 +1,7 @@
 //! The numbers of those who ask.
 ghost use Rattle.std.specs.Prelude.{◌≡◌, ◌≤◌, true, length, map, OnOk, IfOk};
 ghost use Rattle.xl_names.specs.Names.{same_name, place_of, is_kept, entered, most_names};
-ghost use Rattle.xl_core.specs.Asking.{owner_in, party_in, who_entered, asker, asking_party, both_entered, coming, is_client, is_named, awaits, range_what, asked_claim, asked_claims, number_or, known_owner, known_party, known_claim};
+ghost use Rattle.xl_core.specs.Asking.{owner_in, party_in, who_entered, asker, asking_party, both_entered, coming, is_client, range_what, asked_claim, asked_claims, number_or, known_owner, known_party, known_claim};
 
 use crate::ask::{Ask, Who};
 use std::alloc::{AllocError, Global};
@@ -125,23 +125,6 @@ fn party_behind(names: &Names, who: &Who, before: &Who) -> Party
         Who::Named(name) => Party::Name(name.protocol(), place_behind(names, name, before)),
         Who::Open(number) => Party::Open(*number),
     }
-}
-
-/// Whether who asks has a name.
-fn is_named(who: &Who) -> bool
-    ensures { result ≡ is_named who.now }
-{
-    match who {
-        Who::Named(_) => true,
-        Who::Open(_) => false,
-    }
-}
-
-/// Whether who asks waits for the answer to a break: an SMB open does, and who waits for what is held as well.
-pub(crate) fn awaits(ask: &Ask) -> bool
-    ensures { result ≡ awaits ask.now }
-{
-    ask.blocking || !is_named(&ask.owner)
 }
 
 /// The claim that an ask is for.

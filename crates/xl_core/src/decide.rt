@@ -13,7 +13,7 @@ ghost use Rattle.xl_core.specs.Whole.{state_of};
 ghost use Rattle.xl_core.specs.declared.ask.Act.TheVariants.{Ranges};
 
 use crate::ask::{Act, Answer, Ask};
-use crate::asking::{asked_claim, asked_claims, awaits, count_names, enter_both, known_claim};
+use crate::asking::{asked_claim, asked_claims, count_names, enter_both, known_claim};
 use crate::judge::{Plea, Ruling, judge_all};
 use crate::limits::passed_by_wait;
 use crate::parts::Parts;
@@ -34,7 +34,7 @@ fn plea_of(parts: &Parts, left: &Rooms, ask: &Ask) -> Plea
     let kept = count_names(&parts.names, ask);
     Plea {
         blocking: ask.blocking,
-        awaits: awaits(ask),
+        awaits: ask.awaits,
         reclaim: ask.reclaim,
         rows: ask.rows,
         kept,

@@ -1,5 +1,9 @@
-use Rattle.std.proofs.Common.{◌≡◌, [], List, ap, sym, ◌∙◌}
+use Rattle.std.proofs.Common.{◌≡◌, ℕ, true, [], List, ap, sym, subst, ◌∙◌}
+use Rattle.std.specs.List.{AllByRecursion}
+use Rattle.xl_matrix.specs.declared.claim.Claim.{Claim}
+use Rattle.xl_table.specs.Held.{has_one_party}
 use Rattle.xl_wait.specs.declared.waiter.Waiter.{Waiter}
+use Rattle.xl_core.specs.Judge.{IsRow, judged}
 use Rattle.xl_core.specs.Settle.{settle, first_called}
 use Rattle.xl_core.specs.Whole.{state_of}
 use Rattle.xl_core.proofs.DoorLaws.{called_row, called_alone}
@@ -10,21 +14,24 @@ pub returns-in_default-clause-turn : goal.returns-in_default-clause-turn
 unfolding settle
 returns-in_default-clause-turn c =
     λ n. none_is_found c.args.left.now (state_of c.args.parts.now) c.args.parts.now.queue
-    (ap (λ (ws : List Waiter). first_called (state_of c.args.parts.now) ws) (sym c.waiters.ensures.waiters) ∙ sym c.in_ok-first_called.ensures.ok ∙ c.in_default.is) n []
+    (ap (λ (ws : List Waiter). first_called (state_of c.args.parts.now) ws) (sym c.waiters.ensures.waiters) ∙ sym c.in_ok-called.ensures ∙ c.in_default.is) n []
 
 pub judge_all-requires-clause-row : goal.judge_all-requires-clause-row
 judge_all-requires-clause-row c =
-    called_row c.args.parts.now c.in-Some.called c.requires.good
-    (ap (λ (ws : List Waiter). first_called (state_of c.args.parts.now) ws) (sym c.waiters.ensures.waiters) ∙ sym c.in_ok-first_called.ensures.ok ∙ c.in-Some.is)
+    subst IsRow (sym c.as_slice.ensures)
+    (called_row c.args.parts.now c.in-Some.called c.requires.good
+    (ap (λ (ws : List Waiter). first_called (state_of c.args.parts.now) ws) (sym c.waiters.ensures.waiters) ∙ sym c.in_ok-called.ensures ∙ c.in-Some.is))
 
 pub judge_all-requires-clause-party : goal.judge_all-requires-clause-party
 judge_all-requires-clause-party c =
-    called_alone c.args.parts.now c.in-Some.called c.requires.good
-    (ap (λ (ws : List Waiter). first_called (state_of c.args.parts.now) ws) (sym c.waiters.ensures.waiters) ∙ sym c.in_ok-first_called.ensures.ok ∙ c.in-Some.is)
+    subst (λ (cs : List Claim). AllByRecursion (λ d. AllByRecursion (λ e. has_one_party d e ≡ true) c.args.parts.now.table) cs) (sym c.as_slice.ensures)
+    (called_alone c.args.parts.now c.in-Some.called c.requires.good
+    (ap (λ (ws : List Waiter). first_called (state_of c.args.parts.now) ws) (sym c.waiters.ensures.waiters) ∙ sym c.in_ok-called.ensures ∙ c.in-Some.is))
 
 pub returns-clause-turn : goal.returns-clause-turn
 unfolding settle
 returns-clause-turn c =
     λ n. turn_is_found c.args.left.now (state_of c.args.parts.now) (state_of c.judge_all.new.parts) (state_of c.serve.new.parts) c.args.parts.now.queue c.in-Some.called c.in_ok-ruling.ruling c.in_ok-serve.field-0
-    (ap (λ (ws : List Waiter). first_called (state_of c.args.parts.now) ws) (sym c.waiters.ensures.waiters) ∙ sym c.in_ok-first_called.ensures.ok ∙ c.in-Some.is)
-    c.in_ok-ruling.ensures.judged c.in_ok-serve.ensures.turned n []
+    (ap (λ (ws : List Waiter). first_called (state_of c.args.parts.now) ws) (sym c.waiters.ensures.waiters) ∙ sym c.in_ok-called.ensures ∙ c.in-Some.is)
+    (λ m earlier. ap (λ (cs : List Claim). judged m earlier c.args.left.now c.in-Some.called.plea cs (state_of c.args.parts.now)) (sym c.as_slice.ensures) ∙ c.in_ok-ruling.ensures.judged m earlier)
+    c.in_ok-serve.ensures.turned n []
