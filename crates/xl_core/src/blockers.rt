@@ -13,7 +13,7 @@ use xl_matrix::{CacheKind, Claim};
 use xl_table::least_of;
 
 /// The least of what blocks the claim for good.
-#[tactic(auto, unfolding(crate::specs::Blockers::blockers))]
+#[tactic(auto, unfolding(crate::specs::Blockers::blockers), using(crate::proofs::BreakingLaws::all_final))]
 pub(crate) fn least_blocker(
     alloc: Global,
     parts: &Parts,
@@ -21,12 +21,14 @@ pub(crate) fn least_blocker(
 ) -> Result<Option<Claim>, AllocError>
     ensures { (earlier : List Waiter) → IfOk result (λ c. c ≡ least parts.now.names (blockers earlier (state_of parts.now) claim.now)) }
 {
+    if !parts.table.has_cache(claim.file) {
+        return parts.table.least_blocker(alloc, &parts.names, claim);
+    }
     let found = final_blockers(alloc, parts, claim)?;
     least_of(alloc, &parts.names, &found)
 }
 
 /// Whether something blocks the claim for good.
-#[tactic(auto, using(crate::proofs::DecideLaws::stopped_is))]
 pub(crate) fn is_stopped(alloc: Global, parts: &Parts, claim: &Claim) -> Result<bool, AllocError>
     ensures { IfOk result (λ b. b ≡ is_stopped parts.now.table claim.now) }
 {
@@ -53,7 +55,7 @@ fn cache_in(plan: &Plan) -> Option<Claim>
 }
 
 /// A cache in the way of the claim: one that blocks it, or covers a share that does; one whose break runs, if there is one.
-#[tactic(auto, unfolding(crate::specs::Blockers::cache_against))]
+#[tactic(auto, unfolding(crate::specs::Blockers::cache_against), using(crate::proofs::BreakingLaws::none_planned))]
 pub(crate) fn cache_against(
     alloc: Global,
     parts: &Parts,
@@ -61,6 +63,9 @@ pub(crate) fn cache_against(
 ) -> Result<Option<Claim>, AllocError>
     ensures { IfOk result (λ c. c ≡ cache_against parts.now.table claim.now) }
 {
+    if !parts.table.has_cache(claim.file) {
+        return Ok(None);
+    }
     let plan = plan_for(alloc, parts, claim)?;
     Ok(cache_in(&plan))
 }

@@ -98,12 +98,10 @@ fn check_held(
     ensures gets { result ≡ Ok (Some Gets) → ⊥ }
     ensures waits { result ≡ Ok (Some Waits) → plea.now.crowded ≡ None }
 {
-    Ok(
-        match least_blocker(alloc, parts, claim)? {
-            Some(blocker) => Some(stopped(plea, blocker)),
-            None => None,
-        },
-    )
+    Ok(match least_blocker(alloc, parts, claim)? {
+        Some(blocker) => Some(stopped(plea, blocker)),
+        None => None,
+    })
 }
 
 /// Who is kept off by a cache waits for the answer to its break, where it awaits that.
@@ -131,12 +129,10 @@ fn check_caches(
     ensures gets { result ≡ Ok (Some Gets) → ⊥ }
     ensures waits { result ≡ Ok (Some Waits) → plea.now.crowded ≡ None }
 {
-    Ok(
-        match cache_against(alloc, parts, claim)? {
-            Some(cache) => Some(kept_off(plea, cache)),
-            None => None,
-        },
-    )
+    Ok(match cache_against(alloc, parts, claim)? {
+        Some(cache) => Some(kept_off(plea, cache)),
+        None => None,
+    })
 }
 
 /// What is pleaded of the claims behind the first, of which none may wait (MS-SMB2 3.3.5.14.2).
