@@ -81,11 +81,7 @@ fn lesser(
 /// The least of these claims: by first byte, then by last (a range without bytes before all that begin there), then exclusive
 /// before shared, then by the text of the owner. Shares stand before ranges.
 #[tactic(auto, unfolding(crate::specs::Least::least))]
-pub fn least_of(
-    alloc: Global,
-    names: &Names,
-    claims: &[Claim],
-) -> Result<Option<Claim>, AllocError>
+pub fn least_of(alloc: Global, names: &Names, claims: &[Claim]) -> Result<Option<Claim>, AllocError>
     ensures { IfOk result (λ c. c ≡ least names.now claims.now) }
 {
     let mut least = None;
