@@ -330,7 +330,7 @@ same_place file party c (Cache kind running) to deadline at = ap (λ (w : What).
 same_place file party c (Share access deny) to deadline at = refl
 same_place file party c (Range extent exclusive) to deadline at = refl
 
-no_two : (file : ℕ) (party : Party) (c d : Claim) → is_single c d ≡ true → is_cache_on file party c ≡ true → is_cache_on file party d ≡ false
+pub no_two : (file : ℕ) (party : Party) (c d : Claim) → is_single c d ≡ true → is_cache_on file party c ≡ true → is_cache_on file party d ≡ false
 no_two file party c d single own = false_from_ne_true (is_cache_on file party d) (λ (h : is_cache_on file party d ≡ true). by c.what d.what refl refl single own h) where
   by : (v w : What) → c.what ≡ v → d.what ≡ w → not (c.file == d.file && not (is_single_by c d v w)) ≡ true → (is_cache v && ((c.file == file) && same_parties c.party party)) ≡ true → (is_cache w && ((d.file == file) && same_parties d.party party)) ≡ true → ⊥
   by (Cache kind running) (Cache other due) at too single own h =
