@@ -1,5 +1,5 @@
 -- Where breaks begin the state stays good, nothing but caches changes, and what is held of each cache is told.
-use Rattle.std.proofs.Common.{◌≡◌, ℕ, ◌+◌, Bool, true, false, not, ◌&&◌, ◌==◌, if◌then◌else◌, List, [], ◌∷◌, map, inl, inr, Option, Some, None, option_map, refl, sym, ap, subst, ◌∙◌, arith}
+use Rattle.std.proofs.Common.{length, ◌≤◌, ◌≡◌, ℕ, ◌+◌, Bool, true, false, not, ◌&&◌, ◌==◌, if◌then◌else◌, List, [], ◌∷◌, map, inl, inr, Option, Some, None, option_map, refl, sym, ap, subst, ◌∙◌, arith}
 use Rattle.std.specs.List.{AllByRecursion, cons_option, filter, filter_map, find, list_any}
 use Rattle.std.proofs.lemmas.Bool.{cases_Bool, both_ways, and_parts, and_right, eq-eqb, eqb-true, false_from_ne_true}
 use Rattle.xl_base.specs.Lists.{Pairwise, placed, sorted}
@@ -268,6 +268,16 @@ begun_elsewhere s ask file other = elsewhere_stay (moment_after s.clock s.times.
 pub fewer_delegations : (s : CoreState) (ask : Claim) → idle_delegations (breaks_begun ask s).1.claims + recalls (planned ask s.claims).breaks ≡ idle_delegations s.claims
 unfolding breaks_begun once_broken planned
 fewer_delegations s ask = fewer (moment_after s.clock s.times.break_time) ask s.claims s.claims
+
+filter_few : (test : Claim → Bool) (cs : List Claim) → length (filter test cs) ≤ length cs
+filter_few test [] = omega arith
+filter_few test (c ∷ cs) = let rest = filter_few test cs in elim (cases_Bool (test c)) [ inl passes ↦ rw passes (omega (arith, rest)) | inr fails ↦ rw fails (omega (arith, rest)) ]
+
+pub recalls_few : (s : CoreState) (ask : Claim) → IsGood s → recalls (planned ask s.claims).breaks ≤ 16384
+recalls_few s ask good =
+    let all = fewer_delegations s ask in
+    let few = filter_few (λ c. is_idle c && is_recalled c.party) s.claims in
+    omega (arith, all, few, good.kept.room)
 
 -- ---- where none begins
 
