@@ -13,5 +13,5 @@ pub use level::{kind_in_lease, lease_state, oplock_level, wish_of_lease, wish_of
 pub use need::{Need, answer_needed, rest_within, target};
 pub use planner::{Plan, recalled};
 pub use planning::{is_final_blocker, is_oplock_party, is_share_covered, plan};
-pub use wish::{Wish, best, best_join, join, kind_for};
+pub use wish::{Wish, best, best_join, find_own_cache, join, kind_for};
 pub use xl_matrix::{CacheKind, guards};

@@ -145,7 +145,8 @@ pub fn best_join(wanted: &Wish, kind: CacheKind, held: &[Claim]) -> Option<Cache
     first_join(wanted, kind, held)
 }
 
-fn find_own_cache(wanted: &Wish, held: &[Claim]) -> Option<Claim>
+/// The cache that the wish's party has on the file, the first of these where there are more. It takes no memory.
+pub fn find_own_cache(wanted: &Wish, held: &[Claim]) -> Option<Claim>
     ensures { result ≡ find (is_its_cache wanted.now) held.now }
 {
     'held: for claim in held {

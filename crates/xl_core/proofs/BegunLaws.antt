@@ -1,5 +1,5 @@
 -- Where breaks begin the state stays good, nothing but caches changes, and what is held of each cache is told.
-use Rattle.std.proofs.Common.{◌≡◌, ℕ, ◌+◌, Bool, true, false, not, ◌&&◌, ◌==◌, if◌then◌else◌, List, [], ◌∷◌, map, inl, inr, Option, Some, None, option_map, refl, sym, ap, subst, ◌∙◌, arith}
+use Rattle.std.proofs.Common.{length, ◌≤◌, ◌≡◌, ℕ, ◌+◌, Bool, true, false, not, ◌&&◌, ◌==◌, if◌then◌else◌, List, [], ◌∷◌, map, inl, inr, Option, Some, None, option_map, refl, sym, ap, subst, ◌∙◌, arith}
 use Rattle.std.specs.List.{AllByRecursion, cons_option, filter, filter_map, find, list_any}
 use Rattle.std.proofs.lemmas.Bool.{cases_Bool, both_ways, and_parts, and_right, eq-eqb, eqb-true, false_from_ne_true}
 use Rattle.xl_base.specs.Lists.{Pairwise, placed, sorted}
@@ -269,6 +269,16 @@ pub fewer_delegations : (s : CoreState) (ask : Claim) → idle_delegations (brea
 unfolding breaks_begun once_broken planned
 fewer_delegations s ask = fewer (moment_after s.clock s.times.break_time) ask s.claims s.claims
 
+filter_few : (test : Claim → Bool) (cs : List Claim) → length (filter test cs) ≤ length cs
+filter_few test [] = omega arith
+filter_few test (c ∷ cs) = let rest = filter_few test cs in elim (cases_Bool (test c)) [ inl passes ↦ rw passes (omega (arith, rest)) | inr fails ↦ rw fails (omega (arith, rest)) ]
+
+pub recalls_few : (s : CoreState) (ask : Claim) → IsGood s → recalls (planned ask s.claims).breaks ≤ 16384
+recalls_few s ask good =
+    let all = fewer_delegations s ask in
+    let few = filter_few (λ c. is_idle c && is_recalled c.party) s.claims in
+    omega (arith, all, few, good.kept.room)
+
 -- ---- where none begins
 
 no_breaks : (deadline : Moment) (ask : Claim) (held : List Claim) → (planned ask held).breaks ≡ [] → once_broken deadline ask held ≡ held
@@ -330,7 +340,7 @@ same_place file party c (Cache kind running) to deadline at = ap (λ (w : What).
 same_place file party c (Share access deny) to deadline at = refl
 same_place file party c (Range extent exclusive) to deadline at = refl
 
-no_two : (file : ℕ) (party : Party) (c d : Claim) → is_single c d ≡ true → is_cache_on file party c ≡ true → is_cache_on file party d ≡ false
+pub no_two : (file : ℕ) (party : Party) (c d : Claim) → is_single c d ≡ true → is_cache_on file party c ≡ true → is_cache_on file party d ≡ false
 no_two file party c d single own = false_from_ne_true (is_cache_on file party d) (λ (h : is_cache_on file party d ≡ true). by c.what d.what refl refl single own h) where
   by : (v w : What) → c.what ≡ v → d.what ≡ w → not (c.file == d.file && not (is_single_by c d v w)) ≡ true → (is_cache v && ((c.file == file) && same_parties c.party party)) ≡ true → (is_cache w && ((d.file == file) && same_parties d.party party)) ≡ true → ⊥
   by (Cache kind running) (Cache other due) at too single own h =

@@ -37,3 +37,4 @@ pub mod OpenLaws
 pub mod StateLaws
 pub mod BreakingLaws
 pub mod BegunLaws
+pub mod WishLaws

@@ -9,6 +9,7 @@ pub mod Settle
 pub mod Breaks
 pub mod Begin
 pub mod Breaking
+pub mod Wishes
 pub mod Ticks
 pub mod Watch
 pub mod Good

@@ -1,5 +1,5 @@
 //! Laws of the breaks that an ask begins. The functions do nothing; what they ensure holds of every state and every ask.
-ghost use Rattle.std.specs.Prelude.{◌≡◌, ℕ, ◌+◌, ◌==◌, ◌&&◌, true, false, List, [], None};
+ghost use Rattle.std.specs.Prelude.{◌≡◌, ℕ, ◌+◌, ◌≤◌, ◌==◌, ◌&&◌, true, false, List, [], None};
 ghost use Rattle.std.specs.List.{filter, list_any};
 ghost use Rattle.xl_base.specs.Lists.{sorted};
 ghost use Rattle.xl_base.specs.declared.name.Owner.{Owner};
@@ -20,7 +20,7 @@ ghost use Rattle.xl_core.specs.State.{CoreState};
 /// Where breaks begin the state stays good. All shares and ranges stay, and so does each claim on another file than the
 /// ask's. A number is given out for each delegation whose break begins, and it is one less that can be broken; nobody who
 /// waits leaves, and the names, the record and the clock stand.
-#[tactic(auto, unfolding(crate::specs::Begin::breaks_begun), using(crate::proofs::BegunLaws::breaks_good, crate::proofs::BegunLaws::begun_others, crate::proofs::BegunLaws::begun_spans, crate::proofs::BegunLaws::begun_shares, crate::proofs::BegunLaws::begun_elements, crate::proofs::BegunLaws::begun_elsewhere, crate::proofs::BegunLaws::fewer_delegations))]
+#[tactic(auto, unfolding(crate::specs::Begin::breaks_begun), using(crate::proofs::BegunLaws::breaks_good, crate::proofs::BegunLaws::begun_others, crate::proofs::BegunLaws::begun_spans, crate::proofs::BegunLaws::begun_shares, crate::proofs::BegunLaws::begun_elements, crate::proofs::BegunLaws::begun_elsewhere, crate::proofs::BegunLaws::fewer_delegations, crate::proofs::BegunLaws::recalls_few))]
 pub fn breaks_change_caches_alone()
     ensures good { (s : CoreState) (ask : Claim) → IsGood s → is_cache ask.what ≡ false → IsGood (breaks_begun ask s).1 }
     ensures others { (s : CoreState) (ask : Claim) → others_of (breaks_begun ask s).1.claims ≡ others_of s.claims }
@@ -30,6 +30,7 @@ pub fn breaks_change_caches_alone()
     ensures elsewhere { (s : CoreState) (ask : Claim) (file : ℕ) → (ask.file == file) ≡ false → filter (λ c. c.file == file) (breaks_begun ask s).1.claims ≡ filter (λ c. c.file == file) s.claims }
     ensures counter { (s : CoreState) (ask : Claim) → (breaks_begun ask s).1.counter ≡ s.counter + recalls (planned ask s.claims).breaks }
     ensures delegations { (s : CoreState) (ask : Claim) → idle_delegations (breaks_begun ask s).1.claims + recalls (planned ask s.claims).breaks ≡ idle_delegations s.claims }
+    ensures few { (s : CoreState) (ask : Claim) → IsGood s → recalls (planned ask s.claims).breaks ≤ 16384 }
     ensures waiters { (s : CoreState) (ask : Claim) → (breaks_begun ask s).1.waiters ≡ s.waiters }
     ensures names { (s : CoreState) (ask : Claim) → (breaks_begun ask s).1.names ≡ s.names }
     ensures stable { (s : CoreState) (ask : Claim) → (breaks_begun ask s).1.stable ≡ s.stable }

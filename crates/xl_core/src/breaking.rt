@@ -205,6 +205,8 @@ pub(crate) fn begin_breaks(
     requires good { IsGood (state_of parts.old) }
     requires numbers { parts.old.counter + numbers_left < 2 ^ 32 }
     ensures state { IfOk result (λ effects. breaks_begun ask.now (state_of parts.old) ≡ (effects, state_of parts.new)) }
+    ensures queue { parts.new.queue ≡ parts.old.queue }
+    ensures names { parts.new.names ≡ parts.old.names }
     ensures made { parts.new.made ≡ parts.old.made }
     ensures failed { parts.new.failed ≡ parts.old.failed }
 {

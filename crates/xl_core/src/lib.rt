@@ -21,6 +21,8 @@ mod parts;
 mod settling;
 mod ticking;
 mod unsettled;
+pub mod wished;
+mod wishing;
 
 pub use ask::{Act, Answer, Ask, Effect, Who};
 pub use doors::Core;

@@ -1,0 +1,43 @@
+-- What the claims are once a wish for a cache is granted (MS-SMB2 3.3.5.9, RFC 7530 10.4).
+use Rattle.std.specs.Prelude.{ℕ, Bool, true, ◌&&◌, ◌==◌, nat_lt, if◌then◌else◌, List, [], ◌∷◌, length, Option, Some, None, find}
+use Rattle.xl_base.specs.declared.name.Party.{Party}
+use Rattle.xl_cache.specs.Wishing.{wished_claim, is_its_cache, granted_kind}
+use Rattle.xl_cache.specs.declared.wish.Wish.{Wish}
+use Rattle.xl_matrix.specs.Equal.{same_parties}
+use Rattle.xl_matrix.specs.declared.claim.CacheKind.{CacheKind}
+use Rattle.xl_matrix.specs.declared.claim.Claim.{Claim}
+use Rattle.xl_matrix.specs.declared.claim.What.{What}
+use Rattle.xl_matrix.specs.declared.claim.What.TheVariants.{Cache}
+use Rattle.xl_table.specs.Flat.{inserted, changed}
+use Rattle.xl_table.specs.Relock.{most_claims}
+use Rattle.xl_wait.specs.Waiting.{waits_on}
+use Rattle.xl_core.specs.State.{CoreState}
+
+-- there is room for the party's cache: it has this one on the file, or the table has room for one claim more
+abbrev pub has_room : Option Claim → List Claim → Bool
+has_room (Some own) held = true
+has_room None held = nat_lt (length held) most_claims
+
+-- The kind that the party is to have on the file from now on. A wish breaks nothing: it gets none where that takes a
+-- break, nor where someone waits on the file or there is no room.
+unfoldable pub wished_kind : Wish → CoreState → Option CacheKind
+wished_kind wanted s = if waits_on wanted.file s.waiters then None else if has_room (find (is_its_cache wanted) s.claims) s.claims then granted_kind wanted s.claims else None
+
+-- the claims once the party's cache on the file, where this is what it has there, is of this kind
+abbrev pub cached : Wish → CacheKind → Option Claim → List Claim → List Claim
+cached wanted kind None held = inserted (wished_claim wanted kind) held
+cached wanted kind (Some own) held = changed own (Cache kind None) held
+
+abbrev pub once_wished : Wish → Option CacheKind → List Claim → List Claim
+once_wished wanted None held = held
+once_wished wanted (Some kind) held = cached wanted kind (find (is_its_cache wanted) held) held
+
+-- The wish is granted, as far as it may be: the party's cache on the file is of the kind that it gets. There is nothing to
+-- tell.
+unfoldable pub wish_granted : Wish → CoreState → CoreState
+wish_granted wanted s = record s { claims = once_wished wanted (wished_kind wanted s) s.claims }
+
+-- what is held then of a party's cache on a file, where the wish got this kind; or none where it leaves that
+abbrev pub wished_at : Wish → Option CacheKind → ℕ → Party → Option (List What)
+wished_at wanted None file party = None
+wished_at wanted (Some kind) file party = if (wanted.file == file) && same_parties wanted.party party then Some (Cache kind None ∷ []) else None

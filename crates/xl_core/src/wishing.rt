@@ -1,0 +1,90 @@
+//! Wishes for caches.
+ghost use Rattle.std.specs.Prelude.{◌≡◌, ◌<◌, true, OnOk, length, find};
+ghost use Rattle.xl_cache.specs.Wishing.{wished_claim, is_its_cache};
+ghost use Rattle.xl_table.specs.Flat.{inserted};
+ghost use Rattle.xl_table.specs.Held.{IsKept};
+ghost use Rattle.xl_core.specs.Good.{IsGood};
+ghost use Rattle.xl_core.specs.Whole.{state_of};
+ghost use Rattle.xl_core.specs.Wishes.{has_room, wished_kind, cached, wish_granted};
+
+use crate::parts::Parts;
+use std::alloc::{AllocError, Global};
+use xl_cache::{Wish, find_own_cache, kind_for};
+use xl_matrix::{CacheKind, Claim, What};
+use xl_table::{CLAIMS, Table, TableErr};
+
+/// Whether there is room for the cache of a party that has this one on the file.
+fn has_room(own: Option<Claim>, table: &Table) -> bool
+    ensures { result ≡ has_room own table.now }
+{
+    own.is_some() || table.len() < CLAIMS
+}
+
+/// Enters a first cache of this kind.
+fn enter_cache(table: &mut Table, wanted: &Wish, kind: CacheKind) -> Result<(), AllocError>
+    requires room { length table.old < 16384 }
+    requires kept { IsKept table.old }
+    ensures { OnOk result (table.new ≡ inserted (wished_claim wanted.now kind) table.old) }
+{
+    let claim = Claim {
+        file: wanted.file,
+        owner: wanted.owner,
+        party: wanted.party,
+        what: What::Cache(kind, None),
+    };
+    match table.insert(claim) {
+        Ok(()) => Ok(()),
+        Err(TableErr::NoMemory) => Err(AllocError),
+        Err(TableErr::Full(_)) => unreachable!(),
+    }
+}
+
+/// Has the party's cache on the file, where this is what it has there, be of this kind.
+fn put_cache(
+    table: &mut Table,
+    wanted: &Wish,
+    own: Option<Claim>,
+    kind: CacheKind,
+) -> Result<(), AllocError>
+    requires own { own ≡ find (is_its_cache wanted.now) table.old }
+    requires room { has_room own table.old ≡ true }
+    requires kept { IsKept table.old }
+    ensures { OnOk result (table.new ≡ cached wanted.now kind own table.old) }
+{
+    match own {
+        Some(claim) => {
+            table.change(&claim, What::Cache(kind, None));
+            Ok(())
+        }
+        None => {
+            enter_cache(table, wanted, kind)?;
+            Ok(())
+        }
+    }
+}
+
+/// Grants a wish, as far as it may be: the party's cache on the file is of the best kind that goes with all that is held,
+/// where nobody waits on the file and there is room. It breaks nothing, and there is nothing to tell.
+#[tactic(auto, unfolding(crate::specs::Wishes::wished_kind, crate::specs::Wishes::wish_granted))]
+pub(crate) fn grant_wish(alloc: Global, parts: &mut Parts, wanted: &Wish) -> Result<(), AllocError>
+    requires good { IsGood (state_of parts.old) }
+    ensures state { OnOk result (state_of parts.new ≡ wish_granted wanted.now (state_of parts.old)) }
+    ensures queue { parts.new.queue ≡ parts.old.queue }
+    ensures names { parts.new.names ≡ parts.old.names }
+    ensures counter { parts.new.counter ≡ parts.old.counter }
+    ensures made { parts.new.made ≡ parts.old.made }
+    ensures failed { parts.new.failed ≡ parts.old.failed }
+{
+    if parts.queue.waits_on(wanted.file) {
+        return Ok(());
+    }
+    let held = parts.table.of_file(alloc, wanted.file)?;
+    let own = find_own_cache(wanted, &held);
+    if !has_room(own, &parts.table) {
+        return Ok(());
+    }
+    if let Some(kind) = kind_for(wanted, &held) {
+        put_cache(&mut parts.table, wanted, own, kind)?;
+    }
+    Ok(())
+}
