@@ -57,6 +57,7 @@ use Rattle.xl_core.specs.declared.judge.Ruling.{Ruling}
 use Rattle.xl_core.specs.declared.judge.Ruling.TheVariants.{Gets, Waits, Told}
 use Rattle.xl_core.proofs.AskedLaws.{ranges_pled}
 use Rattle.xl_core.proofs.CauseLaws.{left_so, real_range, own_ranges, fit_ranges, tells, row_due}
+pub use Rattle.xl_core.proofs.StateLaws.{good_claims, good_from}
 use Rattle.xl_core.proofs.ClaimLaws.{AreGood, relocked_good, granted_good}
 use Rattle.xl_core.proofs.KnownLaws.{GoOn, both_go_on, both_distinct, held_on, waiters_on, one_party, asker_kept, asked_known, kept_on, known_party_is, asked_all_known}
 use Rattle.xl_core.proofs.LimitLaws.{grant_room, wait_room}
@@ -66,24 +67,8 @@ use Rattle.xl_table.specs.Elements.{element_held}
 
 -- ---- a good state, part by part
 
-pub good_claims : (s : CoreState) → IsGood s → AreGood s.names s.claims
-good_claims s good = record { kept = good.kept; compatible = good.compatible; single = good.single; known = good.known }
-
 pub claims_on : (names more : List Name) (cs : List Claim) → GoOn names more → AreGood names cs → AreGood more cs
 claims_on names more cs on good = record { kept = good.kept; compatible = good.compatible; single = good.single; known = held_on names more cs on good.known }
-
-pub good_from : (t : CoreState) → AreGood t.names t.claims → AreDistinct t.names → length t.names ≤ most_names → AllByRecursion (IsWaiter t.names t.counter) t.waiters → Pairwise are_apart t.waiters → length t.waiters ≤ most_waiters → IsGood t
-good_from t good distinct few waits apart crowd = record {
-  kept = good.kept;
-  compatible = good.compatible;
-  single = good.single;
-  known = good.known;
-  waiters = waits;
-  apart = apart;
-  crowd = crowd;
-  distinct = distinct;
-  few = few;
-}
 
 -- ---- at a start, and at the beginning of a step
 
