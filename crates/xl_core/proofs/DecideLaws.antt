@@ -1,10 +1,10 @@
 -- What blocks an ask: for good, or a cache that a break may move.
-use Rattle.std.proofs.Common.{◌≡◌, Bool, true, false, not, ◌&&◌, ◌||◌, List, [], ◌∷◌, Option, Some, None, inl, inr, refl, subst, map, IfSome, IsSome, sym, is_some}
+use Rattle.std.proofs.Common.{◌≡◌, Bool, true, false, not, ◌&&◌, List, [], ◌∷◌, Option, Some, None, inl, inr, refl, subst, map, IfSome, IsSome, sym, is_some}
 use Rattle.std.specs.List.{filter, list_any}
 use Rattle.std.proofs.lemmas.Bool.{cases_Bool, both_ways, and_parts, and_from, or_cases, or_left, not-true}
 use Rattle.xl_base.specs.Lists.{IsIn}
 use Rattle.xl_base.proofs.Members.{in_filter_from}
-use Rattle.xl_base.proofs.Searches.{any_found, any_from, any_none, none_passes as none_pass}
+use Rattle.xl_base.proofs.Searches.{any_found, any_none, none_passes as none_pass}
 use Rattle.xl_cache.specs.Planning.{is_running, keeps_open, is_covered, is_final, blocking_shares, covers, is_in_the_way, broken_claim, is_obstacle, planned}
 use Rattle.xl_cache.proofs.BreakLaws.{keeper_in_the_way}
 use Rattle.xl_cache.proofs.PlanLaws.{names_all, names_only}

@@ -1,23 +1,27 @@
 -- A row of steps: what each step keeps, the row keeps. Why a ruling is what it is, and what it leaves.
-use Rattle.std.proofs.Common.{◌≡◌, ℕ, Bool, true, false, ◌&&◌, if◌then◌else◌, List, [], ◌∷◌, ◌++◌, length, Option, Some, None, refl, sym, ap, subst, append_assoc, ◌∙◌}
+use Rattle.std.proofs.Common.{◌≡◌, ℕ, Bool, true, false, ◌&&◌, ◌==◌, if◌then◌else◌, List, [], ◌∷◌, ◌++◌, length, Option, Some, None, refl, sym, ap, subst, append_assoc, ◌∙◌}
+use Rattle.std.specs.List.{filter, list_any}
 use Rattle.std.proofs.lemmas.Bool.{both_ways}
 use Rattle.xl_matrix.specs.declared.claim.Claim.{Claim}
 use Rattle.xl_wait.specs.declared.waiter.Rooms.{Rooms}
 use Rattle.xl_wait.specs.declared.waiter.Waiter.{Waiter}
 use Rattle.xl_core.specs.State.{CoreState}
 use Rattle.xl_core.specs.Blockers.{blockers, is_stopped, cache_against}
-use Rattle.xl_core.specs.Judge.{Ruled, Step, followed, after, all_granted, held_with, check_grace, waits, stopped, held_by, check_held, kept_off, kept_off_by, check_caches, room_by, check_room, record_name, enter_all, does_wait, at_once, each, judged, row, row_left}
+use Rattle.xl_core.specs.Judge.{Ruled, Step, followed, after, all_granted, held_with, check_grace, waits, stopped, held_by, check_held, kept_off, kept_off_by, check_caches, room_by, check_room, record_name, enter_all, does_wait, at_once, each, judged, or_else, row, row_left}
 use Rattle.xl_core.specs.Limits.{grant_limits, first_passed}
-use Rattle.xl_table.specs.Flat.{is_blocked}
+use Rattle.xl_table.specs.Flat.{blocks, is_blocked}
+use Rattle.xl_table.specs.Held.{is_cache}
 use Rattle.xl_table.specs.Least.{least}
 use Rattle.xl_table.specs.Relock.{granted_claims}
+use Rattle.xl_table.proofs.LeastLaws.{least_none, none_passes}
 use Rattle.xl_core.specs.declared.ask.Answer.{Answer}
 use Rattle.xl_core.specs.declared.ask.Answer.TheVariants.{Granted, Queued, NoGrace, Conflict, Recall, Full}
 use Rattle.xl_core.specs.declared.ask.Effect.{Effect}
 use Rattle.xl_core.specs.declared.judge.Plea.{Plea}
 use Rattle.xl_core.specs.declared.judge.Ruling.{Ruling}
 use Rattle.xl_core.specs.declared.judge.Ruling.TheVariants.{Gets, Waits, Told}
-use Rattle.xl_core.proofs.DecideLaws.{blockers_none, some_stops, stopped_blocked, cache_blocked, free_unless}
+use Rattle.xl_core.proofs.BreakingLaws.{all_final}
+use Rattle.xl_core.proofs.DecideLaws.{blockers_none, none_blockers, some_stops, stopped_blocked, cache_blocked, free_unless, free_moves, free_clear}
 
 -- ---- a row
 
@@ -275,6 +279,20 @@ judged_row n earlier left p asked s timely =
     let rest : CoreState → Ruled = each earlier left p [] asked (after (record_name n p) (enter_all asked)) in
     ap (λ (b : Bool). let r : Option Ruling × List Effect × CoreState = if b then (Some (Told (NoGrace s.clock)), [], s) else (None, [], s) in followed r.0 r.1 r.2 rest) timely
     ∙ each_row n earlier left p p asked s [] asked
+
+-- ---- what most claims meet
+
+-- where nothing that is held blocks a claim neither step on what is held ends the row
+pub nothing_held : (p : Plea) (c : Claim) (s : CoreState) (later : Option Ruling) → least s.names (filter (λ held. blocks c held) s.claims) ≡ None → or_else (check_held [] p [] c s).0 (or_else (check_caches p [] c s).0 later) ≡ later
+unfolding check_held check_caches held_with
+nothing_held p c s later e =
+    let free : is_blocked s.claims c ≡ false = none_passes (λ d. blocks c d) s.claims (least_none s.names (filter (λ held. blocks c held) s.claims) e) in
+    rw (none_blockers [] s c (free_moves s.claims c free), free_clear s.claims c free) refl
+
+-- where no cache stands on its file the least of what blocks it is what does so for good
+pub held_for_good : (p : Plea) (c d : Claim) (s : CoreState) (later : Option Ruling) → least s.names (filter (λ held. blocks c held) s.claims) ≡ Some d → list_any (λ h. (h.file == c.file) && is_cache h.what) s.claims ≡ false → or_else (check_held [] p [] c s).0 (or_else (check_caches p [] c s).0 later) ≡ Some (stopped p d)
+unfolding check_held held_with blockers
+held_for_good p c d s later e none = rw (ap (least s.names) (all_final c s.claims none) ∙ e) refl
 
 -- ---- one claim
 

@@ -36,7 +36,7 @@ use Rattle.xl_core.specs.State.{CoreState, step_begun, drawn}
 use Rattle.xl_core.specs.Asking.{range_what, asked_whats, asked_what, asked_claim, asked_claims, IsFitAct, IsFit}
 use Rattle.xl_core.specs.Causes.{IsTurn, may_wait, held_once}
 use Rattle.xl_core.specs.Decide.{Answered, waiter_of, ask}
-use Rattle.xl_core.specs.Good.{IsWaiter, IsGood, stands_in_the_way, IsSettled, is_held_up, holds_up, IsPled}
+use Rattle.xl_core.specs.Good.{IsWaiter, IsGood, IsSettled, is_held_up, holds_up, IsPled}
 use Rattle.xl_core.specs.Judge.{all_granted, held_with}
 use Rattle.xl_core.specs.Settle.{settle, cancel, give_back, weaken}
 use Rattle.xl_core.specs.Breaks.{with_rest, ack}

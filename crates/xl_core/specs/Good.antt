@@ -26,7 +26,6 @@ use Rattle.xl_core.specs.Asking.{client_of, is_name}
 use Rattle.xl_core.specs.Blockers.{is_stopped}
 use Rattle.xl_core.specs.Judge.{IsRow}
 use Rattle.xl_core.specs.Limits.{most_waiters}
-use Rattle.xl_table.specs.Relock.{granted_claims}
 
 -- ---- the claims
 
@@ -122,11 +121,6 @@ abbrev pub AreUncached : List Claim → Type 0
 AreUncached cs = caches_of cs ≡ []
 
 -- ---- nobody is forgotten
-
--- something held stands in the way of these, each behind those before it
-abbrev pub stands_in_the_way : List Claim → List Claim → Bool
-stands_in_the_way held [] = false
-stands_in_the_way held (c ∷ cs) = is_blocked held c || stands_in_the_way (granted_claims c held) cs
 
 -- something held blocks the claim; where it does so for good the waiter waits for that, and else for a cache
 abbrev pub is_held_up : List Claim → Waiter → Claim → Bool

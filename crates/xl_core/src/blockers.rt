@@ -13,7 +13,7 @@ use xl_matrix::{CacheKind, Claim};
 use xl_table::least_of;
 
 /// The least of what blocks the claim for good.
-#[tactic(auto, unfolding(crate::specs::Blockers::blockers), using(crate::proofs::BreakingLaws::all_final))]
+#[tactic(auto, unfolding(crate::specs::Blockers::blockers))]
 pub(crate) fn least_blocker(
     alloc: Global,
     parts: &Parts,
@@ -21,9 +21,6 @@ pub(crate) fn least_blocker(
 ) -> Result<Option<Claim>, AllocError>
     ensures { (earlier : List Waiter) → IfOk result (λ c. c ≡ least parts.now.names (blockers earlier (state_of parts.now) claim.now)) }
 {
-    if !parts.table.has_cache(claim.file) {
-        return parts.table.least_blocker(alloc, &parts.names, claim);
-    }
     let found = final_blockers(alloc, parts, claim)?;
     least_of(alloc, &parts.names, &found)
 }
@@ -55,7 +52,7 @@ fn cache_in(plan: &Plan) -> Option<Claim>
 }
 
 /// A cache in the way of the claim: one that blocks it, or covers a share that does; one whose break runs, if there is one.
-#[tactic(auto, unfolding(crate::specs::Blockers::cache_against), using(crate::proofs::BreakingLaws::none_planned))]
+#[tactic(auto, unfolding(crate::specs::Blockers::cache_against))]
 pub(crate) fn cache_against(
     alloc: Global,
     parts: &Parts,
@@ -63,9 +60,6 @@ pub(crate) fn cache_against(
 ) -> Result<Option<Claim>, AllocError>
     ensures { IfOk result (λ c. c ≡ cache_against parts.now.table claim.now) }
 {
-    if !parts.table.has_cache(claim.file) {
-        return Ok(None);
-    }
     let plan = plan_for(alloc, parts, claim)?;
     Ok(cache_in(&plan))
 }

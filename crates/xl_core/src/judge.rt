@@ -1,13 +1,14 @@
 //! The order of decisions, read for those who ask and for those who wait.
-ghost use Rattle.std.specs.Prelude.{◌≡◌, ℕ, ◌≤◌, List, [], ◌∷◌, length, true, false, Some, None, Ok, IfOk, IfSome};
+ghost use Rattle.std.specs.Prelude.{◌≡◌, ℕ, ◌≤◌, List, [], ◌∷◌, length, true, false, Option, Some, None, Ok, IfOk, IfSome};
 ghost use Rattle.std.specs.List.{AllByRecursion};
 ghost use Rattle.xl_table.specs.Changes.{written, MayBeWritten};
 ghost use Rattle.xl_table.specs.Held.{has_one_party, IsGrantable, IsKept};
 ghost use Rattle.xl_table.specs.Relock.{granted_claims};
 ghost use Rattle.xl_wait.specs.declared.waiter.Waiter.{Waiter};
 ghost use Rattle.xl_core.specs.Blockers.{blockers, cache_against};
-ghost use Rattle.xl_core.specs.Judge.{check_grace, stopped, waits, check_held, kept_off, check_caches, check_room, at_once, judged, stop_of, stop_left, gets, row, row_left, IsRow, IsFew};
+ghost use Rattle.xl_core.specs.Judge.{check_grace, stopped, waits, check_held, kept_off, check_caches, check_room, at_once, judged, or_else, stop_of, stop_left, gets, row, row_left, IsRow, IsFew};
 ghost use Rattle.xl_core.specs.Whole.{state_of};
+ghost use Rattle.xl_core.specs.declared.judge.Ruling.{Ruling};
 ghost use Rattle.xl_core.specs.declared.judge.Ruling.TheVariants.{Gets, Waits};
 ghost use Rattle.xl_names.specs.Names.{most_names};
 
@@ -135,6 +136,30 @@ fn check_caches(
     })
 }
 
+/// What is held against the claim: what no break moves, or else a cache. Most often nothing is, or no cache stands on the file.
+#[tactic(auto, using(crate::proofs::RowLaws::nothing_held, crate::proofs::RowLaws::held_for_good))]
+fn check_claims(
+    alloc: Global,
+    parts: &Parts,
+    plea: &Plea,
+    claim: &Claim,
+) -> Result<Option<Ruling>, AllocError>
+    ensures ruling { (later : Option Ruling) → IfOk result (λ r. or_else (check_held [] plea.now [] claim.now (state_of parts.now)).0 (or_else (check_caches plea.now [] claim.now (state_of parts.now)).0 later) ≡ or_else r later) }
+    ensures gets { result ≡ Ok (Some Gets) → ⊥ }
+    ensures waits { result ≡ Ok (Some Waits) → plea.now.crowded ≡ None }
+{
+    let Some(blocker) = parts.table.least_blocker(alloc, &parts.names, claim)? else {
+        return Ok(None);
+    };
+    if !parts.table.has_cache(claim.file) {
+        return Ok(Some(stopped(plea, blocker)));
+    }
+    if let Some(ruling) = check_held(alloc, parts, plea, claim)? {
+        return Ok(Some(ruling));
+    }
+    check_caches(alloc, parts, plea, claim)
+}
+
 /// What is pleaded of the claims behind the first, of which none may wait (MS-SMB2 3.3.5.14.2).
 fn at_once(plea: &Plea) -> Plea
     ensures { result ≡ at_once plea.now }
@@ -192,10 +217,7 @@ fn judge_one(
     ensures made { parts.new.made ≡ parts.old.made }
     ensures failed { parts.new.failed ≡ parts.old.failed }
 {
-    if let Some(ruling) = check_held(alloc, parts, plea, claim)? {
-        return Ok(Some(ruling));
-    }
-    if let Some(ruling) = check_caches(alloc, parts, plea, claim)? {
+    if let Some(ruling) = check_claims(alloc, parts, plea, claim)? {
         return Ok(Some(ruling));
     }
     let change = parts.table.granted(alloc, claim)?;
