@@ -39,11 +39,11 @@ use Rattle.xl_front_nlm.specs.declared.outcome.Outcome.TheVariants.{NoFile, TooB
 
 claim_forth : (left : Rooms) (s : CoreState) (a : Ask) (claim : Claim) (answer : Answer) → IsClaimDue left s a claim answer → IsClaimTold left s a claim (answer_status answer)
 claim_forth left s a claim (answers.Granted c) due = (refl, due.1, due.2, due.3)
-claim_forth left s a claim (answers.Conflict c) due = (c, due)
+claim_forth left s a claim (answers.Conflict c) due = inl (c, due)
 claim_forth left s a claim (answers.Queued number) due = (refl, due.1, due.2, due.3, due.4)
 claim_forth left s a claim (answers.NoGrace clock) due = (refl, due.1)
 claim_forth left s a claim (answers.Full limit) due = (limit, due)
-claim_forth left s a claim (answers.Recall c) due = absurd due
+claim_forth left s a claim (answers.Recall c) due = inr (c, due)
 claim_forth left s a claim (answers.Grace until) due = absurd due
 claim_forth left s a claim answers.NotRecorded due = absurd due
 claim_forth left s a claim answers.NotHeld due = absurd due
@@ -51,7 +51,8 @@ claim_forth left s a claim answers.StoreFailed due = absurd due
 
 claim_back : (left : Rooms) (s : CoreState) (a : Ask) (claim : Claim) (r : Answer) → ((answer : Answer) → IsClaimDue left s a claim answer → r ≡ answer) → (status : NlmStatus) → IsClaimTold left s a claim status → answer_status r ≡ status
 claim_back left s a claim r exact stats.Granted told = ap answer_status (exact (answers.Granted claim) told)
-claim_back left s a claim r exact stats.Denied told = ap answer_status (exact (answers.Conflict told.0) told.1)
+claim_back left s a claim r exact stats.Denied (inl told) = ap answer_status (exact (answers.Conflict told.0) told.1)
+claim_back left s a claim r exact stats.Denied (inr told) = ap answer_status (exact (answers.Recall told.0) told.1)
 claim_back left s a claim r exact stats.DeniedNolocks told = ap answer_status (exact (answers.Full told.0) told.1)
 claim_back left s a claim r exact stats.Blocked told = ap answer_status (exact (answers.Queued (s.counter + 1)) told)
 claim_back left s a claim r exact stats.DeniedGracePeriod told = ap answer_status (exact (answers.NoGrace s.clock) told)

@@ -26,6 +26,7 @@ ask_of owner caller file act blocking reclaim rows = record {
   wish = [];
   conn = None;
   blocking = blocking;
+  awaits = blocking;
   reclaim = reclaim;
   monitored = false;
   rows = rows;

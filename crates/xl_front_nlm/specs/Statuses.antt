@@ -34,11 +34,12 @@ status_told _ outcome = None
 
 -- ---- by what the core is due to answer
 
--- a lock or a share: granted where nothing stands against it and there is room; denied where something does, or blocked
--- where it may wait and there is room for that; no locks where the least limit that it passes is told; a reclaim is too late
+-- a lock or a share: granted where nothing stands against it and there is room; denied where something does for good or a
+-- cache keeps it off, or blocked where it may wait for that and there is room for the wait; no locks where the least limit
+-- that it passes is told; a reclaim is too late
 abbrev pub IsClaimTold : Rooms → CoreState → Ask → Claim → NlmStatus → Type 0
 IsClaimTold left s a claim stats.Granted = IsClaimDue left s a claim (answers.Granted claim)
-IsClaimTold left s a claim stats.Denied = (c : Claim) × IsClaimDue left s a claim (answers.Conflict c)
+IsClaimTold left s a claim stats.Denied = ((c : Claim) × IsClaimDue left s a claim (answers.Conflict c)) ⊎ ((c : Claim) × IsClaimDue left s a claim (answers.Recall c))
 IsClaimTold left s a claim stats.DeniedNolocks = (limit : ℕ) × IsClaimDue left s a claim (answers.Full limit)
 IsClaimTold left s a claim stats.Blocked = IsClaimDue left s a claim (answers.Queued (s.counter + 1))
 IsClaimTold left s a claim stats.DeniedGracePeriod = IsClaimDue left s a claim (answers.NoGrace s.clock)

@@ -58,6 +58,7 @@ fn ask_of(
         wish: Sequence::new(alloc),
         conn: None,
         blocking: false,
+        awaits: false,
         reclaim: false,
         monitored: false,
         rows,
@@ -94,6 +95,7 @@ pub(crate) fn lock_ask(
     let act = Act::Ranges(ranges);
     let mut request = ask_of(alloc, owner, args.lock.caller_name, at.file, act, rows)?;
     request.blocking = args.block;
+    request.awaits = args.block;
     request.reclaim = args.reclaim;
     Ok(request)
 }
