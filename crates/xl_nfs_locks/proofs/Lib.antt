@@ -7,3 +7,4 @@ pub mod ByteLaws
 pub mod StatusLaws
 pub mod KeepLaws
 pub mod CloseLaws
+pub mod CountLaws

@@ -3,6 +3,7 @@
 
 mod asks;
 mod checking;
+pub mod counting;
 mod denials;
 mod joining;
 pub mod law;

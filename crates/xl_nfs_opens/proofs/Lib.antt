@@ -21,3 +21,5 @@ pub mod PassedLaws
 pub mod KeepLaws
 pub mod KnownLaws
 pub mod ShutLaws
+pub mod NumberLaws
+pub mod LengthLaws

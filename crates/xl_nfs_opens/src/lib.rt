@@ -12,6 +12,8 @@ mod entering;
 mod files;
 pub mod law;
 mod leases;
+pub mod lengths;
+pub mod numbers;
 mod opener;
 mod opening;
 pub mod orderly;
