@@ -1,5 +1,5 @@
 -- How long results are tells those of denied locks from the others, and what is read of a result that is kept.
-use Rattle.std.proofs.Common.{◌≡◌, ℕ, ◌+◌, ◌≤◌, ◌<◌, ◌^◌, Bool, true, false, ◌||◌, List, [], ◌++◌, length, Ok, Err, Result, refl, sym, ap, subst, ◌∙◌, inl, inr, arith, append-nil, eqb-true, true≢false}
+use Rattle.std.proofs.Common.{◌≡◌, ℕ, ◌≤◌, ◌<◌, ◌^◌, true, false, List, [], ◌++◌, length, Ok, Err, refl, sym, ap, subst, ◌∙◌, inl, inr, arith, append-nil, eqb-true, true≢false}
 use Rattle.std.proofs.lemmas.Bool.{cases_Bool, le-leb}
 use Rattle.std.specs.Bool.{◌==◌}
 use Rattle.xl_base.specs.Handles.{handle}
@@ -16,7 +16,7 @@ use Rattle.xl_nfs.specs.declared.status.NfsStatus.TheVariants as statuses
 use Rattle.xl_nfs_opens.specs.Lengths.{PartsFit, has_seqid}
 use Rattle.xl_nfs_opens.specs.Plans.{status_of}
 use Rattle.xl_nfs_opens.specs.Results.{denied_as, denied_item, ended_as, open_result_of, spelled, state_as}
-use Rattle.xl_nfs_opens.specs.Seqids.{is_short, kept_status, most_short, read_status}
+use Rattle.xl_nfs_opens.specs.Seqids.{is_short, kept_status, read_status}
 use Rattle.xl_nfs_opens.specs.declared.told.HeldLock.{HeldLock}
 use Rattle.xl_nfs_opens.specs.declared.told.Told.{Told}
 use Rattle.xl_nfs_opens.specs.declared.told.Told.TheVariants.{Ended, Handle, Client, Opened, State, Free, Denied, Kept}

@@ -1,8 +1,8 @@
 -- Each stateid has a number that was given out, whatever an operation on opens comes to.
-use Rattle.std.proofs.Common.{◌≡◌, ℕ, ◌+◌, ◌<◌, ◌≤◌, Bool, true, false, not, ◌||◌, List, [], ◌∷◌, ◌++◌, Option, Some, None, Ok, Err, Result, is_some, refl, sym, ap, subst, ◌∙◌, inl, inr, arith, true≢false}
+use Rattle.std.proofs.Common.{◌≡◌, ℕ, ◌+◌, ◌<◌, ◌≤◌, Bool, true, false, ◌||◌, List, [], ◌∷◌, ◌++◌, Option, Some, None, Ok, Err, Result, refl, sym, subst, inl, inr, arith}
 use Rattle.std.proofs.lemmas.Bool.{cases_Bool, eqb-true}
 use Rattle.std.specs.Bool.{◌==◌}
-use Rattle.std.specs.List.{AllByRecursion, filter, find}
+use Rattle.std.specs.List.{AllByRecursion, find}
 use Rattle.xl_base.proofs.Members.{all_append, all_in, all_weaker}
 use Rattle.xl_base.specs.Lists.{IsIn}
 use Rattle.xl_nfs.specs.Opens.{OpenArgsItem}
@@ -13,7 +13,7 @@ use Rattle.xl_nfs.specs.declared.opens.OpenDowngradeArgs.{OpenDowngradeArgs}
 use Rattle.xl_nfs.specs.declared.status.NfsStatus.{NfsStatus}
 use Rattle.xl_nfs_state.proofs.AnyLaws.{all_changed, all_left}
 use Rattle.xl_nfs_state.specs.Rows.{with_standing}
-use Rattle.xl_nfs_state.specs.State.{NfsLists, hangs_on, is_client, is_kept, is_owner, is_stateid, is_whose, next_owner, no_lists, with_stateids, without, without_owner}
+use Rattle.xl_nfs_state.specs.State.{NfsLists, hangs_on, is_client, is_kept, is_stateid, is_whose, next_owner, no_lists, with_stateids, without, without_owner}
 use Rattle.xl_nfs_state.specs.Verdict.{next_seqid}
 use Rattle.xl_nfs_state.specs.declared.client.ClientRow.{ClientRow}
 use Rattle.xl_nfs_state.specs.declared.kept.KeptRow.{KeptRow}
@@ -29,13 +29,13 @@ use Rattle.xl_core.specs.Deeds.{Deed, Asks, GivesBack, Weakens, Acks, Cancels, E
 use Rattle.xl_core.specs.Good.{IsGood}
 use Rattle.xl_core.specs.State.{CoreState, drawn}
 use Rattle.xl_core.specs.declared.ask.Answer.{Answer}
-use Rattle.xl_nfs_opens.specs.Closing.{checked, close, close_by, close_done, confirm_by, confirm_done, deleg_return, done_lists, failed_lists, next_turn, open_confirm, standing_fault, state_told}
-use Rattle.xl_nfs_opens.specs.Downgrades.{downgrade_by, downgrade_done, downgrade_fault, open_downgrade}
+use Rattle.xl_nfs_opens.specs.Closing.{checked, close, close_by, close_done, confirm_by, confirm_done, deleg_return, done_lists, failed_lists, locks_gone, next_turn, open_confirm, share_of_open, standing_fault, state_told}
+use Rattle.xl_nfs_opens.specs.Downgrades.{downgrade_by, downgrade_done, downgrade_fault, open_downgrade, weakens}
 use Rattle.xl_nfs_opens.specs.Leases.{number_in}
 use Rattle.xl_nfs_opens.specs.Numbers.{AreGivenOut, StayGivenOut}
-use Rattle.xl_nfs_opens.specs.Opens.{answer_status, answered, can_enter, claim_client, client_in, either_bits, entered, entered_in, granted_by, granted_new, has_room, is_granted, judged, open_as, open_at, open_by, open_claimed, open_file, open_held, open_judged, open_of, open_row, open_turn, opened_file, opened_told, opener_of, reclaims, refused, refused_lists, repeated, stood}
+use Rattle.xl_nfs_opens.specs.Opens.{answer_status, answered, can_enter, claim_client, client_in, either_bits, entered, entered_in, gives, granted_by, granted_new, has_room, is_granted, judged, open_as, open_at, open_by, open_claimed, open_file, open_held, open_judged, open_of, open_row, open_turn, opened_file, opened_told, opener_of, reclaims, refused, refused_lists, repeated, rights_of, stood}
 use Rattle.xl_nfs_opens.specs.Owners.{IsBy, AreBy}
-use Rattle.xl_nfs_opens.specs.Plans.{Plan, Fails, Does, Behind, Asking, Outcome, carried, deeds_of}
+use Rattle.xl_nfs_opens.specs.Plans.{Plan, Fails, Does, Behind, Asking, carried, deeds_of}
 use Rattle.xl_nfs_opens.specs.Renewing.{renewed_for, renewed_if, state_client}
 use Rattle.xl_nfs_opens.specs.Results.{spelled}
 use Rattle.xl_nfs_opens.specs.Seqids.{advances, closed_gone, counted, is_opener, is_room_for, kept_for, opener_number, remembered, seated, seated_by, seated_new, turned}
@@ -216,7 +216,7 @@ granted_few s l o a file confirmed None given =
     (entered_given next row there (omega arith) (seated_given next o (open_turn a confirmed) l (does_few s.counter (Draws ∷ []) l given)))
 granted_few s l o a file confirmed (Some r) given =
     let after : NfsLists = stood r.number r (either_bits r.standing.access a.access) (either_bits r.standing.deny a.deny) false l in
-    does_few s.counter [] _
+    does_few s.counter [] (kept_for (opener_number o l) (spelled 18 (opened_told s r.number (next_seqid r.standing.seqid) confirmed)) (seated o (open_turn a confirmed) after))
     (kept_given s.counter (opener_number o l) (spelled 18 (opened_told s r.number (next_seqid r.standing.seqid) confirmed)) (seated o (open_turn a confirmed) after)
     (seated_given s.counter o (open_turn a confirmed) after (stood_given s.counter r.number r (either_bits r.standing.access a.access) (either_bits r.standing.deny a.deny) false l given)))
 
@@ -267,17 +267,19 @@ open_few : (files : List (List ℕ)) (others : ℕ) (s : CoreState) (l : NfsList
 unfolding open_file open_claimed
 open_few files others s l current a given =
     let m : NfsLists = renewed_for s l (number_in s a.owner.clientid) in
-    let once : AreGivenOut s.counter m = renewed_given s.counter s l (number_in s a.owner.clientid) given in
-    (once, λ t le.
-    (let client = claim_client t m a.claim in
-    let here : AreGivenOut t.counter (renewed_for t m client) = renewed_given t.counter t m client (later_on s.counter t.counter m le once) in
-    (here, λ u more. at_few u.counter files others u (renewed_for t m client) a current (later_on t.counter u.counter (renewed_for t m client) more here))))
+    let once : AreGivenOut s.counter m = renewed_given s.counter s l (number_in s a.owner.clientid) given in (
+      once,
+      λ t le.
+          (let client = claim_client t m a.claim in
+          let here : AreGivenOut t.counter (renewed_for t m client) = renewed_given t.counter t m client (later_on s.counter t.counter m le once) in
+          (here, λ u more. at_few u.counter files others u (renewed_for t m client) a current (later_on t.counter u.counter (renewed_for t m client) more here))),
+    )
 
 -- ---- OPEN_CONFIRM, OPEN_DOWNGRADE, CLOSE, DELEGRETURN
 
 confirm_done_few : (last : ℕ) (s : CoreState) (l : NfsLists) (current : Option ℕ) (a : OpenConfirmArgs) (r : StateidRow) (owner : ℕ) (turn : Turn) (x : Option NfsStatus) → AreGivenOut last l → AreFew last (confirm_done s l current a r owner turn x)
-confirm_done_few last s l current a r owner turn (Some status) given = does_few last [] _ (failed_given last l owner turn 20 a.seqid status given)
-confirm_done_few last s l current a r owner turn None given = does_few last [] _ (done_given last s l r owner turn 20 a.seqid true None r.standing.access r.standing.deny false given)
+confirm_done_few last s l current a r owner turn (Some status) given = does_few last [] (failed_lists l owner turn 20 a.seqid status) (failed_given last l owner turn 20 a.seqid status given)
+confirm_done_few last s l current a r owner turn None given = does_few last [] (done_lists s l r owner turn 20 a.seqid true None r.standing.access r.standing.deny false) (done_given last s l r owner turn 20 a.seqid true None r.standing.access r.standing.deny false given)
 
 confirm_by_few : (last : ℕ) (s : CoreState) (l : NfsLists) (current : Option ℕ) (a : OpenConfirmArgs) (c : Checked) → AreGivenOut last l → AreFew last (confirm_by s l current a c)
 confirm_by_few last s l current a (Refused status) given = does_few last [] l given
@@ -292,8 +294,8 @@ confirm_few s l current a given =
     (once, λ t le. confirm_by_few t.counter t m current a (checked t m current 20 a.seqid a.stateid) (later_on s.counter t.counter m le once))
 
 downgrade_done_few : (last : ℕ) (s : CoreState) (l : NfsLists) (current : Option ℕ) (a : OpenDowngradeArgs) (r : StateidRow) (owner : ℕ) (turn : Turn) (x : Option NfsStatus) → AreGivenOut last l → AreFew last (downgrade_done s l current a r owner turn x)
-downgrade_done_few last s l current a r owner turn (Some status) given = does_few last [] _ (failed_given last l owner turn 21 a.seqid status given)
-downgrade_done_few last s l current a r owner turn None given = does_few last _ _ (done_given last s l r owner turn 21 a.seqid turn.confirmed None a.access a.deny false given)
+downgrade_done_few last s l current a r owner turn (Some status) given = does_few last [] (failed_lists l owner turn 21 a.seqid status) (failed_given last l owner turn 21 a.seqid status given)
+downgrade_done_few last s l current a r owner turn None given = does_few last (weakens (share_of_open s l r owner) (rights_of a.access) (rights_of a.deny)) (done_lists s l r owner turn 21 a.seqid turn.confirmed None a.access a.deny false) (done_given last s l r owner turn 21 a.seqid turn.confirmed None a.access a.deny false given)
 
 downgrade_by_few : (last : ℕ) (s : CoreState) (l : NfsLists) (current : Option ℕ) (a : OpenDowngradeArgs) (c : Checked) → AreGivenOut last l → AreFew last (downgrade_by s l current a c)
 downgrade_by_few last s l current a (Refused status) given = does_few last [] l given
@@ -308,12 +310,15 @@ downgrade_few s l current a given =
     (once, λ t le. downgrade_by_few t.counter t m current a (checked t m current 21 a.seqid a.stateid) (later_on s.counter t.counter m le once))
 
 close_done_few : (last : ℕ) (s : CoreState) (l : NfsLists) (current : Option ℕ) (a : CloseArgs) (r : StateidRow) (owner : ℕ) (turn : Turn) (x : Option NfsStatus) → AreGivenOut last l → AreFew last (close_done s l current a r owner turn x)
-close_done_few last s l current a r owner turn (Some status) given = does_few last [] _ (failed_given last l owner turn 4 a.seqid status given)
-close_done_few last s l current a r owner turn None given =
-    (given, λ t le.
-    does_few t.counter _ _
-    (less_given t.counter (is_whose (whose.Under r.number)) _
-    (done_given t.counter t l r owner turn 4 a.seqid turn.confirmed (Some r.number) r.standing.access r.standing.deny true (later_on last t.counter l le given))))
+close_done_few last s l current a r owner turn (Some status) given = does_few last [] (failed_lists l owner turn 4 a.seqid status) (failed_given last l owner turn 4 a.seqid status given)
+close_done_few last s l current a r owner turn None given = (
+  given,
+  λ t le.
+      (let after : NfsLists = done_lists t l r owner turn 4 a.seqid turn.confirmed (Some r.number) r.standing.access r.standing.deny true in
+      does_few t.counter (gives (share_of_open t l r owner)) (locks_gone r.number after)
+      (less_given t.counter (is_whose (whose.Under r.number)) after
+      (done_given t.counter t l r owner turn 4 a.seqid turn.confirmed (Some r.number) r.standing.access r.standing.deny true (later_on last t.counter l le given)))),
+)
 
 close_by_few : (last : ℕ) (s : CoreState) (l : NfsLists) (current : Option ℕ) (a : CloseArgs) (c : Checked) → AreGivenOut last l → AreFew last (close_by s l current a c)
 close_by_few last s l current a (Refused status) given = does_few last [] l given

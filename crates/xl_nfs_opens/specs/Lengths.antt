@@ -1,12 +1,12 @@
 -- How long results are, and what is read of those that are kept (RFC 7530 9.1.8).
-use Rattle.std.specs.Prelude.{ℕ, ◌<◌, ◌^◌, ◌==◌, ◌||◌, Bool, Ok}
+use Rattle.std.specs.Prelude.{ℕ, ◌<◌, ◌^◌, ◌==◌, ◌||◌, Bool}
 use Rattle.xl_nfs.specs.Basics.{stateid}
 use Rattle.xl_nfs.specs.Clients.{client_confirm}
 use Rattle.xl_nfs.specs.Locks.{denied}
 use Rattle.xl_nfs.specs.Results.{ResultFits}
 use Rattle.xl_nfs_opens.specs.Results.{denied_item, ended_as}
 use Rattle.xl_nfs_opens.specs.declared.told.Told.{Told}
-use Rattle.xl_nfs_opens.specs.declared.told.Told.TheVariants.{Ended, Handle, Client, Opened, State, Free, Denied, Kept}
+use Rattle.xl_nfs_opens.specs.declared.told.Told.TheVariants.{Ended, Client, Opened, State, Denied}
 
 -- each part of what the operation of this number told has a spelling
 abbrev pub PartsFit : ℕ → Told → Type 0
