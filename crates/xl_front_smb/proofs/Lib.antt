@@ -13,3 +13,4 @@ pub mod FinalLaws
 pub mod WaitLaws
 pub mod LockLaws
 pub mod RangeLaws
+pub mod CancelLaws
