@@ -1,15 +1,13 @@
 -- What LOCK and RELEASE_LOCKOWNER leave of owners: how far their requests have come, and what is kept for them.
-use Rattle.std.proofs.Common.{◌≡◌, ℕ, ◌+◌, Bool, true, false, not, ◌&&◌, ◌||◌, List, [], ◌∷◌, ◌++◌, map, Option, Some, None, Ok, Err, Result, is_some, option_map, refl, sym, ap, subst, ◌∙◌, inl, inr, true≢false}
-use Rattle.std.proofs.lemmas.Bool.{cases_Bool, and_parts, eq-eqb, eqb-true}
+use Rattle.std.proofs.Common.{◌≡◌, ℕ, ◌+◌, Bool, true, false, not, ◌||◌, List, [], ◌∷◌, ◌++◌, map, Option, Some, None, Ok, Err, Result, is_some, option_map, if◌then◌else◌, refl, sym, ap, subst, ◌∙◌, inl, inr, true≢false}
+use Rattle.std.proofs.lemmas.Bool.{cases_Bool, eq-eqb, eqb-true}
 use Rattle.std.proofs.lemmas.Map.Keys.{IsDistinct-tail, IsDistinct-head}
 use Rattle.std.proofs.lemmas.Option.{same_Some}
 use Rattle.std.specs.Bool.{◌==◌}
 use Rattle.std.specs.List.{AllByRecursion, IsDistinct, find, list_any}
-use Rattle.std.specs.Prelude.{bytes_eq}
 use Rattle.xl_nfs.specs.Locks.{LockArgsItem}
 use Rattle.xl_nfs.specs.Outcomes.{is_ok}
 use Rattle.xl_nfs.specs.declared.status.NfsStatus.{NfsStatus}
-use Rattle.xl_nfs.specs.declared.status.NfsStatus.TheVariants as statuses
 use Rattle.xl_nfs_state.proofs.SoundLaws.{fresh_number, rising_changed}
 use Rattle.xl_nfs_state.specs.Alike.{owner_names_are}
 use Rattle.xl_nfs_state.specs.Filed.{changed}
@@ -18,7 +16,6 @@ use Rattle.xl_nfs_state.specs.Rows.{with_result, with_turn}
 use Rattle.xl_nfs_state.specs.State.{NfsLists, IsRising, hangs_on, is_kept, is_owner, is_owner_named, is_whose, next_owner, with_stateids, without, without_owner}
 use Rattle.xl_nfs_state.specs.declared.client.ClientRow.{ClientRow}
 use Rattle.xl_nfs_state.specs.declared.kept.KeptRow.{KeptRow}
-use Rattle.xl_nfs_state.specs.declared.owner.OwnerKind.{OwnerKind}
 use Rattle.xl_nfs_state.specs.declared.owner.OwnerKind.TheVariants as kinds
 use Rattle.xl_nfs_state.specs.declared.owner.OwnerName.{OwnerName}
 use Rattle.xl_nfs_state.specs.declared.owner.OwnerRow.{OwnerRow}
@@ -44,7 +41,7 @@ use Rattle.xl_nfs_opens.specs.declared.told.Told.{Told}
 use Rattle.xl_nfs_opens.specs.declared.told.Told.TheVariants.{Ended, State}
 use Rattle.xl_nfs_locks.specs.Counting.{CountsWithBoth, HaveBothCome, IsForgotten}
 use Rattle.xl_nfs_locks.specs.Denials.{lock_told}
-use Rattle.xl_nfs_locks.specs.FirstLocks.{both_refused, can_enter, counted_both, counted_open, entered, entered_in, join_answered, join_to, joined_by, joined_new, lock_row}
+use Rattle.xl_nfs_locks.specs.FirstLocks.{both_refused, can_enter, counted_both, counted_open, entered, join_answered, join_to, joined_by, lock_row}
 use Rattle.xl_nfs_locks.specs.Ranges.{lock_ask}
 use Rattle.xl_nfs_locks.specs.Releases.{holds_any, release_of, released, without_found}
 use Rattle.xl_nfs_locks.specs.declared.joining.BothOwners.{BothOwners}
