@@ -8,3 +8,4 @@ pub mod StatusLaws
 pub mod KeepLaws
 pub mod CloseLaws
 pub mod CountLaws
+pub mod NumberLaws

@@ -9,6 +9,7 @@ mod joining;
 pub mod law;
 mod locking;
 mod locks;
+pub mod numbers;
 pub mod orderly;
 mod ranges;
 mod releasing;
