@@ -74,30 +74,31 @@ one_dismissed id test (e ∷ es) l distinct here =
 
 -- ---- the request that is named
 
-in_keys : (test : Waiting → Bool) (es : List (ℕ × Waiting)) (id : ℕ) → IsIn id (keys_where test es) → IsIn id (keys_of es)
-in_keys test [] id here = absurd here
-in_keys test (e ∷ es) id here =
-    elim (cases_Bool (test e.1)) [
-      | inl on ↦ (let there : IsIn id (e.0 ∷ keys_where test es) = rw on at here in elim there [ inl first ↦ inl first | inr rest ↦ inr (in_keys test es id rest) ])
-      | inr off ↦ inr (in_keys test es id (rw off at here))
-    ]
+module _ {X : Type 0} where
+  in_keys : (test : X → Bool) (es : List (ℕ × X)) (id : ℕ) → IsIn id (keys_where test es) → IsIn id (keys_of es)
+  in_keys test [] id here = absurd here
+  in_keys test (e ∷ es) id here =
+      elim (cases_Bool (test e.1)) [
+        | inl on ↦ (let there : IsIn id (e.0 ∷ keys_where test es) = rw on at here in elim there [ inl first ↦ inl first | inr rest ↦ inr (in_keys test es id rest) ])
+        | inr off ↦ inr (in_keys test es id (rw off at here))
+      ]
 
-found_once : (test : Waiting → Bool) (es : List (ℕ × Waiting)) (id : ℕ) → IsDistinct nat_eq (keys_of es) → IsIn id (keys_where test es) → IsFound test (lookup (nat_eq id) es)
-found_once test [] id distinct here = absurd here
-found_once test (e ∷ es) id distinct here =
-    elim (cases_Bool (eqb id e.0)) [
-      | inl same ↦ rw same (elim (cases_Bool (test e.1)) [
-        | inl on ↦ on
-        | inr off ↦ (
-            let there : IsIn id (keys_of es) = in_keys test es id (rw off at here) in
-            let apart : eqb e.0 id ≡ false = all_in (λ (k : ℕ). eqb e.0 k ≡ false) id (keys_of es) (IsDistinct-head nat_eq e.0 (keys_of es) distinct) there in
-            absurd (true≢false (sym (subst (λ (k : ℕ). eqb e.0 k ≡ true) (equal_from id e.0 same) (equal_self e.0)) ∙ apart)))
-      ])
-      | inr other ↦ rw other (found_once test es id (IsDistinct-tail nat_eq e.0 (keys_of es) distinct) (elim (cases_Bool (test e.1)) [
-        | inl on ↦ (let there : IsIn id (e.0 ∷ keys_where test es) = rw on at here in elim there [ inl first ↦ absurd (true≢false (sym (subst (λ (k : ℕ). eqb k e.0 ≡ true) first (equal_self e.0)) ∙ other)) | inr rest ↦ rest ])
-        | inr off ↦ rw off at here
-      ]))
-    ]
+  pub found_once : (test : X → Bool) (es : List (ℕ × X)) (id : ℕ) → IsDistinct nat_eq (keys_of es) → IsIn id (keys_where test es) → IsFound test (lookup (nat_eq id) es)
+  found_once test [] id distinct here = absurd here
+  found_once test (e ∷ es) id distinct here =
+      elim (cases_Bool (eqb id e.0)) [
+        | inl same ↦ rw same (elim (cases_Bool (test e.1)) [
+          | inl on ↦ on
+          | inr off ↦ (
+              let there : IsIn id (keys_of es) = in_keys test es id (rw off at here) in
+              let apart : eqb e.0 id ≡ false = all_in (λ (k : ℕ). eqb e.0 k ≡ false) id (keys_of es) (IsDistinct-head nat_eq e.0 (keys_of es) distinct) there in
+              absurd (true≢false (sym (subst (λ (k : ℕ). eqb e.0 k ≡ true) (equal_from id e.0 same) (equal_self e.0)) ∙ apart)))
+        ])
+        | inr other ↦ rw other (found_once test es id (IsDistinct-tail nat_eq e.0 (keys_of es) distinct) (elim (cases_Bool (test e.1)) [
+          | inl on ↦ (let there : IsIn id (e.0 ∷ keys_where test es) = rw on at here in elim there [ inl first ↦ absurd (true≢false (sym (subst (λ (k : ℕ). eqb k e.0 ≡ true) first (equal_self e.0)) ∙ other)) | inr rest ↦ rest ])
+          | inr off ↦ rw off at here
+        ]))
+      ]
 
 came : (conn : ℕ) (o : Option Waiting) → IsFound (λ (r : Waiting). covers (scope.Connection conn) r.place) o → came_by conn o ≡ true
 came conn None found = absurd found

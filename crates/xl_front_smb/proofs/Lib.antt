@@ -14,3 +14,4 @@ pub mod WaitLaws
 pub mod LockLaws
 pub mod RangeLaws
 pub mod CancelLaws
+pub mod AwaitLaws
