@@ -180,7 +180,7 @@ first_few s l current a x given =
     let once : AreGivenOut s.counter m = renewed_given s.counter s l (state_client s l x.open_stateid) given in
     (once, λ t le. named_few t m current a x (later_on s.counter t.counter m le once))
 
-lock_few : (s : CoreState) (l : NfsLists) (current : Option ℕ) (a : LockArgsItem) → AreGivenOut s.counter l → AreFew s.counter (first.lock s l current a)
+pub lock_few : (s : CoreState) (l : NfsLists) (current : Option ℕ) (a : LockArgsItem) → AreGivenOut s.counter l → AreFew s.counter (first.lock s l current a)
 unfolding first.lock
 lock_few s l current a given = by a.locker
   where
@@ -206,7 +206,7 @@ test_at_few last s l a (Some at) given =
       | inr e ↦ rw e (test_of_few last l (Some at) a at (client_in s l a.owner.clientid) given)
     ]
 
-test_few : (s : CoreState) (l : NfsLists) (current : Option ℕ) (a : LockTestArgsItem) → AreGivenOut s.counter l → AreFew s.counter (lock_test s l current a)
+pub test_few : (s : CoreState) (l : NfsLists) (current : Option ℕ) (a : LockTestArgsItem) → AreGivenOut s.counter l → AreFew s.counter (lock_test s l current a)
 unfolding lock_test
 test_few s l current a given =
     let m : NfsLists = renewed_for s l (number_in s a.owner.clientid) in
@@ -237,7 +237,7 @@ unlock_by last s l current a (Refused status) given = does_few last [] l given
 unlock_by last s l current a (Repeated owner) given = repeat_few last s l current (find (is_kept owner) l.kept) given
 unlock_by last s l current a (Passed r owner turn) given = unlock_standing_few last l current a r owner turn (standing_fault r turn a.stateid.seqid true) given
 
-unlock_few : (s : CoreState) (l : NfsLists) (current : Option ℕ) (a : UnlockArgs) → AreGivenOut s.counter l → AreFew s.counter (unlock s l current a)
+pub unlock_few : (s : CoreState) (l : NfsLists) (current : Option ℕ) (a : UnlockArgs) → AreGivenOut s.counter l → AreFew s.counter (unlock s l current a)
 unfolding unlock
 unlock_few s l current a given =
     let m : NfsLists = renewed_for s l (state_client s l a.stateid) in
@@ -258,7 +258,7 @@ release_of_few last s l current owner (Some c) given =
       | inr e ↦ rw e (does_few last [] (without_found l row) (found_given last l row given))
     ]
 
-release_few : (s : CoreState) (l : NfsLists) (current : Option ℕ) (a : OwnerItem) → AreGivenOut s.counter l → AreFew s.counter (release s l current a)
+pub release_few : (s : CoreState) (l : NfsLists) (current : Option ℕ) (a : OwnerItem) → AreGivenOut s.counter l → AreFew s.counter (release s l current a)
 unfolding release
 release_few s l current a given =
     let m : NfsLists = renewed_for s l (number_in s a.clientid) in

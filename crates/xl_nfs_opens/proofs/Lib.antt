@@ -23,3 +23,4 @@ pub mod KnownLaws
 pub mod ShutLaws
 pub mod NumberLaws
 pub mod LengthLaws
+pub mod TiedLaws

@@ -263,7 +263,7 @@ at_few last files others s l a (Some at) given = of (client_in s l a.owner.clien
     of None = does_few last [] l given
     of (Some c) = judged_few last files others s l (Some at) at (opener_of c a) a (judged l (opener_of c a) a.seqid) given
 
-open_few : (files : List (List ℕ)) (others : ℕ) (s : CoreState) (l : NfsLists) (current : Option ℕ) (a : OpenArgsItem) → AreGivenOut s.counter l → AreFew s.counter (open_file files others s l current a)
+pub open_few : (files : List (List ℕ)) (others : ℕ) (s : CoreState) (l : NfsLists) (current : Option ℕ) (a : OpenArgsItem) → AreGivenOut s.counter l → AreFew s.counter (open_file files others s l current a)
 unfolding open_file open_claimed
 open_few files others s l current a given =
     let m : NfsLists = renewed_for s l (number_in s a.owner.clientid) in
@@ -286,7 +286,7 @@ confirm_by_few last s l current a (Refused status) given = does_few last [] l gi
 confirm_by_few last s l current a (Repeated owner) given = repeat_few last s l current (find (is_kept owner) l.kept) given
 confirm_by_few last s l current a (Passed r owner turn) given = confirm_done_few last s l current a r owner turn (standing_fault r turn a.stateid.seqid false) given
 
-confirm_few : (s : CoreState) (l : NfsLists) (current : Option ℕ) (a : OpenConfirmArgs) → AreGivenOut s.counter l → AreFew s.counter (open_confirm s l current a)
+pub confirm_few : (s : CoreState) (l : NfsLists) (current : Option ℕ) (a : OpenConfirmArgs) → AreGivenOut s.counter l → AreFew s.counter (open_confirm s l current a)
 unfolding open_confirm
 confirm_few s l current a given =
     let m : NfsLists = renewed_for s l (state_client s l a.stateid) in
@@ -302,7 +302,7 @@ downgrade_by_few last s l current a (Refused status) given = does_few last [] l 
 downgrade_by_few last s l current a (Repeated owner) given = repeat_few last s l current (find (is_kept owner) l.kept) given
 downgrade_by_few last s l current a (Passed r owner turn) given = downgrade_done_few last s l current a r owner turn (downgrade_fault r turn a) given
 
-downgrade_few : (s : CoreState) (l : NfsLists) (current : Option ℕ) (a : OpenDowngradeArgs) → AreGivenOut s.counter l → AreFew s.counter (open_downgrade s l current a)
+pub downgrade_few : (s : CoreState) (l : NfsLists) (current : Option ℕ) (a : OpenDowngradeArgs) → AreGivenOut s.counter l → AreFew s.counter (open_downgrade s l current a)
 unfolding open_downgrade
 downgrade_few s l current a given =
     let m : NfsLists = renewed_for s l (state_client s l a.stateid) in
@@ -325,14 +325,14 @@ close_by_few last s l current a (Refused status) given = does_few last [] l give
 close_by_few last s l current a (Repeated owner) given = repeat_few last s l current (find (is_kept owner) l.kept) given
 close_by_few last s l current a (Passed r owner turn) given = close_done_few last s l current a r owner turn (standing_fault r turn a.stateid.seqid true) given
 
-close_few : (s : CoreState) (l : NfsLists) (current : Option ℕ) (a : CloseArgs) → AreGivenOut s.counter l → AreFew s.counter (close s l current a)
+pub close_few : (s : CoreState) (l : NfsLists) (current : Option ℕ) (a : CloseArgs) → AreGivenOut s.counter l → AreFew s.counter (close s l current a)
 unfolding close
 close_few s l current a given =
     let m : NfsLists = renewed_for s l (state_client s l a.stateid) in
     let once : AreGivenOut s.counter m = renewed_given s.counter s l (state_client s l a.stateid) given in
     (once, λ t le. close_by_few t.counter t m current a (checked t m current 4 a.seqid a.stateid) (later_on s.counter t.counter m le once))
 
-return_few : (s : CoreState) (l : NfsLists) (current : Option ℕ) (stateid : Stateid) → AreGivenOut s.counter l → AreFew s.counter (deleg_return s l current stateid)
+pub return_few : (s : CoreState) (l : NfsLists) (current : Option ℕ) (stateid : Stateid) → AreGivenOut s.counter l → AreFew s.counter (deleg_return s l current stateid)
 unfolding deleg_return
 return_few s l current stateid given =
     let m : NfsLists = renewed_for s l (state_client s l stateid) in

@@ -22,6 +22,7 @@ mod repeats;
 mod results;
 mod seqids;
 mod shares;
+pub mod tied;
 mod told;
 
 pub use asks::{range_ask, unlock_ask};
