@@ -9,3 +9,4 @@ pub mod DoesLaws
 pub mod OwnLaws
 pub mod HandleLaws
 pub mod OrderlyLaws
+pub mod NumberLaws

@@ -8,6 +8,7 @@ mod ending;
 mod front;
 mod handles;
 pub mod law;
+pub mod numbers;
 pub mod orderly;
 mod rows;
 mod serving;

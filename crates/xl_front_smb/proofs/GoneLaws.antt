@@ -176,7 +176,7 @@ dropped_connections : (numbers : List ℕ) (l : Lists) → (trees_dropped number
 dropped_connections [] l = refl
 dropped_connections (number ∷ numbers) l = dropped_connections numbers (tree_dropped number l)
 
-gone_opens : (number : ℕ) (l : Lists) → (session_gone number l).opens ≡ l.opens
+pub gone_opens : (number : ℕ) (l : Lists) → (session_gone number l).opens ≡ l.opens
 unfolding session_gone
 gone_opens number l = dropped_opens (trees_of number l) l
 

@@ -13,3 +13,5 @@ pub mod FinalLaws
 pub mod WaitLaws
 pub mod LockLaws
 pub mod RangeLaws
+pub mod CancelLaws
+pub mod AwaitLaws

@@ -1,7 +1,6 @@
 -- Requests wait on the connection that they came by, and final replies go there.
-use Rattle.std.proofs.Common.{◌≡◌, ℕ, ◌+◌, Bool, true, false, not, ◌&&◌, eqb, if◌then◌else◌, ◌++◌, List, [], ◌∷◌, length, Option, Some, None, refl, sym, ap, subst, ◌∙◌, inl, inr}
+use Rattle.std.proofs.Common.{◌≡◌, ℕ, ◌+◌, Bool, true, false, not, eqb, if◌then◌else◌, List, [], ◌∷◌, length, Option, Some, None, refl, sym, ap, subst, ◌∙◌, inl, inr}
 use Rattle.std.specs.Prelude.{◌==◌, nat_lt, is_some, filter, Result, Ok, Err}
-use Rattle.std.specs.List.{AllByRecursion}
 use Rattle.std.proofs.lemmas.Bool.{cases_Bool, false≢true, eqb-true}
 use Rattle.xl_base.proofs.Members.{all_append}
 use Rattle.xl_base.specs.declared.event.Out.{Out}
@@ -19,7 +18,7 @@ use Rattle.xl_smb.specs.declared.file.FileId.{FileId}
 use Rattle.xl_smb.specs.declared.head.SmbHead.{SmbHead}
 use Rattle.xl_smb.specs.declared.lock.LockElement.{LockElement}
 use Rattle.xl_smb_state.specs.Links.{has_place}
-use Rattle.xl_smb_state.specs.State.{Lists, connection_of, connection_changed, client_of, session_of, sessions_on, tree_dropped, trees_of, open_of, opens_under, closed, waiting_under, waiting_added}
+use Rattle.xl_smb_state.specs.State.{Lists, connection_of, connection_changed, client_of, session_of, sessions_on, tree_dropped, trees_of, open_of, opens_under, closed, waiting_under}
 use Rattle.xl_smb_state.specs.declared.row.Holder.{Holder}
 use Rattle.xl_smb_state.specs.declared.row.Holder.TheVariants as holder
 use Rattle.xl_smb_state.specs.declared.row.Open.{Open}
@@ -32,8 +31,8 @@ use Rattle.xl_core.specs.State.{CoreState, drawn}
 use Rattle.xl_core.specs.declared.ask.Answer.{Answer}
 use Rattle.xl_core.specs.declared.ask.Answer.TheVariants as answers
 use Rattle.xl_core.specs.declared.ask.Effect.{Effect}
-use Rattle.xl_smb_locks.specs.Elements.{is_count, unlocks_first, any_waits, lock_fault, refusal}
-use Rattle.xl_smb_locks.specs.Locks.{no_rows, lock_ask, unlocks, lock_told}
+use Rattle.xl_smb_locks.specs.Elements.{is_count, unlocks_first, lock_fault}
+use Rattle.xl_smb_locks.specs.Locks.{no_rows, unlocks, lock_told}
 use Rattle.xl_smb_locks.specs.declared.locking.Locking.{Locking}
 use Rattle.xl_smb_locks.specs.declared.locking.Locking.TheVariants as locking
 use Rattle.xl_smb_locks.specs.declared.status.SmbStatus.{SmbStatus}
@@ -44,12 +43,12 @@ use Rattle.xl_front_smb.specs.Checks.{is_fresh, is_open_on, file_number, number_
 use Rattle.xl_front_smb.specs.Ending.{all_closed, trees_dropped, session_gone, sessions_gone, connection_gone, smb_end}
 use Rattle.xl_front_smb.specs.Files.{open_as, has_room_for_open, open_file, open_found, overwrites, create_on, create, close_open, close, level_refused, break_by, acknowledge}
 use Rattle.xl_front_smb.specs.FrontSmb.{sent_by, head_heard, plan_for, smb_shown, stepped, smb_step}
-use Rattle.xl_front_smb.specs.Locks.{waiting_row, place_of, has_room_to_wait, unlock_by, lock_by, lock_found, lock, request_named, cancel_named, cancel}
+use Rattle.xl_front_smb.specs.Locks.{waiting_row, place_of, unlock_by, lock_by, lock_found, lock, request_named, cancel_named, cancel}
 use Rattle.xl_front_smb.specs.Owners.{is_session_on}
 use Rattle.xl_front_smb.specs.Plans.{Plan, Fails, Does, Opens, Locks, opened_lists, lists_as, carried}
-use Rattle.xl_front_smb.specs.Replies.{tree_id, reply_of}
+use Rattle.xl_front_smb.specs.Replies.{reply_of}
 use Rattle.xl_front_smb.specs.Requests.{commanded, planned, read_as, requested}
-use Rattle.xl_front_smb.specs.Sessions.{offers, negotiate, has_room_for_session, set_up_as, set_up, session_setup, logoff, has_room_for_tree, connect_as, connect, tree_connect, disconnect, tree_disconnect}
+use Rattle.xl_front_smb.specs.Sessions.{offers, negotiate, has_room_for_session, set_up_as, session_setup, logoff, has_room_for_tree, connect_as, connect, tree_connect, disconnect, tree_disconnect}
 use Rattle.xl_front_smb.specs.State.{FrontSmb}
 use Rattle.xl_front_smb.specs.Texts.{is_share, file_spelled}
 use Rattle.xl_front_smb.specs.declared.told.Told.TheVariants as told
@@ -64,7 +63,7 @@ Keeps l conn (Does deeds lists told) = lists.waiting ≡ l.waiting
 Keeps l conn (Opens left a number row told) = Unit {0}
 Keeps l conn (Locks a refused row) = row.place.connection ≡ conn
 
-closed_waiting : (numbers : List ℕ) (l : Lists) → (all_closed numbers l).waiting ≡ l.waiting
+pub closed_waiting : (numbers : List ℕ) (l : Lists) → (all_closed numbers l).waiting ≡ l.waiting
 closed_waiting [] l = refl
 closed_waiting (number ∷ numbers) l = closed_waiting numbers (closed number l)
 
@@ -72,11 +71,11 @@ dropped_waiting : (numbers : List ℕ) (l : Lists) → (trees_dropped numbers l)
 dropped_waiting [] l = refl
 dropped_waiting (number ∷ numbers) l = dropped_waiting numbers (tree_dropped number l)
 
-gone_waiting : (number : ℕ) (l : Lists) → (session_gone number l).waiting ≡ l.waiting
+pub gone_waiting : (number : ℕ) (l : Lists) → (session_gone number l).waiting ≡ l.waiting
 unfolding session_gone
 gone_waiting number l = dropped_waiting (trees_of number l) l
 
-all_gone_waiting : (numbers : List ℕ) (l : Lists) → (sessions_gone numbers l).waiting ≡ l.waiting
+pub all_gone_waiting : (numbers : List ℕ) (l : Lists) → (sessions_gone numbers l).waiting ≡ l.waiting
 all_gone_waiting [] l = refl
 all_gone_waiting (number ∷ numbers) l = all_gone_waiting numbers (session_gone number l) ∙ gone_waiting number l
 
@@ -154,7 +153,7 @@ close_keeps s l conn client h id =
     (λ k on. by_tree (Keeps l conn) _ _ (has_place _ client l) tt (λ there. by_open (Keeps l conn) (λ number. is_open_on conn (open_of number l)) (close_open l) (file_number s id) tt (λ number under. refl)))
 
 -- an open that is found stands on the connection
-stands_on : (conn : ℕ) (by : Holder) (place : Place) (row : Open) → row.holder ≡ by → is_open_on conn (Some row) ≡ true → (place_of row.holder place).connection ≡ conn
+pub stands_on : (conn : ℕ) (by : Holder) (place : Place) (row : Open) → row.holder ≡ by → is_open_on conn (Some row) ≡ true → (place_of row.holder place).connection ≡ conn
 stands_on conn (holder.Tree at) place row is on =
     ap (λ (h : Holder). (place_of h place).connection) is ∙ eqb-true at.connection conn (sym (ap (λ (h : Holder). covers_by conn h) is) ∙ on) where
       covers_by : ℕ → Holder → Bool

@@ -13,3 +13,4 @@ pub mod Requests
 pub mod FrontSmb
 pub mod Laws
 pub mod LockLaws
+pub mod Awaits

@@ -187,16 +187,16 @@ length_turned p turn (x ∷ os) =
       | inr e ↦ rw e (ap suc (length_turned p turn os))
     ]
 
-next_turned : (p : OwnerRow → Bool) (turn : Turn) (os : List OwnerRow) → next_owner (changed p (with_turn turn) os) ≡ next_owner os
+pub next_turned : (p : OwnerRow → Bool) (turn : Turn) (os : List OwnerRow) → next_owner (changed p (with_turn turn) os) ≡ next_owner os
 next_turned p turn os =
     ap (λ (n : ℕ). if nat_lt n most_owners && nat_lt (last_number (changed p (with_turn turn) os) + 1) (2 ^ 64) then Some (last_number (changed p (with_turn turn) os) + 1) else None) (length_turned p turn os)
     ∙ ap (λ (n : ℕ). if nat_lt (length os) most_owners && nat_lt (n + 1) (2 ^ 64) then Some (n + 1) else None) (last_turned p turn os)
 
-counted_owners : (owner : ℕ) (closed : Option ℕ) (turn : Turn) (bytes : List ℕ) (l : NfsLists) → (counted owner closed turn bytes l).owners ≡ changed (is_owner owner) (with_turn turn) l.owners
+pub counted_owners : (owner : ℕ) (closed : Option ℕ) (turn : Turn) (bytes : List ℕ) (l : NfsLists) → (counted owner closed turn bytes l).owners ≡ changed (is_owner owner) (with_turn turn) l.owners
 unfolding counted
 counted_owners owner closed turn bytes l = kept_owners owner bytes (closed_gone closed (turned owner turn l)) ∙ gone_owners closed (turned owner turn l)
 
-room_stays : (o : Opener) (owner : ℕ) (closed : Option ℕ) (turn : Turn) (bytes : List ℕ) (l : NfsLists) → is_room_for o l ≡ true → is_room_for o (counted owner closed turn bytes l) ≡ true
+pub room_stays : (o : Opener) (owner : ℕ) (closed : Option ℕ) (turn : Turn) (bytes : List ℕ) (l : NfsLists) → is_room_for o l ≡ true → is_room_for o (counted owner closed turn bytes l) ≡ true
 room_stays o owner closed turn bytes l room =
     ap (λ (os : List OwnerRow). is_some (find (is_opener o) os) || is_some (next_owner os)) (counted_owners owner closed turn bytes l)
     ∙ ap (λ (b : Bool). b || is_some (next_owner (changed (is_owner owner) (with_turn turn) l.owners))) (found_turned (is_opener o) (is_owner owner) turn l.owners (λ x. refl))

@@ -7,3 +7,5 @@ pub mod ByteLaws
 pub mod StatusLaws
 pub mod KeepLaws
 pub mod CloseLaws
+pub mod CountLaws
+pub mod NumberLaws

@@ -7,3 +7,4 @@ pub mod Tests
 pub mod Locks
 pub mod FirstLocks
 pub mod Laws
+pub mod Counting

@@ -3,11 +3,13 @@
 
 mod asks;
 mod checking;
+pub mod counting;
 mod denials;
 mod joining;
 pub mod law;
 mod locking;
 mod locks;
+pub mod numbers;
 pub mod orderly;
 mod ranges;
 mod releasing;

@@ -86,7 +86,7 @@ left_found p q (s ∷ ss) r e stays =
 not_under : (m by : ℕ) (h : Holder) → h ≡ holders.Open by → is_under m h ≡ false
 not_under m by h e = ap (λ (x : Holder). is_under m x) e
 
-still_there : (closed : Option ℕ) (l : NfsLists) (r : StateidRow) (by : ℕ) → find (is_stateid r.number) l.stateids ≡ Some r → r.holder ≡ holders.Open by → (closed ≡ Some r.number → ⊥) → find (is_stateid r.number) (closed_gone closed l).stateids ≡ Some r
+pub still_there : (closed : Option ℕ) (l : NfsLists) (r : StateidRow) (by : ℕ) → find (is_stateid r.number) l.stateids ≡ Some r → r.holder ≡ holders.Open by → (closed ≡ Some r.number → ⊥) → find (is_stateid r.number) (closed_gone closed l).stateids ≡ Some r
 still_there None l r by found holds other = found
 still_there (Some m) l r by found holds other =
     left_found (is_stateid r.number) (is_whose (whose.Stateid m)) l.stateids r found (elim (cases_Bool (m == r.number)) [

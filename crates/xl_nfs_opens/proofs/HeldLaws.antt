@@ -24,11 +24,11 @@ item_fits : (h : HeldLock) → h.offset < 2 ^ 64 → h.len < 2 ^ 64 → h.client
 unfolding denied lock_type owner
 item_fits h offset len clientid few = (offset, (len, (tt, (clientid, few))))
 
-lock_fits : (h : HeldLock) → denied.Fit (denied_item h) → ResultFits (LockAnswer (Err (DeniedBy (denied_item h))))
+pub lock_fits : (h : HeldLock) → denied.Fit (denied_item h) → ResultFits (LockAnswer (Err (DeniedBy (denied_item h))))
 unfolding nfs_result lock_outcome status
 lock_fits h fit = (omega arith, (tt, fit))
 
-test_fits : (h : HeldLock) → denied.Fit (denied_item h) → ResultFits (LockTAnswer (Err (DeniedBy (denied_item h))))
+pub test_fits : (h : HeldLock) → denied.Fit (denied_item h) → ResultFits (LockTAnswer (Err (DeniedBy (denied_item h))))
 unfolding nfs_result lock_outcome status
 test_fits h fit = (omega arith, (tt, fit))
 
@@ -45,7 +45,7 @@ pub free_fits : ResultFits (LockTAnswer (Ok tt))
 unfolding nfs_result lock_outcome status nothing
 free_fits = (omega arith, (tt, tt))
 
-free_little : length (nfs_result.spell (LockTAnswer (Ok tt))) ≤ 24
+pub free_little : length (nfs_result.spell (LockTAnswer (Ok tt))) ≤ 24
 unfolding nfs_result nothing void big_endian lock_outcome status
 free_little = omega arith
 

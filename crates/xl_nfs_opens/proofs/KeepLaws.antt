@@ -169,7 +169,7 @@ pub record IsSeated (o : Opener) (turn : Turn) (l new : NfsLists) : Type 0 where
   pub client : row.name.client ≡ o.client
   pub kind : row.name.kind ≡ o.kind
 
-passes : (p : OwnerRow → Bool) (os : List OwnerRow) (x : OwnerRow) → find p os ≡ Some x → p x ≡ true
+pub passes : (p : OwnerRow → Bool) (os : List OwnerRow) (x : OwnerRow) → find p os ≡ Some x → p x ≡ true
 passes p [] x found = absurd (true≢false (ap is_some (sym found)))
 passes p (y ∷ os) x found =
     elim (cases_Bool (p y)) [

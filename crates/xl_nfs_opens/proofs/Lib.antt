@@ -21,3 +21,6 @@ pub mod PassedLaws
 pub mod KeepLaws
 pub mod KnownLaws
 pub mod ShutLaws
+pub mod NumberLaws
+pub mod LengthLaws
+pub mod TiedLaws

@@ -229,7 +229,7 @@ fault_fits number s le f =
       ]
     ]
 
-ended_little : (number : ℕ) (s : NfsStatus) → length (nfs_result.spell (ended_as number s)) ≤ 24
+pub ended_little : (number : ℕ) (s : NfsStatus) → length (nfs_result.spell (ended_as number s)) ≤ 24
 ended_little number s =
     elim (cases_Bool (number == 4)) [
       | inl e ↦ subst (λ (m : ℕ). length (nfs_result.spell (ended_as m s)) ≤ 24) (sym (eqb-true number 4 e)) (little_4 s)
@@ -287,7 +287,7 @@ pub handle_fits : (file : ℕ) → ResultFits (GetFhAnswer (Ok (handle file)))
 unfolding nfs_result outcome status fh
 handle_fits file = (omega arith, (tt, omega arith))
 
-handle_little : (file : ℕ) → length (nfs_result.spell (GetFhAnswer (Ok (handle file)))) ≤ 24
+pub handle_little : (file : ℕ) → length (nfs_result.spell (GetFhAnswer (Ok (handle file)))) ≤ 24
 unfolding nfs_result outcome status fh opaque fixed pad big_endian
 handle_little file = omega arith
 
@@ -303,7 +303,7 @@ eight_more : (number clientid : ℕ) (v : List ℕ) → length v ≡ 8 → lengt
 unfolding big_endian
 eight_more number clientid v e = omega (arith, fixed_little v e)
 
-client_little : (c : ClientConfirm) → length c.verifier ≡ 8 → length (nfs_result.spell (SetClientIdAnswer (Ok c))) ≤ 24
+pub client_little : (c : ClientConfirm) → length c.verifier ≡ 8 → length (nfs_result.spell (SetClientIdAnswer (Ok c))) ≤ 24
 unfolding nfs_result outcome status status_number client_confirm
 client_little c e = eight_more 35 c.clientid c.verifier e
 
@@ -400,7 +400,7 @@ state_little_21 : (s : Stateid) → length (stateid.spell s) ≤ 16 → length (
 unfolding nfs_result outcome status status_number
 state_little_21 s le = eight_state 21 (stateid.spell s) le
 
-state_little : (number : ℕ) (s : Stateid) → length s.other ≡ 12 → length (nfs_result.spell (state_as number s)) ≤ 24
+pub state_little : (number : ℕ) (s : Stateid) → length s.other ≡ 12 → length (nfs_result.spell (state_as number s)) ≤ 24
 state_little number s other =
     let le = stateid_little s other in
     elim (cases_Bool (number == 4)) [

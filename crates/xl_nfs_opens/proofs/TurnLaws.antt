@@ -29,7 +29,7 @@ use Rattle.xl_nfs_opens.proofs.KeptLaws.{entered_owners, gone_owners}
 use Rattle.xl_nfs_opens.proofs.OpenLaws.{kept_owners}
 use Rattle.xl_nfs_opens.proofs.OwnerLaws.{own_client}
 
-differs : (a b : ℕ) → (a ≡ b → ⊥) → (a == b) ≡ false
+pub differs : (a b : ℕ) → (a ≡ b → ⊥) → (a == b) ≡ false
 differs a b other =
     elim (cases_Bool (a == b)) [
       | inl h ↦ absurd (other (eqb-true a b h))
@@ -105,14 +105,14 @@ others_seated o turn l None None number e other = rw e refl
 
 -- ---- a request that counted
 
-seated_come : (o : Opener) (turn : Turn) (l : NfsLists) → IsRising l.owners → is_room_for o l ≡ true → HasCome o turn l (seated o turn l)
+pub seated_come : (o : Opener) (turn : Turn) (l : NfsLists) → IsRising l.owners → is_room_for o l ≡ true → HasCome o turn l (seated o turn l)
 unfolding seated
 seated_come o turn l rising room = record {
   own = own_seated o turn l (find (is_opener o) l.owners) (next_owner l.owners) rising refl refl room;
   others = λ number other. others_seated o turn l (find (is_opener o) l.owners) (next_owner l.owners) number refl other;
 }
 
-same_come : (o : Opener) (turn : Turn) (l new : NfsLists) → new.owners ≡ (seated o turn l).owners → HasCome o turn l (seated o turn l) → HasCome o turn l new
+pub same_come : (o : Opener) (turn : Turn) (l new : NfsLists) → new.owners ≡ (seated o turn l).owners → HasCome o turn l (seated o turn l) → HasCome o turn l new
 same_come o turn l new same come = record {
   own = ap (λ (rs : List OwnerRow). option_map (λ (x : OwnerRow). x.turn) (find (is_opener o) rs)) same ∙ come.own;
   others = λ number other. ap (λ (rs : List OwnerRow). find (is_owner number) rs) same ∙ come.others number other;

@@ -11,4 +11,6 @@ pub mod Closing
 pub mod Downgrades
 pub mod Laws
 pub mod Orderly
+pub mod Numbers
+pub mod Lengths
 pub mod Owners

@@ -12,6 +12,8 @@ mod entering;
 mod files;
 pub mod law;
 mod leases;
+pub mod lengths;
+pub mod numbers;
 mod opener;
 mod opening;
 pub mod orderly;
@@ -20,6 +22,7 @@ mod repeats;
 mod results;
 mod seqids;
 mod shares;
+pub mod tied;
 mod told;
 
 pub use asks::{range_ask, unlock_ask};

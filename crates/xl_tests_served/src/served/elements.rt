@@ -5,7 +5,7 @@ use std::test::Fail;
 
 #[test]
 fn elements(rt: HostRuntime) -> Result<(), Fail> {
-    for cases in [ELEMENTS, CHECKS, WAITING, ENDS] {
+    for cases in [ELEMENTS, CHECKS, BESIDE_OTHERS, WAITING, ENDS] {
         let wrong = wrong_words(rt.alloc(), cases)?;
         assert!(rt; wrong.is_empty(), "{wrong}");
     }
@@ -95,6 +95,50 @@ B 0 : smb ranges ask .2 s1 three id3 at-0-10 give-up at-5-2 give-up at-20-10 giv
 7 c0 : answer RANGE_NOT_LOCKED ranges did .2 s1 error
 1 share smb:3 rw -
 1 range smb:3 20 29 x
+";
+
+/// Locks of NLM, NFSv4 and SMB stand against each other, each told in its own protocol's words.
+const BESIDE_OTHERS: &str = "\
+# NLM holds bytes 0 to 9 exclusively: a LOCK for writing of NFSv4 is told so, with clientid 0 and the owner `nlm` (RFC 7531
+# LOCK4denied), one of SMB with FAIL_IMMEDIATELY isn't granted. Once NLM unlocks them NFSv4 has its lock, and SMB has not.
+F a.txt
+O rpc
+O smb
+B 1 : smb negotiate ask .0 s0 hello
+B 1 : smb setup ask .0 s0 guest
+B 1 : smb tree ask .0 s1 xl
+B 1 : smb create ask .2 s1 made .3 .0 .7 .1 .0 named-a
+B 0 : nfs 1 setclientid none client none none
+B 0 : nfs 1 setconfirm k4 v5
+B 0 : nfs 2 root open 1 3 0 k4 owner byname a.txt
+B 0 : nfs 2 putfh f1 confirm 1 n6 2
+B 0 : lock 0 1 caller f1 0 7 bytes-0-9 0 0
+B 0 : nfs 2 putfh f1 lock4 2 0 bytes-5-14 1 3 2 n6 1 k4 owner-l
+B 1 : smb ranges ask .2 s1 one id3 at-5-10 exclusive-now
+B 0 : unlock caller f1 0 7 bytes-0-9
+B 0 : nfs 2 putfh f1 lock4 2 0 bytes-5-14 1 4 2 n6 2 k4 owner-l
+B 1 : smb ranges ask .2 s1 one id3 at-5-10 exclusive-now
+B 0 : test 1 caller-b f1 0 7 bytes-0-9
+=>
+0 0 17
+2 c1 : answer OK negotiate did .0 s0 welcome
+3 c1 : answer OK setup did .0 s1 guested
+4 c1 : answer OK tree did .2 s1 disk
+5 c1 : answer OK create did .2 s1 created id3 none
+6 c0 : told OK 0 1 setclientid OK k4 v5
+7 c0 : told OK 0 1 setconfirm OK
+8 c0 : told OK 0 2 root OK open OK 1 n6 cinfo 2 none
+9 c0 : told OK 0 2 putfh OK confirm OK 2 n6
+10 c0 : told 0 0
+11 c0 : told DENIED 0 2 putfh OK lock4 DENIED bytes-0-9 2 holder-nlm
+12 c1 : answer LOCK_NOT_GRANTED ranges did .2 s1 error
+13 c0 : told 0 0
+14 c0 : told OK 0 2 putfh OK lock4 OK 1 n7
+15 c1 : answer LOCK_NOT_GRANTED ranges did .2 s1 error
+16 c0 : told 0 1 1 0 0 bytes-5-14
+1 share nfs:63/6f rw -
+1 share smb:3 rw -
+1 range nfs:63/6c 5 14 x
 ";
 
 /// What LOCK checks, each before the next (MS-SMB2 3.3.5.14).

@@ -1,0 +1,17 @@
+use Rattle.xl_front_smb.proofs.AwaitLaws.{all_wait, start_awaited, step_awaited, shown_awaited, end_awaited}
+use Rattle.xl_front_smb.proofs.awaiting.waiting_requests_are_awaited.Goals as goal
+
+pub returns-clause-waits : goal.returns-clause-waits
+returns-clause-waits c = all_wait
+
+pub returns-clause-start : goal.returns-clause-start
+returns-clause-start c = start_awaited
+
+pub returns-clause-messages : goal.returns-clause-messages
+returns-clause-messages c = step_awaited
+
+pub returns-clause-shown : goal.returns-clause-shown
+returns-clause-shown c = shown_awaited
+
+pub returns-clause-ends : goal.returns-clause-ends
+returns-clause-ends c = end_awaited

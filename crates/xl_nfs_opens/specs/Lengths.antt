@@ -1,0 +1,22 @@
+-- How long results are, and what is read of those that are kept (RFC 7530 9.1.8).
+use Rattle.std.specs.Prelude.{ℕ, ◌<◌, ◌^◌, ◌==◌, ◌||◌, Bool}
+use Rattle.xl_nfs.specs.Basics.{stateid}
+use Rattle.xl_nfs.specs.Clients.{client_confirm}
+use Rattle.xl_nfs.specs.Locks.{denied}
+use Rattle.xl_nfs.specs.Results.{ResultFits}
+use Rattle.xl_nfs_opens.specs.Results.{denied_item, ended_as}
+use Rattle.xl_nfs_opens.specs.declared.told.Told.{Told}
+use Rattle.xl_nfs_opens.specs.declared.told.Told.TheVariants.{Ended, Client, Opened, State, Denied}
+
+-- each part of what the operation of this number told has a spelling
+abbrev pub PartsFit : ℕ → Told → Type 0
+PartsFit number (Ended status) = ResultFits (ended_as number status)
+PartsFit number (Client confirm) = client_confirm.Fit confirm
+PartsFit number (Opened opened flags) = stateid.Fit opened × (flags < 2 ^ 32)
+PartsFit number (State given) = stateid.Fit given
+PartsFit number (Denied held) = denied.Fit (denied_item held)
+PartsFit number _ = Unit {0}
+
+-- an operation by an owner's seqid: CLOSE, LOCK, LOCKU, OPEN, OPEN_CONFIRM, OPEN_DOWNGRADE
+abbrev pub has_seqid : ℕ → Bool
+has_seqid number = (number == 4) || ((number == 12) || ((number == 14) || ((number == 18) || ((number == 20) || (number == 21)))))
