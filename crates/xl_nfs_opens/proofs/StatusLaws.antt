@@ -22,6 +22,7 @@ use Rattle.xl_core.proofs.DeedLists.{deeds_good}
 use Rattle.xl_core.specs.Asking.{asker}
 use Rattle.xl_core.specs.Deeds.{all_done}
 use Rattle.xl_core.specs.Good.{IsGood}
+use Rattle.xl_core.specs.Blockers.{is_stopped}
 use Rattle.xl_core.specs.Causes.{IsClaimDue}
 use Rattle.xl_core.specs.Decide.{ask}
 use Rattle.xl_core.specs.State.{CoreState, drawn}
@@ -38,21 +39,27 @@ use Rattle.xl_nfs_opens.specs.declared.told.Told.TheVariants.{Ended}
 use Rattle.xl_nfs_opens.proofs.OpenOwn.{all_given, ask_fits}
 use Rattle.xl_matrix.specs.declared.claim.What.TheVariants as whats
 
-claim_forth : (s : CoreState) (a : Ask) (claim : Claim) (answer : Answer) → a.blocking ≡ false → IsClaimDue all_rooms s a claim answer → IsOpenTold s a claim (answer_status a.reclaim answer)
-claim_forth s a claim (answers.Granted c) rests due = (refl, due.1, due.2, due.3)
-claim_forth s a claim (answers.Conflict c) rests due = subst (λ (late : Bool). IsOpenTold s a claim (if late then statuses.ReclaimConflict else statuses.ShareDenied)) (sym due.0) (c, due)
-claim_forth s a claim (answers.Queued number) rests due = absurd (true≢false (sym due.2 ∙ rests))
-claim_forth s a claim (answers.NoGrace clock) rests due = (refl, due.1)
-claim_forth s a claim (answers.Full limit) rests due = (limit, due)
-claim_forth s a claim (answers.Recall c) rests due = absurd due
-claim_forth s a claim (answers.Grace until) rests due = absurd due
-claim_forth s a claim answers.NotRecorded rests due = absurd due
-claim_forth s a claim answers.NotHeld rests due = absurd due
-claim_forth s a claim answers.StoreFailed rests due = absurd due
+-- who waits for nothing may not wait
+no_wait : (b x y : Bool) → x ≡ false → y ≡ false → (if b then x else y) ≡ true → ⊥
+no_wait true x y hurries e may = true≢false (sym may ∙ hurries)
+no_wait false x y e hurries may = true≢false (sym may ∙ hurries)
+
+claim_forth : (s : CoreState) (a : Ask) (claim : Claim) (answer : Answer) → a.blocking ≡ false → a.awaits ≡ false → IsClaimDue all_rooms s a claim answer → IsOpenTold s a claim (answer_status a.reclaim answer)
+claim_forth s a claim (answers.Granted c) hurries rests due = (refl, due.1, due.2, due.3)
+claim_forth s a claim (answers.Conflict c) hurries rests due = subst (λ (late : Bool). IsOpenTold s a claim (if late then statuses.ReclaimConflict else statuses.ShareDenied)) (sym due.0) (c, due)
+claim_forth s a claim (answers.Queued number) hurries rests due = absurd (no_wait (is_stopped s.claims claim) a.blocking a.awaits hurries rests due.2)
+claim_forth s a claim (answers.NoGrace clock) hurries rests due = (refl, due.1)
+claim_forth s a claim (answers.Full limit) hurries rests due = (limit, due)
+claim_forth s a claim (answers.Recall c) hurries rests due = (c, due)
+claim_forth s a claim (answers.Grace until) hurries rests due = absurd due
+claim_forth s a claim answers.NotRecorded hurries rests due = absurd due
+claim_forth s a claim answers.NotHeld hurries rests due = absurd due
+claim_forth s a claim answers.StoreFailed hurries rests due = absurd due
 
 claim_back : (s : CoreState) (a : Ask) (claim : Claim) (r : Answer) → ((answer : Answer) → IsClaimDue all_rooms s a claim answer → r ≡ answer) → (status : NfsStatus) → IsOpenTold s a claim status → answer_status a.reclaim r ≡ status
 claim_back s a claim r exact statuses.Ok told = ap (λ (x : Answer). answer_status a.reclaim x) (exact (answers.Granted claim) told)
 claim_back s a claim r exact statuses.ShareDenied told = ap (λ (x : Answer). answer_status a.reclaim x) (exact (answers.Conflict told.0) told.1) ∙ ap (λ (late : Bool). if late then statuses.ReclaimConflict else statuses.ShareDenied) told.1.0
+claim_back s a claim r exact statuses.Delay told = ap (λ (x : Answer). answer_status a.reclaim x) (exact (answers.Recall told.0) told.1)
 claim_back s a claim r exact statuses.Resource told = ap (λ (x : Answer). answer_status a.reclaim x) (exact (answers.Full told.0) told.1)
 claim_back s a claim r exact statuses.NoGrace told = ap (λ (x : Answer). answer_status a.reclaim x) (exact (answers.NoGrace s.clock) told)
 claim_back s a claim r exact _ told = absurd told
@@ -64,7 +71,7 @@ share_exactly n s o a file status =
     let request = share_ask o a file in
     let claim = share_claim s o a file in
     let answer = (ask n all_rooms s request).0 in (
-      λ e. subst (λ (x : NfsStatus). IsOpenTold s request claim x) e (claim_forth s request claim answer refl ((lock_due n all_rooms s request (whats.Share (rights_of a.access) (rights_of a.deny)) answer refl).0 refl)),
+      λ e. subst (λ (x : NfsStatus). IsOpenTold s request claim x) e (claim_forth s request claim answer refl refl ((lock_due n all_rooms s request (whats.Share (rights_of a.access) (rights_of a.deny)) answer refl).0 refl)),
       λ told. claim_back s request claim answer (λ x due. (lock_due n all_rooms s request (whats.Share (rights_of a.access) (rights_of a.deny)) x refl).1 due) status told,
     )
 

@@ -23,6 +23,7 @@ range_ask o file act reclaim = record {
   wish = [];
   conn = None;
   blocking = false;
+  awaits = false;
   reclaim = reclaim;
   monitored = false;
   rows = no_rows;

@@ -57,11 +57,13 @@ pub record HasCome (o : Opener) (turn : Turn) (old new : NfsLists) : Type 0 wher
 abbrev pub share_claim : CoreState → Opener → OpenArgsItem → ℕ → Claim
 share_claim s o a file = asked_claim (share_ask o a file) (whats.Share (rights_of a.access) (rights_of a.deny)) s.names
 
--- OK where nothing stands against the share and there is room for it, SHARE_DENIED where something does, RESOURCE where a
--- limit is passed, and NO_GRACE for a reclaim, which comes too late; nothing else is told
+-- OK where nothing stands against the share and there is room for it, SHARE_DENIED where something does for good, DELAY where
+-- a cache keeps it off, RESOURCE where a limit is passed, and NO_GRACE for a reclaim, which comes too late; nothing else is
+-- told
 abbrev pub IsOpenTold : CoreState → Ask → Claim → NfsStatus → Type 0
 IsOpenTold s a claim statuses.Ok = IsClaimDue all_rooms s a claim (answers.Granted claim)
 IsOpenTold s a claim statuses.ShareDenied = (c : Claim) × IsClaimDue all_rooms s a claim (answers.Conflict c)
+IsOpenTold s a claim statuses.Delay = (c : Claim) × IsClaimDue all_rooms s a claim (answers.Recall c)
 IsOpenTold s a claim statuses.Resource = (limit : ℕ) × IsClaimDue all_rooms s a claim (answers.Full limit)
 IsOpenTold s a claim statuses.NoGrace = IsClaimDue all_rooms s a claim (answers.NoGrace s.clock)
 IsOpenTold s a claim _ = ⊥

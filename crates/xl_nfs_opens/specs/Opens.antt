@@ -199,6 +199,7 @@ share_ask o a file = record {
   wish = [];
   conn = None;
   blocking = false;
+  awaits = false;
   reclaim = reclaims a.claim;
   monitored = false;
   rows = no_rows;

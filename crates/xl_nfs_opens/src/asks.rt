@@ -40,6 +40,7 @@ pub fn range_ask(
         wish: Sequence::new(alloc),
         conn: None,
         blocking: false,
+        awaits: false,
         reclaim,
         monitored: false,
         rows: NO_ROWS,

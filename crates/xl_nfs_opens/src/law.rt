@@ -128,9 +128,9 @@ pub fn opens_again_are_widened()
 
 /// An OPEN that is judged further is told each status exactly where that has its cause (RFC 7530 9.9, 16.16). What it opens
 /// can't be opened: the first check that fails, and the core stays as it is. There is no room for its owner or for the open:
-/// RESOURCE, and nothing changes. Else OK where nothing held stands against its share, SHARE_DENIED where something does,
-/// RESOURCE where the core has no room, NO_GRACE where it reclaims, and no other. So is that of an owner that was never
-/// confirmed, once the shares of its opens are given back and it is gone.
+/// RESOURCE, and nothing changes. Else OK where nothing held stands against its share, SHARE_DENIED where something does for
+/// good, DELAY where a cache keeps it off, RESOURCE where the core has no room, NO_GRACE where it reclaims, and no other. So is
+/// that of an owner that was never confirmed, once the shares of its opens are given back and it is gone.
 pub fn open_statuses_have_causes()
     ensures told { (n : ℕ) (files : List (List ℕ)) (others : ℕ) (s : CoreState) (l : NfsLists) (current : Option ℕ) (at : ℕ) (o : OpenOwner) (a : OpenArgsItem) (confirmed : Bool) (file : ℕ) (status : NfsStatus) → goes_on (judged l o a.seqid) ≡ Some confirmed → opened_file files at a ≡ Ok file → has_room others l o file ≡ true → (status_of (carried n s l current (open_judged files others s l current at o a (judged l o a.seqid))).0 ≡ status) ↔ IsOpenTold s (share_ask o a file) (share_claim s o a file) status }
     ensures anew { (n : ℕ) (files : List (List ℕ)) (others : ℕ) (s t : CoreState) (l : NfsLists) (current : Option ℕ) (at : ℕ) (o : OpenOwner) (a : OpenArgsItem) (number file : ℕ) (status : NfsStatus) → judged l o a.seqid ≡ Anew number → t ≡ all_done n s (gives_all s o (filter (is_whose (OfOwner number)) l.stateids)) → opened_file files at a ≡ Ok file → has_room others (without_owner number l) o file ≡ true → (status_of (carried n s l current (open_judged files others s l current at o a (judged l o a.seqid))).0 ≡ status) ↔ IsOpenTold t (share_ask o a file) (share_claim t o a file) status }

@@ -176,6 +176,7 @@ pub(crate) fn share_ask(
         wish: Sequence::new(alloc),
         conn: None,
         blocking: false,
+        awaits: false,
         reclaim: reclaims(&args.claim),
         monitored: false,
         rows: NO_ROWS,
