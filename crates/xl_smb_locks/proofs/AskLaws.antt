@@ -5,6 +5,7 @@ use Rattle.std.proofs.lemmas.List.{length-append}
 use Rattle.xl_names.specs.declared.name.Name.{Name}
 use Rattle.xl_wait.specs.declared.waiter.Rooms.{Rooms}
 use Rattle.xl_wait.specs.declared.waiter.Waiter.{Waiter}
+use Rattle.xl_core.specs.Blockers.{is_stopped}
 use Rattle.xl_core.specs.Asking.{who_entered, both_entered, is_named, is_client}
 use Rattle.xl_core.specs.Decide.{Answered, waiter_of, ask}
 use Rattle.xl_core.specs.Judge.{held_with}
@@ -20,24 +21,27 @@ use Rattle.xl_core.specs.declared.ask.Who.TheVariants as who
 use Rattle.xl_core.proofs.ChangeLaws.{AskWay, Stays, Tests, Holds, Waits, Frees, Gives, ask_way}
 use Rattle.xl_core.proofs.RowLaws.{is_refusal}
 use Rattle.xl_core.proofs.FrameLaws.{ask_frame}
-use Rattle.xl_core.proofs.DeedCalls.{ask_may}
 use Rattle.xl_smb_locks.specs.Short.{IsReady, IsRangeAsk, Leaves}
 use Rattle.xl_smb_locks.proofs.LeaveLaws.{frame_leaves}
 
 -- ---- one who is told to wait asked to, and waits under the next number
 
-queued_way : (s : CoreState) (a : Ask) (id : ℕ) (r : Answered) → AskWay s a r → r.0 ≡ answers.Queued id → (id ≡ s.counter + 1) × (a.blocking ≡ true)
-queued_way s a id r (Stays answer refused e) at = absurd (both_ways (is_refusal answer) (ap is_refusal (sym (ap (λ (x : Answered). x.0) e) ∙ at)) refused)
-queued_way s a id r (Tests c holds e) at = let two : answers.Granted c ≡ answers.Queued id = sym (ap (λ (x : Answered). x.0) e) ∙ at in absurd cc
-queued_way s a id r (Holds c claims is holds e) at = let two : answers.Granted c ≡ answers.Queued id = sym (ap (λ (x : Answered). x.0) e) ∙ at in absurd cc
-queued_way s a id r (Waits claims may is holds e) at = let two : answers.Queued (s.counter + 1) ≡ answers.Queued id = sym (ap (λ (x : Answered). x.0) e) ∙ at in (sym (same two), may) where
+may_blocks : (b x y : Bool) → y ≡ x → (if b then x else y) ≡ true → x ≡ true
+may_blocks true x y same may = may
+may_blocks false x y same may = sym same ∙ may
+
+queued_way : (s : CoreState) (a : Ask) (id : ℕ) (r : Answered) → a.awaits ≡ a.blocking → AskWay s a r → r.0 ≡ answers.Queued id → (id ≡ s.counter + 1) × (a.blocking ≡ true)
+queued_way s a id r awaits (Stays answer refused e) at = absurd (both_ways (is_refusal answer) (ap is_refusal (sym (ap (λ (x : Answered). x.0) e) ∙ at)) refused)
+queued_way s a id r awaits (Tests c holds e) at = let two : answers.Granted c ≡ answers.Queued id = sym (ap (λ (x : Answered). x.0) e) ∙ at in absurd cc
+queued_way s a id r awaits (Holds c claims is holds e) at = let two : answers.Granted c ≡ answers.Queued id = sym (ap (λ (x : Answered). x.0) e) ∙ at in absurd cc
+queued_way s a id r awaits (Waits c cs may blocked is holds e) at = let two : answers.Queued (s.counter + 1) ≡ answers.Queued id = sym (ap (λ (x : Answered). x.0) e) ∙ at in (sym (same two), may_blocks (is_stopped s.claims c) a.blocking a.awaits awaits may) where
   same : {x y : ℕ} → answers.Queued x ≡ answers.Queued y → x ≡ y
   same h = cc
-queued_way s a id r (Frees claim first last holds act file owner e) at = let two : answers.Granted claim ≡ answers.Queued id = sym (ap (λ (x : Answered). x.0) e) ∙ at in absurd cc
-queued_way s a id r (Gives claim d holds act file owner range e) at = let two : answers.Granted claim ≡ answers.Queued id = sym (ap (λ (x : Answered). x.0) e) ∙ at in absurd cc
+queued_way s a id r awaits (Frees claim first last holds act file owner e) at = let two : answers.Granted claim ≡ answers.Queued id = sym (ap (λ (x : Answered). x.0) e) ∙ at in absurd cc
+queued_way s a id r awaits (Gives claim d holds act file owner range e) at = let two : answers.Granted claim ≡ answers.Queued id = sym (ap (λ (x : Answered). x.0) e) ∙ at in absurd cc
 
-pub queued_next : (n : ℕ) (left : Rooms) (s : CoreState) (a : Ask) (id : ℕ) → IsGood s → is_client a.owner a.party ≡ true → (ask n left s a).0 ≡ answers.Queued id → (id ≡ s.counter + 1) × (a.blocking ≡ true)
-queued_next n left s a id good client at = queued_way s a id (ask n left s a) (ask_way n left s a good client) at
+pub queued_next : (n : ℕ) (left : Rooms) (s : CoreState) (a : Ask) (id : ℕ) → IsGood s → IsRangeAsk a → (ask n left s a).0 ≡ answers.Queued id → (id ≡ s.counter + 1) × (a.blocking ≡ true)
+queued_next n left s a id good given at = queued_way s a id (ask n left s a) given.awaits (ask_way n left s a good given.fit.party) at
 
 -- ---- an open's ask enters no name
 
@@ -79,8 +83,8 @@ idle a names (answers.Full limit) never = (refl, refl)
 idle a names answers.NotHeld never = (refl, refl)
 idle a names answers.StoreFailed never = (refl, refl)
 
-never_waits : (n : ℕ) (left : Rooms) (s : CoreState) (a : Ask) (id : ℕ) → IsGood s → is_client a.owner a.party ≡ true → a.blocking ≡ false → (ask n left s a).0 ≡ answers.Queued id → ⊥
-never_waits n left s a id good client waits at = true≢false (sym (ask_may n left s a id good client at) ∙ waits)
+never_waits : (n : ℕ) (left : Rooms) (s : CoreState) (a : Ask) (id : ℕ) → IsGood s → IsRangeAsk a → a.blocking ≡ false → (ask n left s a).0 ≡ answers.Queued id → ⊥
+never_waits n left s a id good given waits at = true≢false (sym (queued_next n left s a id good given at).1 ∙ waits)
 
 framed : (s t : CoreState) (told : List Effect) (given : ℕ) (known : List Name) (come : List Waiter) → given ≡ 0 → known ≡ s.names → come ≡ [] → IsFrame s told t given known come → IsFrame s told t 0 s.names []
 framed s t told given known come g k c frame = subst (λ (x : List Waiter). IsFrame s told t 0 s.names x) c (subst (λ (x : List Name). IsFrame s told t 0 x come) k (subst (λ (x : ℕ). IsFrame s told t x known come) g frame))
@@ -88,7 +92,7 @@ framed s t told given known come g k c frame = subst (λ (x : List Waiter). IsFr
 idle_leaves : (n : ℕ) (left : Rooms) (s : CoreState) (a : Ask) → IsGood s → IsRangeAsk a → a.blocking ≡ false → IsGood (ask n left s a).2 → Leaves 0 s (ask n left s a).2
 idle_leaves n left s a good given waits kept =
     let r = ask n left s a in
-    let idles = idle a s.names r.0 (λ id at. never_waits n left s a id good given.fit.party waits at) in
+    let idles = idle a s.names r.0 (λ id at. never_waits n left s a id good given waits at) in
     frame_leaves s r.2 r.1 0 kept (framed s r.2 r.1 (drawn_by r.0) (names_after a r.0 s.names) (come_by a r.0 s.names) idles.0 (names_stay a s.names r.0 (same_names a.owner a.party s.names given.unnamed given.fit.party)) idles.1 (ask_frame n left s a good given.fit.party))
 
 -- so it leaves little
@@ -104,7 +108,7 @@ unfolding held_with
 waiters_way s a r (Stays answer refused e) = subst (λ (x : Answered). length x.2.waiters ≤ length s.waiters + 1) (sym e) (omega arith)
 waiters_way s a r (Tests c holds e) = subst (λ (x : Answered). length x.2.waiters ≤ length s.waiters + 1) (sym e) (omega arith)
 waiters_way s a r (Holds c claims is holds e) = subst (λ (x : Answered). length x.2.waiters ≤ length s.waiters + 1) (sym e) (omega arith)
-waiters_way s a r (Waits claims may is holds e) = subst (λ (x : Answered). length x.2.waiters ≤ length s.waiters + 1) (sym e) (omega (arith, length-append s.waiters (waiter_of (s.counter + 1) a claims ∷ [])))
+waiters_way s a r (Waits c cs may blocked is holds e) = subst (λ (x : Answered). length x.2.waiters ≤ length s.waiters + 1) (sym e) (omega (arith, length-append s.waiters (waiter_of (s.counter + 1) a (c ∷ cs) ∷ [])))
 waiters_way s a r (Frees claim first last holds act file owner e) = subst (λ (x : Answered). length x.2.waiters ≤ length s.waiters + 1) (sym e) (omega arith)
 waiters_way s a r (Gives claim d holds act file owner range e) = subst (λ (x : Answered). length x.2.waiters ≤ length s.waiters + 1) (sym e) (omega arith)
 

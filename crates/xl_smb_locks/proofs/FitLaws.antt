@@ -41,7 +41,7 @@ may_be_held number e within = held number e.offset e.length _ (e.length == 0) re
 
 pub unlock_fits : (file number : ℕ) (e : LockElement) → IsRangeAsk (unlock_ask file number e)
 unfolding unlock_ask
-unlock_fits file number e = record { fit = record { act = in_order e; own = refl; party = equal_self number }; unnamed = refl }
+unlock_fits file number e = record { fit = record { act = in_order e; own = refl; party = equal_self number }; unnamed = refl; awaits = refl }
 
 pub unlock_is : (a : Ask) (file number : ℕ) (e : LockElement) → a ≡ unlock_ask file number e → IsRangeAsk a
 unlock_is a file number e is = subst (λ (x : Ask). IsRangeAsk x) (sym is) (unlock_fits file number e)
@@ -101,6 +101,7 @@ lock_fits conn file number blocking (e ∷ es) h some waits =
     record {
       fit = record { act = (in_order e, alone number blocking e es h waits); own = all_held number (e ∷ es) (none_wraps (e ∷ es) h); party = equal_self number };
       unnamed = refl;
+      awaits = refl;
     }
 
 pub lock_is : (a : Ask) (conn file number : ℕ) (blocking : Bool) (es : List LockElement) → a ≡ lock_ask conn file number es blocking → lock_fault es ≡ None → 1 ≤ length es → (any_waits es ≡ false → blocking ≡ false) → IsRangeAsk a

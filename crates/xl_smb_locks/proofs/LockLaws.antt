@@ -42,7 +42,7 @@ pub waits_next : (n : ℕ) (left : Rooms) (s new : CoreState) (a : Ask) (answer 
     → a ≡ lock_ask conn file number es blocking → told ≡ lock_told refused answer → (id : ℕ) → told ≡ Waits id → (id ≡ s.counter + 1) × (blocking ≡ true)
 waits_next n left s new a answer effects conn file number es blocking refused told e good fits is said id waits =
     let queued : (ask n left s a).0 ≡ answers.Queued id = ap (λ (r : Answered). r.0) e ∙ queued_by refused answer id (sym said ∙ waits) in
-    let next = queued_next n left s a id good fits.fit.party queued in
+    let next = queued_next n left s a id good fits queued in
     (next.0, sym (lock_blocks conn file number es blocking) ∙ ap (λ (x : Ask). x.blocking) (sym is) ∙ next.1)
 
 -- one range more is listed

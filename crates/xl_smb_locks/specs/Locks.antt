@@ -35,6 +35,7 @@ range_ask conn file number act blocking = record {
   wish = [];
   conn = conn;
   blocking = blocking;
+  awaits = blocking;
   reclaim = false;
   monitored = false;
   rows = no_rows;

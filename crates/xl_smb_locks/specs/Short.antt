@@ -20,7 +20,8 @@ pub record Leaves (most : ℕ) (old new : CoreState) : Type 0 where
   pub waiters : new.counter + length new.waiters ≤ old.counter + length old.waiters + most
   pub names : new.names ≡ old.names
 
--- the ask is one for an open's ranges
+-- the ask is one for an open's ranges, which waits for a cache where it waits for what blocks it for good
 pub record IsRangeAsk (a : Ask) : Type 0 where
   pub fit : IsFit a
   pub unnamed : is_named a.owner ≡ false
+  pub awaits : a.awaits ≡ a.blocking

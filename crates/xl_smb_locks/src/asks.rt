@@ -41,6 +41,7 @@ fn range_ask(
         wish: Sequence::new(alloc),
         conn,
         blocking,
+        awaits: blocking,
         reclaim: false,
         monitored: false,
         rows: NO_ROWS,
