@@ -42,7 +42,7 @@ open_owns conn file number c = (refl, refl)
 
 open_of_call : (conn file number : ℕ) (c : CreateCallItem) → IsOpenAsk (open_ask conn file number c)
 unfolding open_ask
-open_of_call conn file number c = record { fit = open_fits conn file number c; unnamed = refl; waits = refl }
+open_of_call conn file number c = record { fit = open_fits conn file number c; unnamed = refl; waits = refl; awaits = refl }
 
 pub open_is : (a : Ask) (conn file number : ℕ) (c : CreateCallItem) → a ≡ open_ask conn file number c → IsOpenAsk a
 open_is a conn file number c e = subst (λ (x : Ask). IsOpenAsk x) (sym e) (open_of_call conn file number c)
@@ -50,4 +50,4 @@ open_is a conn file number c e = subst (λ (x : Ask). IsOpenAsk x) (sym e) (open
 -- ---- it leaves little
 
 pub ask_leaves : (n : ℕ) (left : Rooms) (s new : CoreState) (a : Ask) (answer : Answer) (effects : List Effect) → ask n left s a ≡ (answer, effects, new) → IsGood s → IsOpenAsk a → IsGood new → Leaves 0 s new
-ask_leaves n left s new a answer effects e good given kept = ask_idles n left s new a answer effects e good (record { fit = given.fit; unnamed = given.unnamed }) given.waits kept
+ask_leaves n left s new a answer effects e good given kept = ask_idles n left s new a answer effects e good (record { fit = given.fit; unnamed = given.unnamed; awaits = given.awaits ∙ sym given.waits }) given.waits kept

@@ -14,6 +14,7 @@ use Rattle.xl_smb_state.specs.declared.row.Open.{Open}
 use Rattle.xl_smb_state.specs.declared.row.Place.{Place}
 use Rattle.xl_smb_state.proofs.RowLaws.{equal_self, some_none}
 use Rattle.xl_wait.specs.declared.waiter.Rooms.{Rooms}
+use Rattle.xl_core.specs.Blockers.{is_stopped}
 use Rattle.xl_core.specs.Causes.{IsClaimDue}
 use Rattle.xl_core.specs.Decide.{ask}
 use Rattle.xl_core.specs.Good.{IsGood}
@@ -41,21 +42,27 @@ use Rattle.xl_front_smb.proofs.PlanLaws.{open_new}
 
 -- ---- by what the core is due to answer
 
-due_forth : (left : Rooms) (s : CoreState) (a : Ask) (claim : Claim) (id : ℕ) (answer : Answer) → a.reclaim ≡ false → a.blocking ≡ false → IsClaimDue left s a claim answer → IsOpenDue left s a claim id (opened_told (Opened id) answer)
-due_forth left s a claim id (answers.Granted c) timely hurries due = (refl, (refl, due.1, due.2, due.3))
-due_forth left s a claim id (answers.Conflict c) timely hurries due = (c, due)
-due_forth left s a claim id (answers.Full limit) timely hurries due = (limit, due)
-due_forth left s a claim id (answers.Queued number) timely hurries due = absurd (false≢true (sym hurries ∙ due.2))
-due_forth left s a claim id (answers.NoGrace clock) timely hurries due = absurd (false≢true (sym timely ∙ due.1))
-due_forth left s a claim id (answers.Recall c) timely hurries due = absurd due
-due_forth left s a claim id (answers.Grace until) timely hurries due = absurd due
-due_forth left s a claim id answers.NotRecorded timely hurries due = absurd due
-due_forth left s a claim id answers.NotHeld timely hurries due = absurd due
-due_forth left s a claim id answers.StoreFailed timely hurries due = absurd due
+-- who waits for nothing may not wait
+no_wait : (b x y : Bool) → x ≡ false → y ≡ false → (if b then x else y) ≡ true → ⊥
+no_wait true x y hurries e may = false≢true (sym hurries ∙ may)
+no_wait false x y e hurries may = false≢true (sym hurries ∙ may)
+
+due_forth : (left : Rooms) (s : CoreState) (a : Ask) (claim : Claim) (id : ℕ) (answer : Answer) → a.reclaim ≡ false → a.blocking ≡ false → a.awaits ≡ false → IsClaimDue left s a claim answer → IsOpenDue left s a claim id (opened_told (Opened id) answer)
+due_forth left s a claim id (answers.Granted c) timely hurries rests due = (refl, (refl, due.1, due.2, due.3))
+due_forth left s a claim id (answers.Conflict c) timely hurries rests due = (c, due)
+due_forth left s a claim id (answers.Full limit) timely hurries rests due = inl (limit, due)
+due_forth left s a claim id (answers.Queued number) timely hurries rests due = absurd (no_wait (is_stopped s.claims claim) a.blocking a.awaits hurries rests due.2)
+due_forth left s a claim id (answers.NoGrace clock) timely hurries rests due = absurd (false≢true (sym timely ∙ due.1))
+due_forth left s a claim id (answers.Recall c) timely hurries rests due = inr (c, due)
+due_forth left s a claim id (answers.Grace until) timely hurries rests due = absurd due
+due_forth left s a claim id answers.NotRecorded timely hurries rests due = absurd due
+due_forth left s a claim id answers.NotHeld timely hurries rests due = absurd due
+due_forth left s a claim id answers.StoreFailed timely hurries rests due = absurd due
 
 refusal_back : (left : Rooms) (s : CoreState) (a : Ask) (claim : Claim) (id : ℕ) (r : Answer) → ((answer : Answer) → IsClaimDue left s a claim answer → r ≡ answer) → (refused : SmbStatus) → IsRefusalDue left s a claim refused → opened_told (Opened id) r ≡ Failed refused
 refusal_back left s a claim id r exact status.SharingViolation due = ap (opened_told (Opened id)) (exact (answers.Conflict due.0) due.1)
-refusal_back left s a claim id r exact status.InsufficientResources due = ap (opened_told (Opened id)) (exact (answers.Full due.0) due.1)
+refusal_back left s a claim id r exact status.InsufficientResources (inl due) = ap (opened_told (Opened id)) (exact (answers.Full due.0) due.1)
+refusal_back left s a claim id r exact status.InsufficientResources (inr due) = ap (opened_told (Opened id)) (exact (answers.Recall due.0) due.1)
 refusal_back left s a claim id r exact status.InvalidParameter due = absurd due
 refusal_back left s a claim id r exact status.ObjectNameNotFound due = absurd due
 refusal_back left s a claim id r exact status.ObjectNameCollision due = absurd due
@@ -95,7 +102,7 @@ open_exactly n left s conn file number id c told =
     let a = open_ask conn file number c in
     let r = (ask n left s a).0 in
     let what = Share (access_of c.desired_access) (deny_of (access_of c.desired_access) c.share_access) in (
-      λ e. subst (IsOpenDue left s a (open_claim file number c) id) e (due_forth left s a (open_claim file number c) id r refl refl ((lock_due n left s a what r refl).0 refl)),
+      λ e. subst (IsOpenDue left s a (open_claim file number c) id) e (due_forth left s a (open_claim file number c) id r refl refl refl ((lock_due n left s a what r refl).0 refl)),
       λ due. due_back left s a (open_claim file number c) id r (λ answer k. (lock_due n left s a what answer refl).1 k) told due,
     )
 

@@ -72,6 +72,7 @@ open_ask conn file number c = record {
   wish = [];
   conn = Some conn;
   blocking = false;
+  awaits = false;
   reclaim = false;
   monitored = false;
   rows = record { hosts = 0; owners = 0; opens = 1 };

@@ -1,5 +1,5 @@
 -- Words of the laws: what ends leave, and what a request comes to.
-use Rattle.std.specs.Prelude.{◌≡◌, ◌↔◌, ℕ, ◌+◌, ◌==◌, nat_lt, Bool, true, false, not, List, Option, Some, None, is_some, Ok}
+use Rattle.std.specs.Prelude.{◌≡◌, ◌↔◌, ℕ, ◌+◌, ◌==◌, ◌⊎◌, nat_lt, Bool, true, false, not, List, Option, Some, None, is_some, Ok}
 use Rattle.std.specs.List.{filter, list_any}
 use Rattle.xl_base.specs.Lists.{IsIn}
 use Rattle.xl_base.specs.declared.name.Owner.TheVariants as owners
@@ -84,10 +84,12 @@ abbrev pub OnceFound : {X : Type 0} → SmbStatus → (X → Told → Type 0) �
 OnceFound status due None told = told ≡ Failed status
 OnceFound status due (Some x) told = due x told
 
--- SHARING_VIOLATION where something held stands against the share, INSUFFICIENT_RESOURCES where it passes a limit
+-- SHARING_VIOLATION where something held stands against the share for good, INSUFFICIENT_RESOURCES where it passes a limit
+-- or a cache keeps it off
 abbrev pub IsRefusalDue : Rooms → CoreState → Ask → Claim → SmbStatus → Type 0
 IsRefusalDue left s a claim status.SharingViolation = (c : Claim) × IsClaimDue left s a claim (answers.Conflict c)
-IsRefusalDue left s a claim status.InsufficientResources = (limit : ℕ) × IsClaimDue left s a claim (answers.Full limit)
+IsRefusalDue left s a claim status.InsufficientResources =
+    ((limit : ℕ) × IsClaimDue left s a claim (answers.Full limit)) ⊎ ((c : Claim) × IsClaimDue left s a claim (answers.Recall c))
 IsRefusalDue left s a claim _ = ⊥
 
 -- open under this id where the core is due to grant the share, which nothing held stands against

@@ -82,6 +82,7 @@ fn open_ask(alloc: Global, conn: u64, file: u32, number: u32, call: &CreateCall)
         wish: Sequence::new(alloc),
         conn: Some(conn),
         blocking: false,
+        awaits: false,
         reclaim: false,
         monitored: false,
         rows: Rooms {

@@ -129,8 +129,8 @@ pub fn a_close_leaves_nothing()
 {}
 
 /// CREATE is told its status exactly where that has its cause, in the order of its checks (MS-SMB2 3.3.5.9): it is open where
-/// the core is due to grant the share, SHARING_VIOLATION where something held stands against that, INSUFFICIENT_RESOURCES
-/// where it passes a limit.
+/// the core is due to grant the share, SHARING_VIOLATION where something held stands against that for good,
+/// INSUFFICIENT_RESOURCES where it passes a limit or a cache keeps it off.
 pub fn creates_have_causes()
     ensures { (n : ℕ) (s : CoreState) (files : List (List ℕ)) (others : ℕ) (l : Lists) (conn : ℕ) (h : SmbHead) (c : CreateCallItem) (told : Told) → ((outcome_of n s files others l conn h (CallItem.Create c)).0 ≡ told) ↔ IsCreateDue s files others l conn h c told }
 {}
