@@ -42,6 +42,7 @@ fn a_test(alloc: Global, caller: Sequence<u8>, same: Sequence<u8>) -> Ask
         wish: Sequence::new(alloc),
         conn: None,
         blocking: false,
+        awaits: false,
         reclaim: false,
         monitored: false,
         rows: NO_ROWS,

@@ -32,6 +32,7 @@ fn ask_by(alloc: Global, number: u32, act: Act) -> Ask
         wish: Sequence::new(alloc),
         conn: None,
         blocking: false,
+        awaits: false,
         reclaim: false,
         monitored: false,
         rows: NO_ROWS,

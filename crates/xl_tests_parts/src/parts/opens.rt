@@ -48,6 +48,7 @@ fn share_by(alloc: Global, number: u32, access: Rwd, deny: Rwd) -> Ask
         wish: Sequence::new(alloc),
         conn: None,
         blocking: false,
+        awaits: false,
         reclaim: false,
         monitored: false,
         rows: ONE_OPEN,

@@ -106,6 +106,7 @@ fn a_share(alloc: Global, client: Sequence<u8>, same: Sequence<u8>) -> Ask
         wish: Sequence::new(alloc),
         conn: None,
         blocking: false,
+        awaits: false,
         reclaim: false,
         monitored: true,
         rows: NO_ROWS,

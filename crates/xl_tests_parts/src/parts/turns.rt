@@ -49,6 +49,7 @@ fn lock_by(
         wish: Sequence::new(alloc),
         conn: None,
         blocking: true,
+        awaits: true,
         reclaim: false,
         monitored: false,
         rows: ROWS,
