@@ -23,7 +23,8 @@ use Rattle.xl_table.specs.Held.{is_of}
 use Rattle.xl_core.proofs.CauseLaws.{lock_due, test_due, test_leaves}
 use Rattle.xl_core.proofs.ChangeLaws.{ask_own}
 use Rattle.xl_core.proofs.DeedLaws.{deed_makes}
-use Rattle.xl_core.specs.Causes.{IsClaimDue, IsTestDue}
+use Rattle.xl_core.specs.Blockers.{is_stopped}
+use Rattle.xl_core.specs.Causes.{IsClaimDue, IsTestDue, may_wait}
 use Rattle.xl_core.specs.Decide.{ask}
 use Rattle.xl_core.specs.Deeds.{Asks}
 use Rattle.xl_core.specs.Good.{IsGood}
@@ -96,8 +97,12 @@ refused_stays n s o file kind reclaim first last good le fails =
     (λ c e. true≢false (sym (ap is_granted e) ∙ fails))
     (λ number e. waits ((lock_due n all_rooms s a (whats.Range (Bytes first last) (is_exclusive kind)) (answers.Queued number) refl).0 e).2)
   where
-    waits : false ≡ true → ⊥
-    waits e = true≢false (sym e)
+    never : (b : Bool) → (if b then false else false) ≡ true → ⊥
+    never true e = true≢false (sym e)
+    never false e = true≢false (sym e)
+
+    waits : may_wait s.claims (lock_ask o file kind reclaim first last) (lock_claim s o file kind first last) ≡ true → ⊥
+    waits e = never (is_stopped s.claims (lock_claim s o file kind first last)) e
 
 -- ---- LOCK
 

@@ -24,6 +24,7 @@ use Rattle.xl_table.specs.Held.{is_of, spans_of}
 use Rattle.xl_core.proofs.CauseLaws.{lock_due, test_due, test_leaves, unlock_due}
 use Rattle.xl_core.proofs.ChangeLaws.{ask_own}
 use Rattle.xl_core.proofs.DeedLaws.{deed_makes}
+use Rattle.xl_core.specs.Blockers.{is_stopped}
 use Rattle.xl_core.specs.Causes.{IsClaimDue, IsTestDue, IsUnlockDue}
 use Rattle.xl_core.specs.Decide.{ask}
 use Rattle.xl_core.specs.Deeds.{Asks}
@@ -54,21 +55,27 @@ use Rattle.xl_nfs_locks.proofs.ByteLaws.{refused_stays}
 
 -- ---- a LOCK's status
 
-forth : (s t : CoreState) (l : NfsLists) (a : Ask) (claim : Claim) (answer : Answer) → a.blocking ≡ false → IsClaimDue all_rooms s a claim answer → IsLockTold s a claim (status_of (lock_told t l a.reclaim answer))
-forth s t l a claim (answers.Granted c) rests due = (refl, due.1, due.2, due.3)
-forth s t l a claim (answers.Conflict c) rests due = subst (λ (late : Bool). IsLockTold s a claim (status_of (lock_told t l late (answers.Conflict c)))) (sym due.0) (c, due)
-forth s t l a claim (answers.Queued number) rests due = absurd (true≢false (sym due.2 ∙ rests))
-forth s t l a claim (answers.NoGrace clock) rests due = (refl, due.1)
-forth s t l a claim (answers.Full limit) rests due = (limit, due)
-forth s t l a claim (answers.Recall c) rests due = absurd due
-forth s t l a claim (answers.Grace until) rests due = absurd due
-forth s t l a claim answers.NotRecorded rests due = absurd due
-forth s t l a claim answers.NotHeld rests due = absurd due
-forth s t l a claim answers.StoreFailed rests due = absurd due
+-- who waits for nothing may not wait
+no_wait : (b x y : Bool) → x ≡ false → y ≡ false → (if b then x else y) ≡ true → ⊥
+no_wait true x y hurries e may = true≢false (sym may ∙ hurries)
+no_wait false x y e hurries may = true≢false (sym may ∙ hurries)
+
+forth : (s t : CoreState) (l : NfsLists) (a : Ask) (claim : Claim) (answer : Answer) → a.blocking ≡ false → a.awaits ≡ false → IsClaimDue all_rooms s a claim answer → IsLockTold s a claim (status_of (lock_told t l a.reclaim answer))
+forth s t l a claim (answers.Granted c) hurries rests due = (refl, due.1, due.2, due.3)
+forth s t l a claim (answers.Conflict c) hurries rests due = subst (λ (late : Bool). IsLockTold s a claim (status_of (lock_told t l late (answers.Conflict c)))) (sym due.0) (c, due)
+forth s t l a claim (answers.Queued number) hurries rests due = absurd (no_wait (is_stopped s.claims claim) a.blocking a.awaits hurries rests due.2)
+forth s t l a claim (answers.NoGrace clock) hurries rests due = (refl, due.1)
+forth s t l a claim (answers.Full limit) hurries rests due = (limit, due)
+forth s t l a claim (answers.Recall c) hurries rests due = (c, due)
+forth s t l a claim (answers.Grace until) hurries rests due = absurd due
+forth s t l a claim answers.NotRecorded hurries rests due = absurd due
+forth s t l a claim answers.NotHeld hurries rests due = absurd due
+forth s t l a claim answers.StoreFailed hurries rests due = absurd due
 
 back : (s t : CoreState) (l : NfsLists) (a : Ask) (claim : Claim) (r : Answer) → ((answer : Answer) → IsClaimDue all_rooms s a claim answer → r ≡ answer) → (status : NfsStatus) → IsLockTold s a claim status → status_of (lock_told t l a.reclaim r) ≡ status
 back s t l a claim r exact statuses.Ok told = ap (λ (x : Answer). status_of (lock_told t l a.reclaim x)) (exact (answers.Granted claim) told)
 back s t l a claim r exact statuses.Denied told = ap (λ (x : Answer). status_of (lock_told t l a.reclaim x)) (exact (answers.Conflict told.0) told.1) ∙ ap (λ (late : Bool). status_of (lock_told t l late (answers.Conflict told.0))) told.1.0
+back s t l a claim r exact statuses.Delay told = ap (λ (x : Answer). status_of (lock_told t l a.reclaim x)) (exact (answers.Recall told.0) told.1)
 back s t l a claim r exact statuses.Resource told = ap (λ (x : Answer). status_of (lock_told t l a.reclaim x)) (exact (answers.Full told.0) told.1)
 back s t l a claim r exact statuses.NoGrace told = ap (λ (x : Answer). status_of (lock_told t l a.reclaim x)) (exact (answers.NoGrace s.clock) told)
 back s t l a claim r exact _ told = absurd told
@@ -79,7 +86,7 @@ exactly n s t l o file kind reclaim first last status =
     let claim = lock_claim s o file kind first last in
     let what = whats.Range (Bytes first last) (is_exclusive kind) in
     let answer = (ask n all_rooms s a).0 in (
-      λ e. subst (λ (x : NfsStatus). IsLockTold s a claim x) e (forth s t l a claim answer refl ((lock_due n all_rooms s a what answer refl).0 refl)),
+      λ e. subst (λ (x : NfsStatus). IsLockTold s a claim x) e (forth s t l a claim answer refl refl ((lock_due n all_rooms s a what answer refl).0 refl)),
       λ told. back s t l a claim answer (λ x due. (lock_due n all_rooms s a what x refl).1 due) status told,
     )
 

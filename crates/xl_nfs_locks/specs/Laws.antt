@@ -68,11 +68,12 @@ AreFree o file first last s t = AreBytes (unlock_claim s o file first last) firs
 
 -- ---- why a LOCK or a LOCKT is told so
 
--- OK where nothing held stands against the lock and there is room for it, DENIED where something does, RESOURCE where a limit
--- is passed, and NO_GRACE for a reclaim, which comes too late; nothing else is told
+-- OK where nothing held stands against the lock and there is room for it, DENIED where something does for good, DELAY where a
+-- cache keeps it off, RESOURCE where a limit is passed, and NO_GRACE for a reclaim, which comes too late; nothing else is told
 abbrev pub IsLockTold : CoreState → Ask → Claim → NfsStatus → Type 0
 IsLockTold s a claim statuses.Ok = IsClaimDue all_rooms s a claim (answers.Granted claim)
 IsLockTold s a claim statuses.Denied = (c : Claim) × IsClaimDue all_rooms s a claim (answers.Conflict c)
+IsLockTold s a claim statuses.Delay = (c : Claim) × IsClaimDue all_rooms s a claim (answers.Recall c)
 IsLockTold s a claim statuses.Resource = (limit : ℕ) × IsClaimDue all_rooms s a claim (answers.Full limit)
 IsLockTold s a claim statuses.NoGrace = IsClaimDue all_rooms s a claim (answers.NoGrace s.clock)
 IsLockTold s a claim _ = ⊥

@@ -39,9 +39,9 @@ pub fn granted_locks_are_held()
 {}
 
 /// A LOCK whose checks passed is told each status exactly where that has its cause: OK where nothing held stands against it
-/// and no limit is passed, DENIED where something does, RESOURCE at a limit, NO_GRACE where it reclaims, and no other; where
-/// there is no room for its owner, RESOURCE, and nothing changes (RFC 7530 16.10). DENIED tells of a claim that is held and
-/// stands against the lock, the least of those that do, with its holder.
+/// and no limit is passed, DENIED where something does for good, DELAY where a cache keeps it off, RESOURCE at a limit,
+/// NO_GRACE where it reclaims, and no other; where there is no room for its owner, RESOURCE, and nothing changes (RFC 7530
+/// 16.10). DENIED tells of a claim that is held and stands against the lock, the least of those that do, with its holder.
 pub fn lock_statuses_have_causes()
     ensures known { (n : ℕ) (s : CoreState) (l : NfsLists) (current : Option ℕ) (a : LockArgsItem) (r : StateidRow) (owner : ℕ) (turn : OwnerTurn) (seqid last : ℕ) (o : LockOwner) (status : Status) → (status_of (carried n s l current (lock_by_owner l current a r owner turn seqid last (Some o))).0 ≡ status) ↔ IsLockTold s (lock_ask o r.file a.kind a.reclaim a.offset last) (lock_claim s o r.file a.kind a.offset last) status }
     ensures first { (n : ℕ) (s : CoreState) (l : NfsLists) (current : Option ℕ) (a : LockArgsItem) (b : Owners) (o : LockOwner) (r : StateidRow) (q : Option StateidRow) (last : ℕ) (status : Status) → is_room_for o l ≡ true → (status_of (carried n s l current (join_to l current a b o r q (Ok last))).0 ≡ status) ↔ IsLockTold s (lock_ask o r.file a.kind a.reclaim a.offset last) (lock_claim s o r.file a.kind a.offset last) status }
