@@ -12,7 +12,7 @@ use Rattle.xl_base.specs.declared.journal.Head.{Head}
 use Rattle.xl_core.specs.State.{CoreState, MayBe, GoesOn, started, step_begun}
 use Rattle.xl_core.proofs.DeedCaches.{deeds_uncached}
 use Rattle.xl_core.proofs.DeedLists.{deeds_good}
-use Rattle.xl_core.specs.Good.{IsGood, AreUncached, IsSettled, stands_in_the_way}
+use Rattle.xl_core.specs.Good.{IsGood, AreUncached, IsSettled, holds_up}
 use Rattle.xl_core.specs.Settle.{settle}
 use Rattle.xl_core.specs.declared.ask.Effect.{Effect}
 use Rattle.xl_core.proofs.GoodLaws.{started_good, begun_good, settle_good}
@@ -55,7 +55,7 @@ ends_by fuel n exports f s (Some turn) is fewer good e rests =
     rests done.1 done.2 (all_shown_good exports f turn.1 turn.0 good) (omega (arith, fewer, e, told_waiters exports f turn.1 turn.0))
 
 ends_for : (fuel n : ℕ) (exports : Exports) (f : Fronts) (s : CoreState) → IsGood s → length s.waiters ≡ fuel → IsSettled (settled_for fuel n exports f s).2
-ends_for zero n exports f s good e = none_waits (λ w. stands_in_the_way s.claims w.asked ≡ true) s.waiters e
+ends_for zero n exports f s good e = none_waits (λ w. holds_up s.claims w w.asked ≡ true) s.waiters e
 ends_for (suc fuel) n exports f s good e =
     ends_by fuel n exports f s (settle n (rooms_of f) s) refl (turn_fewer n (rooms_of f) s good) (settle_good n (rooms_of f) s good) e (λ g t h k. ends_for fuel n exports g t h k)
 

@@ -6,7 +6,8 @@ use Rattle.xl_house.specs.Machine.{Whole, step}
 
 -- The core's state is good: any two claims may be held together by the matrix, an owner has one share and a party one
 -- cache on a file, each POSIX owner's ranges are sorted maximal runs. No cache is held yet, as no front asks for one.
--- Nobody is forgotten: something held stands against each waiter. No store of a step is left to tell of.
+-- Nobody is forgotten: each waiter is held up, by something held that blocks what it asks for first. No store of a step is left
+-- to tell of.
 pub record IsFree (s : Whole) : Type 0 where
   pub good : IsGood s.core
   pub uncached : AreUncached s.core.claims

@@ -56,7 +56,7 @@ IsWaiting n s e t = IsWaitingBy n s e.event t
 
 -- Each deed is given what is due to it, in the state that those before it left: an ask that is no reclaim, that nothing
 -- held stands against and for which there is room is granted, each answer has its cause, and each turn is that of the
--- first waiter whom nothing blocks.
+-- first waiter who isn't held up.
 abbrev pub IsComplete : Law
 IsComplete n s e t = AreDue n (found s) (deeds n s e.event)
 

@@ -1,4 +1,4 @@
-//! Whoever waits is served when nothing stands against it any more.
+//! Whoever waits is served when it isn't held up any more.
 ghost use Rattle.std.specs.Prelude.{◌≡◌, ℕ, length, OnOk};
 ghost use Rattle.xl_core.specs.Good.{IsSettled};
 ghost use Rattle.xl_core.specs.State.{MayBe};
