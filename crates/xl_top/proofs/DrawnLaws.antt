@@ -24,7 +24,7 @@ use Rattle.xl_core.specs.State.{CoreState}
 use Rattle.xl_core.specs.Asking.{IsFit, both_entered, asked_claim, asker, asking_party, known_claim, number_or}
 use Rattle.xl_core.specs.Causes.{IsClaimDue, limits_of_grant, left_by_unlock}
 use Rattle.xl_core.specs.Decide.{Answered, ask, test_answered, tested}
-use Rattle.xl_core.specs.Blockers.{test_blockers}
+use Rattle.xl_core.specs.Blockers.{is_stopped, test_blockers}
 use Rattle.xl_table.specs.Least.{least}
 use Rattle.xl_core.specs.Deeds.{queue_with}
 use Rattle.xl_core.specs.Frames.{asks_to_hold, names_after}
@@ -68,10 +68,11 @@ pub record IsMadeCore (s : CoreState) : Type 0 where
   pub names : AllByRecursion (λ n. IsIn n five) s.names
   pub claims : AreFew s.claims
 
--- granted, denied, or nothing to unlock
+-- granted, denied for what is held or for a cache, or nothing to unlock
 abbrev pub IsPlain : Answer → Type 0
 IsPlain (answers.Granted c) = Unit {0}
 IsPlain (answers.Conflict c) = Unit {0}
+IsPlain (answers.Recall c) = Unit {0}
 IsPlain answers.NotHeld = Unit {0}
 IsPlain _ = ⊥
 
@@ -126,21 +127,26 @@ room hosts held kept ours claims names = grant_found (rooms hosts) (host_rows (c
 
 -- ---- a lock
 
-plain_claim : (left : Rooms) (s : CoreState) (a : Ask) (claim : Claim) (answer : Answer) → a.blocking ≡ false → IsRoom (limits_of_grant left s a claim) → a.reclaim ≡ false → IsClaimDue left s a claim answer → IsPlain answer
-plain_claim left s a claim (answers.Granted c) hurries fits new due = tt
-plain_claim left s a claim (answers.Conflict c) hurries fits new due = tt
-plain_claim left s a claim (answers.Queued number) hurries fits new due = absurd (both_ways a.blocking hurries due.2)
-plain_claim left s a claim (answers.NoGrace clock) hurries fits new due = absurd (both_ways a.reclaim new due.1)
-plain_claim left s a claim (answers.Full limit) hurries fits new due =
+-- who waits for nothing may not wait
+no_wait : (b x y : Bool) → x ≡ false → y ≡ false → (if b then x else y) ≡ true → ⊥
+no_wait true x y hurries e may = both_ways x hurries may
+no_wait false x y e hurries may = both_ways y hurries may
+
+plain_claim : (left : Rooms) (s : CoreState) (a : Ask) (claim : Claim) (answer : Answer) → a.blocking ≡ false → a.awaits ≡ false → IsRoom (limits_of_grant left s a claim) → a.reclaim ≡ false → IsClaimDue left s a claim answer → IsPlain answer
+plain_claim left s a claim (answers.Granted c) hurries rests fits new due = tt
+plain_claim left s a claim (answers.Conflict c) hurries rests fits new due = tt
+plain_claim left s a claim (answers.Queued number) hurries rests fits new due = absurd (no_wait (is_stopped s.claims claim) a.blocking a.awaits hurries rests due.2)
+plain_claim left s a claim (answers.NoGrace clock) hurries rests fits new due = absurd (both_ways a.reclaim new due.1)
+plain_claim left s a claim (answers.Full limit) hurries rests fits new due =
     elim due.1 [
       | inl over ↦ absurd (both_ways (is_passed (limits_of_grant left s a claim) limit) (fits limit) over.1.0)
-      | inr waits ↦ absurd (both_ways a.blocking hurries waits.0)
+      | inr waits ↦ absurd (no_wait (is_stopped s.claims claim) a.blocking a.awaits hurries rests waits.0)
     ]
-plain_claim left s a claim answers.NotHeld hurries fits new due = tt
-plain_claim left s a claim (answers.Recall c) hurries fits new due = absurd due
-plain_claim left s a claim (answers.Grace until) hurries fits new due = absurd due
-plain_claim left s a claim answers.NotRecorded hurries fits new due = absurd due
-plain_claim left s a claim answers.StoreFailed hurries fits new due = absurd due
+plain_claim left s a claim answers.NotHeld hurries rests fits new due = tt
+plain_claim left s a claim (answers.Recall c) hurries rests fits new due = tt
+plain_claim left s a claim (answers.Grace until) hurries rests fits new due = absurd due
+plain_claim left s a claim answers.NotRecorded hurries rests fits new due = absurd due
+plain_claim left s a claim answers.StoreFailed hurries rests fits new due = absurd due
 
 -- what stays true of the core
 pub record IsDrawnWell (s : CoreState) (r : Answered) : Type 0 where
@@ -154,7 +160,7 @@ queue_plain s a answers.NotHeld plain = refl
 queue_plain s a (answers.Queued id) plain = absurd plain
 queue_plain s a (answers.NoGrace clock) plain = absurd plain
 queue_plain s a (answers.Full limit) plain = absurd plain
-queue_plain s a (answers.Recall c) plain = absurd plain
+queue_plain s a (answers.Recall c) plain = refl
 queue_plain s a (answers.Grace until) plain = absurd plain
 queue_plain s a answers.NotRecorded plain = absurd plain
 queue_plain s a answers.StoreFailed plain = absurd plain
@@ -169,7 +175,7 @@ names_plain a answers.NotHeld names all both plain = all
 names_plain a (answers.Queued id) names all both plain = absurd plain
 names_plain a (answers.NoGrace clock) names all both plain = absurd plain
 names_plain a (answers.Full limit) names all both plain = absurd plain
-names_plain a (answers.Recall c) names all both plain = absurd plain
+names_plain a (answers.Recall c) names all both plain = all
 names_plain a (answers.Grace until) names all both plain = absurd plain
 names_plain a answers.NotRecorded names all both plain = absurd plain
 names_plain a answers.StoreFailed names all both plain = absurd plain
@@ -192,6 +198,9 @@ well n left s who file act rows core one fit plain few =
 
 other_conflict : (c d : Claim) → answers.Conflict c ≡ answers.Granted d → ⊥
 other_conflict c d e = cc
+
+other_recall : (c d : Claim) → answers.Recall c ≡ answers.Granted d → ⊥
+other_recall c d e = cc
 
 other_held : (d : Claim) → answers.NotHeld ≡ answers.Granted d → ⊥
 other_held d e = cc
@@ -237,7 +246,7 @@ lock_well n hosts s who file first last exclusive core ours one at real short =
     due = (lock_due n left s a what (ask n left s a).0 refl).0 refl
 
     plain : IsPlain (ask n left s a).0
-    plain = plain_claim left s a claim (ask n left s a).0 refl fits refl due
+    plain = plain_claim left s a claim (ask n left s a).0 refl refl fits refl due
 
     after_grant : AreFew (granted_claims claim s.claims)
     after_grant = relocked_few file (place_of (name_by who) s.names) (asking_party a s.names) first last (Some (mode_of exclusive)) s.claims core.good.kept core.claims at (small _ refl) real short
@@ -257,7 +266,7 @@ lock_well n hosts s who file first last exclusive core ours one at real short =
     by (answers.Queued id) e p = absurd p
     by (answers.NoGrace clock) e p = absurd p
     by (answers.Full limit) e p = absurd p
-    by (answers.Recall c) e p = absurd p
+    by (answers.Recall c) e p = kept_few (λ d f. other_recall c d (sym e ∙ f))
     by (answers.Grace until) e p = absurd p
     by answers.NotRecorded e p = absurd p
     by answers.StoreFailed e p = absurd p
