@@ -27,4 +27,4 @@ numbers_left = 65536
 
 -- numbers that an entry takes at most, with one for each who waits then, who is told of a grant under it
 abbrev pub most_numbers : ℕ
-most_numbers = 128
+most_numbers = 512
