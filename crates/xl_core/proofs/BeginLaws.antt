@@ -79,10 +79,6 @@ gone_so deadline ask shares c e = by (break_of ask shares c) refl e where
 
 -- ---- what the laws look at is as it was
 
-left_names : (c d : Claim) → Left c d → (d.file ≡ c.file) × (d.owner ≡ c.owner) × (d.party ≡ c.party)
-left_names c d (Stays e) = (ap (λ (x : Claim). x.file) e, ap (λ (x : Claim). x.owner) e, ap (λ (x : Claim). x.party) e)
-left_names c d (Runs kind running at e) = (ap (λ (x : Claim). x.file) e, ap (λ (x : Claim). x.owner) e, ap (λ (x : Claim). x.party) e)
-
 fit_running : (c d : Claim) (kind : CacheKind) (running : Break) (w : What) → fit_by (with_what c (Cache kind (Some running))) d (Cache kind (Some running)) w ≡ fit_by c d (Cache kind None) w
 unfolding fit_by
 fit_running c d kind running (Share access deny) = refl
@@ -259,11 +255,6 @@ module _ (deadline : Moment) (ask : Claim) (held : List Claim) where
   unfolding step
   stays_so c there e = in_filter_map step c c held there (ap (λ (o : Option (Claim × Option CacheKind)). once_begun deadline c o) e)
 
-  -- the shares that block the ask are the same
-  share_left : (c d : Claim) → Left c d → (is_share d.what && blocks ask d) ≡ (is_share c.what && blocks ask c)
-  share_left c d (Stays e) = ap (λ (x : Claim). is_share x.what && blocks ask x) e
-  share_left c d (Runs kind running at e) = ap (λ (x : Claim). is_share x.what && blocks ask x) e ∙ ap (λ (w : What). is_share w && blocks ask c) (sym at)
-
   no_share : (w : What) (b : Bool) → is_cache w ≡ true → (is_share w && b) ≡ false
   no_share (Cache kind running) b h = refl
   no_share (Share access deny) b h = absurd (both_ways false refl h)
@@ -347,11 +338,6 @@ module _ (deadline : Moment) (ask : Claim) (held : List Claim) where
       broken false = rw idle (omega (arith, rest))
 
 -- ---- the state
-
--- the claims stay good
-pub broken_claims : (deadline : Moment) (names : List Name) (ask : Claim) (held : List Claim) → AreGood names held → is_cache ask.what ≡ false → AreGood names (once_broken deadline ask held)
-unfolding once_broken step
-broken_claims deadline names ask held good lock = step_good deadline ask held names lock good
 
 pub broken_good : (deadline : Moment) (s : CoreState) (ask : Claim) → IsGood s → is_cache ask.what ≡ false → IsGood (holding s (once_broken deadline ask s.claims))
 unfolding once_broken step

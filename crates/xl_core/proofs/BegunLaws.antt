@@ -133,12 +133,7 @@ broken_file c (Cache kind running) to deadline = refl
 broken_file c (Share access deny) to deadline = refl
 broken_file c (Range extent exclusive) to deadline = refl
 
-broken_party : (c : Claim) (w : What) (to : Option CacheKind) (deadline : Moment) → (with_break c w to deadline).party ≡ c.party
-broken_party c (Cache kind running) to deadline = refl
-broken_party c (Share access deny) to deadline = refl
-broken_party c (Range extent exclusive) to deadline = refl
-
-broken_cache : (c : Claim) (w : What) (to : Option CacheKind) (deadline : Moment) → c.what ≡ w → is_cache (with_break c w to deadline).what ≡ is_cache c.what
+pub broken_cache : (c : Claim) (w : What) (to : Option CacheKind) (deadline : Moment) → c.what ≡ w → is_cache (with_break c w to deadline).what ≡ is_cache c.what
 broken_cache c (Cache kind running) to deadline at = ap is_cache (sym at)
 broken_cache c (Share access deny) to deadline at = refl
 broken_cache c (Range extent exclusive) to deadline at = refl
@@ -213,6 +208,9 @@ module _ (deadline : Moment) (ask : Claim) (held : List Claim) where
     by : (o : Option (Claim × Option CacheKind)) → broken c ≡ o → cons_option o (filter_map broken cs) ≡ [] → (filter_map broken cs ≡ [] → filter_map begun cs ≡ cs) → cons_option (once_begun deadline c o) (filter_map begun cs) ≡ c ∷ cs
     by None at none rest = ap (λ (ds : List Claim). c ∷ ds) (rest none)
     by (Some b) at none rest = absurd cc
+
+pub broken_is_cache : (ask : Claim) (held : List Claim) (c : Claim) (b : Claim × Option CacheKind) → break_of ask (blocking_shares ask held) c ≡ Some b → is_cache c.what ≡ true
+broken_is_cache ask held c b e = obstacle_is_cache ask (blocking_shares ask held) c (break_is_of ask (blocking_shares ask held) c b e).1
 
 pub filter_broken : (deadline : Moment) (ask : Claim) (held : List Claim) (test : Claim → Bool) → Skips ask held deadline test → filter test (once_broken deadline ask held) ≡ filter test held
 unfolding once_broken

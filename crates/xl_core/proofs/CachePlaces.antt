@@ -395,7 +395,7 @@ stays_removed claim c (d ∷ ds) there apart =
       | inr other ↦ rw other (elim there [ inl e ↦ inl e | inr t ↦ inr (stays_removed claim c ds t apart) ])
     ]
 
-stays_beside : (new c : Claim) (cs : List Claim) → IsIn c cs → IsIn c (inserted new cs)
+pub stays_beside : (new c : Claim) (cs : List Claim) → IsIn c cs → IsIn c (inserted new cs)
 unfolding inserted
 stays_beside new c [] there = absurd there
 stays_beside new c (d ∷ ds) there =

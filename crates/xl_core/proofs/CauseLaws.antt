@@ -5,6 +5,7 @@ use Rattle.std.proofs.lemmas.Bool.Decides.{nat_tests}
 use Rattle.std.proofs.lemmas.Bool.{cases_Bool, both_ways, and_from, and_right, or_parts, leb-true, le-leb, lt-leb, leb-false, and_parts}
 use Rattle.xl_base.specs.Lists.{IsIn}
 use Rattle.xl_base.proofs.Members.{in_filter_from}
+use Rattle.xl_matrix.specs.declared.claim.CacheKind.{CacheKind}
 use Rattle.xl_matrix.specs.declared.claim.Claim.{Claim}
 use Rattle.xl_matrix.specs.declared.claim.Extent.{Extent}
 use Rattle.xl_matrix.specs.declared.claim.Extent.TheVariants.{Bytes}
@@ -24,13 +25,13 @@ use Rattle.xl_wait.specs.declared.waiter.Rooms.{Rooms}
 use Rattle.xl_core.specs.State.{CoreState}
 use Rattle.xl_core.specs.Asking.{both_entered, asked_whats, alone, asked_what, asked_claim, asked_claims, known_claim, is_client, is_named, may_hold, may_ask, IsFitAct, IsFit, IsOrdered, AreMore, may_hold_all, range_what, known_owner}
 use Rattle.xl_core.specs.Blockers.{test_blockers, blockers, is_stopped, cache_against}
-use Rattle.xl_core.specs.Causes.{limits_of_grant, limits_of_wait, may_wait, IsClaimDue, stands_against, IsTestDue, HasNoByte, HasByte, left_by_unlock, IsUnlockDue, IsElementDue, IsEachDue}
-use Rattle.xl_core.specs.Decide.{Answered, plea_of, answered, claims_asked, test_answered, tested, unlocked_claims, unlocked_bytes, unlocked, acted, ask, unlocked_one, freed}
+use Rattle.xl_core.specs.Causes.{limits_of_grant, limits_of_wait, may_wait, IsClaimDue, stands_against, IsTestDue, HasNoByte, HasByte, left_by_unlock, IsUnlockDue, IsElementDue, IsEachDue, IsWishBy, IsWishDue}
+use Rattle.xl_core.specs.Decide.{Answered, plea_of, answered, claims_asked, test_answered, tested, unlocked_claims, unlocked_bytes, unlocked, wish_by, wish_asked, acted, decided, unlocked_one, freed}
 use Rattle.xl_core.specs.Good.{IsGood}
 use Rattle.xl_core.specs.Judge.{Ruled, judged, check_held, held_by, kept_off_by, check_caches, room_by, check_room, held_with, waits, does_wait, at_once, or_else, unless, row}
-use Rattle.xl_core.specs.Limits.{first_passed, IsRoom, grant_limits}
+use Rattle.xl_core.specs.Limits.{first_passed, IsRoom, grant_limits, wish_limits}
 use Rattle.xl_core.specs.declared.ask.Act.{Act}
-use Rattle.xl_core.specs.declared.ask.Act.TheVariants.{Share, Ranges, Test, Unlock}
+use Rattle.xl_core.specs.declared.ask.Act.TheVariants.{Share, Ranges, Test, Unlock, Wish}
 use Rattle.xl_core.specs.declared.ask.Answer.{Answer}
 use Rattle.xl_core.specs.declared.ask.Answer.TheVariants as answers
 use Rattle.xl_core.specs.declared.ask.Ask.{Ask}
@@ -38,7 +39,7 @@ use Rattle.xl_core.specs.declared.ask.Who.{Who}
 use Rattle.xl_table.proofs.LeastLaws.{least_in, least_none, least_empty}
 use Rattle.xl_core.proofs.DecideLaws.{blockers_none, none_blockers, blockers_some, some_stops, some_blocks, stops_some, cache_some, cache_blocked, free_unless, free_moves, free_clear, moves_cache}
 use Rattle.xl_core.proofs.KnownLaws.{known_posix}
-use Rattle.xl_core.proofs.LimitLaws.{grant_found, wait_found, grant_least, wait_least}
+use Rattle.xl_core.proofs.LimitLaws.{IsFound, grant_found, wait_found, grant_least, wait_least, wish_found, wish_least}
 use Rattle.xl_core.proofs.RowLaws.{ruled_by, least_blocker, late, judged_stopped, judged_kept_off, judged_is, judged_row}
 use Rattle.xl_matrix.specs.Owners.{posix}
 use Rattle.xl_core.specs.declared.judge.Ruling.{Ruling}
@@ -62,14 +63,15 @@ by_act n left s a (Share access deny) what e = refl
 by_act n left s a (Ranges ranges) what e = refl
 by_act n left s a (Test extent exclusive) what e = absurd cc
 by_act n left s a (Unlock extent) what e = absurd cc
+by_act n left s a Wish what e = absurd cc
 
 -- what becomes of an ask for one claim, by its ruling
 abbrev pub ruled : Ask → Claim → Ruled → Answered
 ruled a claim r = answered a (claim ∷ []) claim r.0 r.1 r.2
 
 pub lock_is : (n : ℕ) (left : Rooms) (s : CoreState) (a : Ask) (what : What) → asked_what a.act ≡ Some what
-    → (let claim = asked_claim a what s.names in ask n left s a ≡ ruled a claim (judged n s.waiters left (plea_of left s a) (claim ∷ []) s))
-unfolding ask claims_asked
+    → (let claim = asked_claim a what s.names in decided n left s a ≡ ruled a claim (judged n s.waiters left (plea_of left s a) (claim ∷ []) s))
+unfolding decided claims_asked
 lock_is n left s a what e =
     by_act n left s a a.act what e ∙ ap (λ (asked : List What). claims_asked n left s a (asked_claims a asked s.names)) (same_list what (asked_whats a.act) e)
 
@@ -221,8 +223,8 @@ claim_exactly n left s a claim r answer is =
 claim_due : (n : ℕ) (left : Rooms) (s : CoreState) (a : Ask) (claim : Claim) (r : Answer) → r ≡ (ruled a claim (judged n s.waiters left (plea_of left s a) (claim ∷ []) s)).0 → IsClaimDue left s a claim r
 claim_due n left s a claim r is = (claim_exactly n left s a claim r r is).0 refl
 
-pub lock_due : (n : ℕ) (left : Rooms) (s : CoreState) (a : Ask) (what : What) (answer : Answer) → asked_what a.act ≡ Some what → ((ask n left s a).0 ≡ answer) ↔ IsClaimDue left s a (asked_claim a what s.names) answer
-lock_due n left s a what answer act = claim_exactly n left s a (asked_claim a what s.names) (ask n left s a).0 answer (ap first_is (lock_is n left s a what act))
+pub lock_due : (n : ℕ) (left : Rooms) (s : CoreState) (a : Ask) (what : What) (answer : Answer) → asked_what a.act ≡ Some what → ((decided n left s a).0 ≡ answer) ↔ IsClaimDue left s a (asked_claim a what s.names) answer
+lock_due n left s a what answer act = claim_exactly n left s a (asked_claim a what s.names) (decided n left s a).0 answer (ap first_is (lock_is n left s a what act))
 
 -- ---- why a test is
 
@@ -299,11 +301,11 @@ test_back s a claim answers.NotRecorded due = absurd due
 test_back s a claim answers.NotHeld due = absurd due
 test_back s a claim answers.StoreFailed due = absurd due
 
-test_is : (n : ℕ) (left : Rooms) (s : CoreState) (a : Ask) (extent : Extent) (exclusive : Bool) → a.act ≡ Test extent exclusive → ask n left s a ≡ (tested s a (known_claim a extent exclusive s.names), [], s)
-unfolding ask
+pub test_is : (n : ℕ) (left : Rooms) (s : CoreState) (a : Ask) (extent : Extent) (exclusive : Bool) → a.act ≡ Test extent exclusive → decided n left s a ≡ (tested s a (known_claim a extent exclusive s.names), [], s)
+unfolding decided
 test_is n left s a extent exclusive e = ap (λ (act : Act). acted n left s a act) e
 
-pub test_due : (n : ℕ) (left : Rooms) (s : CoreState) (a : Ask) (extent : Extent) (exclusive : Bool) (answer : Answer) → a.act ≡ Test extent exclusive → ((ask n left s a).0 ≡ answer) ↔ IsTestDue s a (known_claim a extent exclusive s.names) answer
+pub test_due : (n : ℕ) (left : Rooms) (s : CoreState) (a : Ask) (extent : Extent) (exclusive : Bool) (answer : Answer) → a.act ≡ Test extent exclusive → ((decided n left s a).0 ≡ answer) ↔ IsTestDue s a (known_claim a extent exclusive s.names) answer
 test_due n left s a extent exclusive answer act =
     let claim = known_claim a extent exclusive s.names in
     let is = ap first_is (test_is n left s a extent exclusive act) in (
@@ -403,18 +405,18 @@ unlock_back s claim first last (answers.Grace until) is due = absurd due
 unlock_back s claim first last answers.NotRecorded is due = absurd due
 unlock_back s claim first last answers.StoreFailed is due = absurd due
 
-unlock_acted : (n : ℕ) (left : Rooms) (s : CoreState) (a : Ask) (extent : Extent) → a.act ≡ Unlock extent → ask n left s a ≡ unlocked s (known_claim a extent false s.names) extent
-unfolding ask
+unlock_acted : (n : ℕ) (left : Rooms) (s : CoreState) (a : Ask) (extent : Extent) → a.act ≡ Unlock extent → decided n left s a ≡ unlocked s (known_claim a extent false s.names) extent
+unfolding decided
 unlock_acted n left s a extent e = ap (λ (act : Act). acted n left s a act) e
 
-pub unlock_is : (n : ℕ) (left : Rooms) (s : CoreState) (a : Ask) (first last : ℕ) → a.act ≡ Unlock (Bytes first last) → is_client a.owner a.party ≡ true → is_named a.owner ≡ true → ask n left s a ≡ unlocked_bytes s (known_claim a (Bytes first last) false s.names) first last
+pub unlock_is : (n : ℕ) (left : Rooms) (s : CoreState) (a : Ask) (first last : ℕ) → a.act ≡ Unlock (Bytes first last) → is_client a.owner a.party ≡ true → is_named a.owner ≡ true → decided n left s a ≡ unlocked_bytes s (known_claim a (Bytes first last) false s.names) first last
 unfolding unlocked
 unlock_is n left s a first last e client named =
     unlock_acted n left s a (Bytes first last) e
     ∙ ap (λ (b : Bool). let claim = known_claim a (Bytes first last) false s.names in if b then unlocked_bytes s claim first last else unlocked_one s claim (Bytes first last)) (known_posix a s.names client named)
 
 -- an open's unlock takes out an element
-pub element_is : (n : ℕ) (left : Rooms) (s : CoreState) (a : Ask) (extent : Extent) → a.act ≡ Unlock extent → posix (known_owner a.owner s.names) ≡ false → ask n left s a ≡ unlocked_one s (known_claim a extent false s.names) extent
+pub element_is : (n : ℕ) (left : Rooms) (s : CoreState) (a : Ask) (extent : Extent) → a.act ≡ Unlock extent → posix (known_owner a.owner s.names) ≡ false → decided n left s a ≡ unlocked_one s (known_claim a extent false s.names) extent
 unfolding unlocked
 element_is n left s a (Bytes first last) e unnamed =
     unlock_acted n left s a (Bytes first last) e
@@ -422,7 +424,7 @@ element_is n left s a (Bytes first last) e unnamed =
 element_is n left s a (extents.Empty offset) e unnamed = unlock_acted n left s a (extents.Empty offset) e
 
 -- one without a byte is unlocked so by whomever
-pub empty_is : (n : ℕ) (left : Rooms) (s : CoreState) (a : Ask) (offset : ℕ) → a.act ≡ Unlock (extents.Empty offset) → ask n left s a ≡ unlocked_one s (known_claim a (extents.Empty offset) false s.names) (extents.Empty offset)
+pub empty_is : (n : ℕ) (left : Rooms) (s : CoreState) (a : Ask) (offset : ℕ) → a.act ≡ Unlock (extents.Empty offset) → decided n left s a ≡ unlocked_one s (known_claim a (extents.Empty offset) false s.names) (extents.Empty offset)
 unfolding unlocked
 empty_is n left s a offset e = unlock_acted n left s a (extents.Empty offset) e
 
@@ -453,14 +455,14 @@ element_either s claim extent r answer is = (
   λ due. ap first_is is ∙ element_back s claim extent answer due,
 )
 
-pub element_due : (n : ℕ) (left : Rooms) (s : CoreState) (a : Ask) (extent : Extent) (answer : Answer) → a.act ≡ Unlock extent → posix (known_owner a.owner s.names) ≡ false → ((ask n left s a).0 ≡ answer) ↔ IsElementDue s (known_claim a extent false s.names) extent answer
-element_due n left s a extent answer act unnamed = element_either s (known_claim a extent false s.names) extent (ask n left s a) answer (element_is n left s a extent act unnamed)
+pub element_due : (n : ℕ) (left : Rooms) (s : CoreState) (a : Ask) (extent : Extent) (answer : Answer) → a.act ≡ Unlock extent → posix (known_owner a.owner s.names) ≡ false → ((decided n left s a).0 ≡ answer) ↔ IsElementDue s (known_claim a extent false s.names) extent answer
+element_due n left s a extent answer act unnamed = element_either s (known_claim a extent false s.names) extent (decided n left s a) answer (element_is n left s a extent act unnamed)
 
-pub empty_due : (n : ℕ) (left : Rooms) (s : CoreState) (a : Ask) (offset : ℕ) (answer : Answer) → a.act ≡ Unlock (extents.Empty offset) → ((ask n left s a).0 ≡ answer) ↔ IsElementDue s (known_claim a (extents.Empty offset) false s.names) (extents.Empty offset) answer
-empty_due n left s a offset answer act = element_either s (known_claim a (extents.Empty offset) false s.names) (extents.Empty offset) (ask n left s a) answer (empty_is n left s a offset act)
+pub empty_due : (n : ℕ) (left : Rooms) (s : CoreState) (a : Ask) (offset : ℕ) (answer : Answer) → a.act ≡ Unlock (extents.Empty offset) → ((decided n left s a).0 ≡ answer) ↔ IsElementDue s (known_claim a (extents.Empty offset) false s.names) (extents.Empty offset) answer
+empty_due n left s a offset answer act = element_either s (known_claim a (extents.Empty offset) false s.names) (extents.Empty offset) (decided n left s a) answer (empty_is n left s a offset act)
 
 pub unlock_due : (n : ℕ) (left : Rooms) (s : CoreState) (a : Ask) (first last : ℕ) (answer : Answer) → a.act ≡ Unlock (Bytes first last) → is_client a.owner a.party ≡ true → is_named a.owner ≡ true → first ≤ last → IsGood s
-    → ((ask n left s a).0 ≡ answer) ↔ IsUnlockDue s (known_claim a (Bytes first last) false s.names) first last answer
+    → ((decided n left s a).0 ≡ answer) ↔ IsUnlockDue s (known_claim a (Bytes first last) false s.names) first last answer
 unlock_due n left s a first last answer act client named ends good =
     let claim = known_claim a (Bytes first last) false s.names in
     let is : IsUnlock s claim first last = record {
@@ -491,6 +493,7 @@ by_fit who blocking (Ranges (range ∷ [])) what fit e = subst (λ (w : What). I
 by_fit who blocking (Ranges (range ∷ more ∷ rest)) what fit e = absurd cc
 by_fit who blocking (Test extent exclusive) what fit e = absurd cc
 by_fit who blocking (Unlock extent) what fit e = absurd cc
+by_fit who blocking Wish what fit e = absurd cc
 
 -- what a fit ask is for may be held
 pub fit_what : (a : Ask) (what : What) → IsFit a → asked_what a.act ≡ Some what → IsShareOrLock what
@@ -512,6 +515,7 @@ act_owned who (Ranges (range ∷ [])) what may e = subst (λ (w : What). may_hol
 act_owned who (Ranges (range ∷ more ∷ rest)) what may e = absurd cc
 act_owned who (Test extent exclusive) what may e = absurd cc
 act_owned who (Unlock extent) what may e = absurd cc
+act_owned who Wish what may e = absurd cc
 
 -- and by whom it is asked for
 pub fit_owned : (a : Ask) (what : What) → IsFit a → asked_what a.act ≡ Some what → may_hold a.owner what ≡ true
@@ -525,11 +529,11 @@ real_unlock a first last fit e = subst (λ (act : Act). IsFitAct a.owner a.block
 
 -- nothing stands against the claim, so it is granted
 pub lock_free : (n : ℕ) (left : Rooms) (s : CoreState) (a : Ask) (what : What) → asked_what a.act ≡ Some what → a.reclaim ≡ false → is_blocked s.claims (asked_claim a what s.names) ≡ false
-    → IsRoom (limits_of_grant left s a (asked_claim a what s.names)) → (ask n left s a).0 ≡ answers.Granted (asked_claim a what s.names)
+    → IsRoom (limits_of_grant left s a (asked_claim a what s.names)) → (decided n left s a).0 ≡ answers.Granted (asked_claim a what s.names)
 lock_free n left s a what act timely free room =
     (lock_due n left s a what (answers.Granted (asked_claim a what s.names)) act).1 (refl, timely, free, room)
 
-pub test_leaves : (n : ℕ) (left : Rooms) (s : CoreState) (a : Ask) (extent : Extent) (exclusive : Bool) → a.act ≡ Test extent exclusive → (ask n left s a).2 ≡ s
+pub test_leaves : (n : ℕ) (left : Rooms) (s : CoreState) (a : Ask) (extent : Extent) (exclusive : Bool) → a.act ≡ Test extent exclusive → (decided n left s a).2 ≡ s
 test_leaves n left s a extent exclusive act = ap (λ (r : Answered). r.2) (test_is n left s a extent exclusive act)
 
 -- ---- several ranges
@@ -601,8 +605,8 @@ all_due left p first (c ∷ cs) s answer now is = (
 pub row_due : (left : Rooms) (p : Plea) (first : Claim) (cs : List Claim) (s : CoreState) (answer : Answer) (c : Claim) (rest : List Claim) → cs ≡ c ∷ rest → does_wait p s.claims c ≡ false → tells first (row left p cs s) answer → IsEachDue left p.rows p.kept first cs s answer
 row_due left p first cs s answer c rest e now is = all_due left p first cs s answer (subst (λ (ds : List Claim). IsJudgedNow p s.claims ds) (sym e) now) is
 
-pub ranges_asked : (n : ℕ) (left : Rooms) (s : CoreState) (a : Ask) (ranges : List (Extent × Bool)) → a.act ≡ Ranges ranges → ask n left s a ≡ claims_asked n left s a (asked_claims a (map range_what ranges) s.names)
-unfolding ask
+pub ranges_asked : (n : ℕ) (left : Rooms) (s : CoreState) (a : Ask) (ranges : List (Extent × Bool)) → a.act ≡ Ranges ranges → decided n left s a ≡ claims_asked n left s a (asked_claims a (map range_what ranges) s.names)
+unfolding decided
 ranges_asked n left s a ranges e = ap (λ (act : Act). acted n left s a act) e
 
 -- the first is told so where something blocks it, whatever is asked for behind it
@@ -649,3 +653,36 @@ each_due n left s a c cs r timely free is =
     by Gets told t = refl
     by Waits told t = tt
     by (Told x) told t = refl
+
+-- ---- a wish by itself
+
+wish_by_due : (s : CoreState) (a : Ask) (claim : Claim) (limits : List (ℕ × Bool)) (answer : Answer) → IsFound limits (first_passed limits) → ((o : Option ℕ) → IsFound limits o → first_passed limits ≡ o) → ((wish_by s a claim (first_passed limits)).0 ≡ answer) ↔ IsWishBy limits claim answer
+wish_by_due s a claim limits answer found least = (there (first_passed limits) found answer, back answer) where
+  there : (o : Option ℕ) → IsFound limits o → (answer : Answer) → (wish_by s a claim o).0 ≡ answer → IsWishBy limits claim answer
+  there None found answer e = subst (IsWishBy limits claim) e (refl, found)
+  there (Some limit) found answer e = subst (IsWishBy limits claim) e found
+
+  back : (answer : Answer) → IsWishBy limits claim answer → (wish_by s a claim (first_passed limits)).0 ≡ answer
+  back (answers.Granted c) is = ap (λ (o : Option ℕ). (wish_by s a claim o).0) (least None is.1) ∙ ap (λ (d : Claim). answers.Granted d) (sym is.0)
+  back (answers.Full limit) is = ap (λ (o : Option ℕ). (wish_by s a claim o).0) (least (Some limit) is)
+  back (answers.Conflict c) is = absurd is
+  back (answers.Queued number) is = absurd is
+  back (answers.Recall c) is = absurd is
+  back (answers.Grace until) is = absurd is
+  back (answers.NoGrace clock) is = absurd is
+  back answers.NotRecorded is = absurd is
+  back answers.NotHeld is = absurd is
+  back answers.StoreFailed is = absurd is
+
+pub wish_due : (n : ℕ) (left : Rooms) (s : CoreState) (a : Ask) (kind : CacheKind) (kinds : List CacheKind) (answer : Answer) → a.act ≡ Wish → a.wish ≡ kind ∷ kinds → ((decided n left s a).0 ≡ answer) ↔ IsWishDue left s a a.wish answer
+unfolding decided wish_asked
+wish_due n left s a kind kinds answer act wish =
+    subst (λ (ks : List CacheKind). ((acted n left s a a.act).0 ≡ answer) ↔ IsWishDue left s a ks answer) (sym wish)
+    (subst (λ (x : Answered). (x.0 ≡ answer) ↔ IsWishDue left s a (kind ∷ kinds) answer) (sym (ap (acted n left s a) act ∙ ap (wish_asked left s a) wish))
+    (wish_by_due s a (asked_claim a (whats.Cache kind None) s.names) (wish_limits left a.rows (length (both_entered a s.names))) answer (wish_found left a.rows (length (both_entered a s.names)) _ refl) (wish_least left a.rows (length (both_entered a s.names)))))
+
+pub wish_is_due : (n : ℕ) (left : Rooms) (s : CoreState) (a : Ask) → a.act ≡ Wish → IsWishDue left s a a.wish (decided n left s a).0
+wish_is_due n left s a act = by a.wish refl where
+  by : (kinds : List CacheKind) → a.wish ≡ kinds → IsWishDue left s a a.wish (decided n left s a).0
+  by [] none = subst (λ (ks : List CacheKind). IsWishDue left s a ks (decided n left s a).0) (sym none) tt
+  by (kind ∷ kinds) some = (wish_due n left s a kind kinds (decided n left s a).0 act some).0 refl

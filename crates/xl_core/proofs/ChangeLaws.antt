@@ -1,10 +1,12 @@
 -- An ask changes only what its owner has on its file, and only where it is granted.
-use Rattle.std.proofs.Common.{◌≡◌, ℕ, ◌+◌, ◌≤◌, Bool, true, false, if◌then◌else◌, List, [], ◌∷◌, ◌++◌, map, Option, Some, None, refl, sym, ap, subst, ◌∙◌, nat_le, inl, inr}
+use Rattle.std.proofs.Common.{◌≡◌, ℕ, ◌+◌, ◌≤◌, Bool, true, false, not, length, if◌then◌else◌, List, [], ◌∷◌, ◌++◌, map, Option, Some, None, refl, sym, ap, subst, ◌∙◌, nat_le, inl, inr}
 use Rattle.std.specs.List.{AllByRecursion}
 use Rattle.std.proofs.lemmas.Bool.{both_ways, cases_Bool}
 use Rattle.xl_base.proofs.Members.{in_append_left, all_in}
 use Rattle.xl_base.specs.declared.name.Owner.{Owner}
+use Rattle.xl_base.specs.declared.name.Party.{Party}
 use Rattle.xl_matrix.specs.Owners.{posix}
+use Rattle.xl_matrix.specs.declared.claim.CacheKind.{CacheKind}
 use Rattle.xl_matrix.specs.declared.claim.Claim.{Claim}
 use Rattle.xl_matrix.specs.declared.claim.Extent.{Extent}
 use Rattle.xl_matrix.specs.declared.claim.Extent.TheVariants.{Bytes, Empty}
@@ -19,12 +21,13 @@ use Rattle.xl_table.proofs.ShareLaws.{not_united, shares_of-shared, shares_of-sh
 use Rattle.xl_table.proofs.WriteBack.{spans_of-relocked, spans_of-relocked_apart, is_of-true}
 use Rattle.xl_wait.specs.declared.waiter.Rooms.{Rooms}
 use Rattle.xl_core.specs.State.{CoreState}
-use Rattle.xl_core.specs.Asking.{asker, range_what, asked_whats, asked_what, asked_claim, asked_claims, known_claim, is_client, is_named}
+use Rattle.xl_core.specs.Asking.{asker, asking_party, both_entered, range_what, asked_whats, asked_what, asked_claim, asked_claims, known_claim, is_client, is_named}
 use Rattle.xl_core.specs.Blockers.{test_blockers}
 use Rattle.xl_core.specs.Causes.{may_wait, asks_share, left_by_unlock, IsOwn}
-use Rattle.xl_core.specs.Decide.{Answered, waiter_of, waiting, named, claims_asked, test_answered, tested, unlocked_claims, unlocked, acted, ask, unlocked_one, unlocked_bytes, freed}
+use Rattle.xl_core.specs.Decide.{Answered, waiter_of, waiting, named, claims_asked, test_answered, tested, unlocked_claims, unlocked, wish_by, wish_asked, acted, decided, unlocked_one, unlocked_bytes, freed}
 use Rattle.xl_core.specs.Frames.{asks_to_hold}
-use Rattle.xl_core.specs.Good.{IsGood, are_kept, IsHeld}
+use Rattle.xl_core.specs.Good.{IsGood, are_kept, IsHeld, caches_of, caches_but, caches_beside}
+use Rattle.xl_core.specs.Limits.{wish_limits, first_passed}
 use Rattle.xl_core.specs.Judge.{all_granted, held_with}
 use Rattle.xl_core.specs.declared.ask.Act.{Act}
 use Rattle.xl_core.specs.declared.ask.Act.TheVariants.{Ranges, Test, Unlock}
@@ -230,15 +233,32 @@ unlocked_way s a (Bytes first last) act good client =
     go true = by (holds_byte claim.file claim.owner first last s.claims) (nat_le (left_by_unlock s claim first last) most_claims) refl
     go false = freed_way s a (Bytes first last) act good client
 
+-- a wish by itself holds nothing before it is granted
+held_none : (s : CoreState) → held_with [] s ≡ s
+unfolding held_with
+held_none s = refl
+
+wish_way : (left : Rooms) (s : CoreState) (a : Ask) (kinds : List CacheKind) → [] ≡ asked_claims a (asked_whats a.act) s.names → asks_to_hold a.act ≡ true → AskWay s a (wish_asked left s a kinds)
+unfolding wish_asked
+wish_way left s a [] none holds = Stays answers.NotHeld refl refl
+wish_way left s a (kind ∷ kinds) none holds = by (first_passed (wish_limits left a.rows (length (both_entered a s.names)))) where
+  claim : Claim
+  claim = asked_claim a (Cache kind None) s.names
+
+  by : (o : Option ℕ) → AskWay s a (wish_by s a claim o)
+  by None = Holds claim [] none holds (λ i. (answers.Granted claim, [], named a (sym (held_none s) i)))
+  by (Some limit) = Stays (answers.Full limit) refl refl
+
 acted_way : (n : ℕ) (left : Rooms) (s : CoreState) (a : Ask) (act : Act) → a.act ≡ act → IsGood s → is_client a.owner a.party ≡ true → AskWay s a (acted n left s a act)
 acted_way n left s a (acts.Share access deny) is good client = asked_way n left s a _ (ap (λ (x : Act). asked_claims a (asked_whats x) s.names) (sym is)) (ap asks_to_hold is)
 acted_way n left s a (Ranges ranges) is good client = asked_way n left s a _ (ap (λ (x : Act). asked_claims a (asked_whats x) s.names) (sym is)) (ap asks_to_hold is)
 acted_way n left s a (Test extent exclusive) is good client = tested_way s a (known_claim a extent exclusive s.names) (ap asks_to_hold is)
 acted_way n left s a (Unlock extent) is good client = unlocked_way s a extent is good client
+acted_way n left s a acts.Wish is good client = wish_way left s a a.wish (ap (λ (x : Act). asked_claims a (asked_whats x) s.names) (sym is)) (ap asks_to_hold is)
 
-pub ask_way : (n : ℕ) (left : Rooms) (s : CoreState) (a : Ask) → IsGood s → is_client a.owner a.party ≡ true → AskWay s a (ask n left s a)
-unfolding ask
-ask_way n left s a good client = acted_way n left s a a.act refl good client
+pub decided_way : (n : ℕ) (left : Rooms) (s : CoreState) (a : Ask) → IsGood s → is_client a.owner a.party ≡ true → AskWay s a (decided n left s a)
+unfolding decided
+decided_way n left s a good client = acted_way n left s a a.act refl good client
 
 -- ---- what an ask changes
 
@@ -282,9 +302,13 @@ asked_at a s (Ranges ranges) = each ranges where
   each (r ∷ rs) = ((refl, refl, refl), each rs)
 asked_at a s (Test extent exclusive) = tt
 asked_at a s (Unlock extent) = tt
+asked_at a s acts.Wish = tt
+
+beside_same : (file : ℕ) (party : Party) (old new : List Claim) → caches_of new ≡ caches_of old → caches_beside file party new ≡ caches_beside file party old
+beside_same file party old new e = ap (caches_but file party) e
 
 same_own : (s : CoreState) (a : Ask) (answer : Answer) → IsOwn s a answer s
-same_own s a answer = record { claims = λ none. refl; waiters = λ none. refl; refused = λ none nobody. refl; spans = λ file owner apart. refl; shares = λ file owner apart. refl; caches = refl; stay = λ w h. h; names = λ number name h. h }
+same_own s a answer = record { claims = λ none. refl; waiters = λ none. refl; refused = λ none nobody. refl; spans = λ file owner apart. refl; shares = λ file owner apart. refl; caches = refl; unwished = λ none. refl; stay = λ w h. h; names = λ number name h. h }
 
 way_own : (s : CoreState) (a : Ask) (r : Answered) → AskWay s a r → IsOwn s a r.0 r.2
 unfolding held_with
@@ -299,7 +323,8 @@ way_own s a r (Holds c claims is holds e) =
       refused = λ none nobody. absurd (not_granted c none);
       spans = λ at who apart. all_spans_apart a.file (asker a s.names) (asks_share a.act) claims s.claims at who are apart;
       shares = λ at who apart. all_shares_apart a.file (asker a s.names) (asks_share a.act) claims s.claims at who are apart;
-      caches = all_granted_caches claims s.claims;
+      caches = beside_same a.file (asking_party a s.names) s.claims (all_granted claims s.claims) (all_granted_caches claims s.claims);
+      unwished = λ none. all_granted_caches claims s.claims;
       stay = λ w h. h;
       names = both_go_on a s.names;
     })
@@ -312,6 +337,7 @@ way_own s a r (Waits c cs may blocked is holds e) =
       spans = λ at who apart. refl;
       shares = λ at who apart. refl;
       caches = refl;
+      unwished = λ none. refl;
       stay = λ w h. in_append_left w s.waiters (waiter_of (s.counter + 1) a (c ∷ cs) ∷ []) h;
       names = both_go_on a s.names;
     })
@@ -323,7 +349,8 @@ way_own s a r (Frees claim first last holds act file owner e) =
       refused = λ none nobody. absurd (not_granted claim none);
       spans = λ at who apart. spans_of-relocked_apart claim.file claim.owner claim.party first last None s.claims at who (λ same. apart (same.0 ∙ file, same.1 ∙ owner, act));
       shares = λ at who apart. shares_of-relocked claim.file claim.owner claim.party first last None s.claims at who;
-      caches = relocked_caches claim.file claim.owner claim.party first last None s.claims;
+      caches = beside_same a.file (asking_party a s.names) s.claims (unlocked_claims claim first last s.claims) (relocked_caches claim.file claim.owner claim.party first last None s.claims);
+      unwished = λ none. relocked_caches claim.file claim.owner claim.party first last None s.claims;
       stay = λ w h. h;
       names = λ number name h. h;
     })
@@ -335,13 +362,27 @@ way_own s a r (Gives claim d holds act file owner range e) =
       refused = λ none nobody. absurd (not_granted claim none);
       spans = λ at who apart. spans_of-removed_apart at who d s.claims (other_of d at who (λ same. apart (same.0 ∙ file, same.1 ∙ owner, act)));
       shares = λ at who apart. shares_removed at who d s.claims range;
-      caches = removed_caches d s.claims (range_no_cache d.what range);
+      caches = beside_same a.file (asking_party a s.names) s.claims (removed d s.claims) (removed_caches d s.claims (range_no_cache d.what range));
+      unwished = λ none. removed_caches d s.claims (range_no_cache d.what range);
       stay = λ w h. h;
       names = λ number name h. h;
     })
 
-pub ask_own : (n : ℕ) (left : Rooms) (s : CoreState) (a : Ask) → IsGood s → is_client a.owner a.party ≡ true → IsOwn s a (ask n left s a).0 (ask n left s a).2
-ask_own n left s a good client = way_own s a (ask n left s a) (ask_way n left s a good client)
+pub decided_own : (n : ℕ) (left : Rooms) (s : CoreState) (a : Ask) → IsGood s → is_client a.owner a.party ≡ true → IsOwn s a (decided n left s a).0 (decided n left s a).2
+decided_own n left s a good client = way_own s a (decided n left s a) (decided_way n left s a good client)
+
+-- before its wish is granted an ask changes no cache
+caches_way : (s : CoreState) (a : Ask) (r : Answered) → AskWay s a r → caches_of r.2.claims ≡ caches_of s.claims
+unfolding held_with
+caches_way s a r (Stays answer refused e) = ap (λ (x : Answered). caches_of x.2.claims) e
+caches_way s a r (Tests c holds e) = ap (λ (x : Answered). caches_of x.2.claims) e
+caches_way s a r (Holds c claims is holds e) = ap (λ (x : Answered). caches_of x.2.claims) e ∙ all_granted_caches claims s.claims
+caches_way s a r (Waits c cs may blocked is holds e) = ap (λ (x : Answered). caches_of x.2.claims) e
+caches_way s a r (Frees claim first last holds act file owner e) = ap (λ (x : Answered). caches_of x.2.claims) e ∙ relocked_caches claim.file claim.owner claim.party first last None s.claims
+caches_way s a r (Gives claim d holds act file owner range e) = ap (λ (x : Answered). caches_of x.2.claims) e ∙ removed_caches d s.claims (range_no_cache d.what range)
+
+pub decided_caches : (n : ℕ) (left : Rooms) (s : CoreState) (a : Ask) → IsGood s → is_client a.owner a.party ≡ true → caches_of (decided n left s a).2.claims ≡ caches_of s.claims
+decided_caches n left s a good client = caches_way s a (decided n left s a) (decided_way n left s a good client)
 
 -- ---- what is granted is held
 
@@ -361,39 +402,39 @@ granted_way s a what c r act holds (Frees claim first last nothing share file ow
 granted_way s a what c r act holds (Gives claim d nothing share file owner range e) at = absurd (both_ways (asks_to_hold a.act) nothing holds)
 
 -- the owner has what it was granted
-pub ask_held : (n : ℕ) (left : Rooms) (s : CoreState) (a : Ask) (first last : ℕ) (exclusive : Bool) (c : Claim) → IsGood s → is_client a.owner a.party ≡ true → is_named a.owner ≡ true → first ≤ last → a.act ≡ Ranges ((Bytes first last, exclusive) ∷ []) → (ask n left s a).0 ≡ answers.Granted c
-    → spans_of a.file (asker a s.names) (ask n left s a).2.claims ≡ relocked (spans_of a.file (asker a s.names) s.claims) first last (Some (mode_of exclusive))
-ask_held n left s a first last exclusive c good client named ends act at =
+pub decided_held : (n : ℕ) (left : Rooms) (s : CoreState) (a : Ask) (first last : ℕ) (exclusive : Bool) (c : Claim) → IsGood s → is_client a.owner a.party ≡ true → is_named a.owner ≡ true → first ≤ last → a.act ≡ Ranges ((Bytes first last, exclusive) ∷ []) → (decided n left s a).0 ≡ answers.Granted c
+    → spans_of a.file (asker a s.names) (decided n left s a).2.claims ≡ relocked (spans_of a.file (asker a s.names) s.claims) first last (Some (mode_of exclusive))
+decided_held n left s a first last exclusive c good client named ends act at =
     let what = Range (Bytes first last) exclusive in
-    ap (λ (cs : List Claim). spans_of a.file (asker a s.names) cs) (granted_way s a what c (ask n left s a) (ap asked_what act) (ap asks_to_hold act) (ask_way n left s a good client) at)
+    ap (λ (cs : List Claim). spans_of a.file (asker a s.names) cs) (granted_way s a what c (decided n left s a) (ap asked_what act) (ap asks_to_hold act) (decided_way n left s a good client) at)
     ∙ granted_spans (asked_claim a what s.names) first last exclusive s.claims good.kept refl (asker_posix a s.names client named) ends
 
 -- and the share, united with the one that it had where it is NFSv4's
-pub ask_shares : (n : ℕ) (left : Rooms) (s : CoreState) (a : Ask) (access deny : Rwd) (c : Claim) → IsGood s → is_client a.owner a.party ≡ true → a.act ≡ acts.Share access deny → (ask n left s a).0 ≡ answers.Granted c
-    → shares_of a.file (asker a s.names) (ask n left s a).2.claims ≡ with_share (united_by (asker a s.names) (Share access deny) (old_shares a.file (asker a s.names) s.claims)) []
-ask_shares n left s a access deny c good client act at =
-    ap (λ (cs : List Claim). shares_of a.file (asker a s.names) cs) (granted_way s a (Share access deny) c (ask n left s a) (ap asked_what act) (ap asks_to_hold act) (ask_way n left s a good client) at)
+pub decided_shares : (n : ℕ) (left : Rooms) (s : CoreState) (a : Ask) (access deny : Rwd) (c : Claim) → IsGood s → is_client a.owner a.party ≡ true → a.act ≡ acts.Share access deny → (decided n left s a).0 ≡ answers.Granted c
+    → shares_of a.file (asker a s.names) (decided n left s a).2.claims ≡ with_share (united_by (asker a s.names) (Share access deny) (old_shares a.file (asker a s.names) s.claims)) []
+decided_shares n left s a access deny c good client act at =
+    ap (λ (cs : List Claim). shares_of a.file (asker a s.names) cs) (granted_way s a (Share access deny) c (decided n left s a) (ap asked_what act) (ap asks_to_hold act) (decided_way n left s a good client) at)
     ∙ granted_share (asked_claim a (Share access deny) s.names) access deny s.claims refl
 
 -- else in the place of the one that it had
-pub ask_shared : (n : ℕ) (left : Rooms) (s : CoreState) (a : Ask) (access deny : Rwd) (c : Claim) → IsGood s → is_client a.owner a.party ≡ true → unites (asker a s.names) ≡ false → a.act ≡ acts.Share access deny → (ask n left s a).0 ≡ answers.Granted c
-    → shares_of a.file (asker a s.names) (ask n left s a).2.claims ≡ (access, deny) ∷ []
-ask_shared n left s a access deny c good client alone act at =
-    ask_shares n left s a access deny c good client act at
+pub decided_shared : (n : ℕ) (left : Rooms) (s : CoreState) (a : Ask) (access deny : Rwd) (c : Claim) → IsGood s → is_client a.owner a.party ≡ true → unites (asker a s.names) ≡ false → a.act ≡ acts.Share access deny → (decided n left s a).0 ≡ answers.Granted c
+    → shares_of a.file (asker a s.names) (decided n left s a).2.claims ≡ (access, deny) ∷ []
+decided_shared n left s a access deny c good client alone act at =
+    decided_shares n left s a access deny c good client act at
     ∙ ap (λ (d : Claim). with_share d.what []) (not_united (asked_claim a (Share access deny) s.names) s.claims alone)
 
 -- and no more what it gave up
-pub ask_left : (n : ℕ) (left : Rooms) (s : CoreState) (a : Ask) (first last : ℕ) (c : Claim) → IsGood s → is_client a.owner a.party ≡ true → is_named a.owner ≡ true → first ≤ last → a.act ≡ Unlock (Bytes first last) → (ask n left s a).0 ≡ answers.Granted c
-    → spans_of a.file (asker a s.names) (ask n left s a).2.claims ≡ relocked (spans_of a.file (asker a s.names) s.claims) first last None
-ask_left n left s a first last c good client named ends act at = by (holds_byte claim.file claim.owner first last s.claims) (nat_le (left_by_unlock s claim first last) most_claims) refl refl where
+pub decided_left : (n : ℕ) (left : Rooms) (s : CoreState) (a : Ask) (first last : ℕ) (c : Claim) → IsGood s → is_client a.owner a.party ≡ true → is_named a.owner ≡ true → first ≤ last → a.act ≡ Unlock (Bytes first last) → (decided n left s a).0 ≡ answers.Granted c
+    → spans_of a.file (asker a s.names) (decided n left s a).2.claims ≡ relocked (spans_of a.file (asker a s.names) s.claims) first last None
+decided_left n left s a first last c good client named ends act at = by (holds_byte claim.file claim.owner first last s.claims) (nat_le (left_by_unlock s claim first last) most_claims) refl refl where
   claim : Claim
   claim = known_claim a (Bytes first last) false s.names
 
-  is : (h f : Bool) → holds_byte claim.file claim.owner first last s.claims ≡ h → nat_le (left_by_unlock s claim first last) most_claims ≡ f → ask n left s a ≡ left_so s claim first last h f
+  is : (h f : Bool) → holds_byte claim.file claim.owner first last s.claims ≡ h → nat_le (left_by_unlock s claim first last) most_claims ≡ f → decided n left s a ≡ left_so s claim first last h f
   is h f e k = unlock_is n left s a first last act client named ∙ unlock_by s claim first last h f e k
 
   by : (h f : Bool) → holds_byte claim.file claim.owner first last s.claims ≡ h → nat_le (left_by_unlock s claim first last) most_claims ≡ f
-      → spans_of a.file (asker a s.names) (ask n left s a).2.claims ≡ relocked (spans_of a.file (asker a s.names) s.claims) first last None
+      → spans_of a.file (asker a s.names) (decided n left s a).2.claims ≡ relocked (spans_of a.file (asker a s.names) s.claims) first last None
   by false f e k = let two : answers.NotHeld ≡ answers.Granted c = sym (ap (λ (x : Answered). x.0) (is false f e k)) ∙ at in absurd cc
   by true false e k = let two : answers.Full most_claims ≡ answers.Granted c = sym (ap (λ (x : Answered). x.0) (is true false e k)) ∙ at in absurd cc
   by true true e k =
@@ -415,6 +456,6 @@ waits_way s a number r (Waits c cs may blocked is holds e) at =
     same_number : (x y : ℕ) → answers.Queued x ≡ answers.Queued y → x ≡ y
     same_number x y e = cc
 
-pub ask_waits : (n : ℕ) (left : Rooms) (s : CoreState) (a : Ask) (number : ℕ) → IsGood s → is_client a.owner a.party ≡ true → (ask n left s a).0 ≡ answers.Queued number
-    → (ask n left s a).2.waiters ≡ s.waiters ++ waiter_of number a (asked_claims a (asked_whats a.act) s.names) ∷ []
-ask_waits n left s a number good client at = waits_way s a number (ask n left s a) (ask_way n left s a good client) at
+pub decided_waits : (n : ℕ) (left : Rooms) (s : CoreState) (a : Ask) (number : ℕ) → IsGood s → is_client a.owner a.party ≡ true → (decided n left s a).0 ≡ answers.Queued number
+    → (decided n left s a).2.waiters ≡ s.waiters ++ waiter_of number a (asked_claims a (asked_whats a.act) s.names) ∷ []
+decided_waits n left s a number good client at = waits_way s a number (decided n left s a) (decided_way n left s a good client) at

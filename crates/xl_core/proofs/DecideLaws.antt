@@ -56,7 +56,7 @@ stopped_is s ask (Some c) e = sym (some_stops [] s ask c (sym (e [])))
 -- ---- caches
 
 -- what is in the way of an ask blocks it, or a share does that it covers
-obstacle_blocks : (ask : Claim) (held : List Claim) (c : Claim) → IsIn c held → is_obstacle ask held c ≡ true → is_blocked held ask ≡ true
+pub obstacle_blocks : (ask : Claim) (held : List Claim) (c : Claim) → IsIn c held → is_obstacle ask held c ≡ true → is_blocked held ask ≡ true
 unfolding is_in_the_way
 obstacle_blocks ask held c there way =
     elim (or_cases (is_cache c.what && blocks ask c) (covers ask (blocking_shares ask held) c) way) [

@@ -1,5 +1,5 @@
 -- What the deeds' laws need of one ask and of one turn.
-use Rattle.std.proofs.Common.{◌≡◌, ℕ, ◌+◌, ◌≤◌, Bool, true, false, List, [], ◌∷◌, ◌++◌, Option, Some, None, refl, sym, ap, subst, ◌∙◌, is_some, map, ◌&&◌, not}
+use Rattle.std.proofs.Common.{◌≡◌, ℕ, ◌+◌, ◌≤◌, Bool, true, false, List, [], ◌∷◌, Option, Some, None, refl, sym, ap, subst, ◌∙◌, is_some, map, ◌&&◌, not}
 use Rattle.std.proofs.lemmas.Bool.{both_ways, le-leb, and_parts, not-true}
 use Rattle.xl_base.proofs.Members.{all_in, all_from}
 use Rattle.xl_base.specs.declared.name.Owner.{Owner}
@@ -12,10 +12,10 @@ use Rattle.xl_spans.specs.Spans.{relocked}
 use Rattle.xl_table.specs.Held.{spans_of, is_of, is_range, may_own}
 use Rattle.xl_wait.specs.declared.waiter.Rooms.{Rooms}
 use Rattle.xl_core.specs.State.{CoreState}
-use Rattle.xl_core.specs.Asking.{asked_whats, asked_what, asked_claim, asked_claims, known_claim, IsFit, IsFitAct, is_named, is_client, range_what, known_owner, both_entered, may_hold_all, may_ask}
-use Rattle.xl_core.specs.Causes.{may_wait, left_by_unlock}
+use Rattle.xl_core.specs.Asking.{asked_what, asked_claim, asked_claims, known_claim, IsFit, IsFitAct, is_named, is_client, range_what, known_owner, both_entered, may_hold_all, may_ask}
+use Rattle.xl_core.specs.Causes.{left_by_unlock}
 use Rattle.xl_core.specs.Deeds.{queue_with, KeepNames}
-use Rattle.xl_core.specs.Decide.{Answered, waiter_of, unlocked_claims, ask, named, claims_asked, plea_of, freed, unlocked_one}
+use Rattle.xl_core.specs.Decide.{Answered, unlocked_claims, decided, named, claims_asked, plea_of, freed, unlocked_one}
 use Rattle.xl_core.specs.Dues.{IsGrantDue, IsAnswerDue, IsBytesDue}
 use Rattle.xl_table.specs.Held.{IsGrantable}
 use Rattle.xl_core.specs.Good.{IsGood, IsKnown, IsHeld, are_kept}
@@ -26,9 +26,8 @@ use Rattle.xl_core.specs.declared.ask.Act.TheVariants as acts
 use Rattle.xl_core.specs.declared.ask.Answer.{Answer}
 use Rattle.xl_core.specs.declared.ask.Answer.TheVariants as answers
 use Rattle.xl_core.specs.declared.ask.Ask.{Ask}
-use Rattle.xl_core.specs.declared.ask.Effect.{Effect}
-use Rattle.xl_core.proofs.CauseLaws.{same_list, unlock_by, unlock_is, is_holds, lock_due, lock_free, test_due, unlock_due, fit_what, fit_owned, first_due, each_due, real_unlock, element_due, element_is, empty_due, ranges_asked, own_ranges, fit_ranges, real_range}
-use Rattle.xl_core.proofs.ChangeLaws.{ask_way, granted_way, ask_own, ask_waits, AskWay, Stays, Tests, Holds, Waits, Frees, Gives, element_is_held, spans_of-removed_apart, shares_removed}
+use Rattle.xl_core.proofs.CauseLaws.{wish_is_due, unlock_by, unlock_is, is_holds, lock_due, lock_free, test_due, unlock_due, fit_what, fit_owned, first_due, each_due, real_unlock, element_due, element_is, empty_due, ranges_asked, own_ranges, fit_ranges, real_range}
+use Rattle.xl_core.proofs.ChangeLaws.{decided_way, granted_way, decided_own, decided_waits, element_is_held, spans_of-removed_apart, shares_removed}
 use Rattle.xl_core.proofs.KnownLaws.{asked_known, known_posix, known_named, known_party_is, asked_all_known, both_distinct, both_go_on}
 use Rattle.xl_table.proofs.ShareLaws.{shares_of-relocked}
 use Rattle.xl_table.proofs.WriteBack.{spans_of-relocked, spans_of-relocked_apart, is_of-true}
@@ -42,7 +41,7 @@ use Rattle.xl_core.specs.Judge.{all_granted, held_with}
 use Rattle.xl_core.specs.Places.{claims_like}
 use Rattle.xl_names.specs.Names.{AreDistinct}
 use Rattle.xl_table.specs.Elements.{elements_of, unlocked_elements, element_held, taken_out}
-use Rattle.xl_table.specs.Flat.{removed, is_blocked}
+use Rattle.xl_table.specs.Flat.{removed}
 use Rattle.xl_table.proofs.ElementLaws.{AreOfParty, elements_unlocked, elements_removed_apart}
 use Rattle.std.specs.List.{AllByRecursion}
 use Rattle.xl_matrix.specs.declared.claim.Extent.{Extent}
@@ -54,15 +53,16 @@ what_holds (acts.Share access deny) what e = refl
 what_holds (acts.Ranges ranges) what e = refl
 what_holds (acts.Test extent exclusive) what e = absurd cc
 what_holds (acts.Unlock extent) what e = absurd cc
+what_holds acts.Wish what e = absurd cc
 
 -- a granted share or lock is entered
-pub ask_enters : (n : ℕ) (left : Rooms) (s : CoreState) (a : Ask) (what : What) (c : Claim) → IsGood s → IsFit a → asked_what a.act ≡ Some what → (ask n left s a).0 ≡ answers.Granted c → IsGrantable c × ((ask n left s a).2.claims ≡ granted_claims c s.claims)
-ask_enters n left s a what c good fit act at =
+pub decided_enters : (n : ℕ) (left : Rooms) (s : CoreState) (a : Ask) (what : What) (c : Claim) → IsGood s → IsFit a → asked_what a.act ≡ Some what → (decided n left s a).0 ≡ answers.Granted c → IsGrantable c × ((decided n left s a).2.claims ≡ granted_claims c s.claims)
+decided_enters n left s a what c good fit act at =
     let claim = asked_claim a what s.names in
     let same : c ≡ claim = ((lock_due n left s a what (answers.Granted c) act).0 at).0 in
     let real : IsGrantable claim = (asked_known a what s.names fit.party (fit_owned a what fit act) (fit_what a what fit act)).0 in (
       subst (λ (x : Claim). IsGrantable x) (sym same) real,
-      granted_way s a what c (ask n left s a) act (what_holds a.act what act) (ask_way n left s a good fit.party) at ∙ ap (λ (x : Claim). granted_claims x s.claims) (sym same),
+      granted_way s a what c (decided n left s a) act (what_holds a.act what act) (decided_way n left s a good fit.party) at ∙ ap (λ (x : Claim). granted_claims x s.claims) (sym same),
     )
 
 -- several granted ranges pass, each behind those before it, and are entered so
@@ -74,7 +74,7 @@ pub record AreEntered (left : Rooms) (s : CoreState) (a : Ask) (ranges : List (E
   pub pass : AllPass left (plea_of left s a) s.claims (asked_claims a (map range_what ranges) s.names)
   pub like : claims_like c ranges ≡ asked_claims a (map range_what ranges) s.names
 
-pub ranges_enter : (n : ℕ) (left : Rooms) (s : CoreState) (a : Ask) (range : Extent × Bool) (ranges : List (Extent × Bool)) (c : Claim) → IsGood s → IsFit a → a.act ≡ acts.Ranges (range ∷ ranges) → (ask n left s a).0 ≡ answers.Granted c → AreEntered left s a (range ∷ ranges) c (ask n left s a).2.claims
+pub ranges_enter : (n : ℕ) (left : Rooms) (s : CoreState) (a : Ask) (range : Extent × Bool) (ranges : List (Extent × Bool)) (c : Claim) → IsGood s → IsFit a → a.act ≡ acts.Ranges (range ∷ ranges) → (decided n left s a).0 ≡ answers.Granted c → AreEntered left s a (range ∷ ranges) c (decided n left s a).2.claims
 unfolding held_with
 ranges_enter n left s a range ranges c good fit act at = by (claims_asked n left s a (first ∷ rest)) (ask_case n left s a first rest) refl where
   first : Claim
@@ -83,7 +83,7 @@ ranges_enter n left s a range ranges c good fit act at = by (claims_asked n left
   rest : List Claim
   rest = asked_claims a (map range_what ranges) s.names
 
-  is : ask n left s a ≡ claims_asked n left s a (first ∷ rest)
+  is : decided n left s a ≡ claims_asked n left s a (first ∷ rest)
   is = ranges_asked n left s a (range ∷ ranges) act
 
   real : IsFitAct a.owner a.blocking (acts.Ranges (range ∷ ranges))
@@ -99,9 +99,9 @@ ranges_enter n left s a range ranges c good fit act at = by (claims_asked n left
   same_claim : (x y : Claim) → answers.Granted x ≡ answers.Granted y → x ≡ y
   same_claim x y e = cc
 
-  by : (r : Answered) → AskCase left s a (first ∷ rest) first r → claims_asked n left s a (first ∷ rest) ≡ r → AreEntered left s a (range ∷ ranges) c (ask n left s a).2.claims
+  by : (r : Answered) → AskCase left s a (first ∷ rest) first r → claims_asked n left s a (first ∷ rest) ≡ r → AreEntered left s a (range ∷ ranges) c (decided n left s a).2.claims
   by r (Goes pass e) so =
-      let whole : ask n left s a ≡ (answers.Granted first, [], named a (held_with (first ∷ rest) s)) = is ∙ so ∙ e in
+      let whole : decided n left s a ≡ (answers.Granted first, [], named a (held_with (first ∷ rest) s)) = is ∙ so ∙ e in
       record {
         claims = ap (λ (x : Answered). x.2.claims) whole;
         distinct = both_distinct a s.names good.distinct;
@@ -114,8 +114,8 @@ ranges_enter n left s a range ranges c good fit act at = by (claims_asked n left
   by r (Refuses answer refused e) so = absurd (both_ways (is_refusal answer) (ap is_refusal (sym (ap (λ (x : Answered). x.0) (is ∙ so ∙ e)) ∙ at)) refused)
 
 -- one that isn't granted leaves all
-pub ask_keeps_claims : (n : ℕ) (left : Rooms) (s : CoreState) (a : Ask) → IsGood s → IsFit a → ((c : Claim) → (ask n left s a).0 ≡ answers.Granted c → ⊥) → (ask n left s a).2.claims ≡ s.claims
-ask_keeps_claims n left s a good fit none = (ask_own n left s a good fit.party).claims none
+pub decided_keeps_claims : (n : ℕ) (left : Rooms) (s : CoreState) (a : Ask) → IsGood s → IsFit a → ((c : Claim) → (decided n left s a).0 ≡ answers.Granted c → ⊥) → (decided n left s a).2.claims ≡ s.claims
+decided_keeps_claims n left s a good fit none = (decided_own n left s a good fit.party).claims none
 
 -- what an unlock of these bytes leaves
 pub record Clears (c : Claim) (first last : ℕ) (old new : List Claim) : Type 0 where
@@ -128,15 +128,15 @@ pub record Clears (c : Claim) (first last : ℕ) (old new : List Claim) : Type 0
   pub elements : (file number : ℕ) → elements_of file (open_of number) new ≡ elements_of file (open_of number) old
   pub caches : caches_of new ≡ caches_of old
 
-pub ask_clears : (n : ℕ) (left : Rooms) (s : CoreState) (a : Ask) (first last : ℕ) (c : Claim) → IsGood s → IsFit a → is_named a.owner ≡ true → a.act ≡ acts.Unlock (Bytes first last) → (ask n left s a).0 ≡ answers.Granted c → Clears c first last s.claims (ask n left s a).2.claims
-ask_clears n left s a first last c good fit named act at =
+pub decided_clears : (n : ℕ) (left : Rooms) (s : CoreState) (a : Ask) (first last : ℕ) (c : Claim) → IsGood s → IsFit a → is_named a.owner ≡ true → a.act ≡ acts.Unlock (Bytes first last) → (decided n left s a).0 ≡ answers.Granted c → Clears c first last s.claims (decided n left s a).2.claims
+decided_clears n left s a first last c good fit named act at =
     let claim = known_claim a (Bytes first last) false s.names in
     let ends : first ≤ last = real_unlock a first last fit act in
     let own = known_posix a s.names fit.party named in
     let due = (unlock_due n left s a first last (answers.Granted c) act fit.party named ends good).0 at in
-    let left_so : (ask n left s a).2.claims ≡ unlocked_claims claim first last s.claims =
+    let left_so : (decided n left s a).2.claims ≡ unlocked_claims claim first last s.claims =
     ap (λ (x : Answered). x.2.claims) (unlock_is n left s a first last act fit.party named ∙ unlock_by s claim first last true true (is_holds s claim first last due.1) (le-leb (left_by_unlock s claim first last) most_claims due.2)) in
-    subst (λ (x : Claim). Clears x first last s.claims (ask n left s a).2.claims) (sym due.0)
+    subst (λ (x : Claim). Clears x first last s.claims (decided n left s a).2.claims) (sym due.0)
     (subst (λ (cs : List Claim). Clears claim first last s.claims cs) (sym left_so)
     (record {
       what = refl;
@@ -178,24 +178,24 @@ own_party s a extent good client =
     known_party_is a s.names d.party good.distinct good.few client
     (subst (λ (o : Owner). are_kept s.names o d.party ≡ true) (is_of-true claim.file claim.owner d (and_parts (is_of claim.file claim.owner d) (is_range d.what) own).0).1 (all_in (IsHeld s.names) d s.claims good.known h).1))
 
-pub ask_releases : (n : ℕ) (left : Rooms) (s : CoreState) (a : Ask) (extent : Extent) (c : Claim) → IsGood s → IsFit a → posix (known_owner a.owner s.names) ≡ false → a.act ≡ acts.Unlock extent → (ask n left s a).0 ≡ answers.Granted c → Releases c extent s.claims (ask n left s a).2.claims
-ask_releases n left s a extent c good fit unnamed act at = by (element_held claim extent s.claims) refl where
+pub decided_releases : (n : ℕ) (left : Rooms) (s : CoreState) (a : Ask) (extent : Extent) (c : Claim) → IsGood s → IsFit a → posix (known_owner a.owner s.names) ≡ false → a.act ≡ acts.Unlock extent → (decided n left s a).0 ≡ answers.Granted c → Releases c extent s.claims (decided n left s a).2.claims
+decided_releases n left s a extent c good fit unnamed act at = by (element_held claim extent s.claims) refl where
   claim : Claim
   claim = known_claim a extent false s.names
 
-  is : ask n left s a ≡ unlocked_one s claim extent
+  is : decided n left s a ≡ unlocked_one s claim extent
   is = element_is n left s a extent act unnamed
 
   same : c ≡ claim
   same = ((element_due n left s a extent (answers.Granted c) act unnamed).0 at).0
 
-  by : (o : Option Claim) → element_held claim extent s.claims ≡ o → Releases c extent s.claims (ask n left s a).2.claims
+  by : (o : Option Claim) → element_held claim extent s.claims ≡ o → Releases c extent s.claims (decided n left s a).2.claims
   by None none = let two : answers.NotHeld ≡ answers.Granted c = sym (ap (λ (x : Option Claim). (freed s claim x).0) none) ∙ sym (ap (λ (x : Answered). x.0) is) ∙ at in absurd cc
   by (Some d) found =
-      let left_so : (ask n left s a).2.claims ≡ removed d s.claims = ap (λ (x : Answered). x.2.claims) is ∙ ap (λ (x : Option Claim). (freed s claim x).2.claims) found in
+      let left_so : (decided n left s a).2.claims ≡ removed d s.claims = ap (λ (x : Answered). x.2.claims) is ∙ ap (λ (x : Option Claim). (freed s claim x).2.claims) found in
       let one = element_is_held claim extent s.claims d found in
       let there : (file : ℕ) (owner : Owner) → is_of file owner claim ≡ false → is_of file owner d ≡ false = λ file owner other. ap (λ (x : Claim). is_of file owner x) one.2 ∙ other in
-      subst (λ (x : Claim). Releases x extent s.claims (ask n left s a).2.claims) (sym same)
+      subst (λ (x : Claim). Releases x extent s.claims (decided n left s a).2.claims) (sym same)
       (subst (λ (cs : List Claim). Releases claim extent s.claims cs) (sym left_so)
       (record {
         what = refl;
@@ -226,39 +226,26 @@ queues_or s a (answers.Full limit) = Doesnt (λ d e. absurd cc) refl
 queues_or s a answers.NotHeld = Doesnt (λ d e. absurd cc) refl
 queues_or s a answers.StoreFailed = Doesnt (λ d e. absurd cc) refl
 
--- who is told to wait may wait, for what it asks first
-queued_way : (s : CoreState) (a : Ask) (id : ℕ) (r : Answered) → AskWay s a r → r.0 ≡ answers.Queued id → (c : Claim) × (cs : List Claim) × (may_wait s.claims a c ≡ true) × (is_blocked s.claims c ≡ true) × (c ∷ cs ≡ asked_claims a (asked_whats a.act) s.names)
-queued_way s a id r (Stays answer refused e) at = absurd (both_ways (is_refusal answer) (ap is_refusal (sym (ap (λ (x : Answered). x.0) e) ∙ at)) refused)
-queued_way s a id r (Tests c holds e) at = let two : answers.Granted c ≡ answers.Queued id = sym (ap (λ (x : Answered). x.0) e) ∙ at in absurd cc
-queued_way s a id r (Holds c claims is holds e) at = let two : answers.Granted c ≡ answers.Queued id = sym (ap (λ (x : Answered). x.0) e) ∙ at in absurd cc
-queued_way s a id r (Waits c cs may blocked is holds e) at = (c, cs, may, blocked, is)
-queued_way s a id r (Frees c first last holds act file owner e) at = let two : answers.Granted c ≡ answers.Queued id = sym (ap (λ (x : Answered). x.0) e) ∙ at in absurd cc
-queued_way s a id r (Gives c d holds act file owner range e) at = let two : answers.Granted c ≡ answers.Queued id = sym (ap (λ (x : Answered). x.0) e) ∙ at in absurd cc
-
-pub ask_may : (n : ℕ) (left : Rooms) (s : CoreState) (a : Ask) (id : ℕ) → IsGood s → is_client a.owner a.party ≡ true → (ask n left s a).0 ≡ answers.Queued id
-    → (c : Claim) × (cs : List Claim) × (may_wait s.claims a c ≡ true) × (is_blocked s.claims c ≡ true) × (c ∷ cs ≡ asked_claims a (asked_whats a.act) s.names)
-ask_may n left s a id good client at = queued_way s a id (ask n left s a) (ask_way n left s a good client) at
-
 -- one who is told to wait comes last, and no other ask changes who waits
-pub ask_queue : (n : ℕ) (left : Rooms) (s : CoreState) (a : Ask) → IsGood s → IsFit a → (ask n left s a).2.waiters ≡ queue_with s a (ask n left s a).0 s.waiters
-ask_queue n left s a good fit =
-    elim (queues_or s a (ask n left s a).0) [
-      | Does id at ↦ ask_waits n left s a id good fit.party at ∙ ap (λ (answer : Answer). queue_with s a answer s.waiters) (sym at)
-      | Doesnt none same ↦ (ask_own n left s a good fit.party).waiters none ∙ sym same
+pub decided_queue : (n : ℕ) (left : Rooms) (s : CoreState) (a : Ask) → IsGood s → IsFit a → (decided n left s a).2.waiters ≡ queue_with s a (decided n left s a).0 s.waiters
+decided_queue n left s a good fit =
+    elim (queues_or s a (decided n left s a).0) [
+      | Does id at ↦ decided_waits n left s a id good fit.party at ∙ ap (λ (answer : Answer). queue_with s a answer s.waiters) (sym at)
+      | Doesnt none same ↦ (decided_own n left s a good fit.party).waiters none ∙ sym same
     ]
 
-pub ask_names : (n : ℕ) (left : Rooms) (s : CoreState) (a : Ask) → IsGood s → IsFit a → KeepNames s.names (ask n left s a).2.names
-ask_names n left s a good fit = (ask_own n left s a good fit.party).names
+pub decided_names : (n : ℕ) (left : Rooms) (s : CoreState) (a : Ask) → IsGood s → IsFit a → KeepNames s.names (decided n left s a).2.names
+decided_names n left s a good fit = (decided_own n left s a good fit.party).names
 
 -- ---- what is due
 
-what_due : (n : ℕ) (left : Rooms) (s : CoreState) (a : Ask) (what : What) → IsFit a → asked_what a.act ≡ Some what → IsGrantDue left s a what (ask n left s a).0
+what_due : (n : ℕ) (left : Rooms) (s : CoreState) (a : Ask) (what : What) → IsFit a → asked_what a.act ≡ Some what → IsGrantDue left s a what (decided n left s a).0
 what_due n left s a what fit act = record {
   free = λ timely free room. lock_free n left s a what act timely free room;
-  cause = (lock_due n left s a what (ask n left s a).0 act).0 refl;
+  cause = (lock_due n left s a what (decided n left s a).0 act).0 refl;
 }
 
-act_due : (n : ℕ) (left : Rooms) (s : CoreState) (a : Ask) (act : Act) → a.act ≡ act → IsFitAct a.owner a.blocking act → IsGood s → IsFit a → IsAnswerDue left s a act (ask n left s a).0
+act_due : (n : ℕ) (left : Rooms) (s : CoreState) (a : Ask) (act : Act) → a.act ≡ act → IsFitAct a.owner a.blocking act → IsGood s → IsFit a → IsAnswerDue left s a act (decided n left s a).0
 act_due n left s a (acts.Share access deny) is real good fit = what_due n left s a (Share access deny) fit (ap asked_what is)
 act_due n left s a (acts.Ranges []) is real good fit = absurd real
 act_due n left s a (acts.Ranges (range ∷ [])) is real good fit = what_due n left s a (Range range.0 range.1) fit (ap asked_what is)
@@ -266,16 +253,17 @@ act_due n left s a (acts.Ranges (range ∷ more ∷ rest)) is real good fit =
     let first = asked_claim a (range_what range) s.names in
     let others = asked_claims a (map range_what (more ∷ rest)) s.names in
     let asked = ranges_asked n left s a (range ∷ more ∷ rest) is in
-    (λ blocked. first_due n left s a first others (ask n left s a) blocked asked, λ timely free. each_due n left s a first others (ask n left s a) timely free asked)
-act_due n left s a (acts.Test extent exclusive) is real good fit = (test_due n left s a extent exclusive (ask n left s a).0 is).0 refl
+    (λ blocked. first_due n left s a first others (decided n left s a) blocked asked, λ timely free. each_due n left s a first others (decided n left s a) timely free asked)
+act_due n left s a (acts.Test extent exclusive) is real good fit = (test_due n left s a extent exclusive (decided n left s a).0 is).0 refl
 act_due n left s a (acts.Unlock (Bytes first last)) is real good fit = by (posix claim.owner) refl where
   claim : Claim
   claim = known_claim a (Bytes first last) false s.names
 
-  by : (b : Bool) → posix claim.owner ≡ b → IsBytesDue s claim first last b (ask n left s a).0
-  by true named = (unlock_due n left s a first last (ask n left s a).0 is fit.party (sym (known_named a s.names fit.party) ∙ named) real good).0 refl
-  by false unnamed = (element_due n left s a (Bytes first last) (ask n left s a).0 is unnamed).0 refl
-act_due n left s a (acts.Unlock (Empty offset)) is real good fit = (empty_due n left s a offset (ask n left s a).0 is).0 refl
+  by : (b : Bool) → posix claim.owner ≡ b → IsBytesDue s claim first last b (decided n left s a).0
+  by true named = (unlock_due n left s a first last (decided n left s a).0 is fit.party (sym (known_named a s.names fit.party) ∙ named) real good).0 refl
+  by false unnamed = (element_due n left s a (Bytes first last) (decided n left s a).0 is unnamed).0 refl
+act_due n left s a acts.Wish is real good fit = wish_is_due n left s a is
+act_due n left s a (acts.Unlock (Empty offset)) is real good fit = (empty_due n left s a offset (decided n left s a).0 is).0 refl
 
-pub answer_is_due : (n : ℕ) (left : Rooms) (s : CoreState) (a : Ask) → IsGood s → IsFit a → IsAnswerDue left s a a.act (ask n left s a).0
+pub answer_is_due : (n : ℕ) (left : Rooms) (s : CoreState) (a : Ask) → IsGood s → IsFit a → IsAnswerDue left s a a.act (decided n left s a).0
 answer_is_due n left s a good fit = act_due n left s a a.act refl fit.act good fit

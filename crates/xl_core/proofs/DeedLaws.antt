@@ -1,6 +1,6 @@
 -- What one deed makes of each place, and who waits after it.
 use Rattle.xl_base.proofs.Members.{all_in, in_append_right}
-use Rattle.std.proofs.Common.{◌≡◌, ℕ, Bool, true, false, cond, if◌then◌else◌, ◌==◌, inl, inr, List, [], ◌∷◌, ◌++◌, map, Option, Some, None, IfSome, refl, sym, ap, subst, ◌∙◌, slice_get, ◌&&◌, length}
+use Rattle.std.proofs.Common.{◌≡◌, ℕ, Bool, true, false, cond, if◌then◌else◌, ◌==◌, inl, inr, List, [], ◌∷◌, ◌++◌, map, append-nil, Option, Some, None, IfSome, refl, sym, ap, subst, ◌∙◌, slice_get, ◌&&◌, length}
 use Rattle.std.proofs.lemmas.Bool.{cases_Bool, both_ways, and_from, eq-eqb, not-true}
 use Rattle.std.specs.List.{AllByRecursion}
 use Rattle.xl_base.specs.Lists.{IsIn, Pairwise}
@@ -27,21 +27,31 @@ use Rattle.xl_wait.specs.Waiting.{cancelled}
 use Rattle.xl_wait.specs.declared.waiter.Rooms.{Rooms}
 use Rattle.xl_wait.specs.declared.waiter.Waiter.{Waiter}
 use Rattle.xl_core.specs.State.{CoreState, drawn}
-use Rattle.xl_core.specs.Asking.{asked_what, known_claim, IsFit, IsFitAct, known_owner, range_what, asked_claims, both_entered}
+use Rattle.xl_core.specs.Asking.{asked_what, asked_whats, asked_claim, known_claim, IsFit, IsFitAct, known_owner, range_what, asked_claims, both_entered}
 use Rattle.xl_core.specs.Causes.{IsTurn, held_once}
 use Rattle.xl_core.specs.Asking.{party_named}
 use Rattle.xl_core.specs.Breaks.{may_be_left, ack, first_due, client_of}
 use Rattle.xl_core.specs.Ticks.{advanced, renew, end_some, unleased, expire, lapsed_by, lapse}
 use Rattle.xl_names.specs.declared.name.Name.TheVariants.{NfsParty}
 use Rattle.xl_base.specs.declared.event.Moment.{Moment}
-use Rattle.xl_core.specs.Deeds.{Deed, Asks, GivesBack, Weakens, Acks, Cancels, Ends, Serves, Draws, Advances, Lapses, Renews, Expires, queue_without_party, queue_without_client, turned, done, IsFitDeed, queue_without, waits_after, KeepNames}
-use Rattle.xl_core.specs.Decide.{ask, plea_of}
+use Rattle.xl_core.specs.Deeds.{wish_by_number, asked_by, once_served, Deed, Asks, GivesBack, Weakens, Acks, Cancels, Ends, Serves, Draws, Advances, Lapses, Renews, Expires, queue_without_party, queue_without_client, turned, done, IsFitDeed, queue_without, waits_after, queue_with, KeepNames}
+use Rattle.xl_core.specs.Decide.{Answered, decided, plea_of, waiter_of, wish_by, wish_asked, acted, way, before_wish, does_wish, wish_after, ask}
+use Rattle.xl_core.specs.Limits.{wish_limits, first_passed}
+use Rattle.xl_core.specs.Wishes.{wish_granted, wish_of, wish_for}
+use Rattle.xl_cache.specs.declared.wish.Wish.{Wish}
+use Rattle.xl_core.proofs.WishLaws.{wish_cache, wish_spans, wish_shares, wish_elements}
+use Rattle.xl_core.proofs.WishFor.{wish_claims, after_claims}
+use Rattle.xl_core.specs.Frames.{serves_none}
+use Rattle.xl_core.specs.declared.ask.Effect.TheVariants.{Begun, Served, Cancelled, Expired}
+use Rattle.xl_core.proofs.WayAsks.{ask_way_names, ask_way_waiters}
+use Rattle.xl_core.proofs.WayDeeds.{then_else, nothing_made, way_made, next_is, next_none}
+use Rattle.xl_core.proofs.WayLaws.{way_good, way_names, way_waiters, way_serves, known_no_cache}
 use Rattle.xl_core.specs.Dues.{IsDue}
-use Rattle.xl_core.specs.Good.{IsGood, are_apart, IsKnown}
-use Rattle.xl_core.specs.Places.{Place, ByteOf, ShareOf, byte_held, share_held, held_in, held_at, part_by, held_as, entered_by, entered_at, CacheOf, is_cache_on, acked_at, lapsed_at, cleared_by, cleared_at, entered_for, answered_at, ended_at, ended_some, told_at, made, else_was, unlocked_at, RangesOf, all_entered_at, all_entered_for, unlocked_for, then_entered, asked_by, served_at}
+use Rattle.xl_core.specs.Good.{IsGood, are_apart, IsKnown, holds_up}
+use Rattle.xl_core.specs.Places.{wish_at, wished_for, wished_then, Place, ByteOf, ShareOf, byte_held, share_held, held_in, held_at, part_by, held_as, entered_by, entered_at, CacheOf, is_cache_on, acked_at, lapsed_at, cleared_by, cleared_at, entered_for, answered_at, ended_at, ended_some, told_at, broken_at, made, else_was, unlocked_at, RangesOf, all_entered_at, all_entered_for, unlocked_for, then_entered, served_at}
 use Rattle.xl_table.specs.Relock.{with_share, shares_of, old_shares, united_by, granted_claims, is_range_of}
 use Rattle.xl_table.proofs.ShareLaws.{united_share}
-use Rattle.xl_core.specs.Settle.{settle, cancel, give_back, weaken, end_party, plea_again}
+use Rattle.xl_core.specs.Settle.{next_way, way_again, settle, cancel, give_back, weaken, end_party, plea_again}
 use Rattle.xl_core.specs.declared.ask.Act.{Act}
 use Rattle.xl_core.specs.declared.ask.Act.TheVariants as acts
 use Rattle.xl_core.specs.declared.ask.Answer.{Answer}
@@ -50,14 +60,14 @@ use Rattle.xl_core.specs.declared.ask.Ask.{Ask}
 use Rattle.xl_core.specs.declared.ask.Effect.{Effect}
 use Rattle.xl_core.proofs.CauseLaws.{test_leaves, empty_due}
 use Rattle.xl_core.proofs.ChangeLaws.{spans_apart, shares_apart, granted_share, granted_spans, empty_spans}
-use Rattle.xl_core.proofs.DeedCalls.{Clears, ask_enters, ask_keeps_claims, ask_clears, answer_is_due, ask_queue, ask_names, Releases, ask_releases, ranges_enter, no_empty}
+use Rattle.xl_core.proofs.DeedCalls.{Clears, decided_enters, decided_keeps_claims, decided_clears, answer_is_due, decided_queue, decided_names, Releases, decided_releases, ranges_enter, no_empty}
 use Rattle.xl_core.proofs.DeedLeaves.{spans_of-given, shares_of-given_apart, shares_of-given, has_of, Ended, ended_is}
-use Rattle.xl_core.proofs.GoodLaws.{ask_good, settle_good, cancel_good, give_back_good, drawn_good, end_party_good, advanced_good, renew_good, expire_good, lapse_good, IsFirst, each_turn, good_claims}
+use Rattle.xl_core.proofs.GoodLaws.{before_good, once_answered, served_good, ask_good, asked_way_good, again_named, IsMoved, Answers, Rests, settle_good, cancel_good, give_back_good, drawn_good, end_party_good, advanced_good, renew_good, expire_good, lapse_good, IsFirst, each_turn, good_claims}
 use Rattle.xl_core.proofs.BreakLaws.{is_cache_left, ack_good}
 use Rattle.xl_core.proofs.CacheLaws.{removed_caches, granted_caches}
 use Rattle.xl_core.proofs.CachePlaces.{held_of_caches, rest_of_made, ended_cache_made}
 use Rattle.xl_core.proofs.DueLaws.{due_is}
-use Rattle.xl_core.proofs.SettleLaws.{none_settled, turn_is, without}
+use Rattle.xl_core.proofs.SettleLaws.{none_settled, turn_is}
 use Rattle.xl_core.proofs.WeakenLaws.{weaken_good, weakened_queue, weakened_names, weaken_made}
 use Rattle.xl_table.proofs.WriteBack.{is_of-true}
 use Rattle.xl_table.specs.Elements.{elements_of, unlocked_elements}
@@ -193,14 +203,14 @@ grants_or answers.StoreFailed = Doesnt (λ d e. absurd cc) (λ held p ranges ext
 
 -- ---- an ask
 
-claim_made : (n : ℕ) (left : Rooms) (s : CoreState) (a : Ask) (what : What) (p : Place) → IsGood s → IsFit a → asked_what a.act ≡ Some what → held_at (ask n left s a).2 p ≡ else_was (entered_for s.claims (ask n left s a).0 p) (held_at s p)
+claim_made : (n : ℕ) (left : Rooms) (s : CoreState) (a : Ask) (what : What) (p : Place) → IsGood s → IsFit a → asked_what a.act ≡ Some what → held_at (decided n left s a).2 p ≡ else_was (entered_for s.claims (decided n left s a).0 p) (held_at s p)
 claim_made n left s a what p good fit act =
-    let r = ask n left s a in
+    let r = decided n left s a in
     elim (grants_or r.0) [
       | Does c e ↦
-          let is = ask_enters n left s a what c good fit act e in
+          let is = decided_enters n left s a what c good fit act e in
           ap (λ (cs : List Claim). held_in cs p) is.1 ∙ entered_made c s.claims p good.kept is.0 ∙ ap (λ (answer : Answer). else_was (entered_for s.claims answer p) (held_at s p)) (sym e)
-      | Doesnt none nothing ↦ ap (λ (cs : List Claim). held_in cs p) (ask_keeps_claims n left s a good fit none) ∙ ap (λ (o : Option (List What)). else_was o (held_at s p)) (sym (nothing s.claims p [] (Empty 0)).0)
+      | Doesnt none nothing ↦ ap (λ (cs : List Claim). held_in cs p) (decided_keeps_claims n left s a good fit none) ∙ ap (λ (o : Option (List What)). else_was o (held_at s p)) (sym (nothing s.claims p [] (Empty 0)).0)
     ]
 
 unlocked_byte : (owner : Owner) (byte : ℕ) (inside exclusive : Bool) (mode : Option Mode) → posix owner ≡ true → byte_held owner byte (cond inside None mode) ≡ else_was (cleared_by (if posix owner && inside then Range (Bytes byte byte) exclusive ∷ [] else [])) (byte_held owner byte mode)
@@ -254,27 +264,27 @@ released_made c extent old new (RangesOf file number) is =
           (subst (λ (o : Owner). elements_of c.file o new ≡ unlocked_elements extent (elements_of c.file o old)) here.1 is.mine))
     ]
 
-unlock_made : (n : ℕ) (left : Rooms) (s : CoreState) (a : Ask) (extent : Extent) (p : Place) → IsGood s → IsFit a → a.act ≡ acts.Unlock extent → ((c : Claim) → (ask n left s a).0 ≡ answers.Granted c → held_in (ask n left s a).2.claims p ≡ else_was (unlocked_at s.claims extent c p) (held_in s.claims p))
-    → held_at (ask n left s a).2 p ≡ else_was (unlocked_for s.claims extent (ask n left s a).0 p) (held_at s p)
+unlock_made : (n : ℕ) (left : Rooms) (s : CoreState) (a : Ask) (extent : Extent) (p : Place) → IsGood s → IsFit a → a.act ≡ acts.Unlock extent → ((c : Claim) → (decided n left s a).0 ≡ answers.Granted c → held_in (decided n left s a).2.claims p ≡ else_was (unlocked_at s.claims extent c p) (held_in s.claims p))
+    → held_at (decided n left s a).2 p ≡ else_was (unlocked_for s.claims extent (decided n left s a).0 p) (held_at s p)
 unlock_made n left s a extent p good fit act does =
-    let r = ask n left s a in
+    let r = decided n left s a in
     elim (grants_or r.0) [
       | Does c e ↦ does c e ∙ ap (λ (answer : Answer). else_was (unlocked_for s.claims extent answer p) (held_at s p)) (sym e)
-      | Doesnt none nothing ↦ ap (λ (cs : List Claim). held_in cs p) (ask_keeps_claims n left s a good fit none) ∙ ap (λ (o : Option (List What)). else_was o (held_at s p)) (sym (nothing s.claims p [] extent).2)
+      | Doesnt none nothing ↦ ap (λ (cs : List Claim). held_in cs p) (decided_keeps_claims n left s a good fit none) ∙ ap (λ (o : Option (List What)). else_was o (held_at s p)) (sym (nothing s.claims p [] extent).2)
     ]
 
-unlock_by_owner : (n : ℕ) (left : Rooms) (s : CoreState) (a : Ask) (extent : Extent) (p : Place) (b : Bool) → IsGood s → IsFit a → a.act ≡ acts.Unlock extent → posix (known_owner a.owner s.names) ≡ b → (c : Claim) → (ask n left s a).0 ≡ answers.Granted c → held_in (ask n left s a).2.claims p ≡ else_was (unlocked_at s.claims extent c p) (held_in s.claims p)
+unlock_by_owner : (n : ℕ) (left : Rooms) (s : CoreState) (a : Ask) (extent : Extent) (p : Place) (b : Bool) → IsGood s → IsFit a → a.act ≡ acts.Unlock extent → posix (known_owner a.owner s.names) ≡ b → (c : Claim) → (decided n left s a).0 ≡ answers.Granted c → held_in (decided n left s a).2.claims p ≡ else_was (unlocked_at s.claims extent c p) (held_in s.claims p)
 unlock_by_owner n left s a (Bytes first last) p true good fit act named c e =
-    cleared_made c first last s.claims (ask n left s a).2.claims p good.kept (ask_clears n left s a first last c good fit (sym (known_named a s.names fit.party) ∙ named) act e)
+    cleared_made c first last s.claims (decided n left s a).2.claims p good.kept (decided_clears n left s a first last c good fit (sym (known_named a s.names fit.party) ∙ named) act e)
 unlock_by_owner n left s a (Empty offset) p true good fit act named c e =
     absurd (no_empty (known_claim a (Empty offset) false s.names) offset s good named ((empty_due n left s a offset (answers.Granted c) act).0 e).1)
 unlock_by_owner n left s a extent p false good fit act unnamed c e =
-    released_made c extent s.claims (ask n left s a).2.claims p (ask_releases n left s a extent c good fit unnamed act e)
+    released_made c extent s.claims (decided n left s a).2.claims p (decided_releases n left s a extent c good fit unnamed act e)
 
 -- several ranges of an open
-ranges_made : (n : ℕ) (left : Rooms) (s : CoreState) (a : Ask) (range : Extent × Bool) (ranges : List (Extent × Bool)) (p : Place) → IsGood s → IsFit a → a.act ≡ acts.Ranges (range ∷ ranges) → held_at (ask n left s a).2 p ≡ else_was (all_entered_for s.claims (range ∷ ranges) (ask n left s a).0 p) (held_at s p)
+ranges_made : (n : ℕ) (left : Rooms) (s : CoreState) (a : Ask) (range : Extent × Bool) (ranges : List (Extent × Bool)) (p : Place) → IsGood s → IsFit a → a.act ≡ acts.Ranges (range ∷ ranges) → held_at (decided n left s a).2 p ≡ else_was (all_entered_for s.claims (range ∷ ranges) (decided n left s a).0 p) (held_at s p)
 ranges_made n left s a range ranges p good fit act =
-    let r = ask n left s a in
+    let r = decided n left s a in
     elim (grants_or r.0) [
       | Does c e ↦
           let is = ranges_enter n left s a range ranges c good fit act e in
@@ -282,14 +292,26 @@ ranges_made n left s a range ranges p good fit act =
           ∙ all_entered_made left (plea_of left s a) (both_entered a s.names) (asked_claims a (map range_what (range ∷ ranges)) s.names) s.claims p is.distinct is.good is.known is.pass
           ∙ ap (λ (cs : List Claim). else_was (all_entered_at s.claims cs p) (held_at s p)) (sym is.like)
           ∙ ap (λ (answer : Answer). else_was (all_entered_for s.claims (range ∷ ranges) answer p) (held_at s p)) (sym e)
-      | Doesnt none nothing ↦ ap (λ (cs : List Claim). held_in cs p) (ask_keeps_claims n left s a good fit none) ∙ ap (λ (o : Option (List What)). else_was o (held_at s p)) (sym (nothing s.claims p (range ∷ ranges) (Empty 0)).1)
+      | Doesnt none nothing ↦ ap (λ (cs : List Claim). held_in cs p) (decided_keeps_claims n left s a good fit none) ∙ ap (λ (o : Option (List What)). else_was o (held_at s p)) (sym (nothing s.claims p (range ∷ ranges) (Empty 0)).1)
     ]
 
-act_made : (n : ℕ) (left : Rooms) (s : CoreState) (a : Ask) (act : Act) (p : Place) → a.act ≡ act → IsFitAct a.owner a.blocking act → IsGood s → IsFit a → held_at (ask n left s a).2 p ≡ else_was (answered_at s.claims act (ask n left s a).0 p) (held_at s p)
+-- a wish by itself changes no claim before it is granted
+wish_leaves : (n : ℕ) (left : Rooms) (s : CoreState) (a : Ask) → a.act ≡ acts.Wish → (decided n left s a).2.claims ≡ s.claims
+unfolding decided wish_asked
+wish_leaves n left s a is = ap (λ (act : Act). (acted n left s a act).2.claims) is ∙ by a.wish where
+  by : (kinds : List CacheKind) → (wish_asked left s a kinds).2.claims ≡ s.claims
+  by [] = refl
+  by (kind ∷ kinds) = one (first_passed (wish_limits left a.rows (length (both_entered a s.names)))) where
+    one : (o : Option ℕ) → (wish_by s a (asked_claim a (Cache kind None) s.names) o).2.claims ≡ s.claims
+    one None = refl
+    one (Some limit) = refl
+
+act_made : (n : ℕ) (left : Rooms) (s : CoreState) (a : Ask) (act : Act) (p : Place) → a.act ≡ act → IsFitAct a.owner a.blocking act → IsGood s → IsFit a → held_at (decided n left s a).2 p ≡ else_was (answered_at s.claims act (decided n left s a).0 p) (held_at s p)
 act_made n left s a (acts.Share access deny) p is real good fit = claim_made n left s a (Share access deny) p good fit (ap asked_what is)
 act_made n left s a (acts.Ranges []) p is real good fit = absurd real
 act_made n left s a (acts.Ranges (range ∷ ranges)) p is real good fit = ranges_made n left s a range ranges p good fit is
 act_made n left s a (acts.Test extent exclusive) p is real good fit = ap (λ (t : CoreState). held_at t p) (test_leaves n left s a extent exclusive is)
+act_made n left s a acts.Wish p is real good fit = ap (λ (cs : List Claim). held_in cs p) (wish_leaves n left s a is)
 act_made n left s a (acts.Unlock extent) p is real good fit = unlock_made n left s a extent p good fit is (unlock_by_owner n left s a extent p (posix (known_owner a.owner s.names)) good fit is refl)
 
 -- ---- a claim given back, a party ended
@@ -359,11 +381,37 @@ end_party_made s party (RangesOf file number) good = ranges_ended (has_of file (
 -- ---- a turn
 
 -- who is served waits for what stands under its number
-asked_there : (before : List Waiter) (w : Waiter) (behind : List Waiter) → Pairwise are_apart (before ++ w ∷ behind) → asked_by w.id (before ++ w ∷ behind) ≡ w.asked
+pub asked_there : (before : List Waiter) (w : Waiter) (behind : List Waiter) → Pairwise are_apart (before ++ w ∷ behind) → asked_by w.id (before ++ w ∷ behind) ≡ w.asked
 asked_there [] w behind apart = let same : (w.id == w.id) ≡ true = eq-eqb w.id w.id refl in rw same refl
 asked_there (v ∷ vs) w behind apart =
     let other : (v.id == w.id) ≡ false = not-true (v.id == w.id) (all_in (λ x. are_apart v x ≡ true) w (vs ++ w ∷ behind) apart.0 (in_append_right w vs (w ∷ behind) (inl refl))) in
     rw other (asked_there vs w behind apart.1)
+
+-- and wishes for what that one wishes for
+pub wished_there : (before : List Waiter) (w : Waiter) (behind : List Waiter) → Pairwise are_apart (before ++ w ∷ behind) → wish_by_number w.id (before ++ w ∷ behind) ≡ w.wish
+wished_there [] w behind apart = let same : (w.id == w.id) ≡ true = eq-eqb w.id w.id refl in rw same refl
+wished_there (v ∷ vs) w behind apart =
+    let other : (v.id == w.id) ≡ false = not-true (v.id == w.id) (all_in (λ x. are_apart v x ≡ true) w (vs ++ w ∷ behind) apart.0 (in_append_right w vs (w ∷ behind) (inl refl))) in
+    rw other (wished_there vs w behind apart.1)
+
+-- what a wish that is granted makes of each place
+granted_made : (wanted : Wish) (s : CoreState) (p : Place) → IsGood s → held_at (wish_granted wanted s) p ≡ else_was (wish_at wanted s p) (held_at s p)
+granted_made wanted s (ByteOf file owner byte) good = ap (λ (ss : List Span). byte_held owner byte (mode_at ss byte)) (wish_spans wanted s file owner)
+granted_made wanted s (ShareOf file owner) good = ap (λ (shares : List (Rwd × Rwd)). map share_held shares) (wish_shares wanted s file owner)
+granted_made wanted s (RangesOf file number) good = wish_elements wanted s file (open_of number)
+granted_made wanted s (CacheOf file party) good = wish_cache wanted s file party good
+
+for_made : (kinds : List CacheKind) (answer : Answer) (s : CoreState) (p : Place) → IsGood s → held_at (wish_for kinds answer s) p ≡ else_was (wished_for kinds answer s p) (held_at s p)
+for_made kinds (answers.Granted c) s p good = granted_made (wish_of kinds c) s p good
+for_made kinds (answers.Queued number) s p good = refl
+for_made kinds (answers.Conflict c) s p good = refl
+for_made kinds (answers.Recall c) s p good = refl
+for_made kinds (answers.Grace until) s p good = refl
+for_made kinds (answers.NoGrace clock) s p good = refl
+for_made kinds answers.NotRecorded s p good = refl
+for_made kinds (answers.Full limit) s p good = refl
+for_made kinds answers.NotHeld s p good = refl
+for_made kinds answers.StoreFailed s p good = refl
 
 -- what a turn makes of each place
 once_made : (left : Rooms) (s : CoreState) (w : Waiter) (asked : List Claim) (answer : Answer) (p : Place) → IsGood s → AllByRecursion (IsKnown s.names) asked → ((d : Claim) → answer ≡ answers.Granted d → AllPass left (plea_again s w) s.claims asked)
@@ -379,29 +427,122 @@ once_made left s w asked (answers.Full limit) p good known pass = refl
 once_made left s w asked answers.NotHeld p good known pass = refl
 once_made left s w asked answers.StoreFailed p good known pass = refl
 
-first_made : (left : Rooms) (s : CoreState) (turn : List Effect × CoreState) (p : Place) → IsGood s → IsFirst left s s.waiters turn → held_at turn.1 p ≡ else_was (told_at s turn.0 p) (held_at s p)
+-- what is told before a grant is of breaks
+told_behind : (t : CoreState) (way effects : List Effect) (p : Place) → serves_none way ≡ true → told_at t (way ++ effects) p ≡ told_at t effects p
+told_behind t [] effects p none = refl
+told_behind t (Served id answer ∷ told) effects p none = absurd (both_ways false refl none)
+told_behind t (Begun c to call ∷ told) effects p none = told_behind t told effects p none
+told_behind t (Cancelled id ∷ told) effects p none = told_behind t told effects p none
+told_behind t (Expired text ∷ told) effects p none = told_behind t told effects p none
+
+wished_behind : (t : CoreState) (way effects : List Effect) (p : Place) → serves_none way ≡ true → wished_then t (way ++ effects) p ≡ wished_then t effects p
+wished_behind t [] effects p none = refl
+wished_behind t (Served id answer ∷ told) effects p none = absurd (both_ways false refl none)
+wished_behind t (Begun c to call ∷ told) effects p none = wished_behind t told effects p none
+wished_behind t (Cancelled id ∷ told) effects p none = wished_behind t told effects p none
+wished_behind t (Expired text ∷ told) effects p none = wished_behind t told effects p none
+
+queue_behind : (way effects : List Effect) (ws : List Waiter) → serves_none way ≡ true → queue_without (way ++ effects) ws ≡ queue_without effects ws
+queue_behind [] effects ws none = refl
+queue_behind (Served id answer ∷ told) effects ws none = absurd (both_ways false refl none)
+queue_behind (Begun c to call ∷ told) effects ws none = queue_behind told effects ws none
+queue_behind (Cancelled id ∷ told) effects ws none = queue_behind told effects ws none
+queue_behind (Expired text ∷ told) effects ws none = queue_behind told effects ws none
+
+-- the breaks, then what is granted, then the wish
+abbrev turn_makes : CoreState → List Effect × CoreState → List Effect → Place → Option (List What)
+turn_makes s way told p = then_entered (then_entered (broken_at s way.0 p) (told_at way.1 told p)) (wished_then way.1 told p)
+
+first_made : (left : Rooms) (s : CoreState) (turn : List Effect × CoreState) (p : Place) → IsGood s → IsFirst left s s.waiters turn → held_at turn.1 p ≡ else_was (turn_makes s (next_way s) turn.0 p) (held_at s p)
 first_made left s turn p good first =
-    let moved = first.moved in
-    let all = first.claim ∷ first.claims in
-    let known = subst (λ (cs : List Claim). AllByRecursion (IsKnown s.names) cs) first.asked first.is.1 in
-    let there : asked_by first.waiter.id s.waiters ≡ all =
-    ap (asked_by first.waiter.id) first.stood ∙ asked_there first.before first.waiter first.behind (subst (λ (ws : List Waiter). Pairwise are_apart ws) first.stood good.apart) ∙ first.asked in
-    ap (λ (t : CoreState). held_at t p) moved.new
-    ∙ once_made left s first.waiter all moved.answer p good known moved.pass
-    ∙ ap (λ (cs : List Claim). else_was (served_at s.claims cs moved.answer p) (held_at s p)) (sym there)
-    ∙ ap (λ (effects : List Effect). else_was (told_at s effects p) (held_at s p)) (sym moved.told)
+    subst (λ (way : List Effect × CoreState). held_at turn.1 p ≡ else_was (turn_makes s way turn.0 p) (held_at s p)) (sym next) (by first.moved)
+  where
+    w : Waiter
+    w = first.waiter
 
-turn_made : (s : CoreState) (o : Option (List Effect × CoreState)) (p : Place) → IfSome o (λ r. held_at r.1 p ≡ else_was (told_at s r.0 p) (held_at s p)) → held_at (turned s o).2 p ≡ else_was (told_at s (turned s o).1 p) (held_at s p)
-turn_made s None p made = refl
-turn_made s (Some r) p made = made
+    way : List Effect × CoreState
+    way = way_again s w
 
-turn_queue : (left : Rooms) (s : CoreState) (o : Option (List Effect × CoreState)) → IsGood s → IfSome o (λ r. IsTurn left s r.0 r.1) → (turned s o).2.waiters ≡ queue_without (turned s o).1 s.waiters
-turn_queue left s None good turn = refl
-turn_queue left s (Some r) good turn =
-    turn.waiters
-    ∙ sym (without turn.before turn.waiter turn.behind (subst (λ (ws : List Waiter). Pairwise are_apart ws) turn.stood good.apart))
-    ∙ ap (λ (ws : List Waiter). cancelled turn.waiter.id ws) (sym turn.stood)
-    ∙ ap (λ (effects : List Effect). queue_without effects s.waiters) (sym turn.told)
+    t : CoreState
+    t = way.1
+
+    all : List Claim
+    all = first.claim ∷ first.claims
+
+    next : next_way s ≡ way
+    next = next_is s first.before w first.behind first.stood first.blocked (ap (holds_up s.claims w) first.asked ∙ first.free)
+
+    sound : IsGood t
+    sound = way_good (plea_again s w) w.asked s good (known_no_cache s.names w.asked first.is.1)
+
+    named : t.names ≡ s.names
+    named = way_names (plea_again s w) w.asked s
+
+    known : AllByRecursion (IsKnown t.names) all
+    known = subst (λ (names : List Name). AllByRecursion (IsKnown names) all) (sym named) (subst (λ (cs : List Claim). AllByRecursion (IsKnown s.names) cs) first.asked first.is.1)
+
+    there : asked_by w.id t.waiters ≡ all
+    there =
+        ap (asked_by w.id) (way_waiters (plea_again s w) w.asked s ∙ first.stood)
+        ∙ asked_there first.before w first.behind (subst (λ (ws : List Waiter). Pairwise are_apart ws) first.stood good.apart) ∙ first.asked
+
+    wishes : wish_by_number w.id t.waiters ≡ w.wish
+    wishes =
+        ap (wish_by_number w.id) (way_waiters (plea_again s w) w.asked s ∙ first.stood)
+        ∙ wished_there first.before w first.behind (subst (λ (ws : List Waiter). Pairwise are_apart ws) first.stood good.apart)
+
+    -- behind the way
+    behind : held_at t p ≡ else_was (broken_at s way.0 p) (held_at s p)
+    behind = way_made (plea_again s w) w.asked s p good
+
+    whole : (later wish : Option (List What)) → held_at turn.1 p ≡ else_was wish (else_was later (held_at t p)) → told_at t turn.0 p ≡ later → wished_then t turn.0 p ≡ wish → held_at turn.1 p ≡ else_was (turn_makes s way turn.0 p) (held_at s p)
+    whole later wish is told wished =
+        is ∙ ap (λ (had : List What). else_was wish (else_was later had)) behind
+        ∙ sym (then_else (then_entered (broken_at s way.0 p) later) wish (held_at s p) ∙ ap (else_was wish) (then_else (broken_at s way.0 p) later (held_at s p)))
+        ∙ (λ i. else_was (then_entered (then_entered (broken_at s way.0 p) (sym told i)) (sym wished i)) (held_at s p))
+
+    by : IsMoved left s w first.claim first.claims turn → held_at turn.1 p ≡ else_was (turn_makes s way turn.0 p) (held_at s p)
+    by (Answers answer told new due pass) =
+        let u = once_answered t w all answer in
+        let once : once_served t w.id answer ≡ u = ap (λ (cs : List Claim). once_answered t w cs answer) there in
+        let sole : List Effect = Served w.id answer ∷ [] in
+        whole (served_at t.claims all answer p) (wished_for w.wish answer u p)
+        (ap (λ (x : CoreState). held_at x p) new ∙ for_made w.wish answer u p (served_good left s turn first good answer pass).0
+        ∙ ap (else_was (wished_for w.wish answer u p)) (once_made left t w all answer p sound known (λ d e. subst (λ (plea : Plea). AllPass left plea t.claims all) (again_named s w t named) (pass d e).1)))
+        (ap (λ (effects : List Effect). told_at t effects p) told ∙ told_behind t way.0 sole p (way_serves (plea_again s w) w.asked s) ∙ ap (λ (cs : List Claim). served_at t.claims cs answer p) there)
+        (ap (λ (effects : List Effect). wished_then t effects p) told ∙ wished_behind t way.0 sole p (way_serves (plea_again s w) w.asked s) ∙ (λ i. wished_for (wishes i) answer (once i) p))
+    by (Rests e up) =
+        whole None None (ap (λ (x : List Effect × CoreState). held_at x.1 p) e)
+        (ap (λ (x : List Effect × CoreState). told_at t x.0 p) e ∙ ap (λ (effects : List Effect). told_at t effects p) (sym (append-nil way.0)) ∙ told_behind t way.0 [] p (way_serves (plea_again s w) w.asked s))
+        (ap (λ (x : List Effect × CoreState). wished_then t x.0 p) e ∙ ap (λ (effects : List Effect). wished_then t effects p) (sym (append-nil way.0)) ∙ wished_behind t way.0 [] p (way_serves (plea_again s w) w.asked s))
+
+turn_made : (n : ℕ) (left : Rooms) (s : CoreState) (p : Place) → (o : Option (List Effect × CoreState)) → settle n left s ≡ o → IfSome o (λ r. held_at r.1 p ≡ else_was (turn_makes s (next_way s) r.0 p) (held_at s p))
+    → held_at (turned s o).2 p ≡ else_was (turn_makes s (next_way s) (turned s o).1 p) (held_at s p)
+turn_made n left s p None e made = nothing_made s p ∙ ap (λ (told : List Effect). else_was (broken_at s told p) (held_at s p)) (sym (ap (λ (way : List Effect × CoreState). way.0) (next_none s (none_settled n left s e))))
+turn_made n left s p (Some r) e made = made
+
+first_queue : (left : Rooms) (s : CoreState) (turn : List Effect × CoreState) → IsGood s → IsFirst left s s.waiters turn → turn.1.waiters ≡ queue_without turn.0 s.waiters
+first_queue left s turn good first = by first.moved where
+  w : Waiter
+  w = first.waiter
+
+  way : List Effect × CoreState
+  way = way_again s w
+
+  same : way.1.waiters ≡ s.waiters
+  same = way_waiters (plea_again s w) w.asked s
+
+  by : IsMoved left s w first.claim first.claims turn → turn.1.waiters ≡ queue_without turn.0 s.waiters
+  by (Answers answer told new due pass) =
+      ap (λ (x : CoreState). x.waiters) (new ∙ wish_claims w.wish answer (once_answered way.1 w (first.claim ∷ first.claims) answer)) ∙ ap (λ (ws : List Waiter). cancelled w.id ws) same
+      ∙ sym (ap (λ (effects : List Effect). queue_without effects s.waiters) told ∙ queue_behind way.0 (Served w.id answer ∷ []) s.waiters (way_serves (plea_again s w) w.asked s))
+  by (Rests e up) =
+      ap (λ (x : List Effect × CoreState). x.1.waiters) e ∙ same
+      ∙ sym (ap (λ (x : List Effect × CoreState). queue_without x.0 s.waiters) e ∙ ap (λ (effects : List Effect). queue_without effects s.waiters) (sym (append-nil way.0)) ∙ queue_behind way.0 [] s.waiters (way_serves (plea_again s w) w.asked s))
+
+turn_queue : (s : CoreState) (o : Option (List Effect × CoreState)) → IfSome o (λ r. r.1.waiters ≡ queue_without r.0 s.waiters) → (turned s o).2.waiters ≡ queue_without (turned s o).1 s.waiters
+turn_queue s None each = refl
+turn_queue s (Some r) each = each
 
 turn_names : (left : Rooms) (s : CoreState) (o : Option (List Effect × CoreState)) → IfSome o (λ r. IsTurn left s r.0 r.1) → KeepNames s.names (turned s o).2.names
 turn_names left s None turn = λ number name h. h
@@ -463,15 +604,45 @@ lapse_made : (s : CoreState) (cache : Claim) (p : Place) → IsGood s → first_
 unfolding lapse
 lapse_made s cache p good first = let is = due_is s cache first in lapsed_made s cache (client_of s.names cache.party) p good is.0 is.1
 
+-- an ask makes of it what its way does, and then what it is answered
+before_made : (n : ℕ) (left : Rooms) (s : CoreState) (a : Ask) (p : Place) → IsGood s → IsFit a
+    → held_at (before_wish n left s a).2 p ≡ else_was (then_entered (broken_at s (way left s a).0 p) (answered_at (way left s a).1.claims a.act (before_wish n left s a).0 p)) (held_at s p)
+unfolding before_wish
+before_made n left s a p good fit =
+    let t = (way left s a).1 in
+    let later = answered_at t.claims a.act (decided n left t a).0 p in
+    act_made n left t a a.act p refl fit.act (asked_way_good left s a good) fit
+    ∙ ap (else_was later) (way_made (plea_of left s a) (asked_claims a (asked_whats a.act) s.names) s p good)
+    ∙ sym (then_else (broken_at s (way left s a).0 p) later (held_at s p))
+
+after_made : (a : Ask) (answer : Answer) (s : CoreState) (p : Place) → IsGood s → held_at (wish_after a answer s) p ≡ else_was (if does_wish a.act then wished_for a.wish answer s p else None) (held_at s p)
+after_made a answer s p good = by (does_wish a.act) where
+  by : (b : Bool) → held_at (if b then wish_for a.wish answer s else s) p ≡ else_was (if b then wished_for a.wish answer s p else None) (held_at s p)
+  by true = for_made a.wish answer s p good
+  by false = refl
+
+ask_made : (n : ℕ) (left : Rooms) (s : CoreState) (a : Ask) (p : Place) → IsGood s → IsFit a → held_at (ask n left s a).2 p ≡ else_was (made n s (Asks left a) p) (held_at s p)
+unfolding ask
+ask_made n left s a p good fit =
+    after_made a r.0 r.2 p (before_good n left s a good fit)
+    ∙ ap (else_was wish) (before_made n left s a p good fit)
+    ∙ sym (then_else (then_entered (broken_at s (way left s a).0 p) (answered_at (way left s a).1.claims a.act r.0 p)) wish (held_at s p))
+  where
+    r : Answered
+    r = before_wish n left s a
+
+    wish : Option (List What)
+    wish = if does_wish a.act then wished_for a.wish r.0 r.2 p else None
+
 -- at each place there is what the deed made of it
 pub deed_makes : (n : ℕ) (s : CoreState) (d : Deed) (p : Place) → IsGood s → IsFitDeed s d → held_at (done n s d) p ≡ else_was (made n s d p) (held_at s p)
-deed_makes n s (Asks left a) p good fit = act_made n left s a a.act p refl fit.act good fit
+deed_makes n s (Asks left a) p good fit = ask_made n left s a p good fit
 deed_makes n s (GivesBack claim) p good fit = give_back_made s claim p good fit.0 fit.1
 deed_makes n s (Weakens share access deny) p good fit = weaken_made s share access deny p good fit.0 fit.1
 deed_makes n s (Acks cache to) p good fit = ack_made s cache to p good fit.0 fit.1
 deed_makes n s (Cancels id) p good fit = ap (λ (cs : List Claim). held_in cs p) (cancel_is s id).0
 deed_makes n s (Ends party) p good fit = end_party_made s party p good
-deed_makes n s (Serves left) p good fit = turn_made s (settle n left s) p (each_turn n left s (λ r. held_at r.1 p ≡ else_was (told_at s r.0 p) (held_at s p)) good (λ turn first. first_made left s turn p good first))
+deed_makes n s (Serves left) p good fit = turn_made n left s p (settle n left s) refl (each_turn n left s (λ r. held_at r.1 p ≡ else_was (turn_makes s (next_way s) r.0 p) (held_at s p)) good (λ turn first. first_made left s turn p good first))
 deed_makes n s Draws p good fit = ap (λ (cs : List Claim). held_in cs p) (drawn_is s).0
 deed_makes n s (Advances now) p good fit = ap (λ (cs : List Claim). held_in cs p) (advanced_still s now).0
 deed_makes n s (Lapses cache) p good fit = lapse_made s cache p good fit
@@ -506,6 +677,36 @@ lapse_queue : (s : CoreState) (cache : Claim) → (lapse s cache).1.waiters ≡ 
 unfolding lapse
 lapse_queue s cache = lapsed_queue s cache (client_of s.names cache.party)
 
+queue_named : (s t : CoreState) (a : Ask) (answer : Answer) → t.names ≡ s.names → t.waiters ≡ s.waiters → queue_with t a answer t.waiters ≡ queue_with s a answer s.waiters
+queue_named s t a (answers.Queued id) names waiters = λ i. waiters i ++ waiter_of id a (asked_claims a (asked_whats a.act) (names i)) ∷ []
+queue_named s t a (answers.Granted c) names waiters = waiters
+queue_named s t a (answers.Conflict c) names waiters = waiters
+queue_named s t a (answers.Recall c) names waiters = waiters
+queue_named s t a (answers.Grace until) names waiters = waiters
+queue_named s t a (answers.NoGrace clock) names waiters = waiters
+queue_named s t a answers.NotRecorded names waiters = waiters
+queue_named s t a (answers.Full limit) names waiters = waiters
+queue_named s t a answers.NotHeld names waiters = waiters
+queue_named s t a answers.StoreFailed names waiters = waiters
+
+pub ask_queue : (n : ℕ) (left : Rooms) (s : CoreState) (a : Ask) → IsGood s → IsFit a → (ask n left s a).2.waiters ≡ queue_with s a (ask n left s a).0 s.waiters
+unfolding ask before_wish
+ask_queue n left s a good fit =
+    let t = (way left s a).1 in
+    ap (λ (x : CoreState). x.waiters) (after_claims a (decided n left t a).0 (decided n left t a).2) ∙
+    decided_queue n left t a (asked_way_good left s a good) fit ∙ queue_named s t a (decided n left t a).0 (ask_way_names left s a) (ask_way_waiters left s a)
+
+pub ask_names : (n : ℕ) (left : Rooms) (s : CoreState) (a : Ask) → IsGood s → IsFit a → KeepNames s.names (ask n left s a).2.names
+unfolding ask before_wish
+ask_names n left s a good fit =
+    let t = (way left s a).1 in
+    subst (λ (names : List Name). KeepNames s.names names) (sym (ap (λ (x : CoreState). x.names) (after_claims a (decided n left t a).0 (decided n left t a).2)))
+    (subst (λ (names : List Name). KeepNames names (decided n left t a).2.names) (ask_way_names left s a) (decided_names n left t a (asked_way_good left s a good) fit))
+
+ask_is_due : (n : ℕ) (left : Rooms) (s : CoreState) (a : Ask) → IsGood s → IsFit a → IsDue n s (Asks left a)
+unfolding ask before_wish
+ask_is_due n left s a good fit = answer_is_due n left (way left s a).1 a (asked_way_good left s a good) fit
+
 pub deed_queues : (n : ℕ) (s : CoreState) (d : Deed) → IsGood s → IsFitDeed s d → (done n s d).waiters ≡ waits_after n s d s.waiters
 deed_queues n s (Asks left a) good fit = ask_queue n left s a good fit
 deed_queues n s (GivesBack claim) good fit = given_queue s claim
@@ -513,7 +714,7 @@ deed_queues n s (Weakens share access deny) good fit = weakened_queue s share ac
 deed_queues n s (Acks cache to) good fit = (ack_still s cache to).0
 deed_queues n s (Cancels id) good fit = (cancel_is s id).1
 deed_queues n s (Ends party) good fit = ended_queue s party
-deed_queues n s (Serves left) good fit = turn_queue left s (settle n left s) good (turn_is n left s good)
+deed_queues n s (Serves left) good fit = turn_queue s (settle n left s) (each_turn n left s (λ r. r.1.waiters ≡ queue_without r.0 s.waiters) good (λ turn first. first_queue left s turn good first))
 deed_queues n s Draws good fit = (drawn_is s).1
 deed_queues n s (Advances now) good fit = (advanced_still s now).1
 deed_queues n s (Lapses cache) good fit = lapse_queue s cache
@@ -562,7 +763,7 @@ deed_names n s (Renews client) good fit = same_names s.names (renew s client).1.
 deed_names n s (Expires client) good fit = same_names s.names (expire s client).1.names (expire_names s client)
 
 pub deed_due : (n : ℕ) (s : CoreState) (d : Deed) → IsGood s → IsFitDeed s d → IsDue n s d
-deed_due n s (Asks left a) good fit = answer_is_due n left s a good fit
+deed_due n s (Asks left a) good fit = ask_is_due n left s a good fit
 deed_due n s (GivesBack claim) good fit = tt
 deed_due n s (Weakens share access deny) good fit = tt
 deed_due n s (Acks cache to) good fit = tt

@@ -1,5 +1,4 @@
 -- What the code of an ask, of a turn and of the core's calls rests on.
-use Rattle.xl_base.proofs.Members.{all_weaker}
 use Rattle.std.proofs.Common.{◌≡◌, ℕ, true, false, List, Option, Some, None, IfSome, option_map, refl, sym, ap, subst, ◌∙◌, map, [], ◌∷◌, Bool, ◌-◌, ◌<◌, ◌≤◌, length, take, drop, slice_index_or, arith, if◌then◌else◌}
 use Rattle.std.specs.List.{AllByRecursion}
 use Rattle.xl_matrix.specs.declared.claim.Claim.{Claim}
@@ -9,9 +8,9 @@ use Rattle.xl_matrix.specs.Owners.{posix}
 use Rattle.xl_table.specs.Held.{has_one_party, IsGrantable, IsShareOrLock, is_range, mode_of, IsKept}
 use Rattle.xl_wait.specs.declared.waiter.Rooms.{Rooms}
 use Rattle.xl_core.specs.State.{CoreState}
-use Rattle.xl_core.specs.Asking.{is_client, is_named, may_hold, asked_claim, known_claim, IsFit, range_what, asked_claims, asking_party, may_hold_all, IsFitAct}
+use Rattle.xl_core.specs.Asking.{is_client, may_hold, asked_claim, known_claim, IsFit, range_what, asked_claims, may_hold_all, IsFitAct}
 use Rattle.xl_core.specs.Decide.{ask}
-use Rattle.xl_core.specs.Good.{IsGood, IsPled, IsKnown}
+use Rattle.xl_core.specs.Good.{IsGood, IsPled}
 use Rattle.xl_core.specs.Settle.{settle, first_called}
 use Rattle.xl_core.specs.Whole.{state_of}
 use Rattle.xl_core.specs.declared.ask.Answer.{Answer}
@@ -19,17 +18,13 @@ use Rattle.xl_core.specs.declared.ask.Ask.{Ask}
 use Rattle.xl_core.specs.declared.ask.Effect.{Effect}
 use Rattle.xl_core.specs.declared.parts.Parts.{Parts}
 use Rattle.xl_core.specs.declared.settling.Called.{Called}
-use Rattle.xl_core.proofs.GoodLaws.{ask_good, settle_good, asked_one_party, unlocked_one_party, known_one_party}
-use Rattle.xl_core.proofs.KnownLaws.{asked_known, asker_named}
+use Rattle.xl_core.proofs.GoodLaws.{ask_good, settle_good, asked_one_party, unlocked_one_party}
+use Rattle.xl_core.proofs.KnownLaws.{asked_known}
 use Rattle.xl_core.proofs.TurnLaws.{called_known}
-use Rattle.xl_core.specs.Judge.{AreElements, IsRow, held_with, stop_left, gets, row, row_left}
+use Rattle.xl_core.specs.Judge.{IsRow, held_with, stop_left, gets, row, row_left}
 use Rattle.xl_core.specs.declared.ask.Act.TheVariants.{Ranges}
 use Rattle.xl_core.proofs.AskedLaws.{ranges_pled}
-use Rattle.std.proofs.lemmas.Bool.{or_right, both_ways}
-use Rattle.xl_matrix.proofs.EqualLaws.{same_parties-self}
-use Rattle.xl_matrix.specs.Equal.{same_parties}
-use Rattle.xl_base.specs.Lists.{Pairwise}
-use Rattle.xl_names.specs.declared.name.Name.{Name}
+use Rattle.std.proofs.lemmas.Bool.{both_ways}
 use Rattle.std.proofs.Math.Seq.{take-length}
 use Rattle.xl_core.specs.declared.judge.Ruling.{Ruling}
 use Rattle.xl_core.specs.declared.judge.Ruling.TheVariants.{Gets, Waits, Told}
@@ -72,9 +67,6 @@ called_row p called good e = by called.asked (called_known (state_of p) p.queue 
   by : (asked : List Claim) → IsPled asked → IsRow asked
   by [] none = absurd none
   by (c ∷ cs) some = some.0
-
-pub called_alone : (p : Parts) (called : Called) → IsGood (state_of p) → first_called (state_of p) p.queue ≡ Some called → AllByRecursion (λ c. AllByRecursion (λ d. has_one_party c d ≡ true) p.table) called.asked
-called_alone p called good e = all_weaker (IsKnown (state_of p).names) (λ c. AllByRecursion (λ d. has_one_party c d ≡ true) p.table) called.asked (λ c known. known_one_party (state_of p) c good known) (called_known (state_of p) p.queue called good.waiters e).0
 
 pub ask_keeps : (left : Rooms) (s t : CoreState) (a : Ask) (answer : Answer) (effects : List Effect) → ((n : ℕ) → ask n left s a ≡ (answer, effects, t)) → IsGood s → IsFit a → IsGood t
 ask_keeps left s t a answer effects e good fit = subst (λ (r : Answer × List Effect × CoreState). IsGood r.2) (e 0) (ask_good 0 left s a good fit)

@@ -142,10 +142,6 @@ one_removed p c (d ∷ ds) there h =
       ]
     ]
 
-ended_due : (s : CoreState) (party : Party) → due_of (end_party s party).1 ≡ filter (is_due s.clock) (filter (λ c. not (same_parties c.party party)) s.claims)
-unfolding end_party due_of
-ended_due s party = refl
-
 expired_due : (s : CoreState) (client : List ℕ) (o : Option Party) → length (due_of (unleased client (end_some s o)).1) ≤ length (due_of s)
 unfolding due_of end_party
 expired_due s client None = omega arith

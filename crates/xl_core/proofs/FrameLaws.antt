@@ -12,12 +12,20 @@ use Rattle.xl_wait.specs.Waiting.{is_waiting, cancelled}
 use Rattle.xl_wait.specs.declared.waiter.Rooms.{Rooms}
 use Rattle.xl_wait.specs.declared.waiter.Waiter.{Waiter}
 use Rattle.xl_core.specs.State.{CoreState, GoesOn, MayBe, drawn}
-use Rattle.xl_core.specs.Asking.{party_named, both_entered, is_client}
-use Rattle.xl_core.specs.Decide.{Answered, waiter_of, ask}
-use Rattle.xl_core.specs.Frames.{who_left, serves_none, AllLeave, IsFrame, IsTicked, drawn_by, asks_to_hold, names_after, come_by}
+use Rattle.xl_core.specs.Asking.{party_named, both_entered, asked_whats, asked_claims, is_client}
+use Rattle.xl_core.specs.Decide.{Answered, plea_of, waiter_of, decided, way, before_wish, wish_after, ask}
+use Rattle.xl_core.specs.Wishes.{wish_for}
+use Rattle.xl_cache.specs.Planning.{planned}
+use Rattle.xl_core.specs.Ways.{made_way}
+use Rattle.xl_core.specs.Begin.{is_recall, recalls, begun_told, told_before, breaks_in_order, breaks_begun}
+use Rattle.xl_core.specs.declared.judge.Plea.{Plea}
+use Rattle.xl_core.proofs.BreakingLaws.{recalls_sorted}
+use Rattle.xl_core.proofs.BegunLaws.{begun_leave}
+use Rattle.xl_core.proofs.WayLaws.{NoWay, Begins, way_is, way_names, way_waiters}
+use Rattle.xl_core.specs.Frames.{who_left, calls_in, serves_none, AllLeave, IsFrame, IsTicked, drawn_by, asks_to_hold, names_after, come_by}
 use Rattle.xl_core.specs.Good.{are_apart, IsGood}
 use Rattle.xl_core.specs.Judge.{held_with}
-use Rattle.xl_core.specs.Settle.{settle, waits_for, numbers_for, all_told, cancel, give_back, weaken, end_party, all_cancelled}
+use Rattle.xl_core.specs.Settle.{settle, plea_again, way_again, waits_for, numbers_for, all_told, cancel, give_back, weaken, end_party, all_cancelled}
 use Rattle.xl_core.specs.declared.ask.Answer.{Answer}
 use Rattle.xl_core.specs.declared.ask.Answer.TheVariants as answers
 use Rattle.xl_core.specs.declared.ask.Ask.{Ask}
@@ -28,8 +36,9 @@ use Rattle.xl_names.specs.declared.name.Name.TheVariants.{NfsParty}
 use Rattle.xl_core.specs.Leases.{later, first_ended}
 use Rattle.xl_core.specs.Breaks.{ack, first_due, client_of}
 use Rattle.xl_core.specs.Ticks.{advanced, renew, end_some, expire, behind_told, expired_then, expired_for, expire_all, lapsed_by, lapse, lapsed_then, lapsed_for, tick}
-use Rattle.xl_core.proofs.ChangeLaws.{AskWay, Stays, Tests, Holds, Waits, Frees, Gives, ask_way}
-use Rattle.xl_core.proofs.GoodLaws.{fewer_cancelled, fewer_filtered, Turned, IsFirst, each_turn}
+use Rattle.xl_core.proofs.ChangeLaws.{AskWay, Stays, Tests, Holds, Waits, Frees, Gives, decided_way}
+use Rattle.xl_core.proofs.WishFor.{wish_claims, after_claims}
+use Rattle.xl_core.proofs.GoodLaws.{once_answered, fewer_cancelled, fewer_filtered, Turned, IsMoved, Answers, Rests, IsFirst, each_turn, asked_way_good}
 use Rattle.xl_core.proofs.RowLaws.{is_refusal}
 use Rattle.xl_core.proofs.SettleLaws.{apart_ids, all_out}
 
@@ -72,12 +81,12 @@ way_frame s a r (Waits c cs may blocked is holds e) =
 way_frame s a r (Frees c first last holds act file owner e) = subst (AskFrame s a) (sym e) (record { stable = refl; clock = refl; made = refl; failed = refl; counter = omega arith; names = sym (names_held a c s.names false holds); leave = tt; waiters = nobody s.waiters })
 way_frame s a r (Gives c d holds act file owner range e) = subst (AskFrame s a) (sym e) (record { stable = refl; clock = refl; made = refl; failed = refl; counter = omega arith; names = sym (names_held a c s.names false holds); leave = tt; waiters = nobody s.waiters })
 
-pub ask_frame : (n : ℕ) (left : Rooms) (s : CoreState) (a : Ask) → IsGood s → is_client a.owner a.party ≡ true → AskFrame s a (ask n left s a)
-ask_frame n left s a good client = way_frame s a (ask n left s a) (ask_way n left s a good client)
+pub decided_frame : (n : ℕ) (left : Rooms) (s : CoreState) (a : Ask) → IsGood s → is_client a.owner a.party ≡ true → AskFrame s a (decided n left s a)
+decided_frame n left s a good client = way_frame s a (decided n left s a) (decided_way n left s a good client)
 
 -- an ask tells of nothing
-pub ask_quiet : (n : ℕ) (left : Rooms) (s : CoreState) (a : Ask) → IsGood s → is_client a.owner a.party ≡ true → (ask n left s a).1 ≡ []
-ask_quiet n left s a good client = by (ask n left s a) (ask_way n left s a good client) where
+pub decided_quiet : (n : ℕ) (left : Rooms) (s : CoreState) (a : Ask) → IsGood s → is_client a.owner a.party ≡ true → (decided n left s a).1 ≡ []
+decided_quiet n left s a good client = by (decided n left s a) (decided_way n left s a good client) where
   by : (r : Answered) → AskWay s a r → r.1 ≡ []
   by r (Stays answer refused e) = ap (λ (x : Answered). x.1) e
   by r (Tests c holds e) = ap (λ (x : Answered). x.1) e
@@ -92,16 +101,148 @@ stands_waiting : (before : List Waiter) (w : Waiter) (behind : List Waiter) → 
 stands_waiting [] w behind = let same : (w.id == w.id) ≡ true = eq-eqb w.id w.id refl in rw same refl
 stands_waiting (v ∷ vs) w behind = elim (cases_Bool (v.id == w.id)) [ inl e ↦ rw e refl | inr e ↦ rw e (stands_waiting vs w behind) ]
 
-first_frame : (left : Rooms) (s : CoreState) (turn : Turned) → IsFirst left s s.waiters turn → IsFrame s turn.0 turn.1 0 s.names []
-first_frame left s turn first =
-    let w = first.waiter in
-    let waits = subst (λ (ws : List Waiter). is_waiting w.id ws ≡ true) (sym first.stood) (stands_waiting first.before w first.behind) in
-    subst (λ (told : List Effect). IsFrame s told turn.1 0 s.names []) (sym first.moved.told)
-    (subst (λ (t : CoreState). IsFrame s (Served w.id first.moved.answer ∷ []) t 0 s.names []) (sym first.moved.new)
-    (record { stable = refl; clock = refl; made = refl; failed = refl; counter = omega arith; names = refl; leave = (waits, tt); waiters = nobody (cancelled w.id s.waiters) }))
+-- who leaves by both
+pub told_both : (xs ys : List Effect) → who_left (xs ++ ys) ≡ who_left xs ++ who_left ys
+told_both [] ys = refl
+told_both (Served id answer ∷ xs) ys = ap (λ (ids : List ℕ). id ∷ ids) (told_both xs ys)
+told_both (Cancelled id ∷ xs) ys = ap (λ (ids : List ℕ). id ∷ ids) (told_both xs ys)
+told_both (Begun c to call ∷ xs) ys = told_both xs ys
+told_both (Expired text ∷ xs) ys = told_both xs ys
 
-pub turn_frame : (n : ℕ) (left : Rooms) (s : CoreState) → IsGood s → IfSome (settle n left s) (λ r. IsFrame s r.0 r.1 0 s.names [])
-turn_frame n left s good = each_turn n left s (λ r. IsFrame s r.0 r.1 0 s.names []) good (λ turn first. first_frame left s turn first)
+calls_both : (xs ys : List Effect) → calls_in (xs ++ ys) ≡ calls_in xs + calls_in ys
+calls_both [] ys = omega arith
+calls_both (Served id answer ∷ xs) ys = calls_both xs ys
+calls_both (Cancelled id ∷ xs) ys = calls_both xs ys
+calls_both (Begun c to (Some number) ∷ xs) ys = omega (arith, calls_both xs ys)
+calls_both (Begun c to None ∷ xs) ys = calls_both xs ys
+calls_both (Expired text ∷ xs) ys = calls_both xs ys
+
+-- as many numbers are drawn as breaks are told by a call
+told_calls : (last : ℕ) (bs : List (Claim × Option CacheKind)) → calls_in (begun_told last bs) ≡ recalls bs
+told_calls last [] = refl
+told_calls last (b ∷ bs) =
+    elim (cases_Bool (is_recall b)) [
+      | inl e ↦ rw e (ap suc (told_calls (last + 1) bs))
+      | inr e ↦ rw e (told_calls last bs)
+    ]
+
+begun_frame : (c : Claim) (s : CoreState) → IsFrame s (breaks_begun c s).0 (breaks_begun c s).1 (calls_in (breaks_begun c s).0) s.names []
+unfolding breaks_begun
+begun_frame c s = record {
+  stable = refl;
+  clock = refl;
+  made = refl;
+  failed = refl;
+  counter = ap (λ (calls : ℕ). s.counter + calls) (sym (told_calls s.counter (breaks_in_order c s) ∙ recalls_sorted (told_before s.names) (planned c s.claims).breaks));
+  names = refl;
+  leave = subst (λ (ids : List ℕ). AllLeave ids s.waiters) (sym (begun_leave s c)) tt;
+  waiters = nobody s.waiters ∙ ap (λ (ids : List ℕ). all_cancelled ids s.waiters ++ []) (sym (begun_leave s c));
+}
+
+pub made_way_frame : (p : Plea) (asked : List Claim) (s : CoreState) → (let way = made_way p asked s in IsFrame s way.0 way.1 (calls_in way.0) s.names [])
+made_way_frame p asked s =
+    elim (way_is p asked s) [
+      | NoWay e ↦ subst (λ (w : Turned). IsFrame s w.0 w.1 (calls_in w.0) s.names []) (sym e) (still s)
+      | Begins c cs is does e ↦ subst (λ (w : Turned). IsFrame s w.0 w.1 (calls_in w.0) s.names []) (sym e) (begun_frame c s)
+    ]
+
+-- who is told of by a way is nobody
+pub way_leaves : (p : Plea) (asked : List Claim) (s : CoreState) → who_left (made_way p asked s).0 ≡ []
+way_leaves p asked s =
+    elim (way_is p asked s) [
+      | NoWay e ↦ ap (λ (w : Turned). who_left w.0) e
+      | Begins c cs is does e ↦ ap (λ (w : Turned). who_left w.0) e ∙ begun_leave s c
+    ]
+
+-- a frame behind the way
+behind_frame : (p : Plea) (asked : List Claim) (s u : CoreState) (told : List Effect) (given : ℕ) (known : List Name) (come : List Waiter)
+    → (let way = made_way p asked s in IsFrame way.1 told u given known come → calls_in told ≡ 0 → IsFrame s (way.0 ++ told) u (given + calls_in (way.0 ++ told)) known come)
+behind_frame p asked s u told given known come frame quiet =
+    let way = made_way p asked s in
+    let first = made_way_frame p asked s in
+    let same : way.1.waiters ≡ s.waiters = way_waiters p asked s in
+    let ids : who_left (way.0 ++ told) ≡ who_left told = told_both way.0 told ∙ ap (λ (xs : List ℕ). xs ++ who_left told) (way_leaves p asked s) in
+    record {
+      stable = frame.stable ∙ first.stable;
+      clock = frame.clock ∙ first.clock;
+      made = frame.made ∙ first.made;
+      failed = frame.failed ∙ first.failed;
+      counter = omega (arith, frame.counter, first.counter, calls_both way.0 told, quiet);
+      names = frame.names;
+      leave = subst (λ (xs : List ℕ). AllLeave xs s.waiters) (sym ids) (subst (λ (ws : List Waiter). AllLeave (who_left told) ws) same frame.leave);
+      waiters = frame.waiters ∙ (λ i. all_cancelled (sym ids i) (same i) ++ come);
+    }
+
+-- a wish that is granted leaves all but the claims
+same_frame : (s t u : CoreState) (told : List Effect) (given : ℕ) (known : List Name) (come : List Waiter) → u ≡ record t { claims = u.claims } → IsFrame s told t given known come → IsFrame s told u given known come
+same_frame s t u told given known come is frame =
+    subst (λ (x : CoreState). IsFrame s told x given known come) (sym is)
+    (record { stable = frame.stable; clock = frame.clock; made = frame.made; failed = frame.failed; counter = frame.counter; names = frame.names; leave = frame.leave; waiters = frame.waiters })
+
+for_frame : (kinds : List CacheKind) (answer : Answer) (s t : CoreState) (told : List Effect) (given : ℕ) (known : List Name) (come : List Waiter) → IsFrame s told t given known come → IsFrame s told (wish_for kinds answer t) given known come
+for_frame kinds answer s t told given known come frame = same_frame s t (wish_for kinds answer t) told given known come (wish_claims kinds answer t) frame
+
+none_more : (n : ℕ) → 0 + n ≡ n
+none_more n = omega arith
+
+first_frame : (left : Rooms) (s : CoreState) (turn : Turned) → IsFirst left s s.waiters turn → IsFrame s turn.0 turn.1 (calls_in turn.0) s.names []
+first_frame left s turn first = by first.moved where
+  w : Waiter
+  w = first.waiter
+
+  way : Turned
+  way = way_again s w
+
+  t : CoreState
+  t = way.1
+
+  same : t.waiters ≡ s.waiters
+  same = way_waiters (plea_again s w) w.asked s
+
+  named : t.names ≡ s.names
+  named = way_names (plea_again s w) w.asked s
+
+  waits : is_waiting w.id t.waiters ≡ true
+  waits = subst (λ (ws : List Waiter). is_waiting w.id ws ≡ true) (sym (same ∙ first.stood)) (stands_waiting first.before w first.behind)
+
+  whole : (told : List Effect) (u : CoreState) → turn.0 ≡ way.0 ++ told → turn.1 ≡ u → calls_in told ≡ 0 → IsFrame t told u 0 s.names [] → IsFrame s turn.0 turn.1 (calls_in turn.0) s.names []
+  whole told u e f quiet frame =
+      subst (λ (x : List Effect). IsFrame s x turn.1 (calls_in x) s.names []) (sym e)
+      (subst (λ (x : CoreState). IsFrame s (way.0 ++ told) x (calls_in (way.0 ++ told)) s.names []) (sym f) (subst (λ (given : ℕ). IsFrame s (way.0 ++ told) u given s.names []) (none_more (calls_in (way.0 ++ told))) (behind_frame (plea_again s w) w.asked s u told 0 s.names [] frame quiet)))
+
+  by : IsMoved left s w first.claim first.claims turn → IsFrame s turn.0 turn.1 (calls_in turn.0) s.names []
+  by (Answers answer told new due pass) =
+      let u = once_answered t w (first.claim ∷ first.claims) answer in
+      whole (Served w.id answer ∷ []) (wish_for w.wish answer u) told new refl
+      (for_frame w.wish answer t u (Served w.id answer ∷ []) 0 s.names [] (record { stable = refl; clock = refl; made = refl; failed = refl; counter = omega arith; names = named; leave = (waits, tt); waiters = nobody (cancelled w.id t.waiters) }))
+  by (Rests e up) =
+      whole [] t (ap (λ (x : Turned). x.0) e ∙ sym (append-nil way.0)) (ap (λ (x : Turned). x.1) e) refl
+      (record { stable = refl; clock = refl; made = refl; failed = refl; counter = omega arith; names = named; leave = tt; waiters = nobody t.waiters })
+
+pub turn_frame : (n : ℕ) (left : Rooms) (s : CoreState) → IsGood s → IfSome (settle n left s) (λ r. IsFrame s r.0 r.1 (calls_in r.0) s.names [])
+turn_frame n left s good = each_turn n left s (λ r. IsFrame s r.0 r.1 (calls_in r.0) s.names []) good (λ turn first. first_frame left s turn first)
+
+-- ---- an ask, behind its way
+
+pub ask_quiet : (n : ℕ) (left : Rooms) (s : CoreState) (a : Ask) → IsGood s → is_client a.owner a.party ≡ true → (ask n left s a).1 ≡ (way left s a).0
+unfolding ask before_wish
+ask_quiet n left s a good client = ap (λ (told : List Effect). (way left s a).0 ++ told) (decided_quiet n left (way left s a).1 a (asked_way_good left s a good) client) ∙ append-nil (way left s a).0
+
+pub ask_frame : (n : ℕ) (left : Rooms) (s : CoreState) (a : Ask) → IsGood s → is_client a.owner a.party ≡ true
+    → (let r = ask n left s a in IsFrame s r.1 r.2 (drawn_by r.0 + calls_in r.1) (names_after a r.0 s.names) (come_by a r.0 s.names))
+unfolding ask before_wish
+ask_frame n left s a good client =
+    let p = plea_of left s a in
+    let asked = asked_claims a (asked_whats a.act) s.names in
+    let t = (way left s a).1 in
+    let r = decided n left t a in
+    let sound = asked_way_good left s a good in
+    let frame = decided_frame n left t a sound client in
+    let whole = before_wish n left s a in
+    same_frame s whole.2 (wish_after a whole.0 whole.2) whole.1 (drawn_by whole.0 + calls_in whole.1) (names_after a whole.0 s.names) (come_by a whole.0 s.names) (after_claims a whole.0 whole.2)
+    (behind_frame p asked s r.2 r.1 (drawn_by r.0) (names_after a r.0 s.names) (come_by a r.0 s.names)
+    (subst (λ (names : List Name). IsFrame t r.1 r.2 (drawn_by r.0) (names_after a r.0 names) (come_by a r.0 names)) (way_names p asked s) frame)
+    (ap calls_in (decided_quiet n left t a sound client)))
 
 -- ---- who leaves, and a number
 

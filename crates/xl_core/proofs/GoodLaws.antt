@@ -1,7 +1,7 @@
 -- The state stays good: by each ask, each turn, each cancel, and when a party leaves.
-use Rattle.std.proofs.Common.{◌≡◌, ℕ, ◌+◌, ◌≤◌, Bool, true, false, not, ◌&&◌, ◌||◌, ◌==◌, nat_le, inl, inr, List, [], ◌∷◌, ◌++◌, length, Option, Some, None, IfSome, refl, sym, ap, subst, ◌∙◌, arith, zero, suc, map, if◌then◌else◌}
+use Rattle.std.proofs.Common.{◌≡◌, ℕ, ◌+◌, ◌≤◌, Bool, true, false, not, ◌&&◌, ◌||◌, ◌==◌, nat_le, inl, inr, List, [], ◌∷◌, ◌++◌, length, append-nil, Option, Some, None, IfSome, refl, sym, ap, subst, ◌∙◌, arith, zero, suc, map, if◌then◌else◌}
 use Rattle.std.specs.List.{AllByRecursion, filter, list_any}
-use Rattle.std.proofs.lemmas.Bool.{cases_Bool, both_ways, and_parts, ne_eqb, not_from_false, leb-true}
+use Rattle.std.proofs.lemmas.Bool.{cases_Bool, both_ways, and_parts, ne_eqb, not-true, not_from_false, leb-true}
 use Rattle.std.proofs.lemmas.List.{length-append}
 use Rattle.xl_base.specs.Lists.{IsIn, Pairwise}
 use Rattle.xl_base.proofs.Members.{all_in, all_from, all_append, in_filter_from, pairwise_append, pairwise_filter}
@@ -12,7 +12,11 @@ use Rattle.xl_base.specs.declared.name.Party.{Party}
 use Rattle.xl_matrix.specs.Equal.{same_parties}
 use Rattle.xl_matrix.specs.Matrix.{compat}
 use Rattle.xl_matrix.specs.Owners.{posix}
+use Rattle.xl_matrix.specs.declared.claim.CacheKind.{CacheKind}
 use Rattle.xl_matrix.specs.declared.claim.Claim.{Claim}
+use Rattle.xl_matrix.specs.declared.claim.Rwd.{Rwd}
+use Rattle.xl_cache.specs.Parties.{is_kind_of}
+use Rattle.xl_cache.specs.Targets.{is_delegation}
 use Rattle.xl_matrix.specs.declared.claim.Extent.{Extent}
 use Rattle.xl_matrix.specs.declared.claim.Extent.TheVariants.{Bytes, Empty}
 use Rattle.xl_matrix.specs.declared.claim.What.{What}
@@ -22,7 +26,7 @@ use Rattle.xl_names.specs.declared.name.Name.{Name}
 use Rattle.xl_spans.specs.Spans.{meets}
 use Rattle.xl_spans.specs.declared.span.Span.{Span}
 use Rattle.xl_table.specs.Flat.{removed, is_blocked}
-use Rattle.xl_table.specs.Held.{is_of, spans_of, has_one_party, IsShareOrLock}
+use Rattle.xl_table.specs.Held.{is_share, is_of, spans_of, has_one_party}
 use Rattle.xl_table.specs.Relock.{most_claims, holds_byte, granted_claims}
 use Rattle.xl_table.proofs.FlatLaws.{all_removed, pairwise_removed}
 use Rattle.xl_table.proofs.KeptLaws.{kept_empty, kept_removed}
@@ -34,19 +38,23 @@ use Rattle.xl_core.specs.State.{CoreState, started, step_begun, drawn}
 use Rattle.xl_core.specs.Leases.{Lease, moment_after, later, with_lease, without_lease, first_ended}
 use Rattle.xl_core.specs.Breaks.{first_due, client_of}
 use Rattle.xl_core.specs.Ticks.{advanced, renew, end_some, unleased, expire, expired_then, expired_for, expire_all, lapsed_by, lapse, lapsed_then, lapsed_for, tick}
-use Rattle.xl_core.specs.Asking.{party_named, IsOrdered, range_what}
+use Rattle.xl_core.specs.Asking.{party_named, who_entered, asking_party, may_have, may_wish_for, IsFitWish, IsOrdered, range_what}
 use Rattle.xl_core.specs.declared.lease.Times.{Times}
 use Rattle.xl_names.specs.declared.name.Name.TheVariants.{NfsParty}
-use Rattle.xl_core.specs.Asking.{both_entered, asked_claim, asked_claims, known_claim, is_client, may_hold, may_ask, IsFitAct, IsFit}
+use Rattle.xl_core.specs.Asking.{both_entered, asked_whats, asked_claim, asked_claims, known_claim, is_client, may_ask, IsFitAct, IsFit}
 use Rattle.xl_core.specs.Causes.{limits_of_wait, may_wait, left_by_unlock, IsEachDue, held_once}
-use Rattle.xl_core.specs.Decide.{Answered, plea_of, waiter_of, waiting, named, answered, claims_asked, unlocked_claims, unlocked_bytes, unlocked, acted, ask, freed, unlocked_one}
-use Rattle.xl_core.specs.Good.{are_kept, IsKnown, IsHeld, is_single, are_apart, IsPled, IsWaiter, IsGood, is_held_up, holds_up}
-use Rattle.xl_core.specs.Blockers.{is_stopped}
+use Rattle.xl_core.specs.Decide.{Answered, plea_of, waiter_of, waiting, named, answered, claims_asked, unlocked_claims, unlocked_bytes, unlocked, wish_by, wish_asked, acted, decided, way, before_wish, does_wish, ask, freed, unlocked_one}
+use Rattle.xl_core.specs.Good.{are_kept, IsKnown, IsHeld, is_single, are_apart, IsPled, IsWished, IsWaiter, IsGood, is_held_up, holds_up}
+use Rattle.xl_core.specs.Blockers.{is_stopped, all_run}
+use Rattle.xl_core.specs.Ways.{made_way}
+use Rattle.xl_core.specs.Wishes.{wish_for}
+use Rattle.xl_core.specs.declared.ask.Who.{Who}
+use Rattle.xl_core.proofs.WishFor.{refused_wish, MayWish, wish_for_good, after_good, same_kinds}
 use Rattle.xl_core.specs.Judge.{Ruled, all_granted, held_with, does_wait, judged, row, row_left}
-use Rattle.xl_core.specs.Limits.{most_waiters, grant_limits, first_passed}
-use Rattle.xl_core.specs.Settle.{plea_again, rests, all_of, turned, again, turn_or, first_turn, settle, waits_for, cancel, give_back, end_party}
+use Rattle.xl_core.specs.Limits.{most_waiters, wish_limits, first_passed}
+use Rattle.xl_core.specs.Settle.{plea_again, rests, all_of, turned, way_again, again, turn_or, first_turn, settle, waits_for, cancel, give_back, end_party}
 use Rattle.xl_core.specs.declared.ask.Act.{Act}
-use Rattle.xl_core.specs.declared.ask.Act.TheVariants.{Share, Ranges, Test, Unlock}
+use Rattle.xl_core.specs.declared.ask.Act.TheVariants.{Share, Ranges, Test, Unlock, Wish}
 use Rattle.xl_core.specs.declared.ask.Answer.{Answer}
 use Rattle.xl_core.specs.declared.ask.Answer.TheVariants as answers
 use Rattle.xl_core.specs.declared.ask.Ask.{Ask}
@@ -60,9 +68,10 @@ use Rattle.xl_core.proofs.CauseLaws.{left_so, real_range, own_ranges, fit_ranges
 pub use Rattle.xl_core.proofs.StateLaws.{good_claims, good_from}
 use Rattle.xl_core.proofs.ClaimLaws.{AreGood, relocked_good, granted_good}
 use Rattle.xl_core.proofs.KnownLaws.{GoOn, both_go_on, both_distinct, held_on, waiters_on, one_party, asker_kept, asked_known, kept_on, known_party_is, asked_all_known}
-use Rattle.xl_core.proofs.LimitLaws.{grant_room, wait_room}
+use Rattle.xl_core.proofs.LimitLaws.{grant_room, wait_room, wish_room}
 use Rattle.xl_core.proofs.RowLaws.{AllPass, is_refusal, IsRuled, judged_ruled, judged_row}
-use Rattle.xl_core.proofs.TurnLaws.{held_rests, rests_held, free_moves, move_first}
+use Rattle.xl_core.proofs.TurnLaws.{waits_now, held_rests, rests_held, free_moves, move_first}
+use Rattle.xl_core.proofs.WayLaws.{way_stopped, way_runs, AsksNoCache, known_no_cache, way_good, way_names}
 use Rattle.xl_table.specs.Elements.{element_held}
 
 -- ---- a good state, part by part
@@ -158,15 +167,15 @@ goes_good left s a c cs good known pass =
     good_from (record s { claims = all_granted (c ∷ cs) s.claims; names = more }) (all_granted_good left (plea_of left s a) more (c ∷ cs) s.claims distinct (claims_on s.names more s.claims on (good_claims s good)) known pass) distinct
     (grant_room left a.rows (length (granted_claims c s.claims)) (length more) pass.1).2 (waiters_on s.names more s.counter s.counter s.waiters on (omega arith) good.waiters) good.apart good.crowd
 
-waiting_good : (left : Rooms) (s : CoreState) (a : Ask) (c : Claim) (cs : List Claim) → IsGood s → AllByRecursion (IsKnown (both_entered a s.names)) (c ∷ cs) → IsPled (c ∷ cs) → first_passed (limits_of_wait left s a) ≡ None → IsGood (waiting a (c ∷ cs) s)
-waiting_good left s a c cs good known row room =
+waiting_good : (left : Rooms) (s : CoreState) (a : Ask) (c : Claim) (cs : List Claim) → IsGood s → AllByRecursion (IsKnown (both_entered a s.names)) (c ∷ cs) → IsPled (c ∷ cs) → IsWished a.wish (c ∷ cs) → first_passed (limits_of_wait left s a) ≡ None → IsGood (waiting a (c ∷ cs) s)
+waiting_good left s a c cs good known row wished room =
     let more = both_entered a s.names in
     let next = s.counter + 1 in
     let new = waiter_of next a (c ∷ cs) in
     let on = both_go_on a s.names in
     let fits = wait_room left a.rows (length s.waiters) (length more) room in
     good_from (waiting a (c ∷ cs) s) (claims_on s.names more s.claims on (good_claims s good)) (both_distinct a s.names good.distinct) fits.2
-    (all_append (IsWaiter more next) s.waiters (new ∷ []) (waiters_on s.names more s.counter next s.waiters on (omega arith) good.waiters) ((omega arith, known, row), tt))
+    (all_append (IsWaiter more next) s.waiters (new ∷ []) (waiters_on s.names more s.counter next s.waiters on (omega arith) good.waiters) ((omega arith, known, row, wished), tt))
     (pairwise_append are_apart s.waiters (new ∷ []) good.apart (tt, tt)
     (λ v w h k. elim k [
       | inl e ↦ subst (λ (x : Waiter). are_apart v x ≡ true) e (not_from_false (v.id == next) (ne_eqb v.id next (λ same. omega (arith, same, (all_in (IsWaiter s.names s.counter) v s.waiters good.waiters h).0))))
@@ -174,11 +183,20 @@ waiting_good left s a c cs good known row room =
     ]))
     (omega (arith, fits.1, length-append s.waiters (new ∷ [])))
 
-claims_good : (n : ℕ) (left : Rooms) (s : CoreState) (a : Ask) (c : Claim) (cs : List Claim) → IsGood s → AllByRecursion (IsKnown (both_entered a s.names)) (c ∷ cs) → IsPled (c ∷ cs) → IsGood (claims_asked n left s a (c ∷ cs)).2
-claims_good n left s a c cs good known row = by (claims_asked n left s a (c ∷ cs)) (ask_case n left s a c cs) where
+-- who may wait asks to wait for one thing or the other
+waits_then : (s : CoreState) (a : Ask) (c : Claim) → may_wait s.claims a c ≡ true → (a.blocking || a.awaits) ≡ true
+waits_then s a c may = by (is_stopped s.claims c) a.blocking a.awaits may where
+  by : (x y z : Bool) → (if x then y else z) ≡ true → (y || z) ≡ true
+  by true true z h = refl
+  by true false z h = absurd (both_ways false refl h)
+  by false true z h = refl
+  by false false z h = h
+
+claims_good : (n : ℕ) (left : Rooms) (s : CoreState) (a : Ask) (c : Claim) (cs : List Claim) → IsGood s → AllByRecursion (IsKnown (both_entered a s.names)) (c ∷ cs) → IsPled (c ∷ cs) → ((a.blocking || a.awaits) ≡ true → IsWished a.wish (c ∷ cs)) → IsGood (claims_asked n left s a (c ∷ cs)).2
+claims_good n left s a c cs good known row wished = by (claims_asked n left s a (c ∷ cs)) (ask_case n left s a c cs) where
   by : (r : Answered) → AskCase left s a (c ∷ cs) c r → IsGood r.2
   by r (Goes pass e) = subst (λ (x : Answered). IsGood x.2) (sym e) (goes_good left s a c cs good known pass)
-  by r (Queues may blocked room e) = subst (λ (x : Answered). IsGood x.2) (sym e) (waiting_good left s a c cs good known row room)
+  by r (Queues may blocked room e) = subst (λ (x : Answered). IsGood x.2) (sym e) (waiting_good left s a c cs good known row (wished (waits_then s a c may)) room)
   by r (Refuses answer refused e) = subst (λ (x : Answered). IsGood x.2) (sym e) good
 
 -- ---- an unlock
@@ -239,34 +257,145 @@ unlock_good s a (Empty offset) good client ends = let claim = known_claim a (Emp
 
 -- ---- an ask
 
-acted_good : (n : ℕ) (left : Rooms) (s : CoreState) (a : Ask) (act : Act) → IsGood s → is_client a.owner a.party ≡ true → may_ask a.owner act ≡ true → IsFitAct a.owner a.blocking act → IsGood (acted n left s a act).2
-acted_good n left s a (Share access deny) good client may fit =
-    let known = asked_known a (whats.Share access deny) s.names client refl tt in claims_good n left s a (asked_claim a (whats.Share access deny) s.names) [] good (known, tt) (known.0, tt)
-acted_good n left s a (Ranges []) good client may fit = absurd fit
-acted_good n left s a (Ranges (range ∷ ranges)) good client may fit =
+-- a share comes with a wish for kinds that its party may have
+party_kinds : (a : Ask) (names : List Name) (waits : Bool) (kinds : List CacheKind) → AllByRecursion (λ kind. may_wish_for a.party waits kind ≡ true) kinds → AllByRecursion (λ kind. is_kind_of (asking_party a names) kind ≡ true) kinds
+party_kinds a names waits [] may = tt
+party_kinds a names waits (kind ∷ kinds) may =
+    (same_kinds a.party (who_entered a.owner names) kind (and_parts (may_have a.party kind) (not (waits && is_delegation kind)) may.0).0, party_kinds a names waits kinds may.1)
+
+share_wished : (a : Ask) (access deny : Rwd) (names : List Name) (waits : Bool) (kinds : List CacheKind) → waits ≡ true → AllByRecursion (λ kind. may_wish_for a.party waits kind ≡ true) kinds → IsWished kinds (asked_claim a (whats.Share access deny) names ∷ [])
+share_wished a access deny names waits [] does may = tt
+share_wished a access deny names waits (kind ∷ kinds) does may =
+    let both = and_parts (may_have a.party kind) (not (waits && is_delegation kind)) may.0 in
+    let other : not (true && is_delegation kind) ≡ true = ap (λ (b : Bool). not (b && is_delegation kind)) (sym does) ∙ both.1 in
+    ((same_kinds a.party (who_entered a.owner names) kind both.0, refl, not-true (is_delegation kind) other), share_wished a access deny names waits kinds does may.1)
+
+-- the names of a wish by itself are kept
+named_good : (s : CoreState) (a : Ask) → IsGood s → length (both_entered a s.names) ≤ most_names → IsGood (named a s)
+named_good s a good few =
+    let more = both_entered a s.names in
+    let on = both_go_on a s.names in
+    good_from (named a s) (claims_on s.names more s.claims on (good_claims s good)) (both_distinct a s.names good.distinct) few
+    (waiters_on s.names more s.counter s.counter s.waiters on (omega arith) good.waiters) good.apart good.crowd
+
+wish_asked_good : (left : Rooms) (s : CoreState) (a : Ask) (kinds : List CacheKind) → IsGood s → IsGood (wish_asked left s a kinds).2
+unfolding wish_asked
+wish_asked_good left s a [] good = good
+wish_asked_good left s a (kind ∷ kinds) good = by (first_passed (wish_limits left a.rows (length (both_entered a s.names)))) refl where
+  by : (o : Option ℕ) → first_passed (wish_limits left a.rows (length (both_entered a s.names))) ≡ o → IsGood (wish_by s a (asked_claim a (whats.Cache kind None) s.names) o).2
+  by None e = named_good s a good (wish_room left a.rows (length (both_entered a s.names)) e)
+  by (Some limit) e = good
+
+acted_good : (n : ℕ) (left : Rooms) (s : CoreState) (a : Ask) (act : Act) → IsGood s → is_client a.owner a.party ≡ true → may_ask a.owner act ≡ true → IsFitAct a.owner a.blocking act → IsFitWish a.party (a.blocking || a.awaits) a.reclaim act a.wish → IsGood (acted n left s a act).2
+acted_good n left s a (Share access deny) good client may fit wish =
+    let known = asked_known a (whats.Share access deny) s.names client refl tt in claims_good n left s a (asked_claim a (whats.Share access deny) s.names) [] good (known, tt) (known.0, tt) (λ does. share_wished a access deny s.names (a.blocking || a.awaits) a.wish does wish)
+acted_good n left s a (Ranges []) good client may fit wish = absurd fit
+acted_good n left s a (Ranges (range ∷ ranges)) good client may fit wish =
     claims_good n left s a (asked_claim a (range_what range) s.names) (asked_claims a (map range_what ranges) s.names) good
     (asked_all_known a (map range_what (range ∷ ranges)) s.names client (own_ranges a.owner (range ∷ ranges) may) (real_range range.0 range.1 fit.0, fit_ranges a.owner a.blocking ranges fit.1)) (ranges_pled a (range ∷ ranges) s.names fit client may)
-acted_good n left s a (Test extent exclusive) good client may fit = good
-acted_good n left s a (Unlock extent) good client may fit = unlock_good s a extent good client fit
+    (λ does. subst (λ (kinds : List CacheKind). IsWished kinds (asked_claim a (range_what range) s.names ∷ asked_claims a (map range_what ranges) s.names)) (sym wish) tt)
+acted_good n left s a (Test extent exclusive) good client may fit wish = good
+acted_good n left s a (Unlock extent) good client may fit wish = unlock_good s a extent good client fit
+acted_good n left s a Wish good client may fit wish = wish_asked_good left s a a.wish good
 
 -- each ask leaves the state good
+pub decided_good : (n : ℕ) (left : Rooms) (s : CoreState) (a : Ask) → IsGood s → IsFit a → IsGood (decided n left s a).2
+unfolding decided
+decided_good n left s a good fit = acted_good n left s a a.act good fit.party fit.own fit.act fit.wish
+
+pub ranges_no_cache : (a : Ask) (names : List Name) (ranges : List (Extent × Bool)) → AsksNoCache (asked_claims a (map range_what ranges) names)
+ranges_no_cache a names [] = tt
+ranges_no_cache a names (range ∷ ranges) = (refl, ranges_no_cache a names ranges)
+
+-- no ask is for a cache
+asks_no_cache : (a : Ask) (names : List Name) (act : Act) → AsksNoCache (asked_claims a (asked_whats act) names)
+asks_no_cache a names (Share access deny) = (refl, tt)
+asks_no_cache a names (Ranges ranges) = ranges_no_cache a names ranges
+asks_no_cache a names (Test extent exclusive) = tt
+asks_no_cache a names (Unlock extent) = tt
+asks_no_cache a names Wish = tt
+
+pub asked_way_good : (left : Rooms) (s : CoreState) (a : Ask) → IsGood s → IsGood (way left s a).1
+asked_way_good left s a good = way_good (plea_of left s a) (asked_claims a (asked_whats a.act) s.names) s good (asks_no_cache a s.names a.act)
+
+-- so it is before the wish is granted
+pub before_good : (n : ℕ) (left : Rooms) (s : CoreState) (a : Ask) → IsGood s → IsFit a → IsGood (before_wish n left s a).2
+unfolding before_wish
+before_good n left s a good fit = decided_good n left (way left s a).1 a (asked_way_good left s a good) fit
+
+-- what is granted of an ask that may wish is a claim of who asks, whose names are kept then
+abbrev pub IsAsked : CoreState → Ask → Answered → Claim → Type 0
+IsAsked s a r c = (what : What) × (c ≡ asked_claim a what s.names) × (r.2.names ≡ both_entered a s.names)
+
+acted_grants : (n : ℕ) (left : Rooms) (s : CoreState) (a : Ask) (act : Act) (d : Claim) → does_wish act ≡ true → (acted n left s a act).0 ≡ answers.Granted d → IsAsked s a (acted n left s a act) d
+unfolding wish_asked held_with claims_asked
+acted_grants n left s a (Share access deny) d does at = by (claims_asked n left s a (claim ∷ [])) (ask_case n left s a claim []) at where
+  claim : Claim
+  claim = asked_claim a (whats.Share access deny) s.names
+
+  same : (x y : Claim) → answers.Granted x ≡ answers.Granted y → y ≡ x
+  same x y e = cc
+
+  by : (r : Answered) → AskCase left s a (claim ∷ []) claim r → r.0 ≡ answers.Granted d → IsAsked s a r d
+  by r (Goes pass e) at = (whats.Share access deny, same claim d (sym (ap (λ (x : Answered). x.0) e) ∙ at), ap (λ (x : Answered). x.2.names) e)
+  by r (Queues may blocked room e) at = let two : answers.Queued (s.counter + 1) ≡ answers.Granted d = sym (ap (λ (x : Answered). x.0) e) ∙ at in absurd cc
+  by r (Refuses answer refused e) at = absurd (both_ways (is_refusal answer) (ap is_refusal (sym (ap (λ (x : Answered). x.0) e) ∙ at)) refused)
+acted_grants n left s a (Ranges ranges) d does at = absurd (both_ways false refl does)
+acted_grants n left s a (Test extent exclusive) d does at = absurd (both_ways false refl does)
+acted_grants n left s a (Unlock extent) d does at = absurd (both_ways false refl does)
+acted_grants n left s a Wish d does at = by a.wish at where
+  same : (x y : Claim) → answers.Granted x ≡ answers.Granted y → y ≡ x
+  same x y e = cc
+
+  one : (kind : CacheKind) (o : Option ℕ) → (wish_by s a (asked_claim a (whats.Cache kind None) s.names) o).0 ≡ answers.Granted d → IsAsked s a (wish_by s a (asked_claim a (whats.Cache kind None) s.names) o) d
+  one kind None at = (whats.Cache kind None, same (asked_claim a (whats.Cache kind None) s.names) d at, refl)
+  one kind (Some limit) at = let two : answers.Full limit ≡ answers.Granted d = at in absurd cc
+
+  by : (kinds : List CacheKind) → (wish_asked left s a kinds).0 ≡ answers.Granted d → IsAsked s a (wish_asked left s a kinds) d
+  by [] at = let two : answers.NotHeld ≡ answers.Granted d = at in absurd cc
+  by (kind ∷ kinds) at = one kind (first_passed (wish_limits left a.rows (length (both_entered a s.names)))) at
+
+pub decided_grants : (n : ℕ) (left : Rooms) (s : CoreState) (a : Ask) (d : Claim) → does_wish a.act ≡ true → (decided n left s a).0 ≡ answers.Granted d → IsAsked s a (decided n left s a) d
+unfolding decided
+decided_grants n left s a d does at = acted_grants n left s a a.act d does at
+
+-- the kinds of a wish are those that the party may have
+fit_kinds : (party : Who) (waits reclaim : Bool) (act : Act) (kinds : List CacheKind) → does_wish act ≡ true → IsFitWish party waits reclaim act kinds → AllByRecursion (λ kind. may_wish_for party waits kind ≡ true) kinds
+fit_kinds party waits reclaim (Share access deny) kinds does fit = fit
+fit_kinds party waits reclaim Wish [] does fit = tt
+fit_kinds party waits reclaim Wish (kind ∷ kinds) does fit = fit.1
+fit_kinds party waits reclaim (Ranges ranges) kinds does fit = absurd (both_ways false refl does)
+fit_kinds party waits reclaim (Test extent exclusive) kinds does fit = absurd (both_ways false refl does)
+fit_kinds party waits reclaim (Unlock extent) kinds does fit = absurd (both_ways false refl does)
+
+-- so who is granted what it asks for may wish
+pub may_wish : (n : ℕ) (left : Rooms) (s : CoreState) (a : Ask) → IsGood s → IsFit a → does_wish a.act ≡ true → MayWish (before_wish n left s a).2 a.wish (before_wish n left s a).0
+unfolding before_wish
+may_wish n left s a good fit does d at =
+    let t = (way left s a).1 in
+    let is = decided_grants n left t a d does at in (
+      subst (λ (c : Claim). AllByRecursion (λ kind. is_kind_of c.party kind ≡ true) a.wish) (sym is.1) (party_kinds a t.names (a.blocking || a.awaits) a.wish (fit_kinds a.party (a.blocking || a.awaits) a.reclaim a.act a.wish does fit.wish)),
+      subst (λ (names : List Name). are_kept names d.owner d.party ≡ true) (sym is.2) (subst (λ (c : Claim). are_kept (both_entered a t.names) c.owner c.party ≡ true) (sym is.1) (asker_kept a t.names fit.party)),
+    )
+
 pub ask_good : (n : ℕ) (left : Rooms) (s : CoreState) (a : Ask) → IsGood s → IsFit a → IsGood (ask n left s a).2
 unfolding ask
-ask_good n left s a good fit = acted_good n left s a a.act good fit.party fit.own fit.act
+ask_good n left s a good fit = let r = before_wish n left s a in after_good a r.0 r.2 (before_good n left s a good fit) (may_wish n left s a good fit)
 
 -- ---- a turn
 
 abbrev pub Turned : Type 0
 Turned = List Effect × CoreState
 
--- What becomes of a waiter for these that isn't held up: each is judged beside those before it, and it has all of them or is
--- refused.
-pub record IsMoved (left : Rooms) (s : CoreState) (w : Waiter) (c : Claim) (cs : List Claim) (turn : Turned) : Type 0 where
-  pub answer : Answer
-  pub told : turn.0 ≡ Served w.id answer ∷ []
-  pub new : turn.1 ≡ record s { claims = held_once (c ∷ cs) answer s.claims; waiters = cancelled w.id s.waiters }
-  pub due : IsEachDue left w.rows (length s.names) c (c ∷ cs) s answer
-  pub pass : (d : Claim) → answer ≡ answers.Granted d → AllPass left (plea_again s w) s.claims (c ∷ cs)
+-- What becomes of a waiter for these that isn't held up, once the breaks run that it begins: each is judged beside those before
+-- it, and it has all of them or is refused; or it is held up by the breaks that began.
+pub data IsMoved (left : Rooms) (s : CoreState) (w : Waiter) (c : Claim) (cs : List Claim) (turn : Turned) : Type 0 where
+  Answers : (answer : Answer) → turn.0 ≡ (way_again s w).0 ++ Served w.id answer ∷ []
+      → turn.1 ≡ wish_for w.wish answer (record (way_again s w).1 { claims = held_once (c ∷ cs) answer (way_again s w).1.claims; waiters = cancelled w.id (way_again s w).1.waiters })
+      → IsEachDue left w.rows (length s.names) c (c ∷ cs) (way_again s w).1 answer
+      → ((d : Claim) → answer ≡ answers.Granted d → (d ≡ c) × AllPass left (plea_again s w) (way_again s w).1.claims (c ∷ cs))
+      → IsMoved left s w c cs turn
+  Rests : turn ≡ way_again s w → is_held_up (way_again s w).1.claims w c ≡ true → IsMoved left s w c cs turn
 
 -- a refusal leaves what is held
 refused_once : (asked : List Claim) (answer : Answer) (held : List Claim) → is_refusal answer ≡ true → held_once asked answer held ≡ held
@@ -281,31 +410,62 @@ refused_once asked (answers.Full limit) held h = refl
 refused_once asked answers.NotHeld held h = refl
 refused_once asked answers.StoreFailed held h = refl
 
--- the first of its claims is not waited for
-free_now : (s : CoreState) (w : Waiter) (c : Claim) → is_held_up s.claims w c ≡ false → does_wait (plea_again s w) s.claims c ≡ false
+-- where the first of its claims is waited for once the breaks run, it is held up
+waits_up : (s : CoreState) (w : Waiter) (c : Claim) (cs : List Claim) → w.asked ≡ c ∷ cs → is_held_up s.claims w c ≡ false → does_wait (plea_again s w) (way_again s w).1.claims c ≡ true → is_held_up (way_again s w).1.claims w c ≡ true
 unfolding plea_again
-free_now s w c free = by (is_blocked s.claims c) (is_stopped s.claims c) w.blocking free where
-  by : (x y z : Bool) → (x && (z || not y)) ≡ false → (x && (if y then z else true)) ≡ false
-  by true true true e = e
-  by true true false e = refl
-  by true false true e = e
-  by true false false e = e
-  by false y z e = refl
+waits_up s w c cs asked free waits = by (is_stopped s.claims c) refl where
+  t : CoreState
+  t = (way_again s w).1
+
+  -- where what blocks it for good was there, nothing began
+  same : is_stopped s.claims c ≡ true → t ≡ s
+  same stops = ap (λ (x : List Effect × CoreState). x.1) (ap (λ (ds : List Claim). made_way (plea_again s w) ds s) asked ∙ way_stopped (plea_again s w) c cs s stops)
+
+  up : (x y z r : Bool) → (x && (if y then z else true)) ≡ true → (y ≡ false → r ≡ true) → (x && (if y then z else r)) ≡ true
+  up true true z r e run = e
+  up true false z r e run = run refl
+  up false y z r e run = e
+
+  firm : (x y z r : Bool) → y ≡ true → (x && (if y then z else true)) ≡ true → (x && (if y then z else r)) ≡ true
+  firm true true z r h e = e
+  firm true false z r h e = absurd (both_ways false refl h)
+  firm false y z r h e = e
+
+  by : (b : Bool) → is_stopped s.claims c ≡ b → is_held_up t.claims w c ≡ true
+  by true stops =
+      let now : (is_blocked s.claims c && (if is_stopped s.claims c then w.blocking else true)) ≡ true = subst (λ (x : CoreState). (is_blocked x.claims c && (if is_stopped x.claims c then w.blocking else true)) ≡ true) (same stops) waits in
+      absurd (both_ways (is_held_up s.claims w c) free (firm (is_blocked s.claims c) (is_stopped s.claims c) w.blocking (all_run s.claims c) stops now))
+  by false moves =
+      up (is_blocked t.claims c) (is_stopped t.claims c) w.blocking (all_run t.claims c) waits
+      (λ clear. ap (λ (ds : List Claim). all_run (made_way (plea_again s w) ds s).1.claims c) asked ∙ way_runs (plea_again s w) c cs s refl refl moves)
 
 moved : (n : ℕ) (left : Rooms) (s : CoreState) (earlier : List Waiter) (w : Waiter) (c : Claim) (cs : List Claim) → w.asked ≡ c ∷ cs → is_held_up s.claims w c ≡ false → (let r = again n left s earlier w in IsMoved left s w c cs (turned w r.0 r.1 r.2))
 unfolding plea_again held_with
 moved n left s earlier w c cs asked free =
-    subst (λ (ds : List Claim). let r = judged n earlier left p ds s in IsMoved left s w c cs (turned w r.0 r.1 r.2)) (sym asked)
-    (by r.0 r.1 r.2 (judged_ruled n earlier left p (c ∷ cs) s) (row_due left p c (c ∷ cs) s (answer_by r.0) c cs refl (free_now s w c free) (subst (λ (x : Ruling). tells c (row left p (c ∷ cs) s) (answer_by x)) (sym (ap (λ (x : Ruled). x.0) whole)) (tells_by (row left p (c ∷ cs) s)))))
+    subst (λ (ds : List Claim). let r = judged n earlier left p ds t in IsMoved left s w c cs (turned w r.0 (way.0 ++ r.1) r.2)) (sym asked)
+    (elim (cases_Bool (does_wait p t.claims c)) [
+      | inl waits ↦
+          subst (λ (r : Ruled). IsMoved left s w c cs (turned w r.0 (way.0 ++ r.1) r.2)) (sym (waits_now n left s t earlier w c cs waits))
+          (Rests (λ i. (append-nil way.0 i, t)) (waits_up s w c cs asked free waits))
+      | inr clear ↦
+          by r.0 r.1 r.2 (judged_ruled n earlier left p (c ∷ cs) t)
+          (row_due left p c (c ∷ cs) t (answer_by r.0) c cs refl clear (subst (λ (x : Ruling). tells c (row left p (c ∷ cs) t) (answer_by x)) (sym (ap (λ (x : Ruled). x.0) whole)) (tells_by (row left p (c ∷ cs) t)))) clear
+    ])
   where
     p : Plea
     p = plea_again s w
 
-    r : Ruled
-    r = judged n earlier left p (c ∷ cs) s
+    way : List Effect × CoreState
+    way = way_again s w
 
-    whole : r ≡ (row left p (c ∷ cs) s, [], row_left (row left p (c ∷ cs) s) (c ∷ cs) s)
-    whole = judged_row n earlier left p (c ∷ cs) s refl
+    t : CoreState
+    t = way.1
+
+    r : Ruled
+    r = judged n earlier left p (c ∷ cs) t
+
+    whole : r ≡ (row left p (c ∷ cs) t, [], row_left (row left p (c ∷ cs) t) (c ∷ cs) t)
+    whole = judged_row n earlier left p (c ∷ cs) t refl
 
     answer_by : Ruling → Answer
     answer_by Gets = answers.Granted c
@@ -317,22 +477,25 @@ moved n left s earlier w c cs asked free =
     tells_by Waits = tt
     tells_by (Told answer) = refl
 
-    by : (ruling : Ruling) (told : List Effect) (t : CoreState) → IsRuled left p (c ∷ cs) s ruling told t → IsEachDue left w.rows (length s.names) c (c ∷ cs) s (answer_by ruling) → IsMoved left s w c cs (turned w ruling told t)
-    by Gets told t is due = record {
-      answer = answers.Granted c;
-      told = ap (λ (xs : List Effect). xs ++ Served w.id (all_of w.asked) ∷ []) is.0 ∙ ap (λ (ds : List Claim). Served w.id (all_of ds) ∷ []) asked;
-      new = ap (λ (x : CoreState). record x { waiters = cancelled w.id x.waiters }) is.1;
-      due = due;
-      pass = λ d e. is.2;
-    }
-    by Waits told t is due = absurd (both_ways (does_wait p s.claims c) (free_now s w c free) is.3)
-    by (Told answer) told t is due = record {
-      answer = answer;
-      told = ap (λ (xs : List Effect). xs ++ Served w.id answer ∷ []) is.0;
-      new = ap (λ (x : CoreState). record x { waiters = cancelled w.id x.waiters }) is.1 ∙ ap (λ (held : List Claim). record s { claims = held; waiters = cancelled w.id s.waiters }) (sym (refused_once (c ∷ cs) answer s.claims is.2));
-      due = due;
-      pass = λ d e. absurd (both_ways (is_refusal answer) (ap is_refusal e) is.2);
-    }
+    same_claim : (x y : Claim) → answers.Granted x ≡ answers.Granted y → y ≡ x
+    same_claim x y e = cc
+
+    behind : (told : List Effect) (answer : Answer) → told ≡ [] → (way.0 ++ told) ++ Served w.id answer ∷ [] ≡ way.0 ++ Served w.id answer ∷ []
+    behind told answer none = ap (λ (xs : List Effect). (way.0 ++ xs) ++ Served w.id answer ∷ []) none ∙ ap (λ (xs : List Effect). xs ++ Served w.id answer ∷ []) (append-nil way.0)
+
+    by : (ruling : Ruling) (told : List Effect) (u : CoreState) → IsRuled left p (c ∷ cs) t ruling told u → IsEachDue left w.rows (length s.names) c (c ∷ cs) t (answer_by ruling) → does_wait p t.claims c ≡ false → IsMoved left s w c cs (turned w ruling (way.0 ++ told) u)
+    by Gets told u is due clear = Answers (answers.Granted c)
+        (behind told (all_of w.asked) is.0 ∙ ap (λ (ds : List Claim). way.0 ++ Served w.id (all_of ds) ∷ []) asked)
+        (λ i. wish_for w.wish (all_of (asked i)) (record (is.1 i) { waiters = cancelled w.id (is.1 i).waiters }))
+        due
+        (λ d e. (same_claim c d e, is.2))
+    by Waits told u is due clear = absurd (both_ways (does_wait p t.claims c) clear is.3)
+    by (Told answer) told u is due clear = Answers answer
+        (behind told answer is.0)
+        (ap (λ (x : CoreState). record x { waiters = cancelled w.id x.waiters }) is.1 ∙ ap (λ (held : List Claim). record t { claims = held; waiters = cancelled w.id t.waiters }) (sym (refused_once (c ∷ cs) answer t.claims is.2))
+        ∙ sym (refused_wish w.wish answer (record t { claims = held_once (c ∷ cs) answer t.claims; waiters = cancelled w.id t.waiters }) is.2))
+        due
+        (λ d e. absurd (both_ways (is_refusal answer) (ap is_refusal e) is.2))
 
 -- the first waiter that has a turn
 pub record IsFirst (left : Rooms) (s : CoreState) (ws : List Waiter) (turn : Turned) : Type 0 where
@@ -431,14 +594,54 @@ once_good left s w asked (answers.Full limit) good known pass = good_claims s go
 once_good left s w asked answers.NotHeld good known pass = good_claims s good
 once_good left s w asked answers.StoreFailed good known pass = good_claims s good
 
+-- a waiter pleads the same while the names stay
+pub again_named : (s : CoreState) (w : Waiter) (t : CoreState) → t.names ≡ s.names → plea_again s w ≡ plea_again t w
+unfolding plea_again
+again_named s w t same = λ i. record { blocking = w.blocking; awaits = true; reclaim = false; rows = w.rows; kept = length (sym same i); crowded = None }
+
+-- the state once a waiter for these is answered so, before its wish is granted
+abbrev pub once_answered : CoreState → Waiter → List Claim → Answer → CoreState
+once_answered t w asked answer = record t { claims = held_once asked answer t.claims; waiters = cancelled w.id t.waiters }
+
+-- a waiter wishes for what its party may have
+waiter_may : (names : List Name) (counter : ℕ) (w : Waiter) (c : Claim) (cs : List Claim) → w.asked ≡ c ∷ cs → IsWaiter names counter w → AllByRecursion (λ kind. is_kind_of c.party kind ≡ true) w.wish × (are_kept names c.owner c.party ≡ true)
+waiter_may names counter w c cs asked is = (kinds w.wish (subst (λ (ds : List Claim). IsWished w.wish ds) asked is.3), (subst (λ (ds : List Claim). AllByRecursion (IsKnown names) ds) asked is.1).0.1) where
+  kinds : (ks : List CacheKind) → AllByRecursion (λ kind. (is_kind_of c.party kind ≡ true) × (is_share c.what ≡ true) × (is_delegation kind ≡ false)) ks → AllByRecursion (λ kind. is_kind_of c.party kind ≡ true) ks
+  kinds [] all = tt
+  kinds (k ∷ ks) all = (all.0.0, kinds ks all.1)
+
+-- one who is served is so in a good state, in which it may wish
+pub served_good : (left : Rooms) (s : CoreState) (turn : Turned) (first : IsFirst left s s.waiters turn) → IsGood s → (answer : Answer) → ((d : Claim) → answer ≡ answers.Granted d → (d ≡ first.claim) × AllPass left (plea_again s first.waiter) (way_again s first.waiter).1.claims (first.claim ∷ first.claims))
+    → (let u = once_answered (way_again s first.waiter).1 first.waiter (first.claim ∷ first.claims) answer in IsGood u × MayWish u first.waiter.wish answer)
+served_good left s turn first good answer pass = (
+  good_from (once_answered t w (first.claim ∷ first.claims) answer)
+      (once_good left t w (first.claim ∷ first.claims) answer sound known (λ d e. subst (λ (p : Plea). AllPass left p t.claims (first.claim ∷ first.claims)) (again_named s w t same) (pass d e).1)) sound.distinct sound.few
+      (cancelled_all (IsWaiter t.names t.counter) w.id t.waiters sound.waiters) (cancelled_pairwise are_apart w.id t.waiters sound.apart) (fewer_crowd w.id t.waiters sound.crowd),
+  λ d e. subst (λ (c : Claim). AllByRecursion (λ kind. is_kind_of c.party kind ≡ true) w.wish × (are_kept t.names c.owner c.party ≡ true)) (sym (pass d e).0)
+      (subst (λ (names : List Name). AllByRecursion (λ kind. is_kind_of first.claim.party kind ≡ true) w.wish × (are_kept names first.claim.owner first.claim.party ≡ true)) (sym same) (waiter_may s.names s.counter w first.claim first.claims first.asked first.is)),
+) where
+  w : Waiter
+  w = first.waiter
+
+  t : CoreState
+  t = (way_again s w).1
+
+  sound : IsGood t
+  sound = way_good (plea_again s w) w.asked s good (known_no_cache s.names w.asked first.is.1)
+
+  same : t.names ≡ s.names
+  same = way_names (plea_again s w) w.asked s
+
+  known : AllByRecursion (IsKnown t.names) (first.claim ∷ first.claims)
+  known = subst (λ (names : List Name). AllByRecursion (IsKnown names) (first.claim ∷ first.claims)) (sym same) (subst (λ (cs : List Claim). AllByRecursion (IsKnown s.names) cs) first.asked first.is.1)
+
 turn_good : (left : Rooms) (s : CoreState) (turn : Turned) (first : IsFirst left s s.waiters turn) → IsGood s → IsGood turn.1
-turn_good left s turn first good =
-    let w = first.waiter in
-    let known = subst (λ (cs : List Claim). AllByRecursion (IsKnown s.names) cs) first.asked first.is.1 in
-    let claims = held_once (first.claim ∷ first.claims) first.moved.answer s.claims in
-    subst IsGood (sym first.moved.new)
-    (good_from (record s { claims = claims; waiters = cancelled w.id s.waiters }) (once_good left s w (first.claim ∷ first.claims) first.moved.answer good known first.moved.pass) good.distinct good.few
-    (cancelled_all (IsWaiter s.names s.counter) w.id s.waiters good.waiters) (cancelled_pairwise are_apart w.id s.waiters good.apart) (fewer_crowd w.id s.waiters good.crowd))
+turn_good left s turn first good = by first.moved where
+  by : IsMoved left s first.waiter first.claim first.claims turn → IsGood turn.1
+  by (Answers answer told new due pass) =
+      let is = served_good left s turn first good answer pass in
+      subst IsGood (sym new) (wish_for_good first.waiter.wish answer (once_answered (way_again s first.waiter).1 first.waiter (first.claim ∷ first.claims) answer) is.0 is.1)
+  by (Rests e up) = subst (λ (x : Turned). IsGood x.1) (sym e) (way_good (plea_again s first.waiter) first.waiter.asked s good (known_no_cache s.names first.waiter.asked first.is.1))
 
 pub each_turn : (n : ℕ) (left : Rooms) (s : CoreState) (P : Turned → Type 0) → IsGood s → ((turn : Turned) → IsFirst left s s.waiters turn → P turn) → IfSome (settle n left s) P
 unfolding settle

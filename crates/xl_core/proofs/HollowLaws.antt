@@ -1,5 +1,5 @@
 -- Machines that keep nothing, or drop who waits, don't do what their deeds say.
-use Rattle.std.proofs.Common.{◌≡◌, ℕ, ◌==◌, Bool, true, false, List, [], ◌∷◌, refl, sym, ap, ◌∙◌}
+use Rattle.std.proofs.Common.{None, ◌≡◌, ℕ, ◌==◌, Bool, true, false, List, [], ◌∷◌, refl, sym, ap, ◌∙◌}
 use Rattle.std.specs.List.{AllByRecursion}
 use Rattle.std.proofs.lemmas.Bool.{and_right}
 use Rattle.xl_base.specs.Stable.{Stable}
@@ -19,14 +19,16 @@ use Rattle.xl_core.specs.Causes.{limits_of_grant}
 use Rattle.xl_core.specs.Deeds.{Asks, queue_with, queue_after}
 use Rattle.xl_core.specs.Decide.{ask}
 use Rattle.xl_core.specs.Limits.{IsRoom}
-use Rattle.xl_core.specs.Places.{Place, ByteOf, held_in, else_was, stands, IsChangedBy, all_entered_for}
+use Rattle.xl_core.specs.declared.ask.Effect.{Effect}
+use Rattle.xl_core.specs.Places.{Place, ByteOf, held_in, else_was, stands, IsChangedBy, all_entered_for, then_entered, broken_at, answered_at}
 use Rattle.xl_core.specs.Smallest.{all_room, smallest_lock}
 use Rattle.xl_core.specs.declared.ask.Act.TheVariants.{Test}
 use Rattle.xl_core.specs.declared.ask.Answer.{Answer}
 use Rattle.xl_core.specs.declared.ask.Answer.TheVariants as answers
 use Rattle.xl_core.specs.declared.ask.Ask.{Ask}
 use Rattle.xl_core.specs.declared.lease.Times.{Times}
-use Rattle.xl_core.proofs.CauseLaws.{lock_free, test_due}
+use Rattle.xl_core.proofs.WayDeeds.{then_else}
+use Rattle.xl_core.proofs.WayAsks.{ask_free, ask_test, ask_way_free}
 
 -- ---- one that keeps nothing
 
@@ -42,13 +44,18 @@ unfolding granted_claims relocked_in unranged inserted relocked
 has_room stable clock times = no_limit (limits_of_grant all_room (started stable clock times) smallest_lock first_claim) (refl, (refl, (refl, (refl, (refl, tt)))))
 
 first_granted : (n : ℕ) (stable : Stable) (clock : Moment) (times : Times) → (ask n all_room (started stable clock times) smallest_lock).0 ≡ answers.Granted first_claim
-first_granted n stable clock times = lock_free n all_room (started stable clock times) smallest_lock (Range (Bytes 0 0) true) refl refl refl (has_room stable clock times)
+first_granted n stable clock times = ask_free n all_room (started stable clock times) smallest_lock (Range (Bytes 0 0) true) refl refl refl (has_room stable clock times)
 
 abbrev first_place : Place
 first_place = ByteOf 1 (asker smallest_lock []) 0
 
 first_held : (n : ℕ) (stable : Stable) (clock : Moment) (times : Times) → stands n (started stable clock times) (Asks all_room smallest_lock ∷ []) first_place [] ≡ Range (Bytes 0 0) true ∷ []
-first_held n stable clock times = ap (λ (answer : Answer). else_was (all_entered_for [] ((Bytes 0 0, true) ∷ []) answer first_place) []) (first_granted n stable clock times)
+first_held n stable clock times =
+    let s = started stable clock times in
+    ap (λ (w : List Effect × CoreState). else_was (then_entered (then_entered (broken_at s w.0 first_place) (answered_at w.1.claims smallest_lock.act (ask n all_room s smallest_lock).0 first_place)) None) [])
+    (ask_way_free all_room s smallest_lock (Range (Bytes 0 0) true) refl refl)
+    ∙ then_else (broken_at s [] first_place) (answered_at s.claims smallest_lock.act (ask n all_room s smallest_lock).0 first_place) []
+    ∙ ap (λ (answer : Answer). else_was (all_entered_for [] ((Bytes 0 0, true) ∷ []) answer first_place) []) (first_granted n stable clock times)
 
 pub nothing_kept : (n : ℕ) (stable : Stable) (clock : Moment) (times : Times) (t : CoreState) → t.claims ≡ [] → IsChangedBy n (started stable clock times) (Asks all_room smallest_lock ∷ []) t → ⊥
 nothing_kept n stable clock times t none changed =
@@ -71,6 +78,6 @@ not_queued s a ws answers.StoreFailed none = refl
 
 pub waiter_dropped : (n : ℕ) (left : Rooms) (s t : CoreState) (a : Ask) (w : Waiter) (extent : Extent) (exclusive : Bool) → a.act ≡ Test extent exclusive → s.waiters ≡ w ∷ [] → t.waiters ≡ [] → t.waiters ≡ queue_after n s (Asks left a ∷ []) s.waiters → ⊥
 waiter_dropped n left s t a w extent exclusive act one none waiting =
-    let stays = not_queued s a s.waiters (ask n left s a).0 (λ id e. (test_due n left s a extent exclusive (answers.Queued id) act).0 e) in
+    let stays = not_queued s a s.waiters (ask n left s a).0 (λ id e. (ask_test n left s a extent exclusive (answers.Queued id) act).0 e) in
     let two : (let empty : List Waiter = [] in empty ≡ w ∷ []) = sym none ∙ waiting ∙ stays ∙ one in
     absurd cc

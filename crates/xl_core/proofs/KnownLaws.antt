@@ -163,7 +163,7 @@ pub held_on : (names more : List Name) (cs : List Claim) → GoOn names more →
 held_on names more cs on all = all_weaker (IsHeld names) (IsHeld more) cs (λ c h. (h.0, kept_on names more c.owner c.party on h.1)) all
 
 pub waiters_on : (names more : List Name) (counter next : ℕ) (ws : List Waiter) → GoOn names more → counter ≤ next → AllByRecursion (IsWaiter names counter) ws → AllByRecursion (IsWaiter more next) ws
-waiters_on names more counter next ws on h all = all_weaker (IsWaiter names counter) (IsWaiter more next) ws (λ w is. (omega (arith, h, is.0), known_on names more w.asked on is.1, is.2)) all
+waiters_on names more counter next ws on h all = all_weaker (IsWaiter names counter) (IsWaiter more next) ws (λ w is. (omega (arith, h, is.0), known_on names more w.asked on is.1, is.2, is.3)) all
 
 number_same : (x y : Protocol) (n m : ℕ) → owners.Name x n ≡ owners.Name y m → n ≡ m
 number_same x y n m e = cc

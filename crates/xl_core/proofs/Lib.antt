@@ -2,6 +2,11 @@ pub mod AskLaws
 pub mod KnownLaws
 pub mod DecideLaws
 pub mod RowLaws
+pub mod WayLaws
+pub mod WayAsks
+pub mod WayDeeds
+pub mod WayCode
+pub mod WayOpens
 pub mod TurnLaws
 pub mod LimitLaws
 pub mod CauseLaws
@@ -38,3 +43,5 @@ pub mod StateLaws
 pub mod BreakingLaws
 pub mod BegunLaws
 pub mod WishLaws
+pub mod NumberLaws
+pub mod WishFor

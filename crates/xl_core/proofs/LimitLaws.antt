@@ -6,7 +6,7 @@ use Rattle.std.proofs.lemmas.Bool.Decides.{nat_tests}
 use Rattle.xl_names.specs.Names.{most_names}
 use Rattle.xl_table.specs.Relock.{most_claims}
 use Rattle.xl_wait.specs.declared.waiter.Rooms.{Rooms}
-use Rattle.xl_core.specs.Limits.{most_waiters, grant_limits, wait_limits, first_passed, is_passed, IsRoom, IsLeastPassed}
+use Rattle.xl_core.specs.Limits.{most_waiters, grant_limits, wait_limits, wish_limits, first_passed, is_passed, IsRoom, IsLeastPassed}
 
 abbrev AreRising : List (ℕ × Bool) → Type 0
 AreRising [] = Unit {0}
@@ -85,3 +85,20 @@ wait_room left rows waiting kept e = (grind (arith, nat_tests), grind (arith, na
 -- what may wait has room, as the code asks for it
 pub wait_fits : (left rows : Rooms) (waiting kept : ℕ) (o : Option ℕ) → o ≡ first_passed (wait_limits left rows waiting kept) → o ≡ None → (waiting < most_waiters) × (kept ≤ most_names)
 wait_fits left rows waiting kept o is none = let room = wait_room left rows waiting kept (sym is ∙ none) in (omega (arith, room.1), room.2)
+
+-- ---- a wish by itself
+
+wish_first : (left rows : Rooms) (kept : ℕ) → IsFound (wish_limits left rows kept) (first_passed (wish_limits left rows kept))
+wish_first left rows kept = found_first (wish_limits left rows kept) ((omega arith, (omega arith, (omega arith, tt))), ((omega arith, (omega arith, tt)), ((omega arith, tt), (tt, tt))))
+
+pub wish_found : (left rows : Rooms) (kept : ℕ) (o : Option ℕ) → first_passed (wish_limits left rows kept) ≡ o → IsFound (wish_limits left rows kept) o
+wish_found left rows kept o e = subst (λ (p : Option ℕ). IsFound (wish_limits left rows kept) p) e (wish_first left rows kept)
+
+pub wish_least : (left rows : Rooms) (kept : ℕ) (o : Option ℕ) → IsFound (wish_limits left rows kept) o → first_passed (wish_limits left rows kept) ≡ o
+wish_least left rows kept o found = found_once (wish_limits left rows kept) _ o (wish_first left rows kept) found
+
+pub wish_room : (left rows : Rooms) (kept : ℕ) → first_passed (wish_limits left rows kept) ≡ None → kept ≤ most_names
+wish_room left rows kept e = grind (arith, nat_tests)
+
+pub wish_fits : (left rows : Rooms) (kept : ℕ) (o : Option ℕ) → o ≡ first_passed (wish_limits left rows kept) → o ≡ None → kept ≤ most_names
+wish_fits left rows kept o is none = wish_room left rows kept (sym is ∙ none)

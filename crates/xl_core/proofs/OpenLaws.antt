@@ -15,7 +15,7 @@ use Rattle.xl_wait.specs.declared.waiter.Rooms.{Rooms}
 use Rattle.xl_core.specs.State.{CoreState}
 use Rattle.xl_core.specs.Asking.{range_what, asker, asked_claim, asked_claims, both_entered, known_claim, known_owner, IsFit, IsFitAct}
 use Rattle.xl_core.specs.Causes.{IsElementDue}
-use Rattle.xl_core.specs.Decide.{plea_of, ask}
+use Rattle.xl_core.specs.Decide.{plea_of, decided}
 use Rattle.xl_core.specs.Good.{IsKnown, IsGood}
 use Rattle.xl_core.specs.Judge.{all_granted}
 use Rattle.xl_core.specs.declared.ask.Act.{Act}
@@ -28,7 +28,7 @@ use Rattle.xl_core.specs.declared.ask.Who.TheVariants as who
 use Rattle.xl_core.specs.declared.judge.Plea.{Plea}
 use Rattle.xl_core.proofs.CauseLaws.{element_due}
 use Rattle.xl_core.proofs.ClaimLaws.{AreGood, granted_good}
-use Rattle.xl_core.proofs.DeedCalls.{ask_releases, ranges_enter}
+use Rattle.xl_core.proofs.DeedCalls.{decided_releases, ranges_enter}
 use Rattle.xl_core.proofs.ElementLaws.{open_of, with_element, elements_granted}
 use Rattle.xl_core.proofs.LimitLaws.{grant_room}
 use Rattle.xl_core.proofs.RowLaws.{AllPass}
@@ -65,8 +65,8 @@ asker_open a names number e = ap (λ (w : Who). asker_in w) e where
   asker_in w = asker (record a { owner = w }) names
 
 -- each of the ranges is held once more, behind the open's others
-pub ranges_locked : (n : ℕ) (left : Rooms) (s : CoreState) (a : Ask) (ranges : List (Extent × Bool)) (number : ℕ) (c : Claim) → IsGood s → IsFit a → a.owner ≡ who.Open number → a.act ≡ acts.Ranges ranges → (ask n left s a).0 ≡ answers.Granted c
-    → elements_of a.file (open_of number) (ask n left s a).2.claims ≡ elements_of a.file (open_of number) s.claims ++ map range_what ranges
+pub ranges_locked : (n : ℕ) (left : Rooms) (s : CoreState) (a : Ask) (ranges : List (Extent × Bool)) (number : ℕ) (c : Claim) → IsGood s → IsFit a → a.owner ≡ who.Open number → a.act ≡ acts.Ranges ranges → (decided n left s a).0 ≡ answers.Granted c
+    → elements_of a.file (open_of number) (decided n left s a).2.claims ≡ elements_of a.file (open_of number) s.claims ++ map range_what ranges
 ranges_locked n left s a [] number c good fit own act at = absurd (subst (λ (x : Act). IsFitAct a.owner a.blocking x) act fit.act)
 ranges_locked n left s a (range ∷ ranges) number c good fit own act at =
     let is = ranges_enter n left s a range ranges c good fit act at in
@@ -78,16 +78,16 @@ unnamed_open : (a : Ask) (names : List Name) (number : ℕ) → a.owner ≡ who.
 unnamed_open a names number e = ap (λ (w : Who). posix (known_owner w names)) e
 
 -- one that is equal is taken out
-pub range_unlocked : (n : ℕ) (left : Rooms) (s : CoreState) (a : Ask) (extent : Extent) (number : ℕ) (c : Claim) → IsGood s → IsFit a → a.owner ≡ who.Open number → a.act ≡ acts.Unlock extent → (ask n left s a).0 ≡ answers.Granted c
-    → elements_of a.file (open_of number) (ask n left s a).2.claims ≡ unlocked_elements extent (elements_of a.file (open_of number) s.claims)
+pub range_unlocked : (n : ℕ) (left : Rooms) (s : CoreState) (a : Ask) (extent : Extent) (number : ℕ) (c : Claim) → IsGood s → IsFit a → a.owner ≡ who.Open number → a.act ≡ acts.Unlock extent → (decided n left s a).0 ≡ answers.Granted c
+    → elements_of a.file (open_of number) (decided n left s a).2.claims ≡ unlocked_elements extent (elements_of a.file (open_of number) s.claims)
 range_unlocked n left s a extent number c good fit own act at =
     let unnamed = unnamed_open a s.names number own in
-    let is = ask_releases n left s a extent c good fit unnamed act at in
+    let is = decided_releases n left s a extent c good fit unnamed act at in
     let claim = known_claim a extent false s.names in
     let same : c ≡ claim = ((element_due n left s a extent (answers.Granted c) act unnamed).0 at).0 in
     let owner : c.owner ≡ open_of number = ap (λ (x : Claim). x.owner) same ∙ ap (λ (w : Who). known_owner w s.names) own in
-    subst (λ (f : ℕ). elements_of f (open_of number) (ask n left s a).2.claims ≡ unlocked_elements extent (elements_of f (open_of number) s.claims)) (ap (λ (x : Claim). x.file) same)
-    (subst (λ (o : Owner). elements_of c.file o (ask n left s a).2.claims ≡ unlocked_elements extent (elements_of c.file o s.claims)) owner is.mine)
+    subst (λ (f : ℕ). elements_of f (open_of number) (decided n left s a).2.claims ≡ unlocked_elements extent (elements_of f (open_of number) s.claims)) (ap (λ (x : Claim). x.file) same)
+    (subst (λ (o : Owner). elements_of c.file o (decided n left s a).2.claims ≡ unlocked_elements extent (elements_of c.file o s.claims)) owner is.mine)
 
-pub range_due : (n : ℕ) (left : Rooms) (s : CoreState) (a : Ask) (extent : Extent) (number : ℕ) (answer : Answer) → a.owner ≡ who.Open number → a.act ≡ acts.Unlock extent → ((ask n left s a).0 ≡ answer) ↔ IsElementDue s (known_claim a extent false s.names) extent answer
+pub range_due : (n : ℕ) (left : Rooms) (s : CoreState) (a : Ask) (extent : Extent) (number : ℕ) (answer : Answer) → a.owner ≡ who.Open number → a.act ≡ acts.Unlock extent → ((decided n left s a).0 ≡ answer) ↔ IsElementDue s (known_claim a extent false s.names) extent answer
 range_due n left s a extent number answer own act = element_due n left s a extent answer act (unnamed_open a s.names number own)

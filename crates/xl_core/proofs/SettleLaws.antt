@@ -1,30 +1,40 @@
 -- A turn is the first waiter's that nothing held blocks, nobody else's, and comes while there is one. Who leaves.
-use Rattle.std.proofs.Common.{◌≡◌, ℕ, ◌+◌, Bool, true, false, not, cond, ◌==◌, inl, inr, List, [], ◌∷◌, ◌++◌, map, length, Option, Some, None, IfSome, refl, sym, ap, subst, ◌∙◌, ◌↔◌, arith}
+use Rattle.std.proofs.Common.{◌≡◌, ℕ, ◌+◌, Bool, true, false, not, cond, ◌==◌, inl, inr, List, [], ◌∷◌, ◌++◌, map, length, append-nil, Some, None, IfSome, refl, sym, ap, subst, ◌∙◌, ◌↔◌, ◌⊎◌, ◌≤◌, suc, arith}
 use Rattle.std.specs.List.{AllByRecursion, filter}
-use Rattle.std.proofs.lemmas.Bool.{cases_Bool, eq-eqb, not-true, not_from_false}
+use Rattle.std.proofs.lemmas.Bool.{cases_Bool, both_ways, eq-eqb, not-true, not_from_false}
 use Rattle.std.proofs.lemmas.List.{length-append}
 use Rattle.xl_base.specs.Lists.{IsIn, Pairwise}
 use Rattle.xl_base.proofs.Members.{all_in, in_filter, in_filter_from, in_append_right}
 use Rattle.xl_base.specs.declared.name.Party.{Party}
 use Rattle.xl_matrix.specs.Equal.{same_parties}
 use Rattle.xl_matrix.specs.declared.claim.Claim.{Claim}
+use Rattle.xl_names.specs.declared.name.Name.{Name}
 use Rattle.xl_table.specs.Flat.{removed}
-use Rattle.xl_table.specs.Held.{spans_of}
+use Rattle.xl_cache.specs.Planning.{is_running}
+use Rattle.xl_base.specs.declared.name.Owner.{Owner}
+use Rattle.xl_table.specs.Held.{spans_of, is_cache, is_share}
 use Rattle.xl_table.specs.Relock.{shares_of}
 use Rattle.xl_wait.specs.Waiting.{cancelled}
 use Rattle.xl_wait.specs.declared.waiter.Rooms.{Rooms}
 use Rattle.xl_wait.specs.declared.waiter.Waiter.{Waiter}
 use Rattle.xl_core.specs.declared.ask.Effect.{Effect}
 use Rattle.xl_core.specs.State.{CoreState}
-use Rattle.xl_core.specs.Causes.{IsEachDue, held_once, IsTurn}
-use Rattle.xl_core.specs.Good.{are_apart, caches_of, IsKnown, IsPled, IsGood, IsWaiter, holds_up, IsSettled}
+use Rattle.xl_core.specs.Begin.{idle_caches, breaks_begun}
+use Rattle.xl_core.specs.Causes.{IsEachDue, held_once, IsServed, Answered, WaitsOn, IsTurn}
+use Rattle.xl_core.specs.Good.{are_apart, caches_of, caches_beside, caches_but, IsKnown, IsPled, IsGood, IsWaiter, is_held_up, holds_up, IsSettled}
 use Rattle.xl_core.specs.Judge.{Ruled, all_granted}
-use Rattle.xl_core.specs.Settle.{rests, turned, again, turn_or, first_turn, settle, AllRest, waits_for, numbers_for, all_cancelled, cancel, give_back, end_party}
+use Rattle.xl_core.specs.Settle.{rests, turned, plea_again, way_again, again, turn_or, first_turn, settle, turns_left, AllRest, waits_for, numbers_for, all_cancelled, cancel, give_back, end_party}
 use Rattle.xl_core.specs.declared.ask.Answer.{Answer}
 use Rattle.xl_core.specs.declared.ask.Answer.TheVariants.{Granted, Queued, Conflict, Recall, Grace, NoGrace, NotRecorded, Full, NotHeld, StoreFailed}
 use Rattle.xl_core.proofs.CacheLaws.{all_granted_caches}
 use Rattle.xl_core.proofs.ChangeLaws.{all_spans_left, all_shares_left}
-use Rattle.xl_core.proofs.GoodLaws.{Turned, IsFirst, each_turn}
+use Rattle.xl_core.specs.declared.ask.Effect.TheVariants.{Served}
+use Rattle.xl_core.proofs.BegunLaws.{begun_spans, begun_shares}
+use Rattle.xl_core.specs.Wishes.{wish_for}
+use Rattle.xl_core.proofs.WishLaws.{wish_spans, wish_shares}
+use Rattle.xl_core.proofs.WishFor.{wish_keeps, wish_claims, empty_wish, wish_for_idle, wish_beside_at}
+use Rattle.xl_core.proofs.GoodLaws.{once_answered, Turned, IsMoved, Answers, Rests, IsFirst, each_turn}
+use Rattle.xl_core.proofs.WayLaws.{way_keeps, begun_names, begun_waiters, way_idle}
 use Rattle.xl_core.proofs.TurnLaws.{up_rests, rests_held, move_first}
 
 -- ---- there is no turn exactly where each waiter rests
@@ -90,30 +100,73 @@ waiters_left left s turn first good =
     ap (λ (ws : List Waiter). cancelled first.waiter.id ws) first.stood ∙ without first.before first.waiter first.behind (subst (λ (ws : List Waiter). Pairwise are_apart ws) first.stood good.apart)
 
 first_turn_is : (left : Rooms) (s : CoreState) (turn : Turned) → IsGood s → IsFirst left s s.waiters turn → IsTurn left s turn.0 turn.1
-first_turn_is left s turn good first =
-    let moved = first.moved in
-    let all = first.claim ∷ first.claims in
-    let held : turn.1.claims ≡ held_once first.waiter.asked moved.answer s.claims = ap (λ (t : CoreState). t.claims) moved.new ∙ ap (λ (cs : List Claim). held_once cs moved.answer s.claims) (sym first.asked) in
-    record {
-      before = first.before;
-      waiter = first.waiter;
-      behind = first.behind;
-      claim = first.claim;
-      claims = first.claims;
-      answer = moved.answer;
-      stood = first.stood;
-      blocked = first.blocked;
-      asked = first.asked;
-      free = first.free;
-      due = subst (λ (cs : List Claim). IsEachDue left first.waiter.rows (length s.names) first.claim cs s moved.answer) (sym first.asked) moved.due;
-      held = held;
-      told = moved.told;
-      waiters = ap (λ (t : CoreState). t.waiters) moved.new ∙ waiters_left left s turn first good;
-      names = ap (λ (t : CoreState). t.names) moved.new;
-      spans = λ file owner apart. ap (λ (cs : List Claim). spans_of file owner cs) held ∙ once_cases (λ cs. spans_of file owner cs ≡ spans_of file owner s.claims) first.waiter.asked s.claims moved.answer refl (all_spans_left first.waiter.asked s.claims file owner apart);
-      shares = λ file owner apart. ap (λ (cs : List Claim). shares_of file owner cs) held ∙ once_cases (λ cs. shares_of file owner cs ≡ shares_of file owner s.claims) first.waiter.asked s.claims moved.answer refl (all_shares_left first.waiter.asked s.claims file owner apart);
-      caches = ap (λ (cs : List Claim). caches_of cs) held ∙ once_cases (λ cs. caches_of cs ≡ caches_of s.claims) first.waiter.asked s.claims moved.answer refl (all_granted_caches first.waiter.asked s.claims);
-    }
+first_turn_is left s turn good first = by first.moved where
+  w : Waiter
+  w = first.waiter
+
+  t : CoreState
+  t = (way_again s w).1
+
+  all : List Claim
+  all = first.claim ∷ first.claims
+
+  -- each waiter's way leaves what no break changes
+  same : {A : Type 0} (f : CoreState → A) → ((c : Claim) → f (breaks_begun c s).1 ≡ f s) → f t ≡ f s
+  same f keeps = way_keeps f (plea_again s w) w.asked s keeps
+
+  turned_so : (told : List Effect) → turn.0 ≡ (way_again s w).0 ++ told → IsServed left t w first.claim told turn.1
+      → turn.1.names ≡ s.names
+      → ((file : ℕ) (owner : Owner) → AllByRecursion (λ c. (file ≡ c.file) × (owner ≡ c.owner) × (is_share c.what ≡ false) → ⊥) w.asked → spans_of file owner turn.1.claims ≡ spans_of file owner t.claims)
+      → ((file : ℕ) (owner : Owner) → AllByRecursion (λ c. (file ≡ c.file) × (owner ≡ c.owner) × (is_share c.what ≡ true) → ⊥) w.asked → shares_of file owner turn.1.claims ≡ shares_of file owner t.claims)
+      → caches_beside first.claim.file first.claim.party turn.1.claims ≡ caches_beside first.claim.file first.claim.party t.claims → (w.wish ≡ [] → caches_of turn.1.claims ≡ caches_of t.claims) → IsTurn left s turn.0 turn.1
+  turned_so told effects served names spans shares caches unwished = record {
+    before = first.before;
+    waiter = w;
+    behind = first.behind;
+    claim = first.claim;
+    claims = first.claims;
+    told = told;
+    stood = first.stood;
+    blocked = first.blocked;
+    asked = first.asked;
+    free = first.free;
+    effects_are = effects;
+    served = served;
+    names = names;
+    spans = λ file owner apart. spans file owner apart ∙ same (λ x. spans_of file owner x.claims) (λ c. begun_spans s c file owner);
+    shares = λ file owner apart. shares file owner apart ∙ same (λ x. shares_of file owner x.claims) (λ c. begun_shares s c file owner);
+    caches = caches;
+    unwished = unwished;
+  }
+
+  by : IsMoved left s w first.claim first.claims turn → IsTurn left s turn.0 turn.1
+  by (Answers answer told new due pass) =
+      let u = once_answered t w all answer in
+      let once_caches : caches_of u.claims ≡ caches_of t.claims = once_cases (λ cs. caches_of cs ≡ caches_of t.claims) all t.claims answer refl (all_granted_caches all t.claims) in
+      let same_asked : u ≡ once_answered t w w.asked answer = ap (λ (cs : List Claim). once_answered t w cs answer) (sym first.asked) in
+      let due_here : IsEachDue left w.rows (length t.names) first.claim w.asked t answer =
+      subst (λ (cs : List Claim). IsEachDue left w.rows (length t.names) first.claim cs t answer) (sym first.asked)
+      (subst (λ (names : List Name). IsEachDue left w.rows (length names) first.claim all t answer) (sym (same (λ x. x.names) (λ c. begun_names c s))) due) in
+      turned_so (Served w.id answer ∷ []) told
+      (Answered answer refl (λ d e. (pass d e).0) due_here (new ∙ ap (wish_for w.wish answer) same_asked))
+      (ap (λ (x : CoreState). x.names) new ∙ ap (λ (x : CoreState). x.names) (wish_claims w.wish answer u) ∙ same (λ x. x.names) (λ c. begun_names c s))
+      (λ file owner apart.
+      ap (λ (x : CoreState). spans_of file owner x.claims) (new ∙ ap (wish_for w.wish answer) same_asked)
+      ∙ wish_keeps (λ x. spans_of file owner x.claims) w.wish answer (once_answered t w w.asked answer) (λ wanted. wish_spans wanted (once_answered t w w.asked answer) file owner)
+      ∙ once_cases (λ cs. spans_of file owner cs ≡ spans_of file owner t.claims) w.asked t.claims answer refl (all_spans_left w.asked t.claims file owner apart))
+      (λ file owner apart.
+      ap (λ (x : CoreState). shares_of file owner x.claims) (new ∙ ap (wish_for w.wish answer) same_asked)
+      ∙ wish_keeps (λ x. shares_of file owner x.claims) w.wish answer (once_answered t w w.asked answer) (λ wanted. wish_shares wanted (once_answered t w w.asked answer) file owner)
+      ∙ once_cases (λ cs. shares_of file owner cs ≡ shares_of file owner t.claims) w.asked t.claims answer refl (all_shares_left w.asked t.claims file owner apart))
+      (ap (λ (x : CoreState). caches_beside first.claim.file first.claim.party x.claims) new ∙ wish_beside_at w.wish answer u first.claim.file first.claim.party (λ d e. let is = (pass d e).0 in (ap (λ (x : Claim). x.file) is, ap (λ (x : Claim). x.party) is))
+      ∙ ap (λ (cs : List Claim). caches_but first.claim.file first.claim.party cs) once_caches)
+      (λ none. ap (λ (x : CoreState). caches_of x.claims) (new ∙ empty_wish w.wish answer u none) ∙ once_caches)
+  by (Rests e up) =
+      turned_so [] (ap (λ (x : Turned). x.0) e ∙ sym (append-nil (way_again s w).0)) (WaitsOn refl up (ap (λ (x : Turned). x.1) e))
+      (ap (λ (x : Turned). x.1.names) e ∙ same (λ x. x.names) (λ c. begun_names c s))
+      (λ file owner apart. ap (λ (x : Turned). spans_of file owner x.1.claims) e)
+      (λ file owner apart. ap (λ (x : Turned). shares_of file owner x.1.claims) e)
+      (ap (λ (x : Turned). caches_beside first.claim.file first.claim.party x.1.claims) e) (λ none. ap (λ (x : Turned). caches_of x.1.claims) e)
 
 pub turn_is : (n : ℕ) (left : Rooms) (s : CoreState) → IsGood s → IfSome (settle n left s) (λ r. IsTurn left s r.0 r.1)
 turn_is n left s good = each_turn n left s (λ r. IsTurn left s r.0 r.1) good (λ turn first. first_turn_is left s turn good first)
@@ -124,13 +177,49 @@ turn_is_known left s effects t good turn =
     let is = all_in (IsWaiter s.names s.counter) turn.waiter s.waiters good.waiters (subst (λ (ws : List Waiter). IsIn turn.waiter ws) (sym turn.stood) (in_append_right turn.waiter turn.before (turn.waiter ∷ turn.behind) (inl refl))) in
     (is.1, is.2)
 
--- each turn leaves one waiter less
-fewer_by : (left : Rooms) (s : CoreState) (r : Turned) → IsTurn left s r.0 r.1 → length r.1.waiters + 1 ≡ length s.waiters
-fewer_by left s r turn =
-    omega (arith, ap (λ (ws : List Waiter). length ws) turn.waiters, ap (λ (ws : List Waiter). length ws) turn.stood, length-append turn.before turn.behind, length-append turn.before (turn.waiter ∷ turn.behind))
+-- each turn leaves one waiter less, or one break less to begin
+idle_by : (held : List Claim) → idle_caches held ≡ length (filter (λ c. not (is_running c.what)) (caches_of held))
+idle_by [] = refl
+idle_by (c ∷ cs) =
+    elim (cases_Bool (is_cache c.what)) [
+      | inr e ↦ rw e (idle_by cs)
+      | inl e ↦ elim (cases_Bool (is_running c.what)) [ inl r ↦ rw (e, r) (idle_by cs) | inr r ↦ rw (e, r) (ap suc (idle_by cs)) ]
+    ]
 
-pub turn_fewer : (n : ℕ) (left : Rooms) (s : CoreState) → IsGood s → IfSome (settle n left s) (λ r. length r.1.waiters + 1 ≡ length s.waiters)
-turn_fewer n left s good = each_turn n left s (λ r. length r.1.waiters + 1 ≡ length s.waiters) good (λ turn first. fewer_by left s turn (first_turn_is left s turn good first))
+same_idle : (old new : List Claim) → caches_of new ≡ caches_of old → idle_caches new ≡ idle_caches old
+same_idle old new e = idle_by new ∙ ap (λ (cs : List Claim). length (filter (λ c. not (is_running c.what)) cs)) e ∙ sym (idle_by old)
+
+fewer_by : (left : Rooms) (s : CoreState) (turn : Turned) → IsGood s → IsFirst left s s.waiters turn → turns_left turn.1 + 1 ≤ turns_left s
+fewer_by left s turn good first = by first.moved where
+  w : Waiter
+  w = first.waiter
+
+  t : CoreState
+  t = (way_again s w).1
+
+  waiters : t.waiters ≡ s.waiters
+  waiters = way_keeps (λ x. x.waiters) (plea_again s w) w.asked s (λ c. begun_waiters c s)
+
+  no_more : (way_again s w ≡ ([], s)) ⊎ (idle_caches t.claims + 1 ≤ idle_caches s.claims) → idle_caches t.claims ≤ idle_caches s.claims
+  no_more (inl e) = omega (arith, ap (λ (x : Turned). idle_caches x.1.claims) e)
+  no_more (inr fewer) = omega (arith, fewer)
+
+  fell : is_held_up t.claims w first.claim ≡ true → (way_again s w ≡ ([], s)) ⊎ (idle_caches t.claims + 1 ≤ idle_caches s.claims) → idle_caches t.claims + 1 ≤ idle_caches s.claims
+  fell up (inl e) = absurd (both_ways (is_held_up s.claims w first.claim) first.free (subst (λ (x : Turned). is_held_up x.1.claims w first.claim ≡ true) e up))
+  fell up (inr fewer) = fewer
+
+  by : IsMoved left s w first.claim first.claims turn → turns_left turn.1 + 1 ≤ turns_left s
+  by (Answers answer told new due pass) =
+      let u = once_answered t w (first.claim ∷ first.claims) answer in
+      let idle : idle_caches u.claims ≡ idle_caches t.claims = same_idle t.claims u.claims
+      (once_cases (λ cs. caches_of cs ≡ caches_of t.claims) (first.claim ∷ first.claims) t.claims answer refl (all_granted_caches (first.claim ∷ first.claims) t.claims)) in
+      let gone : turn.1.waiters ≡ first.before ++ first.behind = ap (λ (x : CoreState). x.waiters) (new ∙ wish_claims w.wish answer u) ∙ ap (λ (ws : List Waiter). cancelled w.id ws) waiters ∙ waiters_left left s turn first good in
+      omega (arith, idle, ap (λ (x : CoreState). idle_caches x.claims) new, wish_for_idle w.wish answer u, no_more (way_idle (plea_again s w) w.asked s), ap (λ (ws : List Waiter). length ws) gone, ap (λ (ws : List Waiter). length ws) first.stood, length-append first.before first.behind, length-append first.before (w ∷ first.behind))
+  by (Rests e up) =
+      omega (arith, ap (λ (x : Turned). idle_caches x.1.claims) e, ap (λ (x : Turned). length x.1.waiters) e, ap (λ (ws : List Waiter). length ws) waiters, fell up (way_idle (plea_again s w) w.asked s))
+
+pub turn_fewer : (n : ℕ) (left : Rooms) (s : CoreState) → IsGood s → IfSome (settle n left s) (λ r. turns_left r.1 + 1 ≤ turns_left s)
+turn_fewer n left s good = each_turn n left s (λ r. turns_left r.1 + 1 ≤ turns_left s) good (λ turn first. fewer_by left s turn good first)
 
 -- ---- a party's waiters leave
 

@@ -1,8 +1,8 @@
 -- A test foretells the lock.
 use Rattle.xl_cache.specs.Planning.{is_covered, is_final}
-use Rattle.std.proofs.Common.{◌≡◌, ℕ, ◌<◌, ◌≤◌, Bool, true, false, not, ◌&&◌, ◌||◌, ◌==◌, eqb, ◌⊎◌, List, [], ◌∷◌, length, Option, Some, None, inl, inr, refl, sym, ap, ◌∙◌, ◌↔◌, arith, slice_get}
+use Rattle.std.proofs.Common.{◌≡◌, ℕ, ◌<◌, ◌≤◌, Bool, true, false, not, ◌&&◌, ◌||◌, ◌==◌, eqb, List, [], ◌∷◌, length, Option, Some, None, inl, inr, refl, sym, ap, ◌∙◌, ◌↔◌, arith, slice_get}
 use Rattle.std.specs.List.{list_any}
-use Rattle.std.proofs.lemmas.Bool.{cases_Bool, both_ways, and_parts, and_right, ne_eqb, cases_lt, not-true}
+use Rattle.std.proofs.lemmas.Bool.{both_ways, and_parts, and_right, ne_eqb, cases_lt, not-true}
 use Rattle.xl_base.specs.Lists.{IsIn}
 use Rattle.xl_base.proofs.Members.{all_in}
 use Rattle.xl_base.specs.Stable.{same_protocol}
@@ -22,7 +22,7 @@ use Rattle.xl_matrix.specs.declared.claim.What.TheVariants.{Share, Range, Cache}
 use Rattle.xl_names.specs.Names.{protocol_of, number_of, place_of, most_names}
 use Rattle.xl_names.specs.declared.name.Name.{Name}
 use Rattle.xl_names.proofs.NameLaws.{kept_from_number, new_from_none, place_new}
-use Rattle.xl_table.specs.Flat.{is_met, blocks, is_blocked}
+use Rattle.xl_table.specs.Flat.{is_met, blocks}
 use Rattle.xl_table.specs.Held.{IsShareOrLock, is_range, is_cache}
 use Rattle.xl_table.specs.Least.{least}
 use Rattle.xl_table.proofs.LeastLaws.{one_passes}
@@ -31,18 +31,16 @@ use Rattle.xl_core.specs.State.{CoreState}
 use Rattle.xl_core.specs.Asking.{asked_claim, asked_what, known_claim, known_owner, number_or, no_number, is_client, is_named, owner_in}
 use Rattle.xl_core.specs.Blockers.{test_blockers, is_stopped}
 use Rattle.xl_core.specs.Causes.{stands_against, IsSameAsker, IsConflict}
-use Rattle.xl_core.specs.Decide.{ask}
-use Rattle.xl_core.specs.Frames.{drawn_by}
+use Rattle.xl_core.specs.Decide.{decided}
 use Rattle.xl_core.specs.Good.{are_kept, IsHeldBy, IsHeld, IsGood}
 use Rattle.xl_core.specs.declared.ask.Act.TheVariants.{Ranges, Test}
-use Rattle.xl_core.specs.declared.ask.Answer.TheVariants.{Granted, Conflict}
+use Rattle.xl_core.specs.declared.ask.Answer.TheVariants.{Conflict}
 use Rattle.xl_core.specs.declared.ask.Ask.{Ask}
 use Rattle.xl_core.specs.declared.ask.Who.{Who}
 use Rattle.xl_core.specs.declared.ask.Who.TheVariants.{Named}
 use Rattle.xl_core.proofs.CacheLaws.{range_no_cache}
 use Rattle.xl_core.proofs.CauseLaws.{lock_due, test_due, test_none, test_some, option_cases}
 use Rattle.xl_core.proofs.DecideLaws.{blockers_some, stops_some, final_in}
-use Rattle.xl_core.proofs.FrameLaws.{ask_frame}
 use Rattle.xl_core.proofs.KnownLaws.{kept_named, is_client_is, client_posix, get_none}
 
 -- ---- only ranges block a range, and by their owners alone
@@ -118,7 +116,7 @@ range_stops ask d held range blocked = by d.what refl range where
 
 pub test_foretells : (n : ℕ) (left : Rooms) (s : CoreState) (test lock : Ask) (first last : ℕ) (exclusive : Bool) → IsGood s → is_client lock.owner lock.party ≡ true → is_named lock.owner ≡ true → IsSameAsker test lock
     → test.act ≡ Test (Bytes first last) exclusive → lock.act ≡ Ranges ((Bytes first last, exclusive) ∷ []) → lock.blocking ≡ false
-    → IsConflict (ask n left s lock).0 ↔ IsConflict (ask n left s test).0
+    → IsConflict (decided n left s lock).0 ↔ IsConflict (decided n left s test).0
 test_foretells n left s test lock first last exclusive good client has same tests locks hurries = (back, forth) where
   what : What
   what = Range (Bytes first last) exclusive
@@ -132,19 +130,19 @@ test_foretells n left s test lock first last exclusive good client has same test
   alike : (d : Claim) → IsIn d s.claims → is_cache d.what ≡ false → stands_against known d ≡ blocks asked d
   alike d h other = meets_both s test lock first last exclusive d good client has same h other
 
-  refused : lock.reclaim ≡ false → is_stopped s.claims asked ≡ true → IsConflict (ask n left s lock).0
+  refused : lock.reclaim ≡ false → is_stopped s.claims asked ≡ true → IsConflict (decided n left s lock).0
   refused fresh stops =
       let found = stops_some s.waiters s asked stops in
       let held = blockers_some s.waiters s asked found.0 found.1 in
       (found.0, (lock_due n left s lock what (Conflict found.0) (ap asked_what locks)).1 (fresh, hurries, found.1, held.0, held.1))
 
-  forth : IsConflict (ask n left s test).0 → IsConflict (ask n left s lock).0
+  forth : IsConflict (decided n left s test).0 → IsConflict (decided n left s lock).0
   forth told =
       let due = (test_due n left s test (Bytes first last) exclusive (Conflict told.0) tests).0 told.1 in
       let range = (and_parts (is_range told.0.what) (blocks known told.0) due.3).0 in
       refused (sym same.reclaim ∙ due.0) (one_passes (is_final asked s.claims) s.claims told.0 due.2 (range_stops asked told.0 s.claims range (sym (alike told.0 due.2 (range_no_cache told.0.what range)) ∙ due.3)))
 
-  denied : test.reclaim ≡ false → (c : Claim) → IsIn c s.claims → stands_against known c ≡ true → IsConflict (ask n left s test).0
+  denied : test.reclaim ≡ false → (c : Claim) → IsIn c s.claims → stands_against known c ≡ true → IsConflict (decided n left s test).0
   denied fresh c there stands =
       elim (option_cases (least s.names (test_blockers s known))) [
         | inl none ↦ absurd (both_ways (list_any (stands_against known) s.claims) (test_none s known none) (one_passes (stands_against known) s.claims c there stands))
@@ -153,7 +151,7 @@ test_foretells n left s test lock first last exclusive good client has same test
             (found.0, (test_due n left s test (Bytes first last) exclusive (Conflict found.0) tests).1 (fresh, found.1, held.0, held.1))
       ]
 
-  back : IsConflict (ask n left s lock).0 → IsConflict (ask n left s test).0
+  back : IsConflict (decided n left s lock).0 → IsConflict (decided n left s test).0
   back told =
       let due = (lock_due n left s lock what (Conflict told.0) (ap asked_what locks)).0 told.1 in
       let final = (final_in s.waiters s asked told.0 due.2).1 in
@@ -161,10 +159,3 @@ test_foretells n left s test lock first last exclusive good client has same test
       denied (same.reclaim ∙ due.0) told.0 due.3 (alike told.0 due.3 (not-true (is_cache told.0.what) hard) ∙ due.4)
 
 -- ---- what is granted leaves the record, the clock and the counter
-
-pub grant_leaves : (n : ℕ) (left : Rooms) (s : CoreState) (a : Ask) (c : Claim) → IsGood s → is_client a.owner a.party ≡ true → (ask n left s a).0 ≡ Granted c
-    → ((ask n left s a).2.clock ≡ s.clock) × ((ask n left s a).2.stable ≡ s.stable) × ((ask n left s a).2.counter ≡ s.counter)
-grant_leaves n left s a c good client at =
-    let frame = ask_frame n left s a good client in
-    let none : drawn_by (ask n left s a).0 ≡ 0 = ap drawn_by at in
-    (frame.clock, frame.stable, omega (arith, frame.counter, none))

@@ -1,7 +1,7 @@
 -- Whose turn comes: the first waiter that isn't held up is found, and each other rests.
-use Rattle.std.proofs.Common.{◌≡◌, ℕ, Bool, true, false, not, ◌&&◌, ◌||◌, if◌then◌else◌, List, [], ◌∷◌, ◌++◌, Option, Some, None, inl, inr, refl, sym, ap, subst, ◌∙◌}
+use Rattle.std.proofs.Common.{◌≡◌, ℕ, Bool, true, false, not, ◌&&◌, if◌then◌else◌, List, [], ◌∷◌, ◌++◌, Option, Some, None, is_some, inl, inr, refl, sym, ap, subst, append-nil, ◌∙◌}
 use Rattle.std.specs.List.{AllByRecursion, slice_get}
-use Rattle.std.proofs.lemmas.Bool.{cases_Bool, both_ways, and_parts, or_cases, not-true}
+use Rattle.std.proofs.lemmas.Bool.{cases_Bool, both_ways, and_parts}
 use Rattle.xl_base.specs.Lists.{IsIn}
 use Rattle.xl_base.proofs.Members.{all_in}
 use Rattle.xl_matrix.specs.declared.claim.Claim.{Claim}
@@ -9,16 +9,20 @@ use Rattle.xl_table.specs.Flat.{is_blocked}
 use Rattle.xl_wait.specs.declared.waiter.Rooms.{Rooms}
 use Rattle.xl_wait.specs.declared.waiter.Waiter.{Waiter}
 use Rattle.xl_core.specs.State.{CoreState}
-use Rattle.xl_core.specs.Blockers.{is_stopped}
+use Rattle.xl_core.specs.Blockers.{is_stopped, all_run}
+use Rattle.xl_core.specs.Begin.{breaks_begun}
+use Rattle.xl_core.specs.Ways.{made_way}
+use Rattle.xl_cache.specs.Planning.{planned, recalled_by}
 use Rattle.xl_core.specs.Good.{IsKnown, IsPled, IsWaiter, IsGood, is_held_up, holds_up}
 use Rattle.xl_core.specs.Judge.{Ruled, stopped, kept_off, does_wait, judged}
-use Rattle.xl_core.specs.Settle.{plea_again, rests, turned, again, turn_or, first_turn, called_of, first_called}
+use Rattle.xl_core.specs.Settle.{plea_again, rests, turned, ruled_behind, way_again, again, turn_or, first_turn, called_of, first_called}
 use Rattle.xl_core.specs.declared.ask.Effect.{Effect}
 use Rattle.xl_core.specs.declared.judge.Plea.{Plea}
 use Rattle.xl_core.specs.declared.judge.Ruling.{Ruling}
 use Rattle.xl_core.specs.declared.judge.Ruling.TheVariants.{Gets, Waits, Told}
 use Rattle.xl_core.specs.declared.settling.Called.{Called}
 use Rattle.xl_core.proofs.DecideLaws.{stops_some, none_blockers, moves_cache}
+use Rattle.xl_core.proofs.WayLaws.{unbroken, runs, way_unbroken, way_stopped, begun_quiet, way_quiet}
 use Rattle.xl_core.proofs.RowLaws.{IsRuled, first_waits, judged_ruled, judged_stopped, judged_kept_off}
 
 -- ---- it rests exactly where it is held up
@@ -33,25 +37,53 @@ stopped_waits p d waits room = rw (waits, room) refl
 kept_waits : (p : Plea) (d : Claim) → p.awaits ≡ true → p.crowded ≡ None → kept_off p d ≡ Waits
 kept_waits p d waits room = rw (waits, room) refl
 
--- the first of several claims is held up
-pub held_rests : (n : ℕ) (left : Rooms) (s : CoreState) (earlier : List Waiter) (w : Waiter) (c : Claim) (cs : List Claim) → w.asked ≡ c ∷ cs → is_held_up s.claims w c ≡ true → again n left s earlier w ≡ (Waits, [], s)
-held_rests n left s earlier w c cs asked up = ap (λ (ds : List Claim). judged n earlier left p ds s) asked ∙ by (is_stopped s.claims c) refl where
+-- what it pleads for is ruled so on the state that the way left
+again_is : (n : ℕ) (left : Rooms) (s : CoreState) (earlier : List Waiter) (w : Waiter) (told : List Effect) (t : CoreState) → way_again s w ≡ (told, t) → again n left s earlier w ≡ ruled_behind told (judged n earlier left (plea_again s w) w.asked t)
+again_is n left s earlier w told t e = ap (λ (way : List Effect × CoreState). ruled_behind way.0 (judged n earlier left (plea_again s w) w.asked way.1)) e
+
+-- one that is held up begins nothing
+pub way_up : (s : CoreState) (w : Waiter) (c : Claim) (cs : List Claim) → w.asked ≡ c ∷ cs → is_held_up s.claims w c ≡ true → way_again s w ≡ ([], s)
+way_up s w c cs asked up = ap (λ (ds : List Claim). made_way (plea_again s w) ds s) asked ∙ by (is_stopped s.claims c) refl where
+  run : is_stopped s.claims c ≡ false → all_run s.claims c ≡ true
+  run moves = sym (ap (λ (b : Bool). if b then w.blocking else all_run s.claims c) moves) ∙ (and_parts (is_blocked s.claims c) (if is_stopped s.claims c then w.blocking else all_run s.claims c) up).1
+
+  by : (b : Bool) → is_stopped s.claims c ≡ b → made_way (plea_again s w) (c ∷ cs) s ≡ ([], s)
+  by true stops = way_stopped (plea_again s w) c cs s stops
+  by false moves = way_unbroken (plea_again s w) c cs s (unbroken s.claims c (run moves))
+
+-- one that waits for what is in the way of the first of its claims is ruled to wait
+pub waits_now : (n : ℕ) (left : Rooms) (s t : CoreState) (earlier : List Waiter) (w : Waiter) (c : Claim) (cs : List Claim) → does_wait (plea_again s w) t.claims c ≡ true → judged n earlier left (plea_again s w) (c ∷ cs) t ≡ (Waits, [], t)
+waits_now n left s t earlier w c cs waits = by (is_stopped t.claims c) refl where
   p : Plea
   p = plea_again s w
 
-  parts : (is_blocked s.claims c ≡ true) × ((w.blocking || not (is_stopped s.claims c)) ≡ true)
-  parts = and_parts (is_blocked s.claims c) (w.blocking || not (is_stopped s.claims c)) up
+  parts : (is_blocked t.claims c ≡ true) × ((if is_stopped t.claims c then p.blocking else p.awaits) ≡ true)
+  parts = and_parts (is_blocked t.claims c) (if is_stopped t.claims c then p.blocking else p.awaits) waits
 
-  waits : is_stopped s.claims c ≡ true → w.blocking ≡ true
-  waits stops = elim (or_cases w.blocking (not (is_stopped s.claims c)) parts.1) [ inl blocking ↦ blocking | inr moves ↦ absurd (both_ways (is_stopped s.claims c) (not-true (is_stopped s.claims c) moves) stops) ]
-
-  by : (b : Bool) → is_stopped s.claims c ≡ b → judged n earlier left p (c ∷ cs) s ≡ (Waits, [], s)
+  by : (b : Bool) → is_stopped t.claims c ≡ b → judged n earlier left p (c ∷ cs) t ≡ (Waits, [], t)
   by true stops =
-      let found = stops_some earlier s c stops in
-      judged_stopped n earlier left p c found.0 cs s (plea_is s w).2 found.1 ∙ (λ i. (stopped_waits p found.0 ((plea_is s w).0 ∙ waits stops) (plea_is s w).3 i, [], s))
+      let found = stops_some earlier t c stops in
+      let blocks : p.blocking ≡ true = sym (ap (λ (b : Bool). if b then p.blocking else p.awaits) stops) ∙ parts.1 in
+      judged_stopped n earlier left p c found.0 cs t (plea_is s w).2 found.1 ∙ (λ i. (stopped_waits p found.0 blocks (plea_is s w).3 i, [], t))
   by false moves =
-      let found = moves_cache s.claims c parts.0 moves in
-      judged_kept_off n earlier left p c found.0 cs s (plea_is s w).2 (none_blockers earlier s c moves) found.1 ∙ (λ i. (kept_waits p found.0 (plea_is s w).1 (plea_is s w).3 i, [], s))
+      let found = moves_cache t.claims c parts.0 moves in
+      judged_kept_off n earlier left p c found.0 cs t (plea_is s w).2 (none_blockers earlier t c moves) found.1 ∙ (λ i. (kept_waits p found.0 (plea_is s w).1 (plea_is s w).3 i, [], t))
+
+-- so does one that is held up
+pub up_waits : (s t : CoreState) (w : Waiter) (c : Claim) → is_held_up t.claims w c ≡ true → does_wait (plea_again s w) t.claims c ≡ true
+unfolding plea_again
+up_waits s t w c up = by (is_blocked t.claims c) (is_stopped t.claims c) w.blocking (all_run t.claims c) up where
+  by : (x y z r : Bool) → (x && (if y then z else r)) ≡ true → (x && (if y then z else true)) ≡ true
+  by true true z r e = e
+  by true false z r e = refl
+  by false y z r e = e
+
+-- the first of several claims is held up
+pub held_rests : (n : ℕ) (left : Rooms) (s : CoreState) (earlier : List Waiter) (w : Waiter) (c : Claim) (cs : List Claim) → w.asked ≡ c ∷ cs → is_held_up s.claims w c ≡ true → again n left s earlier w ≡ (Waits, [], s)
+held_rests n left s earlier w c cs asked up =
+    again_is n left s earlier w [] s (way_up s w c cs asked up)
+    ∙ ap (λ (ds : List Claim). ruled_behind [] (judged n earlier left (plea_again s w) ds s)) asked
+    ∙ ap (ruled_behind []) (waits_now n left s s earlier w c cs (up_waits s s w c up))
 
 rested : (ruling : Ruling) (told : List Effect) → rests ruling told ≡ true → (ruling ≡ Waits) × (told ≡ [])
 rested Waits [] e = (refl, refl)
@@ -65,24 +97,37 @@ waits_ruled left p asked s ruling told t is e = let all = subst (λ (r : Ruling)
 same_ruled : (r : Ruled) (s : CoreState) → r.0 ≡ Waits → r.1 ≡ [] → r.2 ≡ s → r ≡ (Waits, [], s)
 same_ruled r s e f g = λ i. (e i, f i, g i)
 
-first_held : (s : CoreState) (w : Waiter) (asked : List Claim) → first_waits (plea_again s w) s.claims asked → holds_up s.claims w asked ≡ true
+-- where nothing is told besides no break began
+pub quiet_runs : (s : CoreState) (w : Waiter) (c : Claim) (cs : List Claim) → made_way (plea_again s w) (c ∷ cs) s ≡ ([], s) → is_stopped s.claims c ≡ false → all_run s.claims c ≡ true
+unfolding plea_again made_way
+quiet_runs s w c cs quiet moves = runs s.claims c (begun_quiet c s (sym (ap (λ (b : Bool). (if not b && not (true && (false && is_some (recalled_by (planned c s.claims)))) then breaks_begun c s else ([], s)).0) moves) ∙ ap (λ (way : List Effect × CoreState). way.0) quiet))
+
+first_held : (s : CoreState) (w : Waiter) (asked : List Claim) → made_way (plea_again s w) asked s ≡ ([], s) → first_waits (plea_again s w) s.claims asked → holds_up s.claims w asked ≡ true
 unfolding plea_again
-first_held s w [] h = absurd h
-first_held s w (c ∷ cs) h = by (is_blocked s.claims c) (is_stopped s.claims c) w.blocking h where
-  by : (x y z : Bool) → (x && (if y then z else true)) ≡ true → (x && (z || not y)) ≡ true
-  by true true true e = refl
-  by true true false e = e
-  by true false true e = refl
-  by true false false e = refl
-  by false y z e = e
+first_held s w [] quiet h = absurd h
+first_held s w (c ∷ cs) quiet h = by (is_blocked s.claims c) (is_stopped s.claims c) w.blocking (all_run s.claims c) h (λ moves. quiet_runs s w c cs quiet moves) where
+  by : (x y z r : Bool) → (x && (if y then z else true)) ≡ true → (y ≡ false → r ≡ true) → (x && (if y then z else r)) ≡ true
+  by true true z r e run = e
+  by true false z r e run = run refl
+  by false y z r e run = e
 
 -- who rests is held up, and then nothing changes
 pub rests_held : (n : ℕ) (left : Rooms) (s : CoreState) (earlier : List Waiter) (w : Waiter) → (let r = again n left s earlier w in rests r.0 r.1 ≡ true) → (again n left s earlier w ≡ (Waits, [], s)) × (holds_up s.claims w w.asked ≡ true)
 rests_held n left s earlier w e =
-    let r = again n left s earlier w in
-    let at = rested r.0 r.1 e in
-    let why = waits_ruled left (plea_again s w) w.asked s r.0 r.1 r.2 (judged_ruled n earlier left (plea_again s w) w.asked s) at.0 in
-    (same_ruled r s at.0 at.1 why.1, first_held s w w.asked why.2)
+    let way = way_again s w in
+    let inner = judged n earlier left (plea_again s w) w.asked way.1 in
+    let at = rested inner.0 (way.0 ++ inner.1) e in
+    let none = both_empty way.0 inner.1 at.1 in
+    let quiet = way_quiet (plea_again s w) w.asked s none.0 in
+    let r = judged n earlier left (plea_again s w) w.asked s in
+    let same : inner ≡ r = ap (λ (x : List Effect × CoreState). judged n earlier left (plea_again s w) w.asked x.1) quiet in
+    let waits : r.0 ≡ Waits = sym (ap (λ (x : Ruled). x.0) same) ∙ at.0 in
+    let why = waits_ruled left (plea_again s w) w.asked s r.0 r.1 r.2 (judged_ruled n earlier left (plea_again s w) w.asked s) waits in
+    (again_is n left s earlier w [] s quiet ∙ ap (ruled_behind []) (same_ruled r s waits why.0 why.1), first_held s w w.asked quiet why.2)
+  where
+    both_empty : (xs ys : List Effect) → xs ++ ys ≡ [] → (xs ≡ []) × (ys ≡ [])
+    both_empty [] ys e = (refl, e)
+    both_empty (x ∷ xs) ys e = absurd cc
 
 -- one that isn't held up doesn't rest
 pub free_moves : (n : ℕ) (left : Rooms) (s : CoreState) (earlier : List Waiter) (w : Waiter) → holds_up s.claims w w.asked ≡ false → (let r = again n left s earlier w in rests r.0 r.1 ≡ false)
@@ -121,21 +166,25 @@ called_here : (s : CoreState) (w : Waiter) (ws : List Waiter) → holds_up s.cla
 called_here s w ws e = rw e refl
 
 -- its turn is the first
-pub turn_is_found : (left : Rooms) (s t u : CoreState) (ws : List Waiter) (called : Called) (ruling : Ruling) (effects : List Effect) → first_called s ws ≡ Some called
-    → ((n : ℕ) (earlier : List Waiter) → judged n earlier left called.plea called.asked s ≡ (ruling, [], t)) → ((w : Waiter) → w.id ≡ called.id → w.asked ≡ called.asked → turned w ruling [] t ≡ (effects, u))
+pub turn_is_found : (left : Rooms) (s r t u : CoreState) (ws : List Waiter) (called : Called) (begun : List Effect) (ruling : Ruling) (effects : List Effect) → first_called s ws ≡ Some called → made_way called.plea called.asked s ≡ (begun, r)
+    → ((n : ℕ) (earlier : List Waiter) → judged n earlier left called.plea called.asked r ≡ (ruling, [], t)) → ((w : Waiter) → w.id ≡ called.id → w.asked ≡ called.asked → w.wish ≡ called.wish → turned w ruling begun t ≡ (effects, u))
     → (n : ℕ) (earlier : List Waiter) → first_turn n left s earlier ws ≡ Some (effects, u)
-turn_is_found left s t u [] called ruling effects e judges turns n earlier = absurd cc
-turn_is_found left s t u (w ∷ ws) called ruling effects e judges turns n earlier =
+turn_is_found left s r t u [] called begun ruling effects e way judges turns n earlier = absurd cc
+turn_is_found left s r t u (w ∷ ws) called begun ruling effects e way judges turns n earlier =
     elim (cases_Bool (holds_up s.claims w w.asked)) [
       | inl up ↦
           rest_first n left s earlier w _ (up_rests n left s earlier w up)
-          ∙ turn_is_found left s t u ws called ruling effects (sym (called_later s w ws up) ∙ e) judges turns n (earlier ++ w ∷ [])
+          ∙ turn_is_found left s r t u ws called begun ruling effects (sym (called_later s w ws up) ∙ e) way judges turns n (earlier ++ w ∷ [])
       | inr free ↦
           let same : called_of s w ≡ called = same_called (called_of s w) called (sym (called_here s w ws free) ∙ e) in
-          let ruled : again n left s earlier w ≡ (ruling, [], t) = ap (λ (x : Called). judged n earlier left x.plea x.asked s) same ∙ judges n earlier in
+          let made : way_again s w ≡ (begun, r) = ap (λ (x : Called). made_way x.plea x.asked s) same ∙ way in
+          let ruled : again n left s earlier w ≡ (ruling, begun, t) =
+          again_is n left s earlier w begun r made
+          ∙ ap (ruled_behind begun) (ap (λ (x : Called). judged n earlier left x.plea x.asked r) same ∙ judges n earlier)
+          ∙ (λ i. (ruling, append-nil begun i, t)) in
           move_first w (again n left s earlier w) _ (free_moves n left s earlier w free)
-          ∙ ap (λ (r : Ruled). Some (turned w r.0 r.1 r.2)) ruled
-          ∙ ap (λ (x : List Effect × CoreState). Some x) (turns w (ap (λ (x : Called). x.id) same) (ap (λ (x : Called). x.asked) same))
+          ∙ ap (λ (x : Ruled). Some (turned w x.0 x.1 x.2)) ruled
+          ∙ ap (λ (x : List Effect × CoreState). Some x) (turns w (ap (λ (x : Called). x.id) same) (ap (λ (x : Called). x.asked) same) (ap (λ (x : Called). x.wish) same))
     ]
 
 pub none_is_found : (left : Rooms) (s : CoreState) (ws : List Waiter) → first_called s ws ≡ None → (n : ℕ) (earlier : List Waiter) → first_turn n left s earlier ws ≡ None

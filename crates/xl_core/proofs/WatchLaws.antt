@@ -1,11 +1,21 @@
 -- Who is blocked stays so by what changes on other files; so who may have a turn waits on a file that is kept as unsettled.
-use Rattle.xl_core.proofs.BreakingLaws.{final_here}
+use Rattle.xl_cache.specs.declared.planner.Plan.{Plan}
+use Rattle.xl_core.proofs.BreakingLaws.{final_here, planned_here}
+use Rattle.xl_core.proofs.BegunLaws.{begun_elsewhere}
+use Rattle.xl_core.proofs.WayLaws.{NoWay, Begins, way_is, way_stopped, way_runs, way_quiet, way_waiters}
+use Rattle.xl_core.proofs.WayAsks.{ask_way_names, ask_way_waiters}
+use Rattle.xl_core.proofs.FrameLaws.{decided_quiet}
+use Rattle.xl_core.proofs.LimitLaws.{wait_least}
+use Rattle.xl_core.specs.Limits.{wait_limits, first_passed}
+use Rattle.xl_core.specs.Ways.{made_way}
+use Rattle.xl_core.specs.Frames.{asks_to_hold}
+use Rattle.xl_core.specs.declared.judge.Plea.{Plea}
 use Rattle.xl_cache.specs.Planning.{is_final}
-use Rattle.xl_core.specs.Blockers.{is_stopped}
-use Rattle.std.proofs.Common.{◌≡◌, ℕ, ◌+◌, Bool, true, false, not, ◌||◌, ◌&&◌, ◌==◌, inl, inr, List, [], ◌∷◌, ◌++◌, map, length, Option, Some, None, IfSome, is_some, if◌then◌else◌, option_map, refl, sym, ap, subst, ◌∙◌}
+use Rattle.xl_core.specs.Blockers.{is_stopped, first_broken, all_run}
+use Rattle.std.proofs.Common.{◌≡◌, ℕ, ◌+◌, Bool, true, false, not, ◌&&◌, ◌==◌, inl, inr, List, [], ◌∷◌, ◌++◌, map, length, append-nil, Option, Some, None, IfSome, is_some, if◌then◌else◌, option_map, refl, sym, ap, subst, ◌∙◌}
 use Rattle.std.specs.List.{AllByRecursion, filter, list_any}
-use Rattle.std.proofs.lemmas.Bool.{cases_Bool, both_ways, or_parts, eqb-true}
-use Rattle.xl_base.specs.Lists.{placed}
+use Rattle.std.proofs.lemmas.Bool.{cases_Bool, both_ways, or_parts, eqb-true, eq-eqb}
+use Rattle.xl_base.specs.Lists.{placed, Pairwise}
 use Rattle.xl_base.proofs.Members.{all_from, all_weaker, all_append}
 use Rattle.xl_base.specs.declared.name.Owner.{Owner}
 use Rattle.xl_base.specs.declared.name.Party.{Party}
@@ -29,16 +39,20 @@ use Rattle.xl_table.specs.Flat.{blocks, inserted, removed, with_what, changed, i
 use Rattle.xl_table.specs.Held.{is_of, is_range, is_share, mode_of, spans_of}
 use Rattle.xl_table.specs.Order.{goes_first}
 use Rattle.xl_table.specs.Relock.{all_inserted, range_claim, is_range_of, unranged, relocked_in, is_share_of, unshared, united, shared_in, granted_by, granted_claims}
-use Rattle.xl_wait.specs.Waiting.{first_file, is_file, waits_on}
+use Rattle.xl_wait.specs.Waiting.{first_file, is_file, waits_on, cancelled}
 use Rattle.xl_wait.specs.declared.waiter.Rooms.{Rooms}
 use Rattle.xl_wait.specs.declared.waiter.Waiter.{Waiter}
 use Rattle.xl_core.specs.State.{CoreState, step_begun, drawn}
-use Rattle.xl_core.specs.Asking.{range_what, asked_whats, asked_what, asked_claim, asked_claims, IsFitAct, IsFit}
-use Rattle.xl_core.specs.Causes.{IsTurn, may_wait, held_once}
-use Rattle.xl_core.specs.Decide.{Answered, waiter_of, ask}
-use Rattle.xl_core.specs.Good.{IsWaiter, IsGood, IsSettled, is_held_up, holds_up, IsPled}
+use Rattle.xl_core.specs.Asking.{both_entered, asked_whats, asked_claims, IsFit}
+use Rattle.xl_core.specs.Causes.{IsClaimDue, IsServed, Answered as TurnAnswered, WaitsOn, IsTurn, may_wait, held_once}
+use Rattle.xl_core.specs.Decide.{Answered, plea_of, waiter_of, claims_asked, acted, decided, way, before_wish, does_wish, wish_after, ask}
+use Rattle.xl_core.specs.Wishes.{wish_granted, wish_of, wish_for}
+use Rattle.xl_cache.specs.declared.wish.Wish.{Wish}
+use Rattle.xl_core.proofs.WishLaws.{wish_elsewhere}
+use Rattle.xl_core.proofs.WishFor.{wished_waiters}
+use Rattle.xl_core.specs.Good.{are_apart, IsWaiter, IsGood, IsSettled, is_held_up, holds_up, IsPled}
 use Rattle.xl_core.specs.Judge.{all_granted, held_with}
-use Rattle.xl_core.specs.Settle.{settle, cancel, give_back, weaken}
+use Rattle.xl_core.specs.Settle.{plea_again, way_again, settle, cancel, give_back, weaken}
 use Rattle.xl_core.specs.Breaks.{with_rest, ack}
 use Rattle.xl_core.specs.Ticks.{renew}
 use Rattle.xl_core.specs.Watch.{is_among, with_file, is_granted, may_free, left_by_ask, may_turn, IsHeldUp, AreHeldUp}
@@ -50,11 +64,11 @@ use Rattle.xl_core.specs.declared.ask.Ask.{Ask}
 use Rattle.xl_core.specs.declared.ask.Effect.{Effect}
 use Rattle.xl_core.specs.declared.unsettled.Unsettled.{Unsettled}
 use Rattle.xl_core.specs.declared.unsettled.Unsettled.TheVariants.{Nothing, File, All}
-use Rattle.xl_core.proofs.CauseLaws.{test_leaves}
-use Rattle.xl_core.proofs.ChangeLaws.{AskWay, Stays, Tests, Holds, Waits, Frees, ask_way, Gives}
-use Rattle.xl_core.proofs.GoodLaws.{cancelled_all}
+use Rattle.xl_core.proofs.CauseLaws.{test_leaves, first_due}
+use Rattle.xl_core.proofs.ChangeLaws.{AskWay, Stays, Tests, Holds, Waits, Frees, decided_way, Gives}
+use Rattle.xl_core.proofs.GoodLaws.{cancelled_all, asked_way_good, decided_grants}
 use Rattle.xl_core.proofs.RowLaws.{is_refusal}
-use Rattle.xl_core.proofs.SettleLaws.{settle_rests, settled_is, none_settled, turn_is, once_cases, turn_is_known}
+use Rattle.xl_core.proofs.SettleLaws.{settle_rests, settled_is, none_settled, turn_is, once_cases, turn_is_known, without}
 use Rattle.xl_matrix.specs.Owners.{posix}
 
 -- ---- what is held on a file, where another changes
@@ -161,22 +175,25 @@ blocks_elsewhere ask held apart =
     no_way true = refl
     no_way false = refl
 
-abbrev is_filled : List Claim → Bool
+abbrev pub is_filled : List Claim → Bool
 is_filled [] = false
 is_filled (c ∷ cs) = true
 
-any_of : (p : Claim → Bool) (cs : List Claim) → list_any p cs ≡ is_filled (filter p cs)
+pub any_of : (p : Claim → Bool) (cs : List Claim) → list_any p cs ≡ is_filled (filter p cs)
 any_of p [] = refl
 any_of p (c ∷ cs) = elim (cases_Bool (p c)) [ inl e ↦ rw e refl | inr e ↦ rw e (any_of p cs) ]
 
 stopped_here : (c : Claim) (held : List Claim) → is_stopped (on_file c.file held) c ≡ is_stopped held c
 stopped_here c held = any_of (is_final c (on_file c.file held)) (on_file c.file held) ∙ ap is_filled (final_here c held) ∙ sym (any_of (is_final c held) held)
 
+run_here : (c : Claim) (held : List Claim) → all_run (on_file c.file held) c ≡ all_run held c
+run_here c held = ap (λ (p : Plan). not (is_some (first_broken p.breaks))) (planned_here c held)
+
 blocked_here : (c : Claim) (held : List Claim) → is_blocked (on_file c.file held) c ≡ is_blocked held c
 blocked_here c held = any_within (blocks c) (λ d. d.file == c.file) held (λ d apart. blocks_elsewhere c d apart)
 
 held_up_here : (w : Waiter) (c : Claim) (held : List Claim) → is_held_up (on_file c.file held) w c ≡ is_held_up held w c
-held_up_here w c held = λ i. blocked_here c held i && (w.blocking || not (stopped_here c held i))
+held_up_here w c held = λ i. blocked_here c held i && (if stopped_here c held i then w.blocking else run_here c held i)
 
 held_up_still : (w : Waiter) (c : Claim) (old new : List Claim) → on_file c.file new ≡ on_file c.file old → is_held_up new w c ≡ is_held_up old w c
 held_up_still w c old new e = sym (held_up_here w c new) ∙ ap (λ (cs : List Claim). is_held_up cs w c) e ∙ held_up_here w c old
@@ -214,7 +231,7 @@ any_up s = all_from (λ (w : Waiter). IsHeldUp All s.claims w w.asked) s.waiters
 
 -- ---- an ask
 
-asked_there : (a : Ask) (whats : List What) (names : List Name) → AllByRecursion (λ c. c.file ≡ a.file) (asked_claims a whats names)
+pub asked_there : (a : Ask) (whats : List What) (names : List Name) → AllByRecursion (λ c. c.file ≡ a.file) (asked_claims a whats names)
 asked_there a [] names = tt
 asked_there a (w ∷ ws) names = (refl, asked_there a ws names)
 
@@ -250,39 +267,190 @@ way_up u s a answer t (Gives claim d holds act at owner range e) given all =
     (all_still_up u (with_file a.file u) s.claims _ s.waiters
     (λ file n. let apart = both_apart a.file file u n in (apart.0, there_removed file d s.claims (subst (λ (f : ℕ). IsElsewhere f file) (sym at) apart.1))) all)
 
+-- where one is told to wait for answers to breaks, all of these run
+abbrev Runs : CoreState → Ask → Answer → Type 0
+Runs s a answer = (id : ℕ) (c : Claim) (cs : List Claim) → answer ≡ answers.Queued id → c ∷ cs ≡ asked_claims a (asked_whats a.act) s.names → asks_to_hold a.act ≡ true → is_blocked s.claims c ≡ true → is_stopped s.claims c ≡ false → all_run s.claims c ≡ true
+
 -- who comes to wait is held up
-comes_up : (u : Unsettled) (s : CoreState) (a : Ask) (c : Claim) (cs : List Claim) → may_wait s.claims a c ≡ true → is_blocked s.claims c ≡ true → IsHeldUp u s.claims (waiter_of (s.counter + 1) a (c ∷ cs)) (c ∷ cs)
-comes_up u s a c cs may blocked = λ e. by (is_blocked s.claims c) (is_stopped s.claims c) a.blocking a.awaits may blocked where
-  by : (x y z v : Bool) → (if y then z else v) ≡ true → x ≡ true → (x && (z || not y)) ≡ true
-  by true true true v m b = refl
-  by true true false v m b = absurd (both_ways false refl m)
-  by true false true v m b = refl
-  by true false false v m b = refl
-  by false y z v m b = absurd (both_ways false refl b)
+comes_up : (u : Unsettled) (s : CoreState) (a : Ask) (c : Claim) (cs : List Claim) → may_wait s.claims a c ≡ true → is_blocked s.claims c ≡ true → (is_stopped s.claims c ≡ false → all_run s.claims c ≡ true) → IsHeldUp u s.claims (waiter_of (s.counter + 1) a (c ∷ cs)) (c ∷ cs)
+comes_up u s a c cs may blocked run = λ e. by (is_blocked s.claims c) (is_stopped s.claims c) a.blocking a.awaits (all_run s.claims c) may blocked run where
+  by : (x y z v r : Bool) → (if y then z else v) ≡ true → x ≡ true → (y ≡ false → r ≡ true) → (x && (if y then z else r)) ≡ true
+  by true true z v r m b run = m
+  by true false z v r m b run = run refl
+  by false y z v r m b run = absurd (both_ways false refl b)
 
-same_up : (u : Unsettled) (s : CoreState) (a : Ask) (answer : Answer) (t : CoreState) → AskWay s a (answer, [], t) → is_granted answer ≡ false → AreHeldUp u s → AreHeldUp u t
-same_up u s a answer t (Stays other refused e) given all = subst (λ (x : Answered). AreHeldUp u x.2) (sym e) all
-same_up u s a answer t (Tests c holds e) given all = subst (λ (x : Answered). AreHeldUp u x.2) (sym e) all
-same_up u s a answer t (Holds c claims of holds e) given all = absurd (both_ways (is_granted answer) given (ap (λ (x : Answered). is_granted x.0) e))
-same_up u s a answer t (Gives claim d holds act file owner range e) given all = absurd (both_ways (is_granted answer) given (ap (λ (x : Answered). is_granted x.0) e))
-same_up u s a answer t (Waits c cs may blocked is holds e) given all =
-    subst (λ (x : Answered). AreHeldUp u x.2) (sym e) (all_append (λ (w : Waiter). IsHeldUp u s.claims w w.asked) s.waiters (waiter_of (s.counter + 1) a (c ∷ cs) ∷ []) all (comes_up u s a c cs may blocked, tt))
-same_up u s a answer t (Frees claim first last holds act file owner e) given all = absurd (both_ways (is_granted answer) given (ap (λ (x : Answered). is_granted x.0) e))
+same_up : (u : Unsettled) (s : CoreState) (a : Ask) (answer : Answer) (t : CoreState) → AskWay s a (answer, [], t) → is_granted answer ≡ false → Runs s a answer → AreHeldUp u s → AreHeldUp u t
+same_up u s a answer t (Stays other refused e) given runs all = subst (λ (x : Answered). AreHeldUp u x.2) (sym e) all
+same_up u s a answer t (Tests c holds e) given runs all = subst (λ (x : Answered). AreHeldUp u x.2) (sym e) all
+same_up u s a answer t (Holds c claims of holds e) given runs all = absurd (both_ways (is_granted answer) given (ap (λ (x : Answered). is_granted x.0) e))
+same_up u s a answer t (Gives claim d holds act file owner range e) given runs all = absurd (both_ways (is_granted answer) given (ap (λ (x : Answered). is_granted x.0) e))
+same_up u s a answer t (Waits c cs may blocked is holds e) given runs all =
+    subst (λ (x : Answered). AreHeldUp u x.2) (sym e) (all_append (λ (w : Waiter). IsHeldUp u s.claims w w.asked) s.waiters (waiter_of (s.counter + 1) a (c ∷ cs) ∷ []) all (comes_up u s a c cs may blocked (runs (s.counter + 1) c cs (ap (λ (x : Answered). x.0) e) is holds blocked), tt))
+same_up u s a answer t (Frees claim first last holds act file owner e) given runs all = absurd (both_ways (is_granted answer) given (ap (λ (x : Answered). is_granted x.0) e))
 
-pub ask_up : (u : Unsettled) (left : Rooms) (s t : CoreState) (a : Ask) (answer : Answer) → ((n : ℕ) → ask n left s a ≡ (answer, [], t)) → IsGood s → IsFit a → AreHeldUp u s → AreHeldUp (left_by_ask a answer u) t
-ask_up u left s t a answer e good fit all = by a.act refl where
+decided_up : (u : Unsettled) (left : Rooms) (s t : CoreState) (a : Ask) (answer : Answer) → decided 0 left s a ≡ (answer, [], t) → IsGood s → IsFit a → Runs s a answer → AreHeldUp u s → AreHeldUp (if may_free a.act answer then with_file a.file u else u) t
+decided_up u left s t a answer e good fit runs all = by a.act refl where
   way : AskWay s a (answer, [], t)
-  way = subst (AskWay s a) (e 0) (ask_way 0 left s a good fit.party)
+  way = subst (AskWay s a) e (decided_way 0 left s a good fit.party)
 
   given : (b : Bool) → is_granted answer ≡ b → AreHeldUp (if b then with_file a.file u else u) t
   given true is = way_up u s a answer t way is all
-  given false is = same_up u s a answer t way is all
+  given false is = same_up u s a answer t way is runs all
 
   by : (act : Act) → a.act ≡ act → AreHeldUp (if may_free act answer then with_file a.file u else u) t
   by (acts.Share access deny) is = given (is_granted answer) refl
   by (acts.Ranges ranges) is = given (is_granted answer) refl
-  by (acts.Test extent exclusive) is = subst (λ (x : CoreState). AreHeldUp u x) (sym (test_leaves 0 left s a extent exclusive is) ∙ ap (λ (x : Answered). x.2) (e 0)) all
+  by (acts.Test extent exclusive) is = subst (λ (x : CoreState). AreHeldUp u x) (sym (test_leaves 0 left s a extent exclusive is) ∙ ap (λ (x : Answered). x.2) e) all
   by (acts.Unlock extent) is = given (is_granted answer) refl
+  by acts.Wish is = given (is_granted answer) refl
+
+-- where it asks to hold something it is judged for just that
+hold_is : (n : ℕ) (left : Rooms) (s : CoreState) (a : Ask) (c : Claim) (cs : List Claim) → c ∷ cs ≡ asked_claims a (asked_whats a.act) s.names → asks_to_hold a.act ≡ true → decided n left s a ≡ claims_asked n left s a (asked_claims a (asked_whats a.act) s.names)
+unfolding decided
+hold_is n left s a c cs some holds = by a.act some holds where
+  by : (act : Act) → c ∷ cs ≡ asked_claims a (asked_whats act) s.names → asks_to_hold act ≡ true → acted n left s a act ≡ claims_asked n left s a (asked_claims a (asked_whats act) s.names)
+  by (acts.Share access deny) some h = refl
+  by (acts.Ranges ranges) some h = refl
+  by (acts.Test extent exclusive) some h = absurd (both_ways false refl h)
+  by (acts.Unlock extent) some h = absurd (both_ways false refl h)
+  by acts.Wish some h = let two : c ∷ cs ≡ [] = some in absurd cc
+
+-- one who is told to wait doesn't come too late, and its wait passes no limit
+plea_waits : (left : Rooms) (s : CoreState) (a : Ask) (claim : Claim) (id : ℕ) → IsClaimDue left s a claim (answers.Queued id) → ((plea_of left s a).reclaim ≡ false) × ((plea_of left s a).crowded ≡ None)
+unfolding plea_of
+plea_waits left s a claim id due = (due.1, wait_least left a.rows (length s.waiters) (length (both_entered a s.names)) None due.4)
+
+same_plea : (left : Rooms) (s t : CoreState) (a : Ask) → t.names ≡ s.names → t.waiters ≡ s.waiters → plea_of left t a ≡ plea_of left s a
+unfolding plea_of
+same_plea left s t a names waiters = λ i. let kept = length (both_entered a (names i)) in record { blocking = a.blocking; awaits = a.awaits; reclaim = a.reclaim; rows = a.rows; kept = kept; crowded = first_passed (wait_limits left a.rows (length (waiters i)) kept) }
+
+-- so where the way of one is made that is told to wait, all breaks run that it waits for
+way_all_run : (left : Rooms) (s : CoreState) (a : Ask) → Runs (way left s a).1 a (decided 0 left (way left s a).1 a).0
+way_all_run left s a id c cs at is holds blocked moves =
+    let t = (way left s a).1 in
+    let names : t.names ≡ s.names = ask_way_names left s a in
+    let due = subst (IsClaimDue left t a c) at (first_due 0 left t a c cs (decided 0 left t a) blocked (hold_is 0 left t a c cs is holds ∙ ap (claims_asked 0 left t a) (sym is))) in
+    let pleads = plea_waits left t a c id due in
+    let same : plea_of left t a ≡ plea_of left s a = same_plea left s t a names (ask_way_waiters left s a) in
+    let asked : asked_claims a (asked_whats a.act) s.names ≡ c ∷ cs = ap (λ (ns : List Name). asked_claims a (asked_whats a.act) ns) (sym names) ∙ sym is in
+    let made : way left s a ≡ made_way (plea_of left s a) (c ∷ cs) s = ap (λ (ds : List Claim). made_way (plea_of left s a) ds s) asked in
+    elim (cases_Bool (is_stopped s.claims c)) [
+      | inl stops ↦
+          let stays : t ≡ s = ap (λ (w : List Effect × CoreState). w.1) (made ∙ way_stopped (plea_of left s a) c cs s stops) in
+          absurd (both_ways (is_stopped t.claims c) moves (subst (λ (x : CoreState). is_stopped x.claims c ≡ true) (sym stays) stops))
+      | inr moved ↦
+          ap (λ (w : List Effect × CoreState). all_run w.1.claims c) made
+          ∙ way_runs (plea_of left s a) c cs s (ap (λ (p : Plea). p.reclaim) (sym same) ∙ pleads.0) (ap (λ (p : Plea). p.crowded) (sym same) ∙ pleads.1) moved
+    ]
+
+same_file : (f : ℕ) (u : Unsettled) → with_file f (with_file f u) ≡ with_file f u
+same_file f Nothing = ap (λ (b : Bool). if b then File f else All) (eq-eqb f f refl)
+same_file f (File own) = elim (cases_Bool (f == own)) [ inl e ↦ rw (e, e) refl | inr e ↦ rw e refl ]
+same_file f All = refl
+
+-- what an ask begins it begins on its own file
+way_elsewhere : (left : Rooms) (s : CoreState) (a : Ask) (file : ℕ) → (a.file == file) ≡ false → on_file file (way left s a).1.claims ≡ on_file file s.claims
+way_elsewhere left s a file apart =
+    elim (way_is (plea_of left s a) (asked_claims a (asked_whats a.act) s.names) s) [
+      | NoWay e ↦ ap (λ (w : List Effect × CoreState). on_file file w.1.claims) e
+      | Begins c cs is does e ↦
+          let here = (subst (λ (ds : List Claim). AllByRecursion (λ d. d.file ≡ a.file) ds) is (asked_there a (asked_whats a.act) s.names)).0 in
+          ap (λ (w : List Effect × CoreState). on_file file w.1.claims) e ∙ begun_elsewhere s c file (ap (λ (f : ℕ). f == file) here ∙ apart)
+    ]
+
+-- ---- a wish
+
+other_file : (u : Unsettled) (file other : ℕ) → is_among u file ≡ true → is_among u other ≡ false → (file == other) ≡ false
+other_file u file other there apart =
+    elim (cases_Bool (file == other)) [
+      | inr e ↦ e
+      | inl same ↦ absurd (both_ways (is_among u other) apart (subst (λ (f : ℕ). is_among u f ≡ true) (eqb-true file other same) there))
+    ]
+
+-- who waits on a file that isn't unsettled stays held up where a wish is granted on one that is
+granted_up : (v : Unsettled) (wanted : Wish) (s : CoreState) → is_among v wanted.file ≡ true → AreHeldUp v s → AreHeldUp v (wish_granted wanted s)
+granted_up v wanted s there all =
+    subst (λ (ws : List Waiter). AllByRecursion (λ w. IsHeldUp v (wish_granted wanted s).claims w w.asked) ws) (sym (wished_waiters wanted s))
+    (all_still_up v v s.claims (wish_granted wanted s).claims s.waiters (λ file n. (n, wish_elsewhere wanted s file (other_file v wanted.file file there n))) all)
+
+for_up : (v : Unsettled) (kinds : List CacheKind) (answer : Answer) (s : CoreState) → ((d : Claim) → answer ≡ answers.Granted d → is_among v d.file ≡ true) → AreHeldUp v s → AreHeldUp v (wish_for kinds answer s)
+for_up v kinds (answers.Granted c) s there all = granted_up v (wish_of kinds c) s (there c refl) all
+for_up v kinds (answers.Queued number) s there all = all
+for_up v kinds (answers.Conflict c) s there all = all
+for_up v kinds (answers.Recall c) s there all = all
+for_up v kinds (answers.Grace until) s there all = all
+for_up v kinds (answers.NoGrace clock) s there all = all
+for_up v kinds answers.NotRecorded s there all = all
+for_up v kinds (answers.Full limit) s there all = all
+for_up v kinds answers.NotHeld s there all = all
+for_up v kinds answers.StoreFailed s there all = all
+
+after_up : (v : Unsettled) (a : Ask) (answer : Answer) (s : CoreState) → (does_wish a.act ≡ true → is_granted answer ≡ true → is_among v a.file ≡ true) → (does_wish a.act ≡ true → (d : Claim) → answer ≡ answers.Granted d → d.file ≡ a.file) → AreHeldUp v s → AreHeldUp v (wish_after a answer s)
+after_up v a answer s own there all = by (does_wish a.act) refl where
+  by : (b : Bool) → does_wish a.act ≡ b → AreHeldUp v (if b then wish_for a.wish answer s else s)
+  by true does = for_up v a.wish answer s (λ d e. subst (λ (f : ℕ). is_among v f ≡ true) (sym (there does d e)) (own does (ap is_granted e))) all
+  by false doesnt = all
+
+is_with : (file : ℕ) (u : Unsettled) → is_among (with_file file u) file ≡ true
+is_with file Nothing = eq-eqb file file refl
+is_with file (File own) = elim (cases_Bool (file == own)) [ inl same ↦ rw (same, same) refl | inr apart ↦ rw apart refl ]
+is_with file All = refl
+
+wish_frees : (act : Act) (answer : Answer) → does_wish act ≡ true → is_granted answer ≡ true → may_free act answer ≡ true
+wish_frees (acts.Share access deny) answer does given = given
+wish_frees (acts.Ranges ranges) answer does given = absurd (both_ways false refl does)
+wish_frees (acts.Test extent exclusive) answer does given = absurd (both_ways false refl does)
+wish_frees (acts.Unlock extent) answer does given = absurd (both_ways false refl does)
+wish_frees acts.Wish answer does given = given
+
+pub ask_up : (u : Unsettled) (left : Rooms) (s t : CoreState) (a : Ask) (answer : Answer) (told : List Effect) → ((n : ℕ) → ask n left s a ≡ (answer, told, t)) → IsGood s → IsFit a → AreHeldUp u s → AreHeldUp (left_by_ask a answer told u) t
+unfolding ask before_wish
+ask_up u left s t a answer told e good fit all =
+    subst (AreHeldUp (left_by_ask a answer told u)) (ap (λ (x : Answer). wish_after a x before) (sym answers) ∙ ap (λ (r : Answered). r.2) (e 0))
+    (after_up (left_by_ask a answer told u) a answer before (λ does given. own_file told does given) (λ does d at. ap (λ (c : Claim). c.file) (decided_grants 0 left way_state a d does (answers ∙ at)).1)
+    (by told (way_told ∙ ap (λ (r : Answered). r.1) (e 0))))
+  where
+    way_state : CoreState
+    way_state = (way left s a).1
+
+    sound : IsGood way_state
+    sound = asked_way_good left s a good
+
+    way_told : (way left s a).0 ≡ (way left s a).0 ++ (decided 0 left way_state a).1
+    way_told = sym (append-nil (way left s a).0) ∙ ap (λ (xs : List Effect). (way left s a).0 ++ xs) (sym (decided_quiet 0 left way_state a sound fit.party))
+
+    before : CoreState
+    before = (decided 0 left way_state a).2
+
+    answers : (decided 0 left way_state a).0 ≡ answer
+    answers = ap (λ (r : Answered). r.0) (e 0)
+
+    judged_so : decided 0 left way_state a ≡ (answer, [], before)
+    judged_so = λ i. (answers i, decided_quiet 0 left way_state a sound fit.party i, before)
+
+    -- its file is unsettled where its wish may be granted
+    own_file : (xs : List Effect) → does_wish a.act ≡ true → is_granted answer ≡ true → is_among (left_by_ask a answer xs u) a.file ≡ true
+    own_file [] does given = subst (λ (b : Bool). is_among (if b then with_file a.file u else u) a.file ≡ true) (sym (wish_frees a.act answer does given)) (is_with a.file u)
+    own_file (x ∷ xs) does given = is_with a.file u
+
+    runs : Runs way_state a answer
+    runs = subst (Runs way_state a) (ap (λ (r : Answered). r.0) (e 0)) (way_all_run left s a)
+
+    on_its_file : AreHeldUp (with_file a.file u) way_state
+    on_its_file =
+        subst (λ (ws : List Waiter). AllByRecursion (λ w. IsHeldUp (with_file a.file u) way_state.claims w w.asked) ws) (sym (ask_way_waiters left s a))
+        (all_still_up u (with_file a.file u) s.claims way_state.claims s.waiters (λ file n. let apart = both_apart a.file file u n in (apart.0, way_elsewhere left s a file apart.1)) all)
+
+    by : (xs : List Effect) → (way left s a).0 ≡ xs → AreHeldUp (left_by_ask a answer xs u) before
+    by [] none =
+        let quiet : way left s a ≡ ([], s) = way_quiet (plea_of left s a) (asked_claims a (asked_whats a.act) s.names) s none in
+        decided_up u left way_state before a answer judged_so sound fit runs (subst (λ (w : List Effect × CoreState). AreHeldUp u w.1) (sym quiet) all)
+    by (x ∷ xs) some =
+        both (may_free a.act answer) (decided_up (with_file a.file u) left way_state before a answer judged_so sound fit runs on_its_file)
+      where
+        both : (b : Bool) → AreHeldUp (if b then with_file a.file (with_file a.file u) else with_file a.file u) before → AreHeldUp (with_file a.file u) before
+        both true up = subst (λ (v : Unsettled). AreHeldUp v before) (same_file a.file u) up
+        both false up = up
 
 -- ---- who leaves
 
@@ -375,13 +543,6 @@ on_unsettled u held w asked claim claims is free up =
       | inr apart ↦ let stays : is_held_up held w claim ≡ true = subst (λ (cs : List Claim). IsHeldUp u held w cs) is up apart in absurd (both_ways (is_held_up held w claim) free stays)
     ]
 
-other_file : (u : Unsettled) (file other : ℕ) → is_among u file ≡ true → is_among u other ≡ false → (file == other) ≡ false
-other_file u file other there apart =
-    elim (cases_Bool (file == other)) [
-      | inr e ↦ e
-      | inl same ↦ absurd (both_ways (is_among u other) apart (subst (λ (f : ℕ). is_among u f ≡ true) (eqb-true file other same) there))
-    ]
-
 once_there : (file at : ℕ) (asked held : List Claim) (answer : Answer) → AllByRecursion (λ c. c.file ≡ at) asked → IsElsewhere at file → on_file file (held_once asked answer held) ≡ on_file file held
 once_there file at asked held answer are apart = once_cases (λ cs. on_file file cs ≡ on_file file held) asked held answer refl (there_all_granted file at asked held are apart)
 
@@ -389,16 +550,53 @@ others_in : (P : Waiter → Type 0) (before : List Waiter) (w : Waiter) (behind 
 others_in P [] w behind all = (all.1, all.0)
 others_in P (v ∷ vs) w behind all = let rest = others_in P vs w behind all.1 in ((all.0, rest.0), rest.1)
 
+next_elsewhere : (s : CoreState) (w : Waiter) (claim : Claim) (claims : List Claim) (file : ℕ) → w.asked ≡ claim ∷ claims → IsElsewhere claim.file file → on_file file (way_again s w).1.claims ≡ on_file file s.claims
+next_elsewhere s w claim claims file asked apart =
+    elim (way_is (plea_again s w) w.asked s) [
+      | NoWay e ↦ ap (λ (x : List Effect × CoreState). on_file file x.1.claims) e
+      | Begins c cs is does e ↦
+          let two : c ∷ cs ≡ claim ∷ claims = sym is ∙ asked in
+          let first : c ≡ claim = cc in
+          ap (λ (x : List Effect × CoreState). on_file file x.1.claims) e ∙ begun_elsewhere s c file (ap (λ (d : Claim). d.file == file) first ∙ apart)
+    ]
+
 turn_up : (u : Unsettled) (left : Rooms) (s : CoreState) (effects : List Effect) (t : CoreState) → IsGood s → IsTurn left s effects t → AreHeldUp u s → AreHeldUp u t
-turn_up u left s effects t good turn all =
-    let P : Waiter → Type 0 = λ w. IsHeldUp u s.claims w w.asked in
-    let parts = others_in P turn.before turn.waiter turn.behind (subst (λ (ws : List Waiter). AllByRecursion P ws) turn.stood all) in
-    let there = on_unsettled u s.claims turn.waiter turn.waiter.asked turn.claim turn.claims turn.asked turn.free parts.1 in
-    let pled = subst IsPled turn.asked (turn_is_known left s effects t good turn).1 in
-    let files = subst (λ (cs : List Claim). AllByRecursion (λ c. c.file ≡ turn.claim.file) cs) (sym turn.asked) (refl, pled.1) in
-    subst (λ (ws : List Waiter). AllByRecursion (λ w. IsHeldUp u t.claims w w.asked) ws) (sym turn.waiters)
-    (all_still_up u u s.claims t.claims (turn.before ++ turn.behind)
-    (λ file n. (n, ap (λ (cs : List Claim). on_file file cs) turn.held ∙ once_there file turn.claim.file turn.waiter.asked s.claims turn.answer files (other_file u turn.claim.file file there n))) parts.0)
+turn_up u left s effects t good turn all = by turn.served where
+  w : Waiter
+  w = turn.waiter
+
+  way_state : CoreState
+  way_state = (way_again s w).1
+
+  parts : AllByRecursion (λ v. IsHeldUp u s.claims v v.asked) (turn.before ++ turn.behind) × IsHeldUp u s.claims w w.asked
+  parts = others_in (λ v. IsHeldUp u s.claims v v.asked) turn.before w turn.behind (subst (λ (ws : List Waiter). AllByRecursion (λ v. IsHeldUp u s.claims v v.asked) ws) turn.stood all)
+
+  there : is_among u turn.claim.file ≡ true
+  there = on_unsettled u s.claims w w.asked turn.claim turn.claims turn.asked turn.free parts.1
+
+  files : AllByRecursion (λ c. c.file ≡ turn.claim.file) w.asked
+  files = subst (λ (cs : List Claim). AllByRecursion (λ c. c.file ≡ turn.claim.file) cs) (sym turn.asked) (refl, (subst IsPled turn.asked (turn_is_known left s effects t good turn).1).1)
+
+  same : way_state.waiters ≡ s.waiters
+  same = way_waiters (plea_again s w) w.asked s
+
+  by : IsServed left way_state w turn.claim turn.told t → AreHeldUp u t
+  by (TurnAnswered answer told is due new) =
+      let before : CoreState = record way_state { claims = held_once w.asked answer way_state.claims; waiters = cancelled w.id way_state.waiters } in
+      let gone : before.waiters ≡ turn.before ++ turn.behind =
+      ap (λ (ws : List Waiter). cancelled w.id ws) (same ∙ turn.stood)
+      ∙ without turn.before w turn.behind (subst (λ (ws : List Waiter). Pairwise are_apart ws) turn.stood good.apart) in
+      subst (AreHeldUp u) (sym new)
+      (for_up u w.wish answer before (λ d e. subst (λ (c : Claim). is_among u c.file ≡ true) (sym (is d e)) there)
+      (subst (λ (ws : List Waiter). AllByRecursion (λ v. IsHeldUp u before.claims v v.asked) ws) (sym gone)
+      (all_still_up u u s.claims before.claims (turn.before ++ turn.behind)
+      (λ file n.
+      let apart = other_file u turn.claim.file file there n in
+      (n, once_there file turn.claim.file w.asked way_state.claims answer files apart ∙ next_elsewhere s w turn.claim turn.claims file turn.asked apart)) parts.0)))
+  by (WaitsOn told up new) =
+      subst (λ (x : CoreState). AreHeldUp u x) (sym new)
+      (subst (λ (ws : List Waiter). AllByRecursion (λ v. IsHeldUp u way_state.claims v v.asked) ws) (sym same)
+      (all_still_up u u s.claims way_state.claims s.waiters (λ file n. (n, next_elsewhere s w turn.claim turn.claims file turn.asked (other_file u turn.claim.file file there n))) all))
 
 pub settle_up : (u : Unsettled) (left : Rooms) (s t : CoreState) (r : Option (List Effect)) → ((n : ℕ) → settle n left s ≡ option_map (λ effects. (effects, t)) r) → (r ≡ None → t ≡ s) → IsGood s → AreHeldUp u s → AreHeldUp (if is_some r then u else Nothing) t
 settle_up u left s t None e same good all = subst (λ (x : CoreState). AreHeldUp Nothing x) (sym (same refl)) (settled_up s (none_settled 0 left s (e 0)))

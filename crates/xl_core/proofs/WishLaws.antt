@@ -1,14 +1,16 @@
 -- A wish that is granted keeps the state good, and nothing but the cache of its party on the file changes.
 use Rattle.std.proofs.Common.{◌≡◌, ℕ, ◌+◌, ◌≤◌, ◌<◌, Bool, true, false, not, ◌&&◌, ◌||◌, ◌==◌, nat_lt, if◌then◌else◌, List, [], ◌∷◌, map, length, find, inl, inr, Option, Some, None, refl, sym, ap, subst, ◌∙◌, arith}
-use Rattle.std.specs.Prelude.{IfSome}
+use Rattle.std.specs.Prelude.{IsSome, IfSome}
+use Rattle.std.proofs.lemmas.Bool.Decides.{nat_tests}
 use Rattle.std.specs.List.{AllByRecursion, filter, filter_map, list_all}
-use Rattle.std.proofs.lemmas.Bool.{cases_Bool, and_parts, and_right, eq-eqb, eqb-true, ltb-true}
+use Rattle.std.proofs.lemmas.Bool.{cases_Bool, both_ways, and_parts, and_right, eq-eqb, eqb-true, ltb-true}
 use Rattle.xl_base.specs.Lists.{IsIn, Pairwise}
 use Rattle.xl_base.proofs.Members.{all_in, all_from}
 use Rattle.xl_base.proofs.Searches.{find_in, none_found, in_filter_map_from}
 use Rattle.xl_base.specs.declared.name.Owner.{Owner}
 use Rattle.xl_base.specs.declared.name.Party.{Party}
 use Rattle.xl_cache.specs.Parties.{is_kind_of, is_cache_of}
+use Rattle.xl_cache.specs.Planning.{is_running}
 use Rattle.xl_cache.specs.Wishing.{wished_claim, may_stand, best_of, joined, is_its_cache, may_replace, best_join_of, raised_by, granted_beside, granted_kind}
 use Rattle.xl_cache.specs.declared.wish.Wish.{Wish}
 use Rattle.xl_cache.proofs.PartyLaws.{joined_kind}
@@ -33,9 +35,9 @@ use Rattle.xl_core.specs.Begin.{is_idle, idle_caches, others_of, is_recalled, id
 use Rattle.xl_core.specs.Good.{are_kept, IsHeldBy, IsHeld, is_single, IsGood, holding}
 use Rattle.xl_core.specs.Places.{CacheOf, is_cache_on, held_in, else_was}
 use Rattle.xl_core.specs.State.{CoreState}
-use Rattle.xl_core.specs.Wishes.{has_room, wished_kind, cached, once_wished, wish_granted, wished_at}
+use Rattle.xl_core.specs.Wishes.{has_room, wished_kind, cached, once_wished, wish_granted, wish_of, wished_at}
 use Rattle.xl_core.proofs.BegunLaws.{same_others, no_two}
-use Rattle.xl_core.proofs.CachePlaces.{IsSameButCaches}
+use Rattle.xl_core.proofs.CachePlaces.{IsSameButCaches, stays_beside, stays_rest}
 use Rattle.xl_core.proofs.ClaimLaws.{is_single-sym}
 use Rattle.xl_core.proofs.HeldCaches.{cache_entered, cache_changed}
 
@@ -101,7 +103,7 @@ kind_here wanted held = ap (λ (o : Option Claim). granted_beside wanted (filter
 -- ---- the table takes it
 
 -- the party's own cache is held, and of the party on the file
-found_own : (wanted : Wish) (held : List Claim) (c : Claim) → find (is_its_cache wanted) held ≡ Some c → IsIn c held × (is_its_cache wanted c ≡ true)
+pub found_own : (wanted : Wish) (held : List Claim) (c : Claim) → find (is_its_cache wanted) held ≡ Some c → IsIn c held × (is_its_cache wanted c ≡ true)
 found_own wanted held c e = subst (λ (o : Option Claim). IfSome o (λ x. IsIn x held × (is_its_cache wanted x ≡ true))) e (find_in (is_its_cache wanted) held)
 
 pub own_held : (wanted : Wish) (held : List Claim) (c : Claim) → Some c ≡ find (is_its_cache wanted) held → IsIn c held
@@ -144,6 +146,24 @@ kind_granted wanted s own kind claims free is room some e =
     let there : has_room (find (is_its_cache wanted) s.claims) s.claims ≡ true = ap (λ (o : Option Claim). has_room o s.claims) (sym is) ∙ room in
     rw (free, there, some) (ap (λ (cs : List Claim). record s { claims = cs }) (e ∙ ap (λ (o : Option Claim). cached wanted kind o s.claims) is))
 
+-- a wish for nothing gets nothing
+none_beside : (wanted : Wish) (held : List Claim) (o : Option Claim) → wanted.kinds ≡ [] → granted_beside wanted held o ≡ None
+unfolding best_of best_join_of
+none_beside wanted held None none = ap (λ (kinds : List CacheKind). find (may_stand wanted held) kinds) none
+none_beside wanted held (Some c) none = by c.what where
+  by : (w : What) → raised_by wanted held w ≡ None
+  by (Cache kind None) = ap (λ (kinds : List CacheKind). find (may_replace wanted held) (filter_map (joined kind) kinds)) none
+  by (Cache kind (Some running)) = refl
+  by (Share access deny) = refl
+  by (Range extent exclusive) = refl
+
+none_wanted : (wanted : Wish) (held : List Claim) → wanted.kinds ≡ [] → granted_kind wanted held ≡ None
+unfolding granted_kind
+none_wanted wanted held none = none_beside wanted held (find (is_its_cache wanted) held) none
+
+pub no_wish : (kinds : List CacheKind) (c : Claim) (s : CoreState) → kinds ≡ [] → wish_granted (wish_of kinds c) s ≡ s
+no_wish kinds c s none = sym (none_granted (wish_of kinds c) s (none_wanted (wish_of kinds c) s.claims none))
+
 -- ---- the state stays good
 
 all_true : (p : Claim → Bool) (cs : List Claim) → list_all p cs ≡ true → AllByRecursion (λ c. p c ≡ true) cs
@@ -159,6 +179,16 @@ gets wanted s kind e = by (waits_on wanted.file s.waiters) (has_room (find (is_i
   by false true at e = (at, e)
   by false false at e = absurd cc
 
+-- what it has of its own there is raised where no break of it runs
+pub raised_idle : (wanted : Wish) (s : CoreState) (own : Claim) (kind : CacheKind) → wished_kind wanted s ≡ Some kind → find (is_its_cache wanted) s.claims ≡ Some own → is_running own.what ≡ false
+unfolding granted_kind
+raised_idle wanted s own kind e found = by own.what (sym (ap (granted_beside wanted s.claims) found) ∙ (gets wanted s kind e).1) where
+  by : (w : What) → raised_by wanted s.claims w ≡ Some kind → is_running w ≡ false
+  by (Cache whole None) e = refl
+  by (Cache whole (Some running)) e = absurd cc
+  by (Share access deny) e = absurd cc
+  by (Range extent exclusive) e = absurd cc
+
 -- the cache goes by its file, its kind and its party
 same_fit : (a b d : Claim) (kind : CacheKind) (w : What) → a.party ≡ b.party → fit_by a d (Cache kind None) w ≡ fit_by b d (Cache kind None) w
 unfolding fit_by
@@ -172,7 +202,7 @@ same_compat wanted c d kind file party =
     ap (λ (n : ℕ). not (n == d.file) || fit_by (with_what c (Cache kind None)) d (Cache kind None) d.what) file
     ∙ ap (λ (b : Bool). not (wanted.file == d.file) || b) (same_fit (with_what c (Cache kind None)) (wished_claim wanted kind) d kind d.what party)
 
-own_parts : (wanted : Wish) (c : Claim) → is_its_cache wanted c ≡ true → (is_cache c.what ≡ true) × (c.file ≡ wanted.file) × (c.party ≡ wanted.party)
+pub own_parts : (wanted : Wish) (c : Claim) → is_its_cache wanted c ≡ true → (is_cache c.what ≡ true) × (c.file ≡ wanted.file) × (c.party ≡ wanted.party)
 own_parts wanted c own =
     let one = and_parts (is_cache c.what) ((c.file == wanted.file) && same_parties c.party wanted.party) own in
     let two = and_parts (c.file == wanted.file) (same_parties c.party wanted.party) one.1 in
@@ -234,7 +264,7 @@ wish_good wanted s good kinds kept = kind_good wanted s good kinds kept (wished_
 
 module _ (test : Claim → Bool) where
   -- one that fails it comes, or goes
-  filter_inserted : (c : Claim) (cs : List Claim) → test c ≡ false → filter test (inserted c cs) ≡ filter test cs
+  pub filter_inserted : (c : Claim) (cs : List Claim) → test c ≡ false → filter test (inserted c cs) ≡ filter test cs
   unfolding inserted
   filter_inserted c [] fails = rw fails refl
   filter_inserted c (d ∷ ds) fails =
@@ -243,7 +273,7 @@ module _ (test : Claim → Bool) where
         | inr late ↦ rw (late, fails) refl
       ]
 
-  filter_removed : (c : Claim) (cs : List Claim) → test c ≡ false → filter test (removed c cs) ≡ filter test cs
+  pub filter_removed : (c : Claim) (cs : List Claim) → test c ≡ false → filter test (removed c cs) ≡ filter test cs
   filter_removed c [] fails = refl
   filter_removed c (d ∷ ds) fails =
       elim (cases_Bool (same_claims d c)) [
@@ -266,7 +296,7 @@ module _ (test : Claim → Bool) where
       ]
 
   -- one more at most
-  count_inserted : (c : Claim) (cs : List Claim) → length (filter test (inserted c cs)) ≤ length (filter test cs) + 1
+  pub count_inserted : (c : Claim) (cs : List Claim) → length (filter test (inserted c cs)) ≤ length (filter test cs) + 1
   unfolding inserted
   count_inserted c [] = elim (cases_Bool (test c)) [ inl passes ↦ rw passes (omega arith) | inr fails ↦ rw fails (omega arith) ]
   count_inserted c (d ∷ ds) =
@@ -276,7 +306,7 @@ module _ (test : Claim → Bool) where
         | inr late ↦ elim (cases_Bool (test c)) [ inl passes ↦ rw (late, passes) (omega arith) | inr fails ↦ rw (late, fails) (omega arith) ]
       ]
 
-  count_removed : (c : Claim) (cs : List Claim) → length (filter test (removed c cs)) ≤ length (filter test cs)
+  pub count_removed : (c : Claim) (cs : List Claim) → length (filter test (removed c cs)) ≤ length (filter test cs)
   count_removed c [] = omega arith
   count_removed c (d ∷ ds) =
       let rest = count_removed c ds in
@@ -286,7 +316,7 @@ module _ (test : Claim → Bool) where
       ]
 
 -- what no cache of the party on the file passes stays
-filter_wished : (test : Claim → Bool) (wanted : Wish) (o : Option CacheKind) (held : List Claim) → ((c : Claim) → is_its_cache wanted c ≡ true → test c ≡ false) → filter test (once_wished wanted o held) ≡ filter test held
+pub filter_wished : (test : Claim → Bool) (wanted : Wish) (o : Option CacheKind) (held : List Claim) → ((c : Claim) → is_its_cache wanted c ≡ true → test c ≡ false) → filter test (once_wished wanted o held) ≡ filter test held
 unfolding changed
 filter_wished test wanted None held fails = refl
 filter_wished test wanted (Some kind) held fails = by (find (is_its_cache wanted) held) refl where
@@ -301,7 +331,7 @@ filter_wished test wanted (Some kind) held fails = by (find (is_its_cache wanted
       let there : is_its_cache wanted new ≡ true = (and_parts (is_cache c.what) ((c.file == wanted.file) && same_parties c.party wanted.party) own).1 in
       filter_inserted test new (removed c held) (fails new there) ∙ filter_removed test c held (fails c own)
 
-count_wished : (test : Claim → Bool) (wanted : Wish) (o : Option CacheKind) (held : List Claim) → length (filter test (once_wished wanted o held)) ≤ length (filter test held) + 1
+pub count_wished : (test : Claim → Bool) (wanted : Wish) (o : Option CacheKind) (held : List Claim) → length (filter test (once_wished wanted o held)) ≤ length (filter test held) + 1
 unfolding changed
 count_wished test wanted None held = omega arith
 count_wished test wanted (Some kind) held = by (find (is_its_cache wanted) held) where
@@ -394,3 +424,34 @@ wish_cache wanted s file party good = by (wished_kind wanted s) where
         let both = and_parts (wanted.file == file) (same_parties wanted.party party) here in
         subst (λ (n : ℕ). held_in (once_wished wanted (Some kind) s.claims) (CacheOf n party) ≡ Cache kind None ∷ []) (eqb-true wanted.file file both.0)
         (subst (λ (p : Party). held_in (once_wished wanted (Some kind) s.claims) (CacheOf wanted.file p) ≡ Cache kind None ∷ []) (same_parties-true wanted.party party both.1) (own_kind wanted s.claims kind good.single))
+
+-- ---- a break that runs
+
+-- of one whose break runs its party gets no more
+own_stays : (wanted : Wish) (held : List Claim) (o : Option CacheKind) (c : Claim) → IsIn c held → ((own : Claim) → IsSome o → find (is_its_cache wanted) held ≡ Some own → same_claims own c ≡ false) → IsIn c (once_wished wanted o held)
+own_stays wanted held None c there apart = there
+own_stays wanted held (Some kind) c there apart = by (find (is_its_cache wanted) held) refl where
+  by : (found : Option Claim) → find (is_its_cache wanted) held ≡ found → IsIn c (cached wanted kind found held)
+  by None e = stays_beside (wished_claim wanted kind) c held there
+  by (Some own) e = stays_rest own c (Some kind) held there (apart own refl e)
+
+-- a wish leaves it as it is
+pub running_stays : (wanted : Wish) (s : CoreState) (c : Claim) → IsIn c s.claims → is_running c.what ≡ true → IsIn c (wish_granted wanted s).claims
+unfolding wish_granted
+running_stays wanted s c there runs = own_stays wanted s.claims (wished_kind wanted s) c there (λ own some found. idle own (wished_kind wanted s) refl some found) where
+  idle : (own : Claim) (o : Option CacheKind) → wished_kind wanted s ≡ o → IsSome o → find (is_its_cache wanted) s.claims ≡ Some own → same_claims own c ≡ false
+  idle own None e some found = absurd (both_ways false refl some)
+  idle own (Some kind) e some found =
+      let none : is_running own.what ≡ false = raised_idle wanted s own kind e found in
+      elim (cases_Bool (same_claims own c)) [
+        | inr apart ↦ apart
+        | inl same ↦ absurd (both_ways (is_running own.what) none (ap (λ (x : Claim). is_running x.what) (same_claims-true own c same) ∙ runs))
+      ]
+
+-- ---- where it gets nothing
+
+pub waits_stand : (wanted : Wish) (s : CoreState) → waits_on wanted.file s.waiters ≡ true → wish_granted wanted s ≡ s
+waits_stand wanted s waits = sym (waits_granted wanted s waits)
+
+pub full_stands : (wanted : Wish) (s : CoreState) → find (is_its_cache wanted) s.claims ≡ None → most_claims ≤ length s.claims → wish_granted wanted s ≡ s
+full_stands wanted s none full = sym (full_granted wanted s None (sym none) (grind (arith, nat_tests)))

@@ -1,9 +1,13 @@
 -- Who asks: the numbers of names, which may still have to come, and the claim that an ask is for.
 use Rattle.std.specs.Prelude.{◌≡◌, ℕ, ◌≤◌, ◌-◌, ◌^◌, ◌==◌, Bool, true, false, not, ◌&&◌, ◌||◌, if◌then◌else◌, List, [], ◌∷◌, map, Option, Some, None, option_map}
+use Rattle.std.specs.List.{AllByRecursion}
 use Rattle.xl_base.specs.declared.name.Owner.{Owner}
 use Rattle.xl_base.specs.declared.name.Owner.TheVariants as owners
 use Rattle.xl_base.specs.declared.name.Party.{Party}
 use Rattle.xl_base.specs.declared.name.Party.TheVariants as parties
+use Rattle.xl_cache.specs.Parties.{is_kind_of}
+use Rattle.xl_cache.specs.Targets.{is_delegation}
+use Rattle.xl_matrix.specs.declared.claim.CacheKind.{CacheKind}
 use Rattle.xl_matrix.specs.declared.claim.Claim.{Claim}
 use Rattle.xl_matrix.specs.declared.claim.Extent.{Extent}
 use Rattle.xl_matrix.specs.declared.claim.Extent.TheVariants.{Bytes, Empty}
@@ -15,7 +19,7 @@ use Rattle.xl_names.specs.declared.name.Name.TheVariants.{NlmRange, NlmShare, Nl
 use Rattle.xl_core.specs.declared.ask.Who.{Who}
 use Rattle.xl_core.specs.declared.ask.Who.TheVariants.{Named, Open}
 use Rattle.xl_core.specs.declared.ask.Act.{Act}
-use Rattle.xl_core.specs.declared.ask.Act.TheVariants.{Share, Ranges, Test, Unlock}
+use Rattle.xl_core.specs.declared.ask.Act.TheVariants.{Share, Ranges, Test, Unlock, Wish}
 use Rattle.xl_core.specs.declared.ask.Ask.{Ask}
 
 -- ---- a client
@@ -58,12 +62,13 @@ coming (Open number) names = 0
 abbrev pub range_what : Extent × Bool → What
 range_what range = whats.Range range.0 range.1
 
--- what is to be held once the ask is granted, in order; nothing by a test or an unlock
+-- what is to be held once the ask is granted, in order; nothing by a test, an unlock or a wish
 abbrev pub asked_whats : Act → List What
 asked_whats (Share access deny) = whats.Share access deny ∷ []
 asked_whats (Ranges ranges) = map range_what ranges
 asked_whats (Test extent exclusive) = []
 asked_whats (Unlock extent) = []
+asked_whats Wish = []
 
 abbrev pub alone : List What → Option What
 alone (what ∷ []) = Some what
@@ -147,6 +152,7 @@ may_ask who (Share access deny) = true
 may_ask who (Ranges ranges) = may_hold_all who ranges
 may_ask who (Test extent exclusive) = is_named who
 may_ask who (Unlock extent) = true
+may_ask who Wish = true
 
 -- a range with its bytes in order
 abbrev pub IsRealExtent : Extent → Type 0
@@ -164,17 +170,38 @@ abbrev pub AreMore : Who → Bool → List (Extent × Bool) → Type 0
 AreMore who blocking [] = Unit {0}
 AreMore who blocking (range ∷ ranges) = (is_named who ≡ false) × (blocking ≡ false) × IsOrdered range.0 × AreMore who blocking ranges
 
--- a share, ranges of which there is one at least, a test of one with bytes, or an unlock of one
+-- a share, ranges of which there is one at least, a test of one with bytes, an unlock of one, or a wish
 abbrev pub IsFitAct : Who → Bool → Act → Type 0
 IsFitAct who blocking (Share access deny) = Unit {0}
 IsFitAct who blocking (Ranges []) = ⊥
 IsFitAct who blocking (Ranges (range ∷ ranges)) = IsOrdered range.0 × AreMore who blocking ranges
 IsFitAct who blocking (Test extent exclusive) = IsRealExtent extent
 IsFitAct who blocking (Unlock extent) = IsOrdered extent
+IsFitAct who blocking Wish = Unit {0}
 
--- Which asks the core takes: a client's by its name for a share, one range with bytes, a test or an unlock; and an SMB
--- open's, which is its own party, for a share, for ranges, or for the unlock of one.
+-- such a party may have a cache of this kind
+abbrev pub may_have : Who → CacheKind → Bool
+may_have (Named name) kind = is_kind_of (parties.Name (protocol_of name) no_number) kind
+may_have (Open number) kind = is_kind_of (parties.Open number) kind
+
+-- it may wish for one, where it waits or not: an NFSv4 client that wishes for a delegation never waits (RFC 7530 16.16.5)
+abbrev pub may_wish_for : Who → Bool → CacheKind → Bool
+may_wish_for who waits kind = may_have who kind && not (waits && is_delegation kind)
+
+-- A wish is for kinds that the party may have. It comes with a share, or by itself, for one kind at least, and is no reclaim
+-- then; else there is none.
+abbrev pub IsFitWish : Who → Bool → Bool → Act → List CacheKind → Type 0
+IsFitWish party waits reclaim (Share access deny) kinds = AllByRecursion (λ kind. may_wish_for party waits kind ≡ true) kinds
+IsFitWish party waits reclaim (Ranges ranges) kinds = kinds ≡ []
+IsFitWish party waits reclaim (Test extent exclusive) kinds = kinds ≡ []
+IsFitWish party waits reclaim (Unlock extent) kinds = kinds ≡ []
+IsFitWish party waits reclaim Wish [] = ⊥
+IsFitWish party waits reclaim Wish (kind ∷ kinds) = (reclaim ≡ false) × AllByRecursion (λ other. may_wish_for party waits other ≡ true) (kind ∷ kinds)
+
+-- Which asks the core takes: a client's by its name for a share, one range with bytes, a test, an unlock or a cache; and an SMB
+-- open's, which is its own party, for a share, for ranges, for the unlock of one, or for a cache.
 pub record IsFit (a : Ask) : Type 0 where
   pub act : IsFitAct a.owner a.blocking a.act
   pub own : may_ask a.owner a.act ≡ true
   pub party : is_client a.owner a.party ≡ true
+  pub wish : IsFitWish a.party (a.blocking || a.awaits) a.reclaim a.act a.wish

@@ -1,4 +1,4 @@
--- What the claims are once the breaks begin that an ask begins, and what is told of these. No call begins one yet.
+-- What the claims are once the breaks begin that an ask begins, and what is told of these.
 use Rattle.std.specs.Prelude.{ℕ, ◌+◌, ◌==◌, Bool, true, false, not, ◌&&◌, option_map, if◌then◌else◌, List, [], ◌∷◌, length, Option, Some, None}
 use Rattle.std.specs.List.{filter, filter_map, find}
 use Rattle.xl_base.specs.Lists.{sorted}

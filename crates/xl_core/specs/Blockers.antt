@@ -1,5 +1,5 @@
 -- Which held claims stand against an ask: shares and ranges, and caches, whose breaks may make way.
-use Rattle.std.specs.Prelude.{Bool, List, [], ◌∷◌, Option, Some, None}
+use Rattle.std.specs.Prelude.{Bool, not, List, [], ◌∷◌, Option, Some, None, is_some}
 use Rattle.std.specs.List.{filter, list_any}
 use Rattle.xl_cache.specs.Planning.{is_final, planned}
 use Rattle.xl_cache.specs.declared.planner.Plan.{Plan}
@@ -26,6 +26,10 @@ first_broken (begun ∷ breaks) = Some begun.0
 abbrev pub cache_by : Option Claim → List (Claim × Option CacheKind) → Option Claim
 cache_by (Some c) breaks = Some c
 cache_by None breaks = first_broken breaks
+
+-- no break is left to begin for the ask: of each cache in its way one runs
+abbrev pub all_run : List Claim → Claim → Bool
+all_run held ask = not (is_some (first_broken (planned ask held).breaks))
 
 abbrev pub cache_in : Plan → Option Claim
 cache_in p = cache_by p.awaited p.breaks

@@ -4,23 +4,25 @@ use Rattle.std.specs.List.{AllByRecursion, list_any, slice_get}
 use Rattle.xl_base.specs.Lists.{IsIn}
 use Rattle.xl_cache.specs.Planning.{is_obstacle}
 use Rattle.xl_base.specs.declared.name.Owner.{Owner}
+use Rattle.xl_matrix.specs.declared.claim.CacheKind.{CacheKind}
 use Rattle.xl_matrix.specs.declared.claim.Claim.{Claim}
+use Rattle.xl_matrix.specs.declared.claim.What.TheVariants.{Cache}
 use Rattle.xl_matrix.specs.declared.claim.Extent.{Extent}
 use Rattle.xl_table.specs.Elements.{element_held}
 use Rattle.xl_core.specs.Judge.{all_granted, held_with}
 use Rattle.xl_names.specs.declared.name.Name.{Name}
 use Rattle.xl_spans.specs.Spans.{within, mode_at}
 use Rattle.xl_table.specs.Flat.{blocks}
-use Rattle.xl_table.specs.Held.{is_range, is_share, is_cache, spans_of}
+use Rattle.xl_table.specs.Held.{is_range, is_share, spans_of}
 use Rattle.xl_wait.specs.declared.waiter.Rooms.{Rooms}
 use Rattle.xl_wait.specs.declared.waiter.Waiter.{Waiter}
 use Rattle.xl_core.specs.State.{CoreState}
-use Rattle.xl_core.specs.Asking.{asker, both_entered}
+use Rattle.xl_core.specs.Asking.{asker, asking_party, both_entered, asked_claim}
 use Rattle.xl_table.specs.Least.{least}
 use Rattle.xl_core.specs.Blockers.{blockers, is_stopped, cache_against, test_blockers}
-use Rattle.xl_core.specs.Limits.{grant_limits, wait_limits, IsRoom, IsLeastPassed}
+use Rattle.xl_core.specs.Limits.{grant_limits, wait_limits, wish_limits, IsRoom, IsLeastPassed}
 use Rattle.xl_table.specs.Flat.{is_blocked}
-use Rattle.xl_core.specs.Good.{caches_of, is_held_up, holds_up}
+use Rattle.xl_core.specs.Good.{caches_of, caches_beside, is_held_up, holds_up}
 use Rattle.xl_table.specs.Relock.{most_claims, shares_of, relocked_in, granted_claims}
 use Rattle.xl_core.specs.declared.ask.Act.{Act}
 use Rattle.xl_core.specs.declared.ask.Act.TheVariants.{Share}
@@ -29,6 +31,9 @@ use Rattle.xl_core.specs.declared.ask.Answer.TheVariants.{Granted, Conflict, Que
 use Rattle.xl_core.specs.declared.ask.Ask.{Ask}
 use Rattle.xl_core.specs.declared.ask.Effect.{Effect}
 use Rattle.xl_core.specs.declared.ask.Effect.TheVariants.{Served}
+use Rattle.xl_core.specs.Settle.{way_again}
+use Rattle.xl_core.specs.Wishes.{wish_for}
+use Rattle.xl_wait.specs.Waiting.{cancelled}
 
 -- the limits of an ask's grant, and of its wait
 abbrev pub limits_of_grant : Rooms → CoreState → Ask → Claim → List (ℕ × Bool)
@@ -66,6 +71,17 @@ IsClaimDue left s a claim _ = ⊥
 -- a held range blocks a test of this range
 abbrev pub stands_against : Claim → Claim → Bool
 stands_against claim held = is_range held.what && blocks claim held
+
+-- Why a wish by itself is: it is granted where it passes no limit.
+abbrev pub IsWishBy : List (ℕ × Bool) → Claim → Answer → Type 0
+IsWishBy limits claim (Granted c) = (c ≡ claim) × IsRoom limits
+IsWishBy limits claim (Full limit) = IsLeastPassed limits limit
+IsWishBy limits claim _ = ⊥
+
+-- a wish for nothing is owed nothing
+abbrev pub IsWishDue : Rooms → CoreState → Ask → List CacheKind → Answer → Type 0
+IsWishDue left s a [] answer = Unit {0}
+IsWishDue left s a (kind ∷ kinds) answer = IsWishBy (wish_limits left a.rows (length (both_entered a s.names))) (asked_claim a (Cache kind None) s.names) answer
 
 -- Why a test is: a reclaim comes too late; else the least of the held ranges that block it is told, if there is one.
 abbrev pub IsTestDue : CoreState → Ask → Claim → Answer → Type 0
@@ -117,32 +133,33 @@ abbrev pub held_once : List Claim → Answer → List Claim → List Claim
 held_once asked (Granted c) held = all_granted asked held
 held_once asked answer held = held
 
--- neither is what is told of one who waits that it wait on
-abbrev pub is_verdict : Answer → Bool
-is_verdict (Queued number) = false
-is_verdict answer = true
+-- what becomes of a waiter for these, of which this is the first, once the breaks run that it begins: each is judged beside those
+-- before it, so that it is answered and waits no more; or the first is held up by the breaks that began
+pub data IsServed (left : Rooms) (s : CoreState) (w : Waiter) (claim : Claim) (told : List Effect) (new : CoreState) : Type 0 where
+  Answered : (answer : Answer) → told ≡ Served w.id answer ∷ [] → ((c : Claim) → answer ≡ Granted c → c ≡ claim) → IsEachDue left w.rows (length s.names) claim w.asked s answer → new ≡ wish_for w.wish answer (record s { claims = held_once w.asked answer s.claims; waiters = cancelled w.id s.waiters }) → IsServed left s w claim told new
+  WaitsOn : told ≡ [] → is_held_up s.claims w claim ≡ true → new ≡ s → IsServed left s w claim told new
 
--- The first waiter that isn't held up is answered and waits no more; the others wait on. Its names are kept already. Only what
--- the owners of what it asks for have on its file changes, and no cache does.
+-- The first waiter that isn't held up has its turn: the breaks begin that it begins, which is told, and then it is judged. Its
+-- names are kept already. What it is granted it has then, and the cache that its wish gets. Beside caches only what the owners of
+-- what it asks for have on its file changes, and beside those whose breaks began no cache but its party's there.
 pub record IsTurn (left : Rooms) (s : CoreState) (effects : List Effect) (new : CoreState) : Type 0 where
   pub before : List Waiter
   pub waiter : Waiter
   pub behind : List Waiter
   pub claim : Claim
   pub claims : List Claim
-  pub answer : Answer
+  pub told : List Effect
   pub stood : s.waiters ≡ before ++ waiter ∷ behind
   pub blocked : AllByRecursion (λ w. holds_up s.claims w w.asked ≡ true) before
   pub asked : waiter.asked ≡ claim ∷ claims
   pub free : is_held_up s.claims waiter claim ≡ false
-  pub due : IsEachDue left waiter.rows (length s.names) claim waiter.asked s answer
-  pub held : new.claims ≡ held_once waiter.asked answer s.claims
-  pub told : effects ≡ Served waiter.id answer ∷ []
-  pub waiters : new.waiters ≡ before ++ behind
+  pub effects_are : effects ≡ (way_again s waiter).0 ++ told
+  pub served : IsServed left (way_again s waiter).1 waiter claim told new
   pub names : new.names ≡ s.names
   pub spans : (file : ℕ) (owner : Owner) → AllByRecursion (λ c. (file ≡ c.file) × (owner ≡ c.owner) × (is_share c.what ≡ false) → ⊥) waiter.asked → spans_of file owner new.claims ≡ spans_of file owner s.claims
   pub shares : (file : ℕ) (owner : Owner) → AllByRecursion (λ c. (file ≡ c.file) × (owner ≡ c.owner) × (is_share c.what ≡ true) → ⊥) waiter.asked → shares_of file owner new.claims ≡ shares_of file owner s.claims
-  pub caches : caches_of new.claims ≡ caches_of s.claims
+  pub caches : caches_beside claim.file claim.party new.claims ≡ caches_beside claim.file claim.party (way_again s waiter).1.claims
+  pub unwished : waiter.wish ≡ [] → caches_of new.claims ≡ caches_of (way_again s waiter).1.claims
 
 -- ---- what an ask may change
 
@@ -152,15 +169,16 @@ asks_share (Share access deny) = true
 asks_share _ = false
 
 -- An ask that is neither granted nor told to wait changes nothing. One that is granted changes only what its owner has on
--- its file: a share for a share, ranges for a range. One that waits changes no claim. No cache changes, no waiter goes, and
--- each name keeps its number.
+-- its file: a share for a share, ranges for a range, and its party's cache there where it wishes for one. One that waits changes
+-- no claim. No other cache changes, no waiter goes, and each name keeps its number.
 pub record IsOwn (s : CoreState) (a : Ask) (answer : Answer) (new : CoreState) : Type 0 where
   pub claims : ((claim : Claim) → answer ≡ Granted claim → ⊥) → new.claims ≡ s.claims
   pub waiters : ((number : ℕ) → answer ≡ Queued number → ⊥) → new.waiters ≡ s.waiters
   pub refused : ((claim : Claim) → answer ≡ Granted claim → ⊥) → ((number : ℕ) → answer ≡ Queued number → ⊥) → new ≡ s
   pub spans : (file : ℕ) (owner : Owner) → ((file ≡ a.file) × (owner ≡ asker a s.names) × (asks_share a.act ≡ false) → ⊥) → spans_of file owner new.claims ≡ spans_of file owner s.claims
   pub shares : (file : ℕ) (owner : Owner) → ((file ≡ a.file) × (owner ≡ asker a s.names) × (asks_share a.act ≡ true) → ⊥) → shares_of file owner new.claims ≡ shares_of file owner s.claims
-  pub caches : caches_of new.claims ≡ caches_of s.claims
+  pub caches : caches_beside a.file (asking_party a s.names) new.claims ≡ caches_beside a.file (asking_party a s.names) s.claims
+  pub unwished : a.wish ≡ [] → caches_of new.claims ≡ caches_of s.claims
   pub stay : (w : Waiter) → IsIn w s.waiters → IsIn w new.waiters
   pub names : (number : ℕ) (name : Name) → slice_get s.names number ≡ Some name → slice_get new.names number ≡ Some name
 

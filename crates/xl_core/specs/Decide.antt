@@ -1,22 +1,26 @@
 -- What an ask is answered, and what it changes.
-use Rattle.std.specs.Prelude.{ℕ, ◌+◌, false, not, if◌then◌else◌, nat_le, List, [], ◌∷◌, ◌++◌, length, Option, Some, None}
+use Rattle.std.specs.Prelude.{ℕ, ◌+◌, Bool, true, false, not, if◌then◌else◌, nat_le, List, [], ◌∷◌, ◌++◌, length, Option, Some, None}
+use Rattle.xl_matrix.specs.declared.claim.CacheKind.{CacheKind}
 use Rattle.xl_matrix.specs.declared.claim.Claim.{Claim}
 use Rattle.xl_matrix.specs.declared.claim.Extent.{Extent}
 use Rattle.xl_matrix.specs.declared.claim.Extent.TheVariants.{Bytes, Empty}
+use Rattle.xl_matrix.specs.declared.claim.What.TheVariants.{Cache}
 use Rattle.xl_wait.specs.declared.waiter.Rooms.{Rooms}
 use Rattle.xl_wait.specs.declared.waiter.Waiter.{Waiter}
 use Rattle.xl_core.specs.State.{CoreState}
-use Rattle.xl_core.specs.Asking.{both_entered, asked_whats, asked_claims, known_claim}
+use Rattle.xl_core.specs.Asking.{both_entered, asked_whats, asked_claim, asked_claims, known_claim}
 use Rattle.xl_table.specs.Least.{least}
 use Rattle.xl_core.specs.Blockers.{test_blockers}
 use Rattle.xl_core.specs.Judge.{judged}
-use Rattle.xl_core.specs.Limits.{wait_limits, first_passed}
+use Rattle.xl_core.specs.Ways.{made_way}
+use Rattle.xl_core.specs.Wishes.{wish_for}
+use Rattle.xl_core.specs.Limits.{wait_limits, wish_limits, first_passed}
 use Rattle.xl_matrix.specs.Owners.{posix}
 use Rattle.xl_table.specs.Elements.{element_held}
 use Rattle.xl_table.specs.Flat.{removed}
 use Rattle.xl_table.specs.Relock.{most_claims, relocked_in, holds_byte}
 use Rattle.xl_core.specs.declared.ask.Act.{Act}
-use Rattle.xl_core.specs.declared.ask.Act.TheVariants.{Share, Ranges, Test, Unlock}
+use Rattle.xl_core.specs.declared.ask.Act.TheVariants.{Share, Ranges, Test, Unlock, Wish}
 use Rattle.xl_core.specs.declared.ask.Answer.{Answer}
 use Rattle.xl_core.specs.declared.ask.Answer.TheVariants.{Granted, Conflict, Queued, NoGrace, Full, NotHeld}
 use Rattle.xl_core.specs.declared.ask.Ask.{Ask}
@@ -102,6 +106,18 @@ unfoldable pub unlocked : CoreState → Claim → Extent → Answered
 unlocked s claim (Bytes first last) = if posix claim.owner then unlocked_bytes s claim first last else unlocked_one s claim (Bytes first last)
 unlocked s claim (Empty offset) = unlocked_one s claim (Empty offset)
 
+-- ---- a wish by itself
+
+abbrev pub wish_by : CoreState → Ask → Claim → Option ℕ → Answered
+wish_by s a claim None = (Granted claim, [], named a s)
+wish_by s a claim (Some limit) = (Full limit, [], s)
+
+-- a wish by itself is granted, with its first choice, where it passes no limit: which cache it gets, if any, is seen then. It
+-- never waits, and breaks nothing.
+unfoldable pub wish_asked : Rooms → CoreState → Ask → List CacheKind → Answered
+wish_asked left s a [] = (NotHeld, [], s)
+wish_asked left s a (kind ∷ kinds) = wish_by s a (asked_claim a (Cache kind None) s.names) (first_passed (wish_limits left a.rows (length (both_entered a s.names))))
+
 -- ---- an ask
 
 -- the ask by what it asks for
@@ -110,8 +126,40 @@ acted n left s a (Share access deny) = claims_asked n left s a (asked_claims a (
 acted n left s a (Ranges ranges) = claims_asked n left s a (asked_claims a (asked_whats (Ranges ranges)) s.names)
 acted n left s a (Test extent exclusive) = (tested s a (known_claim a extent exclusive s.names), [], s)
 acted n left s a (Unlock extent) = unlocked s (known_claim a extent false s.names) extent
+acted n left s a Wish = wish_asked left s a a.wish
+
+-- what an ask is answered once the breaks run that it begins
+unfoldable pub decided : ℕ → Rooms → CoreState → Ask → Answered
+decided n left s a = acted n left s a a.act
+
+-- the way that is made for it, where it asks for something that is held then
+abbrev pub way : Rooms → CoreState → Ask → List Effect × CoreState
+way left s a = made_way (plea_of left s a) (asked_claims a (asked_whats a.act) s.names) s
+
+-- an answer behind what was told before
+abbrev pub behind_way : List Effect → Answered → Answered
+behind_way told r = (r.0, told ++ r.1, r.2)
+
+-- what an ask is answered before its wish is granted: the breaks begin that it begins, and then it is judged
+unfoldable pub before_wish : ℕ → Rooms → CoreState → Ask → Answered
+before_wish n left s a = behind_way (way left s a).0 (decided n left (way left s a).1 a)
+
+-- a wish comes with a share, or by itself
+abbrev pub does_wish : Act → Bool
+does_wish (Share access deny) = true
+does_wish (Ranges ranges) = false
+does_wish (Test extent exclusive) = false
+does_wish (Unlock extent) = false
+does_wish Wish = true
+
+-- the state once the wish is granted of an ask that is answered so
+abbrev pub wish_after : Ask → Answer → CoreState → CoreState
+wish_after a answer s = if does_wish a.act then wish_for a.wish answer s else s
+
+abbrev pub with_wish : Ask → Answered → Answered
+with_wish a r = (r.0, r.1, wish_after a r.0 r.2)
 
 -- What an ask is answered, what it tells of, and what it leaves, where this room is left in the fronts' tables and n
--- stores succeed in the step.
+-- stores succeed in the step: the breaks begin that it begins, then it is judged, and where it is granted its wish is.
 unfoldable pub ask : ℕ → Rooms → CoreState → Ask → Answered
-ask n left s a = acted n left s a a.act
+ask n left s a = with_wish a (before_wish n left s a)

@@ -1,5 +1,5 @@
 -- What is done to the core: its calls as values, what each gives, and who waits after them.
-use Rattle.std.specs.Prelude.{◌≡◌, ℕ, zero, suc, Bool, true, false, not, ◌||◌, length, List, [], ◌∷◌, ◌++◌, Option, Some, None}
+use Rattle.std.specs.Prelude.{◌≡◌, ◌==◌, if◌then◌else◌, ℕ, zero, suc, Bool, true, false, not, ◌||◌, length, List, [], ◌∷◌, ◌++◌, Option, Some, None}
 use Rattle.std.specs.List.{filter, slice_get}
 use Rattle.xl_base.specs.Lists.{IsIn}
 use Rattle.xl_base.specs.declared.event.Moment.{Moment}
@@ -15,12 +15,15 @@ use Rattle.xl_wait.specs.declared.waiter.Rooms.{Rooms}
 use Rattle.xl_wait.specs.declared.waiter.Waiter.{Waiter}
 use Rattle.xl_core.specs.State.{CoreState, drawn}
 use Rattle.xl_core.specs.Asking.{party_named, asked_whats, asked_claims, IsFit}
-use Rattle.xl_core.specs.Decide.{waiter_of, ask}
+use Rattle.xl_core.specs.Causes.{held_once}
+use Rattle.xl_core.specs.Decide.{waiter_of, way, before_wish, does_wish, ask}
+use Rattle.xl_core.specs.Wishes.{caches_wished}
 use Rattle.xl_table.specs.Flat.{removed}
 use Rattle.xl_table.specs.Held.{is_range}
 use Rattle.xl_core.specs.Breaks.{may_be_left, with_rest, ack, first_due, client_of}
 use Rattle.xl_core.specs.Leases.{first_ended}
-use Rattle.xl_core.specs.Settle.{settle, waits_for, cancel, give_back, share_has, weaken, end_party}
+use Rattle.xl_core.specs.Good.{caches_of}
+use Rattle.xl_core.specs.Settle.{next_way, settle, waits_for, cancel, give_back, share_has, weaken, end_party}
 use Rattle.xl_core.specs.Ticks.{advanced, renew, expire, lapse, lapsed_for}
 use Rattle.xl_core.specs.declared.ask.Answer.{Answer}
 use Rattle.xl_core.specs.declared.ask.Answer.TheVariants.{Queued}
@@ -129,8 +132,9 @@ queue_with s a answer waiters = waiters
 
 -- one who is served waits no more
 abbrev pub queue_without : List Effect → List Waiter → List Waiter
+queue_without [] waiters = waiters
 queue_without (Served id answer ∷ effects) waiters = cancelled id waiters
-queue_without effects waiters = waiters
+queue_without (effect ∷ effects) waiters = queue_without effects waiters
 
 -- those of a party that ends wait no more
 abbrev pub queue_without_party : Option Party → List Waiter → List Waiter
@@ -197,21 +201,47 @@ abbrev pub caches_without : List Name → Claim → Option (List ℕ) → List C
 caches_without names cache None caches = removed cache caches
 caches_without names cache (Some client) caches = caches_without_party (party_named names (NfsParty client)) caches
 
+-- the caches for which the waiter of this number wishes
+abbrev pub wish_by_number : ℕ → List Waiter → List CacheKind
+wish_by_number id [] = []
+wish_by_number id (w ∷ ws) = if w.id == id then w.wish else wish_by_number id ws
+
+-- what the waiter of this number asks for
+abbrev pub asked_by : ℕ → List Waiter → List Claim
+asked_by id [] = []
+asked_by id (w ∷ ws) = if w.id == id then w.asked else asked_by id ws
+
+-- the state once the waiter of this number is answered so, before its wish is granted
+abbrev pub once_served : CoreState → ℕ → Answer → CoreState
+once_served s id answer = record s { claims = held_once (asked_by id s.waiters) answer s.claims; waiters = cancelled id s.waiters }
+
+-- the caches once the wish is granted of one who is served
+abbrev pub caches_served : CoreState → List Effect → List Claim → List Claim
+caches_served s [] caches = caches
+caches_served s (Served id answer ∷ effects) caches = caches_wished (wish_by_number id s.waiters) answer (once_served s id answer) caches
+caches_served s (effect ∷ effects) caches = caches_served s effects caches
+
+-- and that of an ask
+abbrev pub caches_asked : ℕ → Rooms → CoreState → Ask → List Claim → List Claim
+caches_asked n left s a caches = if does_wish a.act then caches_wished a.wish (ask n left s a).0 (before_wish n left s a).2 caches else caches
+
 -- The caches after one deed, of those that were held: one that is given back goes; of one whose break is answered that is
 -- left which the answer says; one whose deadline passed goes, or those of its client; and those of a party that ends go.
--- No deed makes one.
-abbrev pub caches_after : CoreState → Deed → List Claim → List Claim
-caches_after s (GivesBack claim) caches = removed claim caches
-caches_after s (Acks cache to) caches = with_rest cache to caches
-caches_after s (Ends party) caches = caches_without_party (Some party) caches
-caches_after s (Lapses cache) caches = caches_without s.names cache (client_of s.names cache.party) caches
-caches_after s (Expires client) caches = caches_without_party (party_named s.names (NfsParty client)) caches
-caches_after s _ caches = caches
+-- Where an ask or a turn begins breaks those are left that are left then, and what is granted has the cache that its wish gets.
+abbrev pub caches_after : ℕ → CoreState → Deed → List Claim → List Claim
+caches_after n s (Asks left a) caches = caches_asked n left s a (caches_of (way left s a).1.claims)
+caches_after n s (Serves left) caches = caches_served (next_way s).1 (given n s (Serves left)).1 (caches_of (next_way s).1.claims)
+caches_after n s (GivesBack claim) caches = removed claim caches
+caches_after n s (Acks cache to) caches = with_rest cache to caches
+caches_after n s (Ends party) caches = caches_without_party (Some party) caches
+caches_after n s (Lapses cache) caches = caches_without s.names cache (client_of s.names cache.party) caches
+caches_after n s (Expires client) caches = caches_without_party (party_named s.names (NfsParty client)) caches
+caches_after n s _ caches = caches
 
 -- and after these
 abbrev pub all_caches_after : ℕ → CoreState → List Deed → List Claim → List Claim
 all_caches_after n s [] caches = caches
-all_caches_after n s (d ∷ ds) caches = all_caches_after n (done n s d) ds (caches_after s d caches)
+all_caches_after n s (d ∷ ds) caches = all_caches_after n (done n s d) ds (caches_after n s d caches)
 
 -- ---- breaks that run
 

@@ -9,8 +9,8 @@ use Rattle.xl_wait.specs.declared.waiter.Rooms.{Rooms}
 use Rattle.xl_core.specs.State.{CoreState}
 use Rattle.xl_core.specs.Asking.{range_what, both_entered, asked_what, asked_claim, asked_claims, known_claim}
 use Rattle.xl_core.specs.Limits.{IsRoom}
-use Rattle.xl_core.specs.Causes.{limits_of_grant, IsClaimDue, IsTestDue, IsUnlockDue, IsElementDue, IsEachDue, IsTurn}
-use Rattle.xl_core.specs.Decide.{ask}
+use Rattle.xl_core.specs.Causes.{limits_of_grant, IsClaimDue, IsWishDue, IsTestDue, IsUnlockDue, IsElementDue, IsEachDue, IsTurn}
+use Rattle.xl_core.specs.Decide.{way, ask}
 use Rattle.xl_core.specs.Breaks.{first_due}
 use Rattle.xl_core.specs.Deeds.{Deed, Asks, Serves, Lapses, Expires, done}
 use Rattle.xl_core.specs.Leases.{first_ended}
@@ -52,6 +52,7 @@ IsBytesDue s claim first last false answer = IsElementDue s claim (extents.Bytes
 abbrev pub IsAnswerDue : Rooms → CoreState → Ask → Act → Answer → Type 0
 IsAnswerDue left s a (acts.Share access deny) answer = IsWhatDue left s a (asked_what (acts.Share access deny)) answer
 IsAnswerDue left s a (acts.Ranges ranges) answer = IsRangesDue left s a ranges answer
+IsAnswerDue left s a acts.Wish answer = IsWishDue left s a a.wish answer
 IsAnswerDue left s a (acts.Test extent exclusive) answer = IsTestDue s a (known_claim a extent exclusive s.names) answer
 IsAnswerDue left s a (acts.Unlock (extents.Bytes first last)) answer =
     let claim = known_claim a (extents.Bytes first last) false s.names in IsBytesDue s claim first last (posix claim.owner) answer
@@ -65,7 +66,7 @@ pub record IsTurnOwed (n : ℕ) (left : Rooms) (s : CoreState) : Type 0 where
 -- what is due to a deed: an ask its answer, a turn to who may have it; of the breaks whose deadline has come the one that is
 -- due first is over; and of those whose lease has ended the first by id string expires
 abbrev pub IsDue : ℕ → CoreState → Deed → Type 0
-IsDue n s (Asks left a) = IsAnswerDue left s a a.act (ask n left s a).0
+IsDue n s (Asks left a) = IsAnswerDue left (way left s a).1 a a.act (ask n left s a).0
 IsDue n s (Serves left) = IsTurnOwed n left s
 IsDue n s (Lapses cache) = first_due s ≡ Some cache
 IsDue n s (Expires client) = first_ended s.clock s.leases ≡ Some client

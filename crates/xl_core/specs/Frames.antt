@@ -1,5 +1,5 @@
 -- What each call of the core leaves alone, what it may raise, and who leaves the queue by it.
-use Rattle.std.specs.Prelude.{◌≡◌, ℕ, ◌+◌, Bool, true, false, if◌then◌else◌, List, [], ◌∷◌, ◌++◌, length, ◌≤◌}
+use Rattle.std.specs.Prelude.{◌≡◌, ℕ, suc, ◌+◌, Some, Bool, true, false, if◌then◌else◌, List, [], ◌∷◌, ◌++◌, length, ◌≤◌}
 use Rattle.xl_names.specs.declared.name.Name.{Name}
 use Rattle.xl_wait.specs.Waiting.{is_waiting, cancelled}
 use Rattle.xl_wait.specs.declared.waiter.Waiter.{Waiter}
@@ -10,12 +10,12 @@ use Rattle.xl_core.specs.Asking.{both_entered, asked_whats, asked_claims}
 use Rattle.xl_core.specs.Decide.{waiter_of}
 use Rattle.xl_core.specs.Settle.{all_cancelled}
 use Rattle.xl_core.specs.declared.ask.Act.{Act}
-use Rattle.xl_core.specs.declared.ask.Act.TheVariants.{Share, Ranges, Test, Unlock}
+use Rattle.xl_core.specs.declared.ask.Act.TheVariants.{Share, Ranges, Test, Unlock, Wish}
 use Rattle.xl_core.specs.declared.ask.Answer.{Answer}
 use Rattle.xl_core.specs.declared.ask.Answer.TheVariants.{Granted, Queued}
 use Rattle.xl_core.specs.declared.ask.Ask.{Ask}
 use Rattle.xl_core.specs.declared.ask.Effect.{Effect}
-use Rattle.xl_core.specs.declared.ask.Effect.TheVariants.{Served, Cancelled}
+use Rattle.xl_core.specs.declared.ask.Effect.TheVariants.{Begun, Served, Cancelled}
 
 -- ---- who leaves the queue
 
@@ -33,6 +33,15 @@ who_left (effect ∷ effects) = with_told effect (who_left effects)
 abbrev pub AllLeave : List ℕ → List Waiter → Type 0
 AllLeave [] ws = Unit {0}
 AllLeave (id ∷ ids) ws = (is_waiting id ws ≡ true) × AllLeave ids (cancelled id ws)
+
+-- how many of these are told by a call of the server's own, which has a number
+abbrev pub with_call : Effect → ℕ → ℕ
+with_call (Begun cache to (Some number)) calls = suc calls
+with_call _ calls = calls
+
+abbrev pub calls_in : List Effect → ℕ
+calls_in [] = 0
+calls_in (effect ∷ effects) = with_call effect (calls_in effects)
 
 -- nobody is told that it was served
 abbrev pub serves_none : List Effect → Bool
@@ -78,6 +87,7 @@ asks_to_hold (Share access deny) = true
 asks_to_hold (Ranges ranges) = true
 asks_to_hold (Test extent exclusive) = false
 asks_to_hold (Unlock extent) = false
+asks_to_hold Wish = true
 
 -- the names that are kept then: those of one that was granted what it holds, or that waits, with the others
 abbrev pub names_after : Ask → Answer → List Name → List Name

@@ -1,5 +1,5 @@
 -- What the core's state keeps at each free moment.
-use Rattle.std.specs.Prelude.{◌≡◌, ℕ, ◌≤◌, Bool, true, false, not, ◌&&◌, ◌||◌, ◌==◌, List, [], ◌∷◌, length, Option, Some}
+use Rattle.std.specs.Prelude.{◌≡◌, ℕ, ◌≤◌, Bool, true, false, not, ◌&&◌, ◌==◌, if◌then◌else◌, List, [], ◌∷◌, length, Option, Some}
 use Rattle.std.specs.List.{AllByRecursion, filter, slice_get}
 use Rattle.xl_base.specs.Lists.{Pairwise}
 use Rattle.xl_base.specs.Stable.{same_protocol}
@@ -8,10 +8,12 @@ use Rattle.xl_base.specs.declared.name.Owner.TheVariants as owners
 use Rattle.xl_base.specs.declared.name.Party.{Party}
 use Rattle.xl_base.specs.declared.name.Party.TheVariants as parties
 use Rattle.xl_base.specs.declared.name.Protocol.{Protocol}
-use Rattle.xl_cache.specs.Parties.{is_cache_of}
+use Rattle.xl_cache.specs.Parties.{is_kind_of, is_cache_of}
+use Rattle.xl_cache.specs.Targets.{is_delegation}
 use Rattle.xl_matrix.specs.Equal.{same_owners, same_parties}
 use Rattle.xl_matrix.specs.Matrix.{compat}
 use Rattle.xl_matrix.specs.Owners.{posix}
+use Rattle.xl_matrix.specs.declared.claim.CacheKind.{CacheKind}
 use Rattle.xl_matrix.specs.declared.claim.Claim.{Claim}
 use Rattle.xl_matrix.specs.declared.claim.Extent.TheVariants.{Bytes}
 use Rattle.xl_matrix.specs.declared.claim.What.{What}
@@ -19,11 +21,11 @@ use Rattle.xl_matrix.specs.declared.claim.What.TheVariants.{Share, Range, Cache}
 use Rattle.xl_names.specs.Names.{protocol_of, AreDistinct, most_names}
 use Rattle.xl_names.specs.declared.name.Name.{Name}
 use Rattle.xl_table.specs.Flat.{is_blocked}
-use Rattle.xl_table.specs.Held.{is_cache, may_own, IsKept, IsGrantable, IsShareOrLock}
+use Rattle.xl_table.specs.Held.{is_share, is_cache, may_own, IsKept, IsGrantable, IsShareOrLock}
 use Rattle.xl_wait.specs.declared.waiter.Waiter.{Waiter}
 use Rattle.xl_core.specs.State.{CoreState}
 use Rattle.xl_core.specs.Asking.{client_of, is_name}
-use Rattle.xl_core.specs.Blockers.{is_stopped}
+use Rattle.xl_core.specs.Blockers.{is_stopped, all_run}
 use Rattle.xl_core.specs.Judge.{IsRow}
 use Rattle.xl_core.specs.Limits.{most_waiters}
 
@@ -87,9 +89,14 @@ abbrev pub IsPled : List Claim → Type 0
 IsPled [] = ⊥
 IsPled (c ∷ cs) = IsRow (c ∷ cs) × AllByRecursion (λ d. d.file ≡ c.file) cs
 
+-- the caches for which one wishes who waits for these: with a share alone, of kinds that its party may have, and no delegations
+abbrev pub IsWished : List CacheKind → List Claim → Type 0
+IsWished kinds [] = Unit {0}
+IsWished kinds (c ∷ cs) = AllByRecursion (λ kind. (is_kind_of c.party kind ≡ true) × (is_share c.what ≡ true) × (is_delegation kind ≡ false)) kinds
+
 -- one who waits, under a number that was given out, for shares or ranges
 abbrev pub IsWaiter : List Name → ℕ → Waiter → Type 0
-IsWaiter names counter w = (w.id ≤ counter) × AllByRecursion (IsKnown names) w.asked × IsPled w.asked
+IsWaiter names counter w = (w.id ≤ counter) × AllByRecursion (IsKnown names) w.asked × IsPled w.asked × IsWished w.wish w.asked
 
 -- ---- the state
 
@@ -116,15 +123,19 @@ holding s cs = record s { claims = cs }
 abbrev pub caches_of : List Claim → List Claim
 caches_of cs = filter (λ c. is_cache c.what) cs
 
--- no cache is held: so it stays as long as no ask gets one
-abbrev pub AreUncached : List Claim → Type 0
-AreUncached cs = caches_of cs ≡ []
+-- the caches but that of this party on this file
+abbrev pub caches_but : ℕ → Party → List Claim → List Claim
+caches_but file party caches = filter (λ c. not (is_cache c.what && ((c.file == file) && same_parties c.party party))) caches
+
+abbrev pub caches_beside : ℕ → Party → List Claim → List Claim
+caches_beside file party cs = caches_but file party (caches_of cs)
 
 -- ---- nobody is forgotten
 
--- something held blocks the claim; where it does so for good the waiter waits for that, and else for a cache
+-- something held blocks the claim; where it does so for good the waiter waits for that, and else for the answers to breaks, all
+-- of which run
 abbrev pub is_held_up : List Claim → Waiter → Claim → Bool
-is_held_up held w c = is_blocked held c && (w.blocking || not (is_stopped held c))
+is_held_up held w c = is_blocked held c && (if is_stopped held c then w.blocking else all_run held c)
 
 -- of several claims the first is held up
 abbrev pub holds_up : List Claim → Waiter → List Claim → Bool

@@ -4,12 +4,14 @@ pub mod Asking
 pub mod Blockers
 pub mod Limits
 pub mod Judge
+pub mod Ways
 pub mod Decide
 pub mod Settle
 pub mod Breaks
 pub mod Begin
 pub mod Breaking
 pub mod Wishes
+pub mod Numbers
 pub mod Ticks
 pub mod Watch
 pub mod Good

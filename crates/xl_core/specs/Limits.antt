@@ -21,6 +21,11 @@ abbrev pub wait_limits : Rooms → Rooms → ℕ → ℕ → List (ℕ × Bool)
 wait_limits left rows waiting kept =
     (most_hosts, nat_lt left.hosts rows.hosts) ∷ (most_waiters, nat_le most_waiters waiting) ∷ (most_names, nat_lt most_names kept) ∷ []
 
+-- each limit of a wish by itself: so many claims may be held afterwards as are, and then it gets no cache
+abbrev pub wish_limits : Rooms → Rooms → ℕ → List (ℕ × Bool)
+wish_limits left rows kept =
+    (most_hosts, nat_lt left.hosts rows.hosts) ∷ (most_opens, nat_lt left.opens rows.opens) ∷ (most_owners, nat_lt left.owners rows.owners) ∷ (most_names, nat_lt most_names kept) ∷ []
+
 -- the first limit that is passed
 abbrev pub first_passed : List (ℕ × Bool) → Option ℕ
 first_passed [] = None

@@ -19,17 +19,23 @@ use Rattle.xl_table.specs.Elements.{elements_of, unlocked_elements}
 use Rattle.xl_table.specs.Flat.{with_what}
 use Rattle.xl_table.specs.Held.{is_cache, is_of, spans_of}
 use Rattle.xl_names.specs.declared.name.Name.TheVariants.{NfsParty}
-use Rattle.xl_wait.specs.declared.waiter.Waiter.{Waiter}
+use Rattle.xl_cache.specs.declared.wish.Wish.{Wish}
+use Rattle.xl_wait.specs.declared.waiter.Rooms.{Rooms}
 use Rattle.xl_core.specs.State.{CoreState}
-use Rattle.xl_core.specs.Decide.{ask}
+use Rattle.xl_core.specs.Begin.{begun_at}
+use Rattle.xl_core.specs.Decide.{way, before_wish, does_wish, ask}
+use Rattle.xl_core.specs.Wishes.{wished_kind, wish_of, wished_at}
+use Rattle.xl_core.specs.Leases.{moment_after}
+use Rattle.xl_core.specs.Settle.{next_way}
 use Rattle.xl_core.specs.Asking.{party_named, range_what}
 use Rattle.xl_core.specs.Breaks.{client_of}
-use Rattle.xl_core.specs.Deeds.{Deed, Asks, GivesBack, Weakens, Acks, Ends, Serves, Lapses, Expires, given, done}
+use Rattle.xl_core.specs.Deeds.{wish_by_number, asked_by, once_served, Deed, Asks, GivesBack, Weakens, Acks, Ends, Serves, Lapses, Expires, given, done}
 use Rattle.xl_table.specs.Relock.{is_exclusive, is_range_of, shares_of, old_shares, united_by, granted_claims}
 use Rattle.xl_core.specs.declared.ask.Act.{Act}
 use Rattle.xl_core.specs.declared.ask.Act.TheVariants as acts
 use Rattle.xl_core.specs.declared.ask.Answer.{Answer}
 use Rattle.xl_core.specs.declared.ask.Answer.TheVariants.{Granted}
+use Rattle.xl_core.specs.declared.ask.Ask.{Ask}
 use Rattle.xl_core.specs.declared.ask.Effect.{Effect}
 use Rattle.xl_core.specs.declared.ask.Effect.TheVariants.{Served}
 
@@ -152,13 +158,14 @@ abbrev pub unlocked_for : List Claim → Extent → Answer → Place → Option 
 unlocked_for held extent (Granted c) p = unlocked_at held extent c p
 unlocked_for held extent answer p = None
 
--- a granted share or lock is entered, of several ranges each; a granted unlock clears its range; a test and any other answer
--- leave all
+-- a granted share or lock is entered, of several ranges each; a granted unlock clears its range; a test, a wish by itself and any
+-- other answer leave all
 abbrev pub answered_at : List Claim → Act → Answer → Place → Option (List What)
 answered_at held (acts.Share access deny) answer p = entered_for held answer p
 answered_at held (acts.Ranges ranges) answer p = all_entered_for held ranges answer p
 answered_at held (acts.Test extent exclusive) answer p = None
 answered_at held (acts.Unlock extent) answer p = unlocked_for held extent answer p
+answered_at held acts.Wish answer p = None
 
 -- a party that ends leaves nothing at a place where it has something
 abbrev pub ended_at : List Claim → Party → Place → Option (List What)
@@ -173,28 +180,48 @@ abbrev pub lapsed_at : CoreState → Claim → Option (List ℕ) → Place → O
 lapsed_at s cache None p = cleared_at cache p
 lapsed_at s cache (Some client) p = ended_some s.claims (party_named s.names (NfsParty client)) p
 
--- what the waiter of this number asks for
-abbrev pub asked_by : ℕ → List Waiter → List Claim
-asked_by id [] = []
-asked_by id (w ∷ ws) = if w.id == id then w.asked else asked_by id ws
-
 abbrev pub served_at : List Claim → List Claim → Answer → Place → Option (List What)
 served_at held asked (Granted c) p = all_entered_at held asked p
 served_at held asked answer p = None
 
 -- a waiter that is granted what it waited for has all of that
 abbrev pub told_at : CoreState → List Effect → Place → Option (List What)
+told_at s [] p = None
 told_at s (Served id answer ∷ effects) p = served_at s.claims (asked_by id s.waiters) answer p
-told_at s effects p = None
+told_at s (effect ∷ effects) p = told_at s effects p
 
--- what the deed makes of the place
+-- a wish that gets a kind leaves the party's cache on the file at that kind
+abbrev pub wish_at : Wish → CoreState → Place → Option (List What)
+wish_at wanted s (CacheOf file party) = wished_at wanted (wished_kind wanted s) file party
+wish_at wanted s p = None
+
+abbrev pub wished_for : List CacheKind → Answer → CoreState → Place → Option (List What)
+wished_for kinds (Granted c) s p = wish_at (wish_of kinds c) s p
+wished_for kinds answer s p = None
+
+-- so does that of an ask that is granted
+abbrev pub wished_by : ℕ → Rooms → CoreState → Ask → Place → Option (List What)
+wished_by n left s a p = if does_wish a.act then wished_for a.wish (ask n left s a).0 (before_wish n left s a).2 p else None
+
+-- and that of a waiter that is granted what it waited for
+abbrev pub wished_then : CoreState → List Effect → Place → Option (List What)
+wished_then s [] p = None
+wished_then s (Served id answer ∷ effects) p = wished_for (wish_by_number id s.waiters) answer (once_served s id answer) p
+wished_then s (effect ∷ effects) p = wished_then s effects p
+
+-- of a cache of whose break these tell there is left what that says
+abbrev pub broken_at : CoreState → List Effect → Place → Option (List What)
+broken_at s told (CacheOf file party) = begun_at (moment_after s.clock s.times.break_time) file party told
+broken_at s told p = None
+
+-- what the deed makes of the place: of an ask or a turn first the breaks that began, then what was granted, then the wish
 abbrev pub made : ℕ → CoreState → Deed → Place → Option (List What)
-made n s (Asks left a) p = answered_at s.claims a.act (ask n left s a).0 p
+made n s (Asks left a) p = then_entered (then_entered (broken_at s (way left s a).0 p) (answered_at (way left s a).1.claims a.act (ask n left s a).0 p)) (wished_by n left s a p)
 made n s (GivesBack claim) p = cleared_at claim p
 made n s (Weakens share access deny) p = weakened_at share access deny p
 made n s (Acks cache to) p = acked_at cache to p
 made n s (Ends party) p = ended_at s.claims party p
-made n s (Serves left) p = told_at s (given n s (Serves left)).1 p
+made n s (Serves left) p = then_entered (then_entered (broken_at s (next_way s).0 p) (told_at (next_way s).1 (given n s (Serves left)).1 p)) (wished_then (next_way s).1 (given n s (Serves left)).1 p)
 made n s (Lapses cache) p = lapsed_at s cache (client_of s.names cache.party) p
 made n s (Expires client) p = ended_some s.claims (party_named s.names (NfsParty client)) p
 made n s d p = None

@@ -1,5 +1,5 @@
 -- Who waits, and whose turn comes.
-use Rattle.std.specs.Prelude.{◌≡◌, ℕ, Bool, true, false, not, ◌&&◌, if◌then◌else◌, List, [], ◌∷◌, ◌++◌, length, map, Option, Some, None}
+use Rattle.std.specs.Prelude.{◌≡◌, ℕ, ◌+◌, Bool, true, false, not, ◌&&◌, if◌then◌else◌, List, [], ◌∷◌, ◌++◌, length, map, Option, Some, None}
 use Rattle.std.specs.List.{filter, list_any}
 use Rattle.xl_base.specs.declared.name.Party.{Party}
 use Rattle.xl_matrix.specs.Equal.{same_parties}
@@ -13,8 +13,11 @@ use Rattle.xl_wait.specs.Waiting.{cancelled}
 use Rattle.xl_wait.specs.declared.waiter.Rooms.{Rooms}
 use Rattle.xl_wait.specs.declared.waiter.Waiter.{Waiter}
 use Rattle.xl_core.specs.State.{CoreState}
+use Rattle.xl_core.specs.Begin.{idle_caches}
 use Rattle.xl_core.specs.Good.{holds_up}
 use Rattle.xl_core.specs.Judge.{Ruled, judged}
+use Rattle.xl_core.specs.Ways.{made_way}
+use Rattle.xl_core.specs.Wishes.{wish_for}
 use Rattle.xl_core.specs.declared.ask.Answer.{Answer}
 use Rattle.xl_core.specs.declared.ask.Answer.TheVariants.{Granted, NotHeld}
 use Rattle.xl_core.specs.declared.ask.Effect.{Effect}
@@ -44,14 +47,26 @@ all_of (c ∷ cs) = Granted c
 abbrev pub served : Waiter → Answer → List Effect → CoreState → List Effect × CoreState
 served w answer told s = (told ++ Served w.id answer ∷ [], record s { waiters = cancelled w.id s.waiters })
 
+-- and then its wish is granted, as it waits no more
+abbrev pub with_its_wish : Waiter → Answer → List Effect × CoreState → List Effect × CoreState
+with_its_wish w answer r = (r.0, wish_for w.wish answer r.1)
+
 abbrev pub turned : Waiter → Ruling → List Effect → CoreState → List Effect × CoreState
-turned w Gets told s = served w (all_of w.asked) told s
+turned w Gets told s = with_its_wish w (all_of w.asked) (served w (all_of w.asked) told s)
 turned w Waits told s = (told, s)
 turned w (Told answer) told s = served w answer told s
 
--- what is judged of a waiter behind these
+-- what is ruled behind what was told before
+abbrev pub ruled_behind : List Effect → Ruled → Ruled
+ruled_behind told r = (r.0, told ++ r.1, r.2)
+
+-- the way that is made for a waiter
+abbrev pub way_again : CoreState → Waiter → List Effect × CoreState
+way_again s w = made_way (plea_again s w) w.asked s
+
+-- what is judged of a waiter behind these, once the breaks run that it begins
 abbrev pub again : ℕ → Rooms → CoreState → List Waiter → Waiter → Ruled
-again n left s earlier w = judged n earlier left (plea_again s w) w.asked s
+again n left s earlier w = let way = way_again s w in ruled_behind way.0 (judged n earlier left (plea_again s w) w.asked way.1)
 
 abbrev pub turn_or : Waiter → Ruled → Option (List Effect × CoreState) → Option (List Effect × CoreState)
 turn_or w r later = if rests r.0 r.1 then later else Some (turned w r.0 r.1 r.2)
@@ -65,6 +80,10 @@ first_turn n left s earlier (w ∷ ws) = turn_or w (again n left s earlier w) (f
 unfoldable pub settle : ℕ → Rooms → CoreState → Option (List Effect × CoreState)
 settle n left s = first_turn n left s [] s.waiters
 
+-- how many turns there may be at most: each takes a waiter out, which may be served with a cache, or begins a break
+abbrev pub turns_left : CoreState → ℕ
+turns_left s = length s.waiters + length s.waiters + idle_caches s.claims
+
 -- each of these waits on, behind those before it, and nothing begins or changes
 abbrev pub AllRest : ℕ → Rooms → CoreState → List Waiter → List Waiter → Type 0
 AllRest n left s earlier [] = Unit {0}
@@ -73,12 +92,21 @@ AllRest n left s earlier (w ∷ ws) = (again n left s earlier w ≡ (Waits, [], 
 -- ---- how the first that has a turn is found
 
 abbrev pub called_of : CoreState → Waiter → Called
-called_of s w = record { id = w.id; asked = w.asked; plea = plea_again s w }
+called_of s w = record { id = w.id; asked = w.asked; wish = w.wish; plea = plea_again s w }
 
 -- the first of these that isn't held up
 abbrev pub first_called : CoreState → List Waiter → Option Called
 first_called s [] = None
 first_called s (w ∷ ws) = if holds_up s.claims w w.asked then first_called s ws else Some (called_of s w)
+
+-- the way that is made for one who is called
+abbrev pub way_called : CoreState → Option Called → List Effect × CoreState
+way_called s None = ([], s)
+way_called s (Some called) = made_way called.plea called.asked s
+
+-- the way of the next turn
+abbrev pub next_way : CoreState → List Effect × CoreState
+next_way s = way_called s (first_called s s.waiters)
 
 -- ---- who leaves
 

@@ -8,10 +8,11 @@ use Rattle.xl_wait.specs.declared.waiter.Waiter.{Waiter}
 use Rattle.xl_core.specs.State.{CoreState}
 use Rattle.xl_core.specs.Good.{is_held_up}
 use Rattle.xl_core.specs.declared.ask.Act.{Act}
-use Rattle.xl_core.specs.declared.ask.Act.TheVariants.{Share, Ranges, Test, Unlock}
+use Rattle.xl_core.specs.declared.ask.Act.TheVariants.{Share, Ranges, Test, Unlock, Wish}
 use Rattle.xl_core.specs.declared.ask.Answer.{Answer}
 use Rattle.xl_core.specs.declared.ask.Answer.TheVariants.{Granted}
 use Rattle.xl_core.specs.declared.ask.Ask.{Ask}
+use Rattle.xl_core.specs.declared.ask.Effect.{Effect}
 use Rattle.xl_core.specs.declared.unsettled.Unsettled.{Unsettled}
 use Rattle.xl_core.specs.declared.unsettled.Unsettled.TheVariants.{Nothing, File, All}
 
@@ -37,10 +38,12 @@ may_free (Share access deny) answer = is_granted answer
 may_free (Ranges ranges) answer = is_granted answer
 may_free (Test extent exclusive) answer = false
 may_free (Unlock extent) answer = is_granted answer
+may_free Wish answer = is_granted answer
 
--- the unsettled files then
-abbrev pub left_by_ask : Ask → Answer → Unsettled → Unsettled
-left_by_ask a answer unsettled = if may_free a.act answer then with_file a.file unsettled else unsettled
+-- the unsettled files then: its own where it told of breaks that began, or may have changed what is held there
+abbrev pub left_by_ask : Ask → Answer → List Effect → Unsettled → Unsettled
+left_by_ask a answer [] unsettled = if may_free a.act answer then with_file a.file unsettled else unsettled
+left_by_ask a answer (effect ∷ told) unsettled = with_file a.file unsettled
 
 -- someone waits on one of them
 abbrev pub may_turn : Unsettled → List Waiter → Bool

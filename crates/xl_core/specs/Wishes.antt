@@ -12,6 +12,8 @@ use Rattle.xl_table.specs.Flat.{inserted, changed}
 use Rattle.xl_table.specs.Relock.{most_claims}
 use Rattle.xl_wait.specs.Waiting.{waits_on}
 use Rattle.xl_core.specs.State.{CoreState}
+use Rattle.xl_core.specs.declared.ask.Answer.{Answer}
+use Rattle.xl_core.specs.declared.ask.Answer.TheVariants.{Granted}
 
 -- there is room for the party's cache: it has this one on the file, or the table has room for one claim more
 abbrev pub has_room : Option Claim → List Claim → Bool
@@ -37,7 +39,25 @@ once_wished wanted (Some kind) held = cached wanted kind (find (is_its_cache wan
 unfoldable pub wish_granted : Wish → CoreState → CoreState
 wish_granted wanted s = record s { claims = once_wished wanted (wished_kind wanted s) s.claims }
 
+-- ---- the wish of one who asks
+
+-- the wish for these kinds of who has the claim
+abbrev pub wish_of : List CacheKind → Claim → Wish
+wish_of kinds c = record { file = c.file; owner = c.owner; party = c.party; kinds = kinds }
+
+-- the state once the wish for these kinds is granted of one who is answered so: of who is told that this claim is granted
+abbrev pub wish_for : List CacheKind → Answer → CoreState → CoreState
+wish_for kinds (Granted c) s = wish_granted (wish_of kinds c) s
+wish_for kinds _ s = s
+
+-- ---- what is held then
+
 -- what is held then of a party's cache on a file, where the wish got this kind; or none where it leaves that
 abbrev pub wished_at : Wish → Option CacheKind → ℕ → Party → Option (List What)
 wished_at wanted None file party = None
 wished_at wanted (Some kind) file party = if (wanted.file == file) && same_parties wanted.party party then Some (Cache kind None ∷ []) else None
+
+-- of the caches those that are held then, where these are held before
+abbrev pub caches_wished : List CacheKind → Answer → CoreState → List Claim → List Claim
+caches_wished kinds (Granted c) s caches = once_wished (wish_of kinds c) (wished_kind (wish_of kinds c) s) caches
+caches_wished kinds _ s caches = caches

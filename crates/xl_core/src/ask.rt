@@ -27,6 +27,8 @@ pub enum Act {
     Test(Extent, bool),
     /// That a range be unlocked (XNFS C702, NLM_UNLOCK; RFC 7530 16.12).
     Unlock(Extent),
+    /// The caches that the ask wishes for, and nothing else: a lease that is asked for again (MS-SMB2 3.3.5.9).
+    Wish,
 }
 
 /// One ask.
@@ -40,7 +42,7 @@ pub struct Ask {
     pub party: Who,
     /// What is asked for.
     pub act: Act,
-    /// The caches wished for once the ask is granted, the first choice first.
+    /// The caches wished for once the ask is granted, the first choice first: with a share, or by itself.
     pub wish: Sequence<CacheKind>,
     /// The connection that a late answer goes to; None where it is told by a call of its own.
     pub conn: Option<u64>,
@@ -61,7 +63,8 @@ pub struct Ask {
 #[derive(Clone, Copy)]
 pub enum Answer {
     /// Granted, with the claim that was asked. Of a test or an unlock it is the range, shared for an unlock, in which a
-    /// name without a number stands as 4,294,967,295.
+    /// name without a number stands as 4,294,967,295. Of a wish by itself it is the cache of the first choice, whatever the
+    /// wish got: that is seen in the table.
     Granted(Claim),
     /// This held claim blocks it: of ranges the least by first byte, then last byte (an empty range first), then
     /// exclusive before shared, then the owner's text; of shares the least by the owner's text.

@@ -2,7 +2,7 @@
 ghost use Rattle.std.specs.Prelude.{◌≡◌, List, IfOk};
 ghost use Rattle.xl_table.specs.Least.{least};
 ghost use Rattle.xl_wait.specs.declared.waiter.Waiter.{Waiter};
-ghost use Rattle.xl_core.specs.Blockers.{blockers, is_stopped, first_broken, cache_in, cache_against};
+ghost use Rattle.xl_core.specs.Blockers.{blockers, is_stopped, first_broken, all_run, cache_in, cache_against};
 ghost use Rattle.xl_core.specs.Whole.{state_of};
 
 use crate::breaking::{final_blockers, plan_for};
@@ -39,6 +39,14 @@ fn first_broken(breaks: &[(Claim, Option<CacheKind>)]) -> Option<Claim>
         [] => None,
         [begun, ..] => Some(begun.0),
     }
+}
+
+/// Whether no break is left to begin for the ask.
+pub(crate) fn all_run(alloc: Global, parts: &Parts, claim: &Claim) -> Result<bool, AllocError>
+    ensures { IfOk result (λ b. b ≡ all_run parts.now.table claim.now) }
+{
+    let plan = plan_for(alloc, parts, claim)?;
+    Ok(first_broken(plan.breaks.as_slice()).is_none())
 }
 
 /// The cache that a plan waits for, or else the first that it breaks.

@@ -1,22 +1,24 @@
 //! What an ask is answered.
-ghost use Rattle.std.specs.Prelude.{◌≡◌, ℕ, ◌+◌, ◌<◌, ◌≤◌, ◌^◌, true, [], ◌∷◌, length, None, IfOk, IfSome};
+ghost use Rattle.std.specs.Prelude.{◌≡◌, ℕ, ◌+◌, ◌<◌, ◌≤◌, ◌^◌, true, [], ◌∷◌, length, None, IfOk, IfSome, OnOk};
 ghost use Rattle.std.specs.List.{AllByRecursion};
 ghost use Rattle.xl_base.specs.Limits.{most_waiters, numbers_left};
 ghost use Rattle.xl_matrix.specs.Owners.{posix};
 ghost use Rattle.xl_names.specs.Names.{most_names};
 ghost use Rattle.xl_table.specs.Held.{is_range, has_one_party, IsShareOrLock, IsGrantable};
 ghost use Rattle.xl_core.specs.Asking.{both_entered, asked_whats, asked_claims, IsFitAct, IsFit, IsOrdered, is_client, may_hold, may_hold_all};
-ghost use Rattle.xl_core.specs.Decide.{plea_of, waiter_of, waiting, claims_asked, tested, unlocked_bytes, unlocked_one, unlocked, ask};
+ghost use Rattle.xl_core.specs.Decide.{plea_of, waiter_of, waiting, claims_asked, tested, unlocked_bytes, unlocked_one, unlocked, wish_asked, decided, way, before_wish, does_wish, ask};
 ghost use Rattle.xl_core.specs.Good.{IsGood};
 ghost use Rattle.xl_core.specs.Judge.{IsRow};
 ghost use Rattle.xl_core.specs.Whole.{state_of};
 ghost use Rattle.xl_core.specs.declared.ask.Act.TheVariants.{Ranges};
 
-use crate::ask::{Act, Answer, Ask};
+use crate::ask::{Act, Answer, Ask, Effect};
 use crate::asking::{asked_claim, asked_claims, count_names, enter_both, known_claim};
 use crate::judge::{Plea, Ruling, judge_all};
-use crate::limits::passed_by_wait;
+use crate::limits::{passed_by_wait, passed_by_wish};
 use crate::parts::Parts;
+use crate::ways::make_way;
+use crate::wishing::grant_for;
 use std::alloc::{AllocError, Global};
 use xl_base::Sequence;
 use xl_matrix::{Claim, Extent, What, is_posix};
@@ -65,7 +67,7 @@ fn waiter_of(alloc: Global, id: u32, ask: &Ask, claims: &[Claim]) -> Result<Wait
 fn wait(alloc: Global, parts: &mut Parts, ask: &Ask, claims: &[Claim]) -> Result<Answer, AllocError>
     requires room { length parts.old.queue < most_waiters }
     requires names { length (both_entered ask.now parts.old.names) ≤ most_names }
-    requires numbers { parts.old.counter + numbers_left < 2 ^ 32 }
+    requires numbers { parts.old.counter + 1 < 2 ^ 32 }
     ensures state { IfOk result (λ answer. state_of parts.new ≡ waiting ask.now claims.now (state_of parts.old)) }
     ensures answer { IfOk result (λ answer. answer ≡ Answer.Queued (parts.old.counter + 1)) }
     ensures made { parts.new.made ≡ parts.old.made }
@@ -95,7 +97,7 @@ fn ask_claims(
     requires client { is_client ask.now.owner ask.now.party ≡ true }
     requires row { IsRow claims.now }
     requires party { AllByRecursion (λ c. AllByRecursion (λ d. has_one_party c d ≡ true) parts.old.table) claims.now }
-    requires numbers { parts.old.counter + numbers_left < 2 ^ 32 }
+    requires numbers { parts.old.counter + 1 < 2 ^ 32 }
     ensures answer { (n : ℕ) → IfOk result (λ answer. claims_asked n left.now (state_of parts.old) ask.now claims.now ≡ (answer, [], state_of parts.new)) }
     ensures made { parts.new.made ≡ parts.old.made }
     ensures failed { parts.new.failed ≡ parts.old.failed }
@@ -210,7 +212,7 @@ fn ask_for(
     requires own { may_hold ask.now.owner what ≡ true }
     requires real { IsShareOrLock what }
     requires good { IsGood (state_of parts.old) }
-    requires numbers { parts.old.counter + numbers_left < 2 ^ 32 }
+    requires numbers { parts.old.counter + 1 < 2 ^ 32 }
     ensures answer { (n : ℕ) → IfOk result (λ answer. claims_asked n left.now (state_of parts.old) ask.now (asked_claims ask.now (what ∷ []) parts.old.names) ≡ (answer, [], state_of parts.new)) }
     ensures made { parts.new.made ≡ parts.old.made }
     ensures failed { parts.new.failed ≡ parts.old.failed }
@@ -231,7 +233,7 @@ fn ask_ranges(
     requires client { is_client ask.now.owner ask.now.party ≡ true }
     requires own { may_hold_all ask.now.owner ranges.now ≡ true }
     requires good { IsGood (state_of parts.old) }
-    requires numbers { parts.old.counter + numbers_left < 2 ^ 32 }
+    requires numbers { parts.old.counter + 1 < 2 ^ 32 }
     ensures answer { (n : ℕ) → IfOk result (λ answer. claims_asked n left.now (state_of parts.old) ask.now (asked_claims ask.now (asked_whats (Ranges ranges.now)) parts.old.names) ≡ (answer, [], state_of parts.new)) }
     ensures made { parts.new.made ≡ parts.old.made }
     ensures failed { parts.new.failed ≡ parts.old.failed }
@@ -240,9 +242,29 @@ fn ask_ranges(
     ask_claims(alloc, parts, left, ask, &claims)
 }
 
-/// Answers an ask.
-#[tactic(auto, unfolding(crate::specs::Decide::ask))]
-pub(crate) fn answer(
+/// Answers a wish by itself.
+#[tactic(auto, unfolding(crate::specs::Decide::wish_asked), using(crate::proofs::LimitLaws::wish_fits))]
+fn wish_alone(parts: &mut Parts, left: &Rooms, ask: &Ask) -> Result<Answer, AllocError>
+    requires client { is_client ask.now.owner ask.now.party ≡ true }
+    ensures answer { IfOk result (λ answer. wish_asked left.now (state_of parts.old) ask.now ask.now.wish ≡ (answer, [], state_of parts.new)) }
+    ensures made { parts.new.made ≡ parts.old.made }
+    ensures failed { parts.new.failed ≡ parts.old.failed }
+{
+    let [kind, ..] = ask.wish.as_slice() else {
+        return Ok(Answer::NotHeld);
+    };
+    let claim = asked_claim(&parts.names, ask, What::Cache(*kind, None));
+    let kept = count_names(&parts.names, ask);
+    if let Some(limit) = passed_by_wish(left, &ask.rows, kept) {
+        return Ok(Answer::Full(limit));
+    }
+    enter_both(&mut parts.names, ask)?;
+    Ok(Answer::Granted(claim))
+}
+
+/// Answers an ask, once its way is made.
+#[tactic(auto, unfolding(crate::specs::Decide::decided))]
+fn decided(
     alloc: Global,
     parts: &mut Parts,
     left: &Rooms,
@@ -250,8 +272,8 @@ pub(crate) fn answer(
 ) -> Result<Answer, AllocError>
     requires fit { IsFit request.now }
     requires good { IsGood (state_of parts.old) }
-    requires numbers { parts.old.counter + numbers_left < 2 ^ 32 }
-    ensures answer { (n : ℕ) → IfOk result (λ answer. ask n left.now (state_of parts.old) request.now ≡ (answer, [], state_of parts.new)) }
+    requires numbers { parts.old.counter + 1 < 2 ^ 32 }
+    ensures answer { (n : ℕ) → IfOk result (λ answer. decided n left.now (state_of parts.old) request.now ≡ (answer, [], state_of parts.new)) }
     ensures made { parts.new.made ≡ parts.old.made }
     ensures failed { parts.new.failed ≡ parts.old.failed }
 {
@@ -268,5 +290,69 @@ pub(crate) fn answer(
             let claim = known_claim(&parts.names, request, *extent, false);
             unlock(alloc, parts, &claim, *extent)
         }
+        Act::Wish => wish_alone(parts, left, request),
     }
+}
+
+/// Begins the breaks that an ask begins, and tells so.
+#[tactic(auto, unfolding(crate::specs::Ways::made_way))]
+fn make_way_for(
+    alloc: Global,
+    parts: &mut Parts,
+    left: &Rooms,
+    request: &Ask,
+) -> Result<Sequence<Effect>, AllocError>
+    requires fit { IsFit request.now }
+    requires good { IsGood (state_of parts.old) }
+    requires numbers { parts.old.counter + numbers_left < 2 ^ 32 }
+    ensures way { IfOk result (λ told. way left.now (state_of parts.old) request.now ≡ (told, state_of parts.new)) }
+    ensures few { OnOk result (parts.new.counter ≤ parts.old.counter + 16384) }
+    ensures made { parts.new.made ≡ parts.old.made }
+    ensures failed { parts.new.failed ≡ parts.old.failed }
+{
+    if !parts.table.has_cache(request.file) {
+        return Ok(Sequence::new(alloc));
+    }
+    match &request.act {
+        Act::Share(access, deny) => {
+            let claims = [asked_claim(&parts.names, request, What::Share(*access, *deny))];
+            let plea = plea_of(parts, left, request);
+            make_way(alloc, parts, &plea, &claims)
+        }
+        Act::Ranges(ranges) => {
+            let claims = asked_claims(alloc, &parts.names, request, ranges.as_slice())?;
+            let plea = plea_of(parts, left, request);
+            make_way(alloc, parts, &plea, &claims)
+        }
+        _ => Ok(Sequence::new(alloc)),
+    }
+}
+
+fn does_wish(act: &Act) -> bool
+    ensures { result ≡ does_wish act.now }
+{
+    matches!(act, Act::Share(_, _) | Act::Wish)
+}
+
+/// Answers an ask, tells of the breaks that it begins, and grants its wish where it is granted.
+#[tactic(auto, unfolding(crate::specs::Decide::before_wish, crate::specs::Decide::ask))]
+pub(crate) fn answer(
+    alloc: Global,
+    parts: &mut Parts,
+    left: &Rooms,
+    request: &Ask,
+) -> Result<(Answer, Sequence<Effect>), AllocError>
+    requires fit { IsFit request.now }
+    requires good { IsGood (state_of parts.old) }
+    requires numbers { parts.old.counter + numbers_left < 2 ^ 32 }
+    ensures answer { (n : ℕ) → IfOk result (λ r. ask n left.now (state_of parts.old) request.now ≡ (r.0, r.1, state_of parts.new)) }
+    ensures made { parts.new.made ≡ parts.old.made }
+    ensures failed { parts.new.failed ≡ parts.old.failed }
+{
+    let told = make_way_for(alloc, parts, left, request)?;
+    let answer = decided(alloc, parts, left, request)?;
+    if does_wish(&request.act) {
+        grant_for(alloc, parts, request.wish.as_slice(), answer)?;
+    }
+    Ok((answer, told))
 }

@@ -20,7 +20,7 @@ ghost use Rattle.xl_core.specs.Breaks.{first_due};
 ghost use Rattle.xl_core.specs.Ticks.{tick};
 ghost use Rattle.xl_core.specs.Deeds.{Deed, Asks, all_done, all_told_of, tick_deeds, AreFit, queue_after, all_caches_after, any_ends_break, KeepNames};
 ghost use Rattle.xl_core.specs.Dues.{AreDue};
-ghost use Rattle.xl_core.specs.Good.{IsGood, caches_of, AreUncached};
+ghost use Rattle.xl_core.specs.Good.{IsGood, caches_of};
 ghost use Rattle.xl_core.specs.Places.{IsChangedBy};
 ghost use Rattle.xl_core.specs.Rows.{Ran, all_ran, all_deeds};
 
@@ -28,9 +28,10 @@ ghost use Rattle.xl_core.specs.Rows.{Ran, all_ran, all_deeds};
 /// waits is who waited, but for those whom the deeds queued, took out, ended or served, in order. Each name keeps its
 /// number. Each deed is given what is due to it in the state in which it stands: what nothing stands against is granted,
 /// and each answer and each turn has its cause. The caches are those that were held, but for those that were given back, whose
-/// break was answered or is over, and those of parties that ended; so none is where none was. A cache whose break runs stands
-/// as it is, of its full kind, until its party answers or gives it back, ends or expires, or the deadline passes.
-#[tactic(auto, using(crate::proofs::DeedLists::deeds_good, crate::proofs::DeedLists::deeds_make, crate::proofs::DeedLists::deeds_queue, crate::proofs::DeedLists::deeds_names, crate::proofs::DeedLists::deeds_due, crate::proofs::DeedCaches::deeds_caches, crate::proofs::DeedCaches::deeds_uncached, crate::proofs::DeedCaches::deeds_keep_break))]
+/// break began, was answered or is over, and those of parties that ended; and with those that the wishes got of asks that were
+/// granted. A cache whose break runs stands as it is, of its full kind, until its party answers or gives it back, ends or
+/// expires, or the deadline passes.
+#[tactic(auto, using(crate::proofs::DeedLists::deeds_good, crate::proofs::DeedLists::deeds_make, crate::proofs::DeedLists::deeds_queue, crate::proofs::DeedLists::deeds_names, crate::proofs::DeedLists::deeds_due, crate::proofs::DeedCaches::deeds_caches, crate::proofs::DeedCaches::deeds_keep_break))]
 pub fn deeds_are_all_that_changes()
     ensures good { (n : ℕ) (s : CoreState) (ds : List Deed) → IsGood s → AreFit n s ds → IsGood (all_done n s ds) }
     ensures places { (n : ℕ) (s : CoreState) (ds : List Deed) → IsGood s → AreFit n s ds → IsChangedBy n s ds (all_done n s ds) }
@@ -39,7 +40,6 @@ pub fn deeds_are_all_that_changes()
     ensures due { (n : ℕ) (s : CoreState) (ds : List Deed) → IsGood s → AreFit n s ds → AreDue n s ds }
     ensures caches { (n : ℕ) (s : CoreState) (ds : List Deed) → IsGood s → AreFit n s ds → caches_of (all_done n s ds).claims ≡ all_caches_after n s ds (caches_of s.claims) }
     ensures breaks { (n : ℕ) (s : CoreState) (ds : List Deed) (c : Claim) → IsGood s → AreFit n s ds → IsIn c s.claims → is_running c.what ≡ true → any_ends_break n s c ds ≡ false → IsIn c (all_done n s ds).claims }
-    ensures uncached { (n : ℕ) (s : CoreState) (ds : List Deed) → IsGood s → AreFit n s ds → AreUncached s.claims → AreUncached (all_done n s ds).claims }
 {}
 
 /// A reading of the clock leaves what its deeds leave, and tells what they tell: the clock rises, then one break after

@@ -148,8 +148,14 @@ impl Core {
         ensures good { OnOk result (IsGood self.new) }
         ensures keeper { _keeper.new ≡ _keeper.old }
     {
-        let answer = unsettled::answer(alloc, &mut self.parts, &mut self.unsettled, left, request)?;
-        Ok((answer, Sequence::new(alloc)))
+        let answered = unsettled::answer(
+            alloc,
+            &mut self.parts,
+            &mut self.unsettled,
+            left,
+            request,
+        )?;
+        Ok(answered)
     }
 
     /// One turn: serves the first waiter that nothing blocks, and tells so. None comes exactly where each of them is

@@ -1,6 +1,6 @@
 //! Laws of the core. The functions do nothing; what they ensure holds of every state, and so of what each call of
 //! `Core` leaves.
-ghost use Rattle.std.specs.Prelude.{◌≡◌, ℕ, ◌+◌, ◌<◌, Bool, true, false, List, [], ◌∷◌, ◌++◌, length, Option, Some, None, IfSome, ◌⊎◌, ◌↔◌};
+ghost use Rattle.std.specs.Prelude.{◌≡◌, ℕ, ◌+◌, ◌<◌, ◌≤◌, Bool, true, false, List, [], ◌∷◌, ◌++◌, length, Option, Some, None, IfSome, ◌⊎◌, ◌↔◌};
 ghost use Rattle.std.specs.List.{AllByRecursion};
 ghost use Rattle.xl_base.specs.Lists.{IsIn};
 ghost use Rattle.xl_base.specs.Stable.{Stable};
@@ -27,24 +27,25 @@ ghost use Rattle.xl_wait.specs.declared.waiter.Rooms.{Rooms};
 ghost use Rattle.xl_wait.specs.declared.waiter.Waiter.{Waiter};
 ghost use Rattle.xl_core.specs.State.{CoreState, started, step_begun, drawn};
 ghost use Rattle.xl_core.specs.Asking.{asker, asked_whats, asked_what, asked_claim, asked_claims, known_claim, is_named, IsFit};
-ghost use Rattle.xl_core.specs.Causes.{IsSameAsker, IsConflict, limits_of_grant, IsClaimDue, IsTestDue, IsUnlockDue, IsTurn, IsOwn};
-ghost use Rattle.xl_core.specs.Decide.{waiter_of, ask};
-ghost use Rattle.xl_core.specs.Frames.{drawn_by, names_after, come_by, serves_none, IsFrame, IsTicked};
+ghost use Rattle.xl_core.specs.Causes.{IsSameAsker, IsConflict, limits_of_grant, IsClaimDue, IsTestDue, IsUnlockDue, IsWishDue, IsTurn, IsOwn};
+ghost use Rattle.xl_core.specs.Decide.{waiter_of, way, ask};
+ghost use Rattle.xl_core.specs.Frames.{calls_in, drawn_by, names_after, come_by, who_left, serves_none, IsFrame, IsTicked};
 ghost use Rattle.xl_core.specs.Good.{IsHeld, IsGood, IsSettled, holding, caches_of};
 ghost use Rattle.xl_core.specs.Limits.{IsRoom};
-ghost use Rattle.xl_core.specs.Settle.{settle, AllRest, waits_for, cancel, give_back, share_has, weaken, end_party};
+ghost use Rattle.xl_core.specs.Settle.{settle, turns_left, AllRest, waits_for, cancel, give_back, share_has, weaken, end_party};
 ghost use Rattle.xl_core.specs.declared.ask.Act.{Act};
 ghost use Rattle.xl_core.specs.declared.ask.Answer.{Answer};
 ghost use Rattle.xl_cache.specs.Planning.{is_running, is_obstacle, planned, is_slow};
 ghost use Rattle.xl_core.specs.Begin.{with_break, once_broken, idle_caches};
 ghost use Rattle.xl_core.specs.Breaks.{may_be_left, ack};
-ghost use Rattle.xl_core.specs.Ticks.{renew, tick};
+ghost use Rattle.xl_core.specs.Numbers.{numbers_of};
+ghost use Rattle.xl_core.specs.Ticks.{renew, expire, lapse, tick};
 ghost use Rattle.xl_core.specs.declared.ask.Ask.{Ask};
 ghost use Rattle.xl_core.specs.declared.lease.Times.{Times};
 
 /// The state is good at a start, and stays so: any two claims may be held together, each owner's ranges on a file are
 /// sorted maximal runs, an owner has one share on a file and a party one cache, of a kind that its protocol has, and all
-/// who hold or wait are known by name, or are SMB opens. So it is whether or not caches are held, though no ask gets one yet.
+/// who hold or wait are known by name, or are SMB opens. So it is whether or not caches are held.
 pub fn stays_good()
     ensures started { (stable : Stable) (clock : Moment) (times : Times) → IsGood (started stable clock times) }
     ensures begun { (s : CoreState) → IsGood s → IsGood (step_begun s) }
@@ -62,7 +63,8 @@ pub fn stays_good()
 
 /// The state stays good where a cache that its party may have comes to be held beside claims with which it goes, and there
 /// is room; and where a held cache becomes another one that its party may have: one that goes with all others, or one that
-/// is less, or that a break of it begins. Of these only one is a call's yet: the answer to a break leaves less.
+/// is less, or that a break of it begins. So it is where a wish gets a cache or raises one, where a break begins, and where its
+/// answer leaves less.
 pub fn caches_may_be_held()
     ensures entered { (s : CoreState) (c : Claim) → IsGood s → IsHeld s.names c → is_cache c.what ≡ true → AllByRecursion (λ d. compat c d ≡ true) s.claims → length s.claims < most_claims → IsGood (holding s (inserted c s.claims)) }
     ensures raised { (s : CoreState) (c : Claim) (to : What) → IsGood s → IsIn c s.claims → IsHeld s.names (with_what c to) → is_cache to ≡ true → AllByRecursion (λ d. compat (with_what c to) d ≡ true) (removed c s.claims) → IsGood (holding s (changed c to s.claims)) }
@@ -72,7 +74,7 @@ pub fn caches_may_be_held()
 /// Where the breaks begin that an ask for a share or a range begins, the state stays good: each of these caches is held at its
 /// full kind until its break is answered, or is gone where that needs no answer. What is not in the ask's way stands as it
 /// is, and so does a cache whose break runs already. Then none is left to begin: each cache in the way is gone, or its break
-/// runs; and so many caches fewer are left whose break may begin as breaks began. No call begins a break yet.
+/// runs; and so many caches fewer are left whose break may begin as breaks began.
 #[tactic(auto, using(crate::proofs::BeginLaws::broken_good, crate::proofs::BeginLaws::broken_stand, crate::proofs::BeginLaws::apart_stand, crate::proofs::BeginLaws::running_stand, crate::proofs::BeginLaws::none_begins_again, crate::proofs::BeginLaws::fewer_idle))]
 pub fn breaks_may_begin()
     ensures good { (deadline : Moment) (s : CoreState) (ask : Claim) → IsGood s → is_cache ask.what ≡ false → IsGood (holding s (once_broken deadline ask s.claims)) }
@@ -83,13 +85,14 @@ pub fn breaks_may_begin()
     ensures fewer { (deadline : Moment) (ask : Claim) (held : List Claim) → idle_caches (once_broken deadline ask held) + length (planned ask held).breaks ≡ idle_caches held }
 {}
 
-/// Each answer is given exactly where its cause stands, which `IsClaimDue`, `IsTestDue` and `IsUnlockDue` say; of
+/// Each answer is given exactly where its cause stands, which `IsClaimDue`, `IsTestDue`, `IsUnlockDue` and `IsWishDue` say; of
 /// several limits the least is told. Of the claims that block an ask the one that is told is held, and none of the
 /// others comes before it.
 pub fn answers_have_causes()
-    ensures claims { (n : ℕ) (left : Rooms) (s : CoreState) (a : Ask) (what : What) (answer : Answer) → asked_what a.act ≡ Some what → ((ask n left s a).0 ≡ answer) ↔ IsClaimDue left s a (asked_claim a what s.names) answer }
+    ensures claims { (n : ℕ) (left : Rooms) (s : CoreState) (a : Ask) (what : What) (answer : Answer) → asked_what a.act ≡ Some what → ((ask n left s a).0 ≡ answer) ↔ IsClaimDue left (way left s a).1 a (asked_claim a what s.names) answer }
     ensures tests { (n : ℕ) (left : Rooms) (s : CoreState) (a : Ask) (extent : Extent) (exclusive : Bool) (answer : Answer) → a.act ≡ Act.Test extent exclusive → ((ask n left s a).0 ≡ answer) ↔ IsTestDue s a (known_claim a extent exclusive s.names) answer }
     ensures unlocks { (n : ℕ) (left : Rooms) (s : CoreState) (a : Ask) (first last : ℕ) (answer : Answer) → IsGood s → IsFit a → is_named a.owner ≡ true → a.act ≡ Act.Unlock (Extent.Bytes first last) → ((ask n left s a).0 ≡ answer) ↔ IsUnlockDue s (known_claim a (Extent.Bytes first last) false s.names) first last answer }
+    ensures wishes { (n : ℕ) (left : Rooms) (s : CoreState) (a : Ask) (kind : CacheKind) (kinds : List CacheKind) (answer : Answer) → a.act ≡ Act.Wish → a.wish ≡ kind ∷ kinds → ((ask n left s a).0 ≡ answer) ↔ IsWishDue left s a a.wish answer }
     ensures least { (names : List Name) (claims : List Claim) (c : Claim) → least names claims ≡ Some c → IsIn c claims × AllByRecursion (λ d. range_before names d c ≡ false) claims }
 {}
 
@@ -105,10 +108,11 @@ pub fn free_asks_are_granted()
 {}
 
 /// An ask changes only what its owner has on its file, a share for a share and ranges for a range, and that only where
-/// it is granted; no cache changes, no waiter goes, and each name keeps its number. One that is neither granted nor told
+/// it is granted; but for the breaks that it begins no cache changes, unless it wishes for one: then that of its party on the
+/// file. No waiter goes, and each name keeps its number. One that is neither granted nor told
 /// to wait changes nothing, nor does a test.
 pub fn nothing_else_changes()
-    ensures asks { (n : ℕ) (left : Rooms) (s : CoreState) (a : Ask) → IsGood s → IsFit a → IsOwn s a (ask n left s a).0 (ask n left s a).2 }
+    ensures asks { (n : ℕ) (left : Rooms) (s : CoreState) (a : Ask) → IsGood s → IsFit a → IsOwn (way left s a).1 a (ask n left s a).0 (ask n left s a).2 }
     ensures tests { (n : ℕ) (left : Rooms) (s : CoreState) (a : Ask) (extent : Extent) (exclusive : Bool) → a.act ≡ Act.Test extent exclusive → (ask n left s a).2 ≡ s }
 {}
 
@@ -117,13 +121,13 @@ pub fn nothing_else_changes()
 /// is held up: something held blocks the first claim that it asks for, for good where it waits for that, and else a cache. A
 /// turn is that of the first waiter that isn't held up: it has what it asked for, or is told what blocks it or the least limit
 /// that this would pass, and waits no more; all others wait on, and have what they had. So turns end, with nobody left who
-/// isn't held up.
+/// isn't held up: a turn takes a waiter out, which may be served with a cache, or begins a break.
 pub fn nobody_is_forgotten()
     ensures waits { (n : ℕ) (left : Rooms) (s : CoreState) (a : Ask) (number : ℕ) → IsGood s → IsFit a → (ask n left s a).0 ≡ Answer.Queued number → (ask n left s a).2.waiters ≡ s.waiters ++ waiter_of number a (asked_claims a (asked_whats a.act) s.names) ∷ [] }
     ensures settled { (n : ℕ) (left : Rooms) (s : CoreState) → (settle n left s ≡ None) ↔ AllRest n left s [] s.waiters }
     ensures blocked { (n : ℕ) (left : Rooms) (s : CoreState) → AllRest n left s [] s.waiters ↔ IsSettled s }
     ensures turns { (n : ℕ) (left : Rooms) (s : CoreState) → IsGood s → IfSome (settle n left s) (λ r. IsTurn left s r.0 r.1) }
-    ensures fewer { (n : ℕ) (left : Rooms) (s : CoreState) → IsGood s → IfSome (settle n left s) (λ r. length r.1.waiters + 1 ≡ length s.waiters) }
+    ensures fewer { (n : ℕ) (left : Rooms) (s : CoreState) → IsGood s → IfSome (settle n left s) (λ r. turns_left r.1 + 1 ≤ turns_left s) }
 {}
 
 /// Who gives a claim back takes that claim out, and no other. Who cancels takes no claim with it, and of the waiters only the one of this number. A party that ends takes its own
@@ -150,9 +154,9 @@ pub fn only_that_share_weakens()
 /// leaves; of a turn, a cancel and a party's end those leave who are told of, each once; nothing else comes or goes. A reading of the
 /// clock raises the clock, and leaves record, numbers and names (see `IsTicked`).
 pub fn calls_have_frames()
-    ensures asks { (n : ℕ) (left : Rooms) (s : CoreState) (a : Ask) → IsGood s → IsFit a → IsFrame s (ask n left s a).1 (ask n left s a).2 (drawn_by (ask n left s a).0) (names_after a (ask n left s a).0 s.names) (come_by a (ask n left s a).0 s.names) }
-    ensures tells { (n : ℕ) (left : Rooms) (s : CoreState) (a : Ask) → IsGood s → IsFit a → (ask n left s a).1 ≡ [] }
-    ensures turns { (n : ℕ) (left : Rooms) (s : CoreState) → IsGood s → IfSome (settle n left s) (λ r. IsFrame s r.0 r.1 0 s.names []) }
+    ensures asks { (n : ℕ) (left : Rooms) (s : CoreState) (a : Ask) → IsGood s → IsFit a → IsFrame s (ask n left s a).1 (ask n left s a).2 (drawn_by (ask n left s a).0 + calls_in (ask n left s a).1) (names_after a (ask n left s a).0 s.names) (come_by a (ask n left s a).0 s.names) }
+    ensures tells { (n : ℕ) (left : Rooms) (s : CoreState) (a : Ask) → IsGood s → IsFit a → (ask n left s a).1 ≡ (way left s a).0 }
+    ensures turns { (n : ℕ) (left : Rooms) (s : CoreState) → IsGood s → IfSome (settle n left s) (λ r. IsFrame s r.0 r.1 (calls_in r.0) s.names []) }
     ensures cancels { (s : CoreState) (id : ℕ) → is_waiting id s.waiters ≡ true → IsFrame s (cancel s id).0 (cancel s id).1 0 s.names [] }
     ensures gives_back { (s : CoreState) (claim : Claim) → IsFrame s (give_back s claim).0 (give_back s claim).1 0 s.names [] }
     ensures weakens { (s : CoreState) (share : Claim) (access deny : Rwd) → IsFrame s (weaken s share access deny).0 (weaken s share access deny).1 0 s.names [] }
@@ -182,5 +186,27 @@ pub fn a_test_foretells()
 
 /// A granted ask leaves the record, the clock and the last number that was given out.
 pub fn a_grant_leaves_the_clock()
-    ensures { (n : ℕ) (left : Rooms) (s : CoreState) (a : Ask) (c : Claim) → IsGood s → IsFit a → (ask n left s a).0 ≡ Answer.Granted c → ((ask n left s a).2.clock ≡ s.clock) × ((ask n left s a).2.stable ≡ s.stable) × ((ask n left s a).2.counter ≡ s.counter) }
+    ensures { (n : ℕ) (left : Rooms) (s : CoreState) (a : Ask) (c : Claim) → IsGood s → IsFit a → (ask n left s a).0 ≡ Answer.Granted c → ((ask n left s a).2.clock ≡ s.clock) × ((ask n left s a).2.stable ≡ s.stable) × ((ask n left s a).2.counter ≡ s.counter + calls_in (ask n left s a).1) }
+{}
+
+/// Numbers go no further than `numbers_of` says: that counts the last number that was given out, one more for each who waits,
+/// as a call of the server's may tell that it is served, and one more for each delegation that may be recalled. An ask raises it
+/// by 2 at most, as one comes to wait under a number, or gets a delegation; one that doesn't wait by 1; a number that is given
+/// out by 1. A turn leaves one less for each who is served; no other call raises it.
+#[tactic(auto, using(crate::proofs::NumberLaws::counter_numbers, crate::proofs::NumberLaws::ask_numbers, crate::proofs::NumberLaws::ask_numbers_at_once, crate::proofs::NumberLaws::turn_numbers, crate::proofs::NumberLaws::drawn_numbers, crate::proofs::NumberLaws::cancel_numbers, crate::proofs::NumberLaws::give_back_numbers, crate::proofs::NumberLaws::weaken_numbers, crate::proofs::NumberLaws::ack_numbers, crate::proofs::NumberLaws::end_party_numbers, crate::proofs::NumberLaws::renew_numbers, crate::proofs::NumberLaws::expire_numbers, crate::proofs::NumberLaws::lapse_numbers, crate::proofs::NumberLaws::tick_numbers))]
+pub fn numbers_are_few()
+    ensures counter { (s : CoreState) → s.counter ≤ numbers_of s }
+    ensures asks { (n : ℕ) (left : Rooms) (s : CoreState) (a : Ask) → IsGood s → IsFit a → numbers_of (ask n left s a).2 ≤ numbers_of s + 2 }
+    ensures at_once { (n : ℕ) (left : Rooms) (s : CoreState) (a : Ask) → IsGood s → IsFit a → a.blocking ≡ false → a.awaits ≡ false → numbers_of (ask n left s a).2 ≤ numbers_of s + 1 }
+    ensures turns { (n : ℕ) (left : Rooms) (s : CoreState) → IsGood s → IfSome (settle n left s) (λ r. numbers_of r.1 + length (who_left r.0) ≤ numbers_of s) }
+    ensures draws { (s : CoreState) → numbers_of (drawn s) ≡ numbers_of s + 1 }
+    ensures cancels { (s : CoreState) (id : ℕ) → numbers_of (cancel s id).1 ≤ numbers_of s }
+    ensures gives_back { (s : CoreState) (claim : Claim) → numbers_of (give_back s claim).1 ≤ numbers_of s }
+    ensures weakens { (s : CoreState) (share : Claim) (access deny : Rwd) → numbers_of (weaken s share access deny).1 ≤ numbers_of s }
+    ensures acks { (s : CoreState) (cache : Claim) (to : Option CacheKind) → IsIn cache s.claims → may_be_left cache.what to ≡ true → numbers_of (ack s cache to).1 ≤ numbers_of s }
+    ensures ends { (s : CoreState) (party : Party) → numbers_of (end_party s party).1 ≤ numbers_of s }
+    ensures renews { (s : CoreState) (client : List ℕ) → numbers_of (renew s client).1 ≤ numbers_of s }
+    ensures expires { (s : CoreState) (client : List ℕ) → numbers_of (expire s client).1 ≤ numbers_of s }
+    ensures lapses { (s : CoreState) (cache : Claim) → numbers_of (lapse s cache).1 ≤ numbers_of s }
+    ensures ticks { (s : CoreState) (now : Moment) → numbers_of (tick s now).1 ≤ numbers_of s }
 {}

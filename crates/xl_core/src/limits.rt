@@ -1,6 +1,6 @@
 //! The limits that a grant or a wait may pass.
 ghost use Rattle.std.specs.Prelude.{◌≡◌};
-ghost use Rattle.xl_core.specs.Limits.{grant_limits, wait_limits, first_passed};
+ghost use Rattle.xl_core.specs.Limits.{grant_limits, wait_limits, wish_limits, first_passed};
 
 use xl_base::MOST_WAITERS;
 use xl_names::MOST_NAMES;
@@ -48,6 +48,18 @@ pub(crate) fn passed_by_wait(left: &Rooms, rows: &Rooms, waiting: usize, kept: u
     first_passed(&[
         (MOST_HOSTS, left.hosts < rows.hosts),
         (MOST_WAITERS as u32, MOST_WAITERS <= waiting),
+        (MOST_NAMES, (MOST_NAMES as usize) < kept),
+    ])
+}
+
+/// The least limit that a wish by itself passes, where so many names are kept afterwards.
+pub(crate) fn passed_by_wish(left: &Rooms, rows: &Rooms, kept: usize) -> Option<u32>
+    ensures { result ≡ first_passed (wish_limits left.now rows.now kept) }
+{
+    first_passed(&[
+        (MOST_HOSTS, left.hosts < rows.hosts),
+        (MOST_OPENS, left.opens < rows.opens),
+        (MOST_OWNERS, left.owners < rows.owners),
         (MOST_NAMES, (MOST_NAMES as usize) < kept),
     ])
 }

@@ -1,17 +1,20 @@
 //! Whose turn comes, and what it gets.
-ghost use Rattle.std.specs.Prelude.{◌≡◌, ℕ, [], ◌∷◌, Ok, None, option_map, IfOk};
+ghost use Rattle.std.specs.Prelude.{◌≡◌, ◌+◌, ◌<◌, ◌^◌, ℕ, [], ◌∷◌, Ok, None, option_map, IfOk};
+ghost use Rattle.xl_base.specs.Limits.{numbers_left};
 ghost use Rattle.xl_wait.specs.declared.waiter.Waiter.{Waiter};
 ghost use Rattle.xl_core.specs.Good.{is_held_up, holds_up, IsGood};
 ghost use Rattle.xl_core.specs.Settle.{plea_again, all_of, turned, settle, called_of, first_called};
 ghost use Rattle.xl_core.specs.Whole.{state_of};
 
 use crate::ask::{Answer, Effect};
-use crate::blockers::is_stopped;
+use crate::blockers::{all_run, is_stopped};
 use crate::judge::{Plea, Ruling, judge_all};
 use crate::parts::Parts;
+use crate::ways::make_way;
+use crate::wishing::grant_for;
 use std::alloc::{AllocError, Global};
 use xl_base::Sequence;
-use xl_matrix::Claim;
+use xl_matrix::{CacheKind, Claim};
 use xl_wait::{Rooms, Waiter};
 
 /// A waiter whose turn has come.
@@ -21,6 +24,8 @@ pub(crate) struct Called {
     pub id: u32,
     /// The claims that it asks for.
     pub asked: Sequence<Claim>,
+    /// The caches that it wishes for.
+    pub wish: Sequence<CacheKind>,
     /// What it pleads.
     pub plea: Plea,
 }
@@ -40,7 +45,9 @@ fn plea_again(parts: &Parts, waiter: &Waiter) -> Plea
     }
 }
 
-/// Whether something held blocks the claim, for which the waiter waits.
+/// Whether something held blocks the claim: for good, where the waiter waits for that, or caches alone, all of whose breaks
+/// run.
+#[tactic(auto, using(crate::proofs::WayCode::stopped_uncached))]
 fn is_held_up(
     alloc: Global,
     parts: &Parts,
@@ -52,10 +59,10 @@ fn is_held_up(
     if !parts.table.is_blocked(claim) {
         return Ok(false);
     }
-    if waiter.blocking {
-        return Ok(true);
+    if !parts.table.has_cache(claim.file) || is_stopped(alloc, parts, claim)? {
+        return Ok(waiter.blocking);
     }
-    Ok(!is_stopped(alloc, parts, claim)?)
+    all_run(alloc, parts, claim)
 }
 
 /// Whether the first claim that the waiter asks for is held up.
@@ -75,6 +82,7 @@ fn called_of(alloc: Global, parts: &Parts, waiter: &Waiter) -> Result<Called, Al
     Ok(Called {
         id: waiter.id,
         asked: Sequence::from_slice(alloc, waiter.asked.as_slice())?,
+        wish: Sequence::from_slice(alloc, waiter.wish.as_slice())?,
         plea: plea_again(parts, waiter),
     })
 }
@@ -104,25 +112,33 @@ fn all_of(asked: &[Claim]) -> Answer
     }
 }
 
-/// Takes the waiter out and tells what was ruled, unless it waits on.
+/// Takes the waiter out and tells what was ruled, behind the breaks that began, unless it waits on. Then its wish is granted,
+/// where it has what it asked for.
 fn serve(
     alloc: Global,
     parts: &mut Parts,
     called: &Called,
     ruling: Ruling,
+    begun: Sequence<Effect>,
 ) -> Result<Sequence<Effect>, AllocError>
-    ensures turned { (w : Waiter) → w.id ≡ called.now.id → w.asked ≡ called.now.asked → IfOk result (λ effects. turned w ruling [] (state_of parts.old) ≡ (effects, state_of parts.new)) }
+    ensures turned { (w : Waiter) → w.id ≡ called.now.id → w.asked ≡ called.now.asked → w.wish ≡ called.now.wish → IfOk result (λ effects. turned w ruling begun (state_of parts.old) ≡ (effects, state_of parts.new)) }
     ensures made { parts.new.made ≡ parts.old.made }
     ensures failed { parts.new.failed ≡ parts.old.failed }
 {
-    let mut effects = Sequence::new(alloc);
-    let answer = match ruling {
-        Ruling::Gets => all_of(called.asked.as_slice()),
-        Ruling::Waits => return Ok(effects),
-        Ruling::Told(answer) => answer,
-    };
-    parts.queue.cancel(called.id);
-    effects.push(Effect::Served(called.id, answer))?;
+    let mut effects = begun;
+    match ruling {
+        Ruling::Gets => {
+            let answer = all_of(called.asked.as_slice());
+            parts.queue.cancel(called.id);
+            effects.push(Effect::Served(called.id, answer))?;
+            grant_for(alloc, parts, called.wish.as_slice(), answer)?;
+        }
+        Ruling::Waits => {}
+        Ruling::Told(answer) => {
+            parts.queue.cancel(called.id);
+            effects.push(Effect::Served(called.id, answer))?;
+        }
+    }
     Ok(effects)
 }
 
@@ -134,6 +150,7 @@ pub(crate) fn settle(
     left: &Rooms,
 ) -> Result<Option<Sequence<Effect>>, AllocError>
     requires good { IsGood (state_of parts.old) }
+    requires numbers { parts.old.counter + numbers_left < 2 ^ 32 }
     ensures turn { (n : ℕ) → IfOk result (λ r. settle n left.now (state_of parts.old) ≡ option_map (λ effects. (effects, state_of parts.new)) r) }
     ensures none { result ≡ Ok None → parts.new ≡ parts.old }
     ensures made { parts.new.made ≡ parts.old.made }
@@ -142,6 +159,7 @@ pub(crate) fn settle(
     let Some(called) = first_called(alloc, parts, parts.queue.waiters())? else {
         return Ok(None);
     };
+    let begun = make_way(alloc, parts, &called.plea, called.asked.as_slice())?;
     let ruling = judge_all(alloc, parts, left, &called.plea, called.asked.as_slice())?;
-    Ok(Some(serve(alloc, parts, &called, ruling)?))
+    Ok(Some(serve(alloc, parts, &called, ruling, begun)?))
 }

@@ -57,14 +57,19 @@ fn may_free(act: &Act, answer: Answer) -> bool
     }
 }
 
-/// The unsettled files once an ask was answered so.
-fn left_by_ask(request: &Ask, answer: Answer, unsettled: Unsettled) -> Unsettled
-    ensures { result ≡ left_by_ask request.now answer unsettled }
+/// The unsettled files once an ask was answered so, and told of these breaks that began.
+fn left_by_ask(request: &Ask, answer: Answer, told: &[Effect], unsettled: Unsettled) -> Unsettled
+    ensures { result ≡ left_by_ask request.now answer told.now unsettled }
 {
-    if may_free(&request.act, answer) {
-        with_file(request.file, unsettled)
-    } else {
-        unsettled
+    match told {
+        [] => {
+            if may_free(&request.act, answer) {
+                with_file(request.file, unsettled)
+            } else {
+                unsettled
+            }
+        }
+        [_, ..] => with_file(request.file, unsettled),
     }
 }
 
@@ -79,7 +84,8 @@ fn may_turn(unsettled: Unsettled, queue: &Queue) -> bool
     }
 }
 
-/// Answers an ask. Its file is unsettled then, where it was granted what changes it.
+/// Answers an ask, and tells of the breaks that it begins. Its file is unsettled then, where some began, or where it was granted
+/// what changes it.
 #[tactic(auto, using(crate::proofs::WatchLaws::any_up))]
 pub(crate) fn answer(
     alloc: Global,
@@ -87,21 +93,21 @@ pub(crate) fn answer(
     unsettled: &mut Unsettled,
     left: &Rooms,
     request: &Ask,
-) -> Result<Answer, AllocError>
+) -> Result<(Answer, Sequence<Effect>), AllocError>
     requires fit { IsFit request.now }
     requires good { IsGood (state_of parts.old) }
     requires numbers { parts.old.counter + numbers_left < 2 ^ 32 }
     requires held_up { AreHeldUp unsettled.old (state_of parts.old) }
-    ensures answer { (n : ℕ) → IfOk result (λ answer. ask n left.now (state_of parts.old) request.now ≡ (answer, [], state_of parts.new)) }
+    ensures answer { (n : ℕ) → IfOk result (λ r. ask n left.now (state_of parts.old) request.now ≡ (r.0, r.1, state_of parts.new)) }
     ensures made { parts.new.made ≡ parts.old.made }
     ensures failed { parts.new.failed ≡ parts.old.failed }
     ensures held_up { AreHeldUp unsettled.new (state_of parts.new) }
 {
     let before = *unsettled;
     *unsettled = Unsettled::All;
-    let answer = decide::answer(alloc, parts, left, request)?;
-    *unsettled = left_by_ask(request, answer, before);
-    Ok(answer)
+    let (answer, told) = decide::answer(alloc, parts, left, request)?;
+    *unsettled = left_by_ask(request, answer, told.as_slice(), before);
+    Ok((answer, told))
 }
 
 /// One turn, where a waiter has one. All are looked at only where someone waits on an unsettled file.
@@ -112,6 +118,7 @@ pub(crate) fn settle(
     left: &Rooms,
 ) -> Result<Option<Sequence<Effect>>, AllocError>
     requires good { IsGood (state_of parts.old) }
+    requires numbers { parts.old.counter + numbers_left < 2 ^ 32 }
     requires held_up { AreHeldUp unsettled.old (state_of parts.old) }
     ensures turn { (n : ℕ) → IfOk result (λ r. settle n left.now (state_of parts.old) ≡ option_map (λ effects. (effects, state_of parts.new)) r) }
     ensures none { result ≡ Ok None → parts.new ≡ parts.old }

@@ -1,19 +1,27 @@
 //! Laws of wishes for caches. The functions do nothing; what they ensure holds of every state and every wish.
-ghost use Rattle.std.specs.Prelude.{◌≡◌, ℕ, ◌+◌, ◌≤◌, ◌==◌, not, true, false, List, None};
+ghost use Rattle.std.specs.Prelude.{◌≡◌, ℕ, ◌+◌, ◌≤◌, ◌==◌, not, true, false, List, None, find, length};
+ghost use Rattle.xl_base.specs.Lists.{IsIn};
 ghost use Rattle.std.specs.List.{AllByRecursion, filter};
 ghost use Rattle.xl_base.specs.declared.name.Owner.{Owner};
 ghost use Rattle.xl_base.specs.declared.name.Party.{Party};
 ghost use Rattle.xl_cache.specs.Parties.{is_kind_of};
+ghost use Rattle.xl_cache.specs.Planning.{is_running};
+ghost use Rattle.xl_matrix.specs.declared.claim.Claim.{Claim};
+ghost use Rattle.xl_wait.specs.Waiting.{waits_on};
+ghost use Rattle.xl_wait.specs.declared.waiter.Rooms.{Rooms};
 ghost use Rattle.xl_cache.specs.Wishing.{is_its_cache};
 ghost use Rattle.xl_cache.specs.declared.wish.Wish.{Wish};
 ghost use Rattle.xl_table.specs.Elements.{elements_of};
 ghost use Rattle.xl_table.specs.Held.{spans_of};
-ghost use Rattle.xl_table.specs.Relock.{shares_of};
+ghost use Rattle.xl_table.specs.Relock.{most_claims, shares_of};
 ghost use Rattle.xl_core.specs.Begin.{idle_caches, others_of, idle_delegations};
+ghost use Rattle.xl_core.specs.Decide.{before_wish, does_wish, ask};
 ghost use Rattle.xl_core.specs.Good.{are_kept, IsGood};
+ghost use Rattle.xl_core.specs.declared.ask.Answer.{Answer};
+ghost use Rattle.xl_core.specs.declared.ask.Ask.{Ask};
 ghost use Rattle.xl_core.specs.Places.{CacheOf, held_in, else_was};
 ghost use Rattle.xl_core.specs.State.{CoreState};
-ghost use Rattle.xl_core.specs.Wishes.{wished_kind, wish_granted, wished_at};
+ghost use Rattle.xl_core.specs.Wishes.{wished_kind, wish_granted, wish_of, wished_at};
 
 /// A wish of a party for kinds that it may have keeps the state good. All shares and ranges stay, each claim on another
 /// file, and on its file each cache but the party's: of that there is the kind that the wish gets, else what was there. So
@@ -37,4 +45,21 @@ pub fn wishes_change_one_cache()
     ensures stable { (wanted : Wish) (s : CoreState) → (wish_granted wanted s).stable ≡ s.stable }
     ensures clock { (wanted : Wish) (s : CoreState) → (wish_granted wanted s).clock ≡ s.clock }
     ensures none { (wanted : Wish) (s : CoreState) → wished_kind wanted s ≡ None → wish_granted wanted s ≡ s }
+{}
+
+/// A wish breaks nothing, and stands back for who waits: it gets nothing where someone else waits on the file, nor where its
+/// party has no cache there and the table is full with 16,384 claims. A cache whose break runs stands as it is.
+#[tactic(auto, using(crate::proofs::WishLaws::waits_stand, crate::proofs::WishLaws::full_stands, crate::proofs::WishLaws::running_stays))]
+pub fn wishes_stand_back()
+    ensures waits { (wanted : Wish) (s : CoreState) → waits_on wanted.file s.waiters ≡ true → wish_granted wanted s ≡ s }
+    ensures full { (wanted : Wish) (s : CoreState) → find (is_its_cache wanted) s.claims ≡ None → most_claims ≤ length s.claims → wish_granted wanted s ≡ s }
+    ensures breaks { (wanted : Wish) (s : CoreState) (c : Claim) → IsIn c s.claims → is_running c.what ≡ true → IsIn c (wish_granted wanted s).claims }
+{}
+
+/// The wish of an ask for a share, or of a wish by itself, is granted once that is, and only then; of a waiter once it is
+/// served, and waits no more. Nothing is told of it: what is told is the breaks that began before, and who was served.
+#[tactic(auto, using(crate::proofs::WayAsks::ask_wishes, crate::proofs::WayAsks::ask_unwished))]
+pub fn granted_asks_have_their_wish()
+    ensures granted { (n : ℕ) (left : Rooms) (s : CoreState) (a : Ask) (c : Claim) → does_wish a.act ≡ true → (ask n left s a).0 ≡ Answer.Granted c → (ask n left s a).2 ≡ wish_granted (wish_of a.wish c) (before_wish n left s a).2 }
+    ensures otherwise { (n : ℕ) (left : Rooms) (s : CoreState) (a : Ask) → ((c : Claim) → does_wish a.act ≡ true → (ask n left s a).0 ≡ Answer.Granted c → ⊥) → (ask n left s a).2 ≡ (before_wish n left s a).2 }
 {}

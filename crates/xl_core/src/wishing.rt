@@ -3,21 +3,24 @@ ghost use Rattle.std.specs.Prelude.{◌≡◌, ◌<◌, true, OnOk, length, find
 ghost use Rattle.xl_cache.specs.Wishing.{wished_claim, is_its_cache};
 ghost use Rattle.xl_table.specs.Flat.{inserted};
 ghost use Rattle.xl_table.specs.Held.{IsKept};
-ghost use Rattle.xl_core.specs.Good.{IsGood};
 ghost use Rattle.xl_core.specs.Whole.{state_of};
-ghost use Rattle.xl_core.specs.Wishes.{has_room, wished_kind, cached, wish_granted};
+ghost use Rattle.xl_core.specs.Wishes.{has_room, wished_kind, cached, wish_granted, wish_for};
 
+use crate::ask::Answer;
 use crate::parts::Parts;
 use std::alloc::{AllocError, Global};
+use xl_base::Sequence;
 use xl_cache::{Wish, find_own_cache, kind_for};
 use xl_matrix::{CacheKind, Claim, What};
 use xl_table::{CLAIMS, Table, TableErr};
 
 /// Whether there is room for the cache of a party that has this one on the file.
 fn has_room(own: Option<Claim>, table: &Table) -> bool
-    ensures { result ≡ has_room own table.now }
+    ensures room { result ≡ has_room own table.now }
+    ensures kept { IsKept table.now }
 {
-    own.is_some() || table.len() < CLAIMS
+    let held = table.len();
+    own.is_some() || held < CLAIMS
 }
 
 /// Enters a first cache of this kind.
@@ -67,7 +70,6 @@ fn put_cache(
 /// where nobody waits on the file and there is room. It breaks nothing, and there is nothing to tell.
 #[tactic(auto, unfolding(crate::specs::Wishes::wished_kind, crate::specs::Wishes::wish_granted))]
 pub(crate) fn grant_wish(alloc: Global, parts: &mut Parts, wanted: &Wish) -> Result<(), AllocError>
-    requires good { IsGood (state_of parts.old) }
     ensures state { OnOk result (state_of parts.new ≡ wish_granted wanted.now (state_of parts.old)) }
     ensures queue { parts.new.queue ≡ parts.old.queue }
     ensures names { parts.new.names ≡ parts.old.names }
@@ -87,4 +89,30 @@ pub(crate) fn grant_wish(alloc: Global, parts: &mut Parts, wanted: &Wish) -> Res
         put_cache(&mut parts.table, wanted, own, kind)?;
     }
     Ok(())
+}
+
+/// Grants the wish for these kinds of one who is answered so, where that is granted.
+pub(crate) fn grant_for(
+    alloc: Global,
+    parts: &mut Parts,
+    kinds: &[CacheKind],
+    answer: Answer,
+) -> Result<(), AllocError>
+    ensures state { OnOk result (state_of parts.new ≡ wish_for kinds.now answer (state_of parts.old)) }
+    ensures made { parts.new.made ≡ parts.old.made }
+    ensures failed { parts.new.failed ≡ parts.old.failed }
+{
+    let Answer::Granted(claim) = answer else {
+        return Ok(());
+    };
+    if kinds.is_empty() {
+        return Ok(());
+    }
+    let wanted = Wish {
+        file: claim.file,
+        owner: claim.owner,
+        party: claim.party,
+        kinds: Sequence::from_slice(alloc, kinds)?,
+    };
+    grant_wish(alloc, parts, &wanted)
 }

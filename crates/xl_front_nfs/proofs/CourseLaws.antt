@@ -1,10 +1,6 @@
 -- What a COMPOUND comes to, operation by operation.
-use Rattle.std.proofs.Common.{◌≡◌, ℕ, zero, suc, ◌-◌, Bool, true, false, Result, Ok, List, [], Option, refl, sym, ap, subst, ◌∙◌, inl, inr, arith}
-use Rattle.std.proofs.lemmas.Bool.{cases_Bool}
-use Rattle.std.specs.Prelude.{if◌then◌else◌}
+use Rattle.std.proofs.Common.{◌≡◌, ℕ, zero, suc, ◌-◌, Bool, true, false, Result, Ok, List, [], Option, refl, sym, ap, subst, ◌∙◌, arith}
 use Rattle.xl_nfs.specs.Ops.{OpItem, OpFits, op_number, op_at}
-use Rattle.xl_nfs.specs.Outcomes.{is_ok}
-use Rattle.xl_nfs.specs.declared.status.NfsStatus.{NfsStatus}
 use Rattle.xl_nfs.specs.declared.status.NfsStatus.TheVariants as statuses
 use Rattle.xl_core.specs.Rows.{Ran, go_on, all_ran}
 use Rattle.xl_core.specs.State.{CoreState}

@@ -4,6 +4,7 @@ use Rattle.xl_base.specs.declared.name.Party.{Party}
 use Rattle.xl_core.specs.Deeds.{Deed, Renews, given, all_done, all_told_of}
 use Rattle.xl_core.proofs.DeedLists.{done_append}
 use Rattle.xl_core.proofs.FrameLaws.{end_party_frame}
+use Rattle.xl_core.proofs.NumberLaws.{end_party_numbers}
 use Rattle.xl_core.specs.Good.{IsGood}
 use Rattle.xl_core.specs.Settle.{end_party}
 use Rattle.xl_core.specs.State.{CoreState}
@@ -13,7 +14,7 @@ use Rattle.xl_nfs_opens.specs.Short.{IsReady, Leaves}
 use Rattle.xl_nfs_opens.proofs.LeaveLaws.{call_leaves, leaves_more, leaves_then, renew_told}
 
 pub end_leaves : (s new : CoreState) (party : Party) (effects : List Effect) → IsGood s → end_party s party ≡ (effects, new) → IsGood new → Leaves 0 s new
-end_leaves s new party effects first e good = call_leaves s new effects (end_party s party) e (end_party_frame s party first) good
+end_leaves s new party effects first e good = call_leaves s new effects (end_party s party) e (end_party_frame s party first) (omega (arith, end_party_numbers s party)) good
 
 pub end_told : (n : ℕ) (s new : CoreState) (party : Party) (effects : List Effect) → end_party s party ≡ (effects, new) → all_told_of n s (ends (Some party)) ≡ effects
 end_told n s new party effects e = append-nil (end_party s party).0 ∙ ap (λ (r : List Effect × CoreState). r.0) e
@@ -36,8 +37,8 @@ pub over_told : (n : ℕ) (s : CoreState) (ds : List Deed) (id : List ℕ) (effe
 over_told n s ds id effects told = told_append n s ds (Renews id ∷ []) ∙ ap (λ (x : List Effect). all_told_of n s ds ++ x) (renew_told n (all_done n s ds) id) ∙ append-nil (all_told_of n s ds) ∙ told
 
 -- one operation of so many is done
-pub step_ready : (count : ℕ) (s t : CoreState) → 1 ≤ count → IsReady (2 * count) s → Leaves 2 s t → IsReady (2 * (count - 1)) t
-step_ready count s t some ready leaves = record { good = leaves.good; numbers = omega (arith, some, ready.numbers, leaves.counter) }
+pub step_ready : (count : ℕ) (s t : CoreState) → 1 ≤ count → IsReady (4 * count) s → Leaves 4 s t → IsReady (4 * (count - 1)) t
+step_ready count s t some ready leaves = record { good = leaves.good; numbers = omega (arith, some, ready.numbers, leaves.numbers) }
 
-pub steps_leave : (count : ℕ) (s t u : CoreState) → 1 ≤ count → Leaves 2 s t → Leaves (2 * (count - 1)) t u → Leaves (2 * count) s u
-steps_leave count s t u some first second = leaves_more s u (2 + 2 * (count - 1)) (2 * count) (omega (arith, some)) (leaves_then s t u 2 (2 * (count - 1)) first second)
+pub steps_leave : (count : ℕ) (s t u : CoreState) → 1 ≤ count → Leaves 4 s t → Leaves (4 * (count - 1)) t u → Leaves (4 * count) s u
+steps_leave count s t u some first second = leaves_more s u (4 + 4 * (count - 1)) (4 * count) (omega (arith, some)) (leaves_then s t u 4 (4 * (count - 1)) first second)

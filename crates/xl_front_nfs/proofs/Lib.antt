@@ -10,3 +10,4 @@ pub mod OwnLaws
 pub mod HandleLaws
 pub mod OrderlyLaws
 pub mod NumberLaws
+pub mod RecallLaws

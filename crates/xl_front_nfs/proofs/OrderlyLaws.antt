@@ -1,9 +1,9 @@
 -- Owners and stateids stay orderly, whatever is asked, expires or goes; and which owners stay as they are.
-use Rattle.std.proofs.Common.{◌≡◌, ℕ, Bool, true, false, not, length, List, [], ◌∷◌, Option, Some, None, refl, sym, ap, subst, ◌∙◌, inl, inr, true≢false}
+use Rattle.std.proofs.Common.{◌≡◌, ℕ, true, false, not, length, List, [], ◌∷◌, Option, Some, None, Ok, Err, refl, inl, inr, true≢false}
 use Rattle.std.proofs.lemmas.Bool.{cases_Bool}
 use Rattle.std.specs.Bool.{◌==◌}
 use Rattle.std.specs.List.{find}
-use Rattle.std.specs.Prelude.{nat_le, bytes_eq}
+use Rattle.std.specs.Prelude.{nat_le}
 use Rattle.xl_base.proofs.Members.{in_filter_from}
 use Rattle.xl_base.specs.Handles.{file_at}
 use Rattle.xl_base.specs.Lists.{IsIn}
@@ -13,7 +13,7 @@ use Rattle.xl_nfs.specs.Basics.{OwnerItem}
 use Rattle.xl_nfs.specs.Clients.{SetClientIdArgsItem}
 use Rattle.xl_nfs.specs.Locks.{LockTestArgsItem}
 use Rattle.xl_nfs.specs.Ops.{OpItem, Close, DelegReturn, GetFh, Lock, LockT, LockU, Lookup, Open, OpenConfirm, OpenDowngrade, PutFh, PutRootFh, Renew, SetClientId, SetClientIdConfirm, ReleaseLockOwner, NotSupported, Illegal}
-use Rattle.xl_nfs_state.specs.State.{NfsLists, is_client, is_client_named, is_owner, is_owner_named, other_owners, without_client}
+use Rattle.xl_nfs_state.specs.State.{NfsLists, is_client, is_client_named, is_owner, is_owner_named, without_client}
 use Rattle.xl_nfs_state.specs.declared.client.ClientRow.{ClientRow}
 use Rattle.xl_nfs_state.specs.declared.owner.OwnerKind.TheVariants as kinds
 use Rattle.xl_nfs_state.specs.declared.owner.OwnerRow.{OwnerRow}
@@ -23,25 +23,25 @@ use Rattle.xl_core.specs.Rows.{Ran, go_on, all_ran}
 use Rattle.xl_core.specs.State.{CoreState}
 use Rattle.xl_core.specs.declared.ask.Effect.{Effect}
 use Rattle.xl_core.specs.declared.ask.Effect.TheVariants.{Expired}
-use Rattle.xl_nfs_opens.proofs.KeepLaws.{Keeps, carried_orderly, close_keeps, confirm_keeps, downgrade_keeps, open_keeps, renewed_orderly, return_keeps, same_orderly}
+use Rattle.xl_nfs_opens.proofs.KeepLaws.{Keeps, carried_orderly, close_keeps, confirm_keeps, downgrade_keeps, open_keeps, return_keeps, same_orderly}
 use Rattle.xl_nfs_opens.proofs.OrderLaws.{client_goes}
 use Rattle.xl_nfs_locks.proofs.KeepLaws.{lock_keeps, release_keeps, test_keeps, unlock_keeps}
 use Rattle.xl_nfs_locks.specs.Ranges.{last_byte}
 use Rattle.xl_nfs_locks.specs.Releases.{holds_any, release, release_of, released, without_found as without_owner_found}
 use Rattle.xl_nfs_locks.specs.Tests.{lock_test, locker_of, test_at, test_of, test_to}
-use Rattle.xl_nfs_opens.specs.Closing.{deleg_return}
+use Rattle.xl_nfs_opens.specs.Closing.{Returning, deleg_return, return_done, returned}
 use Rattle.xl_nfs_opens.specs.Files.{file_named}
 use Rattle.xl_nfs_opens.specs.Leases.{lease_end, number_in}
 use Rattle.xl_nfs_opens.specs.Orderly.{IsOrderly}
-use Rattle.xl_nfs_opens.specs.Plans.{Plan, carried}
+use Rattle.xl_nfs_opens.specs.Plans.{carried}
 use Rattle.xl_nfs_opens.specs.Opens.{client_in}
 use Rattle.xl_nfs_opens.specs.Renewing.{renewals, renewed_for, renewed_if, state_client}
-use Rattle.xl_front_nfs.specs.Clients.{come, come_again, confirm_beside, confirm_found, confirm_held, confirm_number, confirm_over, confirmed_by, has_room, number_kept, numbers, renew, renew_found, renew_number, set_beside, set_by, set_client_id, set_client_id_confirm, set_under, without_found, without_named, without_number}
+use Rattle.xl_front_nfs.specs.Clients.{come, come_again, confirm_found, confirm_held, confirm_number, confirm_over, confirmed_by, has_room, number_kept, renew, renew_found, renew_number, set_by, set_client_id, set_client_id_confirm, without_found, without_named, without_number}
 use Rattle.xl_front_nfs.specs.FrontNfs.{Called, Garbage, Null, Refused, Compound, call_in, nfs_step, replied}
 use Rattle.xl_front_nfs.specs.Handles.{found_file, get_fh, look_up, put_fh, put_file, put_root_fh}
 use Rattle.xl_front_nfs.specs.Requests.{has_seqid}
 use Rattle.xl_front_nfs.specs.State.{FrontNfs, forgotten, lists_shown, nfs_shown, nfs_tick}
-use Rattle.xl_front_nfs.specs.Steps.{Course, Step, Runs, Garbled, Cut, begun, plan_of, planned, ran}
+use Rattle.xl_front_nfs.specs.Steps.{Course, Step, Runs, Garbled, Cut, begun, planned, ran}
 
 -- ---- operations on handles
 
@@ -309,6 +309,10 @@ release_stood n s l current a = λ o here. renewed_stood s l (number_in s a.clie
           | inr e ↦ rw e (gone (find (is_owner_named c.number kinds.Lock a.owner) m.owners))
         ]
 
+return_stood : (n : ℕ) (s : CoreState) (l : NfsLists) (current : Option ℕ) (x : Returning) → Stood l (carried n s l current (return_done s l current x)).3
+return_stood n s l current (Err status) = λ o here. here
+return_stood n s l current (Ok r) = λ o here. here
+
 pub others_stood : (n : ℕ) (files : List (List ℕ)) (others : ℕ) (s : CoreState) (l : NfsLists) (current : Option ℕ) (item : OpItem) (o : OwnerRow) → has_seqid item ≡ false → IsIn o (carried n s l current (planned files others s l current item)).3.owners → IsIn o l.owners
 unfolding planned put_root_fh put_fh renew set_client_id set_client_id_confirm deleg_return
 others_stood n files others s l current PutRootFh o none here = here
@@ -322,7 +326,10 @@ others_stood n files others s l current (Open a) o none here = absurd (true≢fa
 others_stood n files others s l current (OpenConfirm a) o none here = absurd (true≢false none)
 others_stood n files others s l current (OpenDowngrade a) o none here = absurd (true≢false none)
 others_stood n files others s l current (Close a) o none here = absurd (true≢false none)
-others_stood n files others s l current (DelegReturn stateid) o none here = renewed_stood s l (state_client s l stateid) o here
+others_stood n files others s l current (DelegReturn stateid) o none here =
+    let t = all_done n s (renewals l (state_client s l stateid)) in
+    let m : NfsLists = renewed_for s l (state_client s l stateid) in
+    renewed_stood s l (state_client s l stateid) o (return_stood n t m current (returned t m current stateid) o here)
 others_stood n files others s l current (Lock a) o none here = absurd (true≢false none)
 others_stood n files others s l current (LockT a) o none here = test_stood n s l current a o here
 others_stood n files others s l current (LockU a) o none here = absurd (true≢false none)

@@ -18,15 +18,15 @@ opaque_little : (bytes : List ℕ) (most : ℕ) → length bytes ≤ most → le
 unfolding opaque fixed
 opaque_little bytes most le = omega (arith, longer (length bytes) (bytes ++ replicate (pad (length bytes)) 0) (most + 3) (omega (arith, length-append bytes (replicate (pad (length bytes)) 0), length-replicate {A = ℕ} (pad (length bytes)) 0, pad_little (length bytes), le)))
 
-results_little : (tag : List ℕ) (status : NfsStatus) (count : ℕ) (results : List ℕ) → length tag ≤ 1024 → length results ≤ 4648 → length (compound_results tag status count results) ≤ 5712
+results_little : (tag : List ℕ) (status : NfsStatus) (count : ℕ) (results : List ℕ) → length tag ≤ 1024 → length results ≤ 7720 → length (compound_results tag status count results) ≤ 8784
 unfolding compound_results
 results_little tag status count results short few =
     omega (
       arith,
-      longer (status_number status) (opaque tag ++ (unsigned count ++ results)) 5708
-          (omega (arith, length-append (opaque tag) (unsigned count ++ results), opaque_little tag 1024 short, longer count results 4648 few)),
+      longer (status_number status) (opaque tag ++ (unsigned count ++ results)) 8780
+          (omega (arith, length-append (opaque tag) (unsigned count ++ results), opaque_little tag 1024 short, longer count results 7720 few)),
     )
 
-pub compound_little : (whole : List ℕ) (xid : ℕ) (tag : List ℕ) (status : NfsStatus) (count : ℕ) (results : List ℕ) → whole ≡ reply xid Success ++ compound_results tag status count results → length tag ≤ 1024 → length results ≤ 4648 → length whole ≤ 65536
+pub compound_little : (whole : List ℕ) (xid : ℕ) (tag : List ℕ) (status : NfsStatus) (count : ℕ) (results : List ℕ) → whole ≡ reply xid Success ++ compound_results tag status count results → length tag ≤ 1024 → length results ≤ 7720 → length whole ≤ 65536
 compound_little whole xid tag status count results is short few =
     subst (λ (x : List ℕ). length x ≤ 65536) (sym is) (omega (arith, length-append (reply xid Success) (compound_results tag status count results), reply_little xid Success, results_little tag status count results short few))

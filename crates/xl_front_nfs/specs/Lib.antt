@@ -1,4 +1,5 @@
 pub mod State
+pub mod Recalls
 pub mod Handles
 pub mod Clients
 pub mod Steps

@@ -60,7 +60,7 @@ fn note(progress: &mut Progress, number: u32, done: Done) -> Result<bool, AllocE
     requires few { progress.old.count < 64 }
     ensures noted { (old lists : NfsLists) (core : CoreState) → IfOk result (λ more. noted (course_of old progress.old) number (done.0, done.1, done.2, lists, core) ≡ (more, course_of lists progress.new, core)) }
     ensures little { OnOk result (length progress.new.results ≤ length progress.old.results + most_result_bytes) }
-    ensures short { IfOk result (λ more. more ≡ true → length progress.new.results ≤ length progress.old.results + 56) }
+    ensures short { IfOk result (λ more. more ≡ true → length progress.new.results ≤ length progress.old.results + 104) }
     ensures count { OnOk result (progress.new.count ≡ progress.old.count + 1) }
 {
     let (told, current, effects) = done;
@@ -83,13 +83,13 @@ fn do_op<K: Keeper>(
     progress: &mut Progress,
     op: &NfsOp,
 ) -> Result<bool, AllocError>
-    requires ready { IsReady 2 core.old }
+    requires ready { IsReady 4 core.old }
     requires fits { OpFits (shown_op op.now) }
     requires few { progress.old.count < 64 }
     ensures done { (n : ℕ) → IfOk result (λ more. MayBe n core.new → ran files.now others n (course_of state.old progress.old) core.old (Runs (shown_op op.now)) ≡ (more, course_of state.new progress.new, core.new)) }
-    ensures leaves { OnOk result (Leaves 2 core.old core.new) }
+    ensures leaves { OnOk result (Leaves 4 core.old core.new) }
     ensures little { OnOk result (length progress.new.results ≤ length progress.old.results + most_result_bytes) }
-    ensures short { IfOk result (λ more. more ≡ true → length progress.new.results ≤ length progress.old.results + 56) }
+    ensures short { IfOk result (λ more. more ≡ true → length progress.new.results ≤ length progress.old.results + 104) }
     ensures count { OnOk result (progress.new.count ≡ progress.old.count + 1) }
     ensures keeper { keeper.new ≡ keeper.old }
 {
@@ -146,12 +146,12 @@ pub(crate) fn run_ops<K: Keeper>(
     args: &Xdr,
     count: u32,
 ) -> Result<(), AllocError>
-    requires ready { IsReady (2 * count) core.old }
+    requires ready { IsReady (4 * count) core.old }
     requires few { progress.old.count + count ≤ 64 }
     ensures course { (n : ℕ) → OnOk result (MayBe n core.new → (all_ran (ran files.now others) n (course_of state.old progress.old) core.old (steps_in count args.now.rest.now)).1 ≡ course_of state.new progress.new) }
     ensures core { (n : ℕ) → OnOk result (MayBe n core.new → (all_ran (ran files.now others) n (course_of state.old progress.old) core.old (steps_in count args.now.rest.now)).2 ≡ core.new) }
-    ensures leaves { OnOk result (Leaves (2 * count) core.old core.new) }
-    ensures little { OnOk result (length progress.new.results ≤ length progress.old.results + 56 * count + most_result_bytes) }
+    ensures leaves { OnOk result (Leaves (4 * count) core.old core.new) }
+    ensures little { OnOk result (length progress.new.results ≤ length progress.old.results + 104 * count + most_result_bytes) }
     ensures keeper { keeper.new ≡ keeper.old }
 {
     if count == 0 {

@@ -8,20 +8,9 @@ ghost use Rattle.xl_front_nfs.specs.Clients.{ends};
 ghost use Rattle.xl_nfs_opens.specs.Short.{IsReady, Leaves};
 
 use std::alloc::{AllocError, Global};
-use xl_base::{Party, Protocol, Sequence};
+use xl_base::{Party, Sequence};
 use xl_core::{Core, Effect};
-use xl_names::Name;
-
-/// The party that the client of this id string is, where it has something or waits, or had or did.
-fn party_of(alloc: Global, core: &Core, id: &[u8]) -> Result<Option<Party>, AllocError>
-    ensures { IfOk result (λ party. party ≡ party_named core.now.names (NfsParty id.now)) }
-{
-    let name = Name::NfsParty(Sequence::from_slice(alloc, id)?);
-    match core.names().find(&name) {
-        Some(number) => Ok(Some(Party::Name(Protocol::Nfs, number))),
-        None => Ok(None),
-    }
-}
+use xl_nfs_opens::party_of;
 
 /// Takes out all claims and waiters of a party.
 #[tactic(auto, using(crate::proofs::EndingLaws::end_leaves))]

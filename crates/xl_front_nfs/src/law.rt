@@ -1,8 +1,11 @@
 //! Laws of the front. The functions do nothing: each has laws as its clauses.
-ghost use Rattle.std.specs.Prelude.{◌≡◌, ℕ, false, List, ◌∷◌, Option, ◌↔◌};
+ghost use Rattle.std.specs.Prelude.{◌≡◌, ℕ, false, List, [], ◌∷◌, Option, Some, None, ◌↔◌};
 ghost use Rattle.xl_base.specs.Lists.{IsIn};
 ghost use Rattle.xl_base.specs.declared.event.Moment.{Moment};
+ghost use Rattle.xl_base.specs.declared.event.Out.{Out};
 ghost use Rattle.xl_base.specs.declared.journal.Exports.{Exports};
+ghost use Rattle.xl_matrix.specs.declared.claim.CacheKind.{CacheKind};
+ghost use Rattle.xl_matrix.specs.declared.claim.Claim.{Claim};
 ghost use Rattle.xl_nfs.specs.Ops.{OpItem};
 ghost use Rattle.xl_nfs.specs.Outcomes.{is_ok};
 ghost use Rattle.xl_nfs_state.specs.State.{NfsLists, is_due};
@@ -16,6 +19,8 @@ ghost use Rattle.xl_core.specs.State.{CoreState};
 ghost use Rattle.xl_front_nfs.specs.FrontNfs.{nfs_deeds, nfs_reply, nfs_step};
 ghost use Rattle.xl_nfs_opens.specs.Owners.{Names, AreBy};
 ghost use Rattle.xl_nfs_opens.specs.Plans.{deeds_of, carried, status_of};
+ghost use Rattle.xl_core.specs.declared.ask.Effect.TheVariants.{Begun};
+ghost use Rattle.xl_front_nfs.specs.Recalls.{recalls, IsRecall};
 ghost use Rattle.xl_front_nfs.specs.State.{FrontNfs, nfs_tick};
 ghost use Rattle.xl_front_nfs.specs.Steps.{planned, Step, Course, ran, step_deeds};
 ghost use Rattle.xl_front_nfs.specs.Theirs.{AreTheirs};
@@ -63,4 +68,14 @@ pub fn a_failure_ends_it()
 #[tactic(auto, using(crate::proofs::HandleLaws::due_go))]
 pub fn records_go_in_time()
     ensures { (f : FrontNfs) (now : Moment) (r : ClientRow) → IsIn r (nfs_tick f now).state.clients ↔ (IsIn r f.state.clients × (is_due now r ≡ false)) }
+{}
+
+/// The break of a delegation, which has a call's number, is sent as one call of this number at most: to the callback of the
+/// client that the cache is of, as it is confirmed now, for the delegation that this client has on the file, by the delegation's
+/// own stateid (RFC 7530 10.4.4, 18.2). There is no call where the client isn't confirmed, or has no delegation there, or has
+/// one that came after the break; nor for a break without a call's number.
+pub fn recalls_name_the_delegation()
+    ensures exactly { (f : FrontNfs) (s : CoreState) (cache : Claim) (to : Option CacheKind) (number : ℕ) (out : Out) → IsIn out (recalls f s (Begun cache to (Some number))) ↔ IsRecall f s cache number out }
+    ensures alone { (f : FrontNfs) (s : CoreState) (cache : Claim) (to : Option CacheKind) (number : ℕ) (out : Out) → IsIn out (recalls f s (Begun cache to (Some number))) → recalls f s (Begun cache to (Some number)) ≡ out ∷ [] }
+    ensures silent { (f : FrontNfs) (s : CoreState) (cache : Claim) (to : Option CacheKind) → recalls f s (Begun cache to None) ≡ [] }
 {}

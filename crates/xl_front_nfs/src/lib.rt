@@ -10,10 +10,12 @@ mod handles;
 pub mod law;
 pub mod numbers;
 pub mod orderly;
+mod recalling;
 mod rows;
 mod serving;
 mod setting;
 mod step;
 
 pub use front::{NfsFront, nfs_shown, nfs_tick};
+pub use recalling::recalls;
 pub use step::nfs_step;

@@ -32,9 +32,9 @@ pub(crate) fn serve<K: Keeper>(
     current: Option<u32>,
     op: &NfsOp,
 ) -> Result<Done, AllocError>
-    requires ready { IsReady 2 core.old }
+    requires ready { IsReady 4 core.old }
     ensures done { (n : ℕ) → IfOk result (λ r. MayBe n core.new → carried n core.old state.old current (planned files.now others core.old state.old current (shown_op op.now)) ≡ (r.0, r.1, r.2, state.new, core.new)) }
-    ensures leaves { OnOk result (Leaves 2 core.old core.new) }
+    ensures leaves { OnOk result (Leaves 4 core.old core.new) }
     ensures keeper { keeper.new ≡ keeper.old }
 {
     match op {
@@ -73,8 +73,14 @@ pub(crate) fn serve<K: Keeper>(
             Ok(done)
         }
         NfsOp::Lock(args) => lock(alloc, state, core, keeper, current, args),
-        NfsOp::LockT(args) => lock_test(alloc, state, core, keeper, current, args),
-        NfsOp::LockU(args) => unlock(alloc, state, core, keeper, current, args),
+        NfsOp::LockT(args) => {
+            let done = lock_test(alloc, state, core, keeper, current, args)?;
+            Ok(done)
+        }
+        NfsOp::LockU(args) => {
+            let done = unlock(alloc, state, core, keeper, current, args)?;
+            Ok(done)
+        }
         NfsOp::ReleaseLockOwner(args) => {
             let done = release(alloc, state, core, current, args)?;
             Ok(done)

@@ -56,7 +56,7 @@ fn compound_reply(
     results: &XdrOut,
 ) -> Result<Vec<u8>, AllocError>
     requires tag { length tag.now ≤ 1024 }
-    requires few { length results.now ≤ 4648 }
+    requires few { length results.now ≤ 7720 }
     ensures reply { IfOk result (λ v. v.items ≡ reply xid Success ++ compound_results tag.now status count results.now) }
     ensures little { IfOk result (λ v. length v.items ≤ 65536) }
 {
@@ -94,9 +94,9 @@ fn done<K: Keeper>(
 ) -> Result<(Vec<u8>, Sequence<Effect>), AllocError>
     requires tag { length head.now.tag.now ≤ 1024 }
     requires few { head.now.count ≤ 64 }
-    requires ready { IsReady 128 core.old }
+    requires ready { IsReady 256 core.old }
     ensures done { (n : ℕ) → IfOk result (λ r. MayBe n core.new → with_reply xid head.now.tag.now (run n files.now others front.old core.old (steps_in head.now.count args.now.rest.now)) ≡ (r.0.items, r.1, front.new, core.new)) }
-    ensures leaves { OnOk result (Leaves 128 core.old core.new) }
+    ensures leaves { OnOk result (Leaves 256 core.old core.new) }
     ensures little { IfOk result (λ r. length r.0.items ≤ 65536) }
     ensures keeper { keeper.new ≡ keeper.old }
 {
@@ -173,9 +173,9 @@ fn compound<K: Keeper>(
     keeper: &mut K,
     request: &Request,
 ) -> Result<(Vec<u8>, Sequence<Effect>), AllocError>
-    requires ready { IsReady 128 core.old }
+    requires ready { IsReady 256 core.old }
     ensures done { (n : ℕ) → IfOk result (λ r. MayBe n core.new → replied n files.now others front.old core.old request.now.xid (compound_in (compound_head_at request.now.arguments.rest.now)) ≡ (r.0.items, r.1, front.new, core.new)) }
-    ensures leaves { OnOk result (Leaves 128 core.old core.new) }
+    ensures leaves { OnOk result (Leaves 256 core.old core.new) }
     ensures little { IfOk result (λ r. length r.0.items ≤ 65536) }
     ensures keeper { keeper.new ≡ keeper.old }
 {
@@ -213,9 +213,9 @@ fn replied<K: Keeper>(
     keeper: &mut K,
     request: &Request,
 ) -> Result<(Vec<u8>, Sequence<Effect>), AllocError>
-    requires ready { IsReady 128 core.old }
+    requires ready { IsReady 256 core.old }
     ensures done { (n : ℕ) → IfOk result (λ r. MayBe n core.new → replied n files.now others front.old core.old request.now.xid (call_in (shown_request request.now)) ≡ (r.0.items, r.1, front.new, core.new)) }
-    ensures leaves { OnOk result (Leaves 128 core.old core.new) }
+    ensures leaves { OnOk result (Leaves 256 core.old core.new) }
     ensures little { IfOk result (λ r. length r.0.items ≤ 65536) }
     ensures keeper { keeper.new ≡ keeper.old }
 {
@@ -234,8 +234,8 @@ fn replied<K: Keeper>(
 /// SETCLIENTID_CONFIRM, RENEW, OPEN, OPEN_CONFIRM, OPEN_DOWNGRADE, CLOSE, DELEGRETURN, LOCK, LOCKT, LOCKU and RELEASE_LOCKOWNER
 /// are served, other numbers from 3 to 39 are NOTSUPP and all else OP_ILLEGAL. A head that
 /// can't be read, and bytes behind NULL, are GARBAGE_ARGS; bytes behind the last operation are not looked at. At least
-/// 65,664 numbers must be left to give out; a COMPOUND takes 128 at most. After an error nothing is known of the front
-/// and the core.
+/// 65,792 numbers must be left to give out, beside those that who waits and the recalls of delegations may take; a COMPOUND
+/// takes 256 at most, four an operation. After an error nothing is known of the front and the core.
 #[tactic(auto, unfolding(crate::specs::FrontNfs::nfs_step))]
 pub fn nfs_step<K: Keeper>(
     alloc: Global,
@@ -248,9 +248,9 @@ pub fn nfs_step<K: Keeper>(
     request: &Request,
 ) -> Result<(Sequence<Out>, Sequence<Effect>), AllocError>
     requires known { serves Program.Nfs request.now.procedure ≡ true }
-    requires ready { IsReady 128 core.old }
+    requires ready { IsReady 256 core.old }
     ensures state { (n : ℕ) → IfOk result (λ r. MayBe n core.new → nfs_step n exports.now others front.old core.old conn (shown_request request.now) ≡ (r.0, r.1, front.new, core.new)) }
-    ensures leaves { OnOk result (Leaves 128 core.old core.new) }
+    ensures leaves { OnOk result (Leaves 256 core.old core.new) }
     ensures little { IfOk result (λ r. AllByRecursion FitsFrame r.0) }
     ensures keeper { keeper.new ≡ keeper.old }
 {

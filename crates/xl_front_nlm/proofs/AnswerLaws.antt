@@ -41,7 +41,7 @@ answer_tells n f s number reply = (by_call n f s number (refuses reply) (find (�
 
 refusal_takes : (n : ℕ) (hosts : List (List ℕ)) (s : CoreState) (o : Option Grant) → ((g : Grant) → o ≡ Some g → g.first ≤ g.last) → AreFit n s (refusal_deeds hosts o)
 refusal_takes n hosts s None real = tt
-refusal_takes n hosts s (Some g) real = (record { act = real g refl; own = refl; party = own_client g.caller }, tt)
+refusal_takes n hosts s (Some g) real = (record { act = real g refl; own = refl; party = own_client g.caller; wish = refl }, tt)
 
 refused_real : (s : CoreState) (refused : Bool) (o : Option GrantedCall) (g : Grant) → refused_grant s refused o ≡ Some g → g.first ≤ g.last
 refused_real s refused None g e = absurd cc

@@ -129,7 +129,7 @@ lock_fits n count hosts s a =
     bytes_fit n s (λ at. lock_plan hosts s a at) (aimed count a.lock)
     (λ at e. elim (cases_Bool (does_wait s a at)) [
       | inl waits ↦ rw waits tt
-      | inr fresh ↦ rw fresh (record { act = (aim_real count a.lock at e, tt); own = refl; party = own_client a.lock.caller_name }, tt)
+      | inr fresh ↦ rw fresh (record { act = (aim_real count a.lock at e, tt); own = refl; party = own_client a.lock.caller_name; wish = refl }, tt)
     ])
 
 waits : (s : CoreState) (at : Aim) (exclusive : Bool) (o : Option ℕ) (id : ℕ) → waiter_by s.waiters at exclusive o ≡ Some id → is_waiting id s.waiters ≡ true
@@ -148,14 +148,14 @@ pub plan_takes : (n count : ℕ) (hosts : List (List ℕ)) (s : CoreState) (call
 unfolding planned
 plan_takes n count hosts s Null = tt
 plan_takes n count hosts s (Test a) =
-    bytes_fit n s (λ at. Does (Asks (rooms hosts) (test_ask a at))) (aimed count a.lock) (λ at e. (record { act = aim_real count a.lock at e; own = refl; party = own_client a.lock.caller_name }, tt))
+    bytes_fit n s (λ at. Does (Asks (rooms hosts) (test_ask a at))) (aimed count a.lock) (λ at e. (record { act = aim_real count a.lock at e; own = refl; party = own_client a.lock.caller_name; wish = refl }, tt))
 plan_takes n count hosts s (Lock a) = lock_fits n count hosts s a
 plan_takes n count hosts s (Cancel a) =
     bytes_fit n s _ (aimed count a.lock) (λ at e. found_fit n s _ (λ id. Cancels id) (waiter_for s a.lock a.exclusive at) (λ id k. waits s at a.exclusive (number_of (owner_of a.lock) s.names) id k))
 plan_takes n count hosts s (Unlock a) =
-    bytes_fit n s (λ at. Does (Asks (rooms hosts) (unlock_ask a at))) (aimed count a.lock) (λ at e. (record { act = aim_real count a.lock at e; own = refl; party = own_client a.lock.caller_name }, tt))
+    bytes_fit n s (λ at. Does (Asks (rooms hosts) (unlock_ask a at))) (aimed count a.lock) (λ at e. (record { act = aim_real count a.lock at e; own = refl; party = own_client a.lock.caller_name; wish = refl }, tt))
 plan_takes n count hosts s (Granted a) = tt
-plan_takes n count hosts s (Share a) = file_fit n s _ (exported count a.fh) (λ file. (record { act = tt; own = refl; party = own_client a.caller_name }, tt))
+plan_takes n count hosts s (Share a) = file_fit n s _ (exported count a.fh) (λ file. (record { act = tt; own = refl; party = own_client a.caller_name; wish = tt }, tt))
 plan_takes n count hosts s (Unshare a) =
     file_fit n s _ (exported count a.fh) (λ file. found_fit n s _ (λ claim. GivesBack claim) (share_held s a file) (λ claim k. share_fits s file (number_of (share_owner a) s.names) claim k))
 plan_takes n count hosts s (NmLock a) = lock_fits n count hosts s a

@@ -1,23 +1,22 @@
 -- Each status of NLM has its cause, exactly.
-use Rattle.std.proofs.Common.{◌≡◌, ℕ, ◌+◌, ◌≤◌, Bool, true, false, ◌⊎◌, inl, inr, List, [], ◌∷◌, Option, Some, None, refl, sym, ap, subst, ◌∙◌, ◌↔◌}
+use Rattle.std.proofs.Common.{◌≡◌, ℕ, ◌+◌, ◌≤◌, Bool, true, false, inl, inr, List, Option, Some, None, refl, sym, ap, subst, ◌↔◌}
 use Rattle.std.proofs.lemmas.Bool.{both_ways}
 use Rattle.xl_matrix.specs.declared.claim.Claim.{Claim}
 use Rattle.xl_matrix.specs.declared.claim.Extent.TheVariants.{Bytes}
 use Rattle.xl_matrix.specs.declared.claim.What.{What}
 use Rattle.xl_matrix.specs.declared.claim.What.TheVariants as whats
-use Rattle.xl_nlm.specs.Items.{LockItem, TestArgsItem, LockArgsItem, CancelArgsItem, UnlockArgsItem, ShareArgsItem, CallItem, Null, Test, Lock, Cancel, Unlock, Granted, Share, Unshare, NmLock, FreeAll}
+use Rattle.xl_nlm.specs.Items.{LockItem, TestArgsItem, LockArgsItem, UnlockArgsItem, CallItem, Null, Test, Lock, Cancel, Unlock, Granted, Share, Unshare, NmLock, FreeAll}
 use Rattle.xl_nlm.specs.declared.item.NlmStatus.{NlmStatus}
 use Rattle.xl_nlm.specs.declared.item.NlmStatus.TheVariants as stats
 use Rattle.xl_table.specs.Relock.{most_claims}
 use Rattle.xl_wait.specs.declared.waiter.Rooms.{Rooms}
-use Rattle.xl_core.proofs.CauseLaws.{lock_due, test_due, unlock_due}
-use Rattle.xl_core.specs.Asking.{asked_what, asked_claim, known_claim, IsFit}
+use Rattle.xl_core.proofs.WayAsks.{ask_due, ask_test, ask_unlock}
+use Rattle.xl_core.specs.Asking.{asked_what, asked_claim, known_claim}
 use Rattle.xl_core.specs.Causes.{IsClaimDue, IsTestDue, IsUnlockDue}
-use Rattle.xl_core.specs.Decide.{ask}
-use Rattle.xl_core.specs.Deeds.{Deed, Asks, Cancels, GivesBack}
+use Rattle.xl_core.specs.Decide.{way, ask}
+use Rattle.xl_core.specs.Deeds.{Cancels, GivesBack}
 use Rattle.xl_core.specs.Good.{IsGood}
 use Rattle.xl_core.specs.State.{CoreState}
-use Rattle.xl_core.specs.declared.ask.Act.TheVariants as acts
 use Rattle.xl_core.specs.declared.ask.Answer.{Answer}
 use Rattle.xl_core.specs.declared.ask.Answer.TheVariants as answers
 use Rattle.xl_core.specs.declared.ask.Ask.{Ask}
@@ -27,10 +26,10 @@ use Rattle.xl_front_nlm.specs.Aims.{exported, last_of, aimed, aimed_at, aimed_in
 use Rattle.xl_front_nlm.specs.Asks.{test_ask, lock_ask, unlock_ask, rights_of, share_ask}
 use Rattle.xl_front_nlm.specs.Hosts.{rooms, host_rows}
 use Rattle.xl_front_nlm.specs.Results.{answer_status, status_of, test_answer_status, test_status}
-use Rattle.xl_front_nlm.specs.Serving.{Plan, Tells, Does, at_bytes, on_file, if_found, lock_plan, planned, host_of, served_by, served}
+use Rattle.xl_front_nlm.specs.Serving.{Plan, at_bytes, on_file, if_found, lock_plan, planned, served_by, served}
 use Rattle.xl_front_nlm.specs.Standing.{waiter_for, does_wait, share_held}
 use Rattle.xl_front_nlm.specs.State.{FrontState}
-use Rattle.xl_front_nlm.specs.Statuses.{status_told, IsClaimTold, IsTestTold, IsUnlockTold, IsLastTold, IsRangeTold, IsFileTold, IsLockTold, IsCancelTold, lock_claim, IsLockingTold, IsStatusDue}
+use Rattle.xl_front_nlm.specs.Statuses.{status_told, IsClaimTold, IsAskTold, IsTestTold, IsUnlockTold, IsLastTold, IsRangeTold, IsFileTold, IsLockTold, IsCancelTold, lock_claim, IsStatusDue}
 use Rattle.xl_front_nlm.specs.declared.aim.Aim.{Aim}
 use Rattle.xl_front_nlm.specs.declared.outcome.Outcome.{Outcome}
 use Rattle.xl_front_nlm.specs.declared.outcome.Outcome.TheVariants.{NoFile, TooBig, NotWaiting, Ended}
@@ -66,11 +65,12 @@ claim_back left s a claim r exact stats.Failed told = absurd told
 abbrev Exactly : NlmStatus → (NlmStatus → Type 0) → Type 0
 Exactly told due = (status : NlmStatus) → (told ≡ status) ↔ due status
 
-claim_exactly : (n : ℕ) (left : Rooms) (s : CoreState) (a : Ask) (what : What) → asked_what a.act ≡ Some what → Exactly (answer_status (ask n left s a).0) (IsClaimTold left s a (asked_claim a what s.names))
+claim_exactly : (n : ℕ) (left : Rooms) (s : CoreState) (a : Ask) (what : What) → asked_what a.act ≡ Some what → Exactly (answer_status (ask n left s a).0) (IsAskTold left s a (asked_claim a what s.names))
 claim_exactly n left s a what act = λ status.
-    let claim = asked_claim a what s.names in (
-      λ e. subst (λ (x : NlmStatus). IsClaimTold left s a claim x) e (claim_forth left s a claim (ask n left s a).0 ((lock_due n left s a what (ask n left s a).0 act).0 refl)),
-      λ told. claim_back left s a claim (ask n left s a).0 (λ answer due. (lock_due n left s a what answer act).1 due) status told,
+    let claim = asked_claim a what s.names in
+    let t = (way left s a).1 in (
+      λ e. subst (λ (x : NlmStatus). IsClaimTold left t a claim x) e (claim_forth left t a claim (ask n left s a).0 ((ask_due n left s a what (ask n left s a).0 act).0 refl)),
+      λ told. claim_back left t a claim (ask n left s a).0 (λ answer due. (ask_due n left s a what answer act).1 due) status told,
     )
 
 -- ---- a test
@@ -103,8 +103,8 @@ test_exactly : (n : ℕ) (left : Rooms) (s : CoreState) (a : TestArgsItem) (at :
 test_exactly n left s a at = λ status.
     let request = test_ask a at in
     let claim = known_claim request (Bytes at.first at.last) a.exclusive s.names in (
-      λ e. subst (λ (x : NlmStatus). IsTestTold s request claim x) e (test_forth s request claim (ask n left s request).0 refl ((test_due n left s request (Bytes at.first at.last) a.exclusive (ask n left s request).0 refl).0 refl)),
-      λ told. test_back s request claim (ask n left s request).0 (λ answer due. (test_due n left s request (Bytes at.first at.last) a.exclusive answer refl).1 due) status told,
+      λ e. subst (λ (x : NlmStatus). IsTestTold s request claim x) e (test_forth s request claim (ask n left s request).0 refl ((ask_test n left s request (Bytes at.first at.last) a.exclusive (ask n left s request).0 refl).0 refl)),
+      λ told. test_back s request claim (ask n left s request).0 (λ answer due. (ask_test n left s request (Bytes at.first at.last) a.exclusive answer refl).1 due) status told,
     )
 
 -- ---- an unlock
@@ -139,8 +139,8 @@ unlock_exactly n left s a at good ends = λ status.
     let request = unlock_ask a at in
     let claim = known_claim request (Bytes at.first at.last) false s.names in
     let client = own_client a.lock.caller_name in (
-      λ e. subst (λ (x : NlmStatus). IsUnlockTold s claim at.first at.last x) e (unlock_forth s claim at.first at.last (ask n left s request).0 ((unlock_due n left s request at.first at.last (ask n left s request).0 refl client refl ends good).0 refl)),
-      λ told. unlock_back s claim at.first at.last (ask n left s request).0 (λ answer due. (unlock_due n left s request at.first at.last answer refl client refl ends good).1 due) status told,
+      λ e. subst (λ (x : NlmStatus). IsUnlockTold s claim at.first at.last x) e (unlock_forth s claim at.first at.last (ask n left s request).0 ((ask_unlock n left s request at.first at.last (ask n left s request).0 refl client refl ends good).0 refl)),
+      λ told. unlock_back s claim at.first at.last (ask n left s request).0 (λ answer due. (ask_unlock n left s request at.first at.last answer refl client refl ends good).1 due) status told,
     )
 
 -- ---- what is named

@@ -1,30 +1,25 @@
 -- What an ask changes of the core.
-use Rattle.std.proofs.Common.{◌≡◌, ℕ, ◌+◌, ◌≤◌, ◌<◌, Bool, true, false, if◌then◌else◌, cond, List, [], ◌∷◌, ◌++◌, length, Option, Some, None, Result, Ok, refl, sym, ap, subst, ◌∙◌, inl, inr, arith}
-use Rattle.std.proofs.lemmas.Bool.{cases_Bool, false≢true}
-use Rattle.std.proofs.lemmas.Bool.Decides.{nat_tests}
-use Rattle.std.proofs.lemmas.List.{length-append}
-use Rattle.std.specs.List.{slice_get}
+use Rattle.std.proofs.Common.{◌≡◌, ℕ, ◌+◌, ◌≤◌, ◌<◌, Bool, true, false, if◌then◌else◌, cond, List, [], ◌∷◌, ◌++◌, length, Some, None, Ok, refl, sym, ap, subst, ◌∙◌, arith}
+use Rattle.std.proofs.lemmas.Bool.{false≢true}
 use Rattle.std.specs.Bool.{◌==◌}
 use Rattle.xl_matrix.specs.declared.claim.Claim.{Claim}
-use Rattle.xl_matrix.specs.declared.claim.Extent.{Extent}
-use Rattle.xl_matrix.specs.declared.claim.Extent.TheVariants.{Bytes, Empty}
+use Rattle.xl_matrix.specs.declared.claim.Extent.TheVariants.{Bytes}
 use Rattle.xl_matrix.specs.declared.claim.What.{What}
 use Rattle.xl_matrix.specs.declared.claim.What.TheVariants as whats
 use Rattle.xl_names.specs.Names.{is_kept}
 use Rattle.xl_names.specs.declared.name.Name.{Name}
 use Rattle.xl_wait.specs.declared.waiter.Rooms.{Rooms}
-use Rattle.xl_wait.specs.declared.waiter.Waiter.{Waiter}
 use Rattle.xl_table.specs.Relock.{granted_claims}
 use Rattle.xl_core.specs.State.{CoreState}
 use Rattle.xl_core.specs.Asking.{who_entered, both_entered, asked_claim, IsFit}
 use Rattle.xl_core.specs.Causes.{IsClaimDue}
-use Rattle.xl_core.specs.Decide.{ask}
-use Rattle.xl_core.specs.Frames.{who_left, IsFrame, drawn_by, asks_to_hold, names_after, come_by}
+use Rattle.xl_core.specs.Decide.{way, ask}
+use Rattle.xl_core.specs.Frames.{asks_to_hold, names_after}
 use Rattle.xl_core.specs.Limits.{most_hosts}
-use Rattle.xl_core.specs.Settle.{all_cancelled}
-use Rattle.xl_core.proofs.CauseLaws.{lock_due}
-use Rattle.xl_core.proofs.FrameLaws.{ask_frame, ask_quiet, goes_on_self}
+use Rattle.xl_core.proofs.FrameLaws.{ask_frame, goes_on_self}
 use Rattle.xl_core.proofs.LimitLaws.{grant_least, grant_room, wait_least, wait_room}
+use Rattle.xl_core.proofs.NumberLaws.{ask_numbers}
+use Rattle.xl_core.proofs.WayAsks.{ask_due}
 use Rattle.xl_core.specs.declared.ask.Answer.TheVariants as answers
 use Rattle.xl_core.specs.declared.ask.Answer.{Answer}
 use Rattle.xl_core.specs.declared.ask.Ask.{Ask}
@@ -32,20 +27,18 @@ use Rattle.xl_core.specs.declared.ask.Effect.{Effect}
 use Rattle.xl_core.specs.declared.ask.Who.{Who}
 use Rattle.xl_core.specs.declared.ask.Who.TheVariants.{Named, Open}
 use Rattle.xl_nlm.specs.Items.{LockArgsItem, ShareArgsItem, CallItem}
-use Rattle.xl_rpc.specs.declared.fault.RpcBad.{RpcBad}
 use Rattle.xl_nlm.specs.Arguments.{arguments_at}
 use Rattle.xl_programs.specs.Programs.{RequestItem}
 use Rattle.xl_front_nlm.specs.FrontNlm.{whole_call, call_in}
-use Rattle.xl_front_nlm.specs.Asks.{lock_ask, refusal_ask, rights_of, share_ask}
+use Rattle.xl_front_nlm.specs.Asks.{lock_ask, rights_of, share_ask}
 use Rattle.xl_front_nlm.specs.Hosts.{is_host, rooms, host_rows, makes_host}
 use Rattle.xl_front_nlm.specs.declared.aim.Aim.{Aim}
-use Rattle.xl_front_nlm.specs.declared.grant.Grant.{Grant}
 use Rattle.xl_front_nlm.specs.Short.{IsShort, AreShort, IsShortWho, IsShortAsk, Grows, IsReady, Leaves}
 
 -- ---- nothing changes
 
 pub grows_self : (s : CoreState) → AreShort s.names → Grows s s
-grows_self s short = record { counter = omega arith; waiters = omega arith; short = short }
+grows_self s short = record { numbers = omega arith; short = short }
 
 pub leaves_self : (s : CoreState) → IsReady s → Leaves s s
 leaves_self s ready = record { on = goes_on_self s; good = ready.good; grows = grows_self s ready.short }
@@ -67,39 +60,32 @@ who_short (Open number) names short one = short
 both_short : (a : Ask) (names : List Name) → AreShort names → IsShortAsk a → AreShort (both_entered a names)
 both_short a names short small = who_short a.party (who_entered a.owner names) (who_short a.owner names short small.0) small.1
 
--- ---- an ask takes one number and one place in the queue at most
+-- ---- an ask's names are short
 
--- what an answer draws, brings to the queue and leaves of the names
-small_by : (a : Ask) (names : List Name) (answer : Answer) → AreShort names → IsShortAsk a → (drawn_by answer ≤ 1) × (length (come_by a answer names) ≤ 1) × AreShort (names_after a answer names)
-small_by a names (answers.Granted c) short small = (omega arith, omega arith, either (asks_to_hold a.act)) where
+-- what an answer leaves of the names
+short_by : (a : Ask) (names : List Name) (answer : Answer) → AreShort names → IsShortAsk a → AreShort (names_after a answer names)
+short_by a names (answers.Granted c) short small = either (asks_to_hold a.act) where
   either : (b : Bool) → AreShort (if b then both_entered a names else names)
   either true = both_short a names short small
   either false = short
-small_by a names (answers.Queued id) short small = (omega arith, omega arith, both_short a names short small)
-small_by a names (answers.Conflict c) short small = (omega arith, omega arith, short)
-small_by a names (answers.Recall c) short small = (omega arith, omega arith, short)
-small_by a names (answers.Grace until) short small = (omega arith, omega arith, short)
-small_by a names (answers.NoGrace clock) short small = (omega arith, omega arith, short)
-small_by a names answers.NotRecorded short small = (omega arith, omega arith, short)
-small_by a names (answers.Full limit) short small = (omega arith, omega arith, short)
-small_by a names answers.NotHeld short small = (omega arith, omega arith, short)
-small_by a names answers.StoreFailed short small = (omega arith, omega arith, short)
-
-framed_grows : (s new : CoreState) (a : Ask) (answer : Answer) (told : List Effect) → told ≡ [] → IsFrame s told new (drawn_by answer) (names_after a answer s.names) (come_by a answer s.names) → AreShort s.names → IsShortAsk a → Grows s new
-framed_grows s new a answer told quiet frame short small =
-    let by = small_by a s.names answer short small in
-    let queue : new.waiters ≡ s.waiters ++ come_by a answer s.names = frame.waiters ∙ ap (λ (x : List Effect). all_cancelled (who_left x) s.waiters ++ come_by a answer s.names) quiet in
-    record {
-      counter = omega (arith, frame.counter, by.0);
-      waiters = omega (arith, ap (λ (ws : List Waiter). length ws) queue, length-append s.waiters (come_by a answer s.names), by.1);
-      short = subst (λ (names : List Name). AreShort names) (sym frame.names) by.2;
-    }
+short_by a names (answers.Queued id) short small = both_short a names short small
+short_by a names (answers.Conflict c) short small = short
+short_by a names (answers.Recall c) short small = short
+short_by a names (answers.Grace until) short small = short
+short_by a names (answers.NoGrace clock) short small = short
+short_by a names answers.NotRecorded short small = short
+short_by a names (answers.Full limit) short small = short
+short_by a names answers.NotHeld short small = short
+short_by a names answers.StoreFailed short small = short
 
 pub ask_grows : (n : ℕ) (left : Rooms) (s new : CoreState) (a : Ask) (answer : Answer) (effects : List Effect) → ask n left s a ≡ (answer, effects, new) → IsFit a → IsReady s → IsShortAsk a → Grows s new
 ask_grows n left s new a answer effects e fit ready small =
     let r = ask n left s a in
     subst (λ (t : CoreState). Grows s t) (ap (λ (x : Answer × List Effect × CoreState). x.2) e)
-    (framed_grows s r.2 a r.0 r.1 (ask_quiet n left s a ready.good fit.party) (ask_frame n left s a ready.good fit.party) ready.short small)
+    (record {
+      numbers = ask_numbers n left s a ready.good fit;
+      short = subst (λ (names : List Name). AreShort names) (sym (ask_frame n left s a ready.good fit.party).names) (short_by a s.names r.0 ready.short small);
+    })
 
 -- ---- a grant and a wait have room for their hosts
 
@@ -123,13 +109,13 @@ lock_has_room : (n : ℕ) (left rows : Rooms) (s : CoreState) (a : LockArgsItem)
 lock_has_room n left rows s a at makes =
     let request = lock_ask rows a at in
     let what = whats.Range (Bytes at.first at.last) a.exclusive in
-    room_for left s request (asked_claim request what s.names) (ask n left s request).0 ((lock_due n left s request what (ask n left s request).0 refl).0 refl) makes
+    room_for left (way left s request).1 request (asked_claim request what s.names) (ask n left s request).0 ((ask_due n left s request what (ask n left s request).0 refl).0 refl) makes
 
 share_has_room : (n : ℕ) (left rows : Rooms) (s : CoreState) (a : ShareArgsItem) (file : ℕ) → makes_host (ask n left s (share_ask rows a file)).0 ≡ true → HasRoom left rows
 share_has_room n left rows s a file makes =
     let request = share_ask rows a file in
     let what = whats.Share (rights_of a.access) (rights_of a.mode) in
-    room_for left s request (asked_claim request what s.names) (ask n left s request).0 ((lock_due n left s request what (ask n left s request).0 refl).0 refl) makes
+    room_for left (way left s request).1 request (asked_claim request what s.names) (ask n left s request).0 ((ask_due n left s request what (ask n left s request).0 refl).0 refl) makes
 
 fresh_room : (caller : List ℕ) (hosts : List (List ℕ)) (rows : Rooms) → rows ≡ host_rows caller hosts → HasRoom (rooms hosts) rows → is_host caller hosts ≡ false → length hosts < most_hosts
 fresh_room caller hosts rows e room fresh =

@@ -1,10 +1,11 @@
 -- Names whose parts fit the messages that tell them, and what a step adds to the core at most.
-use Rattle.std.specs.Prelude.{◌+◌, ◌<◌, ◌≤◌, ◌^◌, List, length}
+use Rattle.std.specs.Prelude.{◌+◌, ◌<◌, ◌≤◌, ◌^◌, List}
 use Rattle.std.specs.List.{AllByRecursion}
 use Rattle.xl_base.specs.Limits.{numbers_left}
 use Rattle.xl_names.specs.declared.name.Name.{Name}
 use Rattle.xl_names.specs.declared.name.Name.TheVariants.{NlmRange}
 use Rattle.xl_nlm.specs.Arguments.{TextFits}
+use Rattle.xl_core.specs.Numbers.{numbers_of}
 use Rattle.xl_core.specs.State.{CoreState, GoesOn}
 use Rattle.xl_core.specs.Good.{IsGood}
 use Rattle.xl_core.specs.declared.ask.Ask.{Ask}
@@ -30,10 +31,10 @@ IsShortAsk a = IsShortWho a.owner × IsShortWho a.party
 abbrev pub IsShortGrant : Grant → Type 0
 IsShortGrant g = TextFits g.caller × TextFits g.oh
 
--- one number and one waiter, and short names
+-- the numbers that are given out, or may still be to what waits and to breaks, rise by two at most: that of one who comes to
+-- wait, and that of the call which tells of its grant; and the names are short
 pub record Grows (old new : CoreState) : Type 0 where
-  pub counter : new.counter ≤ old.counter + 1
-  pub waiters : length new.waiters ≤ length old.waiters + 1
+  pub numbers : numbers_of new ≤ numbers_of old + 2
   pub short : AreShort new.names
 
 -- ---- what each function of the front needs of the core, and what it leaves
@@ -41,7 +42,7 @@ pub record Grows (old new : CoreState) : Type 0 where
 -- the state is good, numbers are left to give out, and the names fit the messages that tell them
 pub record IsReady (s : CoreState) : Type 0 where
   pub good : IsGood s
-  pub numbers : s.counter + numbers_left < 2 ^ 32
+  pub numbers : numbers_of s + numbers_left < 2 ^ 32
   pub short : AreShort s.names
 
 -- the state is good, the stores of the step go on, and little was added

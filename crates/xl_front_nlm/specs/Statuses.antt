@@ -10,6 +10,7 @@ use Rattle.xl_wait.specs.declared.waiter.Rooms.{Rooms}
 use Rattle.xl_table.specs.Relock.{most_claims}
 use Rattle.xl_core.specs.Asking.{asked_claim, known_claim}
 use Rattle.xl_core.specs.Causes.{IsClaimDue, IsTestDue, IsUnlockDue}
+use Rattle.xl_core.specs.Decide.{way}
 use Rattle.xl_core.specs.State.{CoreState}
 use Rattle.xl_core.specs.declared.ask.Answer.TheVariants as answers
 use Rattle.xl_core.specs.declared.ask.Ask.{Ask}
@@ -34,9 +35,9 @@ status_told _ outcome = None
 
 -- ---- by what the core is due to answer
 
--- a lock or a share: granted where nothing stands against it and there is room; denied where something does for good or a
--- cache keeps it off, or blocked where it may wait for that and there is room for the wait; no locks where the least limit
--- that it passes is told; a reclaim is too late
+-- a lock or a share, by the state that it is judged in: granted where nothing stands against it and there is room; denied
+-- where something does for good or a cache keeps it off, or blocked where it may wait for that and there is room for the
+-- wait; no locks where the least limit that it passes is told; a reclaim is too late
 abbrev pub IsClaimTold : Rooms → CoreState → Ask → Claim → NlmStatus → Type 0
 IsClaimTold left s a claim stats.Granted = IsClaimDue left s a claim (answers.Granted claim)
 IsClaimTold left s a claim stats.Denied = ((c : Claim) × IsClaimDue left s a claim (answers.Conflict c)) ⊎ ((c : Claim) × IsClaimDue left s a claim (answers.Recall c))
@@ -44,6 +45,11 @@ IsClaimTold left s a claim stats.DeniedNolocks = (limit : ℕ) × IsClaimDue lef
 IsClaimTold left s a claim stats.Blocked = IsClaimDue left s a claim (answers.Queued (s.counter + 1))
 IsClaimTold left s a claim stats.DeniedGracePeriod = IsClaimDue left s a claim (answers.NoGrace s.clock)
 IsClaimTold left s a claim _ = ⊥
+
+-- it is judged once the breaks run that it begins: a cache that needs no answer is out of its way by then, and another keeps it
+-- off until the break is answered
+abbrev pub IsAskTold : Rooms → CoreState → Ask → Claim → NlmStatus → Type 0
+IsAskTold left s a claim status = IsClaimTold left (way left s a).1 a claim status
 
 -- a test: denied where a held range stands against it
 abbrev pub IsTestTold : CoreState → Ask → Claim → NlmStatus → Type 0
@@ -77,7 +83,7 @@ IsFileTold told (Some file) status = told file status
 -- who waits for the same already is blocked, whatever else it asks
 abbrev pub IsLockTold : Bool → Rooms → CoreState → Ask → Claim → NlmStatus → Type 0
 IsLockTold true left s a claim status = status ≡ stats.Blocked
-IsLockTold false left s a claim status = IsClaimTold left s a claim status
+IsLockTold false left s a claim status = IsAskTold left s a claim status
 
 -- a cancel is granted exactly where there is such a waiter
 abbrev pub IsCancelTold : Option ℕ → NlmStatus → Type 0
@@ -102,6 +108,6 @@ IsStatusDue count hosts s (Cancel a) status = IsRangeTold a.lock (λ at. IsCance
 IsStatusDue count hosts s (Unlock a) status =
     IsRangeTold a.lock (λ at. IsUnlockTold s (known_claim (unlock_ask a at) (Bytes at.first at.last) false s.names) at.first at.last) (exported count a.lock.fh) status
 IsStatusDue count hosts s (Share a) status =
-    IsFileTold (λ file. IsClaimTold (rooms hosts) s (share_ask (host_rows a.caller_name hosts) a file) (asked_claim (share_ask (host_rows a.caller_name hosts) a file) (whats.Share (rights_of a.access) (rights_of a.mode)) s.names)) (exported count a.fh) status
+    IsFileTold (λ file. IsAskTold (rooms hosts) s (share_ask (host_rows a.caller_name hosts) a file) (asked_claim (share_ask (host_rows a.caller_name hosts) a file) (whats.Share (rights_of a.access) (rights_of a.mode)) s.names)) (exported count a.fh) status
 IsStatusDue count hosts s (Unshare a) status = IsFileTold (λ file told. told ≡ stats.Granted) (exported count a.fh) status
 IsStatusDue count hosts s _ status = ⊥

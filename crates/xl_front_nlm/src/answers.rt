@@ -122,8 +122,9 @@ fn answered<K: Keeper>(
 /// The end of the server's call of this number, with its reply or without one. A call of GRANTED that awaited its answer
 /// awaits none from then on; a call that awaits none does nothing. Where the reply is accepted and has another status than
 /// GRANTED (XNFS C702, nlm4_res), the range is unlocked as the owner's UNLOCK would at this time; where that finds no
-/// room the owner keeps it, as it does after any other reply or none. At least 65,536 numbers must be left to give out;
-/// none is. After an error nothing is known of the front and the core.
+/// room the owner keeps it, as it does after any other reply or none. At least 65,536 numbers must be left to give out,
+/// beside those that who waits and the recalls to come may take; none is. After an error nothing is known of the front and
+/// the core.
 #[tactic(auto, unfolding(crate::specs::Answers::nlm_called), using(crate::proofs::StepLaws::leaves_self))]
 pub fn nlm_called<K: Keeper>(
     alloc: Global,

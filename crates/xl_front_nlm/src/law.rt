@@ -66,7 +66,8 @@ pub fn replies_follow_the_answers()
 
 /// Each call is told its status exactly where that has its cause: STALE_FH where the handle names no exported file, FBIG
 /// where the range passes the last byte, BLOCKED where the owner waits for the same already or comes to wait, DENIED,
-/// DENIED_NOLOCKS, DENIED_GRACE_PERIOD and GRANTED where the core is due to answer so.
+/// DENIED_NOLOCKS, DENIED_GRACE_PERIOD and GRANTED where the core is due to answer so. A lock and a share are judged once the
+/// breaks of caches run that they begin.
 #[tactic(auto, using(crate::proofs::StatusLaws::status_due))]
 pub fn statuses_have_causes()
     ensures { (n count : ℕ) (f : FrontState) (s : CoreState) (call : CallItem) (status : NlmStatus) → IsGood s → (status_told call (served n count f s call).0 ≡ Some status) ↔ IsStatusDue count f.hosts s call status }

@@ -1,53 +1,46 @@
--- What the ask of an open is, and what it leaves.
-use Rattle.std.proofs.Common.{◌≡◌, ℕ, Bool, true, false, List, [], Some, if◌then◌else◌, refl, sym, ap, subst, ◌∙◌}
-use Rattle.std.proofs.lemmas.Bool.{false≢true, true≢false}
-use Rattle.xl_names.specs.declared.name.Name.{Name}
+-- What the ask of an open is.
+use Rattle.std.proofs.Common.{◌≡◌, ℕ, Bool, true, false, List, [], ◌∷◌, Some, if◌then◌else◌, refl, sym, subst}
+use Rattle.std.specs.Prelude.{◌==◌}
+use Rattle.std.specs.List.{AllByRecursion}
+use Rattle.xl_cache.specs.Levels.{oplock_choices}
+use Rattle.xl_cache.specs.Parties.{is_kind_of}
+use Rattle.xl_matrix.specs.declared.claim.CacheKind.{CacheKind}
+use Rattle.xl_matrix.specs.declared.claim.CacheKind.TheVariants.{R, RW, RWH}
+use Rattle.xl_matrix.specs.declared.claim.Rwd.{Rwd}
 use Rattle.xl_smb.specs.Creates.{CreateCallItem}
 use Rattle.xl_smb_state.proofs.RowLaws.{equal_self}
-use Rattle.xl_wait.specs.declared.waiter.Rooms.{Rooms}
-use Rattle.xl_wait.specs.declared.waiter.Waiter.{Waiter}
-use Rattle.xl_matrix.specs.declared.claim.What.{What}
-use Rattle.xl_matrix.specs.declared.claim.What.TheVariants as whats
-use Rattle.xl_core.specs.Asking.{who_entered, both_entered, asked_what, is_named, may_ask, is_client, IsFitAct, IsFit}
-use Rattle.xl_core.specs.Decide.{ask}
-use Rattle.xl_core.specs.Frames.{asks_to_hold, IsFrame, drawn_by, names_after, come_by}
-use Rattle.xl_core.specs.Good.{IsGood}
-use Rattle.xl_core.specs.State.{CoreState}
-use Rattle.xl_core.specs.declared.ask.Act.{Act}
-use Rattle.xl_core.specs.declared.ask.Act.TheVariants as acts
-use Rattle.xl_core.specs.declared.ask.Answer.{Answer}
-use Rattle.xl_core.specs.declared.ask.Answer.TheVariants as answers
-use Rattle.xl_core.specs.declared.ask.Ask.{Ask}
-use Rattle.xl_core.specs.declared.ask.Effect.{Effect}
-use Rattle.xl_core.specs.declared.ask.Who.{Who}
+use Rattle.xl_core.specs.Asking.{IsFit, may_wish_for}
+use Rattle.xl_core.specs.declared.ask.Act.TheVariants.{Share}
 use Rattle.xl_core.specs.declared.ask.Who.TheVariants as who
-use Rattle.xl_core.proofs.CauseLaws.{lock_due}
-use Rattle.xl_core.proofs.FrameLaws.{ask_frame}
 use Rattle.xl_front_smb.specs.Files.{open_ask}
-use Rattle.xl_front_smb.specs.Short.{IsOpenAsk, Leaves}
-use Rattle.xl_smb_locks.proofs.LeaveLaws.{frame_leaves}
-use Rattle.xl_smb_locks.specs.Short.{IsRangeAsk}
-use Rattle.xl_smb_locks.proofs.AskLaws.{ask_idles}
+use Rattle.xl_front_smb.specs.Short.{IsOpenAsk}
 
 -- ---- the ask of a CREATE is one
 
+-- an open wishes for kinds of an oplock
+choices_fit : (number level : ℕ) → AllByRecursion (λ kind. may_wish_for (who.Open number) true kind ≡ true) (oplock_choices level)
+unfolding oplock_choices is_kind_of
+choices_fit number level = by (level == 9) (level == 8) (level == 1)
+  where
+    by : (batch exclusive second : Bool) → AllByRecursion (λ kind. may_wish_for (who.Open number) true kind ≡ true) (if batch then RWH ∷ R ∷ [] else if exclusive then RW ∷ R ∷ [] else if second then R ∷ [] else [])
+    by true exclusive second = (refl, (refl, tt))
+    by false true second = (refl, (refl, tt))
+    by false false true = (refl, tt)
+    by false false false = tt
+
 pub open_fits : (conn file number : ℕ) (c : CreateCallItem) → IsFit (open_ask conn file number c)
 unfolding open_ask
-open_fits conn file number c = record { act = tt; own = refl; party = equal_self number }
+open_fits conn file number c = record { act = tt; own = refl; party = equal_self number; wish = choices_fit number c.oplock_level }
 
 -- and it is the open's
 pub open_owns : (conn file number : ℕ) (c : CreateCallItem) → ((open_ask conn file number c).owner ≡ who.Open number) × ((open_ask conn file number c).party ≡ who.Open number)
 unfolding open_ask
 open_owns conn file number c = (refl, refl)
 
-open_of_call : (conn file number : ℕ) (c : CreateCallItem) → IsOpenAsk (open_ask conn file number c)
-unfolding open_ask
-open_of_call conn file number c = record { fit = open_fits conn file number c; unnamed = refl; waits = refl; awaits = refl }
-
-pub open_is : (a : Ask) (conn file number : ℕ) (c : CreateCallItem) → a ≡ open_ask conn file number c → IsOpenAsk a
-open_is a conn file number c e = subst (λ (x : Ask). IsOpenAsk x) (sym e) (open_of_call conn file number c)
-
--- ---- it leaves little
-
-pub ask_leaves : (n : ℕ) (left : Rooms) (s new : CoreState) (a : Ask) (answer : Answer) (effects : List Effect) → ask n left s a ≡ (answer, effects, new) → IsGood s → IsOpenAsk a → IsGood new → Leaves 0 s new
-ask_leaves n left s new a answer effects e good given kept = ask_idles n left s new a answer effects e good (record { fit = given.fit; unnamed = given.unnamed; awaits = given.awaits ∙ sym given.waits }) given.waits kept
+-- with a wish as the code has it
+pub asks_open : (conn file number level : ℕ) (access deny : Rwd) (wish : List CacheKind) → wish ≡ oplock_choices level
+    → IsOpenAsk (record { file = file; owner = who.Open number; party = who.Open number; act = Share access deny; wish = wish; conn = Some conn; blocking = false; awaits = true; reclaim = false; monitored = false; rows = record { hosts = 0; owners = 0; opens = 1 } })
+asks_open conn file number level access deny wish is = record {
+  fit = record { act = tt; own = refl; party = equal_self number; wish = subst (λ (kinds : List CacheKind). AllByRecursion (λ kind. may_wish_for (who.Open number) true kind ≡ true) kinds) (sym is) (choices_fit number level) };
+  unnamed = refl;
+}

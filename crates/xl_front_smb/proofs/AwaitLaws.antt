@@ -1,6 +1,6 @@
 -- Each request that waits in the front's lists is a waiter of the core.
-use Rattle.std.proofs.Common.{◌≡◌, ℕ, ◌+◌, Bool, true, false, not, ◌&&◌, eqb, List, [], ◌∷◌, ◌++◌, map, length, Option, Some, None, Ok, Err, Result, is_some, if◌then◌else◌, refl, sym, ap, subst, ◌∙◌, inl, inr}
-use Rattle.std.proofs.lemmas.Bool.{cases_Bool, true≢false, false≢true, eqb-true, and_parts}
+use Rattle.std.proofs.Common.{◌≡◌, ℕ, ◌+◌, Bool, true, false, not, eqb, List, [], ◌∷◌, ◌++◌, map, length, Option, Some, None, Ok, Err, Result, is_some, if◌then◌else◌, refl, sym, ap, subst, ◌∙◌, inl, inr}
+use Rattle.std.proofs.lemmas.Bool.{cases_Bool, true≢false, false≢true, eqb-true}
 use Rattle.std.proofs.lemmas.Map.Made.{IsDistinct-keys_filter}
 use Rattle.std.specs.Prelude.{nat_eq, ◌==◌, ◌⊎◌, nat_lt, filter}
 use Rattle.std.specs.List.{AllByRecursion, IsDistinct, list_any}
@@ -23,33 +23,35 @@ use Rattle.xl_smb.specs.Heads.{command_of, head_of}
 use Rattle.xl_smb.specs.Locks.{LockItem, elements_of}
 use Rattle.xl_smb.specs.Messages.{MessageItem, Call, Reply, Told, message_at}
 use Rattle.xl_smb.specs.Sessions.{NegotiateCallItem, dialects_of}
-use Rattle.xl_smb.specs.declared.breaks.Break.{Break}
+use Rattle.xl_smb.specs.declared.breaks.Break.{Break as Acknowledgement}
+use Rattle.xl_matrix.specs.declared.claim.Break.{Break}
+use Rattle.xl_matrix.specs.declared.claim.What.TheVariants as whats
+use Rattle.xl_smb_state.specs.declared.row.Request.{Request}
+use Rattle.xl_smb_state.specs.declared.row.Request.TheVariants as request
 use Rattle.xl_smb.specs.declared.breaks.Break.TheVariants as held
 use Rattle.xl_smb.specs.declared.fault.SmbBad.{SmbBad}
 use Rattle.xl_smb.specs.declared.file.FileId.{FileId}
 use Rattle.xl_smb.specs.declared.head.SmbHead.{SmbHead}
 use Rattle.xl_smb.specs.declared.lock.LockElement.{LockElement}
-use Rattle.xl_smb_state.proofs.LinkLaws.{place_session}
-use Rattle.xl_smb_state.proofs.RowLaws.{equal_from, equal_self, lookup_added, lookup_all, lookup_removed, unequal_both}
-use Rattle.xl_smb_state.specs.Links.{IsHolderLinked, IsOpenLinked, IsSound, AreDistinct, has_place, is_tree_at}
-use Rattle.xl_smb_state.specs.State.{Lists, client_of, closed, connection_changed, connection_of, covers, covers_holder, keys_where, open_of, opens_under, session_added, session_of, tree_added, tree_of, sessions_on, waiting_of, waiting_under}
-use Rattle.xl_smb_state.specs.declared.row.Holder.{Holder}
-use Rattle.xl_smb_state.specs.declared.row.Holder.TheVariants as holder
+use Rattle.xl_smb_state.proofs.RowLaws.{equal_from, equal_self, lookup_added, lookup_removed, unequal_both, none_out}
+use Rattle.xl_smb_state.specs.Links.{AreDistinct, has_place}
+use Rattle.xl_smb_state.specs.State.{Lists, client_of, closed, connection_changed, connection_of, open_of, opens_under, session_added, session_of, tree_added, sessions_on, waiting_added, waiting_of, creates_under, open_added, waiting_dropped}
 use Rattle.xl_smb_state.specs.declared.row.Open.{Open}
 use Rattle.xl_smb_state.specs.declared.row.Place.{Place}
 use Rattle.xl_smb_state.specs.declared.row.Scope.{Scope}
 use Rattle.xl_smb_state.specs.declared.row.Scope.TheVariants as scope
-use Rattle.xl_smb_state.specs.declared.row.Tree.{Tree}
 use Rattle.xl_smb_state.specs.declared.row.Waiting.{Waiting}
+use Rattle.xl_cache.specs.Levels.{level_of}
 use Rattle.xl_wait.specs.Waiting.{cancelled, is_waiting}
 use Rattle.xl_wait.specs.declared.waiter.Rooms.{Rooms}
 use Rattle.xl_wait.specs.declared.waiter.Waiter.{Waiter}
 use Rattle.xl_core.proofs.DeedLists.{deeds_good}
-use Rattle.xl_core.proofs.FrameLaws.{ask_frame, ask_quiet}
+use Rattle.xl_core.proofs.FrameLaws.{ask_frame, ask_quiet, way_leaves}
 use Rattle.xl_core.proofs.SettleLaws.{party_waiters}
+use Rattle.xl_core.proofs.WayAsks.{ask_there}
 use Rattle.xl_core.specs.Asking.{asked_claims, asked_whats, asking_party, is_client, party_in, range_what, who_entered}
-use Rattle.xl_core.specs.Decide.{ask, freed, unlocked, waiter_of}
-use Rattle.xl_core.specs.Deeds.{Deed, Cancels, Draws, all_done, all_told_of}
+use Rattle.xl_core.specs.Decide.{Answered as Asked, ask, decided, freed, plea_of, unlocked, waiter_of}
+use Rattle.xl_core.specs.Deeds.{Deed, Cancels, Draws, all_done, all_told_of, Acks}
 use Rattle.xl_core.specs.Frames.{come_by, who_left}
 use Rattle.xl_core.specs.Good.{IsGood}
 use Rattle.xl_core.specs.Settle.{all_cancelled, all_told, cancel as cancel_of, end_party, numbers_for, waits_for}
@@ -61,33 +63,35 @@ use Rattle.xl_core.specs.declared.ask.Effect.{Effect}
 use Rattle.xl_core.specs.declared.ask.Effect.TheVariants as effects
 use Rattle.xl_core.specs.declared.ask.Who.{Who}
 use Rattle.xl_core.specs.declared.ask.Who.TheVariants as who
-use Rattle.xl_smb_locks.proofs.UnlockLaws.{any_stores}
-use Rattle.xl_smb_locks.specs.Elements.{any_waits, extent_of, is_count, lock_fault, unlock_fault, unlocks_first}
-use Rattle.xl_smb_locks.specs.Finals.{and_sent, cancels, dismissed, ended_with, is_cancelled, request_ended, served_as, told_of}
+use Rattle.xl_smb_locks.proofs.UnlockLaws.{any_stores, no_way}
+use Rattle.xl_smb_locks.specs.Elements.{extent_of, is_count, lock_fault, unlock_fault, unlocks_first}
+use Rattle.xl_smb_locks.specs.Finals.{and_sent, cancels, dismissed, ended_with, is_cancelled, request_ended, told_of, open_refusal, opened_outs, request_served, served_with, may_stand, served_by, stood}
 use Rattle.xl_smb_locks.specs.Locks.{lock_ask, lock_told, no_rows, range_of, unlock_ask, unlock_next, unlock_told, unlocks}
 use Rattle.xl_smb_locks.specs.declared.locking.Locking.{Locking}
 use Rattle.xl_smb_locks.specs.declared.status.SmbStatus.{SmbStatus}
 use Rattle.xl_smb_locks.specs.declared.status.SmbStatus.TheVariants as statuses
-use Rattle.xl_front_smb.specs.Awaits.{AreAwaited, IsAwaited, ends_wait}
+use Rattle.xl_front_smb.specs.Awaits.{IsUnder, AreAwaited, IsAwaited, ends_wait}
 use Rattle.xl_front_smb.specs.Checks.{file_number, id_of, is_fresh, is_open_on, negotiated_by, number_in}
-use Rattle.xl_front_smb.specs.Ending.{all_closed, connection_gone, ends, sessions_gone, smb_end}
-use Rattle.xl_front_smb.specs.Files.{acknowledge, break_by, close, close_open, create, create_on, has_room_for_open, level_refused, open_as, open_ask, open_file, open_found, overwrites}
-use Rattle.xl_front_smb.specs.FrontSmb.{dismissed_on, head_heard, plan_for, smb_shown, smb_step, stepped}
+use Rattle.xl_front_smb.specs.Ending.{all_closed, connection_gone, ends, smb_end, all_dismissed, all_ended, numbers_under, requests_gone}
+use Rattle.xl_front_smb.specs.Files.{acknowledge, break_by, close, close_open, create, create_on, has_room_for_open, open_as, open_ask, open_file, open_found, overwrites, access_of, ack_by, ack_level, ack_of, ack_open, deny_of, is_refused, left_at, refused_ack, taken_ack}
+use Rattle.xl_front_smb.specs.FrontSmb.{head_heard, plan_for, smb_shown, smb_step, stepped}
 use Rattle.xl_front_smb.specs.Laws.{rows_but, waits_among}
-use Rattle.xl_front_smb.specs.Locks.{cancel, cancel_named, has_room_to_wait, lock, lock_by, lock_found, place_of, request_named, unlock_by, waiting_row}
+use Rattle.xl_front_smb.specs.Locks.{cancel, cancel_named, lock, lock_by, lock_found, place_of, request_named, unlock_by, waiting_row}
 use Rattle.xl_front_smb.specs.Owners.{is_session_on}
-use Rattle.xl_front_smb.specs.Plans.{Plan, Fails, Does, Opens, Locks, Outcome, carried, lists_as, opened_lists}
+use Rattle.xl_front_smb.specs.Plans.{Plan, Fails, Does, Opens, Locks, Outcome, carried, has_room_to_wait, with_waiting, lists_as, opened_lists}
 use Rattle.xl_front_smb.specs.Requests.{commanded, planned, read_as, requested}
 use Rattle.xl_front_smb.specs.Sessions.{connect, connect_as, disconnect, has_room_for_session, has_room_for_tree, logoff, negotiate, offers, session_setup, set_up_as, tree_connect, tree_disconnect}
 use Rattle.xl_front_smb.specs.State.{FrontSmb, empty_smb_front}
 use Rattle.xl_front_smb.specs.Texts.{file_spelled, is_share}
 use Rattle.xl_front_smb.specs.declared.told.Told.{Told as Answered}
 use Rattle.xl_front_smb.specs.declared.told.Told.TheVariants as told
-use Rattle.xl_front_smb.proofs.CancelLaws.{found_once}
-use Rattle.xl_front_smb.proofs.EndLaws.{IsFound, none_out}
-use Rattle.xl_front_smb.proofs.GoneLaws.{done_without, end_opens, end_without, gone_opens, out_one}
-use Rattle.xl_front_smb.proofs.OwnLaws.{by_client, by_open, by_session, by_tree, named_in}
+use Rattle.xl_front_smb.proofs.EndLaws.{ended_told}
+use Rattle.xl_front_smb.proofs.GoneLaws.{done_without, end_without, gone_opens, out_one, all_gone_opens}
+use Rattle.xl_front_smb.proofs.OwnLaws.{by_client, by_open, by_session, by_tree}
 use Rattle.xl_front_smb.proofs.WaitLaws.{all_gone_waiting, closed_waiting, gone_waiting, stands_on}
+use Rattle.xl_matrix.specs.declared.claim.CacheKind.{CacheKind}
+use Rattle.xl_core.specs.Breaks.{ack}
+use Rattle.xl_smb_locks.specs.Levels.{oplock_of}
 
 -- ---- rows that are taken out
 
@@ -111,11 +115,11 @@ other_left k es e distinct here =
 still_distinct : (k : ℕ) (es : List (ℕ × Waiting)) → IsDistinct nat_eq (keys_of es) → IsDistinct nat_eq (keys_of (remove_entry (nat_eq k) es))
 still_distinct k es distinct = subst (λ (xs : List (ℕ × Waiting)). IsDistinct nat_eq (keys_of xs)) (sym (out_one k es distinct)) (IsDistinct-keys_filter nat_eq (λ (x : ℕ × Waiting). not (eqb k x.0)) es distinct)
 
-ended_rows : (id : ℕ) (failed : Option SmbStatus) (l : Lists) → ((request_ended id failed l).1.waiting ≡ remove_entry (nat_eq id) l.waiting) × ((request_ended id failed l).1.opens ≡ l.opens)
+ended_rows : (id : ℕ) (status : SmbStatus) (l : Lists) → ((request_ended id status l).1.waiting ≡ remove_entry (nat_eq id) l.waiting) × ((request_ended id status l).1.opens ≡ l.opens)
 unfolding request_ended
-ended_rows id failed l = by (waiting_of id l) refl
+ended_rows id status l = by (waiting_of id l) refl
   where
-    by : (o : Option Waiting) → waiting_of id l ≡ o → ((ended_with id failed o l).1.waiting ≡ remove_entry (nat_eq id) l.waiting) × ((ended_with id failed o l).1.opens ≡ l.opens)
+    by : (o : Option Waiting) → waiting_of id l ≡ o → ((ended_with id status o l).1.waiting ≡ remove_entry (nat_eq id) l.waiting) × ((ended_with id status o l).1.opens ≡ l.opens)
     by None e = (sym (none_out (nat_eq id) l.waiting e), refl)
     by (Some row) e = (refl, refl)
 
@@ -124,22 +128,22 @@ ended_rows id failed l = by (waiting_of id l) refl
 dismissed_opens : (told : List Effect) (ids : List ℕ) (l : Lists) → (dismissed told ids l).1.opens ≡ l.opens
 dismissed_opens told [] l = refl
 dismissed_opens told (id ∷ ids) l =
-    let after : Lists = (request_ended id (Some statuses.Cancelled) l).1 in
-    by (is_cancelled id told) (dismissed_opens told ids after ∙ (ended_rows id (Some statuses.Cancelled) l).1) (dismissed_opens told ids l)
+    let after : Lists = (request_ended id statuses.Cancelled l).1 in
+    by (is_cancelled id told) (dismissed_opens told ids after ∙ (ended_rows id statuses.Cancelled l).1) (dismissed_opens told ids l)
   where
-    by : (b : Bool) → (dismissed told ids (request_ended id (Some statuses.Cancelled) l).1).1.opens ≡ l.opens → (dismissed told ids l).1.opens ≡ l.opens → (if b then and_sent (request_ended id (Some statuses.Cancelled) l) (dismissed told ids) else dismissed told ids l).1.opens ≡ l.opens
+    by : (b : Bool) → (dismissed told ids (request_ended id statuses.Cancelled l).1).1.opens ≡ l.opens → (dismissed told ids l).1.opens ≡ l.opens → (if b then and_sent (request_ended id statuses.Cancelled l) (dismissed told ids) else dismissed told ids l).1.opens ≡ l.opens
     by true first second = first
     by false first second = second
 
 dismissed_in : (told : List Effect) (ids : List ℕ) (l : Lists) (e : ℕ × Waiting) → IsIn e (dismissed told ids l).1.waiting → IsIn e l.waiting
 dismissed_in told [] l e here = here
 dismissed_in told (id ∷ ids) l e here =
-    let ended = request_ended id (Some statuses.Cancelled) l in
+    let ended = request_ended id statuses.Cancelled l in
     by (is_cancelled id told) here
-    (λ h. removed_in (nat_eq id) l.waiting e (subst (λ (es : List (ℕ × Waiting)). IsIn e es) (ended_rows id (Some statuses.Cancelled) l).0 (dismissed_in told ids ended.1 e h)))
+    (λ h. removed_in (nat_eq id) l.waiting e (subst (λ (es : List (ℕ × Waiting)). IsIn e es) (ended_rows id statuses.Cancelled l).0 (dismissed_in told ids ended.1 e h)))
     (λ h. dismissed_in told ids l e h)
   where
-    by : (b : Bool) → IsIn e (if b then and_sent (request_ended id (Some statuses.Cancelled) l) (dismissed told ids) else dismissed told ids l).1.waiting → (IsIn e (dismissed told ids (request_ended id (Some statuses.Cancelled) l).1).1.waiting → IsIn e l.waiting) → (IsIn e (dismissed told ids l).1.waiting → IsIn e l.waiting) → IsIn e l.waiting
+    by : (b : Bool) → IsIn e (if b then and_sent (request_ended id statuses.Cancelled l) (dismissed told ids) else dismissed told ids l).1.waiting → (IsIn e (dismissed told ids (request_ended id statuses.Cancelled l).1).1.waiting → IsIn e l.waiting) → (IsIn e (dismissed told ids l).1.waiting → IsIn e l.waiting) → IsIn e l.waiting
     by true h first second = first h
     by false h first second = second h
 
@@ -147,15 +151,15 @@ dismissed_in told (id ∷ ids) l e here =
 dismissed_out : (told : List Effect) (ids : List ℕ) (l : Lists) (e : ℕ × Waiting) → IsDistinct nat_eq (keys_of l.waiting) → IsIn e.0 ids → is_cancelled e.0 told ≡ true → IsIn e (dismissed told ids l).1.waiting → ⊥
 dismissed_out told [] l e distinct named over here = named
 dismissed_out told (id ∷ ids) l e distinct named over here =
-    let after : Lists = (request_ended id (Some statuses.Cancelled) l).1 in
-    let rows : after.waiting ≡ remove_entry (nat_eq id) l.waiting = (ended_rows id (Some statuses.Cancelled) l).0 in
+    let after : Lists = (request_ended id statuses.Cancelled l).1 in
+    let rows : after.waiting ≡ remove_entry (nat_eq id) l.waiting = (ended_rows id statuses.Cancelled l).0 in
     let distinct_then : IsDistinct nat_eq (keys_of after.waiting) = subst (λ (es : List (ℕ × Waiting)). IsDistinct nat_eq (keys_of es)) (sym rows) (still_distinct id l.waiting distinct) in
     let gone : id ≡ e.0 → IsIn e after.waiting → ⊥ = λ same h. true≢false (sym (subst (λ (k : ℕ). eqb id k ≡ true) same (equal_self id)) ∙ other_left id l.waiting e distinct (subst (λ (es : List (ℕ × Waiting)). IsIn e es) rows h)) in
     by (is_cancelled id told) refl here
     (λ h. elim named [ inl same ↦ gone same (dismissed_in told ids after e h) | inr rest ↦ dismissed_out told ids after e distinct_then rest over h ])
     (λ not_over h. elim named [ inl same ↦ true≢false (sym (subst (λ (k : ℕ). is_cancelled k told ≡ true) (sym same) over) ∙ not_over) | inr rest ↦ dismissed_out told ids l e distinct rest over h ])
   where
-    by : (b : Bool) → is_cancelled id told ≡ b → IsIn e (if b then and_sent (request_ended id (Some statuses.Cancelled) l) (dismissed told ids) else dismissed told ids l).1.waiting → (IsIn e (dismissed told ids (request_ended id (Some statuses.Cancelled) l).1).1.waiting → ⊥) → (is_cancelled id told ≡ false → IsIn e (dismissed told ids l).1.waiting → ⊥) → ⊥
+    by : (b : Bool) → is_cancelled id told ≡ b → IsIn e (if b then and_sent (request_ended id statuses.Cancelled l) (dismissed told ids) else dismissed told ids l).1.waiting → (IsIn e (dismissed told ids (request_ended id statuses.Cancelled l).1).1.waiting → ⊥) → (is_cancelled id told ≡ false → IsIn e (dismissed told ids l).1.waiting → ⊥) → ⊥
     by true is h first second = first h
     by false is h first second = second is h
 
@@ -187,13 +191,16 @@ waits_some (number ∷ numbers) w opened own any =
       ]
     ]
 
-any_left : (p : Effect → Bool) (xs ys : List Effect) → list_any p xs ≡ true → list_any p (xs ++ ys) ≡ true
+any_left : {X : Type 0} (p : X → Bool) (xs ys : List X) → list_any p xs ≡ true → list_any p (xs ++ ys) ≡ true
 any_left p [] ys any = absurd (false≢true any)
 any_left p (x ∷ xs) ys any = elim (cases_Bool (p x)) [ inl here ↦ rw here refl | inr later ↦ rw later (any_left p xs ys (rw later at any)) ]
 
-any_right : (p : Effect → Bool) (xs ys : List Effect) → list_any p ys ≡ true → list_any p (xs ++ ys) ≡ true
+any_right : {X : Type 0} (p : X → Bool) (xs ys : List X) → list_any p ys ≡ true → list_any p (xs ++ ys) ≡ true
 any_right p [] ys any = any
 any_right p (x ∷ xs) ys any = elim (cases_Bool (p x)) [ inl here ↦ rw here refl | inr later ↦ rw later (any_right p xs ys any) ]
+
+none_first : (p : ℕ → Bool) (xs ys : List ℕ) → list_any p (xs ++ ys) ≡ false → list_any p xs ≡ false
+none_first p xs ys none = elim (cases_Bool (list_any p xs)) [ inl some ↦ absurd (true≢false (sym (any_left p xs ys some) ∙ none)) | inr stays ↦ stays ]
 
 told_all : (id : ℕ) (ids : List ℕ) → IsIn id ids → is_cancelled id (all_told ids) ≡ true
 told_all id [] here = absurd here
@@ -218,51 +225,59 @@ ends_tell n (number ∷ numbers) s w here among =
 
 -- ---- what a plan does to those who wait
 
--- nobody leaves, and no open; or these opens end, which stand under the connection; or one request is cancelled that came by
--- it
-abbrev pub Way : CoreState → Lists → ℕ → List Deed → Lists → Type 0
-Way s l conn deeds lists =
+-- nobody leaves, and no open; or those of these numbers end, and of opens no other goes; or one request is cancelled
+abbrev pub Way : CoreState → Lists → List Deed → Lists → Type 0
+Way s l deeds lists =
     (((n : ℕ) → (all_done n s deeds).waiters ≡ s.waiters) × (lists.opens ≡ l.opens))
-    ⊎ (((numbers : List ℕ) × (deeds ≡ ends numbers) × ((k : ℕ) → list_any (nat_eq k) numbers ≡ false → open_of k lists ≡ open_of k l) × ((k c : ℕ) → list_any (nat_eq k) numbers ≡ true → is_open_on c (open_of k l) ≡ true → c ≡ conn))
-    ⊎ ((id : ℕ) × (deeds ≡ Cancels id ∷ []) × (lists ≡ l) × IsIn id (waiting_under (scope.Connection conn) l)))
+    ⊎ (((numbers : List ℕ) × (deeds ≡ ends numbers) × ((k : ℕ) → list_any (nat_eq k) numbers ≡ false → open_of k lists ≡ open_of k l))
+    ⊎ ((id : ℕ) × (deeds ≡ Cancels id ∷ []) × (lists ≡ l)))
 
 -- what is asked is for this open, and something
 abbrev pub AsksFor : Ask → ℕ → Type 0
 AsksFor a number = (id : ℕ) (names : List Name) → (waits_for (parties.Open number) (waiter_of id a (asked_claims a (asked_whats a.act) names)) ≡ true) × ((k : ℕ) → waits_for (parties.Open k) (waiter_of id a (asked_claims a (asked_whats a.act) names)) ≡ true → k ≡ number)
 
-abbrev pub Sorts : CoreState → Lists → ℕ → Plan → Type 0
-Sorts s l conn (Fails status) = Unit {0}
-Sorts s l conn (Does deeds lists told) = (lists.waiting ≡ l.waiting) × Way s l conn deeds lists
-Sorts s l conn (Opens left a number row told) = is_client a.owner a.party ≡ true
-Sorts s l conn (Locks a refused row) = (is_client a.owner a.party ≡ true) × AsksFor a row.opened × (row.place.connection ≡ conn) × (is_open_on conn (open_of row.opened l) ≡ true)
+-- a request of this row that waits for this is awaited
+abbrev pub IsAsked : Lists → Ask → Waiting → Type 0
+IsAsked l a row = (is_client a.owner a.party ≡ true) × AsksFor a row.opened × IsUnder l row row.request
+
+abbrev pub Sorts : CoreState → Lists → Plan → Type 0
+Sorts s l (Fails status) = Unit {0}
+Sorts s l (Does deeds lists told) = (lists.waiting ≡ l.waiting) × Way s l deeds lists
+Sorts s l (Opens left a number row id waiting) = IsAsked l a waiting
+Sorts s l (Locks a row) = IsAsked l a row
 
 -- a row is awaited, or is told to wait no more
-abbrev Settled : ℕ → Lists → Outcome → ℕ × Waiting → Type 0
-Settled conn l r e = IsAwaited r.3 r.2 e ⊎ ((is_cancelled e.0 r.1 ≡ true) × IsIn e.0 (waiting_under (scope.Connection conn) r.2) × (r.2.waiting ≡ l.waiting))
+abbrev Settled : Lists → Outcome → ℕ × Waiting → Type 0
+Settled l r e = IsAwaited r.3 r.2 e ⊎ ((is_cancelled e.0 r.1 ≡ true) × (r.2.waiting ≡ l.waiting))
 
-moved : (s t : CoreState) (l m : Lists) (e : ℕ × Waiting) (is : IsAwaited s l e) → IsIn is.waiter t.waiters → open_of e.1.opened m ≡ open_of e.1.opened l → IsAwaited t m e
-moved s t l m e is stays same = record { waiter = is.waiter; waits = stays; number = is.number; own = is.own; alone = is.alone; under = ap (is_open_on e.1.place.connection) same ∙ is.under }
+-- an open that stands on a connection stays there
+abbrev Stays : ℕ → Lists → Lists → Type 0
+Stays k l m = (c : ℕ) → is_open_on c (open_of k l) ≡ true → is_open_on c (open_of k m) ≡ true
 
-key_in : (test : Waiting → Bool) (es : List (ℕ × Waiting)) (e : ℕ × Waiting) → IsIn e es → test e.1 ≡ true → IsIn e.0 (keys_where test es)
-key_in test [] e here on = absurd here
-key_in test (x ∷ es) e here on =
-    elim here [
-      | inl same ↦ (let at : test x.1 ≡ true = ap (λ (y : ℕ × Waiting). test y.1) same ∙ on in rw at (inl (ap (λ (y : ℕ × Waiting). y.0) same)))
-      | inr rest ↦ elim (cases_Bool (test x.1)) [
-        | inl yes_x ↦ rw yes_x (inr (key_in test es e rest on))
-        | inr no_x ↦ rw no_x (key_in test es e rest on)
-      ]
-    ]
+same_stays : (k : ℕ) (l m : Lists) → open_of k m ≡ open_of k l → Stays k l m
+same_stays k l m same = λ c on. ap (is_open_on c) same ∙ on
 
-ending_settles : (n : ℕ) (s : CoreState) (l lists : Lists) (conn : ℕ) (answer : Answered) (numbers : List ℕ) (e : ℕ × Waiting) → lists.waiting ≡ l.waiting → ((k : ℕ) → list_any (nat_eq k) numbers ≡ false → open_of k lists ≡ open_of k l) → ((k c : ℕ) → list_any (nat_eq k) numbers ≡ true → is_open_on c (open_of k l) ≡ true → c ≡ conn) → IsIn e l.waiting → IsAwaited s l e → Settled conn l (answer, all_told_of n s (ends numbers), lists, all_done n s (ends numbers)) e
-ending_settles n s l lists conn answer numbers e same opens on here is =
+opens_same : (k : ℕ) (l m : Lists) → m.opens ≡ l.opens → Stays k l m
+opens_same k l m same = same_stays k l m (ap (λ (es : List (ℕ × Open)). lookup (nat_eq k) es) same)
+
+under_still : (l m : Lists) (row : Waiting) (r : Request) → Stays row.opened l m → IsUnder l row r → IsUnder m row r
+under_still l m row request.Lock stays on = stays row.place.connection on
+under_still l m row (request.Create made) stays on = tt
+
+moved : (s t : CoreState) (l m : Lists) (e : ℕ × Waiting) (is : IsAwaited s l e) → IsIn is.waiter t.waiters → Stays e.1.opened l m → IsAwaited t m e
+moved s t l m e is stays same = record { waiter = is.waiter; waits = stays; number = is.number; own = is.own; alone = is.alone; under = under_still l m e.1 e.1.request same is.under }
+
+key_in : (es : List (ℕ × Waiting)) (e : ℕ × Waiting) → IsIn e es → IsIn e.0 (keys_of es)
+key_in [] e here = absurd here
+key_in (x ∷ es) e here = elim here [ inl same ↦ inl (ap (λ (y : ℕ × Waiting). y.0) same) | inr rest ↦ inr (key_in es e rest) ]
+
+ending_settles : (n : ℕ) (s : CoreState) (l lists : Lists) (answer : Answered) (numbers : List ℕ) (e : ℕ × Waiting) → lists.waiting ≡ l.waiting → ((k : ℕ) → list_any (nat_eq k) numbers ≡ false → open_of k lists ≡ open_of k l) → IsAwaited s l e → Settled l (answer, all_told_of n s (ends numbers), lists, all_done n s (ends numbers)) e
+ending_settles n s l lists answer numbers e same opens is =
     elim (cases_Bool (list_any (nat_eq e.1.opened) numbers)) [
       | inl gone ↦ (
           let over : is_cancelled is.waiter.id (all_told_of n s (ends numbers)) ≡ true = ends_tell n numbers s is.waiter is.waits (waits_some numbers is.waiter e.1.opened is.own gone) in
-          let there : e.1.place.connection ≡ conn = on e.1.opened e.1.place.connection gone is.under in
-          let own : eqb e.1.place.connection conn ≡ true = subst (λ (k : ℕ). eqb e.1.place.connection k ≡ true) there (equal_self e.1.place.connection) in
-          inr (subst (λ (k : ℕ). is_cancelled k (all_told_of n s (ends numbers)) ≡ true) is.number over, key_in (λ (r : Waiting). covers (scope.Connection conn) r.place) lists.waiting e (subst (λ (es : List (ℕ × Waiting)). IsIn e es) (sym same) here) own, same))
-      | inr stays ↦ inl (moved s (all_done n s (ends numbers)) l lists e is (((done_without n numbers s).waiters is.waiter).1 (is.waits, waits_none numbers is.waiter e.1.opened is.alone stays)) (opens e.1.opened stays))
+          inr (subst (λ (k : ℕ). is_cancelled k (all_told_of n s (ends numbers)) ≡ true) is.number over, same))
+      | inr stays ↦ inl (moved s (all_done n s (ends numbers)) l lists e is (((done_without n numbers s).waiters is.waiter).1 (is.waits, waits_none numbers is.waiter e.1.opened is.alone stays)) (same_stays e.1.opened l lists (opens e.1.opened stays)))
     ]
 
 cancelled_in : (id : ℕ) (ws : List Waiter) (w : Waiter) → IsIn w ws → eqb w.id id ≡ false → IsIn w (cancelled id ws)
@@ -273,136 +288,137 @@ cancelled_in id (v ∷ ws) w here other =
       | inr differs ↦ rw differs (elim here [ inl first ↦ inl first | inr rest ↦ inr (cancelled_in id ws w rest other) ])
     ]
 
-cancel_settles : (n : ℕ) (s : CoreState) (l : Lists) (conn id : ℕ) (answer : Answered) (e : ℕ × Waiting) → IsIn id (waiting_under (scope.Connection conn) l) → IsAwaited s l e → Settled conn l (answer, all_told_of n s (Cancels id ∷ []), l, all_done n s (Cancels id ∷ [])) e
+cancel_settles : (n : ℕ) (s : CoreState) (l : Lists) (id : ℕ) (answer : Answered) (e : ℕ × Waiting) → IsAwaited s l e → Settled l (answer, all_told_of n s (Cancels id ∷ []), l, all_done n s (Cancels id ∷ [])) e
 unfolding cancel_of
-cancel_settles n s l conn id answer e named is =
+cancel_settles n s l id answer e is =
     elim (cases_Bool (eqb id e.0)) [
-      | inl same ↦ (
-          let over : is_cancelled e.0 (effects.Cancelled id ∷ []) ≡ true = rw same refl in
-          inr (over, subst (λ (k : ℕ). IsIn k (waiting_under (scope.Connection conn) l)) (sym (equal_from id e.0 same)) named, refl))
+      | inl same ↦ (let over : is_cancelled e.0 (effects.Cancelled id ∷ []) ≡ true = rw same refl in inr (over, refl))
       | inr other ↦ (
           let apart : eqb is.waiter.id id ≡ false = subst (λ (k : ℕ). eqb k id ≡ false) (sym is.number) (unequal_both id e.0 other) in
-          inl (moved s (cancel_of s id).1 l l e is (cancelled_in id s.waiters is.waiter is.waits apart) refl))
+          inl (moved s (cancel_of s id).1 l l e is (cancelled_in id s.waiters is.waiter is.waits apart) (opens_same e.1.opened l l refl)))
     ]
 
-way_settles : (n : ℕ) (s : CoreState) (l lists : Lists) (conn : ℕ) (deeds : List Deed) (answer : Answered) (e : ℕ × Waiting) → lists.waiting ≡ l.waiting → Way s l conn deeds lists → IsIn e l.waiting → IsAwaited s l e → Settled conn l (answer, all_told_of n s deeds, lists, all_done n s deeds) e
-way_settles n s l lists conn deeds answer e same way here is =
+way_settles : (n : ℕ) (s : CoreState) (l lists : Lists) (deeds : List Deed) (answer : Answered) (e : ℕ × Waiting) → lists.waiting ≡ l.waiting → Way s l deeds lists → IsAwaited s l e → Settled l (answer, all_told_of n s deeds, lists, all_done n s deeds) e
+way_settles n s l lists deeds answer e same way is =
     elim way [
-      | inl stays ↦ inl (moved s (all_done n s deeds) l lists e is (subst (λ (ws : List Waiter). IsIn is.waiter ws) (sym (stays.0 n)) is.waits) (ap (λ (es : List (ℕ × Open)). lookup (nat_eq e.1.opened) es) stays.1))
+      | inl stays ↦ inl (moved s (all_done n s deeds) l lists e is (subst (λ (ws : List Waiter). IsIn is.waiter ws) (sym (stays.0 n)) is.waits) (opens_same e.1.opened l lists stays.1))
       | inr more ↦ elim more [
-        | inl ending ↦ subst (λ (ds : List Deed). Settled conn l (answer, all_told_of n s ds, lists, all_done n s ds) e) (sym ending.1) (ending_settles n s l lists conn answer ending.0 e same ending.2 ending.3 here is)
+        | inl ending ↦ subst (λ (ds : List Deed). Settled l (answer, all_told_of n s ds, lists, all_done n s ds) e) (sym ending.1) (ending_settles n s l lists answer ending.0 e same ending.2 is)
         | inr one ↦
-            subst (λ (ds : List Deed). Settled conn l (answer, all_told_of n s ds, lists, all_done n s ds) e) (sym one.1)
-            (subst (λ (m : Lists). Settled conn l (answer, all_told_of n s (Cancels one.0 ∷ []), m, all_done n s (Cancels one.0 ∷ [])) e) (sym one.2) (cancel_settles n s l conn one.0 answer e one.3 is))
+            subst (λ (ds : List Deed). Settled l (answer, all_told_of n s ds, lists, all_done n s ds) e) (sym one.1)
+            (subst (λ (m : Lists). Settled l (answer, all_told_of n s (Cancels one.0 ∷ []), m, all_done n s (Cancels one.0 ∷ [])) e) (sym one.2) (cancel_settles n s l one.0 answer e is))
       ]
     ]
 
 -- who waited still does behind an ask, and so does who comes
-asked_waits : (n : ℕ) (left : Rooms) (s : CoreState) (a : Ask) → IsGood s → is_client a.owner a.party ≡ true → (ask n left s a).2.waiters ≡ s.waiters ++ come_by a (ask n left s a).0 s.names
+pub asked_waits : (n : ℕ) (left : Rooms) (s : CoreState) (a : Ask) → IsGood s → is_client a.owner a.party ≡ true → (ask n left s a).2.waiters ≡ s.waiters ++ come_by a (ask n left s a).0 s.names
 asked_waits n left s a good client =
     (ask_frame n left s a good client).waiters
-    ∙ ap (λ (es : List Effect). all_cancelled (who_left es) s.waiters ++ come_by a (ask n left s a).0 s.names) (ask_quiet n left s a good client)
+    ∙ ap (λ (ids : List ℕ). all_cancelled ids s.waiters ++ come_by a (ask n left s a).0 s.names) (ap who_left (ask_quiet n left s a good client) ∙ way_leaves (plea_of left s a) (asked_claims a (asked_whats a.act) s.names) s)
 
 drawn_waits : (s : CoreState) → (drawn s).waiters ≡ s.waiters
 unfolding drawn
 drawn_waits s = refl
 
-opened_rows : (l : Lists) (number : ℕ) (row : Open) (answer : Answer) → (opened_lists l number row answer).waiting ≡ l.waiting
-opened_rows l number row (answers.Granted c) = refl
-opened_rows l number row (answers.Conflict c) = refl
-opened_rows l number row (answers.Queued id) = refl
-opened_rows l number row (answers.Recall c) = refl
-opened_rows l number row (answers.Grace until) = refl
-opened_rows l number row (answers.NoGrace clock) = refl
-opened_rows l number row answers.NotRecorded = refl
-opened_rows l number row (answers.Full limit) = refl
-opened_rows l number row answers.NotHeld = refl
-opened_rows l number row answers.StoreFailed = refl
-
 still_open : (c k number : ℕ) (row : Open) (es : List (ℕ × Open)) (o : Option Open) → lookup (nat_eq k) es ≡ o → is_open_on c o ≡ true → is_open_on c (lookup (nat_eq k) (es ++ (number, row) ∷ [])) ≡ true
 still_open c k number row es None at on = absurd (false≢true on)
 still_open c k number row es (Some x) at on = ap (is_open_on c) (lookup_added (nat_eq k) es ((number, row) ∷ []) x at) ∙ on
-
-opened_under : (c k : ℕ) (l : Lists) (number : ℕ) (row : Open) (answer : Answer) → is_open_on c (open_of k l) ≡ true → is_open_on c (open_of k (opened_lists l number row answer)) ≡ true
-opened_under c k l number row (answers.Granted claim) on = still_open c k number row l.opens (open_of k l) refl on
-opened_under c k l number row (answers.Conflict claim) on = on
-opened_under c k l number row (answers.Queued id) on = on
-opened_under c k l number row (answers.Recall claim) on = on
-opened_under c k l number row (answers.Grace until) on = on
-opened_under c k l number row (answers.NoGrace clock) on = on
-opened_under c k l number row answers.NotRecorded on = on
-opened_under c k l number row (answers.Full limit) on = on
-opened_under c k l number row answers.NotHeld on = on
-opened_under c k l number row answers.StoreFailed on = on
-
-opens_settle : (n : ℕ) (s : CoreState) (l : Lists) (left : Rooms) (a : Ask) (number : ℕ) (row : Open) (e : ℕ × Waiting) → IsGood s → is_client a.owner a.party ≡ true → IsAwaited s l e → IsAwaited (ask n left (drawn s) a).2 (opened_lists l number row (ask n left (drawn s) a).0) e
-opens_settle n s l left a number row e good client is =
-    let u : CoreState = drawn s in
-    let r = ask n left u a in
-    let here : IsIn is.waiter u.waiters = subst (λ (ws : List Waiter). IsIn is.waiter ws) (sym (drawn_waits s)) is.waits in
-    let there : IsIn is.waiter r.2.waiters = subst (λ (ws : List Waiter). IsIn is.waiter ws) (sym (asked_waits n left u a (deeds_good n s (Draws ∷ []) good (tt, tt)) client)) (in_append_left is.waiter u.waiters (come_by a r.0 u.names) here) in
-    record { waiter = is.waiter; waits = there; number = is.number; own = is.own; alone = is.alone; under = opened_under e.1.place.connection e.1.opened l number row r.0 is.under }
-
-still_waits : (t s : CoreState) (l : Lists) (a : Ask) (answer : Answer) (names : List Name) (e : ℕ × Waiting) → t.waiters ≡ s.waiters ++ come_by a answer names → IsAwaited s l e → IsAwaited t l e
-still_waits t s l a answer names e queue is = moved s t l l e is (subst (λ (ws : List Waiter). IsIn is.waiter ws) (sym queue) (in_append_left is.waiter s.waiters (come_by a answer names) is.waits)) refl
 
 in_append : (e : ℕ × Waiting) (xs ys : List (ℕ × Waiting)) → IsIn e (xs ++ ys) → IsIn e xs ⊎ IsIn e ys
 in_append e [] ys here = inr here
 in_append e (x ∷ xs) ys here = elim here [ inl same ↦ inl (inl same) | inr rest ↦ elim (in_append e xs ys rest) [ inl old ↦ inl (inr old) | inr new ↦ inr new ] ]
 
--- of locks that wait the row comes behind the others
-locked_settle : (t : CoreState) (s : CoreState) (l : Lists) (conn : ℕ) (a : Ask) (refused : SmbStatus) (row : Waiting) (answer : Answer) (names : List Name) (e : ℕ × Waiting) → t.waiters ≡ s.waiters ++ come_by a answer names → AsksFor a row.opened → row.place.connection ≡ conn → is_open_on conn (open_of row.opened l) ≡ true → ((x : ℕ × Waiting) → IsIn x l.waiting → IsAwaited s l x) → IsIn e (lists_as row l (lock_told refused answer)).waiting → IsAwaited t (lists_as row l (lock_told refused answer)) e
-locked_settle t s l conn a refused row (answers.Queued id) names e queue asks on under all here =
+-- of a request that waits the row comes behind the others
+with_in : (room : Bool) (id : ℕ) (row : Waiting) (l : Lists) (e : ℕ × Waiting) → IsIn e (if room then waiting_added id row l else l).waiting → IsIn e l.waiting ⊎ IsIn e ((id, row) ∷ [])
+with_in true id row l e here = in_append e l.waiting ((id, row) ∷ []) here
+with_in false id row l e here = inl here
+
+with_opens : (room : Bool) (id : ℕ) (row : Waiting) (l : Lists) → (if room then waiting_added id row l else l).opens ≡ l.opens
+with_opens true id row l = refl
+with_opens false id row l = refl
+
+-- who waited still does, and so does the request that comes
+queued_settle : (t s : CoreState) (l : Lists) (a : Ask) (row : Waiting) (id : ℕ) (names : List Name) (e : ℕ × Waiting) → t.waiters ≡ s.waiters ++ come_by a (answers.Queued id) names → IsAsked l a row → ((x : ℕ × Waiting) → IsIn x l.waiting → IsAwaited s l x) → IsIn e (with_waiting id row l).waiting → IsAwaited t (with_waiting id row l) e
+queued_settle t s l a row id names e queue asks all here =
     let new : Waiter = waiter_of id a (asked_claims a (asked_whats a.act) names) in
-    let is_new = asks id names in
-    elim (in_append e l.waiting ((id, row) ∷ []) here) [
-      | inl old ↦ (let is = all e old in record { waiter = is.waiter; waits = subst (λ (ws : List Waiter). IsIn is.waiter ws) (sym queue) (in_append_left is.waiter s.waiters (new ∷ []) is.waits); number = is.number; own = is.own; alone = is.alone; under = is.under })
+    let is_new = asks.1 id names in
+    let left : Lists = with_waiting id row l in
+    let opens : left.opens ≡ l.opens = with_opens (has_room_to_wait l id) id row l in
+    elim (with_in (has_room_to_wait l id) id row l e here) [
+      | inl old ↦ (let is = all e old in moved s t l left e is (subst (λ (ws : List Waiter). IsIn is.waiter ws) (sym queue) (in_append_left is.waiter s.waiters (new ∷ []) is.waits)) (opens_same e.1.opened l left opens))
       | inr came ↦ elim came [
-        | inl same ↦ subst (λ (x : ℕ × Waiting). IsAwaited t (lists_as row l (lock_told refused (answers.Queued id))) x) same (record {
+        | inl same ↦ subst (λ (x : ℕ × Waiting). IsAwaited t left x) same (record {
           waiter = new;
           waits = subst (λ (ws : List Waiter). IsIn new ws) (sym queue) (in_append_right new s.waiters (new ∷ []) (inl refl));
           number = refl;
           own = is_new.0;
           alone = is_new.1;
-          under = ap (λ (c : ℕ). is_open_on c (open_of row.opened l)) on ∙ under;
+          under = under_still l left row row.request (opens_same row.opened l left opens) asks.2;
         })
         | inr none ↦ absurd none
       ]
     ]
-locked_settle t s l conn a refused row (answers.Granted c) names e queue asks on under all here = still_waits t s l a (answers.Granted c) names e queue (all e here)
-locked_settle t s l conn a refused row (answers.Conflict c) names e queue asks on under all here = still_waits t s l a (answers.Conflict c) names e queue (all e here)
-locked_settle t s l conn a refused row (answers.Recall c) names e queue asks on under all here = still_waits t s l a (answers.Recall c) names e queue (all e here)
-locked_settle t s l conn a refused row (answers.Grace until) names e queue asks on under all here = still_waits t s l a (answers.Grace until) names e queue (all e here)
-locked_settle t s l conn a refused row (answers.NoGrace clock) names e queue asks on under all here = still_waits t s l a (answers.NoGrace clock) names e queue (all e here)
-locked_settle t s l conn a refused row answers.NotRecorded names e queue asks on under all here = still_waits t s l a answers.NotRecorded names e queue (all e here)
-locked_settle t s l conn a refused row (answers.Full limit) names e queue asks on under all here = still_waits t s l a (answers.Full limit) names e queue (all e here)
-locked_settle t s l conn a refused row answers.NotHeld names e queue asks on under all here = still_waits t s l a answers.NotHeld names e queue (all e here)
-locked_settle t s l conn a refused row answers.StoreFailed names e queue asks on under all here = still_waits t s l a answers.StoreFailed names e queue (all e here)
 
-carried_settles : (n : ℕ) (s : CoreState) (l : Lists) (conn : ℕ) (plan : Plan) (e : ℕ × Waiting) → IsGood s → AreAwaited s l → Sorts s l conn plan → IsIn e (carried n s l plan).2.waiting → Settled conn l (carried n s l plan) e
-carried_settles n s l conn (Fails status) e good all sorts here = inl (all_in (IsAwaited s l) e l.waiting all here)
-carried_settles n s l conn (Does deeds lists told) e good all sorts here =
+-- nobody comes, and of opens none goes
+kept_settle : (t s : CoreState) (l m : Lists) (a : Ask) (answer : Answer) (names : List Name) (e : ℕ × Waiting) → t.waiters ≡ s.waiters ++ come_by a answer names → Stays e.1.opened l m → IsAwaited s l e → IsAwaited t m e
+kept_settle t s l m a answer names e queue stays is = moved s t l m e is (subst (λ (ws : List Waiter). IsIn is.waiter ws) (sym queue) (in_append_left is.waiter s.waiters (come_by a answer names) is.waits)) stays
+
+still_waits : (t s : CoreState) (l : Lists) (a : Ask) (answer : Answer) (names : List Name) (e : ℕ × Waiting) → t.waiters ≡ s.waiters ++ come_by a answer names → IsAwaited s l e → IsAwaited t l e
+still_waits t s l a answer names e queue is = kept_settle t s l l a answer names e queue (opens_same e.1.opened l l refl) is
+
+locked_settle : (t s : CoreState) (l : Lists) (a : Ask) (row : Waiting) (answer : Answer) (names : List Name) (e : ℕ × Waiting) → t.waiters ≡ s.waiters ++ come_by a answer names → IsAsked l a row → ((x : ℕ × Waiting) → IsIn x l.waiting → IsAwaited s l x) → IsIn e (lists_as row l (lock_told answer)).waiting → IsAwaited t (lists_as row l (lock_told answer)) e
+locked_settle t s l a row (answers.Queued id) names e queue asks all here = queued_settle t s l a row id names e queue asks all here
+locked_settle t s l a row (answers.Granted c) names e queue asks all here = still_waits t s l a (answers.Granted c) names e queue (all e here)
+locked_settle t s l a row (answers.Conflict c) names e queue asks all here = still_waits t s l a (answers.Conflict c) names e queue (all e here)
+locked_settle t s l a row (answers.Recall c) names e queue asks all here = still_waits t s l a (answers.Recall c) names e queue (all e here)
+locked_settle t s l a row (answers.Grace until) names e queue asks all here = still_waits t s l a (answers.Grace until) names e queue (all e here)
+locked_settle t s l a row (answers.NoGrace clock) names e queue asks all here = still_waits t s l a (answers.NoGrace clock) names e queue (all e here)
+locked_settle t s l a row answers.NotRecorded names e queue asks all here = still_waits t s l a answers.NotRecorded names e queue (all e here)
+locked_settle t s l a row (answers.Full limit) names e queue asks all here = still_waits t s l a (answers.Full limit) names e queue (all e here)
+locked_settle t s l a row answers.NotHeld names e queue asks all here = still_waits t s l a answers.NotHeld names e queue (all e here)
+locked_settle t s l a row answers.StoreFailed names e queue asks all here = still_waits t s l a answers.StoreFailed names e queue (all e here)
+
+opened_settle : (t s : CoreState) (l : Lists) (a : Ask) (number : ℕ) (row : Open) (waiting : Waiting) (answer : Answer) (names : List Name) (e : ℕ × Waiting) → t.waiters ≡ s.waiters ++ come_by a answer names → IsAsked l a waiting → ((x : ℕ × Waiting) → IsIn x l.waiting → IsAwaited s l x) → IsIn e (opened_lists l number row waiting answer).waiting → IsAwaited t (opened_lists l number row waiting answer) e
+opened_settle t s l a number row waiting (answers.Granted c) names e queue asks all here = kept_settle t s l (open_added number row l) a (answers.Granted c) names e queue (λ k on. still_open k e.1.opened number row l.opens (open_of e.1.opened l) refl on) (all e here)
+opened_settle t s l a number row waiting (answers.Queued id) names e queue asks all here = queued_settle t s l a waiting id names e queue asks all here
+opened_settle t s l a number row waiting (answers.Conflict c) names e queue asks all here = still_waits t s l a (answers.Conflict c) names e queue (all e here)
+opened_settle t s l a number row waiting (answers.Recall c) names e queue asks all here = still_waits t s l a (answers.Recall c) names e queue (all e here)
+opened_settle t s l a number row waiting (answers.Grace until) names e queue asks all here = still_waits t s l a (answers.Grace until) names e queue (all e here)
+opened_settle t s l a number row waiting (answers.NoGrace clock) names e queue asks all here = still_waits t s l a (answers.NoGrace clock) names e queue (all e here)
+opened_settle t s l a number row waiting answers.NotRecorded names e queue asks all here = still_waits t s l a answers.NotRecorded names e queue (all e here)
+opened_settle t s l a number row waiting (answers.Full limit) names e queue asks all here = still_waits t s l a (answers.Full limit) names e queue (all e here)
+opened_settle t s l a number row waiting answers.NotHeld names e queue asks all here = still_waits t s l a answers.NotHeld names e queue (all e here)
+opened_settle t s l a number row waiting answers.StoreFailed names e queue asks all here = still_waits t s l a answers.StoreFailed names e queue (all e here)
+
+drawn_awaited : (s : CoreState) (l : Lists) (e : ℕ × Waiting) → IsAwaited s l e → IsAwaited (drawn s) l e
+drawn_awaited s l e is = moved s (drawn s) l l e is (subst (λ (ws : List Waiter). IsIn is.waiter ws) (sym (drawn_waits s)) is.waits) (opens_same e.1.opened l l refl)
+
+carried_settles : (n : ℕ) (s : CoreState) (l : Lists) (plan : Plan) (e : ℕ × Waiting) → IsGood s → AreAwaited s l → Sorts s l plan → IsIn e (carried n s l plan).2.waiting → Settled l (carried n s l plan) e
+carried_settles n s l (Fails status) e good all sorts here = inl (all_in (IsAwaited s l) e l.waiting all here)
+carried_settles n s l (Does deeds lists told) e good all sorts here =
     let old : IsIn e l.waiting = subst (λ (es : List (ℕ × Waiting)). IsIn e es) sorts.0 here in
-    way_settles n s l lists conn deeds told e sorts.0 sorts.1 old (all_in (IsAwaited s l) e l.waiting all old)
-carried_settles n s l conn (Opens left a number row told) e good all sorts here =
-    let old : IsIn e l.waiting = subst (λ (es : List (ℕ × Waiting)). IsIn e es) (opened_rows l number row (ask n left (drawn s) a).0) here in
-    inl (opens_settle n s l left a number row e good sorts (all_in (IsAwaited s l) e l.waiting all old))
-carried_settles n s l conn (Locks a refused row) e good all sorts here =
+    way_settles n s l lists deeds told e sorts.0 sorts.1 (all_in (IsAwaited s l) e l.waiting all old)
+carried_settles n s l (Opens left a number row id waiting) e good all sorts here =
+    let u : CoreState = drawn s in
+    let r = ask n left u a in
+    inl (opened_settle r.2 u l a number row waiting r.0 u.names e (asked_waits n left u a (deeds_good n s (Draws ∷ []) good (tt, tt)) sorts.0) sorts (λ x h. drawn_awaited s l x (all_in (IsAwaited s l) x l.waiting all h)) here)
+carried_settles n s l (Locks a row) e good all sorts here =
     let r = ask n no_rows s a in
-    inl (locked_settle r.2 s l conn a refused row r.0 s.names e (asked_waits n no_rows s a good sorts.0) sorts.1 sorts.2 sorts.3 (λ x h. all_in (IsAwaited s l) x l.waiting all h) here)
+    inl (locked_settle r.2 s l a row r.0 s.names e (asked_waits n no_rows s a good sorts.0) sorts (λ x h. all_in (IsAwaited s l) x l.waiting all h) here)
 
 -- ---- so it is once those that were cancelled are gone
 
-answered_awaited : (n : ℕ) (s : CoreState) (l : Lists) (conn : ℕ) (plan : Plan) → IsGood s → AreDistinct l → AreAwaited s l → Sorts s l conn plan → AreAwaited (carried n s l plan).3 (dismissed_on conn (carried n s l plan).1 (carried n s l plan).2).1
-answered_awaited n s l conn plan good distinct all sorts =
+answered_awaited : (n : ℕ) (s : CoreState) (l : Lists) (plan : Plan) → IsGood s → AreDistinct l → AreAwaited s l → Sorts s l plan → AreAwaited (carried n s l plan).3 (all_dismissed (carried n s l plan).1 (carried n s l plan).2).1
+answered_awaited n s l plan good distinct all sorts =
     let r = carried n s l plan in
-    let ids : List ℕ = waiting_under (scope.Connection conn) r.2 in
+    let ids : List ℕ = keys_of r.2.waiting in
     let left : Lists = (dismissed r.1 ids r.2).1 in
     all_from (IsAwaited r.3 left) left.waiting (λ e here.
-    elim (carried_settles n s l conn plan e good all sorts (dismissed_in r.1 ids r.2 e here)) [
-      | inl is ↦ moved r.3 r.3 r.2 left e is is.waits (ap (λ (es : List (ℕ × Open)). lookup (nat_eq e.1.opened) es) (dismissed_opens r.1 ids r.2))
-      | inr over ↦ absurd (dismissed_out r.1 ids r.2 e (subst (λ (es : List (ℕ × Waiting)). IsDistinct nat_eq (keys_of es)) (sym over.2) distinct.waiting) over.1 over.0 here)
-    ])
+    (let there : IsIn e r.2.waiting = dismissed_in r.1 ids r.2 e here in
+    elim (carried_settles n s l plan e good all sorts there) [
+      | inl is ↦ moved r.3 r.3 r.2 left e is is.waits (opens_same e.1.opened r.2 left (dismissed_opens r.1 ids r.2))
+      | inr over ↦ absurd (dismissed_out r.1 ids r.2 e (subst (λ (es : List (ℕ × Waiting)). IsDistinct nat_eq (keys_of es)) (sym over.1) distinct.waiting) (key_in r.2.waiting e there) over.0 here)
+    ]))
 
 -- ---- opens that end
 
@@ -414,46 +430,9 @@ closed_apart k (number ∷ numbers) l apart =
       | inr other ↦ closed_apart k numbers (closed number l) (rw other at apart) ∙ lookup_removed k number l.opens (unequal_both k number other)
     ]
 
-found_under : (under : Scope) (l : Lists) (k : ℕ) → AreDistinct l → list_any (nat_eq k) (opens_under under l) ≡ true → IsFound (λ (r : Open). covers_holder under r.holder) (open_of k l)
-found_under under l k distinct any = found_once (λ (r : Open). covers_holder under r.holder) l.opens k distinct.opens (any_self k (opens_under under l) any)
-
-session_by : (l : Lists) (conn c session : ℕ) (h : Holder) (client : List ℕ) → IsSound l → is_session_on conn (session_of session l) ≡ true → covers_holder (scope.Session session) h ≡ true → covers_holder (scope.Connection c) h ≡ true → IsHolderLinked l client h → c ≡ conn
-session_by l conn c session (holder.Nobody until) client sound on under there linked = absurd (false≢true under)
-session_by l conn c session (holder.Tree place) client sound on under there linked =
-    let at : session_of session l ≡ Some (record { connection = place.connection }) = ap (λ (k : ℕ). session_of k l) (sym (eqb-true place.session session under)) ∙ place_session l place sound linked.0 in
-    let same : eqb place.connection conn ≡ true = sym (ap (is_session_on conn) at) ∙ on in
-    sym (eqb-true place.connection c there) ∙ eqb-true place.connection conn same
-
-session_on : (l : Lists) (conn session k c : ℕ) → IsSound l → AreDistinct l → is_session_on conn (session_of session l) ≡ true → list_any (nat_eq k) (opens_under (scope.Session session) l) ≡ true → is_open_on c (open_of k l) ≡ true → c ≡ conn
-session_on l conn session k c sound distinct on any there = by (open_of k l) refl (found_under (scope.Session session) l k distinct any) there
-  where
-    by : (o : Option Open) → open_of k l ≡ o → IsFound (λ (r : Open). covers_holder (scope.Session session) r.holder) o → is_open_on c o ≡ true → c ≡ conn
-    by None at found there = absurd found
-    by (Some row) at found there = session_by l conn c session row.holder row.client sound on found there (lookup_all (IsOpenLinked l) (nat_eq k) l.opens row sound.opens at)
-
-tree_by : (l : Lists) (named : Place) (named_client : List ℕ) (c : ℕ) (h : Holder) (client : List ℕ) → has_place named named_client l ≡ true → covers_holder (scope.Tree named.tree) h ≡ true → covers_holder (scope.Connection c) h ≡ true → IsHolderLinked l client h → c ≡ named.connection
-tree_by l named named_client c (holder.Nobody until) client has under there linked = absurd (false≢true under)
-tree_by l named named_client c (holder.Tree place) client has under there linked =
-    let tree_row : Tree = record { connection = place.connection; session = place.session } in
-    let at : tree_of named.tree l ≡ Some tree_row = ap (λ (k : ℕ). tree_of k l) (sym (eqb-true place.tree named.tree under)) ∙ linked.0 in
-    let both : is_tree_at named (tree_of named.tree l) ≡ true = (and_parts (is_tree_at named (tree_of named.tree l)) _ has).0 in
-    let same : (eqb place.connection named.connection && eqb place.session named.session) ≡ true = sym (ap (is_tree_at named) at) ∙ both in
-    sym (eqb-true place.connection c there) ∙ eqb-true place.connection named.connection (and_parts (eqb place.connection named.connection) _ same).0
-
-tree_on : (l : Lists) (named : Place) (client : List ℕ) (k c : ℕ) → IsSound l → AreDistinct l → has_place named client l ≡ true → list_any (nat_eq k) (opens_under (scope.Tree named.tree) l) ≡ true → is_open_on c (open_of k l) ≡ true → c ≡ named.connection
-tree_on l named client k c sound distinct has any there = by (open_of k l) refl (found_under (scope.Tree named.tree) l k distinct any) there
-  where
-    by : (o : Option Open) → open_of k l ≡ o → IsFound (λ (r : Open). covers_holder (scope.Tree named.tree) r.holder) o → is_open_on c o ≡ true → c ≡ named.connection
-    by None at found there = absurd found
-    by (Some row) at found there = tree_by l named client c row.holder row.client has found there (lookup_all (IsOpenLinked l) (nat_eq k) l.opens row sound.opens at)
-
-one_holder : (c conn : ℕ) (h : Holder) → covers_holder (scope.Connection c) h ≡ true → covers_holder (scope.Connection conn) h ≡ true → c ≡ conn
-one_holder c conn (holder.Tree place) first second = sym (eqb-true place.connection c first) ∙ eqb-true place.connection conn second
-one_holder c conn (holder.Nobody until) first second = absurd (false≢true first)
-
-both_on : (c conn : ℕ) (o : Option Open) → is_open_on c o ≡ true → is_open_on conn o ≡ true → c ≡ conn
-both_on c conn None first second = absurd (false≢true first)
-both_on c conn (Some row) first second = one_holder c conn row.holder first second
+-- those that end are no fewer than those that are closed
+closed_but : (k : ℕ) (under : Scope) (l : Lists) → list_any (nat_eq k) (numbers_under under l) ≡ false → open_of k (all_closed (opens_under under l) l) ≡ open_of k l
+closed_but k under l apart = closed_apart k (opens_under under l) l (none_first (nat_eq k) (opens_under under l) (creates_under under l) apart)
 
 -- ---- unlocks: nobody who waits goes
 
@@ -466,9 +445,13 @@ unfolding unlocked
 unlocked_waits s claim (Bytes first last) own = rw own (freed_waits s claim _)
 unlocked_waits s claim (Empty offset) own = freed_waits s claim _
 
+decided_waits : (n : ℕ) (s : CoreState) (file number : ℕ) (e : LockElement) → (decided n no_rows s (unlock_ask file number e)).2.waiters ≡ s.waiters
+unfolding decided unlock_ask
+decided_waits n s file number e = unlocked_waits s _ (extent_of e) refl
+
 unlock_leaves_waiters : (n : ℕ) (s : CoreState) (file number : ℕ) (e : LockElement) → (ask n no_rows s (unlock_ask file number e)).2.waiters ≡ s.waiters
-unfolding ask unlock_ask
-unlock_leaves_waiters n s file number e = unlocked_waits s _ (extent_of e) refl
+unfolding unlock_ask decided
+unlock_leaves_waiters n s file number e = ap (λ (r : Asked). r.2.waiters) (ask_there n no_rows s (unlock_ask file number e) (no_way s file number e)) ∙ decided_waits n s file number e
 
 one_waits : (n : ℕ) (s : CoreState) (a : Ask) (answer : Answer) (rest : List Deed × Locking) → (ask n no_rows s a).2.waiters ≡ s.waiters → (all_done n (ask n no_rows s a).2 rest.0).waiters ≡ s.waiters → (all_done n s (unlock_told a answer rest).0).waiters ≡ s.waiters
 one_waits n s a (answers.Granted c) rest first more = more
@@ -510,15 +493,22 @@ own_for a names number x xs is =
     let same : same_parties (asking_party a names) (parties.Open number) ≡ true = ap (λ (w : Who). same_parties (party_in w (who_entered a.owner names)) (parties.Open number)) is ∙ equal_self number in
     rw same refl
 
-asks_for : (conn file number : ℕ) (es : List LockElement) (b : Bool) → is_count (length es) ≡ true → AsksFor (lock_ask conn file number es b) number
+asks_for : (conn file number : ℕ) (es : List LockElement) → is_count (length es) ≡ true → AsksFor (lock_ask conn file number es) number
 unfolding lock_ask waits_for
-asks_for conn file number [] b count = absurd (false≢true count)
-asks_for conn file number (e ∷ es) b count = λ id names.
-    (own_for (lock_ask conn file number (e ∷ es) b) names number (range_what (range_of e)) (map range_what (map range_of es)) refl, λ k any. alone_for (lock_ask conn file number (e ∷ es) b) names number k (map range_what (map range_of (e ∷ es))) refl any)
+asks_for conn file number [] count = absurd (false≢true count)
+asks_for conn file number (e ∷ es) count = λ id names.
+    (own_for (lock_ask conn file number (e ∷ es)) names number (range_what (range_of e)) (map range_what (map range_of es)) refl, λ k any. alone_for (lock_ask conn file number (e ∷ es)) names number k (map range_what (map range_of (e ∷ es))) refl any)
 
-lock_client : (conn file number : ℕ) (es : List LockElement) (b : Bool) → is_client (lock_ask conn file number es b).owner (lock_ask conn file number es b).party ≡ true
+lock_client : (conn file number : ℕ) (es : List LockElement) → is_client (lock_ask conn file number es).owner (lock_ask conn file number es).party ≡ true
 unfolding lock_ask
-lock_client conn file number es b = equal_self number
+lock_client conn file number es = equal_self number
+
+made_for : (conn file number : ℕ) (c : CreateCallItem) → AsksFor (open_ask conn file number c) number
+unfolding open_ask waits_for
+made_for conn file number c = λ id names.
+    let a = open_ask conn file number c in
+    let what = whats.Share (access_of c.desired_access) (deny_of (access_of c.desired_access) c.share_access) in
+    (own_for a names number what [] refl, λ k any. alone_for a names number k (what ∷ []) refl any)
 
 open_client : (conn file number : ℕ) (c : CreateCallItem) → is_client (open_ask conn file number c).owner (open_ask conn file number c).party ≡ true
 unfolding open_ask
@@ -526,282 +516,309 @@ open_client conn file number c = equal_self number
 
 -- ---- each command
 
-nothing_sorts : (s : CoreState) (l lists : Lists) (conn : ℕ) (answer : Answered) → lists.waiting ≡ l.waiting → lists.opens ≡ l.opens → Sorts s l conn (Does [] lists answer)
-nothing_sorts s l lists conn answer rows opens = (rows, inl ((λ n. refl), opens))
+nothing_sorts : (s : CoreState) (l lists : Lists) (answer : Answered) → lists.waiting ≡ l.waiting → lists.opens ≡ l.opens → Sorts s l (Does [] lists answer)
+nothing_sorts s l lists answer rows opens = (rows, inl ((λ n. refl), opens))
 
-draw_sorts : (s : CoreState) (l lists : Lists) (conn : ℕ) (answer : Answered) → lists.waiting ≡ l.waiting → lists.opens ≡ l.opens → Sorts s l conn (Does (Draws ∷ []) lists answer)
-draw_sorts s l lists conn answer rows opens = (rows, inl ((λ n. drawn_waits s), opens))
+draw_sorts : (s : CoreState) (l lists : Lists) (answer : Answered) → lists.waiting ≡ l.waiting → lists.opens ≡ l.opens → Sorts s l (Does (Draws ∷ []) lists answer)
+draw_sorts s l lists answer rows opens = (rows, inl ((λ n. drawn_waits s), opens))
 
-negotiate_by : (s : CoreState) (l lists : Lists) (conn : ℕ) (again empty unknown : Bool) → lists.waiting ≡ l.waiting → lists.opens ≡ l.opens → Sorts s l conn (if again then Fails statuses.InvalidParameter else if empty then Fails statuses.InvalidParameter else if unknown then Fails statuses.NotSupported else Does [] lists told.Negotiated)
-negotiate_by s l lists conn true empty unknown rows opens = tt
-negotiate_by s l lists conn false true unknown rows opens = tt
-negotiate_by s l lists conn false false true rows opens = tt
-negotiate_by s l lists conn false false false rows opens = nothing_sorts s l lists conn told.Negotiated rows opens
+negotiate_by : (s : CoreState) (l lists : Lists) (again empty unknown : Bool) → lists.waiting ≡ l.waiting → lists.opens ≡ l.opens → Sorts s l (if again then Fails statuses.InvalidParameter else if empty then Fails statuses.InvalidParameter else if unknown then Fails statuses.NotSupported else Does [] lists told.Negotiated)
+negotiate_by s l lists true empty unknown rows opens = tt
+negotiate_by s l lists false true unknown rows opens = tt
+negotiate_by s l lists false false true rows opens = tt
+negotiate_by s l lists false false false rows opens = nothing_sorts s l lists told.Negotiated rows opens
 
-negotiate_sorts : (s : CoreState) (l : Lists) (conn : ℕ) (c : NegotiateCallItem) → Sorts s l conn (negotiate l conn c)
+negotiate_sorts : (s : CoreState) (l : Lists) (conn : ℕ) (c : NegotiateCallItem) → Sorts s l (negotiate l conn c)
 unfolding negotiate
-negotiate_sorts s l conn c = negotiate_by s l (connection_changed conn (record { client = Some c.client_guid }) l) conn (not (is_fresh (connection_of conn l))) (length (dialects_of c.dialects) == 0) (not (offers c.dialects)) refl refl
+negotiate_sorts s l conn c = negotiate_by s l (connection_changed conn (record { client = Some c.client_guid }) l) (not (is_fresh (connection_of conn l))) (length (dialects_of c.dialects) == 0) (not (offers c.dialects)) refl refl
 
-set_up_by : (s : CoreState) (l : Lists) (conn : ℕ) (room : Bool) → Sorts s l conn (if room then set_up_as s l conn (s.counter + 1) else Fails statuses.InsufficientResources)
-set_up_by s l conn true = draw_sorts s l (session_added (s.counter + 1) (record { connection = conn }) l) conn (told.SetUp (id_of s (s.counter + 1))) refl refl
+set_up_by : (s : CoreState) (l : Lists) (conn : ℕ) (room : Bool) → Sorts s l (if room then set_up_as s l conn (s.counter + 1) else Fails statuses.InsufficientResources)
+set_up_by s l conn true = draw_sorts s l (session_added (s.counter + 1) (record { connection = conn }) l) (told.SetUp (id_of s (s.counter + 1))) refl refl
 set_up_by s l conn false = tt
 
-setup_by : (s : CoreState) (l : Lists) (conn : ℕ) (h : SmbHead) (new : Bool) → h.session_id == 0 ≡ new → Sorts s l conn (session_setup s l conn h)
+setup_by : (s : CoreState) (l : Lists) (conn : ℕ) (h : SmbHead) (new : Bool) → h.session_id == 0 ≡ new → Sorts s l (session_setup s l conn h)
 unfolding session_setup
 setup_by s l conn h true is = rw is (set_up_by s l conn (has_room_for_session l conn (s.counter + 1)))
-setup_by s l conn h false is = rw is (by_session (Sorts s l conn) (λ number. is_session_on conn (session_of number l)) (λ session. Does [] l (told.SetUp h.session_id)) (number_in s h.session_id) tt (λ k on. nothing_sorts s l l conn (told.SetUp h.session_id) refl refl))
+setup_by s l conn h false is = rw is (by_session (Sorts s l) (λ number. is_session_on conn (session_of number l)) (λ session. Does [] l (told.SetUp h.session_id)) (number_in s h.session_id) tt (λ k on. nothing_sorts s l l (told.SetUp h.session_id) refl refl))
 
-logoff_sorts : (s : CoreState) (l : Lists) (conn : ℕ) (h : SmbHead) → IsSound l → AreDistinct l → Sorts s l conn (logoff s l conn h)
+logoff_sorts : (s : CoreState) (l : Lists) (conn : ℕ) (h : SmbHead) → Sorts s l (logoff s l conn h)
 unfolding logoff
-logoff_sorts s l conn h sound distinct =
-    by_session (Sorts s l conn) (λ number. is_session_on conn (session_of number l)) _ (number_in s h.session_id) tt
+logoff_sorts s l conn h =
+    by_session (Sorts s l) (λ number. is_session_on conn (session_of number l)) _ (number_in s h.session_id) tt
     (λ k on.
-    (let numbers : List ℕ = opens_under (scope.Session k) l in (
-      gone_waiting k (all_closed numbers l) ∙ closed_waiting numbers l,
-      inr (inl (numbers, refl, (λ j apart. ap (λ (es : List (ℕ × Open)). lookup (nat_eq j) es) (gone_opens k (all_closed numbers l)) ∙ closed_apart j numbers l apart), (λ j c any there. session_on l conn k j c sound distinct on any there))),
+    (let closes : Lists = all_closed (opens_under (scope.Session k) l) l in (
+      gone_waiting k closes ∙ closed_waiting (opens_under (scope.Session k) l) l,
+      inr (inl (numbers_under (scope.Session k) l, refl, (λ j apart. ap (λ (es : List (ℕ × Open)). lookup (nat_eq j) es) (gone_opens k closes) ∙ closed_but j (scope.Session k) l apart))),
     )))
 
-connect_by : (s : CoreState) (l : Lists) (conn session number : ℕ) (full unknown : Bool) → Sorts s l conn (if full then Fails statuses.InsufficientResources else if unknown then Fails statuses.BadNetworkName else connect_as l conn session number)
+connect_by : (s : CoreState) (l : Lists) (conn session number : ℕ) (full unknown : Bool) → Sorts s l (if full then Fails statuses.InsufficientResources else if unknown then Fails statuses.BadNetworkName else connect_as l conn session number)
 connect_by s l conn session number true unknown = tt
 connect_by s l conn session number false true = tt
-connect_by s l conn session number false false = draw_sorts s l (tree_added number (record { connection = conn; session = session }) l) conn (told.Connected number) refl refl
+connect_by s l conn session number false false = draw_sorts s l (tree_added number (record { connection = conn; session = session }) l) (told.Connected number) refl refl
 
-connect_sorts : (s : CoreState) (l : Lists) (conn : ℕ) (h : SmbHead) (path : List ℕ) → Sorts s l conn (tree_connect s l conn h path)
+connect_sorts : (s : CoreState) (l : Lists) (conn : ℕ) (h : SmbHead) (path : List ℕ) → Sorts s l (tree_connect s l conn h path)
 unfolding tree_connect
 connect_sorts s l conn h path =
-    by_session (Sorts s l conn) (λ number. is_session_on conn (session_of number l)) (connect s l conn path) (number_in s h.session_id) tt
+    by_session (Sorts s l) (λ number. is_session_on conn (session_of number l)) (connect s l conn path) (number_in s h.session_id) tt
     (λ k on. connect_by s l conn k (s.counter + 1) (not (has_room_for_tree l conn (s.counter + 1))) (not (is_share path)))
 
-disconnect_by : (s : CoreState) (l : Lists) (client : List ℕ) (place : Place) → IsSound l → AreDistinct l → has_place place client l ≡ true → Sorts s l place.connection (disconnect l place)
-disconnect_by s l client place sound distinct has =
-    let numbers : List ℕ = opens_under (scope.Tree place.tree) l in
-    (closed_waiting numbers l, inr (inl (numbers, refl, (λ j apart. closed_apart j numbers l apart), (λ j c any there. tree_on l place client j c sound distinct has any there))))
-
-disconnect_sorts : (s : CoreState) (l : Lists) (conn : ℕ) (client : List ℕ) (h : SmbHead) → IsSound l → AreDistinct l → Sorts s l conn (tree_disconnect s l conn client h)
+disconnect_sorts : (s : CoreState) (l : Lists) (conn : ℕ) (client : List ℕ) (h : SmbHead) → Sorts s l (tree_disconnect s l conn client h)
 unfolding tree_disconnect
-disconnect_sorts s l conn client h sound distinct =
-    by_session (Sorts s l conn) (λ number. is_session_on conn (session_of number l)) _ (number_in s h.session_id) tt
-    (λ k on. by_tree (Sorts s l conn) (disconnect l) _ (has_place _ client l) tt (λ there. disconnect_by s l client _ sound distinct there))
+disconnect_sorts s l conn client h =
+    by_session (Sorts s l) (λ number. is_session_on conn (session_of number l)) _ (number_in s h.session_id) tt
+    (λ k on. by_tree (Sorts s l) (disconnect l) _ (has_place _ client l) tt (λ there. (closed_waiting (opens_under (scope.Tree _) l) l, inr (inl (numbers_under (scope.Tree _) l, refl, (λ j apart. closed_but j (scope.Tree _) l apart))))))
 
-opens_by : (s : CoreState) (others : ℕ) (l : Lists) (conn : ℕ) (client : List ℕ) (place : Place) (c : CreateCallItem) (file : ℕ) (room : Bool) → Sorts s l conn (if room then open_as s others l client place c file (s.counter + 1) else Fails statuses.InsufficientResources)
-opens_by s others l conn client place c file true = open_client place.connection file (s.counter + 1) c
-opens_by s others l conn client place c file false = tt
+opens_by : (s : CoreState) (others : ℕ) (l : Lists) (h : SmbHead) (client : List ℕ) (place : Place) (c : CreateCallItem) (file : ℕ) (room : Bool) → Sorts s l (if room then open_as s others l h client place c file (s.counter + 1) else Fails statuses.InsufficientResources)
+opens_by s others l h client place c file true = (open_client place.connection file (s.counter + 1) c, made_for place.connection file (s.counter + 1) c, tt)
+opens_by s others l h client place c file false = tt
 
-found_by : (s : CoreState) (others : ℕ) (l : Lists) (conn : ℕ) (client : List ℕ) (place : Place) (c : CreateCallItem) (file : ℕ) (makes : Bool) → Sorts s l conn (if makes then Fails statuses.ObjectNameCollision else open_file s others l client place c file)
-found_by s others l conn client place c file true = tt
-found_by s others l conn client place c file false = opens_by s others l conn client place c file (has_room_for_open others l (s.counter + 1))
+found_by : (s : CoreState) (others : ℕ) (l : Lists) (h : SmbHead) (client : List ℕ) (place : Place) (c : CreateCallItem) (file : ℕ) (makes : Bool) → Sorts s l (if makes then Fails statuses.ObjectNameCollision else open_file s others l h client place c file)
+found_by s others l h client place c file true = tt
+found_by s others l h client place c file false = opens_by s others l h client place c file (has_room_for_open others l (s.counter + 1))
 
-found_sorts : (s : CoreState) (others : ℕ) (l : Lists) (conn : ℕ) (client : List ℕ) (place : Place) (c : CreateCallItem) (file : Option ℕ) → Sorts s l conn (open_found s others l client place c file)
-found_sorts s others l conn client place c None = tt
-found_sorts s others l conn client place c (Some file) = found_by s others l conn client place c file (c.disposition == 2)
+found_sorts : (s : CoreState) (others : ℕ) (l : Lists) (h : SmbHead) (client : List ℕ) (place : Place) (c : CreateCallItem) (file : Option ℕ) → Sorts s l (open_found s others l h client place c file)
+found_sorts s others l h client place c None = tt
+found_sorts s others l h client place c (Some file) = found_by s others l h client place c file (c.disposition == 2)
 
-create_by : (s : CoreState) (others : ℕ) (l : Lists) (conn : ℕ) (client : List ℕ) (place : Place) (c : CreateCallItem) (file : Option ℕ) (unknown changes : Bool) → Sorts s l conn (if unknown then Fails statuses.InvalidParameter else if changes then Fails statuses.NotSupported else open_found s others l client place c file)
-create_by s others l conn client place c file true changes = tt
-create_by s others l conn client place c file false true = tt
-create_by s others l conn client place c file false false = found_sorts s others l conn client place c file
+create_by : (s : CoreState) (others : ℕ) (l : Lists) (h : SmbHead) (client : List ℕ) (place : Place) (c : CreateCallItem) (file : Option ℕ) (unknown changes : Bool) → Sorts s l (if unknown then Fails statuses.InvalidParameter else if changes then Fails statuses.NotSupported else open_found s others l h client place c file)
+create_by s others l h client place c file true changes = tt
+create_by s others l h client place c file false true = tt
+create_by s others l h client place c file false false = found_sorts s others l h client place c file
 
-create_sorts : (s : CoreState) (files : List (List ℕ)) (others : ℕ) (l : Lists) (conn : ℕ) (client : List ℕ) (h : SmbHead) (c : CreateCallItem) → Sorts s l conn (create s files others l conn client h c)
+create_sorts : (s : CoreState) (files : List (List ℕ)) (others : ℕ) (l : Lists) (conn : ℕ) (client : List ℕ) (h : SmbHead) (c : CreateCallItem) → Sorts s l (create s files others l conn client h c)
 unfolding create
 create_sorts s files others l conn client h c =
-    by_session (Sorts s l conn) (λ number. is_session_on conn (session_of number l)) _ (number_in s h.session_id) tt
-    (λ k on. by_tree (Sorts s l conn) (create_on s files others l client c) _ (has_place _ client l) tt (λ there. create_by s others l conn client _ c (file_spelled files c.name) (nat_lt 5 c.disposition) (overwrites c.disposition)))
+    by_session (Sorts s l) (λ number. is_session_on conn (session_of number l)) _ (number_in s h.session_id) tt
+    (λ k on. by_tree (Sorts s l) (create_on s files others l h client c) _ (has_place _ client l) tt (λ there. create_by s others l h client _ c (file_spelled files c.name) (nat_lt 5 c.disposition) (overwrites c.disposition)))
 
-close_open_sorts : (s : CoreState) (l : Lists) (conn number : ℕ) → is_open_on conn (open_of number l) ≡ true → Sorts s l conn (close_open l number)
-close_open_sorts s l conn number on =
-    (refl, inr (inl (number ∷ [], refl, (λ j apart. closed_apart j (number ∷ []) l apart), (λ j c any there. both_on c conn (open_of number l) (subst (λ (i : ℕ). is_open_on c (open_of i l) ≡ true) (only j any) there) on))))
-  where
-    only : (j : ℕ) → list_any (nat_eq j) (number ∷ []) ≡ true → j ≡ number
-    only j any = elim (any_self j (number ∷ []) any) [ inl same ↦ sym same | inr none ↦ absurd none ]
+close_open_sorts : (s : CoreState) (l : Lists) (number : ℕ) → Sorts s l (close_open l number)
+close_open_sorts s l number = (refl, inr (inl (number ∷ [], refl, (λ j apart. closed_apart j (number ∷ []) l apart))))
 
-close_sorts : (s : CoreState) (l : Lists) (conn : ℕ) (client : List ℕ) (h : SmbHead) (id : FileId) → Sorts s l conn (close s l conn client h id)
+close_sorts : (s : CoreState) (l : Lists) (conn : ℕ) (client : List ℕ) (h : SmbHead) (id : FileId) → Sorts s l (close s l conn client h id)
 unfolding close
 close_sorts s l conn client h id =
-    by_session (Sorts s l conn) (λ number. is_session_on conn (session_of number l)) _ (number_in s h.session_id) tt
-    (λ k on. by_tree (Sorts s l conn) _ _ (has_place _ client l) tt (λ there. by_open (Sorts s l conn) (λ number. is_open_on conn (open_of number l)) (close_open l) (file_number s id) tt (λ number under. close_open_sorts s l conn number under)))
+    by_session (Sorts s l) (λ number. is_session_on conn (session_of number l)) _ (number_in s h.session_id) tt
+    (λ k on. by_tree (Sorts s l) _ _ (has_place _ client l) tt (λ there. by_open (Sorts s l) (λ number. is_open_on conn (open_of number l)) (close_open l) (file_number s id) tt (λ number under. close_open_sorts s l number)))
 
-lock_by_sorts : (s : CoreState) (l : Lists) (conn : ℕ) (row : Waiting) (file : ℕ) (es : List LockElement) (o : Option SmbStatus) → is_count (length es) ≡ true → row.place.connection ≡ conn → is_open_on conn (open_of row.opened l) ≡ true → Sorts s l conn (lock_by s l conn row file row.opened es o)
-lock_by_sorts s l conn row file es (Some status) count on under = tt
-lock_by_sorts s l conn row file es None count on under =
-    let b : Bool = any_waits es && has_room_to_wait l (s.counter + 1) in
-    (lock_client conn file row.opened es b, asks_for conn file row.opened es b count, on, under)
+lock_by_sorts : (s : CoreState) (l : Lists) (conn : ℕ) (row : Waiting) (file : ℕ) (es : List LockElement) (o : Option SmbStatus) → is_count (length es) ≡ true → IsUnder l row row.request → Sorts s l (lock_by conn row file row.opened es o)
+lock_by_sorts s l conn row file es (Some status) count under = tt
+lock_by_sorts s l conn row file es None count under = (lock_client conn file row.opened es, asks_for conn file row.opened es count, under)
 
 lock_on_sorts : (s : CoreState) (l : Lists) (conn : ℕ) (h : SmbHead) (number : ℕ) (place : Place) (es : List LockElement) (row : Open) (count first : Bool) → is_count (length es) ≡ count → open_of number l ≡ Some row → is_open_on conn (Some row) ≡ true
-    → Sorts s l conn (if not count then Fails statuses.InvalidParameter else if first then unlock_by l (unlocks s row.file number es) else lock_by s l conn (waiting_row h (place_of row.holder place) number) row.file number es (lock_fault es))
+    → Sorts s l (if not count then Fails statuses.InvalidParameter else if first then unlock_by l (unlocks s row.file number es) else lock_by conn (waiting_row h (place_of row.holder place) number request.Lock) row.file number es (lock_fault es))
 lock_on_sorts s l conn h number place es row false first is at on = tt
 lock_on_sorts s l conn h number place es row true true is at on = (refl, inl ((λ n. unlocks_wait n s row.file number es), refl))
-lock_on_sorts s l conn h number place es row true false is at on = lock_by_sorts s l conn (waiting_row h (place_of row.holder place) number) row.file es (lock_fault es) is (stands_on conn row.holder place row refl on) (ap (is_open_on conn) at ∙ on)
+lock_on_sorts s l conn h number place es row true false is at on =
+    lock_by_sorts s l conn (waiting_row h (place_of row.holder place) number request.Lock) row.file es (lock_fault es) is
+    (ap (λ (c : ℕ). is_open_on c (open_of number l)) (stands_on conn row.holder place row refl on) ∙ ap (is_open_on conn) at ∙ on)
 
-lock_found_sorts : (s : CoreState) (l : Lists) (conn : ℕ) (h : SmbHead) (number : ℕ) (place : Place) (es : List LockElement) (o : Option Open) → open_of number l ≡ o → is_open_on conn o ≡ true → Sorts s l conn (lock_found s l conn h number place es o)
+lock_found_sorts : (s : CoreState) (l : Lists) (conn : ℕ) (h : SmbHead) (number : ℕ) (place : Place) (es : List LockElement) (o : Option Open) → open_of number l ≡ o → is_open_on conn o ≡ true → Sorts s l (lock_found s l conn h number place es o)
 lock_found_sorts s l conn h number place es None at on = tt
 lock_found_sorts s l conn h number place es (Some row) at on = lock_on_sorts s l conn h number place es row (is_count (length es)) (unlocks_first es) refl at on
 
-lock_sorts : (s : CoreState) (l : Lists) (conn : ℕ) (client : List ℕ) (h : SmbHead) (c : LockItem) → Sorts s l conn (lock s l conn client h c)
+lock_sorts : (s : CoreState) (l : Lists) (conn : ℕ) (client : List ℕ) (h : SmbHead) (c : LockItem) → Sorts s l (lock s l conn client h c)
 unfolding lock
 lock_sorts s l conn client h c =
-    by_session (Sorts s l conn) (λ number. is_session_on conn (session_of number l)) _ (number_in s h.session_id) tt
-    (λ k on. by_tree (Sorts s l conn) _ _ (has_place _ client l) tt
-    (λ there. by_open (Sorts s l conn) (λ number. is_open_on conn (open_of number l)) _ (file_number s c.file_id) tt (λ number under. lock_found_sorts s l conn h number _ (elements_of c.elements) (open_of number l) refl under)))
+    by_session (Sorts s l) (λ number. is_session_on conn (session_of number l)) _ (number_in s h.session_id) tt
+    (λ k on. by_tree (Sorts s l) _ _ (has_place _ client l) tt
+    (λ there. by_open (Sorts s l) (λ number. is_open_on conn (open_of number l)) _ (file_number s c.file_id) tt (λ number under. lock_found_sorts s l conn h number _ (elements_of c.elements) (open_of number l) refl under)))
 
-cancel_waiting : (s : CoreState) (l : Lists) (conn id : ℕ) (waits : Bool) → is_waiting id s.waiters ≡ waits → IsIn id (waiting_under (scope.Connection conn) l) → Sorts s l conn (cancel_named s l (Some id))
-cancel_waiting s l conn id true is there = rw is (refl, inr (inr (id, refl, refl, there)))
-cancel_waiting s l conn id false is there = rw is (nothing_sorts s l l conn told.Nothing refl refl)
+cancel_waiting : (s : CoreState) (l : Lists) (id : ℕ) (waits : Bool) → is_waiting id s.waiters ≡ waits → Sorts s l (cancel_named s l (Some id))
+cancel_waiting s l id true is = rw is (refl, inr (inr (id, refl, refl)))
+cancel_waiting s l id false is = rw is (nothing_sorts s l l told.Nothing refl refl)
 
-cancel_by : (s : CoreState) (l : Lists) (conn : ℕ) (o : Option ℕ) → ((id : ℕ) → o ≡ Some id → IsIn id (waiting_under (scope.Connection conn) l)) → Sorts s l conn (cancel_named s l o)
-cancel_by s l conn None there = nothing_sorts s l l conn told.Nothing refl refl
-cancel_by s l conn (Some id) there = cancel_waiting s l conn id (is_waiting id s.waiters) refl (there id refl)
+cancel_by : (s : CoreState) (l : Lists) (o : Option ℕ) → Sorts s l (cancel_named s l o)
+cancel_by s l None = nothing_sorts s l l told.Nothing refl refl
+cancel_by s l (Some id) = cancel_waiting s l id (is_waiting id s.waiters) refl
 
-cancel_sorts : (s : CoreState) (l : Lists) (conn : ℕ) (h : SmbHead) → Sorts s l conn (cancel s l conn h)
+cancel_sorts : (s : CoreState) (l : Lists) (conn : ℕ) (h : SmbHead) → Sorts s l (cancel s l conn h)
 unfolding cancel
-cancel_sorts s l conn h = cancel_by s l conn (request_named conn l h.message_id h.route) (named_in conn l h.message_id h.route)
+cancel_sorts s l conn h = cancel_by s l (request_named conn l h.message_id h.route)
 
-level_by : (s : CoreState) (l : Lists) (conn : ℕ) (lease above : Bool) → Sorts s l conn (if lease then Fails statuses.InvalidParameter else if above then Fails statuses.InvalidOplockProtocol else Fails statuses.InvalidDeviceState)
-level_by s l conn true above = tt
-level_by s l conn false true = tt
-level_by s l conn false false = tt
+-- an acknowledgement lets those wait who did
+acked_sorts : (s : CoreState) (l : Lists) (cache : Claim) (to : Option CacheKind) (answer : Answered) → Sorts s l (Does (Acks cache to ∷ []) l answer)
+unfolding ack
+acked_sorts s l cache to answer = (refl, inl ((λ n. refl), refl))
 
-break_sorts : (s : CoreState) (l : Lists) (conn : ℕ) (b : Break) → Sorts s l conn (break_by s l conn b)
-break_sorts s l conn (held.Oplock level id) = by_open (Sorts s l conn) (λ number. is_open_on conn (open_of number l)) (λ number. level_refused level) (file_number s id) tt (λ number on. level_by s l conn (level == 0xFF) (nat_lt 1 level))
+ack_ran : (s : CoreState) (l : Lists) (id level : ℕ) (cache : Claim) (running : Option Break) (refused : Bool) → Sorts s l (if refused then refused_ack l cache running else taken_ack l id level cache running)
+ack_ran s l id level cache None true = tt
+ack_ran s l id level cache None false = tt
+ack_ran s l id level cache (Some running) true = acked_sorts s l cache None (told.Failed statuses.InvalidOplockProtocol)
+ack_ran s l id level cache (Some running) false = acked_sorts s l cache (left_at level) (told.Acknowledged id (level_of (left_at level)))
+
+ack_by_sorts : (s : CoreState) (l : Lists) (id level : ℕ) (cache : Claim) (what : What) → Sorts s l (ack_by l id level cache what)
+ack_by_sorts s l id level cache (whats.Cache kind running) = ack_ran s l id level cache running (is_refused level kind running)
+ack_by_sorts s l id level cache (whats.Share access deny) = tt
+ack_by_sorts s l id level cache (whats.Range extent exclusive) = tt
+
+ack_none : (s : CoreState) (l : Lists) (above : Bool) → Sorts s l (if above then Fails statuses.InvalidOplockProtocol else Fails statuses.InvalidDeviceState)
+ack_none s l true = tt
+ack_none s l false = tt
+
+ack_of_sorts : (s : CoreState) (l : Lists) (id level : ℕ) (o : Option Claim) → Sorts s l (ack_of l id level o)
+ack_of_sorts s l id level None = ack_none s l (nat_lt 1 level)
+ack_of_sorts s l id level (Some cache) = ack_by_sorts s l id level cache cache.what
+
+ack_open_sorts : (s : CoreState) (l : Lists) (level number : ℕ) (o : Option Open) → Sorts s l (ack_open s l level number o)
+ack_open_sorts s l level number None = tt
+ack_open_sorts s l level number (Some row) = ack_of_sorts s l (id_of s number) level (oplock_of row.file number s.claims)
+
+level_by : (s : CoreState) (l : Lists) (level number : ℕ) (lease : Bool) → Sorts s l (if lease then Fails statuses.InvalidParameter else ack_open s l level number (open_of number l))
+level_by s l level number true = tt
+level_by s l level number false = ack_open_sorts s l level number (open_of number l)
+
+break_sorts : (s : CoreState) (l : Lists) (conn : ℕ) (b : Acknowledgement) → Sorts s l (break_by s l conn b)
+break_sorts s l conn (held.Oplock level id) = by_open (Sorts s l) (λ number. is_open_on conn (open_of number l)) (ack_level s l level) (file_number s id) tt (λ number on. level_by s l level number (level == 0xFF))
 break_sorts s l conn (held.Lease lease) = tt
 
-acknowledge_sorts : (s : CoreState) (l : Lists) (conn : ℕ) (h : SmbHead) (b : Break) → Sorts s l conn (acknowledge s l conn h b)
+acknowledge_sorts : (s : CoreState) (l : Lists) (conn : ℕ) (h : SmbHead) (b : Acknowledgement) → Sorts s l (acknowledge s l conn h b)
 unfolding acknowledge
-acknowledge_sorts s l conn h b = by_session (Sorts s l conn) (λ number. is_session_on conn (session_of number l)) _ (number_in s h.session_id) tt (λ k on. break_sorts s l conn b)
+acknowledge_sorts s l conn h b = by_session (Sorts s l) (λ number. is_session_on conn (session_of number l)) _ (number_in s h.session_id) tt (λ k on. break_sorts s l conn b)
 
 -- ---- a request
 
-commanded_sorts : (s : CoreState) (files : List (List ℕ)) (others : ℕ) (l : Lists) (conn : ℕ) (h : SmbHead) (call : CallItem) (client : List ℕ) → IsSound l → AreDistinct l → Sorts s l conn (commanded s files others l conn h call client)
+commanded_sorts : (s : CoreState) (files : List (List ℕ)) (others : ℕ) (l : Lists) (conn : ℕ) (h : SmbHead) (call : CallItem) (client : List ℕ) → Sorts s l (commanded s files others l conn h call client)
 unfolding commanded
-commanded_sorts s files others l conn h (SessionSetup c) client sound distinct = setup_by s l conn h (h.session_id == 0) refl
-commanded_sorts s files others l conn h Logoff client sound distinct = logoff_sorts s l conn h sound distinct
-commanded_sorts s files others l conn h (TreeConnect path) client sound distinct = connect_sorts s l conn h path
-commanded_sorts s files others l conn h TreeDisconnect client sound distinct = disconnect_sorts s l conn client h sound distinct
-commanded_sorts s files others l conn h (Create c) client sound distinct = create_sorts s files others l conn client h c
-commanded_sorts s files others l conn h (Close c) client sound distinct = close_sorts s l conn client h c.file_id
-commanded_sorts s files others l conn h (Lock c) client sound distinct = lock_sorts s l conn client h c
-commanded_sorts s files others l conn h Cancel client sound distinct = cancel_sorts s l conn h
-commanded_sorts s files others l conn h Echo client sound distinct = nothing_sorts s l l conn told.Echoed refl refl
-commanded_sorts s files others l conn h (OplockBreak b) client sound distinct = acknowledge_sorts s l conn h b
-commanded_sorts s files others l conn h (Negotiate c) client sound distinct = tt
-commanded_sorts s files others l conn h Other client sound distinct = tt
+commanded_sorts s files others l conn h (SessionSetup c) client = setup_by s l conn h (h.session_id == 0) refl
+commanded_sorts s files others l conn h Logoff client = logoff_sorts s l conn h
+commanded_sorts s files others l conn h (TreeConnect path) client = connect_sorts s l conn h path
+commanded_sorts s files others l conn h TreeDisconnect client = disconnect_sorts s l conn client h
+commanded_sorts s files others l conn h (Create c) client = create_sorts s files others l conn client h c
+commanded_sorts s files others l conn h (Close c) client = close_sorts s l conn client h c.file_id
+commanded_sorts s files others l conn h (Lock c) client = lock_sorts s l conn client h c
+commanded_sorts s files others l conn h Cancel client = cancel_sorts s l conn h
+commanded_sorts s files others l conn h Echo client = nothing_sorts s l l told.Echoed refl refl
+commanded_sorts s files others l conn h (OplockBreak b) client = acknowledge_sorts s l conn h b
+commanded_sorts s files others l conn h (Negotiate c) client = tt
+commanded_sorts s files others l conn h Other client = tt
 
-once_sorts : (s : CoreState) (files : List (List ℕ)) (others : ℕ) (l : Lists) (conn : ℕ) (h : SmbHead) (call : CallItem) → IsSound l → AreDistinct l → Sorts s l conn (negotiated_by (commanded s files others l conn h call) (client_of conn l))
-once_sorts s files others l conn h call sound distinct = by_client (Sorts s l conn) (commanded s files others l conn h call) (client_of conn l) tt (λ client. commanded_sorts s files others l conn h call client sound distinct)
+once_sorts : (s : CoreState) (files : List (List ℕ)) (others : ℕ) (l : Lists) (conn : ℕ) (h : SmbHead) (call : CallItem) → Sorts s l (negotiated_by (commanded s files others l conn h call) (client_of conn l))
+once_sorts s files others l conn h call = by_client (Sorts s l) (commanded s files others l conn h call) (client_of conn l) tt (λ client. commanded_sorts s files others l conn h call client)
 
-planned_sorts : (s : CoreState) (files : List (List ℕ)) (others : ℕ) (l : Lists) (conn : ℕ) (h : SmbHead) (call : CallItem) → IsSound l → AreDistinct l → Sorts s l conn (planned s files others l conn h call)
+planned_sorts : (s : CoreState) (files : List (List ℕ)) (others : ℕ) (l : Lists) (conn : ℕ) (h : SmbHead) (call : CallItem) → Sorts s l (planned s files others l conn h call)
 unfolding planned
-planned_sorts s files others l conn h (Negotiate c) sound distinct = negotiate_sorts s l conn c
-planned_sorts s files others l conn h (SessionSetup c) sound distinct = once_sorts s files others l conn h (SessionSetup c) sound distinct
-planned_sorts s files others l conn h Logoff sound distinct = once_sorts s files others l conn h Logoff sound distinct
-planned_sorts s files others l conn h (TreeConnect path) sound distinct = once_sorts s files others l conn h (TreeConnect path) sound distinct
-planned_sorts s files others l conn h TreeDisconnect sound distinct = once_sorts s files others l conn h TreeDisconnect sound distinct
-planned_sorts s files others l conn h (Create c) sound distinct = once_sorts s files others l conn h (Create c) sound distinct
-planned_sorts s files others l conn h (Close c) sound distinct = once_sorts s files others l conn h (Close c) sound distinct
-planned_sorts s files others l conn h (Lock c) sound distinct = once_sorts s files others l conn h (Lock c) sound distinct
-planned_sorts s files others l conn h Cancel sound distinct = once_sorts s files others l conn h Cancel sound distinct
-planned_sorts s files others l conn h Echo sound distinct = once_sorts s files others l conn h Echo sound distinct
-planned_sorts s files others l conn h (OplockBreak b) sound distinct = once_sorts s files others l conn h (OplockBreak b) sound distinct
-planned_sorts s files others l conn h Other sound distinct = once_sorts s files others l conn h Other sound distinct
+planned_sorts s files others l conn h (Negotiate c) = negotiate_sorts s l conn c
+planned_sorts s files others l conn h (SessionSetup c) = once_sorts s files others l conn h (SessionSetup c)
+planned_sorts s files others l conn h Logoff = once_sorts s files others l conn h Logoff
+planned_sorts s files others l conn h (TreeConnect path) = once_sorts s files others l conn h (TreeConnect path)
+planned_sorts s files others l conn h TreeDisconnect = once_sorts s files others l conn h TreeDisconnect
+planned_sorts s files others l conn h (Create c) = once_sorts s files others l conn h (Create c)
+planned_sorts s files others l conn h (Close c) = once_sorts s files others l conn h (Close c)
+planned_sorts s files others l conn h (Lock c) = once_sorts s files others l conn h (Lock c)
+planned_sorts s files others l conn h Cancel = once_sorts s files others l conn h Cancel
+planned_sorts s files others l conn h Echo = once_sorts s files others l conn h Echo
+planned_sorts s files others l conn h (OplockBreak b) = once_sorts s files others l conn h (OplockBreak b)
+planned_sorts s files others l conn h Other = once_sorts s files others l conn h Other
 
-read_sorts : (s : CoreState) (files : List (List ℕ)) (others : ℕ) (l : Lists) (conn : ℕ) (m : Result MessageItem SmbBad) → IsSound l → AreDistinct l → Sorts s l conn (read_as s files others l conn m)
-read_sorts s files others l conn (Ok (Call h call)) sound distinct = planned_sorts s files others l conn h call sound distinct
-read_sorts s files others l conn (Ok (Reply h r)) sound distinct = tt
-read_sorts s files others l conn (Ok (Told t)) sound distinct = tt
-read_sorts s files others l conn (Err fault) sound distinct = tt
+read_sorts : (s : CoreState) (files : List (List ℕ)) (others : ℕ) (l : Lists) (conn : ℕ) (m : Result MessageItem SmbBad) → Sorts s l (read_as s files others l conn m)
+read_sorts s files others l conn (Ok (Call h call)) = planned_sorts s files others l conn h call
+read_sorts s files others l conn (Ok (Reply h r)) = tt
+read_sorts s files others l conn (Ok (Told t)) = tt
+read_sorts s files others l conn (Err fault) = tt
 
-requested_by : (s : CoreState) (files : List (List ℕ)) (others : ℕ) (l : Lists) (conn : ℕ) (m : Result MessageItem SmbBad) (part above unread : Bool) → IsSound l → AreDistinct l → Sorts s l conn (if part then Fails statuses.InvalidParameter else if above then Fails statuses.InvalidParameter else if unread then Fails statuses.NotSupported else read_as s files others l conn m)
-requested_by s files others l conn m true above unread sound distinct = tt
-requested_by s files others l conn m false true unread sound distinct = tt
-requested_by s files others l conn m false false true sound distinct = tt
-requested_by s files others l conn m false false false sound distinct = read_sorts s files others l conn m sound distinct
+requested_by : (s : CoreState) (files : List (List ℕ)) (others : ℕ) (l : Lists) (conn : ℕ) (m : Result MessageItem SmbBad) (part above unread : Bool) → Sorts s l (if part then Fails statuses.InvalidParameter else if above then Fails statuses.InvalidParameter else if unread then Fails statuses.NotSupported else read_as s files others l conn m)
+requested_by s files others l conn m true above unread = tt
+requested_by s files others l conn m false true unread = tt
+requested_by s files others l conn m false false true = tt
+requested_by s files others l conn m false false false = read_sorts s files others l conn m
 
-requested_sorts : (s : CoreState) (files : List (List ℕ)) (others : ℕ) (l : Lists) (conn : ℕ) (bytes : List ℕ) (h : SmbHead) → IsSound l → AreDistinct l → Sorts s l conn (requested s files others l conn bytes h)
+requested_sorts : (s : CoreState) (files : List (List ℕ)) (others : ℕ) (l : Lists) (conn : ℕ) (bytes : List ℕ) (h : SmbHead) → Sorts s l (requested s files others l conn bytes h)
 unfolding requested
-requested_sorts s files others l conn bytes h sound distinct = requested_by s files others l conn (message_at bytes) (not (h.next_command == 0)) (nat_lt 18 h.command) (not (is_some (command_of h.command))) sound distinct
+requested_sorts s files others l conn bytes h = requested_by s files others l conn (message_at bytes) (not (h.next_command == 0)) (nat_lt 18 h.command) (not (is_some (command_of h.command)))
 
-heard_awaited : (n : ℕ) (exports : Exports) (others : ℕ) (f : FrontSmb) (s : CoreState) (conn : ℕ) (bytes : List ℕ) (h : Option SmbHead) → IsGood s → IsSound f.state → AreDistinct f.state → AreAwaited s f.state → AreAwaited (stepped n exports others f s conn bytes h).3 (stepped n exports others f s conn bytes h).2.state
-heard_awaited n exports others f s conn bytes None good sound distinct all = all
-heard_awaited n exports others f s conn bytes (Some h) good sound distinct all = answered_awaited n s f.state conn (plan_for exports others f s conn bytes h) good distinct all (requested_sorts s exports.files others f.state conn bytes h sound distinct)
+heard_awaited : (n : ℕ) (exports : Exports) (others : ℕ) (f : FrontSmb) (s : CoreState) (conn : ℕ) (bytes : List ℕ) (h : Option SmbHead) → IsGood s → AreDistinct f.state → AreAwaited s f.state → AreAwaited (stepped n exports others f s conn bytes h).3 (stepped n exports others f s conn bytes h).2.state
+heard_awaited n exports others f s conn bytes None good distinct all = all
+heard_awaited n exports others f s conn bytes (Some h) good distinct all = answered_awaited n s f.state (plan_for exports others f s conn bytes h) good distinct all (requested_sorts s exports.files others f.state conn bytes h)
 
-pub step_awaited : (n : ℕ) (exports : Exports) (others : ℕ) (f : FrontSmb) (s : CoreState) (conn : ℕ) (bytes : List ℕ) → IsGood s → IsSound f.state → AreDistinct f.state → AreAwaited s f.state → AreAwaited (smb_step n exports others f s conn bytes).3 (smb_step n exports others f s conn bytes).2.state
+pub step_awaited : (n : ℕ) (exports : Exports) (others : ℕ) (f : FrontSmb) (s : CoreState) (conn : ℕ) (bytes : List ℕ) → IsGood s → AreDistinct f.state → AreAwaited s f.state → AreAwaited (smb_step n exports others f s conn bytes).3 (smb_step n exports others f s conn bytes).2.state
 unfolding smb_step
-step_awaited n exports others f s conn bytes good sound distinct all = heard_awaited n exports others f s conn bytes (head_heard (head_of bytes)) good sound distinct all
+step_awaited n exports others f s conn bytes good distinct all = heard_awaited n exports others f s conn bytes (head_heard (head_of bytes)) good distinct all
 
 -- ---- an effect
 
-ended_awaited : (s : CoreState) (l : Lists) (id : ℕ) (failed : Option SmbStatus) → IsDistinct nat_eq (keys_of l.waiting) → ((e : ℕ × Waiting) → IsIn e l.waiting → eqb id e.0 ≡ false → IsAwaited s l e) → AreAwaited s (request_ended id failed l).1
-ended_awaited s l id failed distinct all =
-    let left : Lists = (request_ended id failed l).1 in
-    let same = ended_rows id failed l in
-    all_from (IsAwaited s left) left.waiting (λ e here.
-    (let there : IsIn e (remove_entry (nat_eq id) l.waiting) = subst (λ (es : List (ℕ × Waiting)). IsIn e es) same.0 here in
-    let is = all e (removed_in (nat_eq id) l.waiting e there) (other_left id l.waiting e distinct there) in
-    moved s s l left e is is.waits (ap (λ (es : List (ℕ × Open)). lookup (nat_eq e.1.opened) es) same.1)))
+-- the request of this number is gone, and of opens none is
+abbrev Leaves : ℕ → Lists → Lists → Type 0
+Leaves id l m = (m.waiting ≡ remove_entry (nat_eq id) l.waiting) × ((k : ℕ) → Stays k l m)
 
-pub shown_awaited : (f : FrontSmb) (s : CoreState) (effect : Effect) → IsDistinct nat_eq (keys_of f.state.waiting) → ((e : ℕ × Waiting) → IsIn e f.state.waiting → ends_wait e.0 effect ≡ false → IsAwaited s f.state e) → AreAwaited s (smb_shown f effect).1.state
+stood_leaves : (s : CoreState) (id : ℕ) (row : Waiting) (made : Open) (stands : Bool) (l : Lists) → Leaves id l (stood s id row made stands (waiting_dropped id l)).1
+stood_leaves s id row made true l = (refl, λ k c on. still_open c k row.opened made l.opens (open_of k l) refl on)
+stood_leaves s id row made false l = (refl, λ k c on. on)
+
+opened_leaves : (s : CoreState) (id : ℕ) (row : Waiting) (made : Open) (refused : Option SmbStatus) (l : Lists) → Leaves id l (opened_outs s id row made refused (waiting_dropped id l)).1
+opened_leaves s id row made None l = stood_leaves s id row made (may_stand row.opened made (waiting_dropped id l)) l
+opened_leaves s id row made (Some status) l = (refl, λ k c on. on)
+
+served_leaves : (s : CoreState) (id : ℕ) (row : Waiting) (answer : Answer) (r : Request) (l : Lists) → Leaves id l (served_by s id row answer r (waiting_dropped id l)).1
+served_leaves s id row answer request.Lock l = (refl, λ k c on. on)
+served_leaves s id row answer (request.Create made) l = opened_leaves s id row made (open_refusal answer) l
+
+served_rows : (s : CoreState) (id : ℕ) (answer : Answer) (l : Lists) → Leaves id l (request_served s id answer l).1
+unfolding request_served
+served_rows s id answer l = by (waiting_of id l) refl
+  where
+    by : (o : Option Waiting) → waiting_of id l ≡ o → Leaves id l (served_with s id answer o l).1
+    by None e = (sym (none_out (nat_eq id) l.waiting e), λ k c on. on)
+    by (Some row) e = served_leaves s id row answer row.request l
+
+others_awaited : (s : CoreState) (l m : Lists) (id : ℕ) → Leaves id l m → IsDistinct nat_eq (keys_of l.waiting) → ((e : ℕ × Waiting) → IsIn e l.waiting → eqb id e.0 ≡ false → IsAwaited s l e) → AreAwaited s m
+others_awaited s l m id leaves distinct all =
+    all_from (IsAwaited s m) m.waiting (λ e here.
+    (let there : IsIn e (remove_entry (nat_eq id) l.waiting) = subst (λ (es : List (ℕ × Waiting)). IsIn e es) leaves.0 here in
+    let is = all e (removed_in (nat_eq id) l.waiting e there) (other_left id l.waiting e distinct there) in
+    moved s s l m e is is.waits (leaves.1 e.1.opened)))
+
+pub shown_awaited : (f : FrontSmb) (s : CoreState) (effect : Effect) → IsDistinct nat_eq (keys_of f.state.waiting) → ((e : ℕ × Waiting) → IsIn e f.state.waiting → ends_wait e.0 effect ≡ false → IsAwaited s f.state e) → AreAwaited s (smb_shown f s effect).1.state
 unfolding smb_shown told_of
-shown_awaited f s (effects.Served id answer) distinct all = ended_awaited s f.state id (served_as answer) distinct all
-shown_awaited f s (effects.Cancelled id) distinct all = ended_awaited s f.state id (Some statuses.Cancelled) distinct all
+shown_awaited f s (effects.Served id answer) distinct all = others_awaited s f.state (request_served s id answer f.state).1 id (served_rows s id answer f.state) distinct all
+shown_awaited f s (effects.Cancelled id) distinct all =
+    let left : Lists = (request_ended id statuses.Cancelled f.state).1 in
+    let same = ended_rows id statuses.Cancelled f.state in
+    others_awaited s f.state left id (same.0, λ k. opens_same k f.state left same.1) distinct all
 shown_awaited f s (effects.Begun claim to number) distinct all = all_from (IsAwaited s f.state) f.state.waiting (λ e here. all e here refl)
 shown_awaited f s (effects.Expired client) distinct all = all_from (IsAwaited s f.state) f.state.waiting (λ e here. all e here refl)
 
 -- ---- the end of a connection
 
-left_open : (c conn k : ℕ) (es : List (ℕ × Open)) → (c ≡ conn → ⊥) → is_open_on c (lookup (nat_eq k) es) ≡ true → is_open_on c (lookup (nat_eq k) (rows_but (λ (e : ℕ × Open). covers_holder (scope.Connection conn) e.1.holder) es)) ≡ true
-left_open c conn k [] apart on = on
-left_open c conn k (e ∷ es) apart on =
-    elim (cases_Bool (eqb k e.0)) [
-      | inl here ↦ (
-          let there : is_open_on c (Some e.1) ≡ true = rw here at on in
-          elim (cases_Bool (covers_holder (scope.Connection conn) e.1.holder)) [
-            | inl gone ↦ absurd (apart (one_holder c conn e.1.holder there gone))
-            | inr stays ↦ rw stays (rw here there)
-          ])
-      | inr later ↦ (
-          let rest : is_open_on c (lookup (nat_eq k) es) ≡ true = rw later at on in
-          elim (cases_Bool (covers_holder (scope.Connection conn) e.1.holder)) [
-            | inl gone ↦ rw gone (left_open c conn k es apart rest)
-            | inr stays ↦ rw stays (rw later (left_open c conn k es apart rest))
-          ])
-    ]
+-- the lists once the connection went with what came by it
+abbrev gone_lists : ℕ → Lists → Lists
+gone_lists conn l = requests_gone conn (connection_gone conn (all_closed (opens_under (scope.Connection conn) l) l))
 
-conn_on : (l : Lists) (conn k c : ℕ) → AreDistinct l → list_any (nat_eq k) (opens_under (scope.Connection conn) l) ≡ true → is_open_on c (open_of k l) ≡ true → c ≡ conn
-conn_on l conn k c distinct any there = by (open_of k l) (found_under (scope.Connection conn) l k distinct any) there
-  where
-    by : (o : Option Open) → IsFound (λ (r : Open). covers_holder (scope.Connection conn) r.holder) o → is_open_on c o ≡ true → c ≡ conn
-    by None found there = absurd found
-    by (Some row) found there = one_holder c conn row.holder there found
+gone_rows : (conn : ℕ) (l : Lists) → (gone_lists conn l).waiting ≡ filter (λ (x : ℕ × Waiting). not (eqb x.1.place.connection conn)) l.waiting
+unfolding connection_gone
+gone_rows conn l =
+    let m : Lists = all_closed (opens_under (scope.Connection conn) l) l in
+    ap (filter (λ (x : ℕ × Waiting). not (eqb x.1.place.connection conn))) (all_gone_waiting (sessions_on conn m) m ∙ closed_waiting (opens_under (scope.Connection conn) l) l)
 
-end_rows : (f : FrontSmb) (s : CoreState) (conn : ℕ) (e : ℕ × Waiting) → IsIn e (smb_end f s conn).1.state.waiting → IsIn e f.state.waiting × (eqb e.1.place.connection conn ≡ false)
-unfolding smb_end connection_gone
-end_rows f s conn e here =
-    let numbers : List ℕ = opens_under (scope.Connection conn) f.state in
-    let l : Lists = all_closed numbers f.state in
-    let same : (sessions_gone (sessions_on conn l) l).waiting ≡ f.state.waiting = all_gone_waiting (sessions_on conn l) l ∙ closed_waiting numbers f.state in
-    let parts = in_filter_from (λ (x : ℕ × Waiting). not (eqb x.1.place.connection conn)) e (sessions_gone (sessions_on conn l) l).waiting here in
-    (subst (λ (es : List (ℕ × Waiting)). IsIn e es) same parts.0, false_of (eqb e.1.place.connection conn) parts.1)
-  where
-    false_of : (b : Bool) → not b ≡ true → b ≡ false
-    false_of true h = absurd (false≢true h)
-    false_of false h = refl
+gone_but : (conn k : ℕ) (l : Lists) → list_any (nat_eq k) (numbers_under (scope.Connection conn) l) ≡ false → open_of k (gone_lists conn l) ≡ open_of k l
+unfolding connection_gone
+gone_but conn k l apart =
+    let m : Lists = all_closed (opens_under (scope.Connection conn) l) l in
+    ap (λ (es : List (ℕ × Open)). lookup (nat_eq k) es) (all_gone_opens (sessions_on conn m) m) ∙ closed_but k (scope.Connection conn) l apart
 
 pub end_awaited : (f : FrontSmb) (s : CoreState) (conn : ℕ) → AreDistinct f.state → AreAwaited s f.state → AreAwaited (smb_end f s conn).2 (smb_end f s conn).1.state
+unfolding smb_end
 end_awaited f s conn distinct all =
-    let t : CoreState = (smb_end f s conn).2 in
-    let left : Lists = (smb_end f s conn).1.state in
-    let numbers : List ℕ = opens_under (scope.Connection conn) f.state in
+    let numbers : List ℕ = numbers_under (scope.Connection conn) f.state in
+    let told : List Effect = (all_ended numbers s).0 in
+    let t : CoreState = (all_ended numbers s).1 in
+    let l : Lists = gone_lists conn f.state in
+    let ids : List ℕ = keys_of l.waiting in
+    let left : Lists = (dismissed told ids l).1 in
+    let rows = gone_rows conn f.state in
+    let apart : IsDistinct nat_eq (keys_of l.waiting) = subst (λ (es : List (ℕ × Waiting)). IsDistinct nat_eq (keys_of es)) (sym rows) (IsDistinct-keys_filter nat_eq (λ (x : ℕ × Waiting). not (eqb x.1.place.connection conn)) f.state.waiting distinct.waiting) in
     all_from (IsAwaited t left) left.waiting (λ e here.
-    (let old = end_rows f s conn e here in
-    let is = all_in (IsAwaited s f.state) e f.state.waiting all old.0 in
-    let apart : e.1.place.connection ≡ conn → ⊥ = λ same. true≢false (sym (subst (λ (k : ℕ). eqb e.1.place.connection k ≡ true) same (equal_self e.1.place.connection)) ∙ old.1) in
-    let none : list_any (nat_eq e.1.opened) numbers ≡ false = elim (cases_Bool (list_any (nat_eq e.1.opened) numbers)) [ inl gone ↦ absurd (apart (conn_on f.state conn e.1.opened e.1.place.connection distinct gone is.under)) | inr stays ↦ stays ] in
-    record {
-      waiter = is.waiter;
-      waits = ((end_without f s conn).waiters is.waiter).1 (is.waits, waits_none numbers is.waiter e.1.opened is.alone none);
-      number = is.number;
-      own = is.own;
-      alone = is.alone;
-      under = ap (λ (es : List (ℕ × Open)). is_open_on e.1.place.connection (lookup (nat_eq e.1.opened) es)) (end_opens f s conn distinct) ∙ left_open e.1.place.connection conn e.1.opened f.state.opens apart is.under;
-    }))
+    (let there : IsIn e l.waiting = dismissed_in told ids l e here in
+    let old : IsIn e f.state.waiting = (in_filter_from (λ (x : ℕ × Waiting). not (eqb x.1.place.connection conn)) e f.state.waiting (subst (λ (es : List (ℕ × Waiting)). IsIn e es) rows there)).0 in
+    let is = all_in (IsAwaited s f.state) e f.state.waiting all old in
+    elim (cases_Bool (list_any (nat_eq e.1.opened) numbers)) [
+      | inl gone ↦ (
+          let over : is_cancelled is.waiter.id (all_told_of 0 s (ends numbers)) ≡ true = ends_tell 0 numbers s is.waiter is.waits (waits_some numbers is.waiter e.1.opened is.own gone) in
+          let ended : is_cancelled e.0 told ≡ true = subst (λ (k : ℕ). is_cancelled k told ≡ true) is.number (subst (λ (es : List Effect). is_cancelled is.waiter.id es ≡ true) (ended_told 0 s numbers) over) in
+          absurd (dismissed_out told ids l e apart (key_in l.waiting e there) ended here))
+      | inr stays ↦ moved s t f.state left e is
+          (((end_without f s conn).waiters is.waiter).1 (is.waits, waits_none numbers is.waiter e.1.opened is.alone stays))
+          (same_stays e.1.opened f.state left (ap (λ (es : List (ℕ × Open)). lookup (nat_eq e.1.opened) es) (dismissed_opens told ids l) ∙ gone_but conn e.1.opened f.state stays))
+    ]))
 
 -- ---- so each row is a waiter
 

@@ -13,7 +13,7 @@ use Rattle.xl_smb.specs.Calls.{Cancel}
 use Rattle.xl_smb.specs.declared.head.Route.{Route}
 use Rattle.xl_smb.specs.declared.head.SmbHead.{SmbHead}
 use Rattle.xl_smb_state.proofs.RowLaws.{equal_from, equal_self}
-use Rattle.xl_smb_state.specs.State.{Lists, client_of, covers, keys_where, waiting_dropped, waiting_of, waiting_under}
+use Rattle.xl_smb_state.specs.State.{Lists, client_of, covers, keys_where, waiting_dropped, waiting_of}
 use Rattle.xl_smb_state.specs.declared.row.Scope.TheVariants as scope
 use Rattle.xl_smb_state.specs.declared.row.Waiting.{Waiting}
 use Rattle.xl_wait.specs.Waiting.{is_waiting}
@@ -21,10 +21,11 @@ use Rattle.xl_core.specs.Settle.{cancel as cancel_of}
 use Rattle.xl_core.specs.State.{CoreState}
 use Rattle.xl_core.specs.declared.ask.Effect.{Effect}
 use Rattle.xl_core.specs.declared.ask.Effect.TheVariants.{Cancelled}
-use Rattle.xl_smb_locks.specs.Finals.{dismissed, ended_with, final_outs, request_ended}
+use Rattle.xl_smb_locks.specs.Finals.{dismissed, ended_with, failed_outs, request_ended}
 use Rattle.xl_smb_locks.specs.declared.status.SmbStatus.TheVariants as statuses
 use Rattle.xl_front_smb.specs.Checks.{negotiated_by}
-use Rattle.xl_front_smb.specs.FrontSmb.{answered, dismissed_on, sent_by, smb_step}
+use Rattle.xl_front_smb.specs.Ending.{all_dismissed}
+use Rattle.xl_front_smb.specs.FrontSmb.{answered, sent_by, smb_step}
 use Rattle.xl_front_smb.specs.Laws.{IsRequest, outcome_of}
 use Rattle.xl_front_smb.specs.Locks.{came_by, cancel, cancel_named, request_named}
 use Rattle.xl_front_smb.specs.Plans.{Plan, carried}
@@ -41,35 +42,27 @@ use Rattle.xl_front_smb.proofs.OwnLaws.{named_in}
 abbrev one_over : ℕ → List Effect
 one_over id = Cancelled id ∷ []
 
-none_dismissed : (id : ℕ) (test : Waiting → Bool) (es : List (ℕ × Waiting)) (l : Lists) → AllByRecursion (λ k. eqb id k ≡ false) (keys_of es) → dismissed (one_over id) (keys_where test es) l ≡ ([], l)
-none_dismissed id test [] l all = refl
-none_dismissed id test (e ∷ es) l all =
-    elim (cases_Bool (test e.1)) [
-      | inl on ↦ (let other : eqb id e.0 ≡ false = all.0 in rw on (rw other (none_dismissed id test es l all.1)))
-      | inr off ↦ rw off (none_dismissed id test es l all.1)
-    ]
+none_dismissed : (id : ℕ) (ids : List ℕ) (l : Lists) → AllByRecursion (λ k. eqb id k ≡ false) ids → dismissed (one_over id) ids l ≡ ([], l)
+none_dismissed id [] l all = refl
+none_dismissed id (k ∷ ids) l all = let other : eqb id k ≡ false = all.0 in rw other (none_dismissed id ids l all.1)
 
-first_dismissed : (id : ℕ) (ids : List ℕ) (l : Lists) → ((m : Lists) → dismissed (one_over id) ids m ≡ ([], m)) → dismissed (one_over id) (id ∷ ids) l ≡ request_ended id (Some statuses.Cancelled) l
+first_dismissed : (id : ℕ) (ids : List ℕ) (l : Lists) → ((m : Lists) → dismissed (one_over id) ids m ≡ ([], m)) → dismissed (one_over id) (id ∷ ids) l ≡ request_ended id statuses.Cancelled l
 first_dismissed id ids l none =
-    let ended : List Out × Lists = request_ended id (Some statuses.Cancelled) l in
+    let ended : List Out × Lists = request_ended id statuses.Cancelled l in
     let same : eqb id id ≡ true = equal_self id in
     rw same ((λ i. (ended.0 ++ (none ended.1 i).0, (none ended.1 i).1)) ∙ (λ i. (append-nil ended.0 i, ended.1)))
 
-one_dismissed : (id : ℕ) (test : Waiting → Bool) (es : List (ℕ × Waiting)) (l : Lists) → IsDistinct nat_eq (keys_of es) → IsIn id (keys_where test es) → dismissed (one_over id) (keys_where test es) l ≡ request_ended id (Some statuses.Cancelled) l
-one_dismissed id test [] l distinct here = absurd here
-one_dismissed id test (e ∷ es) l distinct here =
-    elim (cases_Bool (test e.1)) [
-      | inl on ↦ rw on (elim (cases_Bool (eqb id e.0)) [
-        | inl same ↦ (
-            let is : id ≡ e.0 = eqb-true id e.0 same in
-            subst (λ (k : ℕ). dismissed (one_over k) (e.0 ∷ keys_where test es) l ≡ request_ended k (Some statuses.Cancelled) l) (sym is)
-            (first_dismissed e.0 (keys_where test es) l (λ m. none_dismissed e.0 test es m (IsDistinct-head nat_eq e.0 (keys_of es) distinct))))
-        | inr other ↦ (
-            let there : IsIn id (e.0 ∷ keys_where test es) = rw on at here in
-            let later : IsIn id (keys_where test es) = elim there [ inl first ↦ absurd (true≢false (sym (subst (λ (k : ℕ). eqb k e.0 ≡ true) first (equal_self e.0)) ∙ other)) | inr rest ↦ rest ] in
-            rw other (one_dismissed id test es l (IsDistinct-tail nat_eq e.0 (keys_of es) distinct) later))
-      ])
-      | inr off ↦ rw off (one_dismissed id test es l (IsDistinct-tail nat_eq e.0 (keys_of es) distinct) (rw off at here))
+one_dismissed : (id : ℕ) (ids : List ℕ) (l : Lists) → IsDistinct nat_eq ids → IsIn id ids → dismissed (one_over id) ids l ≡ request_ended id statuses.Cancelled l
+one_dismissed id [] l distinct here = absurd here
+one_dismissed id (k ∷ ids) l distinct here =
+    elim (cases_Bool (eqb id k)) [
+      | inl same ↦ (
+          let is : id ≡ k = eqb-true id k same in
+          subst (λ (j : ℕ). dismissed (one_over j) (k ∷ ids) l ≡ request_ended j statuses.Cancelled l) (sym is)
+          (first_dismissed k ids l (λ m. none_dismissed k ids m (IsDistinct-head nat_eq k ids distinct))))
+      | inr other ↦ (
+          let later : IsIn id ids = elim here [ inl first ↦ absurd (true≢false (sym (subst (λ (j : ℕ). eqb j k ≡ true) first (equal_self k)) ∙ other)) | inr rest ↦ rest ] in
+          rw other (one_dismissed id ids l (IsDistinct-tail nat_eq k ids distinct) later))
     ]
 
 -- ---- the request that is named
@@ -118,10 +111,10 @@ unanswered h =
     ]
 
 -- what is sent where this is told
-answered_so : (conn : ℕ) (h : SmbHead) (l : Lists) (effects : List Effect) (s : CoreState) → answered conn h (told.Nothing, effects, l, s) ≡ ((dismissed_on conn effects l).0, effects, record { state = (dismissed_on conn effects l).1 }, s)
+answered_so : (conn : ℕ) (h : SmbHead) (l : Lists) (effects : List Effect) (s : CoreState) → answered conn h (told.Nothing, effects, l, s) ≡ ((all_dismissed effects l).0, effects, record { state = (all_dismissed effects l).1 }, s)
 answered_so conn h l effects s =
-    ap (λ (x : Option (List ℕ)). ((dismissed_on conn effects l).0 ++ sent_by conn x, effects, record { state = (dismissed_on conn effects l).1 }, s)) (unanswered h)
-    ∙ ap (λ (xs : List Out). (xs, effects, record { state = (dismissed_on conn effects l).1 }, s)) (append-nil (dismissed_on conn effects l).0)
+    ap (λ (x : Option (List ℕ)). ((all_dismissed effects l).0 ++ sent_by conn x, effects, record { state = (all_dismissed effects l).1 }, s)) (unanswered h)
+    ∙ ap (λ (xs : List Out). (xs, effects, record { state = (all_dismissed effects l).1 }, s)) (append-nil (all_dismissed effects l).0)
 
 untold : (ids : List ℕ) (l : Lists) → dismissed [] ids l ≡ ([], l)
 untold [] l = refl
@@ -136,7 +129,7 @@ quiet n exports others f s conn bytes h is comes =
     request_comes n exports others f s conn bytes h Cancel is
     ∙ ap (answered conn h) comes
     ∙ answered_so conn h f.state [] s
-    ∙ ap (λ (r : List Out × Lists). (r.0, [], record { state = r.1 }, s)) (untold (waiting_under (scope.Connection conn) f.state) f.state)
+    ∙ ap (λ (r : List Out × Lists). (r.0, [], record { state = r.1 }, s)) (untold (keys_of f.state.waiting) f.state)
 
 pub cancel_unnamed : (n : ℕ) (exports : Exports) (others : ℕ) (f : FrontSmb) (s : CoreState) (conn : ℕ) (bytes : List ℕ) (h : SmbHead) (client : List ℕ) → IsRequest bytes h Cancel → client_of conn f.state ≡ Some client → request_named conn f.state h.message_id h.route ≡ None → smb_step n exports others f s conn bytes ≡ ([], [], f, s)
 cancel_unnamed n exports others f s conn bytes h client is known named =
@@ -153,16 +146,16 @@ waits_plan : (n : ℕ) (s : CoreState) (l : Lists) (id : ℕ) → is_waiting id 
 unfolding cancel_of
 waits_plan n s l id waits = rw waits refl
 
-ended_so : (id : ℕ) (l : Lists) (row : Waiting) → waiting_of id l ≡ Some row → request_ended id (Some statuses.Cancelled) l ≡ (final_outs id row (Some statuses.Cancelled), waiting_dropped id l)
+ended_so : (id : ℕ) (l : Lists) (row : Waiting) → waiting_of id l ≡ Some row → request_ended id statuses.Cancelled l ≡ (failed_outs id row statuses.Cancelled, waiting_dropped id l)
 unfolding request_ended
-ended_so id l row found = ap (λ (o : Option Waiting). ended_with id (Some statuses.Cancelled) o l) found
+ended_so id l row found = ap (λ (o : Option Waiting). ended_with id statuses.Cancelled o l) found
 
 pub cancel_sends : (n : ℕ) (exports : Exports) (others : ℕ) (f : FrontSmb) (s : CoreState) (conn : ℕ) (bytes : List ℕ) (h : SmbHead) (client : List ℕ) (id : ℕ) (row : Waiting) → IsRequest bytes h Cancel → client_of conn f.state ≡ Some client → IsDistinct nat_eq (keys_of f.state.waiting) → request_named conn f.state h.message_id h.route ≡ Some id → waiting_of id f.state ≡ Some row → is_waiting id s.waiters ≡ true
-    → smb_step n exports others f s conn bytes ≡ (final_outs id row (Some statuses.Cancelled), Cancelled id ∷ [], record { state = waiting_dropped id f.state }, (cancel_of s id).1)
+    → smb_step n exports others f s conn bytes ≡ (failed_outs id row statuses.Cancelled, Cancelled id ∷ [], record { state = waiting_dropped id f.state }, (cancel_of s id).1)
 cancel_sends n exports others f s conn bytes h client id row is known distinct named found waits =
     let t : CoreState = (cancel_of s id).1 in
-    let sent : dismissed_on conn (one_over id) f.state ≡ (final_outs id row (Some statuses.Cancelled), waiting_dropped id f.state) =
-    one_dismissed id (λ (r : Waiting). covers (scope.Connection conn) r.place) f.state.waiting f.state distinct (named_in conn f.state h.message_id h.route id named) ∙ ended_so id f.state row found in
+    let sent : all_dismissed (one_over id) f.state ≡ (failed_outs id row statuses.Cancelled, waiting_dropped id f.state) =
+    one_dismissed id (keys_of f.state.waiting) f.state distinct (in_keys (λ (r : Waiting). covers (scope.Connection conn) r.place) f.state.waiting id (named_in conn f.state h.message_id h.route id named)) ∙ ended_so id f.state row found in
     request_comes n exports others f s conn bytes h Cancel is
     ∙ ap (λ (p : Plan). answered conn h (carried n s f.state p)) (named_plan s exports.files others f.state conn h client (Some id) known named)
     ∙ ap (answered conn h) (waits_plan n s f.state id waits)

@@ -1,20 +1,19 @@
 -- A message's step is what its deeds leave and tell, and so is the end of a connection.
-use Rattle.std.proofs.Common.{◌≡◌, ℕ, List, ◌++◌, Option, Some, None, refl, sym, ap, append-nil}
+use Rattle.std.proofs.Common.{◌≡◌, ℕ, List, ◌++◌, Option, Some, None, refl, sym, append-nil}
 use Rattle.xl_base.specs.declared.journal.Exports.{Exports}
 use Rattle.xl_smb.specs.Heads.{head_of}
 use Rattle.xl_smb.specs.declared.head.SmbHead.{SmbHead}
-use Rattle.xl_smb_state.specs.State.{Lists, opens_under}
+use Rattle.xl_smb_state.specs.State.{Lists}
 use Rattle.xl_smb_state.specs.declared.row.Scope.TheVariants as scope
 use Rattle.xl_core.specs.Decide.{ask}
 use Rattle.xl_core.specs.Deeds.{all_done, all_told_of, answers_of}
 use Rattle.xl_core.specs.State.{CoreState, drawn}
 use Rattle.xl_smb_locks.specs.Locks.{no_rows}
-use Rattle.xl_front_smb.specs.Ending.{smb_end_deeds, smb_end}
-use Rattle.xl_front_smb.specs.FrontSmb.{sent_by, head_heard, plan_for, deeds_for, smb_deeds, reply_for, smb_reply, dismissed_on, finals_for, smb_replies, stepped, smb_step}
+use Rattle.xl_front_smb.specs.Ending.{numbers_under, all_dismissed, smb_end_deeds, smb_end}
+use Rattle.xl_front_smb.specs.FrontSmb.{sent_by, head_heard, plan_for, deeds_for, smb_deeds, reply_for, smb_reply, finals_for, smb_replies, stepped, smb_step}
 use Rattle.xl_front_smb.specs.Plans.{Plan, Fails, Does, Opens, Locks, deeds_of, told_by, lists_by, carried}
 use Rattle.xl_front_smb.specs.Replies.{reply_of}
 use Rattle.xl_front_smb.specs.State.{FrontSmb}
-use Rattle.xl_front_smb.specs.declared.told.Told.{Told}
 use Rattle.xl_front_smb.proofs.EndLaws.{ended_done, ended_told}
 
 -- ---- a plan
@@ -22,26 +21,26 @@ use Rattle.xl_front_smb.proofs.EndLaws.{ended_done, ended_told}
 plan_does : (n : ℕ) (s : CoreState) (l : Lists) (plan : Plan) → (carried n s l plan).3 ≡ all_done n s (deeds_of plan)
 plan_does n s l (Fails status) = refl
 plan_does n s l (Does deeds lists told) = refl
-plan_does n s l (Opens left a number row told) = refl
-plan_does n s l (Locks a refused row) = refl
+plan_does n s l (Opens left a number row id waiting) = refl
+plan_does n s l (Locks a row) = refl
 
 plan_tells : (n : ℕ) (s : CoreState) (l : Lists) (plan : Plan) → (carried n s l plan).1 ≡ all_told_of n s (deeds_of plan)
 plan_tells n s l (Fails status) = refl
 plan_tells n s l (Does deeds lists told) = refl
-plan_tells n s l (Opens left a number row told) = sym (append-nil (ask n left (drawn s) a).1)
-plan_tells n s l (Locks a refused row) = sym (append-nil (ask n no_rows s a).1)
+plan_tells n s l (Opens left a number row id waiting) = sym (append-nil (ask n left (drawn s) a).1)
+plan_tells n s l (Locks a row) = sym (append-nil (ask n no_rows s a).1)
 
-plan_replies : (n : ℕ) (s : CoreState) (l : Lists) (plan : Plan) → (carried n s l plan).0 ≡ told_by plan (answers_of n s (deeds_of plan))
+plan_replies : (n : ℕ) (s : CoreState) (l : Lists) (plan : Plan) → (carried n s l plan).0 ≡ told_by (all_done n s (deeds_of plan)) plan (answers_of n s (deeds_of plan))
 plan_replies n s l (Fails status) = refl
 plan_replies n s l (Does deeds lists told) = refl
-plan_replies n s l (Opens left a number row told) = refl
-plan_replies n s l (Locks a refused row) = refl
+plan_replies n s l (Opens left a number row id waiting) = refl
+plan_replies n s l (Locks a row) = refl
 
 plan_keeps : (n : ℕ) (s : CoreState) (l : Lists) (plan : Plan) → (carried n s l plan).2 ≡ lists_by l plan (answers_of n s (deeds_of plan))
 plan_keeps n s l (Fails status) = refl
 plan_keeps n s l (Does deeds lists told) = refl
-plan_keeps n s l (Opens left a number row told) = refl
-plan_keeps n s l (Locks a refused row) = refl
+plan_keeps n s l (Opens left a number row id waiting) = refl
+plan_keeps n s l (Locks a row) = refl
 
 -- ---- a message
 
@@ -56,11 +55,11 @@ heard_tells n exports others f s conn bytes (Some h) = plan_tells n s f.state (p
 heard_replies : (n : ℕ) (exports : Exports) (others : ℕ) (f : FrontSmb) (s : CoreState) (conn : ℕ) (bytes : List ℕ) (h : Option SmbHead)
     → (stepped n exports others f s conn bytes h).0
     ≡ finals_for exports others f s conn bytes (answers_of n s (deeds_for exports others f s conn bytes h)) (all_told_of n s (deeds_for exports others f s conn bytes h)) h
-    ++ sent_by conn (reply_for exports others f s conn bytes (answers_of n s (deeds_for exports others f s conn bytes h)) h)
+    ++ sent_by conn (reply_for exports others f s conn bytes (answers_of n s (deeds_for exports others f s conn bytes h)) (all_done n s (deeds_for exports others f s conn bytes h)) h)
 heard_replies n exports others f s conn bytes None = refl
 heard_replies n exports others f s conn bytes (Some h) =
     let plan = plan_for exports others f s conn bytes h in
-    λ j. (dismissed_on conn (plan_tells n s f.state plan j) (plan_keeps n s f.state plan j)).0 ++ sent_by conn (reply_of h (plan_replies n s f.state plan j))
+    λ j. (all_dismissed (plan_tells n s f.state plan j) (plan_keeps n s f.state plan j)).0 ++ sent_by conn (reply_of h (plan_replies n s f.state plan j))
 
 pub step_does : (n : ℕ) (exports : Exports) (others : ℕ) (f : FrontSmb) (s : CoreState) (conn : ℕ) (bytes : List ℕ) → (smb_step n exports others f s conn bytes).3 ≡ all_done n s (smb_deeds n exports others f s conn bytes)
 unfolding smb_step smb_deeds
@@ -70,7 +69,7 @@ pub step_tells : (n : ℕ) (exports : Exports) (others : ℕ) (f : FrontSmb) (s 
 unfolding smb_step smb_deeds
 step_tells n exports others f s conn bytes = heard_tells n exports others f s conn bytes (head_heard (head_of bytes))
 
-pub step_replies : (n : ℕ) (exports : Exports) (others : ℕ) (f : FrontSmb) (s : CoreState) (conn : ℕ) (bytes : List ℕ) → (smb_step n exports others f s conn bytes).0 ≡ smb_replies exports others f s conn bytes (answers_of n s (smb_deeds n exports others f s conn bytes)) (all_told_of n s (smb_deeds n exports others f s conn bytes))
+pub step_replies : (n : ℕ) (exports : Exports) (others : ℕ) (f : FrontSmb) (s : CoreState) (conn : ℕ) (bytes : List ℕ) → (smb_step n exports others f s conn bytes).0 ≡ smb_replies exports others f s conn bytes (answers_of n s (smb_deeds n exports others f s conn bytes)) (all_told_of n s (smb_deeds n exports others f s conn bytes)) (all_done n s (smb_deeds n exports others f s conn bytes))
 unfolding smb_step smb_replies smb_reply smb_deeds
 step_replies n exports others f s conn bytes = heard_replies n exports others f s conn bytes (head_heard (head_of bytes))
 
@@ -78,8 +77,8 @@ step_replies n exports others f s conn bytes = heard_replies n exports others f 
 
 pub end_does : (n : ℕ) (f : FrontSmb) (s : CoreState) (conn : ℕ) → (smb_end f s conn).2 ≡ all_done n s (smb_end_deeds f conn)
 unfolding smb_end smb_end_deeds
-end_does n f s conn = sym (ended_done n s (opens_under (scope.Connection conn) f.state))
+end_does n f s conn = sym (ended_done n s (numbers_under (scope.Connection conn) f.state))
 
 pub end_tells : (n : ℕ) (f : FrontSmb) (s : CoreState) (conn : ℕ) → (smb_end f s conn).0 ≡ all_told_of n s (smb_end_deeds f conn)
 unfolding smb_end smb_end_deeds
-end_tells n f s conn = sym (ended_told n s (opens_under (scope.Connection conn) f.state))
+end_tells n f s conn = sym (ended_told n s (numbers_under (scope.Connection conn) f.state))

@@ -1,6 +1,6 @@
 -- Opens, tree connects and sessions go one after the other.
 use Rattle.std.proofs.Common.{◌≡◌, ℕ, ◌+◌, ◌<◌, Bool, true, false, eqb, List, [], ◌∷◌, ◌++◌, Option, Some, None, is_some, length, drop, get_or, refl, sym, ap, subst, ◌∙◌, inl, inr, append_assoc}
-use Rattle.std.specs.Prelude.{nat_eq}
+use Rattle.std.specs.Prelude.{nat_eq, if◌then◌else◌}
 use Rattle.std.specs.List.{AllByRecursion, IsDistinct, list_any}
 use Rattle.std.specs.Map.{keys_of, lookup, remove_entry}
 use Rattle.std.proofs.lemmas.Bool.{cases_Bool, true≢false}
@@ -15,10 +15,11 @@ use Rattle.xl_smb_state.specs.declared.row.Scope.{Scope}
 use Rattle.xl_smb_state.specs.declared.row.Scope.TheVariants as scope
 use Rattle.xl_smb_state.specs.declared.row.Session.{Session}
 use Rattle.xl_smb_state.specs.declared.row.Tree.{Tree}
+use Rattle.xl_smb_state.specs.declared.row.Waiting.{Waiting}
 use Rattle.xl_smb_state.specs.Links.{IsHolderLinked, IsOpenLinked, IsSound, AreDistinct}
-use Rattle.xl_smb_state.specs.State.{Lists, keys_where, connection_of, connection_dropped, session_of, sessions_on, tree_of, tree_dropped, trees_of, open_of, covers_holder, opens_under, closed}
+use Rattle.xl_smb_state.specs.State.{Lists, keys_where, connection_of, connection_dropped, session_of, sessions_on, tree_of, tree_dropped, trees_of, open_of, covers_holder, opens_under, closed, waiting_of}
 use Rattle.xl_smb_state.proofs.LinkLaws.{place_session}
-use Rattle.xl_smb_state.proofs.RowLaws.{same_Some, some_none, equal_from, equal_self, all_both, none_where}
+use Rattle.xl_smb_state.proofs.RowLaws.{none_out, same_Some, equal_from, equal_self, all_both, none_where}
 use Rattle.xl_smb_state.proofs.WalkLaws.{opens_walk, sessions_walk, trees_walk, free_by_session}
 use Rattle.xl_base.specs.declared.name.Party.TheVariants as parties
 use Rattle.xl_core.specs.Deeds.{all_done, all_told_of}
@@ -26,6 +27,9 @@ use Rattle.xl_core.specs.Settle.{end_party}
 use Rattle.xl_core.specs.State.{CoreState}
 use Rattle.xl_core.specs.Ticks.{behind_told}
 use Rattle.xl_core.specs.declared.ask.Effect.{Effect}
+use Rattle.xl_smb_locks.specs.Finals.{ended_with, request_ended, is_cancelled, and_sent, dismissed}
+use Rattle.xl_smb_locks.specs.declared.status.SmbStatus.{SmbStatus}
+use Rattle.xl_smb_locks.specs.declared.status.SmbStatus.TheVariants.{Cancelled}
 use Rattle.xl_front_smb.specs.Ending.{ends, all_ended, all_closed, trees_dropped, session_gone, sessions_gone}
 
 cons_head : {n m : ℕ} {ns ms : List ℕ} → n ∷ ns ≡ m ∷ ms → n ≡ m
@@ -69,15 +73,6 @@ module _ {X : Type 0} where
   pub found_some : (test : X → Bool) (o : Option X) → IsFound test o → is_some o ≡ true
   found_some test None h = absurd h
   found_some test (Some x) h = refl
-
-  -- where no row has the key, nothing is taken out
-  pub none_out : (t : ℕ → Bool) (es : List (ℕ × X)) → lookup t es ≡ None → remove_entry t es ≡ es
-  none_out t [] h = refl
-  none_out t (e ∷ es) h =
-      elim (cases_Bool (t e.0)) [
-        | inl k ↦ absurd (some_none (rw k at h))
-        | inr k ↦ rw k (ap (λ (fs : List (ℕ × X)). e ∷ fs) (none_out t es (rw k at h)))
-      ]
 
   pub where_none : (test : X → Bool) (es : List (ℕ × X)) → AllByRecursion (λ e. test e.1 ≡ false) es → keys_where test es ≡ []
   where_none test [] all = refl
@@ -206,3 +201,25 @@ session_left (number ∷ numbers) s session = session_left numbers (closed numbe
 pub tree_left : (numbers : List ℕ) (s : Lists) (tree : ℕ) → tree_of tree (all_closed numbers s) ≡ tree_of tree s
 tree_left [] s tree = refl
 tree_left (number ∷ numbers) s tree = tree_left numbers (closed number s) tree
+
+-- ---- requests that wait no more
+
+-- who is dismissed is taken out of those who wait, and nothing else changes
+ended_keeps : (id : ℕ) (status : SmbStatus) (l : Lists) → (request_ended id status l).1 ≡ record l { waiting = (request_ended id status l).1.waiting }
+unfolding request_ended
+ended_keeps id status l = by (waiting_of id l)
+  where
+    by : (o : Option Waiting) → (ended_with id status o l).1 ≡ record l { waiting = (ended_with id status o l).1.waiting }
+    by None = refl
+    by (Some row) = refl
+
+pub dismissed_keeps : (told : List Effect) (ids : List ℕ) (l : Lists) → (dismissed told ids l).1 ≡ record l { waiting = (dismissed told ids l).1.waiting }
+dismissed_keeps told [] l = refl
+dismissed_keeps told (id ∷ ids) l = by (is_cancelled id told) (dismissed_keeps told ids l) (dismissed_keeps told ids (request_ended id Cancelled l).1) (ended_keeps id Cancelled l)
+  where
+    by : (b : Bool) → (dismissed told ids l).1 ≡ record l { waiting = (dismissed told ids l).1.waiting }
+        → (dismissed told ids (request_ended id Cancelled l).1).1 ≡ record (request_ended id Cancelled l).1 { waiting = (dismissed told ids (request_ended id Cancelled l).1).1.waiting }
+        → (request_ended id Cancelled l).1 ≡ record l { waiting = (request_ended id Cancelled l).1.waiting }
+        → (if b then and_sent (request_ended id Cancelled l) (dismissed told ids) else dismissed told ids l).1 ≡ record l { waiting = (if b then and_sent (request_ended id Cancelled l) (dismissed told ids) else dismissed told ids l).1.waiting }
+    by true rest later first = later ∙ ap (λ (m : Lists). record m { waiting = (dismissed told ids (request_ended id Cancelled l).1).1.waiting }) first
+    by false rest later first = rest

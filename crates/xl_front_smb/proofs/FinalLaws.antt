@@ -1,6 +1,7 @@
 -- Requests that wait: they are told and forgotten.
-use Rattle.std.proofs.Common.{◌≡◌, ℕ, List, [], ◌∷◌, length, Option, Some, None, refl, sym, ap, ◌∙◌, drop, get_or, ◌<◌, ◌+◌, arith}
+use Rattle.std.proofs.Common.{◌≡◌, ℕ, List, [], ◌∷◌, length, None, refl, sym, ap, ◌∙◌, drop, get_or, ◌<◌, ◌+◌, arith}
 use Rattle.std.specs.Prelude.{nat_eq}
+use Rattle.std.specs.Map.{keys_of}
 use Rattle.std.proofs.lemmas.List.{drop_more}
 use Rattle.xl_base.specs.declared.event.Out.{Out}
 use Rattle.xl_smb_state.specs.Links.{AreDistinct}
@@ -9,9 +10,8 @@ use Rattle.xl_smb_state.specs.declared.row.Scope.TheVariants as scope
 use Rattle.xl_smb_state.specs.declared.row.Waiting.{Waiting}
 use Rattle.xl_core.specs.declared.ask.Effect.{Effect}
 use Rattle.xl_smb_locks.proofs.FinalLaws.{nobody}
-use Rattle.xl_front_smb.specs.Ending.{requests_gone, requests_dropped}
-use Rattle.xl_front_smb.specs.FrontSmb.{dismissed_on}
-use Rattle.xl_front_smb.proofs.EndLaws.{none_out}
+use Rattle.xl_front_smb.specs.Ending.{requests_gone, all_dismissed, requests_dropped}
+use Rattle.xl_smb_state.proofs.RowLaws.{none_out}
 use Rattle.xl_front_smb.proofs.GoneLaws.{taken_out, out_where}
 
 pub none_below : (told : List Effect) → length told < 1 → told ≡ []
@@ -19,8 +19,8 @@ none_below [] few = refl
 none_below (e ∷ es) few = absurd (omega (arith, few))
 
 -- nobody is told where nothing is told of
-pub nobody_dismissed : (conn : ℕ) (told : List Effect) (l : Lists) (outs : List Out) → told ≡ [] → outs ≡ [] → dismissed_on conn told l ≡ (outs, l)
-nobody_dismissed conn told l outs none empty = ap (λ (x : List Effect). dismissed_on conn x l) none ∙ nobody (waiting_under (scope.Connection conn) l) l ∙ (λ i. ((sym empty) i, l))
+pub nobody_dismissed : (told : List Effect) (l : Lists) (outs : List Out) → told ≡ [] → outs ≡ [] → all_dismissed told l ≡ (outs, l)
+nobody_dismissed told l outs none empty = ap (λ (x : List Effect). all_dismissed x l) none ∙ nobody (keys_of l.waiting) l ∙ (λ i. ((sym empty) i, l))
 
 -- ---- requests that are forgotten
 

@@ -28,7 +28,7 @@ use Rattle.xl_core.specs.Deeds.{all_done, all_told_of}
 use Rattle.xl_core.specs.Settle.{end_party, waits_for}
 use Rattle.xl_core.specs.State.{CoreState}
 use Rattle.xl_core.proofs.SettleLaws.{party_claims, party_waiters}
-use Rattle.xl_front_smb.specs.Ending.{ends, all_ended, all_closed, trees_dropped, session_gone, sessions_gone, connection_gone, smb_end}
+use Rattle.xl_front_smb.specs.Ending.{numbers_under, ends, all_ended, all_closed, trees_dropped, session_gone, sessions_gone, connection_gone, requests_gone, smb_end}
 use Rattle.xl_front_smb.specs.Checks.{session_named, tree_named, open_named, negotiated_by, in_session, on_tree, on_open}
 use Rattle.xl_front_smb.specs.Files.{close_open, close}
 use Rattle.xl_front_smb.specs.Plans.{Plan, Does, Outcome, carried}
@@ -38,7 +38,7 @@ use Rattle.xl_smb_locks.specs.declared.status.SmbStatus.TheVariants.{UserSession
 use Rattle.xl_front_smb.specs.declared.told.Told.TheVariants.{Failed, LoggedOff, Disconnected, Closed}
 use Rattle.xl_front_smb.specs.Laws.{rows_but, is_among, waits_among, Without, outcome_of, IsInSession, IsOnTree}
 use Rattle.xl_front_smb.specs.State.{FrontSmb}
-use Rattle.xl_front_smb.proofs.EndLaws.{ended_done}
+use Rattle.xl_front_smb.proofs.EndLaws.{ended_done, dismissed_keeps}
 
 -- ---- the core
 
@@ -77,9 +77,9 @@ without numbers s = record { claims = claims_left numbers s; waiters = waiters_l
 pub done_without : (n : ℕ) (numbers : List ℕ) (s : CoreState) → Without numbers s (all_done n s (ends numbers))
 done_without n numbers s = subst (λ (t : CoreState). Without numbers s t) (sym (ended_done n s numbers)) (without numbers s)
 
-pub end_without : (f : FrontSmb) (s : CoreState) (conn : ℕ) → Without (opens_under (scope.Connection conn) f.state) s (smb_end f s conn).2
+pub end_without : (f : FrontSmb) (s : CoreState) (conn : ℕ) → Without (numbers_under (scope.Connection conn) f.state) s (smb_end f s conn).2
 unfolding smb_end
-end_without f s conn = without (opens_under (scope.Connection conn) f.state) s
+end_without f s conn = without (numbers_under (scope.Connection conn) f.state) s
 
 -- ---- rows
 
@@ -143,8 +143,8 @@ closed_opens : (numbers : List ℕ) (l : Lists) → (all_closed numbers l).opens
 closed_opens [] l = refl
 closed_opens (number ∷ numbers) l = closed_opens numbers (closed number l)
 
-pub opens_out : (under : Scope) (l : Lists) → AreDistinct l → (all_closed (opens_under under l) l).opens ≡ rows_but (λ e. covers_holder under e.1.holder) l.opens
-opens_out under l distinct = closed_opens (opens_under under l) l ∙ out_where (λ (r : Open). covers_holder under r.holder) l.opens distinct.opens
+pub opens_out : (under : Scope) (l : Lists) → IsDistinct nat_eq (keys_of l.opens) → (all_closed (opens_under under l) l).opens ≡ rows_but (λ e. covers_holder under e.1.holder) l.opens
+opens_out under l distinct = closed_opens (opens_under under l) l ∙ out_where (λ (r : Open). covers_holder under r.holder) l.opens distinct
 
 closed_trees : (numbers : List ℕ) (l : Lists) → (all_closed numbers l).trees ≡ l.trees
 closed_trees [] l = refl
@@ -195,7 +195,7 @@ gone_trees number l distinct = dropped_trees (trees_of number l) l ∙ out_where
 -- ---- a logoff, behind the ends of its opens
 
 pub off_opens : (number : ℕ) (l : Lists) → AreDistinct l → (session_gone number (all_closed (opens_under (scope.Session number) l) l)).opens ≡ rows_but (λ e. covers_holder (scope.Session number) e.1.holder) l.opens
-off_opens number l distinct = gone_opens number (all_closed (opens_under (scope.Session number) l) l) ∙ opens_out (scope.Session number) l distinct
+off_opens number l distinct = gone_opens number (all_closed (opens_under (scope.Session number) l) l) ∙ opens_out (scope.Session number) l distinct.opens
 
 pub off_trees : (number : ℕ) (l : Lists) (numbers : List ℕ) → AreDistinct l → (session_gone number (all_closed numbers l)).trees ≡ rows_but (λ e. eqb e.1.session number) l.trees
 off_trees number l numbers distinct =
@@ -210,9 +210,9 @@ off_connections number l numbers = gone_connections number (all_closed numbers l
 
 -- ---- several sessions
 
-all_opens : (numbers : List ℕ) (l : Lists) → (sessions_gone numbers l).opens ≡ l.opens
-all_opens [] l = refl
-all_opens (number ∷ numbers) l = all_opens numbers (session_gone number l) ∙ gone_opens number l
+pub all_gone_opens : (numbers : List ℕ) (l : Lists) → (sessions_gone numbers l).opens ≡ l.opens
+all_gone_opens [] l = refl
+all_gone_opens (number ∷ numbers) l = all_gone_opens numbers (session_gone number l) ∙ gone_opens number l
 
 all_connections : (numbers : List ℕ) (l : Lists) → (sessions_gone numbers l).connections ≡ l.connections
 all_connections [] l = refl
@@ -267,34 +267,44 @@ freed conn l = all_closed (opens_under (scope.Connection conn) l) l
 freed_on : (conn : ℕ) (l : Lists) → sessions_on conn (freed conn l) ≡ sessions_on conn l
 freed_on conn l = ap (keys_where (λ (r : Session). eqb r.connection conn)) (closed_sessions (opens_under (scope.Connection conn) l) l)
 
+-- what is left once the requests are forgotten is what was left before, but for them
+left_lists : (f : FrontSmb) (s : CoreState) (conn : ℕ) → (smb_end f s conn).1.state ≡ record (connection_gone conn (freed conn f.state)) { waiting = (smb_end f s conn).1.state.waiting }
+unfolding smb_end
+left_lists f s conn =
+    let l = requests_gone conn (connection_gone conn (freed conn f.state)) in
+    dismissed_keeps (all_ended (numbers_under (scope.Connection conn) f.state) s).0 (keys_of l.waiting) l
+
 pub end_opens : (f : FrontSmb) (s : CoreState) (conn : ℕ) → AreDistinct f.state → (smb_end f s conn).1.state.opens ≡ rows_but (λ e. covers_holder (scope.Connection conn) e.1.holder) f.state.opens
-unfolding smb_end connection_gone
-end_opens f s conn distinct = all_opens (sessions_on conn (freed conn f.state)) (freed conn f.state) ∙ opens_out (scope.Connection conn) f.state distinct
+unfolding connection_gone
+end_opens f s conn distinct = ap (λ (l : Lists). l.opens) (left_lists f s conn) ∙ all_gone_opens (sessions_on conn (freed conn f.state)) (freed conn f.state) ∙ opens_out (scope.Connection conn) f.state distinct.opens
 
 pub end_sessions : (f : FrontSmb) (s : CoreState) (conn : ℕ) → AreDistinct f.state → (smb_end f s conn).1.state.sessions ≡ rows_but (λ e. eqb e.1.connection conn) f.state.sessions
-unfolding smb_end connection_gone
+unfolding connection_gone
 end_sessions f s conn distinct =
     let l = f.state in
     let test = λ (r : Session). eqb r.connection conn in
-    all_sessions (sessions_on conn (freed conn l)) (freed conn l)
+    ap (λ (m : Lists). m.sessions) (left_lists f s conn)
+    ∙ all_sessions (sessions_on conn (freed conn l)) (freed conn l)
     ∙ ap (λ (es : List (ℕ × Session)). taken_out (keys_where test es) es) (closed_sessions (opens_under (scope.Connection conn) l) l)
     ∙ out_where test l.sessions distinct.sessions
 
 pub end_trees : (f : FrontSmb) (s : CoreState) (conn : ℕ) → IsSound f.state → AreDistinct f.state → (smb_end f s conn).1.state.trees ≡ rows_but (λ e. eqb e.1.connection conn) f.state.trees
-unfolding smb_end connection_gone
+unfolding connection_gone
 end_trees f s conn sound distinct =
     let l = f.state in
     let same = closed_trees (opens_under (scope.Connection conn) l) l in
-    all_trees (sessions_on conn (freed conn l)) (freed conn l) (subst (λ (es : List (ℕ × Tree)). IsDistinct nat_eq (keys_of es)) (sym same) distinct.trees)
+    ap (λ (m : Lists). m.trees) (left_lists f s conn)
+    ∙ all_trees (sessions_on conn (freed conn l)) (freed conn l) (subst (λ (es : List (ℕ × Tree)). IsDistinct nat_eq (keys_of es)) (sym same) distinct.trees)
     ∙ ap (λ (ns : List ℕ). rows_but (λ (e : ℕ × Tree). list_any (nat_eq e.1.session) ns) (freed conn l).trees) (freed_on conn l)
     ∙ ap (rows_but (λ (e : ℕ × Tree). list_any (nat_eq e.1.session) (sessions_on conn l))) same
     ∙ but_same (λ (e : ℕ × Tree). list_any (nat_eq e.1.session) (sessions_on conn l)) (λ e. eqb e.1.connection conn) l.trees (trees_same conn l l.trees distinct sound.trees)
 
 pub end_connections : (f : FrontSmb) (s : CoreState) (conn : ℕ) → AreDistinct f.state → (smb_end f s conn).1.state.connections ≡ rows_but (λ e. eqb conn e.0) f.state.connections
-unfolding smb_end connection_gone
+unfolding connection_gone
 end_connections f s conn distinct =
     let l = f.state in
-    ap (remove_entry (nat_eq conn)) (all_connections (sessions_on conn (freed conn l)) (freed conn l) ∙ closed_connections (opens_under (scope.Connection conn) l) l)
+    ap (λ (m : Lists). m.connections) (left_lists f s conn)
+    ∙ ap (remove_entry (nat_eq conn)) (all_connections (sessions_on conn (freed conn l)) (freed conn l) ∙ closed_connections (opens_under (scope.Connection conn) l) l)
     ∙ out_one conn l.connections distinct.connections
 
 -- ---- LOGOFF
@@ -310,9 +320,9 @@ planned_is s files others l conn h client at = (
 )
 
 logoff_by : (s : CoreState) (l : Lists) (conn : ℕ) (h : SmbHead) (o : Option ℕ) → session_named s l conn h.session_id ≡ o
-    → logoff s l conn h ≡ in_session (λ k. Does (ends (opens_under (scope.Session k) l)) (session_gone k (all_closed (opens_under (scope.Session k) l) l)) LoggedOff) o
+    → logoff s l conn h ≡ in_session (λ k. Does (ends (numbers_under (scope.Session k) l)) (session_gone k (all_closed (opens_under (scope.Session k) l) l)) LoggedOff) o
 unfolding logoff
-logoff_by s l conn h o at = ap (in_session (λ k. Does (ends (opens_under (scope.Session k) l)) (session_gone k (all_closed (opens_under (scope.Session k) l) l)) LoggedOff)) at
+logoff_by s l conn h o at = ap (in_session (λ k. Does (ends (numbers_under (scope.Session k) l)) (session_gone k (all_closed (opens_under (scope.Session k) l) l)) LoggedOff)) at
 
 disconnect_by : (s : CoreState) (l : Lists) (conn : ℕ) (client : List ℕ) (h : SmbHead) (o : Option ℕ) → session_named s l conn h.session_id ≡ o
     → tree_disconnect s l conn client h ≡ in_session (λ k. on_tree (disconnect l) (tree_named l conn client h k)) o
@@ -330,7 +340,7 @@ by_plan P n s l made plan e p = subst (λ (x : Plan). P (carried n s l x)) (sym 
 
 module _ (n : ℕ) (s : CoreState) (files : List (List ℕ)) (others : ℕ) (l : Lists) (conn : ℕ) (h : SmbHead) (client : List ℕ) where
   pub logged_off : (P : Outcome → Type 0) (session : ℕ) → IsInSession s l conn h client session
-      → P (LoggedOff, all_told_of n s (ends (opens_under (scope.Session session) l)), session_gone session (all_closed (opens_under (scope.Session session) l) l), all_done n s (ends (opens_under (scope.Session session) l)))
+      → P (LoggedOff, all_told_of n s (ends (numbers_under (scope.Session session) l)), session_gone session (all_closed (opens_under (scope.Session session) l) l), all_done n s (ends (numbers_under (scope.Session session) l)))
       → P (outcome_of n s files others l conn h Logoff)
   logged_off P session named = by_plan P n s l _ _ ((planned_is s files others l conn h client named.0).0 ∙ logoff_by s l conn h (Some session) named.1)
 
@@ -340,7 +350,7 @@ module _ (n : ℕ) (s : CoreState) (files : List (List ℕ)) (others : ℕ) (l :
   -- ---- TREE_DISCONNECT
 
   pub disconnected : (P : Outcome → Type 0) (session : ℕ) (place : Place) → IsOnTree s l conn h client session place
-      → P (Disconnected, all_told_of n s (ends (opens_under (scope.Tree place.tree) l)), tree_dropped place.tree (all_closed (opens_under (scope.Tree place.tree) l) l), all_done n s (ends (opens_under (scope.Tree place.tree) l)))
+      → P (Disconnected, all_told_of n s (ends (numbers_under (scope.Tree place.tree) l)), tree_dropped place.tree (all_closed (opens_under (scope.Tree place.tree) l) l), all_done n s (ends (numbers_under (scope.Tree place.tree) l)))
       → P (outcome_of n s files others l conn h TreeDisconnect)
   disconnected P session place named =
       by_plan P n s l _ _ ((planned_is s files others l conn h client named.0.0).1 ∙ disconnect_by s l conn client h (Some session) named.0.1 ∙ ap (on_tree (disconnect l)) named.1)

@@ -5,6 +5,8 @@ pub mod EndLaws
 pub mod GoneLaws
 pub mod AskLaws
 pub mod PlanLaws
+pub mod AckLaws
+pub mod BreakLaws
 pub mod DoesLaws
 pub mod OwnLaws
 pub mod CreateLaws
@@ -15,3 +17,4 @@ pub mod LockLaws
 pub mod RangeLaws
 pub mod CancelLaws
 pub mod AwaitLaws
+pub mod RoomLaws

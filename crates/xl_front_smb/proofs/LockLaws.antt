@@ -1,8 +1,8 @@
 -- What LOCK and CANCEL come to.
-use Rattle.std.proofs.Common.{◌≡◌, ℕ, zero, suc, ◌+◌, ◌<◌, ◌≤◌, Bool, true, false, not, ◌&&◌, List, [], ◌∷◌, ◌++◌, length, Option, Some, None, is_some, refl, sym, ap, subst, ◌∙◌, append-nil, arith, inl, inr}
+use Rattle.std.proofs.Common.{◌≡◌, ℕ, zero, suc, ◌<◌, ◌≤◌, Bool, true, false, List, [], ◌∷◌, ◌++◌, length, Option, Some, None, is_some, refl, sym, ap, subst, ◌∙◌, append-nil, arith, inl, inr}
 use Rattle.std.specs.Prelude.{◌==◌, nat_lt}
 use Rattle.std.specs.List.{list_any}
-use Rattle.std.proofs.lemmas.Bool.{cases_Bool, and_parts, true≢false, false≢true}
+use Rattle.std.proofs.lemmas.Bool.{cases_Bool, false≢true}
 use Rattle.xl_matrix.specs.Owners.{posix}
 use Rattle.xl_matrix.specs.declared.claim.Claim.{Claim}
 use Rattle.xl_matrix.specs.declared.claim.Extent.{Extent}
@@ -10,30 +10,30 @@ use Rattle.xl_matrix.specs.declared.claim.Extent.TheVariants.{Bytes, Empty}
 use Rattle.xl_smb.specs.declared.lock.LockElement.{LockElement}
 use Rattle.xl_smb_state.specs.Links.{most_waiting}
 use Rattle.xl_smb_state.specs.State.{Lists, waiting_of}
-use Rattle.xl_smb_state.specs.declared.row.Waiting.{Waiting}
 use Rattle.xl_wait.specs.Waiting.{is_waiting}
 use Rattle.xl_wait.specs.declared.waiter.Waiter.{Waiter}
-use Rattle.xl_core.specs.Decide.{Answered, freed, unlocked_one, unlocked, ask}
-use Rattle.xl_core.specs.Deeds.{Deed, Asks, all_done, all_told_of}
+use Rattle.xl_core.specs.Decide.{Answered, freed, unlocked, decided, ask}
+use Rattle.xl_core.specs.Deeds.{Deed, all_done, all_told_of}
 use Rattle.xl_core.specs.Good.{IsGood}
 use Rattle.xl_core.specs.Settle.{cancel}
 use Rattle.xl_core.specs.State.{CoreState}
 use Rattle.xl_core.proofs.FrameLaws.{cancel_frame}
+use Rattle.xl_core.proofs.NumberLaws.{cancel_numbers}
+use Rattle.xl_core.proofs.WayAsks.{ask_there}
 use Rattle.xl_smb_locks.specs.Short.{Leaves}
 use Rattle.xl_smb_locks.proofs.LeaveLaws.{frame_leaves}
 use Rattle.xl_core.specs.declared.ask.Answer.{Answer}
 use Rattle.xl_core.specs.declared.ask.Answer.TheVariants as answers
 use Rattle.xl_core.specs.declared.ask.Ask.{Ask}
 use Rattle.xl_core.specs.declared.ask.Effect.{Effect}
-use Rattle.xl_smb_locks.specs.Elements.{extent_of, is_count, any_waits, unlock_fault, refusal}
-use Rattle.xl_smb_locks.specs.Locks.{no_rows, unlock_ask, unlock_told, unlock_next, unlocks, lock_ask, lock_done}
+use Rattle.xl_smb_locks.specs.Elements.{extent_of, is_count, unlock_fault}
+use Rattle.xl_smb_locks.specs.Locks.{no_rows, unlock_ask, unlock_told, unlock_next, unlocks}
 use Rattle.xl_smb_locks.specs.declared.locking.Locking.{Locking}
-use Rattle.xl_smb_locks.specs.declared.locking.Locking.TheVariants as locking
 use Rattle.xl_smb_locks.specs.declared.status.SmbStatus.{SmbStatus}
-use Rattle.xl_smb_locks.proofs.UnlockLaws.{any_stores}
+use Rattle.xl_smb_locks.proofs.UnlockLaws.{any_stores, no_way}
 use Rattle.xl_front_smb.specs.declared.told.Told.{Told}
-use Rattle.xl_front_smb.specs.Locks.{has_room_to_wait, unlock_by}
-use Rattle.xl_front_smb.specs.Plans.{Locks, told_as, lists_as, locked, carried}
+use Rattle.xl_front_smb.specs.Locks.{unlock_by}
+use Rattle.xl_front_smb.specs.Plans.{has_room_to_wait, told_as, carried}
 use Rattle.xl_front_smb.proofs.PlanLaws.{room_of, below, none_of}
 
 -- ---- room for a request that waits
@@ -43,27 +43,6 @@ wait_room l id h = below (length l.waiting) most_waiting (room_of (nat_lt (lengt
 
 pub wait_new : (l : Lists) (id : ℕ) → has_room_to_wait l id ≡ true → waiting_of id l ≡ None
 wait_new l id h = none_of (waiting_of id l) (room_of (nat_lt (length l.waiting) most_waiting) (is_some (waiting_of id l)) h).1
-
--- ---- locks
-
--- where none may wait, they don't
-pub waits_not : (waits room blocking : Bool) → blocking ≡ (waits && room) → waits ≡ false → blocking ≡ false
-waits_not true room blocking is none = absurd (true≢false none)
-waits_not false room blocking is none = is
-
--- who waits found room to
-pub room_to_wait : (l : Lists) (counter last id : ℕ) (waits room blocking : Bool) → room ≡ has_room_to_wait l (last + 1) → last ≡ counter → blocking ≡ (waits && room) → (id ≡ counter + 1) × (blocking ≡ true) → has_room_to_wait l id ≡ true
-room_to_wait l counter last id waits room blocking found same is both =
-    ap (has_room_to_wait l) (both.0 ∙ ap (λ (k : ℕ). k + 1) (sym same)) ∙ sym found ∙ (and_parts waits room (sym is ∙ both.1)).1
-
-pub locks_done : (n : ℕ) (s new : CoreState) (l after : Lists) (conn file number last : ℕ) (es : List LockElement) (waits room blocking : Bool) (row : Waiting) (told : Locking) (effects : List Effect)
-    → waits ≡ any_waits es → room ≡ has_room_to_wait l (last + 1) → last ≡ s.counter → blocking ≡ (waits && room) → lock_done (refusal es) (ask n no_rows s (lock_ask conn file number es blocking)) ≡ (told, effects, new) → after ≡ lists_as row l told
-    → carried n s l (Locks (lock_ask conn file number es (any_waits es && has_room_to_wait l (s.counter + 1))) (refusal es) row) ≡ (told_as told, effects, after, new)
-locks_done n s new l after conn file number last es waits room blocking row told effects w r c b done kept =
-    let same : any_waits es && has_room_to_wait l (s.counter + 1) ≡ blocking = (λ i. (sym w) i && (ap (λ (k : ℕ). has_room_to_wait l (k + 1)) (sym c) ∙ sym r) i) ∙ sym b in
-    ap (λ (x : Bool). locked l row (lock_done (refusal es) (ask n no_rows s (lock_ask conn file number es x)))) same
-    ∙ ap (locked l row) done
-    ∙ (λ i. (told_as told, effects, (sym kept) i, new))
 
 -- ---- unlocks
 
@@ -76,9 +55,13 @@ unfolding unlocked
 unlocked_tells s claim (Bytes first last) own = rw own (freed_tells s claim _)
 unlocked_tells s claim (Empty offset) own = freed_tells s claim _
 
+decided_tells : (n : ℕ) (s : CoreState) (file number : ℕ) (e : LockElement) → (decided n no_rows s (unlock_ask file number e)).1 ≡ []
+unfolding decided unlock_ask
+decided_tells n s file number e = unlocked_tells s _ (extent_of e) refl
+
 unlock_tells : (n : ℕ) (s : CoreState) (file number : ℕ) (e : LockElement) → (ask n no_rows s (unlock_ask file number e)).1 ≡ []
-unfolding ask unlock_ask
-unlock_tells n s file number e = unlocked_tells s _ (extent_of e) refl
+unlock_tells n s file number e =
+    ap (λ (r : Answered). r.1) (ask_there n no_rows s (unlock_ask file number e) (no_way s file number e)) ∙ decided_tells n s file number e
 
 one_tells : (n : ℕ) (s : CoreState) (a : Ask) (answer : Answer) (rest : List Deed × Locking) → (ask n no_rows s a).1 ≡ [] → all_told_of n (ask n no_rows s a).2 rest.0 ≡ [] → all_told_of n s (unlock_told a answer rest).0 ≡ []
 one_tells n s a (answers.Granted c) rest none more = ap (λ (xs : List Effect). xs ++ all_told_of n (ask n no_rows s a).2 rest.0) none ∙ more
@@ -126,7 +109,7 @@ waiting_is id ws vs b is same = is ∙ ap (λ (xs : List Waiter). list_any (λ (
 cancel_leaves : (s new : CoreState) (id : ℕ) (effects : List Effect) → cancel s id ≡ (effects, new) → is_waiting id s.waiters ≡ true → IsGood new → Leaves 0 s new
 cancel_leaves s new id effects e waits kept =
     let same = ap (λ (r : List Effect × CoreState). r.1) e in
-    subst (λ (t : CoreState). Leaves 0 s t) same (frame_leaves s (cancel s id).1 (cancel s id).0 0 (subst (λ (t : CoreState). IsGood t) (sym same) kept) (cancel_frame s id waits))
+    subst (λ (t : CoreState). Leaves 0 s t) same (frame_leaves s (cancel s id).1 (cancel s id).0 0 0 (subst (λ (t : CoreState). IsGood t) (sym same) kept) (cancel_frame s id waits) (omega (arith, cancel_numbers s id)))
 
 pub cancel_leaves_by : (s new : CoreState) (id : ℕ) (effects : List Effect) (ws : List Waiter) (b : Bool) → cancel s id ≡ (effects, new) → b ≡ is_waiting id ws → ws ≡ s.waiters → b ≡ true → IsGood new → Leaves 0 s new
 cancel_leaves_by s new id effects ws b e is same waits kept = cancel_leaves s new id effects e (ap (is_waiting id) (sym same) ∙ sym is ∙ waits) kept

@@ -1,12 +1,17 @@
 -- The core takes the deeds, and they are of the connection's opens.
-use Rattle.std.proofs.Common.{◌≡◌, ℕ, zero, suc, ◌+◌, ◌≤◌, Bool, true, false, not, ◌&&◌, eqb, List, [], ◌∷◌, Option, Some, None, if◌then◌else◌, refl, sym, ap, subst, ◌∙◌, inl, inr, arith, option_map}
+use Rattle.std.proofs.Common.{◌≡◌, ℕ, ◌+◌, ◌≤◌, Bool, true, false, not, ◌&&◌, eqb, List, [], ◌∷◌, Option, Some, None, if◌then◌else◌, refl, sym, ap, subst, ◌∙◌, inl, inr, option_map}
 use Rattle.std.specs.Prelude.{◌==◌, ◌^◌, nat_eq, nat_lt, length, is_some, Result, Ok, Err}
 use Rattle.std.specs.List.{AllByRecursion, find}
 use Rattle.std.specs.Map.{lookup}
-use Rattle.std.proofs.lemmas.Bool.{cases_Bool, false≢true, true≢false, and_parts}
+use Rattle.std.proofs.lemmas.Bool.{cases_Bool, false≢true, and_parts}
+use Rattle.xl_base.proofs.Members.{in_append_left}
 use Rattle.xl_base.specs.Lists.{IsIn}
 use Rattle.xl_base.specs.declared.journal.Exports.{Exports}
+use Rattle.xl_base.specs.declared.name.Party.{Party}
 use Rattle.xl_base.specs.declared.name.Party.TheVariants as parties
+use Rattle.xl_matrix.specs.declared.claim.Claim.{Claim}
+use Rattle.xl_matrix.specs.declared.claim.What.{What}
+use Rattle.xl_matrix.specs.declared.claim.What.TheVariants as whats
 use Rattle.xl_smb.specs.Calls.{CallItem, Negotiate, SessionSetup, Logoff, TreeConnect, TreeDisconnect, Create, Close, Lock, Cancel, Echo, OplockBreak, Other}
 use Rattle.xl_smb.specs.Creates.{CreateCallItem}
 use Rattle.xl_smb.specs.Heads.{command_of, head_of}
@@ -22,31 +27,34 @@ use Rattle.xl_smb.specs.declared.head.SmbHead.{SmbHead}
 use Rattle.xl_smb.specs.declared.lock.LockElement.{LockElement}
 use Rattle.xl_smb.specs.Locks.{LockItem, elements_of}
 use Rattle.xl_smb_state.specs.Links.{is_tree_at, is_client, has_place}
-use Rattle.xl_smb_state.specs.State.{Lists, keys_where, connection_of, connection_changed, client_of, session_of, tree_of, open_of, covers, covers_holder, opens_under, waiting_of, waiting_under, is_message}
+use Rattle.xl_smb_state.specs.State.{Lists, keys_where, connection_of, connection_changed, client_of, session_of, tree_of, open_of, covers, covers_holder, creates_under, opens_under, waiting_of, waiting_under, is_message}
 use Rattle.xl_smb_state.specs.declared.row.Open.{Open}
 use Rattle.xl_smb_state.specs.declared.row.Place.{Place}
+use Rattle.xl_smb_state.specs.declared.row.Request.TheVariants as request
 use Rattle.xl_smb_state.specs.declared.row.Scope.{Scope}
 use Rattle.xl_smb_state.specs.declared.row.Scope.TheVariants as scope
 use Rattle.xl_smb_state.specs.declared.row.Tree as tree
 use Rattle.xl_smb_state.specs.declared.row.Waiting.{Waiting}
 use Rattle.xl_smb_state.proofs.RowLaws.{none_some, same_Some, equal_from, equal_self}
+use Rattle.xl_core.specs.Breaks.{may_be_left}
 use Rattle.xl_core.specs.Deeds.{Cancels, AreFit}
 use Rattle.xl_core.specs.declared.ask.Who.{Who}
 use Rattle.xl_core.specs.declared.ask.Who.TheVariants as who
 use Rattle.xl_wait.specs.Waiting.{is_waiting}
-use Rattle.xl_smb_locks.specs.Elements.{is_count, unlocks_first, any_waits, lock_fault}
+use Rattle.xl_smb_locks.specs.Elements.{is_count, unlocks_first, lock_fault}
+use Rattle.xl_smb_locks.specs.Levels.{oplock_of}
 use Rattle.xl_smb_locks.specs.Locks.{unlock_ask, lock_ask, unlocks}
 use Rattle.xl_smb_locks.specs.declared.status.SmbStatus.{SmbStatus}
 use Rattle.xl_smb_locks.proofs.FitLaws.{lock_fits, lock_owns, unlock_owns}
 use Rattle.xl_smb_locks.proofs.UnlockLaws.{unlocks_fit, unlocks_are}
 use Rattle.xl_core.specs.State.{CoreState}
 use Rattle.xl_core.specs.Settle.{end_party}
-use Rattle.xl_front_smb.specs.Checks.{is_fresh, kept_if, session_named, is_open_on, file_number, number_in, negotiated_by, in_session, on_tree, on_open}
-use Rattle.xl_front_smb.specs.Ending.{ends, smb_end_deeds}
-use Rattle.xl_front_smb.specs.Files.{open_ask, open_as, has_room_for_open, open_file, open_found, overwrites, create_on, create, close_open, close, level_refused, break_by, acknowledge}
-use Rattle.xl_front_smb.specs.Locks.{waiting_row, place_of, has_room_to_wait, unlock_by, lock_by, lock_found, lock, came_by, request_named, cancel_named, cancel}
+use Rattle.xl_front_smb.specs.Checks.{id_of, is_fresh, kept_if, session_named, is_open_on, file_number, number_in, negotiated_by, in_session, on_tree, on_open}
+use Rattle.xl_front_smb.specs.Ending.{numbers_under, ends, smb_end_deeds}
+use Rattle.xl_front_smb.specs.Files.{open_ask, open_as, has_room_for_open, open_file, open_found, overwrites, create_on, create, close_open, close, is_refused, left_at, refused_ack, taken_ack, ack_by, ack_of, ack_open, ack_level, break_by, acknowledge}
+use Rattle.xl_front_smb.specs.Locks.{waiting_row, place_of, unlock_by, lock_by, lock_found, lock, came_by, request_named, cancel_named, cancel}
 use Rattle.xl_front_smb.specs.FrontSmb.{head_heard, deeds_for, smb_deeds}
-use Rattle.xl_front_smb.specs.Owners.{is_session_on, is_tree_on, is_on, IsAskerOn, IsAskedBy, IsOwn, AreOwn, is_end}
+use Rattle.xl_front_smb.specs.Owners.{is_session_on, is_tree_on, is_on, IsOplockOn, IsAskerOn, IsAskedBy, IsOwn, AreOwn, is_end}
 use Rattle.xl_front_smb.specs.Plans.{Plan, Fails, Does, deeds_of}
 use Rattle.xl_front_smb.specs.Requests.{commanded, planned, read_as, requested}
 use Rattle.xl_front_smb.specs.Sessions.{offers, negotiate, has_room_for_session, set_up_as, set_up, session_setup, logoff, has_room_for_tree, connect_as, connect, tree_connect, disconnect, tree_disconnect}
@@ -56,6 +64,7 @@ use Rattle.xl_front_smb.specs.Texts.{is_share, file_spelled}
 use Rattle.xl_smb_locks.specs.declared.status.SmbStatus.TheVariants.{InvalidParameter, ObjectNameCollision, InsufficientResources, NotSupported, BadNetworkName, InvalidOplockProtocol, InvalidDeviceState}
 use Rattle.xl_front_smb.specs.declared.told.Told.TheVariants.{Nothing, Negotiated, SetUp}
 use Rattle.xl_front_smb.proofs.AskLaws.{open_fits, open_owns}
+use Rattle.xl_front_smb.proofs.AckLaws.{left_within, may_be_none, oplock_is}
 use Rattle.xl_front_smb.proofs.LockLaws.{counted}
 
 -- the core takes the plan's deeds, and they are the connection's
@@ -95,12 +104,12 @@ ends_fit : (n : ℕ) (s : CoreState) (numbers : List ℕ) → AreFit n s (ends n
 ends_fit n s [] = tt
 ends_fit n s (number ∷ numbers) = (tt, ends_fit n (end_party s (parties.Open number)).1 numbers)
 
-ends_in : (conn : ℕ) (l : Lists) (last : ℕ) (under : Scope) (numbers : List ℕ) → is_on conn l under ≡ true → ((k : ℕ) → IsIn k numbers → IsIn k (opens_under under l)) → AllByRecursion (IsOwn conn l last) (ends numbers)
+ends_in : (conn : ℕ) (l : Lists) (last : ℕ) (under : Scope) (numbers : List ℕ) → is_on conn l under ≡ true → ((k : ℕ) → IsIn k numbers → IsIn k (numbers_under under l)) → AllByRecursion (IsOwn conn l last) (ends numbers)
 ends_in conn l last under [] on within = tt
 ends_in conn l last under (number ∷ numbers) on within = ((under, on, within number (inl refl)), ends_in conn l last under numbers on (λ k later. within k (inr later)))
 
-ends_own : (n : ℕ) (s : CoreState) (l : Lists) (conn : ℕ) (under : Scope) → is_on conn l under ≡ true → AreFit n s (ends (opens_under under l)) × AllByRecursion (IsOwn conn l s.counter) (ends (opens_under under l))
-ends_own n s l conn under on = (ends_fit n s (opens_under under l), ends_in conn l s.counter under (opens_under under l) on (λ k within. within))
+ends_own : (n : ℕ) (s : CoreState) (l : Lists) (conn : ℕ) (under : Scope) → is_on conn l under ≡ true → AreFit n s (ends (numbers_under under l)) × AllByRecursion (IsOwn conn l s.counter) (ends (numbers_under under l))
+ends_own n s l conn under on = (ends_fit n s (numbers_under under l), ends_in conn l s.counter under (numbers_under under l) on (λ k within. within))
 
 -- a row that is found, and passes, is among those that pass
 found_in : {X : Type 0} (test : X → Bool) (es : List (ℕ × X)) (number : ℕ) (row : X) → lookup (nat_eq number) es ≡ Some row → test row ≡ true → IsIn number (keys_where test es)
@@ -178,32 +187,32 @@ disconnect_theirs n s l conn client h =
 asked_own : (conn : ℕ) (l : Lists) (last number : ℕ) (owner party : Who) → owner ≡ who.Open number → party ≡ who.Open number → IsAskerOn conn l last number → IsAskedBy conn l last owner party
 asked_own conn l last number owner party is same on = subst (λ (x : Who). IsAskedBy conn l last x party) (sym is) (same, on)
 
-opens_by : (n : ℕ) (s : CoreState) (others : ℕ) (l : Lists) (conn : ℕ) (client : List ℕ) (place : Place) (c : CreateCallItem) (file : ℕ) (room : Bool) → IsTheirs n s l conn (if room then open_as s others l client place c file (s.counter + 1) else Fails InsufficientResources)
-opens_by n s others l conn client place c file true =
+opens_by : (n : ℕ) (s : CoreState) (others : ℕ) (l : Lists) (conn : ℕ) (h : SmbHead) (client : List ℕ) (place : Place) (c : CreateCallItem) (file : ℕ) (room : Bool) → IsTheirs n s l conn (if room then open_as s others l h client place c file (s.counter + 1) else Fails InsufficientResources)
+opens_by n s others l conn h client place c file true =
     let owns = open_owns place.connection file (s.counter + 1) c in
     let a = open_ask place.connection file (s.counter + 1) c in
     ((tt, (open_fits place.connection file (s.counter + 1) c, tt)), (tt, (asked_own conn l s.counter (s.counter + 1) a.owner a.party owns.0 owns.1 (inl refl), tt)))
-opens_by n s others l conn client place c file false = (tt, tt)
+opens_by n s others l conn h client place c file false = (tt, tt)
 
-found_by : (n : ℕ) (s : CoreState) (others : ℕ) (l : Lists) (conn : ℕ) (client : List ℕ) (place : Place) (c : CreateCallItem) (file : ℕ) (makes : Bool) → IsTheirs n s l conn (if makes then Fails ObjectNameCollision else open_file s others l client place c file)
-found_by n s others l conn client place c file true = (tt, tt)
-found_by n s others l conn client place c file false = opens_by n s others l conn client place c file (has_room_for_open others l (s.counter + 1))
+found_by : (n : ℕ) (s : CoreState) (others : ℕ) (l : Lists) (conn : ℕ) (h : SmbHead) (client : List ℕ) (place : Place) (c : CreateCallItem) (file : ℕ) (makes : Bool) → IsTheirs n s l conn (if makes then Fails ObjectNameCollision else open_file s others l h client place c file)
+found_by n s others l conn h client place c file true = (tt, tt)
+found_by n s others l conn h client place c file false = opens_by n s others l conn h client place c file (has_room_for_open others l (s.counter + 1))
 
-found_theirs : (n : ℕ) (s : CoreState) (others : ℕ) (l : Lists) (conn : ℕ) (client : List ℕ) (place : Place) (c : CreateCallItem) (file : Option ℕ) → IsTheirs n s l conn (open_found s others l client place c file)
-found_theirs n s others l conn client place c None = (tt, tt)
-found_theirs n s others l conn client place c (Some file) = found_by n s others l conn client place c file (c.disposition == 2)
+found_theirs : (n : ℕ) (s : CoreState) (others : ℕ) (l : Lists) (conn : ℕ) (h : SmbHead) (client : List ℕ) (place : Place) (c : CreateCallItem) (file : Option ℕ) → IsTheirs n s l conn (open_found s others l h client place c file)
+found_theirs n s others l conn h client place c None = (tt, tt)
+found_theirs n s others l conn h client place c (Some file) = found_by n s others l conn h client place c file (c.disposition == 2)
 
-create_by : (n : ℕ) (s : CoreState) (others : ℕ) (l : Lists) (conn : ℕ) (client : List ℕ) (place : Place) (c : CreateCallItem) (file : Option ℕ) (unknown changes : Bool) → IsTheirs n s l conn (if unknown then Fails InvalidParameter else if changes then Fails NotSupported else open_found s others l client place c file)
-create_by n s others l conn client place c file true changes = (tt, tt)
-create_by n s others l conn client place c file false true = (tt, tt)
-create_by n s others l conn client place c file false false = found_theirs n s others l conn client place c file
+create_by : (n : ℕ) (s : CoreState) (others : ℕ) (l : Lists) (conn : ℕ) (h : SmbHead) (client : List ℕ) (place : Place) (c : CreateCallItem) (file : Option ℕ) (unknown changes : Bool) → IsTheirs n s l conn (if unknown then Fails InvalidParameter else if changes then Fails NotSupported else open_found s others l h client place c file)
+create_by n s others l conn h client place c file true changes = (tt, tt)
+create_by n s others l conn h client place c file false true = (tt, tt)
+create_by n s others l conn h client place c file false false = found_theirs n s others l conn h client place c file
 
 create_theirs : (n : ℕ) (s : CoreState) (files : List (List ℕ)) (others : ℕ) (l : Lists) (conn : ℕ) (client : List ℕ) (h : SmbHead) (c : CreateCallItem) → IsTheirs n s l conn (create s files others l conn client h c)
 unfolding create
 create_theirs n s files others l conn client h c =
     by_session (IsTheirs n s l conn) (λ number. is_session_on conn (session_of number l)) _ (number_in s h.session_id) (tt, tt)
     (λ k is. let place : Place = record { connection = conn; session = k; tree = tree_id h.route } in
-    by_tree (IsTheirs n s l conn) (create_on s files others l client c) place (has_place place client l) (tt, tt) (λ there. create_by n s others l conn client place c (file_spelled files c.name) (nat_lt 5 c.disposition) (overwrites c.disposition)))
+    by_tree (IsTheirs n s l conn) (create_on s files others l h client c) place (has_place place client l) (tt, tt) (λ there. create_by n s others l conn h client place c (file_spelled files c.name) (nat_lt 5 c.disposition) (overwrites c.disposition)))
 
 close_theirs : (n : ℕ) (s : CoreState) (l : Lists) (conn : ℕ) (client : List ℕ) (h : SmbHead) (id : FileId) → IsTheirs n s l conn (close s l conn client h id)
 unfolding close
@@ -212,7 +221,7 @@ close_theirs n s l conn client h id =
     by_session P (λ number. is_session_on conn (session_of number l)) _ (number_in s h.session_id) (tt, tt)
     (λ k is. by_tree P _ _ (has_place _ client l) (tt, tt)
     (λ there. by_open P (λ number. is_open_on conn (open_of number l)) (close_open l) (file_number s id) (tt, tt)
-    (λ number on. ((tt, tt), ((scope.Connection conn, equal_self conn, open_in conn number l (open_of number l) refl on), tt)))))
+    (λ number on. ((tt, tt), ((scope.Connection conn, equal_self conn, in_append_left number (opens_under (scope.Connection conn) l) (creates_under (scope.Connection conn) l) (open_in conn number l (open_of number l) refl on)), tt)))))
 
 -- ---- LOCK
 
@@ -222,24 +231,19 @@ unlock_theirs n s l conn file number es there = (
   unlocks_are (IsOwn conn l s.counter) s file number es (λ e. let owns = unlock_owns file number e in asked_own conn l s.counter number (unlock_ask file number e).owner (unlock_ask file number e).party owns.0 owns.1 (inr there)),
 )
 
-no_wait : (waits room : Bool) → waits ≡ false → (waits && room) ≡ false
-no_wait true room h = absurd (true≢false h)
-no_wait false room h = refl
-
-lock_by_theirs : (n : ℕ) (s : CoreState) (l : Lists) (conn : ℕ) (row : Waiting) (file number : ℕ) (es : List LockElement) (o : Option SmbStatus) → lock_fault es ≡ o → 1 ≤ length es → IsIn number (opens_under (scope.Connection conn) l) → IsTheirs n s l conn (lock_by s l conn row file number es o)
+lock_by_theirs : (n : ℕ) (s : CoreState) (l : Lists) (conn : ℕ) (row : Waiting) (file number : ℕ) (es : List LockElement) (o : Option SmbStatus) → lock_fault es ≡ o → 1 ≤ length es → IsIn number (opens_under (scope.Connection conn) l) → IsTheirs n s l conn (lock_by conn row file number es o)
 lock_by_theirs n s l conn row file number es (Some status) fault some there = (tt, tt)
 lock_by_theirs n s l conn row file number es None fault some there =
-    let blocking = any_waits es && has_room_to_wait l (s.counter + 1) in
-    let a = lock_ask conn file number es blocking in
-    let owns = lock_owns conn file number es blocking in
-    (((lock_fits conn file number blocking es fault some (no_wait (any_waits es) (has_room_to_wait l (s.counter + 1)))).fit, tt), (asked_own conn l s.counter number a.owner a.party owns.0 owns.1 (inr there), tt))
+    let a = lock_ask conn file number es in
+    let owns = lock_owns conn file number es in
+    (((lock_fits conn file number es fault some).fit, tt), (asked_own conn l s.counter number a.owner a.party owns.0 owns.1 (inr there), tt))
 
 lock_on_theirs : (n : ℕ) (s : CoreState) (l : Lists) (conn : ℕ) (h : SmbHead) (number : ℕ) (place : Place) (es : List LockElement) (row : Open) (count first : Bool) → is_count (length es) ≡ count → IsIn number (opens_under (scope.Connection conn) l)
     → IsTheirs n s l conn
-    (if not count then Fails InvalidParameter else if first then unlock_by l (unlocks s row.file number es) else lock_by s l conn (waiting_row h (place_of row.holder place) number) row.file number es (lock_fault es))
+    (if not count then Fails InvalidParameter else if first then unlock_by l (unlocks s row.file number es) else lock_by conn (waiting_row h (place_of row.holder place) number request.Lock) row.file number es (lock_fault es))
 lock_on_theirs n s l conn h number place es row false first is there = (tt, tt)
 lock_on_theirs n s l conn h number place es row true true is there = unlock_theirs n s l conn row.file number es there
-lock_on_theirs n s l conn h number place es row true false is there = lock_by_theirs n s l conn (waiting_row h (place_of row.holder place) number) row.file number es (lock_fault es) refl (counted (length es) is) there
+lock_on_theirs n s l conn h number place es row true false is there = lock_by_theirs n s l conn (waiting_row h (place_of row.holder place) number request.Lock) row.file number es (lock_fault es) refl (counted (length es) is) there
 
 lock_found_theirs : (n : ℕ) (s : CoreState) (l : Lists) (conn : ℕ) (h : SmbHead) (number : ℕ) (place : Place) (es : List LockElement) (o : Option Open) → IsIn number (opens_under (scope.Connection conn) l) → IsTheirs n s l conn (lock_found s l conn h number place es o)
 lock_found_theirs n s l conn h number place es None there = (tt, tt)
@@ -295,14 +299,45 @@ cancel_theirs n s l conn h = cancel_theirs_by n s l conn (request_named conn l h
 
 -- ---- acknowledgements
 
-level_by : (n : ℕ) (s : CoreState) (l : Lists) (conn : ℕ) (lease above : Bool) → IsTheirs n s l conn (if lease then Fails InvalidParameter else if above then Fails InvalidOplockProtocol else Fails InvalidDeviceState)
-level_by n s l conn true above = (tt, tt)
-level_by n s l conn false true = (tt, tt)
-level_by n s l conn false false = (tt, tt)
+ack_by_theirs : (n : ℕ) (s : CoreState) (l : Lists) (conn number id level : ℕ) (cache : Claim) (what : What) → IsIn cache s.claims → cache.party ≡ parties.Open number → cache.what ≡ what → IsIn number (opens_under (scope.Connection conn) l) → IsTheirs n s l conn (ack_by l id level cache what)
+ack_by_theirs n s l conn number id level cache (whats.Cache kind None) here its is there = by (is_refused level kind None)
+  where
+    by : (refused : Bool) → IsTheirs n s l conn (if refused then refused_ack l cache None else taken_ack l id level cache None)
+    by true = (tt, tt)
+    by false = (tt, tt)
+ack_by_theirs n s l conn number id level cache (whats.Cache kind (Some running)) here its is there = by (is_refused level kind (Some running)) refl
+  where
+    own : IsOplockOn conn l cache.party
+    own = subst (λ (p : Party). IsOplockOn conn l p) (sym its) there
+
+    by : (refused : Bool) → is_refused level kind (Some running) ≡ refused → IsTheirs n s l conn (if refused then refused_ack l cache (Some running) else taken_ack l id level cache (Some running))
+    by true at = (((here, may_be_none cache.what kind running is), tt), (own, tt))
+    by false at = (((here, ap (λ (w : What). may_be_left w (left_at level)) is ∙ left_within level kind running at), tt), (own, tt))
+ack_by_theirs n s l conn number id level cache (whats.Share access deny) here its is there = (tt, tt)
+ack_by_theirs n s l conn number id level cache (whats.Range extent exclusive) here its is there = (tt, tt)
+
+ack_none_theirs : (n : ℕ) (s : CoreState) (l : Lists) (conn id level : ℕ) (above : Bool) → IsTheirs n s l conn (if above then Fails InvalidOplockProtocol else Fails InvalidDeviceState)
+ack_none_theirs n s l conn id level true = (tt, tt)
+ack_none_theirs n s l conn id level false = (tt, tt)
+
+ack_of_theirs : (n : ℕ) (s : CoreState) (l : Lists) (conn file number id level : ℕ) (o : Option Claim) → oplock_of file number s.claims ≡ o → IsIn number (opens_under (scope.Connection conn) l) → IsTheirs n s l conn (ack_of l id level o)
+ack_of_theirs n s l conn file number id level None at there = ack_none_theirs n s l conn id level (nat_lt 1 level)
+ack_of_theirs n s l conn file number id level (Some cache) at there =
+    let is = oplock_is file number s.claims cache at in
+    ack_by_theirs n s l conn number id level cache cache.what is.0 is.1 refl there
+
+ack_open_theirs : (n : ℕ) (s : CoreState) (l : Lists) (conn level number : ℕ) (o : Option Open) → IsIn number (opens_under (scope.Connection conn) l) → IsTheirs n s l conn (ack_open s l level number o)
+ack_open_theirs n s l conn level number None there = (tt, tt)
+ack_open_theirs n s l conn level number (Some row) there = ack_of_theirs n s l conn row.file number (id_of s number) level (oplock_of row.file number s.claims) refl there
+
+ack_level_theirs : (n : ℕ) (s : CoreState) (l : Lists) (conn level number : ℕ) (lease : Bool) → IsIn number (opens_under (scope.Connection conn) l) → IsTheirs n s l conn (if lease then Fails InvalidParameter else ack_open s l level number (open_of number l))
+ack_level_theirs n s l conn level number true there = (tt, tt)
+ack_level_theirs n s l conn level number false there = ack_open_theirs n s l conn level number (open_of number l) there
 
 break_theirs : (n : ℕ) (s : CoreState) (l : Lists) (conn : ℕ) (b : Break) → IsTheirs n s l conn (break_by s l conn b)
 break_theirs n s l conn (held.Oplock level id) =
-    by_open (IsTheirs n s l conn) (λ number. is_open_on conn (open_of number l)) (λ number. level_refused level) (file_number s id) (tt, tt) (λ number on. level_by n s l conn (level == 0xFF) (nat_lt 1 level))
+    by_open (IsTheirs n s l conn) (λ number. is_open_on conn (open_of number l)) (ack_level s l level) (file_number s id) (tt, tt)
+    (λ number on. ack_level_theirs n s l conn level number (level == 0xFF) (open_in conn number l (open_of number l) refl on))
 break_theirs n s l conn (held.Lease lease) = (tt, tt)
 
 acknowledge_theirs : (n : ℕ) (s : CoreState) (l : Lists) (conn : ℕ) (h : SmbHead) (b : Break) → IsTheirs n s l conn (acknowledge s l conn h b)
@@ -377,7 +412,7 @@ step_own n exports others f s conn bytes = (heard_theirs n exports others f s co
 
 pub end_takes : (n : ℕ) (f : FrontSmb) (s : CoreState) (conn : ℕ) → AreFit n s (smb_end_deeds f conn)
 unfolding smb_end_deeds
-end_takes n f s conn = ends_fit n s (opens_under (scope.Connection conn) f.state)
+end_takes n f s conn = ends_fit n s (numbers_under (scope.Connection conn) f.state)
 
 pub end_own : (f : FrontSmb) (s : CoreState) (conn : ℕ) → AreOwn f s conn (smb_end_deeds f conn)
 unfolding smb_end_deeds
@@ -389,4 +424,4 @@ only_ends (number ∷ numbers) = (refl, only_ends numbers)
 
 pub ends_alone : (f : FrontSmb) (conn : ℕ) → AllByRecursion (λ d. is_end d ≡ true) (smb_end_deeds f conn)
 unfolding smb_end_deeds
-ends_alone f conn = only_ends (opens_under (scope.Connection conn) f.state)
+ends_alone f conn = only_ends (numbers_under (scope.Connection conn) f.state)

@@ -1,10 +1,8 @@
 -- What LOCK leaves of an open's ranges, and what CANCEL leaves.
-use Rattle.std.proofs.Common.{◌≡◌, ℕ, ◌+◌, ◌≤◌, Bool, true, false, not, ◌&&◌, if◌then◌else◌, List, [], ◌∷◌, ◌++◌, length, map, Option, Some, None, refl, sym, ap, subst, ◌∙◌, ◌⊎◌, inl, inr}
-use Rattle.std.proofs.lemmas.Bool.{cases_Bool, true≢false}
+use Rattle.std.proofs.Common.{◌≡◌, ℕ, ◌≤◌, Bool, true, false, List, [], ◌∷◌, ◌++◌, length, map, Option, Some, None, refl, sym, ap, subst, ◌∙◌, ◌⊎◌, inl, inr}
 use Rattle.xl_base.specs.Lists.{IsIn}
 use Rattle.xl_base.specs.declared.name.Owner.TheVariants as owners
 use Rattle.xl_matrix.specs.declared.claim.Claim.{Claim}
-use Rattle.xl_matrix.specs.declared.claim.Extent.{Extent}
 use Rattle.xl_matrix.specs.declared.claim.What.{What}
 use Rattle.xl_smb.specs.Calls.{Lock, Cancel}
 use Rattle.xl_smb.specs.Locks.{LockItem, elements_of}
@@ -14,12 +12,14 @@ use Rattle.xl_smb_state.specs.State.{Lists, client_of, open_of, waiting_under}
 use Rattle.xl_smb_state.specs.declared.row.Open.{Open}
 use Rattle.xl_smb_state.specs.declared.row.Place.{Place}
 use Rattle.xl_smb_state.specs.declared.row.Scope.TheVariants as scope
+use Rattle.xl_smb_state.specs.declared.row.Request.TheVariants as request
 use Rattle.xl_smb_state.specs.declared.row.Waiting.{Waiting}
 use Rattle.xl_table.specs.Elements.{unlocked_elements}
 use Rattle.xl_table.specs.Elements.{elements_of as ranges_of}
 use Rattle.xl_wait.specs.Waiting.{is_waiting}
 use Rattle.xl_core.specs.Asking.{range_what}
-use Rattle.xl_core.specs.Decide.{Answered, ask}
+use Rattle.xl_core.specs.Begin.{others_of}
+use Rattle.xl_core.specs.Decide.{Answered, way, ask}
 use Rattle.xl_core.specs.Deeds.{Deed, Asks, all_done}
 use Rattle.xl_core.specs.Good.{IsGood}
 use Rattle.xl_core.specs.Places.{RangesOf, held_at}
@@ -27,65 +27,68 @@ use Rattle.xl_core.specs.Settle.{cancel as cancel_of}
 use Rattle.xl_core.specs.State.{CoreState}
 use Rattle.xl_core.specs.declared.ask.Answer.{Answer}
 use Rattle.xl_core.specs.declared.ask.Answer.TheVariants as answers
+use Rattle.xl_core.specs.declared.ask.Ask.{Ask}
 use Rattle.xl_core.specs.declared.ask.Effect.TheVariants.{Cancelled}
-use Rattle.xl_core.proofs.ChangeLaws.{ask_own}
+use Rattle.xl_wait.specs.declared.waiter.Rooms.{Rooms}
+use Rattle.xl_core.proofs.BegunLaws.{begun_others}
 use Rattle.xl_core.proofs.GoodLaws.{ask_good}
-use Rattle.xl_core.proofs.OpenLaws.{ranges_locked, range_unlocked}
-use Rattle.xl_smb_locks.specs.Elements.{extent_of, is_count, unlocks_first, any_waits, unlock_fault, lock_fault, refusal}
+use Rattle.xl_core.proofs.WayAsks.{ask_way_keeps, ask_way_names, ask_way_waiters, ask_own}
+use Rattle.xl_core.proofs.WayOpens.{ask_locked, ask_unlocked}
+use Rattle.xl_smb_locks.specs.Elements.{extent_of, is_count, unlocks_first, unlock_fault, lock_fault}
 use Rattle.xl_smb_locks.specs.Locks.{no_rows, range_of, unlock_ask, unlock_told, unlock_next, unlocks, lock_ask, lock_told}
 use Rattle.xl_smb_locks.specs.declared.locking.Locking.{Locking}
 use Rattle.xl_smb_locks.specs.declared.locking.Locking.TheVariants as locking
 use Rattle.xl_smb_locks.specs.declared.status.SmbStatus.{SmbStatus}
 use Rattle.xl_smb_locks.proofs.FitLaws.{unlock_fits, lock_fits}
 use Rattle.xl_smb_locks.proofs.UnlockLaws.{any_stores}
-use Rattle.xl_front_smb.specs.Checks.{session_named, tree_named, open_named, negotiated_by, in_session, on_tree, on_open}
-use Rattle.xl_front_smb.specs.Laws.{outcome_of}
+use Rattle.xl_front_smb.specs.Checks.{tree_named, open_named, negotiated_by, in_session, on_tree, on_open}
+use Rattle.xl_front_smb.specs.Laws.{OnlyBreaks, outcome_of}
 use Rattle.xl_front_smb.specs.LockLaws.{IsOfOpen, held_as, all_unlocked}
-use Rattle.xl_front_smb.specs.Locks.{waiting_row, place_of, has_room_to_wait, unlock_by, lock_by, lock_on, lock_found, lock, request_named, cancel_named, cancel}
+use Rattle.xl_front_smb.specs.Locks.{waiting_row, place_of, lock_by, lock_on, lock_found, lock, request_named, cancel_named, cancel}
 use Rattle.xl_front_smb.specs.Plans.{Plan, Outcome, told_as, lists_as, carried}
 use Rattle.xl_front_smb.specs.Requests.{commanded, planned}
 use Rattle.xl_front_smb.specs.declared.told.Told.TheVariants as told
-use Rattle.xl_front_smb.proofs.LockLaws.{counted, waits_not}
+use Rattle.xl_front_smb.proofs.LockLaws.{counted}
 use Rattle.xl_front_smb.proofs.OwnLaws.{named_in}
 
 -- ---- locks
 
-granted_by : (refused : SmbStatus) (answer : Answer) → told_as (lock_told refused answer) ≡ told.Locked → (c : Claim) × (answer ≡ answers.Granted c)
-granted_by refused (answers.Granted c) h = (c, refl)
-granted_by refused (answers.Conflict c) h = absurd cc
-granted_by refused (answers.Queued id) h = absurd cc
-granted_by refused (answers.Recall c) h = absurd cc
-granted_by refused (answers.Grace until) h = absurd cc
-granted_by refused (answers.NoGrace clock) h = absurd cc
-granted_by refused answers.NotRecorded h = absurd cc
-granted_by refused (answers.Full limit) h = absurd cc
-granted_by refused answers.NotHeld h = absurd cc
-granted_by refused answers.StoreFailed h = absurd cc
+granted_by : (answer : Answer) → told_as (lock_told answer) ≡ told.Locked → (c : Claim) × (answer ≡ answers.Granted c)
+granted_by (answers.Granted c) h = (c, refl)
+granted_by (answers.Conflict c) h = absurd cc
+granted_by (answers.Queued id) h = absurd cc
+granted_by (answers.Recall c) h = absurd cc
+granted_by (answers.Grace until) h = absurd cc
+granted_by (answers.NoGrace clock) h = absurd cc
+granted_by answers.NotRecorded h = absurd cc
+granted_by (answers.Full limit) h = absurd cc
+granted_by answers.NotHeld h = absurd cc
+granted_by answers.StoreFailed h = absurd cc
 
 -- refused, they are neither had nor wait
-refused_by : (refused : SmbStatus) (answer : Answer) (status : SmbStatus) → told_as (lock_told refused answer) ≡ told.Failed status → ((c : Claim) → answer ≡ answers.Granted c → ⊥) × ((id : ℕ) → answer ≡ answers.Queued id → ⊥)
-refused_by refused (answers.Granted c) status h = absurd cc
-refused_by refused (answers.Conflict c) status h = (λ d e. cc, λ id e. cc)
-refused_by refused (answers.Queued id) status h = absurd cc
-refused_by refused (answers.Recall c) status h = (λ d e. cc, λ id e. cc)
-refused_by refused (answers.Grace until) status h = (λ d e. cc, λ id e. cc)
-refused_by refused (answers.NoGrace clock) status h = (λ d e. cc, λ id e. cc)
-refused_by refused answers.NotRecorded status h = (λ d e. cc, λ id e. cc)
-refused_by refused (answers.Full limit) status h = (λ d e. cc, λ id e. cc)
-refused_by refused answers.NotHeld status h = (λ d e. cc, λ id e. cc)
-refused_by refused answers.StoreFailed status h = (λ d e. cc, λ id e. cc)
+refused_by : (answer : Answer) (status : SmbStatus) → told_as (lock_told answer) ≡ told.Failed status → ((c : Claim) → answer ≡ answers.Granted c → ⊥) × ((id : ℕ) → answer ≡ answers.Queued id → ⊥)
+refused_by (answers.Granted c) status h = absurd cc
+refused_by (answers.Conflict c) status h = (λ d e. cc, λ id e. cc)
+refused_by (answers.Queued id) status h = absurd cc
+refused_by (answers.Recall c) status h = (λ d e. cc, λ id e. cc)
+refused_by (answers.Grace until) status h = (λ d e. cc, λ id e. cc)
+refused_by (answers.NoGrace clock) status h = (λ d e. cc, λ id e. cc)
+refused_by answers.NotRecorded status h = (λ d e. cc, λ id e. cc)
+refused_by (answers.Full limit) status h = (λ d e. cc, λ id e. cc)
+refused_by answers.NotHeld status h = (λ d e. cc, λ id e. cc)
+refused_by answers.StoreFailed status h = (λ d e. cc, λ id e. cc)
 
-kept_by : (row : Waiting) (l : Lists) (refused : SmbStatus) (answer : Answer) → ((id : ℕ) → answer ≡ answers.Queued id → ⊥) → lists_as row l (lock_told refused answer) ≡ l
-kept_by row l refused (answers.Granted c) none = refl
-kept_by row l refused (answers.Conflict c) none = refl
-kept_by row l refused (answers.Queued id) none = absurd (none id refl)
-kept_by row l refused (answers.Recall c) none = refl
-kept_by row l refused (answers.Grace until) none = refl
-kept_by row l refused (answers.NoGrace clock) none = refl
-kept_by row l refused answers.NotRecorded none = refl
-kept_by row l refused (answers.Full limit) none = refl
-kept_by row l refused answers.NotHeld none = refl
-kept_by row l refused answers.StoreFailed none = refl
+kept_by : (row : Waiting) (l : Lists) (answer : Answer) → ((id : ℕ) → answer ≡ answers.Queued id → ⊥) → lists_as row l (lock_told answer) ≡ l
+kept_by row l (answers.Granted c) none = refl
+kept_by row l (answers.Conflict c) none = refl
+kept_by row l (answers.Queued id) none = absurd (none id refl)
+kept_by row l (answers.Recall c) none = refl
+kept_by row l (answers.Grace until) none = refl
+kept_by row l (answers.NoGrace clock) none = refl
+kept_by row l answers.NotRecorded none = refl
+kept_by row l (answers.Full limit) none = refl
+kept_by row l answers.NotHeld none = refl
+kept_by row l answers.StoreFailed none = refl
 
 all_held : (es : List LockElement) → map range_what (map range_of es) ≡ map held_as es
 all_held [] = refl
@@ -98,38 +101,43 @@ not_locked h = cc
 abbrev Holds : ℕ → ℕ → List LockElement → CoreState → Lists → Outcome → Type 0
 Holds file number es s l r = r.0 ≡ told.Locked → (held_at r.3 (RangesOf file number) ≡ held_at s (RangesOf file number) ++ map held_as es) × (r.2 ≡ l)
 
--- and of one that was told to fail: nothing changed
+-- and of one that was told to fail: the lists stand, and no more changed than that breaks began
 abbrev Stays : CoreState → Lists → Outcome → Type 0
-Stays s l r = (status : SmbStatus) → r.0 ≡ told.Failed status → (r.2 ≡ l) × (r.3 ≡ s)
+Stays s l r = (status : SmbStatus) → r.0 ≡ told.Failed status → (r.2 ≡ l) × OnlyBreaks s r.3
 
-asked_holds : (n : ℕ) (s : CoreState) (l : Lists) (conn file number : ℕ) (es : List LockElement) (blocking : Bool) (row : Waiting) → IsGood s → lock_fault es ≡ None → 1 ≤ length es → (any_waits es ≡ false → blocking ≡ false)
-    → (let r = ask n no_rows s (lock_ask conn file number es blocking) in told_as (lock_told (refusal es) r.0) ≡ told.Locked → (held_at r.2 (RangesOf file number) ≡ held_at s (RangesOf file number) ++ map held_as es) × (lists_as row l (lock_told (refusal es) r.0) ≡ l))
+-- where breaks begin only caches change
+way_breaks : (left : Rooms) (s : CoreState) (a : Ask) → OnlyBreaks s (way left s a).1
+way_breaks left s a = record { claims = ask_way_keeps (λ x. others_of x.claims) left s a (λ d. begun_others s d); waiters = ask_way_waiters left s a; names = ask_way_names left s a }
+
+unbroken : (s : CoreState) → OnlyBreaks s s
+unbroken s = record { claims = refl; waiters = refl; names = refl }
+
+asked_holds : (n : ℕ) (s : CoreState) (l : Lists) (conn file number : ℕ) (es : List LockElement) (row : Waiting) → IsGood s → lock_fault es ≡ None → 1 ≤ length es
+    → (let r = ask n no_rows s (lock_ask conn file number es) in told_as (lock_told r.0) ≡ told.Locked → (held_at r.2 (RangesOf file number) ≡ held_at s (RangesOf file number) ++ map held_as es) × (lists_as row l (lock_told r.0) ≡ l))
 unfolding lock_ask
-asked_holds n s l conn file number es blocking row good fault some waits is =
-    let a = lock_ask conn file number es blocking in
-    let got = granted_by (refusal es) (ask n no_rows s a).0 is in
-    let fit = (lock_fits conn file number blocking es fault some waits).fit in (
-      ranges_locked n no_rows s a (map range_of es) number got.0 good fit refl refl got.1 ∙ ap (λ (ws : List What). ranges_of file (owners.Open number) s.claims ++ ws) (all_held es),
-      kept_by row l (refusal es) (ask n no_rows s a).0 (λ id e. different (sym got.1 ∙ e)),
+asked_holds n s l conn file number es row good fault some is =
+    let a = lock_ask conn file number es in
+    let got = granted_by (ask n no_rows s a).0 is in
+    let fit = (lock_fits conn file number es fault some).fit in (
+      ask_locked n no_rows s a (map range_of es) number got.0 good fit refl refl got.1 ∙ ap (λ (ws : List What). ranges_of file (owners.Open number) s.claims ++ ws) (all_held es),
+      kept_by row l (ask n no_rows s a).0 (λ id e. different (sym got.1 ∙ e)),
     )
   where
     different : {c : Claim} {id : ℕ} → answers.Granted c ≡ answers.Queued id → ⊥
     different h = cc
 
-asked_stays : (n : ℕ) (s : CoreState) (l : Lists) (conn file number : ℕ) (es : List LockElement) (blocking : Bool) (row : Waiting) → IsGood s → lock_fault es ≡ None → 1 ≤ length es → (any_waits es ≡ false → blocking ≡ false)
-    → (status : SmbStatus) → (let r = ask n no_rows s (lock_ask conn file number es blocking) in told_as (lock_told (refusal es) r.0) ≡ told.Failed status → (lists_as row l (lock_told (refusal es) r.0) ≡ l) × (r.2 ≡ s))
-asked_stays n s l conn file number es blocking row good fault some waits status is =
-    let a = lock_ask conn file number es blocking in
-    let none = refused_by (refusal es) (ask n no_rows s a).0 status is in
-    let fit = (lock_fits conn file number blocking es fault some waits).fit in
-    (kept_by row l (refusal es) (ask n no_rows s a).0 none.1, (ask_own n no_rows s a good fit.party).refused none.0 none.1)
+asked_stays : (n : ℕ) (s : CoreState) (l : Lists) (conn file number : ℕ) (es : List LockElement) (row : Waiting) → IsGood s → lock_fault es ≡ None → 1 ≤ length es
+    → (status : SmbStatus) → (let r = ask n no_rows s (lock_ask conn file number es) in told_as (lock_told r.0) ≡ told.Failed status → (lists_as row l (lock_told r.0) ≡ l) × OnlyBreaks s r.2)
+asked_stays n s l conn file number es row good fault some status is =
+    let a = lock_ask conn file number es in
+    let none = refused_by (ask n no_rows s a).0 status is in
+    let fit = (lock_fits conn file number es fault some).fit in
+    (kept_by row l (ask n no_rows s a).0 none.1, subst (λ (t : CoreState). OnlyBreaks s t) (sym ((ask_own n no_rows s a good fit.party).refused none.0 none.1)) (way_breaks no_rows s a))
 
-by_holds : (n : ℕ) (s : CoreState) (l : Lists) (conn : ℕ) (row : Waiting) (file number : ℕ) (es : List LockElement) (o : Option SmbStatus) → IsGood s → lock_fault es ≡ o → 1 ≤ length es → Holds file number es s l (carried n s l (lock_by s l conn row file number es o)) × Stays s l (carried n s l (lock_by s l conn row file number es o))
-by_holds n s l conn row file number es (Some status) good fault some = (λ h. absurd (not_locked h), λ other h. (refl, refl))
+by_holds : (n : ℕ) (s : CoreState) (l : Lists) (conn : ℕ) (row : Waiting) (file number : ℕ) (es : List LockElement) (o : Option SmbStatus) → IsGood s → lock_fault es ≡ o → 1 ≤ length es → Holds file number es s l (carried n s l (lock_by conn row file number es o)) × Stays s l (carried n s l (lock_by conn row file number es o))
+by_holds n s l conn row file number es (Some status) good fault some = (λ h. absurd (not_locked h), λ other h. (refl, unbroken s))
 by_holds n s l conn row file number es None good fault some =
-    let room = has_room_to_wait l (s.counter + 1) in
-    let waits = waits_not (any_waits es) room (any_waits es && room) refl in
-    (asked_holds n s l conn file number es (any_waits es && room) row good fault some waits, asked_stays n s l conn file number es (any_waits es && room) row good fault some waits)
+    (asked_holds n s l conn file number es row good fault some, asked_stays n s l conn file number es row good fault some)
 
 -- ---- a request
 
@@ -154,8 +162,8 @@ module _ (n : ℕ) (s : CoreState) (files : List (List ℕ)) (others : ℕ) (l :
   locks_on : (number : ℕ) (place : Place) (es : List LockElement) (row : Open) (count : Bool) → is_count (length es) ≡ count → unlocks_first es ≡ false → IsGood s
       → Holds row.file number es s l (carried n s l (lock_on s l conn h number place es row)) × Stays s l (carried n s l (lock_on s l conn h number place es row))
   locks_on number place es row true is first good =
-      rw (is, first) (by_holds n s l conn (waiting_row h (place_of row.holder place) number) row.file number es (lock_fault es) good refl (counted (length es) is))
-  locks_on number place es row false is first good = rw is (λ e. absurd (not_locked e), λ other e. (refl, refl))
+      rw (is, first) (by_holds n s l conn (waiting_row h (place_of row.holder place) number request.Lock) row.file number es (lock_fault es) good refl (counted (length es) is))
+  locks_on number place es row false is first good = rw is (λ e. absurd (not_locked e), λ other e. (refl, unbroken s))
 
   pub locked_holds : (c : LockItem) (session : ℕ) (place : Place) (number : ℕ) (row : Open) → IsOfOpen s l conn h client c.file_id session place number row → unlocks_first (elements_of c.elements) ≡ false → IsGood s
       → Holds row.file number (elements_of c.elements) s l (outcome_of n s files others l conn h (Lock c)) × Stays s l (outcome_of n s files others l conn h (Lock c))
@@ -183,7 +191,7 @@ sound_by (Some status) next h = absurd cc
 unlock_takes : (n : ℕ) (s : CoreState) (file number : ℕ) (e : LockElement) (c : Claim) → IsGood s → (ask n no_rows s (unlock_ask file number e)).0 ≡ answers.Granted c
     → ranges_of file (owners.Open number) (ask n no_rows s (unlock_ask file number e)).2.claims ≡ unlocked_elements (extent_of e) (ranges_of file (owners.Open number) s.claims)
 unfolding unlock_ask
-unlock_takes n s file number e c good at = range_unlocked n no_rows s (unlock_ask file number e) (extent_of e) number c good (unlock_fits file number e).fit refl refl at
+unlock_takes n s file number e c good at = ask_unlocked n no_rows s (unlock_ask file number e) (extent_of e) number c good (unlock_fits file number e).fit refl refl at
 
 pub unlocks_take : (n : ℕ) (s : CoreState) (file number : ℕ) (es : List LockElement) → IsGood s → (unlocks s file number es).1 ≡ locking.Done
     → held_at (all_done n s (unlocks s file number es).0) (RangesOf file number) ≡ all_unlocked es (held_at s (RangesOf file number))

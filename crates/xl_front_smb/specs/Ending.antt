@@ -1,16 +1,24 @@
 -- The end of opens, sessions and connections (MS-SMB2 3.3.4.17, 3.3.5.6, 3.3.7.1).
-use Rattle.std.specs.Prelude.{ℕ, ◌==◌, not, List, [], ◌∷◌, map, filter}
+use Rattle.std.specs.Prelude.{ℕ, ◌==◌, not, List, [], ◌∷◌, ◌++◌, map, filter}
+use Rattle.std.specs.Map.{keys_of}
+use Rattle.xl_base.specs.declared.event.Out.{Out}
 use Rattle.xl_base.specs.declared.name.Party.TheVariants as parties
 use Rattle.xl_core.specs.Deeds.{Deed, Ends}
 use Rattle.xl_core.specs.Settle.{end_party}
 use Rattle.xl_core.specs.State.{CoreState}
 use Rattle.xl_core.specs.Ticks.{behind_told}
 use Rattle.xl_core.specs.declared.ask.Effect.{Effect}
-use Rattle.xl_smb_state.specs.State.{Lists, waiting_dropped, connection_dropped, session_dropped, sessions_on, tree_dropped, trees_of, opens_under, closed}
+use Rattle.xl_smb_state.specs.State.{Lists, waiting_dropped, connection_dropped, session_dropped, sessions_on, tree_dropped, trees_of, opens_under, closed, creates_under}
+use Rattle.xl_smb_state.specs.declared.row.Scope.{Scope}
 use Rattle.xl_smb_state.specs.declared.row.Scope.TheVariants as scope
+use Rattle.xl_smb_locks.specs.Finals.{dismissed}
 use Rattle.xl_front_smb.specs.State.{FrontSmb}
 
 -- ---- opens
+
+-- the opens under it, and those that requests under it wait to make
+abbrev pub numbers_under : Scope → Lists → List ℕ
+numbers_under under l = opens_under under l ++ creates_under under l
 
 -- the deeds by which these opens end, with all that they hold and wait for
 abbrev pub ends : List ℕ → List Deed
@@ -48,6 +56,10 @@ connection_gone conn l = connection_dropped conn (sessions_gone (sessions_on con
 abbrev pub requests_gone : ℕ → Lists → Lists
 requests_gone conn l = record l { waiting = filter (λ e. not (e.1.place.connection == conn)) l.waiting }
 
+-- what is sent to those of whom these effects tell that they wait no more, in order of arrival, and the lists without them
+abbrev pub all_dismissed : List Effect → Lists → List Out × Lists
+all_dismissed told l = dismissed told (keys_of l.waiting) l
+
 -- these are forgotten one after the other
 abbrev pub requests_dropped : List ℕ → Lists → Lists
 requests_dropped [] l = l
@@ -55,14 +67,15 @@ requests_dropped (number ∷ numbers) l = requests_dropped numbers (waiting_drop
 
 -- ---- the end of a connection
 
--- What the end of a connection does to the core: each open under it ends, in the order in which they came.
+-- What the end of a connection does to the core: each open under it ends, in the order in which they came, and then each that a
+-- request under it waits to make.
 unfoldable pub smb_end_deeds : FrontSmb → ℕ → List Deed
-smb_end_deeds f conn = ends (opens_under (scope.Connection conn) f.state)
+smb_end_deeds f conn = ends (numbers_under (scope.Connection conn) f.state)
 
 abbrev pub ended_with : Lists → List Effect × CoreState → List Effect × FrontSmb × CoreState
-ended_with l r = (r.0, record { state = l }, r.1)
+ended_with l r = (r.0, record { state = (all_dismissed r.0 l).1 }, r.1)
 
 -- What the core tells of then, and the front and the core afterwards: the connection goes with its sessions, their tree
--- connects, and the requests that wait, which get no reply.
+-- connects, and the requests that came by it or wait no more, which get no reply.
 unfoldable pub smb_end : FrontSmb → CoreState → ℕ → List Effect × FrontSmb × CoreState
-smb_end f s conn = ended_with (requests_gone conn (connection_gone conn (all_closed (opens_under (scope.Connection conn) f.state) f.state))) (all_ended (opens_under (scope.Connection conn) f.state) s)
+smb_end f s conn = ended_with (requests_gone conn (connection_gone conn (all_closed (opens_under (scope.Connection conn) f.state) f.state))) (all_ended (numbers_under (scope.Connection conn) f.state) s)

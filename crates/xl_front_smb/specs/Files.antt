@@ -1,10 +1,18 @@
 -- Opens: CREATE, CLOSE, and acknowledgements of breaks (MS-SMB2 3.3.5.9, 3.3.5.10, 3.3.5.22).
-use Rattle.std.specs.Prelude.{ℕ, ◌+◌, ◌-◌, Bool, false, not, ◌&&◌, ◌||◌, ◌==◌, nat_lt, bit_and, if◌then◌else◌, List, [], ◌∷◌, length, Option, Some, None, is_some}
+use Rattle.std.specs.Prelude.{ℕ, ◌+◌, ◌-◌, Bool, true, false, not, ◌&&◌, ◌||◌, ◌==◌, nat_lt, bit_and, if◌then◌else◌, List, [], ◌∷◌, length, Option, Some, None, is_some}
 use Rattle.xl_base.specs.declared.name.Party.TheVariants as parties
+use Rattle.xl_cache.specs.Levels.{level_of, oplock_choices}
+use Rattle.xl_cache.specs.Targets.{rest_lies_within}
+use Rattle.xl_matrix.specs.declared.claim.Break.{Break}
+use Rattle.xl_matrix.specs.declared.claim.CacheKind.{CacheKind}
+use Rattle.xl_matrix.specs.declared.claim.CacheKind.TheVariants.{R}
+use Rattle.xl_matrix.specs.declared.claim.Claim.{Claim}
 use Rattle.xl_matrix.specs.declared.claim.Rwd.{Rwd}
+use Rattle.xl_matrix.specs.declared.claim.What.{What}
+use Rattle.xl_matrix.specs.declared.claim.What.TheVariants as whats
 use Rattle.xl_smb.specs.Creates.{CreateCallItem}
 use Rattle.xl_smb.specs.Heads.{is_set}
-use Rattle.xl_smb.specs.declared.breaks.Break.{Break}
+use Rattle.xl_smb.specs.declared.breaks.Break.{Break as Acknowledgement}
 use Rattle.xl_smb.specs.declared.breaks.Break.TheVariants as held
 use Rattle.xl_smb.specs.declared.file.FileId.{FileId}
 use Rattle.xl_smb.specs.declared.head.SmbHead.{SmbHead}
@@ -12,18 +20,22 @@ use Rattle.xl_smb_state.specs.State.{Lists, open_of, closed}
 use Rattle.xl_smb_state.specs.declared.row.Holder.TheVariants as holder
 use Rattle.xl_smb_state.specs.declared.row.Open.{Open}
 use Rattle.xl_smb_state.specs.declared.row.Place.{Place}
+use Rattle.xl_smb_state.specs.declared.row.Request.TheVariants as request
+use Rattle.xl_smb_state.specs.declared.row.Waiting.{Waiting}
 use Rattle.xl_wait.specs.declared.waiter.Rooms.{Rooms}
-use Rattle.xl_core.specs.Deeds.{Ends}
+use Rattle.xl_core.specs.Deeds.{Ends, Acks}
 use Rattle.xl_core.specs.Limits.{most_opens}
 use Rattle.xl_core.specs.State.{CoreState}
 use Rattle.xl_core.specs.declared.ask.Act.TheVariants.{Share}
 use Rattle.xl_core.specs.declared.ask.Ask.{Ask}
 use Rattle.xl_core.specs.declared.ask.Who.TheVariants as who
 use Rattle.xl_front_smb.specs.Checks.{id_of, session_named, tree_named, open_named, in_session, on_tree, on_open}
+use Rattle.xl_front_smb.specs.Locks.{waiting_row}
 use Rattle.xl_front_smb.specs.Plans.{Plan, Fails, Does, Opens}
 use Rattle.xl_front_smb.specs.Texts.{file_spelled}
-use Rattle.xl_smb_locks.specs.declared.status.SmbStatus.TheVariants.{InvalidParameter, ObjectNameNotFound, ObjectNameCollision, InsufficientResources, NotSupported, InvalidOplockProtocol, InvalidDeviceState}
-use Rattle.xl_front_smb.specs.declared.told.Told.TheVariants.{Opened, Closed}
+use Rattle.xl_smb_locks.specs.Levels.{oplock_of}
+use Rattle.xl_smb_locks.specs.declared.status.SmbStatus.TheVariants.{InvalidParameter, ObjectNameNotFound, ObjectNameCollision, InsufficientResources, NotSupported, InvalidOplockProtocol, FileClosed, InvalidDeviceState}
+use Rattle.xl_front_smb.specs.declared.told.Told.TheVariants.{Failed, Acknowledged, Closed}
 
 -- ---- access and sharing (2.2.13, 2.2.13.1.1)
 
@@ -62,17 +74,17 @@ deny_of access share =
 
 -- ---- CREATE
 
--- the open, which asks for its share of the file and does not wait
+-- the open, which asks for its share of the file, waits for the answers to breaks, and wishes for an oplock
 unfoldable pub open_ask : ℕ → ℕ → ℕ → CreateCallItem → Ask
 open_ask conn file number c = record {
   file = file;
   owner = who.Open number;
   party = who.Open number;
   act = Share (access_of c.desired_access) (deny_of (access_of c.desired_access) c.share_access);
-  wish = [];
+  wish = oplock_choices c.oplock_level;
   conn = Some conn;
   blocking = false;
-  awaits = false;
+  awaits = true;
   reclaim = false;
   monitored = false;
   rows = record { hosts = 0; owners = 0; opens = 1 };
@@ -90,35 +102,40 @@ all_opens others l = others + length l.opens
 abbrev pub rooms_left : ℕ → Lists → Rooms
 rooms_left others l = record { hosts = 0; owners = 0; opens = most_opens - all_opens others l }
 
+-- what is kept of a CREATE that waits
+abbrev pub create_row : SmbHead → Place → ℕ → Open → Waiting
+create_row h place number row = waiting_row h place number (request.Create row)
+
 -- the open of this number, which is the next, is asked for
-abbrev pub open_as : CoreState → ℕ → Lists → List ℕ → Place → CreateCallItem → ℕ → ℕ → Plan
-open_as s others l client place c file number = Opens (rooms_left others l) (open_ask place.connection file number c) number (open_row file client place) (Opened (id_of s number))
+abbrev pub open_as : CoreState → ℕ → Lists → SmbHead → List ℕ → Place → CreateCallItem → ℕ → ℕ → Plan
+open_as s others l h client place c file number =
+    Opens (rooms_left others l) (open_ask place.connection file number c) number (open_row file client place) (id_of s number) (create_row h place number (open_row file client place))
 
 -- there is room for an open, and none has this number yet
 abbrev pub has_room_for_open : ℕ → Lists → ℕ → Bool
 has_room_for_open others l number = nat_lt (all_opens others l) most_opens && not (is_some (open_of number l))
 
-abbrev pub open_file : CoreState → ℕ → Lists → List ℕ → Place → CreateCallItem → ℕ → Plan
-open_file s others l client place c file = if has_room_for_open others l (s.counter + 1) then open_as s others l client place c file (s.counter + 1) else Fails InsufficientResources
+abbrev pub open_file : CoreState → ℕ → Lists → SmbHead → List ℕ → Place → CreateCallItem → ℕ → Plan
+open_file s others l h client place c file = if has_room_for_open others l (s.counter + 1) then open_as s others l h client place c file (s.counter + 1) else Fails InsufficientResources
 
 -- files are only opened: FILE_CREATE, 2, meets the one that is there
-abbrev pub open_found : CoreState → ℕ → Lists → List ℕ → Place → CreateCallItem → Option ℕ → Plan
-open_found s others l client place c None = Fails ObjectNameNotFound
-open_found s others l client place c (Some file) = if c.disposition == 2 then Fails ObjectNameCollision else open_file s others l client place c file
+abbrev pub open_found : CoreState → ℕ → Lists → SmbHead → List ℕ → Place → CreateCallItem → Option ℕ → Plan
+open_found s others l h client place c None = Fails ObjectNameNotFound
+open_found s others l h client place c (Some file) = if c.disposition == 2 then Fails ObjectNameCollision else open_file s others l h client place c file
 
 -- FILE_SUPERSEDE, FILE_OVERWRITE and FILE_OVERWRITE_IF change what the file holds
 abbrev pub overwrites : ℕ → Bool
 overwrites disposition = disposition == 0 || (disposition == 4 || disposition == 5)
 
-abbrev pub create_on : CoreState → List (List ℕ) → ℕ → Lists → List ℕ → CreateCallItem → Place → Plan
-create_on s files others l client c place =
+abbrev pub create_on : CoreState → List (List ℕ) → ℕ → Lists → SmbHead → List ℕ → CreateCallItem → Place → Plan
+create_on s files others l h client c place =
     if nat_lt 5 c.disposition then Fails InvalidParameter
     else if overwrites c.disposition then Fails NotSupported
-    else open_found s others l client place c (file_spelled files c.name)
+    else open_found s others l h client place c (file_spelled files c.name)
 
 -- CREATE: in a session, on a tree connect of it
 unfoldable pub create : CoreState → List (List ℕ) → ℕ → Lists → ℕ → List ℕ → SmbHead → CreateCallItem → Plan
-create s files others l conn client h c = in_session (λ session. on_tree (create_on s files others l client c) (tree_named l conn client h session)) (session_named s l conn h.session_id)
+create s files others l conn client h c = in_session (λ session. on_tree (create_on s files others l h client c) (tree_named l conn client h session)) (session_named s l conn h.session_id)
 
 -- ---- CLOSE
 
@@ -131,16 +148,57 @@ unfoldable pub close : CoreState → Lists → ℕ → List ℕ → SmbHead → 
 close s l conn client h id =
     in_session (λ session. on_tree (λ place. on_open (close_open l) (open_named s l conn id)) (tree_named l conn client h session)) (session_named s l conn h.session_id)
 
--- ---- acknowledgements: no cache is held yet, and no break runs
+-- ---- acknowledgements of breaks
 
--- none, 0, and level II, 1, are levels to go down to; a lease, 0xFF, is acknowledged in a form of its own
-abbrev pub level_refused : ℕ → Plan
-level_refused level = if level == 0xFF then Fails InvalidParameter else if nat_lt 1 level then Fails InvalidOplockProtocol else Fails InvalidDeviceState
+abbrev pub is_read : CacheKind → Bool
+is_read R = true
+is_read kind = false
+
+-- a break leaves less than level II
+abbrev pub leaves_less : Option Break → Bool
+leaves_less None = false
+leaves_less (Some running) = not (rest_lies_within (Some R) running.target)
+
+-- the level isn't one to go down to: it is above II, or it is II where the oplock is no more than that already, or where its
+-- break leaves less
+abbrev pub is_refused : ℕ → CacheKind → Option Break → Bool
+is_refused level kind running = nat_lt 1 level || ((level == 1) && (is_read kind || leaves_less running))
+
+-- none, 0, or level II, 1
+abbrev pub left_at : ℕ → Option CacheKind
+left_at level = if level == 0 then None else Some R
+
+-- where a break runs it is answered, so that nothing is left
+abbrev pub refused_ack : Lists → Claim → Option Break → Plan
+refused_ack l cache None = Fails InvalidOplockProtocol
+refused_ack l cache (Some running) = Does (Acks cache None ∷ []) l (Failed InvalidOplockProtocol)
+
+-- where a break runs it is answered, so that this level is left
+abbrev pub taken_ack : Lists → ℕ → ℕ → Claim → Option Break → Plan
+taken_ack l id level cache None = Fails InvalidDeviceState
+taken_ack l id level cache (Some running) = Does (Acks cache (left_at level) ∷ []) l (Acknowledged id (level_of (left_at level)))
+
+abbrev pub ack_by : Lists → ℕ → ℕ → Claim → What → Plan
+ack_by l id level cache (whats.Cache kind running) = if is_refused level kind running then refused_ack l cache running else taken_ack l id level cache running
+ack_by l id level cache what = Fails InvalidDeviceState
+
+-- the oplock that the open has, if it has one
+abbrev pub ack_of : Lists → ℕ → ℕ → Option Claim → Plan
+ack_of l id level None = if nat_lt 1 level then Fails InvalidOplockProtocol else Fails InvalidDeviceState
+ack_of l id level (Some cache) = ack_by l id level cache cache.what
+
+abbrev pub ack_open : CoreState → Lists → ℕ → ℕ → Option Open → Plan
+ack_open s l level number None = Fails FileClosed
+ack_open s l level number (Some row) = ack_of l (id_of s number) level (oplock_of row.file number s.claims)
+
+-- a lease, 0xFF, is acknowledged in a form of its own
+abbrev pub ack_level : CoreState → Lists → ℕ → ℕ → Plan
+ack_level s l level number = if level == 0xFF then Fails InvalidParameter else ack_open s l level number (open_of number l)
 
 -- OPLOCK_BREAK: in a session, of an open under the connection, or of a lease
-abbrev pub break_by : CoreState → Lists → ℕ → Break → Plan
-break_by s l conn (held.Oplock level id) = on_open (λ number. level_refused level) (open_named s l conn id)
+abbrev pub break_by : CoreState → Lists → ℕ → Acknowledgement → Plan
+break_by s l conn (held.Oplock level id) = on_open (ack_level s l level) (open_named s l conn id)
 break_by s l conn (held.Lease lease) = Fails ObjectNameNotFound
 
-unfoldable pub acknowledge : CoreState → Lists → ℕ → SmbHead → Break → Plan
+unfoldable pub acknowledge : CoreState → Lists → ℕ → SmbHead → Acknowledgement → Plan
 acknowledge s l conn h b = in_session (λ session. break_by s l conn b) (session_named s l conn h.session_id)

@@ -6,13 +6,13 @@ use Rattle.xl_programs.specs.Sent.{sent_to}
 use Rattle.xl_smb.specs.Heads.{is_set, head_of}
 use Rattle.xl_smb.specs.declared.fault.SmbBad.{SmbBad}
 use Rattle.xl_smb.specs.declared.head.SmbHead.{SmbHead}
-use Rattle.xl_smb_state.specs.State.{Lists, waiting_under}
-use Rattle.xl_smb_state.specs.declared.row.Scope.TheVariants as scope
-use Rattle.xl_smb_locks.specs.Finals.{told_of, dismissed}
+use Rattle.xl_smb_state.specs.State.{Lists}
+use Rattle.xl_smb_locks.specs.Finals.{told_of}
 use Rattle.xl_core.specs.Deeds.{Deed}
 use Rattle.xl_core.specs.State.{CoreState}
 use Rattle.xl_core.specs.declared.ask.Answer.{Answer}
 use Rattle.xl_core.specs.declared.ask.Effect.{Effect}
+use Rattle.xl_front_smb.specs.Ending.{all_dismissed}
 use Rattle.xl_front_smb.specs.Plans.{Plan, deeds_of, told_by, lists_by, Outcome, carried}
 use Rattle.xl_front_smb.specs.Replies.{reply_of}
 use Rattle.xl_front_smb.specs.Requests.{requested}
@@ -43,35 +43,30 @@ smb_deeds n exports others f s conn bytes = deeds_for exports others f s conn by
 
 -- ---- what it is answered
 
-abbrev pub reply_for : Exports → ℕ → FrontSmb → CoreState → ℕ → List ℕ → List Answer → Option SmbHead → Option (List ℕ)
-reply_for exports others f s conn bytes answers None = None
-reply_for exports others f s conn bytes answers (Some h) = reply_of h (told_by (plan_for exports others f s conn bytes h) answers)
+abbrev pub reply_for : Exports → ℕ → FrontSmb → CoreState → ℕ → List ℕ → List Answer → CoreState → Option SmbHead → Option (List ℕ)
+reply_for exports others f s conn bytes answers t None = None
+reply_for exports others f s conn bytes answers t (Some h) = reply_of h (told_by t (plan_for exports others f s conn bytes h) answers)
 
--- What it is answered, without a frame, or none: a function of the message, of the state that it meets, and of what its
--- deeds are answered.
-unfoldable pub smb_reply : Exports → ℕ → FrontSmb → CoreState → ℕ → List ℕ → List Answer → Option (List ℕ)
-smb_reply exports others f s conn bytes answers = reply_for exports others f s conn bytes answers (head_heard (head_of bytes))
+-- What it is answered, without a frame, or none: a function of the message, of the state that it meets, of what its deeds are
+-- answered, and of the state that they leave.
+unfoldable pub smb_reply : Exports → ℕ → FrontSmb → CoreState → ℕ → List ℕ → List Answer → CoreState → Option (List ℕ)
+smb_reply exports others f s conn bytes answers t = reply_for exports others f s conn bytes answers t (head_heard (head_of bytes))
 
 -- ---- whom it cancels
 
--- what is sent to those who waited by this connection, and of whom these effects tell that they wait no more, in order of
--- arrival, and the lists without them
-abbrev pub dismissed_on : ℕ → List Effect → Lists → List Out × Lists
-dismissed_on conn told l = dismissed told (waiting_under (scope.Connection conn) l) l
-
 abbrev pub finals_for : Exports → ℕ → FrontSmb → CoreState → ℕ → List ℕ → List Answer → List Effect → Option SmbHead → List Out
 finals_for exports others f s conn bytes answers told None = []
-finals_for exports others f s conn bytes answers told (Some h) = (dismissed_on conn told (lists_by f.state (plan_for exports others f s conn bytes h) answers)).0
+finals_for exports others f s conn bytes answers told (Some h) = (all_dismissed told (lists_by f.state (plan_for exports others f s conn bytes h) answers)).0
 
 -- All that is sent for it: the final replies to those whom it cancels, and its own reply. A function of the message, of the
--- state that it meets, and of what its deeds are answered and tell of.
-unfoldable pub smb_replies : Exports → ℕ → FrontSmb → CoreState → ℕ → List ℕ → List Answer → List Effect → List Out
-smb_replies exports others f s conn bytes answers told = finals_for exports others f s conn bytes answers told (head_heard (head_of bytes)) ++ sent_by conn (smb_reply exports others f s conn bytes answers)
+-- state that it meets, of what its deeds are answered and tell of, and of the state that they leave.
+unfoldable pub smb_replies : Exports → ℕ → FrontSmb → CoreState → ℕ → List ℕ → List Answer → List Effect → CoreState → List Out
+smb_replies exports others f s conn bytes answers told t = finals_for exports others f s conn bytes answers told (head_heard (head_of bytes)) ++ sent_by conn (smb_reply exports others f s conn bytes answers t)
 
 -- ---- a step: what is sent, the effects, and the front and the core afterwards
 
 abbrev pub answered : ℕ → SmbHead → Outcome → List Out × List Effect × FrontSmb × CoreState
-answered conn h r = ((dismissed_on conn r.1 r.2).0 ++ sent_by conn (reply_of h r.0), r.1, record { state = (dismissed_on conn r.1 r.2).1 }, r.3)
+answered conn h r = ((all_dismissed r.1 r.2).0 ++ sent_by conn (reply_of h r.0), r.1, record { state = (all_dismissed r.1 r.2).1 }, r.3)
 
 abbrev pub stepped : ℕ → Exports → ℕ → FrontSmb → CoreState → ℕ → List ℕ → Option SmbHead → List Out × List Effect × FrontSmb × CoreState
 stepped n exports others f s conn bytes None = ([], [], f, s)
@@ -87,7 +82,7 @@ smb_step n exports others f s conn bytes = stepped n exports others f s conn byt
 abbrev pub shown_with : List Out × Lists → List Out × FrontSmb
 shown_with r = (r.0, record { state = r.1 })
 
--- What is sent for an effect of the core, and the front then: a request that waited and was served, or waits no more, gets
--- its final reply.
-unfoldable pub smb_shown : FrontSmb → Effect → List Out × FrontSmb
-smb_shown f effect = shown_with (told_of effect f.state)
+-- What is sent for an effect of the core, in the state that it left, and the front then: who holds an open is told of the break of
+-- its oplock, and a request that waited and was served, or waits no more, gets its final reply.
+unfoldable pub smb_shown : FrontSmb → CoreState → Effect → List Out × FrontSmb
+smb_shown f s effect = shown_with (told_of s effect f.state)

@@ -1,5 +1,5 @@
 -- Words of the laws: what ends leave, and what a request comes to.
-use Rattle.std.specs.Prelude.{◌≡◌, ◌↔◌, ℕ, ◌+◌, ◌==◌, ◌⊎◌, nat_lt, Bool, true, false, not, List, Option, Some, None, is_some, Ok}
+use Rattle.std.specs.Prelude.{◌≡◌, ◌↔◌, ℕ, ◌+◌, ◌==◌, nat_lt, Bool, true, false, not, List, Option, Some, None, is_some, Ok, if◌then◌else◌}
 use Rattle.std.specs.List.{filter, list_any}
 use Rattle.xl_base.specs.Lists.{IsIn}
 use Rattle.xl_base.specs.declared.name.Owner.TheVariants as owners
@@ -12,26 +12,31 @@ use Rattle.xl_smb.specs.Calls.{CallItem}
 use Rattle.xl_smb.specs.Creates.{CreateCallItem}
 use Rattle.xl_smb.specs.Heads.{command_of, head_of}
 use Rattle.xl_smb.specs.Messages.{Call, message_at}
+use Rattle.xl_smb.specs.declared.file.FileId.{FileId}
 use Rattle.xl_smb.specs.declared.head.SmbHead.{SmbHead}
-use Rattle.xl_smb_state.specs.State.{Lists, client_of}
+use Rattle.xl_smb_state.specs.State.{Lists, client_of, open_of}
+use Rattle.xl_smb_state.specs.declared.row.Open.{Open}
 use Rattle.xl_smb_state.specs.declared.row.Place.{Place}
 use Rattle.xl_wait.specs.declared.waiter.Rooms.{Rooms}
 use Rattle.xl_wait.specs.declared.waiter.Waiter.{Waiter}
 use Rattle.xl_core.specs.Causes.{IsClaimDue}
+use Rattle.xl_core.specs.Begin.{others_of}
+use Rattle.xl_core.specs.Decide.{way}
 use Rattle.xl_core.specs.Settle.{waits_for}
 use Rattle.xl_core.specs.State.{CoreState, drawn}
 use Rattle.xl_core.specs.declared.ask.Answer.TheVariants as answers
 use Rattle.xl_core.specs.declared.ask.Ask.{Ask}
-use Rattle.xl_front_smb.specs.Checks.{id_of, session_named, tree_named}
+use Rattle.xl_front_smb.specs.Checks.{id_of, session_named, tree_named, open_named}
 use Rattle.xl_front_smb.specs.Files.{access_of, deny_of, open_ask, rooms_left, has_room_for_open, overwrites}
 use Rattle.xl_front_smb.specs.FrontSmb.{head_heard}
 use Rattle.xl_front_smb.specs.Plans.{Outcome, carried}
 use Rattle.xl_front_smb.specs.Requests.{planned}
 use Rattle.xl_front_smb.specs.Texts.{file_spelled}
+use Rattle.xl_smb_locks.specs.Levels.{level_held}
 use Rattle.xl_smb_locks.specs.declared.status.SmbStatus.{SmbStatus}
 use Rattle.xl_smb_locks.specs.declared.status.SmbStatus.TheVariants as status
 use Rattle.xl_front_smb.specs.declared.told.Told.{Told}
-use Rattle.xl_front_smb.specs.declared.told.Told.TheVariants.{Failed, Opened}
+use Rattle.xl_front_smb.specs.declared.told.Told.TheVariants.{Failed, Opened, Pending}
 
 -- the rows that don't pass
 abbrev pub rows_but : {X : Type 0} → (ℕ × X → Bool) → List (ℕ × X) → List (ℕ × X)
@@ -49,6 +54,12 @@ waits_among numbers w = list_any (λ number. waits_for (parties.Open number) w) 
 pub record Without (numbers : List ℕ) (old new : CoreState) : Type 0 where
   pub claims : (c : Claim) → IsIn c new.claims ↔ (IsIn c old.claims × (is_among numbers c.party ≡ false))
   pub waiters : (w : Waiter) → IsIn w new.waiters ↔ (IsIn w old.waiters × (waits_among numbers w ≡ false))
+
+-- of what is held only caches changed, whose breaks began; who waits is who waited, and the names are those that were kept
+pub record OnlyBreaks (old new : CoreState) : Type 0 where
+  pub claims : others_of new.claims ≡ others_of old.claims
+  pub waiters : new.waiters ≡ old.waiters
+  pub names : new.names ≡ old.names
 
 -- ---- requests
 
@@ -72,6 +83,14 @@ IsInSession s l conn h client session = (client_of conn l ≡ Some client) × (s
 abbrev pub IsOnTree : CoreState → Lists → ℕ → SmbHead → List ℕ → ℕ → Place → Type 0
 IsOnTree s l conn h client session place = IsInSession s l conn h client session × (tree_named l conn client h session ≡ Some place)
 
+-- it acknowledges the break of this open under the connection, and no lease's
+abbrev pub IsAckOf : CoreState → Lists → ℕ → SmbHead → List ℕ → FileId → ℕ → ℕ → ℕ → Open → Type 0
+IsAckOf s l conn h client id level session number row = IsInSession s l conn h client session × (open_named s l conn id ≡ Some number) × (open_of number l ≡ Some row) × ((level == 0xFF) ≡ false)
+
+-- why an acknowledgement is refused where no break runs: its level is above those to go down to, or there is nothing to answer
+abbrev pub rest_status : Bool → SmbStatus
+rest_status above = if above then status.InvalidOplockProtocol else status.InvalidDeviceState
+
 -- ---- why CREATE is told so (MS-SMB2 3.3.5.9)
 
 -- it fails so where this is the case, else what the rest tells
@@ -85,18 +104,18 @@ OnceFound status due None told = told ≡ Failed status
 OnceFound status due (Some x) told = due x told
 
 -- SHARING_VIOLATION where something held stands against the share for good, INSUFFICIENT_RESOURCES where it passes a limit
--- or a cache keeps it off
 abbrev pub IsRefusalDue : Rooms → CoreState → Ask → Claim → SmbStatus → Type 0
 IsRefusalDue left s a claim status.SharingViolation = (c : Claim) × IsClaimDue left s a claim (answers.Conflict c)
-IsRefusalDue left s a claim status.InsufficientResources =
-    ((limit : ℕ) × IsClaimDue left s a claim (answers.Full limit)) ⊎ ((c : Claim) × IsClaimDue left s a claim (answers.Recall c))
+IsRefusalDue left s a claim status.InsufficientResources = (limit : ℕ) × IsClaimDue left s a claim (answers.Full limit)
 IsRefusalDue left s a claim _ = ⊥
 
--- open under this id where the core is due to grant the share, which nothing held stands against
-abbrev pub IsOpenDue : Rooms → CoreState → Ask → Claim → ℕ → Told → Type 0
-IsOpenDue left s a claim id (Opened opened) = (opened ≡ id) × IsClaimDue left s a claim (answers.Granted claim)
-IsOpenDue left s a claim id (Failed refused) = IsRefusalDue left s a claim refused
-IsOpenDue left s a claim id _ = ⊥
+-- open under this id where the core is due to grant the share, which nothing held stands against, and with this level; pending
+-- where the core is due to let it wait
+abbrev pub IsOpenDue : Rooms → CoreState → Ask → Claim → ℕ → ℕ → Told → Type 0
+IsOpenDue left s a claim id level (Opened opened of) = (opened ≡ id) × (of ≡ level) × IsClaimDue left s a claim (answers.Granted claim)
+IsOpenDue left s a claim id level (Pending number) = IsClaimDue left s a claim (answers.Queued number)
+IsOpenDue left s a claim id level (Failed refused) = IsRefusalDue left s a claim refused
+IsOpenDue left s a claim id level _ = ⊥
 
 -- the share that the open of this number is for
 abbrev pub open_claim : ℕ → ℕ → CreateCallItem → Claim
@@ -107,25 +126,28 @@ open_claim file number c = record {
   what = Share (access_of c.desired_access) (deny_of (access_of c.desired_access) c.share_access);
 }
 
--- the open of the next number
-abbrev pub IsNextDue : CoreState → ℕ → Lists → ℕ → CreateCallItem → ℕ → Told → Type 0
-IsNextDue s others l conn c file = IsOpenDue (rooms_left others l) (drawn s) (open_ask conn file (s.counter + 1) c) (open_claim file (s.counter + 1) c) (id_of s (s.counter + 1))
+-- the open of the next number: by what is held once the breaks began that it begins; and its level is that of the oplock that it
+-- has in the state that is left
+abbrev pub IsNextDue : CoreState → CoreState → ℕ → Lists → ℕ → CreateCallItem → ℕ → Told → Type 0
+IsNextDue s t others l conn c file =
+    let a = open_ask conn file (s.counter + 1) c in
+    IsOpenDue (rooms_left others l) (way (rooms_left others l) (drawn s) a).1 a (open_claim file (s.counter + 1) c) (id_of s (s.counter + 1)) (level_held t file (s.counter + 1))
 
 -- of the file that is found, which is only opened
-abbrev pub IsFileDue : CoreState → ℕ → Lists → ℕ → CreateCallItem → ℕ → Told → Type 0
-IsFileDue s others l conn c file = FailsIf (c.disposition == 2) status.ObjectNameCollision (FailsIf (not (has_room_for_open others l (s.counter + 1))) status.InsufficientResources (IsNextDue s others l conn c file))
+abbrev pub IsFileDue : CoreState → CoreState → ℕ → Lists → ℕ → CreateCallItem → ℕ → Told → Type 0
+IsFileDue s t others l conn c file = FailsIf (c.disposition == 2) status.ObjectNameCollision (FailsIf (not (has_room_for_open others l (s.counter + 1))) status.InsufficientResources (IsNextDue s t others l conn c file))
 
 -- by the disposition and the name
-abbrev pub IsDispositionDue : CoreState → List (List ℕ) → ℕ → Lists → ℕ → CreateCallItem → Told → Type 0
-IsDispositionDue s files others l conn c =
+abbrev pub IsDispositionDue : CoreState → CoreState → List (List ℕ) → ℕ → Lists → ℕ → CreateCallItem → Told → Type 0
+IsDispositionDue s t files others l conn c =
     FailsIf (nat_lt 5 c.disposition) status.InvalidParameter
     (FailsIf (overwrites c.disposition) status.NotSupported
-    (OnceFound status.ObjectNameNotFound (IsFileDue s others l conn c) (file_spelled files c.name)))
+    (OnceFound status.ObjectNameNotFound (IsFileDue s t others l conn c) (file_spelled files c.name)))
 
--- of a client, in a session, on a tree connect of it
-abbrev pub IsCreateDue : CoreState → List (List ℕ) → ℕ → Lists → ℕ → SmbHead → CreateCallItem → Told → Type 0
-IsCreateDue s files others l conn h c =
+-- of a client, in a session, on a tree connect of it, where this state is left
+abbrev pub IsCreateDue : CoreState → CoreState → List (List ℕ) → ℕ → Lists → ℕ → SmbHead → CreateCallItem → Told → Type 0
+IsCreateDue s t files others l conn h c =
     OnceFound status.InvalidParameter
     (λ client. OnceFound status.UserSessionDeleted
-    (λ session. OnceFound status.NetworkNameDeleted (λ (place : Place). IsDispositionDue s files others l conn c) (tree_named l conn client h session)) (session_named s l conn h.session_id))
+    (λ session. OnceFound status.NetworkNameDeleted (λ (place : Place). IsDispositionDue s t files others l conn c) (tree_named l conn client h session)) (session_named s l conn h.session_id))
     (client_of conn l)

@@ -1,23 +1,23 @@
 -- LOCK and CANCEL (MS-SMB2 3.3.5.14, 3.3.5.16).
-use Rattle.std.specs.Prelude.{ℕ, ◌+◌, ◌^◌, ◌==◌, nat_lt, Bool, false, not, ◌&&◌, if◌then◌else◌, List, [], ◌∷◌, length, Option, Some, None, is_some}
+use Rattle.std.specs.Prelude.{ℕ, ◌^◌, ◌==◌, nat_lt, Bool, false, not, ◌&&◌, if◌then◌else◌, List, [], ◌∷◌, length, Option, Some, None}
 use Rattle.xl_smb.specs.Locks.{LockItem, elements_of}
 use Rattle.xl_smb.specs.declared.head.Route.{Route}
 use Rattle.xl_smb.specs.declared.head.Route.TheVariants.{Tree, Async}
 use Rattle.xl_smb.specs.declared.head.SmbHead.{SmbHead}
 use Rattle.xl_smb.specs.declared.lock.LockElement.{LockElement}
-use Rattle.xl_smb_state.specs.Links.{most_waiting}
 use Rattle.xl_smb_state.specs.State.{Lists, open_of, waiting_of, waiting_by_message}
 use Rattle.xl_smb_state.specs.declared.row.Header.{Header}
 use Rattle.xl_smb_state.specs.declared.row.Holder.{Holder}
 use Rattle.xl_smb_state.specs.declared.row.Holder.TheVariants as holder
 use Rattle.xl_smb_state.specs.declared.row.Open.{Open}
 use Rattle.xl_smb_state.specs.declared.row.Place.{Place}
+use Rattle.xl_smb_state.specs.declared.row.Request.{Request}
 use Rattle.xl_smb_state.specs.declared.row.Request.TheVariants as request
 use Rattle.xl_smb_state.specs.declared.row.Waiting.{Waiting}
 use Rattle.xl_wait.specs.Waiting.{is_waiting}
 use Rattle.xl_core.specs.Deeds.{Deed, Cancels}
 use Rattle.xl_core.specs.State.{CoreState}
-use Rattle.xl_smb_locks.specs.Elements.{is_count, unlocks_first, any_waits, lock_fault, refusal}
+use Rattle.xl_smb_locks.specs.Elements.{is_count, unlocks_first, lock_fault}
 use Rattle.xl_smb_locks.specs.Locks.{lock_ask, unlocks}
 use Rattle.xl_smb_locks.specs.declared.locking.Locking.{Locking}
 use Rattle.xl_smb_locks.specs.declared.status.SmbStatus.{SmbStatus}
@@ -27,7 +27,7 @@ use Rattle.xl_front_smb.specs.Plans.{Plan, Fails, Does, Locks, told_as}
 use Rattle.xl_front_smb.specs.Replies.{tree_id}
 use Rattle.xl_front_smb.specs.declared.told.Told.TheVariants.{Nothing}
 
--- ---- a LOCK that waits
+-- ---- a request that waits
 
 -- what its final reply repeats
 abbrev pub header_of : SmbHead → Header
@@ -39,28 +39,24 @@ place_of (holder.Tree place) other = place
 place_of (holder.Nobody until) other = other
 
 -- what is kept of it, alone in its frame
-abbrev pub waiting_row : SmbHead → Place → ℕ → Waiting
-waiting_row h place number = record { header = header_of h; place = place; opened = number; request = request.Lock; behind = [] }
-
--- there is room for a request that waits, and none has this number yet
-abbrev pub has_room_to_wait : Lists → ℕ → Bool
-has_room_to_wait l id = nat_lt (length l.waiting) most_waiting && not (is_some (waiting_of id l))
+abbrev pub waiting_row : SmbHead → Place → ℕ → Request → Waiting
+waiting_row h place number asked = record { header = header_of h; place = place; opened = number; request = asked; behind = [] }
 
 -- ---- LOCK
 
 abbrev pub unlock_by : Lists → List Deed × Locking → Plan
 unlock_by l r = Does r.0 l (told_as r.1)
 
-abbrev pub lock_by : CoreState → Lists → ℕ → Waiting → ℕ → ℕ → List LockElement → Option SmbStatus → Plan
-lock_by s l conn row file number es (Some status) = Fails status
-lock_by s l conn row file number es None = Locks (lock_ask conn file number es (any_waits es && has_room_to_wait l (s.counter + 1))) (refusal es) row
+abbrev pub lock_by : ℕ → Waiting → ℕ → ℕ → List LockElement → Option SmbStatus → Plan
+lock_by conn row file number es (Some status) = Fails status
+lock_by conn row file number es None = Locks (lock_ask conn file number es) row
 
 -- 1 to 64 ranges: all are unlocked, or all are locked
 abbrev pub lock_on : CoreState → Lists → ℕ → SmbHead → ℕ → Place → List LockElement → Open → Plan
 lock_on s l conn h number place es row =
     if not (is_count (length es)) then Fails InvalidParameter
     else if unlocks_first es then unlock_by l (unlocks s row.file number es)
-    else lock_by s l conn (waiting_row h (place_of row.holder place) number) row.file number es (lock_fault es)
+    else lock_by conn (waiting_row h (place_of row.holder place) number request.Lock) row.file number es (lock_fault es)
 
 abbrev pub lock_found : CoreState → Lists → ℕ → SmbHead → ℕ → Place → List LockElement → Option Open → Plan
 lock_found s l conn h number place es None = Fails FileClosed

@@ -1,8 +1,11 @@
 -- What becomes of a request.
-use Rattle.std.specs.Prelude.{ℕ, List, [], ◌∷◌}
-use Rattle.xl_smb_state.specs.State.{Lists, open_added, waiting_added}
+use Rattle.std.specs.Prelude.{ℕ, nat_lt, Bool, not, ◌&&◌, if◌then◌else◌, List, [], ◌∷◌, length, Option, Some, None, is_some}
+use Rattle.xl_smb_state.specs.Links.{most_waiting}
+use Rattle.xl_smb_state.specs.State.{Lists, open_added, waiting_of, waiting_added}
 use Rattle.xl_smb_state.specs.declared.row.Open.{Open}
 use Rattle.xl_smb_state.specs.declared.row.Waiting.{Waiting}
+use Rattle.xl_smb_locks.specs.Finals.{open_refusal}
+use Rattle.xl_smb_locks.specs.Levels.{level_held}
 use Rattle.xl_smb_locks.specs.Locks.{no_rows, lock_told, lock_done}
 use Rattle.xl_smb_locks.specs.declared.locking.Locking.{Locking}
 use Rattle.xl_smb_locks.specs.declared.locking.Locking.TheVariants as locking
@@ -11,43 +14,53 @@ use Rattle.xl_core.specs.Decide.{ask}
 use Rattle.xl_core.specs.Deeds.{Deed, Draws, Asks, all_done, all_told_of}
 use Rattle.xl_core.specs.State.{CoreState, drawn}
 use Rattle.xl_core.specs.declared.ask.Answer.{Answer}
-use Rattle.xl_core.specs.declared.ask.Answer.TheVariants.{Granted, Conflict}
+use Rattle.xl_core.specs.declared.ask.Answer.TheVariants.{Granted, Queued}
 use Rattle.xl_core.specs.declared.ask.Ask.{Ask}
 use Rattle.xl_core.specs.declared.ask.Effect.{Effect}
 use Rattle.xl_smb_locks.specs.declared.status.SmbStatus.{SmbStatus}
-use Rattle.xl_smb_locks.specs.declared.status.SmbStatus.TheVariants.{SharingViolation, InsufficientResources}
 use Rattle.xl_front_smb.specs.declared.told.Told.{Told}
-use Rattle.xl_front_smb.specs.declared.told.Told.TheVariants.{Nothing, Failed, Locked, Pending}
+use Rattle.xl_front_smb.specs.declared.told.Told.TheVariants.{Nothing, Failed, Opened, Locked, Pending}
 
--- It fails so, and nothing is done. Or these deeds are done to the core, these lists are kept, and this is told. Or a number
--- is drawn and this is asked: where it is granted, this open stands under that number, and this is told. Or locks are asked
--- for: a conflict is told so, and where they wait this is kept of the request.
+-- It fails so, and nothing is done. Or these deeds are done to the core, these lists are kept, and this is told. Or this number
+-- is drawn and this is asked: where it is granted, this open stands under the number, and is told under this id; and where it
+-- waits this is kept of the request. Or locks are asked for, and where they wait this is kept of the request.
 pub data Plan : Type 0 where
   Fails : SmbStatus → Plan
   Does : List Deed → Lists → Told → Plan
-  Opens : Rooms → Ask → ℕ → Open → Told → Plan
-  Locks : Ask → SmbStatus → Waiting → Plan
+  Opens : Rooms → Ask → ℕ → Open → ℕ → Waiting → Plan
+  Locks : Ask → Waiting → Plan
 
 abbrev pub deeds_of : Plan → List Deed
 deeds_of (Fails status) = []
 deeds_of (Does deeds lists told) = deeds
-deeds_of (Opens left a number row told) = Draws ∷ Asks left a ∷ []
-deeds_of (Locks a refused row) = Asks no_rows a ∷ []
+deeds_of (Opens left a number row id waiting) = Draws ∷ Asks left a ∷ []
+deeds_of (Locks a row) = Asks no_rows a ∷ []
 
 -- ---- what an answer makes of it
 
--- an open that something held is against violates its sharing; else there is no room for it
-abbrev pub refusal : Answer → SmbStatus
-refusal (Conflict claim) = SharingViolation
-refusal answer = InsufficientResources
+-- there is room for a request that waits under this number, and none waits under it yet: so it is, as each that waits is a
+-- waiter of the core, which has room for as many and numbers of their own for them
+abbrev pub has_room_to_wait : Lists → ℕ → Bool
+has_room_to_wait l id = nat_lt (length l.waiting) most_waiting && not (is_some (waiting_of id l))
 
-abbrev pub opened_told : Told → Answer → Told
-opened_told told (Granted claim) = told
-opened_told told answer = Failed (refusal answer)
+-- a request that waits is kept
+abbrev pub with_waiting : ℕ → Waiting → Lists → Lists
+with_waiting id row l = if has_room_to_wait l id then waiting_added id row l else l
 
-abbrev pub opened_lists : Lists → ℕ → Open → Answer → Lists
-opened_lists l number row (Granted claim) = open_added number row l
-opened_lists l number row answer = l
+abbrev pub failed_by : Option SmbStatus → Told
+failed_by None = Nothing
+failed_by (Some status) = Failed status
+
+-- what an open is told, which then has an oplock of this level
+abbrev pub opened_told : ℕ → ℕ → Answer → Told
+opened_told id level (Granted claim) = Opened id level
+opened_told id level (Queued number) = Pending number
+opened_told id level answer = failed_by (open_refusal answer)
+
+abbrev pub opened_lists : Lists → ℕ → Open → Waiting → Answer → Lists
+opened_lists l number row waiting (Granted claim) = open_added number row l
+opened_lists l number row waiting (Queued id) = with_waiting id waiting l
+opened_lists l number row waiting answer = l
 
 -- what is told of locks and unlocks
 abbrev pub told_as : Locking → Told
@@ -55,41 +68,40 @@ told_as locking.Done = Locked
 told_as (locking.Failed status) = Failed status
 told_as (locking.Waits id) = Pending id
 
--- a request that waits is kept
 abbrev pub lists_as : Waiting → Lists → Locking → Lists
 lists_as row l locking.Done = l
 lists_as row l (locking.Failed status) = l
-lists_as row l (locking.Waits id) = waiting_added id row l
+lists_as row l (locking.Waits id) = with_waiting id row l
 
-abbrev pub first_told : Told → List Answer → Told
-first_told told [] = Nothing
-first_told told (answer ∷ answers) = opened_told told answer
+abbrev pub first_told : ℕ → ℕ → List Answer → Told
+first_told id level [] = Nothing
+first_told id level (answer ∷ answers) = opened_told id level answer
 
-abbrev pub first_lists : Lists → ℕ → Open → List Answer → Lists
-first_lists l number row [] = l
-first_lists l number row (answer ∷ answers) = opened_lists l number row answer
+abbrev pub first_lists : Lists → ℕ → Open → Waiting → List Answer → Lists
+first_lists l number row waiting [] = l
+first_lists l number row waiting (answer ∷ answers) = opened_lists l number row waiting answer
 
-abbrev pub first_locked : SmbStatus → List Answer → Told
-first_locked refused [] = Nothing
-first_locked refused (answer ∷ answers) = told_as (lock_told refused answer)
+abbrev pub first_locked : List Answer → Told
+first_locked [] = Nothing
+first_locked (answer ∷ answers) = told_as (lock_told answer)
 
-abbrev pub first_kept : SmbStatus → Waiting → Lists → List Answer → Lists
-first_kept refused row l [] = l
-first_kept refused row l (answer ∷ answers) = lists_as row l (lock_told refused answer)
+abbrev pub first_kept : Waiting → Lists → List Answer → Lists
+first_kept row l [] = l
+first_kept row l (answer ∷ answers) = lists_as row l (lock_told answer)
 
--- what is told, by what the deeds are answered
-abbrev pub told_by : Plan → List Answer → Told
-told_by (Fails status) answers = Failed status
-told_by (Does deeds lists told) answers = told
-told_by (Opens left a number row told) answers = first_told told answers
-told_by (Locks a refused row) answers = first_locked refused answers
+-- what is told, by what the deeds are answered, and by the state that they leave
+abbrev pub told_by : CoreState → Plan → List Answer → Told
+told_by t (Fails status) answers = Failed status
+told_by t (Does deeds lists told) answers = told
+told_by t (Opens left a number row id waiting) answers = first_told id (level_held t row.file number) answers
+told_by t (Locks a row) answers = first_locked answers
 
 -- the lists then
 abbrev pub lists_by : Lists → Plan → List Answer → Lists
 lists_by l (Fails status) answers = l
 lists_by l (Does deeds lists told) answers = lists
-lists_by l (Opens left a number row told) answers = first_lists l number row answers
-lists_by l (Locks a refused row) answers = first_kept refused row l answers
+lists_by l (Opens left a number row id waiting) answers = first_lists l number row waiting answers
+lists_by l (Locks a row) answers = first_kept row l answers
 
 -- ---- what it comes to
 
@@ -97,8 +109,8 @@ lists_by l (Locks a refused row) answers = first_kept refused row l answers
 abbrev pub Outcome : Type 0
 Outcome = Told × List Effect × Lists × CoreState
 
-abbrev pub opened : Lists → ℕ → Open → Told → Answer × List Effect × CoreState → Outcome
-opened l number row told r = (opened_told told r.0, r.1, opened_lists l number row r.0, r.2)
+abbrev pub opened : Lists → ℕ → Open → ℕ → Waiting → Answer × List Effect × CoreState → Outcome
+opened l number row id waiting r = (opened_told id (level_held r.2 row.file number) r.0, r.1, opened_lists l number row waiting r.0, r.2)
 
 abbrev pub locked : Lists → Waiting → Locking × List Effect × CoreState → Outcome
 locked l row r = (told_as r.0, r.1, lists_as row l r.0, r.2)
@@ -107,5 +119,5 @@ locked l row r = (told_as r.0, r.1, lists_as row l r.0, r.2)
 abbrev pub carried : ℕ → CoreState → Lists → Plan → Outcome
 carried n s l (Fails status) = (Failed status, [], l, s)
 carried n s l (Does deeds lists told) = (told, all_told_of n s deeds, lists, all_done n s deeds)
-carried n s l (Opens left a number row told) = opened l number row told (ask n left (drawn s) a)
-carried n s l (Locks a refused row) = locked l row (lock_done refused (ask n no_rows s a))
+carried n s l (Opens left a number row id waiting) = opened l number row id waiting (ask n left (drawn s) a)
+carried n s l (Locks a row) = locked l row (lock_done (ask n no_rows s a))

@@ -1,18 +1,18 @@
 -- How what a request is told is spelled (MS-SMB2 2.2, 3.3.4.1).
 use Rattle.std.specs.Prelude.{◌≡◌, ℕ, min, max, ◌==◌, if◌then◌else◌, List, [], Option, Some, None}
-use Rattle.xl_smb.specs.Creates.{CreateReplyItem}
 use Rattle.xl_smb.specs.Messages.{Reply, spelling}
 use Rattle.xl_smb.specs.Places.{zeros}
-use Rattle.xl_smb.specs.Replies.{ReplyItem, Negotiate, SessionSetup, Logoff, TreeConnect, TreeDisconnect, Create, Close, Lock, Echo, Error}
+use Rattle.xl_smb.specs.Replies.{ReplyItem, Negotiate, SessionSetup, Logoff, TreeConnect, TreeDisconnect, Create, Close, Lock, Echo, OplockBreak, Error}
 use Rattle.xl_smb.specs.Sessions.{NegotiateReplyItem, SetupReplyItem}
+use Rattle.xl_smb.specs.declared.breaks.Break.TheVariants as held
 use Rattle.xl_smb.specs.declared.command.Command.{Command}
 use Rattle.xl_smb.specs.declared.command.Command.TheVariants as command
-use Rattle.xl_smb.specs.declared.file.FileStatus.{FileStatus}
 use Rattle.xl_smb.specs.declared.head.Route.{Route}
 use Rattle.xl_smb.specs.declared.head.Route.TheVariants.{Tree, Async}
 use Rattle.xl_smb.specs.declared.head.SmbHead.{SmbHead}
 use Rattle.xl_smb.specs.declared.lock.CloseReply.{CloseReply}
 use Rattle.xl_smb.specs.declared.session.TreeConnectReply.{TreeConnectReply}
+use Rattle.xl_smb_locks.specs.Levels.{file_id, file_of, opened}
 use Rattle.xl_smb_locks.specs.Statuses.{status_number}
 use Rattle.xl_front_smb.specs.declared.told.Told.{Told}
 use Rattle.xl_front_smb.specs.declared.told.Told.TheVariants as told
@@ -80,14 +80,6 @@ set_up = record { flags = 1; buffer = [] }
 abbrev pub connected : TreeConnectReply
 connected = record { share_type = 1; flags = 0; capabilities = 0; maximal_access = 0x001F01FF }
 
--- a file with these attributes, of which nothing else is told
-abbrev pub file_of : ℕ → FileStatus
-file_of attributes = record { created = 0; accessed = 0; written = 0; changed = 0; allocated = 0; end_of_file = 0; attributes = attributes }
-
--- a file that was there, without an oplock
-abbrev pub opened : ℕ → CreateReplyItem
-opened id = record { oplock_level = 0; action = 1; status = file_of 0x80; file_id = record { persistent = id; volatile = id }; contexts = [] }
-
 abbrev pub closed : CloseReply
 closed = record { flags = 0; status = file_of 0 }
 
@@ -99,7 +91,8 @@ body_of (told.SetUp session) = Some (SessionSetup set_up)
 body_of told.LoggedOff = Some Logoff
 body_of (told.Connected tree) = Some (TreeConnect connected)
 body_of told.Disconnected = Some TreeDisconnect
-body_of (told.Opened id) = Some (Create (opened id))
+body_of (told.Opened id level) = Some (Create (opened id level))
+body_of (told.Acknowledged id level) = Some (OplockBreak (held.Oplock level (file_id id)))
 body_of told.Closed = Some (Close closed)
 body_of told.Locked = Some Lock
 body_of (told.Pending id) = Some Error
@@ -124,7 +117,8 @@ IsAnswer c (told.SetUp session) = c ≡ Some command.SessionSetup
 IsAnswer c told.LoggedOff = c ≡ Some command.Logoff
 IsAnswer c (told.Connected tree) = c ≡ Some command.TreeConnect
 IsAnswer c told.Disconnected = c ≡ Some command.TreeDisconnect
-IsAnswer c (told.Opened id) = c ≡ Some command.Create
+IsAnswer c (told.Opened id level) = c ≡ Some command.Create
+IsAnswer c (told.Acknowledged id level) = c ≡ Some command.OplockBreak
 IsAnswer c told.Closed = c ≡ Some command.Close
 IsAnswer c told.Locked = c ≡ Some command.Lock
 IsAnswer c (told.Pending id) = Unit {0}

@@ -7,24 +7,26 @@ ghost use Rattle.xl_smb_state.specs.State.{open_of};
 ghost use Rattle.xl_smb_state.specs.declared.row.Holder.TheVariants as holder;
 ghost use Rattle.xl_core.specs.Decide.{ask};
 ghost use Rattle.xl_core.specs.State.{MayBe};
+ghost use Rattle.xl_smb_locks.specs.Levels.{level_held};
 ghost use Rattle.xl_front_smb.specs.Files.{access_of, deny_of, open_ask, open_row, all_opens, has_room_for_open, rooms_left, open_as, open_file, overwrites, create_on, create};
 ghost use Rattle.xl_front_smb.specs.Plans.{opened_told, opened_lists, carried};
 ghost use Rattle.xl_front_smb.specs.Replies.{IsAnswer};
 ghost use Rattle.xl_front_smb.specs.Short.{IsOpenAsk, IsReady, Leaves};
 
 use crate::checks::{session_named, tree_named};
-use crate::ids::id_of;
+use crate::locks::{keep_waiting, waiting_row};
 use crate::numbers::drawn;
 use crate::outcome::{Done, failed};
 use crate::texts::file_spelled;
 use crate::told::Told;
 use std::alloc::{AllocError, Global};
 use xl_base::{Keeper, Sequence};
+use xl_cache::wish_of_oplock;
 use xl_core::{Act, Answer, Ask, Core, Effect, Who};
 use xl_matrix::Rwd;
 use xl_smb::{CreateCall, SmbHead};
-use xl_smb_locks::SmbStatus;
-use xl_smb_state::{Holder, OPENS, Open, Place, SmbState};
+use xl_smb_locks::{SmbStatus, id_of, level_held};
+use xl_smb_state::{Holder, OPENS, Open, Place, Request, SmbState, Waiting};
 use xl_wait::Rooms;
 
 /// GENERIC_ALL and MAXIMUM_ALLOWED (MS-SMB2 2.2.13.1.1).
@@ -67,22 +69,29 @@ fn deny_of(access: Rwd, share: u32) -> Rwd
 }
 
 /// What the core is asked for an open.
-#[tactic(auto, unfolding(crate::specs::Files::open_ask), using(crate::proofs::AskLaws::open_is))]
-fn open_ask(alloc: Global, conn: u64, file: u32, number: u32, call: &CreateCall) -> Ask
-    ensures value { result ≡ open_ask conn file number (shown_create_call call.now) }
-    ensures open { IsOpenAsk result }
+#[tactic(auto, unfolding(crate::specs::Files::open_ask))]
+fn open_ask(
+    alloc: Global,
+    conn: u64,
+    file: u32,
+    number: u32,
+    call: &CreateCall,
+) -> Result<Ask, AllocError>
+    ensures value { IfOk result (λ ask. ask ≡ open_ask conn file number (shown_create_call call.now)) }
+    ensures open { IfOk result (λ ask. IsOpenAsk ask) }
 {
     let access = access_of(call.desired_access);
     let deny = deny_of(access, call.share_access);
-    Ask {
+    let wish = wish_of_oplock(alloc, call.oplock_level)?;
+    Ok(Ask {
         file,
         owner: Who::Open(number),
         party: Who::Open(number),
         act: Act::Share(access, deny),
-        wish: Sequence::new(alloc),
+        wish,
         conn: Some(conn),
         blocking: false,
-        awaits: false,
+        awaits: true,
         reclaim: false,
         monitored: false,
         rows: Rooms {
@@ -90,7 +99,7 @@ fn open_ask(alloc: Global, conn: u64, file: u32, number: u32, call: &CreateCall)
             owners: 0,
             opens: 1,
         },
-    }
+    })
 }
 
 /// The open of this file, held by the tree connect at this place.
@@ -134,39 +143,47 @@ fn asked<K: Keeper>(
     left: &Rooms,
     request: &Ask,
 ) -> Result<(Answer, Sequence<Effect>), AllocError>
-    requires ready { IsReady 0 core.old }
+    requires ready { IsReady 2 core.old }
     requires unnamed { IsOpenAsk request.now }
     ensures state { (n : ℕ) → IfOk result (λ r. MayBe n core.new → ask n left.now core.old request.now ≡ (r.0, r.1, core.new)) }
-    ensures leaves { OnOk result (Leaves 0 core.old core.new) }
+    ensures leaves { OnOk result (Leaves 2 core.old core.new) }
     ensures keeper { keeper.new ≡ keeper.old }
 {
     let (answer, effects) = core.ask(alloc, keeper, request, left)?;
     Ok((answer, effects))
 }
 
-/// What an open is told that is answered so; where it is granted it stands under its number.
+/// What an open is told that is answered so; where it is granted it stands under its number, and where it waits the request is
+/// kept.
 fn opened(
+    alloc: Global,
     state: &mut SmbState,
+    core: &Core,
     number: u32,
     row: Open,
     id: u64,
+    waiting: Waiting,
     answer: &Answer,
 ) -> Result<Told, AllocError>
     requires room { length state.old.opens < most_opens }
     requires new { open_of number state.old ≡ None }
     requires linked { IsOpenLinked state.old row }
-    ensures told { IfOk result (λ told. told ≡ opened_told (Told.Opened id) answer.now) }
-    ensures lists { OnOk result (state.new ≡ opened_lists state.old number row answer.now) }
+    ensures told { IfOk result (λ told. told ≡ opened_told id (level_held core.now row.file number) answer.now) }
+    ensures lists { OnOk result (state.new ≡ opened_lists state.old number row waiting answer.now) }
     ensures answer { IfOk result (λ told. IsAnswer (Some command.Create) told) }
 {
     match answer {
         Answer::Granted(_) => {
+            let level = level_held(alloc, core, row.file, number)?;
             state.add_open(number, row)?;
-            Ok(Told::Opened(id))
+            Ok(Told::Opened(id, level))
+        }
+        Answer::Queued(waiter) => {
+            keep_waiting(state, *waiter, waiting)?;
+            Ok(Told::Pending(*waiter))
         }
         Answer::Conflict(_) => Ok(Told::Failed(SmbStatus::SharingViolation)),
-        Answer::Queued(_)
-        | Answer::Recall(_)
+        Answer::Recall(_)
         | Answer::Grace(_)
         | Answer::NoGrace(_)
         | Answer::NotRecorded
@@ -184,25 +201,28 @@ fn open_as<K: Keeper>(
     core: &mut Core,
     keeper: &mut K,
     others: u32,
+    head: &SmbHead,
     client: &[u8; 16],
     place: &Place,
     call: &CreateCall,
     file: u32,
 ) -> Result<Done, AllocError>
-    requires ready { IsReady 1 core.old }
+    requires ready { IsReady 3 core.old }
     requires room { has_room_for_open others state.old (core.old.counter + 1) ≡ true }
     requires linked { IsHolderLinked state.old client.now (holder.Tree place.now) }
-    ensures done { (n : ℕ) → IfOk result (λ r. MayBe n core.new → carried n core.old state.old (open_as core.old others state.old client.now place.now (shown_create_call call.now) file (core.old.counter + 1)) ≡ (r.0, r.1, state.new, core.new)) }
-    ensures leaves { OnOk result (Leaves 1 core.old core.new) }
+    ensures done { (n : ℕ) → IfOk result (λ r. MayBe n core.new → carried n core.old state.old (open_as core.old others state.old head.now client.now place.now (shown_create_call call.now) file (core.old.counter + 1)) ≡ (r.0, r.1, state.new, core.new)) }
+    ensures leaves { OnOk result (Leaves 3 core.old core.new) }
     ensures answer { IfOk result (λ r. IsAnswer (Some command.Create) r.0) }
     ensures keeper { keeper.new ≡ keeper.old }
 {
     let left = rooms_left(state, others);
     let number = drawn(core);
     let id = id_of(core, number);
-    let ask = open_ask(alloc, place.connection, file, number, call);
+    let ask = open_ask(alloc, place.connection, file, number, call)?;
     let (answer, effects) = asked(alloc, core, keeper, &left, &ask)?;
-    let told = opened(state, number, open_row(file, client, place), id, &answer)?;
+    let row = open_row(file, client, place);
+    let waiting = waiting_row(alloc, head, *place, number, Request::Create(row));
+    let told = opened(alloc, state, core, number, row, id, waiting, &answer)?;
     Ok((told, effects))
 }
 
@@ -221,15 +241,16 @@ fn open_file<K: Keeper>(
     core: &mut Core,
     keeper: &mut K,
     others: u32,
+    head: &SmbHead,
     client: &[u8; 16],
     place: &Place,
     call: &CreateCall,
     file: u32,
 ) -> Result<Done, AllocError>
-    requires ready { IsReady 1 core.old }
+    requires ready { IsReady 3 core.old }
     requires linked { IsHolderLinked state.old client.now (holder.Tree place.now) }
-    ensures done { (n : ℕ) → IfOk result (λ r. MayBe n core.new → carried n core.old state.old (open_file core.old others state.old client.now place.now (shown_create_call call.now) file) ≡ (r.0, r.1, state.new, core.new)) }
-    ensures leaves { OnOk result (Leaves 1 core.old core.new) }
+    ensures done { (n : ℕ) → IfOk result (λ r. MayBe n core.new → carried n core.old state.old (open_file core.old others state.old head.now client.now place.now (shown_create_call call.now) file) ≡ (r.0, r.1, state.new, core.new)) }
+    ensures leaves { OnOk result (Leaves 3 core.old core.new) }
     ensures answer { IfOk result (λ r. IsAnswer (Some command.Create) r.0) }
     ensures keeper { keeper.new ≡ keeper.old }
 {
@@ -237,7 +258,7 @@ fn open_file<K: Keeper>(
         return Ok(failed(alloc, SmbStatus::InsufficientResources));
     }
     let done = open_as(
-        alloc, state, core, keeper, others, client, place, call, file,
+        alloc, state, core, keeper, others, head, client, place, call, file,
     )?;
     Ok(done)
 }
@@ -258,14 +279,15 @@ fn create_on<K: Keeper>(
     core: &mut Core,
     keeper: &mut K,
     others: u32,
+    head: &SmbHead,
     client: &[u8; 16],
     place: &Place,
     call: &CreateCall,
 ) -> Result<Done, AllocError>
-    requires ready { IsReady 1 core.old }
+    requires ready { IsReady 3 core.old }
     requires linked { IsHolderLinked state.old client.now (holder.Tree place.now) }
-    ensures done { (n : ℕ) → IfOk result (λ r. MayBe n core.new → carried n core.old state.old (create_on core.old files.now others state.old client.now (shown_create_call call.now) place.now) ≡ (r.0, r.1, state.new, core.new)) }
-    ensures leaves { OnOk result (Leaves 1 core.old core.new) }
+    ensures done { (n : ℕ) → IfOk result (λ r. MayBe n core.new → carried n core.old state.old (create_on core.old files.now others state.old head.now client.now (shown_create_call call.now) place.now) ≡ (r.0, r.1, state.new, core.new)) }
+    ensures leaves { OnOk result (Leaves 3 core.old core.new) }
     ensures answer { IfOk result (λ r. IsAnswer (Some command.Create) r.0) }
     ensures keeper { keeper.new ≡ keeper.old }
 {
@@ -282,7 +304,7 @@ fn create_on<K: Keeper>(
         return Ok(failed(alloc, SmbStatus::ObjectNameCollision));
     }
     let done = open_file(
-        alloc, state, core, keeper, others, client, place, call, file,
+        alloc, state, core, keeper, others, head, client, place, call, file,
     )?;
     Ok(done)
 }
@@ -301,9 +323,9 @@ pub(crate) fn create<K: Keeper>(
     head: &SmbHead,
     call: &CreateCall,
 ) -> Result<Done, AllocError>
-    requires ready { IsReady 1 core.old }
+    requires ready { IsReady 3 core.old }
     ensures done { (n : ℕ) → IfOk result (λ r. MayBe n core.new → carried n core.old state.old (create core.old files.now others state.old conn client.now head.now (shown_create_call call.now)) ≡ (r.0, r.1, state.new, core.new)) }
-    ensures leaves { OnOk result (Leaves 1 core.old core.new) }
+    ensures leaves { OnOk result (Leaves 3 core.old core.new) }
     ensures answer { IfOk result (λ r. IsAnswer (Some command.Create) r.0) }
     ensures keeper { keeper.new ≡ keeper.old }
 {
@@ -314,7 +336,7 @@ pub(crate) fn create<K: Keeper>(
         return Ok(failed(alloc, SmbStatus::NetworkNameDeleted));
     };
     let done = create_on(
-        alloc, files, state, core, keeper, others, client, &place, call,
+        alloc, files, state, core, keeper, others, head, client, &place, call,
     )?;
     Ok(done)
 }

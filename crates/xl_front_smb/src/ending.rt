@@ -1,16 +1,19 @@
 //! The end of opens, sessions and connections.
 ghost use Rattle.std.specs.Prelude.{◌≡◌, ℕ, [], ◌++◌, Some, IsSome, IfOk, OnOk};
+ghost use Rattle.std.specs.List.{AllByRecursion};
 ghost use Rattle.xl_base.specs.declared.name.Party.TheVariants as parties;
+ghost use Rattle.xl_programs.specs.Sent.{FitsFrame};
 ghost use Rattle.xl_smb_state.specs.State.{session_of, sessions_on, trees_of, opens_under};
 ghost use Rattle.xl_smb_state.specs.declared.row.Scope.TheVariants as scope;
 ghost use Rattle.xl_core.specs.Settle.{end_party};
-ghost use Rattle.xl_front_smb.specs.Ending.{all_ended, all_closed, trees_dropped, session_gone, sessions_gone, connection_gone, requests_gone, requests_dropped, smb_end};
+ghost use Rattle.xl_front_smb.specs.Ending.{numbers_under, all_dismissed, all_ended, all_closed, trees_dropped, session_gone, sessions_gone, connection_gone, requests_gone, requests_dropped, smb_end};
 ghost use Rattle.xl_front_smb.specs.Short.{IsReady, Leaves};
 
 use crate::front::SmbFront;
 use std::alloc::{AllocError, Global};
-use xl_base::{Party, Sequence};
+use xl_base::{Out, Party, Sequence};
 use xl_core::{Core, Effect};
+use xl_smb_locks::dismiss;
 use xl_smb_state::{Scope, SmbState};
 
 /// Puts effects behind others.
@@ -67,7 +70,25 @@ fn close_all(alloc: Global, state: &mut SmbState, under: Scope, numbers: &[u32])
     }
 }
 
-/// Ends and closes the opens under it.
+/// The opens under it, and those that requests under it wait to make.
+fn numbers_under(
+    alloc: Global,
+    state: &SmbState,
+    under: Scope,
+    opens: &[u32],
+) -> Result<Vec<u32>, AllocError>
+    requires { opens_under under state.now ≡ opens.now }
+    ensures { IfOk result (λ v. v.items ≡ numbers_under under state.now) }
+{
+    let creates = state.creates_under(alloc, under)?;
+    let mut numbers = Vec::from_slice(alloc, opens)?;
+    for number in creates {
+        numbers.push(number)?;
+    }
+    Ok(numbers)
+}
+
+/// Ends and closes the opens under it, and ends those that requests under it wait to make.
 pub(crate) fn end_under(
     alloc: Global,
     state: &mut SmbState,
@@ -75,14 +96,15 @@ pub(crate) fn end_under(
     under: Scope,
 ) -> Result<Sequence<Effect>, AllocError>
     requires ready { IsReady 0 core.old }
-    ensures core { IfOk result (λ effects. all_ended (opens_under under state.old) core.old ≡ (effects, core.new)) }
+    ensures core { IfOk result (λ effects. all_ended (numbers_under under state.old) core.old ≡ (effects, core.new)) }
     ensures closed { OnOk result (state.new ≡ all_closed (opens_under under state.old) state.old) }
     ensures none { OnOk result (opens_under under state.new ≡ []) }
     ensures leaves { OnOk result (Leaves 0 core.old core.new) }
 {
-    let numbers = state.under(alloc, under)?;
+    let opens = state.under(alloc, under)?;
+    let numbers = numbers_under(alloc, state, under, &opens)?;
     let effects = end_all(alloc, core, &numbers)?;
-    close_all(alloc, state, under, &numbers);
+    close_all(alloc, state, under, &opens);
     Ok(effects)
 }
 
@@ -174,9 +196,26 @@ fn forget_requests(alloc: Global, state: &mut SmbState, conn: u64) -> Result<(),
     Ok(())
 }
 
+/// Tells those of whom these effects tell that they wait no more.
+pub(crate) fn dismiss_all(
+    alloc: Global,
+    state: &mut SmbState,
+    effects: &[Effect],
+) -> Result<Sequence<Out>, AllocError>
+    ensures state { IfOk result (λ outs. all_dismissed effects.now state.old ≡ (outs, state.new)) }
+    ensures little { IfOk result (λ outs. AllByRecursion FitsFrame outs) }
+{
+    if let [] = effects {
+        return Ok(Sequence::new(alloc));
+    }
+    let numbers = state.waiting(alloc)?;
+    let outs = dismiss(alloc, state, effects, &numbers)?;
+    Ok(outs)
+}
+
 /// The connection of this number ends: each open under it ends with all that it holds and waits for, in the order in which
-/// they came, its sessions and tree connects go, and its requests that wait are forgotten. What the core tells of is handed
-/// on; nothing is sent.
+/// they came, and so do those that requests under it wait to make; its sessions and tree connects go, and its requests that wait
+/// are forgotten. What the core tells of is handed on; nothing is sent.
 #[tactic(auto, unfolding(crate::specs::Ending::smb_end))]
 pub fn smb_end(
     alloc: Global,
@@ -191,5 +230,6 @@ pub fn smb_end(
     let effects = end_under(alloc, &mut front.state, core, Scope::Connection(conn))?;
     end_connection(alloc, &mut front.state, conn)?;
     forget_requests(alloc, &mut front.state, conn)?;
+    let _unsent = dismiss_all(alloc, &mut front.state, effects.as_slice())?;
     Ok(effects)
 }

@@ -1,26 +1,29 @@
 //! Opens: CLOSE, and acknowledgements of breaks.
-ghost use Rattle.std.specs.Prelude.{◌≡◌, ℕ, ◌+◌, ◌<◌, Some, IsSome, length, IfOk, OnOk};
-ghost use Rattle.xl_smb.specs.Creates.{shown_create_call};
+ghost use Rattle.std.specs.Prelude.{◌≡◌, ℕ, true, [], ◌∷◌, Some, None, IsSome, IfOk, OnOk};
+ghost use Rattle.xl_base.specs.Lists.{IsIn};
+ghost use Rattle.xl_matrix.specs.declared.claim.What.TheVariants.{Cache};
 ghost use Rattle.xl_smb.specs.declared.command.Command.TheVariants as command;
-ghost use Rattle.xl_smb_state.specs.Links.{most_opens, IsHolderLinked};
-ghost use Rattle.xl_smb_state.specs.State.{open_of};
-ghost use Rattle.xl_smb_state.specs.declared.row.Holder.TheVariants as holder;
-ghost use Rattle.xl_core.specs.Asking.{IsFit};
-ghost use Rattle.xl_core.specs.State.{CoreState, MayBe};
-ghost use Rattle.xl_front_smb.specs.Files.{all_opens, close_open, close, level_refused, break_by, acknowledge};
-ghost use Rattle.xl_front_smb.specs.Plans.{Fails, carried};
+ghost use Rattle.xl_smb_state.specs.State.{Lists, open_of};
+ghost use Rattle.xl_core.specs.Breaks.{may_be_left};
+ghost use Rattle.xl_core.specs.Deeds.{Acks};
+ghost use Rattle.xl_core.specs.State.{CoreState};
+ghost use Rattle.xl_front_smb.specs.Files.{close_open, close, is_read, leaves_less, is_refused, left_at, ack_by, ack_of, ack_open, break_by, acknowledge};
+ghost use Rattle.xl_front_smb.specs.Plans.{Does, carried};
 ghost use Rattle.xl_front_smb.specs.Replies.{IsAnswer};
 ghost use Rattle.xl_front_smb.specs.Short.{IsReady, Leaves};
 
 use crate::checks::{open_named, session_named, tree_named};
 use crate::ending::end_one;
+use crate::locks::open_row;
 use crate::outcome::{Done, failed};
 use crate::told::Told;
 use std::alloc::{AllocError, Global};
 use xl_base::Sequence;
+use xl_cache::{oplock_level, rest_within};
 use xl_core::Core;
+use xl_matrix::{CacheKind, Claim, What};
 use xl_smb::{Break, FileId, SmbHead};
-use xl_smb_locks::SmbStatus;
+use xl_smb_locks::{SmbStatus, id_of, oplock_of};
 use xl_smb_state::SmbState;
 
 /// An open ends with all that it holds.
@@ -72,43 +75,195 @@ pub(crate) fn close(
     Ok(done)
 }
 
-/// Why this level can't be acknowledged, as no break runs.
-fn level_refused(level: u8) -> SmbStatus
-    ensures { level_refused level ≡ Fails result }
+/// Whether an oplock is of level II.
+fn is_read(kind: CacheKind) -> bool
+    ensures { result ≡ is_read kind }
 {
-    match level {
-        0xFF => SmbStatus::InvalidParameter,
-        0 | 1 => SmbStatus::InvalidDeviceState,
-        _ => SmbStatus::InvalidOplockProtocol,
+    matches!(kind, CacheKind::R)
+}
+
+/// Whether a break leaves less than level II.
+fn leaves_less(running: Option<xl_matrix::Break>) -> bool
+    ensures { result ≡ leaves_less running }
+{
+    match running {
+        Some(running) => !rest_within(Some(CacheKind::R), running.target),
+        None => false,
     }
 }
 
-/// Why an acknowledgement is refused, as no cache is held yet.
-fn break_by(state: &SmbState, core: &Core, conn: u64, held: Break) -> SmbStatus
-    ensures { break_by core.now state.now conn held ≡ Fails result }
+/// Whether a level isn't one to go down to.
+fn is_refused(level: u8, kind: CacheKind, running: Option<xl_matrix::Break>) -> bool
+    ensures { result ≡ is_refused level kind running }
+{
+    level > 1 || level == 1 && (is_read(kind) || leaves_less(running))
+}
+
+/// What is left at a level: nothing, or level II.
+fn left_at(level: u8) -> Option<CacheKind>
+    ensures { result ≡ left_at level }
+{
+    if level == 0 { None } else { Some(CacheKind::R) }
+}
+
+/// Answers the break that runs of an open's oplock, so that this is left of it.
+#[tactic(auto, using(crate::proofs::AckLaws::acks, crate::proofs::AckLaws::ack_leaves))]
+fn answer_break(
+    alloc: Global,
+    core: &mut Core,
+    cache: &Claim,
+    to: Option<CacheKind>,
+    told: Told,
+) -> Done
+    requires ready { IsReady 0 core.old }
+    requires held { IsIn cache.now core.old.claims }
+    requires runs { may_be_left cache.now.what to ≡ true }
+    ensures done { (n : ℕ) (l : Lists) → carried n core.old l (Does (Acks cache.now to ∷ []) l told) ≡ (result.0, result.1, l, core.new) }
+    ensures told { result.0 ≡ told }
+    ensures leaves { Leaves 0 core.old core.new }
+{
+    let effects = core.ack(alloc, cache, to);
+    (told, effects)
+}
+
+/// What an acknowledgement of this level comes to, where a break of this oplock runs.
+#[tactic(auto, using(crate::proofs::AckLaws::left_within))]
+fn ack_running(
+    alloc: Global,
+    core: &mut Core,
+    id: u64,
+    level: u8,
+    cache: &Claim,
+    kind: CacheKind,
+    running: xl_matrix::Break,
+) -> Done
+    requires ready { IsReady 0 core.old }
+    requires held { IsIn cache.now core.old.claims }
+    requires runs { cache.now.what ≡ Cache kind (Some running) }
+    ensures done { (n : ℕ) (l : Lists) → carried n core.old l (ack_by l id level cache.now (Cache kind (Some running))) ≡ (result.0, result.1, l, core.new) }
+    ensures leaves { Leaves 0 core.old core.new }
+    ensures answer { IsAnswer (Some command.OplockBreak) result.0 }
+{
+    if is_refused(level, kind, Some(running)) {
+        let told = Told::Failed(SmbStatus::InvalidOplockProtocol);
+        return answer_break(alloc, core, cache, None, told);
+    }
+    let left = left_at(level);
+    let told = Told::Acknowledged(id, oplock_level(left));
+    answer_break(alloc, core, cache, left, told)
+}
+
+/// Why an acknowledgement of this level is refused, where no break of this oplock runs.
+fn ack_resting(alloc: Global, level: u8, kind: CacheKind) -> Done
+    ensures done { (n : ℕ) (s : CoreState) (l : Lists) (id : ℕ) (cache : Claim) → carried n s l (ack_by l id level cache (Cache kind None)) ≡ (result.0, result.1, l, s) }
+    ensures answer { IsAnswer (Some command.OplockBreak) result.0 }
+{
+    if is_refused(level, kind, None) {
+        return failed(alloc, SmbStatus::InvalidOplockProtocol);
+    }
+    failed(alloc, SmbStatus::InvalidDeviceState)
+}
+
+/// What an acknowledgement of this level comes to, of an open that has this oplock.
+#[tactic(auto, using(xl_smb_locks::proofs::LeaveLaws::leaves_self))]
+fn ack_by(alloc: Global, core: &mut Core, id: u64, level: u8, cache: &Claim) -> Done
+    requires ready { IsReady 0 core.old }
+    requires held { IsIn cache.now core.old.claims }
+    ensures done { (n : ℕ) (l : Lists) → carried n core.old l (ack_by l id level cache.now cache.now.what) ≡ (result.0, result.1, l, core.new) }
+    ensures leaves { Leaves 0 core.old core.new }
+    ensures answer { IsAnswer (Some command.OplockBreak) result.0 }
+{
+    match cache.what {
+        What::Cache(kind, Some(running)) => {
+            ack_running(alloc, core, id, level, cache, kind, running)
+        }
+        What::Cache(kind, None) => ack_resting(alloc, level, kind),
+        What::Share(_, _) | What::Range(_, _) => failed(alloc, SmbStatus::InvalidDeviceState),
+    }
+}
+
+/// Why an acknowledgement of this level is refused, of an open without an oplock.
+fn ack_none(alloc: Global, level: u8) -> Done
+    ensures done { (n : ℕ) (s : CoreState) (l : Lists) (id : ℕ) → carried n s l (ack_of l id level None) ≡ (result.0, result.1, l, s) }
+    ensures answer { IsAnswer (Some command.OplockBreak) result.0 }
+{
+    if level > 1 {
+        return failed(alloc, SmbStatus::InvalidOplockProtocol);
+    }
+    failed(alloc, SmbStatus::InvalidDeviceState)
+}
+
+/// What an acknowledgement of this level comes to, of an open.
+#[tactic(auto, using(xl_smb_locks::proofs::LeaveLaws::leaves_self))]
+fn ack_open(
+    alloc: Global,
+    state: &SmbState,
+    core: &mut Core,
+    level: u8,
+    number: u32,
+) -> Result<Done, AllocError>
+    requires ready { IsReady 0 core.old }
+    ensures done { (n : ℕ) → IfOk result (λ r. carried n core.old state.now (ack_open core.old state.now level number (open_of number state.now)) ≡ (r.0, r.1, state.now, core.new)) }
+    ensures leaves { OnOk result (Leaves 0 core.old core.new) }
+    ensures answer { IfOk result (λ r. IsAnswer (Some command.OplockBreak) r.0) }
+{
+    let Some(row) = open_row(state, number) else {
+        return Ok(failed(alloc, SmbStatus::FileClosed));
+    };
+    let id = id_of(core, number);
+    let Some(cache) = oplock_of(alloc, core, row.file, number)? else {
+        return Ok(ack_none(alloc, level));
+    };
+    Ok(ack_by(alloc, core, id, level, &cache))
+}
+
+/// What an acknowledgement comes to, of an open under the connection or of a lease.
+#[tactic(auto, using(xl_smb_locks::proofs::LeaveLaws::leaves_self))]
+fn break_by(
+    alloc: Global,
+    state: &SmbState,
+    core: &mut Core,
+    conn: u64,
+    held: Break,
+) -> Result<Done, AllocError>
+    requires ready { IsReady 0 core.old }
+    ensures done { (n : ℕ) → IfOk result (λ r. carried n core.old state.now (break_by core.old state.now conn held) ≡ (r.0, r.1, state.now, core.new)) }
+    ensures leaves { OnOk result (Leaves 0 core.old core.new) }
+    ensures answer { IfOk result (λ r. IsAnswer (Some command.OplockBreak) r.0) }
 {
     match held {
-        Break::Oplock(level, id) => match open_named(core, state, conn, id) {
-            Some(_) => level_refused(level),
-            None => SmbStatus::FileClosed,
-        },
-        Break::Lease(_) => SmbStatus::ObjectNameNotFound,
+        Break::Oplock(level, id) => {
+            let Some(number) = open_named(core, state, conn, id) else {
+                return Ok(failed(alloc, SmbStatus::FileClosed));
+            };
+            if level == 0xFF {
+                return Ok(failed(alloc, SmbStatus::InvalidParameter));
+            }
+            let done = ack_open(alloc, state, core, level, number)?;
+            Ok(done)
+        }
+        Break::Lease(_) => Ok(failed(alloc, SmbStatus::ObjectNameNotFound)),
     }
 }
 
-/// Why an acknowledgement is refused: in a session, of an open under the connection, or of a lease.
-#[tactic(auto, unfolding(crate::specs::Files::acknowledge))]
+/// An acknowledgement of a break (MS-SMB2 3.3.5.22.1): in a session, of an open under the connection, or of a lease.
+#[tactic(auto, unfolding(crate::specs::Files::acknowledge), using(xl_smb_locks::proofs::LeaveLaws::leaves_self))]
 pub(crate) fn acknowledge(
+    alloc: Global,
     state: &SmbState,
-    core: &Core,
+    core: &mut Core,
     conn: u64,
     head: &SmbHead,
     held: Break,
-) -> SmbStatus
-    ensures { acknowledge core.now state.now conn head.now held ≡ Fails result }
+) -> Result<Done, AllocError>
+    requires ready { IsReady 0 core.old }
+    ensures done { (n : ℕ) → IfOk result (λ r. carried n core.old state.now (acknowledge core.old state.now conn head.now held) ≡ (r.0, r.1, state.now, core.new)) }
+    ensures leaves { OnOk result (Leaves 0 core.old core.new) }
+    ensures answer { IfOk result (λ r. IsAnswer (Some command.OplockBreak) r.0) }
 {
-    match session_named(core, state, conn, head.session_id) {
-        Some(_) => break_by(state, core, conn, held),
-        None => SmbStatus::UserSessionDeleted,
-    }
+    let Some(_session) = session_named(core, state, conn, head.session_id) else {
+        return Ok(failed(alloc, SmbStatus::UserSessionDeleted));
+    };
+    let done = break_by(alloc, state, core, conn, held)?;
+    Ok(done)
 }

@@ -1,8 +1,10 @@
 //! Laws of the front. The functions do nothing: each has laws as its clauses.
-ghost use Rattle.std.specs.Prelude.{◌≡◌, ℕ, ◌+◌, ◌==◌, ◌↔◌, ◌⊎◌, true, false, List, [], ◌∷◌, ◌++◌, map, Some, None};
+ghost use Rattle.std.specs.Prelude.{◌≡◌, ℕ, ◌+◌, ◌==◌, ◌↔◌, ◌⊎◌, nat_lt, true, false, List, [], ◌∷◌, ◌++◌, map, Some, None};
 ghost use Rattle.std.specs.List.{AllByRecursion};
 ghost use Rattle.xl_base.specs.declared.name.Owner.{Owner};
 ghost use Rattle.xl_base.specs.declared.journal.Exports.{Exports};
+ghost use Rattle.xl_core.specs.Begin.{others_of};
+ghost use Rattle.xl_core.specs.Breaks.{ack};
 ghost use Rattle.xl_core.specs.Deeds.{all_done, all_told_of, answers_of, AreFit};
 ghost use Rattle.xl_core.specs.Good.{IsGood};
 ghost use Rattle.xl_core.specs.Places.{RangesOf, ShareOf, held_at};
@@ -14,24 +16,30 @@ ghost use Rattle.xl_smb.specs.Locks.{LockItem, elements_of};
 ghost use Rattle.xl_smb_locks.specs.Elements.{unlocks_first};
 ghost use Rattle.xl_smb_state.specs.declared.row.Open.{Open};
 ghost use Rattle.xl_core.specs.State.{CoreState};
+ghost use Rattle.xl_matrix.specs.declared.claim.Break.{Break};
+ghost use Rattle.xl_matrix.specs.declared.claim.CacheKind.{CacheKind};
+ghost use Rattle.xl_matrix.specs.declared.claim.Claim.{Claim};
 ghost use Rattle.xl_matrix.specs.declared.claim.What.{What};
 ghost use Rattle.xl_smb.specs.Calls.{CallItem};
 ghost use Rattle.xl_smb.specs.Creates.{CreateCallItem};
+ghost use Rattle.xl_smb.specs.declared.breaks.Break.TheVariants as Acknowledgement;
+ghost use Rattle.xl_smb.specs.declared.file.FileId.{FileId};
 ghost use Rattle.xl_smb.specs.declared.lock.CloseCall.{CloseCall};
 ghost use Rattle.xl_smb.specs.declared.head.SmbHead.{SmbHead};
 ghost use Rattle.xl_smb_state.specs.Links.{IsSound, AreDistinct};
 ghost use Rattle.xl_smb_state.specs.State.{Lists, client_of, open_of, covers_holder, opens_under, waiting_under};
 ghost use Rattle.xl_smb_state.specs.declared.row.Place.{Place};
 ghost use Rattle.xl_smb_state.specs.declared.row.Scope.{Scope};
-ghost use Rattle.xl_front_smb.specs.Ending.{smb_end_deeds, smb_end};
-ghost use Rattle.xl_front_smb.specs.Files.{access_of, deny_of, open_row};
+ghost use Rattle.xl_front_smb.specs.Ending.{numbers_under, smb_end_deeds, smb_end};
+ghost use Rattle.xl_front_smb.specs.Files.{access_of, deny_of, open_row, is_refused, left_at};
 ghost use Rattle.xl_front_smb.specs.FrontSmb.{answered, smb_deeds, smb_replies, smb_step};
 ghost use Rattle.xl_front_smb.specs.Checks.{id_of, session_named, tree_named, open_named};
 ghost use Rattle.xl_front_smb.specs.LockLaws.{IsOfOpen, held_as, all_unlocked};
-ghost use Rattle.xl_front_smb.specs.Laws.{rows_but, Without, outcome_of, IsRequest, IsInSession, IsOnTree, IsCreateDue};
+ghost use Rattle.xl_front_smb.specs.Laws.{rows_but, Without, OnlyBreaks, outcome_of, IsRequest, IsInSession, IsOnTree, IsAckOf, rest_status, IsCreateDue};
 ghost use Rattle.xl_front_smb.specs.Owners.{AreOwn, is_end};
 ghost use Rattle.xl_front_smb.specs.State.{FrontSmb};
 ghost use Rattle.xl_front_smb.specs.Texts.{file_spelled};
+ghost use Rattle.xl_smb_locks.specs.Levels.{level_held, oplock_of};
 ghost use Rattle.xl_smb_locks.specs.declared.status.SmbStatus.{SmbStatus};
 ghost use Rattle.xl_front_smb.specs.declared.told.Told.{Told};
 
@@ -62,18 +70,18 @@ pub fn deeds_are_the_connections()
 {}
 
 /// What is sent for a message are the final replies to those whom it cancels, and behind them one reply at most, which goes
-/// back to the connection that it came by: functions of the message, of the state that it meets, and of what its deeds are
-/// answered and tell of.
+/// back to the connection that it came by: functions of the message, of the state that it meets, of what its deeds are
+/// answered and tell of, and of the state that they leave.
 #[tactic(auto, using(crate::proofs::DoesLaws::step_replies))]
 pub fn replies_go_back()
-    ensures { (n : ℕ) (exports : Exports) (others : ℕ) (f : FrontSmb) (s : CoreState) (conn : ℕ) (bytes : List ℕ) → (smb_step n exports others f s conn bytes).0 ≡ smb_replies exports others f s conn bytes (answers_of n s (smb_deeds n exports others f s conn bytes)) (all_told_of n s (smb_deeds n exports others f s conn bytes)) }
+    ensures { (n : ℕ) (exports : Exports) (others : ℕ) (f : FrontSmb) (s : CoreState) (conn : ℕ) (bytes : List ℕ) → (smb_step n exports others f s conn bytes).0 ≡ smb_replies exports others f s conn bytes (answers_of n s (smb_deeds n exports others f s conn bytes)) (all_told_of n s (smb_deeds n exports others f s conn bytes)) (all_done n s (smb_deeds n exports others f s conn bytes)) }
 {}
 
 /// The end of a connection leaves nothing of it, and all else (MS-SMB2 3.3.7.1): of claims and waiters just those of no open
-/// under it, of the lists just the opens that are not under it, and the sessions and tree connects that are not on it; and
-/// the connection is gone.
+/// under it, and of none that a request under it waits to make, of the lists just the opens that are not under it, and the
+/// sessions and tree connects that are not on it; and the connection is gone.
 pub fn an_ended_connection_leaves_nothing()
-    ensures core { (f : FrontSmb) (s : CoreState) (conn : ℕ) → Without (opens_under (Scope.Connection conn) f.state) s (smb_end f s conn).2 }
+    ensures core { (f : FrontSmb) (s : CoreState) (conn : ℕ) → Without (numbers_under (Scope.Connection conn) f.state) s (smb_end f s conn).2 }
     ensures opens { (f : FrontSmb) (s : CoreState) (conn : ℕ) → AreDistinct f.state → (smb_end f s conn).1.state.opens ≡ rows_but (λ e. covers_holder (Scope.Connection conn) e.1.holder) f.state.opens }
     ensures sessions { (f : FrontSmb) (s : CoreState) (conn : ℕ) → AreDistinct f.state → (smb_end f s conn).1.state.sessions ≡ rows_but (λ e. e.1.connection == conn) f.state.sessions }
     ensures trees { (f : FrontSmb) (s : CoreState) (conn : ℕ) → IsSound f.state → AreDistinct f.state → (smb_end f s conn).1.state.trees ≡ rows_but (λ e. e.1.connection == conn) f.state.trees }
@@ -86,12 +94,12 @@ pub fn requests_come_to_their_outcomes()
     ensures { (n : ℕ) (exports : Exports) (others : ℕ) (f : FrontSmb) (s : CoreState) (conn : ℕ) (bytes : List ℕ) (h : SmbHead) (call : CallItem) → IsRequest bytes h call → smb_step n exports others f s conn bytes ≡ answered conn h (outcome_of n s exports.files others f.state conn h call) }
 {}
 
-/// LOGOFF in a session that is there leaves nothing of it, and all else (MS-SMB2 3.3.5.6): of claims and waiters just those
-/// of no open under it, of the lists just the opens that are not under it, the tree connects that are not of it, and the
-/// other sessions. In no session it is refused, and changes nothing.
+/// LOGOFF in a session that is there leaves nothing of it, and all else (MS-SMB2 3.3.5.6): of claims and waiters just those of
+/// no open under it, and of none that a request under it waits to make, of the lists just the opens that are not under it, the
+/// tree connects that are not of it, and the other sessions. In no session it is refused, and changes nothing.
 pub fn a_logoff_leaves_nothing()
     ensures told { (n : ℕ) (s : CoreState) (files : List (List ℕ)) (others : ℕ) (l : Lists) (conn : ℕ) (h : SmbHead) (client : List ℕ) (session : ℕ) → IsInSession s l conn h client session → (outcome_of n s files others l conn h CallItem.Logoff).0 ≡ Told.LoggedOff }
-    ensures core { (n : ℕ) (s : CoreState) (files : List (List ℕ)) (others : ℕ) (l : Lists) (conn : ℕ) (h : SmbHead) (client : List ℕ) (session : ℕ) → IsInSession s l conn h client session → Without (opens_under (Scope.Session session) l) s (outcome_of n s files others l conn h CallItem.Logoff).3 }
+    ensures core { (n : ℕ) (s : CoreState) (files : List (List ℕ)) (others : ℕ) (l : Lists) (conn : ℕ) (h : SmbHead) (client : List ℕ) (session : ℕ) → IsInSession s l conn h client session → Without (numbers_under (Scope.Session session) l) s (outcome_of n s files others l conn h CallItem.Logoff).3 }
     ensures opens { (n : ℕ) (s : CoreState) (files : List (List ℕ)) (others : ℕ) (l : Lists) (conn : ℕ) (h : SmbHead) (client : List ℕ) (session : ℕ) → IsInSession s l conn h client session → AreDistinct l → (outcome_of n s files others l conn h CallItem.Logoff).2.opens ≡ rows_but (λ e. covers_holder (Scope.Session session) e.1.holder) l.opens }
     ensures trees { (n : ℕ) (s : CoreState) (files : List (List ℕ)) (others : ℕ) (l : Lists) (conn : ℕ) (h : SmbHead) (client : List ℕ) (session : ℕ) → IsInSession s l conn h client session → AreDistinct l → (outcome_of n s files others l conn h CallItem.Logoff).2.trees ≡ rows_but (λ e. e.1.session == session) l.trees }
     ensures sessions { (n : ℕ) (s : CoreState) (files : List (List ℕ)) (others : ℕ) (l : Lists) (conn : ℕ) (h : SmbHead) (client : List ℕ) (session : ℕ) → IsInSession s l conn h client session → AreDistinct l → (outcome_of n s files others l conn h CallItem.Logoff).2.sessions ≡ rows_but (λ e. session == e.0) l.sessions }
@@ -100,11 +108,12 @@ pub fn a_logoff_leaves_nothing()
 {}
 
 /// TREE_DISCONNECT on a tree connect that is there leaves nothing of it, and all else (MS-SMB2 3.3.5.8): of claims and
-/// waiters just those of no open under it, of the lists just the opens that are not under it, and the other tree connects. In no session, or
-/// where the tree connect isn't one of it, it is refused, and changes nothing.
+/// waiters just those of no open under it, and of none that a request under it waits to make, of the lists just the opens that
+/// are not under it, and the other tree connects. In no session, or where the tree connect isn't one of it, it is refused, and
+/// changes nothing.
 pub fn a_tree_disconnect_leaves_nothing()
     ensures told { (n : ℕ) (s : CoreState) (files : List (List ℕ)) (others : ℕ) (l : Lists) (conn : ℕ) (h : SmbHead) (client : List ℕ) (session : ℕ) (place : Place) → IsOnTree s l conn h client session place → (outcome_of n s files others l conn h CallItem.TreeDisconnect).0 ≡ Told.Disconnected }
-    ensures core { (n : ℕ) (s : CoreState) (files : List (List ℕ)) (others : ℕ) (l : Lists) (conn : ℕ) (h : SmbHead) (client : List ℕ) (session : ℕ) (place : Place) → IsOnTree s l conn h client session place → Without (opens_under (Scope.Tree place.tree) l) s (outcome_of n s files others l conn h CallItem.TreeDisconnect).3 }
+    ensures core { (n : ℕ) (s : CoreState) (files : List (List ℕ)) (others : ℕ) (l : Lists) (conn : ℕ) (h : SmbHead) (client : List ℕ) (session : ℕ) (place : Place) → IsOnTree s l conn h client session place → Without (numbers_under (Scope.Tree place.tree) l) s (outcome_of n s files others l conn h CallItem.TreeDisconnect).3 }
     ensures opens { (n : ℕ) (s : CoreState) (files : List (List ℕ)) (others : ℕ) (l : Lists) (conn : ℕ) (h : SmbHead) (client : List ℕ) (session : ℕ) (place : Place) → IsOnTree s l conn h client session place → AreDistinct l → (outcome_of n s files others l conn h CallItem.TreeDisconnect).2.opens ≡ rows_but (λ e. covers_holder (Scope.Tree place.tree) e.1.holder) l.opens }
     ensures trees { (n : ℕ) (s : CoreState) (files : List (List ℕ)) (others : ℕ) (l : Lists) (conn : ℕ) (h : SmbHead) (client : List ℕ) (session : ℕ) (place : Place) → IsOnTree s l conn h client session place → AreDistinct l → (outcome_of n s files others l conn h CallItem.TreeDisconnect).2.trees ≡ rows_but (λ e. place.tree == e.0) l.trees }
     ensures sessions { (n : ℕ) (s : CoreState) (files : List (List ℕ)) (others : ℕ) (l : Lists) (conn : ℕ) (h : SmbHead) (client : List ℕ) (session : ℕ) (place : Place) → IsOnTree s l conn h client session place → (outcome_of n s files others l conn h CallItem.TreeDisconnect).2.sessions ≡ l.sessions }
@@ -128,29 +137,48 @@ pub fn a_close_leaves_nothing()
     ensures refused { (n : ℕ) (s : CoreState) (files : List (List ℕ)) (others : ℕ) (l : Lists) (conn : ℕ) (h : SmbHead) (client : List ℕ) (c : CloseCall) (session : ℕ) (place : Place) → IsOnTree s l conn h client session place → open_named s l conn c.file_id ≡ None → outcome_of n s files others l conn h (CallItem.Close c) ≡ (Told.Failed SmbStatus.FileClosed, [], l, s) }
 {}
 
-/// CREATE is told its status exactly where that has its cause, in the order of its checks (MS-SMB2 3.3.5.9): it is open where
-/// the core is due to grant the share, SHARING_VIOLATION where something held stands against that for good,
-/// INSUFFICIENT_RESOURCES where it passes a limit or a cache keeps it off.
+/// CREATE is told its status exactly where that has its cause, in the order of its checks (MS-SMB2 3.3.5.9): once the breaks
+/// began that it begins it is open where the core is due to grant the share, at the level of the oplock that it has then; it is
+/// pending where the core is due to let it wait, for answers to breaks; SHARING_VIOLATION where something held stands against
+/// it for good, INSUFFICIENT_RESOURCES where it passes a limit.
 pub fn creates_have_causes()
-    ensures { (n : ℕ) (s : CoreState) (files : List (List ℕ)) (others : ℕ) (l : Lists) (conn : ℕ) (h : SmbHead) (c : CreateCallItem) (told : Told) → ((outcome_of n s files others l conn h (CallItem.Create c)).0 ≡ told) ↔ IsCreateDue s files others l conn h c told }
+    ensures { (n : ℕ) (s : CoreState) (files : List (List ℕ)) (others : ℕ) (l : Lists) (conn : ℕ) (h : SmbHead) (c : CreateCallItem) (told : Told) → ((outcome_of n s files others l conn h (CallItem.Create c)).0 ≡ told) ↔ IsCreateDue s (outcome_of n s files others l conn h (CallItem.Create c)).3 files others l conn h c told }
 {}
 
-/// What CREATE tells to be open is held (MS-SMB2 3.3.5.9): it has the next number; the open stands under it, of this file and
-/// client, on this tree connect; and its share of the file has just the access that was asked, and denies what isn't shared.
-/// A CREATE that is refused changes neither the lists nor what is held.
+/// What CREATE tells to be open is held (MS-SMB2 3.3.5.9): it has the next number, and the level of the oplock that it has; the
+/// open stands under the number, of this file and client, on this tree connect; and its share of the file has just the access
+/// that was asked, and denies what isn't shared. A CREATE that is refused changes neither the lists nor, of what is held, any
+/// share or range: only breaks of caches begin.
 pub fn opened_files_are_held()
-    ensures number { (n : ℕ) (s : CoreState) (files : List (List ℕ)) (others : ℕ) (l : Lists) (conn : ℕ) (h : SmbHead) (client : List ℕ) (c : CreateCallItem) (session file id : ℕ) (place : Place) → IsOnTree s l conn h client session place → file_spelled files c.name ≡ Some file → (outcome_of n s files others l conn h (CallItem.Create c)).0 ≡ Told.Opened id → id ≡ id_of s (s.counter + 1) }
-    ensures row { (n : ℕ) (s : CoreState) (files : List (List ℕ)) (others : ℕ) (l : Lists) (conn : ℕ) (h : SmbHead) (client : List ℕ) (c : CreateCallItem) (session file id : ℕ) (place : Place) → IsOnTree s l conn h client session place → file_spelled files c.name ≡ Some file → (outcome_of n s files others l conn h (CallItem.Create c)).0 ≡ Told.Opened id → open_of (s.counter + 1) (outcome_of n s files others l conn h (CallItem.Create c)).2 ≡ Some (open_row file client place) }
-    ensures share { (n : ℕ) (s : CoreState) (files : List (List ℕ)) (others : ℕ) (l : Lists) (conn : ℕ) (h : SmbHead) (client : List ℕ) (c : CreateCallItem) (session file id : ℕ) (place : Place) → IsOnTree s l conn h client session place → file_spelled files c.name ≡ Some file → (outcome_of n s files others l conn h (CallItem.Create c)).0 ≡ Told.Opened id → IsGood s → held_at (outcome_of n s files others l conn h (CallItem.Create c)).3 (ShareOf file (Owner.Open (s.counter + 1))) ≡ What.Share (access_of c.desired_access) (deny_of (access_of c.desired_access) c.share_access) ∷ [] }
-    ensures refused { (n : ℕ) (s : CoreState) (files : List (List ℕ)) (others : ℕ) (l : Lists) (conn : ℕ) (h : SmbHead) (c : CreateCallItem) (status : SmbStatus) → IsGood s → (outcome_of n s files others l conn h (CallItem.Create c)).0 ≡ Told.Failed status → ((outcome_of n s files others l conn h (CallItem.Create c)).2 ≡ l) × ((outcome_of n s files others l conn h (CallItem.Create c)).3.claims ≡ s.claims) }
+    ensures number { (n : ℕ) (s : CoreState) (files : List (List ℕ)) (others : ℕ) (l : Lists) (conn : ℕ) (h : SmbHead) (client : List ℕ) (c : CreateCallItem) (session file id level : ℕ) (place : Place) → IsOnTree s l conn h client session place → file_spelled files c.name ≡ Some file → (outcome_of n s files others l conn h (CallItem.Create c)).0 ≡ Told.Opened id level → id ≡ id_of s (s.counter + 1) }
+    ensures level { (n : ℕ) (s : CoreState) (files : List (List ℕ)) (others : ℕ) (l : Lists) (conn : ℕ) (h : SmbHead) (client : List ℕ) (c : CreateCallItem) (session file id level : ℕ) (place : Place) → IsOnTree s l conn h client session place → file_spelled files c.name ≡ Some file → (outcome_of n s files others l conn h (CallItem.Create c)).0 ≡ Told.Opened id level → level ≡ level_held (outcome_of n s files others l conn h (CallItem.Create c)).3 file (s.counter + 1) }
+    ensures row { (n : ℕ) (s : CoreState) (files : List (List ℕ)) (others : ℕ) (l : Lists) (conn : ℕ) (h : SmbHead) (client : List ℕ) (c : CreateCallItem) (session file id level : ℕ) (place : Place) → IsOnTree s l conn h client session place → file_spelled files c.name ≡ Some file → (outcome_of n s files others l conn h (CallItem.Create c)).0 ≡ Told.Opened id level → open_of (s.counter + 1) (outcome_of n s files others l conn h (CallItem.Create c)).2 ≡ Some (open_row file client place) }
+    ensures share { (n : ℕ) (s : CoreState) (files : List (List ℕ)) (others : ℕ) (l : Lists) (conn : ℕ) (h : SmbHead) (client : List ℕ) (c : CreateCallItem) (session file id level : ℕ) (place : Place) → IsOnTree s l conn h client session place → file_spelled files c.name ≡ Some file → (outcome_of n s files others l conn h (CallItem.Create c)).0 ≡ Told.Opened id level → IsGood s → held_at (outcome_of n s files others l conn h (CallItem.Create c)).3 (ShareOf file (Owner.Open (s.counter + 1))) ≡ What.Share (access_of c.desired_access) (deny_of (access_of c.desired_access) c.share_access) ∷ [] }
+    ensures refused { (n : ℕ) (s : CoreState) (files : List (List ℕ)) (others : ℕ) (l : Lists) (conn : ℕ) (h : SmbHead) (c : CreateCallItem) (status : SmbStatus) → IsGood s → (outcome_of n s files others l conn h (CallItem.Create c)).0 ≡ Told.Failed status → ((outcome_of n s files others l conn h (CallItem.Create c)).2 ≡ l) × (others_of (outcome_of n s files others l conn h (CallItem.Create c)).3.claims ≡ others_of s.claims) }
+{}
+
+/// OPLOCK_BREAK of an oplock is told its status exactly where that has its cause, in the order of its checks (MS-SMB2
+/// 3.3.5.22.1): FILE_CLOSED where there is no such open under the connection, INVALID_PARAMETER at a lease's level; where no
+/// break runs INVALID_OPLOCK_PROTOCOL at a level above II, or at II where the oplock is no more than that, and else
+/// INVALID_DEVICE_STATE; where one runs INVALID_OPLOCK_PROTOCOL too, and nothing is left of the oplock, where the level is more
+/// than the break leaves, and else the break is answered: the open has an oplock of the level that it is told then.
+pub fn acknowledgements_have_causes()
+    ensures closed { (n : ℕ) (s : CoreState) (files : List (List ℕ)) (others : ℕ) (l : Lists) (conn : ℕ) (h : SmbHead) (client : List ℕ) (session : ℕ) (level : ℕ) (id : FileId) → IsInSession s l conn h client session → open_named s l conn id ≡ None → outcome_of n s files others l conn h (CallItem.OplockBreak (Acknowledgement.Oplock level id)) ≡ (Told.Failed SmbStatus.FileClosed, [], l, s) }
+    ensures leased { (n : ℕ) (s : CoreState) (files : List (List ℕ)) (others : ℕ) (l : Lists) (conn : ℕ) (h : SmbHead) (client : List ℕ) (session : ℕ) (level : ℕ) (id : FileId) (number : ℕ) → IsInSession s l conn h client session → open_named s l conn id ≡ Some number → (level == 0xFF) ≡ true → outcome_of n s files others l conn h (CallItem.OplockBreak (Acknowledgement.Oplock level id)) ≡ (Told.Failed SmbStatus.InvalidParameter, [], l, s) }
+    ensures bare { (n : ℕ) (s : CoreState) (files : List (List ℕ)) (others : ℕ) (l : Lists) (conn : ℕ) (h : SmbHead) (client : List ℕ) (session : ℕ) (level : ℕ) (id : FileId) (number : ℕ) (row : Open) → IsAckOf s l conn h client id level session number row → oplock_of row.file number s.claims ≡ None → outcome_of n s files others l conn h (CallItem.OplockBreak (Acknowledgement.Oplock level id)) ≡ (Told.Failed (rest_status (nat_lt 1 level)), [], l, s) }
+    ensures resting { (n : ℕ) (s : CoreState) (files : List (List ℕ)) (others : ℕ) (l : Lists) (conn : ℕ) (h : SmbHead) (client : List ℕ) (session : ℕ) (level : ℕ) (id : FileId) (number : ℕ) (row : Open) → IsAckOf s l conn h client id level session number row → (cache : Claim) (kind : CacheKind) → oplock_of row.file number s.claims ≡ Some cache → cache.what ≡ What.Cache kind None → outcome_of n s files others l conn h (CallItem.OplockBreak (Acknowledgement.Oplock level id)) ≡ (Told.Failed (rest_status (is_refused level kind None)), [], l, s) }
+    ensures refused { (n : ℕ) (s : CoreState) (files : List (List ℕ)) (others : ℕ) (l : Lists) (conn : ℕ) (h : SmbHead) (client : List ℕ) (session : ℕ) (level : ℕ) (id : FileId) (number : ℕ) (row : Open) → IsAckOf s l conn h client id level session number row → (cache : Claim) (kind : CacheKind) → oplock_of row.file number s.claims ≡ Some cache → (running : Break) → cache.what ≡ What.Cache kind (Some running) → is_refused level kind (Some running) ≡ true → outcome_of n s files others l conn h (CallItem.OplockBreak (Acknowledgement.Oplock level id)) ≡ (Told.Failed SmbStatus.InvalidOplockProtocol, (ack s cache None).0, l, (ack s cache None).1) }
+    ensures taken { (n : ℕ) (s : CoreState) (files : List (List ℕ)) (others : ℕ) (l : Lists) (conn : ℕ) (h : SmbHead) (client : List ℕ) (session : ℕ) (level : ℕ) (id : FileId) (number : ℕ) (row : Open) → IsAckOf s l conn h client id level session number row → (cache : Claim) (kind : CacheKind) → oplock_of row.file number s.claims ≡ Some cache → (running : Break) → cache.what ≡ What.Cache kind (Some running) → is_refused level kind (Some running) ≡ false → outcome_of n s files others l conn h (CallItem.OplockBreak (Acknowledgement.Oplock level id)) ≡ (Told.Acknowledged (id_of s number) level, (ack s cache (left_at level)).0, l, (ack s cache (left_at level)).1) }
+    ensures left { (n : ℕ) (s : CoreState) (files : List (List ℕ)) (others : ℕ) (l : Lists) (conn : ℕ) (h : SmbHead) (client : List ℕ) (session : ℕ) (level : ℕ) (id : FileId) (number : ℕ) (row : Open) → IsAckOf s l conn h client id level session number row → (cache : Claim) (kind : CacheKind) → oplock_of row.file number s.claims ≡ Some cache → (running : Break) → cache.what ≡ What.Cache kind (Some running) → is_refused level kind (Some running) ≡ false → IsGood s → level_held (outcome_of n s files others l conn h (CallItem.OplockBreak (Acknowledgement.Oplock level id))).3 row.file number ≡ level }
 {}
 
 /// LOCK of locks of an open that is found (MS-SMB2 3.3.5.14.2): where it is told that they are locked each range is held once
-/// more, in order behind those that the open had on its file, and the lists stand; where it is told to fail nothing changed.
+/// more, in order behind those that the open had on its file, and the lists stand; where it is told to fail nothing changed but
+/// that breaks of caches began.
 /// What others hold stands, as the core's laws of one ask say.
 pub fn locked_ranges_are_held()
     ensures held { (n : ℕ) (s : CoreState) (files : List (List ℕ)) (others : ℕ) (l : Lists) (conn : ℕ) (h : SmbHead) (client : List ℕ) (c : LockItem) (session : ℕ) (place : Place) (number : ℕ) (row : Open) → IsOfOpen s l conn h client c.file_id session place number row → unlocks_first (elements_of c.elements) ≡ false → IsGood s → (outcome_of n s files others l conn h (CallItem.Lock c)).0 ≡ Told.Locked → (held_at (outcome_of n s files others l conn h (CallItem.Lock c)).3 (RangesOf row.file number) ≡ held_at s (RangesOf row.file number) ++ map held_as (elements_of c.elements)) × ((outcome_of n s files others l conn h (CallItem.Lock c)).2 ≡ l) }
-    ensures refused { (n : ℕ) (s : CoreState) (files : List (List ℕ)) (others : ℕ) (l : Lists) (conn : ℕ) (h : SmbHead) (client : List ℕ) (c : LockItem) (session : ℕ) (place : Place) (number : ℕ) (row : Open) → IsOfOpen s l conn h client c.file_id session place number row → unlocks_first (elements_of c.elements) ≡ false → IsGood s → (status : SmbStatus) → (outcome_of n s files others l conn h (CallItem.Lock c)).0 ≡ Told.Failed status → ((outcome_of n s files others l conn h (CallItem.Lock c)).2 ≡ l) × ((outcome_of n s files others l conn h (CallItem.Lock c)).3 ≡ s) }
+    ensures refused { (n : ℕ) (s : CoreState) (files : List (List ℕ)) (others : ℕ) (l : Lists) (conn : ℕ) (h : SmbHead) (client : List ℕ) (c : LockItem) (session : ℕ) (place : Place) (number : ℕ) (row : Open) → IsOfOpen s l conn h client c.file_id session place number row → unlocks_first (elements_of c.elements) ≡ false → IsGood s → (status : SmbStatus) → (outcome_of n s files others l conn h (CallItem.Lock c)).0 ≡ Told.Failed status → ((outcome_of n s files others l conn h (CallItem.Lock c)).2 ≡ l) × OnlyBreaks s (outcome_of n s files others l conn h (CallItem.Lock c)).3 }
 {}
 
 /// LOCK of unlocks of an open that is found (MS-SMB2 3.3.5.14.1): where it is told that they are done each has taken out one

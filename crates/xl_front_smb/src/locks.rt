@@ -1,15 +1,15 @@
 //! LOCK and CANCEL.
-ghost use Rattle.std.specs.Prelude.{◌≡◌, ℕ, ◌+◌, ◌≤◌, ◌==◌, ◌&&◌, true, Some, None, length, IfOk, OnOk, option_copied};
+ghost use Rattle.std.specs.Prelude.{◌≡◌, ℕ, ◌≤◌, ◌==◌, Some, None, length, IfOk, OnOk, option_copied};
 ghost use Rattle.std.specs.List.{list_any};
 ghost use Rattle.xl_smb.specs.Locks.{shown_lock, elements_of};
 ghost use Rattle.xl_smb.specs.declared.command.Command.TheVariants as command;
 ghost use Rattle.xl_smb_state.specs.State.{open_of};
 ghost use Rattle.xl_wait.specs.Waiting.{is_waiting};
 ghost use Rattle.xl_core.specs.State.{MayBe};
-ghost use Rattle.xl_smb_locks.specs.Elements.{is_count, any_waits, unlocks_first, lock_fault, refusal};
+ghost use Rattle.xl_smb_locks.specs.Elements.{is_count, unlocks_first, lock_fault};
 ghost use Rattle.xl_smb_locks.specs.Locks.{lock_ask, unlocks};
-ghost use Rattle.xl_front_smb.specs.Locks.{header_of, place_of, waiting_row, has_room_to_wait, unlock_by, lock_by, lock_on, lock_found, lock, came_by, request_named, cancel_named, cancel};
-ghost use Rattle.xl_front_smb.specs.Plans.{Locks, lists_as, told_as, carried};
+ghost use Rattle.xl_front_smb.specs.Locks.{header_of, place_of, waiting_row, unlock_by, lock_by, lock_on, lock_found, lock, came_by, request_named, cancel_named, cancel};
+ghost use Rattle.xl_front_smb.specs.Plans.{Locks, has_room_to_wait, with_waiting, lists_as, told_as, carried};
 ghost use Rattle.xl_front_smb.specs.Replies.{IsAnswer};
 ghost use Rattle.xl_front_smb.specs.Short.{IsReady, Leaves};
 
@@ -21,9 +21,7 @@ use std::alloc::{AllocError, Global};
 use xl_base::{Keeper, Sequence};
 use xl_core::Core;
 use xl_smb::{LockCall, LockElement, Route, SmbHead};
-use xl_smb_locks::{
-    Locking, SmbStatus, any_waits, elements_of, is_count, lock_fault, unlocks_first,
-};
+use xl_smb_locks::{Locking, SmbStatus, elements_of, is_count, lock_fault, unlocks_first};
 use xl_smb_state::{Header, Holder, Open, Place, Request, SmbState, WAITING, Waiting};
 use xl_wait::{Queue, Waiter};
 
@@ -50,20 +48,26 @@ fn place_of(by: Holder, other: &Place) -> Place
     }
 }
 
-/// What is kept of a LOCK that waits.
-fn waiting_row(alloc: Global, head: &SmbHead, place: Place, number: u32) -> Waiting
-    ensures { result ≡ waiting_row head.now place number }
+/// What is kept of a request that waits.
+pub(crate) fn waiting_row(
+    alloc: Global,
+    head: &SmbHead,
+    place: Place,
+    number: u32,
+    request: Request,
+) -> Waiting
+    ensures { result ≡ waiting_row head.now place number request }
 {
     Waiting {
         header: header_of(head),
         place,
         opened: number,
-        request: Request::Lock,
+        request,
         behind: Sequence::new(alloc),
     }
 }
 
-/// Whether there is room for a request that waits, and none has this number yet.
+/// Whether there is room for a request that waits under this number, and none waits under it yet.
 fn has_room_to_wait(state: &SmbState, id: u32) -> bool
     ensures { result ≡ has_room_to_wait state.now id }
 {
@@ -82,20 +86,28 @@ fn told_as(locking: Locking) -> Told
     }
 }
 
-/// Keeps a request that waits.
+/// Keeps a request that waits under this number.
 #[tactic(auto, using(crate::proofs::LockLaws::wait_room, crate::proofs::LockLaws::wait_new))]
-fn keep(state: &mut SmbState, row: Waiting, locking: Locking) -> Result<(), AllocError>
-    requires { (id : ℕ) → locking ≡ Locking.Waits id → has_room_to_wait state.old id ≡ true }
-    ensures { OnOk result (state.new ≡ lists_as row state.old locking) }
+pub(crate) fn keep_waiting(state: &mut SmbState, id: u32, row: Waiting) -> Result<(), AllocError>
+    ensures { OnOk result (state.new ≡ with_waiting id row state.old) }
 {
-    if let Locking::Waits(id) = locking {
+    if has_room_to_wait(state, id) {
         state.add_waiting(id, row)?;
     }
     Ok(())
 }
 
+/// Keeps a request that waits.
+fn keep(state: &mut SmbState, row: Waiting, locking: Locking) -> Result<(), AllocError>
+    ensures { OnOk result (state.new ≡ lists_as row state.old locking) }
+{
+    if let Locking::Waits(id) = locking {
+        keep_waiting(state, id, row)?;
+    }
+    Ok(())
+}
+
 /// Locks all ranges, or none.
-#[tactic(auto, using(crate::proofs::LockLaws::waits_not, crate::proofs::LockLaws::room_to_wait, crate::proofs::LockLaws::locks_done))]
 fn lock_all<K: Keeper>(
     alloc: Global,
     state: &mut SmbState,
@@ -110,15 +122,12 @@ fn lock_all<K: Keeper>(
     requires ready { IsReady 2 core.old }
     requires sound { lock_fault elements.now ≡ None }
     requires some { 1 ≤ length elements.now }
-    ensures done { (n : ℕ) → IfOk result (λ r. MayBe n core.new → carried n core.old state.old (Locks (lock_ask conn file number elements.now (any_waits elements.now && has_room_to_wait state.old (core.old.counter + 1))) (refusal elements.now) row) ≡ (r.0, r.1, state.new, core.new)) }
+    ensures done { (n : ℕ) → IfOk result (λ r. MayBe n core.new → carried n core.old state.old (Locks (lock_ask conn file number elements.now) row) ≡ (r.0, r.1, state.new, core.new)) }
     ensures leaves { OnOk result (Leaves 2 core.old core.new) }
     ensures answer { IfOk result (λ r. IsAnswer (Some command.Lock) r.0) }
     ensures keeper { keeper.new ≡ keeper.old }
 {
-    let blocking = any_waits(elements) && has_room_to_wait(state, core.counter() + 1);
-    let (locking, effects) = xl_smb_locks::lock(
-        alloc, core, keeper, conn, file, number, elements, blocking,
-    )?;
+    let (locking, effects) = xl_smb_locks::lock(alloc, core, keeper, conn, file, number, elements)?;
     keep(state, row, locking)?;
     Ok((told_as(locking), effects))
 }
@@ -172,7 +181,13 @@ fn lock_on<K: Keeper>(
     if let Some(status) = lock_fault(elements) {
         return Ok(failed(alloc, status));
     }
-    let waiting = waiting_row(alloc, head, place_of(row.holder, place), number);
+    let waiting = waiting_row(
+        alloc,
+        head,
+        place_of(row.holder, place),
+        number,
+        Request::Lock,
+    );
     let done = lock_all(
         alloc, state, core, keeper, conn, waiting, row.file, number, elements,
     )?;
@@ -180,7 +195,7 @@ fn lock_on<K: Keeper>(
 }
 
 /// The row of an open.
-fn open_row(state: &SmbState, number: u32) -> Option<Open>
+pub(crate) fn open_row(state: &SmbState, number: u32) -> Option<Open>
     ensures { result ≡ open_of number state.now }
 {
     match state.find_open(number) {

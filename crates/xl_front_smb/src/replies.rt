@@ -2,17 +2,17 @@
 ghost use Rattle.std.specs.Prelude.{◌≡◌, ℕ, ◌≤◌, length, option_map, IfOk, IfSome};
 ghost use Rattle.xl_smb.specs.Heads.{command_of};
 ghost use Rattle.xl_base.specs.Limits.{most_message_bytes};
-ghost use Rattle.xl_smb.specs.Creates.{shown_create_reply};
 ghost use Rattle.xl_smb.specs.Replies.{shown_reply};
 ghost use Rattle.xl_smb.specs.Sessions.{shown_negotiate_reply};
-ghost use Rattle.xl_front_smb.specs.Replies.{credits_for, tree_id, reply_head, pending_head, head_by, file_of, negotiated, opened, body_of, reply_of, IsAnswer};
+ghost use Rattle.xl_front_smb.specs.Replies.{credits_for, tree_id, reply_head, pending_head, head_by, negotiated, body_of, reply_of, IsAnswer};
 
 use crate::told::Told;
 use std::alloc::{AllocError, Global};
 use xl_smb::{
-    CloseReply, Command, Contexts, CreateReply, FileId, FileStatus, NegotiateReply, Route,
-    SessionSetupReply, SmbHead, SmbMessage, SmbReply, TreeConnectReply, write,
+    Break, CloseReply, Command, NegotiateReply, Route, SessionSetupReply, SmbHead, SmbMessage,
+    SmbReply, TreeConnectReply, write,
 };
+use xl_smb_locks::{file_id, file_of, opened};
 
 /// The credits that are granted where so many are asked for.
 #[tactic(auto, unfolding(crate::specs::Replies::credits_for))]
@@ -87,25 +87,11 @@ fn head_by(head: &SmbHead, told: Told) -> SmbHead
         | Told::Negotiated
         | Told::LoggedOff
         | Told::Disconnected
-        | Told::Opened(_)
+        | Told::Opened(_, _)
+        | Told::Acknowledged(_, _)
         | Told::Closed
         | Told::Locked
         | Told::Echoed => reply_head(head, 0, tree, head.session_id),
-    }
-}
-
-/// A file with these attributes, of which nothing else is told.
-fn file_of(attributes: u32) -> FileStatus
-    ensures { result ≡ file_of attributes }
-{
-    FileStatus {
-        created: 0,
-        accessed: 0,
-        written: 0,
-        changed: 0,
-        allocated: 0,
-        end_of_file: 0,
-        attributes,
     }
 }
 
@@ -124,22 +110,6 @@ fn negotiated() -> NegotiateReply<'static>
         system_time: 0,
         start_time: 0,
         buffer: &[],
-    }
-}
-
-/// The body of a reply to CREATE.
-fn opened(id: u64) -> CreateReply<'static>
-    ensures { shown_create_reply result ≡ opened id }
-{
-    CreateReply {
-        oplock_level: 0,
-        action: 1,
-        status: file_of(0x80),
-        file_id: FileId {
-            persistent: id,
-            volatile: id,
-        },
-        contexts: Contexts(&[]),
     }
 }
 
@@ -163,7 +133,10 @@ fn body_of(told: Told) -> Option<SmbReply<'static>>
             maximal_access: 0x001F_01FF,
         })),
         Told::Disconnected => Some(SmbReply::TreeDisconnect),
-        Told::Opened(id) => Some(SmbReply::Create(opened(id))),
+        Told::Opened(id, level) => Some(SmbReply::Create(opened(id, level))),
+        Told::Acknowledged(id, level) => {
+            Some(SmbReply::OplockBreak(Break::Oplock(level, file_id(id))))
+        }
         Told::Locked => Some(SmbReply::Lock),
         Told::Pending(_) => Some(SmbReply::Error),
         Told::Closed => Some(SmbReply::Close(CloseReply {

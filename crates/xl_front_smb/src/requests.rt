@@ -41,10 +41,10 @@ fn commanded<K: Keeper>(
     call: &SmbCall,
     client: &[u8; 16],
 ) -> Result<Done, AllocError>
-    requires ready { IsReady 2 core.old }
+    requires ready { IsReady 3 core.old }
     requires client { client_of conn state.old ≡ Some client.now }
     ensures done { (n : ℕ) → IfOk result (λ r. MayBe n core.new → carried n core.old state.old (commanded core.old files.now others state.old conn head.now (shown_call call.now) client.now) ≡ (r.0, r.1, state.new, core.new)) }
-    ensures leaves { OnOk result (Leaves 2 core.old core.new) }
+    ensures leaves { OnOk result (Leaves 3 core.old core.new) }
     ensures answer { IfOk result (λ r. IsAnswer (command_of_call (shown_call call.now)) r.0) }
     ensures keeper { keeper.new ≡ keeper.old }
 {
@@ -60,9 +60,7 @@ fn commanded<K: Keeper>(
         SmbCall::Lock(args) => Ok(lock(alloc, state, core, keeper, conn, client, head, args)?),
         SmbCall::Cancel => Ok(cancel(alloc, state, core, conn, head)?),
         SmbCall::Echo => Ok(told(alloc, Told::Echoed)),
-        SmbCall::OplockBreak(held) => {
-            Ok(failed(alloc, acknowledge(state, core, conn, head, *held)))
-        }
+        SmbCall::OplockBreak(held) => Ok(acknowledge(alloc, state, core, conn, head, *held)?),
         SmbCall::Negotiate(_) => Ok(failed(alloc, SmbStatus::InvalidParameter)),
         SmbCall::Other => Ok(failed(alloc, SmbStatus::NotSupported)),
     }
@@ -81,9 +79,9 @@ fn once_negotiated<K: Keeper>(
     head: &SmbHead,
     call: &SmbCall,
 ) -> Result<Done, AllocError>
-    requires ready { IsReady 2 core.old }
+    requires ready { IsReady 3 core.old }
     ensures done { (n : ℕ) → IfOk result (λ r. MayBe n core.new → carried n core.old state.old (negotiated_by (commanded core.old files.now others state.old conn head.now (shown_call call.now)) (client_of conn state.old)) ≡ (r.0, r.1, state.new, core.new)) }
-    ensures leaves { OnOk result (Leaves 2 core.old core.new) }
+    ensures leaves { OnOk result (Leaves 3 core.old core.new) }
     ensures answer { IfOk result (λ r. IsAnswer (command_of_call (shown_call call.now)) r.0) }
     ensures keeper { keeper.new ≡ keeper.old }
 {
@@ -108,9 +106,9 @@ fn planned<K: Keeper>(
     head: &SmbHead,
     call: &SmbCall,
 ) -> Result<Done, AllocError>
-    requires ready { IsReady 2 core.old }
+    requires ready { IsReady 3 core.old }
     ensures done { (n : ℕ) → IfOk result (λ r. MayBe n core.new → carried n core.old state.old (planned core.old files.now others state.old conn head.now (shown_call call.now)) ≡ (r.0, r.1, state.new, core.new)) }
-    ensures leaves { OnOk result (Leaves 2 core.old core.new) }
+    ensures leaves { OnOk result (Leaves 3 core.old core.new) }
     ensures answer { IfOk result (λ r. IsAnswer (command_of_call (shown_call call.now)) r.0) }
     ensures keeper { keeper.new ≡ keeper.old }
 {
@@ -145,10 +143,10 @@ pub(crate) fn requested<K: Keeper>(
     bytes: &[u8],
     head: &SmbHead,
 ) -> Result<Done, AllocError>
-    requires ready { IsReady 2 core.old }
+    requires ready { IsReady 3 core.old }
     requires head { head_of bytes.now ≡ Ok head.now }
     ensures done { (n : ℕ) → IfOk result (λ r. MayBe n core.new → carried n core.old state.old (requested core.old files.now others state.old conn bytes.now head.now) ≡ (r.0, r.1, state.new, core.new)) }
-    ensures leaves { OnOk result (Leaves 2 core.old core.new) }
+    ensures leaves { OnOk result (Leaves 3 core.old core.new) }
     ensures answer { IfOk result (λ r. IsAnswer (command_of head.now.command) r.0) }
     ensures keeper { keeper.new ≡ keeper.old }
 {

@@ -13,7 +13,6 @@ ghost use Rattle.xl_front_smb.specs.Short.{IsReady, Leaves};
 
 use crate::checks::{is_fresh, session_named, tree_named};
 use crate::ending::{end_session, end_under};
-use crate::ids::id_of;
 use crate::numbers::drawn;
 use crate::outcome::{Done, failed, told};
 use crate::texts::is_share;
@@ -21,7 +20,7 @@ use crate::told::Told;
 use std::alloc::{AllocError, Global};
 use xl_core::Core;
 use xl_smb::{NegotiateCall, SmbHead};
-use xl_smb_locks::SmbStatus;
+use xl_smb_locks::{SmbStatus, id_of};
 use xl_smb_state::{Connection, Place, SESSIONS, Scope, Session, SmbState, TREES, Tree};
 
 /// The number of SMB 2.1.

@@ -19,8 +19,10 @@ pub enum Told {
     Connected(u32),
     /// The tree connect has ended (TREE_DISCONNECT).
     Disconnected,
-    /// The file is open under this id (CREATE).
-    Opened(u64),
+    /// The file is open under this id, with an oplock of this level (CREATE).
+    Opened(u64, u8),
+    /// The break of the oplock of the open of this id is answered, which is of this level now (OPLOCK_BREAK).
+    Acknowledged(u64, u8),
     /// The open has ended (CLOSE).
     Closed,
     /// The ranges are locked, or unlocked (LOCK).

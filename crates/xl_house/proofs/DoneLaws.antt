@@ -17,7 +17,7 @@ use Rattle.xl_programs.specs.Sent.{sent_to}
 use Rattle.xl_core.specs.State.{CoreState, step_begun}
 use Rattle.xl_core.specs.Deeds.{Deed, turned, all_done, all_told_of, answers_of, expiry_then, expiries, expiries_of, lapse_then, lapses, tick_deeds, AreFit}
 use Rattle.xl_core.specs.Good.{IsGood}
-use Rattle.xl_core.specs.Settle.{settle}
+use Rattle.xl_core.specs.Settle.{turns_left, settle}
 use Rattle.xl_core.specs.declared.ask.Effect.{Effect}
 use Rattle.xl_base.specs.declared.event.Moment.{Moment}
 use Rattle.std.proofs.lemmas.Bool.{eq-eqb}
@@ -100,7 +100,7 @@ do_for (suc fuel) n exports f s = by_turn n exports (settled_for fuel n exports)
 
 turns_do : (n : ℕ) (exports : Exports) (f : Fronts) (s : CoreState) → (settled n exports f s).2 ≡ all_done n s (turns n exports f s)
 unfolding settled turns
-turns_do n exports f s = do_for (length s.waiters) n exports f s
+turns_do n exports f s = do_for (turns_left s) n exports f s
 
 turn_fit : (n : ℕ) (exports : Exports) (later : Fronts → CoreState → List Deed) (f : Fronts) (s : CoreState) (o : Turned) → settle n (rooms_of f) s ≡ o
     → ((g : Fronts) (t : CoreState) → AreFit n t (later g t)) → AreFit n s (turn_deeds exports later f o)
@@ -120,7 +120,7 @@ fit_for (suc fuel) n exports f s = turn_fit n exports (turns_for fuel n exports)
 
 turns_fit : (n : ℕ) (exports : Exports) (f : Fronts) (s : CoreState) → AreFit n s (turns n exports f s)
 unfolding turns
-turns_fit n exports f s = fit_for (length s.waiters) n exports f s
+turns_fit n exports f s = fit_for (turns_left s) n exports f s
 
 turn_follow : (exports : Exports) (later : Fronts → CoreState → List Deed) (f : Fronts) (o : Turned) → ((g : Fronts) (t : CoreState) → Follow (later g t)) → Follow (turn_deeds exports later f o)
 turn_follow exports later f None each = tt
@@ -134,7 +134,7 @@ follow_for (suc fuel) n exports f s = turn_follow exports (turns_for fuel n expo
 
 turns_follow : (n : ℕ) (exports : Exports) (f : Fronts) (s : CoreState) → Follow (turns n exports f s)
 unfolding turns
-turns_follow n exports f s = follow_for (length s.waiters) n exports f s
+turns_follow n exports f s = follow_for (turns_left s) n exports f s
 
 -- ---- its own deeds
 
@@ -381,7 +381,7 @@ record_sends n exports f s number (Asked r) = program_sends n exports f s number
 
 message_sends : (n : ℕ) (exports : Exports) (f : Fronts) (s : CoreState) (kind : Option Kind) (number : ℕ) (bytes : List ℕ)
     → (let g = message_given n exports f s kind number bytes in
-    (heard_by n exports f s kind number bytes).0 ≡ (all_shown exports g.1 g.2 g.0).0 ++ message_replies n exports f s (all_done n s (message_deeds n exports f s kind number bytes)).names kind number bytes (answers_of n s (message_deeds n exports f s kind number bytes)) (all_told_of n s (message_deeds n exports f s kind number bytes)))
+    (heard_by n exports f s kind number bytes).0 ≡ (all_shown exports g.1 g.2 g.0).0 ++ message_replies n exports f s (all_done n s (message_deeds n exports f s kind number bytes)) kind number bytes (answers_of n s (message_deeds n exports f s kind number bytes)) (all_told_of n s (message_deeds n exports f s kind number bytes)))
 message_sends n exports f s None number bytes = refl
 message_sends n exports f s (Some Smb) number bytes =
     let x = with_smb f (smb_step n exports (nfs_opens f) f.smb s number bytes) in

@@ -1,8 +1,8 @@
 -- What is heard, as the code tells it.
-use Rattle.std.proofs.Common.{◌≡◌, ℕ, ◌+◌, ◌≤◌, ◌<◌, ◌^◌, Option, Some, List, [], ◌∷◌, ◌++◌, length, refl, sym, ap, subst, ◌∙◌, arith}
+use Rattle.std.proofs.Common.{◌≡◌, ℕ, ◌+◌, ◌≤◌, Option, Some, List, [], ◌∷◌, ◌++◌, refl, sym, ap, subst, ◌∙◌, arith}
+use Rattle.xl_base.specs.Limits.{most_numbers}
 use Rattle.xl_base.specs.declared.event.Kind.{Kind}
 use Rattle.xl_base.specs.declared.event.Kind.TheVariants.{Smb}
-use Rattle.xl_base.specs.declared.event.Out.{Out}
 use Rattle.xl_base.specs.declared.event.Moment.{Moment}
 use Rattle.std.specs.List.{AllByRecursion}
 use Rattle.xl_base.specs.declared.name.Protocol.TheVariants.{Nfs}
@@ -11,8 +11,9 @@ use Rattle.xl_names.specs.declared.name.Name.{Name}
 use Rattle.xl_names.specs.declared.name.Name.TheVariants.{NlmRange}
 use Rattle.xl_core.proofs.FrameLaws.{tick_frame}
 use Rattle.xl_core.proofs.GoodLaws.{begun_good, tick_good}
+use Rattle.xl_core.proofs.NumberLaws.{tick_numbers}
 use Rattle.xl_core.specs.Ticks.{tick}
-use Rattle.xl_core.specs.Good.{IsGood}
+use Rattle.xl_core.specs.Numbers.{numbers_of}
 use Rattle.xl_core.specs.State.{CoreState, step_begun}
 use Rattle.xl_core.specs.declared.ask.Effect.{Effect}
 use Rattle.xl_front_nlm.specs.Short.{IsShort, AreShort, Leaves}
@@ -27,32 +28,31 @@ use Rattle.xl_house.specs.Shown.{IsReadyFor, LeavesBy}
 use Rattle.xl_house.proofs.Stores.{goes_on_self, goes_further}
 
 -- what a front left may be told
-pub tell_ready : (s t : CoreState) (effects : List Effect) → grants effects ≡ 0 → IsReadyFor 128 s → Leaves s t → IsReadyFor (grants effects) t
-tell_ready s t effects none ready leaves = record { good = leaves.good; numbers = omega (arith, none, leaves.grows.counter, ready.numbers); short = leaves.grows.short }
+pub tell_ready : (s t : CoreState) (effects : List Effect) → grants effects ≡ 0 → IsReadyFor most_numbers s → Leaves s t → IsReadyFor (grants effects) t
+tell_ready s t effects none ready leaves = record { good = leaves.good; numbers = omega (arith, none, leaves.grows.numbers, ready.numbers); short = leaves.grows.short }
 
-pub tell_leaves : (s t u : CoreState) (effects : List Effect) → grants effects ≡ 0 → Leaves s t → LeavesBy (grants effects) t u → LeavesBy 128 s u
+pub tell_leaves : (s t u : CoreState) (effects : List Effect) → grants effects ≡ 0 → Leaves s t → LeavesBy (grants effects) t u → LeavesBy most_numbers s u
 tell_leaves s t u effects none leaves told = record {
   on = goes_further s t u leaves.on told.on;
   good = told.good;
   short = told.short;
-  counter = omega (arith, none, leaves.grows.counter, leaves.grows.waiters, told.counter);
+  numbers = omega (arith, none, leaves.grows.numbers, told.numbers);
 }
 
-ticked_leaves : (s : CoreState) (now : Moment) → IsReadyFor 128 s → Leaves s (tick s now).1
+ticked_leaves : (s : CoreState) (now : Moment) → IsReadyFor most_numbers s → Leaves s (tick s now).1
 ticked_leaves s now ready =
     let frame = tick_frame s now in
     record {
       on = record { made = omega (arith, frame.made); failed = λ f. (frame.failed ∙ f, frame.made) };
       good = tick_good s now ready.good;
       grows = record {
-        counter = omega (arith, frame.counter);
-        waiters = omega (arith, frame.waiters);
+        numbers = omega (arith, tick_numbers s now);
         short = subst (λ (names : List Name). AreShort names) (sym frame.names) ready.short;
       };
     }
 
 -- a reading of the clock adds nothing
-pub tick_leaves : (s t : CoreState) (now : Moment) (effects : List Effect) → IsReadyFor 128 s → tick s now ≡ (effects, t) → Leaves s t
+pub tick_leaves : (s t : CoreState) (now : Moment) (effects : List Effect) → IsReadyFor most_numbers s → tick s now ≡ (effects, t) → Leaves s t
 tick_leaves s t now effects ready e = subst (λ (r : List Effect × CoreState). Leaves s r.1) e (ticked_leaves s now ready)
 
 begun_ready : (m : ℕ) (s : CoreState) → IsReadyFor m s → IsReadyFor m (step_begun s)
@@ -62,33 +62,28 @@ begun_ready m s ready = record { good = begun_good s ready.good; numbers = ready
 pub ready_begun : (m : ℕ) (s t : CoreState) → t ≡ step_begun s → IsReadyFor m s → IsReadyFor m t
 ready_begun m s t e ready = subst (λ (x : CoreState). IsReadyFor m x) (sym e) (begun_ready m s ready)
 
-begun_leaves : (s : CoreState) → IsReadyFor 128 s → LeavesBy 128 (step_begun s) (step_begun s)
-begun_leaves s ready = let begun = begun_ready 128 s ready in record { on = goes_on_self (step_begun s); good = begun.good; short = begun.short; counter = omega arith }
+begun_leaves : (s : CoreState) → IsReadyFor most_numbers s → LeavesBy most_numbers (step_begun s) (step_begun s)
+begun_leaves s ready = let begun = begun_ready most_numbers s ready in record { on = goes_on_self (step_begun s); good = begun.good; short = begun.short; numbers = omega arith }
 
-pub leaves_begun : (s t : CoreState) → t ≡ step_begun s → IsReadyFor 128 s → LeavesBy 128 (step_begun s) t
-leaves_begun s t e ready = subst (λ (x : CoreState). LeavesBy 128 (step_begun s) x) (sym e) (begun_leaves s ready)
+pub leaves_begun : (s t : CoreState) → t ≡ step_begun s → IsReadyFor most_numbers s → LeavesBy most_numbers (step_begun s) t
+leaves_begun s t e ready = subst (λ (x : CoreState). LeavesBy most_numbers (step_begun s) x) (sym e) (begun_leaves s ready)
 
 -- so whoever waits may be served
-begun_counter : (s : CoreState) → ((step_begun s).counter ≡ s.counter) × ((step_begun s).waiters ≡ s.waiters)
+begun_numbers : (s : CoreState) → numbers_of (step_begun s) ≡ numbers_of s
 unfolding step_begun
-begun_counter s = (refl, refl)
+begun_numbers s = refl
 
-pub settle_ready : (s t : CoreState) → IsReadyFor (length s.waiters + 128) s → LeavesBy 128 (step_begun s) t → IsReadyFor (length t.waiters) t
-settle_ready s t ready leaves = record {
-  good = leaves.good;
-  numbers = omega (arith, leaves.counter, ready.numbers, (begun_counter s).0, ap length (begun_counter s).1);
-  short = leaves.short;
-}
+pub settle_ready : (s t : CoreState) → IsReadyFor most_numbers s → LeavesBy most_numbers (step_begun s) t → IsReadyFor 0 t
+settle_ready s t ready leaves = record { good = leaves.good; numbers = omega (arith, leaves.numbers, ready.numbers, begun_numbers s); short = leaves.short }
 
 begun_short : (w : CoreState) → AreShort w.names → AreShort (step_begun w).names
 unfolding step_begun
 begun_short w short = short
 
-pub act_counter : (s t u v : CoreState) → LeavesBy 128 (step_begun s) t → LeavesBy 0 t u → v ≡ step_begun u → (v.counter + length v.waiters ≤ s.counter + length s.waiters + 128) × AreShort v.names
-act_counter s t u v first next e =
-    subst (λ (x : CoreState). (x.counter + length x.waiters ≤ s.counter + length s.waiters + 128) × AreShort x.names) (sym e) (last u next) where
-      last : (w : CoreState) → LeavesBy 0 t w → ((step_begun w).counter + length (step_begun w).waiters ≤ s.counter + length s.waiters + 128) × AreShort (step_begun w).names
-      last w left = (omega (arith, first.counter, left.counter, (begun_counter s).0, ap length (begun_counter s).1, (begun_counter w).0, ap length (begun_counter w).1), begun_short w left.short)
+pub act_numbers : (s t u v : CoreState) → LeavesBy most_numbers (step_begun s) t → LeavesBy 0 t u → v ≡ step_begun u → (numbers_of v ≤ numbers_of s + most_numbers) × AreShort v.names
+act_numbers s t u v first next e =
+    subst (λ (x : CoreState). (numbers_of x ≤ numbers_of s + most_numbers) × AreShort x.names) (sym e)
+    (omega (arith, first.numbers, next.numbers, begun_numbers s, begun_numbers u), begun_short u next.short)
 
 -- ---- the front of the program that is asked
 
@@ -113,19 +108,19 @@ comes_short : (old new : List Name) → nfs.Comes old new → AreShort old → A
 comes_short old new comes short = subst (λ (names : List Name). AreShort names) (sym comes.is) (more_short old comes.more comes.nfs short)
 
 -- what the front of NFSv4 left may be told: nothing of it tells of a grant
-pub nfs_ready : (s t : CoreState) (effects : List Effect) → grants effects ≡ 0 → IsReadyFor 128 s → nfs.Leaves 128 s t → IsReadyFor (grants effects) t
-nfs_ready s t effects none ready leaves = record {
+pub nfs_ready : (most : ℕ) (s t : CoreState) (effects : List Effect) → most ≤ most_numbers → grants effects ≡ 0 → IsReadyFor most_numbers s → nfs.Leaves most s t → IsReadyFor (grants effects) t
+nfs_ready most s t effects few none ready leaves = record {
   good = leaves.good;
-  numbers = omega (arith, none, leaves.counter, ready.numbers);
+  numbers = omega (arith, few, none, leaves.numbers, ready.numbers);
   short = comes_short s.names t.names leaves.names ready.short;
 }
 
-pub nfs_leaves : (s t u : CoreState) (effects : List Effect) → grants effects ≡ 0 → nfs.Leaves 128 s t → LeavesBy (grants effects) t u → LeavesBy 128 s u
-nfs_leaves s t u effects none leaves told = record {
+pub nfs_leaves : (most : ℕ) (s t u : CoreState) (effects : List Effect) → most ≤ most_numbers → grants effects ≡ 0 → nfs.Leaves most s t → LeavesBy (grants effects) t u → LeavesBy most_numbers s u
+nfs_leaves most s t u effects few none leaves told = record {
   on = goes_further s t u leaves.on told.on;
   good = told.good;
   short = told.short;
-  counter = omega (arith, none, leaves.crowd, told.counter);
+  numbers = omega (arith, few, none, leaves.numbers, told.numbers);
 }
 
 -- ---- SMB
@@ -136,17 +131,17 @@ packet_is_heard n exports f s number bytes kind k sent opened smb is =
     ap (λ (o : Option Kind). heard_by n exports f s o number bytes) (opened ∙ ap (λ (x : Kind). Some x) smb) ∙ is
 
 -- what the front of SMB left may be told
-pub smb_ready : (most : ℕ) (s t : CoreState) (effects : List Effect) → most ≤ 128 → grants effects ≡ 0 → IsReadyFor 128 s → smb.Leaves most s t → IsReadyFor (grants effects) t
+pub smb_ready : (most : ℕ) (s t : CoreState) (effects : List Effect) → most ≤ most_numbers → grants effects ≡ 0 → IsReadyFor most_numbers s → smb.Leaves most s t → IsReadyFor (grants effects) t
 smb_ready most s t effects few none ready leaves = record {
   good = leaves.good;
-  numbers = omega (arith, few, none, leaves.counter, ready.numbers);
+  numbers = omega (arith, few, none, leaves.numbers, ready.numbers);
   short = subst (λ (names : List Name). AreShort names) (sym leaves.names) ready.short;
 }
 
-pub smb_leaves : (most : ℕ) (s t u : CoreState) (effects : List Effect) → most ≤ 128 → grants effects ≡ 0 → smb.Leaves most s t → LeavesBy (grants effects) t u → LeavesBy 128 s u
+pub smb_leaves : (most : ℕ) (s t u : CoreState) (effects : List Effect) → most ≤ most_numbers → grants effects ≡ 0 → smb.Leaves most s t → LeavesBy (grants effects) t u → LeavesBy most_numbers s u
 smb_leaves most s t u effects few none leaves told = record {
   on = goes_further s t u leaves.on told.on;
   good = told.good;
   short = told.short;
-  counter = omega (arith, few, none, leaves.counter, leaves.waiters, told.counter);
+  numbers = omega (arith, few, none, leaves.numbers, told.numbers);
 }

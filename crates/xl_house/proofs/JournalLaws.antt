@@ -1,11 +1,13 @@
 -- Journals with one entry more.
 use Rattle.std.proofs.Math.Seq.{take-append_seam}
 use Rattle.std.proofs.Common.{◌≡◌, suc, ◌+◌, ◌*◌, ◌<◌, ◌≤◌, false, arith, length-append, Option, List, [], ◌∷◌, ◌++◌, length, take, refl, sym, ap, subst, ◌∙◌, append_assoc}
+use Rattle.xl_base.specs.Limits.{most_numbers}
 use Rattle.xl_base.specs.Stable.{Stable, raised}
 use Rattle.xl_base.specs.declared.event.Event.{Event}
 use Rattle.xl_base.specs.declared.event.Moment.{Moment}
 use Rattle.xl_base.specs.declared.journal.Entry.{Entry}
 use Rattle.xl_base.specs.declared.journal.Head.{Head}
+use Rattle.xl_core.specs.Numbers.{numbers_of}
 use Rattle.xl_core.specs.State.{CoreState, started}
 use Rattle.xl_core.specs.declared.lease.Times.{Times}
 use Rattle.xl_front_nlm.specs.Short.{AreShort}
@@ -49,8 +51,8 @@ legal_next start es old event stands other legal =
     subst (λ (s : Whole). IsLegal start (es ++ entry 0 s event ∷ [])) (sym stands.replayed)
     (legal_entry start es event (subst (λ (s : Whole). (step 0 s event).made ≡ 0) stands.replayed (none_made 0 old event other stands.free.good)) legal)
 
-started_counter : (s : Whole) (stable : Stable) (now : Moment) (times : Times) → s.core ≡ started stable now times → s.core.counter + length s.core.waiters ≤ 128 * 0
-started_counter s stable now times e = omega (arith, ap (λ (c : CoreState). c.counter + length c.waiters) e)
+started_numbers : (s : Whole) (stable : Stable) (now : Moment) (times : Times) → s.core ≡ started stable now times → numbers_of s.core ≤ most_numbers * 0
+started_numbers s stable now times e = subst (λ (c : CoreState). numbers_of c ≤ most_numbers * 0) (sym e) (omega arith)
 
 started_short : (s : Whole) (stable : Stable) (now : Moment) (times : Times) → s.core ≡ started stable now times → AreShort s.core.names
 started_short s stable now times e = subst (λ (c : CoreState). AreShort c.names) (sym e) tt
@@ -61,7 +63,7 @@ begun_stands head s e = record {
   replayed = e;
   place = ap (λ (w : Whole). w.place) e;
   free = subst (λ (w : Whole). IsFree w) (sym e) (begin_free head);
-  counter = started_counter s (raised head.record) head.start (times_of head.exports) (ap (λ (w : Whole). w.core) e);
+  numbers = started_numbers s (raised head.record) head.start (times_of head.exports) (ap (λ (w : Whole). w.core) e);
   short = started_short s (raised head.record) head.start (times_of head.exports) (ap (λ (w : Whole). w.core) e);
 }
 
@@ -71,14 +73,14 @@ holds_started held s stable now times e holds = subst (λ (c : CoreState). Holds
 pub holds_stands : (held : Option Stable) (start s : Whole) (es : List Entry) → Stands start es s → Holds held s.core.stable → Holds held (replay start es).core.stable
 holds_stands held start s es stands holds = subst (λ (w : Whole). Holds held w.core.stable) stands.replayed holds
 
-pub stands_next : (start : Whole) (es : List Entry) (old new : Whole) (event : Event) → Stands start es old → new ≡ (step 0 old event).next → new.core.counter + length new.core.waiters ≤ old.core.counter + length old.core.waiters + 128 → AreShort new.core.names → Stands start (es ++ entry 0 old event ∷ []) new
-stands_next start es old new event stands e counter short =
+pub stands_next : (start : Whole) (es : List Entry) (old new : Whole) (event : Event) → Stands start es old → new ≡ (step 0 old event).next → numbers_of new.core ≤ numbers_of old.core + most_numbers → AreShort new.core.names → Stands start (es ++ entry 0 old event ∷ []) new
+stands_next start es old new event stands e numbers short =
     let longer = length-append es (entry 0 old event ∷ []) in
     record {
       replayed = e ∙ ap (λ (s : Whole). (step 0 s event).next) stands.replayed ∙ sym (replay_entry start es event) ∙ ap (λ (s : Whole). replay start (es ++ entry 0 s event ∷ [])) (sym stands.replayed);
       place = ap (λ (s : Whole). s.place) e ∙ next_place 0 old event ∙ omega (arith, stands.place, longer);
       free = subst (λ (s : Whole). IsFree s) (sym e) (step_free 0 old event stands.free);
-      counter = omega (arith, counter, stands.counter, longer);
+      numbers = omega (arith, numbers, stands.numbers, longer);
       short = short;
     }
 

@@ -1,27 +1,35 @@
 -- The laws of each entry hold of every journal.
-use Rattle.std.proofs.Common.{◌≡◌, ℕ, Bool, true, false, inl, inr, List, [], ◌∷◌, refl, sym, ap, subst, ◌∙◌}
-use Rattle.std.proofs.lemmas.Bool.{cases_Bool}
+use Rattle.std.proofs.Common.{◌≡◌, ℕ, true, false, inl, inr, List, [], ◌∷◌, refl, sym, ap, subst, ◌∙◌}
+use Rattle.std.specs.List.{AllByRecursion}
+use Rattle.std.proofs.lemmas.Bool.{both_ways}
+use Rattle.xl_base.proofs.Members.{all_in, all_weaker}
+use Rattle.xl_base.specs.Lists.{IsIn, Pairwise}
 use Rattle.xl_base.specs.declared.event.Event.{Event}
 use Rattle.xl_base.specs.declared.event.Event.TheVariants.{Open, Message, End, Called, Tick, Restart}
-use Rattle.xl_base.specs.declared.event.Out.{Out}
 use Rattle.xl_base.specs.declared.journal.Entry.{Entry}
 use Rattle.xl_base.specs.declared.journal.Head.{Head}
+use Rattle.xl_cache.specs.Planning.{is_running}
+use Rattle.xl_matrix.proofs.SideLaws.{compat-sym}
+use Rattle.xl_matrix.specs.Matrix.{compat}
+use Rattle.xl_matrix.specs.declared.claim.Claim.{Claim}
 use Rattle.xl_matrix.specs.declared.claim.What.{What}
+use Rattle.xl_matrix.specs.declared.claim.What.TheVariants.{Share, Range, Cache}
+use Rattle.xl_table.specs.Held.{is_cache}
 use Rattle.xl_wait.specs.declared.waiter.Waiter.{Waiter}
 use Rattle.xl_names.specs.declared.name.Name.{Name}
-use Rattle.xl_core.specs.State.{CoreState, started, step_begun}
-use Rattle.xl_core.specs.Deeds.{all_done, AreFit, queue_after, KeepNames}
+use Rattle.xl_core.specs.State.{CoreState, step_begun}
+use Rattle.xl_core.specs.Deeds.{all_done, queue_after, any_ends_break, KeepNames}
 use Rattle.xl_core.specs.Dues.{AreDue}
-use Rattle.xl_core.specs.Good.{IsGood}
-use Rattle.xl_core.specs.Places.{Place, ByteOf, ShareOf, RangesOf, CacheOf, held_at, stands, IsChangedBy}
+use Rattle.xl_core.specs.Places.{Place, ByteOf, ShareOf, RangesOf, CacheOf, held_at, IsChangedBy}
+use Rattle.xl_core.proofs.DeedCaches.{deeds_keep_break}
 use Rattle.xl_core.proofs.DeedLists.{deeds_make, deeds_queue, deeds_names, deeds_due}
 use Rattle.xl_core.proofs.GoodLaws.{begun_good}
 use Rattle.xl_house.specs.Done.{deeds, messages}
 use Rattle.xl_house.specs.Free.{IsFree}
 use Rattle.xl_house.specs.Journals.{IsLegal, is_restart}
-use Rattle.xl_house.specs.Lawful.{Always, IsLawful, IsLawfulBy, IsWaiting, IsWaitingBy, IsComplete, IsCaused, IsTold}
-use Rattle.xl_house.specs.Machine.{Whole, Turn, begin, restarted, step}
-use Rattle.xl_house.proofs.DoneLaws.{left_by, left_is, deeds_taken, own_may, owners_own, behind_follows, all_sent}
+use Rattle.xl_house.specs.Lawful.{Always, IsLawful, IsLawfulBy, IsWaiting, IsWaitingBy, IsGuarding, IsKept, IsKeptBy, IsComplete, IsCaused, IsTold}
+use Rattle.xl_house.specs.Machine.{Whole, Turn, begin, step}
+use Rattle.xl_house.proofs.DoneLaws.{left_is, deeds_taken, own_may, owners_own, behind_follows, all_sent}
 use Rattle.xl_house.proofs.MachineLaws.{step_is, step_free, begin_free}
 
 -- ---- the core after an entry
@@ -95,6 +103,49 @@ waiting_by n s (Called number bytes) free = waiting n s (Called number bytes) re
 waiting_by n s (Tick moment) free = waiting n s (Tick moment) refl free
 waiting_by n s Restart free = nobody n s
 
+begun_claims : (s : CoreState) → (step_begun s).claims ≡ s.claims
+unfolding step_begun
+begun_claims s = refl
+
+-- of claims that may be held together none is one that a cache among them guards against
+guards : (c : Claim) (claims : List Claim) → Pairwise compat claims → IsIn c claims → is_cache c.what ≡ true → AllByRecursion (λ d. is_cache d.what ≡ false → compat c d ≡ true) claims
+guards c [] pairs there cache = tt
+guards c (d ∷ ds) pairs (inl e) cache = (
+  λ other. absurd (both_ways (is_cache d.what) other (subst (λ (x : Claim). is_cache x.what ≡ true) (sym e) cache)),
+  all_weaker (λ x. compat d x ≡ true) (λ x. is_cache x.what ≡ false → compat c x ≡ true) ds (λ x with_it other. subst (λ (y : Claim). compat y x ≡ true) e with_it) pairs.0,
+)
+guards c (d ∷ ds) pairs (inr later) cache = (λ other. compat-sym c d ∙ all_in (λ x. compat d x ≡ true) c ds pairs.0 later, guards c ds pairs.1 later cache)
+
+running_cache : (what : What) → is_running what ≡ true → is_cache what ≡ true
+running_cache (Cache kind running) h = refl
+running_cache (Share access deny) h = absurd (both_ways false refl h)
+running_cache (Range extent exclusive) h = absurd (both_ways false refl h)
+
+stays_held : (n : ℕ) (s : Whole) (event : Event) → is_restart event ≡ false → IsFree s → (c : Claim) → IsIn c s.core.claims → is_running c.what ≡ true → any_ends_break n (step_begun s.core) c (deeds n s event) ≡ false → IsIn c (step n s event).next.core.claims
+stays_held n s event other free c there runs lasts =
+    let found = step_begun s.core in
+    let ds = deeds n s event in
+    let good = begun_good s.core free.good in
+    subst (λ (claims : List Claim). IsIn c claims) (sym (ap (λ (t : CoreState). t.claims) (next_core n s event other) ∙ begun_claims (all_done n found ds)))
+    (deeds_keep_break n found ds c good (deeds_taken n s event other good) (subst (λ (claims : List Claim). IsIn c claims) (sym (begun_claims s.core)) there) runs lasts)
+
+kept : (n : ℕ) (s : Whole) (event : Event) → is_restart event ≡ false → IsFree s → (c : Claim) → IsIn c s.core.claims → is_running c.what ≡ true → any_ends_break n (step_begun s.core) c (deeds n s event) ≡ false → IsGuarding c (step n s event).next.core.claims
+kept n s event other free c there runs lasts =
+    let stays = stays_held n s event other free c there runs lasts in
+    (stays, guards c (step n s event).next.core.claims (step_free n s event free).good.compatible stays (running_cache c.what runs))
+
+none_held : (n : ℕ) (s : Whole) → (step n s Restart).next.core.claims ≡ []
+unfolding step
+none_held n s = refl
+
+kept_by : (n : ℕ) (s : Whole) (event : Event) → IsFree s → IsKeptBy n s event (step n s event).next
+kept_by n s (Open kind) free = kept n s (Open kind) refl free
+kept_by n s (Message number bytes) free = kept n s (Message number bytes) refl free
+kept_by n s (End number) free = kept n s (End number) refl free
+kept_by n s (Called number bytes) free = kept n s (Called number bytes) refl free
+kept_by n s (Tick moment) free = kept n s (Tick moment) refl free
+kept_by n s Restart free = none_held n s
+
 due : (n : ℕ) (s : Whole) (event : Event) → is_restart event ≡ false → IsFree s → AreDue n (step_begun s.core) (deeds n s event)
 due n s event other free = deeds_due n (step_begun s.core) (deeds n s event) (begun_good s.core free.good) (deeds_taken n s event other (begun_good s.core free.good))
 
@@ -135,6 +186,10 @@ waiting_from : (s : Whole) (es : List Entry) → IsFree s → Always IsWaiting s
 waiting_from s [] free = tt
 waiting_from s (e ∷ es) free = (waiting_by e.stores s e.event free, waiting_from (step e.stores s e.event).next es (step_free e.stores s e.event free))
 
+kept_from : (s : Whole) (es : List Entry) → IsFree s → Always IsKept s es
+kept_from s [] free = tt
+kept_from s (e ∷ es) free = (kept_by e.stores s e.event free, kept_from (step e.stores s e.event).next es (step_free e.stores s e.event free))
+
 complete_from : (s : Whole) (es : List Entry) → IsFree s → Always IsComplete s es
 complete_from s [] free = tt
 complete_from s (e ∷ es) free = (due_by e.stores s e.event free, complete_from (step e.stores s e.event).next es (step_free e.stores s e.event free))
@@ -158,6 +213,9 @@ always_lawful head es = lawful_from (begin head) es (begin_free head)
 
 pub always_waiting : (head : Head) (es : List Entry) → Always IsWaiting (begin head) es
 always_waiting head es = waiting_from (begin head) es (begin_free head)
+
+pub always_kept : (head : Head) (es : List Entry) → Always IsKept (begin head) es
+always_kept head es = kept_from (begin head) es (begin_free head)
 
 pub always_complete : (head : Head) (es : List Entry) → Always IsComplete (begin head) es
 always_complete head es = complete_from (begin head) es (begin_free head)

@@ -1,6 +1,5 @@
 -- What each event keeps.
-use Rattle.std.proofs.Common.{◌≡◌, ℕ, zero, suc, ◌+◌, true, false, Option, Some, None, IfSome, List, [], ◌∷◌, length, refl, sym, ap, subst, ◌∙◌, arith}
-use Rattle.std.specs.List.{AllByRecursion}
+use Rattle.std.proofs.Common.{◌≡◌, ℕ, zero, suc, ◌+◌, ◌≤◌, false, Option, Some, None, IfSome, List, [], ◌∷◌, refl, sym, ap, subst, ◌∙◌, arith}
 use Rattle.xl_base.specs.Stable.{Stable, raised}
 use Rattle.xl_base.specs.declared.event.Event.{Event}
 use Rattle.xl_base.specs.declared.event.Event.TheVariants.{Open, Message, End, Called, Tick, Restart}
@@ -10,24 +9,23 @@ use Rattle.xl_base.specs.declared.journal.Entry.{Entry}
 use Rattle.xl_base.specs.declared.journal.Exports.{Exports}
 use Rattle.xl_base.specs.declared.journal.Head.{Head}
 use Rattle.xl_core.specs.State.{CoreState, MayBe, GoesOn, started, step_begun}
-use Rattle.xl_core.proofs.DeedCaches.{deeds_uncached}
 use Rattle.xl_core.proofs.DeedLists.{deeds_good}
-use Rattle.xl_core.specs.Good.{IsGood, AreUncached, IsSettled, holds_up}
-use Rattle.xl_core.specs.Settle.{settle}
+use Rattle.xl_core.specs.Good.{IsGood, IsSettled}
+use Rattle.xl_core.specs.Settle.{turns_left, settle}
 use Rattle.xl_core.specs.declared.ask.Effect.{Effect}
 use Rattle.xl_core.proofs.GoodLaws.{started_good, begun_good, settle_good}
 use Rattle.xl_core.proofs.SettleLaws.{none_settled, turn_fewer}
-use Rattle.xl_wait.specs.declared.waiter.Waiter.{Waiter}
 use Rattle.xl_house.specs.declared.parts.Fronts.{Fronts}
 use Rattle.xl_house.specs.Free.{IsFree, AlwaysFree}
 use Rattle.xl_house.specs.Journals.{is_restart}
 use Rattle.xl_core.specs.declared.lease.Times.{Times}
-use Rattle.xl_house.specs.Machine.{Whole, Turn, Sent, times_of, begin, behind, and_then, grants, all_shown, rooms_of, after_turn, settled_for, settled, heard, connected, onward, turn_of, settled_turn, restarted, step}
+use Rattle.xl_house.specs.Machine.{Whole, Turn, Sent, times_of, begin, behind, and_then, all_shown, rooms_of, after_turn, settled_for, settled, heard, connected, onward, turn_of, settled_turn, restarted, step}
 use Rattle.xl_house.specs.declared.connections.Connection.{Connection}
 use Rattle.xl_house.proofs.StillLaws.{IsStill, deeds_still}
 use Rattle.xl_house.specs.Done.{deeds}
 use Rattle.xl_house.proofs.DoneLaws.{own_and_told, heard_does, heard_takes, left_by, left_is, deeds_taken}
-use Rattle.xl_house.proofs.ShownLaws.{all_shown_good, told_waiters}
+use Rattle.xl_house.proofs.ShownLaws.{all_shown_good, told_turns}
+use Rattle.xl_house.proofs.SettleLaws.{no_more}
 use Rattle.xl_house.proofs.Stores.{may_be_made, may_be_before}
 
 -- ---- an event other than a restart
@@ -43,26 +41,22 @@ step_is n s Restart other = absurd cc
 
 -- ---- settling
 
-none_waits : (P : Waiter → Type 0) (ws : List Waiter) → length ws ≡ 0 → AllByRecursion P ws
-none_waits P [] e = tt
-none_waits P (w ∷ ws) e = absurd (omega (arith, e))
-
-ends_by : (fuel n : ℕ) (exports : Exports) (f : Fronts) (s : CoreState) (o : Option (List Effect × CoreState)) → settle n (rooms_of f) s ≡ o → IfSome o (λ r. length r.1.waiters + 1 ≡ length s.waiters) → IfSome o (λ r. IsGood r.1) → length s.waiters ≡ suc fuel
-    → ((g : Fronts) (t : CoreState) → IsGood t → length t.waiters ≡ fuel → IsSettled (settled_for fuel n exports g t).2) → IsSettled (after_turn exports (settled_for fuel n exports) f s o).2
-ends_by fuel n exports f s None is fewer good e rests = none_settled n (rooms_of f) s is
-ends_by fuel n exports f s (Some turn) is fewer good e rests =
+ends_by : (fuel n : ℕ) (exports : Exports) (f : Fronts) (s : CoreState) (o : Option (List Effect × CoreState)) → settle n (rooms_of f) s ≡ o → IfSome o (λ r. turns_left r.1 + 1 ≤ turns_left s) → IfSome o (λ r. IsGood r.1) → turns_left s ≤ suc fuel
+    → ((g : Fronts) (t : CoreState) → IsGood t → turns_left t ≤ fuel → IsSettled (settled_for fuel n exports g t).2) → IsSettled (after_turn exports (settled_for fuel n exports) f s o).2
+ends_by fuel n exports f s None is fewer good few rests = none_settled n (rooms_of f) s is
+ends_by fuel n exports f s (Some turn) is fewer good few rests =
     let done = all_shown exports f turn.1 turn.0 in
-    rests done.1 done.2 (all_shown_good exports f turn.1 turn.0 good) (omega (arith, fewer, e, told_waiters exports f turn.1 turn.0))
+    rests done.1 done.2 (all_shown_good exports f turn.1 turn.0 good) (omega (arith, fewer, few, told_turns exports f turn.1 turn.0))
 
-ends_for : (fuel n : ℕ) (exports : Exports) (f : Fronts) (s : CoreState) → IsGood s → length s.waiters ≡ fuel → IsSettled (settled_for fuel n exports f s).2
-ends_for zero n exports f s good e = none_waits (λ w. holds_up s.claims w w.asked ≡ true) s.waiters e
-ends_for (suc fuel) n exports f s good e =
-    ends_by fuel n exports f s (settle n (rooms_of f) s) refl (turn_fewer n (rooms_of f) s good) (settle_good n (rooms_of f) s good) e (λ g t h k. ends_for fuel n exports g t h k)
+ends_for : (fuel n : ℕ) (exports : Exports) (f : Fronts) (s : CoreState) → IsGood s → turns_left s ≤ fuel → IsSettled (settled_for fuel n exports f s).2
+ends_for zero n exports f s good few = none_settled n (rooms_of f) s (no_more n f s good few)
+ends_for (suc fuel) n exports f s good few =
+    ends_by fuel n exports f s (settle n (rooms_of f) s) refl (turn_fewer n (rooms_of f) s good) (settle_good n (rooms_of f) s good) few (λ g t h k. ends_for fuel n exports g t h k)
 
 -- nobody is forgotten
 pub settling_ends : (n : ℕ) (exports : Exports) (f : Fronts) (s : CoreState) → IsGood s → IsSettled (settled n exports f s).2
 unfolding settled
-settling_ends n exports f s good = ends_for (length s.waiters) n exports f s good refl
+settling_ends n exports f s good = ends_for (turns_left s) n exports f s good (omega arith)
 
 -- ---- what an event gives before the table is settled
 
@@ -76,15 +70,6 @@ heard_good n s e good =
 left_good : (n : ℕ) (s : Whole) (e : Event) → is_restart e ≡ false → IsGood s.core → IsGood (left_by n s e)
 left_good n s e other good =
     subst (λ (t : CoreState). IsGood t) (sym (left_is n s e other)) (deeds_good n (step_begun s.core) (deeds n s e) (begun_good s.core good) (deeds_taken n s e other (begun_good s.core good)))
-
-begun_uncached : (s : CoreState) → AreUncached s.claims → AreUncached (step_begun s).claims
-unfolding step_begun
-begun_uncached s none = none
-
-left_uncached : (n : ℕ) (s : Whole) (e : Event) → is_restart e ≡ false → IsFree s → AreUncached (left_by n s e).claims
-left_uncached n s e other free =
-    subst (λ (t : CoreState). AreUncached t.claims) (sym (left_is n s e other))
-    (deeds_uncached n (step_begun s.core) (deeds n s e) (begun_good s.core free.good) (deeds_taken n s e other (begun_good s.core free.good)) (begun_uncached s.core free.uncached))
 
 left_still : (n : ℕ) (s : Whole) (e : Event) → is_restart e ≡ false → IsGood s.core → IsStill (step_begun s.core) (left_by n s e)
 left_still n s e other good =
@@ -100,10 +85,9 @@ begun_settled : (s : CoreState) → IsSettled s → IsSettled (step_begun s)
 unfolding step_begun
 begun_settled s settled = settled
 
-pub free_from : (s : Whole) (connections : List Connection) (front : Fronts) (core : CoreState) → IsGood core → AreUncached core.claims → IsSettled core → IsFree (onward s connections front core)
-free_from s connections front core good none settled = record {
+pub free_from : (s : Whole) (connections : List Connection) (front : Fronts) (core : CoreState) → IsGood core → IsSettled core → IsFree (onward s connections front core)
+free_from s connections front core good settled = record {
   good = begun_good core good;
-  uncached = begun_uncached core none;
   settled = begun_settled core settled;
   made = (begun_still core).0;
   failed = (begun_still core).1;
@@ -112,13 +96,12 @@ free_from s connections front core good none settled = record {
 turn_free : (n : ℕ) (s : Whole) (e : Event) (connections : List Connection) → is_restart e ≡ false → IsFree s → IsFree (settled_turn n s connections (heard n s e)).next
 turn_free n s e connections other free =
     free_from s connections (settled n s.exports (heard n s e).1 (heard n s e).2).1 (left_by n s e)
-    (left_good n s e other free.good) (left_uncached n s e other free)
+    (left_good n s e other free.good)
     (settling_ends n s.exports (heard n s e).1 (heard n s e).2 (heard_good n s e free.good))
 
 pub started_free : (s : Whole) (stable : Stable) (clock : Moment) (times : Times) → s.core ≡ started stable clock times → IsFree s
 started_free s stable clock times e = record {
   good = subst (λ (t : CoreState). IsGood t) (sym e) (started_good stable clock times);
-  uncached = subst (λ (t : CoreState). AreUncached t.claims) (sym e) refl;
   settled = subst (λ (t : CoreState). IsSettled t) (sym e) tt;
   made = ap (λ (t : CoreState). t.made) e;
   failed = ap (λ (t : CoreState). t.failed) e;

@@ -1,5 +1,5 @@
 -- Which deeds the fronts' tables have: such as a message may do, or the end of a connection. None of them tells of a grant.
-use Rattle.std.proofs.Common.{◌≡◌, ℕ, ◌+◌, true, false, inl, inr, Option, Some, None, List, [], ◌∷◌, ◌++◌, refl, sym, ap, subst, arith}
+use Rattle.std.proofs.Common.{◌≡◌, ℕ, ◌+◌, true, false, inl, inr, Option, Some, None, List, [], ◌∷◌, ◌++◌, refl, sym, ap, subst, ◌∙◌, arith}
 use Rattle.std.proofs.lemmas.Bool.{cases_Bool, both_ways}
 use Rattle.std.specs.List.{AllByRecursion}
 use Rattle.xl_base.proofs.Members.{all_weaker}
@@ -7,17 +7,23 @@ use Rattle.xl_base.specs.declared.event.Event.TheVariants.{Message, End}
 use Rattle.xl_base.specs.declared.journal.Exports.{Exports}
 use Rattle.xl_names.specs.declared.name.Name.{Name}
 use Rattle.xl_programs.specs.Programs.{RequestItem}
+use Rattle.xl_wait.specs.declared.waiter.Rooms.{Rooms}
 use Rattle.xl_core.specs.State.{CoreState}
+use Rattle.xl_core.specs.Asking.{asked_whats, asked_claims, is_client}
+use Rattle.xl_core.specs.Breaks.{ack}
 use Rattle.xl_core.specs.Clients.{IsOf, AreOf, AreOfSome}
-use Rattle.xl_core.specs.Deeds.{Deed, Asks, GivesBack, Weakens, Cancels, Ends, Serves, Draws, Advances, Renews, Expires, given, done, all_told_of, IsFitDeed, AreFit}
+use Rattle.xl_core.specs.Decide.{plea_of, way, ask}
+use Rattle.xl_core.specs.Deeds.{Deed, Asks, GivesBack, Weakens, Acks, Cancels, Ends, Serves, Draws, Advances, Renews, Expires, given, done, all_told_of, IsFitDeed, AreFit}
 use Rattle.xl_core.specs.Frames.{serves_none}
 use Rattle.xl_core.specs.Good.{IsGood}
 use Rattle.xl_core.specs.Settle.{cancel, give_back, weaken, end_party}
 use Rattle.xl_core.specs.Ticks.{renew}
+use Rattle.xl_core.specs.declared.ask.Ask.{Ask}
 use Rattle.xl_core.specs.declared.ask.Effect.{Effect}
 use Rattle.xl_core.specs.declared.ask.Effect.TheVariants.{Begun, Served, Cancelled, Expired}
 use Rattle.xl_core.proofs.DeedLaws.{deed_good}
-use Rattle.xl_core.proofs.FrameLaws.{ask_quiet, cancel_unserved, give_back_unserved, weaken_unserved, end_party_unserved, renew_unserved}
+use Rattle.xl_core.proofs.FrameLaws.{ask_quiet, cancel_unserved, give_back_unserved, weaken_unserved, ack_unserved, end_party_unserved, renew_unserved}
+use Rattle.xl_core.proofs.WayLaws.{way_serves}
 use Rattle.xl_front_nfs.specs.FrontNfs.{nfs_deeds}
 use Rattle.xl_nfs_opens.specs.Owners.{IsBy, AreBy}
 use Rattle.xl_front_nfs.specs.State.{FrontNfs}
@@ -86,6 +92,7 @@ open_may : (number : ℕ) (bytes : List ℕ) (conn : ℕ) (l : Lists) (last : �
 open_may number bytes conn l last Draws own = refl
 open_may number bytes conn l last (Ends party) own = refl
 open_may number bytes conn l last (Asks left a) own = refl
+open_may number bytes conn l last (Acks cache to) own = refl
 open_may number bytes conn l last (Cancels id) own = refl
 open_may number bytes conn l last d own = absurd own
 
@@ -124,10 +131,16 @@ both_quiet (x ∷ xs) ys none rest =
       | inr quiet ↦ rw quiet (both_quiet xs ys (rw quiet at none) rest)
     ]
 
+-- an ask tells of the breaks that it begins alone
+pub asked_quiet : (n : ℕ) (left : Rooms) (s : CoreState) (a : Ask) → IsGood s → is_client a.owner a.party ≡ true → grants (ask n left s a).1 ≡ 0
+asked_quiet n left s a good client =
+    ap (λ (effects : List Effect). grants effects) (ask_quiet n left s a good client) ∙ unserved_quiet (way left s a).0 (way_serves (plea_of left s a) (asked_claims a (asked_whats a.act) s.names) s)
+
 deed_quiet : (n : ℕ) (s : CoreState) (number : ℕ) (bytes : List ℕ) (d : Deed) → IsGood s → IsFitDeed s d → may_do (Message number bytes) d ≡ true → grants (given n s d).1 ≡ 0
-deed_quiet n s number bytes (Asks left a) good fit may = ap (λ (effects : List Effect). grants effects) (ask_quiet n left s a good fit.party)
+deed_quiet n s number bytes (Asks left a) good fit may = asked_quiet n left s a good fit.party
 deed_quiet n s number bytes (GivesBack claim) good fit may = unserved_quiet (give_back s claim).0 (give_back_unserved s claim)
 deed_quiet n s number bytes (Weakens share access deny) good fit may = unserved_quiet (weaken s share access deny).0 (weaken_unserved s share access deny)
+deed_quiet n s number bytes (Acks cache to) good fit may = unserved_quiet (ack s cache to).0 (ack_unserved s cache to)
 deed_quiet n s number bytes (Cancels id) good fit may = unserved_quiet (cancel s id).0 (cancel_unserved s id)
 deed_quiet n s number bytes (Ends party) good fit may = unserved_quiet (end_party s party).0 (end_party_unserved s party)
 deed_quiet n s number bytes (Renews id) good fit may = unserved_quiet (renew s id).0 (renew_unserved s id)

@@ -2,7 +2,7 @@
 use Rattle.std.proofs.Common.{◌≡◌, ℕ, zero, suc, ◌+◌, Bool, true, false, not, eqb, ltb, inl, inr, Option, Some, None, List, [], ◌∷◌, ◌++◌, length, map, refl, sym, ap, subst, ◌∙◌, arith}
 use Rattle.std.proofs.lemmas.Bool.{cases_Bool, eqb-true, true≢false}
 use Rattle.std.proofs.lemmas.Bool.Decides.{nat_tests}
-use Rattle.std.specs.Prelude.{◌||◌, nat_le, is_some, if◌then◌else◌, option_map}
+use Rattle.std.specs.Prelude.{nat_lt, if◌then◌else◌, option_map}
 use Rattle.std.specs.List.{AllByRecursion, filter, find}
 use Rattle.xl_base.proofs.Members.{all_append, all_weaker, in_append_left, in_filter_from}
 use Rattle.xl_base.specs.Lists.{IsIn}
@@ -21,22 +21,26 @@ use Rattle.xl_programs.specs.Programs.{RequestItem, IncomingItem, Unanswered, Re
 use Rattle.xl_programs.specs.declared.program.Program.{Program}
 use Rattle.xl_programs.specs.declared.program.Program.TheVariants.{Nlm, Nfs}
 use Rattle.xl_core.specs.State.{CoreState, step_begun}
-use Rattle.xl_core.specs.Settle.{settle}
+use Rattle.xl_core.specs.Settle.{turns_left, settle}
 use Rattle.xl_core.specs.Ticks.{tick}
 use Rattle.xl_core.specs.declared.ask.Effect.{Effect}
+use Rattle.xl_core.specs.declared.ask.Effect.TheVariants.{Begun, Served, Cancelled, Expired}
 use Rattle.xl_front_nlm.specs.Answers.{nlm_called}
 use Rattle.xl_front_nfs.proofs.DoesLaws as nfs
 use Rattle.xl_front_nfs.specs.FrontNfs.{nfs_step}
+use Rattle.xl_front_nfs.specs.Recalls.{client_by, recall_out, recalled_as, recalled_from, recalls}
+use Rattle.xl_front_nfs.specs.State.{FrontNfs}
+use Rattle.xl_nfs_state.specs.State.{NfsLists, delegated_on}
+use Rattle.xl_nfs_state.specs.declared.client.ClientRow.{ClientRow}
+use Rattle.xl_nfs_state.specs.declared.stateid.StateidRow.{StateidRow}
+use Rattle.xl_core.specs.Breaks.{client_of}
 use Rattle.xl_front_nlm.proofs.DoesLaws as nlm
 use Rattle.xl_front_nlm.specs.FrontNlm.{nlm_step}
 use Rattle.xl_front_nlm.specs.Grants.{news, told_by, shown}
 use Rattle.xl_front_nlm.specs.State.{FrontState}
 use Rattle.xl_front_smb.specs.Ending.{smb_end}
 use Rattle.xl_front_smb.specs.FrontSmb.{smb_shown, smb_step}
-use Rattle.xl_front_smb.specs.State.{smb_begin}
 use Rattle.xl_front_smb.proofs.WaitLaws as smb_waits
-use Rattle.xl_smb_state.specs.State.{Lists, connection_of, connection_added}
-use Rattle.xl_smb_state.specs.declared.row.Waiting.{Waiting}
 use Rattle.xl_house.specs.declared.parts.Fronts.{Fronts}
 use Rattle.xl_front_nlm.specs.declared.grant.Grant.{Grant}
 use Rattle.xl_house.proofs.MachineLaws.{next_place}
@@ -53,17 +57,11 @@ AreTimely before after outs = AllByRecursion (λ o. IsTimely before after o.dest
 timely_append : (before after : List ℕ) (xs ys : List Out) → AreTimely before after xs → AreTimely before after ys → AreTimely before after (xs ++ ys)
 timely_append before after xs ys front back = all_append (λ o. IsTimely before after o.dest) xs ys front back
 
--- ---- requests of SMB wait on connections of SMB that are open
+-- ---- requests of SMB wait, and opens are held, on connections of SMB that are open
 
 -- the connections that are open, and speak SMB
 abbrev IsOpen : List Connection → ℕ → Type 0
 IsOpen cs number = kind_of cs number ≡ Some Smb
-
-abbrev Rows : Type 0
-Rows = List (ℕ × Waiting)
-
-abbrev AreOn : List Connection → Rows → Type 0
-AreOn cs rows = AllByRecursion (λ e. IsOpen cs e.1.place.connection) rows
 
 -- what is sent goes to such connections
 abbrev GoOn : List Connection → List Out → Type 0
@@ -89,20 +87,41 @@ finals_timely : (cs : List Connection) (outs : List Out) → GoOn cs outs → Ar
 finals_timely cs [] go = tt
 finals_timely cs (o ∷ os) go = (framed_timely cs o go.0, finals_timely cs os go.1)
 
--- ---- what is shown are calls, and final replies to requests that wait
+-- ---- what is shown are calls, notices to who holds opens, and final replies to requests that wait
 
 by_news : (before after : List ℕ) (f : FrontState) (s : CoreState) (o : Option (Claim × Grant × List ℕ)) → AreTimely before after (map (framed Rpc) (told_by f s o).0)
 by_news before after f s None = tt
 by_news before after f s (Some told) = (tt, tt)
 
 abbrev Waits : List Connection → Fronts → Type 0
-Waits cs f = AreOn cs f.smb.state.waiting
+Waits cs f = smb_waits.IsOn (IsOpen cs) f.smb.state
+
+-- recalls are calls
+called_timely : (before after : List ℕ) (s : CoreState) (number file : ℕ) (c : ClientRow) (o : Option StateidRow) → AreTimely before after (map (framed Rpc) (recalled_as s number file c o))
+called_timely before after s number file c None = tt
+called_timely before after s number file c (Some r) = by (nat_lt r.number number) where
+  by : (b : Bool) → AreTimely before after (map (framed Rpc) (if b then recall_out s number file c r ∷ [] else []))
+  by true = (tt, tt)
+  by false = tt
+
+recalled_timely : (before after : List ℕ) (s : CoreState) (l : NfsLists) (number file : ℕ) (o : Option ClientRow) → AreTimely before after (map (framed Rpc) (recalled_from s l number file o))
+recalled_timely before after s l number file None = tt
+recalled_timely before after s l number file (Some c) = called_timely before after s number file c (find (delegated_on c.number file) l.stateids)
+
+recalls_timely : (before after : List ℕ) (f : FrontNfs) (s : CoreState) (effect : Effect) → AreTimely before after (map (framed Rpc) (recalls f s effect))
+unfolding recalls
+recalls_timely before after f s (Begun cache to (Some number)) = recalled_timely before after s f.state number cache.file (client_by f.state (client_of s.names cache.party))
+recalls_timely before after f s (Begun cache to None) = tt
+recalls_timely before after f s (Served id answer) = tt
+recalls_timely before after f s (Cancelled id) = tt
+recalls_timely before after f s (Expired client) = tt
 
 shown_timely : (cs : List Connection) (exports : Exports) (f : Fronts) (s : CoreState) (effect : Effect) → Waits cs f → AreTimely (numbers cs) (numbers cs) (showing exports f s effect).0 × Waits cs (showing exports f s effect).1
 unfolding shown
 shown_timely cs exports f s effect waits =
-    let told = smb_waits.shown_on (IsOpen cs) f.smb effect waits in (
-      timely_append (numbers cs) (numbers cs) (map (framed Rpc) (told_by f.nlm s (news exports s effect)).0) (map (framed Smb) (smb_shown f.smb effect).0) (by_news (numbers cs) (numbers cs) f.nlm s (news exports s effect)) (finals_timely cs (smb_shown f.smb effect).0 told.0),
+    let told = smb_waits.shown_on (IsOpen cs) f.smb s effect waits in
+    let last = timely_append (numbers cs) (numbers cs) (map (framed Rpc) (recalls f.nfs s effect)) (map (framed Smb) (smb_shown f.smb s effect).0) (recalls_timely (numbers cs) (numbers cs) f.nfs s effect) (finals_timely cs (smb_shown f.smb s effect).0 told.0) in (
+      timely_append (numbers cs) (numbers cs) (map (framed Rpc) (told_by f.nlm s (news exports s effect)).0) (map (framed Rpc) (recalls f.nfs s effect) ++ map (framed Smb) (smb_shown f.smb s effect).0) (by_news (numbers cs) (numbers cs) f.nlm s (news exports s effect)) last,
       told.1,
     )
 
@@ -132,7 +151,7 @@ settled_for_timely (suc fuel) n cs exports f s waits = turns_timely cs exports (
 
 settled_timely : (n : ℕ) (cs : List Connection) (exports : Exports) (f : Fronts) (s : CoreState) → Waits cs f → IsTimelySent cs (settled n exports f s)
 unfolding settled
-settled_timely n cs exports f s waits = settled_for_timely (length s.waiters) n cs exports f s waits
+settled_timely n cs exports f s waits = settled_for_timely (turns_left s) n cs exports f s waits
 
 -- ---- an event
 
@@ -202,31 +221,31 @@ two_kinds cs number other kind e apart there = by (eqb other number) refl where
   by true same = absurd (apart (sym e ∙ ap (kind_of cs) (sym (eqb-true other number same)) ∙ there))
   by false other = refl
 
--- an opening brings no request
+-- an opening brings no request, and no open
 begun_on : (ks : List Connection) (f : Fronts) (cs : List Connection) (place : ℕ) (kind : Kind) → Waits ks f → Waits ks (begun f cs place kind)
-unfolding smb_begin
 begun_on ks f cs place kind waits = by (ltb (length cs) most_connections) kind where
-  added : (l : Lists) (b : Bool) → AreOn ks l.waiting → AreOn ks (if b then l else connection_added place (record { client = None }) l).waiting
-  added l true on = on
-  added l false on = on
-
   by : (room : Bool) (k : Kind) → Waits ks (if room then begun_by f place k else f)
   by false k = waits
   by true Rpc = waits
-  by true Smb = added f.smb.state (is_some (connection_of place f.smb.state) || nat_le most_connections (length f.smb.state.connections)) waits
+  by true Smb = smb_waits.begin_on (IsOpen ks) f.smb place waits
 
--- what an end leaves waits on connections that stay open
+-- where no connection of SMB ends, all stay
+others_on : (cs : List Connection) (f : Fronts) (number : ℕ) (kind : Option Kind) → kind_of cs number ≡ kind → (kind ≡ Some Smb → ⊥) → Waits cs f → Waits (without cs number) f
+others_on cs f number kind e apart waits =
+    smb_waits.on_weaker (IsOpen cs) (IsOpen (without cs number)) f.smb.state (λ other on. stays_open cs number other (two_kinds cs number other kind e apart on) on) waits
+
+-- what an end leaves waits and is held on connections that stay open
 ended_on : (cs : List Connection) (exports : Exports) (f : Fronts) (s : CoreState) (number : ℕ) (kind : Option Kind) → kind_of cs number ≡ kind → Waits cs f → IsTimelySent (without cs number) (ended_by exports f s kind number)
-ended_on cs exports f s number None e waits = (tt, all_weaker (λ e. IsOpen cs e.1.place.connection) (λ e. IsOpen (without cs number) e.1.place.connection) f.smb.state.waiting (λ r on. stays_open cs number r.1.place.connection (two_kinds cs number r.1.place.connection None e (λ h. no_kind h) on) on) waits) where
+ended_on cs exports f s number None e waits = (tt, others_on cs f number None e (λ h. no_kind h) waits) where
   no_kind : None ≡ Some Smb → ⊥
   no_kind h = cc
-ended_on cs exports f s number (Some Rpc) e waits = (tt, all_weaker (λ e. IsOpen cs e.1.place.connection) (λ e. IsOpen (without cs number) e.1.place.connection) f.smb.state.waiting (λ r on. stays_open cs number r.1.place.connection (two_kinds cs number r.1.place.connection (Some Rpc) e (λ h. other_kind h) on) on) waits) where
+ended_on cs exports f s number (Some Rpc) e waits = (tt, others_on cs f number (Some Rpc) e (λ h. other_kind h) waits) where
   other_kind : Some Rpc ≡ Some Smb → ⊥
   other_kind h = cc
 ended_on cs exports f s number (Some Smb) e waits =
     let r = after_end f (smb_end f.smb s number) in
     all_timely (without cs number) exports r.1 r.2 r.0
-    (smb_waits.end_on (IsOpen cs) (IsOpen (without cs number)) f.smb s number (λ other apart on. stays_open cs number other apart on) waits)
+    (smb_waits.end_on (IsOpen cs) (IsOpen (without cs number)) number (λ other apart on. stays_open cs number other apart on) f.smb s waits)
 
 -- the connections that are open before the event and after it
 abbrev both_open : List Connection → Event → List Connection
@@ -320,12 +339,12 @@ timely : (n : ℕ) (s : Whole) (e : Event) → Waits s.connections s.front → (
 unfolding step connected
 timely n s (Open kind) waits =
     let r = turn_timely n s (Open kind) refl waits in
-    (r.0, all_weaker (λ e. IsOpen s.connections e.1.place.connection) (λ e. IsOpen (with_connection s.connections s.place kind) e.1.place.connection) _ (λ x on. still_open s.connections s.place kind x.1.place.connection on) r.1)
+    (r.0, smb_waits.on_weaker (IsOpen s.connections) (IsOpen (with_connection s.connections s.place kind)) _ (λ other on. still_open s.connections s.place kind other on) r.1)
 timely n s (Message number bytes) waits = turn_timely n s (Message number bytes) refl waits
 timely n s (End number) waits = turn_timely n s (End number) refl waits
 timely n s (Called call reply) waits = turn_timely n s (Called call reply) refl waits
 timely n s (Tick moment) waits = turn_timely n s (Tick moment) refl waits
-timely n s Restart waits = (tt, tt)
+timely n s Restart waits = (tt, smb_waits.empty_on (IsOpen []))
 
 orderly : (s : Whole) (es : List Entry) → Waits s.connections s.front → IsLegal s es → IsOrderly (numbers s.connections) s.place es
 orderly s [] waits legal = tt
@@ -340,4 +359,4 @@ orderly s (e ∷ es) waits legal =
 
 -- a legal journal from a first start is orderly
 pub legal_orderly : (head : Head) (es : List Entry) → IsLegal (begin head) es → IsOrderly [] 0 es
-legal_orderly head es legal = orderly (begin head) es tt legal
+legal_orderly head es legal = orderly (begin head) es (smb_waits.empty_on (IsOpen [])) legal

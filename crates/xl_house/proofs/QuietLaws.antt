@@ -1,5 +1,5 @@
--- No step of a front tells of a grant; a turn tells of one at most.
-use Rattle.std.proofs.Common.{◌≡◌, ℕ, ◌+◌, ◌≤◌, Bool, true, false, if◌then◌else◌, Option, Some, None, List, [], refl, sym, ap, subst, ◌∙◌, arith}
+-- No step of a front tells of a grant; and of who is told of one by a turn, none waits any more.
+use Rattle.std.proofs.Common.{◌≡◌, ℕ, ◌+◌, ◌≤◌, if◌then◌else◌, Option, Some, None, IfSome, List, [], ◌∷◌, length, refl, sym, ap, ◌∙◌, arith}
 use Rattle.std.specs.Bool.{◌==◌}
 use Rattle.std.specs.List.{find}
 use Rattle.xl_base.specs.declared.event.Moment.{Moment}
@@ -7,15 +7,19 @@ use Rattle.xl_base.specs.declared.event.Out.{Out}
 use Rattle.xl_base.specs.declared.journal.Exports.{Exports}
 use Rattle.xl_wait.specs.declared.waiter.Rooms.{Rooms}
 use Rattle.xl_programs.specs.Programs.{RequestItem}
-use Rattle.xl_core.specs.Causes.{IsTurn}
 use Rattle.xl_core.specs.Decide.{ask}
 use Rattle.xl_core.specs.Deeds.{all_told_of, AreFit}
 use Rattle.xl_core.specs.Good.{IsGood}
 use Rattle.xl_core.specs.State.{CoreState, MayBe}
 use Rattle.xl_core.specs.Ticks.{tick}
 use Rattle.xl_core.specs.declared.ask.Effect.{Effect}
-use Rattle.xl_core.specs.declared.ask.Effect.TheVariants.{Served}
-use Rattle.xl_core.proofs.FrameLaws.{ask_quiet, tick_unserved}
+use Rattle.xl_core.specs.declared.ask.Effect.TheVariants.{Begun, Served, Cancelled, Expired}
+use Rattle.xl_core.specs.declared.ask.Answer.TheVariants as answers
+use Rattle.xl_core.proofs.FrameLaws.{tick_unserved}
+use Rattle.xl_core.proofs.NumberLaws.{turn_numbers}
+use Rattle.xl_core.specs.Frames.{with_told, who_left}
+use Rattle.xl_core.specs.Numbers.{numbers_of}
+use Rattle.xl_core.specs.Settle.{settle}
 use Rattle.xl_front_nfs.specs.FrontNfs.{nfs_deeds, nfs_step}
 use Rattle.xl_front_nfs.specs.State.{FrontNfs}
 use Rattle.xl_front_nfs.proofs.DoesLaws as nfs
@@ -35,7 +39,7 @@ use Rattle.xl_front_smb.specs.State.{FrontSmb}
 use Rattle.xl_front_smb.proofs.DoesLaws as smb
 use Rattle.xl_front_smb.proofs.OwnLaws as smb_own
 use Rattle.xl_house.specs.Machine.{is_grant, grants}
-use Rattle.xl_house.proofs.MayLaws.{nlm_may, nfs_may, smb_may, last_may, unserved_quiet, both_quiet, may_quiet, end_quiet}
+use Rattle.xl_house.proofs.MayLaws.{nlm_may, nfs_may, smb_may, last_may, unserved_quiet, both_quiet, asked_quiet, may_quiet, end_quiet}
 use Rattle.xl_house.proofs.Stores.{may_be_made}
 
 -- a reading of the clock tells of no grant
@@ -75,7 +79,7 @@ refusal_quiet : (n : ℕ) (hosts : List (List ℕ)) (s : CoreState) (o : Option 
 refusal_quiet n hosts s None good fit = refl
 refusal_quiet n hosts s (Some grant) good fit =
     let a = refusal_ask grant in
-    both_quiet (ask n (rooms hosts) s a).1 [] (ap (λ (effects : List Effect). grants effects) (ask_quiet n (rooms hosts) s a good fit.0.party)) refl
+    both_quiet (ask n (rooms hosts) s a).1 [] (asked_quiet n (rooms hosts) s a good fit.0.party) refl
 
 pub answer_quiet : (f g : FrontState) (s t : CoreState) (number : ℕ) (reply : Option (List ℕ)) (effects : List Effect) → IsGood s → ((n : ℕ) → MayBe n t → nlm_called n f s number reply ≡ (effects, g, t)) → grants effects ≡ 0
 answer_quiet f g s t number reply effects good is =
@@ -86,10 +90,36 @@ answer_quiet f g s t number reply effects good is =
 
 -- ---- a turn
 
-at_most : (b : Bool) → (if b then 0 + 1 else 0) ≤ 1
-at_most true = omega arith
-at_most false = omega arith
+-- who is told of a grant waits no more
+with_left : (effect : Effect) (effects : List Effect) → (if is_grant effect then grants effects + 1 else grants effects) ≤ length (with_told effect []) + grants effects
+with_left (Served id (answers.Granted claim)) effects = omega arith
+with_left (Served id (answers.Conflict claim)) effects = omega arith
+with_left (Served id (answers.Queued number)) effects = omega arith
+with_left (Served id (answers.Recall claim)) effects = omega arith
+with_left (Served id (answers.Grace until)) effects = omega arith
+with_left (Served id (answers.NoGrace clock)) effects = omega arith
+with_left (Served id answers.NotRecorded) effects = omega arith
+with_left (Served id (answers.Full limit)) effects = omega arith
+with_left (Served id answers.NotHeld) effects = omega arith
+with_left (Served id answers.StoreFailed) effects = omega arith
+with_left (Begun cache to call) effects = omega arith
+with_left (Cancelled id) effects = omega arith
+with_left (Expired client) effects = omega arith
 
-pub turn_grants : (left : Rooms) (s t : CoreState) (effects : List Effect) → IsTurn left s effects t → grants effects ≤ 1
-turn_grants left s t effects turn =
-    subst (λ (told : List Effect). grants told ≤ 1) (sym turn.told) (at_most (is_grant (Served turn.waiter.id turn.answer)))
+one_left : (effect : Effect) (ids : List ℕ) → length (with_told effect ids) ≡ length (with_told effect []) + length ids
+one_left (Served id answer) ids = omega arith
+one_left (Begun cache to (Some number)) ids = omega arith
+one_left (Begun cache to None) ids = omega arith
+one_left (Cancelled id) ids = omega arith
+one_left (Expired client) ids = omega arith
+
+grants_left : (effects : List Effect) → grants effects ≤ length (who_left effects)
+grants_left [] = omega arith
+grants_left (effect ∷ effects) = omega (arith, with_left effect effects, one_left effect (who_left effects), grants_left effects)
+
+-- a turn leaves the numbers for the calls that tell of it
+pub turn_pays : (n : ℕ) (left : Rooms) (s : CoreState) → IsGood s → IfSome (settle n left s) (λ r. numbers_of r.1 + grants r.0 ≤ numbers_of s)
+turn_pays n left s good = by (settle n left s) (turn_numbers n left s good) where
+  by : (o : Option (List Effect × CoreState)) → IfSome o (λ r. numbers_of r.1 + length (who_left r.0) ≤ numbers_of s) → IfSome o (λ r. numbers_of r.1 + grants r.0 ≤ numbers_of s)
+  by None pays = tt
+  by (Some r) pays = omega (arith, pays, grants_left r.0)

@@ -1,17 +1,18 @@
 -- Turns come to an end.
-use Rattle.std.proofs.Common.{◌≡◌, ℕ, zero, suc, ◌+◌, ◌<◌, ◌≤◌, ◌^◌, Option, Some, None, IfSome, option_map, List, [], ◌++◌, length, refl, sym, ap, subst, ◌∙◌, arith, append_assoc, append-nil}
+use Rattle.std.proofs.Common.{◌≡◌, ℕ, zero, suc, ◌+◌, ◌<◌, ◌≤◌, ◌^◌, Option, Some, None, IfSome, option_map, List, [], ◌++◌, refl, sym, ap, subst, ◌∙◌, arith, append_assoc, append-nil}
+use Rattle.xl_base.specs.Limits.{numbers_left}
 use Rattle.xl_base.specs.declared.event.Out.{Out}
 use Rattle.xl_core.specs.State.{CoreState, MayBe, GoesOn}
 use Rattle.xl_core.specs.Good.{IsGood, IsSettled}
-use Rattle.xl_core.specs.Settle.{settle}
+use Rattle.xl_core.specs.Numbers.{numbers_of}
+use Rattle.xl_core.specs.Settle.{turns_left, settle}
 use Rattle.xl_core.specs.declared.ask.Effect.{Effect}
 use Rattle.xl_core.specs.Causes.{IsTurn}
 use Rattle.xl_core.proofs.SettleLaws.{none_settled, turn_is, turn_fewer}
-use Rattle.xl_core.proofs.FrameLaws.{turn_frame}
-use Rattle.xl_core.specs.Frames.{IsFrame}
-use Rattle.xl_house.proofs.QuietLaws.{turn_grants}
+use Rattle.xl_core.proofs.NumberLaws.{counter_numbers}
+use Rattle.xl_house.proofs.QuietLaws.{turn_pays}
 use Rattle.xl_house.proofs.Stores.{may_be_made, may_be_before, goes_on_self, goes_further}
-use Rattle.xl_house.proofs.ShownLaws.{all_shown_is, shown_waiters, shown_names, told_waiters}
+use Rattle.xl_house.proofs.ShownLaws.{all_shown_is, all_shown_good, shown_numbers, shown_names, told_turns}
 use Rattle.xl_base.specs.declared.journal.Exports.{Exports}
 use Rattle.xl_house.specs.declared.parts.Fronts.{Fronts}
 use Rattle.xl_names.specs.declared.name.Name.{Name}
@@ -23,7 +24,7 @@ use Rattle.xl_house.specs.Machine.{Sent, grants, behind, and_then, all_shown, ro
 -- ---- what is left
 
 pub leaves_self : (m k : ℕ) (s : CoreState) → IsReadyFor m s → LeavesBy k s s
-leaves_self m k s ready = record { on = goes_on_self s; good = ready.good; short = ready.short; counter = omega arith }
+leaves_self m k s ready = record { on = goes_on_self s; good = ready.good; short = ready.short; numbers = omega arith }
 
 -- ---- settling
 
@@ -35,30 +36,57 @@ none_for (suc fuel) n exports f s e = ap (λ (r : Option (List Effect × CoreSta
 abbrev Turned : Type 0
 Turned = Option (List Effect × CoreState)
 
-fewer : (n : ℕ) (f : Fronts) (s t : CoreState) (effects : List Effect) → IsGood s → settle n (rooms_of f) s ≡ Some (effects, t) → suc (length t.waiters) ≡ length s.waiters
-fewer n f s t effects good e =
-    let one : length t.waiters + 1 ≡ length s.waiters = subst (λ (r : Turned). IfSome r (λ x. length x.1.waiters + 1 ≡ length s.waiters)) e (turn_fewer n (rooms_of f) s good) in
-    omega (arith, one)
+fewer : (n : ℕ) (f : Fronts) (s t : CoreState) (effects : List Effect) → IsGood s → settle n (rooms_of f) s ≡ Some (effects, t) → turns_left t + 1 ≤ turns_left s
+fewer n f s t effects good e = subst (λ (r : Turned). IfSome r (λ x. turns_left x.1 + 1 ≤ turns_left s)) e (turn_fewer n (rooms_of f) s good)
+
+no_turn : (o : Turned) (most : ℕ) → IfSome o (λ r. turns_left r.1 + 1 ≤ most) → most ≤ 0 → o ≡ None
+no_turn None most fewer none = refl
+no_turn (Some turn) most fewer none = absurd (omega (arith, fewer, none))
+
+-- where no turn is left none comes
+pub no_more : (n : ℕ) (f : Fronts) (s : CoreState) → IsGood s → turns_left s ≤ 0 → settle n (rooms_of f) s ≡ None
+no_more n f s good none = no_turn (settle n (rooms_of f) s) (turns_left s) (turn_fewer n (rooms_of f) s good) none
+
+same_by : (p q n : ℕ) (exports : Exports) (f : Fronts) (s : CoreState) (o : Turned) → IfSome o (λ r. turns_left r.1 + 1 ≤ turns_left s) → IfSome o (λ r. IsGood r.1) → turns_left s ≤ suc p → turns_left s ≤ suc q
+    → ((g : Fronts) (t : CoreState) → IsGood t → turns_left t ≤ p → turns_left t ≤ q → settled_for p n exports g t ≡ settled_for q n exports g t)
+    → after_turn exports (settled_for p n exports) f s o ≡ after_turn exports (settled_for q n exports) f s o
+same_by p q n exports f s None fewer good few enough each = refl
+same_by p q n exports f s (Some turn) fewer good few enough each =
+    let done = all_shown exports f turn.1 turn.0 in
+    let same = told_turns exports f turn.1 turn.0 in
+    ap (λ (rest : Sent). behind done.0 rest) (each done.1 done.2 (all_shown_good exports f turn.1 turn.0 good) (omega (arith, fewer, few, same)) (omega (arith, fewer, enough, same)))
+
+-- where as many turns may come as are left, more of them change nothing
+same_for : (p q n : ℕ) (exports : Exports) (f : Fronts) (s : CoreState) → IsGood s → turns_left s ≤ p → turns_left s ≤ q → settled_for p n exports f s ≡ settled_for q n exports f s
+same_for zero q n exports f s good few enough = sym (none_for q n exports f s (no_more n f s good few))
+same_for (suc p) zero n exports f s good few enough = none_for (suc p) n exports f s (no_more n f s good enough)
+same_for (suc p) (suc q) n exports f s good few enough =
+    same_by p q n exports f s (settle n (rooms_of f) s) (turn_fewer n (rooms_of f) s good) (settle_good n (rooms_of f) s good) few enough (λ g t h k l. same_for p q n exports g t h k l)
 
 -- where no waiter has a turn, nothing happens
 pub none_settles : (n : ℕ) (exports : Exports) (f : Fronts) (s : CoreState) → settle n (rooms_of f) s ≡ None → settled n exports f s ≡ ([], f, s)
 unfolding settled
-none_settles n exports f s e = none_for (length s.waiters) n exports f s e
+none_settles n exports f s e = none_for (turns_left s) n exports f s e
+
+turned_good : (n : ℕ) (f : Fronts) (s t : CoreState) (effects : List Effect) → IsGood s → settle n (rooms_of f) s ≡ Some (effects, t) → IsGood t
+turned_good n f s t effects good e = subst (λ (r : Turned). IfSome r (λ x. IsGood x.1)) e (settle_good n (rooms_of f) s good)
 
 -- a turn, and then the rest
 pub turn_settles : (n : ℕ) (exports : Exports) (f : Fronts) (s t : CoreState) (effects : List Effect) → IsGood s → settle n (rooms_of f) s ≡ Some (effects, t) → settled n exports f s ≡ and_then (settled n exports) (all_shown exports f t effects)
 unfolding settled
 turn_settles n exports f s t effects good e =
     let done = all_shown exports f t effects in
-    ap (λ (fuel : ℕ). settled_for fuel n exports f s) (sym (fewer n f s t effects good e))
-    ∙ ap (λ (r : Turned). after_turn exports (settled_for (length t.waiters) n exports) f s r) e
-    ∙ ap (λ (fuel : ℕ). behind done.0 (settled_for fuel n exports done.1 done.2)) (sym (told_waiters exports f t effects))
+    let left = turns_left s in
+    let fell : turns_left done.2 ≤ left = omega (arith, fewer n f s t effects good e, told_turns exports f t effects) in
+    same_for left (suc left) n exports f s good (omega arith) (omega arith)
+    ∙ ap (λ (r : Turned). after_turn exports (settled_for left n exports) f s r) e
+    ∙ ap (λ (rest : Sent). behind done.0 rest) (same_for left (turns_left done.2) n exports done.1 done.2 (all_shown_good exports f t effects (turned_good n f s t effects good e)) fell (omega arith))
 
 -- how far settling came: what is still to be done gives what all of it gives
 pub record IsSettling (exports : Exports) (before : Fronts) (first : CoreState) (sent : List Out) (f : Fronts) (s : CoreState) (outs : List Out) : Type 0 where
   pub on : GoesOn first s
   pub names : s.names ≡ first.names
-  pub counter : s.counter + length s.waiters ≤ first.counter + length first.waiters
+  pub numbers : numbers_of s ≤ numbers_of first
   pub told : (n : ℕ) → MayBe n s → behind outs (settled n exports f s) ≡ behind sent (settled n exports before first)
 
 behind_on : (outs more : List Out) (rest : Sent) → behind (outs ++ more) rest ≡ behind outs (behind more rest)
@@ -75,13 +103,9 @@ gives_some f s t r effects gives e = subst (λ (x : Option (List Effect)). Gives
 a_turn : (f : Fronts) (s t : CoreState) (effects : List Effect) → IsGood s → Gives f s t (Some effects) → IsTurn (rooms_of f) s effects t
 a_turn f s t effects good gives = subst (λ (r : Turned). IfSome r (λ x. IsTurn (rooms_of f) s x.0 x.1)) (gives t.made (may_be_made t)) (turn_is t.made (rooms_of f) s good)
 
-framed_turn : (f : Fronts) (s t : CoreState) (effects : List Effect) → IsGood s → Gives f s t (Some effects) → IsFrame s effects t 0 s.names []
-framed_turn f s t effects good gives = subst (λ (r : Turned). IfSome r (λ x. IsFrame s x.0 x.1 0 s.names [])) (gives t.made (may_be_made t)) (turn_frame t.made (rooms_of f) s good)
-
--- a turn gives out one number at most, and takes one waiter out
-turn_room : (f : Fronts) (s t : CoreState) (effects : List Effect) → IsGood s → Gives f s t (Some effects) → t.counter + length t.waiters + grants effects ≤ s.counter + length s.waiters
-turn_room f s t effects good gives =
-    omega (arith, (framed_turn f s t effects good gives).counter, fewer t.made f s t effects good (gives t.made (may_be_made t)), turn_grants (rooms_of f) s t effects (a_turn f s t effects good gives))
+-- the calls that tell of a turn have their numbers
+turn_room : (f : Fronts) (s t : CoreState) (effects : List Effect) → IsGood s → Gives f s t (Some effects) → numbers_of t + grants effects ≤ numbers_of s
+turn_room f s t effects good gives = subst (λ (r : Turned). IfSome r (λ x. numbers_of x.1 + grants x.0 ≤ numbers_of s)) (gives t.made (may_be_made t)) (turn_pays t.made (rooms_of f) s good)
 
 turn_names : (f : Fronts) (s t : CoreState) (effects : List Effect) → IsGood s → Gives f s t (Some effects) → t.names ≡ s.names
 turn_names f s t effects good gives = (a_turn f s t effects good gives).names
@@ -90,23 +114,23 @@ turn_good : (f : Fronts) (s t : CoreState) (effects : List Effect) → IsGood s 
 turn_good f s t effects good gives = subst (λ (r : Turned). IfSome r (λ x. IsGood x.1)) (gives t.made (may_be_made t)) (settle_good t.made (rooms_of f) s good)
 
 -- so what a turn tells may be told
-pub settling_numbers : (exports : Exports) (before : Fronts) (first : CoreState) (sent : List Out) (f : Fronts) (s : CoreState) (outs : List Out) → IsSettling exports before first sent f s outs → IsReadyFor (length first.waiters) first → s.counter + 65536 < 2 ^ 32
-settling_numbers exports before first sent f s outs settling ready = omega (arith, settling.counter, ready.numbers)
+pub settling_numbers : (exports : Exports) (before : Fronts) (first : CoreState) (sent : List Out) (f : Fronts) (s : CoreState) (outs : List Out) → IsSettling exports before first sent f s outs → IsReadyFor 0 first → s.counter + numbers_left < 2 ^ 32
+settling_numbers exports before first sent f s outs settling ready = omega (arith, counter_numbers s, settling.numbers, ready.numbers)
 
 pub turn_ready : (exports : Exports) (before : Fronts) (first : CoreState) (sent : List Out) (f : Fronts) (s t : CoreState) (outs : List Out) (r : Option (List Effect)) (effects : List Effect)
-    → IsSettling exports before first sent f s outs → IsGood s → Gives f s t r → r ≡ Some effects → IsReadyFor (length first.waiters) first → IsReadyFor (grants effects) t
+    → IsSettling exports before first sent f s outs → IsGood s → Gives f s t r → r ≡ Some effects → IsReadyFor 0 first → IsReadyFor (grants effects) t
 turn_ready exports before first sent f s t outs r effects settling good gives e ready =
     let given = gives_some f s t r effects gives e in
     record {
       good = turn_good f s t effects good given;
-      numbers = omega (arith, settling.counter, turn_room f s t effects good given, ready.numbers);
+      numbers = omega (arith, settling.numbers, turn_room f s t effects good given, ready.numbers);
       short = subst (λ (names : List Name). AreShort names) (sym (turn_names f s t effects good given ∙ settling.names)) ready.short;
     }
 
-pub turn_smaller : (exports : Exports) (f g : Fronts) (s t u : CoreState) (r : Option (List Effect)) (effects : List Effect) (outs new : List Out) → IsGood s → Gives f s t r → r ≡ Some effects → behind outs (all_shown exports f t effects) ≡ (new, g, u) → suc (length u.waiters) ≤ length s.waiters
+pub turn_smaller : (exports : Exports) (f g : Fronts) (s t u : CoreState) (r : Option (List Effect)) (effects : List Effect) (outs new : List Out) → IsGood s → Gives f s t r → r ≡ Some effects → behind outs (all_shown exports f t effects) ≡ (new, g, u) → suc (turns_left u) ≤ turns_left s
 turn_smaller exports f g s t u r effects outs new good gives e shown =
     let one = fewer t.made f s t effects good (gives_some f s t r effects gives e t.made (may_be_made t)) in
-    let same : length u.waiters ≡ length t.waiters = ap (λ (x : Sent). length x.2.waiters) (sym shown) ∙ told_waiters exports f t effects in
+    let same : turns_left u ≡ turns_left t = ap (λ (x : Sent). turns_left x.2) (sym shown) ∙ told_turns exports f t effects in
     omega (arith, one, same)
 
 parts_on : (most : ℕ) (t u : CoreState) → IsShown most t u → GoesOn t u
@@ -126,7 +150,7 @@ turn_preserves exports before first sent f g s t u outs new r effects settling g
     record {
       on = goes_further first s u settling.on (goes_further s t u on further);
       names = shown_names (grants effects) t u is ∙ turn_names f s t effects good given ∙ settling.names;
-      counter = omega (arith, settling.counter, turn_room f s t effects good given, is.most, ap length (shown_waiters (grants effects) t u is));
+      numbers = omega (arith, settling.numbers, turn_room f s t effects good given, shown_numbers (grants effects) t u is);
       told = λ n may.
           ap (λ (x : Sent). and_then (settled n exports) x) (sym shown)
           ∙ behind_on outs done.0 (settled n exports done.1 done.2)
@@ -149,7 +173,7 @@ pub ended_settled : (f : Fronts) (s t : CoreState) (r : Option (List Effect)) �
 ended_settled f s t r gives e same =
     subst (λ (x : CoreState). IsSettled x) (sym same) (none_settled t.made (rooms_of f) s (gives_none f s t r gives e t.made (may_be_made t)))
 
-pub ended_leaves : (exports : Exports) (before : Fronts) (first : CoreState) (sent : List Out) (f : Fronts) (s t : CoreState) (outs : List Out) → IsSettling exports before first sent f s outs → IsGood s → t ≡ s → IsReadyFor (length first.waiters) first → LeavesBy 0 first t
+pub ended_leaves : (exports : Exports) (before : Fronts) (first : CoreState) (sent : List Out) (f : Fronts) (s t : CoreState) (outs : List Out) → IsSettling exports before first sent f s outs → IsGood s → t ≡ s → IsReadyFor 0 first → LeavesBy 0 first t
 ended_leaves exports before first sent f s t outs settling good same ready =
     subst (λ (x : CoreState). LeavesBy 0 first x) (sym same)
-    (record { on = settling.on; good = good; short = subst (λ (names : List Name). AreShort names) (sym settling.names) ready.short; counter = omega (arith, settling.counter) })
+    (record { on = settling.on; good = good; short = subst (λ (names : List Name). AreShort names) (sym settling.names) ready.short; numbers = omega (arith, settling.numbers) })

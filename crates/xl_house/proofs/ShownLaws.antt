@@ -6,9 +6,10 @@ use Rattle.std.proofs.lemmas.Bool.{cases_Bool}
 use Rattle.xl_base.specs.declared.event.Out.{Out}
 use Rattle.xl_base.specs.declared.journal.Exports.{Exports}
 use Rattle.xl_matrix.specs.declared.claim.Claim.{Claim}
+use Rattle.xl_core.specs.Numbers.{delegations_left, numbers_of}
+use Rattle.xl_core.specs.Settle.{turns_left}
 use Rattle.xl_core.specs.State.{CoreState, drawn}
-use Rattle.xl_core.specs.Good.{IsGood, IsSettled}
-use Rattle.xl_core.specs.declared.ask.Answer.{Answer}
+use Rattle.xl_core.specs.Good.{IsGood}
 use Rattle.xl_core.specs.declared.ask.Answer.TheVariants as answers
 use Rattle.xl_core.specs.declared.ask.Effect.{Effect}
 use Rattle.xl_core.specs.declared.ask.Effect.TheVariants.{Begun, Served, Cancelled, Expired}
@@ -113,6 +114,10 @@ all_shown_good exports f s (effect ∷ effects) good = let r = showing exports f
 pub all_is_shown : (exports : Exports) (f g : Fronts) (s t : CoreState) (effects : List Effect) (old outs : List Out) → behind old (all_shown exports f s effects) ≡ (outs, g, t) → IsShown (grants effects) s t
 all_is_shown exports f g s t effects old outs e = subst (λ (x : CoreState). IsShown (grants effects) s x) (ap (λ (r : Sent). r.2) e) (all_shown_is exports f s effects)
 
+-- so far may numbers go then
+pub shown_numbers : (most : ℕ) (s t : CoreState) → IsShown most s t → numbers_of t ≤ numbers_of s + most
+shown_numbers most s t is = omega (arith, is.most, ap (λ (x : CoreState). length x.waiters + delegations_left x.claims) is.parts)
+
 pub all_leaves : (exports : Exports) (f g : Fronts) (s t : CoreState) (effects : List Effect) (old outs : List Out) → behind old (all_shown exports f s effects) ≡ (outs, g, t) → IsReadyFor (grants effects) s → LeavesBy (grants effects) s t
 all_leaves exports f g s t effects old outs e ready =
     let is = all_is_shown exports f g s t effects old outs e in
@@ -123,19 +128,19 @@ all_leaves exports f g s t effects old outs e ready =
       };
       good = subst (λ (x : CoreState). IsGood x) (ap (λ (r : Sent). r.2) e) (all_shown_good exports f s effects ready.good);
       short = subst (λ (names : List Name). AreShort names) (sym (ap (λ (x : CoreState). x.names) is.parts)) ready.short;
-      counter = omega (arith, is.most, ap (λ (x : CoreState). length x.waiters) is.parts);
+      numbers = shown_numbers (grants effects) s t is;
     }
 
 -- one more effect of those that are left
 pub show_next : (exports : Exports) (f g : Fronts) (s t : CoreState) (effects : List Effect) (i : ℕ) (effect : Effect) (outs new : List Out) → i < length effects → effect ≡ get_or effects i effect → behind outs (showing exports f s effect) ≡ (new, g, t)
-    → (behind new (all_shown exports g t (drop (i + 1) effects)) ≡ behind outs (all_shown exports f s (drop i effects))) × (t.counter + grants (drop (i + 1) effects) ≤ s.counter + grants (drop i effects))
+    → (behind new (all_shown exports g t (drop (i + 1) effects)) ≡ behind outs (all_shown exports f s (drop i effects))) × (numbers_of t + grants (drop (i + 1) effects) ≤ numbers_of s + grants (drop i effects))
 show_next exports f g s t effects i effect outs new there at is =
     let rest = drop (i + 1) effects in
     let all : drop i effects ≡ effect ∷ rest = drop_more effects i effect there ∙ ap (λ (x : Effect). x ∷ rest) (sym at) in
     let r = showing exports f s effect in
     let more = all_shown exports r.1 r.2 rest in
     let counted : grants (effect ∷ rest) ≡ number_of (is_grant effect) + grants rest = one_more (is_grant effect) (grants rest) in
-    let most = (subst (λ (x : CoreState). IsShown (number_of (is_grant effect)) s x) (ap (λ (q : Sent). q.2) is) (shown_most exports f s effect)).most in (
+    let most = shown_numbers (number_of (is_grant effect)) s t (subst (λ (x : CoreState). IsShown (number_of (is_grant effect)) s x) (ap (λ (q : Sent). q.2) is) (shown_most exports f s effect)) in (
       ap (λ (q : Sent). behind q.0 (all_shown exports q.1 q.2 rest)) (sym is)
           ∙ (λ j. (append_assoc outs r.0 more.0 j, more.1, more.2))
           ∙ ap (λ (x : List Effect). behind outs (all_shown exports f s x)) (sym all),
@@ -144,12 +149,9 @@ show_next exports f g s t effects i effect outs new there at is =
 
 -- ---- what stands still
 
-pub shown_waiters : (most : ℕ) (s t : CoreState) → IsShown most s t → t.waiters ≡ s.waiters
-shown_waiters most s t is = ap (λ (x : CoreState). x.waiters) is.parts
-
--- as many wait once the effects are shown
-pub told_waiters : (exports : Exports) (f : Fronts) (t : CoreState) (effects : List Effect) → length (all_shown exports f t effects).2.waiters ≡ length t.waiters
-told_waiters exports f t effects = ap length (shown_waiters (grants effects) t (all_shown exports f t effects).2 (all_shown_is exports f t effects))
+-- as many turns are left once the effects are shown
+pub told_turns : (exports : Exports) (f : Fronts) (t : CoreState) (effects : List Effect) → turns_left (all_shown exports f t effects).2 ≡ turns_left t
+told_turns exports f t effects = ap (λ (x : CoreState). turns_left x) (all_shown_is exports f t effects).parts
 
 pub shown_names : (most : ℕ) (s t : CoreState) → IsShown most s t → t.names ≡ s.names
 shown_names most s t is = ap (λ (x : CoreState). x.names) is.parts

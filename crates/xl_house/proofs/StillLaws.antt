@@ -4,7 +4,7 @@ use Rattle.xl_names.specs.declared.name.Name.{Name}
 use Rattle.xl_wait.specs.declared.waiter.Waiter.{Waiter}
 use Rattle.xl_core.specs.State.{CoreState, drawn}
 use Rattle.xl_core.specs.Deeds.{Deed, Asks, GivesBack, Weakens, Acks, Cancels, Ends, Serves, Draws, Advances, Lapses, Renews, Expires, turned, done, all_done, IsFitDeed, AreFit}
-use Rattle.xl_core.specs.Frames.{IsFrame, IsTicked, drawn_by, names_after, come_by}
+use Rattle.xl_core.specs.Frames.{IsFrame, IsTicked, calls_in, drawn_by, names_after, come_by}
 use Rattle.xl_core.specs.Decide.{ask}
 use Rattle.xl_core.specs.Good.{IsGood}
 use Rattle.xl_base.specs.declared.event.Moment.{Moment}
@@ -29,15 +29,15 @@ still_on a b c first next = record { stable = next.stable ∙ first.stable; made
 framed_still : (s : CoreState) (told : List Effect) (t : CoreState) (given : ℕ) (known : List Name) (come : List Waiter) → IsFrame s told t given known come → IsStill s t
 framed_still s told t given known come frame = record { stable = frame.stable; made = frame.made; failed = frame.failed }
 
-turned_still : (s : CoreState) (o : Option (List Effect × CoreState)) → IfSome o (λ r. IsFrame s r.0 r.1 0 s.names []) → IsStill s (turned s o).2
+turned_still : (s : CoreState) (o : Option (List Effect × CoreState)) → IfSome o (λ r. IsFrame s r.0 r.1 (calls_in r.0) s.names []) → IsStill s (turned s o).2
 turned_still s None frame = still s
-turned_still s (Some r) frame = framed_still s r.0 r.1 0 s.names [] frame
+turned_still s (Some r) frame = framed_still s r.0 r.1 (calls_in r.0) s.names [] frame
 
 ticked_still : (s : CoreState) (now : Moment) (t : CoreState) → IsTicked s now t → IsStill s t
 ticked_still s now t frame = record { stable = frame.stable; made = frame.made; failed = frame.failed }
 
 deed_still : (n : ℕ) (s : CoreState) (d : Deed) → IsGood s → IsFitDeed s d → IsStill s (done n s d)
-deed_still n s (Asks left a) good fit = let r = ask n left s a in framed_still s r.1 r.2 (drawn_by r.0) (names_after a r.0 s.names) (come_by a r.0 s.names) (ask_frame n left s a good fit.party)
+deed_still n s (Asks left a) good fit = let r = ask n left s a in framed_still s r.1 r.2 (drawn_by r.0 + calls_in r.1) (names_after a r.0 s.names) (come_by a r.0 s.names) (ask_frame n left s a good fit.party)
 deed_still n s (GivesBack claim) good fit = let r = give_back s claim in framed_still s r.0 r.1 0 s.names [] (give_back_frame s claim)
 deed_still n s (Weakens share access deny) good fit = let r = weaken s share access deny in framed_still s r.0 r.1 0 s.names [] (weaken_frame s share access deny)
 deed_still n s (Acks cache to) good fit = let r = ack s cache to in framed_still s r.0 r.1 0 s.names [] (ack_frame s cache to)

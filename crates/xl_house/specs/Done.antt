@@ -14,7 +14,7 @@ use Rattle.xl_programs.specs.declared.program.Program.TheVariants.{Nlm, Nfs}
 use Rattle.xl_programs.specs.Sent.{refusal_of, sent_to}
 use Rattle.xl_core.specs.State.{CoreState, step_begun}
 use Rattle.xl_core.specs.Deeds.{Deed, Serves, all_done, all_told_of, answers_of, tick_deeds}
-use Rattle.xl_core.specs.Settle.{settle}
+use Rattle.xl_core.specs.Settle.{turns_left, settle}
 use Rattle.xl_core.specs.Ticks.{tick}
 use Rattle.xl_core.specs.declared.ask.Answer.{Answer}
 use Rattle.xl_core.specs.declared.ask.Effect.{Effect}
@@ -73,11 +73,11 @@ message_owns n exports f s (Some Rpc) number bytes = record_owns n exports f s (
 message_owns n exports f s (Some Smb) number bytes = AreOwn f.smb s number (smb_deeds n exports (nfs_opens f) f.smb s number bytes)
 message_owns n exports f s None number bytes = Unit {0}
 
--- by what its deeds are answered, and what they tell of
-abbrev pub message_replies : ℕ → Exports → Fronts → CoreState → List Name → Option Kind → ℕ → List ℕ → List Answer → List Effect → List Out
-message_replies n exports f s names (Some Rpc) number bytes answers effects = map (framed Rpc) (record_replies n exports f s names number (incoming_at bytes) answers)
-message_replies n exports f s names (Some Smb) number bytes answers effects = map (framed Smb) (smb_replies exports (nfs_opens f) f.smb s number bytes answers effects)
-message_replies n exports f s names None number bytes answers effects = []
+-- by what its deeds are answered, what they tell of, and the state that they leave
+abbrev pub message_replies : ℕ → Exports → Fronts → CoreState → CoreState → Option Kind → ℕ → List ℕ → List Answer → List Effect → List Out
+message_replies n exports f s t (Some Rpc) number bytes answers effects = map (framed Rpc) (record_replies n exports f s t.names number (incoming_at bytes) answers)
+message_replies n exports f s t (Some Smb) number bytes answers effects = map (framed Smb) (smb_replies exports (nfs_opens f) f.smb s number bytes answers effects t)
+message_replies n exports f s t None number bytes answers effects = []
 
 -- ---- the end of a connection
 
@@ -103,10 +103,10 @@ own_deeds n s (Called number bytes) = called_deeds s.front.nlm (step_begun s.cor
 own_deeds n s (Tick now) = tick_deeds (step_begun s.core) now
 own_deeds n s event = []
 
--- what it is answered: a function of the message and of what its deeds are answered and tell of
+-- what it is answered: a function of the message, of what its deeds are answered and tell of, and of the state that they leave
 abbrev pub own_replies : ℕ → Whole → Event → List Out
 own_replies n s (Message number bytes) =
-    message_replies n s.exports s.front (step_begun s.core) (all_done n (step_begun s.core) (own_deeds n s (Message number bytes))).names (kind_of s.connections number) number bytes (answers_of n (step_begun s.core) (own_deeds n s (Message number bytes)))
+    message_replies n s.exports s.front (step_begun s.core) (all_done n (step_begun s.core) (own_deeds n s (Message number bytes))) (kind_of s.connections number) number bytes (answers_of n (step_begun s.core) (own_deeds n s (Message number bytes)))
     (all_told_of n (step_begun s.core) (own_deeds n s (Message number bytes)))
 own_replies n s event = []
 
@@ -129,7 +129,7 @@ turns_for (suc fuel) n exports f s = turn_deeds exports (turns_for fuel n export
 
 -- the turns until no waiter has one
 unfoldable pub turns : ℕ → Exports → Fronts → CoreState → List Deed
-turns n exports f s = turns_for (length s.waiters) n exports f s
+turns n exports f s = turns_for (turns_left s) n exports f s
 
 -- ---- what the front gave, before it is told
 

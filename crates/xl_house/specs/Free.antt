@@ -1,16 +1,15 @@
 -- What holds at each free moment: before the first entry of a journal, and after each.
 use Rattle.std.specs.Prelude.{◌≡◌, false, List, [], ◌∷◌}
 use Rattle.xl_base.specs.declared.journal.Entry.{Entry}
-use Rattle.xl_core.specs.Good.{IsGood, AreUncached, IsSettled}
+use Rattle.xl_core.specs.Good.{IsGood, IsSettled}
 use Rattle.xl_house.specs.Machine.{Whole, step}
 
 -- The core's state is good: any two claims may be held together by the matrix, an owner has one share and a party one
--- cache on a file, each POSIX owner's ranges are sorted maximal runs. No cache is held yet, as no front asks for one.
--- Nobody is forgotten: each waiter is held up, by something held that blocks what it asks for first. No store of a step is left
--- to tell of.
+-- cache on a file, each POSIX owner's ranges are sorted maximal runs. Nobody is forgotten: each waiter is held up, by something
+-- held that blocks what it asks for first, for good where it waits for that, and else by caches whose breaks all run. No store
+-- of a step is left to tell of.
 pub record IsFree (s : Whole) : Type 0 where
   pub good : IsGood s.core
-  pub uncached : AreUncached s.core.claims
   pub settled : IsSettled s.core
   pub made : s.core.made ≡ 0
   pub failed : s.core.failed ≡ false

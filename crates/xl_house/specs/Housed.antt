@@ -1,11 +1,12 @@
 -- A house as its callers see it.
-use Rattle.std.specs.Prelude.{◌≡◌, ◌+◌, ◌*◌, ◌≤◌, Bool, true, false, List, length, Option, Some, option_map}
+use Rattle.std.specs.Prelude.{◌≡◌, ◌*◌, ◌≤◌, Bool, true, false, List, length, Option, Some, option_map}
 use Rattle.xl_base.specs.Limits.{most_numbers}
 use Rattle.xl_base.specs.Stable.{Stable}
 use Rattle.xl_base.specs.declared.halt.Halt.{Halt}
 use Rattle.xl_base.specs.declared.halt.Halt.TheVariants.{NoMemory}
 use Rattle.xl_base.specs.declared.journal.Entry.{Entry}
 use Rattle.xl_base.specs.declared.journal.Head.{Head}
+use Rattle.xl_core.specs.Numbers.{numbers_of}
 use Rattle.xl_front_nlm.specs.Short.{AreShort}
 use Rattle.xl_house.specs.Machine.{Whole}
 use Rattle.xl_house.specs.Journals.{replay}
@@ -27,11 +28,12 @@ is_spoiled _ = false
 abbrev pub Holds : Option Stable → Stable → Type 0
 Holds held stable = held ≡ option_map (λ _. stable) held
 
--- The state is the one that the entries lead to, at its place and a free moment. Each entry gives out 128 numbers at most,
--- those to a waiter that comes, and to calls that tell of grants, among them; and the names fit the messages that tell them.
+-- The state is the one that the entries lead to, at its place and a free moment. Each entry gives out 512 numbers at most, those
+-- among them that one who comes to wait, the call that tells of its grant, and the recall of a delegation that came may take
+-- later; and the names fit the messages that tell them.
 pub record Stands (start : Whole) (es : List Entry) (s : Whole) : Type 0 where
   pub replayed : s ≡ replay start es
   pub place : s.place ≡ length es
   pub free : IsFree s
-  pub counter : s.core.counter + length s.core.waiters ≤ most_numbers * length es
+  pub numbers : numbers_of s.core ≤ most_numbers * length es
   pub short : AreShort s.core.names

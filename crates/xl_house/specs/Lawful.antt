@@ -2,12 +2,17 @@
 -- granted, what caused it, and what is sent.
 use Rattle.std.specs.Prelude.{◌≡◌, ℕ, ◌==◌, Bool, true, false, List, [], ◌∷◌, Option, None}
 use Rattle.std.specs.List.{AllByRecursion}
+use Rattle.xl_base.specs.Lists.{IsIn}
 use Rattle.xl_base.specs.declared.event.Event.{Event}
 use Rattle.xl_base.specs.declared.event.Event.TheVariants.{Message, End, Called, Tick, Restart}
 use Rattle.xl_base.specs.declared.journal.Entry.{Entry}
+use Rattle.xl_cache.specs.Planning.{is_running}
+use Rattle.xl_matrix.specs.Matrix.{compat}
+use Rattle.xl_matrix.specs.declared.claim.Claim.{Claim}
 use Rattle.xl_names.specs.declared.name.Name.{Name}
+use Rattle.xl_table.specs.Held.{is_cache}
 use Rattle.xl_core.specs.State.{CoreState, step_begun}
-use Rattle.xl_core.specs.Deeds.{Deed, Asks, GivesBack, Weakens, Cancels, Ends, Serves, Draws, Advances, Lapses, Renews, Expires, queue_after, KeepNames}
+use Rattle.xl_core.specs.Deeds.{Deed, Asks, GivesBack, Weakens, Acks, Cancels, Ends, Serves, Draws, Advances, Lapses, Renews, Expires, queue_after, any_ends_break, KeepNames}
 use Rattle.xl_core.specs.Dues.{AreDue}
 use Rattle.xl_core.specs.Places.{Place, held_at, IsChangedBy}
 use Rattle.xl_core.specs.declared.ask.Act.{Act}
@@ -52,6 +57,24 @@ IsWaitingBy n s event t = (t.core.waiters ≡ queue_after n (found s) (deeds n s
 abbrev pub IsWaiting : Law
 IsWaiting n s e t = IsWaitingBy n s e.event t
 
+-- ---- kept until it is answered
+
+-- the cache stands, and beside it no share or range that it guards against
+abbrev pub IsGuarding : Claim → List Claim → Type 0
+IsGuarding c claims = IsIn c claims × AllByRecursion (λ d. is_cache d.what ≡ false → compat c d ≡ true) claims
+
+-- which caches stand afterwards, by the event
+abbrev pub IsKeptBy : ℕ → Whole → Event → Whole → Type 0
+IsKeptBy n s Restart t = t.core.claims ≡ []
+IsKeptBy n s event t = (c : Claim) → IsIn c s.core.claims → is_running c.what ≡ true → any_ends_break n (found s) c (deeds n s event) ≡ false → IsGuarding c t.core.claims
+
+-- A cache of which a break runs before the entry stands after it with that break, at its full kind, and no share or range stands
+-- that it guards against, unless one of the entry's deeds is its party's answer, gives it back, ends its party, is the passing of
+-- its deadline, or the expiry of its client (MS-SMB2 3.3.4.6, 3.3.4.7, 3.3.6.1; RFC 7530 10.4.4 to 10.4.6). A restart leaves
+-- nothing.
+abbrev pub IsKept : Law
+IsKept n s e t = IsKeptBy n s e.event t
+
 -- ---- complete
 
 -- Each deed is given what is due to it, in the state that those before it left: an ask that is no reclaim, that nothing
@@ -67,13 +90,14 @@ abbrev pub is_unlock : Act → Bool
 is_unlock (Unlock extent) = true
 is_unlock act = false
 
--- which event does what itself: a message asks, gives back, makes a share weaker, cancels, ends, renews or draws a number,
--- the end of a connection ends, the end of a call unlocks, and a reading of the clock has it show that moment, ends breaks
--- and lets clients expire
+-- which event does what itself: a message asks, gives back, makes a share weaker, answers a break, cancels, ends, renews or
+-- draws a number, the end of a connection ends, the end of a call unlocks, and a reading of the clock has it show that moment,
+-- ends breaks and lets clients expire
 abbrev pub may_do : Event → Deed → Bool
 may_do (Message number bytes) (Asks left a) = true
 may_do (Message number bytes) (GivesBack claim) = true
 may_do (Message number bytes) (Weakens share access deny) = true
+may_do (Message number bytes) (Acks cache to) = true
 may_do (Message number bytes) (Cancels id) = true
 may_do (Message number bytes) (Ends party) = true
 may_do (Message number bytes) (Renews client) = true

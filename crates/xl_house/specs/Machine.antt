@@ -18,7 +18,7 @@ use Rattle.xl_programs.specs.declared.program.Program.{Program}
 use Rattle.xl_programs.specs.declared.program.Program.TheVariants.{Nlm, Nfs}
 use Rattle.xl_programs.specs.Sent.{refusal_of, sent_to}
 use Rattle.xl_core.specs.State.{CoreState, started, step_begun}
-use Rattle.xl_core.specs.Settle.{settle}
+use Rattle.xl_core.specs.Settle.{turns_left, settle}
 use Rattle.xl_core.specs.Ticks.{tick}
 use Rattle.xl_core.specs.declared.lease.Times.{Times}
 use Rattle.xl_core.specs.declared.ask.Answer.TheVariants.{Granted}
@@ -30,6 +30,7 @@ use Rattle.xl_front_nlm.specs.Answers.{nlm_called}
 use Rattle.xl_front_nlm.specs.FrontNlm.{nlm_step}
 use Rattle.xl_front_nlm.specs.Grants.{shown}
 use Rattle.xl_front_nfs.specs.FrontNfs.{nfs_step}
+use Rattle.xl_front_nfs.specs.Recalls.{recalls}
 use Rattle.xl_front_nfs.specs.State.{FrontNfs, empty_nfs_front, nfs_tick, nfs_shown}
 use Rattle.xl_front_nlm.specs.State.{FrontState, empty_front}
 use Rattle.xl_nfs_state.specs.State.{opens}
@@ -116,13 +117,14 @@ before done outs = (done.0 ++ outs, done.1, done.2)
 abbrev pub and_then : (Fronts → CoreState → Sent) → Sent → Sent
 and_then rest done = behind done.0 (rest done.1 done.2)
 
--- all fronts hear of an effect; that of NLM may tell of it by a call, and then that of SMB by a final reply
-abbrev pub with_news : Fronts → Effect → List Out × FrontState × CoreState → List Out × FrontSmb → Sent
-with_news f effect r q = (map (framed Rpc) r.0 ++ map (framed Smb) q.0, record f { nlm = r.1; nfs = nfs_shown f.nfs effect; smb = q.1 }, r.2)
+-- all fronts hear of an effect; that of NLM may tell of a grant by a call, then that of NFSv4 recalls a delegation by one, and
+-- then that of SMB sends a notice or a final reply
+abbrev pub with_news : Fronts → Effect → List Out × FrontState × CoreState → List Out → List Out × FrontSmb → Sent
+with_news f effect r calls q = (map (framed Rpc) r.0 ++ (map (framed Rpc) calls ++ map (framed Smb) q.0), record f { nlm = r.1; nfs = nfs_shown f.nfs effect; smb = q.1 }, r.2)
 
--- what the fronts send for an effect, in its frames
+-- what the fronts send for an effect, in its frames, in the state that it left
 abbrev pub showing : Exports → Fronts → CoreState → Effect → Sent
-showing exports f s effect = with_news f effect (shown exports f.nlm s effect) (smb_shown f.smb effect)
+showing exports f s effect = with_news f effect (shown exports f.nlm s effect) (recalls f.nfs s effect) (smb_shown f.smb s effect)
 
 -- the effect tells of a grant, and how many of these do
 abbrev pub is_grant : Effect → Bool
@@ -154,9 +156,9 @@ abbrev pub settled_for : ℕ → ℕ → Exports → Fronts → CoreState → Se
 settled_for zero n exports f s = ([], f, s)
 settled_for (suc fuel) n exports f s = after_turn exports (settled_for fuel n exports) f s (settle n (rooms_of f) s)
 
--- turns until no waiter has one; each takes a waiter out
+-- turns until no waiter has one; each takes a waiter out, or has breaks begin
 unfoldable pub settled : ℕ → Exports → Fronts → CoreState → Sent
-settled n exports f s = settled_for (length s.waiters) n exports f s
+settled n exports f s = settled_for (turns_left s) n exports f s
 
 -- ---- an event
 

@@ -2,11 +2,12 @@
 ghost use Rattle.std.specs.Prelude.{◌≡◌, ℕ, ◌+◌, ◌*◌, ◌<◌, ◌≤◌, ◌^◌, [], ◌∷◌, ◌++◌, length, drop, true, false, Ok, Err, Some, None, OnOk, OnErr, IfOk, IfErr, IfSome, ◌↔◌};
 ghost use Rattle.xl_base.specs.Limits.{most_numbers};
 ghost use Rattle.xl_base.specs.Stable.{raised};
+ghost use Rattle.xl_core.specs.Numbers.{numbers_of};
 ghost use Rattle.xl_front_nlm.specs.Short.{AreShort};
 ghost use Rattle.xl_house.specs.Free.{IsFree, AlwaysFree};
 ghost use Rattle.xl_house.specs.Housed.{Housed, is_spoiled, Holds, Stands};
 ghost use Rattle.xl_house.specs.Journals.{replay, IsLegal, IsOrderly, entry, is_restart};
-ghost use Rattle.xl_house.specs.Lawful.{Always, IsLawful, IsWaiting, IsComplete, IsCaused, IsTold};
+ghost use Rattle.xl_house.specs.Lawful.{Always, IsLawful, IsWaiting, IsKept, IsComplete, IsCaused, IsTold};
 ghost use Rattle.xl_house.specs.Machine.{times_of, begin, step};
 ghost use Rattle.xl_house.specs.Whole.{whole_of};
 
@@ -75,13 +76,13 @@ fn act_and_enter<K: Keeper>(
     requires place { machine.old.place ≡ length entries.old }
     requires few { length entries.old ≤ 1048576 }
     requires free { IsFree (whole_of exports.now machine.old) }
-    requires counter { machine.old.parts.core.counter + length machine.old.parts.core.waiters ≤ most_numbers * length entries.old }
+    requires numbers { numbers_of machine.old.parts.core ≤ most_numbers * length entries.old }
     requires short { AreShort machine.old.parts.core.names }
     requires goes_on { is_restart event ≡ false }
     ensures place { IfOk result (λ place. place ≡ length entries.old) }
     ensures few { length entries.new ≤ 1048576 }
     ensures short { OnOk result (AreShort machine.new.parts.core.names) }
-    ensures counter { OnOk result (machine.new.parts.core.counter + length machine.new.parts.core.waiters ≤ machine.old.parts.core.counter + length machine.old.parts.core.waiters + most_numbers) }
+    ensures numbers { OnOk result (numbers_of machine.new.parts.core ≤ numbers_of machine.old.parts.core + most_numbers) }
     ensures entered { OnOk result (entries.new ≡ entries.old ++ entry 0 (whole_of exports.now machine.old) event ∷ []) }
     ensures next { OnOk result (whole_of exports.now machine.new ≡ (step 0 (whole_of exports.now machine.old) event).next) }
     ensures err { OnErr result (entries.new ≡ entries.old) }
@@ -223,7 +224,8 @@ impl<K: Keeper> House<K> {
     /// The journal, and the keeper. The journal is legal: each entry has the stores and the outs that the machine's step
     /// gives at its place. At each free moment any two claims may be held together, and nobody is forgotten. In each
     /// entry what is held at each place is what the entry's deeds made of it, who waits is who waited but for those whom
-    /// they queued, took out, ended or served, what nothing stands against was granted, the deeds are those that its event
+    /// they queued, took out, ended or served, a cache of which a break runs stands until its party answers or gives it back,
+    /// ends or expires, or the deadline passes, what nothing stands against was granted, the deeds are those that its event
     /// may cause, and what is sent is what the fronts say of the answers. No out to a connection stands before its opening
     /// or after its end. It has at most 1,048,576 entries. The keeper holds the machine's record.
     pub fn end(self) -> (Journal, K)
@@ -233,6 +235,7 @@ impl<K: Keeper> House<K> {
         ensures free { AlwaysFree (begin result.0.head) result.0.entries }
         ensures lawful { Always IsLawful (begin result.0.head) result.0.entries }
         ensures waiting { Always IsWaiting (begin result.0.head) result.0.entries }
+        ensures kept_until_answered { Always IsKept (begin result.0.head) result.0.entries }
         ensures complete { Always IsComplete (begin result.0.head) result.0.entries }
         ensures caused { Always IsCaused (begin result.0.head) result.0.entries }
         ensures told { Always IsTold (begin result.0.head) result.0.entries }

@@ -1,9 +1,12 @@
 //! Laws of the house. The functions do nothing.
-ghost use Rattle.std.specs.Prelude.{◌≡◌, ℕ, Bool, List, [], ◌∷◌};
+ghost use Rattle.std.specs.Prelude.{◌≡◌, ℕ, Bool, true, List, [], ◌∷◌};
+ghost use Rattle.xl_base.specs.Lists.{IsIn};
 ghost use Rattle.xl_base.specs.Stable.{Stable};
 ghost use Rattle.xl_base.specs.declared.event.Event.TheVariants.{Message};
 ghost use Rattle.xl_base.specs.declared.event.Moment.{Moment};
 ghost use Rattle.xl_base.specs.declared.event.Out.{Out};
+ghost use Rattle.xl_cache.specs.Planning.{is_running};
+ghost use Rattle.xl_matrix.specs.declared.claim.Claim.{Claim};
 ghost use Rattle.xl_matrix.specs.declared.claim.Extent.{Extent};
 ghost use Rattle.xl_wait.specs.declared.waiter.Rooms.{Rooms};
 ghost use Rattle.xl_wait.specs.declared.waiter.Waiter.{Waiter};
@@ -14,15 +17,18 @@ ghost use Rattle.xl_core.specs.declared.ask.Act.{Act};
 ghost use Rattle.xl_core.specs.declared.ask.Ask.{Ask};
 ghost use Rattle.xl_core.specs.declared.lease.Times.{Times};
 ghost use Rattle.xl_house.specs.Done.{deeds};
-ghost use Rattle.xl_house.specs.Lawful.{found, IsLawful, IsWaiting};
+ghost use Rattle.xl_house.specs.Lawful.{found, IsLawful, IsWaiting, IsKept};
 ghost use Rattle.xl_house.specs.Machine.{Whole};
 
-/// A machine that tells a lock granted and keeps nothing has no lawful entry for a lock of one byte at a start; and where
-/// one waits, a machine that drops it at another's test has none in which who waits is right.
-#[tactic(auto, using(crate::proofs::HollowLaws::waiter_dropped_in))]
+/// A machine that tells a lock granted and keeps nothing has no lawful entry for a lock of one byte at a start; where one
+/// waits, a machine that drops it at another's test has none in which who waits is right; and where a break runs of a cache, a
+/// machine that lets the cache go at another's ask has none in which it is kept until it is answered.
+#[tactic(auto, using(crate::proofs::HollowLaws::waiter_dropped_in, crate::proofs::HollowLaws::cache_let_go_in))]
 pub fn hollow_machines_are_refused()
     ensures kept { (n stores number : ℕ) (bytes : List ℕ) (outs : List Out) (s t : Whole) (stable : Stable) (clock : Moment) (times : Times) → found s ≡ started stable clock times → deeds n s (Message number bytes) ≡ Asks all_room smallest_lock ∷ []
         → t.core.claims ≡ [] → IsLawful n s (record { event = Message number bytes; stores = stores; outs = outs }) t → ⊥ }
     ensures dropped { (n stores number : ℕ) (bytes : List ℕ) (outs : List Out) (s t : Whole) (left : Rooms) (a : Ask) (w : Waiter) (extent : Extent) (exclusive : Bool) → a.act ≡ Act.Test extent exclusive → deeds n s (Message number bytes) ≡ Asks left a ∷ []
         → s.core.waiters ≡ w ∷ [] → t.core.waiters ≡ [] → IsWaiting n s (record { event = Message number bytes; stores = stores; outs = outs }) t → ⊥ }
+    ensures let_go { (n stores number : ℕ) (bytes : List ℕ) (outs : List Out) (s t : Whole) (left : Rooms) (a : Ask) (c : Claim) → deeds n s (Message number bytes) ≡ Asks left a ∷ []
+        → IsIn c s.core.claims → is_running c.what ≡ true → t.core.claims ≡ [] → IsKept n s (record { event = Message number bytes; stores = stores; outs = outs }) t → ⊥ }
 {}

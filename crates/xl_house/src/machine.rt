@@ -1,8 +1,10 @@
 //! The machine: what one event does, and what it sends.
-ghost use Rattle.std.specs.Prelude.{◌≡◌, ℕ, ◌+◌, ◌<◌, ◌≤◌, ◌^◌, true, false, length, map, option_map, OnOk, IfOk};
+ghost use Rattle.std.specs.Prelude.{◌≡◌, ℕ, ◌+◌, ◌<◌, ◌≤◌, ◌^◌, true, false, map, option_map, OnOk, IfOk};
+ghost use Rattle.xl_base.specs.Limits.{most_numbers};
 ghost use Rattle.xl_programs.specs.Programs.{serves, shown_request, incoming_at};
 ghost use Rattle.xl_programs.specs.Sent.{sent_to};
 ghost use Rattle.xl_rpc.specs.Replies.{reply};
+ghost use Rattle.xl_core.specs.Numbers.{numbers_of};
 ghost use Rattle.xl_core.specs.State.{MayBe, step_begun};
 ghost use Rattle.xl_core.specs.Ticks.{tick};
 ghost use Rattle.xl_front_nlm.specs.Answers.{nlm_called};
@@ -61,9 +63,9 @@ fn hear_nlm<K: Keeper>(
     request: &Request,
 ) -> Result<Sequence<Out>, AllocError>
     requires known { serves Program.Nlm request.now.procedure ≡ true }
-    requires ready { IsReadyFor 128 parts.old.core }
+    requires ready { IsReadyFor most_numbers parts.old.core }
     ensures heard { (n : ℕ) → IfOk result (λ outs. MayBe n parts.new.core → front_done Kind.Rpc exports.now (with_nlm parts.old.front (nlm_step n exports.now parts.old.front.nlm parts.old.core number (shown_request request.now))) ≡ (outs, parts.new.front, parts.new.core)) }
-    ensures leaves { OnOk result (LeavesBy 128 parts.old.core parts.new.core) }
+    ensures leaves { OnOk result (LeavesBy most_numbers parts.old.core parts.new.core) }
     ensures keeper { keeper.new ≡ keeper.old }
 {
     let (reply, effects) = nlm_step(
@@ -91,9 +93,9 @@ fn hear_nfs<K: Keeper>(
     request: &Request,
 ) -> Result<Sequence<Out>, AllocError>
     requires known { serves Program.Nfs request.now.procedure ≡ true }
-    requires ready { IsReadyFor 128 parts.old.core }
+    requires ready { IsReadyFor most_numbers parts.old.core }
     ensures heard { (n : ℕ) → IfOk result (λ outs. MayBe n parts.new.core → front_done Kind.Rpc exports.now (with_nfs parts.old.front (nfs_step n exports.now (smb_opens parts.old.front) parts.old.front.nfs parts.old.core number (shown_request request.now))) ≡ (outs, parts.new.front, parts.new.core)) }
-    ensures leaves { OnOk result (LeavesBy 128 parts.old.core parts.new.core) }
+    ensures leaves { OnOk result (LeavesBy most_numbers parts.old.core parts.new.core) }
     ensures keeper { keeper.new ≡ keeper.old }
 {
     let others = parts.front.smb.opens_held();
@@ -139,9 +141,9 @@ fn hear_record<K: Keeper>(
     number: u64,
     bytes: &[u8],
 ) -> Result<Sequence<Out>, AllocError>
-    requires ready { IsReadyFor 128 parts.old.core }
+    requires ready { IsReadyFor most_numbers parts.old.core }
     ensures heard { (n : ℕ) → IfOk result (λ outs. MayBe n parts.new.core → record_heard n exports.now parts.old.front parts.old.core number (incoming_at bytes.now) ≡ (outs, parts.new.front, parts.new.core)) }
-    ensures leaves { OnOk result (LeavesBy 128 parts.old.core parts.new.core) }
+    ensures leaves { OnOk result (LeavesBy most_numbers parts.old.core parts.new.core) }
     ensures keeper { keeper.new ≡ keeper.old }
 {
     match read_incoming(bytes) {
@@ -163,9 +165,9 @@ fn hear_packet<K: Keeper>(
     number: u64,
     bytes: &[u8],
 ) -> Result<Sequence<Out>, AllocError>
-    requires ready { IsReadyFor 128 parts.old.core }
+    requires ready { IsReadyFor most_numbers parts.old.core }
     ensures heard { (n : ℕ) → IfOk result (λ outs. MayBe n parts.new.core → packet_heard n exports.now parts.old.front parts.old.core number bytes.now ≡ (outs, parts.new.front, parts.new.core)) }
-    ensures leaves { OnOk result (LeavesBy 128 parts.old.core parts.new.core) }
+    ensures leaves { OnOk result (LeavesBy most_numbers parts.old.core parts.new.core) }
     ensures keeper { keeper.new ≡ keeper.old }
 {
     let others = parts.front.nfs_opens();
@@ -196,9 +198,9 @@ fn hear<K: Keeper>(
     number: u64,
     bytes: &[u8],
 ) -> Result<Sequence<Out>, AllocError>
-    requires ready { IsReadyFor 128 parts.old.core }
+    requires ready { IsReadyFor most_numbers parts.old.core }
     ensures heard { (n : ℕ) → IfOk result (λ outs. MayBe n parts.new.core → heard_by n exports.now parts.old.front parts.old.core kind number bytes.now ≡ (outs, parts.new.front, parts.new.core)) }
-    ensures leaves { OnOk result (LeavesBy 128 parts.old.core parts.new.core) }
+    ensures leaves { OnOk result (LeavesBy most_numbers parts.old.core parts.new.core) }
     ensures keeper { keeper.new ≡ keeper.old }
 {
     let Some(kind) = kind else {
@@ -235,9 +237,9 @@ fn hear_last(
     parts: &mut Parts,
     number: u64,
 ) -> Result<Sequence<Out>, AllocError>
-    requires ready { IsReadyFor 128 parts.old.core }
+    requires ready { IsReadyFor most_numbers parts.old.core }
     ensures heard { IfOk result (λ outs. ended_by exports.now parts.old.front parts.old.core (Some Kind.Smb) number ≡ (outs, parts.new.front, parts.new.core)) }
-    ensures leaves { OnOk result (LeavesBy 128 parts.old.core parts.new.core) }
+    ensures leaves { OnOk result (LeavesBy most_numbers parts.old.core parts.new.core) }
 {
     let effects = smb_end(alloc, &mut parts.front.smb, &mut parts.core, number)?;
     let mut outs = Sequence::new(alloc);
@@ -254,9 +256,9 @@ fn hear_end(
     kind: Option<Kind>,
     number: u64,
 ) -> Result<Sequence<Out>, AllocError>
-    requires ready { IsReadyFor 128 parts.old.core }
+    requires ready { IsReadyFor most_numbers parts.old.core }
     ensures heard { IfOk result (λ outs. ended_by exports.now parts.old.front parts.old.core kind number ≡ (outs, parts.new.front, parts.new.core)) }
-    ensures leaves { OnOk result (LeavesBy 128 parts.old.core parts.new.core) }
+    ensures leaves { OnOk result (LeavesBy most_numbers parts.old.core parts.new.core) }
 {
     match kind {
         Some(Kind::Smb) => hear_last(alloc, exports, parts, number),
@@ -284,9 +286,9 @@ fn hear_answer<K: Keeper>(
     call: u64,
     reply: &Option<Sequence<u8>>,
 ) -> Result<Sequence<Out>, AllocError>
-    requires ready { IsReadyFor 128 parts.old.core }
+    requires ready { IsReadyFor most_numbers parts.old.core }
     ensures heard { (n : ℕ) → IfOk result (λ outs. MayBe n parts.new.core → called_done exports.now (after_call parts.old.front (nlm_called n parts.old.front.nlm parts.old.core call reply.now)) ≡ (outs, parts.new.front, parts.new.core)) }
-    ensures leaves { OnOk result (LeavesBy 128 parts.old.core parts.new.core) }
+    ensures leaves { OnOk result (LeavesBy most_numbers parts.old.core parts.new.core) }
     ensures keeper { keeper.new ≡ keeper.old }
 {
     let effects = nlm_called(
@@ -310,9 +312,9 @@ fn hear_tick<K: Keeper>(
     keeper: &mut K,
     now: Moment,
 ) -> Result<Sequence<Out>, AllocError>
-    requires ready { IsReadyFor 128 parts.old.core }
+    requires ready { IsReadyFor most_numbers parts.old.core }
     ensures heard { IfOk result (λ outs. ticked_done exports.now parts.old.front (tick parts.old.core now) ≡ (outs, parts.new.front, parts.new.core)) }
-    ensures leaves { OnOk result (LeavesBy 128 parts.old.core parts.new.core) }
+    ensures leaves { OnOk result (LeavesBy most_numbers parts.old.core parts.new.core) }
     ensures keeper { keeper.new ≡ keeper.old }
 {
     let effects = parts.core.tick(alloc, keeper, now)?;
@@ -331,9 +333,9 @@ fn hear_event<K: Keeper>(
     keeper: &mut K,
     event: &Event,
 ) -> Result<Sequence<Out>, AllocError>
-    requires ready { IsReadyFor 128 machine.old.parts.core }
+    requires ready { IsReadyFor most_numbers machine.old.parts.core }
     ensures heard { (n : ℕ) → IfOk result (λ outs. MayBe n machine.new.parts.core → heard n (whole_of exports.now machine.old) event.now ≡ (outs, machine.new.parts.front, machine.new.parts.core)) }
-    ensures leaves { OnOk result (LeavesBy 128 (step_begun machine.old.parts.core) machine.new.parts.core) }
+    ensures leaves { OnOk result (LeavesBy most_numbers (step_begun machine.old.parts.core) machine.new.parts.core) }
     ensures place { machine.new.place ≡ machine.old.place }
     ensures connections { machine.new.connections.items ≡ machine.old.connections.items }
     ensures keeper { keeper.new ≡ keeper.old }
@@ -382,11 +384,11 @@ pub(crate) fn act<K: Keeper>(
     event: &Event,
 ) -> Result<Sequence<Out>, AllocError>
     requires place { machine.old.place < 2 ^ 63 }
-    requires ready { IsReadyFor (length machine.old.parts.core.waiters + 128) machine.old.parts.core }
+    requires ready { IsReadyFor most_numbers machine.old.parts.core }
     requires goes_on { is_restart event.now ≡ false }
     ensures step { IfOk result (λ outs. step 0 (whole_of exports.now machine.old) event.now ≡ record { next = whole_of exports.now machine.new; made = 0; outs = outs }) }
     ensures short { OnOk result (AreShort machine.new.parts.core.names) }
-    ensures counter { OnOk result (machine.new.parts.core.counter + length machine.new.parts.core.waiters ≤ machine.old.parts.core.counter + length machine.old.parts.core.waiters + 128) }
+    ensures numbers { OnOk result (numbers_of machine.new.parts.core ≤ numbers_of machine.old.parts.core + most_numbers) }
     ensures keeper { keeper.new ≡ keeper.old }
 {
     let mut outs = hear_event(alloc, exports, machine, keeper, event)?;

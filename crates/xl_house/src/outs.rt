@@ -11,7 +11,7 @@ use std::alloc::{AllocError, Global};
 use xl_base::{Dest, Exports, Kind, Out, Sequence};
 use xl_core::Effect;
 use xl_frame::wrap;
-use xl_front_nfs::nfs_shown;
+use xl_front_nfs::{nfs_shown, recalls};
 use xl_front_nlm::shown;
 use xl_front_smb::smb_shown;
 
@@ -44,7 +44,7 @@ pub(crate) fn send_all(
     Ok(())
 }
 
-/// Adds what the fronts send for an effect, of which all hear.
+/// Adds what the fronts send for an effect, of which all hear, in the state that it left.
 fn show(
     alloc: Global,
     exports: &Exports,
@@ -56,7 +56,9 @@ fn show(
     ensures state { OnOk result (behind outs.old (showing exports.now parts.old.front parts.old.core effect.now) ≡ (outs.new, parts.new.front, parts.new.core)) }
     ensures leaves { OnOk result (Leaves parts.old.core parts.new.core) }
 {
+    let asked_back = recalls(alloc, &parts.front.nfs, &parts.core, effect)?;
     nfs_shown(&mut parts.front.nfs, effect);
+    let finals = smb_shown(alloc, &mut parts.front.smb, &parts.core, effect)?;
     let calls = shown(
         alloc,
         exports,
@@ -65,7 +67,7 @@ fn show(
         effect,
     )?;
     send_all(alloc, Kind::Rpc, calls, outs)?;
-    let finals = smb_shown(alloc, &mut parts.front.smb, effect)?;
+    send_all(alloc, Kind::Rpc, asked_back, outs)?;
     send_all(alloc, Kind::Smb, finals, outs)?;
     Ok(())
 }

@@ -1,5 +1,5 @@
 //! Whoever waits is served when it isn't held up any more.
-ghost use Rattle.std.specs.Prelude.{◌≡◌, ℕ, length, OnOk};
+ghost use Rattle.std.specs.Prelude.{◌≡◌, ℕ, OnOk};
 ghost use Rattle.xl_core.specs.Good.{IsSettled};
 ghost use Rattle.xl_core.specs.State.{MayBe};
 ghost use Rattle.xl_house.specs.Machine.{behind, settled};
@@ -18,7 +18,7 @@ pub(crate) fn settle<K: Keeper>(
     keeper: &mut K,
     outs: &mut Sequence<Out>,
 ) -> Result<(), AllocError>
-    requires ready { IsReadyFor (length parts.old.core.waiters) parts.old.core }
+    requires ready { IsReadyFor 0 parts.old.core }
     ensures state { (n : ℕ) → OnOk result (MayBe n parts.new.core → behind outs.old (settled n exports.now parts.old.front parts.old.core) ≡ (outs.new, parts.new.front, parts.new.core)) }
     ensures leaves { OnOk result (LeavesBy 0 parts.old.core parts.new.core) }
     ensures settled { OnOk result (IsSettled parts.new.core) }

@@ -1,60 +1,50 @@
 -- What a LOCK, a LOCKT and a LOCKU leave and tell.
-use Rattle.std.proofs.Common.{◌≡◌, ℕ, ◌≤◌, Bool, true, false, List, [], ◌∷◌, Option, Some, None, Ok, refl, sym, ap, subst, ◌∙◌, inl, inr, true≢false}
+use Rattle.std.proofs.Common.{◌≡◌, ℕ, ◌≤◌, Bool, true, false, List, Option, Some, None, Ok, refl, sym, ap, subst, ◌∙◌, inl, inr, true≢false}
 use Rattle.std.proofs.lemmas.Bool.{cases_Bool}
-use Rattle.std.specs.Prelude.{◌&&◌, ◌↔◌, if◌then◌else◌}
+use Rattle.std.specs.Prelude.{◌&&◌, if◌then◌else◌}
 use Rattle.xl_base.specs.declared.name.Owner.{Owner}
 use Rattle.xl_matrix.specs.Owners.{posix}
 use Rattle.xl_matrix.specs.declared.claim.Claim.{Claim}
 use Rattle.xl_matrix.specs.declared.claim.Extent.TheVariants.{Bytes}
 use Rattle.xl_matrix.specs.declared.claim.What.{What}
 use Rattle.xl_matrix.specs.declared.claim.What.TheVariants as whats
-use Rattle.xl_nfs.specs.Locks.{LockArgsItem, LockTestArgsItem}
+use Rattle.xl_nfs.specs.Locks.{LockArgsItem}
 use Rattle.xl_nfs.specs.Outcomes.{is_ok}
 use Rattle.xl_nfs.specs.declared.basics.LockType.{LockType}
-use Rattle.xl_nfs.specs.declared.locks.UnlockArgs.{UnlockArgs}
-use Rattle.xl_nfs.specs.declared.status.NfsStatus.{NfsStatus}
-use Rattle.xl_nfs.specs.declared.status.NfsStatus.TheVariants as statuses
 use Rattle.xl_nfs_state.specs.State.{NfsLists}
 use Rattle.xl_nfs_state.specs.declared.owner.Turn.{Turn}
 use Rattle.xl_nfs_state.specs.declared.stateid.StateidRow.{StateidRow}
 use Rattle.xl_spans.specs.Spans.{within}
 use Rattle.xl_table.proofs.WriteBack.{is_of-true}
 use Rattle.xl_table.specs.Held.{is_of}
-use Rattle.xl_core.proofs.CauseLaws.{lock_due, test_due, test_leaves}
-use Rattle.xl_core.proofs.ChangeLaws.{ask_own}
+use Rattle.xl_core.proofs.WayAsks.{ask_due, ask_own}
+use Rattle.xl_core.proofs.WayDeeds.{then_else}
 use Rattle.xl_core.proofs.DeedLaws.{deed_makes}
 use Rattle.xl_core.specs.Blockers.{is_stopped}
-use Rattle.xl_core.specs.Causes.{IsClaimDue, IsTestDue, may_wait}
+use Rattle.xl_core.specs.Causes.{may_wait}
 use Rattle.xl_core.specs.Decide.{ask}
 use Rattle.xl_core.specs.Deeds.{Asks}
 use Rattle.xl_core.specs.Good.{IsGood}
 use Rattle.xl_core.specs.Places.{ByteOf, held_at, entered_at, answered_at, else_was}
 use Rattle.xl_core.specs.State.{CoreState, drawn}
-use Rattle.xl_core.specs.declared.ask.Act.TheVariants as acts
 use Rattle.xl_core.specs.declared.ask.Answer.{Answer}
 use Rattle.xl_core.specs.declared.ask.Answer.TheVariants as answers
-use Rattle.xl_core.specs.declared.ask.Ask.{Ask}
-use Rattle.xl_core.specs.declared.ask.Effect.{Effect}
-use Rattle.xl_nfs_locks.specs.Denials.{held_lock, lock_told}
+use Rattle.xl_nfs_locks.specs.Denials.{lock_told}
 use Rattle.xl_nfs_locks.specs.FirstLocks.{joined_by, join_answered, join_to}
-use Rattle.xl_nfs_locks.specs.Laws.{lock_claim, test_claim, AreLocked, byte_lock, IsLockTold, IsTestTold, IsDenial, IsTestDenial}
+use Rattle.xl_nfs_locks.specs.Laws.{lock_claim, lock_way, AreLocked, byte_lock}
 use Rattle.xl_nfs_locks.specs.Locks.{lock_answered, lock_by_owner}
-use Rattle.xl_nfs_locks.specs.Ranges.{is_exclusive, lock_ask, test_ask}
-use Rattle.xl_nfs_locks.specs.Tests.{tested_told, test_to}
+use Rattle.xl_nfs_locks.specs.Ranges.{is_exclusive, lock_ask}
 use Rattle.xl_nfs_locks.specs.declared.joining.BothOwners.{BothOwners}
 use Rattle.xl_nfs_opens.specs.Opens.{all_rooms, is_granted}
 use Rattle.xl_nfs_opens.specs.Plans.{carried, status_of}
 use Rattle.xl_nfs_opens.specs.Seqids.{is_room_for}
 use Rattle.xl_nfs_opens.specs.declared.opener.Opener.{Opener}
-use Rattle.xl_nfs_opens.specs.declared.told.HeldLock.{HeldLock}
-use Rattle.xl_nfs_opens.specs.declared.told.Told.{Told}
-use Rattle.xl_nfs_opens.specs.declared.told.Told.TheVariants.{Ended, Denied}
 use Rattle.xl_nfs_locks.proofs.LockOwn.{lock_fits}
 
 -- ---- a granted lock, byte by byte
 
-entered_byte : (s : CoreState) (o : Opener) (file : ℕ) (kind : LockType) (first last at : ℕ) (owner : Owner) (byte : ℕ) (had : List What) → else_was (entered_at s.claims (lock_claim s o file kind first last) (ByteOf at owner byte)) had ≡ (if is_of at owner (lock_claim s o file kind first last) && within first last byte then byte_lock (is_exclusive kind) byte else had)
-entered_byte s o file kind first last at owner byte had =
+entered_byte : (s : CoreState) (held : List Claim) (o : Opener) (file : ℕ) (kind : LockType) (first last at : ℕ) (owner : Owner) (byte : ℕ) (had : List What) → else_was (entered_at held (lock_claim s o file kind first last) (ByteOf at owner byte)) had ≡ (if is_of at owner (lock_claim s o file kind first last) && within first last byte then byte_lock (is_exclusive kind) byte else had)
+entered_byte s held o file kind first last at owner byte had =
     let c = lock_claim s o file kind first last in
     elim (cases_Bool (is_of at owner c)) [
       | inr e ↦ rw e refl
@@ -71,7 +61,7 @@ granted_is : (n : ℕ) (s : CoreState) (o : Opener) (file : ℕ) (kind : LockTyp
 granted_is n s o file kind reclaim first last ok = by (ask n all_rooms s (lock_ask o file kind reclaim first last)).0 refl ok
   where
     by : (answer : Answer) → (ask n all_rooms s (lock_ask o file kind reclaim first last)).0 ≡ answer → is_granted answer ≡ true → answer ≡ answers.Granted (lock_claim s o file kind first last)
-    by (answers.Granted c) e ok = ap (λ (x : Claim). answers.Granted x) ((lock_due n all_rooms s (lock_ask o file kind reclaim first last) (whats.Range (Bytes first last) (is_exclusive kind)) (answers.Granted c) refl).0 e).0
+    by (answers.Granted c) e ok = ap (λ (x : Claim). answers.Granted x) ((ask_due n all_rooms s (lock_ask o file kind reclaim first last) (whats.Range (Bytes first last) (is_exclusive kind)) (answers.Granted c) refl).0 e).0
     by (answers.Conflict c) e ok = absurd (true≢false (sym ok))
     by (answers.Queued id) e ok = absurd (true≢false (sym ok))
     by (answers.Recall c) e ok = absurd (true≢false (sym ok))
@@ -85,24 +75,26 @@ granted_is n s o file kind reclaim first last ok = by (ask n all_rooms s (lock_a
 asked_locked : (n : ℕ) (s : CoreState) (o : Opener) (file : ℕ) (kind : LockType) (reclaim : Bool) (first last : ℕ) → IsGood s → first ≤ last → is_granted (ask n all_rooms s (lock_ask o file kind reclaim first last)).0 ≡ true → AreLocked o file kind first last s (ask n all_rooms s (lock_ask o file kind reclaim first last)).2
 asked_locked n s o file kind reclaim first last good le ok = λ at owner byte.
     let a = lock_ask o file kind reclaim first last in
+    let held = (lock_way s o file kind reclaim first last).claims in
     deed_makes n s (Asks all_rooms a) (ByteOf at owner byte) good (lock_fits o file kind reclaim first last le)
-    ∙ ap (λ (answer : Answer). else_was (answered_at s.claims a.act answer (ByteOf at owner byte)) (held_at s (ByteOf at owner byte))) (granted_is n s o file kind reclaim first last ok)
-    ∙ entered_byte s o file kind first last at owner byte (held_at s (ByteOf at owner byte))
+    ∙ then_else None (answered_at held a.act (ask n all_rooms s a).0 (ByteOf at owner byte)) (held_at s (ByteOf at owner byte))
+    ∙ ap (λ (answer : Answer). else_was (answered_at held a.act answer (ByteOf at owner byte)) (held_at s (ByteOf at owner byte))) (granted_is n s o file kind reclaim first last ok)
+    ∙ entered_byte s held o file kind first last at owner byte (held_at s (ByteOf at owner byte))
 
--- one that isn't granted changes nothing: it doesn't wait
-pub refused_stays : (n : ℕ) (s : CoreState) (o : Opener) (file : ℕ) (kind : LockType) (reclaim : Bool) (first last : ℕ) → IsGood s → first ≤ last → is_granted (ask n all_rooms s (lock_ask o file kind reclaim first last)).0 ≡ false → (ask n all_rooms s (lock_ask o file kind reclaim first last)).2 ≡ s
+-- one that isn't granted changes nothing once its breaks began: it doesn't wait
+pub refused_stays : (n : ℕ) (s : CoreState) (o : Opener) (file : ℕ) (kind : LockType) (reclaim : Bool) (first last : ℕ) → IsGood s → first ≤ last → is_granted (ask n all_rooms s (lock_ask o file kind reclaim first last)).0 ≡ false → (ask n all_rooms s (lock_ask o file kind reclaim first last)).2 ≡ lock_way s o file kind reclaim first last
 refused_stays n s o file kind reclaim first last good le fails =
     let a = lock_ask o file kind reclaim first last in
     (ask_own n all_rooms s a good (lock_fits o file kind reclaim first last le).party).refused
     (λ c e. true≢false (sym (ap is_granted e) ∙ fails))
-    (λ number e. waits ((lock_due n all_rooms s a (whats.Range (Bytes first last) (is_exclusive kind)) (answers.Queued number) refl).0 e).2)
+    (λ number e. waits ((ask_due n all_rooms s a (whats.Range (Bytes first last) (is_exclusive kind)) (answers.Queued number) refl).0 e).2)
   where
     never : (b : Bool) → (if b then false else false) ≡ true → ⊥
     never true e = true≢false (sym e)
     never false e = true≢false (sym e)
 
-    waits : may_wait s.claims (lock_ask o file kind reclaim first last) (lock_claim s o file kind first last) ≡ true → ⊥
-    waits e = never (is_stopped s.claims (lock_claim s o file kind first last)) e
+    waits : may_wait (lock_way s o file kind reclaim first last).claims (lock_ask o file kind reclaim first last) (lock_claim s o file kind first last) ≡ true → ⊥
+    waits e = never (is_stopped (lock_way s o file kind reclaim first last).claims (lock_claim s o file kind first last)) e
 
 -- ---- LOCK
 
@@ -135,7 +127,7 @@ known_locked n s l current a r owner turn seqid last o good le ok =
     subst (λ (t : CoreState). AreLocked o r.file a.kind a.offset last s t) (sym by.1) (asked_locked n s o r.file a.kind a.reclaim a.offset last good le (sym by.0 ∙ ok))
 
 pub known_refused : (n : ℕ) (s : CoreState) (l : NfsLists) (current : Option ℕ) (a : LockArgsItem) (r : StateidRow) (owner : ℕ) (turn : Turn) (seqid last : ℕ) (o : Opener) → IsGood s → a.offset ≤ last → is_ok (status_of (carried n s l current (lock_by_owner l current a r owner turn seqid last (Some o))).0) ≡ false
-    → (carried n s l current (lock_by_owner l current a r owner turn seqid last (Some o))).4 ≡ s
+    → (carried n s l current (lock_by_owner l current a r owner turn seqid last (Some o))).4 ≡ lock_way s o r.file a.kind a.reclaim a.offset last
 known_refused n s l current a r owner turn seqid last o good le fails =
     let x = ask n all_rooms s (lock_ask o r.file a.kind a.reclaim a.offset last) in
     let by = known_ok n x.2 l current r owner turn seqid a.reclaim x.0 in
@@ -173,7 +165,7 @@ first_locked n s l current a b o r q last good le room ok =
 first_no : (n : ℕ) (t : CoreState) (l : NfsLists) (current : Option ℕ) (b : BothOwners) (o : Opener) (r : StateidRow) (q : Option StateidRow) (reclaim : Bool) (answer : Answer) → is_granted answer ≡ false → (carried n t l current (join_answered l current b o r q reclaim answer t)).4 ≡ t
 first_no n t l current b o r q reclaim answer fails = rw fails refl
 
-pub first_refused : (n : ℕ) (s : CoreState) (l : NfsLists) (current : Option ℕ) (a : LockArgsItem) (b : BothOwners) (o : Opener) (r : StateidRow) (q : Option StateidRow) (last : ℕ) → IsGood s → a.offset ≤ last → is_room_for o l ≡ true → is_ok (status_of (carried n s l current (join_to l current a b o r q (Ok last))).0) ≡ false → (carried n s l current (join_to l current a b o r q (Ok last))).4 ≡ s
+pub first_refused : (n : ℕ) (s : CoreState) (l : NfsLists) (current : Option ℕ) (a : LockArgsItem) (b : BothOwners) (o : Opener) (r : StateidRow) (q : Option StateidRow) (last : ℕ) → IsGood s → a.offset ≤ last → is_room_for o l ≡ true → is_ok (status_of (carried n s l current (join_to l current a b o r q (Ok last))).0) ≡ false → (carried n s l current (join_to l current a b o r q (Ok last))).4 ≡ lock_way s o r.file a.kind a.reclaim a.offset last
 first_refused n s l current a b o r q last good le room fails =
     let x = ask n all_rooms s (lock_ask o r.file a.kind a.reclaim a.offset last) in
     let denied : is_granted x.0 ≡ false = sym (first_ok n x.2 l current b o r q a.reclaim x.0) ∙ (rw room at fails) in

@@ -1,10 +1,10 @@
 -- What the owners of the locks under an open have left once it is closed.
-use Rattle.std.proofs.Common.{◌≡◌, ℕ, ◌≤◌, Bool, true, false, List, [], ◌∷◌, ◌++◌, length, Option, Some, None, refl, sym, ap, subst, ◌∙◌, inl, inr, arith, true≢false}
+use Rattle.std.proofs.Common.{◌≡◌, ℕ, ◌≤◌, Bool, true, false, List, [], ◌∷◌, ◌++◌, length, Option, Some, None, refl, sym, ap, ◌∙◌, inl, inr, arith, true≢false}
 use Rattle.std.proofs.lemmas.Bool.{cases_Bool, and_from, eq-eqb}
 use Rattle.std.proofs.lemmas.Bool.Decides.{nat_tests}
 use Rattle.std.specs.Bool.{◌==◌}
-use Rattle.std.specs.List.{filter, find, list_any}
-use Rattle.std.specs.Prelude.{not, ◌&&◌, nat_le, nat_lt, if◌then◌else◌}
+use Rattle.std.specs.List.{filter, list_any}
+use Rattle.std.specs.Prelude.{not, nat_le, nat_lt}
 use Rattle.xl_base.specs.Lists.{IsIn}
 use Rattle.xl_base.specs.declared.name.Owner.{Owner}
 use Rattle.xl_matrix.proofs.EqualLaws.{same_owners-self}
@@ -14,8 +14,7 @@ use Rattle.xl_matrix.specs.declared.claim.Extent.TheVariants.{Bytes}
 use Rattle.xl_matrix.specs.declared.claim.What.{What}
 use Rattle.xl_names.specs.declared.name.Name.{Name}
 use Rattle.xl_nfs.specs.declared.opens.CloseArgs.{CloseArgs}
-use Rattle.xl_nfs_state.specs.State.{NfsLists, without, is_client, is_whose}
-use Rattle.xl_nfs_state.specs.declared.client.ClientRow.{ClientRow}
+use Rattle.xl_nfs_state.specs.State.{NfsLists, is_whose}
 use Rattle.xl_nfs_state.specs.declared.owner.Turn.{Turn}
 use Rattle.xl_nfs_state.specs.declared.stateid.StateidRow.{StateidRow}
 use Rattle.xl_nfs_state.specs.declared.stateid.Whose.TheVariants as whose
@@ -24,14 +23,15 @@ use Rattle.xl_spans.specs.declared.span.Span.{Span}
 use Rattle.xl_table.proofs.RoomLaws.{unlock_grows}
 use Rattle.xl_table.specs.Held.{is_of, spans_of}
 use Rattle.xl_table.specs.Relock.{holds_byte, is_cut, most_claims}
-use Rattle.xl_core.proofs.CauseLaws.{unlock_due}
+use Rattle.xl_core.proofs.WayAsks.{ask_there, ask_unlock, ask_way_none}
+use Rattle.xl_core.proofs.WayDeeds.{then_else}
 use Rattle.xl_core.proofs.DeedLaws.{deed_good, deed_makes}
 use Rattle.xl_core.proofs.DeedLists.{deeds_good}
 use Rattle.xl_core.specs.Asking.{known_claim}
-use Rattle.xl_core.specs.Decide.{ask, unlocked, unlocked_bytes, unlocked_claims}
+use Rattle.xl_core.specs.Decide.{Answered, ask, decided, unlocked, unlocked_bytes, unlocked_claims, way}
 use Rattle.xl_core.specs.Deeds.{Asks, GivesBack, IsFitDeed, all_done}
 use Rattle.xl_core.specs.Good.{IsGood}
-use Rattle.xl_core.specs.Places.{ByteOf, held_at, part_of, cleared_by, cleared_at, unlocked_for, else_was}
+use Rattle.xl_core.specs.Places.{ByteOf, held_at, part_of, cleared_by, unlocked_for, else_was}
 use Rattle.xl_core.specs.State.{CoreState}
 use Rattle.xl_core.specs.declared.ask.Answer.{Answer}
 use Rattle.xl_core.specs.declared.ask.Answer.TheVariants as answers
@@ -65,9 +65,9 @@ all_ok n s o file good (answers.Granted c) e = refl
 all_ok n s o file good answers.NotHeld e = refl
 all_ok n s o file good (answers.Full limit) e =
     let c = unlock_claim s o file 0 all_ones in
-    let due = (unlock_due n all_rooms s (unlock_ask o file 0 all_ones) 0 all_ones (answers.Full limit) refl (unlock_fits o file 0 all_ones all_first).party refl all_first good).0 e in
+    let due = (ask_unlock n all_rooms s (unlock_ask o file 0 all_ones) 0 all_ones (answers.Full limit) refl (unlock_fits o file 0 all_ones all_first).party refl all_first good).0 e in
     absurd (true≢false (sym (unlock_grows file c.owner c.party 0 all_ones s.claims good.kept.sound refl (omega (arith, due.2, good.kept.room))) ∙ no_cut all_ones (spans_of file c.owner s.claims)))
-all_ok n s o file good answer e = absurd ((unlock_due n all_rooms s (unlock_ask o file 0 all_ones) 0 all_ones answer refl (unlock_fits o file 0 all_ones all_first).party refl all_first good).0 e)
+all_ok n s o file good answer e = absurd ((ask_unlock n all_rooms s (unlock_ask o file 0 all_ones) 0 all_ones answer refl (unlock_fits o file 0 all_ones all_first).party refl all_first good).0 e)
 
 -- ---- what is free stays free
 
@@ -81,8 +81,10 @@ unlocked_stays held answer at owner byte had e = e
 
 step_stays : (n : ℕ) (s : CoreState) (o : Opener) (file at : ℕ) (owner : Owner) (byte : ℕ) → IsGood s → held_at s (ByteOf at owner byte) ≡ [] → held_at (ask n all_rooms s (unlock_ask o file 0 all_ones)).2 (ByteOf at owner byte) ≡ []
 step_stays n s o file at owner byte good free =
+    let held = (way all_rooms s (unlock_ask o file 0 all_ones)).1.claims in
     deed_makes n s (Asks all_rooms (unlock_ask o file 0 all_ones)) (ByteOf at owner byte) good (unlock_fits o file 0 all_ones all_first)
-    ∙ unlocked_stays s.claims (ask n all_rooms s (unlock_ask o file 0 all_ones)).0 at owner byte (held_at s (ByteOf at owner byte)) free
+    ∙ then_else None (unlocked_for held (Bytes 0 all_ones) (ask n all_rooms s (unlock_ask o file 0 all_ones)).0 (ByteOf at owner byte)) (held_at s (ByteOf at owner byte))
+    ∙ unlocked_stays held (ask n all_rooms s (unlock_ask o file 0 all_ones)).0 at owner byte (held_at s (ByteOf at owner byte)) free
 
 step_good : (n : ℕ) (s : CoreState) (o : Opener) (file : ℕ) → IsGood s → IsGood (ask n all_rooms s (unlock_ask o file 0 all_ones)).2
 step_good n s o file good = deed_good n s (Asks all_rooms (unlock_ask o file 0 all_ones)) good (unlock_fits o file 0 all_ones all_first)
@@ -97,9 +99,13 @@ bytes_names s c first last =
       ])
     ]
 
+decided_names : (n : ℕ) (s : CoreState) (o : Opener) (file : ℕ) → (decided n all_rooms s (unlock_ask o file 0 all_ones)).2.names ≡ s.names
+unfolding decided unlocked
+decided_names n s o file = bytes_names s (known_claim (unlock_ask o file 0 all_ones) (Bytes 0 all_ones) false s.names) 0 all_ones
+
 step_names : (n : ℕ) (s : CoreState) (o : Opener) (file : ℕ) → (ask n all_rooms s (unlock_ask o file 0 all_ones)).2.names ≡ s.names
-unfolding ask unlocked
-step_names n s o file = bytes_names s (known_claim (unlock_ask o file 0 all_ones) (Bytes 0 all_ones) false s.names) 0 all_ones
+step_names n s o file =
+    ap (λ (r : Answered). r.2.names) (ask_there n all_rooms s (unlock_ask o file 0 all_ones) (ask_way_none all_rooms s (unlock_ask o file 0 all_ones) refl)) ∙ decided_names n s o file
 
 rest_stays : (n : ℕ) (s : CoreState) (l : NfsLists) (r : StateidRow) (qs : List StateidRow) (at : ℕ) (owner : Owner) (byte : ℕ) → IsGood s → held_at s (ByteOf at owner byte) ≡ [] → held_at (all_done n s (ends_locks l r qs)) (ByteOf at owner byte) ≡ []
 rest_stays n s l r [] at owner byte good free = free

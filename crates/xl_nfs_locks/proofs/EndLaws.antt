@@ -1,5 +1,5 @@
 -- How the operations on locks end: what they tell has a spelling, and one that isn't OK leaves the current handle.
-use Rattle.std.proofs.Common.{◌≡◌, ℕ, Bool, true, false, List, [], Option, Some, None, Result, Ok, Err, refl, inl, inr, arith}
+use Rattle.std.proofs.Common.{◌≡◌, ℕ, Bool, true, false, List, Option, Some, None, Result, Ok, Err, refl, inl, inr, arith}
 use Rattle.std.proofs.lemmas.Bool.{cases_Bool, true≢false}
 use Rattle.std.specs.Bool.{◌==◌}
 use Rattle.std.specs.List.{find}
@@ -22,7 +22,7 @@ use Rattle.xl_core.specs.State.{CoreState}
 use Rattle.xl_core.specs.declared.ask.Answer.{Answer}
 use Rattle.xl_core.specs.declared.ask.Answer.TheVariants as answers
 use Rattle.xl_nfs_locks.specs.Checks.{holder_found, row_found, number_found, locks_found}
-use Rattle.xl_nfs_locks.specs.FirstLocks.{join_again, join_answered, join_as, join_by, join_checked, join_in, join_of, join_standing, join_to, joined_by, both_of, found_joined, locker_under, lock_named, lock_new, lock_by, lock}
+use Rattle.xl_nfs_locks.specs.FirstLocks.{join_again, join_answered, join_as, join_checked, join_of, join_standing, join_to, joined_by, both_of, found_joined, locker_under, lock_named, lock_new, lock_by, lock}
 use Rattle.xl_nfs_locks.specs.Locks.{access_above, lock_answered, lock_by_owner, lock_end, lock_found, lock_known, lock_standing, lock_to}
 use Rattle.xl_nfs_locks.specs.Ranges.{last_byte}
 use Rattle.xl_nfs_locks.specs.Releases.{holds_any, release_of, release}
@@ -40,8 +40,6 @@ use Rattle.xl_nfs_opens.specs.Seqids.{is_room_for}
 use Rattle.xl_nfs_opens.specs.declared.opener.Checked.{Checked}
 use Rattle.xl_nfs_opens.specs.declared.opener.Checked.TheVariants.{Refused, Repeated, Passed}
 use Rattle.xl_nfs_opens.specs.declared.opener.Opener.{Opener}
-use Rattle.xl_nfs_opens.specs.declared.told.Told.{Told}
-use Rattle.xl_nfs_opens.specs.declared.told.Told.TheVariants.{Ended}
 use Rattle.xl_nfs_opens.proofs.EndLaws.{Ends, fault, ended, repeat_ends, IfFault, Refuses, owner_fault, checked_fault, standing_is_fault}
 use Rattle.xl_nfs_opens.proofs.ResultLaws.{IsFault, plain_39}
 use Rattle.xl_nfs_locks.proofs.LockLaws.{told_by, OrFault, end_fault}

@@ -1,12 +1,12 @@
 -- What a LOCK under an open finds, and what its seqids leave.
-use Rattle.std.proofs.Common.{◌≡◌, ℕ, Bool, true, false, List, Option, Some, None, is_some, refl, sym, ap, subst, ◌∙◌, inl, inr, true≢false}
+use Rattle.std.proofs.Common.{◌≡◌, ℕ, true, List, Option, Some, None, is_some, refl, sym, ap, subst, ◌∙◌, inl, inr, true≢false}
 use Rattle.std.proofs.lemmas.Bool.{cases_Bool}
 use Rattle.std.proofs.lemmas.Option.{same_Some}
 use Rattle.std.specs.Bool.{◌==◌}
 use Rattle.std.specs.Option.{option_and_then}
 use Rattle.std.specs.List.{find}
-use Rattle.std.specs.Prelude.{IsSome, IfSome}
-use Rattle.xl_nfs_state.specs.State.{NfsLists, is_client, is_kept, is_owner, is_stateid, owned_on}
+use Rattle.std.specs.Prelude.{IsSome}
+use Rattle.xl_nfs_state.specs.State.{NfsLists, is_client, is_kept, is_owner}
 use Rattle.xl_nfs_state.specs.declared.client.ClientRow.{ClientRow}
 use Rattle.xl_nfs_state.specs.declared.owner.Turn.{Turn}
 use Rattle.xl_nfs_state.specs.declared.stateid.StateidRow.{StateidRow}

@@ -1,8 +1,8 @@
 -- Owners and stateids stay orderly, whatever an operation on locks comes to.
-use Rattle.std.proofs.Common.{◌≡◌, ℕ, ◌+◌, ◌^◌, suc, Bool, true, false, not, ◌&&◌, ◌||◌, List, [], ◌∷◌, length, nat_lt, Option, Some, None, Ok, Err, Result, is_some, if◌then◌else◌, refl, sym, ap, subst, ◌∙◌, inl, inr, true≢false}
-use Rattle.std.proofs.lemmas.Bool.{cases_Bool, and_parts, and_from, eqb-true}
+use Rattle.std.proofs.Common.{◌≡◌, ℕ, ◌+◌, ◌^◌, suc, Bool, true, false, not, ◌&&◌, ◌||◌, List, [], ◌∷◌, length, nat_lt, Option, Some, None, Ok, Err, Result, is_some, if◌then◌else◌, refl, sym, ap, subst, ◌∙◌, inl, inr}
+use Rattle.std.proofs.lemmas.Bool.{cases_Bool, and_parts, eqb-true}
 use Rattle.std.specs.Bool.{◌==◌}
-use Rattle.std.specs.List.{AllByRecursion, find}
+use Rattle.std.specs.List.{find}
 use Rattle.xl_nfs.specs.Basics.{OwnerItem}
 use Rattle.xl_nfs.specs.Locks.{LockArgsItem, LockTestArgsItem, LockerItem, NewLockerItem, New, Known}
 use Rattle.xl_nfs.specs.Outcomes.{is_ok}
@@ -35,11 +35,11 @@ use Rattle.xl_nfs_opens.proofs.OpenLaws.{kept_owners}
 use Rattle.xl_nfs_opens.proofs.OrderLaws.{owned_by, owner_goes, stateids_go}
 use Rattle.xl_nfs_opens.proofs.OwnerLaws.{number_gone, same_number}
 use Rattle.xl_nfs_opens.proofs.PassedLaws.{IfPassed, IsPassed, checked_passed, owner_passed}
-use Rattle.xl_nfs_opens.specs.Closing.{checked, done_lists, next_turn, opener_by, standing_fault, state_told}
+use Rattle.xl_nfs_opens.specs.Closing.{checked, next_turn, opener_by, standing_fault, state_told}
 use Rattle.xl_nfs_opens.specs.Leases.{number_in}
 use Rattle.xl_nfs_opens.specs.Opens.{client_in, is_granted, live, stood}
-use Rattle.xl_nfs_opens.specs.Orderly.{are_apart, closes, IsHeldBy, IsOrderly, IsOwnedBy}
-use Rattle.xl_nfs_opens.specs.Plans.{Plan, status_of}
+use Rattle.xl_nfs_opens.specs.Orderly.{closes, IsHeldBy, IsOrderly, IsOwnedBy}
+use Rattle.xl_nfs_opens.specs.Plans.{status_of}
 use Rattle.xl_nfs_opens.specs.Renewing.{number_of, renewed_for, state_client, stateid_of}
 use Rattle.xl_nfs_opens.specs.Results.{spelled}
 use Rattle.xl_nfs_opens.specs.Seqids.{advances, closed_gone, counted, is_opener, is_room_for, kept_for, number_by, opener_number, remembered, seated, turned}

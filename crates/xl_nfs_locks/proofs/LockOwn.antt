@@ -53,7 +53,7 @@ use Rattle.xl_nfs_opens.specs.Seqids.{is_room_for}
 use Rattle.xl_nfs_opens.specs.declared.opener.Checked.{Checked}
 use Rattle.xl_nfs_opens.specs.declared.opener.Checked.TheVariants.{Refused, Repeated, Passed}
 use Rattle.xl_nfs_opens.specs.declared.opener.Opener.{Opener}
-use Rattle.xl_nfs_opens.proofs.OpenOwn.{Owned, repeat_own, renewing_own, state_own, holder_as, named_as, by_number, owner_client, checked_client}
+use Rattle.xl_nfs_opens.proofs.OpenOwn.{Owned, repeat_own, renewing_own, state_own, holder_as, named_as, by_number, owner_client}
 use Rattle.xl_nfs_opens.proofs.OwnerLaws.{own_client}
 use Rattle.xl_nfs_opens.proofs.UnderLaws.{opener_is}
 
@@ -103,13 +103,13 @@ end_not_before kind access offset len = end_by kind access offset (last_byte off
 -- ---- asks
 
 pub lock_fits : (o : Opener) (file : ℕ) (kind : LockType) (reclaim : Bool) (first last : ℕ) → first ≤ last → IsFit (lock_ask o file kind reclaim first last)
-lock_fits o file kind reclaim first last le = record { act = (le, tt); own = refl; party = own_client o.id }
+lock_fits o file kind reclaim first last le = record { act = (le, tt); own = refl; party = own_client o.id; wish = refl }
 
 test_fits : (o : Opener) (file : ℕ) (kind : LockType) (first last : ℕ) → first ≤ last → IsFit (test_ask o file kind first last)
-test_fits o file kind first last le = record { act = le; own = refl; party = own_client o.id }
+test_fits o file kind first last le = record { act = le; own = refl; party = own_client o.id; wish = refl }
 
 pub unlock_fits : (o : Opener) (file first last : ℕ) → first ≤ last → IsFit (unlock_ask o file first last)
-unlock_fits o file first last le = record { act = le; own = refl; party = own_client o.id }
+unlock_fits o file first last le = record { act = le; own = refl; party = own_client o.id; wish = refl }
 
 -- one ask of a client's, and then nothing more or what is its too
 asks_own : (n : ℕ) (s : CoreState) (Client : List ℕ → Type 0) (id : List ℕ) (a : Ask) (rest : Answer → CoreState → Plan) → Client id → IsFit a → IsOf s (NfsParty id) (Asks all_rooms a) → ((answer : Answer) (t : CoreState) → Owned n t Client (rest answer t)) → Owned n s Client (Asking all_rooms a rest)

@@ -1,5 +1,5 @@
 -- Why a LOCK or a LOCKT is told so, and what a LOCKU frees.
-use Rattle.std.proofs.Common.{◌≡◌, ℕ, ◌≤◌, Bool, true, false, List, [], ◌∷◌, Option, Some, None, Ok, refl, sym, ap, subst, ◌∙◌, inl, inr, true≢false}
+use Rattle.std.proofs.Common.{◌≡◌, ℕ, ◌≤◌, Bool, true, false, List, [], Option, Some, None, Ok, refl, sym, ap, subst, ◌∙◌, inl, inr, true≢false}
 use Rattle.std.proofs.lemmas.Bool.{cases_Bool}
 use Rattle.std.specs.Prelude.{◌&&◌, ◌↔◌, if◌then◌else◌}
 use Rattle.xl_base.specs.declared.name.Owner.{Owner}
@@ -21,12 +21,12 @@ use Rattle.xl_spans.specs.Spans.{within, mode_at}
 use Rattle.xl_spans.specs.declared.span.Mode.{Mode}
 use Rattle.xl_table.proofs.WriteBack.{is_of-true}
 use Rattle.xl_table.specs.Held.{is_of, spans_of}
-use Rattle.xl_core.proofs.CauseLaws.{lock_due, test_due, test_leaves, unlock_due}
-use Rattle.xl_core.proofs.ChangeLaws.{ask_own}
+use Rattle.xl_core.proofs.WayAsks.{ask_due, ask_own, ask_test, ask_unlock, ask_way_none, test_stands}
+use Rattle.xl_core.proofs.WayDeeds.{then_else}
 use Rattle.xl_core.proofs.DeedLaws.{deed_makes}
 use Rattle.xl_core.specs.Blockers.{is_stopped}
-use Rattle.xl_core.specs.Causes.{IsClaimDue, IsTestDue, IsUnlockDue}
-use Rattle.xl_core.specs.Decide.{ask}
+use Rattle.xl_core.specs.Causes.{IsClaimDue, IsTestDue}
+use Rattle.xl_core.specs.Decide.{way, ask}
 use Rattle.xl_core.specs.Deeds.{Asks}
 use Rattle.xl_core.specs.Good.{IsGood}
 use Rattle.xl_core.specs.Places.{ByteOf, held_at, byte_held, answered_at, cleared_at, else_was}
@@ -34,9 +34,10 @@ use Rattle.xl_core.specs.State.{CoreState}
 use Rattle.xl_core.specs.declared.ask.Answer.{Answer}
 use Rattle.xl_core.specs.declared.ask.Answer.TheVariants as answers
 use Rattle.xl_core.specs.declared.ask.Ask.{Ask}
+use Rattle.xl_core.specs.declared.ask.Effect.{Effect}
 use Rattle.xl_nfs_locks.specs.Denials.{held_lock, lock_told}
 use Rattle.xl_nfs_locks.specs.FirstLocks.{joined_by, join_answered, join_to}
-use Rattle.xl_nfs_locks.specs.Laws.{lock_claim, test_claim, unlock_claim, AreFree, IsLockTold, IsTestTold, IsDenial, IsTestDenial}
+use Rattle.xl_nfs_locks.specs.Laws.{lock_claim, lock_way, test_claim, unlock_claim, AreFree, IsLockTold, IsTestTold, IsDenial, IsTestDenial}
 use Rattle.xl_nfs_locks.specs.Locks.{lock_answered, lock_by_owner}
 use Rattle.xl_nfs_locks.specs.Ranges.{is_exclusive, lock_ask, test_ask}
 use Rattle.xl_nfs_locks.specs.Tests.{tested_told, test_to}
@@ -48,9 +49,8 @@ use Rattle.xl_nfs_opens.specs.Plans.{carried, status_of}
 use Rattle.xl_nfs_opens.specs.Seqids.{is_room_for}
 use Rattle.xl_nfs_opens.specs.declared.opener.Opener.{Opener}
 use Rattle.xl_nfs_opens.specs.declared.told.HeldLock.{HeldLock}
-use Rattle.xl_nfs_opens.specs.declared.told.Told.{Told}
 use Rattle.xl_nfs_opens.specs.declared.told.Told.TheVariants.{Ended, State, Denied}
-use Rattle.xl_nfs_locks.proofs.LockOwn.{lock_fits, unlock_fits}
+use Rattle.xl_nfs_locks.proofs.LockOwn.{unlock_fits}
 use Rattle.xl_nfs_locks.proofs.ByteLaws.{refused_stays}
 
 -- ---- a LOCK's status
@@ -80,14 +80,15 @@ back s t l a claim r exact statuses.Resource told = ap (λ (x : Answer). status_
 back s t l a claim r exact statuses.NoGrace told = ap (λ (x : Answer). status_of (lock_told t l a.reclaim x)) (exact (answers.NoGrace s.clock) told)
 back s t l a claim r exact _ told = absurd told
 
-exactly : (n : ℕ) (s t : CoreState) (l : NfsLists) (o : Opener) (file : ℕ) (kind : LockType) (reclaim : Bool) (first last : ℕ) (status : NfsStatus) → (status_of (lock_told t l reclaim (ask n all_rooms s (lock_ask o file kind reclaim first last)).0) ≡ status) ↔ IsLockTold s (lock_ask o file kind reclaim first last) (lock_claim s o file kind first last) status
+exactly : (n : ℕ) (s t : CoreState) (l : NfsLists) (o : Opener) (file : ℕ) (kind : LockType) (reclaim : Bool) (first last : ℕ) (status : NfsStatus) → (status_of (lock_told t l reclaim (ask n all_rooms s (lock_ask o file kind reclaim first last)).0) ≡ status) ↔ IsLockTold (lock_way s o file kind reclaim first last) (lock_ask o file kind reclaim first last) (lock_claim s o file kind first last) status
 exactly n s t l o file kind reclaim first last status =
     let a = lock_ask o file kind reclaim first last in
     let claim = lock_claim s o file kind first last in
     let what = whats.Range (Bytes first last) (is_exclusive kind) in
+    let w = lock_way s o file kind reclaim first last in
     let answer = (ask n all_rooms s a).0 in (
-      λ e. subst (λ (x : NfsStatus). IsLockTold s a claim x) e (forth s t l a claim answer refl refl ((lock_due n all_rooms s a what answer refl).0 refl)),
-      λ told. back s t l a claim answer (λ x due. (lock_due n all_rooms s a what x refl).1 due) status told,
+      λ e. subst (λ (x : NfsStatus). IsLockTold w a claim x) e (forth w t l a claim answer refl refl ((ask_due n all_rooms s a what answer refl).0 refl)),
+      λ told. back w t l a claim answer (λ x due. (ask_due n all_rooms s a what x refl).1 due) status told,
     )
 
 known_told : (n : ℕ) (t : CoreState) (l : NfsLists) (current : Option ℕ) (r : StateidRow) (owner : ℕ) (turn : Turn) (seqid : ℕ) (reclaim : Bool) (answer : Answer) → status_of (carried n t l current (lock_answered l current r owner turn seqid reclaim answer t)).0 ≡ status_of (lock_told t l reclaim answer)
@@ -106,7 +107,7 @@ by_status : {X : Type 0} (told is status : NfsStatus) → told ≡ is → ((is �
 by_status told is status e exact = (λ d. exact.0 (sym e ∙ d), λ x. e ∙ exact.1 x)
 
 pub known_exactly : (n : ℕ) (s : CoreState) (l : NfsLists) (current : Option ℕ) (a : LockArgsItem) (r : StateidRow) (owner : ℕ) (turn : Turn) (seqid last : ℕ) (o : Opener) (status : NfsStatus)
-    → (status_of (carried n s l current (lock_by_owner l current a r owner turn seqid last (Some o))).0 ≡ status) ↔ IsLockTold s (lock_ask o r.file a.kind a.reclaim a.offset last) (lock_claim s o r.file a.kind a.offset last) status
+    → (status_of (carried n s l current (lock_by_owner l current a r owner turn seqid last (Some o))).0 ≡ status) ↔ IsLockTold (lock_way s o r.file a.kind a.reclaim a.offset last) (lock_ask o r.file a.kind a.reclaim a.offset last) (lock_claim s o r.file a.kind a.offset last) status
 known_exactly n s l current a r owner turn seqid last o status =
     let x = ask n all_rooms s (lock_ask o r.file a.kind a.reclaim a.offset last) in
     by_status _ _ status (known_told n x.2 l current r owner turn seqid a.reclaim x.0) (exactly n s x.2 l o r.file a.kind a.reclaim a.offset last status)
@@ -128,7 +129,7 @@ first_told n t l current b o r q reclaim answers.NotHeld = refl
 first_told n t l current b o r q reclaim answers.StoreFailed = refl
 
 pub first_exactly : (n : ℕ) (s : CoreState) (l : NfsLists) (current : Option ℕ) (a : LockArgsItem) (b : BothOwners) (o : Opener) (r : StateidRow) (q : Option StateidRow) (last : ℕ) (status : NfsStatus) → is_room_for o l ≡ true
-    → (status_of (carried n s l current (join_to l current a b o r q (Ok last))).0 ≡ status) ↔ IsLockTold s (lock_ask o r.file a.kind a.reclaim a.offset last) (lock_claim s o r.file a.kind a.offset last) status
+    → (status_of (carried n s l current (join_to l current a b o r q (Ok last))).0 ≡ status) ↔ IsLockTold (lock_way s o r.file a.kind a.reclaim a.offset last) (lock_ask o r.file a.kind a.reclaim a.offset last) (lock_claim s o r.file a.kind a.offset last) status
 first_exactly n s l current a b o r q last status room =
     let x = ask n all_rooms s (lock_ask o r.file a.kind a.reclaim a.offset last) in
     rw room (by_status _ _ status (first_told n x.2 l current b o r q a.reclaim x.0) (exactly n s x.2 l o r.file a.kind a.reclaim a.offset last status))
@@ -154,11 +155,11 @@ told_denied s t l a claim reclaim answers.NotHeld h due stays e = absurd cc
 told_denied s t l a claim reclaim answers.StoreFailed h due stays e = absurd cc
 
 asked_denied : (n : ℕ) (s : CoreState) (l : NfsLists) (o : Opener) (file : ℕ) (kind : LockType) (reclaim : Bool) (first last : ℕ) (h : HeldLock) → IsGood s → first ≤ last → is_granted (ask n all_rooms s (lock_ask o file kind reclaim first last)).0 ≡ false
-    → lock_told (ask n all_rooms s (lock_ask o file kind reclaim first last)).2 l reclaim (ask n all_rooms s (lock_ask o file kind reclaim first last)).0 ≡ Denied h → IsDenial s l (lock_claim s o file kind first last) h
+    → lock_told (ask n all_rooms s (lock_ask o file kind reclaim first last)).2 l reclaim (ask n all_rooms s (lock_ask o file kind reclaim first last)).0 ≡ Denied h → IsDenial (lock_way s o file kind reclaim first last) l (lock_claim s o file kind first last) h
 asked_denied n s l o file kind reclaim first last h good le fails e =
     let a = lock_ask o file kind reclaim first last in
     let x = ask n all_rooms s a in
-    told_denied s x.2 l a (lock_claim s o file kind first last) reclaim x.0 h ((lock_due n all_rooms s a (whats.Range (Bytes first last) (is_exclusive kind)) x.0 refl).0 refl) (refused_stays n s o file kind reclaim first last good le fails) e
+    told_denied (lock_way s o file kind reclaim first last) x.2 l a (lock_claim s o file kind first last) reclaim x.0 h ((ask_due n all_rooms s a (whats.Range (Bytes first last) (is_exclusive kind)) x.0 refl).0 refl) (refused_stays n s o file kind reclaim first last good le fails) e
 
 known_is : (n : ℕ) (t : CoreState) (l : NfsLists) (current : Option ℕ) (r : StateidRow) (owner : ℕ) (turn : Turn) (seqid : ℕ) (reclaim : Bool) (answer : Answer) (h : HeldLock) → (carried n t l current (lock_answered l current r owner turn seqid reclaim answer t)).0 ≡ Denied h → (is_granted answer ≡ false) × (lock_told t l reclaim answer ≡ Denied h)
 known_is n t l current r owner turn seqid reclaim answer h e =
@@ -167,7 +168,7 @@ known_is n t l current r owner turn seqid reclaim answer h e =
       | inr fails ↦ (fails, rw fails at e)
     ]
 
-pub known_denied : (n : ℕ) (s : CoreState) (l : NfsLists) (current : Option ℕ) (a : LockArgsItem) (r : StateidRow) (owner : ℕ) (turn : Turn) (seqid last : ℕ) (o : Opener) (h : HeldLock) → IsGood s → a.offset ≤ last → (carried n s l current (lock_by_owner l current a r owner turn seqid last (Some o))).0 ≡ Denied h → IsDenial s l (lock_claim s o r.file a.kind a.offset last) h
+pub known_denied : (n : ℕ) (s : CoreState) (l : NfsLists) (current : Option ℕ) (a : LockArgsItem) (r : StateidRow) (owner : ℕ) (turn : Turn) (seqid last : ℕ) (o : Opener) (h : HeldLock) → IsGood s → a.offset ≤ last → (carried n s l current (lock_by_owner l current a r owner turn seqid last (Some o))).0 ≡ Denied h → IsDenial (lock_way s o r.file a.kind a.reclaim a.offset last) l (lock_claim s o r.file a.kind a.offset last) h
 known_denied n s l current a r owner turn seqid last o h good le e =
     let x = ask n all_rooms s (lock_ask o r.file a.kind a.reclaim a.offset last) in
     let is = known_is n x.2 l current r owner turn seqid a.reclaim x.0 h e in
@@ -184,7 +185,7 @@ first_is n t l current b o r q reclaim answer h e =
       | inr fails ↦ (fails, rw fails at e)
     ]
 
-pub first_denied : (n : ℕ) (s : CoreState) (l : NfsLists) (current : Option ℕ) (a : LockArgsItem) (b : BothOwners) (o : Opener) (r : StateidRow) (q : Option StateidRow) (last : ℕ) (h : HeldLock) → IsGood s → a.offset ≤ last → is_room_for o l ≡ true → (carried n s l current (join_to l current a b o r q (Ok last))).0 ≡ Denied h → IsDenial s l (lock_claim s o r.file a.kind a.offset last) h
+pub first_denied : (n : ℕ) (s : CoreState) (l : NfsLists) (current : Option ℕ) (a : LockArgsItem) (b : BothOwners) (o : Opener) (r : StateidRow) (q : Option StateidRow) (last : ℕ) (h : HeldLock) → IsGood s → a.offset ≤ last → is_room_for o l ≡ true → (carried n s l current (join_to l current a b o r q (Ok last))).0 ≡ Denied h → IsDenial (lock_way s o r.file a.kind a.reclaim a.offset last) l (lock_claim s o r.file a.kind a.offset last) h
 first_denied n s l current a b o r q last h good le room e =
     let x = ask n all_rooms s (lock_ask o r.file a.kind a.reclaim a.offset last) in
     let is = first_is n x.2 l current b o r q a.reclaim x.0 h (rw room at e) in
@@ -193,7 +194,7 @@ first_denied n s l current a b o r q last h good le room e =
 -- ---- LOCKT
 
 test_stays : (n : ℕ) (s : CoreState) (o : Opener) (file : ℕ) (kind : LockType) (first last : ℕ) → (ask n all_rooms s (test_ask o file kind first last)).2 ≡ s
-test_stays n s o file kind first last = test_leaves n all_rooms s (test_ask o file kind first last) (Bytes first last) (is_exclusive kind) refl
+test_stays n s o file kind first last = test_stands n all_rooms s (test_ask o file kind first last) (Bytes first last) (is_exclusive kind) refl
 
 pub test_changes_nothing : (n : ℕ) (s : CoreState) (l : NfsLists) (current : Option ℕ) (a : LockTestArgsItem) (file : ℕ) (o : Opener) (last : Option ℕ) → ((carried n s l current (test_to l current a file o last)).3 ≡ l) × ((carried n s l current (test_to l current a file o last)).4 ≡ s)
 test_changes_nothing n s l current a file o None = (refl, refl)
@@ -221,8 +222,8 @@ test_exactly n s l current a file o last status =
     let q = test_ask o file a.kind a.offset last in
     let claim = test_claim s o file a.kind a.offset last in
     let x = ask n all_rooms s q in (
-      λ e. subst (λ (y : NfsStatus). IsTestTold s q claim y) e (test_forth s x.2 l q claim x.0 refl ((test_due n all_rooms s q (Bytes a.offset last) (is_exclusive a.kind) x.0 refl).0 refl)),
-      λ told. test_back s x.2 l q claim x.0 (λ y due. (test_due n all_rooms s q (Bytes a.offset last) (is_exclusive a.kind) y refl).1 due) status told,
+      λ e. subst (λ (y : NfsStatus). IsTestTold s q claim y) e (test_forth s x.2 l q claim x.0 refl ((ask_test n all_rooms s q (Bytes a.offset last) (is_exclusive a.kind) x.0 refl).0 refl)),
+      λ told. test_back s x.2 l q claim x.0 (λ y due. (ask_test n all_rooms s q (Bytes a.offset last) (is_exclusive a.kind) y refl).1 due) status told,
     )
 
 tested_denied : (s t : CoreState) (l : NfsLists) (a : Ask) (claim : Claim) (answer : Answer) (h : HeldLock) → IsTestDue s a claim answer → t ≡ s → tested_told t l answer ≡ Denied h → IsTestDenial s l claim h
@@ -243,7 +244,7 @@ pub test_denied : (n : ℕ) (s : CoreState) (l : NfsLists) (current : Option ℕ
 test_denied n s l current a file o last h e =
     let q = test_ask o file a.kind a.offset last in
     let x = ask n all_rooms s q in
-    tested_denied s x.2 l q (test_claim s o file a.kind a.offset last) x.0 h ((test_due n all_rooms s q (Bytes a.offset last) (is_exclusive a.kind) x.0 refl).0 refl) (test_stays n s o file a.kind a.offset last) e
+    tested_denied s x.2 l q (test_claim s o file a.kind a.offset last) x.0 h ((ask_test n all_rooms s q (Bytes a.offset last) (is_exclusive a.kind) x.0 refl).0 refl) (test_stays n s o file a.kind a.offset last) e
 
 -- ---- LOCKU
 
@@ -278,19 +279,22 @@ unlock_stays n s o file first last good le answer is fails =
     let a = unlock_ask o file first last in
     (ask_own n all_rooms s a good (unlock_fits o file first last le).party).refused
     (λ c e. fails c (sym is ∙ e))
-    (λ number e. (unlock_due n all_rooms s a first last (answers.Queued number) refl (unlock_fits o file first last le).party refl le good).0 e)
+    (λ number e. (ask_unlock n all_rooms s a first last (answers.Queued number) refl (unlock_fits o file first last le).party refl le good).0 e)
+    ∙ ap (λ (w : List Effect × CoreState). w.1) (ask_way_none all_rooms s a refl)
 
 pub freed : (n : ℕ) (s : CoreState) (o : Opener) (file first last : ℕ) → IsGood s → first ≤ last → (answer : Answer) → (ask n all_rooms s (unlock_ask o file first last)).0 ≡ answer → is_ok (unlock_status answer) ≡ true → AreFree o file first last s (ask n all_rooms s (unlock_ask o file first last)).2
 freed n s o file first last good le (answers.Granted c) e ok = λ at owner byte.
     let a = unlock_ask o file first last in
-    let same : c ≡ unlock_claim s o file first last = ((unlock_due n all_rooms s a first last (answers.Granted c) refl (unlock_fits o file first last le).party refl le good).0 e).0 in
+    let same : c ≡ unlock_claim s o file first last = ((ask_unlock n all_rooms s a first last (answers.Granted c) refl (unlock_fits o file first last le).party refl le good).0 e).0 in
+    let held = (way all_rooms s a).1.claims in
     deed_makes n s (Asks all_rooms a) (ByteOf at owner byte) good (unlock_fits o file first last le)
-    ∙ ap (λ (x : Answer). else_was (answered_at s.claims a.act x (ByteOf at owner byte)) (held_at s (ByteOf at owner byte))) e
+    ∙ then_else None (answered_at held a.act (ask n all_rooms s a).0 (ByteOf at owner byte)) (held_at s (ByteOf at owner byte))
+    ∙ ap (λ (x : Answer). else_was (answered_at held a.act x (ByteOf at owner byte)) (held_at s (ByteOf at owner byte))) e
     ∙ ap (λ (x : Claim). else_was (cleared_at x (ByteOf at owner byte)) (held_at s (ByteOf at owner byte))) same
     ∙ cleared_byte s o file first last at owner byte (held_at s (ByteOf at owner byte))
 freed n s o file first last good le answers.NotHeld e ok =
     let a = unlock_ask o file first last in
-    let none = (unlock_due n all_rooms s a first last answers.NotHeld refl (unlock_fits o file first last le).party refl le good).0 e in
+    let none = (ask_unlock n all_rooms s a first last answers.NotHeld refl (unlock_fits o file first last le).party refl le good).0 e in
     subst (λ (t : CoreState). AreFree o file first last s t) (sym (unlock_stays n s o file first last good le answers.NotHeld e (λ c d. cc)))
     (λ at owner byte. none_byte s o file first last at owner byte none)
 freed n s o file first last good le (answers.Conflict c) e ok = absurd (true≢false (sym ok))

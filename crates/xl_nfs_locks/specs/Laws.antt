@@ -1,5 +1,5 @@
 -- What is said of locks.
-use Rattle.std.specs.Prelude.{◌≡◌, ℕ, Bool, true, false, ◌&&◌, if◌then◌else◌, List, [], ◌∷◌, Option, Some}
+use Rattle.std.specs.Prelude.{◌≡◌, ℕ, Bool, true, false, ◌&&◌, if◌then◌else◌, List, [], ◌∷◌, Some}
 use Rattle.xl_base.specs.Lists.{IsIn}
 use Rattle.xl_base.specs.declared.name.Owner.{Owner}
 use Rattle.xl_matrix.specs.declared.claim.Claim.{Claim}
@@ -19,6 +19,7 @@ use Rattle.xl_names.specs.declared.name.Name.TheVariants.{NfsRange}
 use Rattle.xl_core.specs.Asking.{asked_claim, known_claim, known_owner}
 use Rattle.xl_core.specs.Blockers.{blockers, test_blockers}
 use Rattle.xl_core.specs.Causes.{IsClaimDue, IsTestDue, stands_against}
+use Rattle.xl_core.specs.Decide.{way}
 use Rattle.xl_core.specs.Places.{ByteOf, held_at}
 use Rattle.xl_core.specs.State.{CoreState}
 use Rattle.xl_core.specs.declared.ask.Answer.TheVariants as answers
@@ -37,7 +38,11 @@ use Rattle.xl_nfs_opens.specs.declared.told.HeldLock.{HeldLock}
 abbrev pub lock_claim : CoreState → Opener → ℕ → LockType → ℕ → ℕ → Claim
 lock_claim s o file kind first last = asked_claim (lock_ask o file kind false first last) (whats.Range (Bytes first last) (is_exclusive kind)) s.names
 
--- the same of a LOCKT, and the bytes that a LOCKU gives up
+-- the state in which that LOCK is judged: the breaks have begun that it begins
+abbrev pub lock_way : CoreState → Opener → ℕ → LockType → Bool → ℕ → ℕ → CoreState
+lock_way s o file kind reclaim first last = (way all_rooms s (lock_ask o file kind reclaim first last)).1
+
+-- the claim of a LOCKT, and the bytes that a LOCKU gives up
 abbrev pub test_claim : CoreState → Opener → ℕ → LockType → ℕ → ℕ → Claim
 test_claim s o file kind first last = known_claim (test_ask o file kind first last) (Bytes first last) (is_exclusive kind) s.names
 

@@ -13,7 +13,7 @@ ghost use Rattle.xl_nfs_opens.specs.Opens.{client_in, is_granted};
 ghost use Rattle.xl_nfs_opens.specs.Plans.{carried};
 ghost use Rattle.xl_nfs_opens.specs.Results.{spelled, ToldFits};
 ghost use Rattle.xl_nfs_opens.specs.Seqids.{is_room_for};
-ghost use Rattle.xl_nfs_opens.specs.Short.{IsReady, Leaves, drawn_behind};
+ghost use Rattle.xl_nfs_opens.specs.Short.{IsReady, Leaves};
 
 use crate::asks::lock_ask;
 use crate::denials::lock_told;
@@ -239,7 +239,7 @@ fn join_granted(
 }
 
 /// LOCK by the core's answer.
-#[tactic(auto, using(crate::proofs::LockLaws::lock_told_fits, xl_nfs_opens::proofs::LeaveLaws::leaves_self))]
+#[tactic(auto, using(crate::proofs::LockLaws::lock_told_fits, xl_nfs_opens::proofs::LeaveLaws::leaves_self, xl_nfs_opens::proofs::LeaveLaws::leaves_more, xl_nfs_opens::proofs::LeaveLaws::ready_less))]
 fn join_answered(
     alloc: Global,
     state: &mut NfsState,
@@ -255,9 +255,9 @@ fn join_answered(
     requires owner { IsSome (find (is_owner both.number) state.old.owners) }
     requires client { IsSome (find (is_client locker.now.client true) state.old.clients) }
     requires had { IfSome had (λ lock. (find (is_stateid lock.number) state.old.stateids ≡ Some lock) × (lock.standing.closed ≡ false)) }
-    requires ready { IsReady 0 core.old }
+    requires ready { IsReady 2 core.old }
     ensures done { (n : ℕ) → IfOk result (λ r. carried n core.old state.old current (join_answered state.old current both locker.now above.now had reclaim answer core.old) ≡ (r.0, r.1, [], state.new, core.new)) }
-    ensures leaves { OnOk result (Leaves (drawn_behind (is_granted answer)) core.old core.new) }
+    ensures leaves { OnOk result (Leaves 2 core.old core.new) }
 {
     if !is_granted(answer) {
         let told = lock_told(alloc, state, core, reclaim, answer)?;
@@ -283,14 +283,14 @@ fn join_bytes<K: Keeper>(
     had: Option<StateidRow>,
     last: u64,
 ) -> Result<Done, AllocError>
-    requires ready { IsReady 2 core.old }
+    requires ready { IsReady 4 core.old }
     requires owner { IsSome (find (is_owner both.number) state.old.owners) }
     requires client { IsSome (find (is_client locker.now.client true) state.old.clients) }
     requires had { IfSome had (λ lock. (find (is_stateid lock.number) state.old.stateids ≡ Some lock) × (lock.standing.closed ≡ false)) }
     requires room { is_room_for locker.now state.old ≡ true }
     requires ends { args.now.offset ≤ last }
     ensures done { (n : ℕ) → IfOk result (λ r. MayBe n core.new → carried n core.old state.old current (join_to state.old current (shown_lock_args args.now) both locker.now above.now had (Ok last)) ≡ (r.0, r.1, r.2, state.new, core.new)) }
-    ensures leaves { OnOk result (Leaves 2 core.old core.new) }
+    ensures leaves { OnOk result (Leaves 4 core.old core.new) }
     ensures keeper { keeper.new ≡ keeper.old }
 {
     let reclaim = args.reclaim;
@@ -324,12 +324,12 @@ fn join_in<K: Keeper>(
     above: &StateidRow,
     had: Option<StateidRow>,
 ) -> Result<Done, AllocError>
-    requires ready { IsReady 2 core.old }
+    requires ready { IsReady 4 core.old }
     requires owner { IsSome (find (is_owner both.number) state.old.owners) }
     requires client { IsSome (find (is_client locker.now.client true) state.old.clients) }
     requires had { IfSome had (λ lock. (find (is_stateid lock.number) state.old.stateids ≡ Some lock) × (lock.standing.closed ≡ false)) }
     ensures done { (n : ℕ) → IfOk result (λ r. MayBe n core.new → carried n core.old state.old current (join_in state.old current (shown_lock_args args.now) both locker.now above.now had) ≡ (r.0, r.1, r.2, state.new, core.new)) }
-    ensures leaves { OnOk result (Leaves 2 core.old core.new) }
+    ensures leaves { OnOk result (Leaves 4 core.old core.new) }
     ensures keeper { keeper.new ≡ keeper.old }
 {
     match lock_end(args.kind, above.standing.access, args.offset, args.len) {
@@ -427,12 +427,12 @@ fn join_as<K: Keeper>(
     above: &StateidRow,
     joined: Joined,
 ) -> Result<Done, AllocError>
-    requires ready { IsReady 2 core.old }
+    requires ready { IsReady 4 core.old }
     requires owner { IsSome (find (is_owner both.number) state.old.owners) }
     requires client { IsSome (find (is_client locker.now.client true) state.old.clients) }
     requires joined { IsJoined state.old joined }
     ensures done { (n : ℕ) → IfOk result (λ r. MayBe n core.new → carried n core.old state.old current (join_as state.old current (shown_lock_args args.now) both locker.now above.now joined) ≡ (r.0, r.1, r.2, state.new, core.new)) }
-    ensures leaves { OnOk result (Leaves 2 core.old core.new) }
+    ensures leaves { OnOk result (Leaves 4 core.old core.new) }
     ensures keeper { keeper.new ≡ keeper.old }
 {
     match joined {
@@ -475,10 +475,10 @@ fn join_of<K: Keeper>(
     both: BothOwners,
     above: &StateidRow,
 ) -> Result<Done, AllocError>
-    requires ready { IsReady 2 core.old }
+    requires ready { IsReady 4 core.old }
     requires owner { IsSome (find (is_owner both.number) state.old.owners) }
     ensures done { (n : ℕ) → IfOk result (λ r. MayBe n core.new → carried n core.old state.old current (join_of state.old current (shown_lock_args args.now) (shown_new_locker given.now) both above.now (locker_under above.now given.now.owner.owner.now (client_in core.old state.old given.now.owner.clientid))) ≡ (r.0, r.1, r.2, state.new, core.new)) }
-    ensures leaves { OnOk result (Leaves 2 core.old core.new) }
+    ensures leaves { OnOk result (Leaves 4 core.old core.new) }
     ensures keeper { keeper.new ≡ keeper.old }
 {
     let client = client_in(state, core, given.owner.clientid);
@@ -508,10 +508,10 @@ fn join_passed<K: Keeper>(
     both: BothOwners,
     above: &StateidRow,
 ) -> Result<Done, AllocError>
-    requires ready { IsReady 2 core.old }
+    requires ready { IsReady 4 core.old }
     requires owner { IsSome (find (is_owner both.number) state.old.owners) }
     ensures done { (n : ℕ) → IfOk result (λ r. MayBe n core.new → carried n core.old state.old current (join_standing core.old state.old current (shown_lock_args args.now) (shown_new_locker given.now) both above.now (standing_fault above.now both.turn given.now.open_stateid.seqid true)) ≡ (r.0, r.1, r.2, state.new, core.new)) }
-    ensures leaves { OnOk result (Leaves 2 core.old core.new) }
+    ensures leaves { OnOk result (Leaves 4 core.old core.new) }
     ensures keeper { keeper.new ≡ keeper.old }
 {
     if let Some(status) = standing_fault(above, both.turn, given.open_stateid.seqid, true) {
@@ -538,10 +538,10 @@ fn join_checked<K: Keeper>(
     given: &NewLocker,
     found: Checked,
 ) -> Result<Done, AllocError>
-    requires ready { IsReady 2 core.old }
+    requires ready { IsReady 4 core.old }
     requires found { IsChecked state.old found }
     ensures done { (n : ℕ) → IfOk result (λ r. MayBe n core.new → carried n core.old state.old current (join_checked core.old state.old current (shown_lock_args args.now) (shown_new_locker given.now) found) ≡ (r.0, r.1, r.2, state.new, core.new)) }
-    ensures leaves { OnOk result (Leaves 2 core.old core.new) }
+    ensures leaves { OnOk result (Leaves 4 core.old core.new) }
     ensures keeper { keeper.new ≡ keeper.old }
 {
     match found {
@@ -575,9 +575,9 @@ fn lock_named<K: Keeper>(
     args: &LockArgs,
     given: &NewLocker,
 ) -> Result<Done, AllocError>
-    requires ready { IsReady 2 core.old }
+    requires ready { IsReady 4 core.old }
     ensures done { (n : ℕ) → IfOk result (λ r. MayBe n core.new → carried n core.old state.old current (lock_named core.old state.old current (shown_lock_args args.now) (shown_new_locker given.now)) ≡ (r.0, r.1, r.2, state.new, core.new)) }
-    ensures leaves { OnOk result (Leaves 2 core.old core.new) }
+    ensures leaves { OnOk result (Leaves 4 core.old core.new) }
     ensures keeper { keeper.new ≡ keeper.old }
 {
     let client = number_in(core, given.owner.clientid);
@@ -610,9 +610,9 @@ pub(crate) fn lock_new<K: Keeper>(
     args: &LockArgs,
     given: &NewLocker,
 ) -> Result<Done, AllocError>
-    requires ready { IsReady 2 core.old }
+    requires ready { IsReady 4 core.old }
     ensures done { (n : ℕ) → IfOk result (λ r. MayBe n core.new → carried n core.old state.old current (lock_new core.old state.old current (shown_lock_args args.now) (shown_new_locker given.now)) ≡ (r.0, r.1, r.2, state.new, core.new)) }
-    ensures leaves { OnOk result (Leaves 2 core.old core.new) }
+    ensures leaves { OnOk result (Leaves 4 core.old core.new) }
     ensures keeper { keeper.new ≡ keeper.old }
 {
     let client = state_client(state, core, &given.open_stateid);

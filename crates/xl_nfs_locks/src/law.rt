@@ -14,7 +14,7 @@ ghost use Rattle.xl_nfs_state.specs.State.{NfsLists};
 ghost use Rattle.xl_nfs_state.specs.declared.owner.Turn.{Turn as OwnerTurn};
 ghost use Rattle.xl_nfs_state.specs.declared.stateid.StateidRow.{StateidRow};
 ghost use Rattle.xl_nfs_locks.specs.FirstLocks.{join_to};
-ghost use Rattle.xl_nfs_locks.specs.Laws.{lock_claim, owner_of, test_claim, AreFree, AreLocked, IsDenial, IsLockTold, IsTestDenial, IsTestTold};
+ghost use Rattle.xl_nfs_locks.specs.Laws.{lock_claim, lock_way, owner_of, test_claim, AreFree, AreLocked, IsDenial, IsLockTold, IsTestDenial, IsTestTold};
 ghost use Rattle.xl_nfs_locks.specs.Locks.{lock_by_owner};
 ghost use Rattle.xl_nfs_locks.specs.Ranges.{lock_ask, test_ask};
 ghost use Rattle.xl_nfs_locks.specs.Tests.{test_to};
@@ -30,24 +30,26 @@ ghost use Rattle.xl_nfs_opens.specs.declared.told.Told.TheVariants.{Denied, Ende
 
 /// A LOCK whose checks passed and that is OK leaves each byte of its range to its owner, in its mode, and each other byte,
 /// each byte of another owner and of another file as they were (RFC 7530 9.1.2, 16.10). So it is of an owner that has a
-/// stateid and of one that gives the open's. One that isn't OK leaves the core as it was.
+/// stateid and of one that gives the open's. One that isn't OK leaves the core as it was once the breaks began that it begins:
+/// nothing changes but the caches whose breaks began.
 pub fn granted_locks_are_held()
     ensures known { (n : ℕ) (s : CoreState) (l : NfsLists) (current : Option ℕ) (a : LockArgsItem) (r : StateidRow) (owner : ℕ) (turn : OwnerTurn) (seqid last : ℕ) (o : LockOwner) → IsGood s → a.offset ≤ last → is_ok (status_of (carried n s l current (lock_by_owner l current a r owner turn seqid last (Some o))).0) ≡ true → AreLocked o r.file a.kind a.offset last s (carried n s l current (lock_by_owner l current a r owner turn seqid last (Some o))).4 }
     ensures first { (n : ℕ) (s : CoreState) (l : NfsLists) (current : Option ℕ) (a : LockArgsItem) (b : Owners) (o : LockOwner) (r : StateidRow) (q : Option StateidRow) (last : ℕ) → IsGood s → a.offset ≤ last → is_room_for o l ≡ true → is_ok (status_of (carried n s l current (join_to l current a b o r q (Ok last))).0) ≡ true → AreLocked o r.file a.kind a.offset last s (carried n s l current (join_to l current a b o r q (Ok last))).4 }
-    ensures known_refused { (n : ℕ) (s : CoreState) (l : NfsLists) (current : Option ℕ) (a : LockArgsItem) (r : StateidRow) (owner : ℕ) (turn : OwnerTurn) (seqid last : ℕ) (o : LockOwner) → IsGood s → a.offset ≤ last → is_ok (status_of (carried n s l current (lock_by_owner l current a r owner turn seqid last (Some o))).0) ≡ false → (carried n s l current (lock_by_owner l current a r owner turn seqid last (Some o))).4 ≡ s }
-    ensures first_refused { (n : ℕ) (s : CoreState) (l : NfsLists) (current : Option ℕ) (a : LockArgsItem) (b : Owners) (o : LockOwner) (r : StateidRow) (q : Option StateidRow) (last : ℕ) → IsGood s → a.offset ≤ last → is_room_for o l ≡ true → is_ok (status_of (carried n s l current (join_to l current a b o r q (Ok last))).0) ≡ false → (carried n s l current (join_to l current a b o r q (Ok last))).4 ≡ s }
+    ensures known_refused { (n : ℕ) (s : CoreState) (l : NfsLists) (current : Option ℕ) (a : LockArgsItem) (r : StateidRow) (owner : ℕ) (turn : OwnerTurn) (seqid last : ℕ) (o : LockOwner) → IsGood s → a.offset ≤ last → is_ok (status_of (carried n s l current (lock_by_owner l current a r owner turn seqid last (Some o))).0) ≡ false → (carried n s l current (lock_by_owner l current a r owner turn seqid last (Some o))).4 ≡ lock_way s o r.file a.kind a.reclaim a.offset last }
+    ensures first_refused { (n : ℕ) (s : CoreState) (l : NfsLists) (current : Option ℕ) (a : LockArgsItem) (b : Owners) (o : LockOwner) (r : StateidRow) (q : Option StateidRow) (last : ℕ) → IsGood s → a.offset ≤ last → is_room_for o l ≡ true → is_ok (status_of (carried n s l current (join_to l current a b o r q (Ok last))).0) ≡ false → (carried n s l current (join_to l current a b o r q (Ok last))).4 ≡ lock_way s o r.file a.kind a.reclaim a.offset last }
 {}
 
-/// A LOCK whose checks passed is told each status exactly where that has its cause: OK where nothing held stands against it
-/// and no limit is passed, DENIED where something does for good, DELAY where a cache keeps it off, RESOURCE at a limit,
-/// NO_GRACE where it reclaims, and no other; where there is no room for its owner, RESOURCE, and nothing changes (RFC 7530
-/// 16.10). DENIED tells of a claim that is held and stands against the lock, the least of those that do, with its holder.
+/// A LOCK whose checks passed is told each status exactly where that has its cause, once the breaks began of the caches in its
+/// way: OK where nothing held stands against it and no limit is passed, DENIED where something does for good, DELAY where a
+/// cache keeps it off, RESOURCE at a limit, NO_GRACE where it reclaims, and no other; where there is no room for its owner,
+/// RESOURCE, and nothing changes (RFC 7530 16.10). DENIED tells of a claim that is held and stands against the lock, the least
+/// of those that do, with its holder.
 pub fn lock_statuses_have_causes()
-    ensures known { (n : ℕ) (s : CoreState) (l : NfsLists) (current : Option ℕ) (a : LockArgsItem) (r : StateidRow) (owner : ℕ) (turn : OwnerTurn) (seqid last : ℕ) (o : LockOwner) (status : Status) → (status_of (carried n s l current (lock_by_owner l current a r owner turn seqid last (Some o))).0 ≡ status) ↔ IsLockTold s (lock_ask o r.file a.kind a.reclaim a.offset last) (lock_claim s o r.file a.kind a.offset last) status }
-    ensures first { (n : ℕ) (s : CoreState) (l : NfsLists) (current : Option ℕ) (a : LockArgsItem) (b : Owners) (o : LockOwner) (r : StateidRow) (q : Option StateidRow) (last : ℕ) (status : Status) → is_room_for o l ≡ true → (status_of (carried n s l current (join_to l current a b o r q (Ok last))).0 ≡ status) ↔ IsLockTold s (lock_ask o r.file a.kind a.reclaim a.offset last) (lock_claim s o r.file a.kind a.offset last) status }
+    ensures known { (n : ℕ) (s : CoreState) (l : NfsLists) (current : Option ℕ) (a : LockArgsItem) (r : StateidRow) (owner : ℕ) (turn : OwnerTurn) (seqid last : ℕ) (o : LockOwner) (status : Status) → (status_of (carried n s l current (lock_by_owner l current a r owner turn seqid last (Some o))).0 ≡ status) ↔ IsLockTold (lock_way s o r.file a.kind a.reclaim a.offset last) (lock_ask o r.file a.kind a.reclaim a.offset last) (lock_claim s o r.file a.kind a.offset last) status }
+    ensures first { (n : ℕ) (s : CoreState) (l : NfsLists) (current : Option ℕ) (a : LockArgsItem) (b : Owners) (o : LockOwner) (r : StateidRow) (q : Option StateidRow) (last : ℕ) (status : Status) → is_room_for o l ≡ true → (status_of (carried n s l current (join_to l current a b o r q (Ok last))).0 ≡ status) ↔ IsLockTold (lock_way s o r.file a.kind a.reclaim a.offset last) (lock_ask o r.file a.kind a.reclaim a.offset last) (lock_claim s o r.file a.kind a.offset last) status }
     ensures full { (n : ℕ) (s : CoreState) (l : NfsLists) (current : Option ℕ) (a : LockArgsItem) (b : Owners) (o : LockOwner) (r : StateidRow) (q : Option StateidRow) (last : ℕ) → is_room_for o l ≡ false → carried n s l current (join_to l current a b o r q (Ok last)) ≡ (Ended Resource, current, [], l, s) }
-    ensures known_denied { (n : ℕ) (s : CoreState) (l : NfsLists) (current : Option ℕ) (a : LockArgsItem) (r : StateidRow) (owner : ℕ) (turn : OwnerTurn) (seqid last : ℕ) (o : LockOwner) (h : Held) → IsGood s → a.offset ≤ last → (carried n s l current (lock_by_owner l current a r owner turn seqid last (Some o))).0 ≡ Denied h → IsDenial s l (lock_claim s o r.file a.kind a.offset last) h }
-    ensures first_denied { (n : ℕ) (s : CoreState) (l : NfsLists) (current : Option ℕ) (a : LockArgsItem) (b : Owners) (o : LockOwner) (r : StateidRow) (q : Option StateidRow) (last : ℕ) (h : Held) → IsGood s → a.offset ≤ last → is_room_for o l ≡ true → (carried n s l current (join_to l current a b o r q (Ok last))).0 ≡ Denied h → IsDenial s l (lock_claim s o r.file a.kind a.offset last) h }
+    ensures known_denied { (n : ℕ) (s : CoreState) (l : NfsLists) (current : Option ℕ) (a : LockArgsItem) (r : StateidRow) (owner : ℕ) (turn : OwnerTurn) (seqid last : ℕ) (o : LockOwner) (h : Held) → IsGood s → a.offset ≤ last → (carried n s l current (lock_by_owner l current a r owner turn seqid last (Some o))).0 ≡ Denied h → IsDenial (lock_way s o r.file a.kind a.reclaim a.offset last) l (lock_claim s o r.file a.kind a.offset last) h }
+    ensures first_denied { (n : ℕ) (s : CoreState) (l : NfsLists) (current : Option ℕ) (a : LockArgsItem) (b : Owners) (o : LockOwner) (r : StateidRow) (q : Option StateidRow) (last : ℕ) (h : Held) → IsGood s → a.offset ≤ last → is_room_for o l ≡ true → (carried n s l current (join_to l current a b o r q (Ok last))).0 ≡ Denied h → IsDenial (lock_way s o r.file a.kind a.reclaim a.offset last) l (lock_claim s o r.file a.kind a.offset last) h }
 {}
 
 /// A LOCKT changes nothing, neither what is remembered nor the core, but for the lease that it renews before. Once its checks

@@ -18,7 +18,7 @@ use xl_nfs_state::NfsState;
 /// LOCK: the bytes of the range are the lock owner's, in this mode, and count with its seqid; where it gives the stateid of
 /// an open, the open's owner counts too. DENIED with a lock that stands against it; INVAL, OPENMODE, RESOURCE, and BAD_STATEID,
 /// OLD_STATEID, STALE_STATEID and BAD_SEQID by the stateid and the seqids.
-#[tactic(auto, unfolding(crate::specs::FirstLocks::lock))]
+#[tactic(auto, unfolding(crate::specs::FirstLocks::lock), using(xl_nfs_opens::proofs::LeaveLaws::leaves_more, xl_nfs_opens::proofs::LeaveLaws::ready_less))]
 pub fn lock<K: Keeper>(
     alloc: Global,
     state: &mut NfsState,
@@ -27,9 +27,9 @@ pub fn lock<K: Keeper>(
     current: Option<u32>,
     args: &LockArgs,
 ) -> Result<Done, AllocError>
-    requires ready { IsReady 2 core.old }
+    requires ready { IsReady 4 core.old }
     ensures done { (n : ℕ) → IfOk result (λ r. MayBe n core.new → carried n core.old state.old current (lock core.old state.old current (shown_lock_args args.now)) ≡ (r.0, r.1, r.2, state.new, core.new)) }
-    ensures leaves { OnOk result (Leaves 2 core.old core.new) }
+    ensures leaves { OnOk result (Leaves 4 core.old core.new) }
     ensures keeper { keeper.new ≡ keeper.old }
 {
     match &args.locker {

@@ -2,7 +2,7 @@
 use Rattle.std.proofs.Common.{◌≡◌, ℕ, Bool, true, false, List, [], Some, Option, Result, sym, ap, ◌∙◌, append-nil}
 use Rattle.xl_nfs.specs.Opens.{OpenArgsItem}
 use Rattle.xl_nfs.specs.declared.status.NfsStatus.{NfsStatus}
-use Rattle.xl_nfs_opens.specs.Opens.{all_rooms, share_ask, has_room, is_granted, answer_status, reclaims, refused, answered, open_on, opened_file, open_by, open_as, gives_all, open_judged, opener_of, judged, client_in, open_of, open_at}
+use Rattle.xl_nfs_opens.specs.Opens.{all_rooms, share_ask, has_room, is_granted, answer_status, reclaims, refused, answered, wish_of, open_wish, open_on, opened_file, open_by, open_as, gives_all, open_judged, opener_of, judged, client_in, open_of, open_at}
 use Rattle.std.specs.List.{filter}
 use Rattle.xl_nfs_state.specs.State.{is_whose, without_owner}
 use Rattle.xl_nfs_state.specs.declared.client.ClientRow.{ClientRow}
@@ -32,17 +32,18 @@ asking_done n s t u l lists current handle left a rest answer told effects asked
     ∙ ap (λ (x : List Effect). (told, handle, x, lists, u)) (append-nil effects)
 
 -- the share that is asked where there is room
-pub room_done : (n others : ℕ) (s t u : CoreState) (l lists : NfsLists) (current handle : Option ℕ) (o : Opener) (a : OpenArgsItem) (confirmed : Bool) (file : ℕ) (request : Ask) (answer : Answer) (told : Told) (effects : List Effect)
-    → has_room others l o file ≡ true → request ≡ share_ask o a file → ask n all_rooms s request ≡ (answer, effects, t) → carried n t l current (answered l current o a file confirmed answer t) ≡ (told, handle, [], lists, u)
-    → carried n s l current (open_on others l current o a confirmed file) ≡ (told, handle, effects, lists, u)
-room_done n others s t u l lists current handle o a confirmed file request answer told effects room is asked e =
-    rw room
-    (asking_done n s t u l lists current handle all_rooms (share_ask o a file) (answered l current o a file confirmed) answer told effects (ap (λ (q : Ask). ask n all_rooms s q) (sym is) ∙ asked) e)
+pub room_done : (n others : ℕ) (s t u : CoreState) (l lists : NfsLists) (current handle : Option ℕ) (o : Opener) (a : OpenArgsItem) (confirmed : Bool) (file : ℕ) (wish : Option Bool) (request : Ask) (answer : Answer) (told : Told) (effects : List Effect)
+    → has_room others l o file ≡ true → wish ≡ wish_of s l o a confirmed file → request ≡ share_ask wish o a file → ask n all_rooms s request ≡ (answer, effects, t) → carried n t l current (answered l current o a file confirmed wish answer t) ≡ (told, handle, [], lists, u)
+    → carried n s l current (open_on others s l current o a confirmed file) ≡ (told, handle, effects, lists, u)
+room_done n others s t u l lists current handle o a confirmed file wish request answer told effects room wishes is asked e =
+    ap (λ (w : Option Bool). carried n s l current (open_wish others l current o a confirmed file w)) (sym wishes)
+    ∙ rw room
+    (asking_done n s t u l lists current handle all_rooms (share_ask wish o a file) (answered l current o a file confirmed wish) answer told effects (ap (λ (q : Ask). ask n all_rooms s q) (sym is) ∙ asked) e)
 
 -- what is opened, or why not
-pub open_done : (n : ℕ) (files : List (List ℕ)) (others : ℕ) (s : CoreState) (l : NfsLists) (current : Option ℕ) (at : ℕ) (o : Opener) (a : OpenArgsItem) (confirmed : Bool) (found : Result ℕ NfsStatus) (r : Outcome) → found ≡ opened_file files at a → carried n s l current (open_by others l current o a confirmed found) ≡ r → carried n s l current (open_as files others l current at o a confirmed) ≡ r
+pub open_done : (n : ℕ) (files : List (List ℕ)) (others : ℕ) (s : CoreState) (l : NfsLists) (current : Option ℕ) (at : ℕ) (o : Opener) (a : OpenArgsItem) (confirmed : Bool) (found : Result ℕ NfsStatus) (r : Outcome) → found ≡ opened_file files s l o.client at a → carried n s l current (open_by others s l current o a confirmed found) ≡ r → carried n s l current (open_as files others s l current at o a confirmed) ≡ r
 unfolding open_as
-open_done n files others s l current at o a confirmed found r is e = ap (λ (x : Result ℕ NfsStatus). carried n s l current (open_by others l current o a confirmed x)) (sym is) ∙ e
+open_done n files others s l current at o a confirmed found r is e = ap (λ (x : Result ℕ NfsStatus). carried n s l current (open_by others s l current o a confirmed x)) (sym is) ∙ e
 
 -- the lease of the client that is named is renewed, and then the rest
 pub renewing_done : (n : ℕ) (s t : CoreState) (l m : NfsLists) (current client who : Option ℕ) (rest : CoreState → NfsLists → Plan) (r : Outcome) → client ≡ who → all_done n s (renewals l client) ≡ t → all_told_of n s (renewals l client) ≡ [] → m ≡ renewed_for s l client → carried n t m current (rest t m) ≡ r → carried n s l current (renewing s l who rest) ≡ r
@@ -54,16 +55,16 @@ renewing_done n s t l m current client who rest r same done told is e =
 
 -- an owner that was never confirmed goes with its open, and is new
 pub anew_done : (n : ℕ) (files : List (List ℕ)) (others : ℕ) (s t : CoreState) (l k : NfsLists) (current : Option ℕ) (at : ℕ) (o : Opener) (a : OpenArgsItem) (number : ℕ) (rows : List StateidRow) (r : Outcome) → rows ≡ filter (is_whose (whose.Owner number)) l.stateids → all_done n s (gives_all s o rows) ≡ t → all_told_of n s (gives_all s o rows) ≡ [] → k ≡ without_owner number l
-    → carried n t k current (open_as files others k current at o a false) ≡ r → carried n s l current (open_judged files others s l current at o a (judgements.Anew number)) ≡ r
+    → carried n t k current (open_as files others t k current at o a false) ≡ r → carried n s l current (open_judged files others s l current at o a (judgements.Anew number)) ≡ r
 anew_done n files others s t l k current at o a number rows r are done told is e =
-    ap (λ (rs : List StateidRow). carried n s l current (Behind (gives_all s o rs) (without_owner number l) (λ u. open_as files others (without_owner number l) current at o a false))) (sym are)
-    ∙ (λ i. told_behind (told i) (carried n (done i) (without_owner number l) current (open_as files others (without_owner number l) current at o a false)))
-    ∙ ap (λ (x : NfsLists). told_behind [] (carried n t x current (open_as files others x current at o a false))) (sym is)
+    ap (λ (rs : List StateidRow). carried n s l current (Behind (gives_all s o rs) (without_owner number l) (λ u. open_as files others u (without_owner number l) current at o a false))) (sym are)
+    ∙ (λ i. told_behind (told i) (carried n (done i) (without_owner number l) current (open_as files others (done i) (without_owner number l) current at o a false)))
+    ∙ ap (λ (x : NfsLists). told_behind [] (carried n t x current (open_as files others t x current at o a false))) (sym is)
     ∙ ap (λ (x : Outcome). told_behind [] x) e
 
 -- an answer that grants nothing
-pub ended_done : (n : ℕ) (s : CoreState) (l : NfsLists) (current : Option ℕ) (o : Opener) (a : OpenArgsItem) (file : ℕ) (confirmed reclaim : Bool) (answer : Answer) (status : NfsStatus) (r : Outcome) → is_granted answer ≡ false → reclaim ≡ reclaims a.claim → status ≡ answer_status reclaim answer → carried n s l current (refused l current o a confirmed status) ≡ r → carried n s l current (answered l current o a file confirmed answer s) ≡ r
-ended_done n s l current o a file confirmed reclaim answer status r denied same is e =
+pub ended_done : (n : ℕ) (s : CoreState) (l : NfsLists) (current : Option ℕ) (o : Opener) (a : OpenArgsItem) (file : ℕ) (confirmed reclaim : Bool) (wish : Option Bool) (answer : Answer) (status : NfsStatus) (r : Outcome) → is_granted answer ≡ false → reclaim ≡ reclaims a.claim → status ≡ answer_status reclaim answer → carried n s l current (refused l current o a confirmed status) ≡ r → carried n s l current (answered l current o a file confirmed wish answer s) ≡ r
+ended_done n s l current o a file confirmed reclaim wish answer status r denied same is e =
     rw denied
     (ap (λ (b : Bool). carried n s l current (refused l current o a confirmed (answer_status b answer))) (sym same)
     ∙ ap (λ (x : NfsStatus). carried n s l current (refused l current o a confirmed x)) (sym is) ∙ e)

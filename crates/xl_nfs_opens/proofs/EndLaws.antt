@@ -1,5 +1,5 @@
 -- How the operations on opens end: what they tell has a spelling, and one that isn't OK leaves the current handle.
-use Rattle.std.proofs.Common.{◌≡◌, ℕ, ◌<◌, ◌^◌, Bool, true, false, if◌then◌else◌, List, Option, Some, None, refl, inl, inr, arith}
+use Rattle.std.proofs.Common.{◌≡◌, ℕ, ◌<◌, ◌^◌, Bool, true, false, not, if◌then◌else◌, List, Option, Some, None, refl, inl, inr, arith}
 use Rattle.std.proofs.lemmas.Bool.{cases_Bool, true≢false}
 use Rattle.std.specs.Bool.{◌==◌, beq}
 use Rattle.std.specs.List.{find}
@@ -34,9 +34,9 @@ use Rattle.xl_nfs_state.specs.declared.seqid.SeqidVerdict.TheVariants as verdict
 use Rattle.xl_nfs_state.specs.declared.stateid.Holder.{Holder}
 use Rattle.xl_nfs_state.specs.declared.stateid.Holder.TheVariants as holders
 use Rattle.xl_nfs_state.specs.declared.stateid.StateidRow.{StateidRow}
-use Rattle.xl_nfs_opens.specs.Closing.{seqid_checked, owner_checked, holder_checked, row_checked, number_checked, checked, standing_fault, confirm_done, confirm_by, open_confirm, can_weaken, close_done, close_by, close, number_returned, returned, deleg_return}
+use Rattle.xl_nfs_opens.specs.Closing.{seqid_checked, owner_checked, holder_checked, row_checked, number_checked, checked, standing_fault, confirm_done, confirm_by, open_confirm, can_weaken, close_done, close_by, close, Returning, seqid_returned, holder_returned, row_returned, number_returned, returned, return_done, deleg_return}
 use Rattle.xl_nfs_opens.specs.Downgrades.{range_fault, first_fault, downgrade_fault, downgrade_done, downgrade_by, open_downgrade}
-use Rattle.xl_nfs_opens.specs.Opens.{check_claim, check_bits, check_how, found_name, named_file, by_delegation, file_of_claim, or_else, opened_file, judged, handle_by, handle_again, repeated, reclaims, open_held, has_room, granted_by, is_granted, answer_status, answered, open_on, open_by, open_as, open_judged, opener_of, open_of, client_in, open_at, open_claimed, open_file}
+use Rattle.xl_nfs_opens.specs.Opens.{check_claim, check_bits, check_how, found_name, named_file, is_delegation, by_delegation, file_of_claim, or_else, opened_file, judged, handle_by, handle_again, repeated, reclaims, open_held, has_room, granted_by, is_granted, answer_status, granted_wish, wish_of, answered, open_on, open_by, open_as, open_judged, opener_of, open_of, client_in, open_at, open_claimed, open_file}
 use Rattle.xl_nfs_opens.specs.Renewing.{number_of, state_client, renewed_for}
 use Rattle.xl_nfs_opens.specs.Seqids.{read_status, kept_status, is_short}
 use Rattle.xl_nfs_opens.specs.declared.opener.Checked.{Checked}
@@ -44,7 +44,7 @@ use Rattle.xl_nfs_opens.specs.declared.opener.Checked.TheVariants.{Refused, Repe
 use Rattle.xl_nfs_opens.specs.declared.opener.Judged.{Judged}
 use Rattle.xl_nfs_opens.specs.declared.opener.Judged.TheVariants as judgements
 use Rattle.xl_nfs_opens.specs.declared.opener.Opener.{Opener}
-use Rattle.xl_nfs_opens.proofs.ResultLaws.{IsFault, fault_fits}
+use Rattle.xl_nfs_opens.proofs.ResultLaws.{IsFault, fault_fits, plain_8}
 
 -- what holds of what is told and of the handle then, however the plan goes
 abbrev pub EndsWell : (Told → Option ℕ → Type 0) → Option ℕ → Plan → Type 0
@@ -135,30 +135,34 @@ name_fault : (o : Option ℕ) → OrFault (found_name o)
 name_fault None = fault statuses.NoEnt refl refl
 name_fault (Some file) = tt
 
-delegation_fault : (o : Option ℕ) → OrFault (by_delegation o)
-delegation_fault None = fault statuses.NoEnt refl refl
-delegation_fault (Some file) = fault statuses.BadStateid refl refl
+delegation_fault : (s : CoreState) (l : NfsLists) (client : ℕ) (stateid : Stateid) (o : Option ℕ) → OrFault (by_delegation s l client stateid o)
+delegation_fault s l client stateid None = fault statuses.NoEnt refl refl
+delegation_fault s l client stateid (Some file) =
+    elim (cases_Bool (is_delegation s l client file stateid)) [
+      | inl e ↦ rw e tt
+      | inr e ↦ rw e (fault statuses.BadStateid refl refl)
+    ]
 
-file_fault : (files : List (List ℕ)) (at : ℕ) (claim : OpenClaimItem) → OrFault (file_of_claim files at claim)
-file_fault files at (Null name) = name_fault (named_file files name)
-file_fault files at (Previous type) = tt
-file_fault files at (DelegateCurrent a) = delegation_fault (named_file files a.name)
-file_fault files at (DelegatePrevious name) = fault statuses.NotSupp refl refl
+file_fault : (files : List (List ℕ)) (s : CoreState) (l : NfsLists) (client at : ℕ) (claim : OpenClaimItem) → OrFault (file_of_claim files s l client at claim)
+file_fault files s l client at (Null name) = name_fault (named_file files name)
+file_fault files s l client at (Previous type) = tt
+file_fault files s l client at (DelegateCurrent a) = delegation_fault s l client a.stateid (named_file files a.name)
+file_fault files s l client at (DelegatePrevious name) = fault statuses.NotSupp refl refl
 
-opened_fault : (files : List (List ℕ)) (at : ℕ) (a : OpenArgsItem) → OrFault (opened_file files at a)
+opened_fault : (files : List (List ℕ)) (s : CoreState) (l : NfsLists) (client at : ℕ) (a : OpenArgsItem) → OrFault (opened_file files s l client at a)
 unfolding opened_file
-opened_fault files at a =
-    or_fault (check_claim at a.claim) (or_else (check_bits a) (or_else (check_how a.how) (file_of_claim files at a.claim))) (claim_fault at a.claim)
-    (or_fault (check_bits a) (or_else (check_how a.how) (file_of_claim files at a.claim)) (bits_fault a) (or_fault (check_how a.how) (file_of_claim files at a.claim) (how_fault a.how) (file_fault files at a.claim)))
+opened_fault files s l client at a =
+    or_fault (check_claim at a.claim) (or_else (check_bits a) (or_else (check_how a.how) (file_of_claim files s l client at a.claim))) (claim_fault at a.claim)
+    (or_fault (check_bits a) (or_else (check_how a.how) (file_of_claim files s l client at a.claim)) (bits_fault a) (or_fault (check_how a.how) (file_of_claim files s l client at a.claim) (how_fault a.how) (file_fault files s l client at a.claim)))
 
 -- ---- OPEN
 
 open_ended : (current : Option ℕ) (status : NfsStatus) → IsFault status → Well 18 current (Ended status) current
 open_ended current status f = ended 18 (omega arith) current status f
 
-granted_ends : (s : CoreState) (l : NfsLists) (current : Option ℕ) (o : Opener) (a : OpenArgsItem) (file : ℕ) (confirmed : Bool) (r : Option StateidRow) → Ends 18 current (granted_by s l o a file confirmed r)
-granted_ends s l current o a file confirmed None = (tt, λ e. absurd (true≢false e))
-granted_ends s l current o a file confirmed (Some r) = (tt, λ e. absurd (true≢false e))
+granted_ends : (s : CoreState) (l : NfsLists) (current : Option ℕ) (o : Opener) (a : OpenArgsItem) (file : ℕ) (confirmed : Bool) (write : Option Bool) (r : Option StateidRow) → Ends 18 current (granted_by s l o a file confirmed write r)
+granted_ends s l current o a file confirmed write None = (tt, λ e. absurd (true≢false e))
+granted_ends s l current o a file confirmed write (Some r) = (tt, λ e. absurd (true≢false e))
 
 conflict_fault : (reclaim : Bool) → IsFault (if reclaim then statuses.ReclaimConflict else statuses.ShareDenied)
 conflict_fault true = fault statuses.ReclaimConflict refl refl
@@ -180,34 +184,34 @@ status_fault reclaim answers.StoreFailed e = fault statuses.ServerFault refl ref
 pub status_fails : (reclaim : Bool) (answer : Answer) → is_granted answer ≡ false → is_ok (answer_status reclaim answer) ≡ false
 status_fails reclaim answer e = (status_fault reclaim answer e).ok
 
-answered_ends : (l : NfsLists) (current : Option ℕ) (o : Opener) (a : OpenArgsItem) (file : ℕ) (confirmed : Bool) (answer : Answer) (s : CoreState) → Ends 18 current (answered l current o a file confirmed answer s)
-answered_ends l current o a file confirmed answer s =
+answered_ends : (l : NfsLists) (current : Option ℕ) (o : Opener) (a : OpenArgsItem) (file : ℕ) (confirmed : Bool) (wish : Option Bool) (answer : Answer) (s : CoreState) → Ends 18 current (answered l current o a file confirmed wish answer s)
+answered_ends l current o a file confirmed wish answer s =
     elim (cases_Bool (is_granted answer)) [
-      | inl e ↦ rw e (granted_ends s l current o a file (confirmed || reclaims a.claim) (open_held l o file))
+      | inl e ↦ rw e (granted_ends s l current o a file (confirmed || reclaims a.claim) (granted_wish s o file wish) (open_held l o file))
       | inr e ↦ rw e (open_ended current (answer_status (reclaims a.claim) answer) (status_fault (reclaims a.claim) answer e))
     ]
 
-on_ends : (others : ℕ) (l : NfsLists) (current : Option ℕ) (o : Opener) (a : OpenArgsItem) (confirmed : Bool) (file : ℕ) → Ends 18 current (open_on others l current o a confirmed file)
-on_ends others l current o a confirmed file =
+on_ends : (others : ℕ) (s : CoreState) (l : NfsLists) (current : Option ℕ) (o : Opener) (a : OpenArgsItem) (confirmed : Bool) (file : ℕ) → Ends 18 current (open_on others s l current o a confirmed file)
+on_ends others s l current o a confirmed file =
     elim (cases_Bool (has_room others l o file)) [
-      | inl e ↦ rw e (λ answer t. answered_ends l current o a file confirmed answer t)
+      | inl e ↦ rw e (λ answer t. answered_ends l current o a file confirmed (wish_of s l o a confirmed file) answer t)
       | inr e ↦ rw e (open_ended current statuses.Resource (fault statuses.Resource refl refl))
     ]
 
-by_ends : (others : ℕ) (l : NfsLists) (current : Option ℕ) (o : Opener) (a : OpenArgsItem) (confirmed : Bool) (r : Result ℕ NfsStatus) → OrFault r → Ends 18 current (open_by others l current o a confirmed r)
-by_ends others l current o a confirmed (Ok file) f = on_ends others l current o a confirmed file
-by_ends others l current o a confirmed (Err status) f = open_ended current status f
+by_ends : (others : ℕ) (s : CoreState) (l : NfsLists) (current : Option ℕ) (o : Opener) (a : OpenArgsItem) (confirmed : Bool) (r : Result ℕ NfsStatus) → OrFault r → Ends 18 current (open_by others s l current o a confirmed r)
+by_ends others s l current o a confirmed (Ok file) f = on_ends others s l current o a confirmed file
+by_ends others s l current o a confirmed (Err status) f = open_ended current status f
 
-as_ends : (files : List (List ℕ)) (others : ℕ) (l : NfsLists) (current : Option ℕ) (at : ℕ) (o : Opener) (a : OpenArgsItem) (confirmed : Bool) → Ends 18 current (open_as files others l current at o a confirmed)
+as_ends : (files : List (List ℕ)) (others : ℕ) (s : CoreState) (l : NfsLists) (current : Option ℕ) (at : ℕ) (o : Opener) (a : OpenArgsItem) (confirmed : Bool) → Ends 18 current (open_as files others s l current at o a confirmed)
 unfolding open_as
-as_ends files others l current at o a confirmed = by_ends others l current o a confirmed (opened_file files at a) (opened_fault files at a)
+as_ends files others s l current at o a confirmed = by_ends others s l current o a confirmed (opened_file files s l o.client at a) (opened_fault files s l o.client at a)
 
 judged_ends : (files : List (List ℕ)) (others : ℕ) (s : CoreState) (l : NfsLists) (current : Option ℕ) (at : ℕ) (o : Opener) (a : OpenArgsItem) (j : Judged) → Ends 18 current (open_judged files others s l current at o a j)
 judged_ends files others s l current at o a judgements.Bad = open_ended current statuses.BadSeqid (fault statuses.BadSeqid refl refl)
 judged_ends files others s l current at o a (judgements.Repeats number) = repeat_ends 18 (omega arith) s l current (find (is_kept number) l.kept)
-judged_ends files others s l current at o a (judgements.Anew number) = λ t. as_ends files others (without_owner number l) current at o a false
-judged_ends files others s l current at o a judgements.New = as_ends files others l current at o a false
-judged_ends files others s l current at o a judgements.Next = as_ends files others l current at o a true
+judged_ends files others s l current at o a (judgements.Anew number) = λ t. as_ends files others t (without_owner number l) current at o a false
+judged_ends files others s l current at o a judgements.New = as_ends files others s l current at o a false
+judged_ends files others s l current at o a judgements.Next = as_ends files others s l current at o a true
 
 of_ends : (files : List (List ℕ)) (others : ℕ) (s : CoreState) (l : NfsLists) (current : Option ℕ) (at : ℕ) (a : OpenArgsItem) (c : Option ClientRow) → Ends 18 current (open_of files others s l current at a c)
 of_ends files others s l current at a None = open_ended current statuses.StaleClientId (fault statuses.StaleClientId refl refl)
@@ -335,14 +339,46 @@ pub close_ends : (s : CoreState) (l : NfsLists) (current : Option ℕ) (a : Clos
 unfolding close
 close_ends s l current a = λ t. (let m = renewed_for s l (state_client s l a.stateid) in close_by_ends t m current a (checked t m current 4 a.seqid a.stateid) (checked_fault t m current 4 a.seqid a.stateid))
 
-returned_fault : (s : CoreState) (current : Option ℕ) (stateid : Stateid) → IsFault (returned s current stateid)
-returned_fault s None stateid = fault statuses.NoFileHandle refl refl
-returned_fault s (Some at) stateid = by (number_of s stateid.other)
-  where
-    by : (o : Option ℕ) → IsFault (number_returned o)
-    by None = fault statuses.StaleStateid refl refl
-    by (Some number) = fault statuses.BadStateid refl refl
+abbrev ReturnFault : Returning → Type 0
+ReturnFault (Ok r) = Unit {0}
+ReturnFault (Err status) = IsFault status
+
+returned_seqid : (r : StateidRow) (seqid : ℕ) → ReturnFault (seqid_returned r seqid)
+returned_seqid r seqid =
+    elim (cases_Bool (nat_lt seqid r.standing.seqid)) [
+      | inl e ↦ rw e (fault statuses.OldStateid refl refl)
+      | inr e ↦ rw e (elim (cases_Bool (nat_lt r.standing.seqid seqid)) [
+        | inl d ↦ rw d (fault statuses.BadStateid refl refl)
+        | inr d ↦ rw d tt
+      ])
+    ]
+
+returned_holder : (r : StateidRow) (seqid : ℕ) (h : Holder) → ReturnFault (holder_returned r seqid h)
+returned_holder r seqid (holders.Delegation write) = returned_seqid r seqid
+returned_holder r seqid (holders.Open owner) = fault statuses.BadStateid refl refl
+returned_holder r seqid (holders.Lock owner under opener) = fault statuses.BadStateid refl refl
+
+returned_row : (at seqid : ℕ) (o : Option StateidRow) → ReturnFault (row_returned at seqid o)
+returned_row at seqid None = fault statuses.BadStateid refl refl
+returned_row at seqid (Some r) =
+    elim (cases_Bool ((r.file == at) && not r.standing.closed)) [
+      | inl e ↦ rw e (returned_holder r seqid r.holder)
+      | inr e ↦ rw e (fault statuses.BadStateid refl refl)
+    ]
+
+returned_number : (l : NfsLists) (at seqid : ℕ) (o : Option ℕ) → ReturnFault (number_returned l at seqid o)
+returned_number l at seqid None = fault statuses.StaleStateid refl refl
+returned_number l at seqid (Some number) = returned_row at seqid (find (is_stateid number) l.stateids)
+
+returned_fault : (s : CoreState) (l : NfsLists) (current : Option ℕ) (stateid : Stateid) → ReturnFault (returned s l current stateid)
+unfolding returned
+returned_fault s l None stateid = fault statuses.NoFileHandle refl refl
+returned_fault s l (Some at) stateid = returned_number l at stateid.seqid (number_of s stateid.other)
+
+return_done_ends : (s : CoreState) (l : NfsLists) (current : Option ℕ) (x : Returning) → ReturnFault x → Ends 8 current (return_done s l current x)
+return_done_ends s l current (Err status) f = ended 8 (omega arith) current status f
+return_done_ends s l current (Ok r) f = (plain_8 statuses.Ok, λ _. refl)
 
 pub return_ends : (s : CoreState) (l : NfsLists) (current : Option ℕ) (stateid : Stateid) → Ends 8 current (deleg_return s l current stateid)
 unfolding deleg_return
-return_ends s l current stateid = λ t. ended 8 (omega arith) current (returned t current stateid) (returned_fault t current stateid)
+return_ends s l current stateid = λ t. (let m = renewed_for s l (state_client s l stateid) in return_done_ends t m current (returned t m current stateid) (returned_fault t m current stateid))

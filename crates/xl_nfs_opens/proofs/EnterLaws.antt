@@ -24,7 +24,7 @@ use Rattle.xl_core.specs.Deeds.{all_done}
 use Rattle.xl_core.specs.State.{CoreState, drawn}
 use Rattle.xl_nfs_opens.specs.Closing.{ends_locks, locks_under, next_turn, state_told, close_done}
 use Rattle.xl_nfs_opens.specs.Laws.{can_come}
-use Rattle.xl_nfs_opens.specs.Opens.{either_bits, entered, open_row, open_turn, opened_told, granted_more, granted_new, judged_by, judged, open_judged, stood}
+use Rattle.xl_nfs_opens.specs.Opens.{can_stand, delegated, delegated_in, delegation_row, either_bits, entered, open_row, open_turn, granted_more, granted_new, judged_by, judged, open_judged, stood}
 use Rattle.xl_nfs_opens.specs.Plans.{carried}
 use Rattle.xl_nfs_opens.specs.Results.{spelled}
 use Rattle.xl_nfs_opens.specs.Seqids.{is_opener, closed_gone, turned, kept_for, counted, opener_number, seated, seated_by, seated_new}
@@ -54,13 +54,35 @@ kept_stateids owner bytes l =
       ])
     ]
 
-pub new_open_comes : (n : ℕ) (s : CoreState) (l : NfsLists) (current : Option ℕ) (o : Opener) (a : OpenArgsItem) (file : ℕ) (confirmed : Bool) → can_come s l o a file confirmed ≡ true → find (is_stateid (s.counter + 1)) (carried n s l current (granted_new s l o a file confirmed)).3.stateids ≡ Some (open_row (s.counter + 1) o (opener_number o l) file a)
+module _ {A : Type 0} where
+  pub found_before : (p : A → Bool) (xs ys : List A) (x : A) → find p xs ≡ Some x → find p (xs ++ ys) ≡ Some x
+  found_before p [] ys x e = absurd (true≢false (ap is_some (sym e)))
+  found_before p (z ∷ xs) ys x e =
+      elim (cases_Bool (p z)) [
+        | inl h ↦ (let f : Some z ≡ Some x = rw h at e in rw h f)
+        | inr h ↦ rw h (found_before p xs ys x (rw h at e))
+      ]
+
+-- what is there stays where a delegation comes
+pub delegated_found : (p : StateidRow → Bool) (s : CoreState) (o : Opener) (file : ℕ) (write : Option Bool) (l : NfsLists) (r : StateidRow) → find p l.stateids ≡ Some r → find p (delegated s o file write l).stateids ≡ Some r
+unfolding delegated_in
+delegated_found p s o file None l r e = e
+delegated_found p s o file (Some write) l r e =
+    let row = delegation_row (s.counter + 1) o file write in
+    elim (cases_Bool (can_stand row l)) [
+      | inl h ↦ rw h (found_before p l.stateids (row ∷ []) r e)
+      | inr h ↦ rw h e
+    ]
+
+pub new_open_comes : (n : ℕ) (s : CoreState) (l : NfsLists) (current : Option ℕ) (o : Opener) (a : OpenArgsItem) (file : ℕ) (confirmed : Bool) (write : Option Bool) → can_come s l o a file confirmed ≡ true → find (is_stateid (s.counter + 1)) (carried n s l current (granted_new s l o a file confirmed write)).3.stateids ≡ Some (open_row (s.counter + 1) o (opener_number o l) file a)
 unfolding entered
-new_open_comes n s l current o a file confirmed room =
+new_open_comes n s l current o a file confirmed write room =
     let row = open_row (s.counter + 1) o (opener_number o l) file a in
     let there : NfsLists = seated o (open_turn a confirmed) l in
     let come : find (is_stateid (s.counter + 1)) (entered row there).stateids ≡ Some row = rw room (found_behind row (without (is_whose (whose.Stateid (s.counter + 1))) there.stateids) (number_gone (s.counter + 1) there.stateids)) in
-    ap (λ (ss : List StateidRow). find (is_stateid (s.counter + 1)) ss) (kept_stateids (opener_number o l) (spelled 18 (opened_told (drawn s) (s.counter + 1) 1 confirmed)) (entered row there)) ∙ come
+    let whole : NfsLists = delegated (drawn s) o file write (entered row there) in
+    ap (λ (ss : List StateidRow). find (is_stateid (s.counter + 1)) ss) (kept_stateids (opener_number o l) (spelled 18 (carried n s l current (granted_new s l o a file confirmed write)).0) whole)
+    ∙ delegated_found (is_stateid (s.counter + 1)) (drawn s) o file write (entered row there) row come
 
 -- ---- an open is closed
 
@@ -119,13 +141,14 @@ seated_there : (o : Opener) (turn : Turn) (l : NfsLists) (r : StateidRow) (by : 
 unfolding seated
 seated_there o turn l r by found holds other = seated_by_there o turn l r by (find (is_opener o) l.owners) found holds other
 
-pub more_is_had : (n : ℕ) (s : CoreState) (l : NfsLists) (current : Option ℕ) (o : Opener) (a : OpenArgsItem) (file : ℕ) (confirmed : Bool) (r : StateidRow) (by : ℕ) → find (is_stateid r.number) l.stateids ≡ Some r → r.holder ≡ holders.Open by → (option_and_then (λ (y : OwnerRow). y.turn.closed) (find (is_opener o) l.owners) ≡ Some r.number → ⊥)
-    → find (is_stateid r.number) (carried n s l current (granted_more s l o a file confirmed r)).3.stateids ≡ Some (with_standing (record { seqid = next_seqid r.standing.seqid; access = either_bits r.standing.access a.access; deny = either_bits r.standing.deny a.deny; closed = false }) r)
-more_is_had n s l current o a file confirmed r by found holds other =
+pub more_is_had : (n : ℕ) (s : CoreState) (l : NfsLists) (current : Option ℕ) (o : Opener) (a : OpenArgsItem) (file : ℕ) (confirmed : Bool) (write : Option Bool) (r : StateidRow) (by : ℕ) → find (is_stateid r.number) l.stateids ≡ Some r → r.holder ≡ holders.Open by → (option_and_then (λ (y : OwnerRow). y.turn.closed) (find (is_opener o) l.owners) ≡ Some r.number → ⊥)
+    → find (is_stateid r.number) (carried n s l current (granted_more s l o a file confirmed write r)).3.stateids ≡ Some (with_standing (record { seqid = next_seqid r.standing.seqid; access = either_bits r.standing.access a.access; deny = either_bits r.standing.deny a.deny; closed = false }) r)
+more_is_had n s l current o a file confirmed write r by found holds other =
     let to : Standing = record { seqid = next_seqid r.standing.seqid; access = either_bits r.standing.access a.access; deny = either_bits r.standing.deny a.deny; closed = false } in
     let after : NfsLists = stood r.number r (either_bits r.standing.access a.access) (either_bits r.standing.deny a.deny) false l in
-    ap (λ (ss : List StateidRow). find (is_stateid r.number) ss) (kept_stateids (opener_number o l) (spelled 18 (opened_told s r.number (next_seqid r.standing.seqid) confirmed)) (seated o (open_turn a confirmed) after))
-    ∙ seated_there o (open_turn a confirmed) after (with_standing to r) by (changed_found r.number to l.stateids r found) holds other
+    let there : NfsLists = seated o (open_turn a confirmed) after in
+    ap (λ (ss : List StateidRow). find (is_stateid r.number) ss) (kept_stateids (opener_number o l) (spelled 18 (carried n s l current (granted_more s l o a file confirmed write r)).0) (delegated s o file write there))
+    ∙ delegated_found (is_stateid r.number) s o file write there (with_standing to r) (seated_there o (open_turn a confirmed) after (with_standing to r) by (changed_found r.number to l.stateids r found) holds other)
 
 -- ---- the seqid of an OPEN
 

@@ -1,5 +1,5 @@
 -- The result of a lock that is denied: it has a spelling, and how long it is.
-use Rattle.std.proofs.Common.{◌≡◌, ℕ, ◌+◌, ◌≤◌, ◌<◌, ◌^◌, if◌then◌else◌, Bool, true, false, List, ◌++◌, length, Ok, Err, sym, ap, subst, ◌∙◌, inl, inr, arith}
+use Rattle.std.proofs.Common.{◌≡◌, ℕ, ◌+◌, ◌≤◌, ◌<◌, ◌^◌, true, List, ◌++◌, length, Ok, Err, sym, ap, subst, ◌∙◌, inl, inr, arith}
 use Rattle.std.proofs.lemmas.Bool.{cases_Bool}
 use Rattle.std.proofs.lemmas.List.{length-append, length-replicate}
 use Rattle.std.specs.Bool.{◌==◌}
@@ -11,10 +11,9 @@ use Rattle.xl_nfs.specs.Statuses.{status, status_number}
 use Rattle.xl_base.specs.Codec.{big_endian}
 use Rattle.xl_rpc.specs.Xdr.{unsigned, hyper, void, opaque, fixed, pad}
 use Rattle.xl_format.specs.Formats.{nothing}
-use Rattle.std.specs.Prelude.{replicate, nat_le}
+use Rattle.std.specs.Prelude.{replicate}
 use Rattle.std.proofs.lemmas.Bool.{leb-true}
 use Rattle.xl_nfs.specs.declared.status.NfsStatus.{NfsStatus}
-use Rattle.xl_nfs.specs.declared.status.NfsStatus.TheVariants as statuses
 use Rattle.xl_nfs_opens.specs.Results.{denied_item, denied_as}
 use Rattle.xl_nfs_opens.specs.Seqids.{most_told, is_short, read_status, kept_status}
 use Rattle.xl_nfs_opens.specs.declared.told.HeldLock.{HeldLock}
@@ -49,8 +48,8 @@ pub free_little : length (nfs_result.spell (LockTAnswer (Ok tt))) ≤ 24
 unfolding nfs_result nothing void big_endian lock_outcome status
 free_little = omega arith
 
-pub free_grown : (old new : List ℕ) → new ≡ old ++ nfs_result.spell (LockTAnswer (Ok tt)) → length new ≤ length old + 56
-free_grown old new is = subst (λ (x : List ℕ). length x ≤ length old + 56) (sym is) (omega (arith, length-append old (nfs_result.spell (LockTAnswer (Ok tt))), free_little))
+pub free_grown : (old new : List ℕ) → new ≡ old ++ nfs_result.spell (LockTAnswer (Ok tt)) → length new ≤ length old + 104
+free_grown old new is = subst (λ (x : List ℕ). length x ≤ length old + 104) (sym is) (omega (arith, length-append old (nfs_result.spell (LockTAnswer (Ok tt))), free_little))
 
 -- ---- how long it is
 
@@ -96,21 +95,21 @@ denied_grown old new r number h few same is =
 
 -- ---- by how it ended
 
-most_least : (s : NfsStatus) → 56 ≤ most_told s
+most_least : (s : NfsStatus) → 104 ≤ most_told s
 most_least s =
     elim (cases_Bool (is_ok s)) [
       | inl e ↦ rw e (omega arith)
       | inr e ↦ rw e (omega arith)
     ]
 
-pub ended_told : (old new : ℕ) (s : NfsStatus) → new ≤ old + 56 → new ≤ old + most_told s
+pub ended_told : (old new : ℕ) (s : NfsStatus) → new ≤ old + 104 → new ≤ old + most_told s
 ended_told old new s le = omega (arith, most_least s, le)
 
 kept_most : (bytes : List ℕ) → length bytes ≤ most_result_bytes → length bytes ≤ most_told (kept_status bytes)
 unfolding kept_status
 kept_most bytes few =
     elim (cases_Bool (is_short bytes)) [
-      | inl short ↦ rw short (omega (arith, most_least (read_status (nfs_result.at bytes)), leb-true (length bytes) 56 short))
+      | inl short ↦ rw short (omega (arith, most_least (read_status (nfs_result.at bytes)), leb-true (length bytes) 104 short))
       | inr long ↦ rw long few
     ]
 
@@ -119,12 +118,12 @@ kept_grown old new bytes kept same few is =
     subst (λ (x : List ℕ). length x ≤ length old + most_told (kept_status bytes)) (sym (is ∙ ap (λ (k : List ℕ). old ++ k) same)) (omega (arith, length-append old bytes, kept_most bytes few))
 
 -- where another operation is done behind it, it is short
-pub short_told : (old new : ℕ) (s : NfsStatus) → new ≤ old + most_told s → is_ok s ≡ true → new ≤ old + 56
+pub short_told : (old new : ℕ) (s : NfsStatus) → new ≤ old + most_told s → is_ok s ≡ true → new ≤ old + 104
 short_told old new s le ok = rw ok at le
 
 pub most_most : (old new : ℕ) (s : NfsStatus) → new ≤ old + most_told s → new ≤ old + 1064
 most_most old new s le =
     elim (cases_Bool (is_ok s)) [
-      | inl e ↦ (let few : new ≤ old + 56 = rw e at le in omega (arith, few))
+      | inl e ↦ (let few : new ≤ old + 104 = rw e at le in omega (arith, few))
       | inr e ↦ rw e at le
     ]

@@ -14,13 +14,12 @@ use Rattle.xl_nfs.specs.declared.opens.CloseArgs.{CloseArgs}
 use Rattle.xl_nfs.specs.declared.opens.OpenConfirmArgs.{OpenConfirmArgs}
 use Rattle.xl_nfs.specs.declared.opens.OpenDowngradeArgs.{OpenDowngradeArgs}
 use Rattle.xl_nfs.specs.declared.status.NfsStatus.{NfsStatus}
-use Rattle.xl_nfs.specs.declared.status.NfsStatus.TheVariants as statuses
 use Rattle.xl_nfs_state.proofs.SoundLaws.{fresh_number}
 use Rattle.xl_nfs_state.specs.Alike.{kinds_are}
 use Rattle.xl_nfs_state.specs.Filed.{changed}
 use Rattle.xl_nfs_state.specs.Keys.{place_of, same_kind, same_place}
 use Rattle.xl_nfs_state.specs.Rows.{with_standing, with_turn}
-use Rattle.xl_nfs_state.specs.State.{NfsLists, IsRising, is_client, is_kept, is_owner, is_stateid, is_whose, next_owner, owned_on, with_stateids, without, without_owner}
+use Rattle.xl_nfs_state.specs.State.{NfsLists, IsRising, can_hang, is_client, is_kept, is_owner, is_stateid, is_whose, next_owner, owned_on, with_stateids, without, without_owner}
 use Rattle.xl_nfs_state.specs.Verdict.{next_seqid}
 use Rattle.xl_nfs_state.specs.declared.client.ClientRow.{ClientRow}
 use Rattle.xl_nfs_state.specs.declared.kept.KeptRow.{KeptRow}
@@ -37,9 +36,9 @@ use Rattle.xl_core.specs.Deeds.{all_done}
 use Rattle.xl_core.specs.Decide.{ask}
 use Rattle.xl_core.specs.State.{CoreState, drawn}
 use Rattle.xl_core.specs.declared.ask.Answer.{Answer}
-use Rattle.xl_nfs_opens.specs.Closing.{checked, close, close_by, close_done, confirm_by, confirm_done, deleg_return, done_lists, failed_lists, next_turn, open_confirm, standing_fault, state_told}
+use Rattle.xl_nfs_opens.specs.Closing.{checked, close, close_by, close_done, confirm_by, confirm_done, Returning, returned, return_done, deleg_return, done_lists, failed_lists, next_turn, open_confirm, standing_fault, state_told}
 use Rattle.xl_nfs_opens.specs.Downgrades.{downgrade_by, downgrade_done, downgrade_fault, open_downgrade}
-use Rattle.xl_nfs_opens.specs.Opens.{answer_status, answered, can_enter, either_bits, entered, entered_in, granted_by, granted_more, granted_new, has_room, is_granted, judged, live, open_as, open_at, open_by, open_claimed, open_file, open_held, open_judged, open_of, open_on, open_row, open_turn, opened_file, opened_told, opener_of, claim_client, client_in, reclaims, refused_lists, repeated, stood}
+use Rattle.xl_nfs_opens.specs.Opens.{answer_status, answered, can_enter, can_stand, delegated, delegated_in, delegation_row, delegation_told, drawn_for, granted_wish, wish_of, either_bits, entered, granted_by, has_room, is_granted, judged, live, open_as, open_at, open_by, open_claimed, open_file, open_held, open_judged, open_of, open_row, open_turn, opened_file, opened_told, opener_of, claim_client, client_in, reclaims, refused_lists, repeated, stood}
 use Rattle.xl_nfs_opens.specs.Orderly.{are_apart, closes, IsHeldBy, IsOrderly, IsOwnedBy}
 use Rattle.xl_nfs_opens.specs.Leases.{number_in}
 use Rattle.xl_nfs_opens.specs.Plans.{Plan, Fails, Does, Behind, Asking, carried}
@@ -55,7 +54,7 @@ use Rattle.xl_nfs_opens.specs.declared.told.Told.TheVariants.{Ended}
 use Rattle.xl_nfs_opens.proofs.EnterLaws.{kept_stateids}
 use Rattle.xl_nfs_opens.proofs.KeptLaws.{gone_owners}
 use Rattle.xl_nfs_opens.proofs.OpenLaws.{kept_owners, turned_at}
-use Rattle.xl_nfs_opens.proofs.OrderLaws.{all_marked, apart_changed, held_on, IsLeft, left_as_it_was, left_closed, left_live, owned_by, owner_comes, owner_goes, stateids_go, turn_orderly}
+use Rattle.xl_nfs_opens.proofs.OrderLaws.{all_marked, apart_changed, held_on, IsLeft, left_as_it_was, left_closed, left_live, owner_comes, owner_goes, stateids_go, turn_orderly}
 use Rattle.xl_nfs_opens.proofs.OwnerLaws.{number_gone}
 use Rattle.xl_nfs_opens.proofs.PassedLaws.{IfPassed, IsPassed, checked_passed}
 use Rattle.xl_nfs_opens.proofs.TurnLaws.{behind, is_own}
@@ -339,33 +338,47 @@ carried_orderly n s l current (Does deeds lists handle told) orderly keeps = kee
 carried_orderly n s l current (Behind deeds lists rest) orderly keeps = carried_orderly n (all_done n s deeds) lists current (rest (all_done n s deeds)) keeps.0 (keeps.1 (all_done n s deeds))
 carried_orderly n s l current (Asking left a rest) orderly keeps = (let r = ask n left s a in carried_orderly n r.2 l current (rest r.0 r.2) orderly (keeps r.0 r.2))
 
-granted_keeps : (s : CoreState) (l : NfsLists) (o : Opener) (a : OpenArgsItem) (file : ℕ) (confirmed : Bool) (x : Option StateidRow) → open_held l o file ≡ x → o.kind ≡ kinds.Open → is_room_for o l ≡ true → IsOrderly l → Keeps (granted_by s l o a file confirmed x)
-granted_keeps s l o a file confirmed None e kind room orderly =
-    kept_orderly (opener_number o l) (spelled 18 (opened_told (drawn s) (s.counter + 1) 1 confirmed)) _
-    (entered_orderly (open_row (s.counter + 1) o (opener_number o l) file a) (opener_number o l) (seated o (open_turn a confirmed) l) refl (owned_new s o a file confirmed l kind orderly.rising room) (seated_orderly o (open_turn a confirmed) l refl orderly))
-granted_keeps s l o a file confirmed (Some r) e kind room orderly =
-    let had = had_is o file l r orderly e in
-    kept_orderly (opener_number o l) (spelled 18 (opened_told s r.number (next_seqid r.standing.seqid) confirmed)) _
-    (seated_orderly o (open_turn a confirmed) _ refl (stood_orderly l r (either_bits r.standing.access a.access) (either_bits r.standing.deny a.deny) had.found had.live orderly))
+-- a delegation comes: nothing else stands in its place or has its number
+delegated_orderly : (s : CoreState) (o : Opener) (file : ℕ) (write : Option Bool) (l : NfsLists) → IsOrderly l → IsOrderly (delegated s o file write l)
+unfolding delegated_in
+delegated_orderly s o file None l orderly = orderly
+delegated_orderly s o file (Some write) l orderly =
+    let row = delegation_row (s.counter + 1) o file write in
+    elim (cases_Bool (can_stand row l)) [
+      | inr e ↦ rw e orderly
+      | inl e ↦
+          let parts = and_parts (not (is_some (find (is_stateid row.number) l.stateids))) (not (is_some (find (λ x. same_place (place_of row) (place_of x)) l.stateids)) && can_hang l row) e in
+          let place = (and_parts (not (is_some (find (λ x. same_place (place_of row) (place_of x)) l.stateids))) (can_hang l row) parts.1).0 in
+          rw e (comes_orderly row l (none_of (find (is_stateid row.number) l.stateids) parts.0) (none_of (find (λ x. same_place (place_of row) (place_of x)) l.stateids) place) tt orderly)
+    ]
 
-answered_keeps : (l : NfsLists) (current : Option ℕ) (o : Opener) (a : OpenArgsItem) (file : ℕ) (confirmed : Bool) (answer : Answer) (s : CoreState) → o.kind ≡ kinds.Open → is_room_for o l ≡ true → IsOrderly l → Keeps (answered l current o a file confirmed answer s)
-answered_keeps l current o a file confirmed answer s kind room orderly =
+granted_keeps : (s : CoreState) (l : NfsLists) (o : Opener) (a : OpenArgsItem) (file : ℕ) (confirmed : Bool) (write : Option Bool) (x : Option StateidRow) → open_held l o file ≡ x → o.kind ≡ kinds.Open → is_room_for o l ≡ true → IsOrderly l → Keeps (granted_by s l o a file confirmed write x)
+granted_keeps s l o a file confirmed write None e kind room orderly =
+    kept_orderly (opener_number o l) (spelled 18 (opened_told (drawn_for write (drawn s)) (s.counter + 1) 1 confirmed (delegation_told (drawn s) write))) _
+    (delegated_orderly (drawn s) o file write _ (entered_orderly (open_row (s.counter + 1) o (opener_number o l) file a) (opener_number o l) (seated o (open_turn a confirmed) l) refl (owned_new s o a file confirmed l kind orderly.rising room) (seated_orderly o (open_turn a confirmed) l refl orderly)))
+granted_keeps s l o a file confirmed write (Some r) e kind room orderly =
+    let had = had_is o file l r orderly e in
+    kept_orderly (opener_number o l) (spelled 18 (opened_told (drawn_for write s) r.number (next_seqid r.standing.seqid) confirmed (delegation_told s write))) _
+    (delegated_orderly s o file write _ (seated_orderly o (open_turn a confirmed) _ refl (stood_orderly l r (either_bits r.standing.access a.access) (either_bits r.standing.deny a.deny) had.found had.live orderly)))
+
+answered_keeps : (l : NfsLists) (current : Option ℕ) (o : Opener) (a : OpenArgsItem) (file : ℕ) (confirmed : Bool) (wish : Option Bool) (answer : Answer) (s : CoreState) → o.kind ≡ kinds.Open → is_room_for o l ≡ true → IsOrderly l → Keeps (answered l current o a file confirmed wish answer s)
+answered_keeps l current o a file confirmed wish answer s kind room orderly =
     elim (cases_Bool (is_granted answer)) [
-      | inl e ↦ rw e (granted_keeps s l o a file (confirmed || reclaims a.claim) (open_held l o file) refl kind room orderly)
+      | inl e ↦ rw e (granted_keeps s l o a file (confirmed || reclaims a.claim) (granted_wish s o file wish) (open_held l o file) refl kind room orderly)
       | inr e ↦ rw e (refused_orderly o a confirmed (answer_status (reclaims a.claim) answer) l orderly)
     ]
 
-by_keeps : (others : ℕ) (l : NfsLists) (current : Option ℕ) (o : Opener) (a : OpenArgsItem) (confirmed : Bool) (r : Result ℕ NfsStatus) → o.kind ≡ kinds.Open → IsOrderly l → Keeps (open_by others l current o a confirmed r)
-by_keeps others l current o a confirmed (Err status) kind orderly = refused_orderly o a confirmed status l orderly
-by_keeps others l current o a confirmed (Ok file) kind orderly =
+by_keeps : (others : ℕ) (s : CoreState) (l : NfsLists) (current : Option ℕ) (o : Opener) (a : OpenArgsItem) (confirmed : Bool) (r : Result ℕ NfsStatus) → o.kind ≡ kinds.Open → IsOrderly l → Keeps (open_by others s l current o a confirmed r)
+by_keeps others s l current o a confirmed (Err status) kind orderly = refused_orderly o a confirmed status l orderly
+by_keeps others s l current o a confirmed (Ok file) kind orderly =
     elim (cases_Bool (has_room others l o file)) [
-      | inl e ↦ rw e (λ answer t. answered_keeps l current o a file confirmed answer t kind (and_parts (is_room_for o l) _ e).0 orderly)
+      | inl e ↦ rw e (λ answer t. answered_keeps l current o a file confirmed (wish_of s l o a confirmed file) answer t kind (and_parts (is_room_for o l) _ e).0 orderly)
       | inr e ↦ rw e orderly
     ]
 
-as_keeps : (files : List (List ℕ)) (others : ℕ) (l : NfsLists) (current : Option ℕ) (at : ℕ) (o : Opener) (a : OpenArgsItem) (confirmed : Bool) → o.kind ≡ kinds.Open → IsOrderly l → Keeps (open_as files others l current at o a confirmed)
+as_keeps : (files : List (List ℕ)) (others : ℕ) (s : CoreState) (l : NfsLists) (current : Option ℕ) (at : ℕ) (o : Opener) (a : OpenArgsItem) (confirmed : Bool) → o.kind ≡ kinds.Open → IsOrderly l → Keeps (open_as files others s l current at o a confirmed)
 unfolding open_as
-as_keeps files others l current at o a confirmed kind orderly = by_keeps others l current o a confirmed (opened_file files at a) kind orderly
+as_keeps files others s l current at o a confirmed kind orderly = by_keeps others s l current o a confirmed (opened_file files s l o.client at a) kind orderly
 
 pub repeat_keeps : (s : CoreState) (l : NfsLists) (current : Option ℕ) (o : Option KeptRow) → IsOrderly l → Keeps (repeated s l current o)
 repeat_keeps s l current None orderly = orderly
@@ -374,9 +387,9 @@ repeat_keeps s l current (Some k) orderly = orderly
 judged_keeps : (files : List (List ℕ)) (others : ℕ) (s : CoreState) (l : NfsLists) (current : Option ℕ) (at : ℕ) (o : Opener) (a : OpenArgsItem) (j : Judged) → o.kind ≡ kinds.Open → IsOrderly l → Keeps (open_judged files others s l current at o a j)
 judged_keeps files others s l current at o a judgements.Bad kind orderly = orderly
 judged_keeps files others s l current at o a (judgements.Repeats number) kind orderly = repeat_keeps s l current (find (is_kept number) l.kept) orderly
-judged_keeps files others s l current at o a (judgements.Anew number) kind orderly = (owner_goes l number orderly, λ t. as_keeps files others (without_owner number l) current at o a false kind (owner_goes l number orderly))
-judged_keeps files others s l current at o a judgements.New kind orderly = as_keeps files others l current at o a false kind orderly
-judged_keeps files others s l current at o a judgements.Next kind orderly = as_keeps files others l current at o a true kind orderly
+judged_keeps files others s l current at o a (judgements.Anew number) kind orderly = (owner_goes l number orderly, λ t. as_keeps files others t (without_owner number l) current at o a false kind (owner_goes l number orderly))
+judged_keeps files others s l current at o a judgements.New kind orderly = as_keeps files others s l current at o a false kind orderly
+judged_keeps files others s l current at o a judgements.Next kind orderly = as_keeps files others s l current at o a true kind orderly
 
 at_keeps : (files : List (List ℕ)) (others : ℕ) (s : CoreState) (l : NfsLists) (a : OpenArgsItem) (current : Option ℕ) → IsOrderly l → Keeps (open_at files others s l a current)
 at_keeps files others s l a None orderly = orderly
@@ -444,4 +457,11 @@ close_keeps s l current a orderly =
 
 pub return_keeps : (s : CoreState) (l : NfsLists) (current : Option ℕ) (stateid : Stateid) → IsOrderly l → Keeps (deleg_return s l current stateid)
 unfolding deleg_return
-return_keeps s l current stateid orderly = (let once = renewed_orderly s l (state_client s l stateid) orderly in (once, λ t. once))
+return_keeps s l current stateid orderly =
+    let m = renewed_for s l (state_client s l stateid) in
+    let once : IsOrderly m = renewed_orderly s l (state_client s l stateid) orderly in
+    (once, λ t. by t (returned t m current stateid) once)
+  where
+    by : (t : CoreState) (x : Returning) → (let m = renewed_for s l (state_client s l stateid) in IsOrderly m → Keeps (return_done t m current x))
+    by t (Err status) orderly = orderly
+    by t (Ok r) orderly = stateids_go _ (is_whose (whose.Stateid r.number)) orderly

@@ -9,7 +9,6 @@ use Rattle.xl_nfs.specs.declared.status.NfsStatus.{NfsStatus}
 use Rattle.xl_nfs_state.specs.Filed.{changed}
 use Rattle.xl_nfs_state.specs.Rows.{with_turn, with_result}
 use Rattle.xl_nfs_state.specs.State.{NfsLists, is_kept, is_owner, is_whose, next_owner, with_stateids, without}
-use Rattle.xl_nfs_state.specs.Verdict.{next_seqid}
 use Rattle.xl_nfs_state.specs.declared.kept.KeptRow.{KeptRow}
 use Rattle.xl_nfs_state.specs.declared.owner.OwnerRow.{OwnerRow}
 use Rattle.xl_nfs_state.specs.declared.owner.Turn.{Turn}
@@ -23,7 +22,7 @@ use Rattle.xl_nfs.specs.declared.opens.OpenDowngradeArgs.{OpenDowngradeArgs}
 use Rattle.xl_nfs_opens.specs.Closing.{ends_locks, locks_under, close_done, confirm_done, failed_lists, next_turn, state_told}
 use Rattle.xl_nfs_opens.specs.Downgrades.{downgrade_done}
 use Rattle.xl_nfs_opens.specs.declared.told.Told.TheVariants.{Ended}
-use Rattle.xl_nfs_opens.specs.Opens.{can_enter, either_bits, entered, entered_in, granted_more, granted_new, open_row, open_turn, opened_told, refused_lists, stood}
+use Rattle.xl_nfs_opens.specs.Opens.{can_enter, can_stand, delegated, delegated_in, delegation_row, either_bits, entered, entered_in, granted_more, granted_new, open_row, open_turn, refused_lists, stood}
 use Rattle.xl_nfs_opens.specs.Plans.{carried}
 use Rattle.xl_nfs_opens.specs.Results.{spelled}
 use Rattle.xl_nfs_opens.specs.Seqids.{advances, closed_gone, counted, is_opener, is_room_for, kept_for, new_owner, number_by, opener_number, remembered, seated, seated_by, turned}
@@ -118,16 +117,26 @@ pub entered_owners : (r : StateidRow) (l : NfsLists) → (entered r l).owners �
 unfolding entered
 entered_owners r l = come_owners r (with_stateids l (without (is_whose (whose.Stateid r.number)) l.stateids))
 
-pub new_kept : (n : ℕ) (s : CoreState) (l : NfsLists) (current : Option ℕ) (o : Opener) (a : OpenArgsItem) (file : ℕ) (confirmed : Bool) → is_room_for o l ≡ true → find (is_kept (opener_number o l)) (carried n s l current (granted_new s l o a file confirmed)).3.kept ≡ Some (record { owner = opener_number o l; result = spelled 18 (carried n s l current (granted_new s l o a file confirmed)).0 })
-new_kept n s l current o a file confirmed room =
+pub delegated_owners : (s : CoreState) (o : Opener) (file : ℕ) (write : Option Bool) (l : NfsLists) → (delegated s o file write l).owners ≡ l.owners
+unfolding delegated_in
+delegated_owners s o file None l = refl
+delegated_owners s o file (Some write) l =
+    elim (cases_Bool (can_stand (delegation_row (s.counter + 1) o file write) l)) [
+      | inl e ↦ rw e refl
+      | inr e ↦ rw e refl
+    ]
+
+pub new_kept : (n : ℕ) (s : CoreState) (l : NfsLists) (current : Option ℕ) (o : Opener) (a : OpenArgsItem) (file : ℕ) (confirmed : Bool) (write : Option Bool) → is_room_for o l ≡ true → find (is_kept (opener_number o l)) (carried n s l current (granted_new s l o a file confirmed write)).3.kept ≡ Some (record { owner = opener_number o l; result = spelled 18 (carried n s l current (granted_new s l o a file confirmed write)).0 })
+new_kept n s l current o a file confirmed write room =
     let row = open_row (s.counter + 1) o (opener_number o l) file a in
     let there : NfsLists = seated o (open_turn a confirmed) l in
-    granted_kept o (open_turn a confirmed) (spelled 18 (opened_told (drawn s) (s.counter + 1) 1 confirmed)) l (entered row there) (entered_owners row there) room
+    granted_kept o (open_turn a confirmed) (spelled 18 (carried n s l current (granted_new s l o a file confirmed write)).0) l (delegated (drawn s) o file write (entered row there)) (delegated_owners (drawn s) o file write (entered row there) ∙ entered_owners row there) room
 
-pub more_kept : (n : ℕ) (s : CoreState) (l : NfsLists) (current : Option ℕ) (o : Opener) (a : OpenArgsItem) (file : ℕ) (confirmed : Bool) (r : StateidRow) → is_room_for o l ≡ true → find (is_kept (opener_number o l)) (carried n s l current (granted_more s l o a file confirmed r)).3.kept ≡ Some (record { owner = opener_number o l; result = spelled 18 (carried n s l current (granted_more s l o a file confirmed r)).0 })
-more_kept n s l current o a file confirmed r room =
+pub more_kept : (n : ℕ) (s : CoreState) (l : NfsLists) (current : Option ℕ) (o : Opener) (a : OpenArgsItem) (file : ℕ) (confirmed : Bool) (write : Option Bool) (r : StateidRow) → is_room_for o l ≡ true → find (is_kept (opener_number o l)) (carried n s l current (granted_more s l o a file confirmed write r)).3.kept ≡ Some (record { owner = opener_number o l; result = spelled 18 (carried n s l current (granted_more s l o a file confirmed write r)).0 })
+more_kept n s l current o a file confirmed write r room =
     let after : NfsLists = stood r.number r (either_bits r.standing.access a.access) (either_bits r.standing.deny a.deny) false l in
-    granted_kept o (open_turn a confirmed) (spelled 18 (opened_told s r.number (next_seqid r.standing.seqid) confirmed)) after (seated o (open_turn a confirmed) after) refl room
+    let there : NfsLists = seated o (open_turn a confirmed) after in
+    granted_kept o (open_turn a confirmed) (spelled 18 (carried n s l current (granted_more s l o a file confirmed write r)).0) after (delegated s o file write there) (delegated_owners s o file write there) room
 
 pub confirm_kept : (n : ℕ) (s : CoreState) (l : NfsLists) (current : Option ℕ) (a : OpenConfirmArgs) (r : StateidRow) (owner : ℕ) (turn : Turn) → is_some (find (is_owner owner) l.owners) ≡ true → find (is_kept owner) (carried n s l current (confirm_done s l current a r owner turn None)).3.kept ≡ Some (record { owner = owner; result = spelled 20 (carried n s l current (confirm_done s l current a r owner turn None)).0 })
 confirm_kept n s l current a r owner turn there = counted_kept owner turn.closed (next_turn 20 a.seqid true None) (spelled 20 (state_told s r)) (stood r.number r r.standing.access r.standing.deny false l) there

@@ -1,15 +1,14 @@
 -- What an OPEN that is OK tells names one open from then on.
-use Rattle.std.proofs.Common.{◌≡◌, ℕ, ◌+◌, ◌<◌, ◌≤◌, Bool, true, false, not, ◌&&◌, ◌||◌, List, [], ◌∷◌, ◌++◌, length, nat_lt, Option, Some, None, Ok, Err, Result, is_some, option_map, if◌then◌else◌, refl, sym, ap, subst, ◌∙◌, inl, inr, arith, true≢false}
-use Rattle.std.proofs.lemmas.Bool.{cases_Bool, and_parts, and_from, or_parts, eq-eqb, eqb-true, false_from_ne_true, lt-ltb, ltb-true}
+use Rattle.std.proofs.Common.{◌≡◌, ℕ, ◌+◌, ◌<◌, ◌≤◌, Bool, true, false, not, ◌&&◌, ◌||◌, List, [], ◌∷◌, nat_lt, Option, Some, None, Ok, Err, Result, is_some, if◌then◌else◌, refl, sym, ap, subst, ◌∙◌, inl, inr, arith, true≢false}
+use Rattle.std.proofs.lemmas.Bool.{cases_Bool, and_parts, and_from, eq-eqb, eqb-true, false_from_ne_true, lt-ltb, ltb-true}
 use Rattle.std.proofs.lemmas.Option.{same_Some}
 use Rattle.std.specs.Bool.{◌==◌}
-use Rattle.std.specs.List.{AllByRecursion, filter, find}
+use Rattle.std.specs.List.{filter, find}
 use Rattle.std.specs.Option.{option_and_then}
-use Rattle.std.specs.Prelude.{IfSome, IsSome}
+use Rattle.std.specs.Prelude.{IfSome}
 use Rattle.xl_base.proofs.Members.{all_in, in_filter_from}
 use Rattle.xl_base.proofs.Searches.{find_in}
 use Rattle.xl_base.specs.Lists.{IsIn, Pairwise}
-use Rattle.xl_matrix.specs.Rights.{rights_lie_within}
 use Rattle.xl_nfs.specs.Opens.{OpenArgsItem}
 use Rattle.xl_nfs.specs.declared.basics.Stateid.{Stateid}
 use Rattle.xl_nfs.specs.declared.status.NfsStatus.{NfsStatus}
@@ -17,11 +16,10 @@ use Rattle.xl_nfs_state.proofs.SoundLaws.{fresh_number}
 use Rattle.xl_nfs_state.specs.Alike.{kinds_are}
 use Rattle.xl_nfs_state.specs.Keys.{held_at, place_of, same_kind, same_place}
 use Rattle.xl_nfs_state.specs.Rows.{with_standing}
-use Rattle.xl_nfs_state.specs.State.{NfsLists, can_hang, is_client, is_kept, is_live, is_owner, is_stateid, is_under, is_whose, most_opens, next_owner, opens, owned_on, owner_fits, without, without_owner}
+use Rattle.xl_nfs_state.specs.State.{NfsLists, can_hang, is_client, is_kept, is_live, is_owner, is_under, is_whose, most_opens, next_owner, opens, owned_on, owner_fits, without, without_owner}
 use Rattle.xl_nfs_state.specs.Verdict.{next_seqid}
 use Rattle.xl_nfs_state.specs.declared.client.ClientRow.{ClientRow}
 use Rattle.xl_nfs_state.specs.declared.kept.KeptRow.{KeptRow}
-use Rattle.xl_nfs_state.specs.declared.owner.OwnerKind.{OwnerKind}
 use Rattle.xl_nfs_state.specs.declared.owner.OwnerKind.TheVariants as kinds
 use Rattle.xl_nfs_state.specs.declared.owner.OwnerRow.{OwnerRow}
 use Rattle.xl_nfs_state.specs.declared.owner.Turn.{Turn}
@@ -36,21 +34,21 @@ use Rattle.xl_core.specs.Decide.{ask}
 use Rattle.xl_core.specs.State.{CoreState, drawn}
 use Rattle.xl_core.specs.declared.ask.Answer.{Answer}
 use Rattle.xl_core.specs.declared.ask.Effect.{Effect}
-use Rattle.xl_nfs_opens.specs.Laws.{can_come, freed}
-use Rattle.xl_nfs_opens.specs.Opens.{all_rooms, answered, either_bits, entered, gives_all, granted_by, granted_more, granted_new, has_room, is_granted, judged, live, client_in, open_as, open_by, open_held, open_judged, open_on, open_row, open_turn, opened_file, opened_told, opener_of, reclaims, repeated, rights_of, share_ask, stood}
+use Rattle.xl_nfs_opens.specs.Laws.{can_come}
+use Rattle.xl_nfs_opens.specs.Opens.{freed, all_rooms, answered, delegated, delegation_told, drawn_for, draws_for, either_bits, entered, gives_all, granted_by, granted_more, granted_new, granted_wish, has_room, is_granted, judged, live, client_in, open_as, open_by, open_held, open_judged, open_row, open_turn, opened_file, opened_told, opener_of, reclaims, repeated, rights_of, share_ask, stood, wish_of}
+use Rattle.xl_nfs_opens.specs.Renewing.{stateid_of}
 use Rattle.xl_nfs_opens.specs.Orderly.{are_apart, closes, IsHeldBy, IsKnown, IsOrderly, IsOwnedBy}
 use Rattle.xl_nfs_opens.specs.Plans.{Outcome, carried, told_behind}
-use Rattle.xl_nfs_opens.specs.Renewing.{stateid_of}
 use Rattle.xl_nfs_opens.specs.Results.{spelled}
 use Rattle.xl_nfs_opens.specs.Seqids.{closed_gone, is_opener, is_room_for, number_by, opener_number, seated, seated_by, seated_new, turned}
 use Rattle.xl_nfs_opens.specs.declared.opener.Judged.{Judged}
 use Rattle.xl_nfs_opens.specs.declared.opener.Judged.TheVariants as judgements
 use Rattle.xl_nfs_opens.specs.declared.opener.Opener.{Opener}
 use Rattle.xl_nfs_opens.specs.declared.told.Told.{Told}
-use Rattle.xl_nfs_opens.specs.declared.told.Told.TheVariants.{Ended, Opened, Kept}
-use Rattle.xl_nfs_opens.proofs.EnterLaws.{kept_stateids, more_is_had, new_open_comes}
-use Rattle.xl_nfs_opens.proofs.KeepLaws.{IsHad, IsSeated, had_is, none_in, owned_new, rising_found, seat_is}
-use Rattle.xl_nfs_opens.proofs.KeptLaws.{entered_owners}
+use Rattle.xl_nfs_opens.specs.declared.told.Told.TheVariants.{Opened}
+use Rattle.xl_nfs_opens.proofs.EnterLaws.{more_is_had, new_open_comes}
+use Rattle.xl_nfs_opens.proofs.KeepLaws.{IsSeated, had_is, none_in, rising_found, seat_is}
+use Rattle.xl_nfs_opens.proofs.KeptLaws.{delegated_owners, entered_owners}
 use Rattle.xl_nfs_opens.proofs.OpenLaws.{both_have_asked, kept_owners}
 use Rattle.xl_nfs_opens.proofs.OpenerLaws.{opener_there}
 use Rattle.xl_nfs_opens.proofs.OrderLaws.{closed_by, owned_by, owner_goes}
@@ -104,7 +102,7 @@ place_file w file r e = by r.holder e
     by (holders.Lock x under opener) e = eqb-true file r.file (and_parts (w == x) (file == r.file) e).1
     by (holders.Delegation write) e = absurd (true≢false (sym e))
 
-free_of : {A : Type 0} (p : A → Bool) (xs : List A) → ((x : A) → IsIn x xs → p x ≡ false) → find p xs ≡ None
+pub free_of : {A : Type 0} (p : A → Bool) (xs : List A) → ((x : A) → IsIn x xs → p x ≡ false) → find p xs ≡ None
 free_of {A = A} p xs each = by (find p xs) refl (find_in p xs)
   where
     by : (o : Option A) → find p xs ≡ o → IfSome o (λ x. IsIn x xs × (p x ≡ true)) → find p xs ≡ None
@@ -179,7 +177,7 @@ seated_fewer o turn l = by (find (is_opener o) l.owners)
     by None = new (next_owner l.owners)
     by (Some r) = gone_fewer r.turn.closed (turned r.number turn l)
 
-seated_clients : (o : Opener) (turn : Turn) (l : NfsLists) → (seated o turn l).clients ≡ l.clients
+pub seated_clients : (o : Opener) (turn : Turn) (l : NfsLists) → (seated o turn l).clients ≡ l.clients
 unfolding seated
 seated_clients o turn l = by (find (is_opener o) l.owners)
   where
@@ -222,22 +220,28 @@ comes others s l o a file confirmed kind client orderly room none =
 -- ---- what it tells
 
 abbrev stateid_in : Stateid → Told → Stateid
-stateid_in other (Opened stateid flags) = stateid
+stateid_in other (Opened stateid flags gave) = stateid
 stateid_in other _ = other
 
-new_known : (n others : ℕ) (s : CoreState) (l : NfsLists) (current : Option ℕ) (o : Opener) (a : OpenArgsItem) (file : ℕ) (confirmed : Bool) (stateid : Stateid) (flags : ℕ) → o.kind ≡ kinds.Open → is_some (find (is_client o.client true) l.clients) ≡ true → IsOrderly l → has_room others l o file ≡ true → open_held l o file ≡ None
-    → (carried n s l current (granted_new s l o a file confirmed)).0 ≡ Opened stateid flags → IsKnown o a stateid (carried n s l current (granted_new s l o a file confirmed))
-new_known n others s l current o a file confirmed stateid flags kind client orderly room none told =
+-- the numbers that are drawn for a delegation
+done_for : (n : ℕ) (s : CoreState) (write : Option Bool) → all_done n s (draws_for write) ≡ drawn_for write s
+done_for n s None = refl
+done_for n s (Some write) = refl
+
+new_known : (n others : ℕ) (s : CoreState) (l : NfsLists) (current : Option ℕ) (o : Opener) (a : OpenArgsItem) (file : ℕ) (confirmed : Bool) (write : Option Bool) (stateid : Stateid) (flags : ℕ) (gave : Option (Stateid × Bool)) → o.kind ≡ kinds.Open → is_some (find (is_client o.client true) l.clients) ≡ true → IsOrderly l → has_room others l o file ≡ true → open_held l o file ≡ None
+    → (carried n s l current (granted_new s l o a file confirmed write)).0 ≡ Opened stateid flags gave → IsKnown o a stateid (carried n s l current (granted_new s l o a file confirmed write))
+new_known n others s l current o a file confirmed write stateid flags gave kind client orderly room none told =
     let turn = open_turn a confirmed in
     let there : NfsLists = seated o turn l in
     let row = open_row (s.counter + 1) o (opener_number o l) file a in
+    let whole : NfsLists = delegated (drawn s) o file write (entered row there) in
     let is = seat_is o turn l orderly.rising (and_parts (is_room_for o l) _ room).0 in
     record {
       row = row;
       owner = is.row;
-      found = new_open_comes n s l current o a file confirmed (comes others s l o a file confirmed kind client orderly room none);
-      named = sym (ap (stateid_in stateid) told);
-      opener = ap (λ (os : List OwnerRow). find (is_opener o) os) (kept_owners (opener_number o l) (spelled 18 (opened_told (drawn s) (s.counter + 1) 1 confirmed)) (entered row there) ∙ entered_owners row there) ∙ is.named;
+      found = new_open_comes n s l current o a file confirmed write (comes others s l o a file confirmed kind client orderly room none);
+      named = sym (ap (stateid_in stateid) told) ∙ ap (λ (u : CoreState). stateid_of u (s.counter + 1) 1) (sym (done_for n (drawn s) write));
+      opener = ap (λ (os : List OwnerRow). find (is_opener o) os) (kept_owners (opener_number o l) (spelled 18 (opened_told (drawn_for write (drawn s)) (s.counter + 1) 1 confirmed (delegation_told (drawn s) write))) whole ∙ delegated_owners (drawn s) o file write (entered row there) ∙ entered_owners row there) ∙ is.named;
       holder = ap (λ (m : ℕ). holders.Open m) (sym is.number);
       file = refl;
       live = refl;
@@ -256,9 +260,9 @@ open_holds r o x os (holders.Delegation write) kind same is found held = absurd 
 found_there : {A : Type 0} (p : A → Bool) (xs : List A) (x : A) → find p xs ≡ Some x → IsIn x xs × (p x ≡ true)
 found_there {A = A} p xs x found = subst (λ (o : Option A). IfSome o (λ y. IsIn y xs × (p y ≡ true))) found (find_in p xs)
 
-more_known : (n : ℕ) (s : CoreState) (l : NfsLists) (current : Option ℕ) (o : Opener) (a : OpenArgsItem) (file : ℕ) (confirmed : Bool) (r : StateidRow) (stateid : Stateid) (flags : ℕ) → o.kind ≡ kinds.Open → is_room_for o l ≡ true → IsOrderly l → open_held l o file ≡ Some r
-    → (carried n s l current (granted_more s l o a file confirmed r)).0 ≡ Opened stateid flags → IsKnown o a stateid (carried n s l current (granted_more s l o a file confirmed r))
-more_known n s l current o a file confirmed r stateid flags kind room orderly e told =
+more_known : (n : ℕ) (s : CoreState) (l : NfsLists) (current : Option ℕ) (o : Opener) (a : OpenArgsItem) (file : ℕ) (confirmed : Bool) (write : Option Bool) (r : StateidRow) (stateid : Stateid) (flags : ℕ) (gave : Option (Stateid × Bool)) → o.kind ≡ kinds.Open → is_room_for o l ≡ true → IsOrderly l → open_held l o file ≡ Some r
+    → (carried n s l current (granted_more s l o a file confirmed write r)).0 ≡ Opened stateid flags gave → IsKnown o a stateid (carried n s l current (granted_more s l o a file confirmed write r))
+more_known n s l current o a file confirmed write r stateid flags gave kind room orderly e told =
     let turn = open_turn a confirmed in
     let had = had_is o file l r orderly e in
     let x = had.owner in
@@ -275,9 +279,9 @@ more_known n s l current o a file confirmed r stateid flags kind room orderly e 
     record {
       row = with_standing (record { seqid = next_seqid r.standing.seqid; access = either_bits r.standing.access a.access; deny = either_bits r.standing.deny a.deny; closed = false }) r;
       owner = is.row;
-      found = more_is_had n s l current o a file confirmed r x.number had.found holds stays;
-      named = sym (ap (stateid_in stateid) told);
-      opener = ap (λ (os : List OwnerRow). find (is_opener o) os) (kept_owners (opener_number o l) (spelled 18 (opened_told s r.number (next_seqid r.standing.seqid) confirmed)) (seated o turn after)) ∙ is.named;
+      found = more_is_had n s l current o a file confirmed write r x.number had.found holds stays;
+      named = sym (ap (stateid_in stateid) told) ∙ ap (λ (u : CoreState). stateid_of u r.number (next_seqid r.standing.seqid)) (sym (done_for n s write));
+      opener = ap (λ (os : List OwnerRow). find (is_opener o) os) (kept_owners (opener_number o l) (spelled 18 (opened_told (drawn_for write s) r.number (next_seqid r.standing.seqid) confirmed (delegation_told s write))) (delegated s o file write (seated o turn after)) ∙ delegated_owners s o file write (seated o turn after)) ∙ is.named;
       holder = holds ∙ ap (λ (m : ℕ). holders.Open m) (ap (λ (y : Option OwnerRow). number_by y (next_owner l.owners)) (sym had.named) ∙ sym is.number);
       file = ap (λ (m : ℕ). Some m) (place_file x.number file r there.1);
       live = refl;
@@ -291,48 +295,49 @@ known_behind : (o : Opener) (a : OpenArgsItem) (stateid : Stateid) (effects : Li
 known_behind o a stateid effects done known = record { row = known.row; owner = known.owner; found = known.found; named = known.named; opener = known.opener; holder = known.holder; file = known.file; live = known.live; access = known.access; deny = known.deny }
 
 -- where it tells a stateid, that is known
-abbrev Knows : Opener → OpenArgsItem → Stateid → ℕ → Outcome → Type 0
-Knows o a stateid flags done = done.0 ≡ Opened stateid flags → IsKnown o a stateid done
+abbrev Knows : Opener → OpenArgsItem → Stateid → ℕ → Option (Stateid × Bool) → Outcome → Type 0
+Knows o a stateid flags gave done = done.0 ≡ Opened stateid flags gave → IsKnown o a stateid done
 
-granted_known : (n others : ℕ) (s : CoreState) (l : NfsLists) (current : Option ℕ) (o : Opener) (a : OpenArgsItem) (file : ℕ) (confirmed : Bool) (stateid : Stateid) (flags : ℕ) (x : Option StateidRow) → open_held l o file ≡ x → o.kind ≡ kinds.Open → is_some (find (is_client o.client true) l.clients) ≡ true → IsOrderly l → has_room others l o file ≡ true → Knows o a stateid flags (carried n s l current (granted_by s l o a file confirmed x))
-granted_known n others s l current o a file confirmed stateid flags None e kind client orderly room = new_known n others s l current o a file confirmed stateid flags kind client orderly room e
-granted_known n others s l current o a file confirmed stateid flags (Some r) e kind client orderly room = more_known n s l current o a file confirmed r stateid flags kind (and_parts (is_room_for o l) _ room).0 orderly e
+granted_known : (n others : ℕ) (s : CoreState) (l : NfsLists) (current : Option ℕ) (o : Opener) (a : OpenArgsItem) (file : ℕ) (confirmed : Bool) (stateid : Stateid) (flags : ℕ) (gave : Option (Stateid × Bool)) (write : Option Bool) (x : Option StateidRow) → open_held l o file ≡ x → o.kind ≡ kinds.Open → is_some (find (is_client o.client true) l.clients) ≡ true → IsOrderly l → has_room others l o file ≡ true → Knows o a stateid flags gave (carried n s l current (granted_by s l o a file confirmed write x))
+granted_known n others s l current o a file confirmed stateid flags gave write None e kind client orderly room = new_known n others s l current o a file confirmed write stateid flags gave kind client orderly room e
+granted_known n others s l current o a file confirmed stateid flags gave write (Some r) e kind client orderly room = more_known n s l current o a file confirmed write r stateid flags gave kind (and_parts (is_room_for o l) _ room).0 orderly e
 
-answered_known : (n others : ℕ) (s : CoreState) (l : NfsLists) (current : Option ℕ) (o : Opener) (a : OpenArgsItem) (file : ℕ) (confirmed : Bool) (stateid : Stateid) (flags : ℕ) (answer : Answer) → o.kind ≡ kinds.Open → is_some (find (is_client o.client true) l.clients) ≡ true → IsOrderly l → has_room others l o file ≡ true → Knows o a stateid flags (carried n s l current (answered l current o a file confirmed answer s))
-answered_known n others s l current o a file confirmed stateid flags answer kind client orderly room =
+answered_known : (n others : ℕ) (s : CoreState) (l : NfsLists) (current : Option ℕ) (o : Opener) (a : OpenArgsItem) (file : ℕ) (confirmed : Bool) (stateid : Stateid) (flags : ℕ) (gave : Option (Stateid × Bool)) (wish : Option Bool) (answer : Answer) → o.kind ≡ kinds.Open → is_some (find (is_client o.client true) l.clients) ≡ true → IsOrderly l → has_room others l o file ≡ true → Knows o a stateid flags gave (carried n s l current (answered l current o a file confirmed wish answer s))
+answered_known n others s l current o a file confirmed stateid flags gave wish answer kind client orderly room =
     elim (cases_Bool (is_granted answer)) [
-      | inl e ↦ rw e (granted_known n others s l current o a file (confirmed || reclaims a.claim) stateid flags (open_held l o file) refl kind client orderly room)
+      | inl e ↦ rw e (granted_known n others s l current o a file (confirmed || reclaims a.claim) stateid flags gave (granted_wish s o file wish) (open_held l o file) refl kind client orderly room)
       | inr e ↦ rw e (λ d. absurd cc)
     ]
 
-by_known : (n others : ℕ) (s : CoreState) (l : NfsLists) (current : Option ℕ) (o : Opener) (a : OpenArgsItem) (confirmed : Bool) (stateid : Stateid) (flags : ℕ) (r : Result ℕ NfsStatus) → o.kind ≡ kinds.Open → is_some (find (is_client o.client true) l.clients) ≡ true → IsOrderly l → Knows o a stateid flags (carried n s l current (open_by others l current o a confirmed r))
-by_known n others s l current o a confirmed stateid flags (Err status) kind client orderly = λ d. absurd cc
-by_known n others s l current o a confirmed stateid flags (Ok file) kind client orderly =
-    let r = ask n all_rooms s (share_ask o a file) in
+by_known : (n others : ℕ) (s : CoreState) (l : NfsLists) (current : Option ℕ) (o : Opener) (a : OpenArgsItem) (confirmed : Bool) (stateid : Stateid) (flags : ℕ) (gave : Option (Stateid × Bool)) (r : Result ℕ NfsStatus) → o.kind ≡ kinds.Open → is_some (find (is_client o.client true) l.clients) ≡ true → IsOrderly l → Knows o a stateid flags gave (carried n s l current (open_by others s l current o a confirmed r))
+by_known n others s l current o a confirmed stateid flags gave (Err status) kind client orderly = λ d. absurd cc
+by_known n others s l current o a confirmed stateid flags gave (Ok file) kind client orderly =
+    let wish = wish_of s l o a confirmed file in
+    let r = ask n all_rooms s (share_ask wish o a file) in
     elim (cases_Bool (has_room others l o file)) [
-      | inl e ↦ rw e (λ told. known_behind o a stateid r.1 (carried n r.2 l current (answered l current o a file confirmed r.0 r.2)) (answered_known n others r.2 l current o a file confirmed stateid flags r.0 kind client orderly e told))
+      | inl e ↦ rw e (λ told. known_behind o a stateid r.1 (carried n r.2 l current (answered l current o a file confirmed wish r.0 r.2)) (answered_known n others r.2 l current o a file confirmed stateid flags gave wish r.0 kind client orderly e told))
       | inr e ↦ rw e (λ d. absurd cc)
     ]
 
-as_known : (n : ℕ) (files : List (List ℕ)) (others : ℕ) (s : CoreState) (l : NfsLists) (current : Option ℕ) (at : ℕ) (o : Opener) (a : OpenArgsItem) (confirmed : Bool) (stateid : Stateid) (flags : ℕ) → o.kind ≡ kinds.Open → is_some (find (is_client o.client true) l.clients) ≡ true → IsOrderly l → Knows o a stateid flags (carried n s l current (open_as files others l current at o a confirmed))
+as_known : (n : ℕ) (files : List (List ℕ)) (others : ℕ) (s : CoreState) (l : NfsLists) (current : Option ℕ) (at : ℕ) (o : Opener) (a : OpenArgsItem) (confirmed : Bool) (stateid : Stateid) (flags : ℕ) (gave : Option (Stateid × Bool)) → o.kind ≡ kinds.Open → is_some (find (is_client o.client true) l.clients) ≡ true → IsOrderly l → Knows o a stateid flags gave (carried n s l current (open_as files others s l current at o a confirmed))
 unfolding open_as
-as_known n files others s l current at o a confirmed stateid flags kind client orderly = by_known n others s l current o a confirmed stateid flags (opened_file files at a) kind client orderly
+as_known n files others s l current at o a confirmed stateid flags gave kind client orderly = by_known n others s l current o a confirmed stateid flags gave (opened_file files s l o.client at a) kind client orderly
 
-repeat_known : (n : ℕ) (s : CoreState) (l : NfsLists) (current : Option ℕ) (o : Opener) (a : OpenArgsItem) (stateid : Stateid) (flags : ℕ) (k : Option KeptRow) → Knows o a stateid flags (carried n s l current (repeated s l current k))
-repeat_known n s l current o a stateid flags None = λ d. absurd cc
-repeat_known n s l current o a stateid flags (Some k) = λ d. absurd cc
+repeat_known : (n : ℕ) (s : CoreState) (l : NfsLists) (current : Option ℕ) (o : Opener) (a : OpenArgsItem) (stateid : Stateid) (flags : ℕ) (gave : Option (Stateid × Bool)) (k : Option KeptRow) → Knows o a stateid flags gave (carried n s l current (repeated s l current k))
+repeat_known n s l current o a stateid flags gave None = λ d. absurd cc
+repeat_known n s l current o a stateid flags gave (Some k) = λ d. absurd cc
 
-judged_known : (n : ℕ) (files : List (List ℕ)) (others : ℕ) (s : CoreState) (l : NfsLists) (current : Option ℕ) (at : ℕ) (o : Opener) (a : OpenArgsItem) (stateid : Stateid) (flags : ℕ) (j : Judged) → o.kind ≡ kinds.Open → is_some (find (is_client o.client true) l.clients) ≡ true → IsOrderly l → Knows o a stateid flags (carried n s l current (open_judged files others s l current at o a j))
-judged_known n files others s l current at o a stateid flags judgements.Bad kind client orderly = λ d. absurd cc
-judged_known n files others s l current at o a stateid flags (judgements.Repeats number) kind client orderly = repeat_known n s l current o a stateid flags (find (is_kept number) l.kept)
-judged_known n files others s l current at o a stateid flags (judgements.Anew number) kind client orderly =
+judged_known : (n : ℕ) (files : List (List ℕ)) (others : ℕ) (s : CoreState) (l : NfsLists) (current : Option ℕ) (at : ℕ) (o : Opener) (a : OpenArgsItem) (stateid : Stateid) (flags : ℕ) (gave : Option (Stateid × Bool)) (j : Judged) → o.kind ≡ kinds.Open → is_some (find (is_client o.client true) l.clients) ≡ true → IsOrderly l → Knows o a stateid flags gave (carried n s l current (open_judged files others s l current at o a j))
+judged_known n files others s l current at o a stateid flags gave judgements.Bad kind client orderly = λ d. absurd cc
+judged_known n files others s l current at o a stateid flags gave (judgements.Repeats number) kind client orderly = repeat_known n s l current o a stateid flags gave (find (is_kept number) l.kept)
+judged_known n files others s l current at o a stateid flags gave (judgements.Anew number) kind client orderly =
     let deeds = gives_all s o (filter (is_whose (whose.Owner number)) l.stateids) in
     let m = without_owner number l in
-    λ told. known_behind o a stateid (all_told_of n s deeds) (carried n (all_done n s deeds) m current (open_as files others m current at o a false)) (as_known n files others (all_done n s deeds) m current at o a false stateid flags kind client (owner_goes l number orderly) told)
-judged_known n files others s l current at o a stateid flags judgements.New kind client orderly = as_known n files others s l current at o a false stateid flags kind client orderly
-judged_known n files others s l current at o a stateid flags judgements.Next kind client orderly = as_known n files others s l current at o a true stateid flags kind client orderly
+    λ told. known_behind o a stateid (all_told_of n s deeds) (carried n (all_done n s deeds) m current (open_as files others (all_done n s deeds) m current at o a false)) (as_known n files others (all_done n s deeds) m current at o a false stateid flags gave kind client (owner_goes l number orderly) told)
+judged_known n files others s l current at o a stateid flags gave judgements.New kind client orderly = as_known n files others s l current at o a false stateid flags gave kind client orderly
+judged_known n files others s l current at o a stateid flags gave judgements.Next kind client orderly = as_known n files others s l current at o a true stateid flags gave kind client orderly
 
-pub told_is_known : (n : ℕ) (files : List (List ℕ)) (others : ℕ) (s : CoreState) (l : NfsLists) (current : Option ℕ) (at : ℕ) (c : ClientRow) (a : OpenArgsItem) (stateid : Stateid) (flags : ℕ) → IsOrderly l → client_in s l a.owner.clientid ≡ Some c → (carried n s l current (open_judged files others s l current at (opener_of c a) a (judged l (opener_of c a) a.seqid))).0 ≡ Opened stateid flags
+pub told_is_known : (n : ℕ) (files : List (List ℕ)) (others : ℕ) (s : CoreState) (l : NfsLists) (current : Option ℕ) (at : ℕ) (c : ClientRow) (a : OpenArgsItem) (stateid : Stateid) (flags : ℕ) (gave : Option (Stateid × Bool)) → IsOrderly l → client_in s l a.owner.clientid ≡ Some c → (carried n s l current (open_judged files others s l current at (opener_of c a) a (judged l (opener_of c a) a.seqid))).0 ≡ Opened stateid flags gave
     → IsKnown (opener_of c a) a stateid (carried n s l current (open_judged files others s l current at (opener_of c a) a (judged l (opener_of c a) a.seqid)))
-told_is_known n files others s l current at c a stateid flags orderly found told =
-    judged_known n files others s l current at (opener_of c a) a stateid flags (judged l (opener_of c a) a.seqid) refl (opener_there s l a c (opener_of c a) (sym found) refl) orderly told
+told_is_known n files others s l current at c a stateid flags gave orderly found told =
+    judged_known n files others s l current at (opener_of c a) a stateid flags gave (judged l (opener_of c a) a.seqid) refl (opener_there s l a c (opener_of c a) (sym found) refl) orderly told

@@ -1,21 +1,21 @@
 -- What the calls of the core leave.
-use Rattle.std.proofs.Common.{◌≡◌, ℕ, ◌+◌, ◌≤◌, Bool, true, false, if◌then◌else◌, List, [], ◌∷◌, ◌++◌, length, Option, Some, None, refl, sym, ap, subst, ◌∙◌, inl, inr, arith, append-nil, append_assoc}
-use Rattle.std.proofs.lemmas.Bool.{cases_Bool}
-use Rattle.xl_wait.specs.declared.waiter.Waiter.{Waiter}
-use Rattle.xl_core.specs.Deeds.{GivesBack, Weakens, Renews, given, all_told_of}
+use Rattle.std.proofs.Common.{◌≡◌, ℕ, suc, ◌+◌, ◌<◌, ◌≤◌, ◌^◌, Bool, true, false, if◌then◌else◌, List, [], ◌∷◌, ◌++◌, Option, Some, None, refl, sym, ap, subst, ◌∙◌, inl, inr, true≢false, arith, append-nil, append_assoc}
+use Rattle.std.proofs.lemmas.Bool.{cases_Bool, and_right}
+use Rattle.xl_core.specs.Deeds.{GivesBack, Weakens, Renews, all_told_of}
 use Rattle.xl_core.specs.Good.{IsGood}
-use Rattle.xl_core.specs.Settle.{all_cancelled, give_back, share_has, weaken}
+use Rattle.xl_core.specs.Settle.{give_back, share_has, weaken}
 use Rattle.xl_core.specs.State.{CoreState, GoesOn, MayBe, drawn}
 use Rattle.xl_core.specs.Ticks.{renew}
 use Rattle.xl_core.specs.declared.ask.Effect.{Effect}
-use Rattle.xl_nfs_opens.specs.Short.{Comes, IsReady, Leaves, IsNfsWho, IsNfsAsk, spent_by, drawn_behind}
-use Rattle.xl_nfs_opens.specs.Opens.{is_granted, share_held, gives, given_up, gives_all}
+use Rattle.xl_nfs_opens.specs.Short.{Comes, IsReady, Leaves, IsNfsWho, IsNfsAsk}
+use Rattle.xl_nfs_opens.specs.Opens.{share_held, gives, given_up, gives_all}
 use Rattle.xl_nfs_opens.specs.declared.opener.Opener.{Opener}
 use Rattle.xl_nfs_state.specs.declared.stateid.StateidRow.{StateidRow}
 use Rattle.xl_nfs_opens.specs.Downgrades.{weakens}
 use Rattle.xl_matrix.specs.declared.claim.Rwd.{Rwd}
+use Rattle.xl_matrix.specs.declared.claim.What.{What}
+use Rattle.xl_matrix.specs.declared.claim.What.TheVariants.{Cache, Range, Share}
 use Rattle.std.specs.List.{AllByRecursion}
-use Rattle.std.proofs.lemmas.List.{length-append}
 use Rattle.xl_base.specs.declared.name.Protocol.TheVariants.{Nfs}
 use Rattle.xl_names.specs.Names.{protocol_of, entered, is_kept}
 use Rattle.xl_names.specs.declared.name.Name.{Name}
@@ -23,8 +23,14 @@ use Rattle.xl_matrix.specs.declared.claim.Claim.{Claim}
 use Rattle.xl_wait.specs.declared.waiter.Rooms.{Rooms}
 use Rattle.xl_core.specs.Asking.{who_entered, both_entered, IsFit}
 use Rattle.xl_core.specs.Decide.{ask}
-use Rattle.xl_core.specs.Frames.{who_left, IsFrame, drawn_by, asks_to_hold, names_after, come_by}
-use Rattle.xl_core.proofs.FrameLaws.{ask_frame, ask_quiet, frame_goes_on, give_back_frame, weaken_frame, drawn_frame, renew_frame}
+use Rattle.xl_base.specs.Limits.{numbers_left}
+use Rattle.xl_table.specs.Held.{is_cache}
+use Rattle.xl_core.specs.Begin.{is_recalled}
+use Rattle.xl_core.specs.Good.{caches_of}
+use Rattle.xl_core.specs.Numbers.{may_be_broken, may_be_recalled, delegations_left, numbers_of}
+use Rattle.xl_core.specs.Frames.{IsFrame, asks_to_hold, names_after}
+use Rattle.xl_core.proofs.FrameLaws.{ask_frame, frame_goes_on, give_back_frame, weaken_frame, drawn_frame, renew_frame}
+use Rattle.xl_core.proofs.NumberLaws.{ask_numbers, drawn_numbers, give_back_numbers, weaken_numbers, renew_numbers}
 use Rattle.xl_core.specs.declared.ask.Answer.{Answer}
 use Rattle.xl_core.specs.declared.ask.Answer.TheVariants as answers
 use Rattle.xl_core.specs.declared.ask.Ask.{Ask}
@@ -64,50 +70,51 @@ both_come a names nfs = comes_then names (who_entered a.owner names) (both_enter
 -- ---- one after the other
 
 pub leaves_self : (s : CoreState) (more : ℕ) → IsReady more s → Leaves 0 s s
-leaves_self s more ready = record { on = record { made = omega arith; failed = λ f. (f, refl) }; good = ready.good; counter = omega arith; crowd = omega arith; names = comes_self s.names }
+leaves_self s more ready = record { on = record { made = omega arith; failed = λ f. (f, refl) }; good = ready.good; numbers = omega arith; names = comes_self s.names }
 
 pub leaves_then : (s t u : CoreState) (a b : ℕ) → Leaves a s t → Leaves b t u → Leaves (a + b) s u
 leaves_then s t u a b first second =
     record {
       on = record { made = omega (arith, first.on.made, second.on.made); failed = λ f. (let g = first.on.failed f in let h = second.on.failed g.0 in (h.0, h.1 ∙ g.1)) };
       good = second.good;
-      counter = omega (arith, first.counter, second.counter);
-      crowd = omega (arith, first.crowd, second.crowd);
+      numbers = omega (arith, first.numbers, second.numbers);
       names = comes_then s.names t.names u.names first.names second.names;
     }
 
 pub leaves_more : (s t : CoreState) (a b : ℕ) → a ≤ b → Leaves a s t → Leaves b s t
-leaves_more s t a b le leaves = record { on = leaves.on; good = leaves.good; counter = omega (arith, le, leaves.counter); crowd = omega (arith, le, leaves.crowd); names = leaves.names }
+leaves_more s t a b le leaves = record { on = leaves.on; good = leaves.good; numbers = omega (arith, le, leaves.numbers); names = leaves.names }
 
 pub ready_then : (s t : CoreState) (a b : ℕ) → IsReady (a + b) s → Leaves a s t → IsReady b t
-ready_then s t a b ready leaves = record { good = leaves.good; numbers = omega (arith, ready.numbers, leaves.counter) }
+ready_then s t a b ready leaves = record { good = leaves.good; numbers = omega (arith, ready.numbers, leaves.numbers) }
 
 pub ready_less : (s : CoreState) (a b : ℕ) → b ≤ a → IsReady a s → IsReady b s
 ready_less s a b le ready = record { good = ready.good; numbers = omega (arith, le, ready.numbers) }
 
+-- the numbers that are left to give out
+pub ready_numbers : (s : CoreState) (more : ℕ) → IsReady more s → s.counter + numbers_left < 2 ^ 32
+ready_numbers s more ready = omega (arith, ready.numbers)
+
 -- ---- the calls
 
--- who is let go is told of, and so many numbers are given out
-frame_leaves : (s t : CoreState) (told : List Effect) (given : ℕ) → IsFrame s told t given s.names [] → IsGood t → Leaves given s t
-frame_leaves s t told given frame good =
-    let on = frame_goes_on s t told given s.names frame in
-    record {
-      on = on.0;
-      good = good;
-      counter = omega (arith, frame.counter);
-      crowd = omega (arith, frame.counter, on.1);
-      names = subst (λ (names : List Name). Comes s.names names) (sym frame.names) (comes_self s.names);
-    }
+-- who is let go is told of
+frame_leaves : (s t : CoreState) (told : List Effect) (given more : ℕ) → IsFrame s told t given s.names [] → numbers_of t ≤ numbers_of s + more → IsGood t → Leaves more s t
+frame_leaves s t told given more frame numbers good = record {
+  on = (frame_goes_on s t told given s.names frame).0;
+  good = good;
+  numbers = numbers;
+  names = subst (λ (names : List Name). Comes s.names names) (sym frame.names) (comes_self s.names);
+}
 
 -- the same of a call, by what it gives
-pub call_leaves : (s new : CoreState) (effects : List Effect) (call : List Effect × CoreState) → call ≡ (effects, new) → IsFrame s call.0 call.1 0 s.names [] → IsGood new → Leaves 0 s new
-call_leaves s new effects call e frame good = frame_leaves s new effects 0 (subst (λ (r : List Effect × CoreState). IsFrame s r.0 r.1 0 s.names []) e frame) good
+pub call_leaves : (s new : CoreState) (effects : List Effect) (call : List Effect × CoreState) → call ≡ (effects, new) → IsFrame s call.0 call.1 0 s.names [] → numbers_of call.1 ≤ numbers_of s → IsGood new → Leaves 0 s new
+call_leaves s new effects call e frame numbers good =
+    frame_leaves s new effects 0 0 (subst (λ (r : List Effect × CoreState). IsFrame s r.0 r.1 0 s.names []) e frame) (subst (λ (r : List Effect × CoreState). numbers_of r.1 ≤ numbers_of s + 0) e (omega (arith, numbers))) good
 
 pub renew_leaves : (s new : CoreState) (id : List ℕ) (effects : List Effect) → renew s id ≡ (effects, new) → IsGood new → Leaves 0 s new
-renew_leaves s new id effects e good = call_leaves s new effects (renew s id) e (renew_frame s id) good
+renew_leaves s new id effects e good = call_leaves s new effects (renew s id) e (renew_frame s id) (omega (arith, renew_numbers s id)) good
 
 pub drawn_leaves : (s new : CoreState) → new ≡ drawn s → IsGood new → Leaves 1 s new
-drawn_leaves s new e good = frame_leaves s new [] 1 (subst (λ (t : CoreState). IsFrame s [] t 1 s.names []) (sym e) (drawn_frame s)) good
+drawn_leaves s new e good = frame_leaves s new [] 1 1 (subst (λ (t : CoreState). IsFrame s [] t 1 s.names []) (sym e) (drawn_frame s)) (subst (λ (t : CoreState). numbers_of t ≤ numbers_of s + 1) (sym e) (omega (arith, drawn_numbers s))) good
 
 pub drawn_number : (s : CoreState) → (drawn s).counter ≡ s.counter + 1
 drawn_number s = (drawn_frame s).counter
@@ -121,44 +128,31 @@ drawn_stable s = (drawn_frame s).stable
 
 -- ---- an ask
 
-asked_by : (a : Ask) (names : List Name) (answer : Answer) → IsNfsAsk a → (drawn_by answer ≤ spent_by answer) × (drawn_by answer + length (come_by a answer names) ≤ spent_by answer) × Comes names (names_after a answer names)
-asked_by a names (answers.Granted c) nfs = (omega arith, omega arith, either (asks_to_hold a.act)) where
+asked_names : (a : Ask) (names : List Name) (answer : Answer) → IsNfsAsk a → Comes names (names_after a answer names)
+asked_names a names (answers.Granted c) nfs = either (asks_to_hold a.act) where
   either : (b : Bool) → Comes names (if b then both_entered a names else names)
   either true = both_come a names nfs
   either false = comes_self names
-asked_by a names (answers.Queued id) nfs = (omega arith, omega arith, both_come a names nfs)
-asked_by a names (answers.Conflict c) nfs = (omega arith, omega arith, comes_self names)
-asked_by a names (answers.Recall c) nfs = (omega arith, omega arith, comes_self names)
-asked_by a names (answers.Grace until) nfs = (omega arith, omega arith, comes_self names)
-asked_by a names (answers.NoGrace clock) nfs = (omega arith, omega arith, comes_self names)
-asked_by a names answers.NotRecorded nfs = (omega arith, omega arith, comes_self names)
-asked_by a names (answers.Full limit) nfs = (omega arith, omega arith, comes_self names)
-asked_by a names answers.NotHeld nfs = (omega arith, omega arith, comes_self names)
-asked_by a names answers.StoreFailed nfs = (omega arith, omega arith, comes_self names)
+asked_names a names (answers.Queued id) nfs = both_come a names nfs
+asked_names a names answer nfs = comes_self names
 
-framed_leaves : (s new : CoreState) (a : Ask) (answer : Answer) (told : List Effect) → told ≡ [] → IsFrame s told new (drawn_by answer) (names_after a answer s.names) (come_by a answer s.names) → GoesOn s new → IsGood new → IsNfsAsk a → Leaves (spent_by answer) s new
-framed_leaves s new a answer told quiet frame on good nfs =
-    let by = asked_by a s.names answer nfs in
-    let queue : new.waiters ≡ s.waiters ++ come_by a answer s.names = frame.waiters ∙ ap (λ (x : List Effect). all_cancelled (who_left x) s.waiters ++ come_by a answer s.names) quiet in
+pub ask_leaves : (n : ℕ) (left : Rooms) (s new : CoreState) (a : Ask) (answer : Answer) (effects : List Effect) → ask n left s a ≡ (answer, effects, new) → GoesOn s new → IsFit a → IsGood s → IsGood new → IsNfsAsk a → Leaves 2 s new
+ask_leaves n left s new a answer effects e on fit ready good nfs =
+    let r = ask n left s a in
+    let frame = ask_frame n left s a ready fit.party in
+    let same : r.2 ≡ new = ap (λ (x : Answer × List Effect × CoreState). x.2) e in
     record {
       on = on;
       good = good;
-      counter = omega (arith, frame.counter, by.0);
-      crowd = omega (arith, frame.counter, ap (λ (ws : List Waiter). length ws) queue, length-append s.waiters (come_by a answer s.names), by.1);
-      names = subst (λ (names : List Name). Comes s.names names) (sym frame.names) by.2;
+      numbers = subst (λ (t : CoreState). numbers_of t ≤ numbers_of s + 2) same (omega (arith, ask_numbers n left s a ready fit));
+      names = subst (λ (t : CoreState). Comes s.names t.names) same (subst (λ (names : List Name). Comes s.names names) (sym frame.names) (asked_names a s.names r.0 nfs));
     }
-
-pub ask_leaves : (n : ℕ) (left : Rooms) (s new : CoreState) (a : Ask) (answer : Answer) (effects : List Effect) → ask n left s a ≡ (answer, effects, new) → GoesOn s new → IsFit a → IsGood s → IsGood new → IsNfsAsk a → Leaves (spent_by answer) s new
-ask_leaves n left s new a answer effects e on fit ready good nfs =
-    let r = ask n left s a in
-    let is : Leaves (spent_by r.0) s r.2 = framed_leaves s r.2 a r.0 r.1 (ask_quiet n left s a ready fit.party) (ask_frame n left s a ready fit.party) (subst (λ (t : CoreState). GoesOn s t) (sym (ap (λ (x : Answer × List Effect × CoreState). x.2) e)) on) (subst (λ (t : CoreState). IsGood t) (sym (ap (λ (x : Answer × List Effect × CoreState). x.2) e)) good) nfs in
-    subst (λ (x : Answer × List Effect × CoreState). Leaves (spent_by x.0) s x.2) e is
 
 pub may_be_made : (s : CoreState) → MayBe s.made s
 may_be_made s = record { enough = omega arith; spent = λ _. refl }
 
 pub give_leaves : (s new : CoreState) (claim : Claim) (effects : List Effect) → give_back s claim ≡ (effects, new) → IsGood new → Leaves 0 s new
-give_leaves s new claim effects e good = call_leaves s new effects (give_back s claim) e (give_back_frame s claim) good
+give_leaves s new claim effects e good = call_leaves s new effects (give_back s claim) e (give_back_frame s claim) (omega (arith, give_back_numbers s claim)) good
 
 -- what may be at the end of a step may be before it
 pub may_before : (n most : ℕ) (s t : CoreState) → Leaves most s t → MayBe n t → MayBe n s
@@ -172,7 +166,7 @@ unfolding give_back
 give_told n s claim = refl
 
 pub weaken_leaves : (s new : CoreState) (claim : Claim) (access deny : Rwd) (effects : List Effect) → weaken s claim access deny ≡ (effects, new) → IsGood new → Leaves 0 s new
-weaken_leaves s new claim access deny effects e good = call_leaves s new effects (weaken s claim access deny) e (weaken_frame s claim access deny) good
+weaken_leaves s new claim access deny effects e good = call_leaves s new effects (weaken s claim access deny) e (weaken_frame s claim access deny) (omega (arith, weaken_numbers s claim access deny)) good
 
 pub weaken_told : (n : ℕ) (s : CoreState) (claim : Claim) (access deny : Rwd) → all_told_of n s (Weakens claim access deny ∷ []) ≡ []
 unfolding weaken
@@ -187,35 +181,30 @@ weakens_told n s (Some claim) access deny =
     ]
 
 -- an ask, and what is drawn behind it
-pub ask_ready : (s t : CoreState) (answer : Answer) → IsReady 2 s → Leaves (spent_by answer) s t → IsReady 0 t
-ask_ready s t answer ready leaves = record { good = leaves.good; numbers = omega (arith, ready.numbers, leaves.counter, spent_little answer) }
-  where
-    spent_little : (a : Answer) → spent_by a ≤ 2
-    spent_little (answers.Queued id) = omega arith
-    spent_little (answers.Granted c) = omega arith
-    spent_little (answers.Conflict c) = omega arith
-    spent_little (answers.Recall c) = omega arith
-    spent_little (answers.Grace until) = omega arith
-    spent_little (answers.NoGrace clock) = omega arith
-    spent_little answers.NotRecorded = omega arith
-    spent_little (answers.Full limit) = omega arith
-    spent_little answers.NotHeld = omega arith
-    spent_little answers.StoreFailed = omega arith
+pub ask_ready : (s t : CoreState) → IsReady 4 s → Leaves 2 s t → IsReady 2 t
+ask_ready s t ready leaves = ready_then s t 2 2 ready leaves
 
-pub asked_leaves : (s t u : CoreState) (answer : Answer) → Leaves (spent_by answer) s t → Leaves (drawn_behind (is_granted answer)) t u → Leaves 2 s u
-asked_leaves s t u answer first second = leaves_more s u (spent_by answer + drawn_behind (is_granted answer)) 2 (both answer) (leaves_then s t u (spent_by answer) (drawn_behind (is_granted answer)) first second)
-  where
-    both : (a : Answer) → spent_by a + drawn_behind (is_granted a) ≤ 2
-    both (answers.Queued id) = omega arith
-    both (answers.Granted c) = omega arith
-    both (answers.Conflict c) = omega arith
-    both (answers.Recall c) = omega arith
-    both (answers.Grace until) = omega arith
-    both (answers.NoGrace clock) = omega arith
-    both answers.NotRecorded = omega arith
-    both (answers.Full limit) = omega arith
-    both answers.NotHeld = omega arith
-    both answers.StoreFailed = omega arith
+pub asked_leaves : (s t u : CoreState) → Leaves 2 s t → Leaves 2 t u → Leaves 4 s u
+asked_leaves s t u first second = leaves_then s t u 2 2 first second
+
+-- ---- delegations that may be recalled
+
+no_break : (w : What) → is_cache w ≡ false → may_be_broken w ≡ false
+no_break (Cache kind running) e = absurd (true≢false e)
+no_break (Share access deny) e = refl
+no_break (Range extent exclusive) e = refl
+
+left_among : (cs : List Claim) → delegations_left cs ≡ delegations_left (caches_of cs)
+left_among [] = refl
+left_among (c ∷ cs) =
+    elim (cases_Bool (is_cache c.what)) [
+      | inl e ↦ rw e (elim (cases_Bool (may_be_recalled c)) [ inl one ↦ rw one (ap suc (left_among cs)) | inr other ↦ rw other (left_among cs) ])
+      | inr e ↦ let fails : may_be_recalled c ≡ false = rw (no_break c.what e) (and_right (is_recalled c.party) false refl) in rw (e, fails) (left_among cs)
+    ]
+
+-- they are among the caches
+pub left_by_caches : (cs ds : List Claim) → caches_of cs ≡ caches_of ds → delegations_left cs ≡ delegations_left ds
+left_by_caches cs ds same = left_among cs ∙ ap delegations_left same ∙ sym (left_among ds)
 
 -- nothing is told of shares that are given back
 pub all_gives_told : (n : ℕ) (s : CoreState) (o : Opener) (rows : List StateidRow) → all_told_of n s (gives_all s o rows) ≡ []

@@ -1,7 +1,8 @@
 -- How long results are tells those of denied locks from the others, and what is read of a result that is kept.
-use Rattle.std.proofs.Common.{◌≡◌, ℕ, ◌≤◌, ◌<◌, ◌^◌, true, false, List, [], ◌++◌, length, Ok, Err, refl, sym, ap, subst, ◌∙◌, inl, inr, arith, append-nil, eqb-true, true≢false}
+use Rattle.std.proofs.Common.{◌≡◌, ℕ, ◌≤◌, ◌<◌, ◌^◌, Bool, true, false, Option, Some, None, List, [], ◌++◌, length, Ok, Err, refl, sym, ap, subst, ◌∙◌, inl, inr, arith, append-nil, eqb-true, true≢false}
 use Rattle.std.proofs.lemmas.Bool.{cases_Bool, le-leb}
 use Rattle.std.specs.Bool.{◌==◌}
+use Rattle.std.specs.Prelude.{IfSome}
 use Rattle.xl_base.specs.Handles.{handle}
 use Rattle.xl_nfs.proofs.AgainLaws.{result_again}
 use Rattle.xl_nfs.specs.Basics.{stateid}
@@ -21,7 +22,7 @@ use Rattle.xl_nfs_opens.specs.declared.told.HeldLock.{HeldLock}
 use Rattle.xl_nfs_opens.specs.declared.told.Told.{Told}
 use Rattle.xl_nfs_opens.specs.declared.told.Told.TheVariants.{Ended, Handle, Client, Opened, State, Free, Denied, Kept}
 use Rattle.xl_nfs_opens.proofs.HeldLaws.{free_fits, free_little, lock_fits, test_fits}
-use Rattle.xl_nfs_opens.proofs.ResultLaws.{client_fits, client_little, ended_little, handle_fits, handle_little, open_fits, open_little, state_fits, state_little}
+use Rattle.xl_nfs_opens.proofs.ResultLaws.{DelegationFits, client_fits, client_little, ended_little, handle_fits, handle_little, open_fits, open_little, state_fits, state_little}
 
 -- ---- parts
 
@@ -29,14 +30,18 @@ stateid_parts : (s : Stateid) → stateid.Fit s → (s.seqid < 2 ^ 32) × (lengt
 unfolding stateid
 stateid_parts s fit = (fit.0, fit.1)
 
+given_parts : (given : Option (Stateid × Bool)) → IfSome given (λ d. stateid.Fit d.0) → DelegationFits given
+given_parts None fit = tt
+given_parts (Some d) fit = stateid_parts d.0 fit
+
 client_parts : (c : ClientConfirm) → client_confirm.Fit c → (c.clientid < 2 ^ 64) × (length c.verifier ≡ 8)
 unfolding client_confirm
 client_parts c fit = (fit.0, fit.1)
 
 -- ---- short results
 
-within : (bytes : List ℕ) → length bytes ≤ 56 → is_short bytes ≡ true
-within bytes le = le-leb (length bytes) 56 le
+within : (bytes : List ℕ) → length bytes ≤ 104 → is_short bytes ≡ true
+within bytes le = le-leb (length bytes) 104 le
 
 kept_short : (bytes : List ℕ) → is_denied (kept_status bytes) ≡ false → is_short bytes ≡ true
 unfolding kept_status
@@ -50,7 +55,7 @@ pub told_short : (number : ℕ) (told : Told) → PartsFit number told → is_de
 told_short number (Ended status) fit other = within (spelled number (Ended status)) (omega (arith, ended_little number status))
 told_short number (Handle file) fit other = within (spelled number (Handle file)) (omega (arith, handle_little file))
 told_short number (Client confirm) fit other = within (spelled number (Client confirm)) (omega (arith, client_little confirm (client_parts confirm fit).1))
-told_short number (Opened opened flags) fit other = within (spelled number (Opened opened flags)) (open_little opened flags (stateid_parts opened fit.0).1)
+told_short number (Opened opened flags given) fit other = within (spelled number (Opened opened flags given)) (open_little opened flags given (stateid_parts opened fit.0).1 (given_parts given fit.2))
 told_short number (State given) fit other = within (spelled number (State given)) (omega (arith, state_little number given (stateid_parts given fit).1))
 told_short number Free fit other = within (spelled number Free) (omega (arith, free_little))
 told_short number (Denied held) fit other = absurd (true≢false other)
@@ -71,7 +76,7 @@ by_length x fit long =
       | inr e ↦ rw e (sym (long e))
     ]
 
-when_short : (x : ResultItem) → ResultFits x → length (nfs_result.spell x) ≤ 56 → kept_status (nfs_result.spell x) ≡ result_status x
+when_short : (x : ResultItem) → ResultFits x → length (nfs_result.spell x) ≤ 104 → kept_status (nfs_result.spell x) ≡ result_status x
 when_short x fit le = by_length x fit (λ long. absurd (true≢false (sym (within (nfs_result.spell x) le) ∙ long)))
 
 ended_status : (number : ℕ) (s : NfsStatus) → has_seqid number ≡ true → result_status (ended_as number s) ≡ s
@@ -123,7 +128,9 @@ pub told_again : (number : ℕ) (told : Told) → PartsFit number told → has_s
 told_again number (Ended status) fit has = when_short (ended_as number status) fit (omega (arith, ended_little number status)) ∙ ended_status number status has
 told_again number (Handle file) fit has = when_short (GetFhAnswer (Ok (handle file))) (handle_fits file) (omega (arith, handle_little file))
 told_again number (Client confirm) fit has = (let parts = client_parts confirm fit in when_short (SetClientIdAnswer (Ok confirm)) (client_fits confirm parts.0 parts.1) (omega (arith, client_little confirm parts.1)))
-told_again number (Opened opened flags) fit has = (let parts = stateid_parts opened fit.0 in when_short (OpenAnswer (Ok (open_result_of opened flags))) (open_fits opened flags parts.0 parts.1 fit.1) (open_little opened flags parts.1))
+told_again number (Opened opened flags given) fit has =
+    let parts = stateid_parts opened fit.0 in
+    when_short (OpenAnswer (Ok (open_result_of opened flags given))) (open_fits opened flags given parts.0 parts.1 fit.1 (given_parts given fit.2)) (open_little opened flags given parts.1 (given_parts given fit.2))
 told_again number (State given) fit has = (let parts = stateid_parts given fit in when_short (state_as number given) (state_fits number given parts.0 parts.1) (omega (arith, state_little number given parts.1)) ∙ state_status number given)
 told_again number Free fit has = when_short (LockTAnswer (Ok tt)) free_fits (omega (arith, free_little))
 told_again number (Denied held) fit has = denied_again number held fit

@@ -1,4 +1,5 @@
 pub mod OwnerLaws
+pub mod CacheLaws
 pub mod LeaveLaws
 pub mod ResultLaws
 pub mod HeldLaws
@@ -24,3 +25,4 @@ pub mod ShutLaws
 pub mod NumberLaws
 pub mod LengthLaws
 pub mod TiedLaws
+pub mod DelegationLaws

@@ -29,11 +29,11 @@ use Rattle.xl_core.specs.Deeds.{Deed, Asks, GivesBack, Weakens, Acks, Cancels, E
 use Rattle.xl_core.specs.Good.{IsGood}
 use Rattle.xl_core.specs.State.{CoreState, drawn}
 use Rattle.xl_core.specs.declared.ask.Answer.{Answer}
-use Rattle.xl_nfs_opens.specs.Closing.{checked, close, close_by, close_done, confirm_by, confirm_done, deleg_return, done_lists, failed_lists, locks_gone, next_turn, open_confirm, share_of_open, standing_fault, state_told}
+use Rattle.xl_nfs_opens.specs.Closing.{checked, close, close_by, close_done, confirm_by, cache_of, confirm_done, Returning, returned, return_done, deleg_return, done_lists, failed_lists, locks_gone, next_turn, open_confirm, share_of_open, standing_fault, state_told}
 use Rattle.xl_nfs_opens.specs.Downgrades.{downgrade_by, downgrade_done, downgrade_fault, open_downgrade, weakens}
 use Rattle.xl_nfs_opens.specs.Leases.{number_in}
 use Rattle.xl_nfs_opens.specs.Numbers.{AreGivenOut, StayGivenOut}
-use Rattle.xl_nfs_opens.specs.Opens.{answer_status, answered, can_enter, claim_client, client_in, either_bits, entered, entered_in, gives, granted_by, granted_new, has_room, is_granted, judged, open_as, open_at, open_by, open_claimed, open_file, open_held, open_judged, open_of, open_row, open_turn, opened_file, opened_told, opener_of, reclaims, refused, refused_lists, repeated, rights_of, stood}
+use Rattle.xl_nfs_opens.specs.Opens.{freed, answer_status, answered, can_enter, can_stand, claim_client, client_in, delegated, delegated_in, delegation_row, delegation_told, drawn_for, draws_for, either_bits, entered, gives, granted_by, granted_new, granted_wish, has_room, is_granted, judged, open_as, open_at, open_by, open_claimed, open_file, open_held, open_judged, open_of, open_row, open_turn, opened_file, opened_told, opener_of, reclaims, refused, refused_lists, repeated, rights_of, stood, wish_of}
 use Rattle.xl_nfs_opens.specs.Owners.{IsBy, AreBy}
 use Rattle.xl_nfs_opens.specs.Plans.{Plan, Fails, Does, Behind, Asking, carried, deeds_of}
 use Rattle.xl_nfs_opens.specs.Renewing.{renewed_for, renewed_if, state_client}
@@ -127,7 +127,7 @@ refused_given last o a confirmed status l given =
     ]
 
 -- a stateid comes, of the number that was given out last
-entered_given : (last : ℕ) (r : StateidRow) (l : NfsLists) → r.number ≤ last → AreGivenOut last l → AreGivenOut last (entered r l)
+pub entered_given : (last : ℕ) (r : StateidRow) (l : NfsLists) → r.number ≤ last → AreGivenOut last l → AreGivenOut last (entered r l)
 unfolding entered
 entered_given last r l le given =
     let m : NfsLists = with_stateids l (without (is_whose (whose.Stateid r.number)) l.stateids) in
@@ -207,40 +207,54 @@ carried_few n s l current (Asking left a rest) Client good own given few =
 
 -- ---- OPEN
 
-granted_few : (s : CoreState) (l : NfsLists) (o : Opener) (a : OpenArgsItem) (file : ℕ) (confirmed : Bool) (x : Option StateidRow) → AreGivenOut s.counter l → AreFew s.counter (granted_by s l o a file confirmed x)
-granted_few s l o a file confirmed None given =
-    let next : ℕ = s.counter + draws (Draws ∷ []) in
+-- a delegation comes, of the number that was given out last
+delegated_given : (last : ℕ) (s : CoreState) (o : Opener) (file : ℕ) (write : Option Bool) (l : NfsLists) → s.counter + draws (draws_for write) ≤ last → AreGivenOut last l → AreGivenOut last (delegated s o file write l)
+unfolding delegated_in
+delegated_given last s o file None l le given = given
+delegated_given last s o file (Some write) l le given =
+    let row = delegation_row (s.counter + 1) o file write in
+    elim (cases_Bool (can_stand row l)) [
+      | inl e ↦ rw e (all_append (λ (q : StateidRow). q.number ≤ last) l.stateids (row ∷ []) given (le, tt))
+      | inr e ↦ rw e given
+    ]
+
+granted_few : (s : CoreState) (l : NfsLists) (o : Opener) (a : OpenArgsItem) (file : ℕ) (confirmed : Bool) (write : Option Bool) (x : Option StateidRow) → AreGivenOut s.counter l → AreFew s.counter (granted_by s l o a file confirmed write x)
+granted_few s l o a file confirmed write None given =
+    let next : ℕ = s.counter + draws (Draws ∷ draws_for write) in
     let there : NfsLists = seated o (open_turn a confirmed) l in
     let row : StateidRow = open_row (s.counter + 1) o (opener_number o l) file a in
-    kept_given next (opener_number o l) (spelled 18 (opened_told (drawn s) (s.counter + 1) 1 confirmed)) (entered row there)
-    (entered_given next row there (omega arith) (seated_given next o (open_turn a confirmed) l (does_few s.counter (Draws ∷ []) l given)))
-granted_few s l o a file confirmed (Some r) given =
+    kept_given next (opener_number o l) (spelled 18 (opened_told (drawn_for write (drawn s)) (s.counter + 1) 1 confirmed (delegation_told (drawn s) write))) (delegated (drawn s) o file write (entered row there))
+    (delegated_given next (drawn s) o file write (entered row there) (omega (arith, drawn_number s))
+    (entered_given next row there (omega arith) (seated_given next o (open_turn a confirmed) l (does_few s.counter (Draws ∷ draws_for write) l given))))
+granted_few s l o a file confirmed write (Some r) given =
+    let next : ℕ = s.counter + draws (draws_for write) in
     let after : NfsLists = stood r.number r (either_bits r.standing.access a.access) (either_bits r.standing.deny a.deny) false l in
-    does_few s.counter [] (kept_for (opener_number o l) (spelled 18 (opened_told s r.number (next_seqid r.standing.seqid) confirmed)) (seated o (open_turn a confirmed) after))
-    (kept_given s.counter (opener_number o l) (spelled 18 (opened_told s r.number (next_seqid r.standing.seqid) confirmed)) (seated o (open_turn a confirmed) after)
-    (seated_given s.counter o (open_turn a confirmed) after (stood_given s.counter r.number r (either_bits r.standing.access a.access) (either_bits r.standing.deny a.deny) false l given)))
+    let there : NfsLists = seated o (open_turn a confirmed) after in
+    kept_given next (opener_number o l) (spelled 18 (opened_told (drawn_for write s) r.number (next_seqid r.standing.seqid) confirmed (delegation_told s write))) (delegated s o file write there)
+    (delegated_given next s o file write there (omega arith)
+    (does_few s.counter (draws_for write) there (seated_given s.counter o (open_turn a confirmed) after (stood_given s.counter r.number r (either_bits r.standing.access a.access) (either_bits r.standing.deny a.deny) false l given))))
 
 refused_few : (last : ℕ) (l : NfsLists) (current : Option ℕ) (o : Opener) (a : OpenArgsItem) (confirmed : Bool) (status : NfsStatus) → AreGivenOut last l → AreFew last (refused l current o a confirmed status)
 refused_few last l current o a confirmed status given = does_few last [] (refused_lists o a confirmed status l) (refused_given last o a confirmed status l given)
 
-answered_few : (l : NfsLists) (current : Option ℕ) (o : Opener) (a : OpenArgsItem) (file : ℕ) (confirmed : Bool) (answer : Answer) (s : CoreState) → AreGivenOut s.counter l → AreFew s.counter (answered l current o a file confirmed answer s)
-answered_few l current o a file confirmed answer s given =
+answered_few : (l : NfsLists) (current : Option ℕ) (o : Opener) (a : OpenArgsItem) (file : ℕ) (confirmed : Bool) (wish : Option Bool) (answer : Answer) (s : CoreState) → AreGivenOut s.counter l → AreFew s.counter (answered l current o a file confirmed wish answer s)
+answered_few l current o a file confirmed wish answer s given =
     elim (cases_Bool (is_granted answer)) [
-      | inl e ↦ rw e (granted_few s l o a file (confirmed || reclaims a.claim) (open_held l o file) given)
+      | inl e ↦ rw e (granted_few s l o a file (confirmed || reclaims a.claim) (granted_wish s o file wish) (open_held l o file) given)
       | inr e ↦ rw e (refused_few s.counter l current o a confirmed (answer_status (reclaims a.claim) answer) given)
     ]
 
-by_few : (last others : ℕ) (l : NfsLists) (current : Option ℕ) (o : Opener) (a : OpenArgsItem) (confirmed : Bool) (r : Result ℕ NfsStatus) → AreGivenOut last l → AreFew last (open_by others l current o a confirmed r)
-by_few last others l current o a confirmed (Err status) given = refused_few last l current o a confirmed status given
-by_few last others l current o a confirmed (Ok file) given =
+by_few : (last others : ℕ) (s : CoreState) (l : NfsLists) (current : Option ℕ) (o : Opener) (a : OpenArgsItem) (confirmed : Bool) (r : Result ℕ NfsStatus) → AreGivenOut last l → AreFew last (open_by others s l current o a confirmed r)
+by_few last others s l current o a confirmed (Err status) given = refused_few last l current o a confirmed status given
+by_few last others s l current o a confirmed (Ok file) given =
     elim (cases_Bool (has_room others l o file)) [
-      | inl e ↦ rw e (λ answer t le. answered_few l current o a file confirmed answer t (later_on last t.counter l le given))
+      | inl e ↦ rw e (λ answer t le. answered_few l current o a file confirmed (wish_of s l o a confirmed file) answer t (later_on last t.counter l le given))
       | inr e ↦ rw e (does_few last [] l given)
     ]
 
-as_few : (last : ℕ) (files : List (List ℕ)) (others : ℕ) (l : NfsLists) (current : Option ℕ) (at : ℕ) (o : Opener) (a : OpenArgsItem) (confirmed : Bool) → AreGivenOut last l → AreFew last (open_as files others l current at o a confirmed)
+as_few : (last : ℕ) (files : List (List ℕ)) (others : ℕ) (s : CoreState) (l : NfsLists) (current : Option ℕ) (at : ℕ) (o : Opener) (a : OpenArgsItem) (confirmed : Bool) → AreGivenOut last l → AreFew last (open_as files others s l current at o a confirmed)
 unfolding open_as
-as_few last files others l current at o a confirmed given = by_few last others l current o a confirmed (opened_file files at a) given
+as_few last files others s l current at o a confirmed given = by_few last others s l current o a confirmed (opened_file files s l o.client at a) given
 
 pub repeat_few : (last : ℕ) (s : CoreState) (l : NfsLists) (current : Option ℕ) (o : Option KeptRow) → AreGivenOut last l → AreFew last (repeated s l current o)
 repeat_few last s l current None given = does_few last [] l given
@@ -251,9 +265,9 @@ judged_few last files others s l current at o a judgements.Bad given = does_few 
 judged_few last files others s l current at o a (judgements.Repeats number) given = repeat_few last s l current (find (is_kept number) l.kept) given
 judged_few last files others s l current at o a (judgements.Anew number) given =
     let rest : AreGivenOut last (without_owner number l) = without_given last number l given in
-    (rest, λ t le. as_few t.counter files others (without_owner number l) current at o a false (later_on last t.counter (without_owner number l) le rest))
-judged_few last files others s l current at o a judgements.New given = as_few last files others l current at o a false given
-judged_few last files others s l current at o a judgements.Next given = as_few last files others l current at o a true given
+    (rest, λ t le. as_few t.counter files others t (without_owner number l) current at o a false (later_on last t.counter (without_owner number l) le rest))
+judged_few last files others s l current at o a judgements.New given = as_few last files others s l current at o a false given
+judged_few last files others s l current at o a judgements.Next given = as_few last files others s l current at o a true given
 
 at_few : (last : ℕ) (files : List (List ℕ)) (others : ℕ) (s : CoreState) (l : NfsLists) (a : OpenArgsItem) (current : Option ℕ) → AreGivenOut last l → AreFew last (open_at files others s l a current)
 at_few last files others s l a None given = does_few last [] l given
@@ -332,12 +346,16 @@ close_few s l current a given =
     let once : AreGivenOut s.counter m = renewed_given s.counter s l (state_client s l a.stateid) given in
     (once, λ t le. close_by_few t.counter t m current a (checked t m current 4 a.seqid a.stateid) (later_on s.counter t.counter m le once))
 
+return_done_few : (s : CoreState) (l : NfsLists) (current : Option ℕ) (x : Returning) → AreGivenOut s.counter l → AreFew s.counter (return_done s l current x)
+return_done_few s l current (Err status) given = does_few s.counter [] l given
+return_done_few s l current (Ok r) given = does_few s.counter (gives (cache_of s l r)) (freed r.number l) (less_given s.counter (is_whose (whose.Stateid r.number)) l given)
+
 pub return_few : (s : CoreState) (l : NfsLists) (current : Option ℕ) (stateid : Stateid) → AreGivenOut s.counter l → AreFew s.counter (deleg_return s l current stateid)
 unfolding deleg_return
 return_few s l current stateid given =
     let m : NfsLists = renewed_for s l (state_client s l stateid) in
     let once : AreGivenOut s.counter m = renewed_given s.counter s l (state_client s l stateid) given in
-    (once, λ t le. does_few t.counter [] m (later_on s.counter t.counter m le once))
+    (once, λ t le. return_done_few t m current (returned t m current stateid) (later_on s.counter t.counter m le once))
 
 -- ---- each operation
 
@@ -373,22 +391,34 @@ pub next_unused : (s : CoreState) (l : NfsLists) → AreGivenOut s.counter l →
 next_unused s l given = unused_above s.counter (s.counter + 1) l.stateids (omega arith) given
 
 -- what has the number that came is what came
-entered_alone : (last : ℕ) (row r : StateidRow) (l : NfsLists) → AreGivenOut last l → IsIn r (entered row l).stateids → r.number ≡ last + 1 → r ≡ row
+entered_alone : (last : ℕ) (row : StateidRow) (l : NfsLists) → AreGivenOut last l → AllByRecursion (λ q. q.number ≡ last + 1 → q ≡ row) (entered row l).stateids
 unfolding entered
-entered_alone last row r l given here same =
+entered_alone last row l given =
     let Alone : StateidRow → Type 0 = λ q. q.number ≡ last + 1 → q ≡ row in
     let m : NfsLists = with_stateids l (without (is_whose (whose.Stateid row.number)) l.stateids) in
     let left : AreGivenOut last m = less_given last (is_whose (whose.Stateid row.number)) l given in
     let old : AllByRecursion Alone m.stateids = all_weaker (λ (q : StateidRow). q.number ≤ last) Alone m.stateids (λ q h e. absurd (omega (arith, h, e))) left in
-    let all : AllByRecursion Alone (entered_in row m).stateids = elim (cases_Bool (can_enter row m)) [
+    elim (cases_Bool (can_enter row m)) [
       | inl e ↦ rw e (all_append Alone m.stateids (row ∷ []) old ((λ _. refl), tt))
       | inr e ↦ rw e old
-    ] in
-    all_in Alone r (entered_in row m).stateids all here same
+    ]
 
-pub new_alone : (n : ℕ) (s : CoreState) (l : NfsLists) (current : Option ℕ) (o : Opener) (a : OpenArgsItem) (file : ℕ) (confirmed : Bool) (r : StateidRow) → AreGivenOut s.counter l → IsIn r (carried n s l current (granted_new s l o a file confirmed)).3.stateids → r.number ≡ s.counter + 1 → r ≡ open_row (s.counter + 1) o (opener_number o l) file a
-new_alone n s l current o a file confirmed r given here same =
+-- a delegation that comes has another number
+delegated_alone : (s : CoreState) (o : Opener) (file : ℕ) (write : Option Bool) (l : NfsLists) (P : StateidRow → Type 0) → ((r : StateidRow) → r.number ≡ s.counter + 1 → P r) → AllByRecursion P l.stateids → AllByRecursion P (delegated s o file write l).stateids
+unfolding delegated_in
+delegated_alone s o file None l P each all = all
+delegated_alone s o file (Some write) l P each all =
+    let row = delegation_row (s.counter + 1) o file write in
+    elim (cases_Bool (can_stand row l)) [
+      | inl e ↦ rw e (all_append P l.stateids (row ∷ []) all (each row refl, tt))
+      | inr e ↦ rw e all
+    ]
+
+pub new_alone : (n : ℕ) (s : CoreState) (l : NfsLists) (current : Option ℕ) (o : Opener) (a : OpenArgsItem) (file : ℕ) (confirmed : Bool) (write : Option Bool) (r : StateidRow) → AreGivenOut s.counter l → IsIn r (carried n s l current (granted_new s l o a file confirmed write)).3.stateids → r.number ≡ s.counter + 1 → r ≡ open_row (s.counter + 1) o (opener_number o l) file a
+new_alone n s l current o a file confirmed write r given here same =
     let there : NfsLists = seated o (open_turn a confirmed) l in
     let row : StateidRow = open_row (s.counter + 1) o (opener_number o l) file a in
-    entered_alone s.counter row r there (seated_given s.counter o (open_turn a confirmed) l given)
-    (subst (λ (ss : List StateidRow). IsIn r ss) (kept_stateids (opener_number o l) (spelled 18 (opened_told (drawn s) (s.counter + 1) 1 confirmed)) (entered row there)) here) same
+    let whole : NfsLists = delegated (drawn s) o file write (entered row there) in
+    let Alone : StateidRow → Type 0 = λ q. q.number ≡ s.counter + 1 → q ≡ row in
+    let all : AllByRecursion Alone whole.stateids = delegated_alone (drawn s) o file write (entered row there) Alone (λ q e f. absurd (omega (arith, e, f, drawn_number s))) (entered_alone s.counter row there (seated_given s.counter o (open_turn a confirmed) l given)) in
+    all_in Alone r whole.stateids all (subst (λ (ss : List StateidRow). IsIn r ss) (kept_stateids (opener_number o l) (spelled 18 (opened_told (drawn_for write (drawn s)) (s.counter + 1) 1 confirmed (delegation_told (drawn s) write))) whole) here) same

@@ -1,22 +1,26 @@
 -- Whose the deeds of the operations on opens are, and that the core takes them.
-use Rattle.std.proofs.Common.{◌≡◌, ℕ, ◌/◌, ◌%◌, ◌^◌, take, drop, Bool, true, false, List, [], ◌∷◌, ◌++◌, Option, Some, None, Result, Ok, Err, option_map, refl, sym, ap, subst, ◌∙◌, inl, inr}
+use Rattle.std.proofs.Common.{◌≡◌, ℕ, ◌/◌, ◌%◌, ◌^◌, take, drop, Bool, true, false, List, [], ◌∷◌, ◌++◌, Option, Some, None, Result, Ok, Err, option_map, refl, sym, ap, subst, ◌∙◌, inl, inr, true≢false}
 use Rattle.std.proofs.lemmas.Bool.{cases_Bool, and_parts}
 use Rattle.std.specs.Bool.{◌==◌}
 use Rattle.std.specs.List.{filter, find}
 use Rattle.std.specs.Option.{option_and_then}
-use Rattle.std.specs.Prelude.{◌||◌, if◌then◌else◌}
+use Rattle.std.specs.Prelude.{◌&&◌, ◌||◌, nat_lt, not, if◌then◌else◌}
 use Rattle.xl_base.proofs.Members.{all_in}
 use Rattle.xl_base.specs.Stable.{Stable}
 use Rattle.xl_base.specs.declared.event.Moment.{Moment}
 use Rattle.xl_base.specs.declared.name.Owner.{Owner}
 use Rattle.xl_base.specs.declared.name.Owner.TheVariants as owners
 use Rattle.xl_base.specs.declared.name.Protocol.TheVariants.{Nfs}
+use Rattle.xl_base.specs.declared.name.Party.{Party}
+use Rattle.xl_matrix.proofs.EqualLaws.{same_parties-true}
+use Rattle.xl_matrix.specs.Equal.{same_parties}
 use Rattle.xl_matrix.specs.declared.claim.Claim.{Claim}
+use Rattle.xl_matrix.specs.declared.claim.What.{What}
+use Rattle.xl_matrix.specs.declared.claim.What.TheVariants as whats
 use Rattle.xl_names.specs.Names.{number_of}
 use Rattle.xl_names.specs.declared.name.Name.TheVariants.{NfsShare, NfsParty}
 use Rattle.xl_nfs.specs.Opens.{OpenArgsItem, OpenClaimItem, Null, Previous, DelegateCurrent, DelegatePrevious}
 use Rattle.xl_nfs.specs.declared.basics.Stateid.{Stateid}
-use Rattle.xl_nfs.specs.declared.opens.CloseArgs.{CloseArgs}
 use Rattle.xl_nfs.specs.declared.opens.OpenConfirmArgs.{OpenConfirmArgs}
 use Rattle.xl_nfs.specs.declared.opens.OpenDowngradeArgs.{OpenDowngradeArgs}
 use Rattle.xl_nfs.specs.declared.status.NfsStatus.{NfsStatus}
@@ -36,7 +40,7 @@ use Rattle.xl_nfs_state.specs.declared.stateid.Holder.TheVariants as holders
 use Rattle.xl_nfs_state.specs.declared.stateid.StateidRow.{StateidRow}
 use Rattle.xl_nfs_state.specs.declared.stateid.Whose.TheVariants as whose
 use Rattle.xl_table.proofs.WriteBack.{is_of-true}
-use Rattle.xl_table.specs.Held.{is_of, is_share}
+use Rattle.xl_table.specs.Held.{is_of, is_cache, is_range, is_share}
 use Rattle.xl_table.specs.Relock.{is_share_of}
 use Rattle.xl_core.proofs.DeedClients.{party_of_owner}
 use Rattle.xl_core.proofs.DeedLeaves.{share_given, found_in}
@@ -47,19 +51,19 @@ use Rattle.xl_base.specs.Lists.{IsIn}
 use Rattle.xl_matrix.specs.declared.claim.Rwd.{Rwd}
 use Rattle.xl_core.specs.Clients.{IsOf}
 use Rattle.xl_core.specs.Decide.{ask}
+use Rattle.xl_core.specs.Places.{is_cache_on}
 use Rattle.xl_core.specs.Deeds.{Deed, Asks, GivesBack, done, all_done, IsFitDeed, AreFit}
 use Rattle.xl_core.specs.Good.{are_kept, IsHeld, IsGood}
 use Rattle.xl_core.specs.State.{CoreState}
 use Rattle.xl_core.specs.Ticks.{renew}
 use Rattle.xl_core.specs.declared.ask.Answer.{Answer}
 use Rattle.xl_nfs_opens.specs.Leases.{number_in, lease_end}
-use Rattle.xl_nfs_opens.specs.Closing.{seqid_checked, owner_checked, holder_checked, row_checked, number_checked, checked, standing_fault, confirm_done, confirm_by, open_confirm, opener_named, opener_by, share_by_opener, share_of_open, close_done, close_by, close, returned, deleg_return}
+use Rattle.xl_nfs_opens.specs.Closing.{seqid_checked, owner_checked, holder_checked, row_checked, number_checked, checked, standing_fault, confirm_done, confirm_by, open_confirm, opener_named, opener_by, share_by_opener, share_of_open, Returning, seqid_returned, holder_returned, row_returned, number_returned, returned, cache_of_client, cache_of, return_done, deleg_return}
 use Rattle.xl_nfs_opens.specs.Downgrades.{downgrade_fault, downgrade_done, downgrade_by, open_downgrade, weakens}
-use Rattle.xl_nfs_opens.specs.Opens.{rights_of, share_by, share_held, gives, given_up, gives_all, share_ask, all_rooms, repeated, reclaims, open_held, has_room, granted_by, is_granted, answered, open_on, open_by, open_as, open_judged, opener_of, open_of, client_in, open_at, claim_client, open_claimed, open_file, judged, opened_file}
+use Rattle.xl_nfs_opens.specs.Opens.{rights_of, share_by, share_held, gives, given_up, gives_all, share_ask, all_rooms, repeated, reclaims, open_held, has_room, granted_wish, wish_of, cache_by, cache_held, granted_by, is_granted, answered, open_on, open_by, open_as, open_judged, opener_of, open_of, client_in, open_at, claim_client, open_claimed, open_file, judged, opened_file}
 use Rattle.xl_nfs_opens.specs.Owners.{is_named, is_holder, is_claimant, Names, IsBy, AreBy}
-use Rattle.xl_nfs_opens.specs.Plans.{Plan, Does, deeds_of}
-use Rattle.xl_nfs_opens.specs.declared.told.Told.TheVariants.{Ended}
-use Rattle.xl_nfs.specs.Ops.{Close, DelegReturn, Open, OpenConfirm, OpenDowngrade}
+use Rattle.xl_nfs_opens.specs.Plans.{Plan, deeds_of}
+use Rattle.xl_nfs.specs.Ops.{DelegReturn, Open, OpenConfirm, OpenDowngrade}
 use Rattle.std.specs.Int.{w32, w64, from_be_bytes}
 use Rattle.xl_nfs_opens.specs.Renewing.{number_of as number_in_other, client_if_live, state_numbered, state_client, renewals_by, renewals, renewed_if, renewed_for, renewing}
 use Rattle.xl_nfs_opens.specs.declared.opener.Checked.{Checked}
@@ -67,7 +71,7 @@ use Rattle.xl_nfs_opens.specs.declared.opener.Checked.TheVariants.{Refused, Repe
 use Rattle.xl_nfs_opens.specs.declared.opener.Judged.{Judged}
 use Rattle.xl_nfs_opens.specs.declared.opener.Judged.TheVariants as judgements
 use Rattle.xl_nfs_opens.specs.declared.opener.Opener.{Opener}
-use Rattle.xl_nfs_opens.proofs.OwnerLaws.{own_client}
+use Rattle.xl_nfs_opens.proofs.OwnerLaws.{own_client, wished_fit}
 
 -- the core takes the deeds of the plan, and each is by a client for which this holds
 abbrev pub Owned : ℕ → CoreState → (List ℕ → Type 0) → Plan → Type 0
@@ -201,39 +205,41 @@ all_given n s Client o (r ∷ rs) good is =
 
 -- ---- OPEN
 
-granted_own : (n : ℕ) (s : CoreState) (l : NfsLists) (o : Opener) (a : OpenArgsItem) (file : ℕ) (confirmed : Bool) (Client : List ℕ → Type 0) (r : Option StateidRow) → Owned n s Client (granted_by s l o a file confirmed r)
-granted_own n s l o a file confirmed Client None = ((tt, tt), (tt, tt))
-granted_own n s l o a file confirmed Client (Some r) = (tt, tt)
+granted_own : (n : ℕ) (s : CoreState) (l : NfsLists) (o : Opener) (a : OpenArgsItem) (file : ℕ) (confirmed : Bool) (Client : List ℕ → Type 0) (write : Option Bool) (r : Option StateidRow) → Owned n s Client (granted_by s l o a file confirmed write r)
+granted_own n s l o a file confirmed Client None None = ((tt, tt), (tt, tt))
+granted_own n s l o a file confirmed Client (Some write) None = ((tt, (tt, tt)), (tt, (tt, tt)))
+granted_own n s l o a file confirmed Client None (Some r) = (tt, tt)
+granted_own n s l o a file confirmed Client (Some write) (Some r) = ((tt, tt), (tt, tt))
 
-answered_own : (n : ℕ) (l : NfsLists) (current : Option ℕ) (o : Opener) (a : OpenArgsItem) (file : ℕ) (confirmed : Bool) (Client : List ℕ → Type 0) (answer : Answer) (s : CoreState) → Owned n s Client (answered l current o a file confirmed answer s)
-answered_own n l current o a file confirmed Client answer s =
+answered_own : (n : ℕ) (l : NfsLists) (current : Option ℕ) (o : Opener) (a : OpenArgsItem) (file : ℕ) (confirmed : Bool) (Client : List ℕ → Type 0) (wish : Option Bool) (answer : Answer) (s : CoreState) → Owned n s Client (answered l current o a file confirmed wish answer s)
+answered_own n l current o a file confirmed Client wish answer s =
     elim (cases_Bool (is_granted answer)) [
-      | inl e ↦ rw e (granted_own n s l o a file (confirmed || reclaims a.claim) Client (open_held l o file))
+      | inl e ↦ rw e (granted_own n s l o a file (confirmed || reclaims a.claim) Client (granted_wish s o file wish) (open_held l o file))
       | inr e ↦ rw e (tt, tt)
     ]
 
-pub ask_fits : (o : Opener) (a : OpenArgsItem) (file : ℕ) → IsFit (share_ask o a file)
+pub ask_fits : (wish : Option Bool) (o : Opener) (a : OpenArgsItem) (file : ℕ) → IsFit (share_ask wish o a file)
 unfolding share_ask
-ask_fits o a file = record { act = tt; own = refl; party = own_client o.id }
+ask_fits wish o a file = record { act = tt; own = refl; party = own_client o.id; wish = wished_fit o.id wish }
 
-ask_party : (s : CoreState) (o : Opener) (a : OpenArgsItem) (file : ℕ) → IsOf s (NfsParty o.id) (Asks all_rooms (share_ask o a file))
+ask_party : (s : CoreState) (wish : Option Bool) (o : Opener) (a : OpenArgsItem) (file : ℕ) → IsOf s (NfsParty o.id) (Asks all_rooms (share_ask wish o a file))
 unfolding share_ask
-ask_party s o a file = refl
+ask_party s wish o a file = refl
 
-on_own : (n : ℕ) (others : ℕ) (s : CoreState) (l : NfsLists) (current : Option ℕ) (o : Opener) (a : OpenArgsItem) (confirmed : Bool) (file : ℕ) (Client : List ℕ → Type 0) → Client o.id → Owned n s Client (open_on others l current o a confirmed file)
+on_own : (n : ℕ) (others : ℕ) (s : CoreState) (l : NfsLists) (current : Option ℕ) (o : Opener) (a : OpenArgsItem) (confirmed : Bool) (file : ℕ) (Client : List ℕ → Type 0) → Client o.id → Owned n s Client (open_on others s l current o a confirmed file)
 on_own n others s l current o a confirmed file Client is =
     elim (cases_Bool (has_room others l o file)) [
-      | inl e ↦ rw e (let r = ask n all_rooms s (share_ask o a file) in let rest = answered_own n l current o a file confirmed Client r.0 r.2 in ((ask_fits o a file, rest.0), ((o.id, is, ask_party s o a file), rest.1)))
+      | inl e ↦ rw e (let wish = wish_of s l o a confirmed file in let r = ask n all_rooms s (share_ask wish o a file) in let rest = answered_own n l current o a file confirmed Client wish r.0 r.2 in ((ask_fits wish o a file, rest.0), ((o.id, is, ask_party s wish o a file), rest.1)))
       | inr e ↦ rw e (tt, tt)
     ]
 
-by_own : (n : ℕ) (others : ℕ) (s : CoreState) (l : NfsLists) (current : Option ℕ) (o : Opener) (a : OpenArgsItem) (confirmed : Bool) (Client : List ℕ → Type 0) (r : Result ℕ NfsStatus) → Client o.id → Owned n s Client (open_by others l current o a confirmed r)
+by_own : (n : ℕ) (others : ℕ) (s : CoreState) (l : NfsLists) (current : Option ℕ) (o : Opener) (a : OpenArgsItem) (confirmed : Bool) (Client : List ℕ → Type 0) (r : Result ℕ NfsStatus) → Client o.id → Owned n s Client (open_by others s l current o a confirmed r)
 by_own n others s l current o a confirmed Client (Ok file) is = on_own n others s l current o a confirmed file Client is
 by_own n others s l current o a confirmed Client (Err status) is = (tt, tt)
 
-as_own : (n : ℕ) (files : List (List ℕ)) (others : ℕ) (s : CoreState) (l : NfsLists) (current : Option ℕ) (at : ℕ) (o : Opener) (a : OpenArgsItem) (confirmed : Bool) (Client : List ℕ → Type 0) → Client o.id → Owned n s Client (open_as files others l current at o a confirmed)
+as_own : (n : ℕ) (files : List (List ℕ)) (others : ℕ) (s : CoreState) (l : NfsLists) (current : Option ℕ) (at : ℕ) (o : Opener) (a : OpenArgsItem) (confirmed : Bool) (Client : List ℕ → Type 0) → Client o.id → Owned n s Client (open_as files others s l current at o a confirmed)
 unfolding open_as
-as_own n files others s l current at o a confirmed Client is = by_own n others s l current o a confirmed Client (opened_file files at a) is
+as_own n files others s l current at o a confirmed Client is = by_own n others s l current o a confirmed Client (opened_file files s l o.client at a) is
 
 pub repeat_own : (n : ℕ) (s : CoreState) (l : NfsLists) (current : Option ℕ) (Client : List ℕ → Type 0) (o : Option KeptRow) → Owned n s Client (repeated s l current o)
 repeat_own n s l current Client None = (tt, tt)
@@ -247,7 +253,7 @@ judged_own n files others s l current at o a Client (judgements.Anew number) goo
     let t = all_done n s ds in
     let first = all_given n s Client o (filter (is_whose (whose.Owner number)) l.stateids) good is in
     let second = as_own n files others t (without_owner number l) current at o a false Client is in
-    let es = deeds_of n t (open_as files others (without_owner number l) current at o a false) in
+    let es = deeds_of n t (open_as files others t (without_owner number l) current at o a false) in
     (fit_append n s ds es first.0 second.0, by_append n s Client ds es first.1 second.1)
 judged_own n files others s l current at o a Client judgements.New good is = as_own n files others s l current at o a false Client is
 judged_own n files others s l current at o a Client judgements.Next good is = as_own n files others s l current at o a true Client is
@@ -375,6 +381,77 @@ downgrade_own n s l current a good = state_own n s l a.stateid (λ t m. downgrad
     downgrade_by_own n t m current a (λ id. is_holder s l a.stateid id) (checked t m current 21 a.seqid a.stateid) left
     (λ r w v x e found. holder_as s t l (state_client s l a.stateid) a.stateid x.id stable (by_number m (state_client t m a.stateid) r.client x (checked_client t m current 21 a.seqid a.stateid r w v e) found)))
 
+pub no_range : (w : What) → is_cache w ≡ true → is_range w ≡ false
+no_range (whats.Cache kind running) h = refl
+no_range (whats.Share access deny) h = absurd (true≢false (sym h))
+no_range (whats.Range extent exclusive) h = absurd (true≢false (sym h))
+
+-- the cache of a client is its
+cache_is : (s : CoreState) (id : List ℕ) (file : ℕ) (party : Option Party) (claim : Claim) → party_named s.names (NfsParty id) ≡ party → cache_by s.claims file party ≡ Some claim → IsFitDeed s (GivesBack claim) × IsOf s (NfsParty id) (GivesBack claim)
+cache_is s id file None claim named e = absurd cc
+cache_is s id file (Some party) claim named e =
+    let found = found_in (is_cache_on file party) s.claims claim e in
+    let parts = and_parts (is_cache claim.what) ((claim.file == file) && same_parties claim.party party) found.1 in
+    let whose = same_parties-true claim.party party (and_parts (claim.file == file) (same_parties claim.party party) parts.1).1 in
+    ((found.0, no_range claim.what parts.0), named ∙ ap (λ (p : Party). Some p) (sym whose))
+
+held_cache : (s : CoreState) (id : List ℕ) (file : ℕ) (claim : Claim) → cache_held s id file ≡ Some claim → IsFitDeed s (GivesBack claim) × IsOf s (NfsParty id) (GivesBack claim)
+unfolding cache_held
+held_cache s id file claim e = cache_is s id file (party_named s.names (NfsParty id)) claim refl e
+
+client_cache : (s : CoreState) (Client : List ℕ → Type 0) (file : ℕ) (c : Option ClientRow) (claim : Claim) → ((r : ClientRow) → c ≡ Some r → Client r.id) → cache_of_client s file c ≡ Some claim → IsFitDeed s (GivesBack claim) × IsBy s Client (GivesBack claim)
+client_cache s Client file None claim each e = absurd cc
+client_cache s Client file (Some c) claim each e = (let one = held_cache s c.id file claim e in (one.0, (c.id, each c refl, one.1)))
+
+pub return_done_own : (n : ℕ) (s : CoreState) (l : NfsLists) (current : Option ℕ) (Client : List ℕ → Type 0) (x : Returning) → ((r : StateidRow) (c : ClientRow) → x ≡ Ok r → find (is_client r.client true) l.clients ≡ Some c → Client c.id) → Owned n s Client (return_done s l current x)
+return_done_own n s l current Client (Err status) each = (tt, tt)
+return_done_own n s l current Client (Ok r) each = gives_own n s Client (cache_of s l r) (λ claim e. client_cache s Client r.file (find (is_client r.client true) l.clients) claim (λ c found. each r c refl found) e)
+
+returned_seqid_is : (x r : StateidRow) (seqid : ℕ) → seqid_returned x seqid ≡ Ok r → x ≡ r
+returned_seqid_is x r seqid e = by (nat_lt seqid x.standing.seqid) (nat_lt x.standing.seqid seqid) e
+  where
+    by : (a b : Bool) → (let no : Returning = Err statuses.BadStateid in let old : Returning = Err statuses.OldStateid in (if a then old else if b then no else Ok x) ≡ Ok r) → x ≡ r
+    by true b e = absurd cc
+    by false true e = absurd cc
+    by false false e = cc
+
+returned_holder_is : (x r : StateidRow) (seqid : ℕ) (h : Holder) → holder_returned x seqid h ≡ Ok r → x ≡ r
+returned_holder_is x r seqid (holders.Delegation write) e = returned_seqid_is x r seqid e
+returned_holder_is x r seqid (holders.Open owner) e = absurd cc
+returned_holder_is x r seqid (holders.Lock owner under opener) e = absurd cc
+
+returned_row_client : (at seqid : ℕ) (o : Option StateidRow) (r : StateidRow) → row_returned at seqid o ≡ Ok r → client_if_live o ≡ Some r.client
+returned_row_client at seqid None r e = absurd cc
+returned_row_client at seqid (Some x) r e =
+    elim (cases_Bool ((x.file == at) && not x.standing.closed)) [
+      | inl d ↦
+          let live : x.standing.closed ≡ false = open_is x.standing.closed (and_parts (x.file == at) (not x.standing.closed) d).1 in
+          let same : x ≡ r = returned_holder_is x r seqid x.holder (rw d at e) in
+          rw live (ap (λ (y : StateidRow). Some y.client) same)
+      | inr d ↦ (let no : fails ≡ Ok r = rw d at e in absurd cc)
+    ]
+  where
+    fails : Returning
+    fails = Err statuses.BadStateid
+
+    open_is : (b : Bool) → not b ≡ true → b ≡ false
+    open_is true h = absurd (true≢false (sym h))
+    open_is false h = refl
+
+returned_number_client : (l : NfsLists) (at seqid : ℕ) (o : Option ℕ) (r : StateidRow) → number_returned l at seqid o ≡ Ok r → state_numbered l o ≡ Some r.client
+returned_number_client l at seqid None r e = absurd cc
+returned_number_client l at seqid (Some number) r e = returned_row_client at seqid (find (is_stateid number) l.stateids) r e
+
+-- the stateid names the delegation's client
+returned_client : (s : CoreState) (l : NfsLists) (current : Option ℕ) (stateid : Stateid) (r : StateidRow) → returned s l current stateid ≡ Ok r → state_client s l stateid ≡ Some r.client
+unfolding returned
+returned_client s l None stateid r e = absurd cc
+returned_client s l (Some at) stateid r e = returned_number_client l at stateid.seqid (number_in_other s stateid.other) r e
+
 pub return_own : (n : ℕ) (s : CoreState) (l : NfsLists) (current : Option ℕ) (stateid : Stateid) → IsGood s → Owned n s (Names s l (DelegReturn stateid)) (deleg_return s l current stateid)
 unfolding deleg_return
-return_own n s l current stateid good = state_own n s l stateid (λ t m. Does [] m current (Ended (returned t current stateid))) good (λ t stable left. (tt, tt))
+return_own n s l current stateid good = state_own n s l stateid (λ t m. return_done t m current (returned t m current stateid)) good
+    (λ t stable left.
+    let m = renewed_for s l (state_client s l stateid) in
+    return_done_own n t m current (λ id. is_holder s l stateid id) (returned t m current stateid)
+    (λ r c e found. holder_as s t l (state_client s l stateid) stateid c.id stable (by_number m (state_client t m stateid) r.client c (returned_client t m current stateid r e) found)))

@@ -1,17 +1,17 @@
 -- Each stateid stays its owner's, whatever comes, goes or changes of owners and stateids.
-use Rattle.std.proofs.Common.{◌≡◌, ℕ, ◌<◌, Bool, true, false, not, ◌&&◌, ◌||◌, List, [], ◌∷◌, ◌++◌, Option, Some, None, is_some, option_map, if◌then◌else◌, refl, sym, ap, subst, ◌∙◌, inl, inr, arith, true≢false}
-use Rattle.std.proofs.lemmas.Bool.{cases_Bool, and_parts, and_from, or_parts, eq-eqb, eqb-true, false_from_ne_true}
+use Rattle.std.proofs.Common.{◌≡◌, ℕ, Bool, true, false, not, List, [], ◌∷◌, ◌++◌, Option, Some, None, is_some, option_map, if◌then◌else◌, refl, sym, ap, subst, ◌∙◌, inl, inr, true≢false}
+use Rattle.std.proofs.lemmas.Bool.{cases_Bool, and_parts, or_parts, eq-eqb, eqb-true, false_from_ne_true}
 use Rattle.std.proofs.lemmas.Option.{same_Some}
 use Rattle.std.specs.Bool.{◌==◌}
-use Rattle.std.specs.List.{AllByRecursion, filter, find}
-use Rattle.xl_base.proofs.Members.{all_append, all_from, all_in, all_weaker, pairwise_append, pairwise_filter}
-use Rattle.xl_base.specs.Lists.{IsIn, Pairwise}
+use Rattle.std.specs.List.{AllByRecursion, find}
+use Rattle.xl_base.proofs.Members.{all_from, all_in, all_weaker, pairwise_filter}
+use Rattle.xl_base.specs.Lists.{Pairwise}
 use Rattle.xl_nfs_state.proofs.AnyLaws.{all_changed, all_left}
-use Rattle.xl_nfs_state.proofs.SoundLaws.{fresh_number, rising_changed, rising_left, rising_added}
+use Rattle.xl_nfs_state.proofs.SoundLaws.{rising_changed, rising_left, rising_added}
 use Rattle.xl_nfs_state.specs.Filed.{changed}
 use Rattle.xl_nfs_state.specs.Keys.{place_of, same_place}
 use Rattle.xl_nfs_state.specs.Rows.{with_standing, with_turn}
-use Rattle.xl_nfs_state.specs.State.{NfsLists, IsRising, hangs_on, is_owner, is_stateid, is_under, is_whose, next_owner, other_owners, with_owners, with_stateids, without, without_client, without_owner}
+use Rattle.xl_nfs_state.specs.State.{NfsLists, hangs_on, is_owner, is_stateid, is_under, is_whose, next_owner, other_owners, with_owners, with_stateids, without, without_client, without_owner}
 use Rattle.xl_nfs_state.specs.declared.owner.OwnerKind.{OwnerKind}
 use Rattle.xl_nfs_state.specs.declared.owner.OwnerKind.TheVariants as kinds
 use Rattle.xl_nfs_state.specs.declared.owner.OwnerRow.{OwnerRow}

@@ -1,5 +1,5 @@
 -- Owners and stateids that are found by their names and by their numbers.
-use Rattle.std.proofs.Common.{◌≡◌, ℕ, Bool, true, false, List, [], ◌∷◌, map, Some, None, is_some, refl, sym, ap, subst, ◌∙◌, inl, inr, true≢false}
+use Rattle.std.proofs.Common.{◌≡◌, ℕ, Bool, true, false, List, [], ◌∷◌, map, Option, Some, None, is_some, refl, sym, ap, subst, ◌∙◌, inl, inr, true≢false}
 use Rattle.std.proofs.lemmas.Bool.{cases_Bool, eq-eqb, eqb-true}
 use Rattle.std.proofs.lemmas.Map.Keys.{IsDistinct-tail, IsDistinct-head}
 use Rattle.std.proofs.lemmas.Option.{same_Some}
@@ -7,6 +7,12 @@ use Rattle.std.specs.Bool.{◌==◌}
 use Rattle.std.specs.Cmp.Lexicographic.{bytes_decides}
 use Rattle.std.specs.List.{AllByRecursion, find, IsDistinct}
 use Rattle.std.specs.Prelude.{IsSome, bytes_eq}
+use Rattle.xl_cache.specs.Parties.{is_kind_of}
+use Rattle.xl_matrix.specs.declared.claim.CacheKind.{CacheKind}
+use Rattle.xl_names.specs.declared.name.Name.TheVariants.{NfsParty}
+use Rattle.xl_core.specs.Asking.{may_wish_for}
+use Rattle.xl_core.specs.declared.ask.Who.TheVariants.{Named}
+use Rattle.xl_nfs_opens.specs.Opens.{wished_kinds}
 use Rattle.xl_nfs_state.specs.Keys.{stateid_key}
 use Rattle.xl_nfs_state.specs.State.{is_owner, is_stateid, is_under, is_whose, without}
 use Rattle.xl_nfs_state.specs.declared.owner.OwnerRow.{OwnerRow}
@@ -17,6 +23,16 @@ use Rattle.xl_nfs_opens.specs.declared.opener.Opener.{Opener}
 
 pub own_client : (id : List ℕ) → bytes_eq id id ≡ true
 own_client id = (bytes_decides id id).1 refl
+
+-- delegations are what an NFSv4 client may have
+pub wished_fit : (id : List ℕ) (wish : Option Bool) → AllByRecursion (λ kind. may_wish_for (Named (NfsParty id)) false kind ≡ true) (wished_kinds wish)
+unfolding is_kind_of
+wished_fit id None = tt
+wished_fit id (Some true) = (refl, tt)
+wished_fit id (Some false) = (refl, tt)
+
+pub kinds_fit : (id : List ℕ) (wish : Option Bool) (kinds : List CacheKind) → kinds ≡ wished_kinds wish → AllByRecursion (λ kind. may_wish_for (Named (NfsParty id)) false kind ≡ true) kinds
+kinds_fit id wish kinds is = subst (λ (ks : List CacheKind). AllByRecursion (λ kind. may_wish_for (Named (NfsParty id)) false kind ≡ true) ks) (sym is) (wished_fit id wish)
 
 module _ {A : Type 0} where
   -- what is found by a test is there by its number

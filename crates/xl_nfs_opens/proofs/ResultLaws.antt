@@ -1,5 +1,5 @@
 -- Which results have a spelling, and that it is short.
-use Rattle.std.proofs.Common.{◌≡◌, ℕ, ◌+◌, if◌then◌else◌, ◌≤◌, ◌<◌, ◌^◌, Bool, true, false, List, [], ◌∷◌, ◌++◌, length, take, Ok, refl, sym, ap, subst, ◌∙◌, inl, inr, arith, eqb-true}
+use Rattle.std.proofs.Common.{◌≡◌, ℕ, ◌+◌, ◌-◌, if◌then◌else◌, ◌≤◌, ◌<◌, ◌^◌, Bool, true, false, List, [], ◌∷◌, ◌++◌, length, take, Option, Some, None, IfSome, Ok, refl, sym, ap, subst, ◌∙◌, inl, inr, arith, eqb-true}
 use Rattle.std.proofs.lemmas.Bool.{cases_Bool}
 use Rattle.std.proofs.lemmas.List.{length-append}
 use Rattle.std.specs.Bool.{◌==◌}
@@ -17,9 +17,9 @@ use Rattle.xl_rpc.specs.Xdr.{unsigned, hyper, void, opaque, fixed, pad}
 use Rattle.xl_base.specs.Codec.{big_endian}
 use Rattle.xl_nfs.specs.declared.clients.ClientConfirm.{ClientConfirm}
 use Rattle.xl_nfs.specs.declared.status.NfsStatus.{NfsStatus}
-use Rattle.xl_nfs_opens.specs.Results.{ended_as, open_result_of, state_as}
-use Rattle.xl_nfs.specs.Basics.{stateid}
-use Rattle.xl_nfs.specs.Opened.{NoDelegation, open_result, change_info, delegation}
+use Rattle.xl_nfs_opens.specs.Results.{delegation_item, ended_as, no_permissions, open_result_of, state_as}
+use Rattle.xl_nfs.specs.Basics.{name, stateid}
+use Rattle.xl_nfs.specs.Opened.{ace, limit, open_result, change_info, delegation, read_delegation, write_delegation}
 use Rattle.xl_nfs.specs.declared.basics.Stateid.{Stateid}
 use Rattle.xl_format.specs.Formats.{array}
 use Rattle.xl_rpc.specs.Xdr.{words}
@@ -317,23 +317,44 @@ stateid_little : (s : Stateid) → length s.other ≡ 12 → length (stateid.spe
 unfolding stateid big_endian
 stateid_little s e = omega (arith, fixed_12 s.other e)
 
-pub open_fits : (s : Stateid) (flags : ℕ) → s.seqid < 2 ^ 32 → length s.other ≡ 12 → flags < 2 ^ 32 → ResultFits (OpenAnswer (Ok (open_result_of s flags)))
-unfolding nfs_result outcome status open_result stateid change_info delegation nothing
-open_fits s flags seqid other le = (omega arith, (tt, ((seqid, other), ((tt, (omega arith, omega arith)), (le, ((omega arith, refl), (omega arith, tt)))))))
+-- what is told of a delegation has a spelling
+abbrev pub DelegationFits : Option (Stateid × Bool) → Type 0
+DelegationFits given = IfSome given (λ d. (d.0.seqid < 2 ^ 32) × (length d.0.other ≡ 12))
 
-change_little : (flags : ℕ) → length (change_info.spell (record { atomic = true; before = 0; after = 0 }) ++ (unsigned flags ++ (array.spell [] ++ delegation.spell NoDelegation))) ≤ 32
-unfolding change_info delegation big_endian words nothing void
-change_little flags = omega arith
+delegation_fits : (given : Option (Stateid × Bool)) → DelegationFits given → delegation.Fit (delegation_item given)
+unfolding delegation read_delegation write_delegation stateid limit ace nothing name
+delegation_fits None fit = (omega arith, tt)
+delegation_fits (Some (s, true)) fit = (omega arith, (fit, (tt, (omega arith, (omega arith, (omega arith, (omega arith, omega arith)))))))
+delegation_fits (Some (s, false)) fit = (omega arith, (fit, (tt, (omega arith, (omega arith, (omega arith, omega arith))))))
 
-eight_open : (number : ℕ) (more : List ℕ) → length more ≤ 48 → length (unsigned number ++ (unsigned 0 ++ more)) ≤ 56
+pub open_fits : (s : Stateid) (flags : ℕ) (given : Option (Stateid × Bool)) → s.seqid < 2 ^ 32 → length s.other ≡ 12 → flags < 2 ^ 32 → DelegationFits given → ResultFits (OpenAnswer (Ok (open_result_of s flags given)))
+unfolding nfs_result outcome status open_result stateid change_info
+open_fits s flags given seqid other le fit = (omega arith, (tt, ((seqid, other), ((tt, (omega arith, omega arith)), (le, ((omega arith, refl), delegation_fits given fit))))))
+
+permissions_little : length (ace.spell no_permissions) ≤ 16
+unfolding ace name big_endian opaque fixed pad
+permissions_little = omega arith
+
+delegation_little : (given : Option (Stateid × Bool)) → DelegationFits given → length (delegation.spell (delegation_item given)) ≤ 52
+unfolding delegation read_delegation write_delegation limit big_endian nothing void
+delegation_little None fit = omega arith
+delegation_little (Some (s, true)) fit =
+    omega (arith, stateid_little s fit.1, permissions_little, length-append (stateid.spell s) (0 ∷ 0 ∷ 0 ∷ 0 ∷ (limit.spell (2 ^ 64 - 1) ++ ace.spell no_permissions)))
+delegation_little (Some (s, false)) fit = omega (arith, stateid_little s fit.1, permissions_little, length-append (stateid.spell s) (0 ∷ 0 ∷ 0 ∷ 0 ∷ ace.spell no_permissions))
+
+change_little : (flags : ℕ) (given : Option (Stateid × Bool)) → DelegationFits given → length (change_info.spell (record { atomic = true; before = 0; after = 0 }) ++ (unsigned flags ++ (array.spell [] ++ delegation.spell (delegation_item given)))) ≤ 80
+unfolding change_info big_endian words
+change_little flags given fit = omega (arith, delegation_little given fit)
+
+eight_open : (number : ℕ) (more : List ℕ) → length more ≤ 96 → length (unsigned number ++ (unsigned 0 ++ more)) ≤ 104
 unfolding big_endian
 eight_open number more le = omega (arith, le)
 
-pub open_little : (s : Stateid) (flags : ℕ) → length s.other ≡ 12 → length (nfs_result.spell (OpenAnswer (Ok (open_result_of s flags)))) ≤ 56
+pub open_little : (s : Stateid) (flags : ℕ) (given : Option (Stateid × Bool)) → length s.other ≡ 12 → DelegationFits given → length (nfs_result.spell (OpenAnswer (Ok (open_result_of s flags given)))) ≤ 104
 unfolding nfs_result outcome status status_number open_result
-open_little s flags e =
-    let rest = change_info.spell (record { atomic = true; before = 0; after = 0 }) ++ (unsigned flags ++ (array.spell [] ++ delegation.spell NoDelegation)) in
-    eight_open 18 (stateid.spell s ++ rest) (omega (arith, length-append (stateid.spell s) rest, stateid_little s e, change_little flags))
+open_little s flags given e fit =
+    let rest = change_info.spell (record { atomic = true; before = 0; after = 0 }) ++ (unsigned flags ++ (array.spell [] ++ delegation.spell (delegation_item given))) in
+    eight_open 18 (stateid.spell s ++ rest) (omega (arith, length-append (stateid.spell s) rest, stateid_little s e, change_little flags given fit))
 
 stateid_fits : (s : Stateid) → s.seqid < 2 ^ 32 → length s.other ≡ 12 → stateid.Fit s
 unfolding stateid
@@ -419,23 +440,23 @@ state_little number s other =
 
 -- ---- what is written
 
-grown : (old new : List ℕ) (r s : ResultItem) → r ≡ s → new ≡ old ++ nfs_result.spell r → length (nfs_result.spell s) ≤ 56 → length new ≤ length old + 56
+grown : (old new : List ℕ) (r s : ResultItem) → r ≡ s → new ≡ old ++ nfs_result.spell r → length (nfs_result.spell s) ≤ 104 → length new ≤ length old + 104
 grown old new r s same is le =
-    subst (λ (x : List ℕ). length x ≤ length old + 56) (sym (is ∙ ap (λ (x : ResultItem). old ++ nfs_result.spell x) same)) (omega (arith, length-append old (nfs_result.spell s), le))
+    subst (λ (x : List ℕ). length x ≤ length old + 104) (sym (is ∙ ap (λ (x : ResultItem). old ++ nfs_result.spell x) same)) (omega (arith, length-append old (nfs_result.spell s), le))
 
-pub ended_grown : (old new : List ℕ) (r : ResultItem) (number : ℕ) (s : NfsStatus) → r ≡ ended_as number s → new ≡ old ++ nfs_result.spell r → length new ≤ length old + 56
+pub ended_grown : (old new : List ℕ) (r : ResultItem) (number : ℕ) (s : NfsStatus) → r ≡ ended_as number s → new ≡ old ++ nfs_result.spell r → length new ≤ length old + 104
 ended_grown old new r number s same is = grown old new r (ended_as number s) same is (omega (arith, ended_little number s))
 
-pub handle_grown : (old new fh : List ℕ) (file : ℕ) → fh ≡ handle file → new ≡ old ++ nfs_result.spell (GetFhAnswer (Ok fh)) → length new ≤ length old + 56
+pub handle_grown : (old new fh : List ℕ) (file : ℕ) → fh ≡ handle file → new ≡ old ++ nfs_result.spell (GetFhAnswer (Ok fh)) → length new ≤ length old + 104
 handle_grown old new fh file same is = grown old new (GetFhAnswer (Ok fh)) (GetFhAnswer (Ok (handle file))) (ap (λ (x : List ℕ). GetFhAnswer (Ok x)) same) is (omega (arith, handle_little file))
 
-pub client_grown : (old new : List ℕ) (c : ClientConfirm) → length c.verifier ≡ 8 → new ≡ old ++ nfs_result.spell (SetClientIdAnswer (Ok c)) → length new ≤ length old + 56
+pub client_grown : (old new : List ℕ) (c : ClientConfirm) → length c.verifier ≡ 8 → new ≡ old ++ nfs_result.spell (SetClientIdAnswer (Ok c)) → length new ≤ length old + 104
 client_grown old new c e is = grown old new (SetClientIdAnswer (Ok c)) (SetClientIdAnswer (Ok c)) refl is (omega (arith, client_little c e))
 
-pub open_grown : (old new : List ℕ) (r : ResultItem) (s : Stateid) (flags : ℕ) → length s.other ≡ 12 → r ≡ OpenAnswer (Ok (open_result_of s flags)) → new ≡ old ++ nfs_result.spell r → length new ≤ length old + 56
-open_grown old new r s flags e same is = grown old new r (OpenAnswer (Ok (open_result_of s flags))) same is (open_little s flags e)
+pub open_grown : (old new : List ℕ) (r : ResultItem) (s : Stateid) (flags : ℕ) (given : Option (Stateid × Bool)) → length s.other ≡ 12 → DelegationFits given → r ≡ OpenAnswer (Ok (open_result_of s flags given)) → new ≡ old ++ nfs_result.spell r → length new ≤ length old + 104
+open_grown old new r s flags given e fit same is = grown old new r (OpenAnswer (Ok (open_result_of s flags given))) same is (open_little s flags given e fit)
 
-pub state_grown : (old new : List ℕ) (r : ResultItem) (number : ℕ) (s : Stateid) → length s.other ≡ 12 → r ≡ state_as number s → new ≡ old ++ nfs_result.spell r → length new ≤ length old + 56
+pub state_grown : (old new : List ℕ) (r : ResultItem) (number : ℕ) (s : Stateid) → length s.other ≡ 12 → r ≡ state_as number s → new ≡ old ++ nfs_result.spell r → length new ≤ length old + 104
 state_grown old new r number s e same is = grown old new r (state_as number s) same is (omega (arith, state_little number s e))
 
 -- what stands behind bytes is cut off

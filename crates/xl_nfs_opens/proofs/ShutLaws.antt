@@ -1,7 +1,7 @@
 -- What a CLOSE leaves: no share of the owner on the file, and the open marked closed.
-use Rattle.std.proofs.Common.{◌≡◌, ℕ, Bool, true, false, ◌&&◌, List, [], ◌∷◌, Option, Some, None, is_some, option_map, refl, sym, ap, subst, ◌∙◌, inl, inr, true≢false}
+use Rattle.std.proofs.Common.{◌≡◌, ℕ, true, false, List, [], ◌∷◌, Option, Some, None, is_some, option_map, refl, sym, ap, subst, ◌∙◌, inl, inr, true≢false}
 use Rattle.std.proofs.lemmas.Bool.{cases_Bool, eq-eqb}
-use Rattle.std.specs.List.{AllByRecursion, find}
+use Rattle.std.specs.List.{find}
 use Rattle.std.specs.Prelude.{IfSome}
 use Rattle.xl_base.proofs.Members.{all_in}
 use Rattle.xl_base.proofs.Searches.{find_in}
@@ -17,8 +17,7 @@ use Rattle.xl_matrix.specs.declared.claim.What.TheVariants as whats
 use Rattle.xl_names.specs.Names.{number_of}
 use Rattle.xl_names.specs.declared.name.Name.TheVariants.{NfsShare}
 use Rattle.xl_nfs.specs.declared.opens.CloseArgs.{CloseArgs}
-use Rattle.xl_nfs_state.specs.State.{NfsLists, is_client, is_owner, is_stateid}
-use Rattle.xl_nfs_state.specs.declared.client.ClientRow.{ClientRow}
+use Rattle.xl_nfs_state.specs.State.{NfsLists, is_stateid}
 use Rattle.xl_nfs_state.specs.declared.owner.Turn.{Turn}
 use Rattle.xl_nfs_state.specs.declared.stateid.Holder.TheVariants as holders
 use Rattle.xl_nfs_state.specs.declared.stateid.StateidRow.{StateidRow}

@@ -11,7 +11,6 @@ use Rattle.xl_nfs_state.specs.Filed.{changed}
 use Rattle.xl_nfs_state.specs.Keys.{same_kind}
 use Rattle.xl_nfs_state.specs.Rows.{with_turn}
 use Rattle.xl_nfs_state.specs.State.{NfsLists, IsRising, is_owner, next_owner}
-use Rattle.xl_nfs_state.specs.Verdict.{next_seqid}
 use Rattle.xl_nfs_state.specs.declared.owner.OwnerKind.{OwnerKind}
 use Rattle.xl_nfs_state.specs.declared.owner.OwnerKind.TheVariants.{Open as Opens, Lock as Locks}
 use Rattle.xl_nfs_state.specs.declared.owner.OwnerRow.{OwnerRow}
@@ -19,13 +18,13 @@ use Rattle.xl_nfs_state.specs.declared.owner.Turn.{Turn}
 use Rattle.xl_nfs_state.specs.declared.stateid.StateidRow.{StateidRow}
 use Rattle.xl_core.specs.State.{CoreState, drawn}
 use Rattle.xl_nfs_opens.specs.Laws.{HasCome}
-use Rattle.xl_nfs_opens.specs.Opens.{either_bits, entered, granted_more, granted_new, open_row, open_turn, opened_told, refused_lists, stood}
+use Rattle.xl_nfs_opens.specs.Opens.{delegated, either_bits, entered, granted_more, granted_new, open_row, open_turn, refused_lists, stood}
 use Rattle.xl_nfs_opens.specs.Plans.{carried}
 use Rattle.xl_nfs_opens.specs.Results.{spelled}
 use Rattle.xl_nfs_opens.specs.Seqids.{advances, is_opener, is_room_for, new_owner, number_by, opener_number, remembered, seated, seated_by, turned}
 use Rattle.xl_nfs_opens.specs.declared.opener.Opener.{Opener}
 use Rattle.xl_nfs_opens.specs.declared.told.Told.TheVariants.{Ended}
-use Rattle.xl_nfs_opens.proofs.KeptLaws.{entered_owners, gone_owners}
+use Rattle.xl_nfs_opens.proofs.KeptLaws.{delegated_owners, entered_owners, gone_owners}
 use Rattle.xl_nfs_opens.proofs.OpenLaws.{kept_owners}
 use Rattle.xl_nfs_opens.proofs.OwnerLaws.{own_client}
 
@@ -118,17 +117,19 @@ same_come o turn l new same come = record {
   others = λ number other. ap (λ (rs : List OwnerRow). find (is_owner number) rs) same ∙ come.others number other;
 }
 
-pub new_come : (n : ℕ) (s : CoreState) (l : NfsLists) (current : Option ℕ) (o : Opener) (a : OpenArgsItem) (file : ℕ) (confirmed : Bool) → IsRising l.owners → is_room_for o l ≡ true → HasCome o (record { seqid = a.seqid; op = 18; confirmed = confirmed; closed = None }) l (carried n s l current (granted_new s l o a file confirmed)).3
-new_come n s l current o a file confirmed rising room =
+pub new_come : (n : ℕ) (s : CoreState) (l : NfsLists) (current : Option ℕ) (o : Opener) (a : OpenArgsItem) (file : ℕ) (confirmed : Bool) (write : Option Bool) → IsRising l.owners → is_room_for o l ≡ true → HasCome o (record { seqid = a.seqid; op = 18; confirmed = confirmed; closed = None }) l (carried n s l current (granted_new s l o a file confirmed write)).3
+new_come n s l current o a file confirmed write rising room =
     let row = open_row (s.counter + 1) o (opener_number o l) file a in
     let there : NfsLists = seated o (open_turn a confirmed) l in
-    same_come o (open_turn a confirmed) l _ (kept_owners (opener_number o l) (spelled 18 (opened_told (drawn s) (s.counter + 1) 1 confirmed)) (entered row there) ∙ entered_owners row there) (seated_come o (open_turn a confirmed) l rising room)
+    let whole : NfsLists = delegated (drawn s) o file write (entered row there) in
+    same_come o (open_turn a confirmed) l _ (kept_owners (opener_number o l) (spelled 18 (carried n s l current (granted_new s l o a file confirmed write)).0) whole ∙ delegated_owners (drawn s) o file write (entered row there) ∙ entered_owners row there) (seated_come o (open_turn a confirmed) l rising room)
 
-pub more_come : (n : ℕ) (s : CoreState) (l : NfsLists) (current : Option ℕ) (o : Opener) (a : OpenArgsItem) (file : ℕ) (confirmed : Bool) (r : StateidRow) → IsRising l.owners → is_room_for o l ≡ true → HasCome o (record { seqid = a.seqid; op = 18; confirmed = confirmed; closed = None }) l (carried n s l current (granted_more s l o a file confirmed r)).3
-more_come n s l current o a file confirmed r rising room =
+pub more_come : (n : ℕ) (s : CoreState) (l : NfsLists) (current : Option ℕ) (o : Opener) (a : OpenArgsItem) (file : ℕ) (confirmed : Bool) (write : Option Bool) (r : StateidRow) → IsRising l.owners → is_room_for o l ≡ true → HasCome o (record { seqid = a.seqid; op = 18; confirmed = confirmed; closed = None }) l (carried n s l current (granted_more s l o a file confirmed write r)).3
+more_come n s l current o a file confirmed write r rising room =
     let after : NfsLists = stood r.number r (either_bits r.standing.access a.access) (either_bits r.standing.deny a.deny) false l in
-    let new : NfsLists = (carried n s l current (granted_more s l o a file confirmed r)).3 in
-    let come : HasCome o (open_turn a confirmed) after new = same_come o (open_turn a confirmed) after new (kept_owners (opener_number o l) (spelled 18 (opened_told s r.number (next_seqid r.standing.seqid) confirmed)) (seated o (open_turn a confirmed) after)) (seated_come o (open_turn a confirmed) after rising room) in
+    let there : NfsLists = seated o (open_turn a confirmed) after in
+    let new : NfsLists = (carried n s l current (granted_more s l o a file confirmed write r)).3 in
+    let come : HasCome o (open_turn a confirmed) after new = same_come o (open_turn a confirmed) after new (kept_owners (opener_number o l) (spelled 18 (carried n s l current (granted_more s l o a file confirmed write r)).0) (delegated s o file write there) ∙ delegated_owners s o file write there) (seated_come o (open_turn a confirmed) after rising room) in
     record { own = come.own; others = come.others }
 
 pub refusal_come : (o : Opener) (a : OpenArgsItem) (confirmed : Bool) (status : NfsStatus) (l : NfsLists) → advances status ≡ true → IsRising l.owners → is_room_for o l ≡ true → HasCome o (record { seqid = a.seqid; op = 18; confirmed = confirmed; closed = None }) l (refused_lists o a confirmed status l)

@@ -1,5 +1,5 @@
 -- What the owners of locks give up where an open is closed.
-use Rattle.std.proofs.Common.{◌≡◌, ℕ, Bool, true, false, List, [], ◌∷◌, ◌++◌, length, Option, Some, None, refl, sym, ap, subst, ◌∙◌, inl, inr, arith}
+use Rattle.std.proofs.Common.{◌≡◌, ℕ, ◌+◌, true, false, List, [], ◌∷◌, ◌++◌, length, Option, Some, None, refl, sym, ap, subst, ◌∙◌, inl, inr, arith}
 use Rattle.std.proofs.lemmas.Bool.{cases_Bool}
 use Rattle.std.proofs.lemmas.Option.{same_Some}
 use Rattle.std.specs.List.{find}
@@ -13,8 +13,11 @@ use Rattle.xl_nfs_state.specs.declared.stateid.StateidRow.{StateidRow}
 use Rattle.xl_table.specs.Relock.{holds_byte, most_claims}
 use Rattle.xl_core.proofs.DeedLists.{done_append, fit_append}
 use Rattle.xl_core.specs.Asking.{known_claim, IsFit}
-use Rattle.xl_core.specs.Decide.{ask, unlocked, unlocked_bytes, unlocked_claims}
+use Rattle.xl_core.proofs.CacheLaws.{relocked_caches}
+use Rattle.xl_core.proofs.WayAsks.{ask_there, ask_way_none}
+use Rattle.xl_core.specs.Decide.{ask, decided, unlocked, unlocked_bytes, unlocked_claims}
 use Rattle.xl_core.specs.Deeds.{Deed, Asks, all_done, all_told_of, AreFit}
+use Rattle.xl_core.specs.Numbers.{numbers_of}
 use Rattle.xl_core.specs.State.{CoreState}
 use Rattle.xl_core.specs.declared.ask.Answer.{Answer}
 use Rattle.xl_core.specs.declared.ask.Ask.{Ask}
@@ -24,43 +27,55 @@ use Rattle.xl_nfs_opens.specs.Closing.{opener_named, opener_by, lock_owner, give
 use Rattle.xl_nfs_opens.specs.Opens.{all_rooms}
 use Rattle.xl_nfs_opens.specs.Owners.{AreBy}
 use Rattle.xl_nfs_opens.specs.Plans.{Plan, Behind, Outcome, told_behind, carried}
-use Rattle.xl_nfs_opens.specs.Short.{Leaves, spent_by}
+use Rattle.xl_nfs_opens.specs.Short.{Leaves}
 use Rattle.xl_nfs_opens.specs.declared.opener.Opener.{Opener}
+use Rattle.xl_nfs_opens.proofs.LeaveLaws.{left_by_caches}
 use Rattle.xl_nfs_opens.proofs.OpenOwn.{by_append}
 use Rattle.xl_nfs_opens.proofs.OwnerLaws.{own_client}
 
 -- ---- an unlock: nobody waits for it, and nothing is told besides
 
-abbrev IsQuiet : Answer × List Effect × CoreState → Type 0
-IsQuiet r = (spent_by r.0 ≡ 0) × (r.1 ≡ [])
+abbrev IsQuiet : CoreState → Answer × List Effect × CoreState → Type 0
+IsQuiet s r = (numbers_of r.2 ≡ numbers_of s) × (r.1 ≡ [])
 
-bytes_quiet : (s : CoreState) (c : Claim) (first last : ℕ) → IsQuiet (unlocked_bytes s c first last)
+-- the caches stay, and so do the delegations that may be recalled
+bytes_quiet : (s : CoreState) (c : Claim) (first last : ℕ) → IsQuiet s (unlocked_bytes s c first last)
 bytes_quiet s c first last =
     elim (cases_Bool (holds_byte c.file c.owner first last s.claims)) [
       | inr none ↦ rw none (refl, refl)
       | inl some ↦ rw some (elim (cases_Bool (nat_le (length (unlocked_claims c first last s.claims)) most_claims)) [
-        | inl room ↦ rw room (refl, refl)
+        | inl room ↦ rw room (ap (λ (left : ℕ). s.counter + length s.waiters + left) (left_by_caches (unlocked_claims c first last s.claims) s.claims (relocked_caches c.file c.owner c.party first last None s.claims)), refl)
         | inr full ↦ rw full (refl, refl)
       ])
     ]
 
-unlock_quiet : (n : ℕ) (s : CoreState) (o : Opener) (file first last : ℕ) → IsQuiet (ask n all_rooms s (unlock_ask o file first last))
-unfolding ask unlocked
-unlock_quiet n s o file first last = bytes_quiet s (known_claim (unlock_ask o file first last) (Bytes first last) false s.names) first last
+-- no way is made for it
+unlock_there : (n : ℕ) (s : CoreState) (o : Opener) (file first last : ℕ) → ask n all_rooms s (unlock_ask o file first last) ≡ decided n all_rooms s (unlock_ask o file first last)
+unlock_there n s o file first last = ask_there n all_rooms s (unlock_ask o file first last) (ask_way_none all_rooms s (unlock_ask o file first last) refl)
+
+unlock_decided : (n : ℕ) (s : CoreState) (o : Opener) (file first last : ℕ) → IsQuiet s (decided n all_rooms s (unlock_ask o file first last))
+unfolding decided unlocked
+unlock_decided n s o file first last = bytes_quiet s (known_claim (unlock_ask o file first last) (Bytes first last) false s.names) first last
+
+unlock_quiet : (n : ℕ) (s : CoreState) (o : Opener) (file first last : ℕ) → IsQuiet s (ask n all_rooms s (unlock_ask o file first last))
+unlock_quiet n s o file first last = subst (λ (r : Answer × List Effect × CoreState). IsQuiet s r) (sym (unlock_there n s o file first last)) (unlock_decided n s o file first last)
 
 -- however many stores succeed
+unlock_alike : (n m : ℕ) (s : CoreState) (o : Opener) (file first last : ℕ) → decided n all_rooms s (unlock_ask o file first last) ≡ decided m all_rooms s (unlock_ask o file first last)
+unfolding decided
+unlock_alike n m s o file first last = refl
+
 pub unlock_done : (n : ℕ) (s t : CoreState) (o : Opener) (file first last : ℕ) (a : Ask) (answer : Answer) (effects : List Effect) → a ≡ unlock_ask o file first last → ask t.made all_rooms s a ≡ (answer, effects, t) → all_done n s (Asks all_rooms (unlock_ask o file first last) ∷ []) ≡ t
-unfolding ask
 unlock_done n s t o file first last a answer effects is e =
-    ap (λ (r : Answer × List Effect × CoreState). r.2) (ap (λ (q : Ask). ask t.made all_rooms s q) (sym is) ∙ e)
+    ap (λ (r : Answer × List Effect × CoreState). r.2) (unlock_there n s o file first last ∙ unlock_alike n t.made s o file first last ∙ sym (unlock_there t.made s o file first last) ∙ ap (λ (q : Ask). ask t.made all_rooms s q) (sym is) ∙ e)
 
 pub unlock_told : (n : ℕ) (s : CoreState) (o : Opener) (file first last : ℕ) → all_told_of n s (Asks all_rooms (unlock_ask o file first last) ∷ []) ≡ []
 unlock_told n s o file first last = ap (λ (x : List Effect). x ++ []) (unlock_quiet n s o file first last).1
 
-pub unlock_leaves : (n : ℕ) (s t : CoreState) (o : Opener) (file first last : ℕ) (a : Ask) (answer : Answer) (effects : List Effect) → a ≡ unlock_ask o file first last → ask n all_rooms s a ≡ (answer, effects, t) → Leaves (spent_by answer) s t → Leaves 0 s t
-unlock_leaves n s t o file first last a answer effects is e leaves =
-    let spent : spent_by answer ≡ 0 = sym (ap (λ (r : Answer × List Effect × CoreState). spent_by r.0) (ap (λ (q : Ask). ask n all_rooms s q) (sym is) ∙ e)) ∙ (unlock_quiet n s o file first last).0 in
-    subst (λ (m : ℕ). Leaves m s t) spent leaves
+pub unlock_leaves : (n : ℕ) (s t : CoreState) (o : Opener) (file first last more : ℕ) (a : Ask) (answer : Answer) (effects : List Effect) → a ≡ unlock_ask o file first last → ask n all_rooms s a ≡ (answer, effects, t) → Leaves more s t → Leaves 0 s t
+unlock_leaves n s t o file first last more a answer effects is e leaves =
+    let same : numbers_of t ≡ numbers_of s = sym (ap (λ (r : Answer × List Effect × CoreState). numbers_of r.2) (ap (λ (q : Ask). ask n all_rooms s q) (sym is) ∙ e)) ∙ (unlock_quiet n s o file first last).0 in
+    record { on = leaves.on; good = leaves.good; numbers = omega (arith, same); names = leaves.names }
 
 -- ---- the locks under an open
 
@@ -85,7 +100,7 @@ behind_done n s t l m current ds rest r done told e =
 -- ---- whose they are
 
 unlock_fits : (o : Opener) (file : ℕ) → IsFit (unlock_ask o file 0 all_ones)
-unlock_fits o file = record { act = omega arith; own = refl; party = own_client o.id }
+unlock_fits o file = record { act = omega arith; own = refl; party = own_client o.id; wish = refl }
 
 named_is : (Client : List ℕ → Type 0) (c : Option ClientRow) (w : Option OwnerRow) (o : Opener) → ((r : ClientRow) → c ≡ Some r → Client r.id) → opener_named c w ≡ Some o → Client o.id
 named_is Client None w o each e = absurd cc

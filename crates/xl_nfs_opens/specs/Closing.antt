@@ -1,5 +1,5 @@
 -- The check of a stateid (RFC 7530 9.1.4, 9.1.7), and what opens come to: OPEN_CONFIRM, OPEN_DOWNGRADE, CLOSE and DELEGRETURN (RFC 7530 16.18, 16.19, 16.2, 16.8).
-use Rattle.std.specs.Prelude.{◌≡◌, ℕ, Bool, true, false, ◌&&◌, ◌==◌, nat_le, nat_lt, if◌then◌else◌, List, [], ◌∷◌, ◌++◌, Option, Some, None, IsSome}
+use Rattle.std.specs.Prelude.{◌≡◌, ℕ, Bool, true, false, not, ◌&&◌, ◌==◌, nat_le, nat_lt, if◌then◌else◌, List, [], ◌∷◌, ◌++◌, Option, Some, None, IsSome, Result, Ok, Err}
 use Rattle.std.specs.Bool.{beq}
 use Rattle.std.specs.List.{filter, find}
 use Rattle.xl_matrix.specs.declared.claim.Claim.{Claim}
@@ -23,7 +23,7 @@ use Rattle.xl_nfs_state.specs.declared.stateid.Whose.TheVariants as whose
 use Rattle.xl_core.specs.Deeds.{Deed, Asks}
 use Rattle.xl_core.specs.State.{CoreState}
 use Rattle.xl_nfs_opens.specs.Asks.{all_ones, unlock_ask}
-use Rattle.xl_nfs_opens.specs.Opens.{all_rooms, rights_of, repeated, share_held, gives, stood}
+use Rattle.xl_nfs_opens.specs.Opens.{all_rooms, cache_held, rights_of, repeated, share_held, gives, freed, stood}
 use Rattle.xl_nfs_opens.specs.Plans.{Plan, Does, Behind}
 use Rattle.xl_nfs_opens.specs.Renewing.{stateid_of, number_of, state_client, renewing}
 use Rattle.xl_nfs_opens.specs.Results.{spelled}
@@ -182,17 +182,53 @@ close s l current a = renewing s l (state_client s l a.stateid) (λ t m. close_b
 
 -- ---- DELEGRETURN
 
-abbrev pub number_returned : Option ℕ → NfsStatus
-number_returned None = statuses.StaleStateid
-number_returned (Some number) = statuses.BadStateid
+-- what is found for the stateid: its delegation, or why there is none
+abbrev pub Returning : Type 0
+Returning = Result StateidRow NfsStatus
 
--- there are no delegations
-abbrev pub returned : CoreState → Option ℕ → Stateid → NfsStatus
-returned s None stateid = statuses.NoFileHandle
-returned s (Some at) stateid = number_returned (number_of s stateid.other)
+-- the stateid's own seqid
+abbrev pub seqid_returned : StateidRow → ℕ → Returning
+seqid_returned r seqid = if nat_lt seqid r.standing.seqid then Err statuses.OldStateid else if nat_lt r.standing.seqid seqid then Err statuses.BadStateid else Ok r
+
+-- it is of a delegation
+abbrev pub holder_returned : StateidRow → ℕ → Holder → Returning
+holder_returned r seqid (holders.Delegation write) = seqid_returned r seqid
+holder_returned r seqid _ = Err statuses.BadStateid
+
+-- it is of the current file, and wasn't closed
+abbrev pub row_returned : ℕ → ℕ → Option StateidRow → Returning
+row_returned at seqid None = Err statuses.BadStateid
+row_returned at seqid (Some r) = if (r.file == at) && not r.standing.closed then holder_returned r seqid r.holder else Err statuses.BadStateid
+
+-- it is of this start
+abbrev pub number_returned : NfsLists → ℕ → ℕ → Option ℕ → Returning
+number_returned l at seqid None = Err statuses.StaleStateid
+number_returned l at seqid (Some number) = row_returned at seqid (find (is_stateid number) l.stateids)
+
+unfoldable pub returned : CoreState → NfsLists → Option ℕ → Stateid → Returning
+returned s l None stateid = Err statuses.NoFileHandle
+returned s l (Some at) stateid = number_returned l at stateid.seqid (number_of s stateid.other)
+
+-- how it ends
+abbrev pub returned_status : Returning → NfsStatus
+returned_status (Ok r) = statuses.Ok
+returned_status (Err status) = status
+
+abbrev pub cache_of_client : CoreState → ℕ → Option ClientRow → Option Claim
+cache_of_client s file None = None
+cache_of_client s file (Some c) = cache_held s c.id file
+
+-- the cache that stands for a delegation
+abbrev pub cache_of : CoreState → NfsLists → StateidRow → Option Claim
+cache_of s l r = cache_of_client s r.file (find (is_client r.client true) l.clients)
+
+-- the cache is given back, and the stateid goes
+abbrev pub return_done : CoreState → NfsLists → Option ℕ → Returning → Plan
+return_done s l current (Err status) = Does [] l current (Ended status)
+return_done s l current (Ok r) = Does (gives (cache_of s l r)) (freed r.number l) current (Ended statuses.Ok)
 
 unfoldable pub deleg_return : CoreState → NfsLists → Option ℕ → Stateid → Plan
-deleg_return s l current stateid = renewing s l (state_client s l stateid) (λ t m. Does [] m current (Ended (returned t current stateid)))
+deleg_return s l current stateid = renewing s l (state_client s l stateid) (λ t m. return_done t m current (returned t m current stateid))
 
 -- what was found is there: the open, which isn't closed, and its owner
 abbrev pub IsChecked : NfsLists → Checked → Type 0

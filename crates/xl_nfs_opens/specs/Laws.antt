@@ -3,12 +3,11 @@ use Rattle.std.specs.Prelude.{◌≡◌, ◌+◌, Bool, true, false, List, [], �
 use Rattle.std.specs.List.{find}
 use Rattle.xl_nfs.specs.Opens.{OpenArgsItem}
 use Rattle.xl_nfs.specs.declared.basics.Stateid.{Stateid}
-use Rattle.xl_nfs_state.specs.State.{NfsLists, with_stateids, without, is_owner, is_stateid, is_whose}
+use Rattle.xl_nfs_state.specs.State.{NfsLists, is_owner, is_stateid}
 use Rattle.xl_nfs_state.specs.declared.owner.OwnerRow.{OwnerRow}
 use Rattle.xl_nfs_state.specs.declared.owner.Turn.{Turn}
 use Rattle.xl_nfs_state.specs.declared.stateid.Holder.TheVariants as holders
 use Rattle.xl_nfs_state.specs.declared.stateid.StateidRow.{StateidRow}
-use Rattle.xl_nfs_state.specs.declared.stateid.Whose.TheVariants as whose
 use Rattle.xl_matrix.specs.Rights.{rights_lie_within}
 use Rattle.xl_matrix.specs.declared.claim.Claim.{Claim}
 use Rattle.xl_matrix.specs.declared.claim.Rwd.{Rwd}
@@ -17,10 +16,11 @@ use Rattle.xl_nfs.specs.declared.status.NfsStatus.{NfsStatus}
 use Rattle.xl_nfs.specs.declared.status.NfsStatus.TheVariants as statuses
 use Rattle.xl_core.specs.Asking.{asked_claim}
 use Rattle.xl_core.specs.Causes.{IsClaimDue}
+use Rattle.xl_core.specs.Decide.{way}
 use Rattle.xl_core.specs.State.{CoreState}
 use Rattle.xl_core.specs.declared.ask.Answer.TheVariants as answers
 use Rattle.xl_core.specs.declared.ask.Ask.{Ask}
-use Rattle.xl_nfs_opens.specs.Opens.{all_rooms, can_enter, open_row, open_turn, rights_of, share_ask}
+use Rattle.xl_nfs_opens.specs.Opens.{all_rooms, can_enter, freed, open_row, open_turn, rights_of, share_ask}
 use Rattle.xl_nfs_opens.specs.Plans.{Outcome}
 use Rattle.xl_nfs_opens.specs.Renewing.{number_of as number_in_other}
 use Rattle.xl_nfs_opens.specs.Seqids.{is_opener, opener_number, seated}
@@ -32,10 +32,6 @@ use Rattle.xl_nfs_opens.specs.declared.told.Told.TheVariants.{Kept}
 -- these bytes are told again, and nothing changes: neither what is remembered nor the core
 abbrev pub IsRepeated : List ℕ → NfsLists → CoreState → Outcome → Type 0
 IsRepeated bytes l s r = (r.0 ≡ Kept bytes) × (r.3 ≡ l) × (r.4 ≡ s)
-
--- what stands under this number gone
-abbrev pub freed : ℕ → NfsLists → NfsLists
-freed number l = with_stateids l (without (is_whose (whose.Stateid number)) l.stateids)
 
 -- the open of the next number can come once its owner is seated
 abbrev pub can_come : CoreState → NfsLists → Opener → OpenArgsItem → ℕ → Bool → Bool
@@ -55,7 +51,11 @@ pub record HasCome (o : Opener) (turn : Turn) (old new : NfsLists) : Type 0 wher
 
 -- the share that an OPEN of this file asks for
 abbrev pub share_claim : CoreState → Opener → OpenArgsItem → ℕ → Claim
-share_claim s o a file = asked_claim (share_ask o a file) (whats.Share (rights_of a.access) (rights_of a.deny)) s.names
+share_claim s o a file = asked_claim (share_ask None o a file) (whats.Share (rights_of a.access) (rights_of a.deny)) s.names
+
+-- the state in which that ask, with this wish, is judged: the breaks have begun that it begins
+abbrev pub share_way : CoreState → Option Bool → Opener → OpenArgsItem → ℕ → CoreState
+share_way s wish o a file = (way all_rooms s (share_ask wish o a file)).1
 
 -- OK where nothing stands against the share and there is room for it, SHARE_DENIED where something does for good, DELAY where
 -- a cache keeps it off, RESOURCE where a limit is passed, and NO_GRACE for a reclaim, which comes too late; nothing else is

@@ -1,5 +1,5 @@
 -- How long results are, and what is read of those that are kept (RFC 7530 9.1.8).
-use Rattle.std.specs.Prelude.{ℕ, ◌<◌, ◌^◌, ◌==◌, ◌||◌, Bool}
+use Rattle.std.specs.Prelude.{ℕ, ◌<◌, ◌^◌, ◌==◌, ◌||◌, Bool, IfSome}
 use Rattle.xl_nfs.specs.Basics.{stateid}
 use Rattle.xl_nfs.specs.Clients.{client_confirm}
 use Rattle.xl_nfs.specs.Locks.{denied}
@@ -12,7 +12,7 @@ use Rattle.xl_nfs_opens.specs.declared.told.Told.TheVariants.{Ended, Client, Ope
 abbrev pub PartsFit : ℕ → Told → Type 0
 PartsFit number (Ended status) = ResultFits (ended_as number status)
 PartsFit number (Client confirm) = client_confirm.Fit confirm
-PartsFit number (Opened opened flags) = stateid.Fit opened × (flags < 2 ^ 32)
+PartsFit number (Opened opened flags delegation) = stateid.Fit opened × (flags < 2 ^ 32) × IfSome delegation (λ given. stateid.Fit given.0)
 PartsFit number (State given) = stateid.Fit given
 PartsFit number (Denied held) = denied.Fit (denied_item held)
 PartsFit number _ = Unit {0}

@@ -3,19 +3,25 @@ use Rattle.std.specs.Prelude.{ℕ, ◌+◌, Bool, true, false, not, ◌&&◌, �
 use Rattle.std.specs.List.{find}
 use Rattle.std.specs.Option.{option_and_then}
 use Rattle.xl_base.specs.declared.name.Owner.TheVariants as owners
+use Rattle.xl_base.specs.declared.name.Party.{Party}
 use Rattle.xl_base.specs.declared.name.Protocol.TheVariants.{Nfs}
+use Rattle.xl_matrix.specs.declared.claim.CacheKind.{CacheKind}
+use Rattle.xl_matrix.specs.declared.claim.CacheKind.TheVariants as cache_kinds
+use Rattle.xl_matrix.specs.declared.claim.What.{What}
+use Rattle.xl_matrix.specs.declared.claim.What.TheVariants.{Cache}
 use Rattle.xl_matrix.specs.declared.claim.Claim.{Claim}
 use Rattle.xl_matrix.specs.declared.claim.Rwd.{Rwd}
 use Rattle.xl_names.specs.Names.{number_of}
 use Rattle.xl_names.specs.declared.name.Name.TheVariants.{NfsShare, NfsParty}
 use Rattle.xl_nfs.specs.Opens.{OpenArgsItem, OpenHowItem, NoCreate, Create, Unchecked, Guarded, Exclusive, OpenClaimItem, Null, Previous, DelegateCurrent, DelegatePrevious}
 use Rattle.xl_nfs.specs.Results.{ResultItem, OpenAnswer, nfs_result}
+use Rattle.xl_nfs.specs.declared.basics.Stateid.{Stateid}
 use Rattle.xl_nfs.specs.declared.status.NfsStatus.{NfsStatus}
 use Rattle.xl_nfs.specs.declared.status.NfsStatus.TheVariants as statuses
 use Rattle.xl_nfs_state.specs.Filed.{changed}
 use Rattle.xl_nfs_state.specs.Keys.{same_place, place_of}
 use Rattle.xl_nfs_state.specs.Rows.{with_standing}
-use Rattle.xl_nfs_state.specs.State.{NfsLists, with_stateids, without, without_owner, is_client, is_stateid, is_kept, is_whose, owned_on, can_hang, opens, most_opens}
+use Rattle.xl_nfs_state.specs.State.{NfsLists, with_stateids, without, without_owner, is_client, is_stateid, is_kept, is_whose, owned_on, delegated_on, can_hang, opens, most_opens}
 use Rattle.xl_nfs_state.specs.Verdict.{verdict, next_seqid}
 use Rattle.xl_nfs_state.specs.declared.client.ClientRow.{ClientRow}
 use Rattle.xl_nfs_state.specs.declared.kept.KeptRow.{KeptRow}
@@ -29,9 +35,11 @@ use Rattle.xl_nfs_state.specs.declared.stateid.StateidRow.{StateidRow}
 use Rattle.xl_nfs_state.specs.declared.stateid.Whose.TheVariants as whose
 use Rattle.xl_table.specs.Relock.{either_right, is_share_of}
 use Rattle.xl_wait.specs.declared.waiter.Rooms.{Rooms}
+use Rattle.xl_core.specs.Asking.{party_named}
 use Rattle.xl_core.specs.Deeds.{Deed, GivesBack, Draws}
 use Rattle.xl_core.specs.Limits.{most_hosts, most_owners}
 use Rattle.xl_core.specs.Limits as limits
+use Rattle.xl_core.specs.Places.{is_cache_on}
 use Rattle.xl_core.specs.Settle.{give_back}
 use Rattle.xl_core.specs.State.{CoreState, drawn}
 use Rattle.xl_core.specs.declared.ask.Act.TheVariants.{Share}
@@ -43,7 +51,7 @@ use Rattle.std.specs.List.{filter}
 use Rattle.xl_nfs_opens.specs.Leases.{number_in}
 use Rattle.xl_nfs_opens.specs.Files.{file_named}
 use Rattle.xl_nfs_opens.specs.Plans.{Plan, Does, Behind, Asking}
-use Rattle.xl_nfs_opens.specs.Renewing.{stateid_of, number_of as number_in_other, state_client, renewing}
+use Rattle.xl_nfs_opens.specs.Renewing.{same_stateid, stateid_of, number_of as number_in_other, state_client, renewing}
 use Rattle.xl_nfs_opens.specs.Results.{spelled}
 use Rattle.xl_nfs_opens.specs.Seqids.{advances, is_short, is_opener, is_room_for, opener_number, seated, kept_for, remembered}
 use Rattle.xl_nfs_opens.specs.declared.opener.Judged.{Judged}
@@ -94,25 +102,33 @@ found_name (Some file) = Ok file
 abbrev pub named_file : List (List ℕ) → List ℕ → Option ℕ
 named_file files name = if length name == 0 then None else file_named files name
 
--- there are no delegations
-abbrev pub by_delegation : Option ℕ → Result ℕ NfsStatus
-by_delegation None = Err statuses.NoEnt
-by_delegation (Some file) = Err statuses.BadStateid
+-- the stateid is whole that of this row
+abbrev pub is_stateid_of : CoreState → Stateid → Option StateidRow → Bool
+is_stateid_of s stateid None = false
+is_stateid_of s stateid (Some r) = same_stateid stateid (stateid_of s r.number r.standing.seqid)
 
-abbrev pub file_of_claim : List (List ℕ) → ℕ → OpenClaimItem → Result ℕ NfsStatus
-file_of_claim files at (Null name) = found_name (named_file files name)
-file_of_claim files at (Previous type) = Ok at
-file_of_claim files at (DelegateCurrent a) = by_delegation (named_file files a.name)
-file_of_claim files at (DelegatePrevious name) = Err statuses.NotSupp
+-- the stateid is that of the client's delegation on the file
+abbrev pub is_delegation : CoreState → NfsLists → ℕ → ℕ → Stateid → Bool
+is_delegation s l client file stateid = is_stateid_of s stateid (find (delegated_on client file) l.stateids)
+
+abbrev pub by_delegation : CoreState → NfsLists → ℕ → Stateid → Option ℕ → Result ℕ NfsStatus
+by_delegation s l client stateid None = Err statuses.NoEnt
+by_delegation s l client stateid (Some file) = if is_delegation s l client file stateid then Ok file else Err statuses.BadStateid
+
+abbrev pub file_of_claim : List (List ℕ) → CoreState → NfsLists → ℕ → ℕ → OpenClaimItem → Result ℕ NfsStatus
+file_of_claim files s l client at (Null name) = found_name (named_file files name)
+file_of_claim files s l client at (Previous type) = Ok at
+file_of_claim files s l client at (DelegateCurrent a) = by_delegation s l client a.stateid (named_file files a.name)
+file_of_claim files s l client at (DelegatePrevious name) = Err statuses.NotSupp
 
 -- a check that fails, before the others
 abbrev pub or_else : Option NfsStatus → Result ℕ NfsStatus → Result ℕ NfsStatus
 or_else None rest = rest
 or_else (Some status) rest = Err status
 
--- the file that is opened, or the first check that fails
-unfoldable pub opened_file : List (List ℕ) → ℕ → OpenArgsItem → Result ℕ NfsStatus
-opened_file files at a = or_else (check_claim at a.claim) (or_else (check_bits a) (or_else (check_how a.how) (file_of_claim files at a.claim)))
+-- the file that this client opens, or the first check that fails
+unfoldable pub opened_file : List (List ℕ) → CoreState → NfsLists → ℕ → ℕ → OpenArgsItem → Result ℕ NfsStatus
+opened_file files s l client at a = or_else (check_claim at a.claim) (or_else (check_bits a) (or_else (check_how a.how) (file_of_claim files s l client at a.claim)))
 
 -- ---- the owner
 
@@ -189,14 +205,52 @@ abbrev pub reclaims : OpenClaimItem → Bool
 reclaims (Previous type) = true
 reclaims _ = false
 
--- The share of an owner, which never waits. The rows that it adds are counted before; clients aren't recorded yet.
-unfoldable pub share_ask : Opener → OpenArgsItem → ℕ → Ask
-share_ask o a file = record {
+-- ---- a delegation that is wished for (RFC 7530 10.4)
+
+-- the file is claimed by its name
+abbrev pub is_by_name : OpenClaimItem → Bool
+is_by_name (Null name) = true
+is_by_name _ = false
+
+-- the client can be called back
+abbrev pub has_program : Option ClientRow → Bool
+has_program None = false
+has_program (Some c) = not (c.details.callback.program == 0)
+
+-- the cache that a party has on the file; it has one at most
+abbrev pub cache_by : List Claim → ℕ → Option Party → Option Claim
+cache_by claims file None = None
+cache_by claims file (Some party) = find (is_cache_on file party) claims
+
+-- the cache on the file of the client of this id string
+unfoldable pub cache_held : CoreState → List ℕ → ℕ → Option Claim
+cache_held s id file = cache_by s.claims file (party_named s.names (NfsParty id))
+
+-- the client has neither a cache nor a delegation on the file
+abbrev pub has_none : CoreState → NfsLists → Opener → ℕ → Bool
+has_none s l o file = not (is_some (cache_held s o.id file)) && not (is_some (find (delegated_on o.client file) l.stateids))
+
+-- a confirmed owner claims the file by its name, of a client that can be called back and has none there
+abbrev pub may_delegate : CoreState → NfsLists → Opener → OpenClaimItem → Bool → ℕ → Bool
+may_delegate s l o claim confirmed file = confirmed && (is_by_name claim && (has_program (find (is_client o.client true) l.clients) && has_none s l o file))
+
+-- the delegation that it gets if it may: for writing where the access has that, else for reading
+unfoldable pub wish_of : CoreState → NfsLists → Opener → OpenArgsItem → Bool → ℕ → Option Bool
+wish_of s l o a confirmed file = if may_delegate s l o a.claim confirmed file then Some (rights_of a.access).w else None
+
+abbrev pub wished_kinds : Option Bool → List CacheKind
+wished_kinds None = []
+wished_kinds (Some write) = (if write then cache_kinds.WriteDeleg else cache_kinds.ReadDeleg) ∷ []
+
+-- The share of an owner, which never waits, with this wish. The rows that it adds are counted before; clients aren't recorded
+-- yet.
+unfoldable pub share_ask : Option Bool → Opener → OpenArgsItem → ℕ → Ask
+share_ask wish o a file = record {
   file = file;
   owner = Named (NfsShare o.id o.owner);
   party = Named (NfsParty o.id);
   act = Share (rights_of a.access) (rights_of a.deny);
-  wish = [];
+  wish = wished_kinds wish;
   conn = None;
   blocking = false;
   awaits = false;
@@ -204,6 +258,21 @@ share_ask o a file = record {
   monitored = false;
   rows = no_rows;
 }
+
+-- whether a delegation is for writing, where this is one
+abbrev pub delegation_of : What → Option Bool
+delegation_of (Cache cache_kinds.WriteDeleg running) = Some true
+delegation_of (Cache cache_kinds.ReadDeleg running) = Some false
+delegation_of what = None
+
+abbrev pub delegation_in : Option Claim → Option Bool
+delegation_in None = None
+delegation_in (Some cache) = delegation_of cache.what
+
+-- the wish was granted where the client has a delegation there then, which is told for what it is
+abbrev pub granted_wish : CoreState → Opener → ℕ → Option Bool → Option Bool
+granted_wish s o file None = None
+granted_wish s o file (Some write) = delegation_in (cache_held s o.id file)
 
 abbrev pub is_granted : Answer → Bool
 is_granted (answers.Granted c) = true
@@ -261,12 +330,53 @@ open_row number o owner file a = record {
 abbrev pub can_enter : StateidRow → NfsLists → Bool
 can_enter r l = not (is_some (find (λ s. same_place (place_of r) (place_of s)) l.stateids)) && (can_hang l r && nat_lt (opens l.stateids) most_opens)
 
+-- what stands under this number gone
+abbrev pub freed : ℕ → NfsLists → NfsLists
+freed number l = with_stateids l (without (is_whose (whose.Stateid number)) l.stateids)
+
 abbrev pub entered_in : StateidRow → NfsLists → NfsLists
 entered_in r l = if can_enter r l then with_stateids l (l.stateids ++ r ∷ []) else l
 
 -- an open comes, and nothing stays that stood under its number before
 unfoldable pub entered : StateidRow → NfsLists → NfsLists
-entered r l = entered_in r (with_stateids l (without (is_whose (whose.Stateid r.number)) l.stateids))
+entered r l = entered_in r (freed r.number l)
+
+-- the client's delegation of this number on the file, new
+abbrev pub delegation_row : ℕ → Opener → ℕ → Bool → StateidRow
+delegation_row number o file write = record {
+  number = number;
+  client = o.client;
+  file = file;
+  holder = holders.Delegation write;
+  standing = record { seqid = 1; access = 0; deny = 0; closed = false };
+}
+
+-- nothing has its number or stands in its place, and its client is confirmed
+abbrev pub can_stand : StateidRow → NfsLists → Bool
+can_stand r l = not (is_some (find (is_stateid r.number) l.stateids)) && (not (is_some (find (λ s. same_place (place_of r) (place_of s)) l.stateids)) && can_hang l r)
+
+-- a delegation comes
+unfoldable pub delegated_in : StateidRow → NfsLists → NfsLists
+delegated_in r l = if can_stand r l then with_stateids l (l.stateids ++ r ∷ []) else l
+
+-- where one is granted, under the next number
+abbrev pub delegated : CoreState → Opener → ℕ → Option Bool → NfsLists → NfsLists
+delegated s o file None l = l
+delegated s o file (Some write) l = delegated_in (delegation_row (s.counter + 1) o file write) l
+
+-- the number that its stateid takes
+abbrev pub draws_for : Option Bool → List Deed
+draws_for None = []
+draws_for (Some write) = Draws ∷ []
+
+abbrev pub drawn_for : Option Bool → CoreState → CoreState
+drawn_for None s = s
+drawn_for (Some write) s = drawn s
+
+-- what is told of it: its stateid, and whether it is for writing
+abbrev pub delegation_told : CoreState → Option Bool → Option (Stateid × Bool)
+delegation_told s None = None
+delegation_told s (Some write) = Some (stateid_of (drawn s) (s.counter + 1) 1, write)
 
 -- what changes of this stateid
 abbrev pub stood : ℕ → StateidRow → ℕ → ℕ → Bool → NfsLists → NfsLists
@@ -277,55 +387,59 @@ stood number r access deny closed l =
 abbrev pub flags_of : Bool → ℕ
 flags_of confirmed = if confirmed then 0 else 2
 
-abbrev pub opened_told : CoreState → ℕ → ℕ → Bool → Told
-opened_told s number seqid confirmed = Opened (stateid_of s number seqid) (flags_of confirmed)
+abbrev pub opened_told : CoreState → ℕ → ℕ → Bool → Option (Stateid × Bool) → Told
+opened_told s number seqid confirmed delegation = Opened (stateid_of s number seqid) (flags_of confirmed) delegation
 
--- the owner has no open on the file: a new one takes the next number
-abbrev pub granted_new : CoreState → NfsLists → Opener → OpenArgsItem → ℕ → Bool → Plan
-granted_new s l o a file confirmed =
+-- the owner has no open on the file: a new one takes the next number, and a delegation the one behind it
+abbrev pub granted_new : CoreState → NfsLists → Opener → OpenArgsItem → ℕ → Bool → Option Bool → Plan
+granted_new s l o a file confirmed write =
     let number = opener_number o l in
-    let told = opened_told (drawn s) (s.counter + 1) 1 confirmed in
-    Does (Draws ∷ []) (kept_for number (spelled 18 told) (entered (open_row (s.counter + 1) o number file a) (seated o (open_turn a confirmed) l))) (Some file) told
+    let t = drawn s in
+    let told = opened_told (drawn_for write t) (s.counter + 1) 1 confirmed (delegation_told t write) in
+    Does (Draws ∷ draws_for write) (kept_for number (spelled 18 told) (delegated t o file write (entered (open_row (s.counter + 1) o number file a) (seated o (open_turn a confirmed) l)))) (Some file) told
 
 -- it has one: that has the rights of both from then on
-abbrev pub granted_more : CoreState → NfsLists → Opener → OpenArgsItem → ℕ → Bool → StateidRow → Plan
-granted_more s l o a file confirmed r =
+abbrev pub granted_more : CoreState → NfsLists → Opener → OpenArgsItem → ℕ → Bool → Option Bool → StateidRow → Plan
+granted_more s l o a file confirmed write r =
     let number = opener_number o l in
-    let told = opened_told s r.number (next_seqid r.standing.seqid) confirmed in
-    Does [] (kept_for number (spelled 18 told) (seated o (open_turn a confirmed) (stood r.number r (either_bits r.standing.access a.access) (either_bits r.standing.deny a.deny) false l))) (Some file) told
+    let told = opened_told (drawn_for write s) r.number (next_seqid r.standing.seqid) confirmed (delegation_told s write) in
+    Does (draws_for write) (kept_for number (spelled 18 told) (delegated s o file write (seated o (open_turn a confirmed) (stood r.number r (either_bits r.standing.access a.access) (either_bits r.standing.deny a.deny) false l)))) (Some file) told
 
-abbrev pub granted_by : CoreState → NfsLists → Opener → OpenArgsItem → ℕ → Bool → Option StateidRow → Plan
-granted_by s l o a file confirmed None = granted_new s l o a file confirmed
-granted_by s l o a file confirmed (Some r) = granted_more s l o a file confirmed r
+abbrev pub granted_by : CoreState → NfsLists → Opener → OpenArgsItem → ℕ → Bool → Option Bool → Option StateidRow → Plan
+granted_by s l o a file confirmed write None = granted_new s l o a file confirmed write
+granted_by s l o a file confirmed write (Some r) = granted_more s l o a file confirmed write r
 
--- what becomes of the request by the core's answer
-abbrev pub answered : NfsLists → Option ℕ → Opener → OpenArgsItem → ℕ → Bool → Answer → CoreState → Plan
-answered l current o a file confirmed answer s =
-    if is_granted answer then granted_by s l o a file (confirmed || reclaims a.claim) (open_held l o file)
+-- what becomes of the request with this wish by the core's answer
+abbrev pub answered : NfsLists → Option ℕ → Opener → OpenArgsItem → ℕ → Bool → Option Bool → Answer → CoreState → Plan
+answered l current o a file confirmed wish answer s =
+    if is_granted answer then granted_by s l o a file (confirmed || reclaims a.claim) (granted_wish s o file wish) (open_held l o file)
     else refused l current o a confirmed (answer_status (reclaims a.claim) answer)
 
 -- ---- the checks in their order
 
-abbrev pub open_on : ℕ → NfsLists → Option ℕ → Opener → OpenArgsItem → Bool → ℕ → Plan
-open_on others l current o a confirmed file =
-    if has_room others l o file then Asking all_rooms (share_ask o a file) (answered l current o a file confirmed)
+abbrev pub open_wish : ℕ → NfsLists → Option ℕ → Opener → OpenArgsItem → Bool → ℕ → Option Bool → Plan
+open_wish others l current o a confirmed file wish =
+    if has_room others l o file then Asking all_rooms (share_ask wish o a file) (answered l current o a file confirmed wish)
     else Does [] l current (Ended statuses.Resource)
 
-abbrev pub open_by : ℕ → NfsLists → Option ℕ → Opener → OpenArgsItem → Bool → Result ℕ NfsStatus → Plan
-open_by others l current o a confirmed (Err status) = refused l current o a confirmed status
-open_by others l current o a confirmed (Ok file) = open_on others l current o a confirmed file
+abbrev pub open_on : ℕ → CoreState → NfsLists → Option ℕ → Opener → OpenArgsItem → Bool → ℕ → Plan
+open_on others s l current o a confirmed file = open_wish others l current o a confirmed file (wish_of s l o a confirmed file)
+
+abbrev pub open_by : ℕ → CoreState → NfsLists → Option ℕ → Opener → OpenArgsItem → Bool → Result ℕ NfsStatus → Plan
+open_by others s l current o a confirmed (Err status) = refused l current o a confirmed status
+open_by others s l current o a confirmed (Ok file) = open_on others s l current o a confirmed file
 
 -- of an owner that is confirmed, or new
-unfoldable pub open_as : List (List ℕ) → ℕ → NfsLists → Option ℕ → ℕ → Opener → OpenArgsItem → Bool → Plan
-open_as files others l current at o a confirmed = open_by others l current o a confirmed (opened_file files at a)
+unfoldable pub open_as : List (List ℕ) → ℕ → CoreState → NfsLists → Option ℕ → ℕ → Opener → OpenArgsItem → Bool → Plan
+open_as files others s l current at o a confirmed = open_by others s l current o a confirmed (opened_file files s l o.client at a)
 
 abbrev pub open_judged : List (List ℕ) → ℕ → CoreState → NfsLists → Option ℕ → ℕ → Opener → OpenArgsItem → Judged → Plan
 open_judged files others s l current at o a judgements.Bad = Does [] l current (Ended statuses.BadSeqid)
 open_judged files others s l current at o a (judgements.Repeats number) = repeated s l current (find (is_kept number) l.kept)
 open_judged files others s l current at o a (judgements.Anew number) =
-    Behind (gives_all s o (filter (is_whose (whose.Owner number)) l.stateids)) (without_owner number l) (λ t. open_as files others (without_owner number l) current at o a false)
-open_judged files others s l current at o a judgements.New = open_as files others l current at o a false
-open_judged files others s l current at o a judgements.Next = open_as files others l current at o a true
+    Behind (gives_all s o (filter (is_whose (whose.Owner number)) l.stateids)) (without_owner number l) (λ t. open_as files others t (without_owner number l) current at o a false)
+open_judged files others s l current at o a judgements.New = open_as files others s l current at o a false
+open_judged files others s l current at o a judgements.Next = open_as files others s l current at o a true
 
 abbrev pub opener_of : ClientRow → OpenArgsItem → Opener
 opener_of c a = record { client = c.number; id = c.id; kind = kinds.Open; owner = a.owner.owner }

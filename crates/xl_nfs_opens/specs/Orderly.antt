@@ -13,9 +13,10 @@ use Rattle.xl_nfs_state.specs.declared.owner.OwnerRow.{OwnerRow}
 use Rattle.xl_nfs_state.specs.declared.stateid.Holder.{Holder}
 use Rattle.xl_nfs_state.specs.declared.stateid.Holder.TheVariants as holders
 use Rattle.xl_nfs_state.specs.declared.stateid.StateidRow.{StateidRow}
-use Rattle.xl_nfs_opens.specs.Opens.{rights_of}
+use Rattle.xl_core.specs.State.{CoreState}
+use Rattle.xl_nfs_opens.specs.Opens.{cache_held, delegation_in, rights_of}
 use Rattle.xl_nfs_opens.specs.Plans.{Outcome}
-use Rattle.xl_nfs_opens.specs.Renewing.{stateid_of}
+use Rattle.xl_nfs_opens.specs.Renewing.{number_of as number_in_other, stateid_of}
 use Rattle.xl_nfs_opens.specs.Seqids.{is_opener}
 use Rattle.xl_nfs_opens.specs.declared.opener.Opener.{Opener}
 
@@ -58,3 +59,25 @@ pub record IsKnown (o : Opener) (a : OpenArgsItem) (stateid : Stateid) (done : O
   pub live : row.standing.closed ≡ false
   pub access : rights_lie_within (rights_of a.access) (rights_of row.standing.access) ≡ true
   pub deny : rights_lie_within (rights_of a.deny) (rights_of row.standing.deny) ≡ true
+
+-- what was told names the client's delegation on the file that is the current one, for writing or else for reading, and the
+-- client has a cache there
+pub record IsDelegated (o : Opener) (given : Stateid) (write : Bool) (done : Outcome) : Type 0 where
+  pub row : StateidRow
+  pub found : find (is_stateid row.number) done.3.stateids ≡ Some row
+  pub named : given ≡ stateid_of done.4 row.number row.standing.seqid
+  pub client : row.client ≡ o.client
+  pub file : done.1 ≡ Some row.file
+  pub holder : row.holder ≡ holders.Delegation write
+  pub held : delegation_in (cache_held done.4 o.id row.file) ≡ Some write
+
+-- the stateid of this start names this delegation of the current file, with its own seqid
+pub record IsReturned (s : CoreState) (l : NfsLists) (at : ℕ) (stateid : Stateid) (r : StateidRow) : Type 0 where
+  pub number : ℕ
+  pub write : Bool
+  pub named : number_in_other s stateid.other ≡ Some number
+  pub found : find (is_stateid number) l.stateids ≡ Some r
+  pub file : r.file ≡ at
+  pub live : r.standing.closed ≡ false
+  pub holder : r.holder ≡ holders.Delegation write
+  pub seqid : stateid.seqid ≡ r.standing.seqid

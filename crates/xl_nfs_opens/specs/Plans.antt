@@ -50,7 +50,7 @@ abbrev pub status_of : Told → NfsStatus
 status_of (Ended status) = status
 status_of (Handle file) = statuses.Ok
 status_of (Client confirm) = statuses.Ok
-status_of (Opened stateid flags) = statuses.Ok
+status_of (Opened stateid flags delegation) = statuses.Ok
 status_of (State stateid) = statuses.Ok
 status_of Free = statuses.Ok
 status_of (Denied held) = statuses.Denied

@@ -1,5 +1,5 @@
 -- Whose leases an operation renews (RFC 7530 9.5), and the numbers in a stateid.
-use Rattle.std.specs.Prelude.{ℕ, ◌==◌, true, if◌then◌else◌, List, [], ◌∷◌, ◌++◌, take, drop, Option, Some, None}
+use Rattle.std.specs.Prelude.{ℕ, ◌==◌, ◌&&◌, bytes_eq, Bool, true, if◌then◌else◌, List, [], ◌∷◌, ◌++◌, take, drop, Option, Some, None}
 use Rattle.std.specs.Int.{w32, w64, to_be_bytes, from_be_bytes}
 use Rattle.std.specs.List.{find}
 use Rattle.xl_nfs.specs.declared.basics.Stateid.{Stateid}
@@ -16,6 +16,9 @@ use Rattle.xl_nfs_opens.specs.Plans.{Plan, Behind}
 -- the stateid of this number and seqid: its `other` is the epoch of this start and the number
 unfoldable pub stateid_of : CoreState → ℕ → ℕ → Stateid
 stateid_of s number seqid = record { seqid = seqid; other = to_be_bytes w32 s.stable.epoch ++ to_be_bytes w64 number }
+
+abbrev pub same_stateid : Stateid → Stateid → Bool
+same_stateid a b = (a.seqid == b.seqid) && bytes_eq a.other b.other
 
 -- the number in a stateid, where it is of this start
 unfoldable pub number_of : CoreState → List ℕ → Option ℕ

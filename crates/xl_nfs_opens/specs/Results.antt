@@ -1,7 +1,7 @@
 -- How what an operation told is spelled (RFC 7531, nfs_resop4).
-use Rattle.std.specs.Prelude.{ℕ, true, ◌==◌, if◌then◌else◌, List, [], ◌++◌, Ok, Err}
+use Rattle.std.specs.Prelude.{ℕ, ◌-◌, ◌^◌, Bool, true, false, ◌==◌, if◌then◌else◌, List, [], ◌++◌, Option, Some, None, Ok, Err}
 use Rattle.xl_base.specs.Handles.{handle}
-use Rattle.xl_nfs.specs.Opened.{OpenResultItem, NoDelegation}
+use Rattle.xl_nfs.specs.Opened.{AceItem, DelegationItem, NoDelegation, ReadDelegated, WriteDelegated, OpenResultItem}
 use Rattle.xl_nfs.specs.Ops.{is_numbered}
 use Rattle.xl_nfs.specs.Locks.{DeniedItem}
 use Rattle.xl_nfs.specs.Outcomes.{DeniedBy, OtherFault}
@@ -31,14 +31,25 @@ state_as number stateid =
     if number == 4 then CloseAnswer (Ok stateid) else if number == 12 then LockAnswer (Ok stateid) else if number == 14 then LockUAnswer (Ok stateid)
     else if number == 20 then OpenConfirmAnswer (Ok stateid) else OpenDowngradeAnswer (Ok stateid)
 
--- OPEN gives this stateid: the directory didn't change, no attribute was set, and there is no delegation
-abbrev pub open_result_of : Stateid → ℕ → OpenResultItem
-open_result_of stateid flags = record {
+-- no permissions are told beside a delegation
+abbrev pub no_permissions : AceItem
+no_permissions = record { kind = 0; flag = 0; mask = 0; who = [] }
+
+-- a delegation of this stateid, for writing or else for reading: it isn't recalled already, and any length may be written
+abbrev pub delegation_item : Option (Stateid × Bool) → DelegationItem
+delegation_item None = NoDelegation
+delegation_item (Some given) =
+    if given.1 then WriteDelegated (record { stateid = given.0; recall = false; limit = 2 ^ 64 - 1; permissions = no_permissions })
+    else ReadDelegated (record { stateid = given.0; recall = false; permissions = no_permissions })
+
+-- OPEN gives this stateid, and this delegation: the directory didn't change, and no attribute was set
+abbrev pub open_result_of : Stateid → ℕ → Option (Stateid × Bool) → OpenResultItem
+open_result_of stateid flags delegation = record {
   stateid = stateid;
   change = record { atomic = true; before = 0; after = 0 };
   flags = flags;
   attributes = [];
-  delegation = NoDelegation;
+  delegation = delegation_item delegation;
 }
 
 -- the operation of this number is denied by this lock (LOCK4denied)
@@ -53,7 +64,7 @@ abbrev pub spelled : ℕ → Told → List ℕ
 spelled number (Ended status) = nfs_result.spell (ended_as number status)
 spelled number (Handle file) = nfs_result.spell (GetFhAnswer (Ok (handle file)))
 spelled number (Client confirm) = nfs_result.spell (SetClientIdAnswer (Ok confirm))
-spelled number (Opened stateid flags) = nfs_result.spell (OpenAnswer (Ok (open_result_of stateid flags)))
+spelled number (Opened stateid flags delegation) = nfs_result.spell (OpenAnswer (Ok (open_result_of stateid flags delegation)))
 spelled number (State stateid) = nfs_result.spell (state_as number stateid)
 spelled number Free = nfs_result.spell (LockTAnswer (Ok tt))
 spelled number (Denied held) = nfs_result.spell (denied_as number held)

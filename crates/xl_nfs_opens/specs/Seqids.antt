@@ -94,10 +94,10 @@ abbrev pub read_status : {F : Type 0} → Result (ResultItem × List ℕ) F → 
 read_status (Ok read) = result_status read.0
 read_status (Err fault) = statuses.ServerFault
 
--- how many bytes a result has at most, but that of a lock that is denied: as many as that of OPEN with no attributes and no
--- delegation
+-- how many bytes a result has at most, but that of a lock that is denied: as many as that of OPEN with no attributes and a
+-- delegation for writing
 abbrev pub most_short : ℕ
-most_short = 56
+most_short = 104
 
 abbrev pub is_short : List ℕ → Bool
 is_short bytes = nat_le (length bytes) most_short

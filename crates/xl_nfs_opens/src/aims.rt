@@ -1,12 +1,17 @@
 //! What an OPEN opens.
-ghost use Rattle.std.specs.Prelude.{◌≡◌, false, IfErr, IfSome};
+ghost use Rattle.std.specs.Prelude.{◌≡◌, false, IfErr, IfSome, option_copied};
+ghost use Rattle.std.specs.List.{find};
+ghost use Rattle.xl_nfs_state.specs.State.{delegated_on};
 ghost use Rattle.xl_nfs.specs.Opens.{shown_open_args, shown_open_claim, shown_open_how};
 ghost use Rattle.xl_nfs.specs.Outcomes.{is_ok};
-ghost use Rattle.xl_nfs_opens.specs.Opens.{check_bits, check_claim, check_how, file_of_claim, named_file, opened_file};
+ghost use Rattle.xl_nfs_opens.specs.Opens.{by_delegation, check_bits, check_claim, check_how, file_of_claim, is_delegation, is_stateid_of, named_file, opened_file};
 
 use crate::files::file_named;
+use crate::renewing::{same_stateid, stateid_of};
 use xl_base::Sequence;
-use xl_nfs::{CreateHow, NfsStatus, OpenArgs, OpenClaim, OpenHow};
+use xl_core::Core;
+use xl_nfs::{CreateHow, NfsStatus, OpenArgs, OpenClaim, OpenHow, Stateid};
+use xl_nfs_state::{NfsState, StateidRow};
 
 /// A claim by a name is made in the root, and one of a file that was open before a restart at the file.
 fn check_claim(at: u32, claim: &OpenClaim) -> Option<NfsStatus>
@@ -55,9 +60,54 @@ fn named_file(files: &[Sequence<u8>], name: &[u8]) -> Option<u32>
     file_named(files, name)
 }
 
+/// Whether the stateid is whole that of this row.
+fn is_stateid_of(core: &Core, stateid: &Stateid, row: Option<&StateidRow>) -> bool
+    ensures { result ≡ is_stateid_of core.now stateid.now (option_copied row.entry) }
+{
+    match row {
+        Some(row) => {
+            let whole = stateid_of(core, row.number, row.standing.seqid);
+            same_stateid(stateid, &whole)
+        }
+        None => false,
+    }
+}
+
+/// Whether the stateid is that of the client's delegation on the file.
+fn is_delegation(core: &Core, state: &NfsState, client: u32, file: u32, stateid: &Stateid) -> bool
+    ensures { result ≡ is_delegation core.now state.now client file stateid.now }
+{
+    is_stateid_of(core, stateid, state.find_delegation(client, file))
+}
+
+/// The file of this name, where the stateid is that of the client's delegation on it.
+fn by_delegation(
+    core: &Core,
+    state: &NfsState,
+    client: u32,
+    stateid: &Stateid,
+    file: Option<u32>,
+) -> Result<u32, NfsStatus>
+    ensures value { result ≡ by_delegation core.now state.now client stateid.now file }
+    ensures fails { IfErr result (λ status. is_ok status ≡ false) }
+{
+    match file {
+        Some(file) if is_delegation(core, state, client, file, stateid) => Ok(file),
+        Some(_) => Err(NfsStatus::BadStateid),
+        None => Err(NfsStatus::NoEnt),
+    }
+}
+
 /// The file of a claim, where it is one.
-fn file_of_claim(files: &[Sequence<u8>], at: u32, claim: &OpenClaim) -> Result<u32, NfsStatus>
-    ensures value { result ≡ file_of_claim files.now at (shown_open_claim claim.now) }
+fn file_of_claim(
+    files: &[Sequence<u8>],
+    core: &Core,
+    state: &NfsState,
+    client: u32,
+    at: u32,
+    claim: &OpenClaim,
+) -> Result<u32, NfsStatus>
+    ensures value { result ≡ file_of_claim files.now core.now state.now client at (shown_open_claim claim.now) }
     ensures fails { IfErr result (λ status. is_ok status ≡ false) }
 {
     match claim {
@@ -66,22 +116,25 @@ fn file_of_claim(files: &[Sequence<u8>], at: u32, claim: &OpenClaim) -> Result<u
             None => Err(NfsStatus::NoEnt),
         },
         OpenClaim::Previous(_) => Ok(at),
-        OpenClaim::DelegateCurrent(delegation) => match named_file(files, delegation.name) {
-            Some(_) => Err(NfsStatus::BadStateid),
-            None => Err(NfsStatus::NoEnt),
-        },
+        OpenClaim::DelegateCurrent(delegation) => {
+            let file = named_file(files, delegation.name);
+            by_delegation(core, state, client, &delegation.stateid, file)
+        }
         OpenClaim::DelegatePrevious(_) => Err(NfsStatus::NotSupp),
     }
 }
 
-/// The file that is opened, or the first check that fails.
+/// The file that this client opens, or the first check that fails.
 #[tactic(auto, unfolding(crate::specs::Opens::opened_file))]
 pub(crate) fn opened_file(
     files: &[Sequence<u8>],
+    core: &Core,
+    state: &NfsState,
+    client: u32,
     at: u32,
     args: &OpenArgs,
 ) -> Result<u32, NfsStatus>
-    ensures value { result ≡ opened_file files.now at (shown_open_args args.now) }
+    ensures value { result ≡ opened_file files.now core.now state.now client at (shown_open_args args.now) }
     ensures fails { IfErr result (λ status. is_ok status ≡ false) }
 {
     if let Some(status) = check_claim(at, &args.claim) {
@@ -93,5 +146,5 @@ pub(crate) fn opened_file(
     if let Some(status) = check_how(&args.how) {
         return Err(status);
     }
-    file_of_claim(files, at, &args.claim)
+    file_of_claim(files, core, state, client, at, &args.claim)
 }

@@ -1,8 +1,8 @@
 //! What the core is asked for a lock owner.
-ghost use Rattle.std.specs.Prelude.{◌≡◌, ◌≤◌, IfOk, true, false};
-ghost use Rattle.xl_core.specs.Asking.{may_ask, IsFit, IsFitAct};
+ghost use Rattle.std.specs.Prelude.{◌≡◌, ◌≤◌, IfOk, true, false, []};
+ghost use Rattle.xl_core.specs.Asking.{may_ask, IsFit, IsFitAct, IsFitWish};
 ghost use Rattle.xl_core.specs.declared.ask.Who.TheVariants.{Named};
-ghost use Rattle.xl_names.specs.declared.name.Name.TheVariants.{NfsRange};
+ghost use Rattle.xl_names.specs.declared.name.Name.TheVariants.{NfsParty, NfsRange};
 ghost use Rattle.xl_nfs_opens.specs.Asks.{range_ask, unlock_ask};
 ghost use Rattle.xl_nfs_opens.specs.Short.{IsNfsAsk};
 
@@ -25,6 +25,7 @@ pub fn range_ask(
 ) -> Result<Ask, AllocError>
     requires act { IsFitAct (Named (NfsRange owner.now.id owner.now.owner)) false act }
     requires own { may_ask (Named (NfsRange owner.now.id owner.now.owner)) act ≡ true }
+    requires wish { IsFitWish (Named (NfsParty owner.now.id)) false reclaim act [] }
     ensures value { IfOk result (λ ask. ask ≡ range_ask owner.now file act reclaim) }
     ensures fit { IfOk result (λ ask. IsFit ask) }
     ensures nfs { IfOk result (λ ask. IsNfsAsk ask) }

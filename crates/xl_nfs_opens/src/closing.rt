@@ -8,11 +8,12 @@ ghost use Rattle.std.specs.List.{find};
 ghost use Rattle.xl_base.specs.Lists.{IsIn};
 ghost use Rattle.xl_core.specs.State.{CoreState};
 ghost use Rattle.xl_nfs_state.specs.State.{is_owner, is_stateid};
-ghost use Rattle.xl_nfs_opens.specs.Closing.{checked, close, close_by, close_done, share_closed, confirm_by, confirm_done, deleg_return, failed, next_turn, open_confirm, opener_by, owner_checked, returned, row_checked, seqid_checked, share_of_open, standing_fault, state_told, IsChecked};
+ghost use Rattle.xl_nfs_opens.specs.Closing.{checked, close, close_by, close_done, share_closed, confirm_by, confirm_done, deleg_return, failed, holder_returned, cache_of, next_turn, open_confirm, opener_by, owner_checked, return_done, returned, row_checked, seqid_checked, share_of_open, standing_fault, state_told, IsChecked};
 ghost use Rattle.xl_nfs_opens.specs.Plans.{carried};
 ghost use Rattle.xl_nfs_opens.specs.Results.{spelled, ToldFits};
 ghost use Rattle.xl_nfs_opens.specs.Short.{IsReady, Leaves};
 
+use crate::delegating::cache_held;
 use crate::done::{Done, ended_as};
 use crate::ending::end_locks;
 use crate::entering::stand;
@@ -417,20 +418,82 @@ pub fn close<K: Keeper>(
     Ok(done)
 }
 
-/// The status of a DELEGRETURN: there are no delegations.
-fn returned(core: &Core, current: Option<u32>, stateid: &Stateid) -> NfsStatus
-    ensures { result ≡ returned core.now current stateid.now }
+/// By the stateid's own seqid.
+fn check_returned(row: &StateidRow, seqid: u32) -> Result<StateidRow, NfsStatus>
+    ensures { result ≡ holder_returned row.now seqid row.now.holder }
 {
-    if current.is_none() {
-        return NfsStatus::NoFileHandle;
-    }
-    match number_of(core, &stateid.other) {
-        Some(_) => NfsStatus::BadStateid,
-        None => NfsStatus::StaleStateid,
+    match row.holder {
+        Holder::Delegation { .. } if seqid < row.standing.seqid => Err(NfsStatus::OldStateid),
+        Holder::Delegation { .. } if seqid == row.standing.seqid => Ok(*row),
+        _ => Err(NfsStatus::BadStateid),
     }
 }
 
-/// DELEGRETURN.
+/// The delegation that a DELEGRETURN is of, or why there is none.
+#[tactic(auto, unfolding(crate::specs::Closing::returned))]
+fn returned(
+    core: &Core,
+    state: &NfsState,
+    current: Option<u32>,
+    stateid: &Stateid,
+) -> Result<StateidRow, NfsStatus>
+    ensures { result ≡ returned core.now state.now current stateid.now }
+{
+    let Some(at) = current else {
+        return Err(NfsStatus::NoFileHandle);
+    };
+    let Some(number) = number_of(core, &stateid.other) else {
+        return Err(NfsStatus::StaleStateid);
+    };
+    match state.find_stateid(number) {
+        Some(row) if row.file == at && !row.standing.closed => check_returned(row, stateid.seqid),
+        _ => Err(NfsStatus::BadStateid),
+    }
+}
+
+/// The cache that stands for a delegation.
+fn cache_of(
+    alloc: Global,
+    core: &Core,
+    state: &NfsState,
+    row: &StateidRow,
+) -> Result<Option<Claim>, AllocError>
+    ensures value { IfOk result (λ claim. claim ≡ cache_of core.now state.now row.now) }
+    ensures held { IfOk result (λ claim. IfSome claim (λ cache. IsIn cache core.now.claims)) }
+{
+    let Some(client) = state.find_client(row.client, true) else {
+        return Ok(None);
+    };
+    let cache = cache_held(alloc, core, client.id.as_slice(), row.file)?;
+    Ok(cache)
+}
+
+/// DELEGRETURN by what is found for its stateid: the cache is given back, and the stateid goes.
+#[tactic(auto, using(crate::proofs::LeaveLaws::leaves_self))]
+fn return_by(
+    alloc: Global,
+    state: &mut NfsState,
+    core: &mut Core,
+    current: Option<u32>,
+    found: Result<StateidRow, NfsStatus>,
+) -> Result<Done, AllocError>
+    requires ready { IsReady 0 core.old }
+    ensures done { (n : ℕ) → IfOk result (λ r. carried n core.old state.old current (return_done core.old state.old current found) ≡ (r.0, r.1, r.2, state.new, core.new)) }
+    ensures leaves { OnOk result (Leaves 0 core.old core.new) }
+{
+    match found {
+        Err(status) => Ok(ended_as(alloc, status, current)),
+        Ok(row) => {
+            let cache = cache_of(alloc, core, state, &row)?;
+            give(alloc, core, cache);
+            state.drop_stateids(Whose::Stateid(row.number));
+            Ok(ended_as(alloc, NfsStatus::Ok, current))
+        }
+    }
+}
+
+/// DELEGRETURN: the client gives its delegation of the current file back. NOFILEHANDLE, STALE_STATEID, BAD_STATEID and
+/// OLD_STATEID by the stateid.
 #[tactic(auto, unfolding(crate::specs::Closing::deleg_return), using(crate::proofs::LeaveLaws::leaves_then, crate::proofs::LeaveLaws::ready_then))]
 pub fn deleg_return(
     alloc: Global,
@@ -445,6 +508,7 @@ pub fn deleg_return(
 {
     let client = state_client(state, core, stateid);
     renew_for(alloc, state, core, client)?;
-    let status = returned(core, current, stateid);
-    Ok(ended_as(alloc, status, current))
+    let found = returned(core, state, current, stateid);
+    let done = return_by(alloc, state, core, current, found)?;
+    Ok(done)
 }

@@ -51,7 +51,7 @@ pub fn renewed(alloc: Global, core: &mut Core, id: &[u8]) -> Result<(), AllocErr
 }
 
 /// Gives out the next number.
-#[tactic(auto, using(crate::proofs::LeaveLaws::drawn_leaves, crate::proofs::LeaveLaws::drawn_number, crate::proofs::LeaveLaws::drawn_stable))]
+#[tactic(auto, using(crate::proofs::LeaveLaws::ready_numbers, crate::proofs::LeaveLaws::drawn_leaves, crate::proofs::LeaveLaws::drawn_number, crate::proofs::LeaveLaws::drawn_stable))]
 pub fn drawn(core: &mut Core) -> u32
     requires ready { IsReady 0 core.old }
     ensures state { core.new ≡ drawn core.old }

@@ -5,6 +5,8 @@
 mod aims;
 mod asks;
 mod closing;
+mod delegating;
+pub mod delegations;
 mod done;
 mod downgrading;
 mod ending;
@@ -30,6 +32,7 @@ pub use closing::{
     check, check_owner, close, deleg_return, fail, finish, next_turn, open_confirm, opener_by,
     standing_fault, state_told,
 };
+pub use delegating::party_of;
 pub use done::{Done, beside, ended_as};
 pub use downgrading::open_downgrade;
 pub use entering::{held_on, stand};

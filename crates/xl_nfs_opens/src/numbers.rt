@@ -34,5 +34,5 @@ pub fn stateids_have_given_numbers()
 /// nothing that was there goes for it (RFC 7530 9.1.4, 16.16).
 pub fn new_stateids_name_one_open()
     ensures unused { (s : CoreState) (l : NfsLists) → AreGivenOut s.counter l → find (is_stateid (s.counter + 1)) l.stateids ≡ None }
-    ensures alone { (n : ℕ) (s : CoreState) (l : NfsLists) (current : Option ℕ) (o : OpenOwner) (a : OpenArgsItem) (file : ℕ) (confirmed : Bool) (r : StateidRow) → AreGivenOut s.counter l → IsIn r (carried n s l current (granted_new s l o a file confirmed)).3.stateids → r.number ≡ s.counter + 1 → r ≡ open_row (s.counter + 1) o (opener_number o l) file a }
+    ensures alone { (n : ℕ) (s : CoreState) (l : NfsLists) (current : Option ℕ) (o : OpenOwner) (a : OpenArgsItem) (file : ℕ) (confirmed : Bool) (write : Option Bool) (r : StateidRow) → AreGivenOut s.counter l → IsIn r (carried n s l current (granted_new s l o a file confirmed write)).3.stateids → r.number ≡ s.counter + 1 → r ≡ open_row (s.counter + 1) o (opener_number o l) file a }
 {}

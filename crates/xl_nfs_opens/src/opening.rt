@@ -7,9 +7,10 @@ ghost use Rattle.xl_nfs.specs.Outcomes.{is_ok};
 ghost use Rattle.xl_nfs_state.specs.State.{is_client, is_stateid};
 ghost use Rattle.xl_nfs_opens.specs.Opens.{answer_status, answered, granted_by, is_granted, granted_more, granted_new, judged, judged_by, open_as, open_at, open_claimed, open_file, open_judged, open_on, reclaims, refused, claim_client, client_in, open_held, opener_of};
 ghost use Rattle.xl_nfs_opens.specs.Plans.{carried};
-ghost use Rattle.xl_nfs_opens.specs.Short.{IsReady, Leaves, drawn_behind};
+ghost use Rattle.xl_nfs_opens.specs.Short.{IsReady, Leaves};
 
 use crate::aims::opened_file;
+use crate::delegating::{delegate, granted_wish, wish_of};
 use crate::done::{Done, beside, ended_as};
 use crate::entering::{
     either_bits, enter, flags_of, has_room, open_held, open_row, open_turn, stand,
@@ -100,7 +101,8 @@ fn refuse(
     Ok((told, current))
 }
 
-/// The owner has no open on the file: a new one takes the next number.
+/// The owner has no open on the file: a new one takes the next number, and a delegation the one behind it.
+#[tactic(auto, using(crate::proofs::LeaveLaws::ready_less, crate::proofs::LeaveLaws::ready_then, crate::proofs::LeaveLaws::leaves_then))]
 fn grant_new(
     alloc: Global,
     state: &mut NfsState,
@@ -109,11 +111,12 @@ fn grant_new(
     args: &OpenArgs,
     file: u32,
     confirmed: bool,
+    write: Option<bool>,
 ) -> Result<(Told, Option<u32>), AllocError>
     requires client { IsSome (find (is_client opener.now.client true) state.old.clients) }
-    requires ready { IsReady 0 core.old }
-    ensures done { (n : ℕ) (current : Option ℕ) → IfOk result (λ r. carried n core.old state.old current (granted_new core.old state.old opener.now (shown_open_args args.now) file confirmed) ≡ (r.0, r.1, [], state.new, core.new)) }
-    ensures leaves { OnOk result (Leaves 1 core.old core.new) }
+    requires ready { IsReady 2 core.old }
+    ensures done { (n : ℕ) (current : Option ℕ) → IfOk result (λ r. carried n core.old state.old current (granted_new core.old state.old opener.now (shown_open_args args.now) file confirmed write) ≡ (r.0, r.1, [], state.new, core.new)) }
+    ensures leaves { OnOk result (Leaves 2 core.old core.new) }
 {
     let owner = opener_number(state, opener);
     let number = u64::from(drawn(core));
@@ -124,40 +127,49 @@ fn grant_new(
         owner,
         open_row(number, opener, owner, file, args),
     )?;
-    let told = Told::Opened(stateid_of(core, number, 1), flags_of(confirmed));
+    let delegation = delegate(alloc, state, core, opener, file, write)?;
+    let told = Told::Opened(stateid_of(core, number, 1), flags_of(confirmed), delegation);
     keep_told(alloc, state, owner, operation::OPEN, &told)?;
     Ok((told, Some(file)))
 }
 
 /// It has one: that has the rights of both from then on.
+#[tactic(auto, using(crate::proofs::LeaveLaws::ready_less, crate::proofs::LeaveLaws::leaves_more))]
 fn grant_more(
     alloc: Global,
     state: &mut NfsState,
-    core: &Core,
+    core: &mut Core,
     opener: &Opener,
     args: &OpenArgs,
     file: u32,
     confirmed: bool,
+    write: Option<bool>,
     row: &StateidRow,
 ) -> Result<(Told, Option<u32>), AllocError>
     requires client { IsSome (find (is_client opener.now.client true) state.old.clients) }
     requires there { find (is_stateid row.now.number) state.old.stateids ≡ Some row.now }
     requires open { row.now.standing.closed ≡ false }
-    ensures done { (n : ℕ) (current : Option ℕ) → IfOk result (λ r. carried n core.now state.old current (granted_more core.now state.old opener.now (shown_open_args args.now) file confirmed row.now) ≡ (r.0, r.1, [], state.new, core.now)) }
+    requires ready { IsReady 2 core.old }
+    ensures done { (n : ℕ) (current : Option ℕ) → IfOk result (λ r. carried n core.old state.old current (granted_more core.old state.old opener.now (shown_open_args args.now) file confirmed write row.now) ≡ (r.0, r.1, [], state.new, core.new)) }
+    ensures leaves { OnOk result (Leaves 2 core.old core.new) }
 {
     let owner = opener_number(state, opener);
     let access = either_bits(row.standing.access, args.access);
     let deny = either_bits(row.standing.deny, args.deny);
     stand(state, row, access, deny, false);
     seat(alloc, state, opener, open_turn(args, confirmed))?;
+    let delegation = delegate(alloc, state, core, opener, file, write)?;
     let seqid = row.standing.seqid.wrapping_add(1);
-    let told = Told::Opened(stateid_of(core, row.number, seqid), flags_of(confirmed));
+    let told = Told::Opened(
+        stateid_of(core, row.number, seqid),
+        flags_of(confirmed),
+        delegation,
+    );
     keep_told(alloc, state, owner, operation::OPEN, &told)?;
     Ok((told, Some(file)))
 }
 
-/// The share is granted.
-#[tactic(auto, using(crate::proofs::LeaveLaws::leaves_self, crate::proofs::LeaveLaws::leaves_more))]
+/// The share is granted, and a delegation where that was wished for and could be.
 fn grant(
     alloc: Global,
     state: &mut NfsState,
@@ -166,26 +178,29 @@ fn grant(
     args: &OpenArgs,
     file: u32,
     confirmed: bool,
+    write: Option<bool>,
 ) -> Result<(Told, Option<u32>), AllocError>
     requires client { IsSome (find (is_client opener.now.client true) state.old.clients) }
-    requires ready { IsReady 0 core.old }
-    ensures done { (n : ℕ) (current : Option ℕ) → IfOk result (λ r. carried n core.old state.old current (granted_by core.old state.old opener.now (shown_open_args args.now) file confirmed (open_held state.old opener.now file)) ≡ (r.0, r.1, [], state.new, core.new)) }
-    ensures leaves { OnOk result (Leaves 1 core.old core.new) }
+    requires ready { IsReady 2 core.old }
+    ensures done { (n : ℕ) (current : Option ℕ) → IfOk result (λ r. carried n core.old state.old current (granted_by core.old state.old opener.now (shown_open_args args.now) file confirmed write (open_held state.old opener.now file)) ≡ (r.0, r.1, [], state.new, core.new)) }
+    ensures leaves { OnOk result (Leaves 2 core.old core.new) }
 {
     match open_held(state, opener, file) {
         Some(row) => {
-            let said = grant_more(alloc, state, core, opener, args, file, confirmed, &row)?;
+            let said = grant_more(
+                alloc, state, core, opener, args, file, confirmed, write, &row,
+            )?;
             Ok(said)
         }
         None => {
-            let said = grant_new(alloc, state, core, opener, args, file, confirmed)?;
+            let said = grant_new(alloc, state, core, opener, args, file, confirmed, write)?;
             Ok(said)
         }
     }
 }
 
 /// What becomes of the request by the core's answer.
-#[tactic(auto, using(crate::proofs::EndLaws::status_fails, crate::proofs::LeaveLaws::leaves_self))]
+#[tactic(auto, using(crate::proofs::EndLaws::status_fails, crate::proofs::LeaveLaws::leaves_self, crate::proofs::LeaveLaws::leaves_more, crate::proofs::LeaveLaws::ready_less))]
 fn answer(
     alloc: Global,
     state: &mut NfsState,
@@ -195,16 +210,19 @@ fn answer(
     args: &OpenArgs,
     file: u32,
     confirmed: bool,
+    wish: Option<bool>,
     answer: Answer,
 ) -> Result<(Told, Option<u32>), AllocError>
     requires client { IsSome (find (is_client opener.now.client true) state.old.clients) }
-    requires ready { IsReady 0 core.old }
-    ensures done { (n : ℕ) → IfOk result (λ r. carried n core.old state.old current (answered state.old current opener.now (shown_open_args args.now) file confirmed answer core.old) ≡ (r.0, r.1, [], state.new, core.new)) }
-    ensures leaves { OnOk result (Leaves (drawn_behind (is_granted answer)) core.old core.new) }
+    requires ready { IsReady 2 core.old }
+    ensures done { (n : ℕ) → IfOk result (λ r. carried n core.old state.old current (answered state.old current opener.now (shown_open_args args.now) file confirmed wish answer core.old) ≡ (r.0, r.1, [], state.new, core.new)) }
+    ensures leaves { OnOk result (Leaves 2 core.old core.new) }
 {
     let reclaim = reclaims(&args.claim);
     if is_granted(answer) {
-        let granted = grant(alloc, state, core, opener, args, file, confirmed || reclaim)?;
+        let write = granted_wish(alloc, core, opener, file, wish)?;
+        let confirmed = confirmed || reclaim;
+        let granted = grant(alloc, state, core, opener, args, file, confirmed, write)?;
         return Ok(granted);
     }
     let status = answer_status(reclaim, answer);
@@ -227,18 +245,19 @@ fn open_on<K: Keeper>(
     file: u32,
 ) -> Result<Done, AllocError>
     requires client { IsSome (find (is_client opener.now.client true) state.old.clients) }
-    requires ready { IsReady 2 core.old }
-    ensures done { (n : ℕ) → IfOk result (λ r. MayBe n core.new → carried n core.old state.old current (open_on others state.old current opener.now (shown_open_args args.now) confirmed file) ≡ (r.0, r.1, r.2, state.new, core.new)) }
-    ensures leaves { OnOk result (Leaves 2 core.old core.new) }
+    requires ready { IsReady 4 core.old }
+    ensures done { (n : ℕ) → IfOk result (λ r. MayBe n core.new → carried n core.old state.old current (open_on others core.old state.old current opener.now (shown_open_args args.now) confirmed file) ≡ (r.0, r.1, r.2, state.new, core.new)) }
+    ensures leaves { OnOk result (Leaves 4 core.old core.new) }
     ensures keeper { keeper.new ≡ keeper.old }
 {
     if !has_room(state, others, opener, file) {
         return Ok(ended_as(alloc, NfsStatus::Resource, current));
     }
-    let request = share_ask(alloc, opener, args, file)?;
+    let wish = wish_of(alloc, core, state, opener, args, confirmed, file)?;
+    let request = share_ask(alloc, wish, opener, args, file)?;
     let (said, effects) = asked(alloc, core, keeper, &request)?;
     let (told, handle) = answer(
-        alloc, state, core, current, opener, args, file, confirmed, said,
+        alloc, state, core, current, opener, args, file, confirmed, wish, said,
     )?;
     Ok((told, handle, effects))
 }
@@ -258,13 +277,13 @@ fn open_as<K: Keeper>(
     confirmed: bool,
 ) -> Result<Done, AllocError>
     requires client { IsSome (find (is_client opener.now.client true) state.old.clients) }
-    requires ready { IsReady 2 core.old }
-    ensures done { (n : ℕ) → IfOk result (λ r. MayBe n core.new → carried n core.old state.old (Some at) (open_as files.now others state.old (Some at) at opener.now (shown_open_args args.now) confirmed) ≡ (r.0, r.1, r.2, state.new, core.new)) }
-    ensures leaves { OnOk result (Leaves 2 core.old core.new) }
+    requires ready { IsReady 4 core.old }
+    ensures done { (n : ℕ) → IfOk result (λ r. MayBe n core.new → carried n core.old state.old (Some at) (open_as files.now others core.old state.old (Some at) at opener.now (shown_open_args args.now) confirmed) ≡ (r.0, r.1, r.2, state.new, core.new)) }
+    ensures leaves { OnOk result (Leaves 4 core.old core.new) }
     ensures keeper { keeper.new ≡ keeper.old }
 {
     let current = Some(at);
-    match opened_file(files, at, args) {
+    match opened_file(files, core, state, opener.client, at, args) {
         Ok(file) => {
             let done = open_on(
                 alloc, others, state, core, keeper, current, opener, args, confirmed, file,
@@ -293,9 +312,9 @@ fn open_anew<K: Keeper>(
     number: u64,
 ) -> Result<Done, AllocError>
     requires client { IsSome (find (is_client opener.now.client true) state.old.clients) }
-    requires ready { IsReady 2 core.old }
+    requires ready { IsReady 4 core.old }
     ensures done { (n : ℕ) → IfOk result (λ r. MayBe n core.new → carried n core.old state.old (Some at) (open_judged files.now others core.old state.old (Some at) at opener.now (shown_open_args args.now) (Judged.Anew number)) ≡ (r.0, r.1, r.2, state.new, core.new)) }
-    ensures leaves { OnOk result (Leaves 2 core.old core.new) }
+    ensures leaves { OnOk result (Leaves 4 core.old core.new) }
     ensures keeper { keeper.new ≡ keeper.old }
 {
     let Ok(rows) = state.list_stateids(alloc, Whose::Owner(number)) else {
@@ -324,9 +343,9 @@ fn open_judged<K: Keeper>(
     judged: Judged,
 ) -> Result<Done, AllocError>
     requires client { IsSome (find (is_client opener.now.client true) state.old.clients) }
-    requires ready { IsReady 2 core.old }
+    requires ready { IsReady 4 core.old }
     ensures done { (n : ℕ) → IfOk result (λ r. MayBe n core.new → carried n core.old state.old (Some at) (open_judged files.now others core.old state.old (Some at) at opener.now (shown_open_args args.now) judged) ≡ (r.0, r.1, r.2, state.new, core.new)) }
-    ensures leaves { OnOk result (Leaves 2 core.old core.new) }
+    ensures leaves { OnOk result (Leaves 4 core.old core.new) }
     ensures keeper { keeper.new ≡ keeper.old }
 {
     match judged {
@@ -382,9 +401,9 @@ fn open_at<K: Keeper>(
     args: &OpenArgs,
     current: Option<u32>,
 ) -> Result<Done, AllocError>
-    requires ready { IsReady 2 core.old }
+    requires ready { IsReady 4 core.old }
     ensures done { (n : ℕ) → IfOk result (λ r. MayBe n core.new → carried n core.old state.old current (open_at files.now others core.old state.old (shown_open_args args.now) current) ≡ (r.0, r.1, r.2, state.new, core.new)) }
-    ensures leaves { OnOk result (Leaves 2 core.old core.new) }
+    ensures leaves { OnOk result (Leaves 4 core.old core.new) }
     ensures keeper { keeper.new ≡ keeper.old }
 {
     let Some(at) = current else {
@@ -423,9 +442,9 @@ fn open_claimed<K: Keeper>(
     current: Option<u32>,
     args: &OpenArgs,
 ) -> Result<Done, AllocError>
-    requires ready { IsReady 2 core.old }
+    requires ready { IsReady 4 core.old }
     ensures done { (n : ℕ) → IfOk result (λ r. MayBe n core.new → carried n core.old state.old current (open_claimed files.now others core.old state.old current (shown_open_args args.now)) ≡ (r.0, r.1, r.2, state.new, core.new)) }
-    ensures leaves { OnOk result (Leaves 2 core.old core.new) }
+    ensures leaves { OnOk result (Leaves 4 core.old core.new) }
     ensures keeper { keeper.new ≡ keeper.old }
 {
     let client = claim_client(state, core, &args.claim);
@@ -446,9 +465,9 @@ pub fn open_file<K: Keeper>(
     current: Option<u32>,
     args: &OpenArgs,
 ) -> Result<Done, AllocError>
-    requires ready { IsReady 2 core.old }
+    requires ready { IsReady 4 core.old }
     ensures done { (n : ℕ) → IfOk result (λ r. MayBe n core.new → carried n core.old state.old current (open_file files.now others core.old state.old current (shown_open_args args.now)) ≡ (r.0, r.1, r.2, state.new, core.new)) }
-    ensures leaves { OnOk result (Leaves 2 core.old core.new) }
+    ensures leaves { OnOk result (Leaves 4 core.old core.new) }
     ensures keeper { keeper.new ≡ keeper.old }
 {
     let client = number_in(core, args.owner.clientid);

@@ -1,6 +1,6 @@
 //! What holds of owners and stateids at all times, and so of what an OPEN tells. The functions do nothing: each has laws as
 //! its clauses.
-ghost use Rattle.std.specs.Prelude.{◌≡◌, ℕ, true, List, [], Option, Some, None, option_map};
+ghost use Rattle.std.specs.Prelude.{◌≡◌, ℕ, Bool, true, List, [], Option, Some, None, option_map};
 ghost use Rattle.std.specs.List.{find};
 ghost use Rattle.xl_base.specs.declared.name.Owner.TheVariants.{Name};
 ghost use Rattle.xl_base.specs.declared.name.Protocol.TheVariants.{Nfs};
@@ -43,7 +43,7 @@ pub fn stateids_stay_orderly()
 /// The stateid that an OPEN tells names one open from then on: its owner's, on the file that is the current one then, not
 /// closed, with the access and the deny that were asked (RFC 7530 9.1.4, 16.16).
 pub fn told_opens_are_known()
-    ensures { (n : ℕ) (files : List (List ℕ)) (others : ℕ) (s : CoreState) (l : NfsLists) (current : Option ℕ) (at : ℕ) (c : ClientRow) (a : OpenArgsItem) (stateid : Stateid) (flags : ℕ) → IsOrderly l → client_in s l a.owner.clientid ≡ Some c → (carried n s l current (open_judged files others s l current at (opener_of c a) a (judged l (opener_of c a) a.seqid))).0 ≡ Opened stateid flags → IsKnown (opener_of c a) a stateid (carried n s l current (open_judged files others s l current at (opener_of c a) a (judged l (opener_of c a) a.seqid))) }
+    ensures { (n : ℕ) (files : List (List ℕ)) (others : ℕ) (s : CoreState) (l : NfsLists) (current : Option ℕ) (at : ℕ) (c : ClientRow) (a : OpenArgsItem) (stateid : Stateid) (flags : ℕ) (delegation : Option (Stateid × Bool)) → IsOrderly l → client_in s l a.owner.clientid ≡ Some c → (carried n s l current (open_judged files others s l current at (opener_of c a) a (judged l (opener_of c a) a.seqid))).0 ≡ Opened stateid flags delegation → IsKnown (opener_of c a) a stateid (carried n s l current (open_judged files others s l current at (opener_of c a) a (judged l (opener_of c a) a.seqid))) }
 {}
 
 /// A CLOSE that is done marks its open closed, and leaves its owner no share on the file (RFC 7530 9.9, 16.2).

@@ -1,7 +1,7 @@
 //! Whose leases an operation renews (RFC 7530 9.5), and the numbers in a stateid.
 ghost use Rattle.std.specs.Prelude.{◌≡◌, ℕ, [], Some, OnOk};
 ghost use Rattle.xl_core.specs.Deeds.{all_done, all_told_of};
-ghost use Rattle.xl_nfs_opens.specs.Renewing.{number_of, renewals, renewed_for, state_client, stateid_of};
+ghost use Rattle.xl_nfs_opens.specs.Renewing.{number_of, renewals, renewed_for, same_stateid, state_client, stateid_of};
 ghost use Rattle.xl_nfs_opens.specs.Short.{IsReady, Leaves};
 
 use crate::leases::{lease_end, renewed};
@@ -21,6 +21,13 @@ pub fn stateid_of(core: &Core, number: u64, seqid: u32) -> Stateid
         seqid,
         other: [a, b, c, d, e, f, g, h, i, j, k, l],
     }
+}
+
+/// Whether the two are one stateid, seqids and all.
+pub(crate) fn same_stateid(a: &Stateid, b: &Stateid) -> bool
+    ensures { result ≡ same_stateid a.now b.now }
+{
+    a.seqid == b.seqid && a.other == b.other
 }
 
 /// The number in a stateid, where it is of this start.

@@ -1,19 +1,20 @@
 //! How what an operation told is spelled.
 ghost use Rattle.std.specs.Prelude.{◌≡◌, ◌+◌, ◌≤◌, ◌++◌, if◌then◌else◌, length, Ok, IfOk, OnOk};
+ghost use Rattle.xl_nfs.specs.Opened.{shown_delegation};
 ghost use Rattle.xl_nfs.specs.Ops.{is_numbered};
 ghost use Rattle.xl_nfs.specs.Results.{shown_result, GetFhAnswer, SetClientIdAnswer, NotSupportedAnswer, OpenAnswer, LockTAnswer, IllegalAnswer, ResultFits, nfs_result};
 ghost use Rattle.xl_base.specs.Handles.{handle};
 ghost use Rattle.xl_nfs_state.specs.Bytes.{most_result_bytes};
 ghost use Rattle.xl_nfs_opens.specs.Plans.{status_of};
 ghost use Rattle.xl_nfs_opens.specs.Seqids.{most_told};
-ghost use Rattle.xl_nfs_opens.specs.Results.{denied_as, ended_as, open_result_of, spelled, state_as, ToldFits};
+ghost use Rattle.xl_nfs_opens.specs.Results.{delegation_item, denied_as, ended_as, open_result_of, spelled, state_as, ToldFits};
 
 use crate::told::{HeldLock, Told};
 use std::alloc::{AllocError, Global};
 use xl_base::{Sequence, handle_of};
 use xl_nfs::{
-    Bitmap, ChangeInfo, ClientConfirm, Delegation, Denied, LockFault, NfsResult, NfsStatus,
-    OpenResult, Owner, Stateid, operation, write_result,
+    Ace, Bitmap, ChangeInfo, ClientConfirm, Delegation, Denied, LockFault, NfsResult, NfsStatus,
+    OpenResult, Owner, ReadDelegation, Stateid, WriteDelegation, operation, write_result,
 };
 use xl_nfs_state::ResultBytes;
 use xl_rpc::XdrOut;
@@ -68,9 +69,35 @@ fn state_as<'a>(number: u32, stateid: Stateid) -> NfsResult<'a>
     }
 }
 
-/// OPEN gives this stateid.
-fn opened_as<'a>(stateid: Stateid, flags: u32) -> NfsResult<'a>
-    ensures { shown_result result ≡ OpenAnswer (Ok (open_result_of stateid flags)) }
+/// What is told of a delegation: it isn't recalled already, any length may be written, and no permissions are told.
+fn delegation_as<'a>(given: Option<(Stateid, bool)>) -> Delegation<'a>
+    ensures { shown_delegation result ≡ delegation_item given }
+{
+    let permissions = Ace {
+        kind: 0,
+        flag: 0,
+        mask: 0,
+        who: &[],
+    };
+    match given {
+        None => Delegation::None,
+        Some((stateid, true)) => Delegation::Write(WriteDelegation {
+            stateid,
+            recall: false,
+            limit: u64::MAX,
+            permissions,
+        }),
+        Some((stateid, false)) => Delegation::Read(ReadDelegation {
+            stateid,
+            recall: false,
+            permissions,
+        }),
+    }
+}
+
+/// OPEN gives this stateid, and this delegation.
+fn opened_as<'a>(stateid: Stateid, flags: u32, delegation: Option<(Stateid, bool)>) -> NfsResult<'a>
+    ensures { shown_result result ≡ OpenAnswer (Ok (open_result_of stateid flags delegation)) }
 {
     NfsResult::Open(Ok(OpenResult {
         stateid,
@@ -81,7 +108,7 @@ fn opened_as<'a>(stateid: Stateid, flags: u32) -> NfsResult<'a>
         },
         flags,
         attributes: Bitmap { words: &[] },
-        delegation: Delegation::None,
+        delegation: delegation_as(delegation),
     }))
 }
 
@@ -102,7 +129,7 @@ fn put_bytes(out: &mut XdrOut, bytes: &[u8]) -> Result<(), AllocError>
 fn put_ended(out: &mut XdrOut, number: u32, status: NfsStatus) -> Result<(), AllocError>
     requires { ResultFits (ended_as number status) }
     ensures ok { OnOk result (out.new ≡ out.old ++ nfs_result.spell (ended_as number status)) }
-    ensures little { OnOk result (length out.new ≤ length out.old + 56) }
+    ensures little { OnOk result (length out.new ≤ length out.old + 104) }
 {
     write_result(out, &ended_as(number, status))?;
     Ok(())
@@ -112,7 +139,7 @@ fn put_ended(out: &mut XdrOut, number: u32, status: NfsStatus) -> Result<(), All
 #[tactic(auto, using(crate::proofs::ResultLaws::handle_fits))]
 fn put_handle(out: &mut XdrOut, file: u32) -> Result<(), AllocError>
     ensures ok { OnOk result (out.new ≡ out.old ++ nfs_result.spell (GetFhAnswer (Ok (handle file)))) }
-    ensures little { OnOk result (length out.new ≤ length out.old + 56) }
+    ensures little { OnOk result (length out.new ≤ length out.old + 104) }
 {
     write_result(out, &NfsResult::GetFh(Ok(&handle_of(file))))?;
     Ok(())
@@ -122,7 +149,7 @@ fn put_handle(out: &mut XdrOut, file: u32) -> Result<(), AllocError>
 #[tactic(auto, using(crate::proofs::ResultLaws::client_fits))]
 fn put_client(out: &mut XdrOut, confirm: ClientConfirm) -> Result<(), AllocError>
     ensures ok { OnOk result (out.new ≡ out.old ++ nfs_result.spell (SetClientIdAnswer (Ok confirm))) }
-    ensures little { OnOk result (length out.new ≤ length out.old + 56) }
+    ensures little { OnOk result (length out.new ≤ length out.old + 104) }
 {
     write_result(out, &NfsResult::SetClientId(Ok(confirm)))?;
     Ok(())
@@ -130,11 +157,16 @@ fn put_client(out: &mut XdrOut, confirm: ClientConfirm) -> Result<(), AllocError
 
 /// Writes what OPEN gives.
 #[tactic(auto, using(crate::proofs::ResultLaws::open_fits))]
-fn put_opened(out: &mut XdrOut, stateid: Stateid, flags: u32) -> Result<(), AllocError>
-    ensures ok { OnOk result (out.new ≡ out.old ++ nfs_result.spell (OpenAnswer (Ok (open_result_of stateid flags)))) }
-    ensures little { OnOk result (length out.new ≤ length out.old + 56) }
+fn put_opened(
+    out: &mut XdrOut,
+    stateid: Stateid,
+    flags: u32,
+    delegation: Option<(Stateid, bool)>,
+) -> Result<(), AllocError>
+    ensures ok { OnOk result (out.new ≡ out.old ++ nfs_result.spell (OpenAnswer (Ok (open_result_of stateid flags delegation)))) }
+    ensures little { OnOk result (length out.new ≤ length out.old + 104) }
 {
-    write_result(out, &opened_as(stateid, flags))?;
+    write_result(out, &opened_as(stateid, flags, delegation))?;
     Ok(())
 }
 
@@ -142,7 +174,7 @@ fn put_opened(out: &mut XdrOut, stateid: Stateid, flags: u32) -> Result<(), Allo
 #[tactic(auto, using(crate::proofs::ResultLaws::state_fits))]
 fn put_state(out: &mut XdrOut, number: u32, stateid: Stateid) -> Result<(), AllocError>
     ensures ok { OnOk result (out.new ≡ out.old ++ nfs_result.spell (state_as number stateid)) }
-    ensures little { OnOk result (length out.new ≤ length out.old + 56) }
+    ensures little { OnOk result (length out.new ≤ length out.old + 104) }
 {
     write_result(out, &state_as(number, stateid))?;
     Ok(())
@@ -172,7 +204,7 @@ fn denied_as<'a>(number: u32, held: &'a HeldLock) -> NfsResult<'a>
 #[tactic(auto, using(crate::proofs::HeldLaws::free_fits, crate::proofs::HeldLaws::free_grown))]
 fn put_free(out: &mut XdrOut) -> Result<(), AllocError>
     ensures ok { OnOk result (out.new ≡ out.old ++ nfs_result.spell (LockTAnswer (Ok tt))) }
-    ensures little { OnOk result (length out.new ≤ length out.old + 56) }
+    ensures little { OnOk result (length out.new ≤ length out.old + 104) }
 {
     write_result(out, &NfsResult::LockT(Ok(())))?;
     Ok(())
@@ -199,7 +231,9 @@ pub fn put_result(out: &mut XdrOut, number: u32, told: &Told) -> Result<(), Allo
         Told::Ended(status) => put_ended(out, number, *status)?,
         Told::Handle(file) => put_handle(out, *file)?,
         Told::Client(confirm) => put_client(out, *confirm)?,
-        Told::Opened(stateid, flags) => put_opened(out, *stateid, *flags)?,
+        Told::Opened(stateid, flags, delegation) => {
+            put_opened(out, *stateid, *flags, *delegation)?
+        }
         Told::State(stateid) => put_state(out, number, *stateid)?,
         Told::Free => put_free(out)?,
         Told::Denied(held) => put_denied(out, number, held)?,

@@ -10,8 +10,9 @@ ghost use Rattle.xl_core.specs.Settle.{share_has};
 ghost use Rattle.xl_core.specs.State.{MayBe};
 ghost use Rattle.xl_nfs.specs.Opens.{shown_open_args, shown_open_claim};
 ghost use Rattle.xl_nfs_opens.specs.Opens.{all_rooms, gives, gives_all, rights_of, share_ask, share_by, share_held, given_up, reclaims};
-ghost use Rattle.xl_nfs_opens.specs.Short.{IsReady, Leaves, IsNfsAsk, spent_by};
+ghost use Rattle.xl_nfs_opens.specs.Short.{IsReady, Leaves, IsNfsAsk};
 
+use crate::delegating::wished_kinds;
 use crate::opener::Opener;
 use std::alloc::{AllocError, Global};
 use xl_base::{Keeper, Owner, Protocol, Sequence};
@@ -154,15 +155,16 @@ pub(crate) fn reclaims(claim: &OpenClaim) -> bool
     matches!(claim, OpenClaim::Previous(_))
 }
 
-/// What is asked for OPEN.
-#[tactic(auto, unfolding(crate::specs::Opens::share_ask), using(crate::proofs::OwnerLaws::own_client))]
+/// What is asked for OPEN, with this wish.
+#[tactic(auto, unfolding(crate::specs::Opens::share_ask), using(crate::proofs::OwnerLaws::own_client, crate::proofs::OwnerLaws::kinds_fit))]
 pub(crate) fn share_ask(
     alloc: Global,
+    wish: Option<bool>,
     opener: &Opener,
     args: &OpenArgs,
     file: u32,
 ) -> Result<Ask, AllocError>
-    ensures value { IfOk result (λ ask. ask ≡ share_ask opener.now (shown_open_args args.now) file) }
+    ensures value { IfOk result (λ ask. ask ≡ share_ask wish opener.now (shown_open_args args.now) file) }
     ensures fit { IfOk result (λ ask. IsFit ask) }
     ensures nfs { IfOk result (λ ask. IsNfsAsk ask) }
 {
@@ -173,7 +175,7 @@ pub(crate) fn share_ask(
         owner: Who::Named(owner),
         party: Who::Named(Name::NfsParty(id)),
         act: Act::Share(rights_of(args.access), rights_of(args.deny)),
-        wish: Sequence::new(alloc),
+        wish: wished_kinds(alloc, wish)?,
         conn: None,
         blocking: false,
         awaits: false,
@@ -184,6 +186,7 @@ pub(crate) fn share_ask(
 }
 
 /// Asks the core for OPEN.
+#[tactic(auto, using(crate::proofs::LeaveLaws::ready_numbers))]
 pub fn asked<K: Keeper>(
     alloc: Global,
     core: &mut Core,
@@ -194,7 +197,7 @@ pub fn asked<K: Keeper>(
     requires nfs { IsNfsAsk request.now }
     requires ready { IsReady 2 core.old }
     ensures state { (n : ℕ) → IfOk result (λ r. MayBe n core.new → ask n all_rooms core.old request.now ≡ (r.0, r.1, core.new)) }
-    ensures leaves { IfOk result (λ r. Leaves (spent_by r.0) core.old core.new) }
+    ensures leaves { OnOk result (Leaves 2 core.old core.new) }
     ensures keeper { keeper.new ≡ keeper.old }
 {
     let (answer, effects) = core.ask(alloc, keeper, request, &ALL_ROOMS)?;

@@ -9,9 +9,9 @@ use xl_nfs::{ClientConfirm, LockType, NfsStatus, Stateid, read_result};
 use xl_nfs_state::ResultBytes;
 use xl_rpc::Xdr;
 
-/// How many bytes a result has at most, but that of a lock that is denied: the length of OPEN's with no attributes and no
-/// delegation.
-const MOST_SHORT: usize = 56;
+/// How many bytes a result has at most, but that of a lock that is denied: the length of OPEN's with no attributes and a
+/// delegation for writing.
+const MOST_SHORT: usize = 104;
 
 /// The bytes of an owner that holds a lock, 1,024 at most. A contract sees the bytes.
 #[derive(Drop)]
@@ -71,8 +71,8 @@ pub enum Told {
     Handle(u32),
     /// A client's number, and what confirms it (SETCLIENTID).
     Client(ClientConfirm),
-    /// An open's stateid, and the flags of its result (OPEN).
-    Opened(Stateid, u32),
+    /// An open's stateid, the flags of its result, and a delegation's stateid with whether it is for writing (OPEN).
+    Opened(Stateid, u32, Option<(Stateid, bool)>),
     /// The stateid as it is now (OPEN_CONFIRM, OPEN_DOWNGRADE, CLOSE, LOCK, LOCKU).
     State(Stateid),
     /// No lock stands against it (LOCKT).
@@ -83,7 +83,7 @@ pub enum Told {
     Kept(ResultBytes),
 }
 
-/// Whether it is as short as every result but that of a lock that is denied: 56 bytes at most.
+/// Whether it is as short as every result but that of a lock that is denied: 104 bytes at most.
 pub(crate) fn is_short(bytes: &[u8]) -> bool
     ensures { result ≡ is_short bytes.now }
 {

@@ -1,21 +1,26 @@
 -- Final replies have a spelling and fit a frame, and are sent one after the other.
-use Rattle.std.proofs.Common.{◌≡◌, ℕ, ◌+◌, ◌<◌, ◌≤◌, Bool, true, false, ◌&&◌, List, [], ◌∷◌, ◌++◌, length, Option, Some, None, refl, sym, ap, subst, ◌∙◌, arith, append_assoc, drop, get_or}
-use Rattle.std.specs.Prelude.{◌==◌, ◌-◌, ◌^◌}
+use Rattle.std.proofs.Common.{◌≡◌, ℕ, ◌+◌, ◌<◌, ◌≤◌, Bool, true, false, not, ◌&&◌, List, [], ◌∷◌, ◌++◌, length, Option, Some, None, is_some, refl, sym, ap, subst, ◌∙◌, arith, append_assoc, drop, get_or}
+use Rattle.std.specs.Prelude.{◌==◌, ◌-◌, ◌^◌, nat_lt, IsTrue}
 use Rattle.std.specs.List.{AllByRecursion}
+use Rattle.std.proofs.lemmas.Bool.{false≢true, true≢false, ltb-true}
 use Rattle.std.proofs.lemmas.List.{drop_more}
 use Rattle.xl_base.specs.Limits.{most_message_bytes}
 use Rattle.xl_base.specs.declared.event.Out.{Out}
 use Rattle.xl_base.proofs.Members.{all_append}
 use Rattle.xl_programs.specs.Sent.{FitsFrame}
+use Rattle.xl_smb.specs.Creates.{CreateReplyItem}
 use Rattle.xl_smb.specs.Heads.{is_notice}
-use Rattle.xl_smb.specs.Lengths.{reply_length}
 use Rattle.xl_smb.specs.Messages.{ReplyStands}
-use Rattle.xl_smb.specs.Replies.{ReplyItem}
+use Rattle.xl_smb.specs.Lengths.{reply_length}
+use Rattle.xl_smb.specs.Replies.{ReplyItem, Create, Lock, Error}
 use Rattle.xl_smb.specs.declared.head.SmbHead.{SmbHead}
-use Rattle.xl_smb_state.specs.State.{Lists}
+use Rattle.xl_smb_state.specs.Links.{IsHolderLinked, IsOpenLinked, most_opens}
+use Rattle.xl_smb_state.specs.State.{Lists, open_of}
 use Rattle.xl_smb_state.specs.declared.row.Header.{Header}
+use Rattle.xl_smb_state.specs.declared.row.Open.{Open}
 use Rattle.xl_core.specs.declared.ask.Effect.{Effect}
-use Rattle.xl_smb_locks.specs.Finals.{number_of, body_of, final_head, request_ended, is_cancelled, dismissed}
+use Rattle.xl_smb_locks.specs.Finals.{final_head, holder_stands, may_stand, request_ended, is_cancelled, dismissed}
+use Rattle.xl_smb_locks.specs.Levels.{opened}
 use Rattle.xl_smb_locks.specs.Statuses.{status_number}
 use Rattle.xl_smb_locks.specs.declared.status.SmbStatus.{SmbStatus}
 use Rattle.xl_smb_locks.specs.declared.status.SmbStatus.TheVariants.{Cancelled}
@@ -46,25 +51,73 @@ second_fails : (a b c d e f : Bool) → (a && false && b && c && d && e && f) �
 second_fails true b c d e f = refl
 second_fails false b c d e f = refl
 
-no_notice : (id : ℕ) (h : Header) (failed : Option SmbStatus) → is_notice (final_head id h failed) ≡ false
-unfolding is_notice final_head
-no_notice id h failed = second_fails (number_of failed == 0) false true (h.message_id == 2 ^ 64 - 1) (h.session_id == 0) _
+third_fails : (a b c d e f : Bool) → (a && b && false && c && d && e && f) ≡ false
+third_fails true true c d e f = refl
+third_fails true false c d e f = refl
+third_fails false b c d e f = refl
 
-stands : (id : ℕ) (h : Header) (failed : Option SmbStatus) → ReplyStands (final_head id h failed) (body_of failed)
+no_notice : (id command : ℕ) (h : Header) (status : ℕ) → is_notice (final_head id command h status) ≡ false
+unfolding is_notice final_head
+no_notice id command h status = third_fails (status == 0) (command == 18) true (h.message_id == 2 ^ 64 - 1) (h.session_id == 0) _
+
+-- a reply that failed, and each that succeeded
+failing : (id command : ℕ) (h : Header) (status : SmbStatus) → ReplyStands (final_head id command h (status_number status)) Error
 unfolding final_head
-stands id h None = record { reply = refl; form = refl; no_notice = no_notice id h None; command = (refl, refl); has = tt }
-stands id h (Some s) = record { reply = refl; form = refl; no_notice = no_notice id h (Some s); command = fails s; has = tt }
+failing id command h status = record { reply = refl; form = refl; no_notice = no_notice id command h (status_number status); command = fails status; has = tt }
+
+locking : (id : ℕ) (h : Header) → ReplyStands (final_head id 10 h 0) Lock
+unfolding final_head
+locking id h = record { reply = refl; form = refl; no_notice = no_notice id 10 h 0; command = (refl, refl); has = tt }
+
+opening : (id : ℕ) (h : Header) (handle level : ℕ) → ReplyStands (final_head id 5 h 0) (Create (opened handle level))
+unfolding final_head
+opening id h handle level = record { reply = refl; form = refl; no_notice = no_notice id 5 h 0; command = (refl, refl); has = record { contexts = omega arith; within = refl } }
 
 -- the header and the body as the code has them
-pub final_stands : (id : ℕ) (h : Header) (failed : Option SmbStatus) (head : SmbHead) (body : ReplyItem) → head ≡ final_head id h failed → body ≡ body_of failed → ReplyStands head body
-final_stands id h failed head body is shown = subst (λ x. ReplyStands x body) (sym is) (subst (λ x. ReplyStands (final_head id h failed) x) (sym shown) (stands id h failed))
+pub failed_stands : (id command : ℕ) (h : Header) (status : SmbStatus) (number : ℕ) (head : SmbHead) → head ≡ final_head id command h number → number ≡ status_number status → ReplyStands head Error
+failed_stands id command h status number head is same = subst (λ x. ReplyStands x Error) (sym (is ∙ ap (final_head id command h) same)) (failing id command h status)
 
-little : (failed : Option SmbStatus) → 64 + reply_length (body_of failed) ≤ most_message_bytes
-little None = omega arith
-little (Some s) = omega arith
+pub locked_stands : (id command : ℕ) (h : Header) (head : SmbHead) → head ≡ final_head id command h 0 → command ≡ 10 → ReplyStands head Lock
+locked_stands id command h head is same = subst (λ x. ReplyStands x Lock) (sym (is ∙ ap (λ (k : ℕ). final_head id k h 0) same)) (locking id h)
 
-pub final_little : (failed : Option SmbStatus) (body : ReplyItem) → body ≡ body_of failed → 64 + reply_length body ≤ most_message_bytes
-final_little failed body is = subst (λ x. 64 + reply_length x ≤ most_message_bytes) (sym is) (little failed)
+pub opened_stands : (id command : ℕ) (h : Header) (handle level : ℕ) (head : SmbHead) (r : CreateReplyItem) → head ≡ final_head id command h 0 → command ≡ 5 → r ≡ opened handle level → ReplyStands head (Create r)
+opened_stands id command h handle level head r is same shown =
+    subst (λ x. ReplyStands x (Create r)) (sym (is ∙ ap (λ (k : ℕ). final_head id k h 0) same)) (subst (λ x. ReplyStands (final_head id 5 h 0) (Create x)) (sym shown) (opening id h handle level))
+
+-- each is short
+pub failed_little : (body : ReplyItem) → body ≡ Error → 64 + reply_length body ≤ most_message_bytes
+failed_little body is = subst (λ x. 64 + reply_length x ≤ most_message_bytes) (sym is) (omega arith)
+
+pub locked_little : (body : ReplyItem) → body ≡ Lock → 64 + reply_length body ≤ most_message_bytes
+locked_little body is = subst (λ x. 64 + reply_length x ≤ most_message_bytes) (sym is) (omega arith)
+
+pub opened_little : (handle level : ℕ) (r : CreateReplyItem) → r ≡ opened handle level → 64 + reply_length (Create r) ≤ most_message_bytes
+opened_little handle level r is = subst (λ x. 64 + reply_length (Create x) ≤ most_message_bytes) (sym is) (omega arith)
+
+-- ---- where an open may stand
+
+stands_by : (a b c : Bool) → (a && (not b && c)) ≡ true → (a ≡ true) × (b ≡ false) × (c ≡ true)
+stands_by true false true h = (refl, refl, refl)
+stands_by true false false h = absurd (false≢true h)
+stands_by true true c h = absurd (false≢true h)
+stands_by false b c h = absurd (false≢true h)
+
+none_of : {X : Type 0} (o : Option X) → is_some o ≡ false → o ≡ None
+none_of None h = refl
+none_of (Some x) h = absurd (true≢false h)
+
+pub stand_linked : (l : Lists) (made : Open) (room new stands all : Bool) → all ≡ (room && (new && stands)) → (IsTrue stands → IsHolderLinked l made.client made.holder) → IsTrue all → IsOpenLinked l made
+stand_linked l made room new stands all is linked h = linked (by room new stands (sym is ∙ h)) where
+  by : (room new stands : Bool) → (room && (new && stands)) ≡ true → stands ≡ true
+  by true true stands h = h
+  by true false stands h = absurd (false≢true h)
+  by false new stands h = absurd (false≢true h)
+
+pub stand_room : (number : ℕ) (made : Open) (l : Lists) → may_stand number made l ≡ true → length l.opens < most_opens
+stand_room number made l h = ltb-true (length l.opens) most_opens (stands_by (nat_lt (length l.opens) most_opens) (is_some (open_of number l)) (holder_stands made.holder made.client l) h).0
+
+pub stand_new : (number : ℕ) (made : Open) (l : Lists) → may_stand number made l ≡ true → open_of number l ≡ None
+stand_new number made l h = none_of (open_of number l) (stands_by (nat_lt (length l.opens) most_opens) (is_some (open_of number l)) (holder_stands made.holder made.client l) h).1
 
 -- ---- one after the other
 
@@ -81,7 +134,7 @@ nobody [] l = refl
 nobody (id ∷ ids) l = nobody ids l
 
 -- one of whom it is told
-pub told_next : (told : List Effect) (ids : List ℕ) (i d : ℕ) (l m : Lists) (outs sent new : List Out) → i < length ids → is_cancelled (get_or ids i d) told ≡ true → request_ended (get_or ids i d) (Some Cancelled) l ≡ (sent, m) → new ≡ outs ++ sent
+pub told_next : (told : List Effect) (ids : List ℕ) (i d : ℕ) (l m : Lists) (outs sent new : List Out) → i < length ids → is_cancelled (get_or ids i d) told ≡ true → request_ended (get_or ids i d) Cancelled l ≡ (sent, m) → new ≡ outs ++ sent
     → behind new (dismissed told (drop (i + 1) ids) m) ≡ behind outs (dismissed told (drop i ids) l)
 told_next told ids i d l m outs sent new there is ended joined =
     let id = get_or ids i d in

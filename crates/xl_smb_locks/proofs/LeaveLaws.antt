@@ -3,64 +3,63 @@ use Rattle.std.proofs.Common.{◌≡◌, ℕ, ◌+◌, ◌≤◌, List, [], refl
 use Rattle.xl_base.specs.declared.name.Party.{Party}
 use Rattle.xl_core.specs.Frames.{IsFrame}
 use Rattle.xl_core.specs.Good.{IsGood}
+use Rattle.xl_core.specs.Numbers.{numbers_of}
 use Rattle.xl_core.specs.Settle.{end_party}
 use Rattle.xl_core.specs.State.{CoreState, drawn}
 use Rattle.xl_core.specs.declared.ask.Effect.{Effect}
 use Rattle.xl_core.proofs.FrameLaws.{drawn_frame, end_party_frame, goes_on_self, frame_goes_on}
+use Rattle.xl_core.proofs.NumberLaws.{drawn_numbers, end_party_numbers}
 use Rattle.xl_smb_locks.specs.Short.{IsReady, Leaves}
 
 -- ---- one after the other
 
 pub leaves_self : (s : CoreState) (more least : ℕ) → IsReady more s → Leaves least s s
-leaves_self s more least ready = record { on = goes_on_self s; good = ready.good; counter = omega arith; waiters = omega arith; names = refl }
+leaves_self s more least ready = record { on = goes_on_self s; good = ready.good; numbers = omega arith; names = refl }
 
 pub leaves_then : (s t u : CoreState) (a b : ℕ) → Leaves a s t → Leaves b t u → Leaves (a + b) s u
 leaves_then s t u a b first second =
     record {
       on = record { made = omega (arith, first.on.made, second.on.made); failed = λ f. (let g = first.on.failed f in let h = second.on.failed g.0 in (h.0, h.1 ∙ g.1)) };
       good = second.good;
-      counter = omega (arith, first.counter, second.counter);
-      waiters = omega (arith, first.waiters, second.waiters);
+      numbers = omega (arith, first.numbers, second.numbers);
       names = second.names ∙ first.names;
     }
 
 pub leaves_more : (s t : CoreState) (a b : ℕ) → a ≤ b → Leaves a s t → Leaves b s t
-leaves_more s t a b le leaves = record { on = leaves.on; good = leaves.good; counter = omega (arith, le, leaves.counter); waiters = omega (arith, le, leaves.waiters); names = leaves.names }
+leaves_more s t a b le leaves = record { on = leaves.on; good = leaves.good; numbers = omega (arith, le, leaves.numbers); names = leaves.names }
 
 -- a step that draws nothing, behind others
 pub leaves_on : (s t u : CoreState) → Leaves 0 s t → Leaves 0 t u → Leaves 0 s u
 leaves_on s t u first second = leaves_then s t u 0 0 first second
 
 pub ready_on : (s t : CoreState) → IsReady 0 s → Leaves 0 s t → IsReady 0 t
-ready_on s t ready leaves = record { good = leaves.good; numbers = omega (arith, ready.numbers, leaves.counter) }
+ready_on s t ready leaves = record { good = leaves.good; numbers = omega (arith, ready.numbers, leaves.numbers) }
 
--- a step that draws nothing, behind a draw
-pub ready_drawn : (s t : CoreState) → IsReady 1 s → Leaves 1 s t → IsReady 0 t
-ready_drawn s t ready leaves = record { good = leaves.good; numbers = omega (arith, ready.numbers, leaves.counter) }
+-- an ask behind a draw
+pub ready_drawn : (s t : CoreState) → IsReady 3 s → Leaves 1 s t → IsReady 2 t
+ready_drawn s t ready leaves = record { good = leaves.good; numbers = omega (arith, ready.numbers, leaves.numbers) }
 
-pub drawn_then : (s t u : CoreState) → Leaves 1 s t → Leaves 0 t u → Leaves 1 s u
-drawn_then s t u first second = leaves_then s t u 1 0 first second
+pub drawn_then : (s t u : CoreState) → Leaves 1 s t → Leaves 2 t u → Leaves 3 s u
+drawn_then s t u first second = leaves_then s t u 1 2 first second
 
 pub ready_less : (s : CoreState) (a b : ℕ) → b ≤ a → IsReady a s → IsReady b s
 ready_less s a b le ready = record { good = ready.good; numbers = omega (arith, le, ready.numbers) }
 
 pub ready_then : (s t : CoreState) (a b : ℕ) → IsReady (a + b) s → Leaves a s t → IsReady b t
-ready_then s t a b ready leaves = record { good = leaves.good; numbers = omega (arith, ready.numbers, leaves.counter) }
+ready_then s t a b ready leaves = record { good = leaves.good; numbers = omega (arith, ready.numbers, leaves.numbers) }
 
 -- ---- the calls, by what each leaves alone
 
-pub frame_leaves : (s t : CoreState) (told : List Effect) (given : ℕ) → IsGood t → IsFrame s told t given s.names [] → Leaves given s t
-frame_leaves s t told given good frame =
-    let left = frame_goes_on s t told given s.names frame in
-    record { on = left.0; good = good; counter = omega (arith, frame.counter); waiters = omega (arith, frame.counter, left.1); names = frame.names }
+pub frame_leaves : (s t : CoreState) (told : List Effect) (given most : ℕ) → IsGood t → IsFrame s told t given s.names [] → numbers_of t ≤ numbers_of s + most → Leaves most s t
+frame_leaves s t told given most good frame numbers = record { on = (frame_goes_on s t told given s.names frame).0; good = good; numbers = numbers; names = frame.names }
 
 pub end_leaves : (s new : CoreState) (party : Party) (effects : List Effect) → end_party s party ≡ (effects, new) → IsGood s → IsGood new → Leaves 0 s new
 end_leaves s new party effects e good kept =
     let same = ap (λ (r : List Effect × CoreState). r.1) e in
-    subst (λ (t : CoreState). Leaves 0 s t) same (frame_leaves s (end_party s party).1 (end_party s party).0 0 (subst (λ (t : CoreState). IsGood t) (sym same) kept) (end_party_frame s party good))
+    subst (λ (t : CoreState). Leaves 0 s t) same (frame_leaves s (end_party s party).1 (end_party s party).0 0 0 (subst (λ (t : CoreState). IsGood t) (sym same) kept) (end_party_frame s party good) (omega (arith, end_party_numbers s party)))
 
 pub drawn_leaves : (s new : CoreState) → new ≡ drawn s → IsGood new → Leaves 1 s new
-drawn_leaves s new e good = subst (λ (t : CoreState). Leaves 1 s t) (sym e) (frame_leaves s (drawn s) [] 1 (subst (λ (t : CoreState). IsGood t) e good) (drawn_frame s))
+drawn_leaves s new e good = subst (λ (t : CoreState). Leaves 1 s t) (sym e) (frame_leaves s (drawn s) [] 1 1 (subst (λ (t : CoreState). IsGood t) e good) (drawn_frame s) (omega (arith, drawn_numbers s)))
 
 pub drawn_number : (s : CoreState) → (drawn s).counter ≡ s.counter + 1
 drawn_number s = (drawn_frame s).counter

@@ -4,5 +4,7 @@ pub mod FitLaws
 pub mod UnlockLaws
 pub mod FinalLaws
 pub mod OnLaws
+pub mod ToldLaws
+pub mod LevelLaws
 pub mod LockLaws
 mod ExactLaws

@@ -1,42 +1,81 @@
 -- Unlocks, one after the other.
-use Rattle.std.proofs.Common.{◌≡◌, ℕ, ◌+◌, ◌<◌, Bool, true, false, List, [], ◌∷◌, length, Option, Some, None, refl, sym, ap, subst, ◌∙◌, drop, get_or}
+use Rattle.std.proofs.Common.{◌≡◌, ℕ, ◌+◌, ◌<◌, ◌≤◌, true, false, List, [], ◌∷◌, length, Option, Some, None, refl, sym, ap, subst, ◌∙◌, arith, drop, get_or}
 use Rattle.std.proofs.lemmas.List.{drop_more}
+use Rattle.xl_matrix.specs.Owners.{posix}
 use Rattle.xl_matrix.specs.declared.claim.Claim.{Claim}
+use Rattle.xl_matrix.specs.declared.claim.Extent.{Extent}
+use Rattle.xl_matrix.specs.declared.claim.Extent.TheVariants.{Bytes, Empty}
 use Rattle.xl_smb.specs.declared.lock.LockElement.{LockElement}
-use Rattle.xl_core.specs.Decide.{Answered, ask}
+use Rattle.xl_core.specs.Decide.{Answered, freed, unlocked, decided, way, ask, before_wish}
 use Rattle.xl_core.specs.Asking.{IsFit}
 use Rattle.xl_core.specs.Deeds.{Deed, Asks, done, all_done, AreFit}
 use Rattle.xl_core.specs.declared.ask.Ask.{Ask}
 use Rattle.std.specs.List.{AllByRecursion}
+use Rattle.xl_smb_locks.proofs.AskLaws.{ask_leaves}
 use Rattle.xl_smb_locks.proofs.FitLaws.{unlock_fits}
 use Rattle.xl_core.specs.State.{CoreState}
 use Rattle.xl_core.specs.declared.ask.Answer.{Answer}
 use Rattle.xl_core.specs.declared.ask.Answer.TheVariants as answers
 use Rattle.xl_core.specs.Good.{IsGood}
 use Rattle.xl_core.specs.declared.ask.Effect.{Effect}
+use Rattle.xl_core.specs.Numbers.{numbers_of}
+use Rattle.xl_core.specs.Settle.{give_back}
 use Rattle.xl_core.proofs.FrameLaws.{ask_quiet}
-use Rattle.xl_smb_locks.specs.Short.{IsRangeAsk}
-use Rattle.xl_smb_locks.specs.Elements.{unlock_fault}
+use Rattle.xl_core.proofs.NumberLaws.{give_back_numbers}
+use Rattle.xl_core.proofs.WayAsks.{ask_way_none, ask_there}
+use Rattle.xl_smb_locks.specs.Short.{IsOpenAsk, Leaves}
+use Rattle.xl_smb_locks.specs.Elements.{extent_of, unlock_fault}
 use Rattle.xl_smb_locks.specs.Locks.{no_rows, unlock_ask, is_granted, unlock_told, unlock_next, unlocks}
 use Rattle.xl_smb_locks.specs.declared.locking.Locking.{Locking}
-use Rattle.xl_smb_locks.specs.declared.locking.Locking.TheVariants.{Done, Failed}
+use Rattle.xl_smb_locks.specs.declared.locking.Locking.TheVariants.{Failed}
 use Rattle.xl_smb_locks.specs.declared.status.SmbStatus.{SmbStatus}
 use Rattle.xl_smb_locks.specs.declared.status.SmbStatus.TheVariants.{RangeNotLocked}
 
 -- no unlock stores anything
 pub any_stores : (n : ℕ) (s : CoreState) (file number : ℕ) (e : LockElement) → ask n no_rows s (unlock_ask file number e) ≡ ask 0 no_rows s (unlock_ask file number e)
-unfolding ask unlock_ask
+unfolding ask before_wish decided unlock_ask
 any_stores n s file number e = refl
 
--- it doesn't wait, and nothing is told of besides
-pub unlock_waits : (a : Ask) (file number : ℕ) (e : LockElement) → a ≡ unlock_ask file number e → a.blocking ≡ false
+-- no break begins for it
+pub no_way : (s : CoreState) (file number : ℕ) (e : LockElement) → way no_rows s (unlock_ask file number e) ≡ ([], s)
 unfolding unlock_ask
-unlock_waits a file number e is = ap (λ (x : Ask). x.blocking) is
+no_way s file number e = ask_way_none no_rows s (unlock_ask file number e) refl
 
-pub unlock_said : (n : ℕ) (s new : CoreState) (a : Ask) (file number : ℕ) (e : LockElement) (answer : Answer) (effects : List Effect) → IsGood s → IsRangeAsk a → a ≡ unlock_ask file number e → ask n no_rows s a ≡ (answer, effects, new) → ask 0 no_rows s (unlock_ask file number e) ≡ (answer, [], new)
+-- nothing is told of besides
+pub unlock_said : (n : ℕ) (s new : CoreState) (a : Ask) (file number : ℕ) (e : LockElement) (answer : Answer) (effects : List Effect) → IsGood s → IsOpenAsk a → a ≡ unlock_ask file number e → ask n no_rows s a ≡ (answer, effects, new) → ask 0 no_rows s (unlock_ask file number e) ≡ (answer, [], new)
 unlock_said n s new a file number e answer effects good fits is said =
-    let none : effects ≡ [] = ap (λ (r : Answered). r.1) (sym said) ∙ ask_quiet n no_rows s a good fits.fit.party in
+    let none : effects ≡ [] = ap (λ (r : Answered). r.1) (sym said) ∙ ask_quiet n no_rows s a good fits.fit.party ∙ ap (λ (x : Ask). (way no_rows s x).0) is ∙ ap (λ (w : List Effect × CoreState). w.0) (no_way s file number e) in
     sym (any_stores n s file number e) ∙ ap (ask n no_rows s) (sym is) ∙ said ∙ ap (λ (told : List Effect). (answer, told, new)) none
+
+-- it draws no number
+freed_numbers : (s : CoreState) (claim : Claim) (o : Option Claim) → numbers_of (freed s claim o).2 ≤ numbers_of s
+unfolding give_back
+freed_numbers s claim None = omega arith
+freed_numbers s claim (Some c) = give_back_numbers s c
+
+unlocked_numbers : (s : CoreState) (claim : Claim) (x : Extent) → posix claim.owner ≡ false → numbers_of (unlocked s claim x).2 ≤ numbers_of s
+unfolding unlocked
+unlocked_numbers s claim (Bytes first last) own = rw own (freed_numbers s claim _)
+unlocked_numbers s claim (Empty offset) own = freed_numbers s claim _
+
+decided_numbers : (n : ℕ) (s : CoreState) (file number : ℕ) (e : LockElement) → numbers_of (decided n no_rows s (unlock_ask file number e)).2 ≤ numbers_of s
+unfolding decided unlock_ask
+decided_numbers n s file number e = unlocked_numbers s _ (extent_of e) refl
+
+unlock_numbers : (n : ℕ) (s : CoreState) (file number : ℕ) (e : LockElement) → numbers_of (ask n no_rows s (unlock_ask file number e)).2 ≤ numbers_of s
+unfolding unlock_ask decided
+unlock_numbers n s file number e =
+    subst (λ (r : Answered). numbers_of r.2 ≤ numbers_of s) (sym (ask_there n no_rows s (unlock_ask file number e) (no_way s file number e))) (decided_numbers n s file number e)
+
+pub unlock_leaves : (n : ℕ) (s new : CoreState) (a : Ask) (file number : ℕ) (e : LockElement) (answer : Answer) (effects : List Effect) → a ≡ unlock_ask file number e → ask n no_rows s a ≡ (answer, effects, new) → IsGood s → IsOpenAsk a → IsGood new → Leaves 0 s new
+unlock_leaves n s new a file number e answer effects is said good fits kept =
+    let leaves = ask_leaves n no_rows s new a answer effects said good fits kept in
+    record {
+      on = leaves.on;
+      good = kept;
+      numbers = omega (arith, subst (λ (t : CoreState). numbers_of t ≤ numbers_of s) (ap (λ (x : Ask). (ask n no_rows s x).2) (sym is) ∙ ap (λ (r : Answered). r.2) said) (unlock_numbers n s file number e));
+      names = leaves.names;
+    }
 
 -- the unlocks come to what the rest comes to, from where they have come
 pub record ComeOn (file number : ℕ) (s : CoreState) (es : List LockElement) (t : CoreState) (fs : List LockElement) : Type 0 where

@@ -1,12 +1,12 @@
 -- The ranges that a LOCK names, and the checks on them (MS-SMB2 2.2.26.1, 3.3.5.14.1, 3.3.5.14.2).
-use Rattle.std.specs.Prelude.{ℕ, ◌+◌, ◌-◌, ◌^◌, ◌==◌, nat_lt, Bool, true, false, not, ◌&&◌, ◌||◌, if◌then◌else◌, List, [], ◌∷◌, length, Option, Some, None}
+use Rattle.std.specs.Prelude.{ℕ, ◌+◌, ◌-◌, ◌^◌, ◌==◌, nat_lt, Bool, false, not, ◌&&◌, ◌||◌, if◌then◌else◌, List, [], ◌∷◌, length, Option, Some, None}
 use Rattle.std.specs.List.{list_any}
 use Rattle.xl_matrix.specs.declared.claim.Extent.{Extent}
 use Rattle.xl_matrix.specs.declared.claim.Extent.TheVariants.{Bytes, Empty}
 use Rattle.xl_smb.specs.Heads.{is_set}
 use Rattle.xl_smb.specs.declared.lock.LockElement.{LockElement}
 use Rattle.xl_smb_locks.specs.declared.status.SmbStatus.{SmbStatus}
-use Rattle.xl_smb_locks.specs.declared.status.SmbStatus.TheVariants.{InvalidParameter, InvalidLockRange, LockNotGranted, InsufficientResources}
+use Rattle.xl_smb_locks.specs.declared.status.SmbStatus.TheVariants.{InvalidParameter, InvalidLockRange}
 
 -- ---- a range
 
@@ -67,7 +67,3 @@ lock_fault es =
     else if nat_lt 1 (length es) && any_waits es then Some InvalidParameter
     else if list_any wraps es then Some InvalidLockRange
     else None
-
--- what is told where something held stands against the locks: one that would wait finds no room to
-abbrev pub refusal : List LockElement → SmbStatus
-refusal es = if any_waits es then InsufficientResources else LockNotGranted

@@ -1,43 +1,41 @@
 -- Requests that wait: the final replies, which are asynchronous (MS-SMB2 3.3.4.2, 3.3.4.4).
-use Rattle.std.specs.Prelude.{ℕ, Bool, true, false, ◌==◌, if◌then◌else◌, List, [], ◌∷◌, ◌++◌, Option, Some, None}
+use Rattle.std.specs.Prelude.{◌≡◌, ℕ, nat_eq, Bool, true, false, not, ◌&&◌, ◌==◌, nat_lt, if◌then◌else◌, List, [], ◌∷◌, ◌++◌, length, Option, Some, None, is_some}
 use Rattle.std.specs.List.{list_any}
+use Rattle.std.specs.Map.{remove_entry}
 use Rattle.xl_base.specs.declared.event.Out.{Out}
 use Rattle.xl_programs.specs.Sent.{sent_to}
 use Rattle.xl_smb.specs.Messages.{Reply, spelling}
 use Rattle.xl_smb.specs.Places.{zeros}
-use Rattle.xl_smb.specs.Replies.{ReplyItem, Lock, Error}
+use Rattle.xl_smb.specs.Replies.{Create, Lock, Error}
 use Rattle.xl_smb.specs.declared.head.Route.TheVariants.{Async}
 use Rattle.xl_smb.specs.declared.head.SmbHead.{SmbHead}
-use Rattle.xl_smb_state.specs.State.{Lists, waiting_of, waiting_dropped}
+use Rattle.xl_smb_state.specs.Links.{most_opens, has_place}
+use Rattle.xl_smb_state.specs.State.{Lists, open_of, open_added, waiting_of, waiting_dropped}
 use Rattle.xl_smb_state.specs.declared.row.Header.{Header}
+use Rattle.xl_smb_state.specs.declared.row.Holder.{Holder}
+use Rattle.xl_smb_state.specs.declared.row.Holder.TheVariants as holder
+use Rattle.xl_smb_state.specs.declared.row.Open.{Open}
 use Rattle.xl_smb_state.specs.declared.row.Request.{Request}
 use Rattle.xl_smb_state.specs.declared.row.Request.TheVariants as request
 use Rattle.xl_smb_state.specs.declared.row.Waiting.{Waiting}
+use Rattle.xl_core.specs.State.{CoreState}
 use Rattle.xl_core.specs.declared.ask.Answer.{Answer}
 use Rattle.xl_core.specs.declared.ask.Answer.TheVariants as answers
 use Rattle.xl_core.specs.declared.ask.Effect.{Effect}
 use Rattle.xl_core.specs.declared.ask.Effect.TheVariants as effects
+use Rattle.xl_smb_locks.specs.Levels.{level_held, id_of, opened, noticed}
 use Rattle.xl_smb_locks.specs.Statuses.{status_number}
 use Rattle.xl_smb_locks.specs.declared.status.SmbStatus.{SmbStatus}
-use Rattle.xl_smb_locks.specs.declared.status.SmbStatus.TheVariants.{LockNotGranted, InsufficientResources, Cancelled}
+use Rattle.xl_smb_locks.specs.declared.status.SmbStatus.TheVariants.{SharingViolation, LockNotGranted, InsufficientResources, Cancelled}
 
--- ---- the final reply to a LOCK
-
--- it succeeded, or failed so
-abbrev pub number_of : Option SmbStatus → ℕ
-number_of None = 0
-number_of (Some status) = status_number status
-
-abbrev pub body_of : Option SmbStatus → ReplyItem
-body_of None = Lock
-body_of (Some status) = Error
+-- ---- final replies
 
 -- the header repeats what is kept of the request, names the AsyncId, and grants no credits: those came with STATUS_PENDING
-unfoldable pub final_head : ℕ → Header → Option SmbStatus → SmbHead
-final_head id h failed = record {
+unfoldable pub final_head : ℕ → ℕ → Header → ℕ → SmbHead
+final_head id command h status = record {
   credit_charge = h.credit_charge;
-  status = number_of failed;
-  command = 10;
+  status = status;
+  command = command;
   credits = 0;
   flags = 3;
   next_command = 0;
@@ -47,39 +45,98 @@ final_head id h failed = record {
   signature = zeros 16;
 }
 
-abbrev pub final_reply : ℕ → Header → Option SmbStatus → List ℕ
-final_reply id h failed = spelling (Reply (final_head id h failed) (body_of failed))
+-- the number of the request's command
+abbrev pub command_by : Request → ℕ
+command_by (request.Create made) = 5
+command_by request.Lock = 10
 
--- it goes to the connection that the request came by; no CREATE waits yet
-abbrev pub final_by : ℕ → Waiting → Option SmbStatus → Request → List Out
-final_by id row failed request.Lock = sent_to row.place.connection (final_reply id row.header failed)
-final_by id row failed (request.Create made) = []
+-- it failed so
+abbrev pub failed_reply : ℕ → Waiting → SmbStatus → List ℕ
+failed_reply id row status = spelling (Reply (final_head id (command_by row.request) row.header (status_number status)) Error)
 
-abbrev pub final_outs : ℕ → Waiting → Option SmbStatus → List Out
-final_outs id row failed = final_by id row failed row.request
+-- the ranges are locked
+abbrev pub locked_reply : ℕ → Waiting → List ℕ
+locked_reply id row = spelling (Reply (final_head id 10 row.header 0) Lock)
 
--- ---- a request that waits no more
+-- the file is open under this id, with an oplock of this level
+abbrev pub opened_reply : ℕ → Waiting → ℕ → ℕ → List ℕ
+opened_reply id row handle level = spelling (Reply (final_head id 5 row.header 0) (Create (opened handle level)))
+
+-- it goes to the connection that the request came by
+abbrev pub final_outs : Waiting → List ℕ → List Out
+final_outs row reply = sent_to row.place.connection reply
+
+abbrev pub failed_outs : ℕ → Waiting → SmbStatus → List Out
+failed_outs id row status = final_outs row (failed_reply id row status)
+
+-- ---- a request that failed
 
 -- what is sent, and the lists without it
-abbrev pub ended_with : ℕ → Option SmbStatus → Option Waiting → Lists → List Out × Lists
-ended_with id failed None l = ([], l)
-ended_with id failed (Some row) l = (final_outs id row failed, waiting_dropped id l)
+abbrev pub ended_with : ℕ → SmbStatus → Option Waiting → Lists → List Out × Lists
+ended_with id status None l = ([], l)
+ended_with id status (Some row) l = (failed_outs id row status, waiting_dropped id l)
 
-unfoldable pub request_ended : ℕ → Option SmbStatus → Lists → List Out × Lists
-request_ended id failed l = ended_with id failed (waiting_of id l) l
+unfoldable pub request_ended : ℕ → SmbStatus → Lists → List Out × Lists
+request_ended id status l = ended_with id status (waiting_of id l) l
 
--- how a request that was served ended
-abbrev pub served_as : Answer → Option SmbStatus
-served_as (answers.Granted claim) = None
-served_as (answers.Conflict claim) = Some LockNotGranted
-served_as answer = Some InsufficientResources
+-- ---- a request that was served
 
--- What is sent for an effect of the core, and the lists then: the final reply to the request that was served, or that
--- waits no more.
-unfoldable pub told_of : Effect → Lists → List Out × Lists
-told_of (effects.Served id answer) l = request_ended id (served_as answer) l
-told_of (effects.Cancelled id) l = request_ended id (Some Cancelled) l
-told_of effect l = ([], l)
+-- why locks failed, if they did
+abbrev pub lock_refusal : Answer → Option SmbStatus
+lock_refusal (answers.Granted claim) = None
+lock_refusal (answers.Conflict claim) = Some LockNotGranted
+lock_refusal answer = Some InsufficientResources
+
+-- why an open failed, if it did: something held is against it, or there is no room for it
+abbrev pub open_refusal : Answer → Option SmbStatus
+open_refusal (answers.Granted claim) = None
+open_refusal (answers.Conflict claim) = Some SharingViolation
+open_refusal answer = Some InsufficientResources
+
+abbrev pub locked_outs : ℕ → Waiting → Option SmbStatus → List Out
+locked_outs id row None = final_outs row (locked_reply id row)
+locked_outs id row (Some status) = failed_outs id row status
+
+-- who is to hold the open is there
+abbrev pub holder_stands : Holder → List ℕ → Lists → Bool
+holder_stands (holder.Tree place) client l = has_place place client l
+holder_stands (holder.Nobody until) client l = false
+
+-- the open may stand under its number: as its tree connect does until the request ends, and as the core grants it only where
+-- there is room, it may
+abbrev pub may_stand : ℕ → Open → Lists → Bool
+may_stand number made l = nat_lt (length l.opens) most_opens && (not (is_some (open_of number l)) && holder_stands made.holder made.client l)
+
+-- what is sent once the share of the open is granted, and the lists
+abbrev pub stood : CoreState → ℕ → Waiting → Open → Bool → Lists → List Out × Lists
+stood s id row made true l = (final_outs row (opened_reply id row (id_of s row.opened) (level_held s made.file row.opened)), open_added row.opened made l)
+stood s id row made false l = (failed_outs id row InsufficientResources, l)
+
+abbrev pub opened_outs : CoreState → ℕ → Waiting → Open → Option SmbStatus → Lists → List Out × Lists
+opened_outs s id row made None l = stood s id row made (may_stand row.opened made l) l
+opened_outs s id row made (Some status) l = (failed_outs id row status, l)
+
+-- by what it waited to do
+abbrev pub served_by : CoreState → ℕ → Waiting → Answer → Request → Lists → List Out × Lists
+served_by s id row answer (request.Create made) l = opened_outs s id row made (open_refusal answer) l
+served_by s id row answer request.Lock l = (locked_outs id row (lock_refusal answer), l)
+
+abbrev pub served_with : CoreState → ℕ → Answer → Option Waiting → Lists → List Out × Lists
+served_with s id answer None l = ([], l)
+served_with s id answer (Some row) l = served_by s id row answer row.request (waiting_dropped id l)
+
+unfoldable pub request_served : CoreState → ℕ → Answer → Lists → List Out × Lists
+request_served s id answer l = served_with s id answer (waiting_of id l) l
+
+-- ---- an effect
+
+-- What is sent for an effect of the core, in the state that is left, and the lists then: the notice of a break to who holds the
+-- open, or the final reply to the request that was served, or that waits no more.
+unfoldable pub told_of : CoreState → Effect → Lists → List Out × Lists
+told_of s (effects.Begun cache to call) l = (noticed s cache.party to l, l)
+told_of s (effects.Served id answer) l = request_served s id answer l
+told_of s (effects.Cancelled id) l = request_ended id Cancelled l
+told_of s (effects.Expired client) l = ([], l)
 
 -- ---- requests that a message cancelled
 
@@ -97,4 +154,10 @@ and_sent first rest = (first.0 ++ (rest first.1).0, (rest first.1).1)
 -- What is sent to those of these requests of which the core told so, in their order, and the lists without them.
 abbrev pub dismissed : List Effect → List ℕ → Lists → List Out × Lists
 dismissed told [] l = ([], l)
-dismissed told (id ∷ ids) l = if is_cancelled id told then and_sent (request_ended id (Some Cancelled) l) (dismissed told ids) else dismissed told ids l
+dismissed told (id ∷ ids) l = if is_cancelled id told then and_sent (request_ended id Cancelled l) (dismissed told ids) else dismissed told ids l
+
+-- ---- what the laws say of it
+
+-- one final reply is sent, to the connection that the request came by, and it waits no more
+abbrev pub IsFinal : ℕ → Waiting → Lists → List Out × Lists → Type 0
+IsFinal id row l r = ((bytes : List ℕ) × (r.0 ≡ sent_to row.place.connection bytes)) × (r.1.waiting ≡ remove_entry (nat_eq id) l.waiting)

@@ -13,11 +13,11 @@ use Rattle.xl_core.specs.declared.ask.Answer.TheVariants as answers
 use Rattle.xl_core.specs.declared.ask.Ask.{Ask}
 use Rattle.xl_core.specs.declared.ask.Effect.{Effect}
 use Rattle.xl_core.specs.declared.ask.Who.TheVariants as who
-use Rattle.xl_smb_locks.specs.Elements.{extent_of, is_exclusive, unlock_fault}
+use Rattle.xl_smb_locks.specs.Elements.{extent_of, is_exclusive, any_waits, unlock_fault}
 use Rattle.xl_smb_locks.specs.declared.locking.Locking.{Locking}
 use Rattle.xl_smb_locks.specs.declared.locking.Locking.TheVariants.{Done, Failed, Waits}
 use Rattle.xl_smb_locks.specs.declared.status.SmbStatus.{SmbStatus}
-use Rattle.xl_smb_locks.specs.declared.status.SmbStatus.TheVariants.{RangeNotLocked, InsufficientResources}
+use Rattle.xl_smb_locks.specs.declared.status.SmbStatus.TheVariants.{LockNotGranted, RangeNotLocked, InsufficientResources}
 
 -- ---- what the core is asked
 
@@ -48,9 +48,10 @@ unlock_ask file number e = range_ask None file number (acts.Unlock (extent_of e)
 abbrev pub range_of : LockElement → Extent × Bool
 range_of e = (extent_of e, is_exclusive e)
 
--- all ranges are locked in order, or none; who waits is told by this connection
-unfoldable pub lock_ask : ℕ → ℕ → ℕ → List LockElement → Bool → Ask
-lock_ask conn file number es blocking = range_ask (Some conn) file number (acts.Ranges (map range_of es)) blocking
+-- all ranges are locked in order, or none; one that may wait does where something stands against it, and is told by this
+-- connection
+unfoldable pub lock_ask : ℕ → ℕ → ℕ → List LockElement → Ask
+lock_ask conn file number es = range_ask (Some conn) file number (acts.Ranges (map range_of es)) (any_waits es)
 
 -- what was asked for is granted
 abbrev pub is_granted : Answer → Bool
@@ -75,12 +76,12 @@ unlocks s file number (e ∷ es) =
 
 -- ---- locks: all of them, or none
 
--- what the answer makes of it, where a conflict is told so
-abbrev pub lock_told : SmbStatus → Answer → Locking
-lock_told refused (answers.Granted c) = Done
-lock_told refused (answers.Queued id) = Waits id
-lock_told refused (answers.Conflict c) = Failed refused
-lock_told refused answer = Failed InsufficientResources
+-- what the answer makes of it
+abbrev pub lock_told : Answer → Locking
+lock_told (answers.Granted c) = Done
+lock_told (answers.Queued id) = Waits id
+lock_told (answers.Conflict c) = Failed LockNotGranted
+lock_told answer = Failed InsufficientResources
 
-abbrev pub lock_done : SmbStatus → Answer × List Effect × CoreState → Locking × List Effect × CoreState
-lock_done refused r = (lock_told refused r.0, r.1, r.2)
+abbrev pub lock_done : Answer × List Effect × CoreState → Locking × List Effect × CoreState
+lock_done r = (lock_told r.0, r.1, r.2)

@@ -5,9 +5,9 @@ ghost use Rattle.xl_core.specs.Asking.{may_ask, IsFitAct};
 ghost use Rattle.xl_core.specs.declared.ask.Who.TheVariants as who;
 ghost use Rattle.xl_smb_locks.specs.Elements.{wraps, unlock_fault, lock_fault, any_waits};
 ghost use Rattle.xl_smb_locks.specs.Locks.{range_ask, range_of, unlock_ask, lock_ask};
-ghost use Rattle.xl_smb_locks.specs.Short.{IsRangeAsk};
+ghost use Rattle.xl_smb_locks.specs.Short.{IsOpenAsk};
 
-use crate::elements::{extent_of, is_exclusive};
+use crate::elements::{any_waits, extent_of, is_exclusive};
 use std::alloc::{AllocError, Global};
 use xl_base::Sequence;
 use xl_core::{Act, Ask, Who};
@@ -53,7 +53,7 @@ fn range_ask(
 pub(crate) fn unlock_ask(alloc: Global, file: u32, number: u32, element: &LockElement) -> Ask
     requires { wraps element.now ≡ false }
     ensures value { result ≡ unlock_ask file number element.now }
-    ensures open { IsRangeAsk result }
+    ensures open { IsOpenAsk result }
 {
     let act = Act::Unlock(extent_of(element));
     range_ask(alloc, None, file, number, act, false)
@@ -83,15 +83,14 @@ pub(crate) fn lock_ask(
     file: u32,
     number: u32,
     elements: &[LockElement],
-    blocking: bool,
 ) -> Result<Ask, AllocError>
     requires sound { lock_fault elements.now ≡ None }
     requires some { 1 ≤ length elements.now }
-    requires waits { any_waits elements.now ≡ false → blocking ≡ false }
-    ensures value { IfOk result (λ ask. ask ≡ lock_ask conn file number elements.now blocking) }
-    ensures open { IfOk result (λ ask. IsRangeAsk ask) }
+    ensures value { IfOk result (λ ask. ask ≡ lock_ask conn file number elements.now) }
+    ensures open { IfOk result (λ ask. IsOpenAsk ask) }
 {
     let ranges = ranges_of(alloc, elements)?;
+    let blocking = any_waits(elements);
     Ok(range_ask(
         alloc,
         Some(conn),

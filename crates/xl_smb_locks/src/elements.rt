@@ -2,7 +2,7 @@
 ghost use Rattle.std.specs.Prelude.{◌≡◌, false, not, length, IfOk};
 ghost use Rattle.std.specs.List.{list_any};
 ghost use Rattle.xl_smb.specs.Locks.{elements_of};
-ghost use Rattle.xl_smb_locks.specs.Elements.{wraps, extent_of, is_unlock, is_locking, is_lock, is_exclusive, may_wait, is_count, unlocks_first, any_waits, unlock_fault, lock_fault, refusal};
+ghost use Rattle.xl_smb_locks.specs.Elements.{wraps, extent_of, is_unlock, is_locking, is_lock, is_exclusive, may_wait, is_count, unlocks_first, any_waits, unlock_fault, lock_fault};
 
 use crate::status::SmbStatus;
 use std::alloc::{AllocError, Global};
@@ -106,7 +106,7 @@ fn any_other(elements: &[LockElement]) -> bool
 }
 
 /// Whether any of these locks waits where it can't be had immediately.
-pub fn any_waits(elements: &[LockElement]) -> bool
+pub(crate) fn any_waits(elements: &[LockElement]) -> bool
     ensures { result ≡ any_waits elements.now }
 {
     elements.iter().any(may_wait)
@@ -150,15 +150,4 @@ pub fn lock_fault(elements: &[LockElement]) -> Option<SmbStatus>
         return Some(SmbStatus::InvalidLockRange);
     }
     None
-}
-
-/// What is told where something held stands against the locks: one that would wait finds no room to.
-pub(crate) fn refusal(elements: &[LockElement]) -> SmbStatus
-    ensures { result ≡ refusal elements.now }
-{
-    if any_waits(elements) {
-        SmbStatus::InsufficientResources
-    } else {
-        SmbStatus::LockNotGranted
-    }
 }

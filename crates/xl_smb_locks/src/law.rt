@@ -1,11 +1,26 @@
-//! A law of an open's ranges. The function does nothing: its clauses are the law.
-ghost use Rattle.std.specs.Prelude.{◌≡◌, List, ◌++◌, map};
+//! Laws of opens: of their ranges, of their oplocks, and of requests that wait. The functions do nothing: their clauses are the
+//! laws.
+ghost use Rattle.std.specs.Prelude.{◌≡◌, ℕ, List, [], ◌++◌, map, Option, Some, None};
+ghost use Rattle.xl_base.specs.declared.name.Party.TheVariants as Party;
 ghost use Rattle.xl_exact.specs.Elements.{unlocked};
 ghost use Rattle.xl_exact.specs.declared.element.Element.{Element};
+ghost use Rattle.xl_matrix.specs.declared.claim.CacheKind.{CacheKind};
+ghost use Rattle.xl_matrix.specs.declared.claim.Claim.{Claim};
 ghost use Rattle.xl_matrix.specs.declared.claim.What.TheVariants.{Range};
+ghost use Rattle.xl_programs.specs.Sent.{sent_to};
 ghost use Rattle.xl_smb.specs.declared.lock.LockElement.{LockElement};
+ghost use Rattle.xl_smb_state.specs.State.{Lists, open_of, waiting_of};
+ghost use Rattle.xl_smb_state.specs.declared.row.Holder.TheVariants as Holder;
+ghost use Rattle.xl_smb_state.specs.declared.row.Open.{Open};
+ghost use Rattle.xl_smb_state.specs.declared.row.Place.{Place};
+ghost use Rattle.xl_smb_state.specs.declared.row.Waiting.{Waiting};
+ghost use Rattle.xl_core.specs.State.{CoreState};
+ghost use Rattle.xl_core.specs.declared.ask.Answer.{Answer};
+ghost use Rattle.xl_core.specs.declared.ask.Effect.TheVariants as Effect;
 ghost use Rattle.xl_smb_locks.specs.Elements.{extent_of, is_exclusive};
 ghost use Rattle.xl_smb_locks.specs.Exactly.{what_of, element_of};
+ghost use Rattle.xl_smb_locks.specs.Finals.{told_of, IsFinal};
+ghost use Rattle.xl_smb_locks.specs.Levels.{id_of, notice_of};
 ghost use Rattle.xl_table.specs.Elements.{unlocked_elements};
 
 /// What is held of an open's ranges is one list of elements, as `xl_exact` keeps it: ranges that are locked come behind the
@@ -15,4 +30,19 @@ pub fn ranges_are_a_list_of_elements()
     ensures locked { (more es : List Element) → map what_of es ++ map what_of more ≡ map what_of (es ++ more) }
     ensures range { (e : LockElement) → what_of (element_of e) ≡ Range (extent_of e) (is_exclusive e) }
     ensures unlocked { (e : LockElement) (es : List Element) → unlocked_elements (extent_of e) (map what_of es) ≡ map what_of (unlocked e.offset e.length es) }
+{}
+
+/// A break of an open's oplock is told to the connection that the open is held on, with the level that is to be left of it, and
+/// to nobody else; where there is no such open nobody is told (MS-SMB2 3.3.4.6).
+#[tactic(auto, using(crate::proofs::ToldLaws::holder_told, crate::proofs::ToldLaws::nobody_told))]
+pub fn breaks_are_told_to_holders()
+    ensures holder { (s : CoreState) (l : Lists) (cache : Claim) (to : Option CacheKind) (call : Option ℕ) (number : ℕ) (row : Open) (place : Place) → cache.party ≡ Party.Open number → open_of number l ≡ Some row → row.holder ≡ Holder.Tree place → told_of s (Effect.Begun cache to call) l ≡ (sent_to place.connection (notice_of (id_of s number) to), l) }
+    ensures nobody { (s : CoreState) (l : Lists) (cache : Claim) (to : Option CacheKind) (call : Option ℕ) (number : ℕ) → cache.party ≡ Party.Open number → open_of number l ≡ None → told_of s (Effect.Begun cache to call) l ≡ ([], l) }
+{}
+
+/// A request that waited and was served, or waits no more, has one final reply, to the connection that it came by, and waits no
+/// more (MS-SMB2 3.3.4.2).
+pub fn requests_have_one_final_reply()
+    ensures served { (s : CoreState) (l : Lists) (id : ℕ) (answer : Answer) (row : Waiting) → waiting_of id l ≡ Some row → IsFinal id row l (told_of s (Effect.Served id answer) l) }
+    ensures cancelled { (s : CoreState) (l : Lists) (id : ℕ) (row : Waiting) → waiting_of id l ≡ Some row → IsFinal id row l (told_of s (Effect.Cancelled id) l) }
 {}

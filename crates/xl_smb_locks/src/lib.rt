@@ -5,12 +5,14 @@ mod asks;
 mod elements;
 mod finals;
 pub mod law;
+mod levels;
 mod locking;
 mod status;
 mod unlocking;
 
-pub use elements::{any_waits, elements_of, is_count, lock_fault, unlocks_first};
-pub use finals::{dismiss, push_all, tell};
+pub use elements::{elements_of, is_count, lock_fault, unlocks_first};
+pub use finals::{dismiss, open_refusal, push_all, tell};
+pub use levels::{file_id, file_of, id_of, level_held, opened, oplock_of};
 pub use locking::{Locking, lock};
 pub use status::SmbStatus;
 pub use unlocking::unlock;

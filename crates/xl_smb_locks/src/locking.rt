@@ -1,13 +1,12 @@
 //! Locks.
-ghost use Rattle.std.specs.Prelude.{◌≡◌, ℕ, ◌+◌, ◌≤◌, None, false, true, length, IfOk, OnOk};
+ghost use Rattle.std.specs.Prelude.{◌≡◌, ℕ, ◌≤◌, None, length, IfOk, OnOk};
 ghost use Rattle.xl_core.specs.Decide.{ask};
 ghost use Rattle.xl_core.specs.State.{MayBe};
-ghost use Rattle.xl_smb_locks.specs.Elements.{any_waits, lock_fault, refusal};
+ghost use Rattle.xl_smb_locks.specs.Elements.{lock_fault};
 ghost use Rattle.xl_smb_locks.specs.Locks.{no_rows, lock_ask, lock_told, lock_done};
 ghost use Rattle.xl_smb_locks.specs.Short.{IsReady, Leaves};
 
 use crate::asks::{NO_ROWS, lock_ask};
-use crate::elements::refusal;
 use crate::status::SmbStatus;
 use std::alloc::{AllocError, Global};
 use xl_base::{Keeper, Sequence};
@@ -25,14 +24,14 @@ pub enum Locking {
     Waits(u32),
 }
 
-/// What the core's answer to locks makes of them, where a conflict is told so.
-fn lock_told(refused: SmbStatus, answer: &Answer) -> Locking
-    ensures { result ≡ lock_told refused answer.now }
+/// What the core's answer to locks makes of them.
+fn lock_told(answer: &Answer) -> Locking
+    ensures { result ≡ lock_told answer.now }
 {
     match answer {
         Answer::Granted(_) => Locking::Done,
         Answer::Queued(id) => Locking::Waits(*id),
-        Answer::Conflict(_) => Locking::Failed(refused),
+        Answer::Conflict(_) => Locking::Failed(SmbStatus::LockNotGranted),
         Answer::Recall(_)
         | Answer::Grace(_)
         | Answer::NoGrace(_)
@@ -44,9 +43,9 @@ fn lock_told(refused: SmbStatus, answer: &Answer) -> Locking
 }
 
 /// Locks all of these ranges of an open of a file, or none (MS-SMB2 3.3.5.14.2, MS-FSA 2.1.5.8). Where something held
-/// stands against one, it waits if it is blocking, and is told by this connection; else LOCK_NOT_GRANTED, or
-/// INSUFFICIENT_RESOURCES where it would wait and isn't blocking, since there is no room to keep it. Where a limit is
-/// passed it is INSUFFICIENT_RESOURCES. At least 65,537 numbers must be left to give out; one that waits takes one.
+/// stands against one, it waits if it may, and is told by this connection; else it is LOCK_NOT_GRANTED. Where a limit is
+/// passed, or a cache keeps off one that may not wait, it is INSUFFICIENT_RESOURCES. The breaks that begin for it come first,
+/// and are told of. One that waits does so under a number that is given out to it behind those of their calls.
 pub fn lock<K: Keeper>(
     alloc: Global,
     core: &mut Core,
@@ -55,18 +54,15 @@ pub fn lock<K: Keeper>(
     file: u32,
     number: u32,
     elements: &[LockElement],
-    blocking: bool,
 ) -> Result<(Locking, Sequence<Effect>), AllocError>
     requires ready { IsReady 2 core.old }
     requires sound { lock_fault elements.now ≡ None }
     requires some { 1 ≤ length elements.now }
-    requires waits { any_waits elements.now ≡ false → blocking ≡ false }
-    ensures state { (n : ℕ) → IfOk result (λ r. MayBe n core.new → lock_done (refusal elements.now) (ask n no_rows core.old (lock_ask conn file number elements.now blocking)) ≡ (r.0, r.1, core.new)) }
-    ensures waits { IfOk result (λ r. (id : ℕ) → r.0 ≡ Locking.Waits id → (id ≡ core.old.counter + 1) × (blocking ≡ true)) }
+    ensures state { (n : ℕ) → IfOk result (λ r. MayBe n core.new → lock_done (ask n no_rows core.old (lock_ask conn file number elements.now)) ≡ (r.0, r.1, core.new)) }
     ensures leaves { OnOk result (Leaves 2 core.old core.new) }
     ensures keeper { keeper.new ≡ keeper.old }
 {
-    let request = lock_ask(alloc, conn, file, number, elements, blocking)?;
+    let request = lock_ask(alloc, conn, file, number, elements)?;
     let (answer, effects) = core.ask(alloc, keeper, &request, &NO_ROWS)?;
-    Ok((lock_told(refusal(elements), &answer), effects))
+    Ok((lock_told(&answer), effects))
 }

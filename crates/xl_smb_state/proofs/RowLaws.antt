@@ -57,6 +57,15 @@ all_mapped P Q f [] step all = tt
 all_mapped P Q f (x ∷ xs) step all = all_front Q (f x) (filter_map f xs) (λ y e. step x y all.0 e) (all_mapped P Q f xs step all.1)
 
 module _ {K X : Type 0} where
+  -- where no row has the key, nothing is taken out
+  pub none_out : (t : K → Bool) (es : List (K × X)) → lookup t es ≡ None → remove_entry t es ≡ es
+  none_out t [] h = refl
+  none_out t (e ∷ es) h =
+      elim (cases_Bool (t e.0)) [
+        | inl k ↦ absurd (some_none (rw k at h))
+        | inr k ↦ rw k (ap (λ (fs : List (K × X)). e ∷ fs) (none_out t es (rw k at h)))
+      ]
+
   pub all_removed : (P : K × X → Type 0) (t : K → Bool) (es : List (K × X)) → AllByRecursion P es → AllByRecursion P (remove_entry t es)
   all_removed P t [] all = tt
   all_removed P t (e ∷ es) all = elim (cases_Bool (t e.0)) [ inl k ↦ rw k all.1 | inr k ↦ rw k (all.0, all_removed P t es all.1) ]

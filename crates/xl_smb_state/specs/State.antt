@@ -223,6 +223,22 @@ waiting_dropped number s = record s { waiting = remove_entry (nat_eq number) s.w
 abbrev pub waiting_under : Scope → Lists → List ℕ
 waiting_under under s = keys_where (λ r. covers under r.place) s.waiting
 
+-- the request waits to make an open under it
+abbrev pub makes_open : Request → Bool
+makes_open (request.Create row) = true
+makes_open request.Lock = false
+
+abbrev pub makes_under : Scope → Waiting → Bool
+makes_under under row = makes_open row.request && covers under row.place
+
+-- the numbers of the opens that these wait to make under it, in order
+abbrev pub made_in : Scope → List (ℕ × Waiting) → List ℕ
+made_in under [] = []
+made_in under (e ∷ es) = if makes_under under e.1 then e.1.opened ∷ made_in under es else made_in under es
+
+abbrev pub creates_under : Scope → Lists → List ℕ
+creates_under under s = made_in under s.waiting
+
 -- the request came by the connection under this message number
 abbrev pub is_message : ℕ → ℕ → Waiting → Bool
 is_message connection message row = row.place.connection == connection && row.header.message_id == message

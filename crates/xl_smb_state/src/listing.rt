@@ -1,11 +1,11 @@
 //! Walks over lists of rows.
 ghost use Rattle.std.specs.Prelude.{◌≡◌, ℕ, ◌==◌, nat_eq, IfOk, filter, map, Some, option_copied, option_map};
 ghost use Rattle.std.specs.List.{find};
-ghost use Rattle.std.specs.Map.{lookup};
+ghost use Rattle.std.specs.Map.{keys_of, lookup};
 ghost use Rattle.xl_smb_state.specs.declared.row.Session.{Session};
 ghost use Rattle.xl_smb_state.specs.declared.row.Tree.{Tree};
 ghost use Rattle.xl_smb_state.specs.declared.row.Waiting.{Waiting};
-ghost use Rattle.xl_smb_state.specs.State.{keys_where, covers, covers_holder, is_held, lower, lowest, key_of, is_message, is_key, file_for, waiting_file};
+ghost use Rattle.xl_smb_state.specs.State.{keys_where, covers, covers_holder, is_held, lower, lowest, key_of, makes_under, made_in, is_message, is_key, file_for, waiting_file};
 ghost use Rattle.xl_smb_state.specs.Links.{is_tree_at, is_client};
 ghost use Rattle.std.specs.Option.{option_and_then};
 
@@ -226,6 +226,47 @@ pub(crate) fn waiting_under(
     'rows: for (number, row) in waiting.iter() {
         if covers(scope, &row.place) {
             numbers.push(*number)?;
+        }
+    }
+    Ok(numbers)
+}
+
+/// The numbers of all requests that wait.
+pub(crate) fn numbers_waiting(
+    alloc: Global,
+    waiting: &IndexMap<u32, Waiting>,
+) -> Result<Vec<u32>, AllocError>
+    ensures { IfOk result (λ v. v.items ≡ keys_of waiting.now.entries) }
+{
+    let mut numbers = Vec::new(alloc);
+    'rows: for (number, _) in waiting.iter() {
+        numbers.push(*number)?;
+    }
+    Ok(numbers)
+}
+
+/// Whether a request waits to make an open under it.
+fn makes_under(scope: Scope, row: &Waiting) -> bool
+    ensures { result ≡ makes_under scope row.now }
+{
+    match row.request {
+        Request::Create(_) => covers(scope, &row.place),
+        Request::Lock => false,
+    }
+}
+
+/// The numbers of the opens that these wait to make under it.
+pub(crate) fn made_in(
+    alloc: Global,
+    waiting: &IndexMap<u32, Waiting>,
+    scope: Scope,
+) -> Result<Vec<u32>, AllocError>
+    ensures { IfOk result (λ v. v.items ≡ made_in scope waiting.now.entries) }
+{
+    let mut numbers = Vec::new(alloc);
+    'rows: for (_, row) in waiting.iter() {
+        if makes_under(scope, row) {
+            numbers.push(row.opened)?;
         }
     }
     Ok(numbers)

@@ -37,3 +37,14 @@ pub(crate) fn remove<K: Eq + Hash + Drop, V: Drop>(rows: &mut IndexMap<K, V>, ke
 {
     let _ = rows.shift_remove(key);
 }
+
+/// Takes out the row under a key, and gives it; the others stay in their order. None exactly where there is none, and then
+/// all stay.
+#[tactic(auto, using(crate::proofs::RowLaws::none_out))]
+pub(crate) fn take<K: Eq + Hash + Drop, V: Drop>(rows: &mut IndexMap<K, V>, key: &K) -> Option<V>
+    ensures row { result ≡ lookup (K.eq key.now) rows.old.entries }
+    ensures rest { rows.new.entries ≡ remove_entry (K.eq key.now) rows.old.entries }
+    ensures none { result ≡ None → rows.new.entries ≡ rows.old.entries }
+{
+    rows.shift_remove(key)
+}

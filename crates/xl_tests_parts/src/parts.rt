@@ -18,6 +18,7 @@ mod table;
 mod ticks;
 mod turns;
 mod wait;
+mod wishes;
 
 /// The next word of a row; it is empty where none is left.
 fn next<'a>(words: &mut Split<'a, char>) -> &'a str {

@@ -1,5 +1,6 @@
 //! What is served, shown and read, as cases of texts.
 
+mod caches;
 mod calls;
 mod captures;
 mod clients;

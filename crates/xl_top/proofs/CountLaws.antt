@@ -8,6 +8,7 @@ use Rattle.xl_base.specs.declared.event.Kind.TheVariants.{Rpc}
 use Rattle.xl_base.specs.declared.journal.Entry.{Entry}
 use Rattle.xl_base.specs.declared.journal.Exports.{Exports}
 use Rattle.xl_base.specs.declared.journal.Journal.{Journal}
+use Rattle.xl_wait.specs.declared.waiter.Rooms.{Rooms}
 use Rattle.xl_wait.specs.declared.waiter.Waiter.{Waiter}
 use Rattle.xl_rpc.specs.Replies.{reply}
 use Rattle.xl_rpc.specs.declared.reply.Verdict.TheVariants.{Success}
@@ -16,6 +17,7 @@ use Rattle.xl_nlm.specs.Replies.{results, results_at}
 use Rattle.xl_nlm.specs.declared.item.NlmStatus.{NlmStatus}
 use Rattle.xl_programs.specs.Programs.{Asked, incoming_at, in_program}
 use Rattle.xl_programs.specs.Sent.{sent_to}
+use Rattle.xl_core.specs.Settle.{first_turn, settle}
 use Rattle.xl_core.specs.State.{CoreState, step_begun}
 use Rattle.xl_core.proofs.GoodLaws.{begun_good, started_good}
 use Rattle.xl_front_nlm.specs.FrontNlm.{nlm_step, call_in, sent_with, replied, with_results}
@@ -24,9 +26,10 @@ use Rattle.xl_front_nlm.specs.State.{FrontState}
 use Rattle.xl_front_nlm.specs.declared.outcome.Outcome.TheVariants.{Answered}
 use Rattle.xl_house.specs.Journals.{entry, entries_of}
 use Rattle.xl_house.specs.declared.parts.Fronts.{Fronts}
-use Rattle.xl_house.specs.Machine.{Whole, Turn, Sent, framed, heard, heard_by, record_heard, with_nlm, front_done, kind_of, connected, with_connection, settled, settled_turn, turn_of, behind, settled_for, begin, step}
+use Rattle.xl_house.specs.Machine.{Whole, Turn, Sent, framed, heard, heard_by, record_heard, with_nlm, front_done, kind_of, connected, with_connection, settled, settled_turn, turn_of, behind, rooms_of, begin, step}
 use Rattle.xl_house.proofs.JournalLaws.{length-entries_of}
 use Rattle.xl_house.proofs.MachineLaws.{step_is}
+use Rattle.xl_house.proofs.SettleLaws.{none_settles}
 use Rattle.xl_capture.specs.Summary.{is_granted, is_denied, granted, denied, results_status, told_status, or_status}
 use Rattle.xl_top.specs.Made.{next, draw, exclusive_by, asked_by, call_from, lock_by, record_of, calls_from, fourth, made, made_head, made_entries, made_journal}
 use Rattle.xl_top.proofs.CallLaws.{arrives, call_fits, framed_is, replied_is, request, whole}
@@ -74,9 +77,12 @@ heard_is s number c ok done asked whole =
     ∙ ap (λ o. front_done Rpc s.exports (with_nlm s.front (sent_with 0 (replied 0 8 s.front.nlm (step_begun s.core) number o)))) whole
     ∙ ap (λ r. front_done Rpc s.exports (with_nlm s.front (sent_with 0 (with_results number c r)))) done.is
 
+no_turn : (n : ℕ) (left : Rooms) (s : CoreState) → s.waiters ≡ [] → settle n left s ≡ None
+unfolding settle
+no_turn n left s none = ap (λ (ws : List Waiter). first_turn n left s [] ws) none
+
 settled_none : (n : ℕ) (exports : Exports) (f : Fronts) (s : CoreState) → s.waiters ≡ [] → settled n exports f s ≡ ([], f, s)
-unfolding settled
-settled_none n exports f s none = ap (λ (ws : List Waiter). settled_for (length ws) n exports f s) none
+settled_none n exports f s none = none_settles n exports f s (no_turn n (rooms_of f) s none)
 
 turn_is : (s : Whole) (number : ℕ) (c : CallItem) (ok : IsMade s) (done : IsServed 0 s.front.nlm (step_begun s.core) c) → incoming_at (record_of number c) ≡ Asked (request number c) → call_in (request number c) ≡ Some c
     → step 0 s (Message 0 (record_of number c)) ≡ turn_of s s.connections (sent_by (told_by number c done.front done.core done.answer) (fronts_with s done.front) done.core)

@@ -1,7 +1,7 @@
 -- What the core answers the calls that are drawn, and what it keeps.
-use Rattle.std.proofs.Common.{◌≡◌, ℕ, zero, suc, pos, ◌<◌, ◌≤◌, Bool, true, false, nat_le, ◌⊎◌, inl, inr, if◌then◌else◌, List, [], ◌∷◌, ◌++◌, length, codes, Option, Some, None, refl, sym, ap, subst, ◌∙◌, arith}
-use Rattle.std.specs.List.{AllByRecursion}
-use Rattle.std.proofs.lemmas.Bool.{cases_lt, both_ways, le-leb}
+use Rattle.std.proofs.Common.{◌≡◌, ℕ, zero, suc, pos, ◌<◌, ◌≤◌, Bool, true, false, ◌==◌, ◌&&◌, nat_le, ◌⊎◌, inl, inr, if◌then◌else◌, List, [], ◌∷◌, ◌++◌, length, codes, Option, Some, None, refl, sym, ap, subst, ◌∙◌, arith}
+use Rattle.std.specs.List.{AllByRecursion, list_any}
+use Rattle.std.proofs.lemmas.Bool.{cases_lt, both_ways, and_right, le-leb}
 use Rattle.std.proofs.lemmas.Bool.Decides.{nat_tests}
 use Rattle.xl_base.specs.Lists.{IsIn}
 use Rattle.xl_base.proofs.Members.{all_append}
@@ -11,19 +11,19 @@ use Rattle.xl_base.specs.declared.name.Party.{Party}
 use Rattle.xl_base.specs.declared.name.Protocol.{Protocol}
 use Rattle.xl_base.specs.declared.name.Protocol.TheVariants.{Nlm}
 use Rattle.xl_matrix.specs.declared.claim.Claim.{Claim}
-use Rattle.xl_matrix.specs.declared.claim.Extent.TheVariants.{Bytes}
+use Rattle.xl_matrix.specs.declared.claim.Extent.TheVariants.{Bytes, Empty}
 use Rattle.xl_matrix.specs.declared.claim.What.{What}
-use Rattle.xl_matrix.specs.declared.claim.What.TheVariants.{Range}
+use Rattle.xl_matrix.specs.declared.claim.What.TheVariants.{Share, Range, Cache}
 use Rattle.xl_names.specs.Names.{protocol_of, place_of, number_of, is_kept, entered, most_names}
 use Rattle.xl_names.specs.declared.name.Name.{Name}
 use Rattle.xl_names.specs.declared.name.Name.TheVariants.{NlmRange, NlmParty}
 use Rattle.xl_wait.specs.declared.waiter.Rooms.{Rooms}
-use Rattle.xl_table.specs.Held.{mode_of}
+use Rattle.xl_table.specs.Held.{mode_of, is_cache}
 use Rattle.xl_table.specs.Relock.{most_claims, granted_claims, holds_byte}
 use Rattle.xl_core.specs.State.{CoreState}
-use Rattle.xl_core.specs.Asking.{IsFit, both_entered, asked_claim, asker, asking_party, known_claim, number_or}
+use Rattle.xl_core.specs.Asking.{IsFit, is_client, both_entered, asked_claim, asker, asking_party, known_claim, number_or}
 use Rattle.xl_core.specs.Causes.{IsClaimDue, limits_of_grant, left_by_unlock}
-use Rattle.xl_core.specs.Decide.{Answered, ask, test_answered, tested}
+use Rattle.xl_core.specs.Decide.{Answered, decided, way, ask, test_answered, tested}
 use Rattle.xl_core.specs.Blockers.{is_stopped, test_blockers}
 use Rattle.xl_table.specs.Least.{least}
 use Rattle.xl_core.specs.Deeds.{queue_with}
@@ -35,15 +35,20 @@ use Rattle.xl_core.specs.declared.ask.Act.TheVariants.{Ranges, Test, Unlock}
 use Rattle.xl_core.specs.declared.ask.Answer.{Answer}
 use Rattle.xl_core.specs.declared.ask.Answer.TheVariants as answers
 use Rattle.xl_core.specs.declared.ask.Ask.{Ask}
-use Rattle.xl_core.proofs.CauseLaws.{lock_due, unlock_is, unlock_by, left_so}
-use Rattle.xl_core.proofs.DeedCalls.{ask_enters, ask_keeps_claims, ask_queue}
-use Rattle.xl_core.proofs.FrameLaws.{ask_frame}
+use Rattle.xl_core.specs.declared.ask.Effect.{Effect}
+use Rattle.xl_core.proofs.CauseLaws.{lock_due, test_is, unlock_is, unlock_by, left_so}
+use Rattle.xl_core.proofs.DeedCalls.{decided_enters, decided_keeps_claims}
+use Rattle.xl_core.proofs.DeedLaws.{ask_queue}
+use Rattle.xl_core.proofs.FrameLaws.{ask_frame, ask_quiet}
 use Rattle.xl_core.proofs.GoodLaws.{ask_good, holder_kept}
 use Rattle.xl_core.proofs.KnownLaws.{asker_kept, both_distinct, get_none, kept_named}
 use Rattle.xl_core.proofs.LimitLaws.{grant_found}
+use Rattle.xl_core.proofs.WayAsks.{ask_there}
+use Rattle.xl_core.proofs.WayCode.{no_way_for}
+use Rattle.xl_core.proofs.WishFor.{empty_after}
 use Rattle.xl_front_nlm.specs.Asks.{ask_of}
 use Rattle.xl_front_nlm.specs.Hosts.{rooms, host_rows}
-use Rattle.xl_top.proofs.GroupLaws.{AreFew, owner_at, relocked_few, relocked_room}
+use Rattle.xl_top.proofs.GroupLaws.{HasBytes, IsFew, AreFew, owner_at, relocked_few, relocked_room}
 use Rattle.xl_top.proofs.SumLaws.{few_names}
 
 -- ---- who asks, and for what
@@ -124,6 +129,30 @@ host_room hosts (inr one) = subst (λ (hs : List (List ℕ)). (host_rows (codes 
 
 room : (hosts : List (List ℕ)) (held kept : ℕ) → AreOurs hosts → held ≤ most_claims → kept ≤ most_names → IsRoom (grant_limits (rooms hosts) (host_rows (codes "m") hosts) held kept)
 room hosts held kept ours claims names = grant_found (rooms hosts) (host_rows (codes "m") hosts) held kept None (passes_by (rooms hosts).hosts (host_rows (codes "m") hosts).hosts held kept (host_room hosts ours) claims names)
+
+-- ---- nothing makes way, as none of what is held is a cache
+
+no_cache : (what : What) → HasBytes what → is_cache what ≡ false
+no_cache (Range (Bytes first last) exclusive) has = refl
+no_cache (Range (Empty offset) exclusive) has = absurd has
+no_cache (Share access deny) has = absurd has
+no_cache (Cache kind running) has = absurd has
+
+none_on : (file : ℕ) (cs : List Claim) → AllByRecursion IsFew cs → list_any (λ c. (c.file == file) && is_cache c.what) cs ≡ false
+none_on file [] few = refl
+none_on file (c ∷ cs) few = rw (no_cache c.what few.0.0, and_right (c.file == file) false refl) (none_on file cs few.1)
+
+no_way : (left : Rooms) (s : CoreState) (a : Ask) → IsMadeCore s → way left s a ≡ ([], s)
+no_way left s a core = no_way_for left s a [] (none_on a.file s.claims core.claims.each) refl
+
+-- so an ask that wishes for no cache is judged where it is, and tells of nothing
+judged_there : (n : ℕ) (left : Rooms) (s : CoreState) (a : Ask) → IsMadeCore s → a.wish ≡ [] → ask n left s a ≡ decided n left s a
+judged_there n left s a core none =
+    let r = decided n left s a in
+    ask_there n left s a (no_way left s a core) ∙ ap (λ (t : CoreState). (r.0, r.1, t)) (empty_after a r.0 r.2 none)
+
+pub tells_nothing : (n : ℕ) (left : Rooms) (s : CoreState) (a : Ask) → IsMadeCore s → is_client a.owner a.party ≡ true → (ask n left s a).1 ≡ []
+tells_nothing n left s a core client = ask_quiet n left s a core.good client ∙ ap (λ (w : List Effect × CoreState). w.0) (no_way left s a core)
 
 -- ---- a lock
 
@@ -230,7 +259,7 @@ lock_well n hosts s who file first last exclusive core ours one at real short =
     claim = asked_claim a what s.names
 
     fit : IsFit a
-    fit = record { act = (real, tt); own = refl; party = refl }
+    fit = record { act = (real, tt); own = refl; party = refl; wish = refl }
 
     small : (number : ℕ) → owner_at number ≡ asker a s.names → number < 5
     small number e = known_small (both_entered a s.names) number (asking_party a s.names) (both_few who file act rows s one core)
@@ -242,8 +271,11 @@ lock_well n hosts s who file first last exclusive core ours one at real short =
     fits : IsRoom (limits_of_grant left s a claim)
     fits = room hosts _ _ ours held (omega (arith, both_few who file act rows s one core))
 
+    there : ask n left s a ≡ decided n left s a
+    there = judged_there n left s a core refl
+
     due : IsClaimDue left s a claim (ask n left s a).0
-    due = (lock_due n left s a what (ask n left s a).0 refl).0 refl
+    due = subst (λ (r : Answered). IsClaimDue left s a claim r.0) (sym there) ((lock_due n left s a what (decided n left s a).0 refl).0 refl)
 
     plain : IsPlain (ask n left s a).0
     plain = plain_claim left s a claim (ask n left s a).0 refl refl fits refl due
@@ -253,11 +285,13 @@ lock_well n hosts s who file first last exclusive core ours one at real short =
 
     entered_few : (c : Claim) → (ask n left s a).0 ≡ answers.Granted c → AreFew (ask n left s a).2.claims
     entered_few c e =
-        let same : c ≡ claim = ((lock_due n left s a what (answers.Granted c) refl).0 e).0 in
-        subst (λ (cs : List Claim). AreFew cs) (sym ((ask_enters n left s a what c core.good fit refl e).1 ∙ ap (λ (x : Claim). granted_claims x s.claims) same)) after_grant
+        let at : (decided n left s a).0 ≡ answers.Granted c = sym (ap (λ (r : Answered). r.0) there) ∙ e in
+        let same : c ≡ claim = ((lock_due n left s a what (answers.Granted c) refl).0 at).0 in
+        subst (λ (cs : List Claim). AreFew cs) (sym (ap (λ (r : Answered). r.2.claims) there ∙ (decided_enters n left s a what c core.good fit refl at).1 ∙ ap (λ (x : Claim). granted_claims x s.claims) same)) after_grant
 
     kept_few : ((c : Claim) → (ask n left s a).0 ≡ answers.Granted c → ⊥) → AreFew (ask n left s a).2.claims
-    kept_few none = subst (λ (cs : List Claim). AreFew cs) (sym (ask_keeps_claims n left s a core.good fit none)) core.claims
+    kept_few none =
+        subst (λ (cs : List Claim). AreFew cs) (sym (ap (λ (r : Answered). r.2.claims) there ∙ decided_keeps_claims n left s a core.good fit (λ c e. none c (ap (λ (r : Answered). r.0) there ∙ e)))) core.claims
 
     by : (answer : Answer) → (ask n left s a).0 ≡ answer → IsPlain answer → AreFew (ask n left s a).2.claims
     by (answers.Granted c) e p = entered_few c e
@@ -276,15 +310,25 @@ lock_well n hosts s who file first last exclusive core ours one at real short =
 
 -- ---- a test
 
+-- one that is no reclaim
+tested_so : (s : CoreState) (a : Ask) (claim : Claim) → a.reclaim ≡ false → tested s a claim ≡ test_answered claim (least s.names (test_blockers s claim))
+unfolding tested
+tested_so s a claim timely = ap (λ (b : Bool). if b then answers.NoGrace s.clock else test_answered claim (least s.names (test_blockers s claim))) timely
+
 pub test_well : (n : ℕ) (left : Rooms) (s : CoreState) (who file first last : ℕ) (exclusive : Bool) (rows : Rooms) → IsMadeCore s → who < 4 → first ≤ last
     → IsDrawnWell s (ask n left s (drawn_ask who file (Test (Bytes first last) exclusive) rows))
-unfolding ask tested
-test_well n left s who file first last exclusive rows core one real = record {
-  plain = by (least s.names (test_blockers s claim));
-  core = core;
-} where
+test_well n left s who file first last exclusive rows core one real = subst (λ (r : Answered). IsDrawnWell s r) (sym is) (record { plain = by held; core = core }) where
+  a : Ask
+  a = drawn_ask who file (Test (Bytes first last) exclusive) rows
+
   claim : Claim
-  claim = known_claim (drawn_ask who file (Test (Bytes first last) exclusive) rows) (Bytes first last) exclusive s.names
+  claim = known_claim a (Bytes first last) exclusive s.names
+
+  held : Option Claim
+  held = least s.names (test_blockers s claim)
+
+  is : ask n left s a ≡ (test_answered claim held, [], s)
+  is = judged_there n left s a core refl ∙ test_is n left s a (Bytes first last) exclusive refl ∙ ap (λ (answer : Answer). (answer, [], s)) (tested_so s a claim refl)
 
   by : (o : Option Claim) → IsPlain (test_answered claim o)
   by None = tt
@@ -305,7 +349,7 @@ unlock_well n left s who file first last rows core one at real short = by (holds
   claim = known_claim a (Bytes first last) false s.names
 
   fit : IsFit a
-  fit = record { act = real; own = refl; party = refl }
+  fit = record { act = real; own = refl; party = refl; wish = refl }
 
   few_names_kept : length s.names ≤ 5
   few_names_kept = few_names five s.names core.good.distinct core.names
@@ -314,7 +358,7 @@ unlock_well n left s who file first last rows core one at real short = by (holds
   small holds = known_small s.names (number_or (number_of (name_by who) s.names)) claim.party few_names_kept (holder_kept s a (Bytes first last) false first last core.good refl holds)
 
   is : (h f : Bool) → holds_byte claim.file claim.owner first last s.claims ≡ h → nat_le (left_by_unlock s claim first last) most_claims ≡ f → ask n left s a ≡ left_so s claim first last h f
-  is h f e k = unlock_is n left s a first last refl refl refl ∙ unlock_by s claim first last h f e k
+  is h f e k = judged_there n left s a core refl ∙ unlock_is n left s a first last refl refl refl ∙ unlock_by s claim first last h f e k
 
   done : (r : Answered) → ask n left s a ≡ r → IsPlain r.0 → AreFew r.2.claims → IsDrawnWell s (ask n left s a)
   done r e plain few =

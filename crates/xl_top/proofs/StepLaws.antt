@@ -18,7 +18,6 @@ use Rattle.xl_core.specs.declared.ask.Answer.{Answer}
 use Rattle.xl_core.specs.declared.ask.Answer.TheVariants as answers
 use Rattle.xl_core.specs.declared.ask.Ask.{Ask}
 use Rattle.xl_core.specs.declared.ask.Effect.{Effect}
-use Rattle.xl_core.proofs.FrameLaws.{ask_quiet}
 use Rattle.xl_front_nlm.specs.Aims.{aimed, aimed_in, aimed_at, last_of}
 use Rattle.xl_front_nlm.specs.Asks.{owner_of, test_ask, unlock_ask}
 use Rattle.xl_names.specs.Names.{number_of}
@@ -33,7 +32,7 @@ use Rattle.xl_front_nlm.specs.declared.outcome.Outcome.TheVariants.{Waits, Answe
 use Rattle.xl_capture.specs.Summary.{results_status}
 use Rattle.xl_top.specs.Made.{asked_by, lock_by}
 use Rattle.xl_top.proofs.CallLaws.{exported_again, res_again}
-use Rattle.xl_top.proofs.DrawnLaws.{AreOurs, IsMadeCore, IsPlain, IsDrawnWell, drawn_ask, lock_well, test_well, unlock_well}
+use Rattle.xl_top.proofs.DrawnLaws.{AreOurs, IsMadeCore, IsPlain, IsDrawnWell, drawn_ask, tells_nothing, lock_well, test_well, unlock_well}
 
 -- ---- what a call names
 
@@ -138,7 +137,7 @@ lock_served n f s exclusive b c d core ours = record {
   answer = (ask n (rooms f.hosts) s a).0;
   front = hosted (Some (codes "m")) (Some (ask n (rooms f.hosts) s a).0) f;
   core = (ask n (rooms f.hosts) s a).2;
-  is = ap (λ (p : Plan). served_by n f s (Some (codes "m")) p) plan ∙ quietly n f s (Some (codes "m")) a (ask_quiet n (rooms f.hosts) s a core.good refl);
+  is = ap (λ (p : Plan). served_by n f s (Some (codes "m")) p) plan ∙ quietly n f s (Some (codes "m")) a (tells_nothing n (rooms f.hosts) s a core refl);
   told = λ names. subst (λ (o : Option NlmStatus). IsTold o) (sym (res_status (answer_status (ask n (rooms f.hosts) s a).0))) (plain_told (ask n (rooms f.hosts) s a).0 well.plain);
   hosts = hosts_ours (ask n (rooms f.hosts) s a).0 f.hosts ours;
   kept = well.core;
@@ -163,7 +162,7 @@ unlock_served n f s b c d core ours = record {
   answer = (ask n (rooms f.hosts) s a).0;
   front = f;
   core = (ask n (rooms f.hosts) s a).2;
-  is = ap (λ (p : Plan). served_by n f s None p) plan ∙ quietly n f s None a (ask_quiet n (rooms f.hosts) s a core.good refl);
+  is = ap (λ (p : Plan). served_by n f s None p) plan ∙ quietly n f s None a (tells_nothing n (rooms f.hosts) s a core refl);
   told = λ names. subst (λ (o : Option NlmStatus). IsTold o) (sym (res_status (answer_status (ask n (rooms f.hosts) s a).0))) (plain_told (ask n (rooms f.hosts) s a).0 well.plain);
   hosts = ours;
   kept = well.core;
@@ -183,7 +182,7 @@ test_served n f s exclusive b c d core ours = record {
   answer = (ask n (rooms f.hosts) s a).0;
   front = f;
   core = (ask n (rooms f.hosts) s a).2;
-  is = ap (λ (p : Plan). served_by n f s None p) plan ∙ quietly n f s None a (ask_quiet n (rooms f.hosts) s a core.good refl);
+  is = ap (λ (p : Plan). served_by n f s None p) plan ∙ quietly n f s None a (tells_nothing n (rooms f.hosts) s a core refl);
   told = λ names. subst (λ (o : Option NlmStatus). IsTold o) (sym (test_status_is (test_result [] names (Answered (ask n (rooms f.hosts) s a).0)) refl)) (tested_told (ask n (rooms f.hosts) s a).0 well.plain);
   hosts = ours;
   kept = well.core;

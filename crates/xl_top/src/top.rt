@@ -3,7 +3,7 @@ ghost use Rattle.std.specs.Prelude.{◌≡◌, ◌≢◌, ℕ, ◌+◌, ◌<◌,
 ghost use Rattle.std.specs.Result.{result_ok};
 ghost use Rattle.xl_base.specs.Outside.{Rose, Took, Ended, Added, Began};
 ghost use Rattle.xl_capture.specs.Capture.{captured, most_bytes};
-ghost use Rattle.xl_house.specs.Lawful.{Always, IsLawful, IsWaiting, IsComplete, IsCaused, IsTold};
+ghost use Rattle.xl_house.specs.Lawful.{Always, IsLawful, IsWaiting, IsKept, IsComplete, IsCaused, IsTold};
 ghost use Rattle.xl_house.specs.Free.{AlwaysFree};
 ghost use Rattle.xl_house.specs.Housed.{Housed, is_spoiled};
 ghost use Rattle.xl_house.specs.Journals.{replay, IsLegal, IsOrderly, entries_of, most_entries};
@@ -461,7 +461,7 @@ fn make<O: Sink>(alloc: Global, seed: u32, count: u32, out: &mut O) -> Done
 }
 
 /// Does what the words ask for, from the input to the output.
-#[tactic(auto, using(xl_house::proofs::MachineLaws::begun_free, xl_house::proofs::LawfulLaws::always_lawful, xl_house::proofs::LawfulLaws::always_waiting, xl_house::proofs::LawfulLaws::always_complete, xl_house::proofs::LawfulLaws::always_caused, xl_house::proofs::LawfulLaws::always_told))]
+#[tactic(auto, using(xl_house::proofs::MachineLaws::begun_free, xl_house::proofs::LawfulLaws::always_lawful, xl_house::proofs::LawfulLaws::always_waiting, xl_house::proofs::LawfulLaws::always_kept, xl_house::proofs::LawfulLaws::always_complete, xl_house::proofs::LawfulLaws::always_caused, xl_house::proofs::LawfulLaws::always_told))]
 pub fn run<I: Source, O: Sink>(alloc: Global, words: &[String], input: &mut I, out: &mut O) -> Done
     ensures known { is_status result.status ≡ true }
 
@@ -518,10 +518,12 @@ pub fn run<I: Source, O: Sink>(alloc: Global, words: &[String], input: &mut I, o
     ensures free { AlwaysFree (begin result.journal.head) result.journal.entries }
 
     // Each byte of each owner, and its share of each file, stands as it stood before an entry, but for what its owner did in
-    // it, was granted after a wait, or lost with its lease or its connection. What nothing stands against is granted; what
-    // is blocked is refused, or waits.
+    // it, was granted after a wait, or lost with its lease or its connection. A cache of which a break runs stands, at its full
+    // kind, and nothing that it guards against, until its party answers or gives it back, ends or expires, or the deadline
+    // passes. What nothing stands against is granted; what is blocked is refused, or waits.
     ensures lawful { Always IsLawful (begin result.journal.head) result.journal.entries }
     ensures waiting { Always IsWaiting (begin result.journal.head) result.journal.entries }
+    ensures kept_until_answered { Always IsKept (begin result.journal.head) result.journal.entries }
     ensures complete { Always IsComplete (begin result.journal.head) result.journal.entries }
     ensures caused { Always IsCaused (begin result.journal.head) result.journal.entries }
     ensures told { Always IsTold (begin result.journal.head) result.journal.entries }

@@ -1,8 +1,9 @@
 //! Byte ranges of SMB opens, one by one.
 
 ghost use Rattle.std.specs.Prelude.{◌≡◌, ◌+◌, ◌≤◌, ◌∷◌, [], false, true, OnOk, IfOk};
-ghost use Rattle.xl_core.specs.Asking.{IsFit, IsFitAct, IsOrdered, may_ask, may_hold};
+ghost use Rattle.xl_core.specs.Asking.{IsFit, IsFitAct, IsFitWish, IsOrdered, may_ask, may_hold};
 ghost use Rattle.xl_core.specs.Good.{IsGood};
+ghost use Rattle.xl_core.specs.Numbers.{numbers_of};
 
 use super::asks::TIMES;
 use super::turns::{ask_of, lock};
@@ -18,10 +19,11 @@ const NO_ROWS: Rooms = Rooms {
     opens: 0,
 };
 
-/// What an open asks for on a file; it doesn't wait.
+/// What an open asks for on a file, no cache; it doesn't wait.
 fn ask_by(alloc: Global, number: u32, act: Act) -> Ask
     requires fit { IsFitAct (Who.Open number) false act }
     requires own { may_ask (Who.Open number) act ≡ true }
+    requires wish { IsFitWish (Who.Open number) false false act [] }
     ensures { IsFit result }
 {
     Ask {
@@ -60,9 +62,9 @@ fn locked(
     requires order { IsOrdered extent }
     requires own { may_hold (Who.Open number) (What.Range extent exclusive) ≡ true }
     requires good { IsGood core.old }
-    requires few { core.old.counter ≤ 100 }
+    requires few { numbers_of core.old ≤ 100 }
     ensures good { OnOk result (IsGood core.new) }
-    ensures counter { OnOk result (core.new.counter ≤ core.old.counter + 1) }
+    ensures numbers { OnOk result (numbers_of core.new ≤ numbers_of core.old + 2) }
 {
     let mut ranges = Sequence::new(alloc);
     ranges.push((extent, exclusive))?;
@@ -74,9 +76,9 @@ fn locked(
 fn unlocked(alloc: Global, core: &mut Core, number: u32, extent: Extent) -> Result<u32, AllocError>
     requires order { IsOrdered extent }
     requires good { IsGood core.old }
-    requires few { core.old.counter ≤ 100 }
+    requires few { numbers_of core.old ≤ 100 }
     ensures good { OnOk result (IsGood core.new) }
-    ensures counter { OnOk result (core.new.counter ≤ core.old.counter + 1) }
+    ensures numbers { OnOk result (numbers_of core.new ≤ numbers_of core.old + 2) }
 {
     let ask = ask_by(alloc, number, Act::Unlock(extent));
     Ok(told(ask_of(alloc, core, &ask)?))
@@ -94,9 +96,9 @@ fn is_left(alloc: Global, core: &Core, exclusive: bool) -> Result<bool, AllocErr
 /// Whether an open locks a range exclusively, then shared, and no longer exclusively.
 fn are_stacked(alloc: Global, core: &mut Core) -> Result<bool, AllocError>
     requires good { IsGood core.old }
-    requires few { core.old.counter ≤ 50 }
+    requires few { numbers_of core.old ≤ 50 }
     ensures good { OnOk result (IsGood core.new) }
-    ensures counter { OnOk result (core.new.counter ≤ core.old.counter + 3) }
+    ensures numbers { OnOk result (numbers_of core.new ≤ numbers_of core.old + 6) }
 {
     let first = locked(alloc, core, 3, Extent::Bytes(0, 9), true)?;
     let second = locked(alloc, core, 3, Extent::Bytes(0, 9), false)?;
@@ -107,9 +109,9 @@ fn are_stacked(alloc: Global, core: &mut Core) -> Result<bool, AllocError>
 /// Whether an unlock takes out one range that is equal, the exclusive one first, and none that isn't.
 fn are_taken(alloc: Global, core: &mut Core) -> Result<bool, AllocError>
     requires good { IsGood core.old }
-    requires few { core.old.counter ≤ 60 }
+    requires few { numbers_of core.old ≤ 60 }
     ensures good { OnOk result (IsGood core.new) }
-    ensures counter { OnOk result (core.new.counter ≤ core.old.counter + 4) }
+    ensures numbers { OnOk result (numbers_of core.new ≤ numbers_of core.old + 8) }
 {
     let part = unlocked(alloc, core, 3, Extent::Bytes(0, 4))?;
     let first = unlocked(alloc, core, 3, Extent::Bytes(0, 9))?;
@@ -122,9 +124,9 @@ fn are_taken(alloc: Global, core: &mut Core) -> Result<bool, AllocError>
 /// Whether a range without a byte is stopped where it lies between two locked bytes, and at offset 0 by none.
 fn are_empty(alloc: Global, core: &mut Core) -> Result<bool, AllocError>
     requires good { IsGood core.old }
-    requires few { core.old.counter ≤ 70 }
+    requires few { numbers_of core.old ≤ 70 }
     ensures good { OnOk result (IsGood core.new) }
-    ensures counter { OnOk result (core.new.counter ≤ core.old.counter + 3) }
+    ensures numbers { OnOk result (numbers_of core.new ≤ numbers_of core.old + 6) }
 {
     let whole = locked(alloc, core, 3, Extent::Bytes(0, 9), true)?;
     let inside = locked(alloc, core, 4, Extent::Empty(5), true)?;
@@ -134,7 +136,7 @@ fn are_empty(alloc: Global, core: &mut Core) -> Result<bool, AllocError>
 
 fn rows_of_one_open(alloc: Global, core: &mut Core) -> Result<bool, AllocError>
     requires good { IsGood core.old }
-    requires none { core.old.counter ≡ 0 }
+    requires none { numbers_of core.old ≡ 0 }
 {
     let stacked = are_stacked(alloc, core)?;
     let taken = are_taken(alloc, core)?;
@@ -165,9 +167,9 @@ fn three_from(alloc: Global, first: u64) -> Result<Sequence<(Extent, bool)>, All
 fn three_locked(alloc: Global, core: &mut Core, first: u64) -> Result<u32, AllocError>
     requires first { first ≤ 1000 }
     requires good { IsGood core.old }
-    requires few { core.old.counter ≤ 100 }
+    requires few { numbers_of core.old ≤ 100 }
     ensures good { OnOk result (IsGood core.new) }
-    ensures counter { OnOk result (core.new.counter ≤ core.old.counter + 1) }
+    ensures numbers { OnOk result (numbers_of core.new ≤ numbers_of core.old + 2) }
 {
     let ranges = three_from(alloc, first)?;
     let ask = ask_by(alloc, 3, Act::Ranges(ranges));
@@ -177,7 +179,7 @@ fn three_locked(alloc: Global, core: &mut Core, first: u64) -> Result<u32, Alloc
 /// Whether several locks of one request are all held, or none is.
 fn all_or_none(alloc: Global, core: &mut Core) -> Result<bool, AllocError>
     requires good { IsGood core.old }
-    requires none { core.old.counter ≡ 0 }
+    requires none { numbers_of core.old ≡ 0 }
 {
     let refused = three_locked(alloc, core, 5)?;
     let none = core.table().len();
@@ -196,7 +198,7 @@ fn several_ranges_at_once(rt: HostRuntime) {
 /// Whether an NLM caller's lock stops an open's of a common byte, and no other of its ranges.
 fn across_protocols(alloc: Global, core: &mut Core) -> Result<bool, AllocError>
     requires good { IsGood core.old }
-    requires none { core.old.counter ≡ 0 }
+    requires none { numbers_of core.old ≡ 0 }
 {
     let held = lock(alloc, core, 1, 97)?;
     let meets = locked(alloc, core, 3, Extent::Bytes(5, 14), true)?;

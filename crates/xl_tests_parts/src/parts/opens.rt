@@ -3,6 +3,7 @@
 ghost use Rattle.std.specs.Prelude.{◌≡◌, ◌+◌, ◌≤◌, OnOk};
 ghost use Rattle.xl_core.specs.Asking.{IsFit};
 ghost use Rattle.xl_core.specs.Good.{IsGood};
+ghost use Rattle.xl_core.specs.Numbers.{numbers_of};
 
 use super::asks::TIMES;
 use super::turns::{ask_of, leave};
@@ -76,9 +77,9 @@ fn against(
     deny: Rwd,
 ) -> Result<u32, AllocError>
     requires good { IsGood core.old }
-    requires few { core.old.counter ≤ 100 }
+    requires few { numbers_of core.old ≤ 100 }
     ensures good { OnOk result (IsGood core.new) }
-    ensures counter { OnOk result (core.new.counter ≤ core.old.counter + 1) }
+    ensures numbers { OnOk result (numbers_of core.new ≤ numbers_of core.old + 2) }
 {
     let ask = share_by(alloc, number, access, deny);
     let answer = ask_of(alloc, core, &ask)?;
@@ -88,7 +89,7 @@ fn against(
 /// Whether an open's share stands against another's until its own next one takes its place, or it ends.
 fn shares_stand(alloc: Global, core: &mut Core) -> Result<bool, AllocError>
     requires good { IsGood core.old }
-    requires none { core.old.counter ≡ 0 }
+    requires none { numbers_of core.old ≡ 0 }
 {
     let first = against(alloc, core, 1, READ, WRITE)?;
     let second = against(alloc, core, 2, WRITE, NONE)?;

@@ -3,6 +3,7 @@
 ghost use Rattle.std.specs.Prelude.{◌≡◌, ◌+◌, ◌≤◌, ◌∷◌, [], true, IfOk, OnOk};
 ghost use Rattle.xl_core.specs.Asking.{IsFit};
 ghost use Rattle.xl_core.specs.Good.{IsGood};
+ghost use Rattle.xl_core.specs.Numbers.{numbers_of};
 ghost use Rattle.xl_matrix.specs.declared.claim.Extent.TheVariants.{Bytes};
 
 use super::asks::TIMES;
@@ -69,9 +70,9 @@ fn lock_of(alloc: Global, file: u32, caller: u8) -> Result<Ask, AllocError>
 pub(crate) fn ask_of(alloc: Global, core: &mut Core, ask: &Ask) -> Result<Answer, AllocError>
     requires fit { IsFit ask.now }
     requires good { IsGood core.old }
-    requires few { core.old.counter ≤ 100 }
+    requires few { numbers_of core.old ≤ 100 }
     ensures good { OnOk result (IsGood core.new) }
-    ensures counter { OnOk result (core.new.counter ≤ core.old.counter + 1) }
+    ensures numbers { OnOk result (numbers_of core.new ≤ numbers_of core.old + 2) }
 {
     let (answer, _told) = core.ask(alloc, &mut keeper(alloc), ask, &LEFT)?;
     Ok(answer)
@@ -84,9 +85,9 @@ pub(crate) fn lock(
     caller: u8,
 ) -> Result<Answer, AllocError>
     requires good { IsGood core.old }
-    requires few { core.old.counter ≤ 100 }
+    requires few { numbers_of core.old ≤ 100 }
     ensures good { OnOk result (IsGood core.new) }
-    ensures counter { OnOk result (core.new.counter ≤ core.old.counter + 1) }
+    ensures numbers { OnOk result (numbers_of core.new ≤ numbers_of core.old + 2) }
 {
     let ask = lock_of(alloc, file, caller)?;
     let answer = ask_of(alloc, core, &ask)?;
@@ -102,11 +103,11 @@ fn number_in(told: &[Effect]) -> u32 {
 }
 
 /// The number of the one whose turn it is, 0 where it is nobody's.
-fn served(alloc: Global, core: &mut Core) -> Result<u32, AllocError>
+pub(crate) fn served(alloc: Global, core: &mut Core) -> Result<u32, AllocError>
     requires good { IsGood core.old }
-    requires few { core.old.counter ≤ 100 }
+    requires few { numbers_of core.old ≤ 100 }
     ensures good { OnOk result (IsGood core.new) }
-    ensures counter { OnOk result (core.new.counter ≡ core.old.counter) }
+    ensures numbers { OnOk result (numbers_of core.new ≤ numbers_of core.old) }
 {
     let turn = core.settle(alloc, &mut keeper(alloc), &LEFT)?;
     Ok(match turn {
@@ -118,7 +119,7 @@ fn served(alloc: Global, core: &mut Core) -> Result<u32, AllocError>
 pub(crate) fn leave(alloc: Global, core: &mut Core, party: Party) -> Result<(), AllocError>
     requires good { IsGood core.old }
     ensures good { OnOk result (IsGood core.new) }
-    ensures counter { OnOk result (core.new.counter ≡ core.old.counter) }
+    ensures numbers { OnOk result (numbers_of core.new ≤ numbers_of core.old) }
 {
     let _ = core.end_party(alloc, party)?;
     Ok(())
@@ -127,7 +128,7 @@ pub(crate) fn leave(alloc: Global, core: &mut Core, party: Party) -> Result<(), 
 /// Whether these are served, one after another, each 0 where it is nobody's turn.
 fn are_served(alloc: Global, core: &mut Core, first: u32, second: u32) -> Result<bool, AllocError>
     requires good { IsGood core.old }
-    requires few { core.old.counter ≤ 100 }
+    requires few { numbers_of core.old ≤ 100 }
 {
     let one = served(alloc, core)?;
     let two = served(alloc, core)?;
@@ -138,9 +139,9 @@ fn are_served(alloc: Global, core: &mut Core, first: u32, second: u32) -> Result
 /// The caller of this letter locks both files.
 fn lock_both(alloc: Global, core: &mut Core, caller: u8) -> Result<Party, AllocError>
     requires good { IsGood core.old }
-    requires few { core.old.counter ≤ 90 }
+    requires few { numbers_of core.old ≤ 90 }
     ensures good { OnOk result (IsGood core.new) }
-    ensures counter { OnOk result (core.new.counter ≤ core.old.counter + 2) }
+    ensures numbers { OnOk result (numbers_of core.new ≤ numbers_of core.old + 4) }
 {
     let held = lock(alloc, core, 1, caller)?;
     let _ = lock(alloc, core, 2, caller)?;
@@ -153,7 +154,7 @@ fn lock_both(alloc: Global, core: &mut Core, caller: u8) -> Result<Party, AllocE
 /// Whether who waits on two files has a turn on each once the one who holds both leaves.
 fn turns_on_two_files(alloc: Global, core: &mut Core) -> Result<bool, AllocError>
     requires good { IsGood core.old }
-    requires none { core.old.counter ≡ 0 }
+    requires none { numbers_of core.old ≡ 0 }
 {
     let holder = lock_both(alloc, core, 97)?;
     let _ = lock_both(alloc, core, 98)?;

@@ -272,8 +272,8 @@ B 0 : smb create ask .2 s1 made .3 .0 .7 .1 .0 78000a00 none 61002e0074007800740
 B 0 : smb create ask .2 s1 made .3 .0 .7 .1 .0 78000000 none
 # capitals are the small ones; OPEN_IF
 B 0 : smb create ask .2 s1 made .3 .0 .7 .3 .0 78000a00 none 41002e00740058005400
-# batch and a lease are asked for, and not given
-B 0 : smb create ask .2 s1 390000090200000000000000000000000000000000000000 .3 .0 .7 .1 .0 named-a
+# batch beside another open is level II; a lease is asked for, and not given
+B 0 : smb create ask .2 s1 made-batch .3 .0 .7 .1 .0 named-a
 B 0 : smb create ask .2 s1 390000ff0200000000000000000000000000000000000000 .3 .0 .7 .1 .0 named-a
 =>
 0 0 17
@@ -291,11 +291,12 @@ B 0 : smb create ask .2 s1 390000ff0200000000000000000000000000000000000000 .3 .
 12 c0 : answer NAME_NOT_FOUND create did .2 s1 error
 13 c0 : answer NAME_NOT_FOUND create did .2 s1 error
 14 c0 : answer OK create did .2 s1 created id3 none
-15 c0 : answer OK create did .2 s1 created id4 none
+15 c0 : answer OK create did .2 s1 created-two id4 none
 16 c0 : answer OK create did .2 s1 created id5 none
 1 share smb:3 rw -
 1 share smb:4 rw -
 1 share smb:5 rw -
+1 cache smb:4 R
 --
 # What each access is (MS-SMB2 2.2.13.1.1): READ_DATA, EXECUTE, WRITE_DATA, APPEND_DATA, DELETE, GENERIC_READ, GENERIC_EXECUTE,
 # GENERIC_WRITE, GENERIC_ALL, MAXIMUM_ALLOWED, READ_ATTRIBUTES, and three at once.

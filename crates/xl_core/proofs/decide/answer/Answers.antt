@@ -1,5 +1,6 @@
-use Rattle.xl_core.proofs.DoorLaws.{known_alone}
+use Rattle.xl_core.specs.Whole.{state_of}
+use Rattle.xl_core.proofs.WayCode.{way_leaves_good}
 use Rattle.xl_core.proofs.decide.answer.Goals as goal
 
-pub unlock-requires-clause-party : goal.unlock-requires-clause-party
-unlock-requires-clause-party c = known_alone c.args.parts.now c.args.request.now c.in-Unlock.extent c.known_claim-claim-in-Unlock.result c.known_claim-claim-in-Unlock.ensures c.requires.good c.requires.fit.party
+pub decided-requires-clause-good : goal.decided-requires-clause-good
+decided-requires-clause-good c = way_leaves_good c.args.left.now (state_of c.args.parts.now) (state_of c.make_way_for.new.parts) c.args.request.now c.in_ok-told.told c.requires.good c.in_ok-told.ensures.way

@@ -1,5 +1,5 @@
-use Rattle.xl_core.proofs.TestLaws.{grant_leaves}
+use Rattle.xl_core.proofs.WayAsks.{grant_frame}
 use Rattle.xl_core.proofs.law.a_grant_leaves_the_clock.Goals as goal
 
 pub returns : goal.returns
-returns c = λ n left s a claim good fit at. grant_leaves n left s a claim good fit.party at
+returns c = λ n left s a claim good fit at. grant_frame n left s a claim good fit.party at

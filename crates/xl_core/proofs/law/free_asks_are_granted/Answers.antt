@@ -1,9 +1,9 @@
-use Rattle.xl_core.proofs.CauseLaws.{lock_free, real_extent, real_unlock}
-use Rattle.xl_core.proofs.ChangeLaws.{ask_held, ask_shares, ask_shared, ask_left}
+use Rattle.xl_core.proofs.CauseLaws.{real_extent, real_unlock}
+use Rattle.xl_core.proofs.WayAsks.{ask_free, ask_held, ask_shares, ask_shared, ask_left}
 use Rattle.xl_core.proofs.law.free_asks_are_granted.Goals as goal
 
 pub returns-clause-granted : goal.returns-clause-granted
-returns-clause-granted c = lock_free
+returns-clause-granted c = ask_free
 
 pub returns-clause-held : goal.returns-clause-held
 returns-clause-held c = λ n left s a first last exclusive claim good fit named act at. ask_held n left s a first last exclusive claim good fit.party named (real_extent a first last exclusive fit act) act at

@@ -1,4 +1,4 @@
-use Rattle.xl_core.proofs.ChangeLaws.{ask_waits}
+use Rattle.xl_core.proofs.WayAsks.{ask_waits}
 use Rattle.xl_core.proofs.SettleLaws.{settle_rests, settled_is, turn_is, turn_fewer}
 use Rattle.xl_core.proofs.law.nobody_is_forgotten.Goals as goal
 

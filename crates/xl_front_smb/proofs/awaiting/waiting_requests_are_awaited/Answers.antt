@@ -1,4 +1,5 @@
 use Rattle.xl_front_smb.proofs.AwaitLaws.{all_wait, start_awaited, step_awaited, shown_awaited, end_awaited}
+use Rattle.xl_front_smb.proofs.RoomLaws.{queued_kept}
 use Rattle.xl_front_smb.proofs.awaiting.waiting_requests_are_awaited.Goals as goal
 
 pub returns-clause-waits : goal.returns-clause-waits
@@ -15,3 +16,6 @@ returns-clause-shown c = shown_awaited
 
 pub returns-clause-ends : goal.returns-clause-ends
 returns-clause-ends c = end_awaited
+
+pub returns-clause-kept : goal.returns-clause-kept
+returns-clause-kept c = queued_kept

@@ -1,7 +1,7 @@
 use Rattle.std.proofs.Common.{arith, ◌∙◌}
 use Rattle.xl_house.specs.Machine.{connected}
 use Rattle.xl_house.specs.Whole.{whole_of}
-use Rattle.xl_house.proofs.HearLaws.{settle_ready, act_counter}
+use Rattle.xl_house.proofs.HearLaws.{settle_ready, act_numbers}
 use Rattle.xl_house.proofs.MachineLaws.{acted_step}
 use Rattle.xl_house.proofs.machine.act.Goals as goal
 
@@ -20,7 +20,7 @@ returns-clause-step g c =
     (c.in_ok-connect.ensures ∙ (λ i. connected (c.hear_event.ensures.connections i) (c.hear_event.ensures.place i) c.args.event.now)) c.begin_step.ensures.state)
 
 pub returns-clause-short : goal.returns-clause-short
-returns-clause-short g c = (act_counter _ _ _ _ c.in_ok-outs.ensures.leaves c.in_ok-settle.ensures.leaves c.begin_step.ensures.state).1
+returns-clause-short g c = (act_numbers _ _ _ _ c.in_ok-outs.ensures.leaves c.in_ok-settle.ensures.leaves c.begin_step.ensures.state).1
 
-pub returns-clause-counter : goal.returns-clause-counter
-returns-clause-counter g c = (act_counter _ _ _ _ c.in_ok-outs.ensures.leaves c.in_ok-settle.ensures.leaves c.begin_step.ensures.state).0
+pub returns-clause-numbers : goal.returns-clause-numbers
+returns-clause-numbers g c = (act_numbers _ _ _ _ c.in_ok-outs.ensures.leaves c.in_ok-settle.ensures.leaves c.begin_step.ensures.state).0

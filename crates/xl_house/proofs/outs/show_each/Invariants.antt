@@ -1,9 +1,10 @@
 use Rattle.std.proofs.Common.{◌≡◌, ◌+◌, ◌≤◌, drop}
 use Rattle.xl_core.specs.Good.{IsGood}
+use Rattle.xl_core.specs.Numbers.{numbers_of}
 use Rattle.xl_front_nlm.specs.Short.{AreShort}
 use Rattle.xl_house.specs.Machine.{grants, behind, all_shown}
 use Rattle.xl_house.proofs.outs.show_each.Given as goal
 
 abbrev pub invariant-loop-effect : goal.invariant-loop-effect
 invariant-loop-effect l = (behind l.outs (all_shown l.exports l.parts.front l.parts.core (drop l.effect-index l.effects)) ≡ behind l.fn.outs (all_shown l.exports l.fn.parts.front l.fn.parts.core l.effects))
-    × (IsGood l.parts.core × (AreShort l.parts.core.names × (l.parts.core.counter + grants (drop l.effect-index l.effects) ≤ l.fn.parts.core.counter + grants l.effects)))
+    × (IsGood l.parts.core × (AreShort l.parts.core.names × (numbers_of l.parts.core + grants (drop l.effect-index l.effects) ≤ numbers_of l.fn.parts.core + grants l.effects)))

@@ -1,5 +1,6 @@
-use Rattle.std.proofs.Common.{◌≡◌, length}
+use Rattle.std.proofs.Common.{◌≡◌}
 use Rattle.xl_core.specs.Good.{IsGood}
+use Rattle.xl_core.specs.Settle.{turns_left}
 use Rattle.xl_house.proofs.SettleLaws.{IsSettling}
 use Rattle.xl_house.proofs.settling.settle.Given as goal
 
@@ -7,4 +8,4 @@ abbrev pub invariant-turns : goal.invariant-turns
 invariant-turns g l = IsSettling l.exports l.fn.parts.front l.fn.parts.core l.fn.outs l.parts.front l.parts.core l.outs × (IsGood l.parts.core × (l.keeper ≡ l.fn.keeper))
 
 abbrev pub decreases-turns : goal.decreases-turns
-decreases-turns g l = length l.parts.core.waiters
+decreases-turns g l = turns_left l.parts.core

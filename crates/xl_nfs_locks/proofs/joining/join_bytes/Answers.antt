@@ -14,9 +14,9 @@ returns-clause-done g c = λ n may.
     let t = c.asked.new.core in
     let l = c.args.state.now in
     let a = c.args.args.now in
-    let before = may_before n _ t c.join_answered.new.core c.in_ok-told.ensures.leaves may in
+    let before = may_before n 2 t c.join_answered.new.core c.in_ok-told.ensures.leaves may in
     rw c.requires.room (asking_done n s t c.join_answered.new.core l c.join_answered.new.state c.args.current c.in_ok-told.handle all_rooms (lock_ask c.args.locker.now c.args.above.now.file a.kind a.reclaim a.offset c.args.last) (join_answered l c.args.current c.args.both c.args.locker.now c.args.above.now c.args.had a.reclaim) c.in_ok-said.said c.in_ok-told.told c.in_ok-said.effects
     (ap (λ (q : Ask). ask n all_rooms s q) (sym c.in_ok-request.ensures.value) ∙ c.in_ok-said.ensures.state n before) (c.in_ok-told.ensures.done n))
 
 pub returns-clause-leaves : goal.returns-clause-leaves
-returns-clause-leaves g c = asked_leaves c.args.core.now c.asked.new.core c.join_answered.new.core c.in_ok-said.said c.in_ok-said.ensures.leaves c.in_ok-told.ensures.leaves
+returns-clause-leaves g c = asked_leaves c.args.core.now c.asked.new.core c.join_answered.new.core c.in_ok-said.ensures.leaves c.in_ok-told.ensures.leaves

@@ -14,4 +14,4 @@ returns-clause-told g c = λ n. rw c.in-Some.is (unlock_told n c.args.core.now c
 pub returns-clause-leaves : goal.returns-clause-leaves
 returns-clause-leaves g c =
     let t = c.asked.new.core in
-    unlock_leaves t.made c.args.core.now t c.in-Some.opener c.args.file 0 all_ones c.in_ok-request.request _ _ c.in_ok-request.ensures.value (c.in_ok-_said.ensures.state t.made (may_be_made t)) c.in_ok-_said.ensures.leaves
+    unlock_leaves t.made c.args.core.now t c.in-Some.opener c.args.file 0 all_ones 2 c.in_ok-request.request _ _ c.in_ok-request.ensures.value (c.in_ok-_said.ensures.state t.made (may_be_made t)) c.in_ok-_said.ensures.leaves

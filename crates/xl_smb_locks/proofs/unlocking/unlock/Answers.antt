@@ -1,4 +1,4 @@
-use Rattle.std.proofs.Common.{◌≡◌, refl, sym, ◌∙◌}
+use Rattle.std.proofs.Common.{refl, sym, ◌∙◌}
 use Rattle.xl_smb_locks.proofs.LeaveLaws.{leaves_on}
 use Rattle.xl_smb_locks.proofs.UnlockLaws.{one_more, missed_at}
 use Rattle.xl_smb_locks.proofs.unlocking.unlock.Goals as goal

@@ -1,6 +1,5 @@
 use Rattle.xl_core.proofs.FrameLaws.{may_be_made}
-use Rattle.xl_smb_locks.proofs.AskLaws.{ask_idles}
-use Rattle.xl_smb_locks.proofs.UnlockLaws.{unlock_waits, unlock_said}
+use Rattle.xl_smb_locks.proofs.UnlockLaws.{unlock_said, unlock_leaves}
 use Rattle.xl_smb_locks.proofs.unlocking.unlock_one.Goals as goal
 
 pub returns-clause-state : goal.returns-clause-state
@@ -9,4 +8,4 @@ returns-clause-state g c =
 
 pub returns-clause-leaves : goal.returns-clause-leaves
 returns-clause-leaves g c =
-    ask_idles c.ask.new.self.made _ _ _ _ _ _ (c.in_ok-answer.ensures.state c.ask.new.self.made (may_be_made c.ask.new.self)) c.requires.ready.good c.unlock_ask-request.ensures.open (unlock_waits _ _ _ _ c.unlock_ask-request.ensures.value) c.in_ok-answer.ensures.good
+    unlock_leaves c.ask.new.self.made _ _ _ _ _ _ _ _ c.unlock_ask-request.ensures.value (c.in_ok-answer.ensures.state c.ask.new.self.made (may_be_made c.ask.new.self)) c.requires.ready.good c.unlock_ask-request.ensures.open c.in_ok-answer.ensures.good

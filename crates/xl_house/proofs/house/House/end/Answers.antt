@@ -1,7 +1,7 @@
 use Rattle.std.proofs.Common.{◌≡◌, sym, ap, ◌∙◌}
 use Rattle.xl_house.specs.Housed.{Housed, is_spoiled}
 use Rattle.xl_house.proofs.JournalLaws.{holds_stands}
-use Rattle.xl_house.proofs.LawfulLaws.{always_lawful, always_waiting, always_complete, always_caused, always_told}
+use Rattle.xl_house.proofs.LawfulLaws.{always_lawful, always_waiting, always_kept, always_complete, always_caused, always_told}
 use Rattle.xl_house.proofs.MachineLaws.{begun_free}
 use Rattle.xl_house.proofs.OrderLaws.{legal_orderly}
 use Rattle.xl_house.proofs.house.House.end.Goals as goal
@@ -14,6 +14,9 @@ returns-clause-lawful g c = always_lawful _ _
 
 pub returns-clause-waiting : goal.returns-clause-waiting
 returns-clause-waiting g c = always_waiting _ _
+
+pub returns-clause-kept_until_answered : goal.returns-clause-kept_until_answered
+returns-clause-kept_until_answered g c = always_kept _ _
 
 pub returns-clause-complete : goal.returns-clause-complete
 returns-clause-complete g c = always_complete _ _

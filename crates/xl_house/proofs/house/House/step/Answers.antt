@@ -7,7 +7,7 @@ pub invariant_of-self : goal.invariant_of-self
 invariant_of-self g c =
     let stands = c.self.invariant.stands (ap is_spoiled c.in-None.is) in
     record {
-      stands = λ _. rw c.in-Ok.ensures.entered (stands_next _ _ _ _ _ stands c.in-Ok.ensures.next c.in-Ok.ensures.counter c.in-Ok.ensures.short);
+      stands = λ _. rw c.in-Ok.ensures.entered (stands_next _ _ _ _ _ stands c.in-Ok.ensures.next c.in-Ok.ensures.numbers c.in-Ok.ensures.short);
       holds = λ _. rw (c.act_and_enter.ensures.keeper) (holds_next _ _ _ c.args.event stands.free (c.self.invariant.holds (ap is_spoiled c.in-None.is)) c.requires.goes_on c.in-Ok.ensures.next);
       few = c.in-Ok.ensures.few;
       legal = rw c.in-Ok.ensures.entered (legal_next _ _ _ _ stands c.requires.goes_on c.self.invariant.legal);

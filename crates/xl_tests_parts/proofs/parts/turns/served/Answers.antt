@@ -3,6 +3,6 @@ use Rattle.xl_core.specs.declared.ask.Effect.{Effect}
 use Rattle.xl_tests_parts.proofs.CountLaws.{settle_counts}
 use Rattle.xl_tests_parts.proofs.parts.turns.served.Goals as goal
 
-pub returns-in-Some-clause-counter : goal.returns-in-Some-clause-counter
-returns-in-Some-clause-counter c =
+pub returns-in-Some-clause-numbers : goal.returns-in-Some-clause-numbers
+returns-in-Some-clause-numbers c =
     settle_counts _ c.args.core.now c.settle.new.self c.in_ok-turn.turn c.in_ok-turn.ensures.state (λ e. c.in_ok-turn.ensures.none (ap (λ (t : Option (List Effect)). Ok t) e)) c.requires.good

@@ -1,0 +1,84 @@
+-- How the way is made: where no cache stands on the file none is.
+use Rattle.std.proofs.Common.{◌≡◌, ℕ, ◌+◌, ◌≤◌, Bool, true, false, ◌&&◌, ◌==◌, List, [], ◌∷◌, map, Some, refl, sym, ap, subst, ◌∙◌, arith}
+use Rattle.std.specs.List.{AllByRecursion, list_any}
+use Rattle.xl_cache.specs.Planning.{is_final, planned}
+use Rattle.xl_table.specs.Flat.{blocks, is_blocked}
+use Rattle.xl_core.specs.Blockers.{is_stopped}
+use Rattle.xl_core.proofs.BreakingLaws.{all_final}
+use Rattle.xl_core.proofs.WatchLaws.{is_filled, any_of, asked_there}
+use Rattle.xl_matrix.specs.declared.claim.Claim.{Claim}
+use Rattle.xl_table.specs.Held.{is_cache}
+use Rattle.xl_core.specs.Begin.{recalls, breaks_begun}
+use Rattle.xl_core.specs.Good.{IsGood}
+use Rattle.xl_core.specs.State.{CoreState}
+use Rattle.xl_core.specs.Ways.{made_way}
+use Rattle.xl_core.specs.declared.ask.Effect.{Effect}
+use Rattle.xl_core.specs.declared.judge.Plea.{Plea}
+use Rattle.xl_core.proofs.BegunLaws.{none_begun_there, recalls_few}
+use Rattle.xl_names.specs.declared.name.Name.{Name}
+use Rattle.xl_base.proofs.Members.{all_weaker}
+use Rattle.xl_table.specs.Held.{has_one_party}
+use Rattle.xl_core.specs.Good.{IsKnown}
+use Rattle.xl_core.specs.Settle.{first_called}
+use Rattle.xl_core.specs.Whole.{state_of}
+use Rattle.xl_core.specs.declared.parts.Parts.{Parts}
+use Rattle.xl_core.specs.declared.settling.Called.{Called}
+use Rattle.xl_matrix.specs.declared.claim.Extent.{Extent}
+use Rattle.xl_wait.specs.declared.waiter.Rooms.{Rooms}
+use Rattle.xl_core.specs.Asking.{range_what, asked_whats, asked_claims}
+use Rattle.xl_core.specs.Decide.{plea_of, way}
+use Rattle.xl_core.specs.declared.ask.Ask.{Ask}
+use Rattle.xl_core.proofs.GoodLaws.{known_one_party, ranges_no_cache, asked_way_good}
+use Rattle.xl_core.proofs.TurnLaws.{called_known}
+use Rattle.xl_core.proofs.WayLaws.{NoWay, Begins, way_is, way_good, way_names, known_no_cache}
+
+pub no_way : (p : Plea) (c : Claim) (cs : List Claim) (s : CoreState) → list_any (λ d. (d.file == c.file) && is_cache d.what) s.claims ≡ false → made_way p (c ∷ cs) s ≡ ([], s)
+no_way p c cs s none =
+    elim (way_is p (c ∷ cs) s) [
+      | NoWay e ↦ e
+      | Begins d ds is does e ↦ let two : c ∷ cs ≡ d ∷ ds = is in let same : c ≡ d = cc in e ∙ none_begun_there s d (subst (λ (x : Claim). list_any (λ y. (y.file == x.file) && is_cache y.what) s.claims ≡ false) same none)
+    ]
+
+begun_counter : (c : Claim) (s : CoreState) → (breaks_begun c s).1.counter ≡ s.counter + recalls (planned c s.claims).breaks
+unfolding breaks_begun
+begun_counter c s = refl
+
+pub no_way_first : (p : Plea) (cs : List Claim) (c : Claim) (rest : List Claim) (s : CoreState) (told : List Effect) → cs ≡ c ∷ rest → list_any (λ d. (d.file == c.file) && is_cache d.what) s.claims ≡ false → told ≡ [] → made_way p cs s ≡ (told, s)
+no_way_first p cs c rest s told is none quiet = ap (λ (ds : List Claim). made_way p ds s) is ∙ no_way p c rest s none ∙ (λ i. (sym quiet i, s))
+
+pub begun_few : (c : Claim) (s t : CoreState) (told : List Effect) → IsGood s → breaks_begun c s ≡ (told, t) → t.counter ≤ s.counter + 16384
+begun_few c s t told good e = omega (arith, ap (λ (w : List Effect × CoreState). w.1.counter) e, begun_counter c s, recalls_few s c good)
+
+-- who is called asks for no cache
+pub called_no_cache : (p : Parts) (called : Called) → IsGood (state_of p) → first_called (state_of p) p.queue ≡ Some called → AllByRecursion (λ c. is_cache c.what ≡ false) called.asked
+called_no_cache p called good e = known_no_cache p.names called.asked (called_known (state_of p) p.queue called good.waiters e).0
+
+-- once its way is made its claims still have one party
+pub called_alone_then : (p q : Parts) (called : Called) (told : List Effect) → IsGood (state_of p) → first_called (state_of p) p.queue ≡ Some called → made_way called.plea called.asked (state_of p) ≡ (told, state_of q)
+    → AllByRecursion (λ c. AllByRecursion (λ d. has_one_party c d ≡ true) q.table) called.asked
+called_alone_then p q called told good e made =
+    let known = (called_known (state_of p) p.queue called good.waiters e).0 in
+    let sound : IsGood (state_of q) = subst (λ (w : List Effect × CoreState). IsGood w.1) made (way_good called.plea called.asked (state_of p) good (known_no_cache p.names called.asked known)) in
+    let names : q.names ≡ p.names = sym (ap (λ (w : List Effect × CoreState). w.1.names) made) ∙ way_names called.plea called.asked (state_of p) in
+    all_weaker (IsKnown q.names) (λ c. AllByRecursion (λ d. has_one_party c d ≡ true) q.table) called.asked (λ c kept. known_one_party (state_of q) c sound kept)
+    (subst (λ (ns : List Name). AllByRecursion (IsKnown ns) called.asked) (sym names) known)
+
+-- without a cache on the file all that blocks a claim does so for good
+pub stopped_uncached : (c : Claim) (held : List Claim) → list_any (λ d. (d.file == c.file) && is_cache d.what) held ≡ false → is_stopped held c ≡ is_blocked held c
+stopped_uncached c held none = any_of (is_final c held) held ∙ ap is_filled (all_final c held none) ∙ sym (any_of (blocks c) held)
+
+-- nor is a way made for an ask on a file without caches
+pub no_way_for : (left : Rooms) (s : CoreState) (a : Ask) (told : List Effect) → list_any (λ d. (d.file == a.file) && is_cache d.what) s.claims ≡ false → told ≡ [] → way left s a ≡ (told, s)
+no_way_for left s a told none quiet =
+    elim (way_is (plea_of left s a) (asked_claims a (asked_whats a.act) s.names) s) [
+      | NoWay e ↦ e
+      | Begins c cs is does e ↦
+          let here : c.file ≡ a.file = (subst (λ (ds : List Claim). AllByRecursion (λ d. d.file ≡ a.file) ds) is (asked_there a (asked_whats a.act) s.names)).0 in
+          e ∙ none_begun_there s c (subst (λ (f : ℕ). list_any (λ y. (y.file == f) && is_cache y.what) s.claims ≡ false) (sym here) none)
+    ] ∙ (λ i. (sym quiet i, s))
+
+pub locks_asked : (a : Ask) (names : List Name) (ranges : List (Extent × Bool)) (claims : List Claim) → claims ≡ asked_claims a (map range_what ranges) names → AllByRecursion (λ c. is_cache c.what ≡ false) claims
+locks_asked a names ranges claims is = subst (λ (cs : List Claim). AllByRecursion (λ c. is_cache c.what ≡ false) cs) (sym is) (ranges_no_cache a names ranges)
+
+pub way_leaves_good : (left : Rooms) (s t : CoreState) (a : Ask) (told : List Effect) → IsGood s → way left s a ≡ (told, t) → IsGood t
+way_leaves_good left s t a told good e = subst (λ (w : List Effect × CoreState). IsGood w.1) e (asked_way_good left s a good)

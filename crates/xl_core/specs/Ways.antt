@@ -1,0 +1,20 @@
+-- The way that is made for an ask before it is judged: the breaks that it begins.
+use Rattle.std.specs.Prelude.{Bool, not, ◌&&◌, if◌then◌else◌, List, [], ◌∷◌, is_some}
+use Rattle.xl_cache.specs.Planning.{recalled_by, planned}
+use Rattle.xl_matrix.specs.declared.claim.Claim.{Claim}
+use Rattle.xl_core.specs.State.{CoreState}
+use Rattle.xl_core.specs.Begin.{breaks_begun}
+use Rattle.xl_core.specs.Blockers.{is_stopped}
+use Rattle.xl_core.specs.declared.ask.Effect.{Effect}
+use Rattle.xl_core.specs.declared.judge.Plea.{Plea}
+
+-- one that pleads so for this claim begins breaks: it doesn't come too late, nothing blocks the claim for good, and it doesn't
+-- wait for an answer where that would pass a limit
+abbrev pub begins : Plea → Claim → List Claim → Bool
+begins p c held = not p.reclaim && (not (is_stopped held c) && not (p.awaits && (is_some p.crowded && is_some (recalled_by (planned c held)))))
+
+-- what is told, and the state then, once the breaks begin that a plea for these claims begins: those of the first, as the ranges
+-- of one open meet the same caches (MS-SMB2 3.3.4.6, 3.3.4.7; RFC 7530 10.4.4)
+unfoldable pub made_way : Plea → List Claim → CoreState → List Effect × CoreState
+made_way p [] s = ([], s)
+made_way p (c ∷ cs) s = if begins p c s.claims then breaks_begun c s else ([], s)

@@ -1,0 +1,120 @@
+-- Acknowledgements: what they leave, and that the core takes them.
+use Rattle.std.proofs.Common.{◌≡◌, ℕ, Bool, true, false, not, ◌&&◌, ◌||◌, List, [], ◌∷◌, Option, Some, None, if◌then◌else◌, refl, sym, ap, subst, ◌∙◌, inl, inr, arith, append-nil}
+use Rattle.std.specs.Prelude.{◌==◌, nat_lt}
+use Rattle.std.proofs.lemmas.Bool.{cases_Bool, true≢false, false≢true, and_parts, eqb-true}
+use Rattle.std.proofs.lemmas.Bool.Decides.{nat_tests}
+use Rattle.xl_base.specs.Lists.{IsIn}
+use Rattle.xl_base.specs.declared.name.Party.{Party}
+use Rattle.xl_base.specs.declared.name.Party.TheVariants as parties
+use Rattle.xl_cache.specs.Targets.{rest_lies_within}
+use Rattle.xl_matrix.specs.Equal.{same_parties}
+use Rattle.xl_matrix.specs.declared.claim.Break.{Break}
+use Rattle.xl_matrix.specs.declared.claim.CacheKind.{CacheKind}
+use Rattle.xl_matrix.specs.declared.claim.CacheKind.TheVariants.{R}
+use Rattle.xl_matrix.specs.declared.claim.Claim.{Claim}
+use Rattle.xl_matrix.specs.declared.claim.What.{What}
+use Rattle.xl_matrix.specs.declared.claim.What.TheVariants as whats
+use Rattle.xl_smb_state.proofs.RowLaws.{none_some, same_Some}
+use Rattle.xl_smb_state.specs.State.{Lists, open_of}
+use Rattle.xl_core.specs.Breaks.{may_be_left, ack}
+use Rattle.xl_core.specs.Deeds.{Acks}
+use Rattle.xl_core.specs.Good.{IsGood}
+use Rattle.xl_core.specs.Places.{is_cache_on}
+use Rattle.xl_core.specs.State.{CoreState}
+use Rattle.xl_core.specs.declared.ask.Effect.{Effect}
+use Rattle.xl_core.proofs.FrameLaws.{ack_frame}
+use Rattle.xl_core.proofs.NumberLaws.{ack_numbers}
+use Rattle.xl_smb_locks.proofs.LeaveLaws.{frame_leaves}
+use Rattle.xl_smb_locks.specs.Levels.{oplock_of, id_of}
+use Rattle.xl_smb_locks.specs.Short.{Leaves}
+use Rattle.xl_front_smb.specs.Files.{is_read, leaves_less, is_refused, left_at, ack_by, ack_of, ack_open, refused_ack, taken_ack}
+use Rattle.xl_front_smb.specs.Plans.{Does, carried, Outcome}
+use Rattle.xl_front_smb.specs.declared.told.Told.{Told}
+use Rattle.xl_cache.specs.Levels.{level_of}
+use Rattle.xl_front_smb.specs.declared.told.Told.TheVariants.{Acknowledged}
+use Rattle.xl_smb_state.specs.declared.row.Open.{Open}
+
+-- ---- what may be left
+
+-- nothing may be left of a cache whose break runs
+pub may_be_none : (what : What) (kind : CacheKind) (running : Break) → what ≡ whats.Cache kind (Some running) → may_be_left what None ≡ true
+may_be_none what kind running is = ap (λ (w : What). may_be_left w None) is
+
+two_parts : (x y z : Bool) → (x || (true && (y || z))) ≡ false → z ≡ false
+two_parts true y z h = absurd (true≢false h)
+two_parts false true z h = absurd (true≢false h)
+two_parts false false z h = h
+
+not_false : (b : Bool) → not b ≡ false → b ≡ true
+not_false true h = refl
+not_false false h = absurd (true≢false h)
+
+pub above : (level : ℕ) (b : Bool) → (level == 0) ≡ false → nat_lt 1 level || b ≡ false → (level == 1) ≡ true
+above level true some h = absurd (either_true (nat_lt 1 level) h)
+  where
+    either_true : (a : Bool) → a || true ≡ false → ⊥
+    either_true true e = true≢false e
+    either_true false e = true≢false e
+above level false some h = one level some h
+  where
+    one : (level : ℕ) → (level == 0) ≡ false → nat_lt 1 level || false ≡ false → (level == 1) ≡ true
+    one level some h = grind (arith, nat_tests)
+
+-- a level that isn't refused is left within what the break leaves
+pub left_within : (level : ℕ) (kind : CacheKind) (running : Break) → is_refused level kind (Some running) ≡ false → rest_lies_within (left_at level) running.target ≡ true
+left_within level kind running h =
+    elim (cases_Bool (level == 0)) [
+      | inl none ↦ rw none refl
+      | inr some ↦ (
+          let one : (level == 1) ≡ true = above level ((level == 1) && (is_read kind || leaves_less (Some running))) some h in
+          rw some (not_false (rest_lies_within (Some R) running.target) (two_parts (nat_lt 1 level) (is_read kind) (leaves_less (Some running)) (rw one at h))))
+    ]
+
+-- ---- the oplock that is found
+
+same_party_is : (p : Party) (number : ℕ) → same_parties p (parties.Open number) ≡ true → p ≡ parties.Open number
+same_party_is (parties.Open k) number h = ap (λ (j : ℕ). parties.Open j) (eqb-true k number h)
+same_party_is (parties.Name protocol k) number h = absurd (false≢true h)
+
+pub oplock_is : (file number : ℕ) (cs : List Claim) (cache : Claim) → oplock_of file number cs ≡ Some cache → IsIn cache cs × (cache.party ≡ parties.Open number)
+oplock_is file number [] cache at = absurd (none_some at)
+oplock_is file number (c ∷ cs) cache at =
+    elim (cases_Bool (is_cache_on file (parties.Open number) c)) [
+      | inl here ↦ (
+          let is : c ≡ cache = same_Some (rw here at at) in
+          let its : same_parties c.party (parties.Open number) ≡ true = (and_parts (c.file == file) _ (and_parts _ _ here).1).1 in
+          (inl is, ap (λ (x : Claim). x.party) (sym is) ∙ same_party_is c.party number its))
+      | inr other ↦ (let rest = oplock_is file number cs cache (rw other at at) in (inr rest.0, rest.1))
+    ]
+
+-- ---- what an acknowledgement does
+
+pub acks : (n : ℕ) (s new : CoreState) (l : Lists) (cache : Claim) (to : Option CacheKind) (told : Told) (effects : List Effect) → ack s cache to ≡ (effects, new) → carried n s l (Does (Acks cache to ∷ []) l told) ≡ (told, effects, l, new)
+acks n s new l cache to told effects is =
+    let r = ack s cache to in
+    (λ i. (told, append-nil r.0 i, l, r.1)) ∙ ap (λ (x : List Effect × CoreState). (told, x.0, l, x.1)) is
+
+pub ack_leaves : (s new : CoreState) (cache : Claim) (to : Option CacheKind) (effects : List Effect) → ack s cache to ≡ (effects, new) → IsIn cache s.claims → may_be_left cache.what to ≡ true → IsGood new → Leaves 0 s new
+ack_leaves s new cache to effects is held may kept =
+    let same = ap (λ (r : List Effect × CoreState). r.1) is in
+    subst (λ (t : CoreState). Leaves 0 s t) same (frame_leaves s (ack s cache to).1 (ack s cache to).0 0 0 (subst (λ (t : CoreState). IsGood t) (sym same) kept) (ack_frame s cache to) (omega (arith, ack_numbers s cache to held may)))
+
+-- ---- what it comes to, by what the open has
+
+pub ran_refused : (n : ℕ) (s : CoreState) (l : Lists) (id level : ℕ) (cache : Claim) (kind : CacheKind) (running : Break) (x : Outcome) → is_refused level kind (Some running) ≡ true → carried n s l (refused_ack l cache (Some running)) ≡ x → carried n s l (ack_by l id level cache (whats.Cache kind (Some running))) ≡ x
+ran_refused n s l id level cache kind running x refused done = ap (λ (b : Bool). carried n s l (if b then refused_ack l cache (Some running) else taken_ack l id level cache (Some running))) refused ∙ done
+
+pub ran_taken : (n : ℕ) (s : CoreState) (l : Lists) (id level : ℕ) (cache : Claim) (kind : CacheKind) (running : Break) (left : Option CacheKind) (held : ℕ) (x : Outcome) → is_refused level kind (Some running) ≡ false → left ≡ left_at level → held ≡ level_of left → carried n s l (Does (Acks cache left ∷ []) l (Acknowledged id held)) ≡ x
+    → carried n s l (ack_by l id level cache (whats.Cache kind (Some running))) ≡ x
+ran_taken n s l id level cache kind running left held x refused to at done =
+    ap (λ (b : Bool). carried n s l (if b then refused_ack l cache (Some running) else taken_ack l id level cache (Some running))) refused
+    ∙ ap (λ (k : Option CacheKind). carried n s l (Does (Acks cache k ∷ []) l (Acknowledged id (level_of k)))) (sym to)
+    ∙ ap (λ (k : ℕ). carried n s l (Does (Acks cache left ∷ []) l (Acknowledged id k))) (sym at)
+    ∙ done
+
+pub by_what : (n : ℕ) (s : CoreState) (l : Lists) (id level : ℕ) (cache : Claim) (what : What) (x : Outcome) → cache.what ≡ what → carried n s l (ack_by l id level cache what) ≡ x → carried n s l (ack_by l id level cache cache.what) ≡ x
+by_what n s l id level cache what x is done = ap (λ (w : What). carried n s l (ack_by l id level cache w)) is ∙ done
+
+pub by_oplock : (n : ℕ) (s : CoreState) (l : Lists) (level number : ℕ) (row : Open) (x : Outcome) → open_of number l ≡ Some row → oplock_of row.file number s.claims ≡ None → carried n s l (ack_of l (id_of s number) level None) ≡ x
+    → carried n s l (ack_open s l level number (open_of number l)) ≡ x
+by_oplock n s l level number row x at none done = ap (λ (o : Option Open). carried n s l (ack_open s l level number o)) at ∙ ap (λ (o : Option Claim). carried n s l (ack_of l (id_of s number) level o)) none ∙ done

@@ -1,0 +1,7 @@
+use Rattle.std.proofs.Common.{rules, None}
+use Rattle.xl_matrix.specs.declared.claim.What.TheVariants.{Cache}
+use Rattle.xl_front_smb.proofs.AckLaws.{by_what}
+use Rattle.xl_front_smb.proofs.files.ack_by.Goals as goal
+
+pub returns-in-Cache-default-None-clause-done : goal.returns-in-Cache-default-None-clause-done
+returns-in-Cache-default-None-clause-done c = λ n l. by_what n c.args.core.now l c.args.id c.args.level c.args.cache.now (Cache c.in-Cache-default-None.kind None) _ (search rules) (c.ack_resting.ensures.done n c.args.core.now l c.args.id c.args.cache.now)
