@@ -25,7 +25,7 @@ use Rattle.xl_smb_locks.specs.declared.status.SmbStatus.TheVariants.{LockNotGran
 abbrev pub no_rows : Rooms
 no_rows = record { hosts = 0; owners = 0; opens = 0 }
 
--- an ask of the open of this number, which is its own party
+-- an ask of the open of this number, which is its own party; it waits for answers to breaks in any case (MS-SMB2 3.3.5.14)
 abbrev pub range_ask : Option ℕ → ℕ → ℕ → Act → Bool → Ask
 range_ask conn file number act blocking = record {
   file = file;
@@ -35,7 +35,7 @@ range_ask conn file number act blocking = record {
   wish = [];
   conn = conn;
   blocking = blocking;
-  awaits = blocking;
+  awaits = true;
   reclaim = false;
   monitored = false;
   rows = no_rows;
@@ -48,8 +48,8 @@ unlock_ask file number e = range_ask None file number (acts.Unlock (extent_of e)
 abbrev pub range_of : LockElement → Extent × Bool
 range_of e = (extent_of e, is_exclusive e)
 
--- all ranges are locked in order, or none; one that may wait does where something stands against it, and is told by this
--- connection
+-- all ranges are locked in order, or none; where a cache keeps the first off they wait for the answer to its break, one that may
+-- wait does where something stands against it for good, and who waits is told by this connection
 unfoldable pub lock_ask : ℕ → ℕ → ℕ → List LockElement → Ask
 lock_ask conn file number es = range_ask (Some conn) file number (acts.Ranges (map range_of es)) (any_waits es)
 

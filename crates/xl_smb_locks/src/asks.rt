@@ -22,7 +22,7 @@ pub(crate) const NO_ROWS: Rooms = Rooms {
     opens: 0,
 };
 
-/// An ask of the open of this number, which is its own party.
+/// An ask of the open of this number, which is its own party. It waits for answers to breaks in any case.
 fn range_ask(
     alloc: Global,
     conn: Option<u64>,
@@ -41,7 +41,7 @@ fn range_ask(
         wish: Sequence::new(alloc),
         conn,
         blocking,
-        awaits: blocking,
+        awaits: true,
         reclaim: false,
         monitored: false,
         rows: NO_ROWS,

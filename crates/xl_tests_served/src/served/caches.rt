@@ -189,6 +189,41 @@ B 0 : share caller f1 0 0 2 0
 1 share nfs:64/6f r -
 1 share nlm:61/- w -
 2 share nfs:63/6f r -
+--
+# Locks with FAIL_IMMEDIATELY wait for the answer to a break all the same, several as one request (MS-SMB2 3.3.5.14.2).
+F a.txt
+O rpc
+O smb
+B 0 : nfs 1 setclientid none client 40000000 tcp address 7
+B 0 : nfs 1 setconfirm k1 v2
+B 0 : nfs 2 root open 1 1 0 k1 owner byname a.txt
+B 0 : nfs 2 putfh f1 confirm 1 n3 2
+B 0 : nfs 2 root open 3 1 0 k1 owner byname a.txt
+B 1 : smb negotiate ask .0 s0 hello
+B 1 : smb setup ask .0 s0 guest
+B 1 : smb tree ask .0 s5 xl
+B 1 : smb create ask .6 s5 made .1 .0 .7 .1 .0 named-a
+B 1 : smb ranges ask .6 s5 two id7 at-0-10 shared-now at-20-10 exclusive-now
+B 0 : nfs 2 putfh f1 delegreturn 1 n4
+=>
+0 0 13
+2 c0 : told OK 0 1 setclientid OK k1 v2
+3 c0 : told OK 0 1 setconfirm OK
+4 c0 : told OK 0 2 root OK open OK 1 n3 cinfo 2 none
+5 c0 : told OK 0 2 putfh OK confirm OK 2 n3
+6 c0 : told OK 0 2 root OK open OK 3 n3 cinfo 0 0 1 1 n4 0 none none
+7 c1 : answer OK negotiate did .0 s0 welcome
+8 c1 : answer OK setup did .0 s5 guested
+9 c1 : answer OK tree did .6 s5 disk
+10 c1 : answer OK create did .6 s5 created id7 none
+11 b8 3132372e302e302e312e332e34 000000080000000000000002400000000000000100000001000000000000000000000000000000000000000000000000000000070000000100000004000000010000000100000000000000040000000000000008584c4b3100000001
+11 c1 : answer PENDING ranges later9 s5 error
+12 c0 : told OK 0 2 putfh OK delegreturn OK
+12 c1 : answer OK final later9 s5 locked
+1 share nfs:63/6f r -
+1 share smb:7 r -
+1 range smb:7 0 9 s
+1 range smb:7 20 29 x
 ";
 
 // ---- each cache, and each ask that meets it
