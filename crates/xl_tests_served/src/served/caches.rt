@@ -473,8 +473,12 @@ fn broken(alloc: Global, holder: Holder, asking: Asking, call: u32) -> Result<St
 
 /// The lines of the ask, and the claims then; at a second reading of the clock each break that ran is over.
 fn met(alloc: Global, holder: Holder, asking: Asking) -> Result<String, AllocError> {
-    let next = holder.last() + 3;
-    let call = if asking.is_create() { next + 1 } else { next };
+    let next = holder.last().wrapping_add(3);
+    let call = if asking.is_create() {
+        next.wrapping_add(1)
+    } else {
+        next
+    };
     let own = asking.claim(alloc, next)?;
     if goes_with(holder, asking) {
         let told = asking.granted(alloc, next)?;
@@ -500,7 +504,7 @@ fn met(alloc: Global, holder: Holder, asking: Asking) -> Result<String, AllocErr
         );
     }
     let waiter = if holder.is_delegation() {
-        call + 1
+        call.wrapping_add(1)
     } else {
         call
     };
@@ -573,8 +577,8 @@ fn claims(
 
 /// The case of this cache and this ask.
 fn meeting(alloc: Global, holder: Holder, asking: Asking) -> Result<String, AllocError> {
-    let client = holder.last() + 1;
-    let verifier = client + 1;
+    let client = holder.last().wrapping_add(1);
+    let verifier = client.wrapping_add(1);
     let ask = asking.line(alloc, client)?;
     let met = met(alloc, holder, asking)?;
     format!(in alloc;
