@@ -43,9 +43,10 @@ fn lock_told(answer: &Answer) -> Locking
 }
 
 /// Locks all of these ranges of an open of a file, or none (MS-SMB2 3.3.5.14.2, MS-FSA 2.1.5.8). Where something held
-/// stands against one, it waits if it may, and is told by this connection; else it is LOCK_NOT_GRANTED. Where a limit is
-/// passed, or a cache keeps off one that may not wait, it is INSUFFICIENT_RESOURCES. The breaks that begin for it come first,
-/// and are told of. One that waits does so under a number that is given out to it behind those of their calls.
+/// stands against one for good, it waits if it may, and is told by this connection; else it is LOCK_NOT_GRANTED. Where a cache
+/// keeps the first off all of them wait for the answer to its break. Where a limit is passed it is INSUFFICIENT_RESOURCES. The
+/// breaks that begin for it come first, and are told of. One that waits does so under a number that is given out to it behind
+/// those of their calls.
 pub fn lock<K: Keeper>(
     alloc: Global,
     core: &mut Core,
