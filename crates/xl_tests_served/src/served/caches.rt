@@ -224,6 +224,69 @@ B 0 : nfs 2 putfh f1 delegreturn 1 n4
 1 share smb:7 r -
 1 range smb:7 0 9 s
 1 range smb:7 20 29 x
+--
+# A LOCK of NFSv4 beside another client's read delegation, which goes with its open: DELAY until that is returned.
+F a.txt
+O rpc
+B 0 : nfs 1 setclientid none client 40000000 tcp address 7
+B 0 : nfs 1 setconfirm k1 v2
+B 0 : nfs 2 root open 1 1 0 k1 owner byname a.txt
+B 0 : nfs 2 putfh f1 confirm 1 n3 2
+B 0 : nfs 2 root open 3 1 0 k1 owner byname a.txt
+B 0 : nfs 1 setclientid none client-d none none
+B 0 : nfs 1 setconfirm 0000000100000005 0000000000000006
+B 0 : nfs 2 root open 1 1 0 0000000100000005 owner byname a.txt
+B 0 : nfs 2 putfh f1 confirm 1 n7 2
+B 0 : nfs 2 putfh f1 lock4 1 0 bytes-0-9 1 3 2 n7 1 0000000100000005 owner-l
+B 0 : nfs 2 putfh f1 delegreturn 1 n4
+B 0 : nfs 2 putfh f1 lock4 1 0 bytes-0-9 1 4 2 n7 2 0000000100000005 owner-l
+=>
+0 0 13
+1 c0 : told OK 0 1 setclientid OK k1 v2
+2 c0 : told OK 0 1 setconfirm OK
+3 c0 : told OK 0 2 root OK open OK 1 n3 cinfo 2 none
+4 c0 : told OK 0 2 putfh OK confirm OK 2 n3
+5 c0 : told OK 0 2 root OK open OK 3 n3 cinfo 0 0 1 1 n4 0 none none
+6 c0 : told OK 0 1 setclientid OK 0000000100000005 0000000000000006
+7 c0 : told OK 0 1 setconfirm OK
+8 c0 : told OK 0 2 root OK open OK 1 n7 cinfo 2 none
+9 c0 : told OK 0 2 putfh OK confirm OK 2 n7
+10 b8 3132372e302e302e312e332e34 000000080000000000000002400000000000000100000001000000000000000000000000000000000000000000000000000000070000000100000004000000010000000100000000000000040000000000000008584c4b3100000001
+10 c0 : told DELAY 0 2 putfh OK lock4 DELAY
+11 c0 : told OK 0 2 putfh OK delegreturn OK
+12 c0 : told OK 0 2 putfh OK lock4 OK 1 00000001 0000000000000009
+1 share nfs:63/6f r -
+1 share nfs:64/6f r -
+1 range nfs:64/6c 0 9 s
+--
+# A LOCK of NFSv4 beside an open's level II, which ends with a notice.
+F a.txt
+O smb
+O rpc
+B 0 : smb negotiate ask .0 s0 hello
+B 0 : smb setup ask .0 s0 guest
+B 0 : smb tree ask .0 s1 xl
+B 0 : smb create ask .2 s1 made-two .1 .0 .7 .1 .0 named-a
+B 1 : nfs 1 setclientid none client none none
+B 1 : nfs 1 setconfirm k4 v5
+B 1 : nfs 2 root open 1 1 0 k4 owner byname a.txt
+B 1 : nfs 2 putfh f1 confirm 1 n6 2
+B 1 : nfs 2 putfh f1 lock4 1 0 bytes-0-9 1 3 2 n6 1 k4 owner-l
+=>
+0 0 11
+2 c0 : answer OK negotiate did .0 s0 welcome
+3 c0 : answer OK setup did .0 s1 guested
+4 c0 : answer OK tree did .2 s1 disk
+5 c0 : answer OK create did .2 s1 created-two id3 none
+6 c1 : told OK 0 1 setclientid OK k4 v5
+7 c1 : told OK 0 1 setconfirm OK
+8 c1 : told OK 0 2 root OK open OK 1 n6 cinfo 2 none
+9 c1 : told OK 0 2 putfh OK confirm OK 2 n6
+10 c0 : notice level-none id3
+10 c1 : told OK 0 2 putfh OK lock4 OK 1 n7
+1 share nfs:63/6f r -
+1 share smb:3 r -
+1 range nfs:63/6c 0 9 s
 ";
 
 // ---- each cache, and each ask that meets it
