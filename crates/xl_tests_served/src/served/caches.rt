@@ -7,7 +7,7 @@ use std::test::Fail;
 
 #[test]
 fn caches(rt: HostRuntime) -> Result<(), Fail> {
-    for cases in [OPLOCKS, DELEGATIONS] {
+    for cases in [OPLOCKS, DELEGATIONS, ANSWERS] {
         let wrong = wrong_words(rt.alloc(), cases)?;
         assert!(rt; wrong.is_empty(), "{wrong}");
     }
@@ -89,9 +89,9 @@ B 0 : smb tree ask .0 s1 xl
 B 0 : smb create ask .2 s1 made-two .3 .0 .7 .1 .0 named-a
 B 1 : smb negotiate ask .0 s0 hello
 B 1 : smb setup ask .0 s0 guest
-B 1 : smb tree ask .0 040000000100000000000000000000000000000000000000 xl
-B 1 : smb create ask .5 040000000100000000000000000000000000000000000000 made .3 .0 .7 .1 .0 named-a
-B 1 : smb ranges ask .5 040000000100000000000000000000000000000000000000 one 06000000010000000600000001000000 at-0-5 exclusive-now
+B 1 : smb tree ask .0 s4 xl
+B 1 : smb create ask .5 s4 made .3 .0 .7 .1 .0 named-a
+B 1 : smb ranges ask .5 s4 one 06000000010000000600000001000000 at-0-5 exclusive-now
 =>
 0 0 11
 2 c0 : answer OK negotiate did .0 s0 welcome
@@ -99,11 +99,11 @@ B 1 : smb ranges ask .5 040000000100000000000000000000000000000000000000 one 060
 4 c0 : answer OK tree did .2 s1 disk
 5 c0 : answer OK create did .2 s1 created-two id3 none
 6 c1 : answer OK negotiate did .0 s0 welcome
-7 c1 : answer OK setup did .0 040000000100000000000000000000000000000000000000 guested
-8 c1 : answer OK tree did .5 040000000100000000000000000000000000000000000000 disk
-9 c1 : answer OK create did .5 040000000100000000000000000000000000000000000000 created 06000000010000000600000001000000 none
+7 c1 : answer OK setup did .0 s4 guested
+8 c1 : answer OK tree did .5 s4 disk
+9 c1 : answer OK create did .5 s4 created 06000000010000000600000001000000 none
 10 c0 : notice level-none id3
-10 c1 : answer OK ranges did .5 040000000100000000000000000000000000000000000000 locked
+10 c1 : answer OK ranges did .5 s4 locked
 1 share smb:3 rw -
 1 share smb:6 rw -
 1 range smb:6 0 4 x
@@ -287,6 +287,140 @@ B 1 : nfs 2 putfh f1 lock4 1 0 bytes-0-9 1 3 2 n6 1 k4 owner-l
 1 share nfs:63/6f r -
 1 share smb:3 r -
 1 range nfs:63/6c 0 9 s
+";
+
+/// What a break that runs says, and what ends it.
+const ANSWERS: &str = "\
+# While breaks run their caches stand, with what is to be left of them and the moment at which the answer is due.
+F a.txt
+F b.txt
+O smb
+O rpc
+B 0 : smb negotiate ask .0 s0 hello
+B 0 : smb setup ask .0 s0 guest
+B 0 : smb tree ask .0 s1 xl
+B 0 : smb create ask .2 s1 made-batch .3 .0 .7 .1 .0 named-a
+B 1 : nfs 1 setclientid none client 40000000 tcp address 7
+B 1 : nfs 1 setconfirm k4 v5
+B 1 : nfs 2 root open 1 1 0 k4 owner byname b.txt
+B 1 : nfs 2 putfh f2 confirm 1 n6 2
+B 1 : nfs 2 root open 3 2 0 k4 owner byname b.txt
+T 1000
+B 1 : nfs 2 root open 4 1 0 k4 owner byname a.txt
+B 0 : smb create ask .2 s1 made .1 .0 .7 .1 .0 named-b
+=>
+0 0 14
+2 c0 : answer OK negotiate did .0 s0 welcome
+3 c0 : answer OK setup did .0 s1 guested
+4 c0 : answer OK tree did .2 s1 disk
+5 c0 : answer OK create did .2 s1 created-batch id3 none
+6 c1 : told OK 0 1 setclientid OK k4 v5
+7 c1 : told OK 0 1 setconfirm OK
+8 c1 : told OK 0 2 root OK open OK 1 n6 cinfo 2 none
+9 c1 : told OK 0 2 putfh OK confirm OK 2 n6
+10 c1 : told OK 0 2 root OK open OK 3 n6 cinfo 0 0 2 1 n7 delegated-write
+12 c0 : notice level-two id3
+12 c1 : told DELAY 0 2 root OK open DELAY
+13 b9 3132372e302e302e312e332e34 000000090000000000000002400000000000000100000001000000000000000000000000000000000000000000000000000000070000000100000004000000010000000100000000000000070000000000000008584c4b3100000002
+13 c0 : answer PENDING create latera s1 error
+1 share smb:3 rw -
+1 cache smb:3 RWH > R 36000
+2 share nfs:63/6f rw -
+2 cache nfs:63 WriteDeleg > none 36000
+--
+# An acknowledgement of a lease's level changes nothing; one of a level above what the break leaves, of II for none and of
+# exclusive for II, ends the oplock with its break; one of a lower level is taken (MS-SMB2 3.3.5.22.1).
+F a.txt
+F b.txt
+F c.txt
+H 61 zb
+O smb
+O rpc
+B 0 : smb negotiate ask .0 s0 hello
+B 0 : smb setup ask .0 s0 guest
+B 0 : smb tree ask .0 s1 xl
+B 0 : smb create ask .2 s1 made-batch .3 .0 .7 .1 .0 named-a
+B 0 : smb create ask .2 s1 made-batch .3 .0 .7 .1 .0 named-b
+B 0 : smb create ask .2 s1 made-batch .3 .0 .7 .1 .0 named-c
+B 1 : lock 1 1 caller f1 0 7 bytes-0-9 0 0
+B 0 : smb break ask .0 s1 1800ff0000000000 id3
+B 0 : smb break ask .0 s1 level-two id3
+B 0 : smb break ask .0 s1 level-none id3
+B 1 : share caller f2 0 0 1 0
+B 0 : smb break ask .0 s1 1800080000000000 id4
+B 1 : share caller f2 0 0 1 0
+B 1 : share caller 00000008584c4b3100000003 0 0 1 0
+B 0 : smb break ask .0 s1 level-none id5
+B 1 : share caller 00000008584c4b3100000003 0 0 1 0
+=>
+0 0 18
+2 c0 : answer OK negotiate did .0 s0 welcome
+3 c0 : answer OK setup did .0 s1 guested
+4 c0 : answer OK tree did .2 s1 disk
+5 c0 : answer OK create did .2 s1 created-batch id3 none
+6 c0 : answer OK create did .2 s1 created-batch id4 none
+7 c0 : answer OK create did .2 s1 created-batch id5 none
+8 c0 : notice level-none id3
+8 c1 : told 0 3
+9 c0 : answer INVALID_PARAMETER break did .0 s1 error
+10 c0 : answer INVALID_OPLOCK_PROTOCOL break did .0 s1 error
+10 b7 7a62 000000070000000000000002000186b500000004000000050000000000000000000000000000000000000008000000000000000700000001000000016100000000000008584c4b310000000100000000000000070000000000000000000000000000000a
+11 c0 : answer INVALID_DEVICE_STATE break did .0 s1 error
+12 c0 : notice level-two id4
+12 c1 : told 0 1 0
+13 c0 : answer INVALID_OPLOCK_PROTOCOL break did .0 s1 error
+14 c1 : told 0 0 0
+15 c0 : notice level-two id5
+15 c1 : told 0 1 0
+16 c0 : answer OK break did .0 s1 level-none id5
+17 c1 : told 0 0 0
+1 share smb:3 rw -
+1 range nlm:61/7/- 0 9 x
+2 share nlm:61/- r -
+2 share smb:4 rw -
+3 share nlm:61/- r -
+3 share smb:5 rw -
+--
+# A CREATE that waits is ended by a CANCEL, and by the end of its tree connect, and its number is spent; the end of its
+# connection answers nobody (MS-SMB2 3.3.4.4, 3.3.5.8, 3.3.5.16, 3.3.7.1).
+F a.txt
+O smb
+O smb
+B 0 : smb negotiate ask .0 s0 hello
+B 0 : smb setup ask .0 s0 guest
+B 0 : smb tree ask .0 s1 xl
+B 0 : smb create ask .2 s1 made-batch .3 .0 .7 .1 .0 named-a
+B 1 : smb negotiate ask .0 s0 hello
+B 1 : smb setup ask .0 s0 guest
+B 1 : smb tree ask .0 s4 xl
+B 1 : smb create ask .5 s4 made .1 .0 .7 .1 .0 named-a
+B 1 : smb cancel 020000000000000009000000000000000700000000000000 s4 empty
+B 1 : smb create ask .5 s4 made .1 .0 .7 .1 .0 named-a
+B 1 : smb untree ask .5 s4 empty
+B 1 : smb tree ask .0 s4 xl
+B 1 : smb create ask 0a000000 s4 made .1 .0 .7 .1 .0 named-a
+E 1
+B 0 : smb break ask .0 s1 level-two id3
+=>
+0 0 17
+2 c0 : answer OK negotiate did .0 s0 welcome
+3 c0 : answer OK setup did .0 s1 guested
+4 c0 : answer OK tree did .2 s1 disk
+5 c0 : answer OK create did .2 s1 created-batch id3 none
+6 c1 : answer OK negotiate did .0 s0 welcome
+7 c1 : answer OK setup did .0 s4 guested
+8 c1 : answer OK tree did .5 s4 disk
+9 c0 : notice level-two id3
+9 c1 : answer PENDING create later7 s4 error
+10 c1 : answer CANCELLED created-late later7 s4 error
+11 c1 : answer PENDING create later9 s4 error
+12 c1 : answer CANCELLED created-late later9 s4 error
+12 c1 : answer OK untree did .5 s4 empty
+13 c1 : answer OK tree did 0a000000 s4 disk
+14 c1 : answer PENDING create 030000000000000009000000000000000c00000000000000 s4 error
+16 c0 : answer OK break did .0 s1 level-two id3
+1 share smb:3 rw -
+1 cache smb:3 R
 ";
 
 // ---- each cache, and each ask that meets it

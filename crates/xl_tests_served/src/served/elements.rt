@@ -1,6 +1,7 @@
 //! LOCK, CANCEL and what waits, of SMB 2.1.
 
 use super::spelled::wrong_words;
+use std::alloc::{AllocError, Global};
 use std::test::Fail;
 
 #[test]
@@ -9,6 +10,54 @@ fn elements(rt: HostRuntime) -> Result<(), Fail> {
         let wrong = wrong_words(rt.alloc(), cases)?;
         assert!(rt; wrong.is_empty(), "{wrong}");
     }
+    Ok(())
+}
+
+/// So many of these words.
+fn repeated(alloc: Global, words: &str, count: u32) -> Result<String, AllocError> {
+    let mut text = String::new(alloc);
+    for _ in 0..count {
+        text.push_str(" ")?;
+        text.push_str(words)?;
+    }
+    Ok(text)
+}
+
+/// Requests of one range more than there may be, of locks and of unlocks, and one of as many as there may be.
+fn most_ranges(alloc: Global) -> Result<String, AllocError> {
+    let past = repeated(alloc, "at-0-10 shared-now", 65)?;
+    let most = repeated(alloc, "at-0-10 shared-now", 64)?;
+    let unlocks = repeated(alloc, "at-0-10 give-up", 65)?;
+    format!(in alloc;
+        "F a.txt
+O smb
+B 0 : smb negotiate ask .0 s0 hello
+B 0 : smb setup ask .0 s0 guest
+B 0 : smb tree ask .0 s1 xl
+B 0 : smb create ask .2 s1 made .3 .0 .7 .1 .0 named-a
+B 0 : smb ranges ask .2 s1 3000410000000000 id3{past}
+B 0 : smb ranges ask .2 s1 3000400000000000 id3{most}
+B 0 : smb ranges ask .2 s1 3000410000000000 id3{unlocks}
+=>
+0 0 8
+1 c0 : answer OK negotiate did .0 s0 welcome
+2 c0 : answer OK setup did .0 s1 guested
+3 c0 : answer OK tree did .2 s1 disk
+4 c0 : answer OK create did .2 s1 created id3 none
+5 c0 : answer INVALID_PARAMETER ranges did .2 s1 error
+6 c0 : answer OK ranges did .2 s1 locked
+7 c0 : answer INVALID_PARAMETER ranges did .2 s1 error
+1 share smb:3 rw -
+* 64 0 0 0 1 range smb:3 0 9 s
+"
+    )
+}
+
+#[test]
+fn most_elements(rt: HostRuntime) -> Result<(), Fail> {
+    let cases = most_ranges(rt.alloc())?;
+    let wrong = wrong_words(rt.alloc(), &cases)?;
+    assert!(rt; wrong.is_empty(), "{wrong}");
     Ok(())
 }
 
@@ -139,6 +188,48 @@ B 0 : test 1 caller-b f1 0 7 bytes-0-9
 1 share nfs:63/6f rw -
 1 share smb:3 rw -
 1 range nfs:63/6c 5 14 x
+--
+# SMB holds bytes 5 to 14: NFSv4 is told so, with clientid 0 and the owner `smb`, and NLM, with svid 0 and no handle. A range of
+# SMB without bytes stands against neither.
+F a.txt
+O rpc
+O smb
+B 1 : smb negotiate ask .0 s0 hello
+B 1 : smb setup ask .0 s0 guest
+B 1 : smb tree ask .0 s1 xl
+B 1 : smb create ask .2 s1 made .3 .0 .7 .1 .0 named-a
+B 1 : smb ranges ask .2 s1 two id3 at-5-10 exclusive-now 03000000000000000000000000000000 exclusive-now
+B 0 : nfs 1 setclientid none client none none
+B 0 : nfs 1 setconfirm k4 v5
+B 0 : nfs 2 root open 1 3 0 k4 owner byname a.txt
+B 0 : nfs 2 putfh f1 confirm 1 n6 2
+B 0 : nfs 2 putfh f1 lockt 1 bytes-8- k4 owner-l
+B 0 : nfs 2 putfh f1 lock4 2 0 bytes-8- 1 3 2 n6 1 k4 owner-l
+B 0 : nfs 2 putfh f1 lock4 1 0 0000000000000002 0000000000000003 1 4 2 n6 2 k4 owner-l
+B 0 : test 0 caller-b f1 0 7 bytes-5-14
+B 0 : lock 0 0 caller f1 0 7 0000000000000002 0000000000000003 0 0
+=>
+0 0 16
+2 c1 : answer OK negotiate did .0 s0 welcome
+3 c1 : answer OK setup did .0 s1 guested
+4 c1 : answer OK tree did .2 s1 disk
+5 c1 : answer OK create did .2 s1 created id3 none
+6 c1 : answer OK ranges did .2 s1 locked
+7 c0 : told OK 0 1 setclientid OK k4 v5
+8 c0 : told OK 0 1 setconfirm OK
+9 c0 : told OK 0 2 root OK open OK 1 n6 cinfo 2 none
+10 c0 : told OK 0 2 putfh OK confirm OK 2 n6
+11 c0 : told DENIED 0 2 putfh OK lockt DENIED bytes-5-14 2 holder-smb
+12 c0 : told DENIED 0 2 putfh OK lock4 DENIED bytes-5-14 2 holder-smb
+13 c0 : told OK 0 2 putfh OK lock4 OK 1 n7
+14 c0 : told 0 1 1 0 0 bytes-5-14
+15 c0 : told 0 0
+1 share nfs:63/6f rw -
+1 share smb:3 rw -
+1 range nfs:63/6c 2 4 s
+1 range nlm:61/7/- 2 4 s
+1 range smb:3 3 - x
+1 range smb:3 5 14 x
 ";
 
 /// What LOCK checks, each before the next (MS-SMB2 3.3.5.14).
