@@ -19,7 +19,7 @@ was sent; at the end a line for each claim that is held:
 import argparse
 import sys
 
-from xlock import protocols, rpc, smb, transcripts, words, xdr
+from xlock import nfs, protocols, rpc, smb, transcripts, words, xdr
 from xlock.captures import Capture, CaptureError
 from xlock.transcripts import TranscriptError
 from xlock.xdr import XdrError
@@ -41,6 +41,14 @@ def call_in_words(record, files, cookie=b""):
             pass
     arguments = " 0x" + call.arguments.hex() if call.arguments else ""
     return f"call {call.program} {call.version} {call.procedure}{arguments}", call, module
+
+
+def call_back_in_words(record, files, cookie):
+    """A call of the server's: a recall of NFSv4, or one of a program that clients call too."""
+    try:
+        return nfs.recall_in_words(rpc.read_call(record), files)
+    except XdrError:
+        return call_in_words(record, files, cookie)[0]
 
 
 def reply_in_words(record, call, module):
@@ -148,7 +156,7 @@ def told_lines(event, place, outs, files):
         outs = [out for out in outs if out.connection is None]
     for out in outs:
         if out.connection is None:
-            told, _, _ = call_in_words(message_in(out), files, xdr.u64(out.call))
+            told = call_back_in_words(message_in(out), files, xdr.u64(out.call))
             others.append(line_of(place, "", f"call {out.call} to {words.word_of(out.address)}: {told}"))
         elif out.connection == event.connection and not answer:
             answer = reply_in_words(message_in(out), call, module)

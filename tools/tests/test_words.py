@@ -157,6 +157,12 @@ RESULTS = [
     ("00002725 00000000 00000000", "MINOR_VERS_MISMATCH"),
 ]  # fmt: skip
 
+# The call that recalls the delegation 1.7.1 of file 1, of the program 9 with the ident 3, laid out by RFC 7531 (CB_COMPOUND).
+RECALLS = (
+    "00000005 00000000 00000002 00000009 00000001 00000001 00000000 00000000 00000000 00000000 00000000 00000000 00000003"
+    "00000001 00000004 00000001 00000001 00000000 00000007 00000000 00000008 584c4b31 00000001"
+).replace(" ", "")
+
 
 def lines_of(text):
     return [line for line in text.splitlines() if not line.startswith("#")]
@@ -206,6 +212,11 @@ class Words(unittest.TestCase):
 
 
 class Transcripts(unittest.TestCase):
+    def test_recalls(self):
+        said = in_words("F a.txt\nT 1\n", f"0 b5 312e32 {RECALLS}\n")
+        self.assertEqual(said[1].split(": ", 1)[1], "recall 1.7.1 a.txt program=9 ident=3")
+        self.assertIn("call 9 1 1 0x", in_words("F a.txt\nT 1\n", f"0 b5 312e32 {RECALLS[:-8]}\n")[1])
+
     def test_in_words(self):
         capture = capture_of("lock a 7 a.txt 0 10 x\ntest b 1 a.txt 0 end s\nend\nanswer 2 denied\nno_answer 3\n")
         transcript = """\

@@ -12,6 +12,8 @@ NULL, COMPOUND = 0, 1
 CLOSE, RETURN_DELEGATION, GET_FH, LOCK, LOCK_TEST, UNLOCK, LOOKUP, OPEN = 4, 8, 10, 12, 13, 14, 15, 18
 OPEN_CONFIRM, OPEN_DOWNGRADE, PUT_FH, PUT_ROOT_FH, RENEW, SET_CLIENT_ID, CONFIRM, RELEASE = 20, 21, 22, 24, 30, 35, 36, 39
 ILLEGAL = 10044
+# The version of a client's callback program, and its operation that recalls a delegation.
+CALLBACK_VERSION, RECALL = 1, 4
 OK, DENIED = 0, 10010
 STATUSES = {
     0: "OK", 2: "NOENT", 20: "NOTDIR", 21: "ISDIR", 22: "INVAL", 70: "STALE", 10001: "BADHANDLE", 10004: "NOTSUPP",
@@ -354,8 +356,23 @@ def results_in_words(procedure, results, cookie=b""):
     return told + said + (f" tag={word_of(tag)}" if tag != cookie else "")
 
 
+def recall_in_words(call, files):
+    """The server's call that recalls a delegation (RFC 7530 18.2), of the program and the number that the client chose. XdrError
+    where it is another."""
+    reader = Reader(call.arguments)
+    reader.opaque(MOST_TEXT)
+    if (call.version, call.procedure, reader.u32()) != (CALLBACK_VERSION, COMPOUND, 0):
+        raise XdrError("this is no call back that has words")
+    ident, count, number = reader.u32(), reader.u32(), reader.u32()
+    stateid, truncates, handle = _stateid_word(reader), reader.boolean(), reader.opaque(MOST_HANDLE)
+    reader.end()
+    if (count, number, truncates) != (1, RECALL, False):
+        raise XdrError("this is no recall that has words")
+    return f"recall {stateid} {files.word(handle)} program={call.program} ident={ident}"
+
+
 def answer_in_words(number, results):
-    raise XdrError("clients aren't called back yet")
+    raise XdrError("what a client says of a recall has no words")
 
 
 # ---- what the tools on packets ask
