@@ -12,6 +12,13 @@ fn ranges(rt: HostRuntime) -> Result<(), Fail> {
     Ok(())
 }
 
+#[test]
+fn most_owners(rt: HostRuntime) -> Result<(), Fail> {
+    let wrong = wrong_words(rt.alloc(), MOST_OWNERS)?;
+    assert!(rt; wrong.is_empty(), "{wrong}");
+    Ok(())
+}
+
 /// Locks of both protocols stand against each other, and tell of each other.
 const BESIDE_NLM: &str = "\
 # NLM holds bytes 0 to 9: exclusive, then shared (RFC 7530 16.10, 16.11).
@@ -296,4 +303,30 @@ B 0 : lock 0 1 caller f1 0 7 bytes-0-9 0 0
 16392 c0 : told OK 0 2 putfh OK close OK 3 n3
 16393 c0 : told 0 0
 1 range nlm:61/7/- 0 9 x
+";
+
+/// The most owners.
+const MOST_OWNERS: &str = "\
+# 8,192 owners, of which one has an open: a lock owner finds no room, which uses up nothing; what counts isn't kept for it.
+F a.txt
+O rpc
+B 0 : nfs 1 setclientid none client none none
+B 0 : nfs 1 setconfirm k1 v2
+B 0 : nfs 2 root open 1 1 0 k1 owner byname a.txt
+B 0 : nfs 2 putfh f1 confirm 1 n3 2
+* 8191 0 1 0 B 0 : nfs 2 root open 1 1 0 k1 00000004 # byname d.txt
+B 0 : nfs 2 putfh f1 lock4 1 0 bytes-0-9 1 3 2 n3 1 k1 owner-l
+B 0 : nfs 2 putfh f1 lock4 1 0 bytes-none 1 3 2 n3 1 k1 owner-l
+B 0 : nfs 2 putfh f1 lock4 1 0 bytes-0-9 1 4 2 n3 7 k1 owner-l
+=>
+0 0 8199
+1 c0 : told OK 0 1 setclientid OK k1 v2
+2 c0 : told OK 0 1 setconfirm OK
+3 c0 : told OK 0 2 root OK open OK 1 n3 cinfo 2 none
+4 c0 : told OK 0 2 putfh OK confirm OK 2 n3
+* 8191 0 1 5 @ c0 : told NOENT 0 2 root OK open NOENT
+8196 c0 : told RESOURCE 0 2 putfh OK lock4 RESOURCE
+8197 c0 : told INVAL 0 2 putfh OK lock4 INVAL
+8198 c0 : told RESOURCE 0 2 putfh OK lock4 RESOURCE
+1 share nfs:63/6f r -
 ";
