@@ -170,9 +170,6 @@ not_open e = cc
 not_pending : {number id level : ℕ} → Pending number ≡ Opened id level → ⊥
 not_pending e = cc
 
-not_nothing : {id level : ℕ} → Nothing ≡ Opened id level → ⊥
-not_nothing e = cc
-
 same_number : {id level opened of : ℕ} → Opened id level ≡ Opened opened of → (id ≡ opened) × (level ≡ of)
 same_number e = (cc, cc)
 

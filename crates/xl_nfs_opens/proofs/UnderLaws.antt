@@ -26,7 +26,6 @@ use Rattle.xl_nfs_opens.specs.Asks.{all_ones, unlock_ask}
 use Rattle.xl_nfs_opens.specs.Closing.{opener_named, opener_by, lock_owner, gives_up, ends_locks}
 use Rattle.xl_nfs_opens.specs.Opens.{all_rooms}
 use Rattle.xl_nfs_opens.specs.Owners.{AreBy}
-use Rattle.xl_nfs_opens.specs.Plans.{Plan, Behind, Outcome, told_behind, carried}
 use Rattle.xl_nfs_opens.specs.Short.{Leaves}
 use Rattle.xl_nfs_opens.specs.declared.opener.Opener.{Opener}
 use Rattle.xl_nfs_opens.proofs.LeaveLaws.{left_by_caches}
@@ -91,11 +90,6 @@ ends_told n s l r (q ∷ qs) = by (opener_by l r.client (lock_owner q.holder)) (
     by (Some o) rest =
         let t = (ask n all_rooms s (unlock_ask o r.file 0 all_ones)).2 in
         ap (λ (x : List Effect). x ++ all_told_of n t (ends_locks l r qs)) (unlock_quiet n s o r.file 0 all_ones).1 ∙ rest t
-
--- these are done, and then the rest
-pub behind_done : (n : ℕ) (s t : CoreState) (l m : NfsLists) (current : Option ℕ) (ds : List Deed) (rest : CoreState → Plan) (r : Outcome) → all_done n s ds ≡ t → all_told_of n s ds ≡ [] → carried n t m current (rest t) ≡ r → carried n s l current (Behind ds m rest) ≡ r
-behind_done n s t l m current ds rest r done told e =
-    (λ i. told_behind (told i) (carried n (done i) m current (rest (done i)))) ∙ ap (λ (x : Outcome). told_behind [] x) e
 
 -- ---- whose they are
 

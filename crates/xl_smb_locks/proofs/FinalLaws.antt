@@ -47,10 +47,6 @@ fails status.InvalidDeviceState = refl
 fails status.InvalidLockRange = refl
 fails status.UserSessionDeleted = refl
 
-second_fails : (a b c d e f : Bool) → (a && false && b && c && d && e && f) ≡ false
-second_fails true b c d e f = refl
-second_fails false b c d e f = refl
-
 third_fails : (a b c d e f : Bool) → (a && b && false && c && d && e && f) ≡ false
 third_fails true true c d e f = refl
 third_fails true false c d e f = refl
