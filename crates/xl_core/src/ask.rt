@@ -18,7 +18,7 @@ pub enum Who {
 #[derive(Drop)]
 pub enum Act {
     /// A share: this access, and what is denied to others (XNFS C702, NLM_SHARE; RFC 7530 9.9; MS-SMB2 2.2.13). It replaces
-    /// what its owner has on the file.
+    /// what its owner has on the file, and is united with that of an NFSv4 owner.
     Share(Rwd, Rwd),
     /// Byte ranges, each with whether it is exclusive, all of them or none. Of NLM (XNFS C702, NLM_LOCK) and NFSv4
     /// (RFC 7530 16.10) there is one.

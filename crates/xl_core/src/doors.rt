@@ -158,8 +158,9 @@ impl Core {
         Ok(answered)
     }
 
-    /// One turn: serves the first waiter that nothing blocks, and tells so. None comes exactly where each of them is
-    /// blocked; then nothing changed. At least 65,536 numbers must be left to give out.
+    /// One turn, of the first waiter that isn't held up: begins the breaks that it begins, serves it where nothing that it
+    /// waits for stands in its way then, and tells so. None comes exactly where each of them is held up; then nothing changed.
+    /// At least 65,536 numbers must be left to give out.
     #[tactic(auto, using(crate::proofs::DoorLaws::settle_keeps))]
     pub fn settle<K: Keeper>(
         &mut self,

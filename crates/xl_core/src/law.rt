@@ -168,7 +168,8 @@ pub fn calls_have_frames()
 {}
 
 /// Nobody is served but by a turn: not where a waiter cancels, a claim is given back, a share is made weaker, a break is
-/// answered, a party ends, or the clock is read. (An ask tells of nothing, see `calls_have_frames`.)
+/// answered, a party ends, or the clock is read. (An ask tells of the breaks that it begins alone, see `calls_have_frames` and
+/// `breaks_are_told`.)
 pub fn only_turns_serve()
     ensures cancels { (s : CoreState) (id : ℕ) → serves_none (cancel s id).0 ≡ true }
     ensures gives_back { (s : CoreState) (claim : Claim) → serves_none (give_back s claim).0 ≡ true }

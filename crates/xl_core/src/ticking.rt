@@ -112,7 +112,6 @@ fn push_all(effects: &mut Sequence<Effect>, more: Sequence<Effect>) -> Result<()
 }
 
 /// Lets so many clients expire at most whose lease has ended, and tells that behind what was told before.
-
 fn expire_ended(
     alloc: Global,
     parts: &mut Parts,

@@ -38,9 +38,10 @@ pub fn deeds_are_taken()
     ensures { (n : ℕ) (exports : Exports) (others : ℕ) (f : FrontNfs) (s : CoreState) (r : RequestItem) → IsGood s → AreFit n s (nfs_deeds n exports others f s r) }
 {}
 
-/// Each deed of an operation draws a number, or it ends or renews a client that the operation names by the clientid of its
-/// record: no other lease is renewed, and no other client's claims go. Those of a request are of its operations, each in the
-/// state that those before it left; each is of one of these kinds.
+/// Each deed of an operation draws a number, or it is of a client that the operation names by the clientid of its record or by
+/// a live stateid: it asks as that client, gives back or makes weaker what that holds, ends it or renews its lease. So no other
+/// lease is renewed, and no other client's claims go. Those of a request are of its operations, each in the state that those
+/// before it left; each is of one of these kinds.
 #[tactic(auto, using(crate::proofs::OwnLaws::request_by))]
 pub fn deeds_are_the_clients()
     ensures operations { (n : ℕ) (files : List (List ℕ)) (others : ℕ) (s : CoreState) (l : NfsLists) (current : Option ℕ) (item : OpItem) → IsGood s → AreBy n s (Names s l item) (deeds_of n s (planned files others s l current item)) }
