@@ -130,8 +130,8 @@ pub fn nobody_is_forgotten()
     ensures fewer { (n : ℕ) (left : Rooms) (s : CoreState) → IsGood s → IfSome (settle n left s) (λ r. turns_left r.1 + 1 ≤ turns_left s) }
 {}
 
-/// Who gives a claim back takes that claim out, and no other. Who cancels takes no claim with it, and of the waiters only the one of this number. A party that ends takes its own
-/// claims and waiters, and no others.
+/// Who gives a claim back takes that claim out, and no other. Who cancels takes no claim with it, and of the waiters only the
+/// one of this number. A party that ends takes its own claims and waiters, and no others.
 pub fn only_a_party_leaves()
     ensures cancelled { (s : CoreState) (id : ℕ) → ((cancel s id).1.claims ≡ s.claims) × ((cancel s id).1.waiters ≡ cancelled id s.waiters) }
     ensures given_back { (s : CoreState) (claim : Claim) → ((give_back s claim).1.claims ≡ removed claim s.claims) × ((give_back s claim).1.waiters ≡ s.waiters) }
