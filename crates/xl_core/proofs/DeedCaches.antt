@@ -133,7 +133,7 @@ first_caches left s turn good first =
     wishes = ap (wish_by_number w.id) stood ∙ wished_there first.before w first.behind apart
 
     by : IsMoved left s w first.claim first.claims turn → caches_of turn.1.claims ≡ caches_served t turn.0 (caches_of t.claims)
-    by (Answers answer told new due pass) =
+    by (Answers answer told new due pass clear) =
         let u = once_answered t w all answer in
         let once : once_served t w.id answer ≡ u = ap (λ (cs : List Claim). once_answered t w cs answer) there in
         ap (λ (x : CoreState). caches_of x.claims) new ∙ wish_for_caches w.wish answer u (served_good left s turn first good answer pass).0
@@ -254,7 +254,7 @@ first_stays left s turn c first there runs = by first.moved where
   still = way_stays (plea_again s w) w.asked s c there runs
 
   by : IsMoved left s w first.claim first.claims turn → IsIn c turn.1.claims
-  by (Answers answer told new due pass) =
+  by (Answers answer told new due pass clear) =
       let all = first.claim ∷ first.claims in
       let u = once_answered t w all answer in
       subst (λ (x : CoreState). IsIn c x.claims) (sym new)

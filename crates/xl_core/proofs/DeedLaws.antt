@@ -502,7 +502,7 @@ first_made left s turn p good first =
         ∙ (λ i. else_was (then_entered (then_entered (broken_at s way.0 p) (sym told i)) (sym wished i)) (held_at s p))
 
     by : IsMoved left s w first.claim first.claims turn → held_at turn.1 p ≡ else_was (turn_makes s way turn.0 p) (held_at s p)
-    by (Answers answer told new due pass) =
+    by (Answers answer told new due pass clear) =
         let u = once_answered t w all answer in
         let once : once_served t w.id answer ≡ u = ap (λ (cs : List Claim). once_answered t w cs answer) there in
         let sole : List Effect = Served w.id answer ∷ [] in
@@ -533,7 +533,7 @@ first_queue left s turn good first = by first.moved where
   same = way_waiters (plea_again s w) w.asked s
 
   by : IsMoved left s w first.claim first.claims turn → turn.1.waiters ≡ queue_without turn.0 s.waiters
-  by (Answers answer told new due pass) =
+  by (Answers answer told new due pass clear) =
       ap (λ (x : CoreState). x.waiters) (new ∙ wish_claims w.wish answer (once_answered way.1 w (first.claim ∷ first.claims) answer)) ∙ ap (λ (ws : List Waiter). cancelled w.id ws) same
       ∙ sym (ap (λ (effects : List Effect). queue_without effects s.waiters) told ∙ queue_behind way.0 (Served w.id answer ∷ []) s.waiters (way_serves (plea_again s w) w.asked s))
   by (Rests e up) =

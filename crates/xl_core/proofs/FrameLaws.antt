@@ -211,7 +211,7 @@ first_frame left s turn first = by first.moved where
       (subst (λ (x : CoreState). IsFrame s (way.0 ++ told) x (calls_in (way.0 ++ told)) s.names []) (sym f) (subst (λ (given : ℕ). IsFrame s (way.0 ++ told) u given s.names []) (none_more (calls_in (way.0 ++ told))) (behind_frame (plea_again s w) w.asked s u told 0 s.names [] frame quiet)))
 
   by : IsMoved left s w first.claim first.claims turn → IsFrame s turn.0 turn.1 (calls_in turn.0) s.names []
-  by (Answers answer told new due pass) =
+  by (Answers answer told new due pass clear) =
       let u = once_answered t w (first.claim ∷ first.claims) answer in
       whole (Served w.id answer ∷ []) (wish_for w.wish answer u) told new refl
       (for_frame w.wish answer t u (Served w.id answer ∷ []) 0 s.names [] (record { stable = refl; clock = refl; made = refl; failed = refl; counter = omega arith; names = named; leave = (waits, tt); waiters = nobody (cancelled w.id t.waiters) }))

@@ -387,13 +387,14 @@ ask_good n left s a good fit = let r = before_wish n left s a in after_good a r.
 abbrev pub Turned : Type 0
 Turned = List Effect × CoreState
 
--- What becomes of a waiter for these that isn't held up, once the breaks run that it begins: each is judged beside those before
--- it, and it has all of them or is refused; or it is held up by the breaks that began.
+-- What becomes of a waiter for these that isn't held up, once the breaks run that it begins: it is held up by them, or each is
+-- judged beside those before it, and it has all of them or is refused.
 pub data IsMoved (left : Rooms) (s : CoreState) (w : Waiter) (c : Claim) (cs : List Claim) (turn : Turned) : Type 0 where
   Answers : (answer : Answer) → turn.0 ≡ (way_again s w).0 ++ Served w.id answer ∷ []
       → turn.1 ≡ wish_for w.wish answer (record (way_again s w).1 { claims = held_once (c ∷ cs) answer (way_again s w).1.claims; waiters = cancelled w.id (way_again s w).1.waiters })
       → IsEachDue left w.rows (length s.names) c (c ∷ cs) (way_again s w).1 answer
       → ((d : Claim) → answer ≡ answers.Granted d → (d ≡ c) × AllPass left (plea_again s w) (way_again s w).1.claims (c ∷ cs))
+      → is_held_up (way_again s w).1.claims w c ≡ false
       → IsMoved left s w c cs turn
   Rests : turn ≡ way_again s w → is_held_up (way_again s w).1.claims w c ≡ true → IsMoved left s w c cs turn
 
@@ -438,6 +439,15 @@ waits_up s w c cs asked free waits = by (is_stopped s.claims c) refl where
   by false moves =
       up (is_blocked t.claims c) (is_stopped t.claims c) w.blocking (all_run t.claims c) waits
       (λ clear. ap (λ (ds : List Claim). all_run (made_way (plea_again s w) ds s).1.claims c) asked ∙ way_runs (plea_again s w) c cs s refl refl moves)
+
+-- and where it isn't waited for, it isn't held up
+not_up : (s : CoreState) (w : Waiter) (held : List Claim) (c : Claim) → does_wait (plea_again s w) held c ≡ false → is_held_up held w c ≡ false
+unfolding plea_again
+not_up s w held c clear = by (is_blocked held c) (is_stopped held c) w.blocking (all_run held c) clear where
+  by : (x y z r : Bool) → (x && (if y then z else true)) ≡ false → (x && (if y then z else r)) ≡ false
+  by true true z r e = e
+  by true false z r e = absurd (both_ways true e refl)
+  by false y z r e = e
 
 moved : (n : ℕ) (left : Rooms) (s : CoreState) (earlier : List Waiter) (w : Waiter) (c : Claim) (cs : List Claim) → w.asked ≡ c ∷ cs → is_held_up s.claims w c ≡ false → (let r = again n left s earlier w in IsMoved left s w c cs (turned w r.0 r.1 r.2))
 unfolding plea_again held_with
@@ -489,6 +499,7 @@ moved n left s earlier w c cs asked free =
         (λ i. wish_for w.wish (all_of (asked i)) (record (is.1 i) { waiters = cancelled w.id (is.1 i).waiters }))
         due
         (λ d e. (same_claim c d e, is.2))
+        (not_up s w t.claims c clear)
     by Waits told u is due clear = absurd (both_ways (does_wait p t.claims c) clear is.3)
     by (Told answer) told u is due clear = Answers answer
         (behind told answer is.0)
@@ -496,6 +507,7 @@ moved n left s earlier w c cs asked free =
         ∙ sym (refused_wish w.wish answer (record t { claims = held_once (c ∷ cs) answer t.claims; waiters = cancelled w.id t.waiters }) is.2))
         due
         (λ d e. absurd (both_ways (is_refusal answer) (ap is_refusal e) is.2))
+        (not_up s w t.claims c clear)
 
 -- the first waiter that has a turn
 pub record IsFirst (left : Rooms) (s : CoreState) (ws : List Waiter) (turn : Turned) : Type 0 where
@@ -638,7 +650,7 @@ served_good left s turn first good answer pass = (
 turn_good : (left : Rooms) (s : CoreState) (turn : Turned) (first : IsFirst left s s.waiters turn) → IsGood s → IsGood turn.1
 turn_good left s turn first good = by first.moved where
   by : IsMoved left s first.waiter first.claim first.claims turn → IsGood turn.1
-  by (Answers answer told new due pass) =
+  by (Answers answer told new due pass clear) =
       let is = served_good left s turn first good answer pass in
       subst IsGood (sym new) (wish_for_good first.waiter.wish answer (once_answered (way_again s first.waiter).1 first.waiter (first.claim ∷ first.claims) answer) is.0 is.1)
   by (Rests e up) = subst (λ (x : Turned). IsGood x.1) (sym e) (way_good (plea_again s first.waiter) first.waiter.asked s good (known_no_cache s.names first.waiter.asked first.is.1))

@@ -347,7 +347,7 @@ first_numbers left s turn good first = by first.moved where
   leave told e = ap who_left e ∙ told_both (way_again s w).0 told ∙ ap (λ (ids : List ℕ). ids ++ who_left told) (way_leaves (plea_again s w) w.asked s)
 
   by : IsMoved left s w first.claim first.claims turn → numbers_of turn.1 + length (who_left turn.0) ≤ numbers_of s
-  by (Answers answer told new due pass) =
+  by (Answers answer told new due pass clear) =
       let u = once_answered t w (first.claim ∷ first.claims) answer in
       let caches : delegations_left u.claims ≡ delegations_left t.claims = same_left t.claims u.claims
       (once_cases (λ cs. caches_of cs ≡ caches_of t.claims) (first.claim ∷ first.claims) t.claims answer refl (all_granted_caches (first.claim ∷ first.claims) t.claims)) in

@@ -140,7 +140,7 @@ first_turn_is left s turn good first = by first.moved where
   }
 
   by : IsMoved left s w first.claim first.claims turn → IsTurn left s turn.0 turn.1
-  by (Answers answer told new due pass) =
+  by (Answers answer told new due pass clear) =
       let u = once_answered t w all answer in
       let once_caches : caches_of u.claims ≡ caches_of t.claims = once_cases (λ cs. caches_of cs ≡ caches_of t.claims) all t.claims answer refl (all_granted_caches all t.claims) in
       let same_asked : u ≡ once_answered t w w.asked answer = ap (λ (cs : List Claim). once_answered t w cs answer) (sym first.asked) in
@@ -148,7 +148,7 @@ first_turn_is left s turn good first = by first.moved where
       subst (λ (cs : List Claim). IsEachDue left w.rows (length t.names) first.claim cs t answer) (sym first.asked)
       (subst (λ (names : List Name). IsEachDue left w.rows (length names) first.claim all t answer) (sym (same (λ x. x.names) (λ c. begun_names c s))) due) in
       turned_so (Served w.id answer ∷ []) told
-      (Answered answer refl (λ d e. (pass d e).0) due_here (new ∙ ap (wish_for w.wish answer) same_asked))
+      (Answered answer refl (λ d e. (pass d e).0) due_here (new ∙ ap (wish_for w.wish answer) same_asked) clear)
       (ap (λ (x : CoreState). x.names) new ∙ ap (λ (x : CoreState). x.names) (wish_claims w.wish answer u) ∙ same (λ x. x.names) (λ c. begun_names c s))
       (λ file owner apart.
       ap (λ (x : CoreState). spans_of file owner x.claims) (new ∙ ap (wish_for w.wish answer) same_asked)
@@ -209,7 +209,7 @@ fewer_by left s turn good first = by first.moved where
   fell up (inr fewer) = fewer
 
   by : IsMoved left s w first.claim first.claims turn → turns_left turn.1 + 1 ≤ turns_left s
-  by (Answers answer told new due pass) =
+  by (Answers answer told new due pass clear) =
       let u = once_answered t w (first.claim ∷ first.claims) answer in
       let idle : idle_caches u.claims ≡ idle_caches t.claims = same_idle t.claims u.claims
       (once_cases (λ cs. caches_of cs ≡ caches_of t.claims) (first.claim ∷ first.claims) t.claims answer refl (all_granted_caches (first.claim ∷ first.claims) t.claims)) in

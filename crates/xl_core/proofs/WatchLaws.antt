@@ -581,7 +581,7 @@ turn_up u left s effects t good turn all = by turn.served where
   same = way_waiters (plea_again s w) w.asked s
 
   by : IsServed left way_state w turn.claim turn.told t → AreHeldUp u t
-  by (TurnAnswered answer told is due new) =
+  by (TurnAnswered answer told is due new clear) =
       let before : CoreState = record way_state { claims = held_once w.asked answer way_state.claims; waiters = cancelled w.id way_state.waiters } in
       let gone : before.waiters ≡ turn.before ++ turn.behind =
       ap (λ (ws : List Waiter). cancelled w.id ws) (same ∙ turn.stood)

@@ -133,10 +133,10 @@ abbrev pub held_once : List Claim → Answer → List Claim → List Claim
 held_once asked (Granted c) held = all_granted asked held
 held_once asked answer held = held
 
--- what becomes of a waiter for these, of which this is the first, once the breaks run that it begins: each is judged beside those
--- before it, so that it is answered and waits no more; or the first is held up by the breaks that began
+-- What becomes of a waiter for these, of which this is the first, once the breaks run that it begins: where the first is held up by
+-- them it waits on, and is told nothing; else each is judged beside those before it, and it is answered so and waits no more.
 pub data IsServed (left : Rooms) (s : CoreState) (w : Waiter) (claim : Claim) (told : List Effect) (new : CoreState) : Type 0 where
-  Answered : (answer : Answer) → told ≡ Served w.id answer ∷ [] → ((c : Claim) → answer ≡ Granted c → c ≡ claim) → IsEachDue left w.rows (length s.names) claim w.asked s answer → new ≡ wish_for w.wish answer (record s { claims = held_once w.asked answer s.claims; waiters = cancelled w.id s.waiters }) → IsServed left s w claim told new
+  Answered : (answer : Answer) → told ≡ Served w.id answer ∷ [] → ((c : Claim) → answer ≡ Granted c → c ≡ claim) → IsEachDue left w.rows (length s.names) claim w.asked s answer → new ≡ wish_for w.wish answer (record s { claims = held_once w.asked answer s.claims; waiters = cancelled w.id s.waiters }) → is_held_up s.claims w claim ≡ false → IsServed left s w claim told new
   WaitsOn : told ≡ [] → is_held_up s.claims w claim ≡ true → new ≡ s → IsServed left s w claim told new
 
 -- The first waiter that isn't held up has its turn: the breaks begin that it begins, which is told, and then it is judged. Its
