@@ -1,5 +1,5 @@
 -- What each call leaves alone, and who leaves the queue by it.
-use Rattle.std.proofs.Common.{◌≡◌, ℕ, zero, suc, ◌+◌, ◌≤◌, nat_lt, length, Bool, true, false, not, if◌then◌else◌, ◌==◌, inl, inr, List, [], ◌∷◌, ◌++◌, map, Option, Some, None, IfSome, refl, sym, ap, subst, ◌∙◌, append-nil, arith}
+use Rattle.std.proofs.Common.{◌≡◌, ℕ, zero, suc, ◌+◌, ◌≤◌, nat_lt, length, Bool, true, false, if◌then◌else◌, ◌==◌, inl, inr, List, [], ◌∷◌, ◌++◌, map, Option, Some, None, IfSome, refl, sym, ap, subst, ◌∙◌, append-nil, arith}
 use Rattle.std.specs.List.{AllByRecursion, filter}
 use Rattle.std.proofs.lemmas.Bool.{cases_Bool, both_ways, eq-eqb}
 use Rattle.xl_base.specs.Lists.{Pairwise}
@@ -22,7 +22,7 @@ use Rattle.xl_core.specs.declared.judge.Plea.{Plea}
 use Rattle.xl_core.proofs.BreakingLaws.{recalls_sorted}
 use Rattle.xl_core.proofs.BegunLaws.{begun_leave}
 use Rattle.xl_core.proofs.WayLaws.{NoWay, Begins, way_is, way_names, way_waiters}
-use Rattle.xl_core.specs.Frames.{who_left, calls_in, serves_none, AllLeave, IsFrame, IsTicked, drawn_by, asks_to_hold, names_after, come_by}
+use Rattle.xl_core.specs.Frames.{who_left, who_expired, all_unleased, calls_in, serves_none, AllLeave, IsFrame, IsRenewed, IsTicked, drawn_by, asks_to_hold, names_after, come_by}
 use Rattle.xl_core.specs.Good.{are_apart, IsGood}
 use Rattle.xl_core.specs.Judge.{held_with}
 use Rattle.xl_core.specs.Settle.{settle, plea_again, way_again, waits_for, numbers_for, all_told, cancel, give_back, weaken, end_party, all_cancelled}
@@ -33,12 +33,12 @@ use Rattle.xl_core.specs.declared.ask.Effect.{Effect}
 use Rattle.xl_core.specs.declared.ask.Effect.TheVariants.{Begun, Served, Cancelled, Expired}
 use Rattle.xl_base.specs.declared.event.Moment.{Moment}
 use Rattle.xl_names.specs.declared.name.Name.TheVariants.{NfsParty}
-use Rattle.xl_core.specs.Leases.{later, first_ended}
+use Rattle.xl_core.specs.Leases.{Lease, later, without_lease, first_ended}
 use Rattle.xl_core.specs.Breaks.{ack, first_due, client_of}
-use Rattle.xl_core.specs.Ticks.{advanced, renew, end_some, expire, behind_told, expired_then, expired_for, expire_all, lapsed_by, lapse, lapsed_then, lapsed_for, tick}
+use Rattle.xl_core.specs.Ticks.{advanced, renew, end_some, unleased, expire, behind_told, expired_then, expired_for, expire_all, lapsed_by, lapse, lapsed_then, lapsed_for, tick}
 use Rattle.xl_core.proofs.ChangeLaws.{AskWay, Stays, Tests, Holds, Waits, Frees, Gives, decided_way}
 use Rattle.xl_core.proofs.WishFor.{wish_claims, after_claims}
-use Rattle.xl_core.proofs.GoodLaws.{once_answered, fewer_cancelled, fewer_filtered, Turned, IsMoved, Answers, Rests, IsFirst, each_turn, asked_way_good}
+use Rattle.xl_core.proofs.GoodLaws.{once_answered, fewer_cancelled, Turned, IsMoved, Answers, Rests, IsFirst, each_turn, asked_way_good, advanced_good, expire_good, lapse_good, lapsed_good}
 use Rattle.xl_core.proofs.RowLaws.{is_refusal}
 use Rattle.xl_core.proofs.SettleLaws.{apart_ids, all_out}
 
@@ -53,7 +53,7 @@ abbrev AskFrame : CoreState → Ask → Answered → Type 0
 AskFrame s a r = IsFrame s r.1 r.2 (drawn_by r.0) (names_after a r.0 s.names) (come_by a r.0 s.names)
 
 still : (s : CoreState) → IsFrame s [] s 0 s.names []
-still s = record { stable = refl; clock = refl; made = refl; failed = refl; counter = omega arith; names = refl; leave = tt; waiters = nobody s.waiters }
+still s = record { stable = refl; clock = refl; made = refl; failed = refl; counter = omega arith; names = refl; leave = tt; waiters = nobody s.waiters; times = refl; leases = refl }
 
 refused_frame : (s : CoreState) (a : Ask) (answer : Answer) → is_refusal answer ≡ true → AskFrame s a (answer, [], s)
 refused_frame s a (answers.Granted c) h = absurd (both_ways false refl h)
@@ -73,13 +73,13 @@ names_held a c names b e = ap (λ (x : Bool). if x then both_entered a names els
 way_frame : (s : CoreState) (a : Ask) (r : Answered) → AskWay s a r → AskFrame s a r
 unfolding held_with
 way_frame s a r (Stays answer refused e) = subst (AskFrame s a) (sym e) (refused_frame s a answer refused)
-way_frame s a r (Tests c holds e) = subst (AskFrame s a) (sym e) (record { stable = refl; clock = refl; made = refl; failed = refl; counter = omega arith; names = sym (names_held a c s.names false holds); leave = tt; waiters = nobody s.waiters })
-way_frame s a r (Holds c claims is holds e) = subst (AskFrame s a) (sym e) (record { stable = refl; clock = refl; made = refl; failed = refl; counter = omega arith; names = sym (names_held a c s.names true holds); leave = tt; waiters = nobody s.waiters })
+way_frame s a r (Tests c holds e) = subst (AskFrame s a) (sym e) (record { stable = refl; clock = refl; made = refl; failed = refl; counter = omega arith; names = sym (names_held a c s.names false holds); leave = tt; waiters = nobody s.waiters; times = refl; leases = refl })
+way_frame s a r (Holds c claims is holds e) = subst (AskFrame s a) (sym e) (record { stable = refl; clock = refl; made = refl; failed = refl; counter = omega arith; names = sym (names_held a c s.names true holds); leave = tt; waiters = nobody s.waiters; times = refl; leases = refl })
 way_frame s a r (Waits c cs may blocked is holds e) =
     subst (AskFrame s a) (sym e)
-    (record { stable = refl; clock = refl; made = refl; failed = refl; counter = refl; names = refl; leave = tt; waiters = ap (λ (ds : List Claim). s.waiters ++ waiter_of (s.counter + 1) a ds ∷ []) is })
-way_frame s a r (Frees c first last holds act file owner e) = subst (AskFrame s a) (sym e) (record { stable = refl; clock = refl; made = refl; failed = refl; counter = omega arith; names = sym (names_held a c s.names false holds); leave = tt; waiters = nobody s.waiters })
-way_frame s a r (Gives c d holds act file owner range e) = subst (AskFrame s a) (sym e) (record { stable = refl; clock = refl; made = refl; failed = refl; counter = omega arith; names = sym (names_held a c s.names false holds); leave = tt; waiters = nobody s.waiters })
+    (record { stable = refl; clock = refl; made = refl; failed = refl; counter = refl; names = refl; leave = tt; waiters = ap (λ (ds : List Claim). s.waiters ++ waiter_of (s.counter + 1) a ds ∷ []) is; times = refl; leases = refl })
+way_frame s a r (Frees c first last holds act file owner e) = subst (AskFrame s a) (sym e) (record { stable = refl; clock = refl; made = refl; failed = refl; counter = omega arith; names = sym (names_held a c s.names false holds); leave = tt; waiters = nobody s.waiters; times = refl; leases = refl })
+way_frame s a r (Gives c d holds act file owner range e) = subst (AskFrame s a) (sym e) (record { stable = refl; clock = refl; made = refl; failed = refl; counter = omega arith; names = sym (names_held a c s.names false holds); leave = tt; waiters = nobody s.waiters; times = refl; leases = refl })
 
 pub decided_frame : (n : ℕ) (left : Rooms) (s : CoreState) (a : Ask) → IsGood s → is_client a.owner a.party ≡ true → AskFrame s a (decided n left s a)
 decided_frame n left s a good client = way_frame s a (decided n left s a) (decided_way n left s a good client)
@@ -137,6 +137,8 @@ begun_frame c s = record {
   names = refl;
   leave = subst (λ (ids : List ℕ). AllLeave ids s.waiters) (sym (begun_leave s c)) tt;
   waiters = nobody s.waiters ∙ ap (λ (ids : List ℕ). all_cancelled ids s.waiters ++ []) (sym (begun_leave s c));
+  times = refl;
+  leases = refl;
 }
 
 pub made_way_frame : (p : Plea) (asked : List Claim) (s : CoreState) → (let way = made_way p asked s in IsFrame s way.0 way.1 (calls_in way.0) s.names [])
@@ -171,13 +173,15 @@ behind_frame p asked s u told given known come frame quiet =
       names = frame.names;
       leave = subst (λ (xs : List ℕ). AllLeave xs s.waiters) (sym ids) (subst (λ (ws : List Waiter). AllLeave (who_left told) ws) same frame.leave);
       waiters = frame.waiters ∙ (λ i. all_cancelled (sym ids i) (same i) ++ come);
+      times = frame.times ∙ first.times;
+      leases = frame.leases ∙ first.leases;
     }
 
 -- a wish that is granted leaves all but the claims
 same_frame : (s t u : CoreState) (told : List Effect) (given : ℕ) (known : List Name) (come : List Waiter) → u ≡ record t { claims = u.claims } → IsFrame s told t given known come → IsFrame s told u given known come
 same_frame s t u told given known come is frame =
     subst (λ (x : CoreState). IsFrame s told x given known come) (sym is)
-    (record { stable = frame.stable; clock = frame.clock; made = frame.made; failed = frame.failed; counter = frame.counter; names = frame.names; leave = frame.leave; waiters = frame.waiters })
+    (record { stable = frame.stable; clock = frame.clock; made = frame.made; failed = frame.failed; counter = frame.counter; names = frame.names; leave = frame.leave; waiters = frame.waiters; times = frame.times; leases = frame.leases })
 
 for_frame : (kinds : List CacheKind) (answer : Answer) (s t : CoreState) (told : List Effect) (given : ℕ) (known : List Name) (come : List Waiter) → IsFrame s told t given known come → IsFrame s told (wish_for kinds answer t) given known come
 for_frame kinds answer s t told given known come frame = same_frame s t (wish_for kinds answer t) told given known come (wish_claims kinds answer t) frame
@@ -214,10 +218,10 @@ first_frame left s turn first = by first.moved where
   by (Answers answer told new due pass clear) =
       let u = once_answered t w (first.claim ∷ first.claims) answer in
       whole (Served w.id answer ∷ []) (wish_for w.wish answer u) told new refl
-      (for_frame w.wish answer t u (Served w.id answer ∷ []) 0 s.names [] (record { stable = refl; clock = refl; made = refl; failed = refl; counter = omega arith; names = named; leave = (waits, tt); waiters = nobody (cancelled w.id t.waiters) }))
+      (for_frame w.wish answer t u (Served w.id answer ∷ []) 0 s.names [] (record { stable = refl; clock = refl; made = refl; failed = refl; counter = omega arith; names = named; leave = (waits, tt); waiters = nobody (cancelled w.id t.waiters); times = refl; leases = refl }))
   by (Rests e up) =
       whole [] t (ap (λ (x : Turned). x.0) e ∙ sym (append-nil way.0)) (ap (λ (x : Turned). x.1) e) refl
-      (record { stable = refl; clock = refl; made = refl; failed = refl; counter = omega arith; names = named; leave = tt; waiters = nobody t.waiters })
+      (record { stable = refl; clock = refl; made = refl; failed = refl; counter = omega arith; names = named; leave = tt; waiters = nobody t.waiters; times = refl; leases = refl })
 
 pub turn_frame : (n : ℕ) (left : Rooms) (s : CoreState) → IsGood s → IfSome (settle n left s) (λ r. IsFrame s r.0 r.1 (calls_in r.0) s.names [])
 turn_frame n left s good = each_turn n left s (λ r. IsFrame s r.0 r.1 (calls_in r.0) s.names []) good (λ turn first. first_frame left s turn first)
@@ -248,23 +252,23 @@ ask_frame n left s a good client =
 
 pub cancel_frame : (s : CoreState) (id : ℕ) → is_waiting id s.waiters ≡ true → IsFrame s (cancel s id).0 (cancel s id).1 0 s.names []
 unfolding cancel
-cancel_frame s id waits = record { stable = refl; clock = refl; made = refl; failed = refl; counter = omega arith; names = refl; leave = (waits, tt); waiters = nobody (cancelled id s.waiters) }
+cancel_frame s id waits = record { stable = refl; clock = refl; made = refl; failed = refl; counter = omega arith; names = refl; leave = (waits, tt); waiters = nobody (cancelled id s.waiters); times = refl; leases = refl }
 
 pub give_back_frame : (s : CoreState) (claim : Claim) → IsFrame s (give_back s claim).0 (give_back s claim).1 0 s.names []
 unfolding give_back
-give_back_frame s claim = record { stable = refl; clock = refl; made = refl; failed = refl; counter = omega arith; names = refl; leave = tt; waiters = nobody s.waiters }
+give_back_frame s claim = record { stable = refl; clock = refl; made = refl; failed = refl; counter = omega arith; names = refl; leave = tt; waiters = nobody s.waiters; times = refl; leases = refl }
 
 pub weaken_frame : (s : CoreState) (share : Claim) (access deny : Rwd) → IsFrame s (weaken s share access deny).0 (weaken s share access deny).1 0 s.names []
 unfolding weaken
-weaken_frame s share access deny = record { stable = refl; clock = refl; made = refl; failed = refl; counter = omega arith; names = refl; leave = tt; waiters = nobody s.waiters }
+weaken_frame s share access deny = record { stable = refl; clock = refl; made = refl; failed = refl; counter = omega arith; names = refl; leave = tt; waiters = nobody s.waiters; times = refl; leases = refl }
 
 pub ack_frame : (s : CoreState) (cache : Claim) (to : Option CacheKind) → IsFrame s (ack s cache to).0 (ack s cache to).1 0 s.names []
 unfolding ack
-ack_frame s cache to = record { stable = refl; clock = refl; made = refl; failed = refl; counter = omega arith; names = refl; leave = tt; waiters = nobody s.waiters }
+ack_frame s cache to = record { stable = refl; clock = refl; made = refl; failed = refl; counter = omega arith; names = refl; leave = tt; waiters = nobody s.waiters; times = refl; leases = refl }
 
 pub drawn_frame : (s : CoreState) → IsFrame s [] (drawn s) 1 s.names []
 unfolding drawn
-drawn_frame s = record { stable = refl; clock = refl; made = refl; failed = refl; counter = refl; names = refl; leave = tt; waiters = nobody s.waiters }
+drawn_frame s = record { stable = refl; clock = refl; made = refl; failed = refl; counter = refl; names = refl; leave = tt; waiters = nobody s.waiters; times = refl; leases = refl }
 
 told_left : (ids : List ℕ) → who_left (all_told ids) ≡ ids
 told_left [] = refl
@@ -298,6 +302,8 @@ end_party_frame s party good = record {
   names = refl;
   leave = subst (λ (ids : List ℕ). AllLeave ids s.waiters) (sym (told_left (numbers_for party s.waiters))) (party_leaves party s.waiters good.apart);
   waiters = sym (all_out party s.waiters good.apart) ∙ ap (λ (ids : List ℕ). all_cancelled ids s.waiters) (sym (told_left (numbers_for party s.waiters))) ∙ nobody _;
+  times = refl;
+  leases = refl;
 }
 
 -- ---- who leaves is served nothing
@@ -335,60 +341,109 @@ unserved_more (Begun c to number ∷ xs) ys first later = unserved_more xs ys fi
 unserved_more (Cancelled id ∷ xs) ys first later = unserved_more xs ys first later
 unserved_more (Expired client ∷ xs) ys first later = unserved_more xs ys first later
 
+-- who leaves by both, one after another
+leave_both : (xs ys : List ℕ) (ws : List Waiter) → AllLeave xs ws → AllLeave ys (all_cancelled xs ws) → AllLeave (xs ++ ys) ws
+leave_both [] ys ws first later = later
+leave_both (id ∷ xs) ys ws first later = (first.0, leave_both xs ys (cancelled id ws) first.1 later)
+
+cancelled_both : (xs ys : List ℕ) (ws : List Waiter) → all_cancelled (xs ++ ys) ws ≡ all_cancelled ys (all_cancelled xs ws)
+cancelled_both [] ys ws = refl
+cancelled_both (id ∷ xs) ys ws = cancelled_both xs ys (cancelled id ws)
+
+expired_both : (xs ys : List Effect) → who_expired (xs ++ ys) ≡ who_expired xs ++ who_expired ys
+expired_both [] ys = refl
+expired_both (Served id answer ∷ xs) ys = expired_both xs ys
+expired_both (Cancelled id ∷ xs) ys = expired_both xs ys
+expired_both (Begun c to call ∷ xs) ys = expired_both xs ys
+expired_both (Expired client ∷ xs) ys = ap (λ (clients : List (List ℕ)). client ∷ clients) (expired_both xs ys)
+
+unleased_both : (xs ys : List (List ℕ)) (ls : List Lease) → all_unleased (xs ++ ys) ls ≡ all_unleased ys (all_unleased xs ls)
+unleased_both [] ys ls = refl
+unleased_both (client ∷ xs) ys ls = unleased_both xs ys (without_lease client ls)
+
+-- who are taken out with their party are no clients that expired
+none_expired : (ids : List ℕ) → who_expired (all_told ids) ≡ []
+none_expired [] = refl
+none_expired (id ∷ ids) = none_expired ids
+
 -- what an expiry and those behind it leave alone
 abbrev pub IsLeft : CoreState → List Effect × CoreState → Type 0
-IsLeft s r = IsTicked s s.clock r.1 × (serves_none r.0 ≡ true)
+IsLeft s r = (IsGood s → IsTicked s s.clock r.0 r.1) × (serves_none r.0 ≡ true)
 
 clock_stays : (now : Moment) → later now now ≡ now
 clock_stays now = elim (cases_Bool (nat_lt now.0 now.0)) [ inl e ↦ rw e refl | inr e ↦ rw e refl ]
 
-left_so : (s : CoreState) → IsLeft s ([], s)
-left_so s = (record { clock = sym (clock_stays s.clock); stable = refl; made = refl; failed = refl; counter = refl; names = refl; waiters = omega arith }, refl)
+-- a call by which nobody comes, no number is given out and no client expires
+framed_ticked : (s t : CoreState) (told : List Effect) → who_expired told ≡ [] → IsFrame s told t 0 s.names [] → IsTicked s s.clock told t
+framed_ticked s t told none frame = record {
+  clock = frame.clock ∙ sym (clock_stays s.clock);
+  stable = frame.stable;
+  made = frame.made;
+  failed = frame.failed;
+  counter = omega (arith, frame.counter);
+  names = frame.names;
+  leave = frame.leave;
+  waiters = frame.waiters ∙ append-nil (all_cancelled (who_left told) s.waiters);
+  times = frame.times;
+  leases = frame.leases ∙ ap (λ (clients : List (List ℕ)). all_unleased clients s.leases) (sym none);
+}
 
-ended_left : (s : CoreState) (party : Party) → IsLeft s (end_party s party)
+left_so : (s : CoreState) → IsLeft s ([], s)
+left_so s = (λ good. framed_ticked s s [] refl (still s), refl)
+
+ended_expires : (s : CoreState) (party : Party) → who_expired (end_party s party).0 ≡ []
 unfolding end_party
-ended_left s party = (
-  record { clock = sym (clock_stays s.clock); stable = refl; made = refl; failed = refl; counter = refl; names = refl; waiters = fewer_filtered (λ w. not (waits_for party w)) s.waiters },
-  told_unserved (numbers_for party s.waiters),
-)
+ended_expires s party = none_expired (numbers_for party s.waiters)
 
 some_left : (s : CoreState) (party : Option Party) → IsLeft s (end_some s party)
 some_left s None = left_so s
-some_left s (Some party) = ended_left s party
+some_left s (Some party) = (λ good. framed_ticked s (end_party s party).1 (end_party s party).0 (ended_expires s party) (end_party_frame s party good), end_party_unserved s party)
+
+-- and of what comes behind it
+ticked_on : (s t u : CoreState) (now : Moment) (told more : List Effect) → IsTicked s now told t → IsTicked t t.clock more u → IsTicked s now (told ++ more) u
+ticked_on s t u now told more first next = record {
+  clock = next.clock ∙ clock_stays t.clock ∙ first.clock;
+  stable = next.stable ∙ first.stable;
+  made = next.made ∙ first.made;
+  failed = next.failed ∙ first.failed;
+  counter = next.counter ∙ first.counter;
+  names = next.names ∙ first.names;
+  leave = subst (λ (ids : List ℕ). AllLeave ids s.waiters) (sym (told_both told more)) (leave_both (who_left told) (who_left more) s.waiters first.leave (subst (λ (ws : List Waiter). AllLeave (who_left more) ws) first.waiters next.leave));
+  waiters =
+      next.waiters ∙ ap (λ (ws : List Waiter). all_cancelled (who_left more) ws) first.waiters ∙ sym (cancelled_both (who_left told) (who_left more) s.waiters)
+      ∙ ap (λ (ids : List ℕ). all_cancelled ids s.waiters) (sym (told_both told more));
+  times = next.times ∙ first.times;
+  leases =
+      next.leases ∙ ap (λ (ls : List Lease). all_unleased (who_expired more) ls) first.leases ∙ sym (unleased_both (who_expired told) (who_expired more) s.leases)
+      ∙ ap (λ (clients : List (List ℕ)). all_unleased clients s.leases) (sym (expired_both told more));
+}
+
+left_on : (s t : CoreState) (told : List Effect) (r : List Effect × CoreState) → IsLeft s (told, t) → (IsGood s → IsGood t) → IsLeft t r → IsLeft s (behind_told told r)
+left_on s t told r first sound next = (λ good. ticked_on s t r.1 s.clock told r.0 (first.0 good) (next.0 (sound good)), unserved_more told r.0 first.1 next.1)
+
+-- the lease goes, which is told last
+lease_goes : (s t : CoreState) (client : List ℕ) (told : List Effect) → IsTicked s s.clock told t → (let r = unleased client (told, t) in IsTicked s s.clock r.0 r.1)
+lease_goes s t client told is = ticked_on s t (record t { leases = without_lease client t.leases }) s.clock told (Expired client ∷ []) is
+    (record { clock = sym (clock_stays t.clock); stable = refl; made = refl; failed = refl; counter = refl; names = refl; leave = tt; waiters = refl; times = refl; leases = refl })
 
 pub expire_left : (s : CoreState) (client : List ℕ) → IsLeft s (expire s client)
 unfolding expire
 expire_left s client =
-    let party = party_named s.names (NfsParty client) in
-    let is = some_left s party in (
-      record { clock = is.0.clock; stable = is.0.stable; made = is.0.made; failed = is.0.failed; counter = is.0.counter; names = is.0.names; waiters = is.0.waiters },
-      unserved_more (end_some s party).0 (Expired client ∷ []) is.1 refl,
-    )
-
-left_on : (s t : CoreState) (told : List Effect) (r : List Effect × CoreState) → IsLeft s (told, t) → IsLeft t r → IsLeft s (behind_told told r)
-left_on s t told r first next = (
-  record {
-    clock = next.0.clock ∙ clock_stays t.clock ∙ first.0.clock;
-    stable = next.0.stable ∙ first.0.stable;
-    made = next.0.made ∙ first.0.made;
-    failed = next.0.failed ∙ first.0.failed;
-    counter = next.0.counter ∙ first.0.counter;
-    names = next.0.names ∙ first.0.names;
-    waiters = omega (arith, first.0.waiters, next.0.waiters);
-  },
-  unserved_more told r.0 first.1 next.1,
-)
+    let r = end_some s (party_named s.names (NfsParty client)) in
+    let is = some_left s (party_named s.names (NfsParty client)) in
+    (λ good. lease_goes s r.1 client r.0 (is.0 good), unserved_more r.0 (Expired client ∷ []) is.1 refl)
 
 then_left : (rest : CoreState → List Effect × CoreState) (s : CoreState) (o : Option (List ℕ)) → ((t : CoreState) → IsLeft t (rest t)) → IsLeft s (expired_then rest s o)
 then_left rest s None each = left_so s
-then_left rest s (Some client) each = left_on s (expire s client).1 (expire s client).0 (rest (expire s client).1) (expire_left s client) (each (expire s client).1)
+then_left rest s (Some client) each = left_on s (expire s client).1 (expire s client).0 (rest (expire s client).1) (expire_left s client) (expire_good s client) (each (expire s client).1)
 
 expired_left : (fuel : ℕ) (s : CoreState) → IsLeft s (expired_for fuel s)
 expired_left zero s = left_so s
 expired_left (suc fuel) s = then_left (expired_for fuel) s (first_ended s.clock s.leases) (λ t. expired_left fuel t)
 
 without_left : (s : CoreState) (cache : Claim) (client : Option (List ℕ)) → IsLeft s (lapsed_by s cache client)
-without_left s cache None = (record { clock = sym (clock_stays s.clock); stable = refl; made = refl; failed = refl; counter = refl; names = refl; waiters = omega arith }, refl)
+unfolding give_back
+without_left s cache None = (λ good. framed_ticked s (lapsed_by s cache None).1 [] refl (give_back_frame s cache), refl)
 without_left s cache (Some client) = expire_left s client
 
 pub lapse_left : (s : CoreState) (cache : Claim) → IsLeft s (lapse s cache)
@@ -397,7 +452,7 @@ lapse_left s cache = without_left s cache (client_of s.names cache.party)
 
 lapsed_then_left : (rest : CoreState → List Effect × CoreState) (s : CoreState) (o : Option Claim) → ((t : CoreState) → IsLeft t (rest t)) → IsLeft s (lapsed_then rest s o)
 lapsed_then_left rest s None each = left_so s
-lapsed_then_left rest s (Some cache) each = left_on s (lapse s cache).1 (lapse s cache).0 (rest (lapse s cache).1) (lapse_left s cache) (each (lapse s cache).1)
+lapsed_then_left rest s (Some cache) each = left_on s (lapse s cache).1 (lapse s cache).0 (rest (lapse s cache).1) (lapse_left s cache) (lapse_good s cache) (each (lapse s cache).1)
 
 lapsed_left : (fuel : ℕ) (s : CoreState) → IsLeft s (lapsed_for fuel s)
 lapsed_left zero s = left_so s
@@ -411,25 +466,14 @@ ticked_left : (s : CoreState) (now : Moment) → IsLeft (advanced s now) (tick s
 unfolding tick
 ticked_left s now =
     let r = lapsed_for (length s.claims) (advanced s now) in
-    left_on (advanced s now) r.1 r.0 (expire_all r.1) (lapsed_left (length s.claims) (advanced s now)) (all_left r.1)
+    left_on (advanced s now) r.1 r.0 (expire_all r.1) (lapsed_left (length s.claims) (advanced s now)) (lapsed_good (length s.claims) (advanced s now)) (all_left r.1)
 
-pub advanced_ticked : (s : CoreState) (now : Moment) → IsTicked s now (advanced s now)
+pub advanced_ticked : (s : CoreState) (now : Moment) → IsTicked s now [] (advanced s now)
 unfolding advanced
-advanced_ticked s now = record { clock = refl; stable = refl; made = refl; failed = refl; counter = refl; names = refl; waiters = omega arith }
+advanced_ticked s now = record { clock = refl; stable = refl; made = refl; failed = refl; counter = refl; names = refl; leave = tt; waiters = refl; times = refl; leases = refl }
 
-pub tick_frame : (s : CoreState) (now : Moment) → IsTicked s now (tick s now).1
-tick_frame s now =
-    let first = advanced_ticked s now in
-    let next = (ticked_left s now).0 in
-    record {
-      clock = next.clock ∙ clock_stays (advanced s now).clock ∙ first.clock;
-      stable = next.stable ∙ first.stable;
-      made = next.made ∙ first.made;
-      failed = next.failed ∙ first.failed;
-      counter = next.counter ∙ first.counter;
-      names = next.names ∙ first.names;
-      waiters = omega (arith, first.waiters, next.waiters);
-    }
+pub tick_frame : (s : CoreState) (now : Moment) → IsGood s → IsTicked s now (tick s now).0 (tick s now).1
+tick_frame s now good = ticked_on s (advanced s now) (tick s now).1 now [] (tick s now).0 (advanced_ticked s now) ((ticked_left s now).0 (advanced_good s now good))
 
 pub tick_unserved : (s : CoreState) (now : Moment) → serves_none (tick s now).0 ≡ true
 tick_unserved s now = (ticked_left s now).1
@@ -438,9 +482,9 @@ pub renew_unserved : (s : CoreState) (client : List ℕ) → serves_none (renew 
 unfolding renew
 renew_unserved s client = refl
 
-pub renew_frame : (s : CoreState) (client : List ℕ) → IsFrame s (renew s client).0 (renew s client).1 0 s.names []
+pub renew_frame : (s : CoreState) (client : List ℕ) → IsRenewed s client (renew s client).0 (renew s client).1
 unfolding renew
-renew_frame s client = record { stable = refl; clock = refl; made = refl; failed = refl; counter = omega arith; names = refl; leave = tt; waiters = nobody s.waiters }
+renew_frame s client = record { silent = refl; claims = refl; waiters = refl; names = refl; stable = refl; clock = refl; times = refl; leases = refl; counter = refl; made = refl; failed = refl }
 
 -- ---- the stores of a step
 

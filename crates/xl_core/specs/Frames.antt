@@ -1,11 +1,11 @@
 -- What each call of the core leaves alone, what it may raise, and who leaves the queue by it.
-use Rattle.std.specs.Prelude.{◌≡◌, ℕ, suc, ◌+◌, Some, Bool, true, false, if◌then◌else◌, List, [], ◌∷◌, ◌++◌, length, ◌≤◌}
+use Rattle.std.specs.Prelude.{◌≡◌, ℕ, suc, ◌+◌, Some, Bool, true, false, if◌then◌else◌, List, [], ◌∷◌, ◌++◌}
 use Rattle.xl_names.specs.declared.name.Name.{Name}
 use Rattle.xl_wait.specs.Waiting.{is_waiting, cancelled}
 use Rattle.xl_wait.specs.declared.waiter.Waiter.{Waiter}
 use Rattle.xl_base.specs.declared.event.Moment.{Moment}
 use Rattle.xl_core.specs.State.{CoreState}
-use Rattle.xl_core.specs.Leases.{later}
+use Rattle.xl_core.specs.Leases.{Lease, moment_after, later, with_lease, without_lease}
 use Rattle.xl_core.specs.Asking.{both_entered, asked_whats, asked_claims}
 use Rattle.xl_core.specs.Decide.{waiter_of}
 use Rattle.xl_core.specs.Settle.{all_cancelled}
@@ -15,7 +15,7 @@ use Rattle.xl_core.specs.declared.ask.Answer.{Answer}
 use Rattle.xl_core.specs.declared.ask.Answer.TheVariants.{Granted, Queued}
 use Rattle.xl_core.specs.declared.ask.Ask.{Ask}
 use Rattle.xl_core.specs.declared.ask.Effect.{Effect}
-use Rattle.xl_core.specs.declared.ask.Effect.TheVariants.{Begun, Served, Cancelled}
+use Rattle.xl_core.specs.declared.ask.Effect.TheVariants.{Begun, Served, Cancelled, Expired}
 
 -- ---- who leaves the queue
 
@@ -34,6 +34,20 @@ abbrev pub AllLeave : List ℕ → List Waiter → Type 0
 AllLeave [] ws = Unit {0}
 AllLeave (id ∷ ids) ws = (is_waiting id ws ≡ true) × AllLeave ids (cancelled id ws)
 
+-- the clients that these tell have expired, in order
+abbrev pub with_expired : Effect → List (List ℕ) → List (List ℕ)
+with_expired (Expired client) clients = client ∷ clients
+with_expired _ clients = clients
+
+abbrev pub who_expired : List Effect → List (List ℕ)
+who_expired [] = []
+who_expired (effect ∷ effects) = with_expired effect (who_expired effects)
+
+-- the leases without these clients', one after another
+abbrev pub all_unleased : List (List ℕ) → List Lease → List Lease
+all_unleased [] leases = leases
+all_unleased (client ∷ clients) leases = all_unleased clients (without_lease client leases)
+
 -- how many of these are told by a call of the server's own, which has a number
 abbrev pub with_call : Effect → ℕ → ℕ
 with_call (Begun cache to (Some number)) calls = suc calls
@@ -51,8 +65,8 @@ serves_none (effect ∷ effects) = serves_none effects
 
 -- ---- a call
 
--- A call that tells these effects: the record, the clock and the stores of the step stand, so many numbers are given out,
--- these names are kept then, who leaves the queue is told of once, and these come behind those who stay.
+-- A call that tells these effects: the record, the clock, the times, the leases and the stores of the step stand, so many numbers
+-- are given out, these names are kept then, who leaves the queue is told of once, and these come behind those who stay.
 pub record IsFrame (s : CoreState) (told : List Effect) (t : CoreState) (given : ℕ) (known : List Name) (come : List Waiter) : Type 0 where
   pub stable : t.stable ≡ s.stable
   pub clock : t.clock ≡ s.clock
@@ -62,17 +76,37 @@ pub record IsFrame (s : CoreState) (told : List Effect) (t : CoreState) (given :
   pub names : t.names ≡ known
   pub leave : AllLeave (who_left told) s.waiters
   pub waiters : t.waiters ≡ all_cancelled (who_left told) s.waiters ++ come
+  pub times : t.times ≡ s.times
+  pub leases : t.leases ≡ s.leases
 
--- A reading of the clock: the clock shows the later moment, some waiters may have left, and the record, the stores of the
--- step, the numbers and the names stand.
-pub record IsTicked (s : CoreState) (now : Moment) (t : CoreState) : Type 0 where
+-- A client's lease renewed: it ends its whole length from now, nothing is told, and all else stands.
+pub record IsRenewed (s : CoreState) (client : List ℕ) (told : List Effect) (t : CoreState) : Type 0 where
+  pub silent : told ≡ []
+  pub claims : t.claims ≡ s.claims
+  pub waiters : t.waiters ≡ s.waiters
+  pub names : t.names ≡ s.names
+  pub stable : t.stable ≡ s.stable
+  pub clock : t.clock ≡ s.clock
+  pub times : t.times ≡ s.times
+  pub leases : t.leases ≡ with_lease client (moment_after s.clock s.times.lease) s.leases
+  pub counter : t.counter ≡ s.counter
+  pub made : t.made ≡ s.made
+  pub failed : t.failed ≡ s.failed
+
+-- A reading of the clock that tells these effects: the clock shows the later moment, who leaves the queue is told of once and
+-- nobody comes, a lease goes where its client is told of, and the record, the times, the stores of the step, the numbers and the
+-- names stand.
+pub record IsTicked (s : CoreState) (now : Moment) (told : List Effect) (t : CoreState) : Type 0 where
   pub clock : t.clock ≡ later s.clock now
   pub stable : t.stable ≡ s.stable
   pub made : t.made ≡ s.made
   pub failed : t.failed ≡ s.failed
   pub counter : t.counter ≡ s.counter
   pub names : t.names ≡ s.names
-  pub waiters : length t.waiters ≤ length s.waiters
+  pub leave : AllLeave (who_left told) s.waiters
+  pub waiters : t.waiters ≡ all_cancelled (who_left told) s.waiters
+  pub times : t.times ≡ s.times
+  pub leases : t.leases ≡ all_unleased (who_expired told) s.leases
 
 -- ---- an ask, by its answer
 

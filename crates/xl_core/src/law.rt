@@ -29,7 +29,7 @@ ghost use Rattle.xl_core.specs.State.{CoreState, started, step_begun, drawn};
 ghost use Rattle.xl_core.specs.Asking.{asker, asked_whats, asked_what, asked_claim, asked_claims, known_claim, is_named, IsFit};
 ghost use Rattle.xl_core.specs.Causes.{IsSameAsker, IsConflict, limits_of_grant, IsClaimDue, IsTestDue, IsUnlockDue, IsWishDue, IsTurn, IsOwn};
 ghost use Rattle.xl_core.specs.Decide.{waiter_of, way, ask};
-ghost use Rattle.xl_core.specs.Frames.{calls_in, drawn_by, names_after, come_by, who_left, serves_none, IsFrame, IsTicked};
+ghost use Rattle.xl_core.specs.Frames.{calls_in, drawn_by, names_after, come_by, who_left, serves_none, IsFrame, IsRenewed, IsTicked};
 ghost use Rattle.xl_core.specs.Good.{IsHeld, IsGood, IsSettled, holding, caches_of};
 ghost use Rattle.xl_core.specs.Limits.{IsRoom};
 ghost use Rattle.xl_core.specs.Settle.{settle, turns_left, AllRest, waits_for, cancel, give_back, share_has, weaken, end_party};
@@ -151,8 +151,9 @@ pub fn only_that_share_weakens()
 
 /// What each call leaves alone, what it may raise, and who leaves the queue by it (see `IsFrame`): an ask that is told to
 /// wait draws one number and comes to wait, one that is granted what it is to hold or waits has its names kept, and nobody
-/// leaves; of a turn, a cancel and a party's end those leave who are told of, each once; nothing else comes or goes. A reading of the
-/// clock raises the clock, and leaves record, numbers and names (see `IsTicked`).
+/// leaves; of a turn, a cancel and a party's end those leave who are told of, each once; nothing else comes or goes. A renewal sets
+/// its client's lease alone (see `IsRenewed`). A reading of the clock raises the clock, and leaves record, times, numbers and names;
+/// those leave who are told of, each once, and of the leases those of the clients that are told of (see `IsTicked`).
 pub fn calls_have_frames()
     ensures asks { (n : ℕ) (left : Rooms) (s : CoreState) (a : Ask) → IsGood s → IsFit a → IsFrame s (ask n left s a).1 (ask n left s a).2 (drawn_by (ask n left s a).0 + calls_in (ask n left s a).1) (names_after a (ask n left s a).0 s.names) (come_by a (ask n left s a).0 s.names) }
     ensures tells { (n : ℕ) (left : Rooms) (s : CoreState) (a : Ask) → IsGood s → IsFit a → (ask n left s a).1 ≡ (way left s a).0 }
@@ -163,8 +164,8 @@ pub fn calls_have_frames()
     ensures acks { (s : CoreState) (cache : Claim) (to : Option CacheKind) → IsFrame s (ack s cache to).0 (ack s cache to).1 0 s.names [] }
     ensures ends { (s : CoreState) (party : Party) → IsGood s → IsFrame s (end_party s party).0 (end_party s party).1 0 s.names [] }
     ensures draws { (s : CoreState) → IsFrame s [] (drawn s) 1 s.names [] }
-    ensures renews { (s : CoreState) (client : List ℕ) → IsFrame s (renew s client).0 (renew s client).1 0 s.names [] }
-    ensures ticks { (s : CoreState) (now : Moment) → IsTicked s now (tick s now).1 }
+    ensures renews { (s : CoreState) (client : List ℕ) → IsRenewed s client (renew s client).0 (renew s client).1 }
+    ensures ticks { (s : CoreState) (now : Moment) → IsGood s → IsTicked s now (tick s now).0 (tick s now).1 }
 {}
 
 /// Nobody is served but by a turn: not where a waiter cancels, a claim is given back, a share is made weaker, a break is
