@@ -10,6 +10,8 @@ use Rattle.xl_rpc.specs.Replies.{is_denied, stat, reply_at}
 use Rattle.xl_rpc.specs.Xdr.{unsigned_at}
 use Rattle.xl_rpc.specs.declared.fault.RpcBad.{RpcBad}
 use Rattle.xl_rpc.specs.declared.reply.Verdict.{Verdict}
+use Rattle.xl_programs.specs.Programs as programs
+use Rattle.xl_programs.specs.declared.program.Program.TheVariants.{Nlm, Nfs}
 use Rattle.xl_nlm.specs.Arguments.{arguments_at}
 use Rattle.xl_nlm.specs.Items.{CallItem}
 use Rattle.xl_nfs.specs.Compounds.{CompoundHeadItem, compound_head_at}
@@ -87,11 +89,11 @@ compound_word (Err fault) = codes "bad"
 unfoldable pub nfs_word : ℕ → List ℕ → List ℕ
 nfs_word proc bytes = if proc == 0 then whole_word bytes else if proc == 1 then compound_word (compound_head_at bytes) else codes "other"
 
--- NLM is program 100021, NFS 100003, each version 4
+-- by the program and its version
 unfoldable pub call_word : HeadItem → List ℕ → List ℕ
 call_word h bytes =
-    if (h.prog == 100021) && (h.vers == 4) then nlm_word h.proc bytes
-    else if (h.prog == 100003) && (h.vers == 4) then nfs_word h.proc bytes
+    if (h.prog == programs.number_of Nlm) && (h.vers == programs.version_of Nlm) then nlm_word h.proc bytes
+    else if (h.prog == programs.number_of Nfs) && (h.vers == programs.version_of Nfs) then nfs_word h.proc bytes
     else codes "other"
 
 -- ---- ONC RPC

@@ -19,6 +19,7 @@ use std::fmt::Write;
 use xl_names::put_hex_word;
 use xl_nfs::{NfsOp, next_op, operation, read_head};
 use xl_nlm::procedure;
+use xl_programs::{NFS, NFS_VERSION, NLM, NLM_VERSION};
 use xl_rpc::{Call, CallHead, Reply, RpcBad, Verdict, Xdr, read_call, read_reply};
 use xl_smb::{Command, SmbHead, SmbMessage};
 
@@ -156,9 +157,9 @@ fn put_call_word(
 ) -> Result<(), AllocError>
     ensures { OnOk result (string_bytes text.new ≡ string_bytes text.old ++ call_word (shown_head head.now) args.now.rest.now) }
 {
-    if head.prog == procedure::PROGRAM && head.vers == procedure::VERSION {
+    if head.prog == NLM && head.vers == NLM_VERSION {
         put_nlm_word(text, head.proc, args)?;
-    } else if head.prog == operation::PROGRAM && head.vers == operation::VERSION {
+    } else if head.prog == NFS && head.vers == NFS_VERSION {
         put_nfs_word(alloc, text, head.proc, args)?;
     } else {
         text.push_str("other")?;

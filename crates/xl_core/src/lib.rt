@@ -28,4 +28,4 @@ mod wishing;
 pub use ask::{Act, Answer, Ask, Effect, Who};
 pub use doors::Core;
 pub use lease::Times;
-pub use limits::{MOST_HOSTS, MOST_OPENS, MOST_OWNERS};
+pub use limits::{MOST_HOSTS, MOST_OPENS, MOST_OWNERS, NUMBERS};

@@ -6,12 +6,12 @@ use Rattle.xl_names.specs.declared.name.Name.{Name}
 use Rattle.xl_names.specs.declared.name.Name.TheVariants.{NlmRange, NlmShare, NlmParty}
 use Rattle.xl_nlm.specs.Items.{LockItem, TestArgsItem, LockArgsItem, UnlockArgsItem, ShareArgsItem}
 use Rattle.xl_nlm.specs.declared.item.Rights.{Rights}
+use Rattle.xl_wait.specs.Waiting.{no_rows}
 use Rattle.xl_wait.specs.declared.waiter.Rooms.{Rooms}
 use Rattle.xl_core.specs.declared.ask.Who.TheVariants.{Named}
 use Rattle.xl_core.specs.declared.ask.Act.{Act}
 use Rattle.xl_core.specs.declared.ask.Act.TheVariants as acts
 use Rattle.xl_core.specs.declared.ask.Ask.{Ask}
-use Rattle.xl_front_nlm.specs.Hosts.{no_rows}
 use Rattle.xl_front_nlm.specs.declared.aim.Aim.{Aim}
 use Rattle.xl_front_nlm.specs.declared.grant.Grant.{Grant}
 

@@ -31,10 +31,6 @@ rooms hosts = record { hosts = most_hosts - length hosts; owners = most_owners; 
 abbrev pub host_rows : List ℕ → List (List ℕ) → Rooms
 host_rows caller hosts = record { hosts = if is_host caller hosts then 0 else 1; owners = 0; opens = 0 }
 
--- no row is added
-abbrev pub no_rows : Rooms
-no_rows = record { hosts = 0; owners = 0; opens = 0 }
-
 -- a grant and a wait make the caller a host
 abbrev pub makes_host : Answer → Bool
 makes_host (Granted c) = true

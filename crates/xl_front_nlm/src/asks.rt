@@ -12,13 +12,7 @@ use xl_core::{Act, Ask, Who};
 use xl_matrix::{Extent, Rwd};
 use xl_names::Name;
 use xl_nlm::{Lock, LockArgs, Rights, ShareArgs, TestArgs, UnlockArgs};
-use xl_wait::Rooms;
-
-const NO_ROWS: Rooms = Rooms {
-    hosts: 0,
-    owners: 0,
-    opens: 0,
-};
+use xl_wait::{NO_ROWS, Rooms};
 
 /// The owner of what a lock names.
 pub(crate) fn owner_of(alloc: Global, lock: &Lock) -> Result<Name, AllocError>

@@ -42,7 +42,7 @@ use Rattle.xl_smb_state.specs.declared.row.Scope.{Scope}
 use Rattle.xl_smb_state.specs.declared.row.Scope.TheVariants as scope
 use Rattle.xl_smb_state.specs.declared.row.Waiting.{Waiting}
 use Rattle.xl_cache.specs.Levels.{level_of}
-use Rattle.xl_wait.specs.Waiting.{cancelled, is_waiting}
+use Rattle.xl_wait.specs.Waiting.{no_rows, cancelled, is_waiting}
 use Rattle.xl_wait.specs.declared.waiter.Rooms.{Rooms}
 use Rattle.xl_wait.specs.declared.waiter.Waiter.{Waiter}
 use Rattle.xl_core.proofs.DeedLists.{deeds_good}
@@ -66,7 +66,7 @@ use Rattle.xl_core.specs.declared.ask.Who.TheVariants as who
 use Rattle.xl_smb_locks.proofs.UnlockLaws.{any_stores, no_way}
 use Rattle.xl_smb_locks.specs.Elements.{extent_of, is_count, lock_fault, unlock_fault, unlocks_first}
 use Rattle.xl_smb_locks.specs.Finals.{and_sent, cancels, dismissed, ended_with, is_cancelled, request_ended, told_of, open_refusal, opened_outs, request_served, served_with, may_stand, served_by, stood}
-use Rattle.xl_smb_locks.specs.Locks.{lock_ask, lock_told, no_rows, range_of, unlock_ask, unlock_next, unlock_told, unlocks}
+use Rattle.xl_smb_locks.specs.Locks.{lock_ask, lock_told, range_of, unlock_ask, unlock_next, unlock_told, unlocks}
 use Rattle.xl_smb_locks.specs.declared.locking.Locking.{Locking}
 use Rattle.xl_smb_locks.specs.declared.status.SmbStatus.{SmbStatus}
 use Rattle.xl_smb_locks.specs.declared.status.SmbStatus.TheVariants as statuses

@@ -5,10 +5,10 @@ use Rattle.xl_smb.specs.Heads.{head_of}
 use Rattle.xl_smb.specs.declared.head.SmbHead.{SmbHead}
 use Rattle.xl_smb_state.specs.State.{Lists}
 use Rattle.xl_smb_state.specs.declared.row.Scope.TheVariants as scope
+use Rattle.xl_wait.specs.Waiting.{no_rows}
 use Rattle.xl_core.specs.Decide.{ask}
 use Rattle.xl_core.specs.Deeds.{all_done, all_told_of, answers_of}
 use Rattle.xl_core.specs.State.{CoreState, drawn}
-use Rattle.xl_smb_locks.specs.Locks.{no_rows}
 use Rattle.xl_front_smb.specs.Ending.{numbers_under, all_dismissed, smb_end_deeds, smb_end}
 use Rattle.xl_front_smb.specs.FrontSmb.{sent_by, head_heard, plan_for, deeds_for, smb_deeds, reply_for, smb_reply, finals_for, smb_replies, stepped, smb_step}
 use Rattle.xl_front_smb.specs.Plans.{Plan, Fails, Does, Opens, Locks, deeds_of, told_by, lists_by, carried}

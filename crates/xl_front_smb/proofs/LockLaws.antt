@@ -10,7 +10,7 @@ use Rattle.xl_matrix.specs.declared.claim.Extent.TheVariants.{Bytes, Empty}
 use Rattle.xl_smb.specs.declared.lock.LockElement.{LockElement}
 use Rattle.xl_smb_state.specs.Links.{most_waiting}
 use Rattle.xl_smb_state.specs.State.{Lists, waiting_of}
-use Rattle.xl_wait.specs.Waiting.{is_waiting}
+use Rattle.xl_wait.specs.Waiting.{no_rows, is_waiting}
 use Rattle.xl_wait.specs.declared.waiter.Waiter.{Waiter}
 use Rattle.xl_core.specs.Decide.{Answered, freed, unlocked, decided, ask}
 use Rattle.xl_core.specs.Deeds.{Deed, all_done, all_told_of}
@@ -27,7 +27,7 @@ use Rattle.xl_core.specs.declared.ask.Answer.TheVariants as answers
 use Rattle.xl_core.specs.declared.ask.Ask.{Ask}
 use Rattle.xl_core.specs.declared.ask.Effect.{Effect}
 use Rattle.xl_smb_locks.specs.Elements.{extent_of, is_count, unlock_fault}
-use Rattle.xl_smb_locks.specs.Locks.{no_rows, unlock_ask, unlock_told, unlock_next, unlocks}
+use Rattle.xl_smb_locks.specs.Locks.{unlock_ask, unlock_told, unlock_next, unlocks}
 use Rattle.xl_smb_locks.specs.declared.locking.Locking.{Locking}
 use Rattle.xl_smb_locks.specs.declared.status.SmbStatus.{SmbStatus}
 use Rattle.xl_smb_locks.proofs.UnlockLaws.{any_stores, no_way}

@@ -16,7 +16,7 @@ use Rattle.xl_smb_state.specs.declared.row.Request.TheVariants as request
 use Rattle.xl_smb_state.specs.declared.row.Waiting.{Waiting}
 use Rattle.xl_table.specs.Elements.{unlocked_elements}
 use Rattle.xl_table.specs.Elements.{elements_of as ranges_of}
-use Rattle.xl_wait.specs.Waiting.{is_waiting}
+use Rattle.xl_wait.specs.Waiting.{no_rows, is_waiting}
 use Rattle.xl_core.specs.Asking.{range_what}
 use Rattle.xl_core.specs.Begin.{others_of}
 use Rattle.xl_core.specs.Decide.{Answered, way, ask}
@@ -35,7 +35,7 @@ use Rattle.xl_core.proofs.GoodLaws.{ask_good}
 use Rattle.xl_core.proofs.WayAsks.{ask_way_keeps, ask_way_names, ask_way_waiters, ask_own}
 use Rattle.xl_core.proofs.WayOpens.{ask_locked, ask_unlocked}
 use Rattle.xl_smb_locks.specs.Elements.{extent_of, is_count, unlocks_first, unlock_fault, lock_fault}
-use Rattle.xl_smb_locks.specs.Locks.{no_rows, range_of, unlock_ask, unlock_told, unlock_next, unlocks, lock_ask, lock_told}
+use Rattle.xl_smb_locks.specs.Locks.{range_of, unlock_ask, unlock_told, unlock_next, unlocks, lock_ask, lock_told}
 use Rattle.xl_smb_locks.specs.declared.locking.Locking.{Locking}
 use Rattle.xl_smb_locks.specs.declared.locking.Locking.TheVariants as locking
 use Rattle.xl_smb_locks.specs.declared.status.SmbStatus.{SmbStatus}

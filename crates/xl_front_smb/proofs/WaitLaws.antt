@@ -28,14 +28,14 @@ use Rattle.xl_smb_state.specs.declared.row.Open.{Open}
 use Rattle.xl_smb_state.specs.declared.row.Place.{Place}
 use Rattle.xl_smb_state.specs.declared.row.Scope.TheVariants as scope
 use Rattle.xl_smb_state.specs.declared.row.Waiting.{Waiting}
-use Rattle.xl_wait.specs.Waiting.{is_waiting}
+use Rattle.xl_wait.specs.Waiting.{no_rows, is_waiting}
 use Rattle.xl_core.specs.Decide.{ask}
 use Rattle.xl_core.specs.State.{CoreState, drawn}
 use Rattle.xl_core.specs.declared.ask.Answer.{Answer}
 use Rattle.xl_core.specs.declared.ask.Answer.TheVariants as answers
 use Rattle.xl_core.specs.declared.ask.Effect.{Effect}
 use Rattle.xl_smb_locks.specs.Elements.{is_count, unlocks_first, lock_fault}
-use Rattle.xl_smb_locks.specs.Locks.{no_rows, unlocks, lock_told}
+use Rattle.xl_smb_locks.specs.Locks.{unlocks, lock_told}
 use Rattle.xl_smb_locks.specs.declared.locking.Locking.{Locking}
 use Rattle.xl_smb_locks.specs.declared.locking.Locking.TheVariants as locking
 use Rattle.xl_smb_locks.specs.declared.status.SmbStatus.{SmbStatus}

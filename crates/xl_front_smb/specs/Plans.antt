@@ -4,9 +4,10 @@ use Rattle.xl_smb_state.specs.Links.{most_waiting}
 use Rattle.xl_smb_state.specs.State.{Lists, open_added, waiting_of, waiting_added}
 use Rattle.xl_smb_state.specs.declared.row.Open.{Open}
 use Rattle.xl_smb_state.specs.declared.row.Waiting.{Waiting}
+use Rattle.xl_wait.specs.Waiting.{no_rows}
 use Rattle.xl_smb_locks.specs.Finals.{open_refusal}
 use Rattle.xl_smb_locks.specs.Levels.{level_held}
-use Rattle.xl_smb_locks.specs.Locks.{no_rows, lock_told, lock_done}
+use Rattle.xl_smb_locks.specs.Locks.{lock_told, lock_done}
 use Rattle.xl_smb_locks.specs.declared.locking.Locking.{Locking}
 use Rattle.xl_smb_locks.specs.declared.locking.Locking.TheVariants as locking
 use Rattle.xl_wait.specs.declared.waiter.Rooms.{Rooms}

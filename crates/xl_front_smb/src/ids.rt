@@ -2,10 +2,7 @@
 ghost use Rattle.std.specs.Prelude.{◌≡◌};
 ghost use Rattle.xl_front_smb.specs.Checks.{number_in};
 
-use xl_core::Core;
-
-/// One more than the greatest number of a session or an open: what an id's epoch counts.
-const NUMBERS: u64 = 1 << 32;
+use xl_core::{Core, NUMBERS};
 
 /// The number in an id, where it is of this start.
 pub(crate) fn number_in(core: &Core, id: u64) -> Option<u32>

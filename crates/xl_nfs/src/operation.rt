@@ -1,9 +1,5 @@
-//! The numbers of the program, of its operations and of those of its callback (RFC 7531).
+//! The numbers of the procedure, of its operations and of those of its callback (RFC 7531).
 
-/// The NFS program.
-pub const PROGRAM: u32 = 100_003;
-/// Its version.
-pub const VERSION: u32 = 4;
 /// The procedure that does operations one after the other.
 pub const COMPOUND: u32 = 1;
 

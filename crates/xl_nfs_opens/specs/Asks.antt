@@ -2,11 +2,11 @@
 use Rattle.std.specs.Prelude.{ℕ, ◌-◌, ◌^◌, Bool, false, [], None}
 use Rattle.xl_matrix.specs.declared.claim.Extent.TheVariants.{Bytes}
 use Rattle.xl_names.specs.declared.name.Name.TheVariants.{NfsRange, NfsParty}
+use Rattle.xl_wait.specs.Waiting.{no_rows}
 use Rattle.xl_core.specs.declared.ask.Act.{Act}
 use Rattle.xl_core.specs.declared.ask.Act.TheVariants as acts
 use Rattle.xl_core.specs.declared.ask.Ask.{Ask}
 use Rattle.xl_core.specs.declared.ask.Who.TheVariants.{Named}
-use Rattle.xl_nfs_opens.specs.Opens.{no_rows}
 use Rattle.xl_nfs_opens.specs.declared.opener.Opener.{Opener}
 
 -- the last byte that there is, and the length that reaches it

@@ -34,6 +34,7 @@ use Rattle.xl_nfs_state.specs.declared.stateid.Holder.TheVariants as holders
 use Rattle.xl_nfs_state.specs.declared.stateid.StateidRow.{StateidRow}
 use Rattle.xl_nfs_state.specs.declared.stateid.Whose.TheVariants as whose
 use Rattle.xl_table.specs.Relock.{either_right, is_share_of}
+use Rattle.xl_wait.specs.Waiting.{no_rows}
 use Rattle.xl_wait.specs.declared.waiter.Rooms.{Rooms}
 use Rattle.xl_core.specs.Asking.{party_named}
 use Rattle.xl_core.specs.Deeds.{Deed, GivesBack, Draws}
@@ -194,9 +195,6 @@ gives_all s o [] = []
 gives_all s o (r ∷ rs) = gives (share_held s o r.file) ++ gives_all (given_up s (share_held s o r.file)) o rs
 
 -- ---- what is asked
-
-abbrev pub no_rows : Rooms
-no_rows = record { hosts = 0; owners = 0; opens = 0 }
 
 abbrev pub all_rooms : Rooms
 all_rooms = record { hosts = most_hosts; owners = most_owners; opens = limits.most_opens }

@@ -7,12 +7,12 @@ ghost use Rattle.xl_nfs_opens.specs.Asks.{range_ask, unlock_ask};
 ghost use Rattle.xl_nfs_opens.specs.Short.{IsNfsAsk};
 
 use crate::opener::Opener;
-use crate::shares::NO_ROWS;
 use std::alloc::{AllocError, Global};
 use xl_base::Sequence;
 use xl_core::{Act, Ask, Who};
 use xl_matrix::Extent;
 use xl_names::Name;
+use xl_wait::NO_ROWS;
 
 /// An ask of a lock owner, which never waits.
 #[tactic(auto, using(crate::proofs::OwnerLaws::own_client))]

@@ -7,11 +7,8 @@ ghost use Rattle.xl_nfs_opens.specs.Short.{IsReady, Leaves};
 
 use std::alloc::{AllocError, Global};
 use xl_base::{Moment, Party, Protocol, Sequence};
-use xl_core::{Core, Effect};
+use xl_core::{Core, Effect, NUMBERS};
 use xl_names::Name;
-
-/// One more than the greatest number of a client: what a clientid's epoch counts.
-const NUMBERS: u64 = 1 << 32;
 
 /// The clientid of the client of this number.
 pub fn clientid_of(core: &Core, number: u32) -> u64

@@ -22,20 +22,13 @@ use xl_names::Name;
 use xl_nfs::{OpenArgs, OpenClaim};
 use xl_nfs_state::StateidRow;
 use xl_table::Table;
-use xl_wait::Rooms;
+use xl_wait::{NO_ROWS, Rooms};
 
 /// The room that an ask is given: the rows that it adds to the tables of the fronts are counted before.
 const ALL_ROOMS: Rooms = Rooms {
     hosts: MOST_HOSTS,
     owners: MOST_OWNERS,
     opens: MOST_OPENS,
-};
-
-/// The rows that are added beside what was counted before: none.
-pub(crate) const NO_ROWS: Rooms = Rooms {
-    hosts: 0,
-    owners: 0,
-    opens: 0,
 };
 
 /// Access or deny: 1 is reading, 2 writing, 3 both.

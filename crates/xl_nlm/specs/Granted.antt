@@ -3,6 +3,8 @@ use Rattle.std.specs.Prelude.{ℕ, Bool, List, [], ◌++◌}
 use Rattle.std.specs.Int.{w64}
 use Rattle.xl_base.specs.Codec.{big_endian}
 use Rattle.xl_rpc.specs.Calls.{AuthItem, HeadItem, call}
+use Rattle.xl_programs.specs.Programs.{number_of, version_of}
+use Rattle.xl_programs.specs.declared.program.Program.TheVariants.{Nlm}
 use Rattle.xl_nlm.specs.Items.{LockItem}
 use Rattle.xl_nlm.specs.Arguments.{test_args}
 
@@ -11,7 +13,7 @@ abbrev pub no_auth : AuthItem
 no_auth = record { flavor = 0; body = [] }
 
 abbrev pub granted_head : ℕ → HeadItem
-granted_head number = record { xid = number; prog = 100021; vers = 4; proc = 5; cred = no_auth; verf = no_auth }
+granted_head number = record { xid = number; prog = number_of Nlm; vers = version_of Nlm; proc = 5; cred = no_auth; verf = no_auth }
 
 -- the cookie is the call's number in eight bytes
 abbrev pub granted_record : ℕ → Bool → LockItem → List ℕ

@@ -10,6 +10,7 @@ use crate::item::{Lock, TestArgs};
 use crate::procedure;
 use crate::writing::put_test_args;
 use std::alloc::{AllocError, Global};
+use xl_programs::{NLM, NLM_VERSION};
 use xl_rpc::{Auth, CallHead, XdrOut, write_call};
 
 /// The record of a call of GRANTED with this number, for a lock that is exclusive or not. Its xid is the number, its
@@ -30,8 +31,8 @@ pub fn granted_call(
     };
     let head = CallHead {
         xid: number,
-        prog: procedure::PROGRAM,
-        vers: procedure::VERSION,
+        prog: NLM,
+        vers: NLM_VERSION,
         proc: procedure::GRANTED,
         cred: none,
         verf: none,

@@ -1,9 +1,4 @@
-//! The numbers of the program and of its procedures.
-
-/// The Network Lock Manager's program.
-pub const PROGRAM: u32 = 100_021;
-/// The version for 64-bit offsets.
-pub const VERSION: u32 = 4;
+//! The numbers of the Network Lock Manager's procedures.
 
 /// Does nothing.
 pub const NULL: u32 = 0;

@@ -6,10 +6,7 @@ ghost use Rattle.xl_programs.specs.Sent.{refusal_of};
 
 use crate::program::Program;
 use std::alloc::{AllocError, Global};
-use xl_rpc::{Call, RpcBad, Verdict, Xdr, XdrOut, read_call, write_reply};
-
-/// The version of ONC RPC (RFC 5531).
-const RPC_VERSION: u32 = 2;
+use xl_rpc::{Call, RPC_VERSION, RpcBad, Verdict, Xdr, XdrOut, read_call, write_reply};
 
 /// A call of a procedure that is served.
 #[derive(Clone, Copy)]

@@ -7,5 +7,5 @@ mod program;
 mod sent;
 
 pub use incoming::{Incoming, Request, read_incoming, refusal};
-pub use program::Program;
+pub use program::{NFS, NFS_VERSION, NLM, NLM_VERSION, Program};
 pub use sent::sent_to;

@@ -12,9 +12,13 @@ pub enum Program {
 }
 
 /// The number of the Network Lock Manager.
-const NLM: u32 = 100_021;
+pub const NLM: u32 = 100_021;
+/// Its version for 64-bit offsets, which alone is served.
+pub const NLM_VERSION: u32 = 4;
 /// The number of the Network File System.
-const NFS: u32 = 100_003;
+pub const NFS: u32 = 100_003;
+/// Its version, which alone is served.
+pub const NFS_VERSION: u32 = 4;
 
 impl Program {
     /// The program of this number, where it is served in some version.
@@ -45,7 +49,8 @@ impl Program {
         ensures { result ≡ version_of self }
     {
         match self {
-            Program::Nlm | Program::Nfs => 4,
+            Program::Nlm => NLM_VERSION,
+            Program::Nfs => NFS_VERSION,
         }
     }
 

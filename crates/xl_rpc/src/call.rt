@@ -48,7 +48,8 @@ pub struct Call<'a> {
 
 const CALL: u32 = 0;
 
-const RPC_VERSION: u32 = 2;
+/// The version of ONC RPC (RFC 5531).
+pub const RPC_VERSION: u32 = 2;
 
 const MAX_AUTH_BYTES: u32 = 400;
 

@@ -8,7 +8,7 @@ mod reply;
 mod writer;
 mod xdr;
 
-pub use call::{Auth, Call, CallHead, read_call, write_call};
+pub use call::{Auth, Call, CallHead, RPC_VERSION, read_call, write_call};
 pub use fault::RpcBad;
 pub use law::{one_call_spelling, one_reply_spelling, spellings_are_read};
 pub use reply::{Reply, Verdict, read_reply, write_reply};

@@ -6,6 +6,7 @@ use Rattle.xl_matrix.specs.declared.claim.Claim.{Claim}
 use Rattle.xl_matrix.specs.declared.claim.Extent.{Extent}
 use Rattle.xl_matrix.specs.declared.claim.Extent.TheVariants.{Bytes, Empty}
 use Rattle.xl_smb.specs.declared.lock.LockElement.{LockElement}
+use Rattle.xl_wait.specs.Waiting.{no_rows}
 use Rattle.xl_core.specs.Decide.{Answered, freed, unlocked, decided, way, ask, before_wish}
 use Rattle.xl_core.specs.Asking.{IsFit}
 use Rattle.xl_core.specs.Deeds.{Deed, Asks, done, all_done, AreFit}
@@ -25,7 +26,7 @@ use Rattle.xl_core.proofs.NumberLaws.{give_back_numbers}
 use Rattle.xl_core.proofs.WayAsks.{ask_way_none, ask_there}
 use Rattle.xl_smb_locks.specs.Short.{IsOpenAsk, Leaves}
 use Rattle.xl_smb_locks.specs.Elements.{extent_of, unlock_fault}
-use Rattle.xl_smb_locks.specs.Locks.{no_rows, unlock_ask, is_granted, unlock_told, unlock_next, unlocks}
+use Rattle.xl_smb_locks.specs.Locks.{unlock_ask, is_granted, unlock_told, unlock_next, unlocks}
 use Rattle.xl_smb_locks.specs.declared.locking.Locking.{Locking}
 use Rattle.xl_smb_locks.specs.declared.locking.Locking.TheVariants.{Failed}
 use Rattle.xl_smb_locks.specs.declared.status.SmbStatus.{SmbStatus}

@@ -2,6 +2,7 @@
 use Rattle.std.specs.Prelude.{ℕ, Bool, true, false, List, [], ◌∷◌, map, Option, Some, None}
 use Rattle.xl_matrix.specs.declared.claim.Extent.{Extent}
 use Rattle.xl_smb.specs.declared.lock.LockElement.{LockElement}
+use Rattle.xl_wait.specs.Waiting.{no_rows}
 use Rattle.xl_wait.specs.declared.waiter.Rooms.{Rooms}
 use Rattle.xl_core.specs.Decide.{ask}
 use Rattle.xl_core.specs.Deeds.{Deed, Asks}
@@ -20,10 +21,6 @@ use Rattle.xl_smb_locks.specs.declared.status.SmbStatus.{SmbStatus}
 use Rattle.xl_smb_locks.specs.declared.status.SmbStatus.TheVariants.{LockNotGranted, RangeNotLocked, InsufficientResources}
 
 -- ---- what the core is asked
-
--- a lock adds no row to the fronts' tables
-abbrev pub no_rows : Rooms
-no_rows = record { hosts = 0; owners = 0; opens = 0 }
 
 -- an ask of the open of this number, which is its own party; it waits for answers to breaks in any case (MS-SMB2 3.3.5.14)
 abbrev pub range_ask : Option ℕ → ℕ → ℕ → Act → Bool → Ask

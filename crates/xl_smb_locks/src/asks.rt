@@ -13,14 +13,7 @@ use xl_base::Sequence;
 use xl_core::{Act, Ask, Who};
 use xl_matrix::Extent;
 use xl_smb::LockElement;
-use xl_wait::Rooms;
-
-/// A lock adds no row to the fronts' tables.
-pub(crate) const NO_ROWS: Rooms = Rooms {
-    hosts: 0,
-    owners: 0,
-    opens: 0,
-};
+use xl_wait::NO_ROWS;
 
 /// An ask of the open of this number, which is its own party. It waits for answers to breaks in any case.
 fn range_ask(

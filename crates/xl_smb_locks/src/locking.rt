@@ -3,15 +3,17 @@ ghost use Rattle.std.specs.Prelude.{◌≡◌, ℕ, ◌≤◌, None, length, IfO
 ghost use Rattle.xl_core.specs.Decide.{ask};
 ghost use Rattle.xl_core.specs.State.{MayBe};
 ghost use Rattle.xl_smb_locks.specs.Elements.{lock_fault};
-ghost use Rattle.xl_smb_locks.specs.Locks.{no_rows, lock_ask, lock_told, lock_done};
+ghost use Rattle.xl_smb_locks.specs.Locks.{lock_ask, lock_told, lock_done};
 ghost use Rattle.xl_smb_locks.specs.Short.{IsReady, Leaves};
+ghost use Rattle.xl_wait.specs.Waiting.{no_rows};
 
-use crate::asks::{NO_ROWS, lock_ask};
+use crate::asks::lock_ask;
 use crate::status::SmbStatus;
 use std::alloc::{AllocError, Global};
 use xl_base::{Keeper, Sequence};
 use xl_core::{Answer, Core, Effect};
 use xl_smb::LockElement;
+use xl_wait::NO_ROWS;
 
 /// What a LOCK comes to.
 #[derive(Clone, Copy)]

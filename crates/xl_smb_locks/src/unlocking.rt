@@ -4,10 +4,11 @@ ghost use Rattle.xl_core.specs.Decide.{ask};
 ghost use Rattle.xl_core.specs.Deeds.{all_done};
 ghost use Rattle.xl_core.specs.State.{MayBe};
 ghost use Rattle.xl_smb_locks.specs.Elements.{wraps};
-ghost use Rattle.xl_smb_locks.specs.Locks.{no_rows, is_granted, unlock_ask, unlocks};
+ghost use Rattle.xl_smb_locks.specs.Locks.{is_granted, unlock_ask, unlocks};
 ghost use Rattle.xl_smb_locks.specs.Short.{IsReady, Leaves};
+ghost use Rattle.xl_wait.specs.Waiting.{no_rows};
 
-use crate::asks::{NO_ROWS, unlock_ask};
+use crate::asks::unlock_ask;
 use crate::elements::unlock_fault;
 use crate::locking::Locking;
 use crate::status::SmbStatus;
@@ -15,6 +16,7 @@ use std::alloc::{AllocError, Global};
 use xl_base::Keeper;
 use xl_core::{Answer, Core};
 use xl_smb::LockElement;
+use xl_wait::NO_ROWS;
 
 /// Unlocks one range of an open.
 fn unlock_one<K: Keeper>(

@@ -8,6 +8,8 @@ use Rattle.xl_base.specs.declared.journal.Entry.{Entry}
 use Rattle.xl_base.specs.declared.journal.Head.{Head}
 use Rattle.xl_base.specs.declared.journal.Journal.{Journal}
 use Rattle.xl_rpc.specs.Calls.{HeadItem, call}
+use Rattle.xl_programs.specs.Programs.{number_of, version_of}
+use Rattle.xl_programs.specs.declared.program.Program.TheVariants as programs
 use Rattle.xl_nlm.specs.Arguments.{procedure_of, arguments}
 use Rattle.xl_nlm.specs.Granted.{no_auth}
 use Rattle.xl_nlm.specs.Items.{LockItem, CallItem, Test, Lock, Unlock}
@@ -53,7 +55,7 @@ call_from x = call_by (draw (next x)) (draw (next (next x))) (draw (next (next (
 -- ---- its record, and the events
 
 abbrev pub head_to : ℕ → ℕ → HeadItem
-head_to number procedure = record { xid = number; prog = 100021; vers = 4; proc = procedure; cred = no_auth; verf = no_auth }
+head_to number procedure = record { xid = number; prog = number_of programs.Nlm; vers = version_of programs.Nlm; proc = procedure; cred = no_auth; verf = no_auth }
 
 unfoldable pub record_of : ℕ → CallItem → List ℕ
 record_of number c = call (head_to number (procedure_of c)) ++ arguments c

@@ -16,6 +16,7 @@ use std::alloc::{AllocError, Global};
 use xl_base::{Event, Halt, Kind, Sequence, handle_of};
 use xl_house::House;
 use xl_nlm::{Lock, LockArgs, NlmCall, TestArgs, UnlockArgs, procedure, write};
+use xl_programs::{NLM, NLM_VERSION};
 use xl_rpc::{Auth, CallHead, XdrOut, write_call};
 
 /// The draws of a call.
@@ -117,8 +118,8 @@ fn head<'a>(number: u32, procedure: u32) -> CallHead<'a>
     };
     CallHead {
         xid: number,
-        prog: procedure::PROGRAM,
-        vers: procedure::VERSION,
+        prog: NLM,
+        vers: NLM_VERSION,
         proc: procedure,
         cred: none,
         verf: none,

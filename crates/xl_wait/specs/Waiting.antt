@@ -2,7 +2,12 @@
 use Rattle.std.specs.Prelude.{ℕ, Bool, true, false, ◌==◌, List, [], ◌∷◌, map, Option, Some, None, if◌then◌else◌}
 use Rattle.std.specs.List.{list_any}
 use Rattle.xl_matrix.specs.declared.claim.Claim.{Claim}
+use Rattle.xl_wait.specs.declared.waiter.Rooms.{Rooms}
 use Rattle.xl_wait.specs.declared.waiter.Waiter.{Waiter}
+
+-- no room, or no rows
+abbrev pub no_rows : Rooms
+no_rows = record { hosts = 0; owners = 0; opens = 0 }
 
 -- a waiter of this number is among them
 abbrev pub is_waiting : ℕ → List Waiter → Bool

@@ -8,4 +8,4 @@ mod queue;
 mod waiter;
 
 pub use queue::{Queue, QueueErr};
-pub use waiter::{Rooms, Waiter};
+pub use waiter::{NO_ROWS, Rooms, Waiter};

@@ -14,6 +14,13 @@ pub struct Rooms {
     pub opens: u32,
 }
 
+/// No room, or no rows.
+pub const NO_ROWS: Rooms = Rooms {
+    hosts: 0,
+    owners: 0,
+    opens: 0,
+};
+
 /// One who waits for claims.
 #[derive(Drop)]
 pub struct Waiter {

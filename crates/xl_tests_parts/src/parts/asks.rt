@@ -8,19 +8,13 @@ use xl_base::{MemoryKeeper, Moment, Party, Record, Sequence};
 use xl_core::{Act, Answer, Ask, Core, Times, Who};
 use xl_matrix::Extent;
 use xl_names::Name;
-use xl_wait::Rooms;
+use xl_wait::{NO_ROWS, Rooms};
 
 /// How long leases, grace and breaks last.
 pub(crate) const TIMES: Times = Times {
     lease: 100,
     grace: 100,
     break_time: 10,
-};
-
-const NO_ROWS: Rooms = Rooms {
-    hosts: 0,
-    owners: 0,
-    opens: 0,
 };
 
 const LEFT: Rooms = Rooms {

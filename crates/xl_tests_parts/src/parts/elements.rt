@@ -11,13 +11,7 @@ use std::alloc::{AllocError, Global};
 use xl_base::{Moment, Record, Sequence};
 use xl_core::{Act, Answer, Ask, Core, Who};
 use xl_matrix::{Extent, What};
-use xl_wait::Rooms;
-
-const NO_ROWS: Rooms = Rooms {
-    hosts: 0,
-    owners: 0,
-    opens: 0,
-};
+use xl_wait::NO_ROWS;
 
 /// What an open asks for on a file, no cache; it doesn't wait.
 fn ask_by(alloc: Global, number: u32, act: Act) -> Ask

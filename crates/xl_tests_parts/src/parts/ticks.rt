@@ -10,13 +10,7 @@ use xl_base::{MemoryKeeper, Moment, Record, Sequence};
 use xl_core::{Act, Answer, Ask, Core, Effect, Who};
 use xl_matrix::Rwd;
 use xl_names::Name;
-use xl_wait::Rooms;
-
-const NO_ROWS: Rooms = Rooms {
-    hosts: 0,
-    owners: 0,
-    opens: 0,
-};
+use xl_wait::{NO_ROWS, Rooms};
 
 const LEFT: Rooms = Rooms {
     hosts: 256,

@@ -17,13 +17,7 @@ use xl_cache::{Wish, find_own_cache, rest_within};
 use xl_core::{Act, Answer, Ask, Core, Who};
 use xl_matrix::{CacheKind, Claim, Rwd, What};
 use xl_names::Name;
-use xl_wait::Rooms;
-
-const NO_ROWS: Rooms = Rooms {
-    hosts: 0,
-    owners: 0,
-    opens: 0,
-};
+use xl_wait::{NO_ROWS, Rooms};
 
 const ONE_HOST: Rooms = Rooms {
     hosts: 1,
