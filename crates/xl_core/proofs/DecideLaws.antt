@@ -17,7 +17,7 @@ use Rattle.xl_table.specs.Least.{least}
 use Rattle.xl_table.proofs.LeastLaws.{least_in, least_none, least_empty, none_passes, none_stays, one_passes}
 use Rattle.xl_wait.specs.declared.waiter.Waiter.{Waiter}
 use Rattle.xl_core.specs.State.{CoreState}
-use Rattle.xl_core.specs.Blockers.{blockers, is_stopped, cache_by, cache_against}
+use Rattle.xl_core.specs.Blockers.{blockers, is_stopped, first_broken, cache_by, all_run, cache_against}
 
 -- ---- for good
 
@@ -98,6 +98,18 @@ cache_some held ask c e = by (planned ask held).awaited (planned ask held).break
   by (Some d) bs is begun k = subst (λ (x : Claim). IsIn x held × (is_obstacle ask held x ≡ true)) (same d c k) (is.0, is.1)
   by None [] is begun k = absurd cc
   by None (b ∷ bs) is begun k = let one = begun b (inl refl) in subst (λ (x : Claim). IsIn x held × (is_obstacle ask held x ≡ true)) (same b.0 c k) (one.0, one.1)
+
+-- and where no break is left to begin for the ask, its break runs
+pub cache_runs : (held : List Claim) (ask c : Claim) → all_run held ask ≡ true → cache_against held ask ≡ Some c → is_running c.what ≡ true
+unfolding cache_against
+cache_runs held ask c run e = by (planned ask held).awaited (planned ask held).breaks (names_only ask held).awaited run e where
+  same : (x y : Claim) → Some x ≡ Some y → x ≡ y
+  same x y k = cc
+
+  by : (o : Option Claim) (bs : List (Claim × Option CacheKind)) → IfSome o (λ d. IsIn d held × (is_obstacle ask held d ≡ true) × (is_running d.what ≡ true)) → not (is_some (first_broken bs)) ≡ true → cache_by o bs ≡ Some c → is_running c.what ≡ true
+  by (Some d) bs is none k = subst (λ (x : Claim). is_running x.what ≡ true) (same d c k) is.2
+  by None [] is none k = absurd cc
+  by None (b ∷ bs) is none k = absurd (both_ways false refl none)
 
 -- where a plan names none nothing is
 cache_none : (held : List Claim) (ask c : Claim) → cache_against held ask ≡ None → IsIn c held → is_obstacle ask held c ≡ true → ⊥

@@ -25,7 +25,8 @@ use Rattle.xl_core.specs.Asking.{alone, asker, asking_party, asked_whats, asked_
 use Rattle.xl_core.specs.Begin.{with_break, once_broken, breaks_begun}
 use Rattle.xl_core.specs.Frames.{calls_in, drawn_by}
 use Rattle.xl_core.specs.Leases.{moment_after}
-use Rattle.xl_core.specs.Blockers.{test_blockers}
+use Rattle.xl_cache.specs.Planning.{is_running}
+use Rattle.xl_core.specs.Blockers.{is_stopped, all_run, test_blockers}
 use Rattle.xl_core.specs.Causes.{IsWishDue, IsSameAsker, IsConflict, IsClaimDue, IsTestDue, IsUnlockDue, IsOwn, limits_of_grant}
 use Rattle.xl_core.specs.Decide.{Answered, test_answered, tested, plea_of, waiter_of, decided, way, before_wish, does_wish, wish_after, with_wish, ask}
 use Rattle.xl_core.specs.Wishes.{wish_granted, wish_of, wish_for}
@@ -45,7 +46,8 @@ use Rattle.xl_core.proofs.ChangeLaws.{decided_own, decided_held, decided_shares,
 use Rattle.xl_core.proofs.FrameLaws.{ask_frame}
 use Rattle.xl_core.proofs.GoodLaws.{asked_way_good, decided_grants}
 use Rattle.xl_core.proofs.TestLaws.{test_foretells}
-use Rattle.xl_core.proofs.WayLaws.{way_keeps, way_names, way_waiters, way_free}
+use Rattle.xl_core.proofs.DecideLaws.{cache_runs}
+use Rattle.xl_core.proofs.WayLaws.{way_keeps, way_names, way_waiters, way_free, way_stopped, way_runs_at_once}
 
 -- the way that is made for an ask leaves what no break changes
 pub ask_way_keeps : {A : Type 0} (f : CoreState → A) (left : Rooms) (s : CoreState) (a : Ask) → ((c : Claim) → f (breaks_begun c s).1 ≡ f s) → f (way left s a).1 ≡ f s
@@ -80,6 +82,28 @@ pub ask_due : (n : ℕ) (left : Rooms) (s : CoreState) (a : Ask) (what : What) (
 unfolding ask before_wish
 ask_due n left s a what answer act =
     subst (λ (names : List Name). ((decided n left (way left s a).1 a).0 ≡ answer) ↔ IsClaimDue left (way left s a).1 a (asked_claim a what names) answer) (ask_way_names left s a) (lock_due n left (way left s a).1 a what answer act)
+
+-- a cache that is told of is one whose break runs
+pub ask_recalls : (n : ℕ) (left : Rooms) (s : CoreState) (a : Ask) (what : What) (c : Claim) → asked_what a.act ≡ Some what → (ask n left s a).0 ≡ answers.Recall c → is_running c.what ≡ true
+unfolding plea_of
+ask_recalls n left s a what c act at = cache_runs t.claims claim c (runs (is_stopped s.claims claim) refl) due.3 where
+  claim : Claim
+  claim = asked_claim a what s.names
+
+  t : CoreState
+  t = (way left s a).1
+
+  due : IsClaimDue left t a claim (answers.Recall c)
+  due = (ask_due n left s a what (answers.Recall c) act).0 at
+
+  made : way left s a ≡ made_way (plea_of left s a) (claim ∷ []) s
+  made = ap (λ (cs : List Claim). made_way (plea_of left s a) cs s) (one_asked a what s.names (asked_whats a.act) act)
+
+  runs : (b : Bool) → is_stopped s.claims claim ≡ b → all_run t.claims claim ≡ true
+  runs true stops =
+      let stays : t ≡ s = ap (λ (w : List Effect × CoreState). w.1) (made ∙ way_stopped (plea_of left s a) claim [] s stops) in
+      absurd (both_ways (is_stopped t.claims claim) due.2 (subst (λ (x : CoreState). is_stopped x.claims claim ≡ true) (sym stays) stops))
+  runs false moves = ap (λ (w : List Effect × CoreState). all_run w.1.claims claim) made ∙ way_runs_at_once (plea_of left s a) claim [] s due.0 due.1 moves
 
 -- an ask for which no way is made is judged where it is
 pub ask_there : (n : ℕ) (left : Rooms) (s : CoreState) (a : Ask) → way left s a ≡ ([], s) → ask n left s a ≡ with_wish a (decided n left s a)

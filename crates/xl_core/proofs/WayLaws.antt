@@ -184,3 +184,10 @@ way_runs p c cs s timely room moves =
     both : (b : Bool) → (not false && (not false && not (b && (false && is_some (recalled_by (planned c s.claims)))))) ≡ true
     both true = refl
     both false = refl
+
+-- and those of one that waits for no answer
+pub way_runs_at_once : (p : Plea) (c : Claim) (cs : List Claim) (s : CoreState) → p.reclaim ≡ false → p.awaits ≡ false → is_stopped s.claims c ≡ false → all_run (made_way p (c ∷ cs) s).1.claims c ≡ true
+unfolding made_way
+way_runs_at_once p c cs s timely hurries moves =
+    let does : begins p c s.claims ≡ true = rw (timely, moves, hurries) refl in
+    ap (λ (b : Bool). all_run (if b then breaks_begun c s else ([], s)).1.claims c) does ∙ begun_runs c s

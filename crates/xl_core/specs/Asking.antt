@@ -164,8 +164,8 @@ abbrev pub IsOrdered : Extent → Type 0
 IsOrdered (Bytes first last) = first ≤ last
 IsOrdered (Empty offset) = Unit {0}
 
--- Of several ranges all are an SMB open's, and the ask doesn't wait: a request with several locks of which one may wait is
--- refused before (MS-SMB2 3.3.5.14.2).
+-- Of several ranges all are an SMB open's, and the ask waits for answers to breaks alone: a request with several locks of which
+-- one may wait for what is held is refused before (MS-SMB2 3.3.5.14.2).
 abbrev pub AreMore : Who → Bool → List (Extent × Bool) → Type 0
 AreMore who blocking [] = Unit {0}
 AreMore who blocking (range ∷ ranges) = (is_named who ≡ false) × (blocking ≡ false) × IsOrdered range.0 × AreMore who blocking ranges
