@@ -152,7 +152,7 @@ served_grant left s t told id claim turn here =
       | inl begun ↦ absurd (none_served id (answers.Granted claim) (way_again s turn.waiter).0 (way_leaves (plea_again s turn.waiter) turn.waiter.asked s) begun)
       | inr last ↦ elim turn.served [
         | WaitsOn none up same ↦ absurd (subst (λ (es : List Effect). IsIn (effects.Served id (answers.Granted claim)) es) none last)
-        | Answered answer is granted due new ↦ elim (subst (λ (es : List Effect). IsIn (effects.Served id (answers.Granted claim)) es) is last) [
+        | Answered answer is granted due new free ↦ elim (subst (λ (es : List Effect). IsIn (effects.Served id (answers.Granted claim)) es) is last) [
           | inr none ↦ absurd none
           | inl one ↦ (
               let own : answer ≡ answers.Granted claim = same_answer one in

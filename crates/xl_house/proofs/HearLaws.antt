@@ -41,7 +41,7 @@ tell_leaves s t u effects none leaves told = record {
 
 ticked_leaves : (s : CoreState) (now : Moment) → IsReadyFor most_numbers s → Leaves s (tick s now).1
 ticked_leaves s now ready =
-    let frame = tick_frame s now in
+    let frame = tick_frame s now ready.good in
     record {
       on = record { made = omega (arith, frame.made); failed = λ f. (frame.failed ∙ f, frame.made) };
       good = tick_good s now ready.good;

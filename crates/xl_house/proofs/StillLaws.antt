@@ -4,7 +4,7 @@ use Rattle.xl_names.specs.declared.name.Name.{Name}
 use Rattle.xl_wait.specs.declared.waiter.Waiter.{Waiter}
 use Rattle.xl_core.specs.State.{CoreState, drawn}
 use Rattle.xl_core.specs.Deeds.{Deed, Asks, GivesBack, Weakens, Acks, Cancels, Ends, Serves, Draws, Advances, Lapses, Renews, Expires, turned, done, all_done, IsFitDeed, AreFit}
-use Rattle.xl_core.specs.Frames.{IsFrame, IsTicked, calls_in, drawn_by, names_after, come_by}
+use Rattle.xl_core.specs.Frames.{IsFrame, IsRenewed, IsTicked, calls_in, drawn_by, names_after, come_by}
 use Rattle.xl_core.specs.Decide.{ask}
 use Rattle.xl_core.specs.Good.{IsGood}
 use Rattle.xl_base.specs.declared.event.Moment.{Moment}
@@ -33,8 +33,11 @@ turned_still : (s : CoreState) (o : Option (List Effect × CoreState)) → IfSom
 turned_still s None frame = still s
 turned_still s (Some r) frame = framed_still s r.0 r.1 (calls_in r.0) s.names [] frame
 
-ticked_still : (s : CoreState) (now : Moment) (t : CoreState) → IsTicked s now t → IsStill s t
-ticked_still s now t frame = record { stable = frame.stable; made = frame.made; failed = frame.failed }
+renewed_still : (s : CoreState) (client : List ℕ) (told : List Effect) (t : CoreState) → IsRenewed s client told t → IsStill s t
+renewed_still s client told t frame = record { stable = frame.stable; made = frame.made; failed = frame.failed }
+
+ticked_still : (s : CoreState) (now : Moment) (told : List Effect) (t : CoreState) → IsTicked s now told t → IsStill s t
+ticked_still s now told t frame = record { stable = frame.stable; made = frame.made; failed = frame.failed }
 
 deed_still : (n : ℕ) (s : CoreState) (d : Deed) → IsGood s → IsFitDeed s d → IsStill s (done n s d)
 deed_still n s (Asks left a) good fit = let r = ask n left s a in framed_still s r.1 r.2 (drawn_by r.0 + calls_in r.1) (names_after a r.0 s.names) (come_by a r.0 s.names) (ask_frame n left s a good fit.party)
@@ -45,10 +48,10 @@ deed_still n s (Cancels id) good fit = let r = cancel s id in framed_still s r.0
 deed_still n s (Ends party) good fit = let r = end_party s party in framed_still s r.0 r.1 0 s.names [] (end_party_frame s party good)
 deed_still n s (Serves left) good fit = turned_still s (settle n left s) (turn_frame n left s good)
 deed_still n s Draws good fit = framed_still s [] (drawn s) 1 s.names [] (drawn_frame s)
-deed_still n s (Advances now) good fit = ticked_still s now (advanced s now) (advanced_ticked s now)
-deed_still n s (Renews client) good fit = let r = renew s client in framed_still s r.0 r.1 0 s.names [] (renew_frame s client)
-deed_still n s (Lapses cache) good fit = ticked_still s s.clock (lapse s cache).1 (lapse_left s cache).0
-deed_still n s (Expires client) good fit = ticked_still s s.clock (expire s client).1 (expire_left s client).0
+deed_still n s (Advances now) good fit = ticked_still s now [] (advanced s now) (advanced_ticked s now)
+deed_still n s (Renews client) good fit = let r = renew s client in renewed_still s client r.0 r.1 (renew_frame s client)
+deed_still n s (Lapses cache) good fit = let r = lapse s cache in ticked_still s s.clock r.0 r.1 ((lapse_left s cache).0 good)
+deed_still n s (Expires client) good fit = let r = expire s client in ticked_still s s.clock r.0 r.1 ((expire_left s client).0 good)
 
 pub deeds_still : (n : ℕ) (s : CoreState) (ds : List Deed) → IsGood s → AreFit n s ds → IsStill s (all_done n s ds)
 deeds_still n s [] good fit = still s

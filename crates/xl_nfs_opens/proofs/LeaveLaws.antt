@@ -111,7 +111,14 @@ call_leaves s new effects call e frame numbers good =
     frame_leaves s new effects 0 0 (subst (λ (r : List Effect × CoreState). IsFrame s r.0 r.1 0 s.names []) e frame) (subst (λ (r : List Effect × CoreState). numbers_of r.1 ≤ numbers_of s + 0) e (omega (arith, numbers))) good
 
 pub renew_leaves : (s new : CoreState) (id : List ℕ) (effects : List Effect) → renew s id ≡ (effects, new) → IsGood new → Leaves 0 s new
-renew_leaves s new id effects e good = call_leaves s new effects (renew s id) e (renew_frame s id) (omega (arith, renew_numbers s id)) good
+renew_leaves s new id effects e good =
+    let frame = renew_frame s id in
+    let same : (renew s id).1 ≡ new = ap (λ (r : List Effect × CoreState). r.1) e in record {
+      on = subst (λ (t : CoreState). GoesOn s t) same (record { made = omega (arith, frame.made); failed = λ f. (frame.failed ∙ f, frame.made) });
+      good = good;
+      numbers = subst (λ (t : CoreState). numbers_of t ≤ numbers_of s + 0) same (omega (arith, renew_numbers s id));
+      names = subst (λ (t : CoreState). Comes s.names t.names) same (subst (λ (names : List Name). Comes s.names names) (sym frame.names) (comes_self s.names));
+    }
 
 pub drawn_leaves : (s new : CoreState) → new ≡ drawn s → IsGood new → Leaves 1 s new
 drawn_leaves s new e good = frame_leaves s new [] 1 1 (subst (λ (t : CoreState). IsFrame s [] t 1 s.names []) (sym e) (drawn_frame s)) (subst (λ (t : CoreState). numbers_of t ≤ numbers_of s + 1) (sym e) (omega (arith, drawn_numbers s))) good
