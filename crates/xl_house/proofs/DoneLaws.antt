@@ -41,7 +41,7 @@ use Rattle.xl_front_nfs.proofs.OwnLaws as nfs_own
 use Rattle.xl_front_smb.specs.FrontSmb.{smb_step}
 use Rattle.xl_front_smb.proofs.DoesLaws as smb
 use Rattle.xl_front_smb.proofs.OwnLaws as smb_own
-use Rattle.xl_house.specs.Done.{program_deeds, program_owns, program_reply, record_deeds, record_owns, message_deeds, message_owns, record_replies, message_replies, end_deeds, end_owns, own_deeds, own_replies, told_deeds, turn_deeds, turns_for, turns, given_of, program_given, record_given, message_given, end_given, given_by, behind_own, deeds, messages}
+use Rattle.xl_house.specs.Done.{program_deeds, program_owns, program_reply, record_deeds, record_owns, message_deeds, message_owns, record_replies, message_replies, end_deeds, end_owns, AreRefusals, own_deeds, own_replies, told_deeds, turn_deeds, turns_for, turns, given_of, program_given, record_given, message_given, end_given, given_by, behind_own, deeds, messages}
 use Rattle.xl_house.specs.Journals.{is_restart}
 use Rattle.xl_house.specs.Lawful.{may_do, may_follow, IsOwnersBy}
 use Rattle.xl_house.specs.Machine.{Whole, Sent, showing, with_nlm, with_nfs, with_smb, nfs_opens, smb_opens, kind_of, framed, all_shown, rooms_of, after_turn, settled_for, settled, program_heard, record_heard, heard_by, ended_by, heard}
@@ -184,7 +184,7 @@ end_takes n f s None number = tt
 end_takes n f s (Some Rpc) number = tt
 end_takes n f s (Some Smb) number = smb_own.end_takes n f.smb s number
 
-own_takes : (n : ℕ) (s : Whole) (event : Event) → IsGood (step_begun s.core) → AreFit n (step_begun s.core) (own_deeds n s event)
+pub own_takes : (n : ℕ) (s : Whole) (event : Event) → IsGood (step_begun s.core) → AreFit n (step_begun s.core) (own_deeds n s event)
 own_takes n s (Open kind) good = tt
 own_takes n s (Message number bytes) good = message_takes n s.exports s.front (step_begun s.core) (kind_of s.connections number) number bytes good
 own_takes n s (End number) good = end_takes n s.front (step_begun s.core) (kind_of s.connections number) number
@@ -294,11 +294,15 @@ end_own f s None number = tt
 end_own f s (Some Rpc) number = tt
 end_own f s (Some Smb) number = smb_own.end_own f.smb s number
 
+refusal_own : (hosts : List (List ℕ)) (o : Option Grant) → AreRefusals o (refusal_deeds hosts o)
+refusal_own hosts None = refl
+refusal_own hosts (Some grant) = ((refl, refl, refl, refl), tt)
+
 pub owners_own : (n : ℕ) (s : Whole) (event : Event) → IsGood (step_begun s.core) → IsOwnersBy n s event
 owners_own n s (Open kind) good = tt
 owners_own n s (Message number bytes) good = message_own n s.exports s.front (step_begun s.core) (kind_of s.connections number) number bytes good
 owners_own n s (End number) good = end_own s.front (step_begun s.core) (kind_of s.connections number) number
-owners_own n s (Called number bytes) good = tt
+owners_own n s (Called number bytes) good = refusal_own s.front.nlm.hosts _
 owners_own n s (Tick moment) good = tt
 owners_own n s Restart good = tt
 

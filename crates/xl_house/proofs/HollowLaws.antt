@@ -1,8 +1,11 @@
--- Machines that keep nothing, drop who waits, or let go what is to be kept, don't meet the laws of an entry.
-use Rattle.std.proofs.Common.{◌≡◌, ℕ, Bool, true, List, [], ◌∷◌, refl, sym, ap, subst, ◌∙◌}
+-- Machines that keep nothing, drop who waits, let go what is to be kept, or stand still at a reading of the clock, don't meet the
+-- laws of an entry.
+use Rattle.std.proofs.Common.{◌≡◌, ℕ, nat_lt, if◌then◌else◌, Bool, true, false, List, [], ◌∷◌, Some, None, refl, sym, ap, subst, ◌∙◌, arith}
+use Rattle.std.proofs.lemmas.Bool.{both_ways}
+use Rattle.std.proofs.lemmas.Bool.Decides.{nat_tests}
 use Rattle.xl_base.specs.Lists.{IsIn}
 use Rattle.xl_base.specs.Stable.{Stable}
-use Rattle.xl_base.specs.declared.event.Event.TheVariants.{Message}
+use Rattle.xl_base.specs.declared.event.Event.TheVariants.{Message, Tick}
 use Rattle.xl_base.specs.declared.event.Moment.{Moment}
 use Rattle.xl_base.specs.declared.event.Out.{Out}
 use Rattle.xl_cache.specs.Planning.{is_running}
@@ -12,6 +15,7 @@ use Rattle.xl_wait.specs.declared.waiter.Rooms.{Rooms}
 use Rattle.xl_wait.specs.declared.waiter.Waiter.{Waiter}
 use Rattle.xl_core.proofs.HollowLaws.{nothing_kept, waiter_dropped}
 use Rattle.xl_core.specs.Deeds.{Deed, Asks, queue_after, any_ends_break}
+use Rattle.xl_core.specs.Leases.{Lease, first_ended}
 use Rattle.xl_core.specs.Places.{IsChangedBy}
 use Rattle.xl_core.specs.Smallest.{all_room, smallest_lock}
 use Rattle.xl_core.specs.State.{CoreState, started, step_begun}
@@ -19,15 +23,16 @@ use Rattle.xl_core.specs.declared.ask.Act.TheVariants.{Test}
 use Rattle.xl_core.specs.declared.ask.Ask.{Ask}
 use Rattle.xl_core.specs.declared.lease.Times.{Times}
 use Rattle.xl_house.specs.Done.{deeds}
-use Rattle.xl_house.specs.Lawful.{found, IsLawful, IsWaiting, IsKept}
+use Rattle.xl_house.specs.Lawful.{found, IsLawful, IsWaiting, IsKept, IsComplete}
 use Rattle.xl_house.specs.Machine.{Whole}
+use Rattle.xl_house.specs.Timed.{leases_after}
 use Rattle.xl_house.proofs.LawfulLaws.{begun_waits}
 
 pub nothing_kept_in : (n stores number : ℕ) (bytes : List ℕ) (outs : List Out) (s t : Whole) (stable : Stable) (clock : Moment) (times : Times) → found s ≡ started stable clock times → deeds n s (Message number bytes) ≡ Asks all_room smallest_lock ∷ []
     → t.core.claims ≡ [] → IsLawful n s (record { event = Message number bytes; stores = stores; outs = outs }) t → ⊥
 nothing_kept_in n stores number bytes outs s t stable clock times begun does none lawful =
     nothing_kept n stable clock times t.core none
-    (subst (λ (x : CoreState). IsChangedBy n x (Asks all_room smallest_lock ∷ []) t.core) begun (subst (λ (ds : List Deed). IsChangedBy n (found s) ds t.core) does lawful))
+    (subst (λ (x : CoreState). IsChangedBy n x (Asks all_room smallest_lock ∷ []) t.core) begun (subst (λ (ds : List Deed). IsChangedBy n (found s) ds t.core) does lawful.0))
 
 pub waiter_dropped_in : (n stores number : ℕ) (bytes : List ℕ) (outs : List Out) (s t : Whole) (left : Rooms) (a : Ask) (w : Waiter) (extent : Extent) (exclusive : Bool) → a.act ≡ Test extent exclusive → deeds n s (Message number bytes) ≡ Asks left a ∷ []
     → s.core.waiters ≡ w ∷ [] → t.core.waiters ≡ [] → IsWaiting n s (record { event = Message number bytes; stores = stores; outs = outs }) t → ⊥
@@ -39,3 +44,19 @@ pub cache_let_go_in : (n stores number : ℕ) (bytes : List ℕ) (outs : List Ou
     → IsIn c s.core.claims → is_running c.what ≡ true → t.core.claims ≡ [] → IsKept n s (record { event = Message number bytes; stores = stores; outs = outs }) t → ⊥
 cache_let_go_in n stores number bytes outs s t left a c does there runs none kept =
     subst (λ (cs : List Claim). IsIn c cs) none (kept c there runs (ap (λ (ds : List Deed). any_ends_break n (found s) c ds) does)).0
+
+pub leases_dropped_in : (n stores number : ℕ) (bytes : List ℕ) (outs : List Out) (s t : Whole) (left : Rooms) (a : Ask) (l : Lease) → deeds n s (Message number bytes) ≡ Asks left a ∷ []
+    → IsIn l s.core.leases → t.core.leases ≡ [] → IsLawful n s (record { event = Message number bytes; stores = stores; outs = outs }) t → ⊥
+leases_dropped_in n stores number bytes outs s t left a l does there none lawful =
+    subst (λ (ls : List Lease). IsIn l ls) (sym (lawful.1 ∙ ap (λ (ds : List Deed). leases_after n (found s) ds s.core.leases) does) ∙ none) there
+
+not_less : (a : ℕ) → nat_lt a a ≡ false
+not_less a = grind (arith, nat_tests)
+
+pub clock_stands_in : (n stores : ℕ) (outs : List Out) (s t : Whole) (now : Moment) → nat_lt s.core.clock.0 now.0 ≡ true → t.core.clock ≡ s.core.clock → IsLawful n s (record { event = Tick now; stores = stores; outs = outs }) t → ⊥
+clock_stands_in n stores outs s t now less stands lawful =
+    let shows : s.core.clock ≡ now = sym stands ∙ lawful.2 ∙ ap (λ (b : Bool). if b then now else s.core.clock) less in
+    both_ways (nat_lt now.0 now.0) (not_less now.0) (subst (λ (m : Moment). nat_lt m.0 now.0 ≡ true) shows less)
+
+pub lease_runs_on_in : (n stores : ℕ) (outs : List Out) (s t : Whole) (now : Moment) (client : List ℕ) → first_ended t.core.clock t.core.leases ≡ Some client → IsComplete n s (record { event = Tick now; stores = stores; outs = outs }) t → ⊥
+lease_runs_on_in n stores outs s t now client ended complete = let none : None ≡ Some client = sym complete.1.leases ∙ ended in absurd cc

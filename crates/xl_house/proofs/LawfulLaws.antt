@@ -1,11 +1,12 @@
 -- The laws of each entry hold of every journal.
-use Rattle.std.proofs.Common.{◌≡◌, ℕ, true, false, inl, inr, List, [], ◌∷◌, refl, sym, ap, subst, ◌∙◌}
+use Rattle.std.proofs.Common.{◌≡◌, ℕ, true, false, inl, inr, List, [], ◌∷◌, None, refl, sym, ap, subst, ◌∙◌}
 use Rattle.std.specs.List.{AllByRecursion}
 use Rattle.std.proofs.lemmas.Bool.{both_ways}
 use Rattle.xl_base.proofs.Members.{all_in, all_weaker}
 use Rattle.xl_base.specs.Lists.{IsIn, Pairwise}
 use Rattle.xl_base.specs.declared.event.Event.{Event}
 use Rattle.xl_base.specs.declared.event.Event.TheVariants.{Open, Message, End, Called, Tick, Restart}
+use Rattle.xl_base.specs.declared.event.Moment.{Moment}
 use Rattle.xl_base.specs.declared.journal.Entry.{Entry}
 use Rattle.xl_base.specs.declared.journal.Head.{Head}
 use Rattle.xl_cache.specs.Planning.{is_running}
@@ -18,19 +19,25 @@ use Rattle.xl_table.specs.Held.{is_cache}
 use Rattle.xl_wait.specs.declared.waiter.Waiter.{Waiter}
 use Rattle.xl_names.specs.declared.name.Name.{Name}
 use Rattle.xl_core.specs.State.{CoreState, step_begun}
+use Rattle.xl_core.specs.Breaks.{first_due}
 use Rattle.xl_core.specs.Deeds.{all_done, queue_after, any_ends_break, KeepNames}
 use Rattle.xl_core.specs.Dues.{AreDue}
+use Rattle.xl_core.specs.Leases.{first_ended}
 use Rattle.xl_core.specs.Places.{Place, ByteOf, ShareOf, RangesOf, CacheOf, held_at, IsChangedBy}
 use Rattle.xl_core.proofs.DeedCaches.{deeds_keep_break}
 use Rattle.xl_core.proofs.DeedLists.{deeds_make, deeds_queue, deeds_names, deeds_due}
+use Rattle.xl_core.proofs.DueLaws.{none_due}
 use Rattle.xl_core.proofs.GoodLaws.{begun_good}
-use Rattle.xl_house.specs.Done.{deeds, messages}
+use Rattle.xl_core.proofs.TickLaws.{tick_done, none_ended}
+use Rattle.xl_house.specs.Done.{own_deeds, deeds, messages}
 use Rattle.xl_house.specs.Free.{IsFree}
 use Rattle.xl_house.specs.Journals.{IsLegal, is_restart}
-use Rattle.xl_house.specs.Lawful.{Always, IsLawful, IsLawfulBy, IsWaiting, IsWaitingBy, IsGuarding, IsKept, IsKeptBy, IsComplete, IsCaused, IsTold}
+use Rattle.xl_house.specs.Lawful.{Always, IsLawful, IsLawfulBy, IsWaiting, IsWaitingBy, IsGuarding, IsKept, IsKeptBy, IsOnTime, IsOnTimeBy, IsComplete, IsCaused, IsTold}
 use Rattle.xl_house.specs.Machine.{Whole, Turn, begin, step}
+use Rattle.xl_house.specs.Timed.{leases_after, clock_after}
 use Rattle.xl_house.proofs.DoneLaws.{left_is, deeds_taken, own_may, owners_own, behind_follows, all_sent}
 use Rattle.xl_house.proofs.MachineLaws.{step_is, step_free, begin_free}
+use Rattle.xl_house.proofs.TimedLaws.{Running, times_in, left_times, own_clock, leases_are}
 
 -- ---- the core after an entry
 
@@ -61,6 +68,30 @@ changed n s event other free = λ p.
     ∙ begun_held (all_done n found (deeds n s event)) p
     ∙ deeds_make n found (deeds n s event) p (begun_good s.core free.good) (deeds_taken n s event other (begun_good s.core free.good))
 
+begun_times : (s : CoreState) → times_in (step_begun s) ≡ times_in s
+unfolding step_begun
+begun_times s = refl
+
+next_times : (n : ℕ) (s : Whole) (event : Event) → is_restart event ≡ false → IsFree s → times_in (step n s event).next.core ≡ times_in (all_done n (step_begun s.core) (own_deeds n s event))
+next_times n s event other free =
+    ap times_in (next_core n s event other) ∙ begun_times (all_done n (step_begun s.core) (deeds n s event)) ∙ left_times n s event other (begun_good s.core free.good)
+
+leased : (n : ℕ) (s : Whole) (event : Event) → is_restart event ≡ false → IsFree s → (step n s event).next.core.leases ≡ leases_after n (step_begun s.core) (deeds n s event) s.core.leases
+leased n s event other free =
+    let found = step_begun s.core in
+    ap (λ (t : CoreState). t.leases) (next_core n s event other)
+    ∙ ap (λ (x : Running). x.0) (begun_times (all_done n found (deeds n s event)))
+    ∙ leases_are n s event other (begun_good s.core free.good)
+    ∙ ap (λ (x : Running). leases_after n found (deeds n s event) x.0) (begun_times s.core)
+
+clocked : (n : ℕ) (s : Whole) (event : Event) → is_restart event ≡ false → IsFree s → (step n s event).next.core.clock ≡ clock_after event s.core.clock
+clocked n s event other free =
+    ap (λ (x : Running). x.1) (next_times n s event other free) ∙ own_clock n s event (begun_good s.core free.good) ∙ ap (λ (x : Running). clock_after event x.1) (begun_times s.core)
+
+lawfully : (n : ℕ) (s : Whole) (event : Event) → is_restart event ≡ false → IsFree s → (let t = (step n s event).next in
+    IsChangedBy n (step_begun s.core) (deeds n s event) t.core × (t.core.leases ≡ leases_after n (step_begun s.core) (deeds n s event) s.core.leases) × (t.core.clock ≡ clock_after event s.core.clock))
+lawfully n s event other free = (changed n s event other free, leased n s event other free, clocked n s event other free)
+
 emptied : (n : ℕ) (s : Whole) (p : Place) → held_at (step n s Restart).next.core p ≡ []
 unfolding step
 emptied n s (ByteOf file owner byte) = refl
@@ -68,13 +99,17 @@ emptied n s (ShareOf file owner) = refl
 emptied n s (RangesOf file number) = refl
 emptied n s (CacheOf file party) = refl
 
+cleared : (n : ℕ) (s : Whole) → (let t = (step n s Restart).next in (t.core.leases ≡ []) × (t.core.clock ≡ s.core.clock))
+unfolding step
+cleared n s = (refl, refl)
+
 lawful_by : (n : ℕ) (s : Whole) (event : Event) → IsFree s → IsLawfulBy n s event (step n s event).next
-lawful_by n s (Open kind) free = changed n s (Open kind) refl free
-lawful_by n s (Message number bytes) free = changed n s (Message number bytes) refl free
-lawful_by n s (End number) free = changed n s (End number) refl free
-lawful_by n s (Called number bytes) free = changed n s (Called number bytes) refl free
-lawful_by n s (Tick moment) free = changed n s (Tick moment) refl free
-lawful_by n s Restart free = λ p. emptied n s p
+lawful_by n s (Open kind) free = lawfully n s (Open kind) refl free
+lawful_by n s (Message number bytes) free = lawfully n s (Message number bytes) refl free
+lawful_by n s (End number) free = lawfully n s (End number) refl free
+lawful_by n s (Called number bytes) free = lawfully n s (Called number bytes) refl free
+lawful_by n s (Tick moment) free = lawfully n s (Tick moment) refl free
+lawful_by n s Restart free = let same = cleared n s in (λ p. emptied n s p, same.0, same.1)
 
 waiting : (n : ℕ) (s : Whole) (event : Event) → is_restart event ≡ false → IsFree s
     → (let t = (step n s event).next in (t.core.waiters ≡ queue_after n (step_begun s.core) (deeds n s event) s.core.waiters) × KeepNames s.core.names t.core.names)
@@ -161,6 +196,23 @@ due_by n s (Called number bytes) free = due n s (Called number bytes) refl free
 due_by n s (Tick moment) free = due n s (Tick moment) refl free
 due_by n s Restart free = nothing_due n s
 
+-- a reading of the clock leaves nothing that is due by then
+on_time : (n : ℕ) (s : Whole) (now : Moment) → IsFree s → IsOnTime n s now (step n s (Tick now)).next
+on_time n s now free =
+    let found = step_begun s.core in
+    record {
+      breaks = subst (λ (t : CoreState). first_due t ≡ None) (sym (tick_done n found now)) (none_due found now (begun_good s.core free.good));
+      leases = ap (λ (x : Running). first_ended x.1 x.0) (next_times n s (Tick now) refl free ∙ ap times_in (tick_done n found now)) ∙ none_ended found now;
+    }
+
+on_time_by : (n : ℕ) (s : Whole) (event : Event) → IsFree s → IsOnTimeBy n s event (step n s event).next
+on_time_by n s (Open kind) free = tt
+on_time_by n s (Message number bytes) free = tt
+on_time_by n s (End number) free = tt
+on_time_by n s (Called number bytes) free = tt
+on_time_by n s (Tick now) free = on_time n s now free
+on_time_by n s Restart free = tt
+
 sends : (n : ℕ) (s : Whole) (event : Event) → is_restart event ≡ false → (step n s event).outs ≡ messages n s event
 sends n s event other = ap (λ (t : Turn). t.outs) (step_is n s event other) ∙ all_sent n s event other
 
@@ -192,7 +244,7 @@ kept_from s (e ∷ es) free = (kept_by e.stores s e.event free, kept_from (step 
 
 complete_from : (s : Whole) (es : List Entry) → IsFree s → Always IsComplete s es
 complete_from s [] free = tt
-complete_from s (e ∷ es) free = (due_by e.stores s e.event free, complete_from (step e.stores s e.event).next es (step_free e.stores s e.event free))
+complete_from s (e ∷ es) free = ((due_by e.stores s e.event free, on_time_by e.stores s e.event free), complete_from (step e.stores s e.event).next es (step_free e.stores s e.event free))
 
 caused_from : (s : Whole) (es : List Entry) → IsFree s → Always IsCaused s es
 caused_from s [] free = tt

@@ -9,5 +9,6 @@ pub mod DoneLaws
 pub mod MachineLaws
 pub mod JournalLaws
 pub mod OrderLaws
+pub mod TimedLaws
 pub mod LawfulLaws
 pub mod HollowLaws

@@ -1,26 +1,33 @@
 -- What each event does to the core: the deeds of its message or call, of the fronts' tables, or those of the clock, and
 -- behind them the turns of those who wait, with what telling of them draws.
-use Rattle.std.specs.Prelude.{◌≡◌, ℕ, zero, suc, List, [], ◌∷◌, ◌++◌, length, map, Option, Some, None}
+use Rattle.std.specs.Prelude.{◌≡◌, ◌==◌, ℕ, zero, suc, List, [], ◌∷◌, ◌++◌, length, map, Option, Some, None}
+use Rattle.std.specs.List.{AllByRecursion, find}
 use Rattle.xl_base.specs.declared.event.Event.{Event}
 use Rattle.xl_base.specs.declared.event.Event.TheVariants.{Open, Message, End, Called, Tick, Restart}
 use Rattle.xl_base.specs.declared.event.Kind.{Kind}
 use Rattle.xl_base.specs.declared.event.Kind.TheVariants.{Rpc, Smb}
 use Rattle.xl_base.specs.declared.event.Out.{Out}
 use Rattle.xl_base.specs.declared.journal.Exports.{Exports}
+use Rattle.xl_matrix.specs.declared.claim.Extent.TheVariants.{Bytes}
 use Rattle.xl_names.specs.declared.name.Name.{Name}
+use Rattle.xl_names.specs.declared.name.Name.TheVariants.{NlmRange, NlmParty}
 use Rattle.xl_programs.specs.Programs.{RequestItem, IncomingItem, Unanswered, Refused, Asked, incoming_at}
 use Rattle.xl_programs.specs.declared.program.Program.{Program}
 use Rattle.xl_programs.specs.declared.program.Program.TheVariants.{Nlm, Nfs}
 use Rattle.xl_programs.specs.Sent.{refusal_of, sent_to}
 use Rattle.xl_core.specs.State.{CoreState, step_begun}
-use Rattle.xl_core.specs.Deeds.{Deed, Serves, all_done, all_told_of, answers_of, tick_deeds}
+use Rattle.xl_core.specs.Deeds.{Deed, Asks, Serves, all_done, all_told_of, answers_of, tick_deeds}
 use Rattle.xl_core.specs.Settle.{turns_left, settle}
 use Rattle.xl_core.specs.Ticks.{tick}
+use Rattle.xl_core.specs.declared.ask.Act.TheVariants.{Unlock}
 use Rattle.xl_core.specs.declared.ask.Answer.{Answer}
 use Rattle.xl_core.specs.declared.ask.Effect.{Effect}
-use Rattle.xl_front_nlm.specs.Answers.{called_deeds, nlm_called}
+use Rattle.xl_core.specs.declared.ask.Who.TheVariants.{Named}
+use Rattle.xl_front_nlm.specs.Answers.{refuses, refused_grant, called_deeds, nlm_called}
 use Rattle.xl_front_nlm.specs.FrontNlm.{nlm_client, nlm_deeds, nlm_reply, nlm_step}
 use Rattle.xl_front_nlm.specs.Grants.{shown, shown_deeds}
+use Rattle.xl_front_nlm.specs.State.{FrontState}
+use Rattle.xl_front_nlm.specs.declared.grant.Grant.{Grant}
 use Rattle.xl_house.specs.declared.parts.Fronts.{Fronts}
 use Rattle.xl_front_nfs.specs.FrontNfs.{nfs_deeds, nfs_reply, nfs_step}
 use Rattle.xl_front_nfs.specs.Theirs.{AreTheirs}
@@ -92,6 +99,22 @@ abbrev pub end_owns : Fronts → CoreState → Option Kind → ℕ → Type 0
 end_owns f s (Some Smb) number = AreOwn f.smb s number (smb_end_deeds f.smb number)
 end_owns f s (Some Rpc) number = Unit {0}
 end_owns f s None number = Unit {0}
+
+-- ---- the end of a call
+
+-- it gives up what the call told: these bytes of the file, by the owner that the grant names
+abbrev pub IsRefusal : Grant → Deed → Type 0
+IsRefusal g (Asks left a) = (a.party ≡ Named (NlmParty g.caller)) × (a.owner ≡ Named (NlmRange g.caller g.svid g.oh)) × (a.file ≡ g.file) × (a.act ≡ Unlock (Bytes g.first g.last))
+IsRefusal g deed = ⊥
+
+-- each does, and where there is no grant there are none
+abbrev pub AreRefusals : Option Grant → List Deed → Type 0
+AreRefusals None ds = ds ≡ []
+AreRefusals (Some g) ds = AllByRecursion (IsRefusal g) ds
+
+-- whose they are: of the grant that the call told, where it awaits an answer and is refused
+abbrev pub called_owns : FrontState → CoreState → ℕ → Option (List ℕ) → Type 0
+called_owns f s number reply = AreRefusals (refused_grant s (refuses reply) (find (λ c. c.number == number) f.calls)) (called_deeds f s number reply)
 
 -- ---- an event
 

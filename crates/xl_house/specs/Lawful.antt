@@ -5,6 +5,7 @@ use Rattle.std.specs.List.{AllByRecursion}
 use Rattle.xl_base.specs.Lists.{IsIn}
 use Rattle.xl_base.specs.declared.event.Event.{Event}
 use Rattle.xl_base.specs.declared.event.Event.TheVariants.{Message, End, Called, Tick, Restart}
+use Rattle.xl_base.specs.declared.event.Moment.{Moment}
 use Rattle.xl_base.specs.declared.journal.Entry.{Entry}
 use Rattle.xl_cache.specs.Planning.{is_running}
 use Rattle.xl_matrix.specs.Matrix.{compat}
@@ -12,13 +13,16 @@ use Rattle.xl_matrix.specs.declared.claim.Claim.{Claim}
 use Rattle.xl_names.specs.declared.name.Name.{Name}
 use Rattle.xl_table.specs.Held.{is_cache}
 use Rattle.xl_core.specs.State.{CoreState, step_begun}
-use Rattle.xl_core.specs.Deeds.{Deed, Asks, GivesBack, Weakens, Acks, Cancels, Ends, Serves, Draws, Advances, Lapses, Renews, Expires, queue_after, any_ends_break, KeepNames}
+use Rattle.xl_core.specs.Breaks.{first_due}
+use Rattle.xl_core.specs.Deeds.{Deed, Asks, GivesBack, Weakens, Acks, Cancels, Ends, Serves, Draws, Advances, Lapses, Renews, Expires, all_done, queue_after, any_ends_break, KeepNames}
 use Rattle.xl_core.specs.Dues.{AreDue}
+use Rattle.xl_core.specs.Leases.{first_ended}
 use Rattle.xl_core.specs.Places.{Place, held_at, IsChangedBy}
 use Rattle.xl_core.specs.declared.ask.Act.{Act}
 use Rattle.xl_core.specs.declared.ask.Act.TheVariants.{Unlock}
-use Rattle.xl_house.specs.Done.{own_deeds, behind_own, deeds, messages, message_owns, end_owns}
+use Rattle.xl_house.specs.Done.{own_deeds, behind_own, deeds, messages, message_owns, end_owns, called_owns}
 use Rattle.xl_house.specs.Machine.{Whole, kind_of, step}
+use Rattle.xl_house.specs.Timed.{leases_after, clock_after}
 
 -- a law of an entry: between the state before it and the one after, for its event and its stores
 abbrev pub Law : Type 1
@@ -35,13 +39,16 @@ found s = step_begun s.core
 
 -- ---- lawful
 
--- what is held afterwards, by the event
+-- what is held afterwards, which leases run, and what the clock shows, by the event
 abbrev pub IsLawfulBy : ℕ → Whole → Event → Whole → Type 0
-IsLawfulBy n s Restart t = (p : Place) → held_at t.core p ≡ []
-IsLawfulBy n s event t = IsChangedBy n (found s) (deeds n s event) t.core
+IsLawfulBy n s Restart t = ((p : Place) → held_at t.core p ≡ []) × (t.core.leases ≡ []) × (t.core.clock ≡ s.core.clock)
+IsLawfulBy n s event t =
+    IsChangedBy n (found s) (deeds n s event) t.core × (t.core.leases ≡ leases_after n (found s) (deeds n s event) s.core.leases) × (t.core.clock ≡ clock_after event s.core.clock)
 
 -- At each place there is what the last of the entry's deeds that reaches it made of it, and where none does, what was
--- there. A restart leaves nothing.
+-- there. The leases are those that ran, but for what the deeds made of them: each client that one renews has its own for a
+-- whole lease time from then on, and who expires has none. The clock shows what is read, where that is later, and else stands.
+-- A restart leaves nothing but the clock.
 abbrev pub IsLawful : Law
 IsLawful n s e t = IsLawfulBy n s e.event t
 
@@ -77,11 +84,22 @@ IsKept n s e t = IsKeptBy n s e.event t
 
 -- ---- complete
 
+-- What a reading of the clock owes: its own deeds leave no break whose deadline has come, and at its end no lease runs that has
+-- ended (MS-SMB2 3.3.6.1; RFC 7530 9.5, 10.4.6).
+pub record IsOnTime (n : ℕ) (s : Whole) (now : Moment) (t : Whole) : Type 0 where
+  pub breaks : first_due (all_done n (found s) (own_deeds n s (Tick now))) ≡ None
+  pub leases : first_ended t.core.clock t.core.leases ≡ None
+
+-- what is owed by the event
+abbrev pub IsOnTimeBy : ℕ → Whole → Event → Whole → Type 0
+IsOnTimeBy n s (Tick now) t = IsOnTime n s now t
+IsOnTimeBy n s event t = Unit {0}
+
 -- Each deed is given what is due to it, in the state that those before it left: an ask that is no reclaim, that nothing
 -- held stands against and for which there is room is granted, each answer has its cause, and each turn is that of the
--- first waiter who isn't held up.
+-- first waiter who isn't held up. And a reading of the clock does what is due by then.
 abbrev pub IsComplete : Law
-IsComplete n s e t = AreDue n (found s) (deeds n s e.event)
+IsComplete n s e t = AreDue n (found s) (deeds n s e.event) × IsOnTimeBy n s e.event t
 
 -- ---- caused
 
@@ -115,15 +133,18 @@ may_follow (Serves left) = true
 may_follow Draws = true
 may_follow deed = false
 
--- a message's own deeds are of whom it names, or of opens of the connection that it came by; those of the end of a
--- connection are of its opens alone
+-- a message's own deeds are of whom it names, or of opens of the connection that it came by, and they renew each confirmed client
+-- of NFSv4 that it names; those of the end of a connection are of its opens alone, and those of the end of a call give up what
+-- that call told, where it is refused
 abbrev pub IsOwnersBy : ℕ → Whole → Event → Type 0
 IsOwnersBy n s (Message number bytes) = message_owns n s.exports s.front (found s) (kind_of s.connections number) number bytes
 IsOwnersBy n s (End number) = end_owns s.front (found s) (kind_of s.connections number) number
+IsOwnersBy n s (Called number reply) = called_owns s.front.nlm (found s) number reply
 IsOwnersBy n s event = Unit {0}
 
 -- Each of its own deeds is one that such an event may do; a message's are of the clients that the message names, or of
--- opens of its connection, and those of a connection's end are of its opens; behind them stand turns alone.
+-- opens of its connection, those of a connection's end are of its opens, and those of a call's end of the grant that it told;
+-- behind them stand turns alone.
 pub record IsCausedBy (n : ℕ) (s : Whole) (event : Event) : Type 0 where
   pub own : AllByRecursion (λ d. may_do event d ≡ true) (own_deeds n s event)
   pub clients : IsOwnersBy n s event

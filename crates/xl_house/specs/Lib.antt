@@ -1,6 +1,7 @@
 pub mod Machine
 pub mod Shown
 pub mod Done
+pub mod Timed
 pub mod Lawful
 pub mod Journals
 pub mod Free

@@ -223,11 +223,12 @@ impl<K: Keeper> House<K> {
 
     /// The journal, and the keeper. The journal is legal: each entry has the stores and the outs that the machine's step
     /// gives at its place. At each free moment any two claims may be held together, and nobody is forgotten. In each
-    /// entry what is held at each place is what the entry's deeds made of it, who waits is who waited but for those whom
-    /// they queued, took out, ended or served, a cache of which a break runs stands until its party answers or gives it back,
-    /// ends or expires, or the deadline passes, what nothing stands against was granted, the deeds are those that its event
-    /// may cause, and what is sent is what the fronts say of the answers. No out to a connection stands before its opening
-    /// or after its end. It has at most 1,048,576 entries. The keeper holds the machine's record.
+    /// entry what is held at each place is what the entry's deeds made of it, and so are the leases, who waits is who waited
+    /// but for those whom they queued, took out, ended or served, a cache of which a break runs stands until its party answers
+    /// or gives it back, ends or expires, or the deadline passes, what nothing stands against was granted, what was due by a
+    /// reading of the clock is done, the deeds are those that its event may cause, and what is sent is what the fronts say of
+    /// the answers. No out to a connection stands before its opening or after its end. It has at most 1,048,576 entries. The
+    /// keeper holds the machine's record.
     pub fn end(self) -> (Journal, K)
         ensures journal { (result.0.head ≡ self.head) × (result.0.entries ≡ self.entries) }
         ensures keeper { result.1 ≡ self.keeper }

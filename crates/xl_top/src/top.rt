@@ -518,9 +518,10 @@ pub fn run<I: Source, O: Sink>(alloc: Global, words: &[String], input: &mut I, o
     ensures free { AlwaysFree (begin result.journal.head) result.journal.entries }
 
     // Each byte of each owner, and its share of each file, stands as it stood before an entry, but for what its owner did in
-    // it, was granted after a wait, or lost with its lease or its connection. A cache of which a break runs stands, at its full
-    // kind, and nothing that it guards against, until its party answers or gives it back, ends or expires, or the deadline
-    // passes. What nothing stands against is granted; what is blocked is refused, or waits.
+    // it, was granted after a wait, or lost with its lease or its connection; and each lease, but where its client is renewed or
+    // expires. A cache of which a break runs stands, at its full kind, and nothing that it guards against, until its party
+    // answers or gives it back, ends or expires, or the deadline passes. What nothing stands against is granted; what is blocked
+    // is refused, or waits. By a reading of the clock breaks are over and clients expire that are due.
     ensures lawful { Always IsLawful (begin result.journal.head) result.journal.entries }
     ensures waiting { Always IsWaiting (begin result.journal.head) result.journal.entries }
     ensures kept_until_answered { Always IsKept (begin result.journal.head) result.journal.entries }

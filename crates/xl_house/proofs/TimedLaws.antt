@@ -1,0 +1,214 @@
+-- What each deed makes of the leases and of the clock, and so what an entry does.
+use Rattle.std.proofs.Common.{◌≡◌, ℕ, Bool, true, false, List, [], ◌∷◌, ◌++◌, Option, Some, None, IfSome, refl, ap, subst, ◌∙◌}
+use Rattle.std.specs.List.{AllByRecursion}
+use Rattle.std.proofs.lemmas.Bool.{both_ways}
+use Rattle.xl_base.specs.declared.event.Event.{Event}
+use Rattle.xl_base.specs.declared.event.Event.TheVariants.{Open, Message, End, Called, Tick, Restart}
+use Rattle.xl_base.specs.declared.event.Moment.{Moment}
+use Rattle.xl_base.specs.declared.name.Party.{Party}
+use Rattle.xl_matrix.specs.declared.claim.Claim.{Claim}
+use Rattle.xl_names.specs.declared.name.Name.TheVariants.{NfsParty}
+use Rattle.xl_wait.specs.declared.waiter.Rooms.{Rooms}
+use Rattle.xl_wait.specs.declared.waiter.Waiter.{Waiter}
+use Rattle.xl_core.specs.State.{CoreState, step_begun, drawn}
+use Rattle.xl_core.specs.Asking.{party_named, asked_whats, asked_claims, is_client, IsFit}
+use Rattle.xl_core.specs.Begin.{breaks_begun}
+use Rattle.xl_core.specs.Breaks.{ack, client_of}
+use Rattle.xl_core.specs.Decide.{Answered, plea_of, decided, way, before_wish, ask}
+use Rattle.xl_core.specs.Deeds.{Deed, Asks, GivesBack, Weakens, Acks, Cancels, Ends, Serves, Draws, Advances, Lapses, Renews, Expires, turned, done, all_done, IsFitDeed, AreFit}
+use Rattle.xl_core.specs.Good.{IsGood}
+use Rattle.xl_core.specs.Judge.{held_with}
+use Rattle.xl_core.specs.Leases.{Lease, later, without_lease}
+use Rattle.xl_core.specs.Settle.{plea_again, way_again, settle, cancel, give_back, weaken, end_party}
+use Rattle.xl_core.specs.Ticks.{advanced, renew, end_some, unleased, expire, lapsed_by, lapse}
+use Rattle.xl_core.specs.declared.ask.Ask.{Ask}
+use Rattle.xl_core.proofs.ChangeLaws.{AskWay, Stays, Tests, Holds, Waits, Frees, Gives, decided_way}
+use Rattle.xl_core.proofs.DeedLaws.{deed_good}
+use Rattle.xl_core.proofs.DeedLists.{deeds_good, done_append}
+use Rattle.xl_core.proofs.FrameLaws.{tick_frame}
+use Rattle.xl_core.proofs.GoodLaws.{Turned, IsMoved, Answers, Rests, IsFirst, each_turn, once_answered, asked_way_good}
+use Rattle.xl_core.proofs.TickLaws.{tick_done}
+use Rattle.xl_core.proofs.WayLaws.{way_keeps}
+use Rattle.xl_core.proofs.WishFor.{wish_claims, after_claims}
+use Rattle.xl_house.specs.Done.{own_deeds, behind_own, deeds}
+use Rattle.xl_house.specs.Journals.{is_restart}
+use Rattle.xl_house.specs.Lawful.{may_do, may_follow}
+use Rattle.xl_house.specs.Machine.{Whole}
+use Rattle.xl_house.specs.Timed.{without_some, leases_left, leases_after, clock_after}
+use Rattle.xl_house.proofs.DoneLaws.{own_takes, deeds_taken, own_may, behind_follows}
+
+-- ---- the calls of the core
+
+-- the leases that run, and the clock
+abbrev pub Running : Type 0
+Running = List Lease × Moment
+
+abbrev pub times_in : CoreState → Running
+times_in s = (s.leases, s.clock)
+
+begun_times : (c : Claim) (s : CoreState) → times_in (breaks_begun c s).1 ≡ times_in s
+unfolding breaks_begun
+begun_times c s = refl
+
+decided_times : (n : ℕ) (left : Rooms) (s : CoreState) (a : Ask) → IsGood s → is_client a.owner a.party ≡ true → times_in (decided n left s a).2 ≡ times_in s
+unfolding held_with
+decided_times n left s a good client = by (decided n left s a) (decided_way n left s a good client) where
+  by : (r : Answered) → AskWay s a r → times_in r.2 ≡ times_in s
+  by r (Stays answer refused e) = ap (λ (x : Answered). times_in x.2) e
+  by r (Tests c holds e) = ap (λ (x : Answered). times_in x.2) e
+  by r (Holds c claims is holds e) = ap (λ (x : Answered). times_in x.2) e
+  by r (Waits c cs may blocked is holds e) = ap (λ (x : Answered). times_in x.2) e
+  by r (Frees c first last holds share file owner e) = ap (λ (x : Answered). times_in x.2) e
+  by r (Gives c d holds share file owner range e) = ap (λ (x : Answered). times_in x.2) e
+
+ask_times : (n : ℕ) (left : Rooms) (s : CoreState) (a : Ask) → IsGood s → IsFit a → times_in (ask n left s a).2 ≡ times_in s
+unfolding ask before_wish
+ask_times n left s a good fit =
+    let whole = before_wish n left s a in
+    ap times_in (after_claims a whole.0 whole.2)
+    ∙ decided_times n left (way left s a).1 a (asked_way_good left s a good) fit.party
+    ∙ way_keeps times_in (plea_of left s a) (asked_claims a (asked_whats a.act) s.names) s (λ c. begun_times c s)
+
+moved_times : (left : Rooms) (s : CoreState) (turn : Turned) → IsFirst left s s.waiters turn → times_in turn.1 ≡ times_in s
+moved_times left s turn first = by first.moved where
+  w : Waiter
+  w = first.waiter
+
+  by : IsMoved left s w first.claim first.claims turn → times_in turn.1 ≡ times_in s
+  by (Answers answer told new due pass) =
+      ap times_in (new ∙ wish_claims w.wish answer (once_answered (way_again s w).1 w (first.claim ∷ first.claims) answer)) ∙ way_keeps times_in (plea_again s w) w.asked s (λ c. begun_times c s)
+  by (Rests e up) = ap (λ (x : Turned). times_in x.1) e ∙ way_keeps times_in (plea_again s w) w.asked s (λ c. begun_times c s)
+
+turn_times : (s : CoreState) (o : Option Turned) → IfSome o (λ r. times_in r.1 ≡ times_in s) → times_in (turned s o).2 ≡ times_in s
+turn_times s None is = refl
+turn_times s (Some r) is = is
+
+ended_times : (s : CoreState) (client : List ℕ) (party : Option Party) → times_in (unleased client (end_some s party)).1 ≡ (without_lease client s.leases, s.clock)
+unfolding end_party
+ended_times s client None = refl
+ended_times s client (Some party) = refl
+
+expire_times : (s : CoreState) (client : List ℕ) → times_in (expire s client).1 ≡ (without_lease client s.leases, s.clock)
+unfolding expire
+expire_times s client = ended_times s client (party_named s.names (NfsParty client))
+
+lapsed_times : (s : CoreState) (cache : Claim) (client : Option (List ℕ)) → times_in (lapsed_by s cache client).1 ≡ (without_some client s.leases, s.clock)
+lapsed_times s cache None = refl
+lapsed_times s cache (Some client) = expire_times s client
+
+lapse_times : (s : CoreState) (cache : Claim) → times_in (lapse s cache).1 ≡ (without_some (client_of s.names cache.party) s.leases, s.clock)
+unfolding lapse
+lapse_times s cache = lapsed_times s cache (client_of s.names cache.party)
+
+-- ---- deeds
+
+abbrev clock_left : Deed → Moment → Moment
+clock_left (Advances now) clock = later clock now
+clock_left deed clock = clock
+
+abbrev clock_by : List Deed → Moment → Moment
+clock_by [] clock = clock
+clock_by (d ∷ ds) clock = clock_by ds (clock_left d clock)
+
+deed_times : (n : ℕ) (s : CoreState) (d : Deed) → IsGood s → IsFitDeed s d → times_in (done n s d) ≡ (leases_left s d s.leases, clock_left d s.clock)
+unfolding give_back weaken ack cancel end_party drawn advanced renew
+deed_times n s (Asks left a) good fit = ask_times n left s a good fit
+deed_times n s (GivesBack claim) good fit = refl
+deed_times n s (Weakens share access deny) good fit = refl
+deed_times n s (Acks cache to) good fit = refl
+deed_times n s (Cancels id) good fit = refl
+deed_times n s (Ends party) good fit = refl
+deed_times n s (Serves left) good fit = turn_times s (settle n left s) (each_turn n left s (λ r. times_in r.1 ≡ times_in s) good (λ turn first. moved_times left s turn first))
+deed_times n s Draws good fit = refl
+deed_times n s (Advances now) good fit = refl
+deed_times n s (Lapses cache) good fit = lapse_times s cache
+deed_times n s (Renews client) good fit = refl
+deed_times n s (Expires client) good fit = expire_times s client
+
+deeds_times : (n : ℕ) (s : CoreState) (ds : List Deed) → IsGood s → AreFit n s ds → times_in (all_done n s ds) ≡ (leases_after n s ds s.leases, clock_by ds s.clock)
+deeds_times n s [] good fit = refl
+deeds_times n s (d ∷ ds) good fit =
+    deeds_times n (done n s d) ds (deed_good n s d good fit.0) fit.1
+    ∙ ap (λ (x : Running). (leases_after n (done n s d) ds x.0, clock_by ds x.1)) (deed_times n s d good fit.0)
+
+-- ---- what stands behind an event's own deeds leaves both
+
+follow_times : (n : ℕ) (s : CoreState) (ds : List Deed) (leases : List Lease) (clock : Moment) → AllByRecursion (λ d. may_follow d ≡ true) ds → (let same : Running = (leases, clock) in (leases_after n s ds leases, clock_by ds clock) ≡ same)
+follow_times n s [] leases clock follow = refl
+follow_times n s (Serves left ∷ ds) leases clock follow = follow_times n (done n s (Serves left)) ds leases clock follow.1
+follow_times n s (Draws ∷ ds) leases clock follow = follow_times n (done n s Draws) ds leases clock follow.1
+follow_times n s (d ∷ ds) leases clock follow = absurd (both_ways false refl follow.0)
+
+fit_behind : (n : ℕ) (s : CoreState) (ds es : List Deed) → AreFit n s (ds ++ es) → AreFit n (all_done n s ds) es
+fit_behind n s [] es fit = fit
+fit_behind n s (d ∷ ds) es fit = fit_behind n (done n s d) ds es fit.1
+
+own_first : (n : ℕ) (s : Whole) (event : Event) → is_restart event ≡ false → deeds n s event ≡ own_deeds n s event ++ behind_own n s event
+unfolding deeds
+own_first n s (Open kind) other = refl
+own_first n s (Message number bytes) other = refl
+own_first n s (End number) other = refl
+own_first n s (Called number bytes) other = refl
+own_first n s (Tick moment) other = refl
+own_first n s Restart other = absurd cc
+
+pub left_times : (n : ℕ) (s : Whole) (event : Event) → is_restart event ≡ false → IsGood (step_begun s.core) → (let found = step_begun s.core in times_in (all_done n found (deeds n s event)) ≡ times_in (all_done n found (own_deeds n s event)))
+left_times n s event other good =
+    let found = step_begun s.core in
+    let own = own_deeds n s event in
+    let behind = behind_own n s event in
+    let t = all_done n found own in
+    let fit = subst (λ (ds : List Deed). AreFit n found ds) (own_first n s event other) (deeds_taken n s event other good) in
+    ap (λ (ds : List Deed). times_in (all_done n found ds)) (own_first n s event other)
+    ∙ ap times_in (done_append n found own behind)
+    ∙ deeds_times n t behind (deeds_good n found own good (own_takes n s event good)) (fit_behind n found own behind fit)
+    ∙ follow_times n t behind t.leases t.clock (behind_follows n s event)
+
+-- ---- the clock
+
+abbrev is_reading : Event → Bool
+is_reading (Tick now) = true
+is_reading event = false
+
+reads_none : (event : Event) (now : Moment) → is_reading event ≡ false → may_do event (Advances now) ≡ false
+reads_none (Open kind) now other = refl
+reads_none (Message number bytes) now other = refl
+reads_none (End number) now other = refl
+reads_none (Called number bytes) now other = refl
+reads_none (Tick moment) now other = absurd (both_ways true other refl)
+reads_none Restart now other = refl
+
+stands : (event : Event) (d : Deed) (clock : Moment) → is_reading event ≡ false → may_do event d ≡ true → clock_left d clock ≡ clock
+stands event (Advances now) clock other may = absurd (both_ways (may_do event (Advances now)) (reads_none event now other) may)
+stands event (Asks left a) clock other may = refl
+stands event (GivesBack claim) clock other may = refl
+stands event (Weakens share access deny) clock other may = refl
+stands event (Acks cache to) clock other may = refl
+stands event (Cancels id) clock other may = refl
+stands event (Ends party) clock other may = refl
+stands event (Serves left) clock other may = refl
+stands event Draws clock other may = refl
+stands event (Lapses cache) clock other may = refl
+stands event (Renews client) clock other may = refl
+stands event (Expires client) clock other may = refl
+
+all_stand : (event : Event) (ds : List Deed) (clock : Moment) → is_reading event ≡ false → AllByRecursion (λ d. may_do event d ≡ true) ds → clock_by ds clock ≡ clock
+all_stand event [] clock other may = refl
+all_stand event (d ∷ ds) clock other may = all_stand event ds (clock_left d clock) other may.1 ∙ stands event d clock other may.0
+
+stood : (n : ℕ) (s : Whole) (event : Event) → is_reading event ≡ false → IsGood (step_begun s.core) → (all_done n (step_begun s.core) (own_deeds n s event)).clock ≡ (step_begun s.core).clock
+stood n s event other good =
+    let found = step_begun s.core in
+    ap (λ (x : Running). x.1) (deeds_times n found (own_deeds n s event) good (own_takes n s event good)) ∙ all_stand event (own_deeds n s event) found.clock other (own_may n s event good)
+
+pub own_clock : (n : ℕ) (s : Whole) (event : Event) → IsGood (step_begun s.core) → (all_done n (step_begun s.core) (own_deeds n s event)).clock ≡ clock_after event (step_begun s.core).clock
+own_clock n s (Open kind) good = stood n s (Open kind) refl good
+own_clock n s (Message number bytes) good = stood n s (Message number bytes) refl good
+own_clock n s (End number) good = stood n s (End number) refl good
+own_clock n s (Called number bytes) good = stood n s (Called number bytes) refl good
+own_clock n s (Tick now) good = ap (λ (t : CoreState). t.clock) (tick_done n (step_begun s.core) now) ∙ (tick_frame (step_begun s.core) now).clock
+own_clock n s Restart good = refl
+
+-- what is made of the leases by all that an event does
+pub leases_are : (n : ℕ) (s : Whole) (event : Event) → is_restart event ≡ false → IsGood (step_begun s.core) → (let found = step_begun s.core in (all_done n found (deeds n s event)).leases ≡ leases_after n found (deeds n s event) found.leases)
+leases_are n s event other good = ap (λ (x : Running). x.0) (deeds_times n (step_begun s.core) (deeds n s event) good (deeds_taken n s event other good))
