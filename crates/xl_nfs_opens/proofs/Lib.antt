@@ -26,3 +26,4 @@ pub mod NumberLaws
 pub mod LengthLaws
 pub mod TiedLaws
 pub mod DelegationLaws
+pub mod AdvanceLaws

@@ -39,7 +39,7 @@ use Rattle.xl_nfs_opens.specs.declared.opener.Opener.{Opener}
 
 -- ---- repeats
 
-repeat_kept : (n : ℕ) (s : CoreState) (l : NfsLists) (current : Option ℕ) (o : Option KeptRow) (k : KeptRow) → o ≡ Some k → IsRepeated k.result l s (carried n s l current (repeated s l current o))
+pub repeat_kept : (n : ℕ) (s : CoreState) (l : NfsLists) (current : Option ℕ) (o : Option KeptRow) (k : KeptRow) → o ≡ Some k → IsRepeated k.result l s (carried n s l current (repeated s l current o))
 repeat_kept n s l current None k e = absurd (true≢false (ap is_some (sym e)))
 repeat_kept n s l current (Some x) k e = subst (λ (y : KeptRow). IsRepeated y.result l s (carried n s l current (repeated s l current (Some x)))) (same_Some x k e) (refl, refl, refl)
 

@@ -51,7 +51,7 @@ last_repeated s l op seqid stateid r w o is last same le =
     known s l op seqid stateid r w o is
     ∙ rw (differs seqid (next_seqid o.turn.seqid) (λ e. omega (arith, e, last, le))) (rw (eq-eqb seqid o.turn.seqid last) (rw (eq-eqb op o.turn.op same) refl))
 
-not_last : (seqid last op by : ℕ) → (seqid ≡ last → op ≡ by → ⊥) → ((seqid == last) && (op == by)) ≡ false
+pub not_last : (seqid last op by : ℕ) → (seqid ≡ last → op ≡ by → ⊥) → ((seqid == last) && (op == by)) ≡ false
 not_last seqid last op by other =
     elim (cases_Bool (seqid == last)) [
       | inl h ↦ rw h (differs op by (λ e. other (eqb-true seqid last h) e))

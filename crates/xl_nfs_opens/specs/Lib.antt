@@ -14,3 +14,4 @@ pub mod Orderly
 pub mod Numbers
 pub mod Lengths
 pub mod Owners
+pub mod Advancing

@@ -2,6 +2,7 @@
 //! OPEN_DOWNGRADE, CLOSE and DELEGRETURN over the core.
 #![tactic(auto)]
 
+pub mod advancing;
 mod aims;
 mod asks;
 mod closing;
