@@ -1,6 +1,6 @@
 -- What LOCK and RELEASE_LOCKOWNER leave of owners: how far their requests have come, and what is kept for them.
-use Rattle.std.proofs.Common.{◌≡◌, ℕ, ◌+◌, Bool, true, false, not, ◌||◌, List, [], ◌∷◌, ◌++◌, map, Option, Some, None, Ok, Err, Result, is_some, option_map, if◌then◌else◌, refl, sym, ap, subst, ◌∙◌, inl, inr, true≢false}
-use Rattle.std.proofs.lemmas.Bool.{cases_Bool, eq-eqb, eqb-true}
+use Rattle.std.proofs.Common.{◌≡◌, ℕ, ◌+◌, Bool, true, false, not, ◌||◌, List, [], ◌∷◌, map, Option, Some, None, Ok, Err, Result, is_some, option_map, if◌then◌else◌, refl, sym, ap, subst, ◌∙◌, inl, inr, true≢false}
+use Rattle.std.proofs.lemmas.Bool.{cases_Bool, eq-eqb}
 use Rattle.std.proofs.lemmas.Map.Keys.{IsDistinct-tail, IsDistinct-head}
 use Rattle.std.proofs.lemmas.Option.{same_Some}
 use Rattle.std.specs.Bool.{◌==◌}
@@ -12,7 +12,7 @@ use Rattle.xl_nfs_state.proofs.SoundLaws.{fresh_number, rising_changed}
 use Rattle.xl_nfs_state.specs.Alike.{owner_names_are}
 use Rattle.xl_nfs_state.specs.Filed.{changed}
 use Rattle.xl_nfs_state.specs.Keys.{owner_name, same_kind, same_owner_name}
-use Rattle.xl_nfs_state.specs.Rows.{with_result, with_turn}
+use Rattle.xl_nfs_state.specs.Rows.{with_turn}
 use Rattle.xl_nfs_state.specs.State.{NfsLists, IsRising, hangs_on, is_kept, is_owner, is_owner_named, is_whose, next_owner, with_stateids, without, without_owner}
 use Rattle.xl_nfs_state.specs.declared.client.ClientRow.{ClientRow}
 use Rattle.xl_nfs_state.specs.declared.kept.KeptRow.{KeptRow}
@@ -25,6 +25,7 @@ use Rattle.xl_nfs_state.specs.declared.stateid.Whose.TheVariants as whose
 use Rattle.xl_core.specs.Decide.{ask}
 use Rattle.xl_core.specs.State.{CoreState, drawn}
 use Rattle.xl_core.specs.declared.ask.Answer.{Answer}
+use Rattle.xl_nfs_opens.proofs.AdvanceLaws.{gone_kept, kept_apart, same_rows}
 use Rattle.xl_nfs_opens.proofs.KeepLaws.{passes, rising_found}
 use Rattle.xl_nfs_opens.proofs.KeptLaws.{counted_kept, remembered_kept}
 use Rattle.xl_nfs_opens.proofs.OpenLaws.{counted_turn, kept_owners}
@@ -35,7 +36,7 @@ use Rattle.xl_nfs_opens.specs.Opens.{all_rooms, is_granted, stood}
 use Rattle.xl_nfs_opens.specs.Plans.{carried, status_of}
 use Rattle.xl_nfs_opens.specs.Renewing.{stateid_of}
 use Rattle.xl_nfs_opens.specs.Results.{spelled}
-use Rattle.xl_nfs_opens.specs.Seqids.{advances, closed_gone, is_opener, is_room_for, kept_for, number_by, opener_number, remembered, seated, seated_by, seated_new, turned}
+use Rattle.xl_nfs_opens.specs.Seqids.{advances, is_opener, is_room_for, number_by, opener_number, remembered, seated, seated_by, seated_new, turned}
 use Rattle.xl_nfs_opens.specs.declared.opener.Opener.{Opener}
 use Rattle.xl_nfs_opens.specs.declared.told.Told.{Told}
 use Rattle.xl_nfs_opens.specs.declared.told.Told.TheVariants.{Ended, State}
@@ -50,7 +51,7 @@ use Rattle.xl_nfs_locks.proofs.KeepLaws.{counted_owners, next_turned}
 -- ---- the two owners are apart
 
 -- a request of another owner leaves what is found by a name
-unnamed_turned : (p : OwnerRow → Bool) (turn : Turn) (number : ℕ) (os : List OwnerRow) (w : OwnerRow) → ((x : OwnerRow) → p (with_turn turn x) ≡ p x) → find (is_owner number) os ≡ Some w → p w ≡ false → find p (changed (is_owner number) (with_turn turn) os) ≡ find p os
+pub unnamed_turned : (p : OwnerRow → Bool) (turn : Turn) (number : ℕ) (os : List OwnerRow) (w : OwnerRow) → ((x : OwnerRow) → p (with_turn turn x) ≡ p x) → find (is_owner number) os ≡ Some w → p w ≡ false → find p (changed (is_owner number) (with_turn turn) os) ≡ find p os
 unnamed_turned p turn number [] w same found other = refl
 unnamed_turned p turn number (x ∷ os) w same found other =
     elim (cases_Bool (number == x.number)) [
@@ -79,7 +80,7 @@ apart o b w l rising found other room = by (find (is_opener o) l.owners) (next_o
     by None None e f is same = true≢false (sym is)
 
 -- an owner of opens is no lock owner
-other_kind : (o : Opener) (w : OwnerRow) → w.name.kind ≡ kinds.Open → o.kind ≡ kinds.Lock → is_opener o w ≡ false
+pub other_kind : (o : Opener) (w : OwnerRow) → w.name.kind ≡ kinds.Open → o.kind ≡ kinds.Lock → is_opener o w ≡ false
 other_kind o w opens locks =
     let differ : same_kind o.kind w.name.kind ≡ false = (λ i. same_kind (locks i) (opens i)) in
     elim (cases_Bool (o.client == w.name.client)) [
@@ -88,39 +89,6 @@ other_kind o w opens locks =
     ]
 
 -- ---- what is kept for others
-
-kept_changed_apart : (i j : ℕ) (bytes : List ℕ) (ks : List KeptRow) → (i ≡ j → ⊥) → find (is_kept i) (changed (is_kept j) (with_result bytes) ks) ≡ find (is_kept i) ks
-kept_changed_apart i j bytes [] other = refl
-kept_changed_apart i j bytes (k ∷ ks) other =
-    elim (cases_Bool (j == k.owner)) [
-      | inl e ↦ rw e (let nor : (i == k.owner) ≡ false = differs i k.owner (λ d. other (d ∙ sym (eqb-true j k.owner e))) in rw nor refl)
-      | inr e ↦ rw e (elim (cases_Bool (i == k.owner)) [
-        | inl d ↦ rw d refl
-        | inr d ↦ rw d (kept_changed_apart i j bytes ks other)
-      ])
-    ]
-
-kept_behind_apart : (i j : ℕ) (bytes : List ℕ) (ks : List KeptRow) → (i ≡ j → ⊥) → find (is_kept i) (ks ++ record { owner = j; result = bytes } ∷ []) ≡ find (is_kept i) ks
-kept_behind_apart i j bytes [] other = rw (differs i j other) refl
-kept_behind_apart i j bytes (k ∷ ks) other =
-    elim (cases_Bool (i == k.owner)) [
-      | inl d ↦ rw d refl
-      | inr d ↦ rw d (kept_behind_apart i j bytes ks other)
-    ]
-
-kept_apart : (i j : ℕ) (bytes : List ℕ) (l : NfsLists) → (i ≡ j → ⊥) → find (is_kept i) (kept_for j bytes l).kept ≡ find (is_kept i) l.kept
-kept_apart i j bytes l other =
-    elim (cases_Bool (is_some (find (is_kept j) l.kept))) [
-      | inl e ↦ rw e (kept_changed_apart i j bytes l.kept other)
-      | inr e ↦ rw e (elim (cases_Bool (is_some (find (is_owner j) l.owners))) [
-        | inl d ↦ rw d (kept_behind_apart i j bytes l.kept other)
-        | inr d ↦ rw d refl
-      ])
-    ]
-
-gone_kept : (closed : Option ℕ) (l : NfsLists) → (closed_gone closed l).kept ≡ l.kept
-gone_kept None l = refl
-gone_kept (Some number) l = refl
 
 new_kept : (o : Opener) (turn : Turn) (l : NfsLists) (next : Option ℕ) → (seated_new o turn l next).kept ≡ l.kept
 new_kept o turn l None = refl
@@ -143,10 +111,6 @@ remembered_apart i o turn bytes l room other = rw room (kept_apart i (opener_num
 remembered_come : (o : Opener) (turn : Turn) (bytes : List ℕ) (l : NfsLists) → IsRising l.owners → is_room_for o l ≡ true → HasCome o turn l (remembered o turn bytes l)
 unfolding remembered
 remembered_come o turn bytes l rising room = rw room (same_come o turn l _ (kept_owners (opener_number o l) bytes (seated o turn l)) (seated_come o turn l rising room))
-
-same_rows : (x : Option OwnerRow) → option_map (λ (r : OwnerRow). r) x ≡ x
-same_rows None = refl
-same_rows (Some r) = refl
 
 both_come : (b : BothOwners) (w : OwnerRow) (o : Opener) (bytes : List ℕ) (l : NfsLists) → IsRising l.owners → find (is_owner b.number) l.owners ≡ Some w → is_opener o w ≡ false → is_room_for o l ≡ true → HaveBothCome b o bytes l (counted_both b o bytes l)
 both_come b w o bytes l rising found other room =

@@ -9,3 +9,6 @@ pub mod KeepLaws
 pub mod CloseLaws
 pub mod CountLaws
 pub mod NumberLaws
+pub mod JudgeLaws
+pub mod AdvanceLaws
+pub mod FaultLaws

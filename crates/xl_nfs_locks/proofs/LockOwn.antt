@@ -59,7 +59,7 @@ use Rattle.xl_nfs_opens.proofs.UnderLaws.{opener_is}
 
 -- ---- ranges: the last byte isn't before the first
 
-abbrev NotBefore : ℕ → Option ℕ → Type 0
+abbrev pub NotBefore : ℕ → Option ℕ → Type 0
 NotBefore first None = Unit {0}
 NotBefore first (Some last) = first ≤ last
 

@@ -8,3 +8,4 @@ pub mod Locks
 pub mod FirstLocks
 pub mod Laws
 pub mod Counting
+pub mod Judging
