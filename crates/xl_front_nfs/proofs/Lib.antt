@@ -6,6 +6,7 @@ pub mod CourseLaws
 pub mod ReplyLaws
 pub mod StepLaws
 pub mod DoesLaws
+pub mod RenewedLaws
 pub mod OwnLaws
 pub mod HandleLaws
 pub mod OrderlyLaws

@@ -37,6 +37,7 @@ use Rattle.xl_nfs_opens.specs.Plans.{Plan, deeds_of}
 use Rattle.xl_front_nfs.specs.State.{FrontNfs}
 use Rattle.xl_front_nfs.specs.Theirs.{IsTheirs, IfMore, AreAllTheirs, AreTheirsBy, AreTheirs}
 use Rattle.xl_front_nfs.proofs.DoesLaws.{step_does}
+use Rattle.xl_front_nfs.proofs.RenewedLaws.{plan_renews}
 use Rattle.xl_front_nfs.specs.Steps.{planned, Step, Runs, Garbled, Cut, Course, begun, ran, step_deeds}
 
 -- it draws a number, or it ends as a party, or renews, a client for which this holds
@@ -252,7 +253,7 @@ request_takes n exports others f s r good = call_takes n exports.files others f 
 
 one_own : (files : List (List ℕ)) (others n : ℕ) (c : Course) (s : CoreState) (step : Step) → IsGood s → IsTheirs files others n c s step
 unfolding step_deeds
-one_own files others n c s (Runs item) good = (plan_own n files others s c.lists c.current item good).1
+one_own files others n c s (Runs item) good = ((plan_own n files others s c.lists c.current item good).1, λ id is. plan_renews n files others s c.lists c.current item id is)
 one_own files others n c s (Garbled number) good = refl
 one_own files others n c s Cut good = refl
 

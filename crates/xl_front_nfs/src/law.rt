@@ -12,7 +12,7 @@ ghost use Rattle.xl_nfs_state.specs.State.{NfsLists, is_due};
 ghost use Rattle.xl_nfs_state.specs.declared.client.ClientRow.{ClientRow};
 ghost use Rattle.xl_programs.specs.Programs.{RequestItem};
 ghost use Rattle.xl_programs.specs.Sent.{sent_to};
-ghost use Rattle.xl_core.specs.Deeds.{all_done, all_told_of, AreFit};
+ghost use Rattle.xl_core.specs.Deeds.{Renews, all_done, all_told_of, AreFit};
 ghost use Rattle.xl_core.specs.Rows.{all_ran, all_deeds};
 ghost use Rattle.xl_core.specs.Good.{IsGood};
 ghost use Rattle.xl_core.specs.State.{CoreState};
@@ -23,7 +23,7 @@ ghost use Rattle.xl_core.specs.declared.ask.Effect.TheVariants.{Begun};
 ghost use Rattle.xl_front_nfs.specs.Recalls.{recalls, IsRecall};
 ghost use Rattle.xl_front_nfs.specs.State.{FrontNfs, nfs_tick};
 ghost use Rattle.xl_front_nfs.specs.Steps.{planned, Step, Course, ran, step_deeds};
-ghost use Rattle.xl_front_nfs.specs.Theirs.{AreTheirs};
+ghost use Rattle.xl_front_nfs.specs.Theirs.{IsToRenew, AreTheirs};
 
 /// A request leaves the core as its deeds do, and tells of what they tell of.
 #[tactic(auto, using(crate::proofs::DoesLaws::request_does, crate::proofs::DoesLaws::request_tells))]
@@ -40,11 +40,13 @@ pub fn deeds_are_taken()
 
 /// Each deed of an operation draws a number, or it is of a client that the operation names by the clientid of its record or by
 /// a live stateid: it asks as that client, gives back or makes weaker what that holds, ends it or renews its lease. So no other
-/// lease is renewed, and no other client's claims go. Those of a request are of its operations, each in the state that those
-/// before it left; each is of one of these kinds.
+/// lease is renewed, and no other client's claims go. Each confirmed client that is named so is renewed, however the operation
+/// ends; by SETCLIENTID_CONFIRM the one whose record it confirms, else the confirmed one that it names (RFC 7530 9.5). Those of
+/// a request are of its operations, each in the state that those before it left; each is of one of these kinds.
 #[tactic(auto, using(crate::proofs::OwnLaws::request_by))]
 pub fn deeds_are_the_clients()
     ensures operations { (n : ℕ) (files : List (List ℕ)) (others : ℕ) (s : CoreState) (l : NfsLists) (current : Option ℕ) (item : OpItem) → IsGood s → AreBy n s (Names s l item) (deeds_of n s (planned files others s l current item)) }
+    ensures renewed { (n : ℕ) (files : List (List ℕ)) (others : ℕ) (s : CoreState) (l : NfsLists) (current : Option ℕ) (item : OpItem) (id : List ℕ) → IsToRenew s l item id → IsIn (Renews id) (deeds_of n s (planned files others s l current item)) }
     ensures requests { (n : ℕ) (exports : Exports) (others : ℕ) (f : FrontNfs) (s : CoreState) (r : RequestItem) → IsGood s → AreTheirs n exports others f s r }
     ensures kinds { (n : ℕ) (exports : Exports) (others : ℕ) (f : FrontNfs) (s : CoreState) (r : RequestItem) → IsGood s → AreBy n s (λ _. Unit {0}) (nfs_deeds n exports others f s r) }
 {}
