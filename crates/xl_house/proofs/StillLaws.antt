@@ -4,13 +4,13 @@ use Rattle.xl_names.specs.declared.name.Name.{Name}
 use Rattle.xl_wait.specs.declared.waiter.Waiter.{Waiter}
 use Rattle.xl_core.specs.State.{CoreState, drawn}
 use Rattle.xl_core.specs.Deeds.{Deed, Asks, GivesBack, Weakens, Acks, Cancels, Ends, Serves, Draws, Advances, Lapses, Renews, Expires, turned, done, all_done, IsFitDeed, AreFit}
-use Rattle.xl_core.specs.Frames.{IsFrame, IsRenewed, IsTicked, calls_in, drawn_by, names_after, come_by}
+use Rattle.xl_core.specs.Frames.{IsFrame, IsTicked, calls_in, drawn_by, names_after, come_by}
 use Rattle.xl_core.specs.Decide.{ask}
 use Rattle.xl_core.specs.Good.{IsGood}
 use Rattle.xl_base.specs.declared.event.Moment.{Moment}
 use Rattle.xl_core.specs.Settle.{settle, cancel, give_back, weaken, end_party}
 use Rattle.xl_core.specs.Breaks.{ack}
-use Rattle.xl_core.specs.Ticks.{advanced, renew, expire, lapse}
+use Rattle.xl_core.specs.Ticks.{advanced, expire, lapse}
 use Rattle.xl_core.specs.declared.ask.Effect.{Effect}
 use Rattle.xl_core.proofs.DeedLaws.{deed_good}
 use Rattle.xl_core.proofs.FrameLaws.{ask_frame, turn_frame, cancel_frame, give_back_frame, weaken_frame, ack_frame, drawn_frame, end_party_frame, advanced_ticked, renew_frame, expire_left, lapse_left}
@@ -33,9 +33,6 @@ turned_still : (s : CoreState) (o : Option (List Effect × CoreState)) → IfSom
 turned_still s None frame = still s
 turned_still s (Some r) frame = framed_still s r.0 r.1 (calls_in r.0) s.names [] frame
 
-renewed_still : (s : CoreState) (client : List ℕ) (told : List Effect) (t : CoreState) → IsRenewed s client told t → IsStill s t
-renewed_still s client told t frame = record { stable = frame.stable; made = frame.made; failed = frame.failed }
-
 ticked_still : (s : CoreState) (now : Moment) (told : List Effect) (t : CoreState) → IsTicked s now told t → IsStill s t
 ticked_still s now told t frame = record { stable = frame.stable; made = frame.made; failed = frame.failed }
 
@@ -49,7 +46,7 @@ deed_still n s (Ends party) good fit = let r = end_party s party in framed_still
 deed_still n s (Serves left) good fit = turned_still s (settle n left s) (turn_frame n left s good)
 deed_still n s Draws good fit = framed_still s [] (drawn s) 1 s.names [] (drawn_frame s)
 deed_still n s (Advances now) good fit = ticked_still s now [] (advanced s now) (advanced_ticked s now)
-deed_still n s (Renews client) good fit = let r = renew s client in renewed_still s client r.0 r.1 (renew_frame s client)
+deed_still n s (Renews client) good fit = let frame = renew_frame s client in record { stable = frame.stable; made = frame.made; failed = frame.failed }
 deed_still n s (Lapses cache) good fit = let r = lapse s cache in ticked_still s s.clock r.0 r.1 ((lapse_left s cache).0 good)
 deed_still n s (Expires client) good fit = let r = expire s client in ticked_still s s.clock r.0 r.1 ((expire_left s client).0 good)
 

@@ -1,5 +1,5 @@
 -- What each deed makes of the leases and of the clock, and so what an entry does.
-use Rattle.std.proofs.Common.{◌≡◌, ℕ, Bool, true, false, List, [], ◌∷◌, ◌++◌, Option, Some, None, IfSome, refl, ap, subst, ◌∙◌}
+use Rattle.std.proofs.Common.{◌≡◌, ℕ, ◌+◌, Bool, true, false, List, [], ◌∷◌, ◌++◌, Option, Some, None, IfSome, refl, ap, subst, ◌∙◌}
 use Rattle.std.specs.List.{AllByRecursion}
 use Rattle.std.proofs.lemmas.Bool.{both_ways}
 use Rattle.xl_base.specs.declared.event.Event.{Event}
@@ -7,29 +7,24 @@ use Rattle.xl_base.specs.declared.event.Event.TheVariants.{Open, Message, End, C
 use Rattle.xl_base.specs.declared.event.Moment.{Moment}
 use Rattle.xl_base.specs.declared.name.Party.{Party}
 use Rattle.xl_matrix.specs.declared.claim.Claim.{Claim}
+use Rattle.xl_names.specs.declared.name.Name.{Name}
 use Rattle.xl_names.specs.declared.name.Name.TheVariants.{NfsParty}
-use Rattle.xl_wait.specs.declared.waiter.Rooms.{Rooms}
 use Rattle.xl_wait.specs.declared.waiter.Waiter.{Waiter}
 use Rattle.xl_core.specs.State.{CoreState, step_begun, drawn}
-use Rattle.xl_core.specs.Asking.{party_named, asked_whats, asked_claims, is_client, IsFit}
-use Rattle.xl_core.specs.Begin.{breaks_begun}
+use Rattle.xl_core.specs.Asking.{party_named}
 use Rattle.xl_core.specs.Breaks.{ack, client_of}
-use Rattle.xl_core.specs.Decide.{Answered, plea_of, decided, way, before_wish, ask}
+use Rattle.xl_core.specs.Decide.{ask}
 use Rattle.xl_core.specs.Deeds.{Deed, Asks, GivesBack, Weakens, Acks, Cancels, Ends, Serves, Draws, Advances, Lapses, Renews, Expires, turned, done, all_done, IsFitDeed, AreFit}
+use Rattle.xl_core.specs.Frames.{calls_in, drawn_by, names_after, come_by, IsFrame}
 use Rattle.xl_core.specs.Good.{IsGood}
-use Rattle.xl_core.specs.Judge.{held_with}
 use Rattle.xl_core.specs.Leases.{Lease, later, without_lease}
-use Rattle.xl_core.specs.Settle.{plea_again, way_again, settle, cancel, give_back, weaken, end_party}
+use Rattle.xl_core.specs.Settle.{settle, cancel, give_back, weaken, end_party}
 use Rattle.xl_core.specs.Ticks.{advanced, renew, end_some, unleased, expire, lapsed_by, lapse}
-use Rattle.xl_core.specs.declared.ask.Ask.{Ask}
-use Rattle.xl_core.proofs.ChangeLaws.{AskWay, Stays, Tests, Holds, Waits, Frees, Gives, decided_way}
+use Rattle.xl_core.specs.declared.ask.Effect.{Effect}
 use Rattle.xl_core.proofs.DeedLaws.{deed_good}
 use Rattle.xl_core.proofs.DeedLists.{deeds_good, done_append}
-use Rattle.xl_core.proofs.FrameLaws.{tick_frame}
-use Rattle.xl_core.proofs.GoodLaws.{Turned, IsMoved, Answers, Rests, IsFirst, each_turn, once_answered, asked_way_good}
+use Rattle.xl_core.proofs.FrameLaws.{ask_frame, turn_frame, tick_frame}
 use Rattle.xl_core.proofs.TickLaws.{tick_done}
-use Rattle.xl_core.proofs.WayLaws.{way_keeps}
-use Rattle.xl_core.proofs.WishFor.{wish_claims, after_claims}
 use Rattle.xl_house.specs.Done.{own_deeds, behind_own, deeds}
 use Rattle.xl_house.specs.Journals.{is_restart}
 use Rattle.xl_house.specs.Lawful.{may_do, may_follow}
@@ -46,42 +41,12 @@ Running = List Lease × Moment
 abbrev pub times_in : CoreState → Running
 times_in s = (s.leases, s.clock)
 
-begun_times : (c : Claim) (s : CoreState) → times_in (breaks_begun c s).1 ≡ times_in s
-unfolding breaks_begun
-begun_times c s = refl
+frame_times : (s t : CoreState) (told : List Effect) (given : ℕ) (known : List Name) (come : List Waiter) → IsFrame s told t given known come → times_in t ≡ times_in s
+frame_times s t told given known come frame = λ i. (frame.leases i, frame.clock i)
 
-decided_times : (n : ℕ) (left : Rooms) (s : CoreState) (a : Ask) → IsGood s → is_client a.owner a.party ≡ true → times_in (decided n left s a).2 ≡ times_in s
-unfolding held_with
-decided_times n left s a good client = by (decided n left s a) (decided_way n left s a good client) where
-  by : (r : Answered) → AskWay s a r → times_in r.2 ≡ times_in s
-  by r (Stays answer refused e) = ap (λ (x : Answered). times_in x.2) e
-  by r (Tests c holds e) = ap (λ (x : Answered). times_in x.2) e
-  by r (Holds c claims is holds e) = ap (λ (x : Answered). times_in x.2) e
-  by r (Waits c cs may blocked is holds e) = ap (λ (x : Answered). times_in x.2) e
-  by r (Frees c first last holds share file owner e) = ap (λ (x : Answered). times_in x.2) e
-  by r (Gives c d holds share file owner range e) = ap (λ (x : Answered). times_in x.2) e
-
-ask_times : (n : ℕ) (left : Rooms) (s : CoreState) (a : Ask) → IsGood s → IsFit a → times_in (ask n left s a).2 ≡ times_in s
-unfolding ask before_wish
-ask_times n left s a good fit =
-    let whole = before_wish n left s a in
-    ap times_in (after_claims a whole.0 whole.2)
-    ∙ decided_times n left (way left s a).1 a (asked_way_good left s a good) fit.party
-    ∙ way_keeps times_in (plea_of left s a) (asked_claims a (asked_whats a.act) s.names) s (λ c. begun_times c s)
-
-moved_times : (left : Rooms) (s : CoreState) (turn : Turned) → IsFirst left s s.waiters turn → times_in turn.1 ≡ times_in s
-moved_times left s turn first = by first.moved where
-  w : Waiter
-  w = first.waiter
-
-  by : IsMoved left s w first.claim first.claims turn → times_in turn.1 ≡ times_in s
-  by (Answers answer told new due pass) =
-      ap times_in (new ∙ wish_claims w.wish answer (once_answered (way_again s w).1 w (first.claim ∷ first.claims) answer)) ∙ way_keeps times_in (plea_again s w) w.asked s (λ c. begun_times c s)
-  by (Rests e up) = ap (λ (x : Turned). times_in x.1) e ∙ way_keeps times_in (plea_again s w) w.asked s (λ c. begun_times c s)
-
-turn_times : (s : CoreState) (o : Option Turned) → IfSome o (λ r. times_in r.1 ≡ times_in s) → times_in (turned s o).2 ≡ times_in s
-turn_times s None is = refl
-turn_times s (Some r) is = is
+turn_times : (s : CoreState) (o : Option (List Effect × CoreState)) → IfSome o (λ r. IsFrame s r.0 r.1 (calls_in r.0) s.names []) → times_in (turned s o).2 ≡ times_in s
+turn_times s None frame = refl
+turn_times s (Some r) frame = frame_times s r.1 r.0 (calls_in r.0) s.names [] frame
 
 ended_times : (s : CoreState) (client : List ℕ) (party : Option Party) → times_in (unleased client (end_some s party)).1 ≡ (without_lease client s.leases, s.clock)
 unfolding end_party
@@ -112,13 +77,15 @@ clock_by (d ∷ ds) clock = clock_by ds (clock_left d clock)
 
 deed_times : (n : ℕ) (s : CoreState) (d : Deed) → IsGood s → IsFitDeed s d → times_in (done n s d) ≡ (leases_left s d s.leases, clock_left d s.clock)
 unfolding give_back weaken ack cancel end_party drawn advanced renew
-deed_times n s (Asks left a) good fit = ask_times n left s a good fit
+deed_times n s (Asks left a) good fit =
+    let r = ask n left s a in
+    frame_times s r.2 r.1 (drawn_by r.0 + calls_in r.1) (names_after a r.0 s.names) (come_by a r.0 s.names) (ask_frame n left s a good fit.party)
 deed_times n s (GivesBack claim) good fit = refl
 deed_times n s (Weakens share access deny) good fit = refl
 deed_times n s (Acks cache to) good fit = refl
 deed_times n s (Cancels id) good fit = refl
 deed_times n s (Ends party) good fit = refl
-deed_times n s (Serves left) good fit = turn_times s (settle n left s) (each_turn n left s (λ r. times_in r.1 ≡ times_in s) good (λ turn first. moved_times left s turn first))
+deed_times n s (Serves left) good fit = turn_times s (settle n left s) (turn_frame n left s good)
 deed_times n s Draws good fit = refl
 deed_times n s (Advances now) good fit = refl
 deed_times n s (Lapses cache) good fit = lapse_times s cache
@@ -206,7 +173,7 @@ own_clock n s (Open kind) good = stood n s (Open kind) refl good
 own_clock n s (Message number bytes) good = stood n s (Message number bytes) refl good
 own_clock n s (End number) good = stood n s (End number) refl good
 own_clock n s (Called number bytes) good = stood n s (Called number bytes) refl good
-own_clock n s (Tick now) good = ap (λ (t : CoreState). t.clock) (tick_done n (step_begun s.core) now) ∙ (tick_frame (step_begun s.core) now).clock
+own_clock n s (Tick now) good = ap (λ (t : CoreState). t.clock) (tick_done n (step_begun s.core) now) ∙ (tick_frame (step_begun s.core) now good).clock
 own_clock n s Restart good = refl
 
 -- what is made of the leases by all that an event does
