@@ -42,6 +42,7 @@ use Rattle.xl_nfs_opens.specs.declared.opener.Checked.{Checked}
 use Rattle.xl_nfs_opens.specs.declared.opener.Checked.TheVariants.{Passed, Refused, Repeated}
 use Rattle.xl_nfs_opens.specs.declared.opener.Opener.{Opener}
 use Rattle.xl_nfs_opens.specs.declared.told.Told.{Told}
+use Rattle.xl_nfs_opens.specs.declared.told.Told.TheVariants.{Ended}
 use Rattle.xl_nfs_locks.specs.Checks.{locks_found}
 use Rattle.xl_nfs_locks.specs.Denials.{lock_told}
 use Rattle.xl_nfs_locks.specs.FirstLocks.{both_of, by_row, by_verdict, counted_open, fits_under, found_joined, join_again, join_as, join_checked, join_of, join_standing, locker_under}
@@ -52,8 +53,8 @@ use Rattle.xl_nfs_locks.specs.Tests.{locker_of}
 use Rattle.xl_nfs_locks.specs.Unlocks.{unlock_by_owner, unlock_found, unlock_standing, unlock_status, unlock_to, unlocked_as}
 use Rattle.xl_nfs_locks.specs.declared.joining.BothOwners.{BothOwners}
 use Rattle.xl_nfs_locks.specs.declared.joining.Joined.{Joined}
-use Rattle.xl_nfs_locks.specs.declared.joining.Joined.TheVariants.{Again}
-use Rattle.xl_nfs_locks.proofs.CountLaws.{other_kind, unnamed_turned}
+use Rattle.xl_nfs_locks.specs.declared.joining.Joined.TheVariants.{Again, Bad, Joins}
+use Rattle.xl_nfs_locks.proofs.CountLaws.{other_kind, to_stays, unnamed_turned}
 use Rattle.xl_nfs_locks.proofs.JudgeLaws.{passed_next}
 use Rattle.xl_nfs_locks.proofs.KeepLaws.{counted_owners}
 
@@ -295,3 +296,36 @@ foreign_counts n s l current a x r owner turn p e found stands none =
     (subst (λ (f : Option NfsStatus). CountsFor owner p T 12 l (carried n s l current (join_standing s l current a x (both_of x owner turn) r f))) (sym stands)
     (subst (λ (y : Option Opener). CountsFor owner p T 12 l (carried n s l current (join_of l current a x (both_of x owner turn) r y))) (sym none)
     (alone_counts n s l current x r owner turn p statuses.Inval e found)))
+
+-- ---- a LOCK under an open that doesn't count
+
+abbrev IsUnkept : NfsLists → Told → NfsLists → Type 0
+IsUnkept l told new = (status : NfsStatus) → told ≡ Ended status → advances status ≡ false → new ≡ l
+
+unkept : (l : NfsLists) (told : Told) (new : NfsLists) → IsUncounted l told new → IsUnkept l told new
+unkept l told new stays = λ status e not. stays (ap (λ (t : Told). advances (status_of t)) e ∙ not)
+
+again_unkept : (n : ℕ) (s : CoreState) (l : NfsLists) (current : Option ℕ) (b : BothOwners) (k : Option KeptRow) → IsUnkept l (carried n s l current (join_again l current b k)).0 (carried n s l current (join_again l current b k)).3
+again_unkept n s l current b None = λ status e not. refl
+again_unkept n s l current b (Some k) = λ status e not. absurd cc
+
+join_as_unkept : (n : ℕ) (s : CoreState) (l : NfsLists) (current : Option ℕ) (a : LockArgsItem) (b : BothOwners) (o : Opener) (r : StateidRow) (j : Joined) → IsUnkept l (carried n s l current (join_as l current a b o r j)).0 (carried n s l current (join_as l current a b o r j)).3
+join_as_unkept n s l current a b o r Bad = λ status e not. refl
+join_as_unkept n s l current a b o r (Again owner) = again_unkept n s l current b (find (is_kept owner) l.kept)
+join_as_unkept n s l current a b o r (Joins q) = unkept l _ _ (to_stays n s l current a b o r q (lock_end a.kind r.standing.access (last_byte a.offset a.len)))
+
+join_of_unkept : (n : ℕ) (s : CoreState) (l : NfsLists) (current : Option ℕ) (a : LockArgsItem) (x : NewLockerItem) (b : BothOwners) (r : StateidRow) (o : Option Opener) → IsUnkept l (carried n s l current (join_of l current a x b r o)).0 (carried n s l current (join_of l current a x b r o)).3
+join_of_unkept n s l current a x b r None = unkept l _ _ (λ not. left_alone l b.number b.turn 12 b.open_seqid statuses.Inval not)
+join_of_unkept n s l current a x b r (Some o) = join_as_unkept n s l current a b o r (found_joined l r o x.lock_seqid)
+
+join_standing_unkept : (n : ℕ) (s : CoreState) (l : NfsLists) (current : Option ℕ) (a : LockArgsItem) (x : NewLockerItem) (b : BothOwners) (r : StateidRow) (fault : Option NfsStatus) → IsUnkept l (carried n s l current (join_standing s l current a x b r fault)).0 (carried n s l current (join_standing s l current a x b r fault)).3
+join_standing_unkept n s l current a x b r (Some status) = unkept l _ _ (λ not. left_alone l b.number b.turn 12 b.open_seqid status not)
+join_standing_unkept n s l current a x b r None = join_of_unkept n s l current a x b r (locker_under r x.owner.owner (client_in s l x.owner.clientid))
+
+join_checked_unkept : (n : ℕ) (s : CoreState) (l : NfsLists) (current : Option ℕ) (a : LockArgsItem) (x : NewLockerItem) (c : Checked) → IsUnkept l (carried n s l current (join_checked s l current a x c)).0 (carried n s l current (join_checked s l current a x c)).3
+join_checked_unkept n s l current a x (Refused status) = λ told e not. refl
+join_checked_unkept n s l current a x (Repeated owner) = λ status e not. repeat_stays n s l current (find (is_kept owner) l.kept)
+join_checked_unkept n s l current a x (Passed r owner turn) = join_standing_unkept n s l current a x (both_of x owner turn) r (standing_fault r turn x.open_stateid.seqid true)
+
+pub first_unkept : (n : ℕ) (s : CoreState) (l : NfsLists) (current : Option ℕ) (a : LockArgsItem) (x : NewLockerItem) (status : NfsStatus) → (carried n s l current (join_checked s l current a x (checked s l current 12 x.open_seqid x.open_stateid))).0 ≡ Ended status → advances status ≡ false → (carried n s l current (join_checked s l current a x (checked s l current 12 x.open_seqid x.open_stateid))).3 ≡ l
+first_unkept n s l current a x = join_checked_unkept n s l current a x (checked s l current 12 x.open_seqid x.open_stateid)

@@ -107,9 +107,9 @@ passed_next s l current op seqid stateid r w turn e = subst (λ (c : Checked). I
 
 pub passes_exactly : (s : CoreState) (l : NfsLists) (current : Option ℕ) (op seqid : ℕ) (stateid : Stateid) (r : StateidRow) (w : ℕ) (turn : Turn) → (locks_found s l current op seqid stateid ≡ Passed r w turn) ↔ IsNextOn s l current seqid stateid r w turn
 passes_exactly s l current op seqid stateid r w turn = (
-    passed_next s l current op seqid stateid r w turn,
-    λ is. ap (λ (x : Option ℕ). locks_found s l x op seqid stateid) is.file ∙ next_passes s l op seqid stateid r w is.row is.locks is.seqid_is is.live ∙ ap (λ (t : Turn). Passed r w t) (sym is.turn_is),
-  )
+  passed_next s l current op seqid stateid r w turn,
+  λ is. ap (λ (x : Option ℕ). locks_found s l x op seqid stateid) is.file ∙ next_passes s l op seqid stateid r w is.row is.locks is.seqid_is is.live ∙ ap (λ (t : Turn). Passed r w t) (sym is.turn_is),
+)
 
 -- ---- what is refused doesn't count
 

@@ -64,15 +64,18 @@ pub fn requests_on_locks_advance_by_one()
 /// A LOCK under an open by the seqid after the last of the open's owner, whose lock owner's seqid and operation are its last,
 /// is told what was kept for the lock owner. The open's owner advances by it, and keeps it too; the lock owner stands as it
 /// did, and no other owner changes, nor does the core (RFC 7530 9.1.7, 9.1.8). One that fails by the open's stateid, or names
-/// another client's lock owner, counts with the open's owner alone.
+/// another client's lock owner, counts with the open's owner alone; and one that ends so that it doesn't count leaves what is
+/// remembered as it was.
 pub fn repeated_first_locks_count_with_the_open()
     ensures last { (l : NfsLists) (r : StateidRow) (o : LockOwner) (w : OwnerRow) (seqid : ℕ) → find (is_opener o) l.owners ≡ Some w → fits_under r.number (live (find (owned_on w.number r.file) l.stateids)) ≡ true → seqid ≡ w.turn.seqid → w.turn.op ≡ 12 → seqid < 2 ^ 32 → found_joined l r o seqid ≡ Again w.number }
     ensures again { (n : ℕ) (s : CoreState) (l : NfsLists) (current : Option ℕ) (a : LockArgsItem) (x : NewLockerItem) (r : StateidRow) (owner : ℕ) (turn : OwnerTurn) (p : OwnerRow) (o : LockOwner) (number : ℕ) (k : KeptRow) → checked s l current 12 x.open_seqid x.open_stateid ≡ Passed r owner turn → find (is_owner owner) l.owners ≡ Some p → p.name.kind ≡ OfOpens → standing_fault r turn x.open_stateid.seqid true ≡ None → locker_under r x.owner.owner (client_in s l x.owner.clientid) ≡ Some o → found_joined l r o x.lock_seqid ≡ Again number → find (is_kept number) l.kept ≡ Some k → HasComeAgain owner p o k.result l s (carried n s l current (join_checked s l current a x (checked s l current 12 x.open_seqid x.open_stateid))) }
     ensures stale { (n : ℕ) (s : CoreState) (l : NfsLists) (current : Option ℕ) (a : LockArgsItem) (x : NewLockerItem) (r : StateidRow) (owner : ℕ) (turn : OwnerTurn) (p : OwnerRow) (status : Status) → checked s l current 12 x.open_seqid x.open_stateid ≡ Passed r owner turn → find (is_owner owner) l.owners ≡ Some p → standing_fault r turn x.open_stateid.seqid true ≡ Some status → CountsFor owner p (turn_after p 12 p.turn.confirmed None) 12 l (carried n s l current (join_checked s l current a x (checked s l current 12 x.open_seqid x.open_stateid))) }
     ensures foreign { (n : ℕ) (s : CoreState) (l : NfsLists) (current : Option ℕ) (a : LockArgsItem) (x : NewLockerItem) (r : StateidRow) (owner : ℕ) (turn : OwnerTurn) (p : OwnerRow) → checked s l current 12 x.open_seqid x.open_stateid ≡ Passed r owner turn → find (is_owner owner) l.owners ≡ Some p → standing_fault r turn x.open_stateid.seqid true ≡ None → locker_under r x.owner.owner (client_in s l x.owner.clientid) ≡ None → CountsFor owner p (turn_after p 12 p.turn.confirmed None) 12 l (carried n s l current (join_checked s l current a x (checked s l current 12 x.open_seqid x.open_stateid))) }
+    ensures only { (n : ℕ) (s : CoreState) (l : NfsLists) (current : Option ℕ) (a : LockArgsItem) (x : NewLockerItem) (status : Status) → (carried n s l current (join_checked s l current a x (checked s l current 12 x.open_seqid x.open_stateid))).0 ≡ Ended status → advances status ≡ false → (carried n s l current (join_checked s l current a x (checked s l current 12 x.open_seqid x.open_stateid))).3 ≡ l }
 {}
 
-/// A LOCK and a LOCKU are never told SERVERFAULT: of each stateid of locks that is there the client and the owner are there.
+/// A LOCK and a LOCKU that are no repeats are never told SERVERFAULT: of each stateid of locks that is there the client and the
+/// owner are there. A repeat is told the bytes that were kept.
 pub fn server_faults_are_never_told()
     ensures locks { (n : ℕ) (s : CoreState) (l : NfsLists) (current : Option ℕ) (a : LockArgsItem) → IsSound l → (carried n s l current (lock s l current a)).0 ≡ Ended ServerFault → ⊥ }
     ensures unlocks { (n : ℕ) (s : CoreState) (l : NfsLists) (current : Option ℕ) (a : Unlocked) → IsGood s → IsSound l → (carried n s l current (unlock s l current a)).0 ≡ Ended ServerFault → ⊥ }

@@ -1,4 +1,4 @@
-use Rattle.xl_nfs_locks.proofs.AdvanceLaws.{last_again, first_again, stale_counts, foreign_counts}
+use Rattle.xl_nfs_locks.proofs.AdvanceLaws.{last_again, first_again, stale_counts, foreign_counts, first_unkept}
 use Rattle.xl_nfs_locks.proofs.advancing.repeated_first_locks_count_with_the_open.Goals as goal
 
 pub returns-clause-last : goal.returns-clause-last
@@ -12,3 +12,6 @@ returns-clause-stale c = stale_counts
 
 pub returns-clause-foreign : goal.returns-clause-foreign
 returns-clause-foreign c = foreign_counts
+
+pub returns-clause-only : goal.returns-clause-only
+returns-clause-only c = first_unkept
