@@ -1,5 +1,5 @@
 -- Locks and unlocks of an open's ranges are those of one list of elements.
-use Rattle.std.proofs.Common.{◌≡◌, ℕ, ◌+◌, ◌-◌, Bool, true, false, ◌&&◌, ◌||◌, if◌then◌else◌, List, [], ◌∷◌, ◌++◌, map, refl, ap, ◌∙◌, arith, inl, inr}
+use Rattle.std.proofs.Common.{◌≡◌, ℕ, ◌+◌, ◌-◌, ◌≤◌, Bool, true, false, ◌&&◌, ◌||◌, if◌then◌else◌, List, [], ◌∷◌, ◌++◌, length, map, None, refl, ap, ◌∙◌, arith, inl, inr}
 use Rattle.std.specs.Prelude.{◌==◌}
 use Rattle.std.specs.List.{list_any}
 use Rattle.std.specs.Set.{remove_key}
@@ -13,8 +13,21 @@ use Rattle.xl_matrix.specs.declared.claim.What.{What}
 use Rattle.xl_matrix.specs.declared.claim.What.TheVariants.{Range}
 use Rattle.xl_smb.specs.declared.lock.LockElement.{LockElement}
 use Rattle.xl_table.specs.Elements.{is_among, without, unlocked_elements}
-use Rattle.xl_smb_locks.specs.Elements.{extent_of}
-use Rattle.xl_smb_locks.specs.Exactly.{extent_at, what_of}
+use Rattle.xl_matrix.specs.declared.claim.Claim.{Claim}
+use Rattle.xl_wait.specs.Waiting.{no_rows}
+use Rattle.xl_core.specs.Asking.{range_what}
+use Rattle.xl_core.specs.Decide.{ask}
+use Rattle.xl_core.specs.Good.{IsGood}
+use Rattle.xl_core.specs.Places.{RangesOf, held_at}
+use Rattle.xl_core.specs.State.{CoreState}
+use Rattle.xl_core.specs.declared.ask.Answer.{Answer}
+use Rattle.xl_core.specs.declared.ask.Answer.TheVariants as answers
+use Rattle.xl_core.proofs.WayOpens.{ask_locked}
+use Rattle.xl_smb_locks.specs.Elements.{extent_of, lock_fault}
+use Rattle.xl_smb_locks.specs.Exactly.{extent_at, what_of, element_of}
+use Rattle.xl_smb_locks.specs.Locks.{range_of, lock_ask, lock_told, lock_done}
+use Rattle.xl_smb_locks.specs.declared.locking.Locking.TheVariants as locking
+use Rattle.xl_smb_locks.proofs.FitLaws.{lock_fits}
 
 -- ---- equal ranges
 
@@ -99,6 +112,35 @@ unlocks_exactly e es =
     ap (λ (b : Bool). if b then without (Range (extent_at e.offset e.length) true) (map what_of es) else without (Range (extent_at e.offset e.length) false) (map what_of es)) (among e.offset e.length es)
     ∙ by_any e.offset e.length es (list_any (is_exclusive_at e.offset e.length) es) refl
 
-pub locks_exactly : (more : List Element) (es : List Element) → map what_of es ++ map what_of more ≡ map what_of (es ++ more)
-locks_exactly more [] = refl
-locks_exactly more (x ∷ xs) = ap (λ (ws : List What). what_of x ∷ ws) (locks_exactly more xs)
+-- ---- locks
+
+come_behind : (more : List Element) (es : List Element) → map what_of es ++ map what_of more ≡ map what_of (es ++ more)
+come_behind more [] = refl
+come_behind more (x ∷ xs) = ap (λ (ws : List What). what_of x ∷ ws) (come_behind more xs)
+
+all_elements : (es : List LockElement) → map range_what (map range_of es) ≡ map what_of (map element_of es)
+all_elements [] = refl
+all_elements (e ∷ es) = ap (λ (ws : List What). what_of (element_of e) ∷ ws) (all_elements es)
+
+done_by : (answer : Answer) → lock_told answer ≡ locking.Done → (c : Claim) × (answer ≡ answers.Granted c)
+done_by (answers.Granted c) h = (c, refl)
+done_by (answers.Conflict c) h = absurd cc
+done_by (answers.Queued id) h = absurd cc
+done_by (answers.Recall c) h = absurd cc
+done_by (answers.Grace until) h = absurd cc
+done_by (answers.NoGrace clock) h = absurd cc
+done_by answers.NotRecorded h = absurd cc
+done_by (answers.Full limit) h = absurd cc
+done_by answers.NotHeld h = absurd cc
+done_by answers.StoreFailed h = absurd cc
+
+pub locks_exactly : (n : ℕ) (s : CoreState) (conn file number : ℕ) (locks : List LockElement) (es : List Element) → IsGood s → lock_fault locks ≡ None → 1 ≤ length locks → held_at s (RangesOf file number) ≡ map what_of es
+    → (lock_done (ask n no_rows s (lock_ask conn file number locks))).0 ≡ locking.Done → held_at (lock_done (ask n no_rows s (lock_ask conn file number locks))).2 (RangesOf file number) ≡ map what_of (es ++ map element_of locks)
+unfolding lock_ask
+locks_exactly n s conn file number locks es good fault some held is =
+    let a = lock_ask conn file number locks in
+    let got = done_by (ask n no_rows s a).0 is in
+    ask_locked n no_rows s a (map range_of locks) number got.0 good (lock_fits conn file number locks fault some).fit refl refl got.1
+    ∙ ap (λ (ws : List What). ws ++ map range_what (map range_of locks)) held
+    ∙ ap (λ (ws : List What). map what_of es ++ ws) (all_elements locks)
+    ∙ come_behind (map element_of locks) es

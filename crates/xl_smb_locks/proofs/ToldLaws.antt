@@ -1,5 +1,5 @@
 -- Who is told of a break, and of the end of a wait.
-use Rattle.std.proofs.Common.{◌≡◌, ℕ, Bool, true, false, not, ◌&&◌, eqb, is_some, length, List, [], ◌∷◌, ◌++◌, Option, Some, None, refl, sym, ap, subst, ◌∙◌, inl, inr}
+use Rattle.std.proofs.Common.{◌≡◌, ℕ, Bool, true, false, not, ◌&&◌, if◌then◌else◌, eqb, is_some, length, List, [], ◌∷◌, ◌++◌, Option, Some, None, refl, sym, ap, subst, ◌∙◌, inl, inr}
 use Rattle.std.specs.Prelude.{nat_eq, nat_lt}
 use Rattle.std.specs.Map.{lookup}
 use Rattle.std.proofs.lemmas.Bool.{cases_Bool}
@@ -23,10 +23,10 @@ use Rattle.xl_core.specs.State.{CoreState}
 use Rattle.xl_core.specs.declared.ask.Answer.{Answer}
 use Rattle.xl_core.specs.declared.ask.Answer.TheVariants as answers
 use Rattle.xl_core.specs.declared.ask.Effect.TheVariants as effects
-use Rattle.xl_smb_locks.specs.Finals.{ended_with, final_outs, holder_stands, opened_reply, request_ended, lock_refusal, open_refusal, may_stand, stood, opened_outs, locked_outs, served_by, served_with, request_served, told_of, IsFinal}
+use Rattle.xl_smb_locks.specs.Finals.{ended_with, failed_reply, final_lock, final_open, final_outs, final_reply, holder_stands, opened_reply, request_ended, lock_refusal, open_refusal, may_stand, stood, opened_outs, locked_outs, served_by, served_with, request_served, told_of, IsFinal}
 use Rattle.xl_smb_locks.specs.Levels.{id_of, level_held, notice_of, noticed_by, noticed_to, noticed}
 use Rattle.xl_smb_locks.specs.declared.status.SmbStatus.{SmbStatus}
-use Rattle.xl_smb_locks.specs.declared.status.SmbStatus.TheVariants.{Cancelled}
+use Rattle.xl_smb_locks.specs.declared.status.SmbStatus.TheVariants.{Cancelled, InsufficientResources}
 use Rattle.xl_smb_locks.proofs.FinalLaws.{stand_new}
 
 -- ---- a break
@@ -46,32 +46,6 @@ nobody_told s l cache to call number party none =
 
 -- ---- a request that waits no more
 
-stood_final : (s : CoreState) (id : ℕ) (row : Waiting) (made : Open) (stands : Bool) (l : Lists) → IsFinal id row l (stood s id row made stands (waiting_dropped id l))
-stood_final s id row made true l = ((_, refl), refl)
-stood_final s id row made false l = ((_, refl), refl)
-
-opened_final : (s : CoreState) (id : ℕ) (row : Waiting) (made : Open) (refused : Option SmbStatus) (l : Lists) → IsFinal id row l (opened_outs s id row made refused (waiting_dropped id l))
-opened_final s id row made None l = stood_final s id row made (may_stand row.opened made (waiting_dropped id l)) l
-opened_final s id row made (Some status) l = ((_, refl), refl)
-
-locked_final : (s : CoreState) (id : ℕ) (row : Waiting) (refused : Option SmbStatus) (l : Lists) → IsFinal id row l (locked_outs id row refused, waiting_dropped id l)
-locked_final s id row None l = ((_, refl), refl)
-locked_final s id row (Some status) l = ((_, refl), refl)
-
-by_request : (s : CoreState) (id : ℕ) (row : Waiting) (answer : Answer) (r : Request) (l : Lists) → IsFinal id row l (served_by s id row answer r (waiting_dropped id l))
-by_request s id row answer (request.Create made) l = opened_final s id row made (open_refusal answer) l
-by_request s id row answer request.Lock l = locked_final s id row (lock_refusal answer) l
-
-pub served_final : (s : CoreState) (l : Lists) (id : ℕ) (answer : Answer) (row : Waiting) → waiting_of id l ≡ Some row → IsFinal id row l (told_of s (effects.Served id answer) l)
-unfolding told_of request_served
-served_final s l id answer row at = subst (λ (o : Option Waiting). IsFinal id row l (served_with s id answer o l)) (sym at) (by_request s id row answer row.request l)
-
-pub cancelled_final : (s : CoreState) (l : Lists) (id : ℕ) (row : Waiting) → waiting_of id l ≡ Some row → IsFinal id row l (told_of s (effects.Cancelled id) l)
-unfolding told_of request_ended
-cancelled_final s l id row at = subst (λ (o : Option Waiting). IsFinal id row l (ended_with id Cancelled o l)) (sym at) ((_, refl), refl)
-
--- ---- a CREATE that is granted
-
 -- where a request waits no more the open may stand as before
 holder_same : (by : Holder) (client : List ℕ) (id : ℕ) (l : Lists) → holder_stands by client (waiting_dropped id l) ≡ holder_stands by client l
 holder_same (holder.Tree place) client id l = refl
@@ -79,6 +53,34 @@ holder_same (holder.Nobody until) client id l = refl
 
 stand_same : (number id : ℕ) (made : Open) (l : Lists) → may_stand number made (waiting_dropped id l) ≡ may_stand number made l
 stand_same number id made l = ap (λ (b : Bool). nat_lt (length l.opens) most_opens && (not (is_some (open_of number l)) && b)) (holder_same made.holder made.client id l)
+
+stood_final : (s : CoreState) (id : ℕ) (row : Waiting) (made : Open) (stands : Bool) (l : Lists)
+    → IsFinal id row (if stands then opened_reply id row (id_of s row.opened) (level_held s made.file row.opened) else failed_reply id row InsufficientResources) l (stood s id row made stands (waiting_dropped id l))
+stood_final s id row made true l = (refl, refl)
+stood_final s id row made false l = (refl, refl)
+
+opened_final : (s : CoreState) (id : ℕ) (row : Waiting) (made : Open) (refused : Option SmbStatus) (l : Lists) → IsFinal id row (final_open s l id row made refused) l (opened_outs s id row made refused (waiting_dropped id l))
+opened_final s id row made None l =
+    subst (λ (b : Bool). IsFinal id row (final_open s l id row made None) l (stood s id row made b (waiting_dropped id l))) (sym (stand_same row.opened id made l)) (stood_final s id row made (may_stand row.opened made l) l)
+opened_final s id row made (Some status) l = (refl, refl)
+
+locked_final : (id : ℕ) (row : Waiting) (refused : Option SmbStatus) (l : Lists) → IsFinal id row (final_lock id row refused) l (locked_outs id row refused, waiting_dropped id l)
+locked_final id row None l = (refl, refl)
+locked_final id row (Some status) l = (refl, refl)
+
+by_request : (s : CoreState) (id : ℕ) (row : Waiting) (answer : Answer) (r : Request) (l : Lists) → IsFinal id row (final_reply s l id row answer r) l (served_by s id row answer r (waiting_dropped id l))
+by_request s id row answer (request.Create made) l = opened_final s id row made (open_refusal answer) l
+by_request s id row answer request.Lock l = locked_final id row (lock_refusal answer) l
+
+pub served_final : (s : CoreState) (l : Lists) (id : ℕ) (answer : Answer) (row : Waiting) → waiting_of id l ≡ Some row → IsFinal id row (final_reply s l id row answer row.request) l (told_of s (effects.Served id answer) l)
+unfolding told_of request_served
+served_final s l id answer row at = subst (λ (o : Option Waiting). IsFinal id row (final_reply s l id row answer row.request) l (served_with s id answer o l)) (sym at) (by_request s id row answer row.request l)
+
+pub cancelled_final : (s : CoreState) (l : Lists) (id : ℕ) (row : Waiting) → waiting_of id l ≡ Some row → IsFinal id row (failed_reply id row Cancelled) l (told_of s (effects.Cancelled id) l)
+unfolding told_of request_ended
+cancelled_final s l id row at = subst (λ (o : Option Waiting). IsFinal id row (failed_reply id row Cancelled) l (ended_with id Cancelled o l)) (sym at) (refl, refl)
+
+-- ---- a CREATE that is granted
 
 module _ (s : CoreState) (l : Lists) (id : ℕ) (claim : Claim) (row : Waiting) (made : Open) where
   pub granted_told : waiting_of id l ≡ Some row → row.request ≡ request.Create made → may_stand row.opened made l ≡ true

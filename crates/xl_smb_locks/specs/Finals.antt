@@ -158,6 +158,22 @@ dismissed told (id ∷ ids) l = if is_cancelled id told then and_sent (request_e
 
 -- ---- what the laws say of it
 
--- one final reply is sent, to the connection that the request came by, and it waits no more
-abbrev pub IsFinal : ℕ → Waiting → Lists → List Out × Lists → Type 0
-IsFinal id row l r = ((bytes : List ℕ) × (r.0 ≡ sent_to row.place.connection bytes)) × (r.1.waiting ≡ remove_entry (nat_eq id) l.waiting)
+-- the final reply to a LOCK, which failed so if it did
+abbrev pub final_lock : ℕ → Waiting → Option SmbStatus → List ℕ
+final_lock id row None = locked_reply id row
+final_lock id row (Some status) = failed_reply id row status
+
+-- the final reply to a CREATE, which failed so if it did: an open that may stand is told under its id, with the level of the oplock
+-- that it has then
+abbrev pub final_open : CoreState → Lists → ℕ → Waiting → Open → Option SmbStatus → List ℕ
+final_open s l id row made None = if may_stand row.opened made l then opened_reply id row (id_of s row.opened) (level_held s made.file row.opened) else failed_reply id row InsufficientResources
+final_open s l id row made (Some status) = failed_reply id row status
+
+-- the final reply to a request that is answered so, by what it waited to do
+abbrev pub final_reply : CoreState → Lists → ℕ → Waiting → Answer → Request → List ℕ
+final_reply s l id row answer request.Lock = final_lock id row (lock_refusal answer)
+final_reply s l id row answer (request.Create made) = final_open s l id row made (open_refusal answer)
+
+-- this one final reply is sent, to the connection that the request came by, and it waits no more
+abbrev pub IsFinal : ℕ → Waiting → List ℕ → Lists → List Out × Lists → Type 0
+IsFinal id row reply l r = (r.0 ≡ sent_to row.place.connection reply) × (r.1.waiting ≡ remove_entry (nat_eq id) l.waiting)

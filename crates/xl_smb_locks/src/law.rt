@@ -1,6 +1,6 @@
 //! Laws of opens: of their ranges, of their oplocks, and of requests that wait. The functions do nothing: their clauses are the
 //! laws.
-ghost use Rattle.std.specs.Prelude.{◌≡◌, ℕ, true, List, [], ◌++◌, map, Option, Some, None};
+ghost use Rattle.std.specs.Prelude.{◌≡◌, ℕ, ◌≤◌, true, List, [], ◌++◌, length, map, Option, Some, None};
 ghost use Rattle.xl_base.specs.declared.name.Party.TheVariants as Party;
 ghost use Rattle.xl_exact.specs.Elements.{unlocked};
 ghost use Rattle.xl_exact.specs.declared.element.Element.{Element};
@@ -15,21 +15,27 @@ ghost use Rattle.xl_smb_state.specs.declared.row.Open.{Open};
 ghost use Rattle.xl_smb_state.specs.declared.row.Place.{Place};
 ghost use Rattle.xl_smb_state.specs.declared.row.Request.TheVariants as Request;
 ghost use Rattle.xl_smb_state.specs.declared.row.Waiting.{Waiting};
+ghost use Rattle.xl_core.specs.Decide.{ask};
+ghost use Rattle.xl_core.specs.Good.{IsGood};
+ghost use Rattle.xl_core.specs.Places.{RangesOf, held_at};
 ghost use Rattle.xl_core.specs.State.{CoreState};
 ghost use Rattle.xl_core.specs.declared.ask.Answer.{Answer};
 ghost use Rattle.xl_core.specs.declared.ask.Answer.TheVariants as Answer;
 ghost use Rattle.xl_core.specs.declared.ask.Effect.TheVariants as Effect;
-ghost use Rattle.xl_smb_locks.specs.Elements.{extent_of, is_exclusive};
+ghost use Rattle.xl_smb_locks.specs.Elements.{extent_of, is_exclusive, lock_fault};
 ghost use Rattle.xl_smb_locks.specs.Exactly.{what_of, element_of};
-ghost use Rattle.xl_smb_locks.specs.Finals.{final_outs, may_stand, opened_reply, told_of, IsFinal};
+ghost use Rattle.xl_smb_locks.specs.Finals.{failed_reply, final_outs, final_reply, may_stand, opened_reply, told_of, IsFinal};
 ghost use Rattle.xl_smb_locks.specs.Levels.{id_of, level_held, notice_of};
+ghost use Rattle.xl_smb_locks.specs.declared.status.SmbStatus.TheVariants as SmbStatus;
+ghost use Rattle.xl_smb_locks.specs.Locks.{lock_ask, lock_done};
+ghost use Rattle.xl_smb_locks.specs.declared.locking.Locking.TheVariants as Locking;
 ghost use Rattle.xl_table.specs.Elements.{unlocked_elements};
+ghost use Rattle.xl_wait.specs.Waiting.{no_rows};
 
-/// What is held of an open's ranges is one list of elements, as `xl_exact` keeps it: ranges that are locked come behind the
-/// others, and what an unlock leaves is what its list leaves (MS-FSA 2.1.5.8, 2.1.5.9).
-#[tactic(auto, using(crate::proofs::ExactLaws::locks_exactly))]
+/// What is held of an open's ranges is one list of elements, as `xl_exact` keeps it: where locks are told to be done the core
+/// holds the list with theirs behind the others, and what an unlock leaves is what its list leaves (MS-FSA 2.1.5.8, 2.1.5.9).
 pub fn ranges_are_a_list_of_elements()
-    ensures locked { (more es : List Element) → map what_of es ++ map what_of more ≡ map what_of (es ++ more) }
+    ensures locked { (n : ℕ) (s : CoreState) (conn file number : ℕ) (locks : List LockElement) (es : List Element) → IsGood s → lock_fault locks ≡ None → 1 ≤ length locks → held_at s (RangesOf file number) ≡ map what_of es → (lock_done (ask n no_rows s (lock_ask conn file number locks))).0 ≡ Locking.Done → held_at (lock_done (ask n no_rows s (lock_ask conn file number locks))).2 (RangesOf file number) ≡ map what_of (es ++ map element_of locks) }
     ensures range { (e : LockElement) → what_of (element_of e) ≡ Range (extent_of e) (is_exclusive e) }
     ensures unlocked { (e : LockElement) (es : List Element) → unlocked_elements (extent_of e) (map what_of es) ≡ map what_of (unlocked e.offset e.length es) }
 {}
@@ -42,11 +48,13 @@ pub fn breaks_are_told_to_holders()
     ensures nobody { (s : CoreState) (l : Lists) (cache : Claim) (to : Option CacheKind) (call : Option ℕ) (number : ℕ) → cache.party ≡ Party.Open number → open_of number l ≡ None → told_of s (Effect.Begun cache to call) l ≡ ([], l) }
 {}
 
-/// A request that waited and was served, or waits no more, has one final reply, to the connection that it came by, and waits no
-/// more (MS-SMB2 3.3.4.2).
+/// A request that waited and was served has one final reply, to the connection that it came by, and waits no more (MS-SMB2
+/// 3.3.4.2, 3.3.4.4): STATUS_SUCCESS where a LOCK is granted, and where a CREATE is whose open may stand, with its id and the level
+/// of its oplock; LOCK_NOT_GRANTED or SHARING_VIOLATION where something held is against it, and else INSUFFICIENT_RESOURCES. One
+/// that waits no more has CANCELLED.
 pub fn requests_have_one_final_reply()
-    ensures served { (s : CoreState) (l : Lists) (id : ℕ) (answer : Answer) (row : Waiting) → waiting_of id l ≡ Some row → IsFinal id row l (told_of s (Effect.Served id answer) l) }
-    ensures cancelled { (s : CoreState) (l : Lists) (id : ℕ) (row : Waiting) → waiting_of id l ≡ Some row → IsFinal id row l (told_of s (Effect.Cancelled id) l) }
+    ensures served { (s : CoreState) (l : Lists) (id : ℕ) (answer : Answer) (row : Waiting) → waiting_of id l ≡ Some row → IsFinal id row (final_reply s l id row answer row.request) l (told_of s (Effect.Served id answer) l) }
+    ensures cancelled { (s : CoreState) (l : Lists) (id : ℕ) (row : Waiting) → waiting_of id l ≡ Some row → IsFinal id row (failed_reply id row SmbStatus.Cancelled) l (told_of s (Effect.Cancelled id) l) }
 {}
 
 /// A CREATE that waited and is granted has its open, where that may stand: the open stands under its number, and its final reply
