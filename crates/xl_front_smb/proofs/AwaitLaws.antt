@@ -98,7 +98,7 @@ use Rattle.xl_smb_locks.specs.Levels.{oplock_of}
 
 -- ---- rows that are taken out
 
-removed_in : (t : ℕ → Bool) (es : List (ℕ × Waiting)) (e : ℕ × Waiting) → IsIn e (remove_entry t es) → IsIn e es
+pub removed_in : (t : ℕ → Bool) (es : List (ℕ × Waiting)) (e : ℕ × Waiting) → IsIn e (remove_entry t es) → IsIn e es
 removed_in t [] e here = absurd here
 removed_in t (x ∷ es) e here =
     elim (cases_Bool (t x.0)) [
@@ -138,7 +138,7 @@ dismissed_opens told (id ∷ ids) l =
     by true first second = first
     by false first second = second
 
-dismissed_in : (told : List Effect) (ids : List ℕ) (l : Lists) (e : ℕ × Waiting) → IsIn e (dismissed told ids l).1.waiting → IsIn e l.waiting
+pub dismissed_in : (told : List Effect) (ids : List ℕ) (l : Lists) (e : ℕ × Waiting) → IsIn e (dismissed told ids l).1.waiting → IsIn e l.waiting
 dismissed_in told [] l e here = here
 dismissed_in told (id ∷ ids) l e here =
     let ended = request_ended id statuses.Cancelled l in
@@ -151,7 +151,7 @@ dismissed_in told (id ∷ ids) l e here =
     by false h first second = second h
 
 -- none of those stays
-dismissed_out : (told : List Effect) (ids : List ℕ) (l : Lists) (e : ℕ × Waiting) → IsDistinct nat_eq (keys_of l.waiting) → IsIn e.0 ids → is_cancelled e.0 told ≡ true → IsIn e (dismissed told ids l).1.waiting → ⊥
+pub dismissed_out : (told : List Effect) (ids : List ℕ) (l : Lists) (e : ℕ × Waiting) → IsDistinct nat_eq (keys_of l.waiting) → IsIn e.0 ids → is_cancelled e.0 told ≡ true → IsIn e (dismissed told ids l).1.waiting → ⊥
 dismissed_out told [] l e distinct named over here = named
 dismissed_out told (id ∷ ids) l e distinct named over here =
     let after : Lists = (request_ended id statuses.Cancelled l).1 in
@@ -168,11 +168,11 @@ dismissed_out told (id ∷ ids) l e distinct named over here =
 
 -- ---- who waits for an open that ends
 
-any_self : (k : ℕ) (ks : List ℕ) → list_any (nat_eq k) ks ≡ true → IsIn k ks
+pub any_self : (k : ℕ) (ks : List ℕ) → list_any (nat_eq k) ks ≡ true → IsIn k ks
 any_self k [] any = absurd (false≢true any)
 any_self k (j ∷ ks) any = elim (cases_Bool (eqb k j)) [ inl same ↦ inl (equal_from k j same) | inr other ↦ inr (any_self k ks (rw other at any)) ]
 
-waits_none : (numbers : List ℕ) (w : Waiter) (opened : ℕ) → ((k : ℕ) → waits_for (parties.Open k) w ≡ true → k ≡ opened) → list_any (nat_eq opened) numbers ≡ false → waits_among numbers w ≡ false
+pub waits_none : (numbers : List ℕ) (w : Waiter) (opened : ℕ) → ((k : ℕ) → waits_for (parties.Open k) w ≡ true → k ≡ opened) → list_any (nat_eq opened) numbers ≡ false → waits_among numbers w ≡ false
 waits_none [] w opened alone none = refl
 waits_none (number ∷ numbers) w opened alone none =
     elim (cases_Bool (eqb opened number)) [
@@ -183,7 +183,7 @@ waits_none (number ∷ numbers) w opened alone none =
       ]
     ]
 
-waits_some : (numbers : List ℕ) (w : Waiter) (opened : ℕ) → waits_for (parties.Open opened) w ≡ true → list_any (nat_eq opened) numbers ≡ true → waits_among numbers w ≡ true
+pub waits_some : (numbers : List ℕ) (w : Waiter) (opened : ℕ) → waits_for (parties.Open opened) w ≡ true → list_any (nat_eq opened) numbers ≡ true → waits_among numbers w ≡ true
 waits_some [] w opened own any = absurd (false≢true any)
 waits_some (number ∷ numbers) w opened own any =
     elim (cases_Bool (eqb opened number)) [
@@ -217,7 +217,7 @@ pub party_told : (s : CoreState) (party : Party) (w : Waiter) → IsIn w s.waite
 unfolding end_party numbers_for
 party_told s party w here waits = told_all w.id (map (λ (v : Waiter). v.id) (filter (waits_for party) s.waiters)) (in_map (λ (v : Waiter). v.id) w (filter (waits_for party) s.waiters) (in_filter (waits_for party) w s.waiters here waits))
 
-ends_tell : (n : ℕ) (numbers : List ℕ) (s : CoreState) (w : Waiter) → IsIn w s.waiters → waits_among numbers w ≡ true → is_cancelled w.id (all_told_of n s (ends numbers)) ≡ true
+pub ends_tell : (n : ℕ) (numbers : List ℕ) (s : CoreState) (w : Waiter) → IsIn w s.waiters → waits_among numbers w ≡ true → is_cancelled w.id (all_told_of n s (ends numbers)) ≡ true
 ends_tell n [] s w here among = absurd (false≢true among)
 ends_tell n (number ∷ numbers) s w here among =
     let r = end_party s (parties.Open number) in
@@ -296,7 +296,7 @@ keeps_but numbers l m e here same apart places rows =
     keeps_by l m e e.1.request (same_stays e.1.opened l m same)
     (λ makes. record { places = places e here makes apart; opens = λ free. ap (λ (o : Option Open). is_some o) same ∙ free; rows = λ x there m s. rows x there })
 
-key_in : (es : List (ℕ × Waiting)) (e : ℕ × Waiting) → IsIn e es → IsIn e.0 (keys_of es)
+pub key_in : (es : List (ℕ × Waiting)) (e : ℕ × Waiting) → IsIn e es → IsIn e.0 (keys_of es)
 key_in [] e here = absurd here
 key_in (x ∷ es) e here = elim here [ inl same ↦ inl (ap (λ (y : ℕ × Waiting). y.0) same) | inr rest ↦ inr (key_in es e rest) ]
 
@@ -346,7 +346,7 @@ asked_waits n left s a good client =
     (ask_frame n left s a good client).waiters
     ∙ ap (λ (ids : List ℕ). all_cancelled ids s.waiters ++ come_by a (ask n left s a).0 s.names) (ap who_left (ask_quiet n left s a good client) ∙ way_leaves (plea_of left s a) (asked_claims a (asked_whats a.act) s.names) s)
 
-drawn_waits : (s : CoreState) → (drawn s).waiters ≡ s.waiters
+pub drawn_waits : (s : CoreState) → (drawn s).waiters ≡ s.waiters
 unfolding drawn
 drawn_waits s = refl
 
@@ -372,7 +372,7 @@ in_append e [] ys here = inr here
 in_append e (x ∷ xs) ys here = elim here [ inl same ↦ inl (inl same) | inr rest ↦ elim (in_append e xs ys rest) [ inl old ↦ inl (inr old) | inr new ↦ inr new ] ]
 
 -- of a request that waits the row comes behind the others
-with_in : (room : Bool) (id : ℕ) (row : Waiting) (l : Lists) (e : ℕ × Waiting) → IsIn e (if room then waiting_added id row l else l).waiting → IsIn e l.waiting ⊎ IsIn e ((id, row) ∷ [])
+pub with_in : (room : Bool) (id : ℕ) (row : Waiting) (l : Lists) (e : ℕ × Waiting) → IsIn e (if room then waiting_added id row l else l).waiting → IsIn e l.waiting ⊎ IsIn e ((id, row) ∷ [])
 with_in true id row l e here = in_append e l.waiting ((id, row) ∷ []) here
 with_in false id row l e here = inl here
 
@@ -515,7 +515,7 @@ opened_settle t s u l a number row waiting (answers.Full limit) names e queue go
 opened_settle t s u l a number row waiting answers.NotHeld names e queue good later new before all here = still_waits t u l a answers.NotHeld names e queue (all e here)
 opened_settle t s u l a number row waiting answers.StoreFailed names e queue good later new before all here = still_waits t u l a answers.StoreFailed names e queue (all e here)
 
-drawn_awaited : (s : CoreState) (l : Lists) (e : ℕ × Waiting) → IsAwaited s l e → IsAwaited (drawn s) l e
+pub drawn_awaited : (s : CoreState) (l : Lists) (e : ℕ × Waiting) → IsAwaited s l e → IsAwaited (drawn s) l e
 drawn_awaited s l e is = moved s (drawn s) l l e is (subst (λ (ws : List Waiter). IsIn is.waiter ws) (sym (drawn_waits s)) is.waits) (keeps_self l e e.1.request)
 
 -- who is told to wait has a later number than those that were given out before
@@ -998,7 +998,7 @@ shown_awaited f s effect distinct all =
 -- ---- the end of a connection
 
 -- the lists once the connection went with what came by it
-abbrev gone_lists : ℕ → Lists → Lists
+abbrev pub gone_lists : ℕ → Lists → Lists
 gone_lists conn l = requests_gone conn (connection_gone conn (all_closed (opens_under (scope.Connection conn) l) l))
 
 pub gone_rows : (conn : ℕ) (l : Lists) → (gone_lists conn l).waiting ≡ filter (λ (x : ℕ × Waiting). not (eqb x.1.place.connection conn)) l.waiting

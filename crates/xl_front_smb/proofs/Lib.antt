@@ -20,4 +20,6 @@ pub mod PlaceLaws
 pub mod AwaitLaws
 pub mod RoomLaws
 pub mod StayLaws
+pub mod LeftLaws
+pub mod KeepLaws
 pub mod StandLaws

@@ -68,7 +68,7 @@ use Rattle.xl_front_smb.proofs.AckLaws.{left_within, may_be_none, oplock_is}
 use Rattle.xl_front_smb.proofs.LockLaws.{counted}
 
 -- the core takes the plan's deeds, and they are the connection's
-abbrev IsTheirs : ℕ → CoreState → Lists → ℕ → Plan → Type 0
+abbrev pub IsTheirs : ℕ → CoreState → Lists → ℕ → Plan → Type 0
 IsTheirs n s l conn plan = AreFit n s (deeds_of plan) × AllByRecursion (IsOwn conn l s.counter) (deeds_of plan)
 
 -- ---- checks, whatever holds of a plan
@@ -392,11 +392,11 @@ requested_by n s files others l conn m false true unread = (tt, tt)
 requested_by n s files others l conn m false false true = (tt, tt)
 requested_by n s files others l conn m false false false = read_theirs n s files others l conn m
 
-requested_theirs : (n : ℕ) (s : CoreState) (files : List (List ℕ)) (others : ℕ) (l : Lists) (conn : ℕ) (bytes : List ℕ) (h : SmbHead) → IsTheirs n s l conn (requested s files others l conn bytes h)
+pub requested_theirs : (n : ℕ) (s : CoreState) (files : List (List ℕ)) (others : ℕ) (l : Lists) (conn : ℕ) (bytes : List ℕ) (h : SmbHead) → IsTheirs n s l conn (requested s files others l conn bytes h)
 unfolding requested
 requested_theirs n s files others l conn bytes h = requested_by n s files others l conn (message_at bytes) (not (h.next_command == 0)) (nat_lt 18 h.command) (not (is_some (command_of h.command)))
 
-heard_theirs : (n : ℕ) (exports : Exports) (others : ℕ) (f : FrontSmb) (s : CoreState) (conn : ℕ) (bytes : List ℕ) (h : Option SmbHead) → AreFit n s (deeds_for exports others f s conn bytes h) × AreOwn f s conn (deeds_for exports others f s conn bytes h)
+pub heard_theirs : (n : ℕ) (exports : Exports) (others : ℕ) (f : FrontSmb) (s : CoreState) (conn : ℕ) (bytes : List ℕ) (h : Option SmbHead) → AreFit n s (deeds_for exports others f s conn bytes h) × AreOwn f s conn (deeds_for exports others f s conn bytes h)
 heard_theirs n exports others f s conn bytes None = (tt, tt)
 heard_theirs n exports others f s conn bytes (Some h) = requested_theirs n s exports.files others f.state conn bytes h
 

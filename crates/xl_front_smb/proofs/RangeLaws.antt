@@ -1,5 +1,22 @@
 -- What LOCK leaves of an open's ranges, and what CANCEL leaves.
-use Rattle.std.proofs.Common.{◌≡◌, ℕ, ◌≤◌, Bool, true, false, List, [], ◌∷◌, ◌++◌, length, map, Option, Some, None, refl, sym, ap, subst, ◌∙◌, ◌⊎◌, inl, inr}
+use Rattle.std.proofs.Common.{◌≡◌, ℕ, ◌≤◌, ◌||◌, Bool, true, false, if◌then◌else◌, is_some, List, [], ◌∷◌, ◌++◌, length, map, Option, Some, None, refl, sym, ap, subst, ◌∙◌, ◌⊎◌, inl, inr}
+use Rattle.std.proofs.lemmas.Bool.{and_parts, false≢true, true≢false}
+use Rattle.xl_base.proofs.Members.{all_from, all_in}
+use Rattle.xl_base.specs.declared.name.Owner.{Owner}
+use Rattle.xl_base.specs.declared.name.Party.{Party}
+use Rattle.xl_base.specs.declared.name.Party.TheVariants as parties
+use Rattle.xl_matrix.specs.declared.claim.Extent.{Extent}
+use Rattle.xl_matrix.specs.declared.claim.What.TheVariants.{Range}
+use Rattle.xl_names.specs.declared.name.Name.{Name}
+use Rattle.xl_smb_state.proofs.RowLaws.{equal_from}
+use Rattle.xl_table.proofs.ElementLaws.{AreOfParty, among_held}
+use Rattle.xl_table.proofs.WriteBack.{is_of-true}
+use Rattle.xl_table.specs.Held.{is_of, is_range}
+use Rattle.xl_table.specs.Relock.{is_range_of}
+use Rattle.xl_core.specs.declared.ask.Effect.{Effect}
+use Rattle.xl_core.proofs.WayOpens.{ask_element, ask_refused}
+use Rattle.xl_smb_locks.specs.declared.status.SmbStatus.TheVariants as statuses
+use Rattle.xl_smb_locks.proofs.UnlockLaws.{no_way}
 use Rattle.xl_base.specs.Lists.{IsIn}
 use Rattle.xl_base.specs.declared.name.Owner.TheVariants as owners
 use Rattle.xl_matrix.specs.declared.claim.Claim.{Claim}
@@ -14,14 +31,14 @@ use Rattle.xl_smb_state.specs.declared.row.Place.{Place}
 use Rattle.xl_smb_state.specs.declared.row.Scope.TheVariants as scope
 use Rattle.xl_smb_state.specs.declared.row.Request.TheVariants as request
 use Rattle.xl_smb_state.specs.declared.row.Waiting.{Waiting}
-use Rattle.xl_table.specs.Elements.{unlocked_elements}
+use Rattle.xl_table.specs.Elements.{element_held, is_held, unlocked_elements}
 use Rattle.xl_table.specs.Elements.{elements_of as ranges_of}
 use Rattle.xl_wait.specs.Waiting.{no_rows, is_waiting}
-use Rattle.xl_core.specs.Asking.{range_what}
+use Rattle.xl_core.specs.Asking.{known_claim, range_what}
 use Rattle.xl_core.specs.Begin.{others_of}
 use Rattle.xl_core.specs.Decide.{Answered, way, ask}
 use Rattle.xl_core.specs.Deeds.{Deed, Asks, all_done}
-use Rattle.xl_core.specs.Good.{IsGood}
+use Rattle.xl_core.specs.Good.{are_kept, IsHeld, IsGood}
 use Rattle.xl_core.specs.Places.{RangesOf, held_at}
 use Rattle.xl_core.specs.Settle.{cancel as cancel_of}
 use Rattle.xl_core.specs.State.{CoreState}
@@ -43,7 +60,7 @@ use Rattle.xl_smb_locks.proofs.FitLaws.{unlock_fits, lock_fits}
 use Rattle.xl_smb_locks.proofs.UnlockLaws.{any_stores}
 use Rattle.xl_front_smb.specs.Checks.{tree_named, open_named, negotiated_by, in_session, on_tree, on_open}
 use Rattle.xl_front_smb.specs.Laws.{OnlyBreaks, outcome_of}
-use Rattle.xl_front_smb.specs.LockLaws.{IsOfOpen, held_as, all_unlocked}
+use Rattle.xl_front_smb.specs.LockLaws.{IsOfOpen, held_as, all_unlocked, before_fault, has_range, unlocks_told}
 use Rattle.xl_front_smb.specs.Locks.{waiting_row, place_of, lock_by, lock_on, lock_found, lock, request_named, cancel_named, cancel}
 use Rattle.xl_front_smb.specs.Plans.{Plan, Outcome, told_as, lists_as, carried}
 use Rattle.xl_front_smb.specs.Requests.{commanded, planned}
@@ -210,6 +227,117 @@ unlocks_take n s file number (e ∷ es) good h =
     ∙ unlocks_take n r.2 file number es (ask_good 0 no_rows s a good (unlock_fits file number e).fit) got.1
     ∙ ap (all_unlocked es) (unlock_takes 0 s file number e got.0.0 good got.0.1)
 
+-- ---- unlocks up to the first that can't be done
+
+open_party : (names : List Name) (number : ℕ) (p : Party) → are_kept names (owners.Open number) p ≡ true → p ≡ parties.Open number
+open_party names number (parties.Open other) kept = ap (λ (k : ℕ). parties.Open k) (equal_from number other kept)
+open_party names number (parties.Name protocol at) kept = absurd (false≢true kept)
+
+-- the ranges of an open on a file are of the party that the open is
+of_open : (s : CoreState) (file number : ℕ) (w : What) → IsGood s → AreOfParty (record { file = file; owner = owners.Open number; party = parties.Open number; what = w }) s.claims
+of_open s file number w good =
+    all_from (λ (d : Claim). is_range_of file (owners.Open number) d ≡ true → d.party ≡ parties.Open number) s.claims
+    (λ d here own. let at = is_of-true file (owners.Open number) d (and_parts (is_of file (owners.Open number) d) (is_range d.what) own).0 in
+    open_party s.names number d.party (subst (λ (o : Owner). are_kept s.names o d.party ≡ true) at.1 (all_in (IsHeld s.names) d s.claims good.known here).1))
+
+-- an open has a range to unlock exactly where one is among those that it holds
+by_either : {X : Type 0} (a b : Bool) (x y : X) → is_some (if a then Some x else if b then Some y else None) ≡ (a || b)
+by_either true b x y = refl
+by_either false true x y = refl
+by_either false false x y = refl
+
+is_held_one : (s : CoreState) (file number : ℕ) (extent : Extent) (w : What) → IsGood s
+    → is_some (element_held (record { file = file; owner = owners.Open number; party = parties.Open number; what = w }) extent s.claims) ≡ has_range extent (ranges_of file (owners.Open number) s.claims)
+unfolding element_held
+is_held_one s file number extent w good =
+    let c : Bool → Claim = λ b. record { file = file; owner = owners.Open number; party = parties.Open number; what = Range extent b } in
+    by_either (is_held (c true) s.claims) (is_held (c false) s.claims) _ _
+    ∙ (λ i. among_held (c true) s.claims refl (of_open s file number (Range extent true) good) i || among_held (c false) s.claims refl (of_open s file number (Range extent false) good) i)
+
+some_of : {X : Type 0} (o : Option X) → is_some o ≡ false → o ≡ None
+some_of None h = refl
+some_of (Some x) h = absurd (true≢false h)
+
+unlock_granted : (n : ℕ) (s : CoreState) (file number : ℕ) (e : LockElement) → IsGood s → has_range (extent_of e) (ranges_of file (owners.Open number) s.claims) ≡ true → (c : Claim) × ((ask n no_rows s (unlock_ask file number e)).0 ≡ answers.Granted c)
+unfolding unlock_ask
+unlock_granted n s file number e good has =
+    let a = unlock_ask file number e in
+    let claim = known_claim a (extent_of e) false s.names in
+    (claim, (ask_element n no_rows s a (extent_of e) number (answers.Granted claim) refl refl).1 (refl, is_held_one s file number (extent_of e) claim.what good ∙ has))
+
+unlock_missed : (n : ℕ) (s : CoreState) (file number : ℕ) (e : LockElement) → IsGood s → has_range (extent_of e) (ranges_of file (owners.Open number) s.claims) ≡ false
+    → ((ask n no_rows s (unlock_ask file number e)).0 ≡ answers.NotHeld) × ((ask n no_rows s (unlock_ask file number e)).2.claims ≡ s.claims)
+unfolding unlock_ask
+unlock_missed n s file number e good has =
+    let a = unlock_ask file number e in
+    let claim = known_claim a (extent_of e) false s.names in
+    let none = (ask_element n no_rows s a (extent_of e) number answers.NotHeld refl refl).1 (some_of (element_held claim (extent_of e) s.claims) (is_held_one s file number (extent_of e) claim.what good ∙ has)) in (
+      none,
+      ask_refused n no_rows s a good (unlock_fits file number e).fit (λ c h. different (sym none ∙ h)) ∙ ap (λ (r : List Effect × CoreState). r.1.claims) (no_way s file number e),
+    )
+  where
+    different : {c : Claim} → answers.NotHeld ≡ answers.Granted c → ⊥
+    different h = cc
+
+-- what they are told, and which are done
+stops_at : (e : LockElement) (es : List LockElement) (ws : List What) (status : SmbStatus) → unlock_fault e ≡ Some status → (told.Failed status ≡ unlocks_told (e ∷ es) ws) × (before_fault (e ∷ es) ws ≡ [])
+stops_at e es ws status fault = rw fault (refl, refl)
+
+misses_at : (e : LockElement) (es : List LockElement) (ws : List What) → unlock_fault e ≡ None → has_range (extent_of e) ws ≡ false → (told.Failed statuses.RangeNotLocked ≡ unlocks_told (e ∷ es) ws) × (before_fault (e ∷ es) ws ≡ [])
+misses_at e es ws fault has = rw (fault, has) (refl, refl)
+
+goes_past : (e : LockElement) (es : List LockElement) (ws : List What) → unlock_fault e ≡ None → has_range (extent_of e) ws ≡ true
+    → (unlocks_told es (unlocked_elements (extent_of e) ws) ≡ unlocks_told (e ∷ es) ws) × (before_fault (e ∷ es) ws ≡ e ∷ before_fault es (unlocked_elements (extent_of e) ws))
+goes_past e es ws fault has = rw (fault, has) (refl, refl)
+
+-- what unlocks of these come to in a state, as their deeds and their answer
+abbrev Gives : ℕ → CoreState → ℕ → ℕ → List LockElement → List Deed × Locking → Type 0
+Gives n s file number es r =
+    (told_as r.1 ≡ unlocks_told es (held_at s (RangesOf file number)))
+    × (held_at (all_done n s r.0) (RangesOf file number) ≡ all_unlocked (before_fault es (held_at s (RangesOf file number))) (held_at s (RangesOf file number)))
+
+one_gives : (n : ℕ) (s : CoreState) (file number : ℕ) (e : LockElement) (es : List LockElement) (has : Bool) → IsGood s → unlock_fault e ≡ None → has_range (extent_of e) (held_at s (RangesOf file number)) ≡ has
+    → Gives n (ask 0 no_rows s (unlock_ask file number e)).2 file number es (unlocks (ask 0 no_rows s (unlock_ask file number e)).2 file number es)
+    → Gives n s file number (e ∷ es) (unlock_told (unlock_ask file number e) (ask 0 no_rows s (unlock_ask file number e)).0 (unlocks (ask 0 no_rows s (unlock_ask file number e)).2 file number es))
+one_gives n s file number e es false good fault is later =
+    let a = unlock_ask file number e in
+    let ws = held_at s (RangesOf file number) in
+    let rest = unlocks (ask 0 no_rows s a).2 file number es in
+    let all = misses_at e es ws fault is in
+    subst (λ (x : Answer). Gives n s file number (e ∷ es) (unlock_told a x rest)) (sym (unlock_missed 0 s file number e good is).0)
+    (all.0, ap (λ (cs : List Claim). ranges_of file (owners.Open number) cs) (unlock_missed n s file number e good is).1 ∙ ap (λ (fs : List LockElement). all_unlocked fs ws) (sym all.1))
+one_gives n s file number e es true good fault is later =
+    let a = unlock_ask file number e in
+    let ws = held_at s (RangesOf file number) in
+    let r = ask 0 no_rows s a in
+    let rest = unlocks r.2 file number es in
+    let got = unlock_granted 0 s file number e good is in
+    let all = goes_past e es ws fault is in
+    let takes : held_at r.2 (RangesOf file number) ≡ unlocked_elements (extent_of e) ws = unlock_takes 0 s file number e got.0 good got.1 in
+    let same : (ask n no_rows s a).2 ≡ r.2 = ap (λ (x : Answered). x.2) (any_stores n s file number e) in
+    subst (λ (x : Answer). Gives n s file number (e ∷ es) (unlock_told a x rest)) (sym got.1) (
+      later.0 ∙ ap (unlocks_told es) takes ∙ all.0,
+      ap (λ (t : CoreState). held_at (all_done n t rest.0) (RangesOf file number)) same
+      ∙ later.1
+      ∙ ap (λ (vs : List What). all_unlocked (before_fault es vs) vs) takes
+      ∙ ap (λ (fs : List LockElement). all_unlocked fs ws) (sym all.1),
+    )
+
+next_gives : (n : ℕ) (s : CoreState) (file number : ℕ) (e : LockElement) (es : List LockElement) (o : Option SmbStatus) (next : List Deed × Locking) → unlock_fault e ≡ o → (o ≡ None → Gives n s file number (e ∷ es) next) → Gives n s file number (e ∷ es) (unlock_next o next)
+next_gives n s file number e es None next fault rest = rest refl
+next_gives n s file number e es (Some status) next fault rest =
+    let ws = held_at s (RangesOf file number) in
+    let all = stops_at e es ws status fault in
+    (all.0, ap (λ (fs : List LockElement). all_unlocked fs ws) (sym all.1))
+
+pub unlocks_give : (n : ℕ) (s : CoreState) (file number : ℕ) (es : List LockElement) → IsGood s → Gives n s file number es (unlocks s file number es)
+unlocks_give n s file number [] good = (refl, refl)
+unlocks_give n s file number (e ∷ es) good =
+    let a = unlock_ask file number e in
+    let r = ask 0 no_rows s a in
+    next_gives n s file number e es (unlock_fault e) (unlock_told a r.0 (unlocks r.2 file number es)) refl
+    (λ fault. one_gives n s file number e es (has_range (extent_of e) (held_at s (RangesOf file number))) good fault refl (unlocks_give n r.2 file number es (ask_good 0 no_rows s a good (unlock_fits file number e).fit)))
+
 module _ (n : ℕ) (s : CoreState) (files : List (List ℕ)) (others : ℕ) (l : Lists) (conn : ℕ) (h : SmbHead) (client : List ℕ) where
   abbrev Takes : ℕ → ℕ → List LockElement → Outcome → Type 0
   Takes file number es r = r.0 ≡ told.Locked → (held_at r.3 (RangesOf file number) ≡ all_unlocked es (held_at s (RangesOf file number))) × (r.2 ≡ l)
@@ -226,6 +354,33 @@ module _ (n : ℕ) (s : CoreState) (files : List (List ℕ)) (others : ℕ) (l :
   pub unlocked_takes : (c : LockItem) (session : ℕ) (place : Place) (number : ℕ) (row : Open) → IsOfOpen s l conn h client c.file_id session place number row → unlocks_first (elements_of c.elements) ≡ true → IsGood s → Takes row.file number (elements_of c.elements) (outcome_of n s files others l conn h (Lock c))
   unlocked_takes c session place number row of first good =
       by_lock n s files others l conn h client (Takes row.file number (elements_of c.elements)) c session place number row of (unlocks_on number place (elements_of c.elements) row (is_count (length (elements_of c.elements))) refl first good)
+
+  -- what they are told, and what they leave
+  abbrev Ends : ℕ → ℕ → List LockElement → Outcome → Type 0
+  Ends file number es r =
+      (r.0 ≡ unlocks_told es (held_at s (RangesOf file number)))
+      × (held_at r.3 (RangesOf file number) ≡ all_unlocked (before_fault es (held_at s (RangesOf file number))) (held_at s (RangesOf file number)))
+      × (r.2 ≡ l)
+
+  ends_on : (number : ℕ) (place : Place) (es : List LockElement) (row : Open) → is_count (length es) ≡ true → unlocks_first es ≡ true → IsGood s → Ends row.file number es (carried n s l (lock_on s l conn h number place es row))
+  ends_on number place es row is first good = let all = unlocks_give n s row.file number es good in rw (is, first) (all.0, all.1, refl)
+
+  unlocked_ends : (c : LockItem) (session : ℕ) (place : Place) (number : ℕ) (row : Open) → IsOfOpen s l conn h client c.file_id session place number row → unlocks_first (elements_of c.elements) ≡ true → is_count (length (elements_of c.elements)) ≡ true → IsGood s
+      → Ends row.file number (elements_of c.elements) (outcome_of n s files others l conn h (Lock c))
+  unlocked_ends c session place number row of first count good =
+      by_lock n s files others l conn h client (Ends row.file number (elements_of c.elements)) c session place number row of (ends_on number place (elements_of c.elements) row count first good)
+
+  pub unlocked_leaves : (c : LockItem) (session : ℕ) (place : Place) (number : ℕ) (row : Open) → IsOfOpen s l conn h client c.file_id session place number row → unlocks_first (elements_of c.elements) ≡ true → is_count (length (elements_of c.elements)) ≡ true → IsGood s
+      → (held_at (outcome_of n s files others l conn h (Lock c)).3 (RangesOf row.file number) ≡ all_unlocked (before_fault (elements_of c.elements) (held_at s (RangesOf row.file number))) (held_at s (RangesOf row.file number))) × ((outcome_of n s files others l conn h (Lock c)).2 ≡ l)
+  unlocked_leaves c session place number row of first count good = let all = unlocked_ends c session place number row of first count good in (all.1, all.2)
+
+  pub unlocked_tells : (c : LockItem) (session : ℕ) (place : Place) (number : ℕ) (row : Open) → IsOfOpen s l conn h client c.file_id session place number row → unlocks_first (elements_of c.elements) ≡ true → is_count (length (elements_of c.elements)) ≡ true → IsGood s
+      → (outcome_of n s files others l conn h (Lock c)).0 ≡ unlocks_told (elements_of c.elements) (held_at s (RangesOf row.file number))
+  unlocked_tells c session place number row of first count good = (unlocked_ends c session place number row of first count good).0
+
+  pub uncounted_refused : (c : LockItem) (session : ℕ) (place : Place) (number : ℕ) (row : Open) → IsOfOpen s l conn h client c.file_id session place number row → is_count (length (elements_of c.elements)) ≡ false → outcome_of n s files others l conn h (Lock c) ≡ (told.Failed statuses.InvalidParameter, [], l, s)
+  uncounted_refused c session place number row of count =
+      by_lock n s files others l conn h client (λ (r : Outcome). r ≡ (told.Failed statuses.InvalidParameter, [], l, s)) c session place number row of (rw count refl)
 
   -- ---- CANCEL
 

@@ -42,7 +42,7 @@ Stays w told t = IsIn w t.waiters ⊎ (over w.id told ≡ true)
 
 -- ---- by one call
 
-cancelled_over : (id : ℕ) (es : List Effect) → list_any (cancels id) es ≡ true → over id es ≡ true
+pub cancelled_over : (id : ℕ) (es : List Effect) → list_any (cancels id) es ≡ true → over id es ≡ true
 cancelled_over id [] any = absurd (false≢true any)
 cancelled_over id (effects.Cancelled k ∷ es) any = elim (cases_Bool (eqb k id)) [ inl same ↦ rw same refl | inr other ↦ rw other (cancelled_over id es (rw other at any)) ]
 cancelled_over id (effects.Served k answer ∷ es) any = elim (cases_Bool (eqb k id)) [ inl same ↦ rw same refl | inr other ↦ rw other (cancelled_over id es any) ]

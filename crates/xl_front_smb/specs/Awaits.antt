@@ -1,6 +1,6 @@
 -- Requests that wait, in the front's lists and in the core.
-use Rattle.std.specs.Prelude.{◌≡◌, ℕ, ◌-◌, ◌==◌, ◌<◌, ◌≤◌, Bool, true, false, List, [], ◌∷◌, length, Some, is_some}
-use Rattle.std.specs.List.{AllByRecursion}
+use Rattle.std.specs.Prelude.{◌≡◌, ◌↔◌, ℕ, nat_eq, ◌-◌, ◌==◌, ◌<◌, ◌≤◌, Bool, true, false, not, List, [], ◌∷◌, length, Some, is_some}
+use Rattle.std.specs.List.{AllByRecursion, list_any}
 use Rattle.xl_base.specs.Lists.{IsIn}
 use Rattle.xl_base.specs.declared.name.Party.TheVariants as parties
 use Rattle.xl_matrix.specs.Blocks.{is_share}
@@ -15,6 +15,8 @@ use Rattle.xl_smb_state.specs.declared.row.Request.TheVariants as request
 use Rattle.xl_smb_state.specs.declared.row.Waiting.{Waiting}
 use Rattle.xl_wait.specs.declared.waiter.Rooms.{Rooms}
 use Rattle.xl_wait.specs.declared.waiter.Waiter.{Waiter}
+use Rattle.xl_core.specs.Asking.{is_named}
+use Rattle.xl_core.specs.Deeds.{Deed, Asks}
 use Rattle.xl_core.specs.Settle.{settle, waits_for}
 use Rattle.xl_core.specs.State.{CoreState}
 use Rattle.xl_core.specs.declared.ask.Answer.TheVariants.{Granted}
@@ -66,6 +68,23 @@ pub record IsAwaited (s : CoreState) (l : Lists) (e : ℕ × Waiting) : Type 0 w
 -- so does each
 abbrev pub AreAwaited : CoreState → Lists → Type 0
 AreAwaited s l = AllByRecursion (IsAwaited s l) l.waiting
+
+-- The waiter has its row, where it asks for claims of an SMB open: a row of its number, of that open.
+abbrev pub IsKept : Lists → Waiter → Type 0
+IsKept l w = (k : ℕ) → waits_for (parties.Open k) w ≡ true → (row : Waiting) × (waiting_of w.id l ≡ Some row) × (row.opened ≡ k)
+
+-- so has each
+abbrev pub AreKept : CoreState → Lists → Type 0
+AreKept s l = AllByRecursion (IsKept l) s.waiters
+
+-- the deed is an ask by an SMB open
+abbrev pub is_open_ask : Deed → Bool
+is_open_ask (Asks left a) = not (is_named a.party)
+is_open_ask deed = false
+
+-- of the requests that wait just those stay that wait for none of these opens
+abbrev pub AreLeft : List ℕ → Lists → Lists → Type 0
+AreLeft numbers old new = (e : ℕ × Waiting) → IsIn e new.waiting ↔ (IsIn e old.waiting × (list_any (nat_eq e.1.opened) numbers ≡ false))
 
 -- A turn, in which there is no more room for opens than those of SMB leave, serves the CREATE of this row, which waits to make this
 -- open, and grants it this claim.

@@ -1,5 +1,5 @@
 //! Laws of the requests that wait. The functions do nothing: their clauses are the laws.
-ghost use Rattle.std.specs.Prelude.{◌≡◌, ℕ, nat_eq, true, false, List, Some};
+ghost use Rattle.std.specs.Prelude.{◌≡◌, ℕ, nat_eq, true, false, List, [], Some};
 ghost use Rattle.std.specs.List.{AllByRecursion, IsDistinct, list_any};
 ghost use Rattle.std.specs.Map.{keys_of};
 ghost use Rattle.xl_base.specs.Lists.{IsIn};
@@ -12,6 +12,7 @@ ghost use Rattle.xl_smb_state.specs.declared.row.Open.{Open};
 ghost use Rattle.xl_smb_state.specs.declared.row.Waiting.{Waiting};
 ghost use Rattle.xl_wait.specs.Waiting.{is_waiting};
 ghost use Rattle.xl_wait.specs.declared.waiter.Rooms.{Rooms};
+ghost use Rattle.xl_wait.specs.declared.waiter.Waiter.{Waiter};
 ghost use Rattle.xl_core.specs.Asking.{IsFit};
 ghost use Rattle.xl_core.specs.Decide.{ask};
 ghost use Rattle.xl_core.specs.Deeds.{Deed, AreFit, all_done, all_told_of};
@@ -23,7 +24,7 @@ ghost use Rattle.xl_core.specs.declared.ask.Effect.{Effect};
 ghost use Rattle.xl_core.specs.declared.ask.Effect.TheVariants as Effect;
 ghost use Rattle.xl_smb_locks.specs.Finals.{final_outs, opened_reply};
 ghost use Rattle.xl_smb_locks.specs.Levels.{id_of, level_held};
-ghost use Rattle.xl_front_smb.specs.Awaits.{AreAwaited, IsAwaited, IsGranted, ends_wait};
+ghost use Rattle.xl_front_smb.specs.Awaits.{AreAwaited, AreKept, IsAwaited, IsGranted, ends_wait, is_open_ask};
 ghost use Rattle.xl_front_smb.specs.Ending.{smb_end};
 ghost use Rattle.xl_front_smb.specs.FrontSmb.{smb_shown, smb_step};
 ghost use Rattle.xl_front_smb.specs.Plans.{has_room_to_wait};
@@ -44,6 +45,20 @@ pub fn waiting_requests_are_awaited()
     ensures shown { (f : FrontSmb) (s : CoreState) (effect : Effect) → IsDistinct nat_eq (keys_of f.state.waiting) → ((e : ℕ × Waiting) → IsIn e f.state.waiting → ends_wait e.0 effect ≡ false → IsAwaited s f.state e) → AreAwaited s (smb_shown f s effect).1.state }
     ensures ends { (f : FrontSmb) (s : CoreState) (conn : ℕ) → IsSound f.state → AreDistinct f.state → AreAwaited s f.state → AreAwaited (smb_end f s conn).2 (smb_end f s conn).1.state }
     ensures deeds { (n : ℕ) (s : CoreState) (l : Lists) (ds : List Deed) (e : ℕ × Waiting) → IsGood s → AreFit n s ds → AreAwaited s l → IsIn e l.waiting → list_any (ends_wait e.0) (all_told_of n s ds) ≡ false → IsAwaited (all_done n s ds) l e }
+{}
+
+/// Each waiter of the core that asks for claims of an SMB open has its row in the front's lists, under its number and of this open:
+/// so who is served, or waits no more, is told (MS-SMB2 3.3.4.2). So it is at a start, where nobody waits, and stays where a
+/// connection opens or ends, whatever a message does, and behind any deeds of the core that are no asks by an SMB open; of who
+/// waits still nothing told that it waits no more, and its row stays where an effect is told that doesn't.
+pub fn waiters_of_opens_are_kept()
+    ensures start { (s : CoreState) → s.waiters ≡ [] → AreKept s empty_smb_front.state }
+    ensures begins { (f : FrontSmb) (s : CoreState) (conn : ℕ) → AreKept s f.state → AreKept s (smb_begin f conn).state }
+    ensures messages { (n : ℕ) (exports : Exports) (others : ℕ) (f : FrontSmb) (s : CoreState) (conn : ℕ) (bytes : List ℕ) → IsGood s → AreDistinct f.state → AreAwaited s f.state → AreKept s f.state → AreKept (smb_step n exports others f s conn bytes).3 (smb_step n exports others f s conn bytes).2.state }
+    ensures shown { (f : FrontSmb) (s : CoreState) (effect : Effect) → ((w : Waiter) → IsIn w s.waiters → ends_wait w.id effect ≡ false) → AreKept s f.state → AreKept s (smb_shown f s effect).1.state }
+    ensures ends { (f : FrontSmb) (s : CoreState) (conn : ℕ) → IsGood s → AreAwaited s f.state → AreKept s f.state → AreKept (smb_end f s conn).2 (smb_end f s conn).1.state }
+    ensures deeds { (n : ℕ) (s : CoreState) (l : Lists) (ds : List Deed) → IsGood s → AreFit n s ds → AllByRecursion (λ d. is_open_ask d ≡ false) ds → AreKept s l → AreKept (all_done n s ds) l }
+    ensures still { (n : ℕ) (s : CoreState) (ds : List Deed) (w : Waiter) → IsGood s → AreFit n s ds → IsIn w (all_done n s ds).waiters → list_any (ends_wait w.id) (all_told_of n s ds) ≡ false }
 {}
 
 /// A CREATE that waited and is granted stands: the share that is granted is its open's, on the open's file; the open is in the

@@ -1,5 +1,5 @@
 //! Laws of the front. The functions do nothing: each has laws as its clauses.
-ghost use Rattle.std.specs.Prelude.{◌≡◌, ℕ, ◌+◌, ◌==◌, ◌↔◌, ◌⊎◌, nat_lt, true, false, List, [], ◌∷◌, ◌++◌, map, Some, None};
+ghost use Rattle.std.specs.Prelude.{◌≡◌, ℕ, ◌+◌, ◌==◌, ◌↔◌, ◌⊎◌, nat_lt, true, false, List, [], ◌∷◌, ◌++◌, length, map, Some, None};
 ghost use Rattle.std.specs.List.{AllByRecursion};
 ghost use Rattle.xl_base.specs.declared.name.Owner.{Owner};
 ghost use Rattle.xl_base.specs.declared.journal.Exports.{Exports};
@@ -13,7 +13,7 @@ ghost use Rattle.xl_core.specs.declared.ask.Effect.{Effect};
 ghost use Rattle.xl_base.specs.Lists.{IsIn};
 ghost use Rattle.xl_wait.specs.Waiting.{is_waiting};
 ghost use Rattle.xl_smb.specs.Locks.{LockItem, elements_of};
-ghost use Rattle.xl_smb_locks.specs.Elements.{unlocks_first};
+ghost use Rattle.xl_smb_locks.specs.Elements.{is_count, unlocks_first};
 ghost use Rattle.xl_smb_state.specs.declared.row.Open.{Open};
 ghost use Rattle.xl_core.specs.State.{CoreState};
 ghost use Rattle.xl_matrix.specs.declared.claim.Break.{Break};
@@ -30,11 +30,12 @@ ghost use Rattle.xl_smb_state.specs.Links.{IsSound, AreDistinct};
 ghost use Rattle.xl_smb_state.specs.State.{Lists, client_of, open_of, covers_holder, opens_under, waiting_under};
 ghost use Rattle.xl_smb_state.specs.declared.row.Place.{Place};
 ghost use Rattle.xl_smb_state.specs.declared.row.Scope.{Scope};
-ghost use Rattle.xl_front_smb.specs.Ending.{numbers_under, smb_end_deeds, smb_end};
+ghost use Rattle.xl_front_smb.specs.Awaits.{AreAwaited, AreLeft};
+ghost use Rattle.xl_front_smb.specs.Ending.{all_dismissed, numbers_under, smb_end_deeds, smb_end};
 ghost use Rattle.xl_front_smb.specs.Files.{access_of, deny_of, open_row, is_refused, left_at};
 ghost use Rattle.xl_front_smb.specs.FrontSmb.{answered, smb_deeds, smb_replies, smb_step};
 ghost use Rattle.xl_front_smb.specs.Checks.{id_of, session_named, tree_named, open_named};
-ghost use Rattle.xl_front_smb.specs.LockLaws.{IsOfOpen, held_as, all_unlocked};
+ghost use Rattle.xl_front_smb.specs.LockLaws.{IsOfOpen, held_as, all_unlocked, before_fault, unlocks_told};
 ghost use Rattle.xl_front_smb.specs.Laws.{rows_but, Without, OnlyBreaks, outcome_of, IsRequest, IsInSession, IsOnTree, IsAckOf, rest_status, IsCreateDue};
 ghost use Rattle.xl_front_smb.specs.Owners.{AreOwn, is_end};
 ghost use Rattle.xl_front_smb.specs.State.{FrontSmb};
@@ -79,13 +80,16 @@ pub fn replies_go_back()
 
 /// The end of a connection leaves nothing of it, and all else (MS-SMB2 3.3.7.1): of claims and waiters just those of no open
 /// under it, and of none that a request under it waits to make, of the lists just the opens that are not under it, and the
-/// sessions and tree connects that are not on it; and the connection is gone.
+/// sessions and tree connects that are not on it; and the connection is gone. Of the requests that wait just those stay that wait
+/// for none of these opens, and none that came by it.
 pub fn an_ended_connection_leaves_nothing()
     ensures core { (f : FrontSmb) (s : CoreState) (conn : ℕ) → Without (numbers_under (Scope.Connection conn) f.state) s (smb_end f s conn).2 }
     ensures opens { (f : FrontSmb) (s : CoreState) (conn : ℕ) → AreDistinct f.state → (smb_end f s conn).1.state.opens ≡ rows_but (λ e. covers_holder (Scope.Connection conn) e.1.holder) f.state.opens }
     ensures sessions { (f : FrontSmb) (s : CoreState) (conn : ℕ) → AreDistinct f.state → (smb_end f s conn).1.state.sessions ≡ rows_but (λ e. e.1.connection == conn) f.state.sessions }
     ensures trees { (f : FrontSmb) (s : CoreState) (conn : ℕ) → IsSound f.state → AreDistinct f.state → (smb_end f s conn).1.state.trees ≡ rows_but (λ e. e.1.connection == conn) f.state.trees }
     ensures connections { (f : FrontSmb) (s : CoreState) (conn : ℕ) → AreDistinct f.state → (smb_end f s conn).1.state.connections ≡ rows_but (λ e. conn == e.0) f.state.connections }
+    ensures waiting { (f : FrontSmb) (s : CoreState) (conn : ℕ) → IsGood s → AreDistinct f.state → AreAwaited s f.state → AreLeft (numbers_under (Scope.Connection conn) f.state) f.state (smb_end f s conn).1.state }
+    ensures requests { (f : FrontSmb) (s : CoreState) (conn : ℕ) → AllByRecursion (λ e. e.1.place.connection == conn ≡ false) (smb_end f s conn).1.state.waiting }
 {}
 
 /// A message that is a request alone in its frame, of a command that is served, is answered, tells of and leaves what that
@@ -96,7 +100,8 @@ pub fn requests_come_to_their_outcomes()
 
 /// LOGOFF in a session that is there leaves nothing of it, and all else (MS-SMB2 3.3.5.6): of claims and waiters just those of
 /// no open under it, and of none that a request under it waits to make, of the lists just the opens that are not under it, the
-/// tree connects that are not of it, and the other sessions. In no session it is refused, and changes nothing.
+/// tree connects that are not of it, and the other sessions; and once who waits no more is told, of the requests that wait just
+/// those that wait for none of these opens. In no session it is refused, and changes nothing.
 pub fn a_logoff_leaves_nothing()
     ensures told { (n : ℕ) (s : CoreState) (files : List (List ℕ)) (others : ℕ) (l : Lists) (conn : ℕ) (h : SmbHead) (client : List ℕ) (session : ℕ) → IsInSession s l conn h client session → (outcome_of n s files others l conn h CallItem.Logoff).0 ≡ Told.LoggedOff }
     ensures core { (n : ℕ) (s : CoreState) (files : List (List ℕ)) (others : ℕ) (l : Lists) (conn : ℕ) (h : SmbHead) (client : List ℕ) (session : ℕ) → IsInSession s l conn h client session → Without (numbers_under (Scope.Session session) l) s (outcome_of n s files others l conn h CallItem.Logoff).3 }
@@ -104,13 +109,14 @@ pub fn a_logoff_leaves_nothing()
     ensures trees { (n : ℕ) (s : CoreState) (files : List (List ℕ)) (others : ℕ) (l : Lists) (conn : ℕ) (h : SmbHead) (client : List ℕ) (session : ℕ) → IsInSession s l conn h client session → AreDistinct l → (outcome_of n s files others l conn h CallItem.Logoff).2.trees ≡ rows_but (λ e. e.1.session == session) l.trees }
     ensures sessions { (n : ℕ) (s : CoreState) (files : List (List ℕ)) (others : ℕ) (l : Lists) (conn : ℕ) (h : SmbHead) (client : List ℕ) (session : ℕ) → IsInSession s l conn h client session → AreDistinct l → (outcome_of n s files others l conn h CallItem.Logoff).2.sessions ≡ rows_but (λ e. session == e.0) l.sessions }
     ensures connections { (n : ℕ) (s : CoreState) (files : List (List ℕ)) (others : ℕ) (l : Lists) (conn : ℕ) (h : SmbHead) (client : List ℕ) (session : ℕ) → IsInSession s l conn h client session → (outcome_of n s files others l conn h CallItem.Logoff).2.connections ≡ l.connections }
+    ensures waiting { (n : ℕ) (s : CoreState) (files : List (List ℕ)) (others : ℕ) (l : Lists) (conn : ℕ) (h : SmbHead) (client : List ℕ) (session : ℕ) → IsInSession s l conn h client session → IsGood s → AreDistinct l → AreAwaited s l → AreLeft (numbers_under (Scope.Session session) l) l (all_dismissed (outcome_of n s files others l conn h CallItem.Logoff).1 (outcome_of n s files others l conn h CallItem.Logoff).2).1 }
     ensures refused { (n : ℕ) (s : CoreState) (files : List (List ℕ)) (others : ℕ) (l : Lists) (conn : ℕ) (h : SmbHead) (client : List ℕ) → client_of conn l ≡ Some client → session_named s l conn h.session_id ≡ None → outcome_of n s files others l conn h CallItem.Logoff ≡ (Told.Failed SmbStatus.UserSessionDeleted, [], l, s) }
 {}
 
 /// TREE_DISCONNECT on a tree connect that is there leaves nothing of it, and all else (MS-SMB2 3.3.5.8): of claims and
 /// waiters just those of no open under it, and of none that a request under it waits to make, of the lists just the opens that
-/// are not under it, and the other tree connects. In no session, or where the tree connect isn't one of it, it is refused, and
-/// changes nothing.
+/// are not under it, and the other tree connects; and once who waits no more is told, of the requests that wait just those that
+/// wait for none of these opens. In no session, or where the tree connect isn't one of it, it is refused, and changes nothing.
 pub fn a_tree_disconnect_leaves_nothing()
     ensures told { (n : ℕ) (s : CoreState) (files : List (List ℕ)) (others : ℕ) (l : Lists) (conn : ℕ) (h : SmbHead) (client : List ℕ) (session : ℕ) (place : Place) → IsOnTree s l conn h client session place → (outcome_of n s files others l conn h CallItem.TreeDisconnect).0 ≡ Told.Disconnected }
     ensures core { (n : ℕ) (s : CoreState) (files : List (List ℕ)) (others : ℕ) (l : Lists) (conn : ℕ) (h : SmbHead) (client : List ℕ) (session : ℕ) (place : Place) → IsOnTree s l conn h client session place → Without (numbers_under (Scope.Tree place.tree) l) s (outcome_of n s files others l conn h CallItem.TreeDisconnect).3 }
@@ -118,13 +124,15 @@ pub fn a_tree_disconnect_leaves_nothing()
     ensures trees { (n : ℕ) (s : CoreState) (files : List (List ℕ)) (others : ℕ) (l : Lists) (conn : ℕ) (h : SmbHead) (client : List ℕ) (session : ℕ) (place : Place) → IsOnTree s l conn h client session place → AreDistinct l → (outcome_of n s files others l conn h CallItem.TreeDisconnect).2.trees ≡ rows_but (λ e. place.tree == e.0) l.trees }
     ensures sessions { (n : ℕ) (s : CoreState) (files : List (List ℕ)) (others : ℕ) (l : Lists) (conn : ℕ) (h : SmbHead) (client : List ℕ) (session : ℕ) (place : Place) → IsOnTree s l conn h client session place → (outcome_of n s files others l conn h CallItem.TreeDisconnect).2.sessions ≡ l.sessions }
     ensures connections { (n : ℕ) (s : CoreState) (files : List (List ℕ)) (others : ℕ) (l : Lists) (conn : ℕ) (h : SmbHead) (client : List ℕ) (session : ℕ) (place : Place) → IsOnTree s l conn h client session place → (outcome_of n s files others l conn h CallItem.TreeDisconnect).2.connections ≡ l.connections }
+    ensures waiting { (n : ℕ) (s : CoreState) (files : List (List ℕ)) (others : ℕ) (l : Lists) (conn : ℕ) (h : SmbHead) (client : List ℕ) (session : ℕ) (place : Place) → IsOnTree s l conn h client session place → IsGood s → AreDistinct l → AreAwaited s l → AreLeft (numbers_under (Scope.Tree place.tree) l) l (all_dismissed (outcome_of n s files others l conn h CallItem.TreeDisconnect).1 (outcome_of n s files others l conn h CallItem.TreeDisconnect).2).1 }
     ensures unnamed { (n : ℕ) (s : CoreState) (files : List (List ℕ)) (others : ℕ) (l : Lists) (conn : ℕ) (h : SmbHead) (client : List ℕ) → client_of conn l ≡ Some client → session_named s l conn h.session_id ≡ None → outcome_of n s files others l conn h CallItem.TreeDisconnect ≡ (Told.Failed SmbStatus.UserSessionDeleted, [], l, s) }
     ensures refused { (n : ℕ) (s : CoreState) (files : List (List ℕ)) (others : ℕ) (l : Lists) (conn : ℕ) (h : SmbHead) (client : List ℕ) (session : ℕ) → IsInSession s l conn h client session → tree_named l conn client h session ≡ None → outcome_of n s files others l conn h CallItem.TreeDisconnect ≡ (Told.Failed SmbStatus.NetworkNameDeleted, [], l, s) }
 {}
 
 /// CLOSE of an open under the connection leaves nothing of it, and all else (MS-SMB2 3.3.5.10): of claims and waiters just
-/// those that are not the open's, of the lists the other opens, and each session and tree connect. In no session,
-/// on no tree connect of it, or of no open under the connection it is refused, and changes nothing.
+/// those that are not the open's, of the lists the other opens, and each session and tree connect; and once who waits no more is
+/// told, of the requests that wait just those that don't wait for it. In no session, on no tree connect of it, or of no open under
+/// the connection it is refused, and changes nothing.
 pub fn a_close_leaves_nothing()
     ensures told { (n : ℕ) (s : CoreState) (files : List (List ℕ)) (others : ℕ) (l : Lists) (conn : ℕ) (h : SmbHead) (client : List ℕ) (c : CloseCall) (session : ℕ) (place : Place) (number : ℕ) → IsOnTree s l conn h client session place → open_named s l conn c.file_id ≡ Some number → (outcome_of n s files others l conn h (CallItem.Close c)).0 ≡ Told.Closed }
     ensures core { (n : ℕ) (s : CoreState) (files : List (List ℕ)) (others : ℕ) (l : Lists) (conn : ℕ) (h : SmbHead) (client : List ℕ) (c : CloseCall) (session : ℕ) (place : Place) (number : ℕ) → IsOnTree s l conn h client session place → open_named s l conn c.file_id ≡ Some number → Without (number ∷ []) s (outcome_of n s files others l conn h (CallItem.Close c)).3 }
@@ -132,6 +140,7 @@ pub fn a_close_leaves_nothing()
     ensures trees { (n : ℕ) (s : CoreState) (files : List (List ℕ)) (others : ℕ) (l : Lists) (conn : ℕ) (h : SmbHead) (client : List ℕ) (c : CloseCall) (session : ℕ) (place : Place) (number : ℕ) → IsOnTree s l conn h client session place → open_named s l conn c.file_id ≡ Some number → (outcome_of n s files others l conn h (CallItem.Close c)).2.trees ≡ l.trees }
     ensures sessions { (n : ℕ) (s : CoreState) (files : List (List ℕ)) (others : ℕ) (l : Lists) (conn : ℕ) (h : SmbHead) (client : List ℕ) (c : CloseCall) (session : ℕ) (place : Place) (number : ℕ) → IsOnTree s l conn h client session place → open_named s l conn c.file_id ≡ Some number → (outcome_of n s files others l conn h (CallItem.Close c)).2.sessions ≡ l.sessions }
     ensures connections { (n : ℕ) (s : CoreState) (files : List (List ℕ)) (others : ℕ) (l : Lists) (conn : ℕ) (h : SmbHead) (client : List ℕ) (c : CloseCall) (session : ℕ) (place : Place) (number : ℕ) → IsOnTree s l conn h client session place → open_named s l conn c.file_id ≡ Some number → (outcome_of n s files others l conn h (CallItem.Close c)).2.connections ≡ l.connections }
+    ensures waiting { (n : ℕ) (s : CoreState) (files : List (List ℕ)) (others : ℕ) (l : Lists) (conn : ℕ) (h : SmbHead) (client : List ℕ) (c : CloseCall) (session : ℕ) (place : Place) (number : ℕ) → IsOnTree s l conn h client session place → open_named s l conn c.file_id ≡ Some number → IsGood s → AreDistinct l → AreAwaited s l → AreLeft (number ∷ []) l (all_dismissed (outcome_of n s files others l conn h (CallItem.Close c)).1 (outcome_of n s files others l conn h (CallItem.Close c)).2).1 }
     ensures unnamed { (n : ℕ) (s : CoreState) (files : List (List ℕ)) (others : ℕ) (l : Lists) (conn : ℕ) (h : SmbHead) (client : List ℕ) (c : CloseCall) → client_of conn l ≡ Some client → session_named s l conn h.session_id ≡ None → outcome_of n s files others l conn h (CallItem.Close c) ≡ (Told.Failed SmbStatus.UserSessionDeleted, [], l, s) }
     ensures apart { (n : ℕ) (s : CoreState) (files : List (List ℕ)) (others : ℕ) (l : Lists) (conn : ℕ) (h : SmbHead) (client : List ℕ) (c : CloseCall) (session : ℕ) → IsInSession s l conn h client session → tree_named l conn client h session ≡ None → outcome_of n s files others l conn h (CallItem.Close c) ≡ (Told.Failed SmbStatus.NetworkNameDeleted, [], l, s) }
     ensures refused { (n : ℕ) (s : CoreState) (files : List (List ℕ)) (others : ℕ) (l : Lists) (conn : ℕ) (h : SmbHead) (client : List ℕ) (c : CloseCall) (session : ℕ) (place : Place) → IsOnTree s l conn h client session place → open_named s l conn c.file_id ≡ None → outcome_of n s files others l conn h (CallItem.Close c) ≡ (Told.Failed SmbStatus.FileClosed, [], l, s) }
@@ -182,9 +191,14 @@ pub fn locked_ranges_are_held()
 {}
 
 /// LOCK of unlocks of an open that is found (MS-SMB2 3.3.5.14.1): where it is told that they are done each has taken out one
-/// range that is equal, an exclusive one before a shared one, and the lists stand.
+/// range that is equal, an exclusive one before a shared one, and the lists stand. They are done in order: where one can't be,
+/// as its flags or its range are not in order, or no range that is held is equal, it says why they fail; those before it stay
+/// unlocked, and what it and those behind it name stands. None, or more than 64, are refused, and change nothing.
 pub fn unlocked_ranges_are_given_up()
-    ensures { (n : ℕ) (s : CoreState) (files : List (List ℕ)) (others : ℕ) (l : Lists) (conn : ℕ) (h : SmbHead) (client : List ℕ) (c : LockItem) (session : ℕ) (place : Place) (number : ℕ) (row : Open) → IsOfOpen s l conn h client c.file_id session place number row → unlocks_first (elements_of c.elements) ≡ true → IsGood s → (outcome_of n s files others l conn h (CallItem.Lock c)).0 ≡ Told.Locked → (held_at (outcome_of n s files others l conn h (CallItem.Lock c)).3 (RangesOf row.file number) ≡ all_unlocked (elements_of c.elements) (held_at s (RangesOf row.file number))) × ((outcome_of n s files others l conn h (CallItem.Lock c)).2 ≡ l) }
+    ensures done { (n : ℕ) (s : CoreState) (files : List (List ℕ)) (others : ℕ) (l : Lists) (conn : ℕ) (h : SmbHead) (client : List ℕ) (c : LockItem) (session : ℕ) (place : Place) (number : ℕ) (row : Open) → IsOfOpen s l conn h client c.file_id session place number row → unlocks_first (elements_of c.elements) ≡ true → IsGood s → (outcome_of n s files others l conn h (CallItem.Lock c)).0 ≡ Told.Locked → (held_at (outcome_of n s files others l conn h (CallItem.Lock c)).3 (RangesOf row.file number) ≡ all_unlocked (elements_of c.elements) (held_at s (RangesOf row.file number))) × ((outcome_of n s files others l conn h (CallItem.Lock c)).2 ≡ l) }
+    ensures left { (n : ℕ) (s : CoreState) (files : List (List ℕ)) (others : ℕ) (l : Lists) (conn : ℕ) (h : SmbHead) (client : List ℕ) (c : LockItem) (session : ℕ) (place : Place) (number : ℕ) (row : Open) → IsOfOpen s l conn h client c.file_id session place number row → unlocks_first (elements_of c.elements) ≡ true → is_count (length (elements_of c.elements)) ≡ true → IsGood s → (held_at (outcome_of n s files others l conn h (CallItem.Lock c)).3 (RangesOf row.file number) ≡ all_unlocked (before_fault (elements_of c.elements) (held_at s (RangesOf row.file number))) (held_at s (RangesOf row.file number))) × ((outcome_of n s files others l conn h (CallItem.Lock c)).2 ≡ l) }
+    ensures told { (n : ℕ) (s : CoreState) (files : List (List ℕ)) (others : ℕ) (l : Lists) (conn : ℕ) (h : SmbHead) (client : List ℕ) (c : LockItem) (session : ℕ) (place : Place) (number : ℕ) (row : Open) → IsOfOpen s l conn h client c.file_id session place number row → unlocks_first (elements_of c.elements) ≡ true → is_count (length (elements_of c.elements)) ≡ true → IsGood s → (outcome_of n s files others l conn h (CallItem.Lock c)).0 ≡ unlocks_told (elements_of c.elements) (held_at s (RangesOf row.file number)) }
+    ensures uncounted { (n : ℕ) (s : CoreState) (files : List (List ℕ)) (others : ℕ) (l : Lists) (conn : ℕ) (h : SmbHead) (client : List ℕ) (c : LockItem) (session : ℕ) (place : Place) (number : ℕ) (row : Open) → IsOfOpen s l conn h client c.file_id session place number row → is_count (length (elements_of c.elements)) ≡ false → outcome_of n s files others l conn h (CallItem.Lock c) ≡ (Told.Failed SmbStatus.InvalidParameter, [], l, s) }
 {}
 
 /// CANCEL of a client takes out one at most who waits by its connection, tells of it, and has no reply of its own; all else

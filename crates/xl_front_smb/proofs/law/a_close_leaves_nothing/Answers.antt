@@ -3,6 +3,10 @@ use Rattle.xl_front_smb.specs.Laws.{rows_but, Without}
 use Rattle.xl_front_smb.specs.Plans.{Outcome}
 use Rattle.xl_front_smb.specs.declared.told.Told.TheVariants.{Closed}
 use Rattle.xl_front_smb.proofs.GoneLaws.{done_without, out_one, closes_open, close_lost, close_apart, close_refused}
+use Rattle.xl_smb_state.specs.State.{closed}
+use Rattle.xl_front_smb.specs.Awaits.{AreLeft}
+use Rattle.xl_front_smb.specs.Ending.{all_dismissed}
+use Rattle.xl_front_smb.proofs.KeepLaws.{same_left}
 use Rattle.xl_front_smb.proofs.law.a_close_leaves_nothing.Goals as goal
 
 pub returns-clause-told : goal.returns-clause-told
@@ -31,3 +35,7 @@ returns-clause-apart c = λ n s files others l conn h client call session named 
 
 pub returns-clause-refused : goal.returns-clause-refused
 returns-clause-refused c = λ n s files others l conn h client call session place named none. close_refused n s files others l conn h client call session place named none
+
+pub returns-clause-waiting : goal.returns-clause-waiting
+returns-clause-waiting c = λ n s files others l conn h client call session place number named at good distinct awaited.
+    closes_open n s files others l conn h client (λ (r : Outcome). AreLeft (number ∷ []) l (all_dismissed r.1 r.2).1) call session place number named at (same_left n s l good awaited (number ∷ []) (closed number l) distinct refl)

@@ -6,6 +6,11 @@ use Rattle.xl_front_smb.specs.Laws.{rows_but, Without}
 use Rattle.xl_front_smb.specs.Plans.{Outcome}
 use Rattle.xl_front_smb.specs.declared.told.Told.TheVariants.{LoggedOff}
 use Rattle.xl_front_smb.proofs.GoneLaws.{done_without, off_opens, off_trees, off_sessions, off_connections, logged_off, logoff_refused}
+use Rattle.std.proofs.Common.{◌∙◌}
+use Rattle.xl_front_smb.specs.Awaits.{AreLeft}
+use Rattle.xl_front_smb.specs.Ending.{all_closed, all_dismissed, session_gone}
+use Rattle.xl_front_smb.proofs.KeepLaws.{same_left}
+use Rattle.xl_front_smb.proofs.WaitLaws.{closed_waiting, gone_waiting}
 use Rattle.xl_front_smb.proofs.law.a_logoff_leaves_nothing.Goals as goal
 
 pub returns-clause-told : goal.returns-clause-told
@@ -28,3 +33,9 @@ returns-clause-connections c = λ n s files others l conn h client session named
 
 pub returns-clause-refused : goal.returns-clause-refused
 returns-clause-refused c = λ n s files others l conn h client known none. logoff_refused n s files others l conn h client known none
+
+pub returns-clause-waiting : goal.returns-clause-waiting
+returns-clause-waiting c = λ n s files others l conn h client session named good distinct awaited.
+    let closes = all_closed (opens_under (scope.Session session) l) l in
+    logged_off n s files others l conn h client (λ (r : Outcome). AreLeft (numbers_under (scope.Session session) l) l (all_dismissed r.1 r.2).1) session named
+    (same_left n s l good awaited (numbers_under (scope.Session session) l) (session_gone session closes) distinct (gone_waiting session closes ∙ closed_waiting (opens_under (scope.Session session) l) l))

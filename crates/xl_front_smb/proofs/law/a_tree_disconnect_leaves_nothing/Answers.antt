@@ -6,6 +6,11 @@ use Rattle.xl_front_smb.specs.Laws.{rows_but, Without}
 use Rattle.xl_front_smb.specs.Plans.{Outcome}
 use Rattle.xl_front_smb.specs.declared.told.Told.TheVariants.{Disconnected}
 use Rattle.xl_front_smb.proofs.GoneLaws.{done_without, opens_out, tree_trees, closed_sessions, closed_connections, disconnected, disconnect_lost, disconnect_refused}
+use Rattle.xl_smb_state.specs.State.{tree_dropped}
+use Rattle.xl_front_smb.specs.Awaits.{AreLeft}
+use Rattle.xl_front_smb.specs.Ending.{all_closed, all_dismissed}
+use Rattle.xl_front_smb.proofs.KeepLaws.{same_left}
+use Rattle.xl_front_smb.proofs.WaitLaws.{closed_waiting}
 use Rattle.xl_front_smb.proofs.law.a_tree_disconnect_leaves_nothing.Goals as goal
 
 pub returns-clause-told : goal.returns-clause-told
@@ -31,3 +36,8 @@ returns-clause-unnamed c = λ n s files others l conn h client known none. disco
 
 pub returns-clause-refused : goal.returns-clause-refused
 returns-clause-refused c = λ n s files others l conn h client session named none. disconnect_refused n s files others l conn h client session named none
+
+pub returns-clause-waiting : goal.returns-clause-waiting
+returns-clause-waiting c = λ n s files others l conn h client session place named good distinct awaited.
+    disconnected n s files others l conn h client (λ (r : Outcome). AreLeft (numbers_under (scope.Tree place.tree) l) l (all_dismissed r.1 r.2).1) session place named
+    (same_left n s l good awaited (numbers_under (scope.Tree place.tree) l) (tree_dropped place.tree (all_closed (opens_under (scope.Tree place.tree) l) l)) distinct (closed_waiting (opens_under (scope.Tree place.tree) l) l))

@@ -1,4 +1,5 @@
 use Rattle.xl_front_smb.proofs.GoneLaws.{end_without, end_opens, end_sessions, end_trees, end_connections}
+use Rattle.xl_front_smb.proofs.KeepLaws.{end_left, end_others}
 use Rattle.xl_front_smb.proofs.law.an_ended_connection_leaves_nothing.Goals as goal
 
 pub returns-clause-core : goal.returns-clause-core
@@ -15,3 +16,9 @@ returns-clause-trees c = λ f s conn sound distinct. end_trees f s conn sound di
 
 pub returns-clause-connections : goal.returns-clause-connections
 returns-clause-connections c = λ f s conn distinct. end_connections f s conn distinct
+
+pub returns-clause-waiting : goal.returns-clause-waiting
+returns-clause-waiting c = end_left
+
+pub returns-clause-requests : goal.returns-clause-requests
+returns-clause-requests c = end_others
