@@ -48,10 +48,10 @@ use Rattle.xl_wait.specs.Waiting.{no_rows, cancelled, is_waiting}
 use Rattle.xl_wait.specs.declared.waiter.Rooms.{Rooms}
 use Rattle.xl_wait.specs.declared.waiter.Waiter.{Waiter}
 use Rattle.xl_core.proofs.DeedLists.{deeds_good}
-use Rattle.xl_core.proofs.FrameLaws.{ask_frame, ask_quiet, made_way_frame, way_leaves}
+use Rattle.xl_core.proofs.FrameLaws.{ask_frame, ask_quiet, way_leaves}
 use Rattle.xl_core.proofs.SettleLaws.{party_waiters}
-use Rattle.xl_core.proofs.WayAsks.{ask_due, ask_there}
-use Rattle.xl_core.specs.Asking.{asked_claim, asked_claims, asked_what, asked_whats, asking_party, is_client, party_in, range_what, who_entered}
+use Rattle.xl_core.proofs.WayAsks.{ask_there}
+use Rattle.xl_core.specs.Asking.{asked_claim, asked_claims, asked_whats, asking_party, is_client, party_in, range_what, who_entered}
 use Rattle.xl_core.specs.Decide.{Answered as Asked, ask, decided, freed, plea_of, unlocked, waiter_of}
 use Rattle.xl_core.specs.Deeds.{Deed, Cancels, Draws, all_done, all_told_of, Acks}
 use Rattle.xl_core.specs.Frames.{come_by, who_left}
@@ -87,6 +87,7 @@ use Rattle.xl_front_smb.specs.State.{FrontSmb, empty_smb_front, smb_begin}
 use Rattle.xl_front_smb.specs.Texts.{file_spelled, is_share}
 use Rattle.xl_front_smb.specs.declared.told.Told.{Told as Answered}
 use Rattle.xl_front_smb.specs.declared.told.Told.TheVariants as told
+use Rattle.xl_front_smb.proofs.AskLaws.{queued_after}
 use Rattle.xl_front_smb.proofs.EndLaws.{dismissed_keeps, ended_keeps, ended_told}
 use Rattle.xl_front_smb.proofs.GoneLaws.{done_without, end_without, gone_opens, out_one, all_gone_opens}
 use Rattle.xl_front_smb.proofs.PlaceLaws.{Keeps, Stays, apart_under, begun_place, changed_place, closed_place, disconnected_place, ended_place, keeps_all, keeps_by, keeps_self, logged_off_place, same_places, tree_place, under_still}
@@ -98,7 +99,7 @@ use Rattle.xl_smb_locks.specs.Levels.{oplock_of}
 
 -- ---- rows that are taken out
 
-pub removed_in : (t : ℕ → Bool) (es : List (ℕ × Waiting)) (e : ℕ × Waiting) → IsIn e (remove_entry t es) → IsIn e es
+removed_in : (t : ℕ → Bool) (es : List (ℕ × Waiting)) (e : ℕ × Waiting) → IsIn e (remove_entry t es) → IsIn e es
 removed_in t [] e here = absurd here
 removed_in t (x ∷ es) e here =
     elim (cases_Bool (t x.0)) [
@@ -168,7 +169,7 @@ dismissed_out told (id ∷ ids) l e distinct named over here =
 
 -- ---- who waits for an open that ends
 
-pub any_self : (k : ℕ) (ks : List ℕ) → list_any (nat_eq k) ks ≡ true → IsIn k ks
+any_self : (k : ℕ) (ks : List ℕ) → list_any (nat_eq k) ks ≡ true → IsIn k ks
 any_self k [] any = absurd (false≢true any)
 any_self k (j ∷ ks) any = elim (cases_Bool (eqb k j)) [ inl same ↦ inl (equal_from k j same) | inr other ↦ inr (any_self k ks (rw other at any)) ]
 
@@ -266,8 +267,6 @@ pub record IsNew (s : CoreState) (l : Lists) (a : Ask) (number : ℕ) (row : Ope
   pub place : has_place waiting.place row.client l ≡ true
   pub free : is_some (open_of number l) ≡ false
   pub asker : (id : ℕ) (names : List Name) → AsksToOpen (asker_of a id names) number row
-  pub what : What
-  pub share : asked_what a.act ≡ Some what
 
 abbrev pub Sorts : CoreState → Lists → Plan → Type 0
 Sorts s l (Fails status) = Unit {0}
@@ -367,12 +366,12 @@ still_free k number row (x ∷ es) apart free =
       | inr other ↦ rw other (still_free k number row es apart (rw other at free))
     ]
 
-in_append : (e : ℕ × Waiting) (xs ys : List (ℕ × Waiting)) → IsIn e (xs ++ ys) → IsIn e xs ⊎ IsIn e ys
+pub in_append : {A : Type 0} (e : A) (xs ys : List A) → IsIn e (xs ++ ys) → IsIn e xs ⊎ IsIn e ys
 in_append e [] ys here = inr here
 in_append e (x ∷ xs) ys here = elim here [ inl same ↦ inl (inl same) | inr rest ↦ elim (in_append e xs ys rest) [ inl old ↦ inl (inr old) | inr new ↦ inr new ] ]
 
 -- of a request that waits the row comes behind the others
-pub with_in : (room : Bool) (id : ℕ) (row : Waiting) (l : Lists) (e : ℕ × Waiting) → IsIn e (if room then waiting_added id row l else l).waiting → IsIn e l.waiting ⊎ IsIn e ((id, row) ∷ [])
+with_in : (room : Bool) (id : ℕ) (row : Waiting) (l : Lists) (e : ℕ × Waiting) → IsIn e (if room then waiting_added id row l else l).waiting → IsIn e l.waiting ⊎ IsIn e ((id, row) ∷ [])
 with_in true id row l e here = in_append e l.waiting ((id, row) ∷ []) here
 with_in false id row l e here = inl here
 
@@ -518,12 +517,6 @@ opened_settle t s u l a number row waiting answers.StoreFailed names e queue goo
 pub drawn_awaited : (s : CoreState) (l : Lists) (e : ℕ × Waiting) → IsAwaited s l e → IsAwaited (drawn s) l e
 drawn_awaited s l e is = moved s (drawn s) l l e is (subst (λ (ws : List Waiter). IsIn is.waiter ws) (sym (drawn_waits s)) is.waits) (keeps_self l e e.1.request)
 
--- who is told to wait has a later number than those that were given out before
-queued_later : (n : ℕ) (left : Rooms) (s : CoreState) (a : Ask) (what : What) (id : ℕ) → asked_what a.act ≡ Some what → (ask n left s a).0 ≡ answers.Queued id → s.counter < id
-queued_later n left s a what id act at =
-    let due = (ask_due n left s a what (answers.Queued id) act).0 at in
-    omega (arith, due.0, (made_way_frame (plea_of left s a) (asked_claims a (asked_whats a.act) s.names) s).counter)
-
 carried_settles : (n : ℕ) (s : CoreState) (l : Lists) (plan : Plan) (e : ℕ × Waiting) → IsGood s → AreDistinct l → AreAwaited s l → Sorts s l plan → IsIn e (carried n s l plan).2.waiting → Settled l (carried n s l plan) e
 carried_settles n s l (Fails status) e good distinct all sorts here = inl (all_in (IsAwaited s l) e l.waiting all here)
 carried_settles n s l (Does deeds lists told) e good distinct all sorts here =
@@ -533,7 +526,7 @@ carried_settles n s l (Opens left a number row id waiting) e good distinct all s
     let u : CoreState = drawn s in
     let r = ask n left u a in
     inl (opened_settle r.2 s u l a number row waiting r.0 u.names e (asked_waits n left u a (deeds_good n s (Draws ∷ []) good (tt, tt)) sorts.client) good
-    (λ k at. omega (arith, sorts.next, drawn_counter s, queued_later n left u a sorts.what k sorts.share at)) sorts
+    (λ k at. omega (arith, sorts.next, drawn_counter s, queued_after n left u a k (deeds_good n s (Draws ∷ []) good (tt, tt)) sorts.client at)) sorts
     (λ x h. all_in (IsAwaited s l) x l.waiting all h) (λ x h. drawn_awaited s l x (all_in (IsAwaited s l) x l.waiting all h)) here)
 carried_settles n s l (Locks a row) e good distinct all sorts here =
     let r = ask n no_rows s a in
@@ -656,10 +649,6 @@ open_client : (conn file number : ℕ) (c : CreateCallItem) → is_client (open_
 unfolding open_ask
 open_client conn file number c = equal_self number
 
-share_act : (conn file number : ℕ) (c : CreateCallItem) → asked_what (open_ask conn file number c).act ≡ Some (whats.Share (access_of c.desired_access) (deny_of (access_of c.desired_access) c.share_access))
-unfolding open_ask
-share_act conn file number c = refl
-
 share_asked : (conn file number : ℕ) (c : CreateCallItem) (client : List ℕ) (place : Place) (id : ℕ) (names : List Name) → AsksToOpen (asker_of (open_ask conn file number c) id names) number (open_row file client place)
 unfolding open_ask
 share_asked conn file number c client place id names = record {
@@ -743,8 +732,6 @@ opens_by s others l h client place c file true there is = record {
   place = there;
   free = second (nat_lt (all_opens others l) most_opens) (is_some (open_of (s.counter + 1) l)) is;
   asker = share_asked place.connection file (s.counter + 1) c client place;
-  what = whats.Share (access_of c.desired_access) (deny_of (access_of c.desired_access) c.share_access);
-  share = share_act place.connection file (s.counter + 1) c;
 }
   where
     second : (a b : Bool) → (a && not b) ≡ true → b ≡ false

@@ -1,9 +1,9 @@
 -- Each waiter of the core that asks for claims of an SMB open has its row.
-use Rattle.std.proofs.Common.{◌≡◌, ℕ, Bool, true, false, not, ◌&&◌, if◌then◌else◌, eqb, is_some, List, [], ◌∷◌, ◌++◌, Option, Some, None, refl, sym, ap, subst, ◌∙◌, ◌⊎◌, inl, inr}
+use Rattle.std.proofs.Common.{◌≡◌, ℕ, Bool, true, false, not, ◌&&◌, if◌then◌else◌, eqb, is_some, List, [], ◌∷◌, ◌++◌, Option, Some, None, refl, sym, ap, subst, ◌∙◌, inl, inr}
 use Rattle.std.specs.Prelude.{nat_eq, nat_lt}
 use Rattle.std.specs.List.{AllByRecursion, IsDistinct, list_any}
 use Rattle.std.specs.Map.{keys_of, lookup, remove_entry}
-use Rattle.std.proofs.lemmas.Bool.{cases_Bool, true≢false, false≢true}
+use Rattle.std.proofs.lemmas.Bool.{cases_Bool, not-true, true≢false, false≢true}
 use Rattle.std.proofs.lemmas.Map.Made.{IsDistinct-keys_filter}
 use Rattle.xl_base.proofs.Members.{all_from, all_in, in_filter, in_filter_from}
 use Rattle.xl_base.specs.Lists.{IsIn}
@@ -55,7 +55,7 @@ use Rattle.xl_front_smb.specs.FrontSmb.{head_heard, plan_for, smb_shown, smb_ste
 use Rattle.xl_front_smb.specs.Laws.{waits_among}
 use Rattle.xl_front_smb.specs.Plans.{Plan, Fails, Does, Opens, Locks, carried, deeds_of, has_room_to_wait, lists_as, opened_lists}
 use Rattle.xl_front_smb.specs.State.{FrontSmb, empty_smb_front, smb_begin}
-use Rattle.xl_front_smb.proofs.AwaitLaws.{AsksFor, Sorts, Way, any_left, asked_waits, asker_of, dismissed_in, dismissed_out, drawn_awaited, drawn_waits, ended_rows, ends_tell, gone_lists, gone_rows, key_in, requested_sorts, served_rows, waits_none, waits_some}
+use Rattle.xl_front_smb.proofs.AwaitLaws.{AsksFor, Sorts, Way, any_left, asked_waits, asker_of, dismissed_in, dismissed_out, drawn_awaited, drawn_waits, ended_rows, ends_tell, gone_lists, gone_rows, in_append, key_in, requested_sorts, row_in, served_rows, waits_none, waits_some}
 use Rattle.xl_front_smb.proofs.EndLaws.{ended_told, ended_done}
 use Rattle.xl_front_smb.proofs.GoneLaws.{done_without, end_without}
 use Rattle.xl_front_smb.proofs.LeftLaws.{come_of, deed_moves, in_cancelled, moved_from, over_left, waits_still}
@@ -215,17 +215,13 @@ ask_silent n left u a k good client =
     let none : who_left told ≡ [] = ap who_left (ask_quiet n left u a good client) ∙ way_leaves (plea_of left u a) (asked_claims a (asked_whats a.act) u.names) u in
     elim (cases_Bool (over k told)) [ inl is ↦ absurd (subst (λ (ids : List ℕ). IsIn k ids) none (over_left k told is)) | inr quiet ↦ quiet ]
 
-in_either : (w : Waiter) (xs ys : List Waiter) → IsIn w (xs ++ ys) → IsIn w xs ⊎ IsIn w ys
-in_either w [] ys here = inr here
-in_either w (x ∷ xs) ys here = elim here [ inl same ↦ inl (inl same) | inr rest ↦ elim (in_either w xs ys rest) [ inl old ↦ inl (inr old) | inr new ↦ inr new ] ]
-
 ask_keeps : (n : ℕ) (left : Rooms) (u : CoreState) (a : Ask) (l m : Lists) (waiting : Waiting) → IsGood u → is_client a.owner a.party ≡ true → AsksFor a waiting.opened → AreKept u l
     → ((k : ℕ) (x : Waiting) → waiting_of k l ≡ Some x → waiting_of k m ≡ Some x) → ((id : ℕ) → (ask n left u a).0 ≡ answers.Queued id → waiting_of id m ≡ Some waiting)
     → AreKept (ask n left u a).2 (all_dismissed (ask n left u a).1 m).1
 ask_keeps n left u a l m waiting good client asks kept rows new =
     let r = ask n left u a in
     let left_then : Lists = (all_dismissed r.1 m).1 in
-    all_from (IsKept left_then) r.2.waiters (λ w here. elim (in_either w u.waiters (come_by a r.0 u.names) (subst (λ (ws : List Waiter). IsIn w ws) (asked_waits n left u a good client) here)) [
+    all_from (IsKept left_then) r.2.waiters (λ w here. elim (in_append w u.waiters (come_by a r.0 u.names) (subst (λ (ws : List Waiter). IsIn w ws) (asked_waits n left u a good client) here)) [
       | inl old ↦ kept_then r.1 l m w (ask_silent n left u a w.id good client) (λ row at. rows w.id row at) (all_in (IsKept l) w u.waiters kept old)
       | inr came ↦ kept_then r.1 m m w (ask_silent n left u a w.id good client) (λ row at. at) (new_kept m a waiting u.names w r.0 asks new came)
     ])
@@ -330,17 +326,6 @@ under_conn conn l e (request.Create made) here makes on under =
       | inr none ↦ absurd (true≢false (sym on ∙ apart_under (scope.Connection conn) l e here (ap makes_open makes) none))
     ]
 
-row_in : (id : ℕ) (es : List (ℕ × Waiting)) (row : Waiting) → lookup (nat_eq id) es ≡ Some row → (e : ℕ × Waiting) × IsIn e es × (e.1 ≡ row)
-row_in id [] row at = absurd (none_some at)
-row_in id (x ∷ es) row at =
-    elim (cases_Bool (eqb id x.0)) [
-      | inl same ↦ (let this : Some x.1 ≡ Some row = rw same at at in (x, inl refl, alike this))
-      | inr other ↦ (let later = row_in id es row (rw other at at) in (later.0, inr later.1, later.2))
-    ]
-  where
-    alike : {x y : Waiting} → Some x ≡ Some y → x ≡ y
-    alike h = cc
-
 ends_are_fit : (n : ℕ) (s : CoreState) (numbers : List ℕ) → AreFit n s (ends numbers)
 ends_are_fit n s [] = tt
 ends_are_fit n s (number ∷ numbers) = (tt, ends_are_fit n (done n s (Ends (parties.Open number))) numbers)
@@ -368,11 +353,10 @@ end_keeps f s conn good awaited kept =
         elim (cases_Bool (eqb row.place.connection conn)) [
           | inr apart ↦ apart
           | inl on ↦ (
-              let found = row_in w.id f.state.waiting row at in
-              let is = all_in (IsAwaited s f.state) found.0 f.state.waiting awaited found.1 in
-              let on_it : eqb found.0.1.place.connection conn ≡ true = subst (λ (x : Waiting). eqb x.place.connection conn ≡ true) (sym found.2) on in
-              let named = under_conn conn f.state found.0 found.0.1.request found.1 refl on_it is.under in
-              let any : list_any (nat_eq k) (numbers_under (scope.Connection conn) f.state) ≡ true = subst (λ (j : ℕ). list_any (nat_eq j) (numbers_under (scope.Connection conn) f.state) ≡ true) (ap (λ (x : Waiting). x.opened) found.2 ∙ same) named in
+              let here : IsIn (w.id, row) f.state.waiting = row_in w.id f.state.waiting row at in
+              let is = all_in (IsAwaited s f.state) (w.id, row) f.state.waiting awaited here in
+              let named = under_conn conn f.state (w.id, row) row.request here refl on is.under in
+              let any : list_any (nat_eq k) (numbers_under (scope.Connection conn) f.state) ≡ true = subst (λ (j : ℕ). list_any (nat_eq j) (numbers_under (scope.Connection conn) f.state) ≡ true) same named in
               absurd (true≢false (sym (waits_some (numbers_under (scope.Connection conn) f.state) w k asks any) ∙ among)))
         ]
 
@@ -467,14 +451,10 @@ end_left f s conn good distinct awaited =
           | inl on ↦ absurd (true≢false (sym (under_conn conn f.state e e.1.request here refl on (all_in (IsAwaited s f.state) e f.state.waiting awaited here).under) ∙ apart))
         ]
 
-not_so : (b : Bool) → not b ≡ true → b ≡ false
-not_so true h = absurd (false≢true h)
-not_so false h = refl
-
 pub end_others : (f : FrontSmb) (s : CoreState) (conn : ℕ) → AllByRecursion (λ (e : ℕ × Waiting). eqb e.1.place.connection conn ≡ false) (smb_end f s conn).1.state.waiting
 unfolding smb_end
 end_others f s conn =
     let m : Lists = gone_lists conn f.state in
     let told : List Effect = (all_ended (numbers_under (scope.Connection conn) f.state) s).0 in
     all_from (λ (e : ℕ × Waiting). eqb e.1.place.connection conn ≡ false) (all_dismissed told m).1.waiting
-    (λ e here. not_so (eqb e.1.place.connection conn) (in_filter_from (λ (x : ℕ × Waiting). not (eqb x.1.place.connection conn)) e f.state.waiting (subst (λ (es : List (ℕ × Waiting)). IsIn e es) (gone_rows conn f.state) (dismissed_in told (keys_of m.waiting) m e here))).1)
+    (λ e here. not-true (eqb e.1.place.connection conn) (in_filter_from (λ (x : ℕ × Waiting). not (eqb x.1.place.connection conn)) e f.state.waiting (subst (λ (es : List (ℕ × Waiting)). IsIn e es) (gone_rows conn f.state) (dismissed_in told (keys_of m.waiting) m e here))).1)

@@ -1,24 +1,21 @@
 -- Of one who waits still nothing told that it waits no more.
-use Rattle.std.proofs.Common.{◌≡◌, ℕ, ◌+◌, ◌<◌, ◌≤◌, arith, append-nil, Bool, true, false, not, ◌||◌, eqb, List, [], ◌∷◌, ◌++◌, Option, Some, None, refl, sym, ap, subst, ◌∙◌, ◌⊎◌, inl, inr}
+use Rattle.std.proofs.Common.{◌≡◌, ℕ, ◌+◌, ◌<◌, ◌≤◌, arith, append-nil, true, false, ◌||◌, eqb, List, [], ◌∷◌, ◌++◌, Option, Some, None, refl, sym, subst, ◌∙◌, ◌⊎◌, inl, inr}
 use Rattle.std.specs.Prelude.{IfSome}
 use Rattle.std.specs.List.{list_any}
-use Rattle.std.proofs.lemmas.Bool.{cases_Bool, true≢false, false≢true}
+use Rattle.std.proofs.lemmas.Bool.{cases_Bool, not-true, true≢false, false≢true}
 use Rattle.std.proofs.lemmas.List.Folds.{list_any-append}
 use Rattle.xl_base.proofs.Members.{all_in}
 use Rattle.xl_base.specs.Lists.{IsIn, Pairwise}
 use Rattle.xl_base.specs.declared.event.Moment.{Moment}
-use Rattle.xl_matrix.specs.declared.claim.Claim.{Claim}
 use Rattle.xl_names.specs.declared.name.Name.{Name}
 use Rattle.xl_smb_state.proofs.RowLaws.{equal_from, equal_self, unequal_both}
 use Rattle.xl_wait.specs.Waiting.{cancelled, is_waiting}
 use Rattle.xl_wait.specs.declared.waiter.Waiter.{Waiter}
-use Rattle.xl_core.proofs.ChangeLaws.{AskWay, Stays, Tests, Holds, Waits, Frees, Gives, decided_way}
 use Rattle.xl_core.proofs.DeedLaws.{deed_good}
-use Rattle.xl_core.proofs.FrameLaws.{ack_frame, advanced_ticked, ask_frame, cancel_frame, drawn_frame, end_party_frame, expire_left, give_back_frame, lapse_left, made_way_frame, turn_frame, weaken_frame}
-use Rattle.xl_core.proofs.GoodLaws.{asked_way_good, cancelled_all}
-use Rattle.xl_core.proofs.RowLaws.{is_refusal}
-use Rattle.xl_core.specs.Asking.{asked_claims, asked_whats, is_client}
-use Rattle.xl_core.specs.Decide.{Answered, ask, before_wish, decided, plea_of, way}
+use Rattle.xl_core.proofs.FrameLaws.{ack_frame, advanced_ticked, ask_frame, cancel_frame, drawn_frame, end_party_frame, expire_left, give_back_frame, lapse_left, turn_frame, weaken_frame}
+use Rattle.xl_core.proofs.GoodLaws.{cancelled_all}
+use Rattle.xl_core.specs.Asking.{is_client}
+use Rattle.xl_core.specs.Decide.{ask}
 use Rattle.xl_core.specs.Deeds.{Deed, Asks, GivesBack, Weakens, Acks, Cancels, Ends, Serves, Draws, Advances, Lapses, Renews, Expires, AreFit, IsFitDeed, all_done, all_told_of, done, given, turned}
 use Rattle.xl_core.specs.Frames.{AllLeave, IsFrame, IsTicked, calls_in, come_by, drawn_by, names_after, who_left}
 use Rattle.xl_core.specs.Good.{IsGood, IsWaiter, are_apart}
@@ -32,6 +29,8 @@ use Rattle.xl_wait.specs.declared.waiter.Rooms.{Rooms}
 use Rattle.xl_core.specs.declared.ask.Effect.{Effect}
 use Rattle.xl_core.specs.declared.ask.Effect.TheVariants as effects
 use Rattle.xl_front_smb.specs.Awaits.{ends_wait}
+use Rattle.xl_front_smb.proofs.AskLaws.{queued_after}
+use Rattle.xl_front_smb.proofs.AwaitLaws.{in_append}
 use Rattle.xl_front_smb.proofs.StayLaws.{over}
 
 -- ---- who leaves the queue
@@ -59,17 +58,13 @@ in_cancelled id (v ∷ ws) w here =
       | inr other ↦ (let there : IsIn w (v ∷ cancelled id ws) = rw other at here in elim there [ inl first ↦ inl first | inr rest ↦ inr (in_cancelled id ws w rest) ])
     ]
 
-not_equal : (b : Bool) → not b ≡ true → b ≡ false
-not_equal true h = absurd (false≢true h)
-not_equal false h = refl
-
 out_cancelled : (id : ℕ) (ws : List Waiter) (w : Waiter) → Pairwise are_apart ws → IsIn w (cancelled id ws) → eqb w.id id ≡ false
 out_cancelled id [] w apart here = absurd here
 out_cancelled id (v ∷ ws) w apart here =
     elim (cases_Bool (eqb v.id id)) [
       | inl same ↦ (
           let there : IsIn w ws = rw same at here in
-          let other : eqb v.id w.id ≡ false = not_equal (eqb v.id w.id) (all_in (λ (y : Waiter). are_apart v y ≡ true) w ws apart.0 there) in
+          let other : eqb v.id w.id ≡ false = not-true (eqb v.id w.id) (all_in (λ (y : Waiter). are_apart v y ≡ true) w ws apart.0 there) in
           unequal_both id w.id (subst (λ (k : ℕ). eqb k w.id ≡ false) (sym (equal_from v.id id same)) other))
       | inr other ↦ (let there : IsIn w (v ∷ cancelled id ws) = rw other at here in elim there [ inl first ↦ subst (λ (x : Waiter). eqb x.id id ≡ false) first other | inr rest ↦ out_cancelled id ws w apart.1 rest ])
     ]
@@ -116,27 +111,6 @@ turn_moves : (s : CoreState) (turn : Option (List Effect × CoreState)) (calls :
 turn_moves s None calls frame = record { waiters = sym (append-nil s.waiters); leave = tt; counter = omega arith; later = λ w none. absurd none }
 turn_moves s (Some r) calls frame = frame_moves s r.1 r.0 (calls r.0) s.names [] frame (λ w none. absurd none)
 
--- who is told to wait has a number that wasn't given out before
-numbered : (x y : ℕ) → answers.Queued x ≡ answers.Queued y → x ≡ y
-numbered x y e = cc
-
-not_granted : {c : Claim} {id : ℕ} → answers.Granted c ≡ answers.Queued id → ⊥
-not_granted e = cc
-
-way_number : (t : CoreState) (a : Ask) (r : Answered) (id : ℕ) → AskWay t a r → r.0 ≡ answers.Queued id → t.counter + 1 ≡ id
-way_number t a r id (Stays answer refused e) at = absurd (false≢true (ap is_refusal (sym at ∙ ap (λ (x : Answered). x.0) e) ∙ refused))
-way_number t a r id (Tests c holds e) at = absurd (not_granted (sym (ap (λ (x : Answered). x.0) e) ∙ at))
-way_number t a r id (Holds c claims is holds e) at = absurd (not_granted (sym (ap (λ (x : Answered). x.0) e) ∙ at))
-way_number t a r id (Frees c first last holds act file owner e) at = absurd (not_granted (sym (ap (λ (x : Answered). x.0) e) ∙ at))
-way_number t a r id (Gives c d holds act file owner range e) at = absurd (not_granted (sym (ap (λ (x : Answered). x.0) e) ∙ at))
-way_number t a r id (Waits c cs may blocked is holds e) at = numbered (t.counter + 1) id (sym (ap (λ (x : Answered). x.0) e) ∙ at)
-
-pub queued_after : (n : ℕ) (left : Rooms) (s : CoreState) (a : Ask) (id : ℕ) → IsGood s → is_client a.owner a.party ≡ true → (ask n left s a).0 ≡ answers.Queued id → s.counter < id
-unfolding ask before_wish
-queued_after n left s a id good client at =
-    let t = (way left s a).1 in
-    omega (arith, way_number t a (decided n left t a) id (decided_way n left t a (asked_way_good left s a good) client) at, (made_way_frame (plea_of left s a) (asked_claims a (asked_whats a.act) s.names) s).counter)
-
 come_later : (a : Ask) (answer : Answer) (names : List Name) (k : ℕ) → ((id : ℕ) → answer ≡ answers.Queued id → k < id) → (w : Waiter) → IsIn w (come_by a answer names) → k < w.id
 come_later a (answers.Queued id) names k later w here = elim here [ inl same ↦ subst (λ (x : Waiter). k < x.id) same (later id refl) | inr none ↦ absurd none ]
 come_later a (answers.Granted c) names k later w here = absurd here
@@ -176,13 +150,9 @@ deed_moves n s (Expires client) good fit = ticked_moves s (expire s client).1 (e
 
 -- ---- so it is by one call
 
-in_either : (w : Waiter) (xs ys : List Waiter) → IsIn w (xs ++ ys) → IsIn w xs ⊎ IsIn w ys
-in_either w [] ys here = inr here
-in_either w (x ∷ xs) ys here = elim here [ inl same ↦ inl (inl same) | inr rest ↦ elim (in_either w xs ys rest) [ inl old ↦ inl (inr old) | inr new ↦ inr new ] ]
-
 pub moved_from : (s t : CoreState) (told : List Effect) (come : List Waiter) (w : Waiter) → IsGood s → Moves s told t come → IsIn w t.waiters → (IsIn w s.waiters × (over w.id told ≡ false)) ⊎ IsIn w come
 moved_from s t told come w good moves here =
-    elim (in_either w (all_cancelled (who_left told) s.waiters) come (subst (λ (ws : List Waiter). IsIn w ws) moves.waiters here)) [
+    elim (in_append w (all_cancelled (who_left told) s.waiters) come (subst (λ (ws : List Waiter). IsIn w ws) moves.waiters here)) [
       | inr new ↦ inr new
       | inl old ↦ (
           let out = out_all (who_left told) s.waiters w good.apart old in

@@ -396,7 +396,7 @@ pub requested_theirs : (n : ℕ) (s : CoreState) (files : List (List ℕ)) (othe
 unfolding requested
 requested_theirs n s files others l conn bytes h = requested_by n s files others l conn (message_at bytes) (not (h.next_command == 0)) (nat_lt 18 h.command) (not (is_some (command_of h.command)))
 
-pub heard_theirs : (n : ℕ) (exports : Exports) (others : ℕ) (f : FrontSmb) (s : CoreState) (conn : ℕ) (bytes : List ℕ) (h : Option SmbHead) → AreFit n s (deeds_for exports others f s conn bytes h) × AreOwn f s conn (deeds_for exports others f s conn bytes h)
+heard_theirs : (n : ℕ) (exports : Exports) (others : ℕ) (f : FrontSmb) (s : CoreState) (conn : ℕ) (bytes : List ℕ) (h : Option SmbHead) → AreFit n s (deeds_for exports others f s conn bytes h) × AreOwn f s conn (deeds_for exports others f s conn bytes h)
 heard_theirs n exports others f s conn bytes None = (tt, tt)
 heard_theirs n exports others f s conn bytes (Some h) = requested_theirs n s exports.files others f.state conn bytes h
 
