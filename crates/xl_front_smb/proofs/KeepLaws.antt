@@ -342,10 +342,10 @@ end_keeps f s conn good awaited kept =
     let there : IsIn w (all_done 0 s (ends numbers)).waiters = subst (λ (x : CoreState). IsIn w x.waiters) (sym (ended_done 0 s numbers)) here in
     let quiet : over w.id told ≡ false = subst (λ (es : List Effect). over w.id es ≡ false) (ended_told 0 s numbers) (waits_still 0 s (ends numbers) w good (ends_are_fit 0 s numbers) there) in
     λ k asks. (
-      let is = all_in (IsKept f.state) w s.waiters kept old.0 k asks in
-      let apart : eqb is.0.place.connection conn ≡ false = elsewhere w is.0 k old.1 asks is.1 is.2 in
-      let stays : waiting_of w.id l ≡ Some is.0 = ap (λ (es : List (ℕ × Waiting)). lookup (nat_eq w.id) es) (gone_rows conn f.state) ∙ lookup_but (λ (x : ℕ × Waiting). eqb x.1.place.connection conn) w.id f.state.waiting is.0 is.1 apart in
-      (is.0, dismissed_stays told (keys_of l.waiting) l w.id is.0 (not_told w.id told quiet) stays, is.2))))
+    let is = all_in (IsKept f.state) w s.waiters kept old.0 k asks in
+    let apart : eqb is.0.place.connection conn ≡ false = elsewhere w is.0 k old.1 asks is.1 is.2 in
+    let stays : waiting_of w.id l ≡ Some is.0 = ap (λ (es : List (ℕ × Waiting)). lookup (nat_eq w.id) es) (gone_rows conn f.state) ∙ lookup_but (λ (x : ℕ × Waiting). eqb x.1.place.connection conn) w.id f.state.waiting is.0 is.1 apart in
+    (is.0, dismissed_stays told (keys_of l.waiting) l w.id is.0 (not_told w.id told quiet) stays, is.2))))
   where
     -- who stays came by another connection
     elsewhere : (w : Waiter) (row : Waiting) (k : ℕ) → waits_among (numbers_under (scope.Connection conn) f.state) w ≡ false → waits_for (parties.Open k) w ≡ true → waiting_of w.id f.state ≡ Some row → row.opened ≡ k → eqb row.place.connection conn ≡ false

@@ -156,10 +156,13 @@ moved_from s t told come w good moves here =
       | inr new ↦ inr new
       | inl old ↦ (
           let out = out_all (who_left told) s.waiters w good.apart old in
-          inl (out.0, elim (cases_Bool (over w.id told)) [
-            | inr quiet ↦ quiet
-            | inl told_so ↦ absurd (true≢false (sym (equal_self w.id) ∙ out.1 w.id (over_left w.id told told_so)))
-          ]))
+          inl (
+            out.0,
+            elim (cases_Bool (over w.id told)) [
+              | inr quiet ↦ quiet
+              | inl told_so ↦ absurd (true≢false (sym (equal_self w.id) ∙ out.1 w.id (over_left w.id told told_so)))
+            ],
+          ))
     ]
 
 -- of a number that wasn't given out nothing is told

@@ -318,9 +318,9 @@ one_gives n s file number e es true good fault is later =
     subst (λ (x : Answer). Gives n s file number (e ∷ es) (unlock_told a x rest)) (sym got.1) (
       later.0 ∙ ap (unlocks_told es) takes ∙ all.0,
       ap (λ (t : CoreState). held_at (all_done n t rest.0) (RangesOf file number)) same
-      ∙ later.1
-      ∙ ap (λ (vs : List What). all_unlocked (before_fault es vs) vs) takes
-      ∙ ap (λ (fs : List LockElement). all_unlocked fs ws) (sym all.1),
+          ∙ later.1
+          ∙ ap (λ (vs : List What). all_unlocked (before_fault es vs) vs) takes
+          ∙ ap (λ (fs : List LockElement). all_unlocked fs ws) (sym all.1),
     )
 
 next_gives : (n : ℕ) (s : CoreState) (file number : ℕ) (e : LockElement) (es : List LockElement) (o : Option SmbStatus) (next : List Deed × Locking) → unlock_fault e ≡ o → (o ≡ None → Gives n s file number (e ∷ es) next) → Gives n s file number (e ∷ es) (unlock_next o next)
