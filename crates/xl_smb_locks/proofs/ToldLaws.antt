@@ -1,11 +1,17 @@
 -- Who is told of a break, and of the end of a wait.
-use Rattle.std.proofs.Common.{◌≡◌, ℕ, Bool, true, false, [], Option, Some, None, refl, sym, ap, subst, ◌∙◌}
+use Rattle.std.proofs.Common.{◌≡◌, ℕ, Bool, true, false, not, ◌&&◌, eqb, is_some, length, List, [], ◌∷◌, ◌++◌, Option, Some, None, refl, sym, ap, subst, ◌∙◌, inl, inr}
+use Rattle.std.specs.Prelude.{nat_eq, nat_lt}
+use Rattle.std.specs.Map.{lookup}
+use Rattle.std.proofs.lemmas.Bool.{cases_Bool}
+use Rattle.xl_base.specs.declared.event.Out.{Out}
 use Rattle.xl_base.specs.declared.name.Party.{Party}
 use Rattle.xl_base.specs.declared.name.Party.TheVariants as parties
 use Rattle.xl_matrix.specs.declared.claim.CacheKind.{CacheKind}
 use Rattle.xl_matrix.specs.declared.claim.Claim.{Claim}
 use Rattle.xl_programs.specs.Sent.{sent_to}
-use Rattle.xl_smb_state.specs.State.{Lists, open_of, waiting_of, waiting_dropped}
+use Rattle.xl_smb_state.proofs.RowLaws.{equal_self, some_none}
+use Rattle.xl_smb_state.specs.Links.{most_opens}
+use Rattle.xl_smb_state.specs.State.{Lists, open_added, open_of, waiting_of, waiting_dropped}
 use Rattle.xl_smb_state.specs.declared.row.Holder.{Holder}
 use Rattle.xl_smb_state.specs.declared.row.Holder.TheVariants as holder
 use Rattle.xl_smb_state.specs.declared.row.Open.{Open}
@@ -15,11 +21,13 @@ use Rattle.xl_smb_state.specs.declared.row.Request.TheVariants as request
 use Rattle.xl_smb_state.specs.declared.row.Waiting.{Waiting}
 use Rattle.xl_core.specs.State.{CoreState}
 use Rattle.xl_core.specs.declared.ask.Answer.{Answer}
+use Rattle.xl_core.specs.declared.ask.Answer.TheVariants as answers
 use Rattle.xl_core.specs.declared.ask.Effect.TheVariants as effects
-use Rattle.xl_smb_locks.specs.Finals.{ended_with, request_ended, lock_refusal, open_refusal, may_stand, stood, opened_outs, locked_outs, served_by, served_with, request_served, told_of, IsFinal}
-use Rattle.xl_smb_locks.specs.Levels.{id_of, notice_of, noticed_by, noticed_to, noticed}
+use Rattle.xl_smb_locks.specs.Finals.{ended_with, final_outs, holder_stands, opened_reply, request_ended, lock_refusal, open_refusal, may_stand, stood, opened_outs, locked_outs, served_by, served_with, request_served, told_of, IsFinal}
+use Rattle.xl_smb_locks.specs.Levels.{id_of, level_held, notice_of, noticed_by, noticed_to, noticed}
 use Rattle.xl_smb_locks.specs.declared.status.SmbStatus.{SmbStatus}
 use Rattle.xl_smb_locks.specs.declared.status.SmbStatus.TheVariants.{Cancelled}
+use Rattle.xl_smb_locks.proofs.FinalLaws.{stand_new}
 
 -- ---- a break
 
@@ -61,3 +69,35 @@ served_final s l id answer row at = subst (λ (o : Option Waiting). IsFinal id r
 pub cancelled_final : (s : CoreState) (l : Lists) (id : ℕ) (row : Waiting) → waiting_of id l ≡ Some row → IsFinal id row l (told_of s (effects.Cancelled id) l)
 unfolding told_of request_ended
 cancelled_final s l id row at = subst (λ (o : Option Waiting). IsFinal id row l (ended_with id Cancelled o l)) (sym at) ((_, refl), refl)
+
+-- ---- a CREATE that is granted
+
+-- where a request waits no more the open may stand as before
+holder_same : (by : Holder) (client : List ℕ) (id : ℕ) (l : Lists) → holder_stands by client (waiting_dropped id l) ≡ holder_stands by client l
+holder_same (holder.Tree place) client id l = refl
+holder_same (holder.Nobody until) client id l = refl
+
+stand_same : (number id : ℕ) (made : Open) (l : Lists) → may_stand number made (waiting_dropped id l) ≡ may_stand number made l
+stand_same number id made l = ap (λ (b : Bool). nat_lt (length l.opens) most_opens && (not (is_some (open_of number l)) && b)) (holder_same made.holder made.client id l)
+
+module _ (s : CoreState) (l : Lists) (id : ℕ) (claim : Claim) (row : Waiting) (made : Open) where
+  pub granted_told : waiting_of id l ≡ Some row → row.request ≡ request.Create made → may_stand row.opened made l ≡ true
+      → told_of s (effects.Served id (answers.Granted claim)) l ≡ (final_outs row (opened_reply id row (id_of s row.opened) (level_held s made.file row.opened)), open_added row.opened made (waiting_dropped id l))
+  unfolding told_of request_served
+  granted_told at makes may =
+      ap (λ (o : Option Waiting). served_with s id (answers.Granted claim) o l) at
+      ∙ ap (λ (r : Request). served_by s id row (answers.Granted claim) r (waiting_dropped id l)) makes
+      ∙ ap (λ (b : Bool). stood s id row made b (waiting_dropped id l)) (stand_same row.opened id made l ∙ may)
+
+  pub granted_stands : waiting_of id l ≡ Some row → row.request ≡ request.Create made → may_stand row.opened made l ≡ true → open_of row.opened (told_of s (effects.Served id (answers.Granted claim)) l).1 ≡ Some made
+  granted_stands at makes may =
+      ap (λ (r : List Out × Lists). open_of row.opened r.1) (granted_told at makes may)
+      ∙ last_found row.opened made l.opens (stand_new row.opened made l may)
+    where
+      last_found : (number : ℕ) (new : Open) (es : List (ℕ × Open)) → lookup (nat_eq number) es ≡ None → lookup (nat_eq number) (es ++ (number, new) ∷ []) ≡ Some new
+      last_found number new [] none = rw (equal_self number) refl
+      last_found number new (e ∷ es) none =
+          elim (cases_Bool (eqb number e.0)) [
+            | inl here ↦ absurd (some_none (rw here at none))
+            | inr other ↦ rw other (last_found number new es (rw other at none))
+          ]

@@ -1,6 +1,6 @@
 //! Laws of opens: of their ranges, of their oplocks, and of requests that wait. The functions do nothing: their clauses are the
 //! laws.
-ghost use Rattle.std.specs.Prelude.{◌≡◌, ℕ, List, [], ◌++◌, map, Option, Some, None};
+ghost use Rattle.std.specs.Prelude.{◌≡◌, ℕ, true, List, [], ◌++◌, map, Option, Some, None};
 ghost use Rattle.xl_base.specs.declared.name.Party.TheVariants as Party;
 ghost use Rattle.xl_exact.specs.Elements.{unlocked};
 ghost use Rattle.xl_exact.specs.declared.element.Element.{Element};
@@ -9,18 +9,20 @@ ghost use Rattle.xl_matrix.specs.declared.claim.Claim.{Claim};
 ghost use Rattle.xl_matrix.specs.declared.claim.What.TheVariants.{Range};
 ghost use Rattle.xl_programs.specs.Sent.{sent_to};
 ghost use Rattle.xl_smb.specs.declared.lock.LockElement.{LockElement};
-ghost use Rattle.xl_smb_state.specs.State.{Lists, open_of, waiting_of};
+ghost use Rattle.xl_smb_state.specs.State.{Lists, open_added, open_of, waiting_dropped, waiting_of};
 ghost use Rattle.xl_smb_state.specs.declared.row.Holder.TheVariants as Holder;
 ghost use Rattle.xl_smb_state.specs.declared.row.Open.{Open};
 ghost use Rattle.xl_smb_state.specs.declared.row.Place.{Place};
+ghost use Rattle.xl_smb_state.specs.declared.row.Request.TheVariants as Request;
 ghost use Rattle.xl_smb_state.specs.declared.row.Waiting.{Waiting};
 ghost use Rattle.xl_core.specs.State.{CoreState};
 ghost use Rattle.xl_core.specs.declared.ask.Answer.{Answer};
+ghost use Rattle.xl_core.specs.declared.ask.Answer.TheVariants as Answer;
 ghost use Rattle.xl_core.specs.declared.ask.Effect.TheVariants as Effect;
 ghost use Rattle.xl_smb_locks.specs.Elements.{extent_of, is_exclusive};
 ghost use Rattle.xl_smb_locks.specs.Exactly.{what_of, element_of};
-ghost use Rattle.xl_smb_locks.specs.Finals.{told_of, IsFinal};
-ghost use Rattle.xl_smb_locks.specs.Levels.{id_of, notice_of};
+ghost use Rattle.xl_smb_locks.specs.Finals.{final_outs, may_stand, opened_reply, told_of, IsFinal};
+ghost use Rattle.xl_smb_locks.specs.Levels.{id_of, level_held, notice_of};
 ghost use Rattle.xl_table.specs.Elements.{unlocked_elements};
 
 /// What is held of an open's ranges is one list of elements, as `xl_exact` keeps it: ranges that are locked come behind the
@@ -45,4 +47,11 @@ pub fn breaks_are_told_to_holders()
 pub fn requests_have_one_final_reply()
     ensures served { (s : CoreState) (l : Lists) (id : ℕ) (answer : Answer) (row : Waiting) → waiting_of id l ≡ Some row → IsFinal id row l (told_of s (Effect.Served id answer) l) }
     ensures cancelled { (s : CoreState) (l : Lists) (id : ℕ) (row : Waiting) → waiting_of id l ≡ Some row → IsFinal id row l (told_of s (Effect.Cancelled id) l) }
+{}
+
+/// A CREATE that waited and is granted has its open, where that may stand: the open stands under its number, and its final reply
+/// is STATUS_SUCCESS, with the level of the oplock that the open has then (MS-SMB2 3.3.4.4, 2.2.14).
+pub fn granted_opens_stand()
+    ensures told { (s : CoreState) (l : Lists) (id : ℕ) (claim : Claim) (row : Waiting) (made : Open) → waiting_of id l ≡ Some row → row.request ≡ Request.Create made → may_stand row.opened made l ≡ true → told_of s (Effect.Served id (Answer.Granted claim)) l ≡ (final_outs row (opened_reply id row (id_of s row.opened) (level_held s made.file row.opened)), open_added row.opened made (waiting_dropped id l)) }
+    ensures stands { (s : CoreState) (l : Lists) (id : ℕ) (claim : Claim) (row : Waiting) (made : Open) → waiting_of id l ≡ Some row → row.request ≡ Request.Create made → may_stand row.opened made l ≡ true → open_of row.opened (told_of s (Effect.Served id (Answer.Granted claim)) l).1 ≡ Some made }
 {}
