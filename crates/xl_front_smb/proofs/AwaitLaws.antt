@@ -1,5 +1,5 @@
 -- Each request that waits in the front's lists is a waiter of the core.
-use Rattle.std.proofs.Common.{◌≡◌, ℕ, ◌+◌, Bool, true, false, not, eqb, List, [], ◌∷◌, ◌++◌, map, length, Option, Some, None, Ok, Err, Result, is_some, if◌then◌else◌, refl, sym, ap, subst, ◌∙◌, inl, inr}
+use Rattle.std.proofs.Common.{◌≡◌, ℕ, ◌+◌, ◌<◌, ◌≤◌, ◌&&◌, arith, Bool, true, false, not, eqb, List, [], ◌∷◌, ◌++◌, map, length, Option, Some, None, Ok, Err, Result, is_some, if◌then◌else◌, refl, sym, ap, subst, ◌∙◌, inl, inr}
 use Rattle.std.proofs.lemmas.Bool.{cases_Bool, true≢false, false≢true, eqb-true}
 use Rattle.std.proofs.lemmas.Map.Made.{IsDistinct-keys_filter}
 use Rattle.std.specs.Prelude.{nat_eq, ◌==◌, ◌⊎◌, nat_lt, filter}
@@ -33,9 +33,11 @@ use Rattle.xl_smb.specs.declared.fault.SmbBad.{SmbBad}
 use Rattle.xl_smb.specs.declared.file.FileId.{FileId}
 use Rattle.xl_smb.specs.declared.head.SmbHead.{SmbHead}
 use Rattle.xl_smb.specs.declared.lock.LockElement.{LockElement}
-use Rattle.xl_smb_state.proofs.RowLaws.{equal_from, equal_self, lookup_added, lookup_removed, unequal_both, none_out}
-use Rattle.xl_smb_state.specs.Links.{AreDistinct, has_place}
-use Rattle.xl_smb_state.specs.State.{Lists, client_of, closed, connection_changed, connection_of, open_of, opens_under, session_added, session_of, tree_added, sessions_on, waiting_added, waiting_of, creates_under, open_added, waiting_dropped}
+use Rattle.xl_smb_state.proofs.RowLaws.{equal_from, equal_self, lookup_added, lookup_removed, unequal_both, none_out, none_some, same_Some}
+use Rattle.xl_smb_state.specs.Links.{AreDistinct, IsSound, has_place, most_opens}
+use Rattle.xl_smb_state.specs.State.{Lists, client_of, closed, connection_added, connection_changed, connection_of, makes_open, open_of, opens_under, session_added, session_of, tree_added, sessions_on, waiting_added, waiting_of, creates_under, open_added, waiting_dropped}
+use Rattle.xl_smb_state.specs.declared.row.Connection.{Connection}
+use Rattle.xl_smb_state.specs.declared.row.Holder.TheVariants as holder
 use Rattle.xl_smb_state.specs.declared.row.Open.{Open}
 use Rattle.xl_smb_state.specs.declared.row.Place.{Place}
 use Rattle.xl_smb_state.specs.declared.row.Scope.{Scope}
@@ -46,14 +48,14 @@ use Rattle.xl_wait.specs.Waiting.{cancelled, is_waiting}
 use Rattle.xl_wait.specs.declared.waiter.Rooms.{Rooms}
 use Rattle.xl_wait.specs.declared.waiter.Waiter.{Waiter}
 use Rattle.xl_core.proofs.DeedLists.{deeds_good}
-use Rattle.xl_core.proofs.FrameLaws.{ask_frame, ask_quiet, way_leaves}
+use Rattle.xl_core.proofs.FrameLaws.{ask_frame, ask_quiet, made_way_frame, way_leaves}
 use Rattle.xl_core.proofs.SettleLaws.{party_waiters}
-use Rattle.xl_core.proofs.WayAsks.{ask_there}
-use Rattle.xl_core.specs.Asking.{asked_claims, asked_whats, asking_party, is_client, party_in, range_what, who_entered}
+use Rattle.xl_core.proofs.WayAsks.{ask_due, ask_there}
+use Rattle.xl_core.specs.Asking.{asked_claim, asked_claims, asked_what, asked_whats, asking_party, is_client, party_in, range_what, who_entered}
 use Rattle.xl_core.specs.Decide.{Answered as Asked, ask, decided, freed, plea_of, unlocked, waiter_of}
 use Rattle.xl_core.specs.Deeds.{Deed, Cancels, Draws, all_done, all_told_of, Acks}
 use Rattle.xl_core.specs.Frames.{come_by, who_left}
-use Rattle.xl_core.specs.Good.{IsGood}
+use Rattle.xl_core.specs.Good.{IsGood, IsWaiter}
 use Rattle.xl_core.specs.Settle.{all_cancelled, all_told, cancel as cancel_of, end_party, numbers_for, waits_for}
 use Rattle.xl_core.specs.State.{CoreState, drawn}
 use Rattle.xl_core.specs.declared.ask.Answer.{Answer}
@@ -70,10 +72,10 @@ use Rattle.xl_smb_locks.specs.Locks.{lock_ask, lock_told, no_rows, range_of, unl
 use Rattle.xl_smb_locks.specs.declared.locking.Locking.{Locking}
 use Rattle.xl_smb_locks.specs.declared.status.SmbStatus.{SmbStatus}
 use Rattle.xl_smb_locks.specs.declared.status.SmbStatus.TheVariants as statuses
-use Rattle.xl_front_smb.specs.Awaits.{IsUnder, AreAwaited, IsAwaited, ends_wait}
+use Rattle.xl_front_smb.specs.Awaits.{AreAwaited, AsksToOpen, IsAskerOf, IsAwaited, IsUnder, ends_wait}
 use Rattle.xl_front_smb.specs.Checks.{file_number, id_of, is_fresh, is_open_on, negotiated_by, number_in}
 use Rattle.xl_front_smb.specs.Ending.{all_closed, connection_gone, ends, smb_end, all_dismissed, all_ended, numbers_under, requests_gone}
-use Rattle.xl_front_smb.specs.Files.{acknowledge, break_by, close, close_open, create, create_on, has_room_for_open, open_as, open_ask, open_file, open_found, overwrites, access_of, ack_by, ack_level, ack_of, ack_open, deny_of, is_refused, left_at, refused_ack, taken_ack}
+use Rattle.xl_front_smb.specs.Files.{acknowledge, break_by, close, close_open, create, create_on, has_room_for_open, open_as, open_ask, open_file, open_found, open_row, overwrites, access_of, all_opens, ack_by, ack_level, ack_of, ack_open, deny_of, is_refused, left_at, refused_ack, taken_ack}
 use Rattle.xl_front_smb.specs.FrontSmb.{head_heard, plan_for, smb_shown, smb_step, stepped}
 use Rattle.xl_front_smb.specs.Laws.{rows_but, waits_among}
 use Rattle.xl_front_smb.specs.Locks.{cancel, cancel_named, lock, lock_by, lock_found, place_of, request_named, unlock_by, waiting_row}
@@ -81,12 +83,13 @@ use Rattle.xl_front_smb.specs.Owners.{is_session_on}
 use Rattle.xl_front_smb.specs.Plans.{Plan, Fails, Does, Opens, Locks, Outcome, carried, has_room_to_wait, with_waiting, lists_as, opened_lists}
 use Rattle.xl_front_smb.specs.Requests.{commanded, planned, read_as, requested}
 use Rattle.xl_front_smb.specs.Sessions.{connect, connect_as, disconnect, has_room_for_session, has_room_for_tree, logoff, negotiate, offers, session_setup, set_up_as, tree_connect, tree_disconnect}
-use Rattle.xl_front_smb.specs.State.{FrontSmb, empty_smb_front}
+use Rattle.xl_front_smb.specs.State.{FrontSmb, empty_smb_front, smb_begin}
 use Rattle.xl_front_smb.specs.Texts.{file_spelled, is_share}
 use Rattle.xl_front_smb.specs.declared.told.Told.{Told as Answered}
 use Rattle.xl_front_smb.specs.declared.told.Told.TheVariants as told
-use Rattle.xl_front_smb.proofs.EndLaws.{ended_told}
+use Rattle.xl_front_smb.proofs.EndLaws.{dismissed_keeps, ended_keeps, ended_told}
 use Rattle.xl_front_smb.proofs.GoneLaws.{done_without, end_without, gone_opens, out_one, all_gone_opens}
+use Rattle.xl_front_smb.proofs.PlaceLaws.{Keeps, Stays, apart_under, begun_place, changed_place, closed_place, disconnected_place, ended_place, keeps_all, keeps_by, keeps_self, logged_off_place, same_places, tree_place, under_still}
 use Rattle.xl_front_smb.proofs.OwnLaws.{by_client, by_open, by_session, by_tree}
 use Rattle.xl_front_smb.proofs.WaitLaws.{all_gone_waiting, closed_waiting, gone_waiting, stands_on}
 use Rattle.xl_matrix.specs.declared.claim.CacheKind.{CacheKind}
@@ -112,10 +115,10 @@ other_left k es e distinct here =
     false_of true h = absurd (false≢true h)
     false_of false h = refl
 
-still_distinct : (k : ℕ) (es : List (ℕ × Waiting)) → IsDistinct nat_eq (keys_of es) → IsDistinct nat_eq (keys_of (remove_entry (nat_eq k) es))
+pub still_distinct : (k : ℕ) (es : List (ℕ × Waiting)) → IsDistinct nat_eq (keys_of es) → IsDistinct nat_eq (keys_of (remove_entry (nat_eq k) es))
 still_distinct k es distinct = subst (λ (xs : List (ℕ × Waiting)). IsDistinct nat_eq (keys_of xs)) (sym (out_one k es distinct)) (IsDistinct-keys_filter nat_eq (λ (x : ℕ × Waiting). not (eqb k x.0)) es distinct)
 
-ended_rows : (id : ℕ) (status : SmbStatus) (l : Lists) → ((request_ended id status l).1.waiting ≡ remove_entry (nat_eq id) l.waiting) × ((request_ended id status l).1.opens ≡ l.opens)
+pub ended_rows : (id : ℕ) (status : SmbStatus) (l : Lists) → ((request_ended id status l).1.waiting ≡ remove_entry (nat_eq id) l.waiting) × ((request_ended id status l).1.opens ≡ l.opens)
 unfolding request_ended
 ended_rows id status l = by (waiting_of id l) refl
   where
@@ -191,11 +194,11 @@ waits_some (number ∷ numbers) w opened own any =
       ]
     ]
 
-any_left : {X : Type 0} (p : X → Bool) (xs ys : List X) → list_any p xs ≡ true → list_any p (xs ++ ys) ≡ true
+pub any_left : {X : Type 0} (p : X → Bool) (xs ys : List X) → list_any p xs ≡ true → list_any p (xs ++ ys) ≡ true
 any_left p [] ys any = absurd (false≢true any)
 any_left p (x ∷ xs) ys any = elim (cases_Bool (p x)) [ inl here ↦ rw here refl | inr later ↦ rw later (any_left p xs ys (rw later at any)) ]
 
-any_right : {X : Type 0} (p : X → Bool) (xs ys : List X) → list_any p ys ≡ true → list_any p (xs ++ ys) ≡ true
+pub any_right : {X : Type 0} (p : X → Bool) (xs ys : List X) → list_any p ys ≡ true → list_any p (xs ++ ys) ≡ true
 any_right p [] ys any = any
 any_right p (x ∷ xs) ys any = elim (cases_Bool (p x)) [ inl here ↦ rw here refl | inr later ↦ rw later (any_right p xs ys any) ]
 
@@ -210,7 +213,7 @@ told_all id (k ∷ ids) here =
       | inr other ↦ rw other (elim here [ inl same ↦ absurd (true≢false (sym (subst (λ (j : ℕ). eqb k j ≡ true) same (equal_self k)) ∙ other)) | inr rest ↦ told_all id ids rest ])
     ]
 
-party_told : (s : CoreState) (party : Party) (w : Waiter) → IsIn w s.waiters → waits_for party w ≡ true → is_cancelled w.id (end_party s party).0 ≡ true
+pub party_told : (s : CoreState) (party : Party) (w : Waiter) → IsIn w s.waiters → waits_for party w ≡ true → is_cancelled w.id (end_party s party).0 ≡ true
 unfolding end_party numbers_for
 party_told s party w here waits = told_all w.id (map (λ (v : Waiter). v.id) (filter (waits_for party) s.waiters)) (in_map (λ (v : Waiter). v.id) w (filter (waits_for party) s.waiters) (in_filter (waits_for party) w s.waiters here waits))
 
@@ -225,62 +228,89 @@ ends_tell n (number ∷ numbers) s w here among =
 
 -- ---- what a plan does to those who wait
 
--- nobody leaves, and no open; or those of these numbers end, and of opens no other goes; or one request is cancelled
+-- each place stays
+abbrev pub AllPlaces : Lists → Lists → Type 0
+AllPlaces l m = (place : Place) (client : List ℕ) → has_place place client l ≡ true → has_place place client m ≡ true
+
+-- the places stay of those who wait to make an open that is none of these
+abbrev pub PlacesBut : List ℕ → Lists → Lists → Type 0
+PlacesBut numbers l m = (e : ℕ × Waiting) → IsIn e l.waiting → makes_open e.1.request ≡ true → list_any (nat_eq e.1.opened) numbers ≡ false → (client : List ℕ) → has_place e.1.place client l ≡ true → has_place e.1.place client m ≡ true
+
+-- nobody leaves, and no open or place; or those of these numbers end, and of opens no other goes; or one request is cancelled
 abbrev pub Way : CoreState → Lists → List Deed → Lists → Type 0
 Way s l deeds lists =
-    (((n : ℕ) → (all_done n s deeds).waiters ≡ s.waiters) × (lists.opens ≡ l.opens))
-    ⊎ (((numbers : List ℕ) × (deeds ≡ ends numbers) × ((k : ℕ) → list_any (nat_eq k) numbers ≡ false → open_of k lists ≡ open_of k l))
+    (((n : ℕ) → (all_done n s deeds).waiters ≡ s.waiters) × (lists.opens ≡ l.opens) × AllPlaces l lists)
+    ⊎ (((numbers : List ℕ) × (deeds ≡ ends numbers) × ((k : ℕ) → list_any (nat_eq k) numbers ≡ false → open_of k lists ≡ open_of k l) × (AreDistinct l → PlacesBut numbers l lists))
     ⊎ ((id : ℕ) × (deeds ≡ Cancels id ∷ []) × (lists ≡ l)))
+
+-- who waits for this
+abbrev pub asker_of : Ask → ℕ → List Name → Waiter
+asker_of a id names = waiter_of id a (asked_claims a (asked_whats a.act) names)
 
 -- what is asked is for this open, and something
 abbrev pub AsksFor : Ask → ℕ → Type 0
-AsksFor a number = (id : ℕ) (names : List Name) → (waits_for (parties.Open number) (waiter_of id a (asked_claims a (asked_whats a.act) names)) ≡ true) × ((k : ℕ) → waits_for (parties.Open k) (waiter_of id a (asked_claims a (asked_whats a.act) names)) ≡ true → k ≡ number)
+AsksFor a number = (id : ℕ) (names : List Name) → (waits_for (parties.Open number) (asker_of a id names) ≡ true) × ((k : ℕ) → waits_for (parties.Open k) (asker_of a id names) ≡ true → k ≡ number)
 
--- a request of this row that waits for this is awaited
+-- a LOCK of this row that waits for this is awaited
 abbrev pub IsAsked : Lists → Ask → Waiting → Type 0
-IsAsked l a row = (is_client a.owner a.party ≡ true) × AsksFor a row.opened × IsUnder l row row.request
+IsAsked l a row = (is_client a.owner a.party ≡ true) × AsksFor a row.opened × (row.request ≡ request.Lock) × (is_open_on row.place.connection (open_of row.opened l) ≡ true)
+
+-- the open of the next number, which none has yet, is asked for at a place that is there
+pub record IsNew (s : CoreState) (l : Lists) (a : Ask) (number : ℕ) (row : Open) (waiting : Waiting) : Type 0 where
+  pub client : is_client a.owner a.party ≡ true
+  pub asks : AsksFor a waiting.opened
+  pub opened : waiting.opened ≡ number
+  pub next : number ≡ s.counter + 1
+  pub makes : waiting.request ≡ request.Create row
+  pub held : row.holder ≡ holder.Tree waiting.place
+  pub place : has_place waiting.place row.client l ≡ true
+  pub free : is_some (open_of number l) ≡ false
+  pub asker : (id : ℕ) (names : List Name) → AsksToOpen (asker_of a id names) number row
+  pub what : What
+  pub share : asked_what a.act ≡ Some what
 
 abbrev pub Sorts : CoreState → Lists → Plan → Type 0
 Sorts s l (Fails status) = Unit {0}
 Sorts s l (Does deeds lists told) = (lists.waiting ≡ l.waiting) × Way s l deeds lists
-Sorts s l (Opens left a number row id waiting) = IsAsked l a waiting
+Sorts s l (Opens left a number row id waiting) = IsNew s l a number row waiting
 Sorts s l (Locks a row) = IsAsked l a row
 
 -- a row is awaited, or is told to wait no more
 abbrev Settled : Lists → Outcome → ℕ × Waiting → Type 0
 Settled l r e = IsAwaited r.3 r.2 e ⊎ ((is_cancelled e.0 r.1 ≡ true) × (r.2.waiting ≡ l.waiting))
 
--- an open that stands on a connection stays there
-abbrev Stays : ℕ → Lists → Lists → Type 0
-Stays k l m = (c : ℕ) → is_open_on c (open_of k l) ≡ true → is_open_on c (open_of k m) ≡ true
-
 same_stays : (k : ℕ) (l m : Lists) → open_of k m ≡ open_of k l → Stays k l m
 same_stays k l m same = λ c on. ap (is_open_on c) same ∙ on
 
-opens_same : (k : ℕ) (l m : Lists) → m.opens ≡ l.opens → Stays k l m
-opens_same k l m same = same_stays k l m (ap (λ (es : List (ℕ × Open)). lookup (nat_eq k) es) same)
+pub moved : (s t : CoreState) (l m : Lists) (e : ℕ × Waiting) (is : IsAwaited s l e) → IsIn is.waiter t.waiters → Keeps l m e e.1.request → IsAwaited t m e
+moved s t l m e is stays keeps = record { waiter = is.waiter; waits = stays; number = is.number; own = is.own; alone = is.alone; asker = is.asker; under = under_still l m e e.1.request keeps is.under }
 
-under_still : (l m : Lists) (row : Waiting) (r : Request) → Stays row.opened l m → IsUnder l row r → IsUnder m row r
-under_still l m row request.Lock stays on = stays row.place.connection on
-under_still l m row (request.Create made) stays on = tt
+-- rows that were there
+in_same : (l m : Lists) (x : ℕ × Waiting) → m.waiting ≡ l.waiting → IsIn x m.waiting → IsIn x l.waiting
+in_same l m x same here = subst (λ (es : List (ℕ × Waiting)). IsIn x es) same here
 
-moved : (s t : CoreState) (l m : Lists) (e : ℕ × Waiting) (is : IsAwaited s l e) → IsIn is.waiter t.waiters → Stays e.1.opened l m → IsAwaited t m e
-moved s t l m e is stays same = record { waiter = is.waiter; waits = stays; number = is.number; own = is.own; alone = is.alone; under = under_still l m e.1 e.1.request same is.under }
+-- where of the opens none but those of these numbers went
+keeps_but : (numbers : List ℕ) (l m : Lists) (e : ℕ × Waiting) → IsIn e l.waiting → open_of e.1.opened m ≡ open_of e.1.opened l → list_any (nat_eq e.1.opened) numbers ≡ false → PlacesBut numbers l m
+    → ((x : ℕ × Waiting) → IsIn x m.waiting → IsIn x l.waiting) → Keeps l m e e.1.request
+keeps_but numbers l m e here same apart places rows =
+    keeps_by l m e e.1.request (same_stays e.1.opened l m same)
+    (λ makes. record { places = places e here makes apart; opens = λ free. ap (λ (o : Option Open). is_some o) same ∙ free; rows = λ x there m s. rows x there })
 
 key_in : (es : List (ℕ × Waiting)) (e : ℕ × Waiting) → IsIn e es → IsIn e.0 (keys_of es)
 key_in [] e here = absurd here
 key_in (x ∷ es) e here = elim here [ inl same ↦ inl (ap (λ (y : ℕ × Waiting). y.0) same) | inr rest ↦ inr (key_in es e rest) ]
 
-ending_settles : (n : ℕ) (s : CoreState) (l lists : Lists) (answer : Answered) (numbers : List ℕ) (e : ℕ × Waiting) → lists.waiting ≡ l.waiting → ((k : ℕ) → list_any (nat_eq k) numbers ≡ false → open_of k lists ≡ open_of k l) → IsAwaited s l e → Settled l (answer, all_told_of n s (ends numbers), lists, all_done n s (ends numbers)) e
-ending_settles n s l lists answer numbers e same opens is =
+ending_settles : (n : ℕ) (s : CoreState) (l lists : Lists) (answer : Answered) (numbers : List ℕ) (e : ℕ × Waiting) → IsIn e l.waiting → lists.waiting ≡ l.waiting → ((k : ℕ) → list_any (nat_eq k) numbers ≡ false → open_of k lists ≡ open_of k l) → PlacesBut numbers l lists → IsAwaited s l e
+    → Settled l (answer, all_told_of n s (ends numbers), lists, all_done n s (ends numbers)) e
+ending_settles n s l lists answer numbers e here same opens places is =
     elim (cases_Bool (list_any (nat_eq e.1.opened) numbers)) [
       | inl gone ↦ (
           let over : is_cancelled is.waiter.id (all_told_of n s (ends numbers)) ≡ true = ends_tell n numbers s is.waiter is.waits (waits_some numbers is.waiter e.1.opened is.own gone) in
           inr (subst (λ (k : ℕ). is_cancelled k (all_told_of n s (ends numbers)) ≡ true) is.number over, same))
-      | inr stays ↦ inl (moved s (all_done n s (ends numbers)) l lists e is (((done_without n numbers s).waiters is.waiter).1 (is.waits, waits_none numbers is.waiter e.1.opened is.alone stays)) (same_stays e.1.opened l lists (opens e.1.opened stays)))
+      | inr stays ↦ inl (moved s (all_done n s (ends numbers)) l lists e is (((done_without n numbers s).waiters is.waiter).1 (is.waits, waits_none numbers is.waiter e.1.opened is.alone stays)) (keeps_but numbers l lists e here (opens e.1.opened stays) stays places (λ x there. in_same l lists x same there)))
     ]
 
-cancelled_in : (id : ℕ) (ws : List Waiter) (w : Waiter) → IsIn w ws → eqb w.id id ≡ false → IsIn w (cancelled id ws)
+pub cancelled_in : (id : ℕ) (ws : List Waiter) (w : Waiter) → IsIn w ws → eqb w.id id ≡ false → IsIn w (cancelled id ws)
 cancelled_in id [] w here other = absurd here
 cancelled_in id (v ∷ ws) w here other =
     elim (cases_Bool (eqb v.id id)) [
@@ -295,15 +325,15 @@ cancel_settles n s l id answer e is =
       | inl same ↦ (let over : is_cancelled e.0 (effects.Cancelled id ∷ []) ≡ true = rw same refl in inr (over, refl))
       | inr other ↦ (
           let apart : eqb is.waiter.id id ≡ false = subst (λ (k : ℕ). eqb k id ≡ false) (sym is.number) (unequal_both id e.0 other) in
-          inl (moved s (cancel_of s id).1 l l e is (cancelled_in id s.waiters is.waiter is.waits apart) (opens_same e.1.opened l l refl)))
+          inl (moved s (cancel_of s id).1 l l e is (cancelled_in id s.waiters is.waiter is.waits apart) (keeps_self l e e.1.request)))
     ]
 
-way_settles : (n : ℕ) (s : CoreState) (l lists : Lists) (deeds : List Deed) (answer : Answered) (e : ℕ × Waiting) → lists.waiting ≡ l.waiting → Way s l deeds lists → IsAwaited s l e → Settled l (answer, all_told_of n s deeds, lists, all_done n s deeds) e
-way_settles n s l lists deeds answer e same way is =
+way_settles : (n : ℕ) (s : CoreState) (l lists : Lists) (deeds : List Deed) (answer : Answered) (e : ℕ × Waiting) → AreDistinct l → IsIn e l.waiting → lists.waiting ≡ l.waiting → Way s l deeds lists → IsAwaited s l e → Settled l (answer, all_told_of n s deeds, lists, all_done n s deeds) e
+way_settles n s l lists deeds answer e distinct here same way is =
     elim way [
-      | inl stays ↦ inl (moved s (all_done n s deeds) l lists e is (subst (λ (ws : List Waiter). IsIn is.waiter ws) (sym (stays.0 n)) is.waits) (opens_same e.1.opened l lists stays.1))
+      | inl stays ↦ inl (moved s (all_done n s deeds) l lists e is (subst (λ (ws : List Waiter). IsIn is.waiter ws) (sym (stays.0 n)) is.waits) (keeps_all l lists e e.1.request stays.1 (stays.2 e.1.place) (λ x there makes at. in_same l lists x same there)))
       | inr more ↦ elim more [
-        | inl ending ↦ subst (λ (ds : List Deed). Settled l (answer, all_told_of n s ds, lists, all_done n s ds) e) (sym ending.1) (ending_settles n s l lists answer ending.0 e same ending.2 is)
+        | inl ending ↦ subst (λ (ds : List Deed). Settled l (answer, all_told_of n s ds, lists, all_done n s ds) e) (sym ending.1) (ending_settles n s l lists answer ending.0 e here same ending.2 (ending.3 distinct) is)
         | inr one ↦
             subst (λ (ds : List Deed). Settled l (answer, all_told_of n s ds, lists, all_done n s ds) e) (sym one.1)
             (subst (λ (m : Lists). Settled l (answer, all_told_of n s (Cancels one.0 ∷ []), m, all_done n s (Cancels one.0 ∷ [])) e) (sym one.2) (cancel_settles n s l one.0 answer e is))
@@ -320,9 +350,22 @@ drawn_waits : (s : CoreState) → (drawn s).waiters ≡ s.waiters
 unfolding drawn
 drawn_waits s = refl
 
+drawn_counter : (s : CoreState) → (drawn s).counter ≡ s.counter + 1
+unfolding drawn
+drawn_counter s = refl
+
 still_open : (c k number : ℕ) (row : Open) (es : List (ℕ × Open)) (o : Option Open) → lookup (nat_eq k) es ≡ o → is_open_on c o ≡ true → is_open_on c (lookup (nat_eq k) (es ++ (number, row) ∷ [])) ≡ true
 still_open c k number row es None at on = absurd (false≢true on)
 still_open c k number row es (Some x) at on = ap (is_open_on c) (lookup_added (nat_eq k) es ((number, row) ∷ []) x at) ∙ on
+
+-- no open of another number comes with it
+still_free : (k number : ℕ) (row : Open) (es : List (ℕ × Open)) → eqb k number ≡ false → is_some (lookup (nat_eq k) es) ≡ false → is_some (lookup (nat_eq k) (es ++ (number, row) ∷ [])) ≡ false
+still_free k number row [] apart free = rw apart refl
+still_free k number row (x ∷ es) apart free =
+    elim (cases_Bool (eqb k x.0)) [
+      | inl here ↦ (let f : true ≡ false = rw here at free in absurd (true≢false f))
+      | inr other ↦ rw other (still_free k number row es apart (rw other at free))
+    ]
 
 in_append : (e : ℕ × Waiting) (xs ys : List (ℕ × Waiting)) → IsIn e (xs ++ ys) → IsIn e xs ⊎ IsIn e ys
 in_append e [] ys here = inr here
@@ -337,15 +380,38 @@ with_opens : (room : Bool) (id : ℕ) (row : Waiting) (l : Lists) → (if room t
 with_opens true id row l = refl
 with_opens false id row l = refl
 
+with_places : (room : Bool) (id : ℕ) (row : Waiting) (l : Lists) → AllPlaces l (if room then waiting_added id row l else l)
+with_places true id row l place client here = here
+with_places false id row l place client here = here
+
+-- what keeps the others once a request came that makes no open, or one of another number
+others_kept : (l : Lists) (id : ℕ) (row : Waiting) (e : ℕ × Waiting) → (makes_open e.1.request ≡ true → makes_open row.request ≡ true → row.opened ≡ e.1.opened → ⊥) → Keeps l (with_waiting id row l) e e.1.request
+others_kept l id row e apart =
+    let room : Bool = has_room_to_wait l id in
+    let m : Lists = with_waiting id row l in
+    let same : open_of e.1.opened m ≡ open_of e.1.opened l = ap (λ (es : List (ℕ × Open)). lookup (nat_eq e.1.opened) es) (with_opens room id row l) in
+    keeps_by l m e e.1.request (same_stays e.1.opened l m same) (λ makes. record {
+      places = with_places room id row l e.1.place;
+      opens = λ free. ap (λ (o : Option Open). is_some o) same ∙ free;
+      rows = λ x here makes_too at. elim (with_in room id row l x here) [
+        | inl old ↦ old
+        | inr came ↦ elim came [
+          | inl is_new ↦ absurd (apart makes (ap (λ (y : ℕ × Waiting). makes_open y.1.request) is_new ∙ makes_too) (ap (λ (y : ℕ × Waiting). y.1.opened) is_new ∙ at))
+          | inr none ↦ absurd none
+        ]
+      ];
+    })
+
 -- who waited still does, and so does the request that comes
-queued_settle : (t s : CoreState) (l : Lists) (a : Ask) (row : Waiting) (id : ℕ) (names : List Name) (e : ℕ × Waiting) → t.waiters ≡ s.waiters ++ come_by a (answers.Queued id) names → IsAsked l a row → ((x : ℕ × Waiting) → IsIn x l.waiting → IsAwaited s l x) → IsIn e (with_waiting id row l).waiting → IsAwaited t (with_waiting id row l) e
-queued_settle t s l a row id names e queue asks all here =
-    let new : Waiter = waiter_of id a (asked_claims a (asked_whats a.act) names) in
-    let is_new = asks.1 id names in
+queued_settle : (t s : CoreState) (l : Lists) (a : Ask) (row : Waiting) (id : ℕ) (names : List Name) (e : ℕ × Waiting) → t.waiters ≡ s.waiters ++ come_by a (answers.Queued id) names → AsksFor a row.opened → ((x : ℕ × Waiting) → IsIn x l.waiting → IsAwaited s l x)
+    → ((x : ℕ × Waiting) → IsIn x l.waiting → Keeps l (with_waiting id row l) x x.1.request) → IsAskerOf (asker_of a id names) row.opened row.request → IsUnder (with_waiting id row l) (id, row) row.request
+    → IsIn e (with_waiting id row l).waiting → IsAwaited t (with_waiting id row l) e
+queued_settle t s l a row id names e queue asks all kept asker under here =
+    let new : Waiter = asker_of a id names in
+    let is_new = asks id names in
     let left : Lists = with_waiting id row l in
-    let opens : left.opens ≡ l.opens = with_opens (has_room_to_wait l id) id row l in
     elim (with_in (has_room_to_wait l id) id row l e here) [
-      | inl old ↦ (let is = all e old in moved s t l left e is (subst (λ (ws : List Waiter). IsIn is.waiter ws) (sym queue) (in_append_left is.waiter s.waiters (new ∷ []) is.waits)) (opens_same e.1.opened l left opens))
+      | inl old ↦ (let is = all e old in moved s t l left e is (subst (λ (ws : List Waiter). IsIn is.waiter ws) (sym queue) (in_append_left is.waiter s.waiters (new ∷ []) is.waits)) (kept e old))
       | inr came ↦ elim came [
         | inl same ↦ subst (λ (x : ℕ × Waiting). IsAwaited t left x) same (record {
           waiter = new;
@@ -353,21 +419,66 @@ queued_settle t s l a row id names e queue asks all here =
           number = refl;
           own = is_new.0;
           alone = is_new.1;
-          under = under_still l left row row.request (opens_same row.opened l left opens) asks.2;
+          asker = asker;
+          under = under;
         })
         | inr none ↦ absurd none
       ]
     ]
 
+-- a LOCK that comes makes no open
+lock_queued : (t s : CoreState) (l : Lists) (a : Ask) (row : Waiting) (id : ℕ) (names : List Name) (e : ℕ × Waiting) → t.waiters ≡ s.waiters ++ come_by a (answers.Queued id) names → IsAsked l a row → ((x : ℕ × Waiting) → IsIn x l.waiting → IsAwaited s l x)
+    → IsIn e (with_waiting id row l).waiting → IsAwaited t (with_waiting id row l) e
+lock_queued t s l a row id names e queue asks all here =
+    let m : Lists = with_waiting id row l in
+    queued_settle t s l a row id names e queue asks.1 all (λ x old. others_kept l id row x (λ makes made same. true≢false (sym made ∙ ap makes_open asks.2)))
+    (subst (λ (r : Request). IsAskerOf (asker_of a id names) row.opened r) (sym asks.2) tt)
+    (subst (λ (r : Request). IsUnder m (id, row) r) (sym asks.2) (ap (λ (es : List (ℕ × Open)). is_open_on row.place.connection (lookup (nat_eq row.opened) es)) (with_opens (has_room_to_wait l id) id row l) ∙ asks.3))
+    here
+
+-- an open that waits to be made has a number below the last that was given out
+made_before : (s : CoreState) (l : Lists) (e : ℕ × Waiting) → IsGood s → IsAwaited s l e → makes_open e.1.request ≡ true → e.1.opened < s.counter
+made_before s l e good is makes =
+    let known : is.waiter.id ≤ s.counter = (all_in (IsWaiter s.names s.counter) is.waiter s.waiters good.waiters is.waits).0 in
+    omega (arith, by e.1.request makes is.under, is.number, known)
+  where
+    by : (r : Request) → makes_open r ≡ true → IsUnder l e r → e.1.opened < e.0
+    by request.Lock makes under = absurd (false≢true makes)
+    by (request.Create made) makes under = under.earlier
+
+-- nor has it the next one
+not_next : (s : CoreState) (l : Lists) (e : ℕ × Waiting) (number : ℕ) → IsGood s → IsAwaited s l e → makes_open e.1.request ≡ true → number ≡ s.counter + 1 → number ≡ e.1.opened → ⊥
+not_next s l e number good is makes next same = absurd (omega (arith, made_before s l e good is makes, next, same))
+
+-- a CREATE that comes waits to make the open of the next number
+create_queued : (t s u : CoreState) (l : Lists) (a : Ask) (number : ℕ) (row : Open) (waiting : Waiting) (id : ℕ) (names : List Name) (e : ℕ × Waiting) → t.waiters ≡ u.waiters ++ come_by a (answers.Queued id) names → IsGood s → number < id → IsNew s l a number row waiting
+    → ((x : ℕ × Waiting) → IsIn x l.waiting → IsAwaited s l x) → ((x : ℕ × Waiting) → IsIn x l.waiting → IsAwaited u l x) → IsIn e (with_waiting id waiting l).waiting → IsAwaited t (with_waiting id waiting l) e
+create_queued t s u l a number row waiting id names e queue good later new before all here =
+    let m : Lists = with_waiting id waiting l in
+    let room : Bool = has_room_to_wait l id in
+    queued_settle t u l a waiting id names e queue new.asks all (λ x old. others_kept l id waiting x (λ makes made same. not_next s l x number good (before x old) makes new.next (sym new.opened ∙ same)))
+    (subst (λ (r : Request). IsAskerOf (asker_of a id names) waiting.opened r) (sym new.makes) (subst (λ (k : ℕ). AsksToOpen (asker_of a id names) k row) (sym new.opened) (new.asker id names)))
+    (subst (λ (r : Request). IsUnder m (id, waiting) r) (sym new.makes) (record {
+      held = new.held;
+      place = with_places room id waiting l waiting.place row.client new.place;
+      free = ap (λ (es : List (ℕ × Open)). is_some (lookup (nat_eq waiting.opened) es)) (with_opens room id waiting l) ∙ ap (λ (k : ℕ). is_some (open_of k l)) new.opened ∙ new.free;
+      earlier = subst (λ (k : ℕ). k < id) (sym new.opened) later;
+      single = λ x there makes same. elim (with_in room id waiting l x there) [
+        | inl old ↦ absurd (not_next s l x number good (before x old) makes new.next (sym new.opened ∙ sym same))
+        | inr came ↦ elim came [ inl is_new ↦ ap (λ (y : ℕ × Waiting). y.0) (sym is_new) | inr none ↦ absurd none ]
+      ];
+    }))
+    here
+
 -- nobody comes, and of opens none goes
-kept_settle : (t s : CoreState) (l m : Lists) (a : Ask) (answer : Answer) (names : List Name) (e : ℕ × Waiting) → t.waiters ≡ s.waiters ++ come_by a answer names → Stays e.1.opened l m → IsAwaited s l e → IsAwaited t m e
+kept_settle : (t s : CoreState) (l m : Lists) (a : Ask) (answer : Answer) (names : List Name) (e : ℕ × Waiting) → t.waiters ≡ s.waiters ++ come_by a answer names → Keeps l m e e.1.request → IsAwaited s l e → IsAwaited t m e
 kept_settle t s l m a answer names e queue stays is = moved s t l m e is (subst (λ (ws : List Waiter). IsIn is.waiter ws) (sym queue) (in_append_left is.waiter s.waiters (come_by a answer names) is.waits)) stays
 
 still_waits : (t s : CoreState) (l : Lists) (a : Ask) (answer : Answer) (names : List Name) (e : ℕ × Waiting) → t.waiters ≡ s.waiters ++ come_by a answer names → IsAwaited s l e → IsAwaited t l e
-still_waits t s l a answer names e queue is = kept_settle t s l l a answer names e queue (opens_same e.1.opened l l refl) is
+still_waits t s l a answer names e queue is = kept_settle t s l l a answer names e queue (keeps_self l e e.1.request) is
 
 locked_settle : (t s : CoreState) (l : Lists) (a : Ask) (row : Waiting) (answer : Answer) (names : List Name) (e : ℕ × Waiting) → t.waiters ≡ s.waiters ++ come_by a answer names → IsAsked l a row → ((x : ℕ × Waiting) → IsIn x l.waiting → IsAwaited s l x) → IsIn e (lists_as row l (lock_told answer)).waiting → IsAwaited t (lists_as row l (lock_told answer)) e
-locked_settle t s l a row (answers.Queued id) names e queue asks all here = queued_settle t s l a row id names e queue asks all here
+locked_settle t s l a row (answers.Queued id) names e queue asks all here = lock_queued t s l a row id names e queue asks all here
 locked_settle t s l a row (answers.Granted c) names e queue asks all here = still_waits t s l a (answers.Granted c) names e queue (all e here)
 locked_settle t s l a row (answers.Conflict c) names e queue asks all here = still_waits t s l a (answers.Conflict c) names e queue (all e here)
 locked_settle t s l a row (answers.Recall c) names e queue asks all here = still_waits t s l a (answers.Recall c) names e queue (all e here)
@@ -378,35 +489,66 @@ locked_settle t s l a row (answers.Full limit) names e queue asks all here = sti
 locked_settle t s l a row answers.NotHeld names e queue asks all here = still_waits t s l a answers.NotHeld names e queue (all e here)
 locked_settle t s l a row answers.StoreFailed names e queue asks all here = still_waits t s l a answers.StoreFailed names e queue (all e here)
 
-opened_settle : (t s : CoreState) (l : Lists) (a : Ask) (number : ℕ) (row : Open) (waiting : Waiting) (answer : Answer) (names : List Name) (e : ℕ × Waiting) → t.waiters ≡ s.waiters ++ come_by a answer names → IsAsked l a waiting → ((x : ℕ × Waiting) → IsIn x l.waiting → IsAwaited s l x) → IsIn e (opened_lists l number row waiting answer).waiting → IsAwaited t (opened_lists l number row waiting answer) e
-opened_settle t s l a number row waiting (answers.Granted c) names e queue asks all here = kept_settle t s l (open_added number row l) a (answers.Granted c) names e queue (λ k on. still_open k e.1.opened number row l.opens (open_of e.1.opened l) refl on) (all e here)
-opened_settle t s l a number row waiting (answers.Queued id) names e queue asks all here = queued_settle t s l a waiting id names e queue asks all here
-opened_settle t s l a number row waiting (answers.Conflict c) names e queue asks all here = still_waits t s l a (answers.Conflict c) names e queue (all e here)
-opened_settle t s l a number row waiting (answers.Recall c) names e queue asks all here = still_waits t s l a (answers.Recall c) names e queue (all e here)
-opened_settle t s l a number row waiting (answers.Grace until) names e queue asks all here = still_waits t s l a (answers.Grace until) names e queue (all e here)
-opened_settle t s l a number row waiting (answers.NoGrace clock) names e queue asks all here = still_waits t s l a (answers.NoGrace clock) names e queue (all e here)
-opened_settle t s l a number row waiting answers.NotRecorded names e queue asks all here = still_waits t s l a answers.NotRecorded names e queue (all e here)
-opened_settle t s l a number row waiting (answers.Full limit) names e queue asks all here = still_waits t s l a (answers.Full limit) names e queue (all e here)
-opened_settle t s l a number row waiting answers.NotHeld names e queue asks all here = still_waits t s l a answers.NotHeld names e queue (all e here)
-opened_settle t s l a number row waiting answers.StoreFailed names e queue asks all here = still_waits t s l a answers.StoreFailed names e queue (all e here)
+-- the open of the next number stands beside those that wait to be made
+stood_beside : (s : CoreState) (l : Lists) (number : ℕ) (row : Open) (e : ℕ × Waiting) → IsGood s → number ≡ s.counter + 1 → IsAwaited s l e → Keeps l (open_added number row l) e e.1.request
+stood_beside s l number row e good next is =
+    keeps_by l (open_added number row l) e e.1.request (λ k on. still_open k e.1.opened number row l.opens (open_of e.1.opened l) refl on) (λ makes. record {
+      places = λ client here. here;
+      opens = λ free. still_free e.1.opened number row l.opens (apart (eqb e.1.opened number) refl makes) free;
+      rows = λ x here m at. here;
+    })
+  where
+    apart : (b : Bool) → eqb e.1.opened number ≡ b → makes_open e.1.request ≡ true → eqb e.1.opened number ≡ false
+    apart false at makes = at
+    apart true at makes = absurd (not_next s l e number good is makes next (equal_from e.1.opened number at))
+
+opened_settle : (t s u : CoreState) (l : Lists) (a : Ask) (number : ℕ) (row : Open) (waiting : Waiting) (answer : Answer) (names : List Name) (e : ℕ × Waiting) → t.waiters ≡ u.waiters ++ come_by a answer names → IsGood s → ((id : ℕ) → answer ≡ answers.Queued id → number < id) → IsNew s l a number row waiting
+    → ((x : ℕ × Waiting) → IsIn x l.waiting → IsAwaited s l x) → ((x : ℕ × Waiting) → IsIn x l.waiting → IsAwaited u l x) → IsIn e (opened_lists l number row waiting answer).waiting → IsAwaited t (opened_lists l number row waiting answer) e
+opened_settle t s u l a number row waiting (answers.Granted c) names e queue good later new before all here = kept_settle t u l (open_added number row l) a (answers.Granted c) names e queue (stood_beside s l number row e good new.next (before e here)) (all e here)
+opened_settle t s u l a number row waiting (answers.Queued id) names e queue good later new before all here = create_queued t s u l a number row waiting id names e queue good (later id refl) new before all here
+opened_settle t s u l a number row waiting (answers.Conflict c) names e queue good later new before all here = still_waits t u l a (answers.Conflict c) names e queue (all e here)
+opened_settle t s u l a number row waiting (answers.Recall c) names e queue good later new before all here = still_waits t u l a (answers.Recall c) names e queue (all e here)
+opened_settle t s u l a number row waiting (answers.Grace until) names e queue good later new before all here = still_waits t u l a (answers.Grace until) names e queue (all e here)
+opened_settle t s u l a number row waiting (answers.NoGrace clock) names e queue good later new before all here = still_waits t u l a (answers.NoGrace clock) names e queue (all e here)
+opened_settle t s u l a number row waiting answers.NotRecorded names e queue good later new before all here = still_waits t u l a answers.NotRecorded names e queue (all e here)
+opened_settle t s u l a number row waiting (answers.Full limit) names e queue good later new before all here = still_waits t u l a (answers.Full limit) names e queue (all e here)
+opened_settle t s u l a number row waiting answers.NotHeld names e queue good later new before all here = still_waits t u l a answers.NotHeld names e queue (all e here)
+opened_settle t s u l a number row waiting answers.StoreFailed names e queue good later new before all here = still_waits t u l a answers.StoreFailed names e queue (all e here)
 
 drawn_awaited : (s : CoreState) (l : Lists) (e : ℕ × Waiting) → IsAwaited s l e → IsAwaited (drawn s) l e
-drawn_awaited s l e is = moved s (drawn s) l l e is (subst (λ (ws : List Waiter). IsIn is.waiter ws) (sym (drawn_waits s)) is.waits) (opens_same e.1.opened l l refl)
+drawn_awaited s l e is = moved s (drawn s) l l e is (subst (λ (ws : List Waiter). IsIn is.waiter ws) (sym (drawn_waits s)) is.waits) (keeps_self l e e.1.request)
 
-carried_settles : (n : ℕ) (s : CoreState) (l : Lists) (plan : Plan) (e : ℕ × Waiting) → IsGood s → AreAwaited s l → Sorts s l plan → IsIn e (carried n s l plan).2.waiting → Settled l (carried n s l plan) e
-carried_settles n s l (Fails status) e good all sorts here = inl (all_in (IsAwaited s l) e l.waiting all here)
-carried_settles n s l (Does deeds lists told) e good all sorts here =
+-- who is told to wait has a later number than those that were given out before
+queued_later : (n : ℕ) (left : Rooms) (s : CoreState) (a : Ask) (what : What) (id : ℕ) → asked_what a.act ≡ Some what → (ask n left s a).0 ≡ answers.Queued id → s.counter < id
+queued_later n left s a what id act at =
+    let due = (ask_due n left s a what (answers.Queued id) act).0 at in
+    omega (arith, due.0, (made_way_frame (plea_of left s a) (asked_claims a (asked_whats a.act) s.names) s).counter)
+
+carried_settles : (n : ℕ) (s : CoreState) (l : Lists) (plan : Plan) (e : ℕ × Waiting) → IsGood s → AreDistinct l → AreAwaited s l → Sorts s l plan → IsIn e (carried n s l plan).2.waiting → Settled l (carried n s l plan) e
+carried_settles n s l (Fails status) e good distinct all sorts here = inl (all_in (IsAwaited s l) e l.waiting all here)
+carried_settles n s l (Does deeds lists told) e good distinct all sorts here =
     let old : IsIn e l.waiting = subst (λ (es : List (ℕ × Waiting)). IsIn e es) sorts.0 here in
-    way_settles n s l lists deeds told e sorts.0 sorts.1 (all_in (IsAwaited s l) e l.waiting all old)
-carried_settles n s l (Opens left a number row id waiting) e good all sorts here =
+    way_settles n s l lists deeds told e distinct old sorts.0 sorts.1 (all_in (IsAwaited s l) e l.waiting all old)
+carried_settles n s l (Opens left a number row id waiting) e good distinct all sorts here =
     let u : CoreState = drawn s in
     let r = ask n left u a in
-    inl (opened_settle r.2 u l a number row waiting r.0 u.names e (asked_waits n left u a (deeds_good n s (Draws ∷ []) good (tt, tt)) sorts.0) sorts (λ x h. drawn_awaited s l x (all_in (IsAwaited s l) x l.waiting all h)) here)
-carried_settles n s l (Locks a row) e good all sorts here =
+    inl (opened_settle r.2 s u l a number row waiting r.0 u.names e (asked_waits n left u a (deeds_good n s (Draws ∷ []) good (tt, tt)) sorts.client) good
+    (λ k at. omega (arith, sorts.next, drawn_counter s, queued_later n left u a sorts.what k sorts.share at)) sorts
+    (λ x h. all_in (IsAwaited s l) x l.waiting all h) (λ x h. drawn_awaited s l x (all_in (IsAwaited s l) x l.waiting all h)) here)
+carried_settles n s l (Locks a row) e good distinct all sorts here =
     let r = ask n no_rows s a in
     inl (locked_settle r.2 s l a row r.0 s.names e (asked_waits n no_rows s a good sorts.0) sorts (λ x h. all_in (IsAwaited s l) x l.waiting all h) here)
 
 -- ---- so it is once those that were cancelled are gone
+
+-- of the lists the requests alone change
+dismissed_places : (told : List Effect) (ids : List ℕ) (l : Lists) → AllPlaces l (dismissed told ids l).1
+dismissed_places told ids l place client here =
+    let same = dismissed_keeps told ids l in
+    same_places place client l (dismissed told ids l).1 (ap (λ (m : Lists). m.trees) same) (ap (λ (m : Lists). m.connections) same) here
+
+dismissed_kept : (told : List Effect) (ids : List ℕ) (l : Lists) (e : ℕ × Waiting) → Keeps l (dismissed told ids l).1 e e.1.request
+dismissed_kept told ids l e = keeps_all l (dismissed told ids l).1 e e.1.request (dismissed_opens told ids l) (dismissed_places told ids l e.1.place) (λ x here makes at. dismissed_in told ids l x here)
 
 answered_awaited : (n : ℕ) (s : CoreState) (l : Lists) (plan : Plan) → IsGood s → AreDistinct l → AreAwaited s l → Sorts s l plan → AreAwaited (carried n s l plan).3 (all_dismissed (carried n s l plan).1 (carried n s l plan).2).1
 answered_awaited n s l plan good distinct all sorts =
@@ -415,8 +557,8 @@ answered_awaited n s l plan good distinct all sorts =
     let left : Lists = (dismissed r.1 ids r.2).1 in
     all_from (IsAwaited r.3 left) left.waiting (λ e here.
     (let there : IsIn e r.2.waiting = dismissed_in r.1 ids r.2 e here in
-    elim (carried_settles n s l plan e good all sorts there) [
-      | inl is ↦ moved r.3 r.3 r.2 left e is is.waits (opens_same e.1.opened r.2 left (dismissed_opens r.1 ids r.2))
+    elim (carried_settles n s l plan e good distinct all sorts there) [
+      | inl is ↦ moved r.3 r.3 r.2 left e is is.waits (dismissed_kept r.1 ids r.2 e)
       | inr over ↦ absurd (dismissed_out r.1 ids r.2 e (subst (λ (es : List (ℕ × Waiting)). IsDistinct nat_eq (keys_of es)) (sym over.1) distinct.waiting) (key_in r.2.waiting e there) over.0 here)
     ]))
 
@@ -514,32 +656,49 @@ open_client : (conn file number : ℕ) (c : CreateCallItem) → is_client (open_
 unfolding open_ask
 open_client conn file number c = equal_self number
 
+share_act : (conn file number : ℕ) (c : CreateCallItem) → asked_what (open_ask conn file number c).act ≡ Some (whats.Share (access_of c.desired_access) (deny_of (access_of c.desired_access) c.share_access))
+unfolding open_ask
+share_act conn file number c = refl
+
+share_asked : (conn file number : ℕ) (c : CreateCallItem) (client : List ℕ) (place : Place) (id : ℕ) (names : List Name) → AsksToOpen (asker_of (open_ask conn file number c) id names) number (open_row file client place)
+unfolding open_ask
+share_asked conn file number c client place id names = record {
+  claim = asked_claim (open_ask conn file number c) (whats.Share (access_of c.desired_access) (deny_of (access_of c.desired_access) c.share_access)) names;
+  asked = refl;
+  share = refl;
+  file = refl;
+  owner = refl;
+  row = refl;
+}
+
 -- ---- each command
 
-nothing_sorts : (s : CoreState) (l lists : Lists) (answer : Answered) → lists.waiting ≡ l.waiting → lists.opens ≡ l.opens → Sorts s l (Does [] lists answer)
-nothing_sorts s l lists answer rows opens = (rows, inl ((λ n. refl), opens))
+-- the lists stand
+nothing_sorts : (s : CoreState) (l : Lists) (answer : Answered) → Sorts s l (Does [] l answer)
+nothing_sorts s l answer = (refl, inl ((λ n. refl), refl, (λ place client here. here)))
 
-draw_sorts : (s : CoreState) (l lists : Lists) (answer : Answered) → lists.waiting ≡ l.waiting → lists.opens ≡ l.opens → Sorts s l (Does (Draws ∷ []) lists answer)
-draw_sorts s l lists answer rows opens = (rows, inl ((λ n. drawn_waits s), opens))
+draw_sorts : (s : CoreState) (l lists : Lists) (answer : Answered) → lists.waiting ≡ l.waiting → lists.opens ≡ l.opens → AllPlaces l lists → Sorts s l (Does (Draws ∷ []) lists answer)
+draw_sorts s l lists answer rows opens places = (rows, inl ((λ n. drawn_waits s), opens, places))
 
-negotiate_by : (s : CoreState) (l lists : Lists) (again empty unknown : Bool) → lists.waiting ≡ l.waiting → lists.opens ≡ l.opens → Sorts s l (if again then Fails statuses.InvalidParameter else if empty then Fails statuses.InvalidParameter else if unknown then Fails statuses.NotSupported else Does [] lists told.Negotiated)
-negotiate_by s l lists true empty unknown rows opens = tt
-negotiate_by s l lists false true unknown rows opens = tt
-negotiate_by s l lists false false true rows opens = tt
-negotiate_by s l lists false false false rows opens = nothing_sorts s l lists told.Negotiated rows opens
+negotiate_by : (s : CoreState) (l : Lists) (conn : ℕ) (row : Connection) (fresh empty unknown : Bool) → is_fresh (connection_of conn l) ≡ fresh
+    → Sorts s l (if not fresh then Fails statuses.InvalidParameter else if empty then Fails statuses.InvalidParameter else if unknown then Fails statuses.NotSupported else Does [] (connection_changed conn row l) told.Negotiated)
+negotiate_by s l conn row false empty unknown is = tt
+negotiate_by s l conn row true true unknown is = tt
+negotiate_by s l conn row true false true is = tt
+negotiate_by s l conn row true false false is = (refl, inl ((λ n. refl), refl, (λ place client here. changed_place conn row l place client is here)))
 
 negotiate_sorts : (s : CoreState) (l : Lists) (conn : ℕ) (c : NegotiateCallItem) → Sorts s l (negotiate l conn c)
 unfolding negotiate
-negotiate_sorts s l conn c = negotiate_by s l (connection_changed conn (record { client = Some c.client_guid }) l) (not (is_fresh (connection_of conn l))) (length (dialects_of c.dialects) == 0) (not (offers c.dialects)) refl refl
+negotiate_sorts s l conn c = negotiate_by s l conn (record { client = Some c.client_guid }) (is_fresh (connection_of conn l)) (length (dialects_of c.dialects) == 0) (not (offers c.dialects)) refl
 
 set_up_by : (s : CoreState) (l : Lists) (conn : ℕ) (room : Bool) → Sorts s l (if room then set_up_as s l conn (s.counter + 1) else Fails statuses.InsufficientResources)
-set_up_by s l conn true = draw_sorts s l (session_added (s.counter + 1) (record { connection = conn }) l) (told.SetUp (id_of s (s.counter + 1))) refl refl
+set_up_by s l conn true = draw_sorts s l (session_added (s.counter + 1) (record { connection = conn }) l) (told.SetUp (id_of s (s.counter + 1))) refl refl (λ place client here. here)
 set_up_by s l conn false = tt
 
 setup_by : (s : CoreState) (l : Lists) (conn : ℕ) (h : SmbHead) (new : Bool) → h.session_id == 0 ≡ new → Sorts s l (session_setup s l conn h)
 unfolding session_setup
 setup_by s l conn h true is = rw is (set_up_by s l conn (has_room_for_session l conn (s.counter + 1)))
-setup_by s l conn h false is = rw is (by_session (Sorts s l) (λ number. is_session_on conn (session_of number l)) (λ session. Does [] l (told.SetUp h.session_id)) (number_in s h.session_id) tt (λ k on. nothing_sorts s l l (told.SetUp h.session_id) refl refl))
+setup_by s l conn h false is = rw is (by_session (Sorts s l) (λ number. is_session_on conn (session_of number l)) (λ session. Does [] l (told.SetUp h.session_id)) (number_in s h.session_id) tt (λ k on. nothing_sorts s l (told.SetUp h.session_id)))
 
 logoff_sorts : (s : CoreState) (l : Lists) (conn : ℕ) (h : SmbHead) → Sorts s l (logoff s l conn h)
 unfolding logoff
@@ -548,13 +707,14 @@ logoff_sorts s l conn h =
     (λ k on.
     (let closes : Lists = all_closed (opens_under (scope.Session k) l) l in (
       gone_waiting k closes ∙ closed_waiting (opens_under (scope.Session k) l) l,
-      inr (inl (numbers_under (scope.Session k) l, refl, (λ j apart. ap (λ (es : List (ℕ × Open)). lookup (nat_eq j) es) (gone_opens k closes) ∙ closed_but j (scope.Session k) l apart))),
+      inr (inl (numbers_under (scope.Session k) l, refl, (λ j apart. ap (λ (es : List (ℕ × Open)). lookup (nat_eq j) es) (gone_opens k closes) ∙ closed_but j (scope.Session k) l apart),
+      (λ distinct e here makes apart client stands. logged_off_place (opens_under (scope.Session k) l) k l e.1.place client distinct (apart_under (scope.Session k) l e here makes apart) stands))),
     )))
 
 connect_by : (s : CoreState) (l : Lists) (conn session number : ℕ) (full unknown : Bool) → Sorts s l (if full then Fails statuses.InsufficientResources else if unknown then Fails statuses.BadNetworkName else connect_as l conn session number)
 connect_by s l conn session number true unknown = tt
 connect_by s l conn session number false true = tt
-connect_by s l conn session number false false = draw_sorts s l (tree_added number (record { connection = conn; session = session }) l) (told.Connected number) refl refl
+connect_by s l conn session number false false = draw_sorts s l (tree_added number (record { connection = conn; session = session }) l) (told.Connected number) refl refl (λ place client here. tree_place number (record { connection = conn; session = session }) l place client here)
 
 connect_sorts : (s : CoreState) (l : Lists) (conn : ℕ) (h : SmbHead) (path : List ℕ) → Sorts s l (tree_connect s l conn h path)
 unfolding tree_connect
@@ -566,33 +726,50 @@ disconnect_sorts : (s : CoreState) (l : Lists) (conn : ℕ) (client : List ℕ) 
 unfolding tree_disconnect
 disconnect_sorts s l conn client h =
     by_session (Sorts s l) (λ number. is_session_on conn (session_of number l)) _ (number_in s h.session_id) tt
-    (λ k on. by_tree (Sorts s l) (disconnect l) _ (has_place _ client l) tt (λ there. (closed_waiting (opens_under (scope.Tree _) l) l, inr (inl (numbers_under (scope.Tree _) l, refl, (λ j apart. closed_but j (scope.Tree _) l apart))))))
+    (λ k on. by_tree (Sorts s l) (disconnect l) _ (has_place _ client l) tt (λ there. (closed_waiting (opens_under (scope.Tree _) l) l, inr (inl (numbers_under (scope.Tree _) l, refl, (λ j apart. closed_but j (scope.Tree _) l apart), (λ distinct e here makes apart client stands. disconnected_place (opens_under (scope.Tree _) l) _ l e.1.place client (apart_under (scope.Tree _) l e here makes apart) stands))))))
 
-opens_by : (s : CoreState) (others : ℕ) (l : Lists) (h : SmbHead) (client : List ℕ) (place : Place) (c : CreateCallItem) (file : ℕ) (room : Bool) → Sorts s l (if room then open_as s others l h client place c file (s.counter + 1) else Fails statuses.InsufficientResources)
-opens_by s others l h client place c file true = (open_client place.connection file (s.counter + 1) c, made_for place.connection file (s.counter + 1) c, tt)
-opens_by s others l h client place c file false = tt
+opens_by : (s : CoreState) (others : ℕ) (l : Lists) (h : SmbHead) (client : List ℕ) (place : Place) (c : CreateCallItem) (file : ℕ) (room : Bool) → has_place place client l ≡ true → has_room_for_open others l (s.counter + 1) ≡ room → Sorts s l (if room then open_as s others l h client place c file (s.counter + 1) else Fails statuses.InsufficientResources)
+opens_by s others l h client place c file true there is = record {
+  client = open_client place.connection file (s.counter + 1) c;
+  asks = made_for place.connection file (s.counter + 1) c;
+  opened = refl;
+  next = refl;
+  makes = refl;
+  held = refl;
+  place = there;
+  free = second (nat_lt (all_opens others l) most_opens) (is_some (open_of (s.counter + 1) l)) is;
+  asker = share_asked place.connection file (s.counter + 1) c client place;
+  what = whats.Share (access_of c.desired_access) (deny_of (access_of c.desired_access) c.share_access);
+  share = share_act place.connection file (s.counter + 1) c;
+}
+  where
+    second : (a b : Bool) → (a && not b) ≡ true → b ≡ false
+    second true false h = refl
+    second true true h = absurd (false≢true h)
+    second false b h = absurd (false≢true h)
+opens_by s others l h client place c file false there is = tt
 
-found_by : (s : CoreState) (others : ℕ) (l : Lists) (h : SmbHead) (client : List ℕ) (place : Place) (c : CreateCallItem) (file : ℕ) (makes : Bool) → Sorts s l (if makes then Fails statuses.ObjectNameCollision else open_file s others l h client place c file)
-found_by s others l h client place c file true = tt
-found_by s others l h client place c file false = opens_by s others l h client place c file (has_room_for_open others l (s.counter + 1))
+found_by : (s : CoreState) (others : ℕ) (l : Lists) (h : SmbHead) (client : List ℕ) (place : Place) (c : CreateCallItem) (file : ℕ) (makes : Bool) → has_place place client l ≡ true → Sorts s l (if makes then Fails statuses.ObjectNameCollision else open_file s others l h client place c file)
+found_by s others l h client place c file true there = tt
+found_by s others l h client place c file false there = opens_by s others l h client place c file (has_room_for_open others l (s.counter + 1)) there refl
 
-found_sorts : (s : CoreState) (others : ℕ) (l : Lists) (h : SmbHead) (client : List ℕ) (place : Place) (c : CreateCallItem) (file : Option ℕ) → Sorts s l (open_found s others l h client place c file)
-found_sorts s others l h client place c None = tt
-found_sorts s others l h client place c (Some file) = found_by s others l h client place c file (c.disposition == 2)
+found_sorts : (s : CoreState) (others : ℕ) (l : Lists) (h : SmbHead) (client : List ℕ) (place : Place) (c : CreateCallItem) (file : Option ℕ) → has_place place client l ≡ true → Sorts s l (open_found s others l h client place c file)
+found_sorts s others l h client place c None there = tt
+found_sorts s others l h client place c (Some file) there = found_by s others l h client place c file (c.disposition == 2) there
 
-create_by : (s : CoreState) (others : ℕ) (l : Lists) (h : SmbHead) (client : List ℕ) (place : Place) (c : CreateCallItem) (file : Option ℕ) (unknown changes : Bool) → Sorts s l (if unknown then Fails statuses.InvalidParameter else if changes then Fails statuses.NotSupported else open_found s others l h client place c file)
-create_by s others l h client place c file true changes = tt
-create_by s others l h client place c file false true = tt
-create_by s others l h client place c file false false = found_sorts s others l h client place c file
+create_by : (s : CoreState) (others : ℕ) (l : Lists) (h : SmbHead) (client : List ℕ) (place : Place) (c : CreateCallItem) (file : Option ℕ) (unknown changes : Bool) → has_place place client l ≡ true → Sorts s l (if unknown then Fails statuses.InvalidParameter else if changes then Fails statuses.NotSupported else open_found s others l h client place c file)
+create_by s others l h client place c file true changes there = tt
+create_by s others l h client place c file false true there = tt
+create_by s others l h client place c file false false there = found_sorts s others l h client place c file there
 
 create_sorts : (s : CoreState) (files : List (List ℕ)) (others : ℕ) (l : Lists) (conn : ℕ) (client : List ℕ) (h : SmbHead) (c : CreateCallItem) → Sorts s l (create s files others l conn client h c)
 unfolding create
 create_sorts s files others l conn client h c =
     by_session (Sorts s l) (λ number. is_session_on conn (session_of number l)) _ (number_in s h.session_id) tt
-    (λ k on. by_tree (Sorts s l) (create_on s files others l h client c) _ (has_place _ client l) tt (λ there. create_by s others l h client _ c (file_spelled files c.name) (nat_lt 5 c.disposition) (overwrites c.disposition)))
+    (λ k on. by_tree (Sorts s l) (create_on s files others l h client c) _ (has_place _ client l) tt (λ there. create_by s others l h client _ c (file_spelled files c.name) (nat_lt 5 c.disposition) (overwrites c.disposition) there))
 
 close_open_sorts : (s : CoreState) (l : Lists) (number : ℕ) → Sorts s l (close_open l number)
-close_open_sorts s l number = (refl, inr (inl (number ∷ [], refl, (λ j apart. closed_apart j (number ∷ []) l apart))))
+close_open_sorts s l number = (refl, inr (inl (number ∷ [], refl, (λ j apart. closed_apart j (number ∷ []) l apart), (λ distinct e here makes apart client stands. closed_place (number ∷ []) l e.1.place client stands))))
 
 close_sorts : (s : CoreState) (l : Lists) (conn : ℕ) (client : List ℕ) (h : SmbHead) (id : FileId) → Sorts s l (close s l conn client h id)
 unfolding close
@@ -600,16 +777,16 @@ close_sorts s l conn client h id =
     by_session (Sorts s l) (λ number. is_session_on conn (session_of number l)) _ (number_in s h.session_id) tt
     (λ k on. by_tree (Sorts s l) _ _ (has_place _ client l) tt (λ there. by_open (Sorts s l) (λ number. is_open_on conn (open_of number l)) (close_open l) (file_number s id) tt (λ number under. close_open_sorts s l number)))
 
-lock_by_sorts : (s : CoreState) (l : Lists) (conn : ℕ) (row : Waiting) (file : ℕ) (es : List LockElement) (o : Option SmbStatus) → is_count (length es) ≡ true → IsUnder l row row.request → Sorts s l (lock_by conn row file row.opened es o)
-lock_by_sorts s l conn row file es (Some status) count under = tt
-lock_by_sorts s l conn row file es None count under = (lock_client conn file row.opened es, asks_for conn file row.opened es count, under)
+lock_by_sorts : (s : CoreState) (l : Lists) (conn : ℕ) (row : Waiting) (file : ℕ) (es : List LockElement) (o : Option SmbStatus) → is_count (length es) ≡ true → row.request ≡ request.Lock → is_open_on row.place.connection (open_of row.opened l) ≡ true → Sorts s l (lock_by conn row file row.opened es o)
+lock_by_sorts s l conn row file es (Some status) count locks under = tt
+lock_by_sorts s l conn row file es None count locks under = (lock_client conn file row.opened es, asks_for conn file row.opened es count, locks, under)
 
 lock_on_sorts : (s : CoreState) (l : Lists) (conn : ℕ) (h : SmbHead) (number : ℕ) (place : Place) (es : List LockElement) (row : Open) (count first : Bool) → is_count (length es) ≡ count → open_of number l ≡ Some row → is_open_on conn (Some row) ≡ true
     → Sorts s l (if not count then Fails statuses.InvalidParameter else if first then unlock_by l (unlocks s row.file number es) else lock_by conn (waiting_row h (place_of row.holder place) number request.Lock) row.file number es (lock_fault es))
 lock_on_sorts s l conn h number place es row false first is at on = tt
-lock_on_sorts s l conn h number place es row true true is at on = (refl, inl ((λ n. unlocks_wait n s row.file number es), refl))
+lock_on_sorts s l conn h number place es row true true is at on = (refl, inl ((λ n. unlocks_wait n s row.file number es), refl, (λ p client here. here)))
 lock_on_sorts s l conn h number place es row true false is at on =
-    lock_by_sorts s l conn (waiting_row h (place_of row.holder place) number request.Lock) row.file es (lock_fault es) is
+    lock_by_sorts s l conn (waiting_row h (place_of row.holder place) number request.Lock) row.file es (lock_fault es) is refl
     (ap (λ (c : ℕ). is_open_on c (open_of number l)) (stands_on conn row.holder place row refl on) ∙ ap (is_open_on conn) at ∙ on)
 
 lock_found_sorts : (s : CoreState) (l : Lists) (conn : ℕ) (h : SmbHead) (number : ℕ) (place : Place) (es : List LockElement) (o : Option Open) → open_of number l ≡ o → is_open_on conn o ≡ true → Sorts s l (lock_found s l conn h number place es o)
@@ -625,10 +802,10 @@ lock_sorts s l conn client h c =
 
 cancel_waiting : (s : CoreState) (l : Lists) (id : ℕ) (waits : Bool) → is_waiting id s.waiters ≡ waits → Sorts s l (cancel_named s l (Some id))
 cancel_waiting s l id true is = rw is (refl, inr (inr (id, refl, refl)))
-cancel_waiting s l id false is = rw is (nothing_sorts s l l told.Nothing refl refl)
+cancel_waiting s l id false is = rw is (nothing_sorts s l told.Nothing)
 
 cancel_by : (s : CoreState) (l : Lists) (o : Option ℕ) → Sorts s l (cancel_named s l o)
-cancel_by s l None = nothing_sorts s l l told.Nothing refl refl
+cancel_by s l None = nothing_sorts s l told.Nothing
 cancel_by s l (Some id) = cancel_waiting s l id (is_waiting id s.waiters) refl
 
 cancel_sorts : (s : CoreState) (l : Lists) (conn : ℕ) (h : SmbHead) → Sorts s l (cancel s l conn h)
@@ -638,7 +815,7 @@ cancel_sorts s l conn h = cancel_by s l (request_named conn l h.message_id h.rou
 -- an acknowledgement lets those wait who did
 acked_sorts : (s : CoreState) (l : Lists) (cache : Claim) (to : Option CacheKind) (answer : Answered) → Sorts s l (Does (Acks cache to ∷ []) l answer)
 unfolding ack
-acked_sorts s l cache to answer = (refl, inl ((λ n. refl), refl))
+acked_sorts s l cache to answer = (refl, inl ((λ n. refl), refl, (λ place client here. here)))
 
 ack_ran : (s : CoreState) (l : Lists) (id level : ℕ) (cache : Claim) (running : Option Break) (refused : Bool) → Sorts s l (if refused then refused_ack l cache running else taken_ack l id level cache running)
 ack_ran s l id level cache None true = tt
@@ -687,7 +864,7 @@ commanded_sorts s files others l conn h (Create c) client = create_sorts s files
 commanded_sorts s files others l conn h (Close c) client = close_sorts s l conn client h c.file_id
 commanded_sorts s files others l conn h (Lock c) client = lock_sorts s l conn client h c
 commanded_sorts s files others l conn h Cancel client = cancel_sorts s l conn h
-commanded_sorts s files others l conn h Echo client = nothing_sorts s l l told.Echoed refl refl
+commanded_sorts s files others l conn h Echo client = nothing_sorts s l told.Echoed
 commanded_sorts s files others l conn h (OplockBreak b) client = acknowledge_sorts s l conn h b
 commanded_sorts s files others l conn h (Negotiate c) client = tt
 commanded_sorts s files others l conn h Other client = tt
@@ -722,7 +899,7 @@ requested_by s files others l conn m false true unread = tt
 requested_by s files others l conn m false false true = tt
 requested_by s files others l conn m false false false = read_sorts s files others l conn m
 
-requested_sorts : (s : CoreState) (files : List (List ℕ)) (others : ℕ) (l : Lists) (conn : ℕ) (bytes : List ℕ) (h : SmbHead) → Sorts s l (requested s files others l conn bytes h)
+pub requested_sorts : (s : CoreState) (files : List (List ℕ)) (others : ℕ) (l : Lists) (conn : ℕ) (bytes : List ℕ) (h : SmbHead) → Sorts s l (requested s files others l conn bytes h)
 unfolding requested
 requested_sorts s files others l conn bytes h = requested_by s files others l conn (message_at bytes) (not (h.next_command == 0)) (nat_lt 18 h.command) (not (is_some (command_of h.command)))
 
@@ -736,46 +913,81 @@ step_awaited n exports others f s conn bytes good distinct all = heard_awaited n
 
 -- ---- an effect
 
--- the request of this number is gone, and of opens none is
+-- the request of this number is gone, and what keeps the others is left
 abbrev Leaves : ℕ → Lists → Lists → Type 0
-Leaves id l m = (m.waiting ≡ remove_entry (nat_eq id) l.waiting) × ((k : ℕ) → Stays k l m)
+Leaves id l m = (m.waiting ≡ remove_entry (nat_eq id) l.waiting) × ((e : ℕ × Waiting) → eqb id e.0 ≡ false → IsUnder l e e.1.request → Keeps l m e e.1.request)
 
-stood_leaves : (s : CoreState) (id : ℕ) (row : Waiting) (made : Open) (stands : Bool) (l : Lists) → Leaves id l (stood s id row made stands (waiting_dropped id l)).1
-stood_leaves s id row made true l = (refl, λ k c on. still_open c k row.opened made l.opens (open_of k l) refl on)
-stood_leaves s id row made false l = (refl, λ k c on. on)
+-- where of the lists no more changes
+only_gone : (id : ℕ) (l m : Lists) → m.waiting ≡ remove_entry (nat_eq id) l.waiting → m.opens ≡ l.opens → m.trees ≡ l.trees → m.connections ≡ l.connections → Leaves id l m
+only_gone id l m rows opens trees connections =
+    (rows, λ e other under. keeps_all l m e e.1.request opens (λ client here. same_places e.1.place client l m trees connections here) (λ x here makes at. removed_in (nat_eq id) l.waiting x (subst (λ (es : List (ℕ × Waiting)). IsIn x es) rows here)))
 
-opened_leaves : (s : CoreState) (id : ℕ) (row : Waiting) (made : Open) (refused : Option SmbStatus) (l : Lists) → Leaves id l (opened_outs s id row made refused (waiting_dropped id l)).1
-opened_leaves s id row made None l = stood_leaves s id row made (may_stand row.opened made (waiting_dropped id l)) l
-opened_leaves s id row made (Some status) l = (refl, λ k c on. on)
+-- the open that this one waited to make has a number that no other has
+made_alone : (id : ℕ) (row : Waiting) (made : Open) (l : Lists) (e : ℕ × Waiting) → IsIn (id, row) l.waiting → row.request ≡ request.Create made → eqb id e.0 ≡ false → (r : Request) → makes_open r ≡ true → IsUnder l e r → eqb e.1.opened row.opened ≡ false
+made_alone id row made l e here makes other request.Lock it under = absurd (false≢true it)
+made_alone id row made l e here makes other (request.Create own) it under =
+    elim (cases_Bool (eqb e.1.opened row.opened)) [
+      | inr apart ↦ apart
+      | inl same ↦ absurd (true≢false (sym (ap (λ (k : ℕ). eqb id k) (sym (under.single (id, row) here (ap makes_open makes) (equal_from e.1.opened row.opened same))) ∙ equal_self id) ∙ other))
+    ]
 
-served_leaves : (s : CoreState) (id : ℕ) (row : Waiting) (answer : Answer) (r : Request) (l : Lists) → Leaves id l (served_by s id row answer r (waiting_dropped id l)).1
-served_leaves s id row answer request.Lock l = (refl, λ k c on. on)
-served_leaves s id row answer (request.Create made) l = opened_leaves s id row made (open_refusal answer) l
+stood_leaves : (s : CoreState) (id : ℕ) (row : Waiting) (made : Open) (stands : Bool) (l : Lists) → IsIn (id, row) l.waiting → row.request ≡ request.Create made → Leaves id l (stood s id row made stands (waiting_dropped id l)).1
+stood_leaves s id row made true l here makes =
+    let m : Lists = open_added row.opened made (waiting_dropped id l) in
+    (refl, λ e other under. keeps_by l m e e.1.request (λ c on. still_open c e.1.opened row.opened made l.opens (open_of e.1.opened l) refl on) (λ it. record {
+      places = λ client there. there;
+      opens = λ free. still_free e.1.opened row.opened made l.opens (made_alone id row made l e here makes other e.1.request it under) free;
+      rows = λ x there m at. removed_in (nat_eq id) l.waiting x there;
+    }))
+stood_leaves s id row made false l here makes = only_gone id l (waiting_dropped id l) refl refl refl refl
 
-served_rows : (s : CoreState) (id : ℕ) (answer : Answer) (l : Lists) → Leaves id l (request_served s id answer l).1
+opened_leaves : (s : CoreState) (id : ℕ) (row : Waiting) (made : Open) (refused : Option SmbStatus) (l : Lists) → IsIn (id, row) l.waiting → row.request ≡ request.Create made → Leaves id l (opened_outs s id row made refused (waiting_dropped id l)).1
+opened_leaves s id row made None l here makes = stood_leaves s id row made (may_stand row.opened made (waiting_dropped id l)) l here makes
+opened_leaves s id row made (Some status) l here makes = only_gone id l (waiting_dropped id l) refl refl refl refl
+
+served_leaves : (s : CoreState) (id : ℕ) (row : Waiting) (answer : Answer) (r : Request) (l : Lists) → IsIn (id, row) l.waiting → row.request ≡ r → Leaves id l (served_by s id row answer r (waiting_dropped id l)).1
+served_leaves s id row answer request.Lock l here makes = only_gone id l (waiting_dropped id l) refl refl refl refl
+served_leaves s id row answer (request.Create made) l here makes = opened_leaves s id row made (open_refusal answer) l here makes
+
+pub row_in : (id : ℕ) (es : List (ℕ × Waiting)) (row : Waiting) → lookup (nat_eq id) es ≡ Some row → IsIn (id, row) es
+row_in id [] row at = absurd (none_some at)
+row_in id (x ∷ es) row at =
+    elim (cases_Bool (eqb id x.0)) [
+      | inl same ↦ inl (λ i. (equal_from id x.0 same i, same_Some (rw same at at) i))
+      | inr other ↦ inr (row_in id es row (rw other at at))
+    ]
+
+pub served_rows : (s : CoreState) (id : ℕ) (answer : Answer) (l : Lists) → Leaves id l (request_served s id answer l).1
 unfolding request_served
 served_rows s id answer l = by (waiting_of id l) refl
   where
     by : (o : Option Waiting) → waiting_of id l ≡ o → Leaves id l (served_with s id answer o l).1
-    by None e = (sym (none_out (nat_eq id) l.waiting e), λ k c on. on)
-    by (Some row) e = served_leaves s id row answer row.request l
+    by None e = only_gone id l l (sym (none_out (nat_eq id) l.waiting e)) refl refl refl
+    by (Some row) e = served_leaves s id row answer row.request l (row_in id l.waiting row e) refl
 
-others_awaited : (s : CoreState) (l m : Lists) (id : ℕ) → Leaves id l m → IsDistinct nat_eq (keys_of l.waiting) → ((e : ℕ × Waiting) → IsIn e l.waiting → eqb id e.0 ≡ false → IsAwaited s l e) → AreAwaited s m
-others_awaited s l m id leaves distinct all =
-    all_from (IsAwaited s m) m.waiting (λ e here.
-    (let there : IsIn e (remove_entry (nat_eq id) l.waiting) = subst (λ (es : List (ℕ × Waiting)). IsIn e es) leaves.0 here in
-    let is = all e (removed_in (nat_eq id) l.waiting e there) (other_left id l.waiting e distinct there) in
-    moved s s l m e is is.waits (leaves.1 e.1.opened)))
+other_awaited : (s : CoreState) (l m : Lists) (id : ℕ) (e : ℕ × Waiting) → Leaves id l m → IsDistinct nat_eq (keys_of l.waiting) → IsIn e m.waiting → IsIn e l.waiting × (eqb id e.0 ≡ false) × (IsAwaited s l e → IsAwaited s m e)
+other_awaited s l m id e leaves distinct here =
+    let there : IsIn e (remove_entry (nat_eq id) l.waiting) = subst (λ (es : List (ℕ × Waiting)). IsIn e es) leaves.0 here in
+    let apart : eqb id e.0 ≡ false = other_left id l.waiting e distinct there in
+    (removed_in (nat_eq id) l.waiting e there, apart, (λ is. moved s s l m e is is.waits (leaves.1 e apart is.under)))
 
-pub shown_awaited : (f : FrontSmb) (s : CoreState) (effect : Effect) → IsDistinct nat_eq (keys_of f.state.waiting) → ((e : ℕ × Waiting) → IsIn e f.state.waiting → ends_wait e.0 effect ≡ false → IsAwaited s f.state e) → AreAwaited s (smb_shown f s effect).1.state
+-- who waits once an effect is told waited before, is not told that it waits no more, and is awaited if it was
+pub one_shown : (f : FrontSmb) (s : CoreState) (effect : Effect) (e : ℕ × Waiting) → IsDistinct nat_eq (keys_of f.state.waiting) → IsIn e (smb_shown f s effect).1.state.waiting
+    → IsIn e f.state.waiting × (ends_wait e.0 effect ≡ false) × (IsAwaited s f.state e → IsAwaited s (smb_shown f s effect).1.state e)
 unfolding smb_shown told_of
-shown_awaited f s (effects.Served id answer) distinct all = others_awaited s f.state (request_served s id answer f.state).1 id (served_rows s id answer f.state) distinct all
-shown_awaited f s (effects.Cancelled id) distinct all =
+one_shown f s (effects.Served id answer) e distinct here = other_awaited s f.state (request_served s id answer f.state).1 id e (served_rows s id answer f.state) distinct here
+one_shown f s (effects.Cancelled id) e distinct here =
     let left : Lists = (request_ended id statuses.Cancelled f.state).1 in
     let same = ended_rows id statuses.Cancelled f.state in
-    others_awaited s f.state left id (same.0, λ k. opens_same k f.state left same.1) distinct all
-shown_awaited f s (effects.Begun claim to number) distinct all = all_from (IsAwaited s f.state) f.state.waiting (λ e here. all e here refl)
-shown_awaited f s (effects.Expired client) distinct all = all_from (IsAwaited s f.state) f.state.waiting (λ e here. all e here refl)
+    let kept = ended_keeps id statuses.Cancelled f.state in
+    other_awaited s f.state left id e (only_gone id f.state left same.0 same.1 (ap (λ (m : Lists). m.trees) kept) (ap (λ (m : Lists). m.connections) kept)) distinct here
+one_shown f s (effects.Begun claim to number) e distinct here = (here, refl, (λ is. is))
+one_shown f s (effects.Expired client) e distinct here = (here, refl, (λ is. is))
+
+pub shown_awaited : (f : FrontSmb) (s : CoreState) (effect : Effect) → IsDistinct nat_eq (keys_of f.state.waiting) → ((e : ℕ × Waiting) → IsIn e f.state.waiting → ends_wait e.0 effect ≡ false → IsAwaited s f.state e) → AreAwaited s (smb_shown f s effect).1.state
+shown_awaited f s effect distinct all =
+    let left : Lists = (smb_shown f s effect).1.state in
+    all_from (IsAwaited s left) left.waiting (λ e here. (let one = one_shown f s effect e distinct here in one.2 (all e one.0 one.1)))
 
 -- ---- the end of a connection
 
@@ -783,7 +995,7 @@ shown_awaited f s (effects.Expired client) distinct all = all_from (IsAwaited s 
 abbrev gone_lists : ℕ → Lists → Lists
 gone_lists conn l = requests_gone conn (connection_gone conn (all_closed (opens_under (scope.Connection conn) l) l))
 
-gone_rows : (conn : ℕ) (l : Lists) → (gone_lists conn l).waiting ≡ filter (λ (x : ℕ × Waiting). not (eqb x.1.place.connection conn)) l.waiting
+pub gone_rows : (conn : ℕ) (l : Lists) → (gone_lists conn l).waiting ≡ filter (λ (x : ℕ × Waiting). not (eqb x.1.place.connection conn)) l.waiting
 unfolding connection_gone
 gone_rows conn l =
     let m : Lists = all_closed (opens_under (scope.Connection conn) l) l in
@@ -795,9 +1007,9 @@ gone_but conn k l apart =
     let m : Lists = all_closed (opens_under (scope.Connection conn) l) l in
     ap (λ (es : List (ℕ × Open)). lookup (nat_eq k) es) (all_gone_opens (sessions_on conn m) m) ∙ closed_but k (scope.Connection conn) l apart
 
-pub end_awaited : (f : FrontSmb) (s : CoreState) (conn : ℕ) → AreDistinct f.state → AreAwaited s f.state → AreAwaited (smb_end f s conn).2 (smb_end f s conn).1.state
+pub end_awaited : (f : FrontSmb) (s : CoreState) (conn : ℕ) → IsSound f.state → AreDistinct f.state → AreAwaited s f.state → AreAwaited (smb_end f s conn).2 (smb_end f s conn).1.state
 unfolding smb_end
-end_awaited f s conn distinct all =
+end_awaited f s conn sound distinct all =
     let numbers : List ℕ = numbers_under (scope.Connection conn) f.state in
     let told : List Effect = (all_ended numbers s).0 in
     let t : CoreState = (all_ended numbers s).1 in
@@ -808,7 +1020,9 @@ end_awaited f s conn distinct all =
     let apart : IsDistinct nat_eq (keys_of l.waiting) = subst (λ (es : List (ℕ × Waiting)). IsDistinct nat_eq (keys_of es)) (sym rows) (IsDistinct-keys_filter nat_eq (λ (x : ℕ × Waiting). not (eqb x.1.place.connection conn)) f.state.waiting distinct.waiting) in
     all_from (IsAwaited t left) left.waiting (λ e here.
     (let there : IsIn e l.waiting = dismissed_in told ids l e here in
-    let old : IsIn e f.state.waiting = (in_filter_from (λ (x : ℕ × Waiting). not (eqb x.1.place.connection conn)) e f.state.waiting (subst (λ (es : List (ℕ × Waiting)). IsIn e es) rows there)).0 in
+    let found = in_filter_from (λ (x : ℕ × Waiting). not (eqb x.1.place.connection conn)) e f.state.waiting (subst (λ (es : List (ℕ × Waiting)). IsIn e es) rows there) in
+    let old : IsIn e f.state.waiting = found.0 in
+    let before : (x : ℕ × Waiting) → IsIn x left.waiting → IsIn x f.state.waiting = λ x h. (in_filter_from (λ (y : ℕ × Waiting). not (eqb y.1.place.connection conn)) x f.state.waiting (subst (λ (es : List (ℕ × Waiting)). IsIn x es) rows (dismissed_in told ids l x h))).0 in
     let is = all_in (IsAwaited s f.state) e f.state.waiting all old in
     elim (cases_Bool (list_any (nat_eq e.1.opened) numbers)) [
       | inl gone ↦ (
@@ -817,8 +1031,17 @@ end_awaited f s conn distinct all =
           absurd (dismissed_out told ids l e apart (key_in l.waiting e there) ended here))
       | inr stays ↦ moved s t f.state left e is
           (((end_without f s conn).waiters is.waiter).1 (is.waits, waits_none numbers is.waiter e.1.opened is.alone stays))
-          (same_stays e.1.opened f.state left (ap (λ (es : List (ℕ × Open)). lookup (nat_eq e.1.opened) es) (dismissed_opens told ids l) ∙ gone_but conn e.1.opened f.state stays))
+          (let same : open_of e.1.opened left ≡ open_of e.1.opened f.state = ap (λ (es : List (ℕ × Open)). lookup (nat_eq e.1.opened) es) (dismissed_opens told ids l) ∙ gone_but conn e.1.opened f.state stays in
+          keeps_by f.state left e e.1.request (same_stays e.1.opened f.state left same) (λ makes. record {
+            places = λ client here. ended_place f s conn e.1.place client sound distinct (not_so (eqb e.1.place.connection conn) found.1) here;
+            opens = λ free. ap (λ (o : Option Open). is_some o) same ∙ free;
+            rows = λ x h m at. before x h;
+          }))
     ]))
+  where
+    not_so : (b : Bool) → not b ≡ true → b ≡ false
+    not_so true h = absurd (false≢true h)
+    not_so false h = refl
 
 -- ---- so each row is a waiter
 
@@ -832,6 +1055,20 @@ is_there (v ∷ ws) w here =
 
 pub all_wait : (s : CoreState) (l : Lists) → AreAwaited s l → AllByRecursion (λ (e : ℕ × Waiting). is_waiting e.0 s.waiters ≡ true) l.waiting
 all_wait s l all = all_from (λ (e : ℕ × Waiting). is_waiting e.0 s.waiters ≡ true) l.waiting (λ e here. (let is = all_in (IsAwaited s l) e l.waiting all here in subst (λ (k : ℕ). is_waiting k s.waiters ≡ true) is.number (is_there s.waiters is.waiter is.waits)))
+
+-- ---- a connection opens, and the core moves on
+
+begun_awaited_by : (s : CoreState) (l : Lists) (number : ℕ) (b : Bool) → AreAwaited s l → AreAwaited s (if b then l else connection_added number (record { client = None }) l)
+begun_awaited_by s l number true all = all
+begun_awaited_by s l number false all =
+    let m : Lists = connection_added number (record { client = None }) l in
+    all_from (IsAwaited s m) l.waiting (λ e here.
+    (let is = all_in (IsAwaited s l) e l.waiting all here in
+    moved s s l m e is is.waits (keeps_all l m e e.1.request refl (λ client there. begun_place number (record { client = None }) l e.1.place client there) (λ x there makes at. there))))
+
+pub begin_awaited : (f : FrontSmb) (s : CoreState) (number : ℕ) → AreAwaited s f.state → AreAwaited s (smb_begin f number).state
+unfolding smb_begin
+begin_awaited f s number all = begun_awaited_by s f.state number _ all
 
 pub start_awaited : (s : CoreState) → AreAwaited s empty_smb_front.state
 start_awaited s = tt

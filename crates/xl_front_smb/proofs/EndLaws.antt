@@ -205,7 +205,7 @@ tree_left (number ∷ numbers) s tree = tree_left numbers (closed number s) tree
 -- ---- requests that wait no more
 
 -- who is dismissed is taken out of those who wait, and nothing else changes
-ended_keeps : (id : ℕ) (status : SmbStatus) (l : Lists) → (request_ended id status l).1 ≡ record l { waiting = (request_ended id status l).1.waiting }
+pub ended_keeps : (id : ℕ) (status : SmbStatus) (l : Lists) → (request_ended id status l).1 ≡ record l { waiting = (request_ended id status l).1.waiting }
 unfolding request_ended
 ended_keeps id status l = by (waiting_of id l)
   where

@@ -146,7 +146,7 @@ closed_opens (number ∷ numbers) l = closed_opens numbers (closed number l)
 pub opens_out : (under : Scope) (l : Lists) → IsDistinct nat_eq (keys_of l.opens) → (all_closed (opens_under under l) l).opens ≡ rows_but (λ e. covers_holder under e.1.holder) l.opens
 opens_out under l distinct = closed_opens (opens_under under l) l ∙ out_where (λ (r : Open). covers_holder under r.holder) l.opens distinct
 
-closed_trees : (numbers : List ℕ) (l : Lists) → (all_closed numbers l).trees ≡ l.trees
+pub closed_trees : (numbers : List ℕ) (l : Lists) → (all_closed numbers l).trees ≡ l.trees
 closed_trees [] l = refl
 closed_trees (number ∷ numbers) l = closed_trees numbers (closed number l)
 

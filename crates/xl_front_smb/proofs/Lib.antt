@@ -16,5 +16,9 @@ pub mod WaitLaws
 pub mod LockLaws
 pub mod RangeLaws
 pub mod CancelLaws
+pub mod PlaceLaws
 pub mod AwaitLaws
 pub mod RoomLaws
+pub mod ApartLaws
+pub mod StayLaws
+pub mod StandLaws

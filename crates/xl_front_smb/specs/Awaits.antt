@@ -1,38 +1,81 @@
 -- Requests that wait, in the front's lists and in the core.
-use Rattle.std.specs.Prelude.{◌≡◌, ℕ, ◌==◌, Bool, true, false}
+use Rattle.std.specs.Prelude.{◌≡◌, ℕ, ◌-◌, ◌==◌, ◌<◌, ◌≤◌, Bool, true, false, List, [], ◌∷◌, length, Some, is_some}
 use Rattle.std.specs.List.{AllByRecursion}
 use Rattle.xl_base.specs.Lists.{IsIn}
 use Rattle.xl_base.specs.declared.name.Party.TheVariants as parties
-use Rattle.xl_smb_state.specs.State.{Lists, open_of}
+use Rattle.xl_matrix.specs.Blocks.{is_share}
+use Rattle.xl_matrix.specs.declared.claim.Claim.{Claim}
+use Rattle.xl_base.specs.declared.name.Owner.TheVariants as owners
+use Rattle.xl_smb_state.specs.Links.{has_place, most_opens}
+use Rattle.xl_smb_state.specs.State.{Lists, open_of, waiting_of, makes_open}
+use Rattle.xl_smb_state.specs.declared.row.Holder.TheVariants as holder
+use Rattle.xl_smb_state.specs.declared.row.Open.{Open}
 use Rattle.xl_smb_state.specs.declared.row.Request.{Request}
 use Rattle.xl_smb_state.specs.declared.row.Request.TheVariants as request
 use Rattle.xl_smb_state.specs.declared.row.Waiting.{Waiting}
+use Rattle.xl_wait.specs.declared.waiter.Rooms.{Rooms}
 use Rattle.xl_wait.specs.declared.waiter.Waiter.{Waiter}
-use Rattle.xl_core.specs.Settle.{waits_for}
+use Rattle.xl_core.specs.Settle.{settle, waits_for}
 use Rattle.xl_core.specs.State.{CoreState}
+use Rattle.xl_core.specs.declared.ask.Answer.TheVariants.{Granted}
 use Rattle.xl_core.specs.declared.ask.Effect.{Effect}
 use Rattle.xl_core.specs.declared.ask.Effect.TheVariants as effects
 use Rattle.xl_front_smb.specs.Checks.{is_open_on}
 
--- the open whose ranges a request waits for stands under the connection that it came by; an open that it waits to make stands
--- nowhere yet
-abbrev pub IsUnder : Lists → Waiting → Request → Type 0
-IsUnder l row request.Lock = is_open_on row.place.connection (open_of row.opened l) ≡ true
-IsUnder l row (request.Create made) = Unit {0}
+-- The open that this request waits to make may stand: its tree connect is to be the one that the request came by, which is
+-- there, on a connection of the open's client; no open stands under its number, which was given out before the request's own; and
+-- no other request waits to make an open of this number.
+pub record MayStand (l : Lists) (e : ℕ × Waiting) (made : Open) : Type 0 where
+  pub held : made.holder ≡ holder.Tree e.1.place
+  pub place : has_place e.1.place made.client l ≡ true
+  pub free : is_some (open_of e.1.opened l) ≡ false
+  pub earlier : e.1.opened < e.0
+  pub single : (x : ℕ × Waiting) → IsIn x l.waiting → makes_open x.1.request ≡ true → x.1.opened ≡ e.1.opened → x.0 ≡ e.0
 
--- The request of this row waits in the core: a waiter of its number asks for claims of the row's open, and of no other; and the
--- open stands under the connection that the request came by, unless the request makes it.
+-- the open whose ranges a request waits for stands under the connection that it came by; an open that it waits to make may stand
+-- once it is granted
+abbrev pub IsUnder : Lists → ℕ × Waiting → Request → Type 0
+IsUnder l e request.Lock = is_open_on e.1.place.connection (open_of e.1.opened l) ≡ true
+IsUnder l e (request.Create made) = MayStand l e made
+
+-- the waiter asks for one share, of the file and by the open of this number, which takes one of the rows of opens
+pub record AsksToOpen (w : Waiter) (number : ℕ) (made : Open) : Type 0 where
+  pub claim : Claim
+  pub asked : w.asked ≡ claim ∷ []
+  pub share : is_share claim.what ≡ true
+  pub file : claim.file ≡ made.file
+  pub owner : claim.owner ≡ owners.Open number
+  pub row : w.rows.opens ≡ 1
+
+abbrev pub IsAskerOf : Waiter → ℕ → Request → Type 0
+IsAskerOf w number request.Lock = Unit {0}
+IsAskerOf w number (request.Create made) = AsksToOpen w number made
+
+-- The request of this row waits in the core: a waiter of its number asks for claims of the row's open, and of no other, which is
+-- the share alone where the request makes the open; and the open stands under the connection that the request came by, or may
+-- stand once it is made.
 pub record IsAwaited (s : CoreState) (l : Lists) (e : ℕ × Waiting) : Type 0 where
   pub waiter : Waiter
   pub waits : IsIn waiter s.waiters
   pub number : waiter.id ≡ e.0
   pub own : waits_for (parties.Open e.1.opened) waiter ≡ true
   pub alone : (k : ℕ) → waits_for (parties.Open k) waiter ≡ true → k ≡ e.1.opened
-  pub under : IsUnder l e.1 e.1.request
+  pub asker : IsAskerOf waiter e.1.opened e.1.request
+  pub under : IsUnder l e e.1.request
 
 -- so does each
 abbrev pub AreAwaited : CoreState → Lists → Type 0
 AreAwaited s l = AllByRecursion (IsAwaited s l) l.waiting
+
+-- A turn, in which there is no more room for opens than those of SMB leave, serves the CREATE of this row, which waits to make this
+-- open, and grants it this claim.
+pub record IsGranted (n : ℕ) (left : Rooms) (s t : CoreState) (l : Lists) (id : ℕ) (row : Waiting) (made : Open) (claim : Claim) : Type 0 where
+  pub told : List Effect
+  pub turn : settle n left s ≡ Some (told, t)
+  pub served : IsIn (effects.Served id (Granted claim)) told
+  pub waits : waiting_of id l ≡ Some row
+  pub makes : row.request ≡ request.Create made
+  pub room : left.opens ≤ most_opens - length l.opens
 
 -- the effect tells that this request waits no more
 abbrev pub ends_wait : ℕ → Effect → Bool

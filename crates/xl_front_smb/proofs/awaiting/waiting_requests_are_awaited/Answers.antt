@@ -1,4 +1,5 @@
-use Rattle.xl_front_smb.proofs.AwaitLaws.{all_wait, start_awaited, step_awaited, shown_awaited, end_awaited}
+use Rattle.xl_front_smb.proofs.AwaitLaws.{all_wait, begin_awaited, end_awaited, shown_awaited, start_awaited, step_awaited}
+use Rattle.xl_front_smb.proofs.StayLaws.{told_awaited}
 use Rattle.xl_front_smb.proofs.RoomLaws.{queued_kept}
 use Rattle.xl_front_smb.proofs.awaiting.waiting_requests_are_awaited.Goals as goal
 
@@ -19,3 +20,9 @@ returns-clause-ends c = end_awaited
 
 pub returns-clause-kept : goal.returns-clause-kept
 returns-clause-kept c = queued_kept
+
+pub returns-clause-begins : goal.returns-clause-begins
+returns-clause-begins c = begin_awaited
+
+pub returns-clause-deeds : goal.returns-clause-deeds
+returns-clause-deeds c = told_awaited
