@@ -19,6 +19,5 @@ pub mod CancelLaws
 pub mod PlaceLaws
 pub mod AwaitLaws
 pub mod RoomLaws
-pub mod ApartLaws
 pub mod StayLaws
 pub mod StandLaws

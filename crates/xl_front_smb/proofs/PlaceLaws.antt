@@ -1,15 +1,15 @@
 -- Where an open that a request waits to make is to stand: which places stay, and that it may stand still.
-use Rattle.std.proofs.Common.{◌≡◌, ℕ, ◌<◌, ◌≤◌, Bool, true, false, not, ◌&&◌, ◌||◌, eqb, List, [], ◌∷◌, ◌++◌, filter, Option, Some, None, is_some, refl, sym, ap, subst, ◌∙◌, inl, inr, arith}
-use Rattle.std.specs.Prelude.{nat_eq, bytes_eq, ◌⊎◌}
+use Rattle.std.proofs.Common.{◌≡◌, ℕ, Bool, true, false, not, ◌&&◌, ◌||◌, eqb, List, [], ◌∷◌, ◌++◌, Option, Some, None, is_some, refl, sym, ap, ◌∙◌, inl, inr}
+use Rattle.std.specs.Prelude.{nat_eq, bytes_eq}
 use Rattle.std.specs.List.{list_any}
-use Rattle.std.specs.Map.{lookup, remove_entry, set_value}
+use Rattle.std.specs.Map.{lookup}
 use Rattle.std.specs.Option.{option_and_then}
 use Rattle.std.proofs.lemmas.Bool.{cases_Bool, true≢false, false≢true}
 use Rattle.std.proofs.lemmas.Slice.Eq.{bytes_eq-Decides}
 use Rattle.xl_base.specs.Lists.{IsIn}
 use Rattle.xl_smb_state.proofs.LinkLaws.{place_linked}
 use Rattle.xl_smb_state.proofs.RowLaws.{equal_from, equal_self, unequal_both, lookup_added, lookup_removed, lookup_set, none_some, same_Some}
-use Rattle.xl_smb_state.specs.Links.{is_tree_at, is_client, has_place, IsPlace, AreDistinct, IsSound}
+use Rattle.xl_smb_state.specs.Links.{is_tree_at, is_client, has_place, AreDistinct, IsSound}
 use Rattle.xl_smb_state.specs.State.{Lists, client_of, connection_of, connection_added, connection_changed, covers, creates_under, made_in, makes_open, makes_under, open_of, opens_under, tree_added, tree_dropped, tree_of}
 use Rattle.xl_smb_state.specs.declared.row.Connection.{Connection}
 use Rattle.xl_smb_state.specs.declared.row.Open.{Open}
@@ -20,7 +20,7 @@ use Rattle.xl_smb_state.specs.declared.row.Scope.{Scope}
 use Rattle.xl_smb_state.specs.declared.row.Tree.{Tree}
 use Rattle.xl_smb_state.specs.declared.row.Waiting.{Waiting}
 use Rattle.xl_core.specs.State.{CoreState}
-use Rattle.xl_front_smb.specs.Awaits.{IsUnder, MayStand}
+use Rattle.xl_front_smb.specs.Awaits.{IsUnder}
 use Rattle.xl_front_smb.specs.Checks.{is_fresh, is_open_on}
 use Rattle.xl_front_smb.specs.Ending.{all_closed, numbers_under, session_gone, smb_end}
 use Rattle.xl_front_smb.specs.Laws.{rows_but}

@@ -1,8 +1,7 @@
 -- A CREATE that waited and is granted stands.
-use Rattle.std.proofs.Common.{◌≡◌, ℕ, ◌+◌, ◌-◌, ◌≤◌, Bool, true, false, not, ◌&&◌, eqb, List, [], ◌∷◌, ◌++◌, length, Option, Some, None, is_some, refl, sym, ap, subst, ◌∙◌, inl, inr, arith}
-use Rattle.std.specs.Prelude.{◌⊎◌, nat_eq, nat_lt, IfSome}
-use Rattle.std.specs.Map.{lookup}
-use Rattle.std.proofs.lemmas.Bool.{cases_Bool, true≢false, false≢true}
+use Rattle.std.proofs.Common.{◌≡◌, ℕ, ◌-◌, ◌≤◌, Bool, true, false, not, ◌&&◌, eqb, List, [], ◌∷◌, ◌++◌, length, Option, Some, None, is_some, refl, sym, ap, subst, ◌∙◌, inl, inr, arith}
+use Rattle.std.specs.Prelude.{◌⊎◌, nat_lt, IfSome}
+use Rattle.std.proofs.lemmas.Bool.{true≢false, false≢true}
 use Rattle.std.proofs.lemmas.Bool.Decides.{nat_tests}
 use Rattle.xl_base.proofs.Members.{all_in, in_append_right}
 use Rattle.xl_base.specs.Lists.{IsIn, Pairwise}
@@ -10,10 +9,9 @@ use Rattle.xl_base.specs.declared.event.Out.{Out}
 use Rattle.xl_base.specs.declared.name.Owner.TheVariants as owners
 use Rattle.xl_matrix.specs.declared.claim.Claim.{Claim}
 use Rattle.xl_smb_state.proofs.RowLaws.{equal_self}
-use Rattle.xl_smb_state.specs.Links.{has_place, most_opens}
+use Rattle.xl_smb_state.specs.Links.{most_opens}
 use Rattle.xl_smb_state.specs.State.{Lists, open_of, waiting_of}
 use Rattle.xl_smb_state.specs.declared.row.Holder.{Holder}
-use Rattle.xl_smb_state.specs.declared.row.Holder.TheVariants as holder
 use Rattle.xl_smb_state.specs.declared.row.Open.{Open}
 use Rattle.xl_smb_state.specs.declared.row.Request.{Request}
 use Rattle.xl_smb_state.specs.declared.row.Request.TheVariants as request
@@ -25,7 +23,7 @@ use Rattle.xl_core.proofs.FrameLaws.{way_leaves}
 use Rattle.xl_core.proofs.LimitLaws.{grant_found}
 use Rattle.xl_core.proofs.SettleLaws.{turn_is}
 use Rattle.xl_core.specs.Blockers.{blockers, cache_against, is_stopped}
-use Rattle.xl_core.specs.Causes.{IsEachDue, IsServed, IsTurn, Answered, WaitsOn}
+use Rattle.xl_core.specs.Causes.{IsEachDue, IsTurn, Answered, WaitsOn}
 use Rattle.xl_core.specs.Frames.{who_left}
 use Rattle.xl_core.specs.Good.{IsGood, are_apart}
 use Rattle.xl_core.specs.Limits.{first_passed, grant_limits, is_passed, most_hosts, most_owners}
