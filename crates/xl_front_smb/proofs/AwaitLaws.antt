@@ -707,8 +707,12 @@ logoff_sorts s l conn h =
     (λ k on.
     (let closes : Lists = all_closed (opens_under (scope.Session k) l) l in (
       gone_waiting k closes ∙ closed_waiting (opens_under (scope.Session k) l) l,
-      inr (inl (numbers_under (scope.Session k) l, refl, (λ j apart. ap (λ (es : List (ℕ × Open)). lookup (nat_eq j) es) (gone_opens k closes) ∙ closed_but j (scope.Session k) l apart),
-      (λ distinct e here makes apart client stands. logged_off_place (opens_under (scope.Session k) l) k l e.1.place client distinct (apart_under (scope.Session k) l e here makes apart) stands))),
+      inr (inl (
+        numbers_under (scope.Session k) l,
+        refl,
+        (λ j apart. ap (λ (es : List (ℕ × Open)). lookup (nat_eq j) es) (gone_opens k closes) ∙ closed_but j (scope.Session k) l apart),
+        (λ distinct e here makes apart client stands. logged_off_place (opens_under (scope.Session k) l) k l e.1.place client distinct (apart_under (scope.Session k) l e here makes apart) stands),
+      )),
     )))
 
 connect_by : (s : CoreState) (l : Lists) (conn session number : ℕ) (full unknown : Bool) → Sorts s l (if full then Fails statuses.InsufficientResources else if unknown then Fails statuses.BadNetworkName else connect_as l conn session number)
@@ -933,12 +937,14 @@ made_alone id row made l e here makes other (request.Create own) it under =
 
 stood_leaves : (s : CoreState) (id : ℕ) (row : Waiting) (made : Open) (stands : Bool) (l : Lists) → IsIn (id, row) l.waiting → row.request ≡ request.Create made → Leaves id l (stood s id row made stands (waiting_dropped id l)).1
 stood_leaves s id row made true l here makes =
-    let m : Lists = open_added row.opened made (waiting_dropped id l) in
-    (refl, λ e other under. keeps_by l m e e.1.request (λ c on. still_open c e.1.opened row.opened made l.opens (open_of e.1.opened l) refl on) (λ it. record {
-      places = λ client there. there;
-      opens = λ free. still_free e.1.opened row.opened made l.opens (made_alone id row made l e here makes other e.1.request it under) free;
-      rows = λ x there m at. removed_in (nat_eq id) l.waiting x there;
-    }))
+    let m : Lists = open_added row.opened made (waiting_dropped id l) in (
+      refl,
+      λ e other under. keeps_by l m e e.1.request (λ c on. still_open c e.1.opened row.opened made l.opens (open_of e.1.opened l) refl on) (λ it. record {
+        places = λ client there. there;
+        opens = λ free. still_free e.1.opened row.opened made l.opens (made_alone id row made l e here makes other e.1.request it under) free;
+        rows = λ x there m at. removed_in (nat_eq id) l.waiting x there;
+      }),
+    )
 stood_leaves s id row made false l here makes = only_gone id l (waiting_dropped id l) refl refl refl refl
 
 opened_leaves : (s : CoreState) (id : ℕ) (row : Waiting) (made : Open) (refused : Option SmbStatus) (l : Lists) → IsIn (id, row) l.waiting → row.request ≡ request.Create made → Leaves id l (opened_outs s id row made refused (waiting_dropped id l)).1

@@ -87,12 +87,14 @@ fresh_none (Some row) fresh = by row.client fresh
 
 pub changed_place : (conn : ℕ) (row : Connection) (l : Lists) (place : Place) (client : List ℕ) → is_fresh (connection_of conn l) ≡ true → has_place place client l ≡ true → has_place place client (connection_changed conn row l) ≡ true
 changed_place conn row l place client fresh here =
-    place_stays place client l (connection_changed conn row l)
-    ((λ at. at), (λ guid at.
-    elim (cases_Bool (eqb conn place.connection)) [
-      | inl same ↦ absurd (none_some (sym (fresh_none (connection_of conn l) fresh) ∙ ap (λ (k : ℕ). client_of k l) (sym (equal_from conn place.connection same)) ∙ at))
-      | inr other ↦ ap (option_and_then (λ (c : Connection). c.client)) (lookup_set place.connection conn l.connections row other) ∙ at
-    ]))
+    place_stays place client l (connection_changed conn row l) (
+      (λ at. at),
+      (λ guid at.
+          elim (cases_Bool (eqb conn place.connection)) [
+            | inl same ↦ absurd (none_some (sym (fresh_none (connection_of conn l) fresh) ∙ ap (λ (k : ℕ). client_of k l) (sym (equal_from conn place.connection same)) ∙ at))
+            | inr other ↦ ap (option_and_then (λ (c : Connection). c.client)) (lookup_set place.connection conn l.connections row other) ∙ at
+          ]),
+    )
     here
 
 pub begun_place : (number : ℕ) (row : Connection) (l : Lists) (place : Place) (client : List ℕ) → has_place place client l ≡ true → has_place place client (connection_added number row l) ≡ true
@@ -125,17 +127,19 @@ disconnected_place numbers tree l place client apart here =
 -- a session goes, and the places in others stay
 pub logged_off_place : (numbers : List ℕ) (session : ℕ) (l : Lists) (place : Place) (client : List ℕ) → AreDistinct l → eqb place.session session ≡ false → has_place place client l ≡ true → has_place place client (session_gone session (all_closed numbers l)) ≡ true
 logged_off_place numbers session l place client distinct apart here =
-    place_stays place client l (session_gone session (all_closed numbers l))
-    ((λ at. ap (λ (es : List (ℕ × Tree)). lookup (nat_eq place.tree) es) (off_trees session l numbers distinct) ∙ lookup_but (λ (e : ℕ × Tree). eqb e.1.session session) place.tree l.trees (tree_at place) at apart),
-    (λ guid at. ap (λ (es : List (ℕ × Connection)). option_and_then (λ (c : Connection). c.client) (lookup (nat_eq place.connection) es)) (off_connections session l numbers) ∙ at))
+    place_stays place client l (session_gone session (all_closed numbers l)) (
+      (λ at. ap (λ (es : List (ℕ × Tree)). lookup (nat_eq place.tree) es) (off_trees session l numbers distinct) ∙ lookup_but (λ (e : ℕ × Tree). eqb e.1.session session) place.tree l.trees (tree_at place) at apart),
+      (λ guid at. ap (λ (es : List (ℕ × Connection)). option_and_then (λ (c : Connection). c.client) (lookup (nat_eq place.connection) es)) (off_connections session l numbers) ∙ at),
+    )
     here
 
 -- a connection ends, and the places on others stay
 pub ended_place : (f : FrontSmb) (s : CoreState) (conn : ℕ) (place : Place) (client : List ℕ) → IsSound f.state → AreDistinct f.state → eqb place.connection conn ≡ false → has_place place client f.state ≡ true → has_place place client (smb_end f s conn).1.state ≡ true
 ended_place f s conn place client sound distinct apart here =
-    place_stays place client f.state (smb_end f s conn).1.state
-    ((λ at. ap (λ (es : List (ℕ × Tree)). lookup (nat_eq place.tree) es) (end_trees f s conn sound distinct) ∙ lookup_but (λ (e : ℕ × Tree). eqb e.1.connection conn) place.tree f.state.trees (tree_at place) at apart),
-    (λ guid at. ended_client guid (connection_of place.connection f.state) refl at))
+    place_stays place client f.state (smb_end f s conn).1.state (
+      (λ at. ap (λ (es : List (ℕ × Tree)). lookup (nat_eq place.tree) es) (end_trees f s conn sound distinct) ∙ lookup_but (λ (e : ℕ × Tree). eqb e.1.connection conn) place.tree f.state.trees (tree_at place) at apart),
+      (λ guid at. ended_client guid (connection_of place.connection f.state) refl at),
+    )
     here
   where
     ended_client : (guid : List ℕ) (o : Option Connection) → connection_of place.connection f.state ≡ o → option_and_then (λ (c : Connection). c.client) o ≡ Some guid → client_of place.connection (smb_end f s conn).1.state ≡ Some guid
