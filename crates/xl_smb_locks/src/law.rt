@@ -1,6 +1,8 @@
 //! Laws of opens: of their ranges, of their oplocks, and of requests that wait. The functions do nothing: their clauses are the
 //! laws.
-ghost use Rattle.std.specs.Prelude.{◌≡◌, ℕ, true, List, [], ◌++◌, map, Option, Some, None};
+ghost use Rattle.std.specs.Prelude.{◌≡◌, ℕ, true, List, [], ◌++◌, map, Option, Some, None, slice_get};
+ghost use Rattle.xl_base.specs.declared.name.Protocol.TheVariants.{Smb};
+ghost use Rattle.xl_names.specs.declared.name.Name.TheVariants.{SmbLease};
 ghost use Rattle.xl_base.specs.declared.name.Party.TheVariants as Party;
 ghost use Rattle.xl_exact.specs.Elements.{unlocked};
 ghost use Rattle.xl_exact.specs.declared.element.Element.{Element};
@@ -9,7 +11,7 @@ ghost use Rattle.xl_matrix.specs.declared.claim.Claim.{Claim};
 ghost use Rattle.xl_matrix.specs.declared.claim.What.TheVariants.{Range};
 ghost use Rattle.xl_programs.specs.Sent.{sent_to};
 ghost use Rattle.xl_smb.specs.declared.lock.LockElement.{LockElement};
-ghost use Rattle.xl_smb_state.specs.State.{Lists, open_added, open_of, waiting_dropped, waiting_of};
+ghost use Rattle.xl_smb_state.specs.State.{Lists, lowest_open, open_of, waiting_dropped, waiting_of, with_open};
 ghost use Rattle.xl_smb_state.specs.declared.row.Holder.TheVariants as Holder;
 ghost use Rattle.xl_smb_state.specs.declared.row.Open.{Open};
 ghost use Rattle.xl_smb_state.specs.declared.row.Place.{Place};
@@ -22,7 +24,7 @@ ghost use Rattle.xl_core.specs.declared.ask.Effect.TheVariants as Effect;
 ghost use Rattle.xl_smb_locks.specs.Elements.{extent_of, is_exclusive};
 ghost use Rattle.xl_smb_locks.specs.Exactly.{what_of, element_of};
 ghost use Rattle.xl_smb_locks.specs.Finals.{final_outs, may_stand, opened_reply, told_of, IsFinal};
-ghost use Rattle.xl_smb_locks.specs.Levels.{id_of, level_held, notice_of};
+ghost use Rattle.xl_smb_locks.specs.Levels.{id_of, caching, notice_of, lease_notice_of};
 ghost use Rattle.xl_table.specs.Elements.{unlocked_elements};
 
 /// What is held of an open's ranges is one list of elements, as `xl_exact` keeps it: ranges that are locked come behind the
@@ -35,10 +37,12 @@ pub fn ranges_are_a_list_of_elements()
 {}
 
 /// A break of an open's oplock is told to the connection that the open is held on, with the level that is to be left of it, and
-/// to nobody else; where there is no such open nobody is told (MS-SMB2 3.3.4.6).
-#[tactic(auto, using(crate::proofs::ToldLaws::holder_told, crate::proofs::ToldLaws::nobody_told))]
+/// to nobody else; where there is no such open nobody is told (MS-SMB2 3.3.4.6). A break of a lease is told to the connection of
+/// the lowest of its opens that is held, with what the lease held and what it may keep (MS-SMB2 3.3.4.7).
+#[tactic(auto, using(crate::proofs::ToldLaws::holder_told, crate::proofs::ToldLaws::nobody_told, crate::proofs::ToldLaws::lease_told))]
 pub fn breaks_are_told_to_holders()
     ensures holder { (s : CoreState) (l : Lists) (cache : Claim) (to : Option CacheKind) (call : Option ℕ) (number : ℕ) (row : Open) (place : Place) → cache.party ≡ Party.Open number → open_of number l ≡ Some row → row.holder ≡ Holder.Tree place → told_of s (Effect.Begun cache to call) l ≡ (sent_to place.connection (notice_of (id_of s number) to), l) }
+    ensures leased { (s : CoreState) (l : Lists) (cache : Claim) (to : Option CacheKind) (call : Option ℕ) (number lowest : ℕ) (client key : List ℕ) (row : Open) (place : Place) → cache.party ≡ Party.Name Smb number → slice_get s.names number ≡ Some (SmbLease client key) → lowest_open (record { client = client; key = key }) l ≡ Some lowest → open_of lowest l ≡ Some row → row.holder ≡ Holder.Tree place → told_of s (Effect.Begun cache to call) l ≡ (sent_to place.connection (lease_notice_of key cache.what to), l) }
     ensures nobody { (s : CoreState) (l : Lists) (cache : Claim) (to : Option CacheKind) (call : Option ℕ) (number : ℕ) → cache.party ≡ Party.Open number → open_of number l ≡ None → told_of s (Effect.Begun cache to call) l ≡ ([], l) }
 {}
 
@@ -50,8 +54,8 @@ pub fn requests_have_one_final_reply()
 {}
 
 /// A CREATE that waited and is granted has its open, where that may stand: the open stands under its number, and its final reply
-/// is STATUS_SUCCESS, with the level of the oplock that the open has then (MS-SMB2 3.3.4.4, 2.2.14).
+/// is STATUS_SUCCESS, with what the open has of caches then (MS-SMB2 3.3.4.4, 2.2.14).
 pub fn granted_opens_stand()
-    ensures told { (s : CoreState) (l : Lists) (id : ℕ) (claim : Claim) (row : Waiting) (made : Open) → waiting_of id l ≡ Some row → row.request ≡ Request.Create made → may_stand row.opened made l ≡ true → told_of s (Effect.Served id (Answer.Granted claim)) l ≡ (final_outs row (opened_reply id row (id_of s row.opened) (level_held s made.file row.opened)), open_added row.opened made (waiting_dropped id l)) }
+    ensures told { (s : CoreState) (l : Lists) (id : ℕ) (claim : Claim) (row : Waiting) (made : Open) → waiting_of id l ≡ Some row → row.request ≡ Request.Create made → may_stand row.opened made l ≡ true → told_of s (Effect.Served id (Answer.Granted claim)) l ≡ (final_outs row (opened_reply id row (id_of s row.opened) (caching s row.opened made)), with_open row.opened made (waiting_dropped id l)) }
     ensures stands { (s : CoreState) (l : Lists) (id : ℕ) (claim : Claim) (row : Waiting) (made : Open) → waiting_of id l ≡ Some row → row.request ≡ Request.Create made → may_stand row.opened made l ≡ true → open_of row.opened (told_of s (Effect.Served id (Answer.Granted claim)) l).1 ≡ Some made }
 {}
