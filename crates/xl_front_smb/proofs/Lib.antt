@@ -21,3 +21,4 @@ pub mod AwaitLaws
 pub mod RoomLaws
 pub mod StayLaws
 pub mod StandLaws
+pub mod LeaseLaws

@@ -112,32 +112,32 @@ way_breaks left s a = record { claims = ask_way_keeps (λ x. others_of x.claims)
 unbroken : (s : CoreState) → OnlyBreaks s s
 unbroken s = record { claims = refl; waiters = refl; names = refl }
 
-asked_holds : (n : ℕ) (s : CoreState) (l : Lists) (conn file number : ℕ) (es : List LockElement) (row : Waiting) → IsGood s → lock_fault es ≡ None → 1 ≤ length es
-    → (let r = ask n no_rows s (lock_ask conn file number es) in told_as (lock_told r.0) ≡ told.Locked → (held_at r.2 (RangesOf file number) ≡ held_at s (RangesOf file number) ++ map held_as es) × (lists_as row l (lock_told r.0) ≡ l))
+asked_holds : (n : ℕ) (s : CoreState) (l : Lists) (conn number : ℕ) (held : Open) (es : List LockElement) (row : Waiting) → IsGood s → lock_fault es ≡ None → 1 ≤ length es
+    → (let r = ask n no_rows s (lock_ask conn number held es) in told_as (lock_told r.0) ≡ told.Locked → (held_at r.2 (RangesOf held.file number) ≡ held_at s (RangesOf held.file number) ++ map held_as es) × (lists_as row l (lock_told r.0) ≡ l))
 unfolding lock_ask
-asked_holds n s l conn file number es row good fault some is =
-    let a = lock_ask conn file number es in
+asked_holds n s l conn number held es row good fault some is =
+    let a = lock_ask conn number held es in
     let got = granted_by (ask n no_rows s a).0 is in
-    let fit = (lock_fits conn file number es fault some).fit in (
-      ask_locked n no_rows s a (map range_of es) number got.0 good fit refl refl got.1 ∙ ap (λ (ws : List What). ranges_of file (owners.Open number) s.claims ++ ws) (all_held es),
+    let fit = (lock_fits conn number held es fault some).fit in (
+      ask_locked n no_rows s a (map range_of es) number got.0 good fit refl refl got.1 ∙ ap (λ (ws : List What). ranges_of held.file (owners.Open number) s.claims ++ ws) (all_held es),
       kept_by row l (ask n no_rows s a).0 (λ id e. different (sym got.1 ∙ e)),
     )
   where
     different : {c : Claim} {id : ℕ} → answers.Granted c ≡ answers.Queued id → ⊥
     different h = cc
 
-asked_stays : (n : ℕ) (s : CoreState) (l : Lists) (conn file number : ℕ) (es : List LockElement) (row : Waiting) → IsGood s → lock_fault es ≡ None → 1 ≤ length es
-    → (status : SmbStatus) → (let r = ask n no_rows s (lock_ask conn file number es) in told_as (lock_told r.0) ≡ told.Failed status → (lists_as row l (lock_told r.0) ≡ l) × OnlyBreaks s r.2)
-asked_stays n s l conn file number es row good fault some status is =
-    let a = lock_ask conn file number es in
+asked_stays : (n : ℕ) (s : CoreState) (l : Lists) (conn number : ℕ) (held : Open) (es : List LockElement) (row : Waiting) → IsGood s → lock_fault es ≡ None → 1 ≤ length es
+    → (status : SmbStatus) → (let r = ask n no_rows s (lock_ask conn number held es) in told_as (lock_told r.0) ≡ told.Failed status → (lists_as row l (lock_told r.0) ≡ l) × OnlyBreaks s r.2)
+asked_stays n s l conn number held es row good fault some status is =
+    let a = lock_ask conn number held es in
     let none = refused_by (ask n no_rows s a).0 status is in
-    let fit = (lock_fits conn file number es fault some).fit in
+    let fit = (lock_fits conn number held es fault some).fit in
     (kept_by row l (ask n no_rows s a).0 none.1, subst (λ (t : CoreState). OnlyBreaks s t) (sym ((ask_own n no_rows s a good fit.party).refused none.0 none.1)) (way_breaks no_rows s a))
 
-by_holds : (n : ℕ) (s : CoreState) (l : Lists) (conn : ℕ) (row : Waiting) (file number : ℕ) (es : List LockElement) (o : Option SmbStatus) → IsGood s → lock_fault es ≡ o → 1 ≤ length es → Holds file number es s l (carried n s l (lock_by conn row file number es o)) × Stays s l (carried n s l (lock_by conn row file number es o))
-by_holds n s l conn row file number es (Some status) good fault some = (λ h. absurd (not_locked h), λ other h. (refl, unbroken s))
-by_holds n s l conn row file number es None good fault some =
-    (asked_holds n s l conn file number es row good fault some, asked_stays n s l conn file number es row good fault some)
+by_holds : (n : ℕ) (s : CoreState) (l : Lists) (conn : ℕ) (row : Waiting) (number : ℕ) (held : Open) (es : List LockElement) (o : Option SmbStatus) → IsGood s → lock_fault es ≡ o → 1 ≤ length es → Holds held.file number es s l (carried n s l (lock_by conn row number held es o)) × Stays s l (carried n s l (lock_by conn row number held es o))
+by_holds n s l conn row number held es (Some status) good fault some = (λ h. absurd (not_locked h), λ other h. (refl, unbroken s))
+by_holds n s l conn row number held es None good fault some =
+    (asked_holds n s l conn number held es row good fault some, asked_stays n s l conn number held es row good fault some)
 
 -- ---- a request
 
@@ -162,7 +162,7 @@ module _ (n : ℕ) (s : CoreState) (files : List (List ℕ)) (others : ℕ) (l :
   locks_on : (number : ℕ) (place : Place) (es : List LockElement) (row : Open) (count : Bool) → is_count (length es) ≡ count → unlocks_first es ≡ false → IsGood s
       → Holds row.file number es s l (carried n s l (lock_on s l conn h number place es row)) × Stays s l (carried n s l (lock_on s l conn h number place es row))
   locks_on number place es row true is first good =
-      rw (is, first) (by_holds n s l conn (waiting_row h (place_of row.holder place) number request.Lock) row.file number es (lock_fault es) good refl (counted (length es) is))
+      rw (is, first) (by_holds n s l conn (waiting_row h (place_of row.holder place) number request.Lock) number row es (lock_fault es) good refl (counted (length es) is))
   locks_on number place es row false is first good = rw is (λ e. absurd (not_locked e), λ other e. (refl, unbroken s))
 
   pub locked_holds : (c : LockItem) (session : ℕ) (place : Place) (number : ℕ) (row : Open) → IsOfOpen s l conn h client c.file_id session place number row → unlocks_first (elements_of c.elements) ≡ false → IsGood s
@@ -172,43 +172,43 @@ module _ (n : ℕ) (s : CoreState) (files : List (List ℕ)) (others : ℕ) (l :
 
 -- ---- unlocks
 
-given_up : (answer : Answer) (rest : List Deed × Locking) (file number : ℕ) (e : LockElement) → (unlock_told (unlock_ask file number e) answer rest).1 ≡ locking.Done → ((c : Claim) × (answer ≡ answers.Granted c)) × (rest.1 ≡ locking.Done)
-given_up (answers.Granted c) rest file number e h = ((c, refl), h)
-given_up (answers.Conflict c) rest file number e h = absurd cc
-given_up (answers.Queued id) rest file number e h = absurd cc
-given_up (answers.Recall c) rest file number e h = absurd cc
-given_up (answers.Grace until) rest file number e h = absurd cc
-given_up (answers.NoGrace clock) rest file number e h = absurd cc
-given_up answers.NotRecorded rest file number e h = absurd cc
-given_up (answers.Full limit) rest file number e h = absurd cc
-given_up answers.NotHeld rest file number e h = absurd cc
-given_up answers.StoreFailed rest file number e h = absurd cc
+given_up : (answer : Answer) (rest : List Deed × Locking) (number : ℕ) (held : Open) (e : LockElement) → (unlock_told (unlock_ask number held e) answer rest).1 ≡ locking.Done → ((c : Claim) × (answer ≡ answers.Granted c)) × (rest.1 ≡ locking.Done)
+given_up (answers.Granted c) rest number held e h = ((c, refl), h)
+given_up (answers.Conflict c) rest number held e h = absurd cc
+given_up (answers.Queued id) rest number held e h = absurd cc
+given_up (answers.Recall c) rest number held e h = absurd cc
+given_up (answers.Grace until) rest number held e h = absurd cc
+given_up (answers.NoGrace clock) rest number held e h = absurd cc
+given_up answers.NotRecorded rest number held e h = absurd cc
+given_up (answers.Full limit) rest number held e h = absurd cc
+given_up answers.NotHeld rest number held e h = absurd cc
+given_up answers.StoreFailed rest number held e h = absurd cc
 
 sound_by : (fault : Option SmbStatus) (next : List Deed × Locking) → (unlock_next fault next).1 ≡ locking.Done → (fault ≡ None) × (next.1 ≡ locking.Done)
 sound_by None next h = (refl, h)
 sound_by (Some status) next h = absurd cc
 
-unlock_takes : (n : ℕ) (s : CoreState) (file number : ℕ) (e : LockElement) (c : Claim) → IsGood s → (ask n no_rows s (unlock_ask file number e)).0 ≡ answers.Granted c
-    → ranges_of file (owners.Open number) (ask n no_rows s (unlock_ask file number e)).2.claims ≡ unlocked_elements (extent_of e) (ranges_of file (owners.Open number) s.claims)
+unlock_takes : (n : ℕ) (s : CoreState) (number : ℕ) (held : Open) (e : LockElement) (c : Claim) → IsGood s → (ask n no_rows s (unlock_ask number held e)).0 ≡ answers.Granted c
+    → ranges_of held.file (owners.Open number) (ask n no_rows s (unlock_ask number held e)).2.claims ≡ unlocked_elements (extent_of e) (ranges_of held.file (owners.Open number) s.claims)
 unfolding unlock_ask
-unlock_takes n s file number e c good at = ask_unlocked n no_rows s (unlock_ask file number e) (extent_of e) number c good (unlock_fits file number e).fit refl refl at
+unlock_takes n s number held e c good at = ask_unlocked n no_rows s (unlock_ask number held e) (extent_of e) number c good (unlock_fits number held e).fit refl refl at
 
-pub unlocks_take : (n : ℕ) (s : CoreState) (file number : ℕ) (es : List LockElement) → IsGood s → (unlocks s file number es).1 ≡ locking.Done
-    → held_at (all_done n s (unlocks s file number es).0) (RangesOf file number) ≡ all_unlocked es (held_at s (RangesOf file number))
-unlocks_take n s file number [] good h = refl
-unlocks_take n s file number (e ∷ es) good h =
-    let a = unlock_ask file number e in
+pub unlocks_take : (n : ℕ) (s : CoreState) (number : ℕ) (held : Open) (es : List LockElement) → IsGood s → (unlocks s number held es).1 ≡ locking.Done
+    → held_at (all_done n s (unlocks s number held es).0) (RangesOf held.file number) ≡ all_unlocked es (held_at s (RangesOf held.file number))
+unlocks_take n s number held [] good h = refl
+unlocks_take n s number held (e ∷ es) good h =
+    let a = unlock_ask number held e in
     let r = ask 0 no_rows s a in
-    let rest = unlocks r.2 file number es in
+    let rest = unlocks r.2 number held es in
     let sound = sound_by (unlock_fault e) (unlock_told a r.0 rest) h in
-    let got = given_up r.0 rest file number e sound.1 in
-    let deeds : (unlocks s file number (e ∷ es)).0 ≡ Asks no_rows a ∷ rest.0
+    let got = given_up r.0 rest number held e sound.1 in
+    let deeds : (unlocks s number held (e ∷ es)).0 ≡ Asks no_rows a ∷ rest.0
     = ap (λ (o : Option SmbStatus). (unlock_next o (unlock_told a r.0 rest)).0) sound.0 ∙ ap (λ (x : Answer). (unlock_told a x rest).0) got.0.1 in
-    let same : (ask n no_rows s a).2 ≡ r.2 = ap (λ (x : Answered). x.2) (any_stores n s file number e) in
-    ap (λ (ds : List Deed). held_at (all_done n s ds) (RangesOf file number)) deeds
-    ∙ ap (λ (t : CoreState). held_at (all_done n t rest.0) (RangesOf file number)) same
-    ∙ unlocks_take n r.2 file number es (ask_good 0 no_rows s a good (unlock_fits file number e).fit) got.1
-    ∙ ap (all_unlocked es) (unlock_takes 0 s file number e got.0.0 good got.0.1)
+    let same : (ask n no_rows s a).2 ≡ r.2 = ap (λ (x : Answered). x.2) (any_stores n s number held e) in
+    ap (λ (ds : List Deed). held_at (all_done n s ds) (RangesOf held.file number)) deeds
+    ∙ ap (λ (t : CoreState). held_at (all_done n t rest.0) (RangesOf held.file number)) same
+    ∙ unlocks_take n r.2 number held es (ask_good 0 no_rows s a good (unlock_fits number held e).fit) got.1
+    ∙ ap (all_unlocked es) (unlock_takes 0 s number held e got.0.0 good got.0.1)
 
 module _ (n : ℕ) (s : CoreState) (files : List (List ℕ)) (others : ℕ) (l : Lists) (conn : ℕ) (h : SmbHead) (client : List ℕ) where
   abbrev Takes : ℕ → ℕ → List LockElement → Outcome → Type 0
@@ -220,7 +220,7 @@ module _ (n : ℕ) (s : CoreState) (files : List (List ℕ)) (others : ℕ) (l :
   done_by (locking.Waits id) h = absurd cc
 
   unlocks_on : (number : ℕ) (place : Place) (es : List LockElement) (row : Open) (count : Bool) → is_count (length es) ≡ count → unlocks_first es ≡ true → IsGood s → Takes row.file number es (carried n s l (lock_on s l conn h number place es row))
-  unlocks_on number place es row true is first good = rw (is, first) (λ e. (unlocks_take n s row.file number es good (done_by (unlocks s row.file number es).1 e), refl))
+  unlocks_on number place es row true is first good = rw (is, first) (λ e. (unlocks_take n s number row es good (done_by (unlocks s number row es).1 e), refl))
   unlocks_on number place es row false is first good = rw is (λ e. absurd (not_locked e))
 
   pub unlocked_takes : (c : LockItem) (session : ℕ) (place : Place) (number : ℕ) (row : Open) → IsOfOpen s l conn h client c.file_id session place number row → unlocks_first (elements_of c.elements) ≡ true → IsGood s → Takes row.file number (elements_of c.elements) (outcome_of n s files others l conn h (Lock c))

@@ -2,7 +2,6 @@
 use Rattle.std.specs.Prelude.{◌≡◌, ℕ, ◌-◌, ◌==◌, ◌<◌, ◌≤◌, Bool, true, false, List, [], ◌∷◌, length, Some, is_some}
 use Rattle.std.specs.List.{AllByRecursion}
 use Rattle.xl_base.specs.Lists.{IsIn}
-use Rattle.xl_base.specs.declared.name.Party.TheVariants as parties
 use Rattle.xl_matrix.specs.Blocks.{is_share}
 use Rattle.xl_matrix.specs.declared.claim.Claim.{Claim}
 use Rattle.xl_base.specs.declared.name.Owner.TheVariants as owners
@@ -15,7 +14,7 @@ use Rattle.xl_smb_state.specs.declared.row.Request.TheVariants as request
 use Rattle.xl_smb_state.specs.declared.row.Waiting.{Waiting}
 use Rattle.xl_wait.specs.declared.waiter.Rooms.{Rooms}
 use Rattle.xl_wait.specs.declared.waiter.Waiter.{Waiter}
-use Rattle.xl_core.specs.Settle.{settle, waits_for}
+use Rattle.xl_core.specs.Settle.{settle, waits_as}
 use Rattle.xl_core.specs.State.{CoreState}
 use Rattle.xl_core.specs.declared.ask.Answer.TheVariants.{Granted}
 use Rattle.xl_core.specs.declared.ask.Effect.{Effect}
@@ -58,8 +57,8 @@ pub record IsAwaited (s : CoreState) (l : Lists) (e : ℕ × Waiting) : Type 0 w
   pub waiter : Waiter
   pub waits : IsIn waiter s.waiters
   pub number : waiter.id ≡ e.0
-  pub own : waits_for (parties.Open e.1.opened) waiter ≡ true
-  pub alone : (k : ℕ) → waits_for (parties.Open k) waiter ≡ true → k ≡ e.1.opened
+  pub own : waits_as e.1.opened waiter ≡ true
+  pub alone : (k : ℕ) → waits_as k waiter ≡ true → k ≡ e.1.opened
   pub asker : IsAskerOf waiter e.1.opened e.1.request
   pub under : IsUnder l e e.1.request
 

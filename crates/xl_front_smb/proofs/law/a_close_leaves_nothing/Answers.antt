@@ -1,4 +1,5 @@
 use Rattle.std.proofs.Common.{◌≡◌, eqb, [], ◌∷◌, refl}
+use Rattle.xl_front_smb.specs.Ending.{party_going}
 use Rattle.xl_front_smb.specs.Laws.{rows_but, Without}
 use Rattle.xl_front_smb.specs.Plans.{Outcome}
 use Rattle.xl_front_smb.specs.declared.told.Told.TheVariants.{Closed}
@@ -9,7 +10,7 @@ pub returns-clause-told : goal.returns-clause-told
 returns-clause-told c = λ n s files others l conn h client call session place number named at. closes_open n s files others l conn h client (λ (r : Outcome). r.0 ≡ Closed) call session place number named at refl
 
 pub returns-clause-core : goal.returns-clause-core
-returns-clause-core c = λ n s files others l conn h client call session place number named at. closes_open n s files others l conn h client (λ (r : Outcome). Without (number ∷ []) s r.3) call session place number named at (done_without n (number ∷ []) s)
+returns-clause-core c = λ n s files others l conn h client call session place number named at. closes_open n s files others l conn h client (λ (r : Outcome). Without ((number, party_going s.names l number) ∷ []) s r.3) call session place number named at (done_without n ((number, party_going s.names l number) ∷ []) s)
 
 pub returns-clause-opens : goal.returns-clause-opens
 returns-clause-opens c = λ n s files others l conn h client call session place number named at distinct. closes_open n s files others l conn h client (λ (r : Outcome). r.2.opens ≡ rows_but (λ e. eqb number e.0) l.opens) call session place number named at (out_one number l.opens distinct.opens)

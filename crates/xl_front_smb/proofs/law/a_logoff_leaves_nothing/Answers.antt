@@ -1,7 +1,7 @@
 use Rattle.std.proofs.Common.{◌≡◌, eqb, refl}
 use Rattle.xl_smb_state.specs.State.{covers_holder, opens_under}
 use Rattle.xl_smb_state.specs.declared.row.Scope.TheVariants as scope
-use Rattle.xl_front_smb.specs.Ending.{numbers_under}
+use Rattle.xl_front_smb.specs.Ending.{leavers_under}
 use Rattle.xl_front_smb.specs.Laws.{rows_but, Without}
 use Rattle.xl_front_smb.specs.Plans.{Outcome}
 use Rattle.xl_front_smb.specs.declared.told.Told.TheVariants.{LoggedOff}
@@ -12,7 +12,7 @@ pub returns-clause-told : goal.returns-clause-told
 returns-clause-told c = λ n s files others l conn h client session named. logged_off n s files others l conn h client (λ (r : Outcome). r.0 ≡ LoggedOff) session named refl
 
 pub returns-clause-core : goal.returns-clause-core
-returns-clause-core c = λ n s files others l conn h client session named. logged_off n s files others l conn h client (λ (r : Outcome). Without (numbers_under (scope.Session session) l) s r.3) session named (done_without n (numbers_under (scope.Session session) l) s)
+returns-clause-core c = λ n s files others l conn h client session named. logged_off n s files others l conn h client (λ (r : Outcome). Without (leavers_under s.names (scope.Session session) l) s r.3) session named (done_without n (leavers_under s.names (scope.Session session) l) s)
 
 pub returns-clause-opens : goal.returns-clause-opens
 returns-clause-opens c = λ n s files others l conn h client session named distinct. logged_off n s files others l conn h client (λ (r : Outcome). r.2.opens ≡ rows_but (λ e. covers_holder (scope.Session session) e.1.holder) l.opens) session named (off_opens session l distinct)
