@@ -9,8 +9,8 @@ use Rattle.xl_base.proofs.Members.{all_from, all_in, in_append_left, in_append_r
 use Rattle.xl_base.specs.Lists.{IsIn}
 use Rattle.xl_base.specs.declared.journal.Exports.{Exports}
 use Rattle.xl_base.specs.declared.name.Party.{Party}
-use Rattle.xl_base.specs.declared.name.Party.TheVariants as parties
-use Rattle.xl_matrix.specs.Equal.{same_parties}
+use Rattle.xl_base.specs.declared.name.Owner.TheVariants as owners
+use Rattle.xl_matrix.specs.Equal.{same_owners}
 use Rattle.xl_matrix.specs.Owners.{posix}
 use Rattle.xl_matrix.specs.declared.claim.Claim.{Claim}
 use Rattle.xl_matrix.specs.declared.claim.Extent.{Extent}
@@ -32,31 +32,36 @@ use Rattle.xl_smb.specs.declared.breaks.Break.TheVariants as held
 use Rattle.xl_smb.specs.declared.fault.SmbBad.{SmbBad}
 use Rattle.xl_smb.specs.declared.file.FileId.{FileId}
 use Rattle.xl_smb.specs.declared.head.SmbHead.{SmbHead}
+use Rattle.xl_smb.specs.declared.lease.Lease.{Lease}
 use Rattle.xl_smb.specs.declared.lock.LockElement.{LockElement}
+use Rattle.xl_smb_state.proofs.LeaseLaws.{with_keeps}
 use Rattle.xl_smb_state.proofs.RowLaws.{equal_from, equal_self, lookup_added, lookup_removed, unequal_both, none_out, none_some, same_Some}
 use Rattle.xl_smb_state.specs.Links.{AreDistinct, IsSound, has_place, most_opens}
-use Rattle.xl_smb_state.specs.State.{Lists, client_of, closed, connection_added, connection_changed, connection_of, makes_open, open_of, opens_under, session_added, session_of, tree_added, sessions_on, waiting_added, waiting_of, creates_under, open_added, waiting_dropped}
+use Rattle.xl_smb_state.specs.State.{Lists, client_of, closed, connection_added, connection_changed, connection_of, makes_open, open_of, opens_under, session_added, session_of, tree_added, sessions_on, waiting_added, waiting_of, creates_under, lease_of as lease_row, waiting_dropped, with_open}
 use Rattle.xl_smb_state.specs.declared.row.Connection.{Connection}
 use Rattle.xl_smb_state.specs.declared.row.Holder.TheVariants as holder
+use Rattle.xl_smb_state.specs.declared.row.Lease.{Lease as LeaseRow}
 use Rattle.xl_smb_state.specs.declared.row.Open.{Open}
 use Rattle.xl_smb_state.specs.declared.row.Place.{Place}
 use Rattle.xl_smb_state.specs.declared.row.Scope.{Scope}
 use Rattle.xl_smb_state.specs.declared.row.Scope.TheVariants as scope
 use Rattle.xl_smb_state.specs.declared.row.Waiting.{Waiting}
-use Rattle.xl_cache.specs.Levels.{level_of}
+use Rattle.xl_cache.specs.Levels.{kind_of_state, level_of}
 use Rattle.xl_wait.specs.Waiting.{no_rows, cancelled, is_waiting}
 use Rattle.xl_wait.specs.declared.waiter.Rooms.{Rooms}
 use Rattle.xl_wait.specs.declared.waiter.Waiter.{Waiter}
 use Rattle.xl_core.proofs.DeedLists.{deeds_good}
 use Rattle.xl_core.proofs.FrameLaws.{ask_frame, ask_quiet, way_leaves}
-use Rattle.xl_core.proofs.SettleLaws.{party_waiters}
+use Rattle.xl_core.proofs.SettleLaws.{open_waiters}
 use Rattle.xl_core.proofs.WayAsks.{ask_there}
-use Rattle.xl_core.specs.Asking.{asked_claim, asked_claims, asked_whats, asking_party, is_client, party_in, range_what, who_entered}
+use Rattle.xl_core.specs.Asking.{asked_claim, asked_claims, asked_whats, asker, is_client, owner_in, range_what}
 use Rattle.xl_core.specs.Decide.{Answered as Asked, ask, decided, freed, plea_of, unlocked, waiter_of}
 use Rattle.xl_core.specs.Deeds.{Deed, Cancels, Draws, all_done, all_told_of, Acks}
 use Rattle.xl_core.specs.Frames.{come_by, who_left}
 use Rattle.xl_core.specs.Good.{IsGood, IsWaiter}
-use Rattle.xl_core.specs.Settle.{all_cancelled, all_told, cancel as cancel_of, end_party, numbers_for, waits_for}
+use Rattle.xl_table.specs.declared.leaver.Leaver.{Leaver}
+use Rattle.xl_table.specs.declared.leaver.Leaver.TheVariants as leavers
+use Rattle.xl_core.specs.Settle.{all_cancelled, all_told, cancel as cancel_of, close_open as close_core, departed, end_party, numbers_with, waits_as, waits_for, waits_with}
 use Rattle.xl_core.specs.State.{CoreState, drawn}
 use Rattle.xl_core.specs.declared.ask.Answer.{Answer}
 use Rattle.xl_core.specs.declared.ask.Answer.TheVariants as answers
@@ -74,8 +79,8 @@ use Rattle.xl_smb_locks.specs.declared.status.SmbStatus.{SmbStatus}
 use Rattle.xl_smb_locks.specs.declared.status.SmbStatus.TheVariants as statuses
 use Rattle.xl_front_smb.specs.Awaits.{AreAwaited, AsksToOpen, IsAskerOf, IsAwaited, IsUnder, ends_wait}
 use Rattle.xl_front_smb.specs.Checks.{file_number, id_of, is_fresh, is_open_on, negotiated_by, number_in}
-use Rattle.xl_front_smb.specs.Ending.{all_closed, connection_gone, ends, smb_end, all_dismissed, all_ended, numbers_under, requests_gone}
-use Rattle.xl_front_smb.specs.Files.{acknowledge, break_by, close, close_open, create, create_on, has_room_for_open, open_as, open_ask, open_file, open_found, open_row, overwrites, access_of, all_opens, ack_by, ack_level, ack_of, ack_open, deny_of, is_refused, left_at, refused_ack, taken_ack}
+use Rattle.xl_front_smb.specs.Ending.{all_closed, party_going, leavers_under, connection_gone, ends, smb_end, all_dismissed, all_ended, numbers_under, requests_gone}
+use Rattle.xl_front_smb.specs.Files.{acknowledge, may_keep, lease_left, ack_lease_by, ack_cache, ack_lease, break_by, close, close_open, create, create_on, has_room_for_open, key_asked, lease_key, is_key_elsewhere, open_keyed, open_as, open_ask, open_file, open_found, open_row, overwrites, access_of, all_opens, ack_by, ack_level, ack_of, ack_open, deny_of, is_refused, left_at, refused_ack, taken_ack}
 use Rattle.xl_front_smb.specs.FrontSmb.{head_heard, plan_for, smb_shown, smb_step, stepped}
 use Rattle.xl_front_smb.specs.Laws.{rows_but, waits_among}
 use Rattle.xl_front_smb.specs.Locks.{cancel, cancel_named, lock, lock_by, lock_found, place_of, request_named, unlock_by, waiting_row}
@@ -88,14 +93,15 @@ use Rattle.xl_front_smb.specs.Texts.{file_spelled, is_share}
 use Rattle.xl_front_smb.specs.declared.told.Told.{Told as Answered}
 use Rattle.xl_front_smb.specs.declared.told.Told.TheVariants as told
 use Rattle.xl_front_smb.proofs.AskLaws.{queued_after}
-use Rattle.xl_front_smb.proofs.EndLaws.{dismissed_keeps, ended_keeps, ended_told}
+use Rattle.xl_front_smb.proofs.EndLaws.{dismissed_keeps, ended_keeps, ended_told, numbers_going}
 use Rattle.xl_front_smb.proofs.GoneLaws.{done_without, end_without, gone_opens, out_one, all_gone_opens}
 use Rattle.xl_front_smb.proofs.PlaceLaws.{Keeps, Stays, apart_under, begun_place, changed_place, closed_place, disconnected_place, ended_place, keeps_all, keeps_by, keeps_self, logged_off_place, same_places, tree_place, under_still}
 use Rattle.xl_front_smb.proofs.OwnLaws.{by_client, by_open, by_session, by_tree}
 use Rattle.xl_front_smb.proofs.WaitLaws.{all_gone_waiting, closed_waiting, gone_waiting, stands_on}
 use Rattle.xl_matrix.specs.declared.claim.CacheKind.{CacheKind}
 use Rattle.xl_core.specs.Breaks.{ack}
-use Rattle.xl_smb_locks.specs.Levels.{oplock_of}
+use Rattle.xl_smb_locks.proofs.FitLaws.{party_fits}
+use Rattle.xl_smb_locks.specs.Levels.{cache_of, lease_party, oplock_of}
 
 -- ---- rows that are taken out
 
@@ -173,25 +179,29 @@ any_self : (k : ℕ) (ks : List ℕ) → list_any (nat_eq k) ks ≡ true → IsI
 any_self k [] any = absurd (false≢true any)
 any_self k (j ∷ ks) any = elim (cases_Bool (eqb k j)) [ inl same ↦ inl (equal_from k j same) | inr other ↦ inr (any_self k ks (rw other at any)) ]
 
-pub waits_none : (numbers : List ℕ) (w : Waiter) (opened : ℕ) → ((k : ℕ) → waits_for (parties.Open k) w ≡ true → k ≡ opened) → list_any (nat_eq opened) numbers ≡ false → waits_among numbers w ≡ false
+-- the numbers of opens that are closed
+abbrev pub numbers_in : List (ℕ × Option Party) → List ℕ
+numbers_in going = map (λ e. e.0) going
+
+pub waits_none : (going : List (ℕ × Option Party)) (w : Waiter) (opened : ℕ) → ((k : ℕ) → waits_as k w ≡ true → k ≡ opened) → list_any (nat_eq opened) (numbers_in going) ≡ false → waits_among going w ≡ false
 waits_none [] w opened alone none = refl
-waits_none (number ∷ numbers) w opened alone none =
-    elim (cases_Bool (eqb opened number)) [
+waits_none (e ∷ going) w opened alone none =
+    elim (cases_Bool (eqb opened e.0)) [
       | inl same ↦ (let f : true ≡ false = rw same at none in absurd (true≢false f))
-      | inr other ↦ elim (cases_Bool (waits_for (parties.Open number) w)) [
-        | inl waits ↦ absurd (true≢false (sym (subst (λ (k : ℕ). eqb k number ≡ true) (alone number waits) (equal_self number)) ∙ other))
-        | inr no_wait ↦ rw no_wait (waits_none numbers w opened alone (rw other at none))
+      | inr other ↦ elim (cases_Bool (waits_as e.0 w)) [
+        | inl waits ↦ absurd (true≢false (sym (subst (λ (k : ℕ). eqb k e.0 ≡ true) (alone e.0 waits) (equal_self e.0)) ∙ other))
+        | inr no_wait ↦ rw no_wait (waits_none going w opened alone (rw other at none))
       ]
     ]
 
-pub waits_some : (numbers : List ℕ) (w : Waiter) (opened : ℕ) → waits_for (parties.Open opened) w ≡ true → list_any (nat_eq opened) numbers ≡ true → waits_among numbers w ≡ true
+pub waits_some : (going : List (ℕ × Option Party)) (w : Waiter) (opened : ℕ) → waits_as opened w ≡ true → list_any (nat_eq opened) (numbers_in going) ≡ true → waits_among going w ≡ true
 waits_some [] w opened own any = absurd (false≢true any)
-waits_some (number ∷ numbers) w opened own any =
-    elim (cases_Bool (eqb opened number)) [
-      | inl same ↦ (let waits : waits_for (parties.Open number) w ≡ true = subst (λ (k : ℕ). waits_for (parties.Open k) w ≡ true) (sym (equal_from opened number same)) own in rw waits refl)
-      | inr other ↦ elim (cases_Bool (waits_for (parties.Open number) w)) [
+waits_some (e ∷ going) w opened own any =
+    elim (cases_Bool (eqb opened e.0)) [
+      | inl same ↦ (let waits : waits_as e.0 w ≡ true = subst (λ (k : ℕ). waits_as k w ≡ true) (sym (equal_from opened e.0 same)) own in rw waits refl)
+      | inr other ↦ elim (cases_Bool (waits_as e.0 w)) [
         | inl waits ↦ rw waits refl
-        | inr no_wait ↦ rw no_wait (waits_some numbers w opened own (rw other at any))
+        | inr no_wait ↦ rw no_wait (waits_some going w opened own (rw other at any))
       ]
     ]
 
@@ -214,17 +224,25 @@ told_all id (k ∷ ids) here =
       | inr other ↦ rw other (elim here [ inl same ↦ absurd (true≢false (sym (subst (λ (j : ℕ). eqb k j ≡ true) same (equal_self k)) ∙ other)) | inr rest ↦ told_all id ids rest ])
     ]
 
-pub party_told : (s : CoreState) (party : Party) (w : Waiter) → IsIn w s.waiters → waits_for party w ≡ true → is_cancelled w.id (end_party s party).0 ≡ true
-unfolding end_party numbers_for
-party_told s party w here waits = told_all w.id (map (λ (v : Waiter). v.id) (filter (waits_for party) s.waiters)) (in_map (λ (v : Waiter). v.id) w (filter (waits_for party) s.waiters) (in_filter (waits_for party) w s.waiters here waits))
+leaver_told : (s : CoreState) (leaver : Leaver) (w : Waiter) → IsIn w s.waiters → waits_with leaver w ≡ true → is_cancelled w.id (departed s leaver).0 ≡ true
+unfolding numbers_with
+leaver_told s leaver w here waits = told_all w.id (map (λ (v : Waiter). v.id) (filter (waits_with leaver) s.waiters)) (in_map (λ (v : Waiter). v.id) w (filter (waits_with leaver) s.waiters) (in_filter (waits_with leaver) w s.waiters here waits))
 
-pub ends_tell : (n : ℕ) (numbers : List ℕ) (s : CoreState) (w : Waiter) → IsIn w s.waiters → waits_among numbers w ≡ true → is_cancelled w.id (all_told_of n s (ends numbers)) ≡ true
+pub party_told : (s : CoreState) (party : Party) (w : Waiter) → IsIn w s.waiters → waits_for party w ≡ true → is_cancelled w.id (end_party s party).0 ≡ true
+unfolding end_party
+party_told s party w here waits = leaver_told s (leavers.Party party) w here waits
+
+pub closed_told : (s : CoreState) (number : ℕ) (party : Option Party) (w : Waiter) → IsIn w s.waiters → waits_as number w ≡ true → is_cancelled w.id (close_core s number party).0 ≡ true
+unfolding close_core
+closed_told s number party w here waits = leaver_told s (leavers.Open number party) w here waits
+
+pub ends_tell : (n : ℕ) (going : List (ℕ × Option Party)) (s : CoreState) (w : Waiter) → IsIn w s.waiters → waits_among going w ≡ true → is_cancelled w.id (all_told_of n s (ends going)) ≡ true
 ends_tell n [] s w here among = absurd (false≢true among)
-ends_tell n (number ∷ numbers) s w here among =
-    let r = end_party s (parties.Open number) in
-    elim (cases_Bool (waits_for (parties.Open number) w)) [
-      | inl waits ↦ any_left (cancels w.id) r.0 (all_told_of n r.1 (ends numbers)) (party_told s (parties.Open number) w here waits)
-      | inr no_wait ↦ any_right (cancels w.id) r.0 (all_told_of n r.1 (ends numbers)) (ends_tell n numbers r.1 w ((party_waiters s (parties.Open number) w).1 (here, no_wait)) (rw no_wait at among))
+ends_tell n (e ∷ going) s w here among =
+    let r = close_core s e.0 e.1 in
+    elim (cases_Bool (waits_as e.0 w)) [
+      | inl waits ↦ any_left (cancels w.id) r.0 (all_told_of n r.1 (ends going)) (closed_told s e.0 e.1 w here waits)
+      | inr no_wait ↦ any_right (cancels w.id) r.0 (all_told_of n r.1 (ends going)) (ends_tell n going r.1 w ((open_waiters s e.0 e.1 w).1 (here, no_wait)) (rw no_wait at among))
     ]
 
 -- ---- what a plan does to those who wait
@@ -241,7 +259,7 @@ PlacesBut numbers l m = (e : ℕ × Waiting) → IsIn e l.waiting → makes_open
 abbrev pub Way : CoreState → Lists → List Deed → Lists → Type 0
 Way s l deeds lists =
     (((n : ℕ) → (all_done n s deeds).waiters ≡ s.waiters) × (lists.opens ≡ l.opens) × AllPlaces l lists)
-    ⊎ (((numbers : List ℕ) × (deeds ≡ ends numbers) × ((k : ℕ) → list_any (nat_eq k) numbers ≡ false → open_of k lists ≡ open_of k l) × (AreDistinct l → PlacesBut numbers l lists))
+    ⊎ (((going : List (ℕ × Option Party)) × (deeds ≡ ends going) × ((k : ℕ) → list_any (nat_eq k) (numbers_in going) ≡ false → open_of k lists ≡ open_of k l) × (AreDistinct l → PlacesBut (numbers_in going) l lists))
     ⊎ ((id : ℕ) × (deeds ≡ Cancels id ∷ []) × (lists ≡ l)))
 
 -- who waits for this
@@ -250,7 +268,7 @@ asker_of a id names = waiter_of id a (asked_claims a (asked_whats a.act) names)
 
 -- what is asked is for this open, and something
 abbrev pub AsksFor : Ask → ℕ → Type 0
-AsksFor a number = (id : ℕ) (names : List Name) → (waits_for (parties.Open number) (asker_of a id names) ≡ true) × ((k : ℕ) → waits_for (parties.Open k) (asker_of a id names) ≡ true → k ≡ number)
+AsksFor a number = (id : ℕ) (names : List Name) → (waits_as number (asker_of a id names) ≡ true) × ((k : ℕ) → waits_as k (asker_of a id names) ≡ true → k ≡ number)
 
 -- a LOCK of this row that waits for this is awaited
 abbrev pub IsAsked : Lists → Ask → Waiting → Type 0
@@ -299,14 +317,14 @@ pub key_in : (es : List (ℕ × Waiting)) (e : ℕ × Waiting) → IsIn e es →
 key_in [] e here = absurd here
 key_in (x ∷ es) e here = elim here [ inl same ↦ inl (ap (λ (y : ℕ × Waiting). y.0) same) | inr rest ↦ inr (key_in es e rest) ]
 
-ending_settles : (n : ℕ) (s : CoreState) (l lists : Lists) (answer : Answered) (numbers : List ℕ) (e : ℕ × Waiting) → IsIn e l.waiting → lists.waiting ≡ l.waiting → ((k : ℕ) → list_any (nat_eq k) numbers ≡ false → open_of k lists ≡ open_of k l) → PlacesBut numbers l lists → IsAwaited s l e
-    → Settled l (answer, all_told_of n s (ends numbers), lists, all_done n s (ends numbers)) e
-ending_settles n s l lists answer numbers e here same opens places is =
-    elim (cases_Bool (list_any (nat_eq e.1.opened) numbers)) [
+ending_settles : (n : ℕ) (s : CoreState) (l lists : Lists) (answer : Answered) (going : List (ℕ × Option Party)) (e : ℕ × Waiting) → IsIn e l.waiting → lists.waiting ≡ l.waiting → ((k : ℕ) → list_any (nat_eq k) (numbers_in going) ≡ false → open_of k lists ≡ open_of k l) → PlacesBut (numbers_in going) l lists → IsAwaited s l e
+    → Settled l (answer, all_told_of n s (ends going), lists, all_done n s (ends going)) e
+ending_settles n s l lists answer going e here same opens places is =
+    elim (cases_Bool (list_any (nat_eq e.1.opened) (numbers_in going))) [
       | inl gone ↦ (
-          let over : is_cancelled is.waiter.id (all_told_of n s (ends numbers)) ≡ true = ends_tell n numbers s is.waiter is.waits (waits_some numbers is.waiter e.1.opened is.own gone) in
-          inr (subst (λ (k : ℕ). is_cancelled k (all_told_of n s (ends numbers)) ≡ true) is.number over, same))
-      | inr stays ↦ inl (moved s (all_done n s (ends numbers)) l lists e is (((done_without n numbers s).waiters is.waiter).1 (is.waits, waits_none numbers is.waiter e.1.opened is.alone stays)) (keeps_but numbers l lists e here (opens e.1.opened stays) stays places (λ x there. in_same l lists x same there)))
+          let over : is_cancelled is.waiter.id (all_told_of n s (ends going)) ≡ true = ends_tell n going s is.waiter is.waits (waits_some going is.waiter e.1.opened is.own gone) in
+          inr (subst (λ (k : ℕ). is_cancelled k (all_told_of n s (ends going)) ≡ true) is.number over, same))
+      | inr stays ↦ inl (moved s (all_done n s (ends going)) l lists e is (((done_without n going s).waiters is.waiter).1 (is.waits, waits_none going is.waiter e.1.opened is.alone stays)) (keeps_but (numbers_in going) l lists e here (opens e.1.opened stays) stays places (λ x there. in_same l lists x same there)))
     ]
 
 pub cancelled_in : (id : ℕ) (ws : List Waiter) (w : Waiter) → IsIn w ws → eqb w.id id ≡ false → IsIn w (cancelled id ws)
@@ -489,12 +507,26 @@ locked_settle t s l a row answers.NotHeld names e queue asks all here = still_wa
 locked_settle t s l a row answers.StoreFailed names e queue asks all here = still_waits t s l a answers.StoreFailed names e queue (all e here)
 
 -- the open of the next number stands beside those that wait to be made
-stood_beside : (s : CoreState) (l : Lists) (number : ℕ) (row : Open) (e : ℕ × Waiting) → IsGood s → number ≡ s.counter + 1 → IsAwaited s l e → Keeps l (open_added number row l) e e.1.request
+came_places : (number : ℕ) (row : Open) (l : Lists) → AllPlaces l (with_open number row l)
+came_places number row l place client here =
+    let same = with_keeps number row l in
+    same_places place client l (with_open number row l) (ap (λ (m : Lists). m.trees) same) (ap (λ (m : Lists). m.connections) same) here
+
+came_open : (c k number : ℕ) (row : Open) (l : Lists) → is_open_on c (open_of k l) ≡ true → is_open_on c (open_of k (with_open number row l)) ≡ true
+came_open c k number row l on = ap (λ (m : Lists). is_open_on c (open_of k m)) (with_keeps number row l) ∙ still_open c k number row l.opens (open_of k l) refl on
+
+came_free : (k number : ℕ) (row : Open) (l : Lists) → eqb k number ≡ false → is_some (open_of k l) ≡ false → is_some (open_of k (with_open number row l)) ≡ false
+came_free k number row l apart free = ap (λ (m : Lists). is_some (open_of k m)) (with_keeps number row l) ∙ still_free k number row l.opens apart free
+
+came_waiting : (number : ℕ) (row : Open) (l : Lists) (x : ℕ × Waiting) → IsIn x (with_open number row l).waiting → IsIn x l.waiting
+came_waiting number row l x here = subst (λ (es : List (ℕ × Waiting)). IsIn x es) (ap (λ (m : Lists). m.waiting) (with_keeps number row l)) here
+
+stood_beside : (s : CoreState) (l : Lists) (number : ℕ) (row : Open) (e : ℕ × Waiting) → IsGood s → number ≡ s.counter + 1 → IsAwaited s l e → Keeps l (with_open number row l) e e.1.request
 stood_beside s l number row e good next is =
-    keeps_by l (open_added number row l) e e.1.request (λ k on. still_open k e.1.opened number row l.opens (open_of e.1.opened l) refl on) (λ makes. record {
-      places = λ client here. here;
-      opens = λ free. still_free e.1.opened number row l.opens (apart (eqb e.1.opened number) refl makes) free;
-      rows = λ x here m at. here;
+    keeps_by l (with_open number row l) e e.1.request (λ k on. came_open k e.1.opened number row l on) (λ makes. record {
+      places = λ client here. came_places number row l e.1.place client here;
+      opens = λ free. came_free e.1.opened number row l (apart (eqb e.1.opened number) refl makes) free;
+      rows = λ x here m at. came_waiting number row l x here;
     })
   where
     apart : (b : Bool) → eqb e.1.opened number ≡ b → makes_open e.1.request ≡ true → eqb e.1.opened number ≡ false
@@ -503,7 +535,9 @@ stood_beside s l number row e good next is =
 
 opened_settle : (t s u : CoreState) (l : Lists) (a : Ask) (number : ℕ) (row : Open) (waiting : Waiting) (answer : Answer) (names : List Name) (e : ℕ × Waiting) → t.waiters ≡ u.waiters ++ come_by a answer names → IsGood s → ((id : ℕ) → answer ≡ answers.Queued id → number < id) → IsNew s l a number row waiting
     → ((x : ℕ × Waiting) → IsIn x l.waiting → IsAwaited s l x) → ((x : ℕ × Waiting) → IsIn x l.waiting → IsAwaited u l x) → IsIn e (opened_lists l number row waiting answer).waiting → IsAwaited t (opened_lists l number row waiting answer) e
-opened_settle t s u l a number row waiting (answers.Granted c) names e queue good later new before all here = kept_settle t u l (open_added number row l) a (answers.Granted c) names e queue (stood_beside s l number row e good new.next (before e here)) (all e here)
+opened_settle t s u l a number row waiting (answers.Granted c) names e queue good later new before all here =
+    let old : IsIn e l.waiting = came_waiting number row l e here in
+    kept_settle t u l (with_open number row l) a (answers.Granted c) names e queue (stood_beside s l number row e good new.next (before e old)) (all e old)
 opened_settle t s u l a number row waiting (answers.Queued id) names e queue good later new before all here = create_queued t s u l a number row waiting id names e queue good (later id refl) new before all here
 opened_settle t s u l a number row waiting (answers.Conflict c) names e queue good later new before all here = still_waits t u l a (answers.Conflict c) names e queue (all e here)
 opened_settle t s u l a number row waiting (answers.Recall c) names e queue good later new before all here = still_waits t u l a (answers.Recall c) names e queue (all e here)
@@ -569,6 +603,10 @@ closed_apart k (number ∷ numbers) l apart =
 closed_but : (k : ℕ) (under : Scope) (l : Lists) → list_any (nat_eq k) (numbers_under under l) ≡ false → open_of k (all_closed (opens_under under l) l) ≡ open_of k l
 closed_but k under l apart = closed_apart k (opens_under under l) l (none_first (nat_eq k) (opens_under under l) (creates_under under l) apart)
 
+-- who is none of those that are closed is under it no more than a request is that waits to make one
+out_under : (names : List Name) (k : ℕ) (under : Scope) (l : Lists) → list_any (nat_eq k) (numbers_in (leavers_under names under l)) ≡ false → list_any (nat_eq k) (numbers_under under l) ≡ false
+out_under names k under l apart = ap (list_any (nat_eq k)) (sym (numbers_going names under l)) ∙ apart
+
 -- ---- unlocks: nobody who waits goes
 
 freed_waits : (s : CoreState) (claim : Claim) (o : Option Claim) → (freed s claim o).2.waiters ≡ s.waiters
@@ -580,13 +618,13 @@ unfolding unlocked
 unlocked_waits s claim (Bytes first last) own = rw own (freed_waits s claim _)
 unlocked_waits s claim (Empty offset) own = freed_waits s claim _
 
-decided_waits : (n : ℕ) (s : CoreState) (file number : ℕ) (e : LockElement) → (decided n no_rows s (unlock_ask file number e)).2.waiters ≡ s.waiters
+decided_waits : (n : ℕ) (s : CoreState) (number : ℕ) (row : Open) (e : LockElement) → (decided n no_rows s (unlock_ask number row e)).2.waiters ≡ s.waiters
 unfolding decided unlock_ask
-decided_waits n s file number e = unlocked_waits s _ (extent_of e) refl
+decided_waits n s number row e = unlocked_waits s _ (extent_of e) refl
 
-unlock_leaves_waiters : (n : ℕ) (s : CoreState) (file number : ℕ) (e : LockElement) → (ask n no_rows s (unlock_ask file number e)).2.waiters ≡ s.waiters
+unlock_leaves_waiters : (n : ℕ) (s : CoreState) (number : ℕ) (row : Open) (e : LockElement) → (ask n no_rows s (unlock_ask number row e)).2.waiters ≡ s.waiters
 unfolding unlock_ask decided
-unlock_leaves_waiters n s file number e = ap (λ (r : Asked). r.2.waiters) (ask_there n no_rows s (unlock_ask file number e) (no_way s file number e)) ∙ decided_waits n s file number e
+unlock_leaves_waiters n s number row e = ap (λ (r : Asked). r.2.waiters) (ask_there n no_rows s (unlock_ask number row e) (no_way s number row e)) ∙ decided_waits n s number row e
 
 one_waits : (n : ℕ) (s : CoreState) (a : Ask) (answer : Answer) (rest : List Deed × Locking) → (ask n no_rows s a).2.waiters ≡ s.waiters → (all_done n (ask n no_rows s a).2 rest.0).waiters ≡ s.waiters → (all_done n s (unlock_told a answer rest).0).waiters ≡ s.waiters
 one_waits n s a (answers.Granted c) rest first more = more
@@ -604,55 +642,55 @@ next_waits : (n : ℕ) (s : CoreState) (fault : Option SmbStatus) (next : List D
 next_waits n s None next same = same
 next_waits n s (Some status) next same = refl
 
-unlocks_wait : (n : ℕ) (s : CoreState) (file number : ℕ) (es : List LockElement) → (all_done n s (unlocks s file number es).0).waiters ≡ s.waiters
-unlocks_wait n s file number [] = refl
-unlocks_wait n s file number (e ∷ es) =
-    let a = unlock_ask file number e in
+unlocks_wait : (n : ℕ) (s : CoreState) (number : ℕ) (row : Open) (es : List LockElement) → (all_done n s (unlocks s number row es).0).waiters ≡ s.waiters
+unlocks_wait n s number row [] = refl
+unlocks_wait n s number row (e ∷ es) =
+    let a = unlock_ask number row e in
     let r = ask 0 no_rows s a in
-    let rest = unlocks r.2 file number es in
+    let rest = unlocks r.2 number row es in
     next_waits n s (unlock_fault e) (unlock_told a r.0 rest)
-    (one_waits n s a r.0 rest (unlock_leaves_waiters n s file number e) (subst (λ (x : CoreState). (all_done n x rest.0).waiters ≡ s.waiters) (sym (ap (λ (x : Answer × List Effect × CoreState). x.2) (any_stores n s file number e))) (unlocks_wait n r.2 file number es ∙ unlock_leaves_waiters 0 s file number e)))
+    (one_waits n s a r.0 rest (unlock_leaves_waiters n s number row e) (subst (λ (x : CoreState). (all_done n x rest.0).waiters ≡ s.waiters) (sym (ap (λ (x : Answer × List Effect × CoreState). x.2) (any_stores n s number row e))) (unlocks_wait n r.2 number row es ∙ unlock_leaves_waiters 0 s number row e)))
 
 -- ---- locks
 
-alone_for : (a : Ask) (names : List Name) (number k : ℕ) (xs : List What) → a.party ≡ who.Open number → list_any (λ (c : Claim). same_parties c.party (parties.Open k)) (asked_claims a xs names) ≡ true → k ≡ number
+alone_for : (a : Ask) (names : List Name) (number k : ℕ) (xs : List What) → a.owner ≡ who.Open number → list_any (λ (c : Claim). same_owners c.owner (owners.Open k)) (asked_claims a xs names) ≡ true → k ≡ number
 alone_for a names number k [] is any = absurd (false≢true any)
 alone_for a names number k (x ∷ xs) is any =
-    elim (cases_Bool (same_parties (asking_party a names) (parties.Open k))) [
-      | inl same ↦ sym (eqb-true number k (sym (ap (λ (w : Who). same_parties (party_in w (who_entered a.owner names)) (parties.Open k)) is) ∙ same))
+    elim (cases_Bool (same_owners (asker a names) (owners.Open k))) [
+      | inl same ↦ sym (eqb-true number k (sym (ap (λ (w : Who). same_owners (owner_in w names) (owners.Open k)) is) ∙ same))
       | inr other ↦ alone_for a names number k xs is (rw other at any)
     ]
 
-own_for : (a : Ask) (names : List Name) (number : ℕ) (x : What) (xs : List What) → a.party ≡ who.Open number → list_any (λ (c : Claim). same_parties c.party (parties.Open number)) (asked_claims a (x ∷ xs) names) ≡ true
+own_for : (a : Ask) (names : List Name) (number : ℕ) (x : What) (xs : List What) → a.owner ≡ who.Open number → list_any (λ (c : Claim). same_owners c.owner (owners.Open number)) (asked_claims a (x ∷ xs) names) ≡ true
 own_for a names number x xs is =
-    let same : same_parties (asking_party a names) (parties.Open number) ≡ true = ap (λ (w : Who). same_parties (party_in w (who_entered a.owner names)) (parties.Open number)) is ∙ equal_self number in
+    let same : same_owners (asker a names) (owners.Open number) ≡ true = ap (λ (w : Who). same_owners (owner_in w names) (owners.Open number)) is ∙ equal_self number in
     rw same refl
 
-asks_for : (conn file number : ℕ) (es : List LockElement) → is_count (length es) ≡ true → AsksFor (lock_ask conn file number es) number
-unfolding lock_ask waits_for
-asks_for conn file number [] count = absurd (false≢true count)
-asks_for conn file number (e ∷ es) count = λ id names.
-    (own_for (lock_ask conn file number (e ∷ es)) names number (range_what (range_of e)) (map range_what (map range_of es)) refl, λ k any. alone_for (lock_ask conn file number (e ∷ es)) names number k (map range_what (map range_of (e ∷ es))) refl any)
+asks_for : (conn number : ℕ) (row : Open) (es : List LockElement) → is_count (length es) ≡ true → AsksFor (lock_ask conn number row es) number
+unfolding lock_ask waits_as
+asks_for conn number row [] count = absurd (false≢true count)
+asks_for conn number row (e ∷ es) count = λ id names.
+    (own_for (lock_ask conn number row (e ∷ es)) names number (range_what (range_of e)) (map range_what (map range_of es)) refl, λ k any. alone_for (lock_ask conn number row (e ∷ es)) names number k (map range_what (map range_of (e ∷ es))) refl any)
 
-lock_client : (conn file number : ℕ) (es : List LockElement) → is_client (lock_ask conn file number es).owner (lock_ask conn file number es).party ≡ true
+lock_client : (conn number : ℕ) (row : Open) (es : List LockElement) → is_client (lock_ask conn number row es).owner (lock_ask conn number row es).party ≡ true
 unfolding lock_ask
-lock_client conn file number es = equal_self number
+lock_client conn number row es = party_fits number row
 
-made_for : (conn file number : ℕ) (c : CreateCallItem) → AsksFor (open_ask conn file number c) number
-unfolding open_ask waits_for
-made_for conn file number c = λ id names.
-    let a = open_ask conn file number c in
+made_for : (conn number : ℕ) (row : Open) (c : CreateCallItem) → AsksFor (open_ask conn number row c) number
+unfolding open_ask waits_as
+made_for conn number row c = λ id names.
+    let a = open_ask conn number row c in
     let what = whats.Share (access_of c.desired_access) (deny_of (access_of c.desired_access) c.share_access) in
     (own_for a names number what [] refl, λ k any. alone_for a names number k (what ∷ []) refl any)
 
-open_client : (conn file number : ℕ) (c : CreateCallItem) → is_client (open_ask conn file number c).owner (open_ask conn file number c).party ≡ true
+open_client : (conn number : ℕ) (row : Open) (c : CreateCallItem) → is_client (open_ask conn number row c).owner (open_ask conn number row c).party ≡ true
 unfolding open_ask
-open_client conn file number c = equal_self number
+open_client conn number row c = party_fits number row
 
-share_asked : (conn file number : ℕ) (c : CreateCallItem) (client : List ℕ) (place : Place) (id : ℕ) (names : List Name) → AsksToOpen (asker_of (open_ask conn file number c) id names) number (open_row file client place)
+share_asked : (conn number : ℕ) (row : Open) (c : CreateCallItem) (id : ℕ) (names : List Name) → AsksToOpen (asker_of (open_ask conn number row c) id names) number row
 unfolding open_ask
-share_asked conn file number c client place id names = record {
-  claim = asked_claim (open_ask conn file number c) (whats.Share (access_of c.desired_access) (deny_of (access_of c.desired_access) c.share_access)) names;
+share_asked conn number row c id names = record {
+  claim = asked_claim (open_ask conn number row c) (whats.Share (access_of c.desired_access) (deny_of (access_of c.desired_access) c.share_access)) names;
   asked = refl;
   share = refl;
   file = refl;
@@ -697,10 +735,10 @@ logoff_sorts s l conn h =
     (let closes : Lists = all_closed (opens_under (scope.Session k) l) l in (
       gone_waiting k closes ∙ closed_waiting (opens_under (scope.Session k) l) l,
       inr (inl (
-        numbers_under (scope.Session k) l,
+        leavers_under s.names (scope.Session k) l,
         refl,
-        (λ j apart. ap (λ (es : List (ℕ × Open)). lookup (nat_eq j) es) (gone_opens k closes) ∙ closed_but j (scope.Session k) l apart),
-        (λ distinct e here makes apart client stands. logged_off_place (opens_under (scope.Session k) l) k l e.1.place client distinct (apart_under (scope.Session k) l e here makes apart) stands),
+        (λ j apart. ap (λ (es : List (ℕ × Open)). lookup (nat_eq j) es) (gone_opens k closes) ∙ closed_but j (scope.Session k) l (out_under s.names j (scope.Session k) l apart)),
+        (λ distinct e here makes apart client stands. logged_off_place (opens_under (scope.Session k) l) k l e.1.place client distinct (apart_under (scope.Session k) l e here makes (out_under s.names e.1.opened (scope.Session k) l apart)) stands),
       )),
     )))
 
@@ -719,19 +757,27 @@ disconnect_sorts : (s : CoreState) (l : Lists) (conn : ℕ) (client : List ℕ) 
 unfolding tree_disconnect
 disconnect_sorts s l conn client h =
     by_session (Sorts s l) (λ number. is_session_on conn (session_of number l)) _ (number_in s h.session_id) tt
-    (λ k on. by_tree (Sorts s l) (disconnect l) _ (has_place _ client l) tt (λ there. (closed_waiting (opens_under (scope.Tree _) l) l, inr (inl (numbers_under (scope.Tree _) l, refl, (λ j apart. closed_but j (scope.Tree _) l apart), (λ distinct e here makes apart client stands. disconnected_place (opens_under (scope.Tree _) l) _ l e.1.place client (apart_under (scope.Tree _) l e here makes apart) stands))))))
+    (λ k on. by_tree (Sorts s l) (disconnect s l) _ (has_place _ client l) tt (λ there. (
+      closed_waiting (opens_under (scope.Tree _) l) l,
+      inr (inl (
+        leavers_under s.names (scope.Tree _) l,
+        refl,
+        (λ j apart. closed_but j (scope.Tree _) l (out_under s.names j (scope.Tree _) l apart)),
+        (λ distinct e here makes apart client stands. disconnected_place (opens_under (scope.Tree _) l) _ l e.1.place client (apart_under (scope.Tree _) l e here makes (out_under s.names e.1.opened (scope.Tree _) l apart)) stands),
+      )),
+    )))
 
 opens_by : (s : CoreState) (others : ℕ) (l : Lists) (h : SmbHead) (client : List ℕ) (place : Place) (c : CreateCallItem) (file : ℕ) (room : Bool) → has_place place client l ≡ true → has_room_for_open others l (s.counter + 1) ≡ room → Sorts s l (if room then open_as s others l h client place c file (s.counter + 1) else Fails statuses.InsufficientResources)
 opens_by s others l h client place c file true there is = record {
-  client = open_client place.connection file (s.counter + 1) c;
-  asks = made_for place.connection file (s.counter + 1) c;
+  client = open_client place.connection (s.counter + 1) (open_row file client place c) c;
+  asks = made_for place.connection (s.counter + 1) (open_row file client place c) c;
   opened = refl;
   next = refl;
   makes = refl;
   held = refl;
   place = there;
   free = second (nat_lt (all_opens others l) most_opens) (is_some (open_of (s.counter + 1) l)) is;
-  asker = share_asked place.connection file (s.counter + 1) c client place;
+  asker = share_asked place.connection (s.counter + 1) (open_row file client place c) c;
 }
   where
     second : (a b : Bool) → (a && not b) ≡ true → b ≡ false
@@ -740,9 +786,13 @@ opens_by s others l h client place c file true there is = record {
     second false b h = absurd (false≢true h)
 opens_by s others l h client place c file false there is = tt
 
-found_by : (s : CoreState) (others : ℕ) (l : Lists) (h : SmbHead) (client : List ℕ) (place : Place) (c : CreateCallItem) (file : ℕ) (makes : Bool) → has_place place client l ≡ true → Sorts s l (if makes then Fails statuses.ObjectNameCollision else open_file s others l h client place c file)
+keyed_by : (s : CoreState) (others : ℕ) (l : Lists) (h : SmbHead) (client : List ℕ) (place : Place) (c : CreateCallItem) (file : ℕ) (elsewhere : Bool) → has_place place client l ≡ true → Sorts s l (if elsewhere then Fails statuses.InvalidParameter else open_file s others l h client place c file)
+keyed_by s others l h client place c file true there = tt
+keyed_by s others l h client place c file false there = opens_by s others l h client place c file (has_room_for_open others l (s.counter + 1)) there refl
+
+found_by : (s : CoreState) (others : ℕ) (l : Lists) (h : SmbHead) (client : List ℕ) (place : Place) (c : CreateCallItem) (file : ℕ) (makes : Bool) → has_place place client l ≡ true → Sorts s l (if makes then Fails statuses.ObjectNameCollision else open_keyed s others l h client place c file)
 found_by s others l h client place c file true there = tt
-found_by s others l h client place c file false there = opens_by s others l h client place c file (has_room_for_open others l (s.counter + 1)) there refl
+found_by s others l h client place c file false there = keyed_by s others l h client place c file (is_key_elsewhere file (lease_key client (key_asked c)) l) there
 
 found_sorts : (s : CoreState) (others : ℕ) (l : Lists) (h : SmbHead) (client : List ℕ) (place : Place) (c : CreateCallItem) (file : Option ℕ) → has_place place client l ≡ true → Sorts s l (open_found s others l h client place c file)
 found_sorts s others l h client place c None there = tt
@@ -759,25 +809,25 @@ create_sorts s files others l conn client h c =
     by_session (Sorts s l) (λ number. is_session_on conn (session_of number l)) _ (number_in s h.session_id) tt
     (λ k on. by_tree (Sorts s l) (create_on s files others l h client c) _ (has_place _ client l) tt (λ there. create_by s others l h client _ c (file_spelled files c.name) (nat_lt 5 c.disposition) (overwrites c.disposition) there))
 
-close_open_sorts : (s : CoreState) (l : Lists) (number : ℕ) → Sorts s l (close_open l number)
-close_open_sorts s l number = (refl, inr (inl (number ∷ [], refl, (λ j apart. closed_apart j (number ∷ []) l apart), (λ distinct e here makes apart client stands. closed_place (number ∷ []) l e.1.place client stands))))
+close_open_sorts : (s : CoreState) (l : Lists) (number : ℕ) → Sorts s l (close_open s l number)
+close_open_sorts s l number = (refl, inr (inl ((number, party_going s.names l number) ∷ [], refl, (λ j apart. closed_apart j (number ∷ []) l apart), (λ distinct e here makes apart client stands. closed_place (number ∷ []) l e.1.place client stands))))
 
 close_sorts : (s : CoreState) (l : Lists) (conn : ℕ) (client : List ℕ) (h : SmbHead) (id : FileId) → Sorts s l (close s l conn client h id)
 unfolding close
 close_sorts s l conn client h id =
     by_session (Sorts s l) (λ number. is_session_on conn (session_of number l)) _ (number_in s h.session_id) tt
-    (λ k on. by_tree (Sorts s l) _ _ (has_place _ client l) tt (λ there. by_open (Sorts s l) (λ number. is_open_on conn (open_of number l)) (close_open l) (file_number s id) tt (λ number under. close_open_sorts s l number)))
+    (λ k on. by_tree (Sorts s l) _ _ (has_place _ client l) tt (λ there. by_open (Sorts s l) (λ number. is_open_on conn (open_of number l)) (close_open s l) (file_number s id) tt (λ number under. close_open_sorts s l number)))
 
-lock_by_sorts : (s : CoreState) (l : Lists) (conn : ℕ) (row : Waiting) (file : ℕ) (es : List LockElement) (o : Option SmbStatus) → is_count (length es) ≡ true → row.request ≡ request.Lock → is_open_on row.place.connection (open_of row.opened l) ≡ true → Sorts s l (lock_by conn row file row.opened es o)
-lock_by_sorts s l conn row file es (Some status) count locks under = tt
-lock_by_sorts s l conn row file es None count locks under = (lock_client conn file row.opened es, asks_for conn file row.opened es count, locks, under)
+lock_by_sorts : (s : CoreState) (l : Lists) (conn : ℕ) (row : Waiting) (held : Open) (es : List LockElement) (o : Option SmbStatus) → is_count (length es) ≡ true → row.request ≡ request.Lock → is_open_on row.place.connection (open_of row.opened l) ≡ true → Sorts s l (lock_by conn row row.opened held es o)
+lock_by_sorts s l conn row held es (Some status) count locks under = tt
+lock_by_sorts s l conn row held es None count locks under = (lock_client conn row.opened held es, asks_for conn row.opened held es count, locks, under)
 
 lock_on_sorts : (s : CoreState) (l : Lists) (conn : ℕ) (h : SmbHead) (number : ℕ) (place : Place) (es : List LockElement) (row : Open) (count first : Bool) → is_count (length es) ≡ count → open_of number l ≡ Some row → is_open_on conn (Some row) ≡ true
-    → Sorts s l (if not count then Fails statuses.InvalidParameter else if first then unlock_by l (unlocks s row.file number es) else lock_by conn (waiting_row h (place_of row.holder place) number request.Lock) row.file number es (lock_fault es))
+    → Sorts s l (if not count then Fails statuses.InvalidParameter else if first then unlock_by l (unlocks s number row es) else lock_by conn (waiting_row h (place_of row.holder place) number request.Lock) number row es (lock_fault es))
 lock_on_sorts s l conn h number place es row false first is at on = tt
-lock_on_sorts s l conn h number place es row true true is at on = (refl, inl ((λ n. unlocks_wait n s row.file number es), refl, (λ p client here. here)))
+lock_on_sorts s l conn h number place es row true true is at on = (refl, inl ((λ n. unlocks_wait n s number row es), refl, (λ p client here. here)))
 lock_on_sorts s l conn h number place es row true false is at on =
-    lock_by_sorts s l conn (waiting_row h (place_of row.holder place) number request.Lock) row.file es (lock_fault es) is refl
+    lock_by_sorts s l conn (waiting_row h (place_of row.holder place) number request.Lock) row es (lock_fault es) is refl
     (ap (λ (c : ℕ). is_open_on c (open_of number l)) (stands_on conn row.holder place row refl on) ∙ ap (is_open_on conn) at ∙ on)
 
 lock_found_sorts : (s : CoreState) (l : Lists) (conn : ℕ) (h : SmbHead) (number : ℕ) (place : Place) (es : List LockElement) (o : Option Open) → open_of number l ≡ o → is_open_on conn o ≡ true → Sorts s l (lock_found s l conn h number place es o)
@@ -835,13 +885,33 @@ level_by : (s : CoreState) (l : Lists) (level number : ℕ) (lease : Bool) → S
 level_by s l level number true = tt
 level_by s l level number false = ack_open_sorts s l level number (open_of number l)
 
-break_sorts : (s : CoreState) (l : Lists) (conn : ℕ) (b : Acknowledgement) → Sorts s l (break_by s l conn b)
-break_sorts s l conn (held.Oplock level id) = by_open (Sorts s l) (λ number. is_open_on conn (open_of number l)) (ack_level s l level) (file_number s id) tt (λ number on. level_by s l level number (level == 0xFF))
-break_sorts s l conn (held.Lease lease) = tt
+-- ---- of a lease
 
-acknowledge_sorts : (s : CoreState) (l : Lists) (conn : ℕ) (h : SmbHead) (b : Acknowledgement) → Sorts s l (acknowledge s l conn h b)
+lease_kept_sorts : (s : CoreState) (l : Lists) (lease : Lease) (cache : Claim) (may : Bool) → Sorts s l (if may then Does (Acks cache (kind_of_state lease.state) ∷ []) l (told.Answered (lease_left lease)) else Fails statuses.RequestNotAccepted)
+lease_kept_sorts s l lease cache true = acked_sorts s l cache (kind_of_state lease.state) (told.Answered (lease_left lease))
+lease_kept_sorts s l lease cache false = tt
+
+lease_by_sorts : (s : CoreState) (l : Lists) (lease : Lease) (cache : Claim) (what : What) → Sorts s l (ack_lease_by l lease cache what)
+lease_by_sorts s l lease cache (whats.Cache kind None) = tt
+lease_by_sorts s l lease cache (whats.Cache kind (Some running)) = lease_kept_sorts s l lease cache (may_keep lease.state running)
+lease_by_sorts s l lease cache (whats.Share access deny) = tt
+lease_by_sorts s l lease cache (whats.Range extent exclusive) = tt
+
+lease_cache_sorts : (s : CoreState) (l : Lists) (lease : Lease) (o : Option Claim) → Sorts s l (ack_cache l lease o)
+lease_cache_sorts s l lease None = tt
+lease_cache_sorts s l lease (Some cache) = lease_by_sorts s l lease cache cache.what
+
+lease_sorts : (s : CoreState) (l : Lists) (client : List ℕ) (lease : Lease) (o : Option LeaseRow) → Sorts s l (ack_lease s l client lease o)
+lease_sorts s l client lease None = tt
+lease_sorts s l client lease (Some row) = lease_cache_sorts s l lease (cache_of row.file (lease_party s.names client lease.key) s.claims)
+
+break_sorts : (s : CoreState) (l : Lists) (conn : ℕ) (client : List ℕ) (b : Acknowledgement) → Sorts s l (break_by s l conn client b)
+break_sorts s l conn client (held.Oplock level id) = by_open (Sorts s l) (λ number. is_open_on conn (open_of number l)) (ack_level s l level) (file_number s id) tt (λ number on. level_by s l level number (level == 0xFF))
+break_sorts s l conn client (held.Lease lease) = lease_sorts s l client lease (lease_row (record { client = client; key = lease.key }) l)
+
+acknowledge_sorts : (s : CoreState) (l : Lists) (conn : ℕ) (client : List ℕ) (h : SmbHead) (b : Acknowledgement) → Sorts s l (acknowledge s l conn client h b)
 unfolding acknowledge
-acknowledge_sorts s l conn h b = by_session (Sorts s l) (λ number. is_session_on conn (session_of number l)) _ (number_in s h.session_id) tt (λ k on. break_sorts s l conn b)
+acknowledge_sorts s l conn client h b = by_session (Sorts s l) (λ number. is_session_on conn (session_of number l)) _ (number_in s h.session_id) tt (λ k on. break_sorts s l conn client b)
 
 -- ---- a request
 
@@ -856,7 +926,7 @@ commanded_sorts s files others l conn h (Close c) client = close_sorts s l conn 
 commanded_sorts s files others l conn h (Lock c) client = lock_sorts s l conn client h c
 commanded_sorts s files others l conn h Cancel client = cancel_sorts s l conn h
 commanded_sorts s files others l conn h Echo client = nothing_sorts s l told.Echoed
-commanded_sorts s files others l conn h (OplockBreak b) client = acknowledge_sorts s l conn h b
+commanded_sorts s files others l conn h (OplockBreak b) client = acknowledge_sorts s l conn client h b
 commanded_sorts s files others l conn h (Negotiate c) client = tt
 commanded_sorts s files others l conn h Other client = tt
 
@@ -924,12 +994,13 @@ made_alone id row made l e here makes other (request.Create own) it under =
 
 stood_leaves : (s : CoreState) (id : ℕ) (row : Waiting) (made : Open) (stands : Bool) (l : Lists) → IsIn (id, row) l.waiting → row.request ≡ request.Create made → Leaves id l (stood s id row made stands (waiting_dropped id l)).1
 stood_leaves s id row made true l here makes =
-    let m : Lists = open_added row.opened made (waiting_dropped id l) in (
-      refl,
-      λ e other under. keeps_by l m e e.1.request (λ c on. still_open c e.1.opened row.opened made l.opens (open_of e.1.opened l) refl on) (λ it. record {
-        places = λ client there. there;
-        opens = λ free. still_free e.1.opened row.opened made l.opens (made_alone id row made l e here makes other e.1.request it under) free;
-        rows = λ x there m at. removed_in (nat_eq id) l.waiting x there;
+    let d : Lists = waiting_dropped id l in
+    let m : Lists = with_open row.opened made d in (
+      ap (λ (x : Lists). x.waiting) (with_keeps row.opened made d),
+      λ e other under. keeps_by l m e e.1.request (λ c on. came_open c e.1.opened row.opened made d on) (λ it. record {
+        places = λ client there. came_places row.opened made d e.1.place client there;
+        opens = λ free. came_free e.1.opened row.opened made d (made_alone id row made l e here makes other e.1.request it under) free;
+        rows = λ x there m at. removed_in (nat_eq id) l.waiting x (came_waiting row.opened made d x there);
       }),
     )
 stood_leaves s id row made false l here makes = only_gone id l (waiting_dropped id l) refl refl refl refl
@@ -1003,9 +1074,9 @@ gone_but conn k l apart =
 pub end_awaited : (f : FrontSmb) (s : CoreState) (conn : ℕ) → IsSound f.state → AreDistinct f.state → AreAwaited s f.state → AreAwaited (smb_end f s conn).2 (smb_end f s conn).1.state
 unfolding smb_end
 end_awaited f s conn sound distinct all =
-    let numbers : List ℕ = numbers_under (scope.Connection conn) f.state in
-    let told : List Effect = (all_ended numbers s).0 in
-    let t : CoreState = (all_ended numbers s).1 in
+    let going : List (ℕ × Option Party) = leavers_under s.names (scope.Connection conn) f.state in
+    let told : List Effect = (all_ended going s).0 in
+    let t : CoreState = (all_ended going s).1 in
     let l : Lists = gone_lists conn f.state in
     let ids : List ℕ = keys_of l.waiting in
     let left : Lists = (dismissed told ids l).1 in
@@ -1017,14 +1088,14 @@ end_awaited f s conn sound distinct all =
     let old : IsIn e f.state.waiting = found.0 in
     let before : (x : ℕ × Waiting) → IsIn x left.waiting → IsIn x f.state.waiting = λ x h. (in_filter_from (λ (y : ℕ × Waiting). not (eqb y.1.place.connection conn)) x f.state.waiting (subst (λ (es : List (ℕ × Waiting)). IsIn x es) rows (dismissed_in told ids l x h))).0 in
     let is = all_in (IsAwaited s f.state) e f.state.waiting all old in
-    elim (cases_Bool (list_any (nat_eq e.1.opened) numbers)) [
+    elim (cases_Bool (list_any (nat_eq e.1.opened) (numbers_in going))) [
       | inl gone ↦ (
-          let over : is_cancelled is.waiter.id (all_told_of 0 s (ends numbers)) ≡ true = ends_tell 0 numbers s is.waiter is.waits (waits_some numbers is.waiter e.1.opened is.own gone) in
-          let ended : is_cancelled e.0 told ≡ true = subst (λ (k : ℕ). is_cancelled k told ≡ true) is.number (subst (λ (es : List Effect). is_cancelled is.waiter.id es ≡ true) (ended_told 0 s numbers) over) in
+          let over : is_cancelled is.waiter.id (all_told_of 0 s (ends going)) ≡ true = ends_tell 0 going s is.waiter is.waits (waits_some going is.waiter e.1.opened is.own gone) in
+          let ended : is_cancelled e.0 told ≡ true = subst (λ (k : ℕ). is_cancelled k told ≡ true) is.number (subst (λ (es : List Effect). is_cancelled is.waiter.id es ≡ true) (ended_told 0 s going) over) in
           absurd (dismissed_out told ids l e apart (key_in l.waiting e there) ended here))
       | inr stays ↦ moved s t f.state left e is
-          (((end_without f s conn).waiters is.waiter).1 (is.waits, waits_none numbers is.waiter e.1.opened is.alone stays))
-          (let same : open_of e.1.opened left ≡ open_of e.1.opened f.state = ap (λ (es : List (ℕ × Open)). lookup (nat_eq e.1.opened) es) (dismissed_opens told ids l) ∙ gone_but conn e.1.opened f.state stays in
+          (((end_without f s conn).waiters is.waiter).1 (is.waits, waits_none going is.waiter e.1.opened is.alone stays))
+          (let same : open_of e.1.opened left ≡ open_of e.1.opened f.state = ap (λ (es : List (ℕ × Open)). lookup (nat_eq e.1.opened) es) (dismissed_opens told ids l) ∙ gone_but conn e.1.opened f.state (out_under s.names e.1.opened (scope.Connection conn) f.state stays) in
           keeps_by f.state left e e.1.request (same_stays e.1.opened f.state left same) (λ makes. record {
             places = λ client here. ended_place f s conn e.1.place client sound distinct (not_so (eqb e.1.place.connection conn) found.1) here;
             opens = λ free. ap (λ (o : Option Open). is_some o) same ∙ free;

@@ -23,3 +23,4 @@ pub mod StayLaws
 pub mod LeftLaws
 pub mod KeepLaws
 pub mod StandLaws
+pub mod LeaseLaws

@@ -39,7 +39,7 @@ use Rattle.xl_core.specs.declared.ask.Effect.{Effect}
 use Rattle.xl_core.specs.declared.ask.Effect.TheVariants as effects
 use Rattle.xl_smb_locks.proofs.ToldLaws.{granted_stands, granted_told}
 use Rattle.xl_smb_locks.specs.Finals.{final_outs, holder_stands, may_stand, opened_reply}
-use Rattle.xl_smb_locks.specs.Levels.{id_of, level_held}
+use Rattle.xl_smb_locks.specs.Levels.{id_of, caching}
 use Rattle.xl_front_smb.specs.Awaits.{AreAwaited, AsksToOpen, IsAskerOf, IsAwaited, IsGranted, IsUnder, MayStand}
 use Rattle.xl_front_smb.specs.FrontSmb.{smb_shown}
 use Rattle.xl_front_smb.specs.State.{FrontSmb}
@@ -226,6 +226,6 @@ module _ (n : ℕ) (left : Rooms) (s t u : CoreState) (f : FrontSmb) (id : ℕ) 
   unfolding smb_shown
   granted_row good all is = granted_stands u f.state id claim row made is.waits is.makes (stands good all is).may
 
-  pub granted_reply : IsGood s → AreAwaited s f.state → IsGranted n left s t f.state id row made claim → (smb_shown f u (effects.Served id (answers.Granted claim))).0 ≡ final_outs row (opened_reply id row (id_of u row.opened) (level_held u made.file row.opened))
+  pub granted_reply : IsGood s → AreAwaited s f.state → IsGranted n left s t f.state id row made claim → (smb_shown f u (effects.Served id (answers.Granted claim))).0 ≡ final_outs row (opened_reply id row (id_of u row.opened) (caching u row.opened made))
   unfolding smb_shown
   granted_reply good all is = ap (λ (r : List Out × Lists). r.0) (granted_told u f.state id claim row made is.waits is.makes (stands good all is).may)

@@ -2,7 +2,6 @@
 use Rattle.std.specs.Prelude.{◌≡◌, ◌↔◌, ℕ, nat_eq, ◌-◌, ◌==◌, ◌<◌, ◌≤◌, Bool, true, false, not, List, [], ◌∷◌, length, Some, is_some}
 use Rattle.std.specs.List.{AllByRecursion, list_any}
 use Rattle.xl_base.specs.Lists.{IsIn}
-use Rattle.xl_base.specs.declared.name.Party.TheVariants as parties
 use Rattle.xl_matrix.specs.Blocks.{is_share}
 use Rattle.xl_matrix.specs.declared.claim.Claim.{Claim}
 use Rattle.xl_base.specs.declared.name.Owner.TheVariants as owners
@@ -17,7 +16,7 @@ use Rattle.xl_wait.specs.declared.waiter.Rooms.{Rooms}
 use Rattle.xl_wait.specs.declared.waiter.Waiter.{Waiter}
 use Rattle.xl_core.specs.Asking.{is_named}
 use Rattle.xl_core.specs.Deeds.{Deed, Asks}
-use Rattle.xl_core.specs.Settle.{settle, waits_for}
+use Rattle.xl_core.specs.Settle.{settle, waits_as}
 use Rattle.xl_core.specs.State.{CoreState}
 use Rattle.xl_core.specs.declared.ask.Answer.TheVariants.{Granted}
 use Rattle.xl_core.specs.declared.ask.Effect.{Effect}
@@ -60,8 +59,8 @@ pub record IsAwaited (s : CoreState) (l : Lists) (e : ℕ × Waiting) : Type 0 w
   pub waiter : Waiter
   pub waits : IsIn waiter s.waiters
   pub number : waiter.id ≡ e.0
-  pub own : waits_for (parties.Open e.1.opened) waiter ≡ true
-  pub alone : (k : ℕ) → waits_for (parties.Open k) waiter ≡ true → k ≡ e.1.opened
+  pub own : waits_as e.1.opened waiter ≡ true
+  pub alone : (k : ℕ) → waits_as k waiter ≡ true → k ≡ e.1.opened
   pub asker : IsAskerOf waiter e.1.opened e.1.request
   pub under : IsUnder l e e.1.request
 
@@ -71,7 +70,7 @@ AreAwaited s l = AllByRecursion (IsAwaited s l) l.waiting
 
 -- The waiter has its row, where it asks for claims of an SMB open: a row of its number, of that open.
 abbrev pub IsKept : Lists → Waiter → Type 0
-IsKept l w = (k : ℕ) → waits_for (parties.Open k) w ≡ true → (row : Waiting) × (waiting_of w.id l ≡ Some row) × (row.opened ≡ k)
+IsKept l w = (k : ℕ) → waits_as k w ≡ true → (row : Waiting) × (waiting_of w.id l ≡ Some row) × (row.opened ≡ k)
 
 -- so has each
 abbrev pub AreKept : CoreState → Lists → Type 0
@@ -79,7 +78,7 @@ AreKept s l = AllByRecursion (IsKept l) s.waiters
 
 -- the deed is an ask by an SMB open
 abbrev pub is_open_ask : Deed → Bool
-is_open_ask (Asks left a) = not (is_named a.party)
+is_open_ask (Asks left a) = not (is_named a.owner)
 is_open_ask deed = false
 
 -- of the requests that wait just those stay that wait for none of these opens

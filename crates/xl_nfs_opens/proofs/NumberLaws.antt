@@ -25,7 +25,7 @@ use Rattle.xl_nfs_state.specs.declared.stateid.Whose.TheVariants as whose
 use Rattle.xl_core.proofs.DeedLists.{deeds_good}
 use Rattle.xl_core.proofs.FrameLaws.{ask_frame, end_party_frame, give_back_frame, renew_frame, weaken_frame}
 use Rattle.xl_core.specs.Decide.{ask}
-use Rattle.xl_core.specs.Deeds.{Deed, Asks, GivesBack, Weakens, Acks, Cancels, Ends, Serves, Draws, Advances, Lapses, Renews, Expires, done, all_done, IsFitDeed, AreFit}
+use Rattle.xl_core.specs.Deeds.{Deed, Asks, GivesBack, Weakens, Acks, Cancels, Ends, Closes, Serves, Draws, Advances, Lapses, Renews, Expires, done, all_done, IsFitDeed, AreFit}
 use Rattle.xl_core.specs.Good.{IsGood}
 use Rattle.xl_core.specs.State.{CoreState, drawn}
 use Rattle.xl_core.specs.declared.ask.Answer.{Answer}
@@ -156,6 +156,7 @@ deed_rises n s Client (Ends party) good fit own = (let frame = end_party_frame s
 deed_rises n s Client (Renews id) good fit own = (let frame = renew_frame s id in omega (arith, frame.counter))
 deed_rises n s Client (Acks cache to) good fit own = absurd own
 deed_rises n s Client (Cancels id) good fit own = absurd own
+deed_rises n s Client (Closes number party) good fit own = absurd own
 deed_rises n s Client (Serves left) good fit own = absurd own
 deed_rises n s Client (Advances now) good fit own = absurd own
 deed_rises n s Client (Lapses cache) good fit own = absurd own

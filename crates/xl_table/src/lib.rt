@@ -8,6 +8,7 @@ mod files;
 mod holding;
 mod law;
 mod least;
+mod leaver;
 mod listing;
 mod marks;
 mod ordering;
@@ -26,5 +27,6 @@ pub use law::{
     united_shares_stay_compatible, unlocks_grow_only_by_a_cut,
 };
 pub use least::least_of;
+pub use leaver::Leaver;
 pub use table::{CLAIMS, Table, TableErr};
 pub use xl_matrix::is_blocked_by;

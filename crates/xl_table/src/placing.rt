@@ -1,13 +1,13 @@
 //! Where a claim stands among those of its file.
 ghost use Rattle.std.specs.Prelude.{◌≡◌, ◌+◌, ◌<◌, ◌≤◌, ◌^◌, ◌∷◌, ◌++◌, true, false, length, take, drop, vec_len, IfSome, IfNone, IsTrue, ◌↔◌, OnOk, OnErr};
-ghost use Rattle.std.specs.List.{list_any, prefix_len, remove};
+ghost use Rattle.std.specs.List.{find, list_any, prefix_len, remove};
 ghost use Rattle.xl_table.specs.Pages.{paged, AreFull, IsFoundAt};
 ghost use Rattle.xl_matrix.specs.Equal.{same_claims};
 ghost use Rattle.xl_base.specs.Lists.{IsIn, Pairwise};
 ghost use Rattle.xl_table.specs.Order.{goes_first};
 ghost use Rattle.xl_table.specs.Files.{joined, IsFiled, IsAt};
 ghost use Rattle.xl_table.specs.Flat.{inserted, removed, changed, with_what};
-ghost use Rattle.xl_table.specs.Elements.{is_held, taken_back, CameLast};
+ghost use Rattle.xl_table.specs.Elements.{is_held, is_element, taken_back, CameLast};
 
 use crate::files::{OnFile, find_file, on_file};
 use crate::marks::Mark;
@@ -15,7 +15,7 @@ use crate::ordering::key_of;
 use crate::page::Page;
 use crate::pages::{count_passing, move_claim, splice, take_between};
 use std::alloc::AllocError;
-use xl_matrix::{Claim, What, same_claim};
+use xl_matrix::{Claim, What, is_a_range, same_claim, same_owner};
 
 /// The place of a claim: behind all that stand no later.
 #[tactic(auto, using(crate::proofs::SectionLaws::upto_parted, crate::proofs::PlaceLaws::placed_upto))]
@@ -102,6 +102,56 @@ pub(crate) fn is_held(lists: &[OnFile], claim: &Claim) -> bool
     ensures held { IsTrue result ↔ IsIn claim.now (joined lists.now) }
 {
     has_in(on_file(lists, claim.file), claim)
+}
+
+/// Whether a held claim is a range of the asker's on its file, and is this one.
+#[tactic(auto, using(crate::proofs::ElementLaws::alike_what))]
+fn is_element(ask: &Claim, what: What, held: &Claim) -> bool
+    ensures { result ≡ is_element ask.now what held.now }
+{
+    let other = Claim {
+        file: held.file,
+        owner: held.owner,
+        party: held.party,
+        what,
+    };
+    held.file == ask.file
+        && same_owner(held.owner, ask.owner)
+        && is_a_range(held.what)
+        && same_claim(held, &other)
+}
+
+/// The first of these claims that is a range of the asker's on its file, and is this one.
+fn first_element(claims: &[Claim], ask: &Claim, what: What) -> Option<Claim>
+    ensures { result ≡ find (is_element ask.now what) claims.now }
+{
+    claims
+        .iter()
+        .find(|claim| is_element(ask, what, claim))
+        .copied()
+}
+
+/// The first such claim in these pages.
+#[tactic(auto, using(crate::proofs::ElementLaws::first_in_page, crate::proofs::ElementLaws::first_behind))]
+fn element_in(pages: &[Page], ask: &Claim, what: What) -> Option<Claim>
+    ensures { result ≡ find (is_element ask.now what) (paged pages.now) }
+{
+    match pages {
+        [] => None,
+        [page, rest @ ..] => match first_element(page.as_slice(), ask, what) {
+            Some(claim) => Some(claim),
+            None => element_in(rest, ask, what),
+        },
+    }
+}
+
+/// The first such claim on the asker's file.
+#[tactic(auto, using(crate::proofs::ElementLaws::element_here))]
+pub(crate) fn find_element(lists: &[OnFile], ask: &Claim, what: What) -> Option<Claim>
+    requires { IsFiled lists.now }
+    ensures { result ≡ find (is_element ask.now what) (joined lists.now) }
+{
+    element_in(on_file(lists, ask.file), ask, what)
 }
 
 /// Puts a claim at its place among its file's. After an error they are as they were.

@@ -8,11 +8,12 @@ use crate::change::{Change, grant, unlock, write};
 use crate::files::{OnFile, open_file};
 use crate::holding::find_holder;
 use crate::least::least_of;
+use crate::leaver::Leaver;
 use crate::listing::{
-    count_all, drop_party, is_blocked, keep_ranges, list_all, list_blockers, list_due, list_file,
+    count_all, drop_leaver, is_blocked, keep_ranges, list_all, list_blockers, list_due, list_file,
     list_party,
 };
-use crate::placing::{is_held, put, replace, take_back, take_out};
+use crate::placing::{find_element, is_held, put, replace, take_back, take_out};
 use crate::relock::spans_in;
 use crate::section::{caches_on, find_share, has_cache, ranges_by, shares_on};
 use crate::touching::{has_byte, has_range};
@@ -43,18 +44,6 @@ impl<T: Drop> From<AllocFailed<T>> for TableErr {
 
     fn from(_e: AllocFailed<T>) -> TableErr {
         TableErr::NoMemory
-    }
-}
-
-/// The range in this mode, of the one who asks.
-fn element(ask: &Claim, extent: Extent, exclusive: bool) -> Claim
-    ensures { result ≡ with_what ask.now (What.Range extent exclusive) }
-{
-    Claim {
-        file: ask.file,
-        owner: ask.owner,
-        party: ask.party,
-        what: What::Range(extent, exclusive),
     }
 }
 
@@ -90,6 +79,7 @@ impl Table {
     ghost use Rattle.xl_matrix.specs.Owners.{posix};
     ghost use Rattle.xl_table.specs.Flat.{inserted, removed, changed, blocks, is_blocked, is_due, locks, range_key, holder};
     ghost use Rattle.xl_table.specs.Held.{is_range, is_share, is_cache, has_one_party, spans_of, IsGrantable, IsSound, IsKept};
+    ghost use Rattle.xl_table.specs.Leaving.{goes};
     ghost use Rattle.xl_table.specs.Relock.{is_share_of, holds_byte, holds_range, relocked_in, granted_claims};
     ghost use Rattle.xl_table.specs.Changes.{written, MayBeWritten};
     ghost use Rattle.xl_table.specs.Elements.{is_held, element_held, taken_back, CameLast};
@@ -230,21 +220,16 @@ impl Table {
     }
 
     /// The held claim that the unlock of a range by an SMB open takes out: one of just this range, an exclusive one before
-    /// a shared one (MS-FSA 2.1.5.9). None where it holds none; a part of a range, or what covers several, is none. `ask` has
-    /// the open's names and the file. It takes no memory.
+    /// a shared one (MS-FSA 2.1.5.9). None where it holds none; a part of a range, or what covers several, is none. `ask` names
+    /// the open and the file. It takes no memory.
     #[tactic(auto, unfolding(crate::specs::Elements::element_held))]
     pub fn element_held(&self, ask: &Claim, extent: Extent) -> Option<Claim>
         ensures { result ≡ element_held ask.now extent self.now }
     {
-        let exclusive = element(ask, extent, true);
-        if self.contains(&exclusive) {
-            return Some(exclusive);
+        match find_element(&self.lists, ask, What::Range(extent, true)) {
+            Some(claim) => Some(claim),
+            None => find_element(&self.lists, ask, What::Range(extent, false)),
         }
-        let shared = element(ask, extent, false);
-        if self.contains(&shared) {
-            return Some(shared);
-        }
-        None
     }
 
     /// What a grant of the claim changes, once nothing stands in its way: a share takes the place of its owner's on the
@@ -293,12 +278,12 @@ impl Table {
         Ok(())
     }
 
-    /// Takes out the claims of a party. It takes no memory.
+    /// Takes out the claims that go with who leaves. It takes no memory.
     #[tactic(auto, using(crate::proofs::WriteBack::kept_filter))]
-    pub fn remove_party(&mut self, party: Party)
-        ensures { self.new ≡ filter (λ held. not (same_parties held.party party)) self.old }
+    pub fn remove_leaver(&mut self, leaver: Leaver)
+        ensures { self.new ≡ filter (λ held. not (goes leaver held)) self.old }
     {
-        drop_party(&mut self.lists, party);
+        drop_leaver(&mut self.lists, leaver);
         self.count = count_all(&self.lists);
     }
 

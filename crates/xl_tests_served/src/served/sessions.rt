@@ -272,7 +272,7 @@ B 0 : smb create ask .2 s1 made .3 .0 .7 .1 .0 78000a00 none 61002e0074007800740
 B 0 : smb create ask .2 s1 made .3 .0 .7 .1 .0 78000000 none
 # capitals are the small ones; OPEN_IF
 B 0 : smb create ask .2 s1 made .3 .0 .7 .3 .0 78000a00 none 41002e00740058005400
-# batch beside another open is level II; a lease is asked for, and not given
+# batch beside another open is level II; the level of a lease without its context asks for nothing
 B 0 : smb create ask .2 s1 made-batch .3 .0 .7 .1 .0 named-a
 B 0 : smb create ask .2 s1 390000ff0200000000000000000000000000000000000000 .3 .0 .7 .1 .0 named-a
 =>
