@@ -108,12 +108,7 @@ impl Queue {
         if self.waiters.len() >= MOST_WAITERS {
             return Err(QueueErr::Full(MOST_WAITERS as u32));
         }
-        enter(
-            &mut self.waiters,
-            &mut self.files,
-            &mut self.counts,
-            waiter,
-        )?;
+        enter(&mut self.waiters, &mut self.files, &mut self.counts, waiter)?;
         Ok(())
     }
 
@@ -123,12 +118,7 @@ impl Queue {
         ensures waiting { result ≡ is_waiting id self.old }
         ensures after { self.new ≡ cancelled id self.old }
     {
-        take_out(
-            &mut self.waiters,
-            &mut self.files,
-            &mut self.counts,
-            id,
-        )
+        take_out(&mut self.waiters, &mut self.files, &mut self.counts, id)
     }
 
     /// Whether someone waits on this file: whether the first claim that it asks for is there. It takes no memory.
