@@ -20,3 +20,7 @@ pub mod ClearLaws
 pub mod PageLaws
 pub mod TouchLaws
 pub mod ElementLaws
+pub mod SideLaws
+pub mod DueLaws
+pub mod CountLaws
+pub mod CacheLaws

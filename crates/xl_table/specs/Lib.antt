@@ -10,3 +10,4 @@ pub mod Clear
 pub mod Bounds
 pub mod Pages
 pub mod Elements
+pub mod Due

@@ -4,6 +4,7 @@
 mod block;
 mod bounds;
 mod change;
+mod due;
 mod files;
 mod holding;
 mod law;
