@@ -19,5 +19,6 @@ pub mod CancelLaws
 pub mod PlaceLaws
 pub mod AwaitLaws
 pub mod RoomLaws
+pub mod ApartLaws
 pub mod StayLaws
 pub mod StandLaws

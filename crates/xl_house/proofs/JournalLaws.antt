@@ -13,7 +13,10 @@ use Rattle.xl_core.specs.declared.lease.Times.{Times}
 use Rattle.xl_front_nlm.specs.Short.{AreShort}
 use Rattle.xl_house.specs.Machine.{Whole, times_of, begin, step}
 use Rattle.xl_house.specs.Journals.{replay, IsLegal, entry, entries_of, is_restart}
+use Rattle.xl_house.specs.Awaited.{IsAwaiting}
 use Rattle.xl_house.specs.Free.{IsFree}
+use Rattle.xl_smb_state.specs.Links.{AreDistinct, IsSound}
+use Rattle.xl_house.proofs.AwaitedLaws.{step_awaits}
 use Rattle.xl_house.specs.Housed.{Holds, Stands}
 use Rattle.xl_house.proofs.MachineLaws.{begin_free, none_made, next_place, step_free, step_still}
 
@@ -63,6 +66,7 @@ begun_stands head s e = record {
   replayed = e;
   place = ap (λ (w : Whole). w.place) e;
   free = subst (λ (w : Whole). IsFree w) (sym e) (begin_free head);
+  awaits = subst (λ (w : Whole). IsAwaiting w) (sym e) tt;
   numbers = started_numbers s (raised head.record) head.start (times_of head.exports) (ap (λ (w : Whole). w.core) e);
   short = started_short s (raised head.record) head.start (times_of head.exports) (ap (λ (w : Whole). w.core) e);
 }
@@ -73,13 +77,14 @@ holds_started held s stable now times e holds = subst (λ (c : CoreState). Holds
 pub holds_stands : (held : Option Stable) (start s : Whole) (es : List Entry) → Stands start es s → Holds held s.core.stable → Holds held (replay start es).core.stable
 holds_stands held start s es stands holds = subst (λ (w : Whole). Holds held w.core.stable) stands.replayed holds
 
-pub stands_next : (start : Whole) (es : List Entry) (old new : Whole) (event : Event) → Stands start es old → new ≡ (step 0 old event).next → numbers_of new.core ≤ numbers_of old.core + most_numbers → AreShort new.core.names → Stands start (es ++ entry 0 old event ∷ []) new
-stands_next start es old new event stands e numbers short =
+pub stands_next : (start : Whole) (es : List Entry) (old new : Whole) (event : Event) → Stands start es old → IsSound old.front.smb.state → AreDistinct old.front.smb.state → new ≡ (step 0 old event).next → numbers_of new.core ≤ numbers_of old.core + most_numbers → AreShort new.core.names → Stands start (es ++ entry 0 old event ∷ []) new
+stands_next start es old new event stands sound distinct e numbers short =
     let longer = length-append es (entry 0 old event ∷ []) in
     record {
       replayed = e ∙ ap (λ (s : Whole). (step 0 s event).next) stands.replayed ∙ sym (replay_entry start es event) ∙ ap (λ (s : Whole). replay start (es ++ entry 0 s event ∷ [])) (sym stands.replayed);
       place = ap (λ (s : Whole). s.place) e ∙ next_place 0 old event ∙ omega (arith, stands.place, longer);
       free = subst (λ (s : Whole). IsFree s) (sym e) (step_free 0 old event stands.free);
+      awaits = subst (λ (s : Whole). IsAwaiting s) (sym e) (step_awaits 0 old event stands.free sound distinct stands.awaits);
       numbers = omega (arith, numbers, stands.numbers, longer);
       short = short;
     }

@@ -7,7 +7,8 @@ pub mod SettleLaws
 pub mod HearLaws
 pub mod DoneLaws
 pub mod MachineLaws
+pub mod LawfulLaws
+pub mod AwaitedLaws
 pub mod JournalLaws
 pub mod OrderLaws
-pub mod LawfulLaws
 pub mod HollowLaws

@@ -4,6 +4,7 @@ pub mod Done
 pub mod Lawful
 pub mod Journals
 pub mod Free
+pub mod Awaited
 pub mod Housed
 pub mod Starts
 pub mod Whole

@@ -4,6 +4,8 @@ ghost use Rattle.xl_base.specs.Limits.{most_numbers};
 ghost use Rattle.xl_base.specs.Stable.{raised};
 ghost use Rattle.xl_core.specs.Numbers.{numbers_of};
 ghost use Rattle.xl_front_nlm.specs.Short.{AreShort};
+ghost use Rattle.xl_smb_state.specs.Links.{AreDistinct, IsSound};
+ghost use Rattle.xl_house.specs.Awaited.{AllStand, IsAwaiting};
 ghost use Rattle.xl_house.specs.Free.{IsFree, AlwaysFree};
 ghost use Rattle.xl_house.specs.Housed.{Housed, is_spoiled, Holds, Stands};
 ghost use Rattle.xl_house.specs.Journals.{replay, IsLegal, IsOrderly, entry, is_restart};
@@ -65,6 +67,7 @@ impl<K: Keeper> Model for House<K> {
 }
 
 /// Acts on one event and enters it, at this place. A full journal leaves all as it was.
+#[tactic(auto, using(crate::proofs::AwaitedLaws::all_stand))]
 fn act_and_enter<K: Keeper>(
     alloc: Global,
     exports: &Exports,
@@ -76,6 +79,7 @@ fn act_and_enter<K: Keeper>(
     requires place { machine.old.place ≡ length entries.old }
     requires few { length entries.old ≤ 1048576 }
     requires free { IsFree (whole_of exports.now machine.old) }
+    requires awaits { IsAwaiting (whole_of exports.now machine.old) }
     requires numbers { numbers_of machine.old.parts.core ≤ most_numbers * length entries.old }
     requires short { AreShort machine.old.parts.core.names }
     requires goes_on { is_restart event ≡ false }
@@ -89,8 +93,12 @@ fn act_and_enter<K: Keeper>(
     ensures full { (count : ℕ) → (result ≡ Err (Halt.JournalFull count)) ↔ ((count ≡ length entries.old) × (length entries.old ≡ 1048576)) }
     ensures started { (count : ℕ) → result ≡ Err (Halt.StartStore count) → ⊥ }
     ensures kept { IfErr result (λ halt. is_spoiled (Some halt) ≡ false → machine.new ≡ machine.old) }
+    ensures sound { IsSound (whole_of exports.now machine.old).front.smb.state }
+    ensures distinct { AreDistinct (whole_of exports.now machine.old).front.smb.state }
+    ensures stand { OnOk result (AllStand 0 (whole_of exports.now machine.old) event) }
     ensures keeper { keeper.new ≡ keeper.old }
 {
+    machine.parts.front.smb.state().links();
     if entries.len() == MOST_ENTRIES {
         return Err(Halt::JournalFull(entries.len() as u64));
     }
@@ -151,7 +159,7 @@ impl<K: Keeper> House<K> {
 
     /// One event that is no restart, entered with what it did at the place that is answered. After an error the journal
     /// is as it was, and each later step answers the same error: JournalFull exactly where the journal has 1,048,576
-    /// entries. No step stores the record yet.
+    /// entries. No step stores the record yet. Each CREATE that waited and that the step grants has its open.
     #[tactic(auto, using(crate::proofs::JournalLaws::legal_next, crate::proofs::JournalLaws::stands_next))]
     pub fn step(&mut self, alloc: Global, event: Event) -> Result<u64, Halt>
         requires goes_on { is_restart event ≡ false }
@@ -160,6 +168,7 @@ impl<K: Keeper> House<K> {
         ensures stays { IfSome self.old.halt (λ halt. result ≡ Err halt) }
         ensures full { (count : ℕ) → self.old.halt ≡ None → (result ≡ Err (Halt.JournalFull count)) ↔ ((count ≡ length self.old.entries) × (length self.old.entries ≡ 1048576)) }
         ensures started { (count : ℕ) → self.old.halt ≡ None → result ≡ Err (Halt.StartStore count) → ⊥ }
+        ensures stand { OnOk result (AllStand 0 (replay (begin self.old.head) self.old.entries) event) }
         ensures holds { OnOk result (Holds (K.held self.new.keeper) (replay (begin self.new.head) self.new.entries).core.stable) }
     {
         match self.halt {
