@@ -1,6 +1,7 @@
 -- The byte ranges that one SMB open has locked in one file, in the order of locking (MS-FSA 2.1.4.10, 2.1.5.8, 2.1.5.9).
-use Rattle.std.specs.Prelude.{ℕ, ◌+◌, ◌-◌, ◌≤◌, ◌^◌, ◌==◌, nat_lt, nat_le, min, max, Bool, ◌&&◌, ◌||◌, if◌then◌else◌, List, Option, length, take}
+use Rattle.std.specs.Prelude.{ℕ, ◌+◌, ◌-◌, ◌≤◌, ◌^◌, ◌==◌, nat_lt, nat_le, min, max, Bool, ◌&&◌, ◌||◌, if◌then◌else◌, List, Option, length, take, position}
 use Rattle.std.specs.List.{AllByRecursion, find, list_any}
+use Rattle.std.specs.Option.{option_or}
 use Rattle.std.specs.Set.{remove_key as without_first}
 use Rattle.xl_exact.specs.declared.element.Element.{Element}
 
@@ -67,6 +68,10 @@ unlocked first len es =
     if list_any (is_exclusive_at first len) es
     then without_first (is_exclusive_at first len) es
     else without_first (has_range first len) es
+
+-- the place of the element that it takes out
+abbrev pub place_unlocked : ℕ → ℕ → List Element → Option ℕ
+place_unlocked first len es = option_or (position (is_exclusive_at first len) es) (position (has_range first len) es)
 
 -- the elements after the last k locks are taken back
 abbrev pub undone : ℕ → List Element → List Element

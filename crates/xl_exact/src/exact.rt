@@ -1,11 +1,11 @@
 //! An open's exact ranges in one file.
-ghost use Rattle.std.specs.Prelude.{◌≡◌, ℕ, ◌+◌, ◌-◌, ◌≤◌, ◌↔◌, true, false, List, [], ◌∷◌, ◌++◌, if◌then◌else◌, length, take, None, IfSome, OnOk, OnErr, vec_len, vec_capacity, IsTrue, not};
+ghost use Rattle.std.specs.Prelude.{◌≡◌, ℕ, ◌+◌, ◌-◌, ◌≤◌, ◌↔◌, true, false, List, [], ◌∷◌, ◌++◌, if◌then◌else◌, is_some, length, take, None, IfSome, OnOk, OnErr, vec_len, vec_capacity, IsTrue, not};
 ghost use Rattle.std.specs.List.{filter, list_any};
 ghost use Rattle.xl_base.specs.Lists.{IsIn};
-ghost use Rattle.xl_exact.specs.Elements.{IsRange, AreRanges, conflicts, conflicts_own, first_conflict, first_own_conflict, has_range, is_locked, unlocked, undone};
+ghost use Rattle.xl_exact.specs.Elements.{IsRange, AreRanges, conflicts, conflicts_own, first_conflict, first_own_conflict, has_range, is_locked, unlocked, place_unlocked, undone};
 
 use crate::element::Element;
-use crate::listing::{first_conflict, first_own_conflict, unlock};
+use crate::listing::{first_conflict, first_own_conflict, take_out};
 use std::alloc::{AllocError, Global};
 use std::marker::Model;
 
@@ -115,14 +115,26 @@ impl Exact {
     /// Unlocks the `len` bytes from `first` on: takes out the first exclusive element of just this offset and length, or
     /// where there is none the first shared one (MS-FSA 2.1.5.9). False comes exactly where no element has them; then
     /// all is as it was. A part of an element, or what covers several, is no element.
-    #[tactic(auto, using(crate::proofs::ElementLaws::others_unlocked, crate::proofs::ElementLaws::ranges_unlocked))]
     pub fn unlock(&mut self, first: u64, len: u64) -> bool
         ensures value { result ≡ is_locked first len self.old.elements }
         ensures elements { self.new.elements ≡ unlocked first len self.old.elements }
         ensures others { filter (λ e. not (has_range first len e)) self.new.elements ≡ filter (λ e. not (has_range first len e)) self.old.elements }
         ensures spare { self.new.spare ≡ self.old.spare + (if result then 1 else 0) }
     {
-        unlock(&mut self.items, first, len)
+        self.take_out(first, len).is_some()
+    }
+
+    /// Unlocks as `unlock` does, and tells the place that the element had in the order of locking; None where `unlock`
+    /// tells false.
+    #[tactic(auto, using(crate::proofs::ElementLaws::others_unlocked, crate::proofs::ElementLaws::ranges_unlocked))]
+    pub fn take_out(&mut self, first: u64, len: u64) -> Option<usize>
+        ensures value { result ≡ place_unlocked first len self.old.elements }
+        ensures found { is_some result ≡ is_locked first len self.old.elements }
+        ensures elements { self.new.elements ≡ unlocked first len self.old.elements }
+        ensures others { filter (λ e. not (has_range first len e)) self.new.elements ≡ filter (λ e. not (has_range first len e)) self.old.elements }
+        ensures spare { self.new.spare ≡ self.old.spare + (if is_some result then 1 else 0) }
+    {
+        take_out(&mut self.items, first, len)
     }
 
     /// The first element, in the order of locking, that another open's lock of the `len` bytes from `first` on conflicts

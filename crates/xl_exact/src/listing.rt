@@ -1,6 +1,6 @@
 //! Searches of an open's elements, and what an unlock takes out of them.
-ghost use Rattle.std.specs.Prelude.{◌≡◌, ◌+◌, ◌<◌, true, false, length, IfSome, IfNone, if◌then◌else◌, remove, position, vec_len, vec_capacity};
-ghost use Rattle.xl_exact.specs.Elements.{has_range, is_exclusive_at, is_locked, unlocked, first_conflict, first_own_conflict};
+ghost use Rattle.std.specs.Prelude.{◌≡◌, ◌+◌, ◌<◌, true, false, length, IfSome, IfNone, if◌then◌else◌, is_some, remove, position, vec_len, vec_capacity};
+ghost use Rattle.xl_exact.specs.Elements.{has_range, is_exclusive_at, is_locked, unlocked, place_unlocked, first_conflict, first_own_conflict};
 
 use crate::element::{Element, conflicts, conflicts_own, has_range, is_exclusive_at};
 
@@ -25,6 +25,7 @@ fn first_place(elements: &[Element], first: u64, len: u64) -> Option<usize>
 /// The place of the element that an unlock of the range takes out.
 #[tactic(auto, using(crate::proofs::ElementLaws::exclusive_unlocked, crate::proofs::ElementLaws::first_unlocked, crate::proofs::ElementLaws::none_unlocked))]
 pub(crate) fn place_to_unlock(elements: &[Element], first: u64, len: u64) -> Option<usize>
+    ensures value { result ≡ place_unlocked first len elements.now }
     ensures found { IfSome result (λ i. (i < length elements.now) × (is_locked first len elements.now ≡ true) × (unlocked first len elements.now ≡ remove elements.now i)) }
     ensures none { IfNone result ((is_locked first len elements.now ≡ false) × (unlocked first len elements.now ≡ elements.now)) }
 {
@@ -34,19 +35,21 @@ pub(crate) fn place_to_unlock(elements: &[Element], first: u64, len: u64) -> Opt
     }
 }
 
-/// Takes out what an unlock of the range takes; false where no element has just this range.
-pub(crate) fn unlock(items: &mut Vec<Element>, first: u64, len: u64) -> bool
-    ensures value { result ≡ is_locked first len items.old.items }
+/// Takes out what an unlock of the range takes, and tells the place that it had; None where no element has just this
+/// range.
+pub(crate) fn take_out(items: &mut Vec<Element>, first: u64, len: u64) -> Option<usize>
+    ensures value { result ≡ place_unlocked first len items.old.items }
+    ensures found { is_some result ≡ is_locked first len items.old.items }
     ensures items { items.new.items ≡ unlocked first len items.old.items }
-    ensures len { vec_len items.new + (if result then 1 else 0) ≡ vec_len items.old }
+    ensures len { vec_len items.new + (if is_some result then 1 else 0) ≡ vec_len items.old }
     ensures capacity { vec_capacity items.new ≡ vec_capacity items.old }
 {
     match place_to_unlock(items, first, len) {
         Some(place) => {
             let _ = items.remove(place);
-            true
+            Some(place)
         }
-        None => false,
+        None => None,
     }
 }
 
