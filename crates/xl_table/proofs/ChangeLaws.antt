@@ -204,7 +204,7 @@ pub runs_of : (ask : Claim) (first last : ℕ) (cs out : List Claim) (lo hi : �
     → AreRuns ask.file ask.owner ask.party first last (spans_of ask.file ask.owner cs) out
 runs_of ask first last cs out lo hi kept p range ends one at_lo at_hi is =
     are_runs ask.file ask.owner ask.party first last (spans_of ask.file ask.owner cs) out
-    (range_section ask.file ask.owner cs out lo hi kept.ordered at_lo at_hi is ∙ ranges_are ask.file ask.owner ask.party cs p kept.sound.real (of_party ask cs range one))
+    (range_section ask.file ask.owner cs out lo hi kept.ordered at_lo at_hi is ∙ ranges_are ask.file ask.owner ask.party cs p kept.sound.real (of_party ask cs p range one))
     (kept.sound.canonical ask.file ask.owner p) ends
 
 -- ---- a range is locked or unlocked

@@ -1,11 +1,13 @@
 -- The ranges of an SMB open: one put in behind the others, one taken out, the last taken back.
-use Rattle.std.proofs.Common.{◌≡◌, ℕ, ◌-◌, ◌<◌, ◌+◌, suc, zero, Bool, true, false, not, ◌&&◌, ◌||◌, ◌==◌, nat_le, nat_lt, ◌^◌, if◌then◌else◌, List, [], ◌∷◌, ◌++◌, length, Option, Some, None, inl, inr, refl, sym, ap, subst, ◌∙◌, arith}
+use Rattle.std.proofs.Common.{◌≡◌, ℕ, ◌-◌, ◌<◌, ◌+◌, suc, zero, Bool, true, false, not, ◌&&◌, ◌||◌, ◌==◌, nat_le, nat_lt, ◌^◌, if◌then◌else◌, List, [], ◌∷◌, ◌++◌, length, Option, Some, None, is_some, inl, inr, refl, sym, ap, subst, ◌∙◌, arith}
 use Rattle.std.proofs.Math.Numerals.{one-add}
-use Rattle.std.specs.List.{AllByRecursion, filter, list_any, prefix_len, remove}
+use Rattle.std.specs.List.{AllByRecursion, filter, find, list_any, prefix_len, remove}
+use Rattle.std.specs.Option.{option_or}
 use Rattle.std.proofs.lemmas.Bool.{cases_Bool, both_ways, and_parts, and_from, or_parts, false_from_ne_true, eqb-true, eq-eqb, le-leb}
-use Rattle.xl_base.specs.Lists.{Pairwise, placed}
+use Rattle.std.proofs.lemmas.Option.{same_Some}
+use Rattle.xl_base.specs.Lists.{IsIn, Pairwise, placed}
 use Rattle.xl_base.specs.declared.name.Owner.{Owner}
-use Rattle.xl_matrix.proofs.EqualLaws.{same_claims-true, same_owners-true, same_parties-self}
+use Rattle.xl_matrix.proofs.EqualLaws.{same_claims-true, same_claims-self, same_owners-true, same_owners-self, same_parties-self}
 use Rattle.xl_matrix.specs.Equal.{same_owners, same_parties, same_what, same_claims}
 use Rattle.xl_matrix.specs.Owners.{posix}
 use Rattle.xl_matrix.specs.declared.claim.Claim.{Claim}
@@ -14,7 +16,7 @@ use Rattle.xl_matrix.specs.declared.claim.Extent.{Extent}
 use Rattle.xl_matrix.specs.declared.claim.Extent.TheVariants.{Bytes, Empty}
 use Rattle.xl_matrix.specs.declared.claim.What.{What}
 use Rattle.xl_matrix.specs.declared.claim.What.TheVariants.{Share, Range, Cache}
-use Rattle.xl_table.specs.Elements.{elements_of, is_among, without, unlocked_elements, is_held, element_held, taken_out, taken_back, CameLast}
+use Rattle.xl_table.specs.Elements.{elements_of, is_among, without, unlocked_elements, is_element, element_held, taken_out, taken_back, CameLast}
 use Rattle.xl_table.specs.Files.{AreOn, alone, here}
 use Rattle.xl_table.specs.Flat.{inserted, removed, with_what}
 use Rattle.xl_table.specs.Held.{is_of, is_range, is_real_by, is_real, has_one_party, may_own, IsShareOrLock, IsSound, IsKept}
@@ -123,7 +125,7 @@ last_count c cs last =
 
 -- ---- an owner's elements
 
-own_parts : (file : ℕ) (owner : Owner) (c : Claim) → is_range_of file owner c ≡ true → (c.file ≡ file) × (c.owner ≡ owner) × (is_range c.what ≡ true)
+pub own_parts : (file : ℕ) (owner : Owner) (c : Claim) → is_range_of file owner c ≡ true → (c.file ≡ file) × (c.owner ≡ owner) × (is_range c.what ≡ true)
 own_parts file owner c h =
     let both = and_parts (is_of file owner c) (is_range c.what) h in
     let of = and_parts (c.file == file) (same_owners c.owner owner) both.0 in
@@ -196,16 +198,16 @@ elements_apart file owner c (d ∷ ds) other =
 
 -- ---- one taken out
 
--- each of the owner's ranges on the file is of this party
-abbrev pub AreOfParty : Claim → List Claim → Type 0
-AreOfParty c cs = AllByRecursion (λ d. is_range_of c.file c.owner d ≡ true → d.party ≡ c.party) cs
-
-alike_same : (c d : Claim) → is_range_of c.file c.owner d ≡ true → d.party ≡ c.party → same_claims d c ≡ same_what d.what c.what
+-- a claim that is compared with itself, but for what it claims
+alike_what : (c : Claim) (what : What) → same_claims c (with_what c what) ≡ same_what c.what what
 unfolding same_claims
-alike_same c d mine party =
-    let both = and_parts (is_of c.file c.owner d) (is_range d.what) mine in
-    let of = and_parts (d.file == c.file) (same_owners d.owner c.owner) both.0 in
-    rw (of.0, of.1, ap (λ (p : Party). same_parties p c.party) party, same_parties-self c.party) refl
+alike_what c what = rw (eq-eqb c.file c.file refl, same_owners-self c.owner, same_parties-self c.party) refl
+
+pub what_is : (c : Claim) (what : What) → same_what c.what what ≡ true → c.what ≡ what
+what_is c what h = ap (λ (x : Claim). x.what) (same_claims-true c (with_what c what) (alike_what c what ∙ h))
+
+what_self : (c : Claim) → same_what c.what c.what ≡ true
+what_self c = sym (alike_what c c.what) ∙ same_claims-self c
 
 -- a range is equal to no claim that isn't one of its owner's ranges on its file
 other_same : (c d : Claim) → is_range c.what ≡ true → is_range_of c.file c.owner d ≡ false → same_claims d c ≡ false
@@ -217,18 +219,42 @@ other_same c d range other =
           absurd (both_ways (is_range_of c.file c.owner d) other (subst (λ (x : Claim). is_range_of c.file c.owner x ≡ true) (sym is) (and_from (is_of c.file c.owner c) (is_range c.what) (is_own c) range)))
     ]
 
-pub elements_removed : (c : Claim) (cs : List Claim) → is_range c.what ≡ true → AreOfParty c cs → elements_of c.file c.owner (removed c cs) ≡ without c.what (elements_of c.file c.owner cs)
-elements_removed c [] range all = refl
-elements_removed c (d ∷ ds) range all =
-    elim (cases_Bool (is_range_of c.file c.owner d)) [
-      | inl own ↦
-          let same = alike_same c d own (all.0 own) in
-          elim (cases_Bool (same_what d.what c.what)) [
-            | inl e ↦ rw (same, e, own, e) refl
-            | inr e ↦ rw (same, e, own, e) (ap (λ (ws : List What). d.what ∷ ws) (elements_removed c ds range all.1))
-          ]
-      | inr apart ↦ rw (other_same c d range apart, apart) (elements_removed c ds range all.1)
+-- what is found is a range of the asker's on its file, and is what was looked for
+pub element_is : (ask : Claim) (what : What) (cs : List Claim) (c : Claim) → find (is_element ask what) cs ≡ Some c → IsIn c cs × (is_range_of ask.file ask.owner c ≡ true) × (c.what ≡ what)
+element_is ask what [] c e = absurd cc
+element_is ask what (d ∷ ds) c e =
+    elim (cases_Bool (is_element ask what d)) [
+      | inr later ↦ let rest = element_is ask what ds c (rw later at e) in (inr rest.0, rest.1, rest.2)
+      | inl here ↦
+          let same : d ≡ c = same_Some d c (rw here at e) in
+          let parts = and_parts (is_range_of ask.file ask.owner d) (same_what d.what what) here in
+          (inl same, subst (λ (x : Claim). is_range_of ask.file ask.owner x ≡ true) same parts.0, subst (λ (x : Claim). x.what ≡ what) same (what_is d what parts.1))
     ]
+
+-- without it the elements are those without the first that is equal to it
+pub elements_removed : (ask : Claim) (what : What) (cs : List Claim) (c : Claim) → find (is_element ask what) cs ≡ Some c → elements_of ask.file ask.owner (removed c cs) ≡ without what (elements_of ask.file ask.owner cs)
+elements_removed ask what [] c e = absurd cc
+elements_removed ask what (d ∷ ds) c e =
+    elim (cases_Bool (is_range_of ask.file ask.owner d)) [
+      | inl own ↦ elim (cases_Bool (same_what d.what what)) [
+        | inl equal ↦
+            let same : d ≡ c = same_Some d c (rw (own, equal) at e) in
+            rw (subst (λ (x : Claim). same_claims d x ≡ true) same (same_claims-self d), own, equal) refl
+        | inr other ↦
+            let more : find (is_element ask what) ds ≡ Some c = rw (own, other) at e in
+            let is = element_is ask what ds c more in
+            let apart : same_claims d c ≡ false = unequal d c (λ same. both_ways (same_what d.what what) other (ap (λ (w : What). same_what d.what w) (sym is.2 ∙ ap (λ (x : Claim). x.what) (sym same)) ∙ what_self d)) in
+            rw (apart, own, other) (ap (λ (ws : List What). d.what ∷ ws) (elements_removed ask what ds c more))
+      ]
+      | inr apart ↦
+          let more : find (is_element ask what) ds ≡ Some c = rw apart at e in
+          let is = element_is ask what ds c more in
+          let two : same_claims d c ≡ false = unequal d c (λ same. both_ways (is_range_of ask.file ask.owner d) apart (ap (is_range_of ask.file ask.owner) same ∙ is.1)) in
+          rw (two, apart) (elements_removed ask what ds c more)
+    ]
+  where
+    unequal : (x y : Claim) → (x ≡ y → ⊥) → same_claims x y ≡ false
+    unequal x y apart = elim (cases_Bool (same_claims x y)) [ inr e ↦ e | inl same ↦ absurd (apart (same_claims-true x y same)) ]
 
 pub elements_removed_apart : (file : ℕ) (owner : Owner) (c : Claim) (cs : List Claim) → is_range_of file owner c ≡ false → elements_of file owner (removed c cs) ≡ elements_of file owner cs
 elements_removed_apart file owner c [] other = refl
@@ -244,12 +270,16 @@ elements_removed_apart file owner c (d ∷ ds) other =
           ])
     ]
 
-pub among_held : (c : Claim) (cs : List Claim) → is_range c.what ≡ true → AreOfParty c cs → is_held c cs ≡ is_among c.what (elements_of c.file c.owner cs)
-among_held c [] range all = refl
-among_held c (d ∷ ds) range all =
-    elim (cases_Bool (is_range_of c.file c.owner d)) [
-      | inl own ↦ rw (alike_same c d own (all.0 own), own) (ap (λ (b : Bool). same_what d.what c.what || b) (among_held c ds range all.1))
-      | inr apart ↦ rw (other_same c d range apart, apart) (among_held c ds range all.1)
+-- where none is found none of the elements is equal to it, and else one is
+pub among_found : (ask : Claim) (what : What) (cs : List Claim) → is_some (find (is_element ask what) cs) ≡ is_among what (elements_of ask.file ask.owner cs)
+among_found ask what [] = refl
+among_found ask what (d ∷ ds) =
+    elim (cases_Bool (is_range_of ask.file ask.owner d)) [
+      | inl own ↦ elim (cases_Bool (same_what d.what what)) [
+        | inl equal ↦ rw (own, equal) refl
+        | inr other ↦ rw (own, other) (among_found ask what ds)
+      ]
+      | inr apart ↦ rw apart (among_found ask what ds)
     ]
 
 -- what an unlock takes out, among the claims and among the elements
@@ -260,32 +290,28 @@ without_none w (v ∷ vs) none =
     let parts = or_parts (same_what v w) (is_among w vs) none in
     rw parts.0 (ap (λ (ws : List What). v ∷ ws) (without_none w vs parts.1))
 
-pub elements_unlocked : (ask : Claim) (extent : Extent) (cs : List Claim) → AreOfParty ask cs → elements_of ask.file ask.owner (taken_out (element_held ask extent cs) cs) ≡ unlocked_elements extent (elements_of ask.file ask.owner cs)
+pub elements_unlocked : (ask : Claim) (extent : Extent) (cs : List Claim) → elements_of ask.file ask.owner (taken_out (element_held ask extent cs) cs) ≡ unlocked_elements extent (elements_of ask.file ask.owner cs)
 unfolding element_held unlocked_elements
-elements_unlocked ask extent cs all =
-    elim (cases_Bool (is_among (Range extent true) es)) [
-      | inl e ↦
-          ap (λ (b : Bool). told (if b then Some alone else if is_held shared cs then Some shared else None)) (among_held alone cs refl all ∙ e)
-          ∙ elements_removed alone cs refl all
-          ∙ sym (ap (λ (b : Bool). if b then without (Range extent true) es else without (Range extent false) es) e)
-      | inr none ↦
-          ap (λ (b : Bool). told (if b then Some alone else if is_held shared cs then Some shared else None)) (among_held alone cs refl all ∙ none)
-          ∙ second (is_among (Range extent false) es) refl
-          ∙ sym (ap (λ (b : Bool). if b then without (Range extent true) es else without (Range extent false) es) none)
-    ]
-  where
-    es : List What
-    es = elements_of ask.file ask.owner cs
+elements_unlocked ask extent cs = first (find (is_element ask (Range extent true)) cs) refl where
+  es : List What
+  es = elements_of ask.file ask.owner cs
 
-    alone : Claim
-    alone = with_what ask (Range extent true)
+  told : Option Claim → List What
+  told o = elements_of ask.file ask.owner (taken_out o cs)
 
-    shared : Claim
-    shared = with_what ask (Range extent false)
+  left : Bool → List What
+  left b = if b then without (Range extent true) es else without (Range extent false) es
 
-    told : Option Claim → List What
-    told o = elements_of ask.file ask.owner (taken_out o cs)
+  second : (o : Option Claim) → find (is_element ask (Range extent false)) cs ≡ o → told (find (is_element ask (Range extent false)) cs) ≡ without (Range extent false) es
+  second (Some c) e = ap told e ∙ elements_removed ask (Range extent false) cs c e
+  second None e = ap told e ∙ sym (without_none (Range extent false) es (sym (among_found ask (Range extent false) cs) ∙ ap is_some e))
 
-    second : (b : Bool) → is_among (Range extent false) es ≡ b → told (if is_held shared cs then Some shared else None) ≡ without (Range extent false) es
-    second true e = ap (λ (b : Bool). told (if b then Some shared else None)) (among_held shared cs refl all ∙ e) ∙ elements_removed shared cs refl all
-    second false e = ap (λ (b : Bool). told (if b then Some shared else None)) (among_held shared cs refl all ∙ e) ∙ sym (without_none (Range extent false) es e)
+  first : (o : Option Claim) → find (is_element ask (Range extent true)) cs ≡ o → told (option_or (find (is_element ask (Range extent true)) cs) (find (is_element ask (Range extent false)) cs)) ≡ left (is_among (Range extent true) es)
+  first (Some c) e =
+      ap (λ (o : Option Claim). told (option_or o (find (is_element ask (Range extent false)) cs))) e
+      ∙ elements_removed ask (Range extent true) cs c e
+      ∙ sym (ap left (sym (among_found ask (Range extent true) cs) ∙ ap is_some e))
+  first None e =
+      ap (λ (o : Option Claim). told (option_or o (find (is_element ask (Range extent false)) cs))) e
+      ∙ second (find (is_element ask (Range extent false)) cs) refl
+      ∙ sym (ap left (sym (among_found ask (Range extent true) cs) ∙ ap is_some e))

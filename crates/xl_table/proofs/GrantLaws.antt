@@ -107,7 +107,7 @@ unlock_written ask first last n cs on change kept p range ends one is count done
     let act : List Claim → List Claim = λ held. relocked_in ask.file ask.owner ask.party first last None held in
     written_as act change ask.file n cs on
     (done_alone ask.file act (relocked_parts ask.file ask.owner ask.party first last None) cs kept.ordered) kept.ordered is count done fits
-    (sound_relocked ask.file ask.owner ask.party first last None cs kept p ends (of_party ask cs range one))
+    (sound_relocked ask.file ask.owner ask.party first last None cs kept p ends (of_party ask cs p range one))
     (ordered_relocked ask.file ask.owner ask.party first last None cs kept.ordered)
 
 -- a grant leaves claims that a table may hold
@@ -126,7 +126,7 @@ left_granted c cs kept p one = by c.what refl p.0 p.1 where
   by (Range (Bytes first last) exclusive) is ends own =
       elim (cases_Bool (posix c.owner)) [
         | inl named ↦ rw named (record {
-          sound = sound_relocked c.file c.owner c.party first last (Some (mode_of exclusive)) cs kept named ends (of_party c cs (ap is_range is) one);
+          sound = sound_relocked c.file c.owner c.party first last (Some (mode_of exclusive)) cs kept named ends (of_party c cs named (ap is_range is) one);
           ordered = ordered_relocked c.file c.owner c.party first last (Some (mode_of exclusive)) cs kept.ordered;
         })
         | inr unnamed ↦ rw unnamed (left_entered c cs kept unnamed (real_element c (Range (Bytes first last) exclusive) is ends own) one)

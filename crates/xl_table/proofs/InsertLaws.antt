@@ -135,12 +135,26 @@ spans_of-inserted_own file owner claim first last exclusive held own p is ordere
       ]
 
 pub one_party-sym : (a b : Claim) → has_one_party a b ≡ has_one_party b a
-one_party-sym a b = rw (same_parties-sym a.party b.party, eqb-sym a.file b.file, same_owners-sym a.owner b.owner) (ap (λ (t : Bool). not t || same_parties b.party a.party) (flip (is_range a.what) (is_range b.what) ((b.file == a.file) && same_owners b.owner a.owner))) where
-  flip : (x y z : Bool) → (x && (y && z)) ≡ (y && (x && z))
-  flip true true z = refl
-  flip true false z = refl
-  flip false true z = refl
-  flip false false z = refl
+one_party-sym a b = rw (same_parties-sym a.party b.party, eqb-sym a.file b.file, same_owners-sym a.owner b.owner) (ap (λ (t : Bool). not t || same_parties b.party a.party) (swap (same_owners b.owner a.owner) refl)) where
+  flip : (p x y z w : Bool) → (p && (x && (y && (z && w)))) ≡ (p && (y && (x && (z && w))))
+  flip true true true z w = refl
+  flip true true false z w = refl
+  flip true false true z w = refl
+  flip true false false z w = refl
+  flip false x y z w = refl
+
+  none : (p x y z : Bool) → (p && (x && (y && (z && false)))) ≡ false
+  none true true true true = refl
+  none true true true false = refl
+  none true true false z = refl
+  none true false y z = refl
+  none false x y z = refl
+
+  swap : (w : Bool) → same_owners b.owner a.owner ≡ w → (posix a.owner && (is_range a.what && (is_range b.what && ((b.file == a.file) && w)))) ≡ (posix b.owner && (is_range b.what && (is_range a.what && ((b.file == a.file) && w))))
+  swap false e = none (posix a.owner) (is_range a.what) (is_range b.what) (b.file == a.file) ∙ sym (none (posix b.owner) (is_range b.what) (is_range a.what) (b.file == a.file))
+  swap true e =
+      ap (λ (o : Owner). posix o && (is_range a.what && (is_range b.what && ((b.file == a.file) && true)))) (sym (same_owners-true b.owner a.owner e))
+      ∙ flip (posix b.owner) (is_range a.what) (is_range b.what) (b.file == a.file) true
 
 -- a list stays sound when a real claim is put in, whose owner's ranges there have its party, and whose group, if it is a
 -- POSIX owner's, is canonical then
@@ -176,7 +190,10 @@ real_other owner (Range extent exclusive) h = absurd cc
 
 pub party_other : (claim : Claim) (held : List Claim) → is_range claim.what ≡ false → AllByRecursion (λ c. has_one_party claim c ≡ true) held
 party_other claim [] h = tt
-party_other claim (c ∷ cs) h = (rw h refl, party_other claim cs h)
+party_other claim (c ∷ cs) h = (rw h (apart (posix claim.owner) (same_parties claim.party c.party)), party_other claim cs h) where
+  apart : (p same : Bool) → (not (p && false) || same) ≡ true
+  apart true same = refl
+  apart false same = refl
 
 -- a share or a cache is entered as it is
 pub sound_inserted_other : (claim : Claim) (held : List Claim) → IsSound held → is_range claim.what ≡ false → IsSound (inserted claim held)

@@ -20,3 +20,4 @@ pub mod ClearLaws
 pub mod PageLaws
 pub mod TouchLaws
 pub mod ElementLaws
+pub mod ExactLaws

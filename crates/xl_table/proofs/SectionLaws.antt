@@ -376,7 +376,7 @@ pub ranges_here : (file : ℕ) (owner : Owner) (cs out on : List Claim) → out 
 ranges_here file owner cs out on e is =
     e ∙ ap (λ (ds : List Claim). filter (is_range_of file owner) ds) is ∙ filter_within (is_range_of file owner) (λ c. c.file == file) cs (λ c other. rw other refl)
 
-find_within : (p q : Claim → Bool) (cs : List Claim) → ((c : Claim) → q c ≡ false → p c ≡ false) → find p (filter q cs) ≡ find p cs
+pub find_within : (p q : Claim → Bool) (cs : List Claim) → ((c : Claim) → q c ≡ false → p c ≡ false) → find p (filter q cs) ≡ find p cs
 find_within p q [] out = refl
 find_within p q (c ∷ cs) out =
     elim (cases_Bool (q c)) [

@@ -142,7 +142,7 @@ touched ask first last cs kept p range ends one =
       done = λ mode entered new.
           ap (λ (n : ℕ). take n cs ++ (entered ++ drop (prefix_len (passes (Beginning last) front) cs) cs)) near_is
           ∙ ap (λ (n : ℕ). take (lo + i) cs ++ (entered ++ drop n cs)) far_is
-          ∙ relock_is ask.file ask.owner ask.party first last mode cs out entered lo hi i j kept p ends (of_party ask cs range one) refl refl within refl refl refl
+          ∙ relock_is ask.file ask.owner ask.party first last mode cs out entered lo hi i j kept p ends (of_party ask cs p range one) refl refl within refl refl refl
           (new ∙ ap (λ (ds : List Claim). map (range_claim ask.file ask.owner ask.party) (relocked (spans_in ds) first last mode)) part);
     }
 

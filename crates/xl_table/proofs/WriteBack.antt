@@ -1,7 +1,7 @@
 -- What a lock or unlock of a range leaves: the owner's ranges are the new runs, and all else stands as it stood.
 use Rattle.std.proofs.Common.{◌≡◌, ℕ, ◌+◌, ◌≤◌, Bool, true, false, not, ◌&&◌, ◌==◌, nat_le, if◌then◌else◌, ◌⊎◌, inl, inr, List, [], ◌∷◌, length, map, Option, refl, sym, ap, subst, ◌∙◌, arith}
 use Rattle.std.specs.List.{AllByRecursion, filter}
-use Rattle.std.proofs.lemmas.Bool.{cases_Bool, both_ways, and_parts, and_from, and_right, or_left, or_right, or_cases, false_from_ne_true, not-true, not_from_false, eqb-true, eq-eqb, le-leb}
+use Rattle.std.proofs.lemmas.Bool.{cases_Bool, both_ways, and_parts, and_from, and_left, and_right, or_left, or_right, or_cases, false_from_ne_true, not-true, not_from_false, eqb-true, eq-eqb, le-leb}
 use Rattle.xl_base.specs.Lists.{IsIn, Pairwise, placed}
 use Rattle.xl_base.proofs.Members.{all_in, all_from, in_map_from, in_filter_from, pairwise_filter}
 use Rattle.xl_base.specs.declared.name.Owner.{Owner}
@@ -175,7 +175,7 @@ IsOfParty file owner party cs = (c : Claim) → IsIn c cs → is_of file owner c
 -- two ranges with one party, or two that are not ranges of one owner on one file
 one_party_new : (a b : Claim) → a.party ≡ b.party → has_one_party a b ≡ true
 one_party_new a b e =
-    or_right (not (is_range a.what && (is_range b.what && ((a.file == b.file) && same_owners a.owner b.owner)))) (same_parties a.party b.party)
+    or_right (not (posix a.owner && (is_range a.what && (is_range b.what && ((a.file == b.file) && same_owners a.owner b.owner))))) (same_parties a.party b.party)
     (subst (λ (p : Party). same_parties a.party p ≡ true) e (same_parties-self a.party))
 
 one_party_old : (a b : Claim) → (is_of a.file a.owner b ≡ true → is_range b.what ≡ true → b.party ≡ a.party) → has_one_party a b ≡ true
@@ -183,11 +183,18 @@ one_party_old a b is =
     elim (cases_Bool (is_range b.what && is_of a.file a.owner b)) [
       | inl own ↦ let both = and_parts (is_range b.what) (is_of a.file a.owner b) own in one_party_new a b (sym (is both.1 both.0))
       | inr other ↦
-          or_left (not (is_range a.what && (is_range b.what && ((a.file == b.file) && same_owners a.owner b.owner)))) (same_parties a.party b.party)
-          (not_from_false (is_range a.what && (is_range b.what && ((a.file == b.file) && same_owners a.owner b.owner)))
+          or_left (not (posix a.owner && (is_range a.what && (is_range b.what && ((a.file == b.file) && same_owners a.owner b.owner))))) (same_parties a.party b.party)
+          (not_from_false (posix a.owner && (is_range a.what && (is_range b.what && ((a.file == b.file) && same_owners a.owner b.owner))))
+          (and_right (posix a.owner) (is_range a.what && (is_range b.what && ((a.file == b.file) && same_owners a.owner b.owner)))
           (and_right (is_range a.what) (is_range b.what && ((a.file == b.file) && same_owners a.owner b.owner))
-          (rw (eqb-sym a.file b.file, same_owners-sym a.owner b.owner) other)))
+          (rw (eqb-sym a.file b.file, same_owners-sym a.owner b.owner) other))))
     ]
+
+-- the ranges of an SMB open stand one by one, whatever party they have
+pub one_party_open : (a b : Claim) → posix a.owner ≡ false → has_one_party a b ≡ true
+one_party_open a b smb =
+    or_left (not (posix a.owner && (is_range a.what && (is_range b.what && ((a.file == b.file) && same_owners a.owner b.owner))))) (same_parties a.party b.party)
+    (not_from_false _ (and_left (posix a.owner) (is_range a.what && (is_range b.what && ((a.file == b.file) && same_owners a.owner b.owner))) smb))
 
 new_parties : (file : ℕ) (owner : Owner) (party : Party) (xs : List Span) → Pairwise has_one_party (map (range_claim file owner party) xs)
 new_parties file owner party [] = tt
@@ -288,14 +295,14 @@ kept_relocked file owner party first last mode cs kept p ends one fits = record 
 }
 
 -- where each of these and a range that is asked have one party, if they have one owner and file
-pub of_party : (ask : Claim) (cs : List Claim) → is_range ask.what ≡ true → AllByRecursion (λ c. has_one_party ask c ≡ true) cs → IsOfParty ask.file ask.owner ask.party cs
-of_party ask cs range all c h own other =
+pub of_party : (ask : Claim) (cs : List Claim) → posix ask.owner ≡ true → is_range ask.what ≡ true → AllByRecursion (λ c. has_one_party ask c ≡ true) cs → IsOfParty ask.file ask.owner ask.party cs
+of_party ask cs posixes range all c h own other =
     let same = is_of-true ask.file ask.owner c own in
-    let both : (is_range ask.what && (is_range c.what && ((ask.file == c.file) && same_owners ask.owner c.owner))) ≡ true =
-    rw (range, other, eq-eqb ask.file c.file (sym same.0), subst (λ (o : Owner). same_owners ask.owner o ≡ true) (sym same.1) (same_owners-self ask.owner)) refl in
+    let both : (posix ask.owner && (is_range ask.what && (is_range c.what && ((ask.file == c.file) && same_owners ask.owner c.owner)))) ≡ true =
+    rw (posixes, range, other, eq-eqb ask.file c.file (sym same.0), subst (λ (o : Owner). same_owners ask.owner o ≡ true) (sym same.1) (same_owners-self ask.owner)) refl in
     let one : same_parties ask.party c.party ≡ true =
-    elim (or_cases (not (is_range ask.what && (is_range c.what && ((ask.file == c.file) && same_owners ask.owner c.owner)))) (same_parties ask.party c.party) (all_in (λ d. has_one_party ask d ≡ true) c cs all h)) [
-      | inl apart ↦ absurd (both_ways (is_range ask.what && (is_range c.what && ((ask.file == c.file) && same_owners ask.owner c.owner))) (not-true (is_range ask.what && (is_range c.what && ((ask.file == c.file) && same_owners ask.owner c.owner))) apart) both)
+    elim (or_cases (not (posix ask.owner && (is_range ask.what && (is_range c.what && ((ask.file == c.file) && same_owners ask.owner c.owner))))) (same_parties ask.party c.party) (all_in (λ d. has_one_party ask d ≡ true) c cs all h)) [
+      | inl apart ↦ absurd (both_ways (posix ask.owner && (is_range ask.what && (is_range c.what && ((ask.file == c.file) && same_owners ask.owner c.owner)))) (not-true (posix ask.owner && (is_range ask.what && (is_range c.what && ((ask.file == c.file) && same_owners ask.owner c.owner)))) apart) both)
       | inr same ↦ same
     ] in
     sym (same_parties-true ask.party c.party one)

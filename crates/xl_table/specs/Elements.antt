@@ -1,13 +1,14 @@
 -- The byte ranges that an SMB open has locked on a file, one by one (MS-FSA 2.1.5.8, 2.1.5.9), and how a lock is taken back.
-use Rattle.std.specs.Prelude.{◌≡◌, ℕ, ◌-◌, Bool, true, false, if◌then◌else◌, List, [], ◌∷◌, Option, Some, None}
+use Rattle.std.specs.Prelude.{◌≡◌, ℕ, ◌-◌, Bool, true, false, ◌&&◌, if◌then◌else◌, List, [], ◌∷◌, Option, Some, None, find}
 use Rattle.std.specs.List.{list_any, prefix_len, remove}
+use Rattle.std.specs.Option.{option_or}
 use Rattle.xl_base.specs.declared.name.Owner.{Owner}
 use Rattle.xl_matrix.specs.Equal.{same_what, same_claims}
 use Rattle.xl_matrix.specs.declared.claim.Claim.{Claim}
 use Rattle.xl_matrix.specs.declared.claim.Extent.{Extent}
 use Rattle.xl_matrix.specs.declared.claim.What.{What}
 use Rattle.xl_matrix.specs.declared.claim.What.TheVariants.{Range}
-use Rattle.xl_table.specs.Flat.{inserted, removed, with_what}
+use Rattle.xl_table.specs.Flat.{inserted, removed}
 use Rattle.xl_table.specs.Held.{IsKept}
 use Rattle.xl_table.specs.Order.{goes_first}
 use Rattle.xl_table.specs.Relock.{is_range_of}
@@ -37,14 +38,13 @@ unlocked_elements extent es = if is_among (Range extent true) es then without (R
 abbrev pub is_held : Claim → List Claim → Bool
 is_held claim cs = list_any (λ c. same_claims c claim) cs
 
--- the held claim that the asker's unlock of the range takes out: one of just this range, exclusive before shared
+-- the claim is a range of the asker's on its file, and is this one
+abbrev pub is_element : Claim → What → Claim → Bool
+is_element ask what c = is_range_of ask.file ask.owner c && same_what c.what what
+
+-- the held claim that the asker's unlock of the range takes out: the first of just this range, exclusive before shared
 unfoldable pub element_held : Claim → Extent → List Claim → Option Claim
-element_held ask extent cs =
-    if is_held (with_what ask (Range extent true)) cs
-    then Some (with_what ask (Range extent true))
-    else if is_held (with_what ask (Range extent false)) cs
-    then Some (with_what ask (Range extent false))
-    else None
+element_held ask extent cs = option_or (find (is_element ask (Range extent true)) cs) (find (is_element ask (Range extent false)) cs)
 
 -- the claims without it, where there is one
 abbrev pub taken_out : Option Claim → List Claim → List Claim

@@ -44,10 +44,10 @@ may_own owner _ = true
 abbrev pub IsGrantable : Claim → Type 0
 IsGrantable c = IsShareOrLock c.what × (may_own c.owner c.what ≡ true)
 
--- two ranges of one owner on one file have one party
+-- two ranges of one POSIX owner on one file, which are cut and joined, have one party; those of an SMB open stand one by one
 abbrev pub has_one_party : Claim → Claim → Bool
 has_one_party a b =
-    not (is_range a.what && (is_range b.what && ((a.file == b.file) && same_owners a.owner b.owner))) || same_parties a.party b.party
+    not (posix a.owner && (is_range a.what && (is_range b.what && ((a.file == b.file) && same_owners a.owner b.owner)))) || same_parties a.party b.party
 
 abbrev pub mode_of : Bool → Mode
 mode_of true = Exclusive
@@ -71,8 +71,11 @@ spans_of file owner (c ∷ cs) = if is_of file owner c then with_span c.what (sp
 abbrev pub begins_first : Span → Span → Bool
 begins_first s t = nat_le s.first t.first
 
--- claims that a table may hold: real ranges, one party for an owner's ranges on a file, and for each POSIX owner on each
--- file maximal runs of one mode
+-- the most claims that a table holds
+abbrev pub most_claims : ℕ
+most_claims = 16384
+
+-- claims that a table may hold: real ranges, and for each POSIX owner on each file one party and maximal runs of one mode
 pub record IsSound (held : List Claim) : Type 0 where
   pub real : AllByRecursion (λ c. is_real c ≡ true) held
   pub parties : Pairwise has_one_party held
@@ -82,4 +85,4 @@ pub record IsSound (held : List Claim) : Type 0 where
 pub record IsKept (held : List Claim) : Type 0 where
   pub sound : IsSound held
   pub ordered : Pairwise goes_first held
-  pub room : length held ≤ 16384
+  pub room : length held ≤ most_claims

@@ -1,6 +1,7 @@
 pub mod Order
 pub mod Flat
 pub mod Held
+pub mod Leaving
 pub mod Files
 pub mod Sections
 pub mod Relock
@@ -10,3 +11,4 @@ pub mod Clear
 pub mod Bounds
 pub mod Pages
 pub mod Elements
+pub mod Exact

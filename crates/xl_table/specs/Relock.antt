@@ -17,11 +17,8 @@ use Rattle.xl_spans.specs.declared.span.Mode.{Mode}
 use Rattle.xl_spans.specs.declared.span.Mode.TheVariants.{Shared, Exclusive}
 use Rattle.xl_spans.specs.declared.span.Span.{Span}
 use Rattle.xl_table.specs.Flat.{inserted, with_what}
+pub use Rattle.xl_table.specs.Held.{most_claims}
 use Rattle.xl_table.specs.Held.{is_of, is_range, is_share, spans_of, mode_of}
-
--- the most claims that a table holds
-abbrev pub most_claims : ℕ
-most_claims = 16384
 
 -- the claims with these entered, one after another
 abbrev pub all_inserted : List Claim → List Claim → List Claim

@@ -3,7 +3,7 @@ ghost use Rattle.std.specs.Prelude.{◌≡◌, ℕ, ◌+◌, ◌-◌, ◌≤◌,
 ghost use Rattle.std.specs.List.{AllByRecursion};
 ghost use Rattle.xl_matrix.specs.Owners.{posix};
 ghost use Rattle.xl_spans.specs.declared.span.Mode.{Mode};
-ghost use Rattle.xl_table.specs.Held.{IsKept, IsGrantable, is_range, is_share, has_one_party, mode_of};
+ghost use Rattle.xl_table.specs.Held.{IsKept, IsGrantable, is_range, is_share, has_one_party, mode_of, most_claims};
 ghost use Rattle.xl_table.specs.Relock.{relocked_in, shared_in, granted_claims};
 ghost use Rattle.xl_table.specs.Files.{joined, IsFiled, IsAt};
 ghost use Rattle.xl_table.specs.Flat.{inserted};
@@ -37,7 +37,7 @@ pub struct Change {
 fn make_change(file: u32, count: usize, start: usize, end: usize, entered: Vec<Claim>) -> Change
     requires order { start ≤ end }
     requires within { end ≤ count }
-    requires room { count ≤ 16384 }
+    requires room { count ≤ most_claims }
     ensures file { result.file ≡ file }
     ensures start { result.start ≡ start }
     ensures end { result.end ≡ end }
@@ -72,7 +72,7 @@ fn relock(
     requires ends { first ≤ last }
     requires party { AllByRecursion (λ c. has_one_party ask.now c ≡ true) (paged pages.now) }
     requires count { length (paged pages.now) ≤ count }
-    requires room { count ≤ 16384 }
+    requires room { count ≤ most_claims }
     ensures claims { IfOk result (λ change. spliced change (paged pages.now) ≡ relocked_in ask.now.file ask.now.owner ask.now.party first last mode (paged pages.now)) }
     ensures on { IfOk result (λ change. IsOn ask.now.file count (paged pages.now) change) }
 {
@@ -96,7 +96,7 @@ fn share(alloc: Global, pages: &[Page], count: usize, claim: &Claim) -> Result<C
     requires kept { IsKept (paged pages.now) }
     requires share { is_share claim.now.what ≡ true }
     requires count { length (paged pages.now) ≤ count }
-    requires room { count ≤ 16384 }
+    requires room { count ≤ most_claims }
     ensures claims { IfOk result (λ change. spliced change (paged pages.now) ≡ shared_in claim.now (paged pages.now)) }
     ensures on { IfOk result (λ change. IsOn claim.now.file count (paged pages.now) change) }
 {
@@ -111,7 +111,7 @@ fn element(alloc: Global, pages: &[Page], count: usize, claim: &Claim) -> Result
     requires full { AreFull pages.now }
     requires kept { IsKept (paged pages.now) }
     requires count { length (paged pages.now) ≤ count }
-    requires room { count ≤ 16384 }
+    requires room { count ≤ most_claims }
     ensures claims { IfOk result (λ change. spliced change (paged pages.now) ≡ inserted claim.now (paged pages.now)) }
     ensures on { IfOk result (λ change. IsOn claim.now.file count (paged pages.now) change) }
 {
@@ -133,7 +133,7 @@ fn grant_on(
     requires grantable { IsGrantable claim.now }
     requires party { AllByRecursion (λ c. has_one_party claim.now c ≡ true) (paged pages.now) }
     requires count { length (paged pages.now) ≤ count }
-    requires room { count ≤ 16384 }
+    requires room { count ≤ most_claims }
     ensures claims { IfOk result (λ change. spliced change (paged pages.now) ≡ granted_claims claim.now (paged pages.now)) }
     ensures on { IfOk result (λ change. IsOn claim.now.file count (paged pages.now) change) }
 {

@@ -59,7 +59,7 @@ pub fn unlocks_grow_only_by_a_cut()
 pub fn opens_hold_elements()
     ensures entered { (file : ℕ) (owner : Owner) (claim : Claim) (held : List Claim) → is_range_of file owner claim ≡ true → posix owner ≡ false → Pairwise goes_first held → elements_of file owner (inserted claim held) ≡ elements_of file owner held ++ claim.what ∷ [] }
     ensures apart { (file : ℕ) (owner : Owner) (claim : Claim) (held : List Claim) → is_range_of file owner claim ≡ false → elements_of file owner (inserted claim held) ≡ elements_of file owner held }
-    ensures unlocked { (ask : Claim) (extent : Extent) (held : List Claim) → AllByRecursion (λ c. is_range_of ask.file ask.owner c ≡ true → c.party ≡ ask.party) held → elements_of ask.file ask.owner (taken_out (element_held ask extent held) held) ≡ unlocked_elements extent (elements_of ask.file ask.owner held) }
+    ensures unlocked { (ask : Claim) (extent : Extent) (held : List Claim) → elements_of ask.file ask.owner (taken_out (element_held ask extent held) held) ≡ unlocked_elements extent (elements_of ask.file ask.owner held) }
     ensures others { (file : ℕ) (owner : Owner) (claim : Claim) (held : List Claim) → is_range_of file owner claim ≡ false → elements_of file owner (removed claim held) ≡ elements_of file owner held }
 {}
 

@@ -4,10 +4,12 @@
 mod block;
 mod bounds;
 mod change;
+mod exact;
 mod files;
 mod holding;
 mod law;
 mod least;
+mod leaver;
 mod listing;
 mod marks;
 mod ordering;
@@ -26,5 +28,6 @@ pub use law::{
     united_shares_stay_compatible, unlocks_grow_only_by_a_cut,
 };
 pub use least::least_of;
+pub use leaver::Leaver;
 pub use table::{CLAIMS, Table, TableErr};
 pub use xl_matrix::is_blocked_by;

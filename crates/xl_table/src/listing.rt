@@ -5,11 +5,13 @@ ghost use Rattle.xl_matrix.specs.Equal.{same_parties};
 ghost use Rattle.xl_table.specs.Files.{joined, IsFiled};
 ghost use Rattle.xl_table.specs.Pages.{paged, AreFull};
 ghost use Rattle.xl_table.specs.Flat.{blocks, is_blocked, is_due};
-ghost use Rattle.xl_table.specs.Held.{is_range};
+ghost use Rattle.xl_table.specs.Held.{is_range, most_claims};
+ghost use Rattle.xl_table.specs.Leaving.{goes};
 ghost use Rattle.xl_table.specs.Clear.{lies_apart, is_clear};
 
 use crate::block::is_answer_due;
 use crate::files::{OnFile, on_file};
+use crate::leaver::{Leaver, goes};
 use crate::page::Page;
 use crate::pages::count_claims;
 use std::alloc::{AllocError, Global};
@@ -162,21 +164,21 @@ pub(crate) fn list_file(
     Ok(all)
 }
 
-/// Takes the party's claims out of a page's.
-pub(crate) fn drop_from(claims: &mut Vec<Claim>, party: Party)
-    ensures { claims.new.items ≡ filter (λ held. not (same_parties held.party party)) claims.old.items }
+/// Takes the claims that go out of a page's.
+pub(crate) fn drop_from(claims: &mut Vec<Claim>, leaver: Leaver)
+    ensures { claims.new.items ≡ filter (λ held. not (goes leaver held)) claims.old.items }
 {
-    claims.retain(|held| !same_party(held.party, party));
+    claims.retain(|held| !goes(leaver, held));
 }
 
-/// Takes the party's claims out of each page. A page may be without claims then.
+/// Takes the claims that go out of each page. A page may be without claims then.
 #[tactic(auto, using(crate::proofs::PageLaws::thin_more, crate::proofs::PageLaws::thin_done))]
-fn thin_pages(pages: &mut Vec<Page>, party: Party)
-    ensures { paged pages.new.items ≡ filter (λ held. not (same_parties held.party party)) (paged pages.old.items) }
+fn thin_pages(pages: &mut Vec<Page>, leaver: Leaver)
+    ensures { paged pages.new.items ≡ filter (λ held. not (goes leaver held)) (paged pages.old.items) }
 {
     let mut at = 0;
     'pages: while at < pages.len() {
-        pages[at].drop_party(party);
+        pages[at].drop_leaver(leaver);
         at += 1;
     }
 }
@@ -188,26 +190,26 @@ fn drop_empty(pages: &mut Vec<Page>)
     pages.retain(|page| page.len() > 0);
 }
 
-/// Takes the party's claims out of a file's pages.
+/// Takes the claims that go out of a file's pages.
 #[tactic(auto, using(crate::proofs::PageLaws::full_left, crate::proofs::PageLaws::same_left))]
-fn drop_in(pages: &mut Vec<Page>, party: Party)
-    ensures claims { paged pages.new.items ≡ filter (λ held. not (same_parties held.party party)) (paged pages.old.items) }
+fn drop_in(pages: &mut Vec<Page>, leaver: Leaver)
+    ensures claims { paged pages.new.items ≡ filter (λ held. not (goes leaver held)) (paged pages.old.items) }
     ensures full { AreFull pages.new.items }
 {
-    thin_pages(pages, party);
+    thin_pages(pages, leaver);
     drop_empty(pages);
 }
 
-/// Takes the party's claims out.
+/// Takes the claims that go out.
 #[tactic(auto, using(crate::proofs::FileLaws::thinned_more, crate::proofs::FileLaws::thinned_done))]
-pub(crate) fn drop_party(lists: &mut Vec<OnFile>, party: Party)
+pub(crate) fn drop_leaver(lists: &mut Vec<OnFile>, leaver: Leaver)
     requires { IsFiled lists.old.items }
-    ensures claims { joined lists.new.items ≡ filter (λ held. not (same_parties held.party party)) (joined lists.old.items) }
+    ensures claims { joined lists.new.items ≡ filter (λ held. not (goes leaver held)) (joined lists.old.items) }
     ensures filed { IsFiled lists.new.items }
 {
     let mut at = 0;
     'lists: while at < lists.len() {
-        drop_in(&mut lists[at].pages, party);
+        drop_in(&mut lists[at].pages, leaver);
         at += 1;
     }
 }
@@ -215,7 +217,7 @@ pub(crate) fn drop_party(lists: &mut Vec<OnFile>, party: Party)
 /// How many claims there are.
 #[tactic(auto, using(crate::proofs::PageLaws::counted_more, crate::proofs::PageLaws::counted_fits))]
 pub(crate) fn count_all(lists: &[OnFile]) -> usize
-    requires { length (joined lists.now) ≤ 16384 }
+    requires { length (joined lists.now) ≤ most_claims }
     ensures { result ≡ length (joined lists.now) }
 {
     let mut count = 0;

@@ -2,13 +2,14 @@
 ghost use Rattle.std.specs.Prelude.{◌≡◌, ℕ, ◌<◌, ◌≤◌, ◌++◌, ◌∷◌, [], not, length, take, drop, IfOk, OnOk, OnErr, IfSome, slice_range};
 ghost use Rattle.std.specs.List.{filter, list_any, prefix_len};
 ghost use Rattle.std.proofs.Math.ListN.{set};
-ghost use Rattle.xl_matrix.specs.Equal.{same_parties};
 ghost use Rattle.xl_table.specs.Flat.{blocks, is_blocked};
+ghost use Rattle.xl_table.specs.Leaving.{goes};
 ghost use Rattle.xl_table.specs.Pages.{passes, ends};
 ghost use Rattle.xl_table.specs.Sections.{IsParted};
 
 use crate::bounds::{Bounds, bounds_of, is_past};
 use crate::change::{put_all, take_between};
+use crate::leaver::Leaver;
 use crate::listing::{any_blocks, blockers_among, drop_from};
 use crate::marks::Mark;
 use crate::ordering::{is_no_later, key_of};
@@ -16,7 +17,6 @@ use crate::relock::{begins_by, ends_before};
 use crate::section::is_no_later_than;
 use std::alloc::{AllocError, Global};
 use std::marker::Model;
-use xl_base::Party;
 use xl_matrix::Claim;
 
 /// Some of a file's claims. A contract sees their list.
@@ -178,11 +178,11 @@ impl Page {
         self.bounds = bounds_of(self.claims.as_slice());
     }
 
-    /// Takes out the party's claims.
-    pub(crate) fn drop_party(&mut self, party: Party)
-        ensures { self.new ≡ filter (λ held. not (same_parties held.party party)) self.old }
+    /// Takes out the claims that go.
+    pub(crate) fn drop_leaver(&mut self, leaver: Leaver)
+        ensures { self.new ≡ filter (λ held. not (goes leaver held)) self.old }
     {
-        drop_from(&mut self.claims, party);
+        drop_from(&mut self.claims, leaver);
         self.bounds = bounds_of(self.claims.as_slice());
     }
 

@@ -7,6 +7,7 @@ ghost use Rattle.xl_base.specs.Lists.{IsIn, Pairwise};
 ghost use Rattle.xl_table.specs.Order.{goes_first};
 ghost use Rattle.xl_table.specs.Files.{joined, IsFiled, IsAt};
 ghost use Rattle.xl_table.specs.Flat.{inserted, removed, changed, with_what};
+ghost use Rattle.xl_table.specs.Held.{most_claims};
 ghost use Rattle.xl_table.specs.Elements.{is_held, taken_back, CameLast};
 
 use crate::files::{OnFile, find_file, on_file};
@@ -126,7 +127,7 @@ pub(crate) fn put(lists: &mut Vec<OnFile>, at: usize, claim: Claim) -> Result<()
     requires at { IsAt claim.file at lists.old.items }
     requires within { at < vec_len lists.old }
     requires ordered { Pairwise goes_first (joined lists.old.items) }
-    requires room { length (joined lists.old.items) ≤ 16384 }
+    requires room { length (joined lists.old.items) ≤ most_claims }
     ensures ok { OnOk result (joined lists.new.items ≡ inserted claim (joined lists.old.items)) }
     ensures err { OnErr result (joined lists.new.items ≡ joined lists.old.items) }
     ensures filed { IsFiled lists.new.items }
@@ -157,7 +158,7 @@ fn take_from(pages: &mut Vec<Page>, claim: &Claim) -> bool
 pub(crate) fn take_out(lists: &mut Vec<OnFile>, claim: &Claim) -> bool
     requires filed { IsFiled lists.old.items }
     requires ordered { Pairwise goes_first (joined lists.old.items) }
-    requires room { length (joined lists.old.items) ≤ 16384 }
+    requires room { length (joined lists.old.items) ≤ most_claims }
     ensures claims { joined lists.new.items ≡ removed claim.now (joined lists.old.items) }
     ensures held { result ≡ list_any (λ held. same_claims held claim.now) (joined lists.old.items) }
     ensures filed { IsFiled lists.new.items }
@@ -185,7 +186,7 @@ fn take_last(pages: &mut Vec<Page>, claim: &Claim)
 pub(crate) fn take_back(lists: &mut Vec<OnFile>, claim: &Claim)
     requires filed { IsFiled lists.old.items }
     requires last { CameLast claim.now (joined lists.old.items) }
-    requires room { length (joined lists.old.items) ≤ 16384 }
+    requires room { length (joined lists.old.items) ≤ most_claims }
     ensures claims { joined lists.new.items ≡ taken_back claim.now (joined lists.old.items) }
     ensures filed { IsFiled lists.new.items }
 {
@@ -221,7 +222,7 @@ pub(crate) fn replace(lists: &mut Vec<OnFile>, claim: &Claim, to: What)
     requires filed { IsFiled lists.old.items }
     requires held { IsIn claim.now (joined lists.old.items) }
     requires ordered { Pairwise goes_first (joined lists.old.items) }
-    requires room { length (joined lists.old.items) ≤ 16384 }
+    requires room { length (joined lists.old.items) ≤ most_claims }
     ensures claims { joined lists.new.items ≡ changed claim.now to (joined lists.old.items) }
     ensures filed { IsFiled lists.new.items }
 {

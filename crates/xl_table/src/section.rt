@@ -5,7 +5,7 @@ ghost use Rattle.xl_base.specs.Lists.{Pairwise};
 ghost use Rattle.xl_table.specs.Order.{goes_first};
 ghost use Rattle.xl_table.specs.Files.{joined, IsFiled};
 ghost use Rattle.xl_table.specs.Pages.{paged, AreFull};
-ghost use Rattle.xl_table.specs.Held.{is_cache, is_share};
+ghost use Rattle.xl_table.specs.Held.{is_cache, is_share, most_claims};
 ghost use Rattle.xl_table.specs.Relock.{is_share_of, is_range_of};
 ghost use Rattle.xl_table.specs.Sections.{group, is_no_later_than, is_before, is_upto};
 
@@ -90,7 +90,7 @@ pub(crate) fn shares_on(
 ) -> Result<Vec<Claim>, AllocError>
     requires filed { IsFiled lists.now }
     requires ordered { Pairwise goes_first (joined lists.now) }
-    requires room { length (joined lists.now) ≤ 16384 }
+    requires room { length (joined lists.now) ≤ most_claims }
     ensures { IfOk result (λ v. v.items ≡ filter (λ c. (c.file == file) && is_share c.what) (joined lists.now)) }
 {
     let shares = shares_in(alloc, on_file(lists, file), file)?;
@@ -118,7 +118,7 @@ pub(crate) fn caches_on(
 ) -> Result<Vec<Claim>, AllocError>
     requires filed { IsFiled lists.now }
     requires ordered { Pairwise goes_first (joined lists.now) }
-    requires room { length (joined lists.now) ≤ 16384 }
+    requires room { length (joined lists.now) ≤ most_claims }
     ensures { IfOk result (λ v. v.items ≡ filter (λ c. (c.file == file) && is_cache c.what) (joined lists.now)) }
 {
     let caches = caches_in(alloc, on_file(lists, file), file)?;
@@ -141,7 +141,7 @@ fn is_cache_in(pages: &[Page], file: u32) -> bool
 pub(crate) fn has_cache(lists: &[OnFile], file: u32) -> bool
     requires filed { IsFiled lists.now }
     requires ordered { Pairwise goes_first (joined lists.now) }
-    requires room { length (joined lists.now) ≤ 16384 }
+    requires room { length (joined lists.now) ≤ most_claims }
     ensures { result ≡ list_any (λ c. (c.file == file) && is_cache c.what) (joined lists.now) }
 {
     is_cache_in(on_file(lists, file), file)
@@ -195,7 +195,7 @@ pub(crate) fn ranges_by(
 ) -> Result<Vec<Claim>, AllocError>
     requires filed { IsFiled lists.now }
     requires ordered { Pairwise goes_first (joined lists.now) }
-    requires room { length (joined lists.now) ≤ 16384 }
+    requires room { length (joined lists.now) ≤ most_claims }
     ensures { IfOk result (λ v. v.items ≡ filter (is_range_of file owner) (joined lists.now)) }
 {
     let ranges = ranges_in(alloc, on_file(lists, file), file, owner)?;
@@ -230,7 +230,7 @@ fn share_in(pages: &[Page], file: u32, owner: Owner) -> Option<Claim>
 pub(crate) fn find_share(lists: &[OnFile], file: u32, owner: Owner) -> Option<Claim>
     requires filed { IsFiled lists.now }
     requires ordered { Pairwise goes_first (joined lists.now) }
-    requires room { length (joined lists.now) ≤ 16384 }
+    requires room { length (joined lists.now) ≤ most_claims }
     ensures { result ≡ find (is_share_of file owner) (joined lists.now) }
 {
     share_in(on_file(lists, file), file, owner)

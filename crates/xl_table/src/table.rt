@@ -5,11 +5,13 @@ ghost use Rattle.xl_table.specs.Flat.{with_what};
 ghost use Rattle.xl_table.specs.declared.table.TableErr.TheVariants.{NoMemory};
 
 use crate::change::{Change, grant, unlock, write};
+use crate::exact::find_unlocked;
 use crate::files::{OnFile, open_file};
 use crate::holding::find_holder;
 use crate::least::least_of;
+use crate::leaver::Leaver;
 use crate::listing::{
-    count_all, drop_party, is_blocked, keep_ranges, list_all, list_blockers, list_due, list_file,
+    count_all, drop_leaver, is_blocked, keep_ranges, list_all, list_blockers, list_due, list_file,
     list_party,
 };
 use crate::placing::{is_held, put, replace, take_back, take_out};
@@ -46,18 +48,6 @@ impl<T: Drop> From<AllocFailed<T>> for TableErr {
     }
 }
 
-/// The range in this mode, of the one who asks.
-fn element(ask: &Claim, extent: Extent, exclusive: bool) -> Claim
-    ensures { result ≡ with_what ask.now (What.Range extent exclusive) }
-{
-    Claim {
-        file: ask.file,
-        owner: ask.owner,
-        party: ask.party,
-        what: What::Range(extent, exclusive),
-    }
-}
-
 /// The claims that are held, at most 16,384. A contract sees their flat list, which stands in this order: by file;
 /// then shares, ranges, caches; then by owner (shares, ranges) or party (caches), in the order of their protocol (NLM,
 /// NFSv4, SMB) and number; the ranges of an NLM or NFSv4 owner by first byte, those of an SMB open as they were locked.
@@ -90,7 +80,8 @@ impl Table {
     ghost use Rattle.xl_matrix.specs.Owners.{posix};
     ghost use Rattle.xl_table.specs.Flat.{inserted, removed, changed, blocks, is_blocked, is_due, locks, range_key, holder};
     ghost use Rattle.xl_table.specs.Held.{is_range, is_share, is_cache, has_one_party, spans_of, IsGrantable, IsSound, IsKept};
-    ghost use Rattle.xl_table.specs.Relock.{is_share_of, holds_byte, holds_range, relocked_in, granted_claims};
+    ghost use Rattle.xl_table.specs.Leaving.{goes};
+    ghost use Rattle.xl_table.specs.Relock.{is_share_of, holds_byte, holds_range, relocked_in, granted_claims, most_claims};
     ghost use Rattle.xl_table.specs.Changes.{written, MayBeWritten};
     ghost use Rattle.xl_table.specs.Elements.{is_held, element_held, taken_back, CameLast};
     ghost use Rattle.xl_table.specs.Least.{least};
@@ -230,21 +221,18 @@ impl Table {
     }
 
     /// The held claim that the unlock of a range by an SMB open takes out: one of just this range, an exclusive one before
-    /// a shared one (MS-FSA 2.1.5.9). None where it holds none; a part of a range, or what covers several, is none. `ask` has
-    /// the open's names and the file. It takes no memory.
-    #[tactic(auto, unfolding(crate::specs::Elements::element_held))]
-    pub fn element_held(&self, ask: &Claim, extent: Extent) -> Option<Claim>
-        ensures { result ≡ element_held ask.now extent self.now }
+    /// a shared one (MS-FSA 2.1.5.9), by the list of all that the open has on the file. None where it holds none; a part of a
+    /// range, or what covers several, is none. `ask` names the open and the file.
+    pub fn element_held(
+        &self,
+        alloc: Global,
+        ask: &Claim,
+        extent: Extent,
+    ) -> Result<Option<Claim>, AllocError>
+        requires open { posix ask.now.owner ≡ false }
+        ensures { IfOk result (λ claim. claim ≡ element_held ask.now extent self.now) }
     {
-        let exclusive = element(ask, extent, true);
-        if self.contains(&exclusive) {
-            return Some(exclusive);
-        }
-        let shared = element(ask, extent, false);
-        if self.contains(&shared) {
-            return Some(shared);
-        }
-        None
+        find_unlocked(alloc, &self.lists, ask, extent)
     }
 
     /// What a grant of the claim changes, once nothing stands in its way: a share takes the place of its owner's on the
@@ -283,7 +271,7 @@ impl Table {
     #[tactic(auto, using(crate::proofs::KeptLaws::kept_written))]
     pub fn write(&mut self, change: &Change) -> Result<(), AllocError>
         requires fits { MayBeWritten change.now self.old }
-        requires room { change.now.held ≤ 16384 }
+        requires room { change.now.held ≤ most_claims }
         ensures ok { OnOk result (self.new ≡ written change.now self.old) }
         ensures err { OnErr result (self.new ≡ self.old) }
     {
@@ -293,12 +281,12 @@ impl Table {
         Ok(())
     }
 
-    /// Takes out the claims of a party. It takes no memory.
+    /// Takes out the claims that go with who leaves. It takes no memory.
     #[tactic(auto, using(crate::proofs::WriteBack::kept_filter))]
-    pub fn remove_party(&mut self, party: Party)
-        ensures { self.new ≡ filter (λ held. not (same_parties held.party party)) self.old }
+    pub fn remove_leaver(&mut self, leaver: Leaver)
+        ensures { self.new ≡ filter (λ held. not (goes leaver held)) self.old }
     {
-        drop_party(&mut self.lists, party);
+        drop_leaver(&mut self.lists, leaver);
         self.count = count_all(&self.lists);
     }
 
@@ -312,7 +300,7 @@ impl Table {
     pub fn insert(&mut self, claim: Claim) -> Result<(), TableErr>
         requires { IsSound (inserted claim self.old) }
         ensures ok { OnOk result (self.new ≡ inserted claim self.old) }
-        ensures full { (n : ℕ) → (result ≡ Err (TableErr.Full n)) ↔ ((n ≡ 16384) × (length self.old ≡ 16384)) }
+        ensures full { (n : ℕ) → (result ≡ Err (TableErr.Full n)) ↔ ((n ≡ most_claims) × (length self.old ≡ most_claims)) }
         ensures err { OnErr result (self.new ≡ self.old) }
     {
         if self.count >= CLAIMS {

@@ -4,7 +4,7 @@ ghost use Rattle.std.specs.List.{list_any, prefix_len};
 ghost use Rattle.xl_matrix.specs.Owners.{posix};
 ghost use Rattle.xl_base.specs.Lists.{Pairwise};
 ghost use Rattle.xl_table.specs.Files.{joined, IsFiled};
-ghost use Rattle.xl_table.specs.Held.{IsKept, is_range};
+ghost use Rattle.xl_table.specs.Held.{IsKept, is_range, most_claims};
 ghost use Rattle.xl_table.specs.Order.{goes_first};
 ghost use Rattle.xl_table.specs.Pages.{paged, AreFull, passes, is_met, is_met_there};
 ghost use Rattle.xl_table.specs.Relock.{holds_byte, is_range_of, holds_range};
@@ -135,7 +135,7 @@ fn has_range_in(pages: &[Page], file: u32, owner: Owner) -> bool
 pub(crate) fn has_range(lists: &[OnFile], owner: Owner) -> bool
     requires filed { IsFiled lists.now }
     requires ordered { Pairwise goes_first (joined lists.now) }
-    requires room { length (joined lists.now) ≤ 16384 }
+    requires room { length (joined lists.now) ≤ most_claims }
     ensures { result ≡ holds_range owner (joined lists.now) }
 {
     for list in lists {

@@ -1,4 +1,4 @@
-use Rattle.std.proofs.Common.{arith, ap, sym, subst, refl, ◌==◌, ◌≡◌, ◌∙◌, List, [], ◌∷◌}
+use Rattle.std.proofs.Common.{arith, sym, subst, refl, ◌∙◌, List, [], ◌∷◌}
 use Rattle.std.proofs.lemmas.Bool.{eq-eqb}
 use Rattle.xl_matrix.specs.declared.claim.Claim.{Claim}
 use Rattle.xl_table.specs.Files.{AreOn}

@@ -1,0 +1,19 @@
+-- Who leaves, and what goes with it.
+use Rattle.std.specs.Prelude.{Bool, false, if◌then◌else◌, Option, Some, None}
+use Rattle.xl_base.specs.declared.name.Owner.TheVariants as owners
+use Rattle.xl_base.specs.declared.name.Party.{Party}
+use Rattle.xl_matrix.specs.Blocks.{is_cache}
+use Rattle.xl_matrix.specs.Equal.{same_owners, same_parties}
+use Rattle.xl_matrix.specs.declared.claim.Claim.{Claim}
+use Rattle.xl_table.specs.declared.leaver.Leaver.{Leaver}
+use Rattle.xl_table.specs.declared.leaver.Leaver.TheVariants as leavers
+
+-- the claim is this party's
+abbrev pub is_of_some : Option Party → Claim → Bool
+is_of_some None c = false
+is_of_some (Some party) c = same_parties c.party party
+
+-- With a party goes all that it has; with an SMB open its share and its ranges, and the caches of the party that goes with it.
+abbrev pub goes : Leaver → Claim → Bool
+goes (leavers.Party party) c = same_parties c.party party
+goes (leavers.Open number party) c = if is_cache c.what then is_of_some party c else same_owners c.owner (owners.Open number)
