@@ -1,18 +1,16 @@
 -- What is asked for may be had in one request: a share, a range, or several ranges of an SMB open.
 use Rattle.std.proofs.Common.{◌≡◌, true, false, List, [], ◌∷◌, Bool, map, ◌∙◌, refl}
 use Rattle.std.specs.List.{AllByRecursion}
-use Rattle.std.proofs.lemmas.Bool.{or_right}
 use Rattle.xl_base.specs.Lists.{Pairwise}
 use Rattle.xl_matrix.proofs.EqualLaws.{same_parties-self}
-use Rattle.xl_matrix.specs.Equal.{same_parties}
 use Rattle.xl_matrix.specs.declared.claim.Claim.{Claim}
 use Rattle.xl_matrix.specs.declared.claim.Extent.{Extent}
 use Rattle.xl_matrix.specs.declared.claim.What.{What}
 use Rattle.xl_names.specs.declared.name.Name.{Name}
-use Rattle.xl_table.specs.Held.{has_one_party, IsShareOrLock}
+use Rattle.xl_table.specs.Held.{IsShareOrLock}
 use Rattle.xl_core.specs.Asking.{is_client, is_named, may_hold, may_hold_all, IsFitAct, range_what, asked_claim, asked_claims, asking_party}
 use Rattle.xl_core.specs.Good.{IsPled}
-use Rattle.xl_core.specs.Judge.{AreElements}
+use Rattle.xl_core.specs.Judge.{AreElements, are_of_one_party}
 use Rattle.xl_core.specs.declared.ask.Act.TheVariants.{Ranges}
 use Rattle.xl_core.specs.declared.ask.Ask.{Ask}
 use Rattle.xl_core.proofs.CauseLaws.{own_ranges, fit_ranges, real_range}
@@ -24,12 +22,12 @@ each_element a names [] client unnamed own order = tt
 each_element a names (range ∷ ranges) client unnamed own order =
     (((asked_known a (range_what range) names client own.0 order.0).0, refl, asker_named a names client ∙ unnamed), each_element a names ranges client unnamed own.1 order.1)
 
-of_one : (a : Ask) (names : List Name) (ws : List What) → Pairwise has_one_party (asked_claims a ws names)
+of_one : (a : Ask) (names : List Name) (ws : List What) → Pairwise are_of_one_party (asked_claims a ws names)
 of_one a names [] = tt
 of_one a names (w ∷ ws) = (with_first ws, of_one a names ws) where
-  with_first : (vs : List What) → AllByRecursion (λ d. has_one_party (asked_claim a w names) d ≡ true) (asked_claims a vs names)
+  with_first : (vs : List What) → AllByRecursion (λ d. are_of_one_party (asked_claim a w names) d ≡ true) (asked_claims a vs names)
   with_first [] = tt
-  with_first (v ∷ vs) = (or_right _ (same_parties (asking_party a names) (asking_party a names)) (same_parties-self (asking_party a names)), with_first vs)
+  with_first (v ∷ vs) = (same_parties-self (asking_party a names), with_first vs)
 
 there : (a : Ask) (names : List Name) (ws : List What) → AllByRecursion (λ (c : Claim). c.file ≡ a.file) (asked_claims a ws names)
 there a names [] = tt

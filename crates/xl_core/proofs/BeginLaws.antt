@@ -15,6 +15,7 @@ use Rattle.xl_cache.specs.Targets.{target_of}
 use Rattle.xl_cache.proofs.BreakLaws.{plan_less}
 use Rattle.xl_cache.proofs.PartyLaws.{kept_kind}
 use Rattle.xl_cache.proofs.PlanLaws.{obstacle_is_cache, break_is_of}
+use Rattle.xl_matrix.specs.Owners.{posix}
 use Rattle.xl_matrix.specs.Equal.{same_owners, same_parties}
 use Rattle.xl_matrix.specs.Matrix.{compat, fit_by}
 use Rattle.xl_matrix.proofs.SideLaws.{compat-sym}
@@ -108,7 +109,7 @@ single_left c d e (Runs kind running at same) =
 party_left : (c d e : Claim) → Left c d → has_one_party d e ≡ has_one_party c e
 party_left c d e (Stays same) = ap (λ (x : Claim). has_one_party x e) same
 party_left c d e (Runs kind running at same) =
-    ap (λ (x : Claim). has_one_party x e) same ∙ ap (λ (w : What). not (is_range w && (is_range e.what && ((c.file == e.file) && same_owners c.owner e.owner))) || same_parties c.party e.party) (sym at)
+    ap (λ (x : Claim). has_one_party x e) same ∙ ap (λ (w : What). not (posix c.owner && (is_range w && (is_range e.what && ((c.file == e.file) && same_owners c.owner e.owner)))) || same_parties c.party e.party) (sym at)
 
 key_left : (c d : Claim) → Left c d → key d ≡ key c
 unfolding key

@@ -1,6 +1,6 @@
 -- The caches among the claims, and a party's cache on a file, where claims come and go.
-use Rattle.std.proofs.Common.{◌≡◌, ℕ, Bool, true, false, not, ◌&&◌, ◌==◌, if◌then◌else◌, inl, inr, List, [], ◌∷◌, map, Option, Some, None, refl, sym, ap, subst, ◌∙◌}
-use Rattle.std.specs.List.{AllByRecursion, filter, list_any}
+use Rattle.std.proofs.Common.{◌≡◌, ℕ, Bool, true, false, ◌&&◌, ◌==◌, if◌then◌else◌, inl, inr, List, [], ◌∷◌, map, Option, Some, None, refl, sym, ap, subst, ◌∙◌}
+use Rattle.std.specs.List.{AllByRecursion, filter}
 use Rattle.std.proofs.lemmas.Bool.{cases_Bool, both_ways, and_parts, and_right, eq-eqb, eqb-true, false_from_ne_true}
 use Rattle.xl_base.specs.Lists.{IsIn, Pairwise}
 use Rattle.xl_base.specs.declared.name.Party.{Party}
@@ -17,7 +17,7 @@ use Rattle.xl_table.proofs.FlatLaws.{pairwise_removed, pairwise_others}
 use Rattle.xl_table.proofs.OrderLaws.{no_later-on}
 use Rattle.xl_core.specs.Breaks.{with_rest}
 use Rattle.xl_core.specs.Good.{is_single_by, is_single, caches_of}
-use Rattle.xl_core.specs.Places.{Place, ByteOf, ShareOf, RangesOf, CacheOf, is_cache_on, byte_held, share_held, held_in, is_at, part_by, part_of, entered_by, cleared_by, cleared_at, acked_at, ended_at, else_was}
+use Rattle.xl_core.specs.Places.{Place, ByteOf, ShareOf, RangesOf, CacheOf, is_cache_on, byte_held, share_held, held_in, is_at, part_by, part_of, entered_by, cleared_by, cleared_at, acked_at, else_was}
 use Rattle.xl_spans.specs.Spans.{mode_at}
 use Rattle.xl_spans.specs.declared.span.Span.{Span}
 use Rattle.xl_base.specs.declared.name.Owner.{Owner}
@@ -225,55 +225,6 @@ rest_made file party claim kind cs single there cache = by (is_cache_on file par
 pub acked_cache_made : (file : ℕ) (party : Party) (claim : Claim) (to : Option CacheKind) (cs : List Claim) → Pairwise is_single cs → IsIn claim cs → is_cache claim.what ≡ true → held_in (with_rest claim to cs) (CacheOf file party) ≡ else_was (acked_at claim to (CacheOf file party)) (held_in cs (CacheOf file party))
 acked_cache_made file party claim None cs single there cache = removed_made file party claim cs single there cache
 acked_cache_made file party claim (Some kind) cs single there cache = rest_made file party claim kind cs single there cache
-
--- where a party ends
-abbrev stays : Party → Claim → Bool
-stays ended c = not (same_parties c.party ended)
-
-abbrev has_cache : ℕ → Party → Party → List Claim → Bool
-has_cache file party ended cs = list_any (λ c. if is_cache_on file party c then same_parties c.party ended else false) cs
-
-all_end : (file : ℕ) (party ended : Party) (cs : List Claim) → same_parties party ended ≡ true
-    → (filter (is_cache_on file party) (filter (stays ended) cs) ≡ []) × (has_cache file party ended cs ≡ false → filter (is_cache_on file party) cs ≡ [])
-all_end file party ended [] same = (refl, λ h. refl)
-all_end file party ended (c ∷ cs) same =
-    let rest = all_end file party ended cs same in
-    elim (cases_Bool (is_cache_on file party c)) [
-      | inl own ↦
-          let goes : same_parties c.party ended ≡ true = subst (λ (p : Party). same_parties p ended ≡ true) (sym (on_parts file party c own).2) same in
-          (rw goes rest.0, λ none. absurd (both_ways true (rw (own, goes) at none) refl))
-      | inr other ↦ (
-        elim (cases_Bool (same_parties c.party ended)) [ inl goes ↦ rw goes rest.0 | inr stay ↦ rw stay (rw other rest.0) ],
-        λ none. rw other (rest.1 (rw other at none)),
-      )
-    ]
-
-none_end : (file : ℕ) (party ended : Party) (cs : List Claim) → same_parties party ended ≡ false
-    → (filter (is_cache_on file party) (filter (stays ended) cs) ≡ filter (is_cache_on file party) cs) × (has_cache file party ended cs ≡ false)
-none_end file party ended [] apart = (refl, refl)
-none_end file party ended (c ∷ cs) apart =
-    let rest = none_end file party ended cs apart in
-    elim (cases_Bool (is_cache_on file party c)) [
-      | inl own ↦
-          let stay : same_parties c.party ended ≡ false = subst (λ (p : Party). same_parties p ended ≡ false) (sym (on_parts file party c own).2) apart in
-          (rw stay (rw own (ap (λ (ds : List Claim). c ∷ ds) rest.0)), rw (own, stay) rest.1)
-      | inr other ↦ (
-        elim (cases_Bool (same_parties c.party ended)) [ inl goes ↦ rw goes (rw other rest.0) | inr stay ↦ rw stay (rw other rest.0) ],
-        rw other rest.1,
-      )
-    ]
-
-pub ended_cache_made : (file : ℕ) (party ended : Party) (cs : List Claim) → held_in (filter (stays ended) cs) (CacheOf file party) ≡ else_was (ended_at cs ended (CacheOf file party)) (held_in cs (CacheOf file party))
-ended_cache_made file party ended cs =
-    elim (cases_Bool (same_parties party ended)) [
-      | inr apart ↦ let is = none_end file party ended cs apart in rw is.1 (ap (λ (ds : List Claim). map (λ c. c.what) ds) is.0)
-      | inl same ↦
-          let is = all_end file party ended cs same in
-          elim (cases_Bool (has_cache file party ended cs)) [
-            | inl has ↦ rw has (ap (λ (ds : List Claim). map (λ c. c.what) ds) is.0)
-            | inr none ↦ rw none (ap (λ (ds : List Claim). map (λ c. c.what) ds) (is.0 ∙ sym (is.1 none)))
-          ]
-    ]
 
 -- ---- a cache that comes or goes is nothing to the other places
 

@@ -1,7 +1,7 @@
 -- An ask changes only what its owner has on its file, and only where it is granted.
-use Rattle.std.proofs.Common.{◌≡◌, ℕ, ◌+◌, ◌≤◌, Bool, true, false, length, if◌then◌else◌, List, [], ◌∷◌, ◌++◌, map, Option, Some, None, refl, sym, ap, subst, ◌∙◌, nat_le, inl, inr}
+use Rattle.std.proofs.Common.{◌≡◌, ℕ, ◌+◌, ◌≤◌, Bool, true, false, length, if◌then◌else◌, List, [], ◌∷◌, ◌++◌, map, Option, Some, None, refl, sym, ap, subst, ◌∙◌, nat_le, inl, inr, find}
 use Rattle.std.specs.List.{AllByRecursion}
-use Rattle.std.proofs.lemmas.Bool.{both_ways, cases_Bool}
+use Rattle.std.proofs.lemmas.Bool.{both_ways, cases_Bool, and_parts}
 use Rattle.xl_base.proofs.Members.{in_append_left, all_in}
 use Rattle.xl_base.specs.declared.name.Owner.{Owner}
 use Rattle.xl_base.specs.declared.name.Party.{Party}
@@ -36,17 +36,17 @@ use Rattle.xl_core.specs.declared.ask.Answer.{Answer}
 use Rattle.xl_core.specs.declared.ask.Answer.TheVariants as answers
 use Rattle.xl_core.specs.declared.ask.Ask.{Ask}
 use Rattle.xl_core.proofs.CauseLaws.{same_list, left_so, unlock_by, unlock_is}
-use Rattle.xl_core.proofs.GoodLaws.{AskCase, Goes, Queues, Refuses, ask_case, holder_kept}
+use Rattle.xl_core.proofs.GoodLaws.{AskCase, Goes, Queues, Refuses, ask_case, holder_of}
 use Rattle.xl_core.proofs.CacheLaws.{relocked_caches, all_granted_caches, removed_caches, range_no_cache}
 use Rattle.xl_core.proofs.KnownLaws.{both_go_on, known_owner_is, known_posix, asker_posix}
 use Rattle.xl_core.proofs.RowLaws.{is_refusal}
-use Rattle.xl_table.specs.Flat.{inserted, removed, with_what, is_blocked}
+use Rattle.xl_table.specs.Flat.{inserted, removed, is_blocked}
 use Rattle.xl_table.specs.Order.{goes_first}
-use Rattle.xl_table.specs.Elements.{is_held, element_held}
+use Rattle.std.specs.Option.{option_or}
+use Rattle.xl_table.specs.Elements.{is_element, element_held}
+use Rattle.xl_table.proofs.ElementLaws.{element_is}
 use Rattle.xl_table.proofs.InsertLaws.{spans_of-inserted_apart, spans_of-inserted_other}
-use Rattle.xl_table.proofs.FlatLaws.{held_iff}
 use Rattle.xl_base.specs.Lists.{IsIn}
-use Rattle.std.proofs.lemmas.Option.{same_Some}
 use Rattle.xl_matrix.specs.Equal.{same_claims}
 use Rattle.xl_matrix.proofs.EqualLaws.{same_claims-true}
 use Rattle.xl_spans.specs.declared.span.Span.{Span}
@@ -157,7 +157,8 @@ holder_is : (s : CoreState) (a : Ask) (extent : Extent) (first last : ℕ) → I
     → (let claim = known_claim a extent false s.names in holds_byte claim.file claim.owner first last s.claims ≡ true → claim.owner ≡ asker a s.names)
 holder_is s a extent first last good client holds =
     let claim = known_claim a extent false s.names in
-    known_owner_is a s.names claim.party good.few client (holder_kept s a extent false first last good client holds)
+    let found = holder_of s a extent false first last good holds in
+    known_owner_is a s.names found.0 good.few client found.1
 
 -- an ask is refused, finds a test free, has what it asks for, waits, or unlocks bytes or a range that its owner has
 pub data AskWay (s : CoreState) (a : Ask) (r : Answered) : Type 0 where
@@ -185,22 +186,19 @@ tested_way s a claim holds = by a.reclaim (least s.names (test_blockers s claim)
   by false None = Tests claim holds refl
   by false (Some c) = Stays (answers.Conflict c) refl refl
 
--- an element that is held is one of these, so its owner is known
-pub element_is_held : (claim : Claim) (extent : Extent) (cs : List Claim) (d : Claim) → element_held claim extent cs ≡ Some d → IsIn d cs × (exclusive : Bool) × (d ≡ with_what claim (Range extent exclusive))
+-- an element that is held is one of the owner's on the file, of just this range
+pub element_is_held : (claim : Claim) (extent : Extent) (cs : List Claim) (d : Claim) → element_held claim extent cs ≡ Some d → IsIn d cs × (exclusive : Bool) × (d.file ≡ claim.file) × (d.owner ≡ claim.owner) × (d.what ≡ Range extent exclusive)
 unfolding element_held
-element_is_held claim extent cs d e = first (is_held (with_what claim (Range extent true)) cs) (is_held (with_what claim (Range extent false)) cs) refl refl e where
-  alone : Bool → Claim
-  alone exclusive = with_what claim (Range extent exclusive)
+element_is_held claim extent cs d e = first (find (is_element claim (Range extent true)) cs) refl e where
+  there : (exclusive : Bool) → find (is_element claim (Range extent exclusive)) cs ≡ Some d → IsIn d cs × (exclusive : Bool) × (d.file ≡ claim.file) × (d.owner ≡ claim.owner) × (d.what ≡ Range extent exclusive)
+  there exclusive found =
+      let is = element_is claim (Range extent exclusive) cs d found in
+      let of = is_of-true claim.file claim.owner d (and_parts (is_of claim.file claim.owner d) (is_range d.what) is.1).0 in
+      (is.0, exclusive, of.0, of.1, is.2)
 
-  there : (exclusive : Bool) → is_held (alone exclusive) cs ≡ true → Some (alone exclusive) ≡ Some d → IsIn d cs × (exclusive : Bool) × (d ≡ with_what claim (Range extent exclusive))
-  there exclusive held same =
-      let is : alone exclusive ≡ d = same_Some (alone exclusive) d same in
-      (subst (λ (c : Claim). IsIn c cs) is ((held_iff true (alone exclusive) cs (sym held)).0 refl), exclusive, sym is)
-
-  first : (x y : Bool) → is_held (alone true) cs ≡ x → is_held (alone false) cs ≡ y → (if x then Some (alone true) else if y then Some (alone false) else None) ≡ Some d → IsIn d cs × (exclusive : Bool) × (d ≡ with_what claim (Range extent exclusive))
-  first true y a b same = there true a same
-  first false true a b same = there false b same
-  first false false a b same = absurd cc
+  first : (o : Option Claim) → find (is_element claim (Range extent true)) cs ≡ o → option_or o (find (is_element claim (Range extent false)) cs) ≡ Some d → IsIn d cs × (exclusive : Bool) × (d.file ≡ claim.file) × (d.owner ≡ claim.owner) × (d.what ≡ Range extent exclusive)
+  first (Some c) found same = there true (found ∙ same)
+  first None found same = there false same
 
 freed_way : (s : CoreState) (a : Ask) (extent : Extent) → a.act ≡ Unlock extent → IsGood s → is_client a.owner a.party ≡ true → AskWay s a (unlocked_one s (known_claim a extent false s.names) extent)
 freed_way s a extent act good client = by (element_held claim extent s.claims) refl where
@@ -212,8 +210,8 @@ freed_way s a extent act good client = by (element_held claim extent s.claims) r
   by (Some d) e =
       let found = element_is_held claim extent s.claims d e in
       let kept : are_kept s.names d.owner d.party ≡ true = (all_in (IsHeld s.names) d s.claims good.known found.0).1 in
-      let owner : claim.owner ≡ asker a s.names = known_owner_is a s.names d.party good.few client (subst (λ (c : Claim). are_kept s.names c.owner d.party ≡ true) found.2 kept) in
-      Gives claim d (ap asks_to_hold act) (ap asks_share act) (ap (λ (c : Claim). c.file) found.2) (ap (λ (c : Claim). c.owner) found.2 ∙ owner) (ap (λ (c : Claim). is_range c.what) found.2) refl
+      let owner : claim.owner ≡ asker a s.names = known_owner_is a s.names d.party good.few client (subst (λ (o : Owner). are_kept s.names o d.party ≡ true) found.3 kept) in
+      Gives claim d (ap asks_to_hold act) (ap asks_share act) found.2 (found.3 ∙ owner) (ap is_range found.4) refl
 
 unlocked_way : (s : CoreState) (a : Ask) (extent : Extent) → a.act ≡ Unlock extent → IsGood s → is_client a.owner a.party ≡ true → AskWay s a (unlocked s (known_claim a extent false s.names) extent)
 unfolding unlocked

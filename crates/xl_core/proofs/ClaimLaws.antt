@@ -6,7 +6,9 @@ use Rattle.std.proofs.lemmas.Bool.{cases_Bool, and_parts, and_from, and_left, an
 use Rattle.xl_base.specs.Lists.{IsIn, Pairwise}
 use Rattle.xl_base.proofs.Members.{all_in, all_from, in_map_from, in_filter_from, pairwise_filter}
 use Rattle.xl_base.specs.declared.name.Owner.{Owner}
+use Rattle.xl_base.specs.declared.name.Owner.TheVariants as owners
 use Rattle.xl_base.specs.declared.name.Party.{Party}
+use Rattle.xl_base.specs.declared.name.Protocol.TheVariants.{Nlm, Nfs, Smb}
 use Rattle.xl_matrix.specs.Equal.{same_owners, same_parties}
 use Rattle.xl_matrix.specs.Kinds.{guarding}
 use Rattle.xl_matrix.specs.declared.claim.Break.{Break}
@@ -30,16 +32,16 @@ use Rattle.xl_spans.specs.declared.span.Span.{Span}
 use Rattle.xl_spans.proofs.Bytes.{relocked_mode, AreRanges}
 use Rattle.xl_spans.proofs.Chains.{canonical_ranges, canonical_rest, relocked_canonical, IsChain}
 use Rattle.xl_table.specs.Flat.{inserted, blocks, is_blocked, is_own, is_replaced, is_met_by_own}
-use Rattle.xl_table.specs.Held.{IsShareOrLock, may_own, is_share, is_cache, mode_of, is_range, with_span, is_of, spans_of, IsKept}
+use Rattle.xl_table.specs.Held.{IsShareOrLock, may_own, is_share, is_cache, mode_of, is_range, has_one_party, with_span, is_of, spans_of, IsKept}
 use Rattle.xl_table.proofs.FlatLaws.{all_inserted as all_put, pairwise_into}
 use Rattle.xl_core.specs.Good.{IsRangeBy, IsRange, are_kept, IsKnown, IsHeldBy, IsHeld, is_single_by, is_single}
-use Rattle.xl_table.specs.Relock.{most_claims, all_inserted, is_exclusive, range_claim, is_range_of, unranged, relocked_in, is_share_of, unshared, old_shares, united, shared_in, granted_by, granted_claims}
+use Rattle.xl_table.specs.Relock.{most_claims, all_inserted, is_exclusive, range_claim, is_range_of, unranged, relocked_in, is_share_of, unshared, old_shares, united, shared_in, unites, united_by, granted_by, granted_claims}
 use Rattle.xl_core.proofs.KnownLaws.{one_party}
 use Rattle.xl_table.proofs.ElementLaws.{real_element, sound_element}
 use Rattle.xl_table.proofs.OrderLaws.{inserted_ordered}
 use Rattle.xl_table.proofs.UnionLaws.{united_fits}
 use Rattle.xl_table.proofs.ShareLaws.{united_share, sound_shared, ordered_shared}
-use Rattle.xl_table.proofs.WriteBack.{is_of-true, IsOfParty, relocked_is, left_all, left_pairwise, all_all_inserted, pairwise_all_inserted, kept_relocked, all_one_party}
+use Rattle.xl_table.proofs.WriteBack.{is_of-true, IsOfParty, relocked_is, left_all, left_pairwise, all_all_inserted, pairwise_all_inserted, kept_relocked, one_party_open}
 
 -- ---- what the claims of an owner do to a byte
 
@@ -281,11 +283,11 @@ record IsRelock (names : List Name) (file : ℕ) (owner : Owner) (party : Party)
 abbrev new_spans : ℕ → Owner → ℕ → ℕ → Option Bool → List Claim → List Span
 new_spans file owner first last asked cs = relocked (spans_of file owner cs) first last (mode_asked asked)
 
--- the owner's claims are of this party
-party_of : (names : List Name) (file : ℕ) (owner : Owner) (party : Party) (cs : List Claim) (c : Claim) → AreDistinct names → AllByRecursion (IsHeld names) cs → are_kept names owner party ≡ true → IsIn c cs → is_of file owner c ≡ true → c.party ≡ party
-party_of names file owner party cs c distinct known kept h own =
+-- a POSIX owner's claims are of this party
+party_of : (names : List Name) (file : ℕ) (owner : Owner) (party : Party) (cs : List Claim) (c : Claim) → posix owner ≡ true → AreDistinct names → AllByRecursion (IsHeld names) cs → are_kept names owner party ≡ true → IsIn c cs → is_of file owner c ≡ true → c.party ≡ party
+party_of names file owner party cs c named distinct known kept h own =
     let is = all_in (IsHeld names) c cs known h in
-    one_party names owner c.party party distinct (subst (λ (o : Owner). are_kept names o c.party ≡ true) (is_of-true file owner c own).1 is.1) kept
+    one_party names owner c.party party named distinct (subst (λ (o : Owner). are_kept names o c.party ≡ true) (is_of-true file owner c own).1 is.1) kept
 
 -- what a byte of a new span was: asked for, or the owner's
 new_mode : (names : List Name) (file : ℕ) (owner : Owner) (party : Party) (first last : ℕ) (asked : Option Bool) (cs : List Claim) (x : ℕ) (m : Mode)
@@ -360,7 +362,7 @@ new_caches names file owner party first last asked cs s c is new ends there cach
         (mode_of_span s (new_spans file owner first last asked cs) s.first (relocked_canonical (spans_of file owner cs) first last (mode_asked asked) is.ends (is.good.kept.sound.canonical file owner is.own)) new (first_inside s ends))
 
     own_party : (d : Claim) → IsIn d cs → is_of file owner d ≡ true → d.party ≡ party
-    own_party d h own = party_of names file owner party cs d is.distinct is.good.known is.client h own
+    own_party d h own = party_of names file owner party cs d is.own is.distinct is.good.known is.client h own
 
     by_ask : is_of file owner c ≡ false → (a : Option Bool) → IsFree file owner party first last a cs → mode_asked a ≡ Some s.mode → same_parties party c.party ≡ true
     by_ask other None free e = absurd cc
@@ -428,15 +430,15 @@ new_ranges : (file : ℕ) (owner : Owner) (party : Party) (ss : List Span) → p
 new_ranges file owner party [] own ranges = tt
 new_ranges file owner party (s ∷ ss) own ranges = ((ranges.0, own), new_ranges file owner party ss own ranges.1)
 
-of_one_party : (names : List Name) (file : ℕ) (owner : Owner) (party : Party) (cs : List Claim) → AreDistinct names → AllByRecursion (IsHeld names) cs → are_kept names owner party ≡ true → IsOfParty file owner party cs
-of_one_party names file owner party cs distinct known kept c h own range = party_of names file owner party cs c distinct known kept h own
+of_one_party : (names : List Name) (file : ℕ) (owner : Owner) (party : Party) (cs : List Claim) → posix owner ≡ true → AreDistinct names → AllByRecursion (IsHeld names) cs → are_kept names owner party ≡ true → IsOfParty file owner party cs
+of_one_party names file owner party cs named distinct known kept c h own range = party_of names file owner party cs c named distinct known kept h own
 
 -- the claims stay so where nothing stands against the lock, or where it is an unlock
 pub relocked_good : (names : List Name) (file : ℕ) (owner : Owner) (party : Party) (first last : ℕ) (asked : Option Bool) (cs : List Claim)
     → AreDistinct names → AreGood names cs → first ≤ last → posix owner ≡ true → are_kept names owner party ≡ true → IsFree file owner party first last asked cs
     → length (relocked_in file owner party first last (mode_asked asked) cs) ≤ most_claims → AreGood names (relocked_in file owner party first last (mode_asked asked) cs)
 relocked_good names file owner party first last asked cs distinct good ends own kept free fits = record {
-  kept = kept_relocked file owner party first last (mode_asked asked) cs good.kept own ends (of_one_party names file owner party cs distinct good.known kept) fits;
+  kept = kept_relocked file owner party first last (mode_asked asked) cs good.kept own ends (of_one_party names file owner party cs own distinct good.known kept) fits;
   compatible = subst (λ (ds : List Claim). Pairwise compat ds) same
       (pairwise_all_inserted compat compat-sym new left (new_pairwise file owner party spans canonical ranges) (left_pairwise compat file owner cs good.compatible) across);
   single = subst (λ (ds : List Claim). Pairwise is_single ds) same
@@ -564,6 +566,56 @@ held_share party (Share access deny) h = tt
 held_share party (Range extent exclusive) h = absurd (both_ways false refl h)
 held_share party (Cache kind running) h = absurd (both_ways false refl h)
 
+-- what doesn't block an ask, and isn't the asker's own that it replaces, fits it
+unblocked_other : (ask c : Claim) → blocks ask c ≡ false → is_own ask c ≡ false → compat ask c ≡ true
+unfolding blocks
+unblocked_other ask c free other =
+    elim (and_cases (not (is_own ask c)) (not (compat ask c) || is_met_by_own ask c) free) [
+      | inr e ↦ not-false (compat ask c) (or_parts (not (compat ask c)) (is_met_by_own ask c) e).0
+      | inl e ↦ absurd (both_ways (is_own ask c) other (not-false (is_own ask c) e))
+    ]
+
+-- an open's own that an ask replaces is a share
+not_replaced : (owner : Owner) (w : What) → posix owner ≡ false → is_share w ≡ false → is_replaced owner w ≡ false
+not_replaced owner (Share access deny) e h = absurd (both_ways true h refl)
+not_replaced owner (Range extent exclusive) e h = e
+not_replaced owner (Cache kind running) e h = refl
+
+free_of : (ask : Claim) (ds : List Claim) (e : Claim) → list_any (λ x. blocks ask x) ds ≡ false → IsIn e ds → blocks ask e ≡ false
+free_of ask [] e none h = absurd h
+free_of ask (x ∷ xs) e none h =
+    let parts = or_parts (blocks ask x) (list_any (λ y. blocks ask y) xs) none in
+    elim h [
+      | inl same ↦ ap (blocks ask) (sym same) ∙ parts.0
+      | inr more ↦ free_of ask xs e parts.1 more
+    ]
+
+-- an open's ask that nothing blocks fits each claim but the open's own share on its file
+open_share_fits : (c : Claim) (cs : List Claim) (d : Claim) → posix c.owner ≡ false → list_any (λ e. blocks c e) cs ≡ false → IsIn d cs → is_share_of c.file c.owner d ≡ false → compat c d ≡ true
+open_share_fits c cs d unnamed free there other =
+    elim (cases_Bool (eqb c.file d.file)) [
+      | inr two ↦ other_file c d two
+      | inl one ↦ elim (cases_Bool (same_owners c.owner d.owner)) [
+        | inr apart ↦ unblocked_other c d (free_of c cs d free there) (and_left (same_owners c.owner d.owner) (is_replaced d.owner d.what) apart)
+        | inl same ↦ elim (cases_Bool (is_share d.what)) [
+          | inr differs ↦ unblocked_other c d (free_of c cs d free there) (and_right (same_owners c.owner d.owner) (is_replaced d.owner d.what) (not_replaced d.owner d.what (ap (λ (o : Owner). posix o) (sym (same_owners-true c.owner d.owner same)) ∙ unnamed) differs))
+          | inl share ↦ absurd (both_ways (is_share_of c.file c.owner d) other
+              (and_from (is_of c.file c.owner d) (is_share d.what) (and_from (eqb d.file c.file) (same_owners d.owner c.owner) (eq-eqb d.file c.file (sym (eqb-true c.file d.file one))) (same_owners-sym d.owner c.owner ∙ same)) share))
+        ]
+      ]
+    ]
+
+-- an open's share stands alone
+open_unites : (owner : Owner) → posix owner ≡ false → unites owner ≡ false
+open_unites (owners.Open number) h = refl
+open_unites (owners.Name Nlm number) h = refl
+open_unites (owners.Name Nfs number) h = absurd (both_ways true h refl)
+open_unites (owners.Name Smb number) h = refl
+
+open_whole : (c : Claim) (cs : List Claim) (d : Claim) → posix c.owner ≡ false → compat c d ≡ true → compat (united c cs) d ≡ true
+unfolding united_by
+open_whole c cs d unnamed fits = rw (open_unites c.owner unnamed) fits
+
 shared_good : (names : List Name) (c : Claim) (cs : List Claim) → is_share c.what ≡ true → are_kept names c.owner c.party ≡ true
     → AreDistinct names → AreGood names cs → list_any (λ d. blocks c d) cs ≡ false → length (shared_in c cs) ≤ most_claims → AreGood names (shared_in c cs)
 unfolding shared_in
@@ -582,32 +634,27 @@ shared_good names c cs share kept distinct good free fits = record {
   one : is_share whole.what ≡ true
   one = united_share c.owner c.what (old_shares c.file c.owner cs) share
 
-  mine : (d : Claim) → IsIn d cs → is_of c.file c.owner d ≡ true → d.party ≡ c.party
-  mine d h is = party_of names c.file c.owner c.party cs d distinct good.known kept h is
+  mine : posix c.owner ≡ true → (d : Claim) → IsIn d cs → is_of c.file c.owner d ≡ true → d.party ≡ c.party
+  mine named d h is = party_of names c.file c.owner c.party cs d named distinct good.known kept h is
 
-  -- the old share is of the party, and fits each claim that is left
-  before : (d : Claim) → IsIn d cs → is_share_of c.file c.owner d ≡ false → (o : Claim) → IsIn o cs → is_share_of c.file c.owner o ≡ true → (o.party ≡ c.party) × (compat o d ≡ true)
-  before d there other o h old = (
-    mine o h (and_parts (is_of c.file c.owner o) (is_share o.what) old).0,
+  -- the old share of a POSIX owner is of the party, and fits each claim that is left
+  before : posix c.owner ≡ true → (d : Claim) → IsIn d cs → is_share_of c.file c.owner d ≡ false → (o : Claim) → IsIn o cs → is_share_of c.file c.owner o ≡ true → (o.party ≡ c.party) × (compat o d ≡ true)
+  before named d there other o h old = (
+    mine named o h (and_parts (is_of c.file c.owner o) (is_share o.what) old).0,
     pairwise_two cs o d good.compatible h there (λ e. both_ways (is_share_of c.file c.owner d) other (ap (is_share_of c.file c.owner) (sym e) ∙ old)),
   )
 
   beside : (d : Claim) → IsIn d left → compat whole d ≡ true
   beside d h =
       let found = unshared_of c.file c.owner cs d h in
-      united_fits c d cs share (share_fits_held c cs d share free found.0 (mine d found.0) found.1)
-      (all_from (λ o. is_share_of c.file c.owner o ≡ true → (o.party ≡ c.party) × (compat o d ≡ true)) cs (λ o k. before d found.0 found.1 o k))
+      elim (cases_Bool (posix c.owner)) [
+        | inr unnamed ↦ open_whole c cs d unnamed (open_share_fits c cs d unnamed free found.0 found.1)
+        | inl named ↦
+            united_fits c d cs share (share_fits_held c cs d share free found.0 (mine named d found.0) found.1)
+            (all_from (λ o. is_share_of c.file c.owner o ≡ true → (o.party ≡ c.party) × (compat o d ≡ true)) cs (λ o k. before named d found.0 found.1 o k))
+      ]
 
 -- ---- a range of an open
-
--- what doesn't block an ask, and isn't the asker's own that it replaces, fits it
-unblocked_other : (ask c : Claim) → blocks ask c ≡ false → is_own ask c ≡ false → compat ask c ≡ true
-unfolding blocks
-unblocked_other ask c free other =
-    elim (and_cases (not (is_own ask c)) (not (compat ask c) || is_met_by_own ask c) free) [
-      | inr e ↦ not-false (compat ask c) (or_parts (not (compat ask c)) (is_met_by_own ask c) e).0
-      | inl e ↦ absurd (both_ways (is_own ask c) other (not-false (is_own ask c) e))
-    ]
 
 range_share : (a b : Claim) (w v : What) → is_range w ≡ true → is_share v ≡ true → fit_by a b w v ≡ true
 unfolding fit_by
@@ -616,12 +663,6 @@ range_share a b (Range extent exclusive) (Range place alone) h k = absurd (both_
 range_share a b (Range extent exclusive) (Cache kind running) h k = absurd (both_ways false refl k)
 range_share a b (Share access deny) v h k = absurd (both_ways false refl h)
 range_share a b (Cache kind running) v h k = absurd (both_ways false refl h)
-
--- an open's own that an ask replaces is a share
-not_replaced : (owner : Owner) (w : What) → posix owner ≡ false → is_share w ≡ false → is_replaced owner w ≡ false
-not_replaced owner (Share access deny) e h = absurd (both_ways true h refl)
-not_replaced owner (Range extent exclusive) e h = e
-not_replaced owner (Cache kind running) e h = refl
 
 element_fits : (c : Claim) (cs : List Claim) (d : Claim) → is_range c.what ≡ true → posix c.owner ≡ false → list_any (λ e. blocks c e) cs ≡ false → IsIn d cs → compat c d ≡ true
 element_fits c cs d range unnamed free there =
@@ -632,21 +673,12 @@ element_fits c cs d range unnamed free there =
         | inr apart ↦ unblocked_other c d (free_of c cs d free there) (and_left (same_owners c.owner d.owner) (is_replaced d.owner d.what) apart)
       ]
     ]
-  where
-    free_of : (ask : Claim) (ds : List Claim) (e : Claim) → list_any (λ x. blocks ask x) ds ≡ false → IsIn e ds → blocks ask e ≡ false
-    free_of ask [] e none h = absurd h
-    free_of ask (x ∷ xs) e none h =
-        let parts = or_parts (blocks ask x) (list_any (λ y. blocks ask y) xs) none in
-        elim h [
-          | inl same ↦ ap (blocks ask) (sym same) ∙ parts.0
-          | inr more ↦ free_of ask xs e parts.1 more
-        ]
 
 element_good : (names : List Name) (c : Claim) (cs : List Claim) → is_range c.what ≡ true → posix c.owner ≡ false → IsShareOrLock c.what → may_own c.owner c.what ≡ true → are_kept names c.owner c.party ≡ true
     → AreDistinct names → AreGood names cs → list_any (λ d. blocks c d) cs ≡ false → length (inserted c cs) ≤ most_claims → AreGood names (inserted c cs)
 element_good names c cs range unnamed order own kept distinct good free fits = record {
   kept = record {
-    sound = sound_element c cs good.kept.sound unnamed (real_element c c.what refl order own) (all_one_party c cs (λ d h mine k. party_of names c.file c.owner c.party cs d distinct good.known kept h mine));
+    sound = sound_element c cs good.kept.sound unnamed (real_element c c.what refl order own) (all_from (λ d. has_one_party c d ≡ true) cs (λ d h. one_party_open c d unnamed));
     ordered = inserted_ordered c cs good.kept.ordered;
     room = fits;
   };

@@ -1,6 +1,6 @@
 -- Which caches deeds leave.
-use Rattle.std.proofs.Common.{◌≡◌, ℕ, true, false, not, Bool, if◌then◌else◌, List, [], ◌∷◌, ◌++◌, append-nil, Option, Some, None, IfSome, refl, sym, ap, subst, ◌∙◌}
-use Rattle.std.proofs.lemmas.Bool.{both_ways, or_parts}
+use Rattle.std.proofs.Common.{◌≡◌, ℕ, true, false, not, Bool, if◌then◌else◌, List, [], ◌∷◌, ◌++◌, append-nil, Option, Some, None, IfSome, refl, sym, ap, subst, ◌∙◌, filter, inr, inl}
+use Rattle.std.proofs.lemmas.Bool.{both_ways, or_parts, cases_Bool}
 use Rattle.xl_base.specs.Lists.{IsIn, Pairwise}
 use Rattle.xl_base.proofs.Members.{in_filter, in_filter_from}
 use Rattle.xl_base.specs.declared.event.Moment.{Moment}
@@ -28,9 +28,11 @@ use Rattle.xl_core.specs.Wishes.{wish_of, wish_for, caches_wished}
 use Rattle.xl_core.specs.declared.judge.Plea.{Plea}
 use Rattle.xl_core.specs.Breaks.{with_rest, ack, client_of}
 use Rattle.xl_core.specs.Ticks.{advanced, renew, end_some, unleased, expire, lapsed_by, lapse}
-use Rattle.xl_core.specs.Deeds.{Deed, Asks, GivesBack, Weakens, Acks, Cancels, Ends, Serves, Draws, Advances, Lapses, Renews, Expires, turned, done, all_done, IsFitDeed, AreFit, wish_by_number, asked_by, once_served, caches_served, caches_asked, caches_without_party, caches_without, caches_after, all_caches_after, is_of_some, is_lapsed, ends_break, any_ends_break}
+use Rattle.xl_core.specs.Deeds.{Deed, Asks, GivesBack, Weakens, Acks, Cancels, Ends, Serves, Draws, Advances, Lapses, Renews, Expires, Closes, turned, done, all_done, IsFitDeed, AreFit, wish_by_number, asked_by, once_served, caches_served, caches_asked, caches_without_party, caches_without, caches_after, all_caches_after, is_lapsed, ends_break, any_ends_break}
 use Rattle.xl_core.specs.Good.{IsGood, are_apart, caches_of, holds_up}
-use Rattle.xl_core.specs.Settle.{plea_again, way_again, next_way, settle, cancel, give_back, end_party}
+use Rattle.xl_table.specs.Leaving.{is_of_some, goes}
+use Rattle.xl_table.specs.declared.leaver.Leaver.TheVariants as leavers
+use Rattle.xl_core.specs.Settle.{plea_again, way_again, next_way, settle, cancel, give_back, end_party, close_open}
 use Rattle.xl_core.specs.declared.ask.Answer.{Answer}
 use Rattle.xl_core.specs.declared.ask.Answer.TheVariants as answers
 use Rattle.xl_core.specs.declared.ask.Ask.{Ask}
@@ -64,6 +66,28 @@ cancelled_caches s id = refl
 ended_caches : (s : CoreState) (party : Party) → caches_of (end_party s party).1.claims ≡ caches_without_party (Some party) (caches_of s.claims)
 unfolding end_party
 ended_caches s party = stayed_caches (λ c. not (same_parties c.party party)) s.claims
+
+closed_caches : (s : CoreState) (number : ℕ) (party : Option Party) → caches_of (close_open s number party).1.claims ≡ caches_without_party party (caches_of s.claims)
+unfolding close_open
+closed_caches s number party = stayed_caches (λ c. not (goes (leavers.Open number party) c)) s.claims ∙ by party where
+  kept : (p : Claim → Bool) (q : Claim → Bool) (cs : List Claim) → ((c : Claim) → is_cache c.what ≡ true → p c ≡ q c) → filter p (caches_of cs) ≡ filter q (caches_of cs)
+  kept p q [] same = refl
+  kept p q (c ∷ cs) same =
+      elim (cases_Bool (is_cache c.what)) [
+        | inr other ↦ rw other (kept p q cs same)
+        | inl cache ↦ elim (cases_Bool (q c)) [
+          | inl stays ↦ rw (cache, same c cache ∙ stays, stays) (ap (λ (ds : List Claim). c ∷ ds) (kept p q cs same))
+          | inr differs ↦ rw (cache, same c cache ∙ differs, differs) (kept p q cs same)
+        ]
+      ]
+
+  all_stay : (cs : List Claim) → filter (λ (c : Claim). true) cs ≡ cs
+  all_stay [] = refl
+  all_stay (c ∷ cs) = ap (λ (ds : List Claim). c ∷ ds) (all_stay cs)
+
+  by : (o : Option Party) → filter (λ c. not (goes (leavers.Open number o) c)) (caches_of s.claims) ≡ caches_without_party o (caches_of s.claims)
+  by None = kept (λ c. not (goes (leavers.Open number None) c)) (λ c. true) s.claims (λ c cache. rw cache refl) ∙ all_stay (caches_of s.claims)
+  by (Some p) = kept (λ c. not (goes (leavers.Open number (Some p)) c)) (λ c. not (same_parties c.party p)) s.claims (λ c cache. rw cache refl)
 
 drawn_caches : (s : CoreState) → caches_of (drawn s).claims ≡ caches_of s.claims
 unfolding drawn
@@ -176,6 +200,7 @@ deed_caches n s (Advances now) good fit = advanced_caches s now
 deed_caches n s (Lapses cache) good fit = lapse_caches s cache
 deed_caches n s (Renews client) good fit = renewed_caches s client
 deed_caches n s (Expires client) good fit = expired_caches s client
+deed_caches n s (Closes number party) good fit = closed_caches s number party
 
 -- those of deeds in a row
 pub deeds_caches : (n : ℕ) (s : CoreState) (ds : List Deed) → IsGood s → AreFit n s ds → caches_of (all_done n s ds).claims ≡ all_caches_after n s ds (caches_of s.claims)
@@ -287,6 +312,7 @@ deed_keeps_break n s d c good fit there runs other = by d fit other where
   by (Lapses cache) fit other = left_so (Lapses cache) fit (stays_lapsed s.names cache (client_of s.names cache.party) c (caches_of s.claims) among other)
   by (Renews client) fit other = left_so (Renews client) fit among
   by (Expires client) fit other = left_so (Expires client) fit (stays_without (party_named s.names (NfsParty client)) c (caches_of s.claims) among other)
+  by (Closes number party) fit other = left_so (Closes number party) fit (stays_without party c (caches_of s.claims) among other)
 
 -- a cache whose break runs stands as it is until a deed ends that
 pub deeds_keep_break : (n : ℕ) (s : CoreState) (ds : List Deed) (c : Claim) → IsGood s → AreFit n s ds → IsIn c s.claims → is_running c.what ≡ true → any_ends_break n s c ds ≡ false → IsIn c (all_done n s ds).claims

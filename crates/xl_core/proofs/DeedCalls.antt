@@ -1,7 +1,8 @@
 -- What the deeds' laws need of one ask and of one turn.
-use Rattle.std.proofs.Common.{◌≡◌, ℕ, ◌+◌, ◌≤◌, Bool, true, false, List, [], ◌∷◌, Option, Some, None, refl, sym, ap, subst, ◌∙◌, is_some, map, ◌&&◌, not}
-use Rattle.std.proofs.lemmas.Bool.{both_ways, le-leb, and_parts, not-true}
-use Rattle.xl_base.proofs.Members.{all_in, all_from}
+use Rattle.std.proofs.Common.{◌≡◌, ℕ, ◌+◌, ◌≤◌, Bool, true, false, List, [], ◌∷◌, Option, Some, None, refl, sym, ap, subst, ◌∙◌, is_some, map, ◌&&◌, not, ◌==◌}
+use Rattle.std.proofs.lemmas.Bool.{both_ways, le-leb, not-true}
+use Rattle.xl_matrix.specs.Equal.{same_owners}
+use Rattle.xl_base.proofs.Members.{all_in}
 use Rattle.xl_base.specs.declared.name.Owner.{Owner}
 use Rattle.xl_matrix.specs.Owners.{posix}
 use Rattle.xl_matrix.specs.declared.claim.Claim.{Claim}
@@ -12,15 +13,15 @@ use Rattle.xl_spans.specs.Spans.{relocked}
 use Rattle.xl_table.specs.Held.{spans_of, is_of, is_range, may_own}
 use Rattle.xl_wait.specs.declared.waiter.Rooms.{Rooms}
 use Rattle.xl_core.specs.State.{CoreState}
-use Rattle.xl_core.specs.Asking.{asked_what, asked_claim, asked_claims, known_claim, IsFit, IsFitAct, is_named, is_client, range_what, known_owner, both_entered, may_hold_all, may_ask}
+use Rattle.xl_core.specs.Asking.{asked_what, asked_claim, asked_claims, known_claim, IsFit, IsFitAct, is_named, range_what, known_owner, both_entered, may_hold_all, may_ask}
 use Rattle.xl_core.specs.Causes.{left_by_unlock}
 use Rattle.xl_core.specs.Deeds.{queue_with, KeepNames}
-use Rattle.xl_core.specs.Decide.{Answered, unlocked_claims, decided, named, claims_asked, plea_of, freed, unlocked_one}
+use Rattle.xl_core.specs.Decide.{Answered, unlocked_claims, decided, named, claims_asked, plea_of, freed, unlocked_one, unlocked}
 use Rattle.xl_core.specs.Dues.{IsGrantDue, IsAnswerDue, IsBytesDue}
 use Rattle.xl_table.specs.Held.{IsGrantable}
-use Rattle.xl_core.specs.Good.{IsGood, IsKnown, IsHeld, are_kept}
+use Rattle.xl_core.specs.Good.{IsGood, IsKnown, IsHeld}
 use Rattle.xl_core.specs.Frames.{asks_to_hold}
-use Rattle.xl_table.specs.Relock.{most_claims, shares_of, granted_claims, is_range_of}
+use Rattle.xl_table.specs.Relock.{most_claims, shares_of, granted_claims}
 use Rattle.xl_core.specs.declared.ask.Act.{Act}
 use Rattle.xl_core.specs.declared.ask.Act.TheVariants as acts
 use Rattle.xl_core.specs.declared.ask.Answer.{Answer}
@@ -28,9 +29,9 @@ use Rattle.xl_core.specs.declared.ask.Answer.TheVariants as answers
 use Rattle.xl_core.specs.declared.ask.Ask.{Ask}
 use Rattle.xl_core.proofs.CauseLaws.{wish_is_due, unlock_by, unlock_is, is_holds, lock_due, lock_free, test_due, unlock_due, fit_what, fit_owned, first_due, each_due, real_unlock, element_due, element_is, empty_due, ranges_asked, own_ranges, fit_ranges, real_range}
 use Rattle.xl_core.proofs.ChangeLaws.{decided_way, granted_way, decided_own, decided_waits, element_is_held, spans_of-removed_apart, shares_removed}
-use Rattle.xl_core.proofs.KnownLaws.{asked_known, known_posix, known_named, known_party_is, asked_all_known, both_distinct, both_go_on}
+use Rattle.xl_core.proofs.KnownLaws.{asked_known, known_posix, known_named, asked_all_known, both_distinct, both_go_on}
 use Rattle.xl_table.proofs.ShareLaws.{shares_of-relocked}
-use Rattle.xl_table.proofs.WriteBack.{spans_of-relocked, spans_of-relocked_apart, is_of-true}
+use Rattle.xl_table.proofs.WriteBack.{spans_of-relocked, spans_of-relocked_apart}
 use Rattle.xl_core.proofs.ElementLaws.{open_of, elements_relocked}
 use Rattle.xl_core.proofs.GoodLaws.{AskCase, Goes, Queues as ToWait, Refuses, ask_case, claims_on, good_claims}
 use Rattle.xl_core.proofs.ClaimLaws.{AreGood}
@@ -42,7 +43,7 @@ use Rattle.xl_core.specs.Places.{claims_like}
 use Rattle.xl_names.specs.Names.{AreDistinct}
 use Rattle.xl_table.specs.Elements.{elements_of, unlocked_elements, element_held, taken_out}
 use Rattle.xl_table.specs.Flat.{removed}
-use Rattle.xl_table.proofs.ElementLaws.{AreOfParty, elements_unlocked, elements_removed_apart}
+use Rattle.xl_table.proofs.ElementLaws.{elements_unlocked, elements_removed_apart}
 use Rattle.std.specs.List.{AllByRecursion}
 use Rattle.xl_matrix.specs.declared.claim.Extent.{Extent}
 
@@ -167,16 +168,16 @@ no_empty claim offset s good named some = by (element_held claim (Empty offset) 
   by (Some d) e h =
       let found = element_is_held claim (Empty offset) s.claims d e in
       let own = (all_in (IsHeld s.names) d s.claims good.known found.0).0.1 in
-      let unnamed : not (posix claim.owner) ≡ true = subst (λ (x : Claim). may_own x.owner x.what ≡ true) found.2 own in
+      let unnamed : not (posix claim.owner) ≡ true = subst (λ (o : Owner). may_own o (Range (Empty offset) found.1) ≡ true) found.3 (subst (λ (w : What). may_own d.owner w ≡ true) found.4 own) in
       both_ways (posix claim.owner) (not-true (posix claim.owner) unnamed) named
 
--- the asker's ranges on the file are of its party
-own_party : (s : CoreState) (a : Ask) (extent : Extent) → IsGood s → is_client a.owner a.party ≡ true → AreOfParty (known_claim a extent false s.names) s.claims
-own_party s a extent good client =
-    let claim = known_claim a extent false s.names in
-    all_from (λ d. is_range_of claim.file claim.owner d ≡ true → d.party ≡ claim.party) s.claims (λ d h own.
-    known_party_is a s.names d.party good.distinct good.few client
-    (subst (λ (o : Owner). are_kept s.names o d.party ≡ true) (is_of-true claim.file claim.owner d (and_parts (is_of claim.file claim.owner d) (is_range d.what) own).0).1 (all_in (IsHeld s.names) d s.claims good.known h).1))
+-- so its unlock of one finds none
+pub empty_unlocked : (claim : Claim) (offset : ℕ) (s : CoreState) → IsGood s → posix claim.owner ≡ true → unlocked s claim (Empty offset) ≡ (answers.NotHeld, [], s)
+unfolding unlocked
+empty_unlocked claim offset s good named = by (element_held claim (Empty offset) s.claims) refl where
+  by : (o : Option Claim) → element_held claim (Empty offset) s.claims ≡ o → freed s claim (element_held claim (Empty offset) s.claims) ≡ (answers.NotHeld, [], s)
+  by None e = ap (freed s claim) e
+  by (Some d) e = absurd (no_empty claim offset s good named (ap is_some e))
 
 pub decided_releases : (n : ℕ) (left : Rooms) (s : CoreState) (a : Ask) (extent : Extent) (c : Claim) → IsGood s → IsFit a → posix (known_owner a.owner s.names) ≡ false → a.act ≡ acts.Unlock extent → (decided n left s a).0 ≡ answers.Granted c → Releases c extent s.claims (decided n left s a).2.claims
 decided_releases n left s a extent c good fit unnamed act at = by (element_held claim extent s.claims) refl where
@@ -194,17 +195,17 @@ decided_releases n left s a extent c good fit unnamed act at = by (element_held 
   by (Some d) found =
       let left_so : (decided n left s a).2.claims ≡ removed d s.claims = ap (λ (x : Answered). x.2.claims) is ∙ ap (λ (x : Option Claim). (freed s claim x).2.claims) found in
       let one = element_is_held claim extent s.claims d found in
-      let there : (file : ℕ) (owner : Owner) → is_of file owner claim ≡ false → is_of file owner d ≡ false = λ file owner other. ap (λ (x : Claim). is_of file owner x) one.2 ∙ other in
+      let there : (file : ℕ) (owner : Owner) → is_of file owner claim ≡ false → is_of file owner d ≡ false = λ file owner other. ap (λ (n : ℕ). (n == file) && same_owners d.owner owner) one.2 ∙ ap (λ (o : Owner). (claim.file == file) && same_owners o owner) one.3 ∙ other in
       subst (λ (x : Claim). Releases x extent s.claims (decided n left s a).2.claims) (sym same)
       (subst (λ (cs : List Claim). Releases claim extent s.claims cs) (sym left_so)
       (record {
         what = refl;
         unnamed = unnamed;
-        mine = ap (λ (x : Option Claim). elements_of claim.file claim.owner (taken_out x s.claims)) (sym found) ∙ elements_unlocked claim extent s.claims (own_party s a extent good fit.party);
+        mine = ap (λ (x : Option Claim). elements_of claim.file claim.owner (taken_out x s.claims)) (sym found) ∙ elements_unlocked claim extent s.claims;
         elements = λ file owner other. elements_removed_apart file owner d s.claims (ap (λ (b : Bool). b && is_range d.what) (there file owner other));
         spans = λ file owner other. spans_of-removed_apart file owner d s.claims (there file owner other);
-        shares = λ file owner. shares_removed file owner d s.claims (ap (λ (x : Claim). is_range x.what) one.2);
-        caches = removed_caches d s.claims (range_no_cache d.what (ap (λ (x : Claim). is_range x.what) one.2));
+        shares = λ file owner. shares_removed file owner d s.claims (ap is_range one.4);
+        caches = removed_caches d s.claims (range_no_cache d.what (ap is_range one.4));
       }))
 
 -- ---- who waits, and the names

@@ -1,13 +1,16 @@
 -- What one deed makes of each place, and who waits after it.
+use Rattle.xl_base.specs.declared.name.Owner.TheVariants as owners
+use Rattle.xl_table.specs.Leaving.{goes, is_of_some}
+use Rattle.xl_table.specs.declared.leaver.Leaver.TheVariants as leavers
 use Rattle.xl_base.proofs.Members.{all_in, in_append_right}
-use Rattle.std.proofs.Common.{◌≡◌, ℕ, Bool, true, false, cond, if◌then◌else◌, ◌==◌, inl, inr, List, [], ◌∷◌, ◌++◌, map, append-nil, Option, Some, None, IfSome, refl, sym, ap, subst, ◌∙◌, slice_get, ◌&&◌, length}
-use Rattle.std.proofs.lemmas.Bool.{cases_Bool, both_ways, and_from, eq-eqb, not-true}
-use Rattle.std.specs.List.{AllByRecursion}
+use Rattle.std.proofs.Common.{◌≡◌, ℕ, Bool, true, false, cond, if◌then◌else◌, ◌==◌, inl, inr, List, [], ◌∷◌, ◌++◌, map, append-nil, Option, Some, None, IfSome, refl, sym, ap, subst, ◌∙◌, slice_get, ◌&&◌, length, filter, not}
+use Rattle.std.proofs.lemmas.Bool.{cases_Bool, both_ways, and_from, eq-eqb, not-true, and_parts}
+use Rattle.std.specs.List.{AllByRecursion, list_any}
 use Rattle.xl_base.specs.Lists.{IsIn, Pairwise}
 use Rattle.xl_base.specs.declared.name.Owner.{Owner}
 use Rattle.xl_base.specs.declared.name.Party.{Party}
-use Rattle.xl_matrix.proofs.EqualLaws.{same_owners-self}
-use Rattle.xl_matrix.specs.Equal.{same_owners}
+use Rattle.xl_matrix.proofs.EqualLaws.{same_owners-self, same_owners-true, same_parties-true}
+use Rattle.xl_matrix.specs.Equal.{same_owners, same_parties}
 use Rattle.xl_matrix.specs.Owners.{posix}
 use Rattle.xl_matrix.specs.declared.claim.CacheKind.{CacheKind}
 use Rattle.xl_matrix.specs.declared.claim.Claim.{Claim}
@@ -34,7 +37,7 @@ use Rattle.xl_core.specs.Breaks.{may_be_left, ack, first_due, client_of}
 use Rattle.xl_core.specs.Ticks.{advanced, renew, end_some, unleased, expire, lapsed_by, lapse}
 use Rattle.xl_names.specs.declared.name.Name.TheVariants.{NfsParty}
 use Rattle.xl_base.specs.declared.event.Moment.{Moment}
-use Rattle.xl_core.specs.Deeds.{wish_by_number, asked_by, once_served, Deed, Asks, GivesBack, Weakens, Acks, Cancels, Ends, Serves, Draws, Advances, Lapses, Renews, Expires, queue_without_party, queue_without_client, turned, done, IsFitDeed, queue_without, waits_after, queue_with, KeepNames}
+use Rattle.xl_core.specs.Deeds.{wish_by_number, asked_by, once_served, Deed, Asks, GivesBack, Weakens, Acks, Cancels, Ends, Serves, Draws, Advances, Lapses, Renews, Expires, Closes, queue_without_party, queue_without_client, turned, done, IsFitDeed, queue_without, waits_after, queue_with, KeepNames}
 use Rattle.xl_core.specs.Decide.{Answered, decided, plea_of, waiter_of, wish_by, wish_asked, acted, way, before_wish, does_wish, wish_after, ask}
 use Rattle.xl_core.specs.Limits.{wish_limits, first_passed}
 use Rattle.xl_core.specs.Wishes.{wish_granted, wish_of, wish_for}
@@ -48,10 +51,10 @@ use Rattle.xl_core.proofs.WayDeeds.{then_else, nothing_made, way_made, next_is, 
 use Rattle.xl_core.proofs.WayLaws.{way_good, way_names, way_waiters, way_serves, known_no_cache}
 use Rattle.xl_core.specs.Dues.{IsDue}
 use Rattle.xl_core.specs.Good.{IsGood, are_apart, IsKnown, holds_up}
-use Rattle.xl_core.specs.Places.{wish_at, wished_for, wished_then, Place, ByteOf, ShareOf, byte_held, share_held, held_in, held_at, part_by, held_as, entered_by, entered_at, CacheOf, is_cache_on, acked_at, lapsed_at, cleared_by, cleared_at, entered_for, answered_at, ended_at, ended_some, told_at, broken_at, made, else_was, unlocked_at, RangesOf, all_entered_at, all_entered_for, unlocked_for, then_entered, served_at}
+use Rattle.xl_core.specs.Places.{wish_at, wished_for, wished_then, Place, ByteOf, ShareOf, byte_held, share_held, held_in, held_at, part_by, held_as, entered_by, entered_at, CacheOf, is_cache_on, acked_at, lapsed_at, cleared_by, cleared_at, entered_for, answered_at, ended_at, ended_some, told_at, broken_at, made, else_was, unlocked_at, RangesOf, all_entered_at, all_entered_for, unlocked_for, then_entered, served_at, is_at, closed_at, is_some_party}
 use Rattle.xl_table.specs.Relock.{with_share, shares_of, old_shares, united_by, granted_claims, is_range_of}
 use Rattle.xl_table.proofs.ShareLaws.{united_share}
-use Rattle.xl_core.specs.Settle.{next_way, way_again, settle, cancel, give_back, weaken, end_party, plea_again}
+use Rattle.xl_core.specs.Settle.{next_way, way_again, settle, waits_as, cancel, give_back, weaken, end_party, close_open, plea_again}
 use Rattle.xl_core.specs.declared.ask.Act.{Act}
 use Rattle.xl_core.specs.declared.ask.Act.TheVariants as acts
 use Rattle.xl_core.specs.declared.ask.Answer.{Answer}
@@ -61,11 +64,11 @@ use Rattle.xl_core.specs.declared.ask.Effect.{Effect}
 use Rattle.xl_core.proofs.CauseLaws.{test_leaves, empty_due}
 use Rattle.xl_core.proofs.ChangeLaws.{spans_apart, shares_apart, granted_share, granted_spans, empty_spans}
 use Rattle.xl_core.proofs.DeedCalls.{Clears, decided_enters, decided_keeps_claims, decided_clears, answer_is_due, decided_queue, decided_names, Releases, decided_releases, ranges_enter, no_empty}
-use Rattle.xl_core.proofs.DeedLeaves.{spans_of-given, shares_of-given_apart, shares_of-given, has_of, Ended, ended_is}
-use Rattle.xl_core.proofs.GoodLaws.{before_good, once_answered, served_good, ask_good, asked_way_good, again_named, IsMoved, Answers, Rests, settle_good, cancel_good, give_back_good, drawn_good, end_party_good, advanced_good, renew_good, expire_good, lapse_good, IsFirst, each_turn, good_claims}
+use Rattle.xl_core.proofs.DeedLeaves.{spans_of-given, shares_of-given_apart, shares_of-given, none_gone, all_gone}
+use Rattle.xl_core.proofs.GoodLaws.{before_good, once_answered, served_good, ask_good, asked_way_good, again_named, IsMoved, Answers, Rests, settle_good, cancel_good, give_back_good, drawn_good, end_party_good, close_open_good, advanced_good, renew_good, expire_good, lapse_good, IsFirst, each_turn, good_claims}
 use Rattle.xl_core.proofs.BreakLaws.{is_cache_left, ack_good}
 use Rattle.xl_core.proofs.CacheLaws.{removed_caches, granted_caches}
-use Rattle.xl_core.proofs.CachePlaces.{held_of_caches, rest_of_made, ended_cache_made}
+use Rattle.xl_core.proofs.CachePlaces.{held_of_caches, rest_of_made}
 use Rattle.xl_core.proofs.DueLaws.{due_is}
 use Rattle.xl_core.proofs.SettleLaws.{none_settled, turn_is}
 use Rattle.xl_core.proofs.WeakenLaws.{weaken_good, weakened_queue, weakened_names, weaken_made}
@@ -81,6 +84,7 @@ use Rattle.xl_core.specs.declared.judge.Plea.{Plea}
 use Rattle.xl_table.proofs.ElementLaws.{elements_removed_apart}
 use Rattle.xl_names.specs.Names.{AreDistinct}
 use Rattle.xl_matrix.specs.declared.claim.Extent.{Extent}
+use Rattle.xl_base.proofs.Searches.{none_passes}
 
 -- ---- a claim that is entered
 
@@ -356,27 +360,86 @@ ack_made : (s : CoreState) (cache : Claim) (to : Option CacheKind) (p : Place) �
 unfolding ack
 ack_made s cache to p good there may = rest_of_made cache to s.claims p good.single there (is_cache_left cache.what to may)
 
-byte_ended : (b : Bool) (s t : CoreState) (file : ℕ) (owner : Owner) (byte : ℕ) → Ended b s t file owner → held_at t (ByteOf file owner byte) ≡ else_was (if b then Some [] else None) (held_at s (ByteOf file owner byte))
-byte_ended true s t file owner byte is = ap (λ (ss : List Span). byte_held owner byte (mode_at ss byte)) is.0
-byte_ended false s t file owner byte is = ap (λ (ss : List Span). byte_held owner byte (mode_at ss byte)) is.0
-
-share_ended : (b : Bool) (s t : CoreState) (file : ℕ) (owner : Owner) → Ended b s t file owner → held_at t (ShareOf file owner) ≡ else_was (if b then Some [] else None) (held_at s (ShareOf file owner))
-share_ended true s t file owner is = ap (λ (shares : List (Rwd × Rwd)). map share_held shares) is.1
-share_ended false s t file owner is = ap (λ (shares : List (Rwd × Rwd)). map share_held shares) is.1
-
-ranges_ended : (b : Bool) (s t : CoreState) (file number : ℕ) → Ended b s t file (open_of number) → held_at t (RangesOf file number) ≡ else_was (if b then Some [] else None) (held_at s (RangesOf file number))
-ranges_ended true s t file number is = is.2
-ranges_ended false s t file number is = is.2
-
-ended_caches_made : (s : CoreState) (party : Party) (file : ℕ) (holder : Party) → held_at (end_party s party).1 (CacheOf file holder) ≡ else_was (ended_at s.claims party (CacheOf file holder)) (held_at s (CacheOf file holder))
-unfolding end_party
-ended_caches_made s party file holder = ended_cache_made file holder party s.claims
+-- where nothing at the place goes, what is held there stays
+place_stays : (goes : Claim → Bool) (cs : List Claim) (p : Place) → ((d : Claim) → IsIn d cs → is_at p d ≡ true → goes d ≡ false) → held_in (filter (λ c. not (goes c)) cs) p ≡ held_in cs p
+place_stays goes cs (ByteOf file owner byte) none = ap (λ (ss : List Span). byte_held owner byte (mode_at ss byte)) (none_gone file owner goes cs (λ d h own real. none d h own)).0
+place_stays goes cs (ShareOf file owner) none = ap (λ (shares : List (Rwd × Rwd)). map share_held shares) (none_gone file owner goes cs (λ d h own real. none d h own)).1
+place_stays goes cs (RangesOf file number) none = (none_gone file (open_of number) goes cs (λ d h own real. none d h own)).2
+place_stays goes cs (CacheOf file party) none = ap (λ (ds : List Claim). map (λ (c : Claim). c.what) ds) (by cs none) where
+  by : (ds : List Claim) → ((d : Claim) → IsIn d ds → is_cache_on file party d ≡ true → goes d ≡ false) → filter (is_cache_on file party) (filter (λ c. not (goes c)) ds) ≡ filter (is_cache_on file party) ds
+  by [] each = refl
+  by (d ∷ ds) each =
+      let rest = by ds (λ e h on. each e (inr h) on) in
+      elim (cases_Bool (is_cache_on file party d)) [
+        | inl on ↦ rw (each d (inl refl) on) (rw on (ap (λ (es : List Claim). d ∷ es) rest))
+        | inr off ↦ elim (cases_Bool (goes d)) [ inl gone ↦ rw gone (rw off rest) | inr stay ↦ rw stay (rw off rest) ]
+      ]
 
 end_party_made : (s : CoreState) (party : Party) (p : Place) → IsGood s → held_at (end_party s party).1 p ≡ else_was (ended_at s.claims party p) (held_at s p)
-end_party_made s party (ByteOf file owner byte) good = byte_ended (has_of file owner party s.claims) s (end_party s party).1 file owner byte (ended_is s party file owner good)
-end_party_made s party (ShareOf file owner) good = share_ended (has_of file owner party s.claims) s (end_party s party).1 file owner (ended_is s party file owner good)
-end_party_made s party (CacheOf file holder) good = ended_caches_made s party file holder
-end_party_made s party (RangesOf file number) good = ranges_ended (has_of file (open_of number) party s.claims) s (end_party s party).1 file number (ended_is s party file (open_of number) good)
+unfolding end_party
+end_party_made s party p good =
+    elim (cases_Bool (list_any (λ c. if is_at p c then same_parties c.party party else false) s.claims)) [
+      | inl has ↦ rw has refl
+      | inr none ↦ rw none (place_stays (λ c. same_parties c.party party) s.claims p (λ d h at. of_none d h at none))
+    ]
+  where
+    of_none : (d : Claim) → IsIn d s.claims → is_at p d ≡ true → list_any (λ c. if is_at p c then same_parties c.party party else false) s.claims ≡ false → same_parties d.party party ≡ false
+    of_none d h on none =
+        let other : (if is_at p d then same_parties d.party party else false) ≡ false = none_passes (λ c. if is_at p c then same_parties c.party party else false) d s.claims none h in
+        rw on at other
+
+-- a cache is no share or range, and goes where its party does
+close_open_made : (s : CoreState) (number : ℕ) (party : Option Party) (p : Place) → IsGood s → held_at (close_open s number party).1 p ≡ else_was (closed_at number party p) (held_at s p)
+unfolding close_open
+close_open_made s number party (ByteOf file owner byte) good =
+    elim (cases_Bool (posix owner)) [
+      | inl named ↦ ap (λ (ss : List Span). byte_held owner byte (mode_at ss byte)) (none_gone file owner (goes (leavers.Open number party)) s.claims (λ d h own real. rw real (apart d own named))).0
+      | inr smb ↦ no_byte smb (mode_at (spans_of file owner (filter (λ c. not (goes (leavers.Open number party) c)) s.claims)) byte) ∙ sym (no_byte smb (mode_at (spans_of file owner s.claims) byte))
+    ]
+  where
+    apart : (d : Claim) → is_of file owner d ≡ true → posix owner ≡ true → same_owners d.owner (owners.Open number) ≡ false
+    apart d own named =
+        elim (cases_Bool (same_owners d.owner (owners.Open number))) [
+          | inr e ↦ e
+          | inl same ↦ absurd (both_ways (posix owner) (ap (λ (o : Owner). posix o) (sym (is_of-true file owner d own).1 ∙ same_owners-true d.owner (owners.Open number) same)) named)
+        ]
+
+    no_byte : posix owner ≡ false → (mode : Option Mode) → byte_held owner byte mode ≡ []
+    no_byte smb None = refl
+    no_byte smb (Some mode) = rw smb refl
+close_open_made s number party (ShareOf file owner) good =
+    elim (cases_Bool (same_owners owner (owners.Open number))) [
+      | inl same ↦ rw same (ap (λ (shares : List (Rwd × Rwd)). map share_held shares) (all_gone file owner (goes (leavers.Open number party)) s.claims (λ d h own real. rw real (ap (λ (o : Owner). same_owners o (owners.Open number)) (is_of-true file owner d own).1 ∙ same))).0)
+      | inr other ↦ rw other (ap (λ (shares : List (Rwd × Rwd)). map share_held shares) (none_gone file owner (goes (leavers.Open number party)) s.claims (λ d h own real. rw real (ap (λ (o : Owner). same_owners o (owners.Open number)) (is_of-true file owner d own).1 ∙ other))).1)
+    ]
+close_open_made s number party (RangesOf file at) good =
+    elim (cases_Bool (at == number)) [
+      | inl same ↦ rw same (all_gone file (open_of at) (goes (leavers.Open number party)) s.claims (λ d h own real. rw real (ap (λ (o : Owner). same_owners o (owners.Open number)) (is_of-true file (open_of at) d own).1 ∙ same))).1
+      | inr other ↦ rw other (none_gone file (open_of at) (goes (leavers.Open number party)) s.claims (λ d h own real. rw real (ap (λ (o : Owner). same_owners o (owners.Open number)) (is_of-true file (open_of at) d own).1 ∙ other))).2
+    ]
+close_open_made s number party (CacheOf file holder) good =
+    elim (cases_Bool (is_some_party party holder)) [
+      | inl gone ↦ rw gone (ap (λ (ds : List Claim). map (λ (c : Claim). c.what) ds) (no_cache s.claims gone))
+      | inr stays ↦ rw stays (place_stays (goes (leavers.Open number party)) s.claims (CacheOf file holder) (λ d h on. at_cache d on ∙ stays))
+    ]
+  where
+    some_party : (o : Option Party) (d : Claim) → d.party ≡ holder → is_of_some o d ≡ is_some_party o holder
+    some_party None d same = refl
+    some_party (Some p) d same = ap (λ (x : Party). same_parties x p) same
+
+    at_cache : (d : Claim) → is_cache_on file holder d ≡ true → goes (leavers.Open number party) d ≡ is_some_party party holder
+    at_cache d on =
+        let parts = and_parts (is_cache d.what) ((d.file == file) && same_parties d.party holder) on in
+        let same = same_parties-true d.party holder (and_parts (d.file == file) (same_parties d.party holder) parts.1).1 in
+        rw parts.0 (some_party party d same)
+
+    no_cache : (ds : List Claim) → is_some_party party holder ≡ true → filter (is_cache_on file holder) (filter (λ c. not (goes (leavers.Open number party) c)) ds) ≡ []
+    no_cache [] gone = refl
+    no_cache (d ∷ ds) gone =
+        elim (cases_Bool (is_cache_on file holder d)) [
+          | inl on ↦ rw (at_cache d on ∙ gone) (no_cache ds gone)
+          | inr off ↦ elim (cases_Bool (goes (leavers.Open number party) d)) [ inl out ↦ rw out (no_cache ds gone) | inr stay ↦ rw stay (rw off (no_cache ds gone)) ]
+        ]
 
 -- ---- a turn
 
@@ -575,6 +638,7 @@ deed_good n s (Advances now) good fit = advanced_good s now good
 deed_good n s (Lapses cache) good fit = lapse_good s cache good
 deed_good n s (Renews client) good fit = renew_good s client good
 deed_good n s (Expires client) good fit = expire_good s client good
+deed_good n s (Closes number party) good fit = close_open_good s number party good
 
 -- the clock and leases change nothing that is held, nobody who waits and no name
 abbrev IsStill : CoreState → CoreState → Type 0
@@ -648,10 +712,15 @@ deed_makes n s (Advances now) p good fit = ap (λ (cs : List Claim). held_in cs 
 deed_makes n s (Lapses cache) p good fit = lapse_made s cache p good fit
 deed_makes n s (Renews client) p good fit = ap (λ (cs : List Claim). held_in cs p) (renew_still s client).0
 deed_makes n s (Expires client) p good fit = expire_made s client p good
+deed_makes n s (Closes number party) p good fit = close_open_made s number party p good
 
 ended_queue : (s : CoreState) (party : Party) → (end_party s party).1.waiters ≡ waits_after 0 s (Ends party) s.waiters
 unfolding end_party
 ended_queue s party = refl
+
+closed_queue : (s : CoreState) (number : ℕ) (party : Option Party) → (close_open s number party).1.waiters ≡ filter (λ w. not (waits_as number w)) s.waiters
+unfolding close_open
+closed_queue s number party = refl
 
 given_queue : (s : CoreState) (claim : Claim) → (give_back s claim).1.waiters ≡ s.waiters
 unfolding give_back
@@ -720,6 +789,11 @@ deed_queues n s (Advances now) good fit = (advanced_still s now).1
 deed_queues n s (Lapses cache) good fit = lapse_queue s cache
 deed_queues n s (Renews client) good fit = (renew_still s client).1
 deed_queues n s (Expires client) good fit = expire_queue s client
+deed_queues n s (Closes number party) good fit = closed_queue s number party
+
+closed_names : (s : CoreState) (number : ℕ) (party : Option Party) → (close_open s number party).1.names ≡ s.names
+unfolding close_open
+closed_names s number party = refl
 
 ended_names : (s : CoreState) (party : Party) → (end_party s party).1.names ≡ s.names
 unfolding end_party
@@ -761,6 +835,7 @@ deed_names n s (Advances now) good fit = same_names s.names (advanced s now).nam
 deed_names n s (Lapses cache) good fit = same_names s.names (lapse s cache).1.names (lapse_names s cache)
 deed_names n s (Renews client) good fit = same_names s.names (renew s client).1.names (renew_still s client).2
 deed_names n s (Expires client) good fit = same_names s.names (expire s client).1.names (expire_names s client)
+deed_names n s (Closes number party) good fit = same_names s.names (close_open s number party).1.names (closed_names s number party)
 
 pub deed_due : (n : ℕ) (s : CoreState) (d : Deed) → IsGood s → IsFitDeed s d → IsDue n s d
 deed_due n s (Asks left a) good fit = ask_is_due n left s a good fit
@@ -775,3 +850,4 @@ deed_due n s (Advances now) good fit = tt
 deed_due n s (Lapses cache) good fit = fit
 deed_due n s (Renews client) good fit = tt
 deed_due n s (Expires client) good fit = fit
+deed_due n s (Closes number party) good fit = tt

@@ -1,28 +1,24 @@
 -- What each owner has left where a share is given back, and where a party leaves.
-use Rattle.std.proofs.Common.{◌≡◌, ℕ, Bool, true, false, not, ◌&&◌, ◌||◌, if◌then◌else◌, eqb, ◌⊎◌, inl, inr, Some, List, [], ◌∷◌, refl, sym, ap, subst, ◌∙◌}
-use Rattle.std.specs.List.{AllByRecursion, filter, find, list_any}
+use Rattle.std.proofs.Common.{◌≡◌, ℕ, Bool, true, false, not, if◌then◌else◌, eqb, inl, inr, Some, List, [], ◌∷◌, refl, sym, ap, subst, ◌∙◌}
+use Rattle.std.specs.List.{AllByRecursion, filter, find}
 use Rattle.std.proofs.lemmas.Bool.{cases_Bool, both_ways, and_parts, and_from, eq-eqb}
 use Rattle.std.proofs.lemmas.Option.{same_Some}
 use Rattle.xl_base.specs.Lists.{IsIn, Pairwise}
 use Rattle.xl_base.proofs.Members.{all_in}
 use Rattle.xl_base.specs.declared.name.Owner.{Owner}
-use Rattle.xl_base.specs.declared.name.Party.{Party}
 use Rattle.xl_matrix.proofs.EqualLaws.{same_owners-self, same_claims-true, same_claims-self}
-use Rattle.xl_matrix.specs.Equal.{same_owners, same_parties, same_claims}
+use Rattle.xl_matrix.specs.Equal.{same_owners, same_claims}
 use Rattle.xl_matrix.specs.declared.claim.Claim.{Claim}
 use Rattle.xl_matrix.specs.declared.claim.Rwd.{Rwd}
 use Rattle.xl_matrix.specs.declared.claim.What.{What}
 use Rattle.xl_matrix.specs.declared.claim.What.TheVariants.{Share, Range, Cache}
 use Rattle.xl_spans.specs.declared.span.Span.{Span}
 use Rattle.xl_table.specs.Flat.{removed}
-use Rattle.xl_table.specs.Held.{is_of, with_span, spans_of, is_range}
-use Rattle.xl_core.specs.Good.{are_kept, IsHeld, is_single_by, is_single, IsGood}
+use Rattle.xl_table.specs.Held.{is_of, with_span, spans_of, is_range, is_cache}
+use Rattle.xl_core.specs.Good.{is_single_by, is_single}
 use Rattle.xl_table.specs.Held.{is_share}
 use Rattle.xl_table.specs.Elements.{elements_of}
 use Rattle.xl_table.specs.Relock.{is_share_of, with_share, shares_of}
-use Rattle.xl_core.specs.Settle.{end_party}
-use Rattle.xl_core.specs.State.{CoreState}
-use Rattle.xl_core.proofs.KnownLaws.{one_party}
 use Rattle.xl_table.proofs.WriteBack.{is_of-true}
 
 -- ---- a share is given back
@@ -134,103 +130,57 @@ found_in p (y ∷ ys) x e =
       | inr later ↦ let rest = found_in p ys x (rw later at e) in (inr rest.0, rest.1)
     ]
 
--- ---- a party leaves
+-- ---- who leaves
 
-abbrev stays : Party → Claim → Bool
-stays party c = not (same_parties c.party party)
-
--- the owner has something of this party on the file
-abbrev pub HasOf : ℕ → Owner → Party → List Claim → Type 0
-HasOf file owner party cs = (c : Claim) × IsIn c cs × (is_of file owner c ≡ true) × (same_parties c.party party ≡ true)
-
-party_cases : (file : ℕ) (owner : Owner) (party : Party) (cs : List Claim) → HasOf file owner party cs ⊎ ((d : Claim) → IsIn d cs → is_of file owner d ≡ true → same_parties d.party party ≡ false)
-party_cases file owner party [] = inr (λ d h own. absurd h)
-party_cases file owner party (c ∷ cs) =
-    elim (party_cases file owner party cs) [
-      | inl found ↦ inl (found.0, inr found.1, found.2, found.3)
-      | inr none ↦ elim (cases_Bool (is_of file owner c && same_parties c.party party)) [
-        | inl here ↦ let parts = and_parts (is_of file owner c) (same_parties c.party party) here in inl (c, inl refl, parts.0, parts.1)
-        | inr away ↦ inr (λ d h own. elim h [
-          | inl e ↦ of_another d own (subst (λ (x : Claim). (is_of file owner x && same_parties x.party party) ≡ false) e away)
-          | inr t ↦ none d t own
-        ])
+-- where no claim at the owner's place goes, its spans, shares and elements stay
+pub none_gone : (file : ℕ) (owner : Owner) (goes : Claim → Bool) (cs : List Claim) → ((d : Claim) → IsIn d cs → is_of file owner d ≡ true → is_cache d.what ≡ false → goes d ≡ false)
+    → (spans_of file owner (filter (λ c. not (goes c)) cs) ≡ spans_of file owner cs) × (shares_of file owner (filter (λ c. not (goes c)) cs) ≡ shares_of file owner cs) × (elements_of file owner (filter (λ c. not (goes c)) cs) ≡ elements_of file owner cs)
+none_gone file owner goes [] each = (refl, refl, refl)
+none_gone file owner goes (c ∷ cs) each =
+    let rest = none_gone file owner goes cs (λ d h own real. each d (inr h) own real) in
+    elim (cases_Bool (is_of file owner c)) [
+      | inr other ↦ elim (cases_Bool (goes c)) [
+        | inl gone ↦ rw gone (rw other rest)
+        | inr stay ↦ rw stay (rw other rest)
+      ]
+      | inl own ↦ elim (cases_Bool (is_cache c.what)) [
+        | inr real ↦
+            let stay = each c (inl refl) own real in
+            rw stay (rw own (ap (λ (spans : List Span). with_span c.what spans) rest.0, ap (λ (shares : List (Rwd × Rwd)). with_share c.what shares) rest.1, ap (λ (ws : List What). if is_range c.what then c.what ∷ ws else ws) rest.2))
+        | inl cache ↦
+            let none = is_nothing c.what cache in
+            elim (cases_Bool (goes c)) [
+              | inl gone ↦ rw gone (rw own (rest.0 ∙ sym (none.0 (spans_of file owner cs)), rest.1 ∙ sym (none.1 (shares_of file owner cs)), rest.2 ∙ sym (ap (λ (b : Bool). if b then c.what ∷ elements_of file owner cs else elements_of file owner cs) none.2)))
+              | inr stay ↦ rw stay (rw own (ap (λ (spans : List Span). with_span c.what spans) rest.0, ap (λ (shares : List (Rwd × Rwd)). with_share c.what shares) rest.1, ap (λ (ws : List What). if is_range c.what then c.what ∷ ws else ws) rest.2))
+            ]
       ]
     ]
   where
-    of_another : (d : Claim) → is_of file owner d ≡ true → (is_of file owner d && same_parties d.party party) ≡ false → same_parties d.party party ≡ false
-    of_another d own away = rw own at away
+    is_nothing : (w : What) → is_cache w ≡ true → ((spans : List Span) → with_span w spans ≡ spans) × ((shares : List (Rwd × Rwd)) → with_share w shares ≡ shares) × (is_range w ≡ false)
+    is_nothing (Cache kind running) h = (λ spans. refl, λ shares. refl, refl)
+    is_nothing (Share access deny) h = absurd (both_ways false refl h)
+    is_nothing (Range extent exclusive) h = absurd (both_ways false refl h)
 
-all_gone : (file : ℕ) (owner : Owner) (party : Party) (cs : List Claim) → ((d : Claim) → IsIn d cs → is_of file owner d ≡ true → same_parties d.party party ≡ true)
-    → (spans_of file owner (filter (stays party) cs) ≡ []) × (shares_of file owner (filter (stays party) cs) ≡ []) × (elements_of file owner (filter (stays party) cs) ≡ [])
-all_gone file owner party [] each = (refl, refl, refl)
-all_gone file owner party (c ∷ cs) each =
-    let rest = all_gone file owner party cs (λ d h own. each d (inr h) own) in
-    elim (cases_Bool (is_of file owner c)) [
-      | inl own ↦ let goes = each c (inl refl) own in rw goes rest
-      | inr other ↦ elim (cases_Bool (same_parties c.party party)) [
-        | inl goes ↦ rw goes rest
-        | inr stay ↦ rw stay (rw other rest)
+-- where each of the owner's shares and ranges on the file goes, nothing stays of these
+pub all_gone : (file : ℕ) (owner : Owner) (goes : Claim → Bool) (cs : List Claim) → ((d : Claim) → IsIn d cs → is_of file owner d ≡ true → is_cache d.what ≡ false → goes d ≡ true)
+    → (shares_of file owner (filter (λ c. not (goes c)) cs) ≡ []) × (elements_of file owner (filter (λ c. not (goes c)) cs) ≡ [])
+all_gone file owner goes [] each = (refl, refl)
+all_gone file owner goes (c ∷ cs) each =
+    let rest = all_gone file owner goes cs (λ d h own real. each d (inr h) own real) in
+    elim (cases_Bool (goes c)) [
+      | inl gone ↦ rw gone rest
+      | inr stay ↦ elim (cases_Bool (is_of file owner c)) [
+        | inr other ↦ rw stay (rw other rest)
+        | inl own ↦ elim (cases_Bool (is_cache c.what)) [
+          | inr real ↦ absurd (both_ways (goes c) stay (each c (inl refl) own real))
+          | inl cache ↦
+              let none = is_nothing c.what cache in
+              rw stay (rw own (none.0 (shares_of file owner (filter (λ d. not (goes d)) cs)) ∙ rest.0, ap (λ (b : Bool). if b then c.what ∷ elements_of file owner (filter (λ d. not (goes d)) cs) else elements_of file owner (filter (λ d. not (goes d)) cs)) none.1 ∙ rest.1))
+        ]
       ]
-    ]
-
-none_gone : (file : ℕ) (owner : Owner) (party : Party) (cs : List Claim) → ((d : Claim) → IsIn d cs → is_of file owner d ≡ true → same_parties d.party party ≡ false)
-    → (spans_of file owner (filter (stays party) cs) ≡ spans_of file owner cs) × (shares_of file owner (filter (stays party) cs) ≡ shares_of file owner cs) × (elements_of file owner (filter (stays party) cs) ≡ elements_of file owner cs)
-none_gone file owner party [] each = (refl, refl, refl)
-none_gone file owner party (c ∷ cs) each =
-    let rest = none_gone file owner party cs (λ d h own. each d (inr h) own) in
-    elim (cases_Bool (is_of file owner c)) [
-      | inl own ↦
-          let stay = each c (inl refl) own in
-          rw stay (rw own (ap (λ (spans : List Span). with_span c.what spans) rest.0, ap (λ (shares : List (Rwd × Rwd)). with_share c.what shares) rest.1, ap (λ (ws : List What). if is_range c.what then c.what ∷ ws else ws) rest.2))
-      | inr other ↦ elim (cases_Bool (same_parties c.party party)) [
-        | inl goes ↦ rw goes (rw other rest)
-        | inr stay ↦ rw stay (rw other rest)
-      ]
-    ]
-
--- the owner has something of this party on the file
-abbrev pub has_of : ℕ → Owner → Party → List Claim → Bool
-has_of file owner party cs = list_any (λ c. if is_of file owner c then same_parties c.party party else false) cs
-
-has_one : (file : ℕ) (owner : Owner) (party : Party) (cs : List Claim) (c : Claim) → IsIn c cs → is_of file owner c ≡ true → same_parties c.party party ≡ true → has_of file owner party cs ≡ true
-has_one file owner party [] c there own same = absurd there
-has_one file owner party (d ∷ ds) c there own same =
-    elim there [
-      | inl e ↦ subst (λ (x : Claim). has_of file owner party (x ∷ ds) ≡ true) (sym e) (rw own (rw same refl))
-      | inr t ↦ rw (has_one file owner party ds c t own same) (or_true (if is_of file owner d then same_parties d.party party else false))
     ]
   where
-    or_true : (b : Bool) → (b || true) ≡ true
-    or_true true = refl
-    or_true false = refl
-
-has_none : (file : ℕ) (owner : Owner) (party : Party) (cs : List Claim) → ((d : Claim) → IsIn d cs → is_of file owner d ≡ true → same_parties d.party party ≡ false) → has_of file owner party cs ≡ false
-has_none file owner party [] none = refl
-has_none file owner party (d ∷ ds) none =
-    let rest = has_none file owner party ds (λ c h own. none c (inr h) own) in
-    elim (cases_Bool (is_of file owner d)) [
-      | inl own ↦ rw own (rw (none d (inl refl) own) rest)
-      | inr other ↦ rw other rest
-    ]
-
--- an owner that had something of the party has nothing on the file, each other one what it had
-abbrev pub Ended : Bool → CoreState → CoreState → ℕ → Owner → Type 0
-Ended true s t file owner = (spans_of file owner t.claims ≡ []) × (shares_of file owner t.claims ≡ []) × (elements_of file owner t.claims ≡ [])
-Ended false s t file owner = (spans_of file owner t.claims ≡ spans_of file owner s.claims) × (shares_of file owner t.claims ≡ shares_of file owner s.claims) × (elements_of file owner t.claims ≡ elements_of file owner s.claims)
-
--- the party of each claim of an owner
-of_party : (s : CoreState) (file : ℕ) (owner : Owner) (c d : Claim) → IsGood s → IsIn c s.claims → IsIn d s.claims → is_of file owner c ≡ true → is_of file owner d ≡ true → d.party ≡ c.party
-of_party s file owner c d good there h own mine =
-    one_party s.names owner d.party c.party good.distinct
-    (subst (λ (o : Owner). are_kept s.names o d.party ≡ true) (is_of-true file owner d mine).1 (all_in (IsHeld s.names) d s.claims good.known h).1)
-    (subst (λ (o : Owner). are_kept s.names o c.party ≡ true) (is_of-true file owner c own).1 (all_in (IsHeld s.names) c s.claims good.known there).1)
-
-pub ended_is : (s : CoreState) (party : Party) (file : ℕ) (owner : Owner) → IsGood s → Ended (has_of file owner party s.claims) s (end_party s party).1 file owner
-unfolding end_party
-ended_is s party file owner good =
-    elim (party_cases file owner party s.claims) [
-      | inr none ↦ rw (has_none file owner party s.claims none) (none_gone file owner party s.claims none)
-      | inl found ↦
-          rw (has_one file owner party s.claims found.0 found.1 found.2 found.3)
-          (all_gone file owner party s.claims (λ d h mine. subst (λ (p : Party). same_parties p party ≡ true) (sym (of_party s file owner found.0 d good found.1 h found.2 mine)) found.3))
-    ]
+    is_nothing : (w : What) → is_cache w ≡ true → ((shares : List (Rwd × Rwd)) → with_share w shares ≡ shares) × (is_range w ≡ false)
+    is_nothing (Cache kind running) h = (λ shares. refl, refl)
+    is_nothing (Share access deny) h = absurd (both_ways false refl h)
+    is_nothing (Range extent exclusive) h = absurd (both_ways false refl h)

@@ -21,10 +21,10 @@ use Rattle.xl_core.specs.declared.settling.Called.{Called}
 use Rattle.xl_core.proofs.GoodLaws.{ask_good, settle_good, asked_one_party, unlocked_one_party}
 use Rattle.xl_core.proofs.KnownLaws.{asked_known}
 use Rattle.xl_core.proofs.TurnLaws.{called_known}
-use Rattle.xl_core.specs.Judge.{IsRow, held_with, stop_left, gets, row, row_left}
+use Rattle.xl_core.specs.Judge.{IsRow, held_with, stop_left, gets, row, row_left, are_of_one_party}
 use Rattle.xl_core.specs.declared.ask.Act.TheVariants.{Ranges}
 use Rattle.xl_core.proofs.AskedLaws.{ranges_pled}
-use Rattle.std.proofs.lemmas.Bool.{both_ways}
+use Rattle.std.proofs.lemmas.Bool.{both_ways, or_right}
 use Rattle.std.proofs.Math.Seq.{take-length}
 use Rattle.xl_core.specs.declared.judge.Ruling.{Ruling}
 use Rattle.xl_core.specs.declared.judge.Ruling.TheVariants.{Gets, Waits, Told}
@@ -36,6 +36,7 @@ use Rattle.xl_table.proofs.FlatLaws.{all_inserted as all_put}
 use Rattle.xl_table.proofs.InsertLaws.{one_party-sym}
 use Rattle.xl_matrix.specs.declared.claim.Extent.TheVariants.{Bytes, Empty}
 use Rattle.xl_matrix.specs.declared.claim.What.TheVariants.{Share, Range, Cache}
+use Rattle.xl_matrix.specs.Equal.{same_parties}
 
 pub asked_alone : (p : Parts) (a : Ask) (what : What) (claim : Claim) → claim ≡ asked_claim a what p.names → IsGood (state_of p) → is_client a.owner a.party ≡ true → AllByRecursion (λ c. has_one_party claim c ≡ true) p.table
 asked_alone p a what claim e good client =
@@ -116,9 +117,9 @@ first_granted c d ds cs row = element_granted c c.what cs refl row.0.0.1 row.0.0
 pub rest_alone : (p q : Parts) (cs : List Claim) (c : Claim) (rest : List Claim) (o : Option Ruling) → cs ≡ c ∷ rest → IsRow cs → AllByRecursion (λ d. AllByRecursion (λ e. has_one_party d e ≡ true) p.table) cs → state_of q ≡ stop_left o c (state_of p) → o ≡ None
     → AllByRecursion (λ d. AllByRecursion (λ e. has_one_party d e ≡ true) q.table) rest
 rest_alone p q cs c rest o is row party e none = by rest (subst IsRow is row) (subst (λ (xs : List Claim). AllByRecursion (λ d. AllByRecursion (λ e. has_one_party d e ≡ true) p.table) xs) is party).1 where
-  beside : (ds : List Claim) → AllByRecursion (λ d. has_one_party c d ≡ true) ds → AllByRecursion (λ d. AllByRecursion (λ e. has_one_party d e ≡ true) p.table) ds → AllByRecursion (λ d. AllByRecursion (λ e. has_one_party d e ≡ true) (inserted c p.table)) ds
+  beside : (ds : List Claim) → AllByRecursion (λ d. are_of_one_party c d ≡ true) ds → AllByRecursion (λ d. AllByRecursion (λ e. has_one_party d e ≡ true) p.table) ds → AllByRecursion (λ d. AllByRecursion (λ e. has_one_party d e ≡ true) (inserted c p.table)) ds
   beside [] mine held = tt
-  beside (d ∷ ds) mine held = (all_put (λ e. has_one_party d e ≡ true) c p.table (one_party-sym d c ∙ mine.0) held.0, beside ds mine.1 held.1)
+  beside (d ∷ ds) mine held = (all_put (λ e. has_one_party d e ≡ true) c p.table (one_party-sym d c ∙ or_right _ (same_parties c.party d.party) mine.0) held.0, beside ds mine.1 held.1)
 
   by : (ds : List Claim) → IsRow (c ∷ ds) → AllByRecursion (λ d. AllByRecursion (λ e. has_one_party d e ≡ true) p.table) ds → AllByRecursion (λ d. AllByRecursion (λ e. has_one_party d e ≡ true) q.table) ds
   by [] h held = tt

@@ -25,7 +25,9 @@ use Rattle.xl_core.proofs.WayLaws.{NoWay, Begins, way_is, way_names, way_waiters
 use Rattle.xl_core.specs.Frames.{who_left, who_expired, all_unleased, calls_in, serves_none, AllLeave, IsFrame, IsRenewed, IsTicked, drawn_by, asks_to_hold, names_after, come_by}
 use Rattle.xl_core.specs.Good.{are_apart, IsGood}
 use Rattle.xl_core.specs.Judge.{held_with}
-use Rattle.xl_core.specs.Settle.{settle, plea_again, way_again, waits_for, numbers_for, all_told, cancel, give_back, weaken, end_party, all_cancelled}
+use Rattle.xl_table.specs.declared.leaver.Leaver.{Leaver}
+use Rattle.xl_table.specs.declared.leaver.Leaver.TheVariants as leavers
+use Rattle.xl_core.specs.Settle.{settle, plea_again, way_again, waits_with, numbers_with, all_told, cancel, give_back, weaken, departed, end_party, close_open, all_cancelled}
 use Rattle.xl_core.specs.declared.ask.Answer.{Answer}
 use Rattle.xl_core.specs.declared.ask.Answer.TheVariants as answers
 use Rattle.xl_core.specs.declared.ask.Ask.{Ask}
@@ -287,24 +289,31 @@ all_leave p (w ∷ ws) apart =
       | inr e ↦ rw e (kept_behind (map (λ v. v.id) (filter p ws)) w ws (apart_ids p w ws apart.0) (all_leave p ws apart.1))
     ]
 
-party_leaves : (party : Party) (ws : List Waiter) → Pairwise are_apart ws → AllLeave (numbers_for party ws) ws
-unfolding numbers_for
-party_leaves party ws apart = all_leave (waits_for party) ws apart
+leaver_leaves : (leaver : Leaver) (ws : List Waiter) → Pairwise are_apart ws → AllLeave (numbers_with leaver ws) ws
+unfolding numbers_with
+leaver_leaves leaver ws apart = all_leave (waits_with leaver) ws apart
 
-pub end_party_frame : (s : CoreState) (party : Party) → IsGood s → IsFrame s (end_party s party).0 (end_party s party).1 0 s.names []
-unfolding end_party
-end_party_frame s party good = record {
+departed_frame : (s : CoreState) (leaver : Leaver) → IsGood s → IsFrame s (departed s leaver).0 (departed s leaver).1 0 s.names []
+departed_frame s leaver good = record {
   stable = refl;
   clock = refl;
   made = refl;
   failed = refl;
   counter = omega arith;
   names = refl;
-  leave = subst (λ (ids : List ℕ). AllLeave ids s.waiters) (sym (told_left (numbers_for party s.waiters))) (party_leaves party s.waiters good.apart);
-  waiters = sym (all_out party s.waiters good.apart) ∙ ap (λ (ids : List ℕ). all_cancelled ids s.waiters) (sym (told_left (numbers_for party s.waiters))) ∙ nobody _;
+  leave = subst (λ (ids : List ℕ). AllLeave ids s.waiters) (sym (told_left (numbers_with leaver s.waiters))) (leaver_leaves leaver s.waiters good.apart);
+  waiters = sym (all_out leaver s.waiters good.apart) ∙ ap (λ (ids : List ℕ). all_cancelled ids s.waiters) (sym (told_left (numbers_with leaver s.waiters))) ∙ nobody _;
   times = refl;
   leases = refl;
 }
+
+pub end_party_frame : (s : CoreState) (party : Party) → IsGood s → IsFrame s (end_party s party).0 (end_party s party).1 0 s.names []
+unfolding end_party
+end_party_frame s party good = departed_frame s (leavers.Party party) good
+
+pub close_open_frame : (s : CoreState) (number : ℕ) (party : Option Party) → IsGood s → IsFrame s (close_open s number party).0 (close_open s number party).1 0 s.names []
+unfolding close_open
+close_open_frame s number party good = departed_frame s (leavers.Open number party) good
 
 -- ---- who leaves is served nothing
 
@@ -330,7 +339,11 @@ ack_unserved s cache to = refl
 
 pub end_party_unserved : (s : CoreState) (party : Party) → serves_none (end_party s party).0 ≡ true
 unfolding end_party
-end_party_unserved s party = told_unserved (numbers_for party s.waiters)
+end_party_unserved s party = told_unserved (numbers_with (leavers.Party party) s.waiters)
+
+pub close_open_unserved : (s : CoreState) (number : ℕ) (party : Option Party) → serves_none (close_open s number party).0 ≡ true
+unfolding close_open
+close_open_unserved s number party = told_unserved (numbers_with (leavers.Open number party) s.waiters)
 
 -- ---- the clock
 
@@ -393,7 +406,7 @@ left_so s = (λ good. framed_ticked s s [] refl (still s), refl)
 
 ended_expires : (s : CoreState) (party : Party) → who_expired (end_party s party).0 ≡ []
 unfolding end_party
-ended_expires s party = none_expired (numbers_for party s.waiters)
+ended_expires s party = none_expired (numbers_with (leavers.Party party) s.waiters)
 
 some_left : (s : CoreState) (party : Option Party) → IsLeft s (end_some s party)
 some_left s None = left_so s

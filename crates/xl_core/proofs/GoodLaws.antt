@@ -9,7 +9,6 @@ use Rattle.xl_base.specs.Stable.{Stable}
 use Rattle.xl_base.specs.declared.event.Moment.{Moment}
 use Rattle.xl_base.specs.declared.name.Owner.{Owner}
 use Rattle.xl_base.specs.declared.name.Party.{Party}
-use Rattle.xl_matrix.specs.Equal.{same_parties}
 use Rattle.xl_matrix.specs.Matrix.{compat}
 use Rattle.xl_matrix.specs.Owners.{posix}
 use Rattle.xl_matrix.specs.declared.claim.CacheKind.{CacheKind}
@@ -25,12 +24,15 @@ use Rattle.xl_names.specs.Names.{AreDistinct, most_names}
 use Rattle.xl_names.specs.declared.name.Name.{Name}
 use Rattle.xl_spans.specs.Spans.{meets}
 use Rattle.xl_spans.specs.declared.span.Span.{Span}
+use Rattle.xl_table.specs.Leaving.{goes}
+use Rattle.xl_table.specs.declared.leaver.Leaver.{Leaver}
+use Rattle.xl_table.specs.declared.leaver.Leaver.TheVariants as leavers
 use Rattle.xl_table.specs.Flat.{removed, is_blocked}
 use Rattle.xl_table.specs.Held.{is_share, is_of, spans_of, has_one_party}
 use Rattle.xl_table.specs.Relock.{most_claims, holds_byte, granted_claims}
 use Rattle.xl_table.proofs.FlatLaws.{all_removed, pairwise_removed}
 use Rattle.xl_table.proofs.KeptLaws.{kept_empty, kept_removed}
-use Rattle.xl_table.proofs.WriteBack.{is_of-true, all_one_party, kept_filter}
+use Rattle.xl_table.proofs.WriteBack.{is_of-true, one_party_open, all_one_party, kept_filter}
 use Rattle.xl_wait.specs.Waiting.{cancelled}
 use Rattle.xl_wait.specs.declared.waiter.Rooms.{Rooms}
 use Rattle.xl_wait.specs.declared.waiter.Waiter.{Waiter}
@@ -38,7 +40,7 @@ use Rattle.xl_core.specs.State.{CoreState, started, step_begun, drawn}
 use Rattle.xl_core.specs.Leases.{Lease, moment_after, later, with_lease, without_lease, first_ended}
 use Rattle.xl_core.specs.Breaks.{first_due, client_of}
 use Rattle.xl_core.specs.Ticks.{advanced, renew, end_some, unleased, expire, expired_then, expired_for, expire_all, lapsed_by, lapse, lapsed_then, lapsed_for, tick}
-use Rattle.xl_core.specs.Asking.{party_named, who_entered, asking_party, may_have, may_wish_for, IsFitWish, IsOrdered, range_what}
+use Rattle.xl_core.specs.Asking.{party_named, who_entered, asking_party, may_have, may_wish_for, IsFitWish, IsOrdered, range_what, known_owner}
 use Rattle.xl_core.specs.declared.lease.Times.{Times}
 use Rattle.xl_names.specs.declared.name.Name.TheVariants.{NfsParty}
 use Rattle.xl_core.specs.Asking.{both_entered, asked_whats, asked_claim, asked_claims, known_claim, is_client, may_ask, IsFitAct, IsFit}
@@ -52,7 +54,7 @@ use Rattle.xl_core.specs.declared.ask.Who.{Who}
 use Rattle.xl_core.proofs.WishFor.{refused_wish, MayWish, wish_for_good, after_good, same_kinds}
 use Rattle.xl_core.specs.Judge.{Ruled, all_granted, held_with, does_wait, judged, row, row_left}
 use Rattle.xl_core.specs.Limits.{most_waiters, wish_limits, first_passed}
-use Rattle.xl_core.specs.Settle.{plea_again, rests, all_of, turned, way_again, again, turn_or, first_turn, settle, waits_for, cancel, give_back, end_party}
+use Rattle.xl_core.specs.Settle.{plea_again, rests, all_of, turned, way_again, again, turn_or, first_turn, settle, waits_with, cancel, give_back, departed, end_party, close_open}
 use Rattle.xl_core.specs.declared.ask.Act.{Act}
 use Rattle.xl_core.specs.declared.ask.Act.TheVariants.{Share, Ranges, Test, Unlock, Wish}
 use Rattle.xl_core.specs.declared.ask.Answer.{Answer}
@@ -108,7 +110,10 @@ drawn_good s good =
 
 known_one : (names : List Name) (c : Claim) (cs : List Claim) (more : List Name) → GoOn names more → AreDistinct more → AllByRecursion (IsHeld names) cs → are_kept more c.owner c.party ≡ true → AllByRecursion (λ d. has_one_party c d ≡ true) cs
 known_one names c cs more on distinct all kept =
-    all_one_party c cs (λ d h own range. one_party more c.owner d.party c.party distinct (subst (λ (o : Owner). are_kept more o d.party ≡ true) (owner_of d own) (kept_on names more d.owner d.party on (all_in (IsHeld names) d cs all h).1)) kept)
+    elim (cases_Bool (posix c.owner)) [
+      | inr smb ↦ all_from (λ d. has_one_party c d ≡ true) cs (λ d h. one_party_open c d smb)
+      | inl named ↦ all_one_party c cs (λ d h own range. one_party more c.owner d.party c.party named distinct (subst (λ (o : Owner). are_kept more o d.party ≡ true) (owner_of d own) (kept_on names more d.owner d.party on (all_in (IsHeld names) d cs all h).1)) kept)
+    ]
   where
     owner_of : (d : Claim) → is_of c.file c.owner d ≡ true → d.owner ≡ c.owner
     owner_of d own = (is_of-true c.file c.owner d own).1
@@ -126,8 +131,11 @@ known_one_party s c good known = known_one s.names c s.claims s.names (λ number
 pub unlocked_one_party : (s : CoreState) (a : Ask) (extent : Extent) (exclusive : Bool) → IsGood s → is_client a.owner a.party ≡ true → AllByRecursion (λ c. has_one_party (known_claim a extent exclusive s.names) c ≡ true) s.claims
 unlocked_one_party s a extent exclusive good client =
     let claim = known_claim a extent exclusive s.names in
-    all_one_party claim s.claims (λ d h own range. known_party_is a s.names d.party good.distinct good.few client
-    (subst (λ (o : Owner). are_kept s.names o d.party ≡ true) (is_of-true claim.file claim.owner d own).1 (all_in (IsHeld s.names) d s.claims good.known h).1))
+    elim (cases_Bool (posix claim.owner)) [
+      | inr smb ↦ all_from (λ d. has_one_party claim d ≡ true) s.claims (λ d h. one_party_open claim d smb)
+      | inl named ↦ all_one_party claim s.claims (λ d h own range. known_party_is a s.names d.party named good.distinct good.few client
+          (subst (λ (o : Owner). are_kept s.names o d.party ≡ true) (is_of-true claim.file claim.owner d own).1 (all_in (IsHeld s.names) d s.claims good.known h).1))
+    ]
 
 -- ---- a share or a lock
 
@@ -209,15 +217,21 @@ span_owner file owner p (c ∷ cs) e =
       | inr other ↦ let rest = span_owner file owner p cs (rw other at e) in (rest.0, inr rest.1, rest.2)
     ]
 
--- who holds a byte is known
-pub holder_kept : (s : CoreState) (a : Ask) (extent : Extent) (exclusive : Bool) (first last : ℕ) → IsGood s → is_client a.owner a.party ≡ true → (let claim = known_claim a extent exclusive s.names in holds_byte claim.file claim.owner first last s.claims ≡ true → are_kept s.names claim.owner claim.party ≡ true)
+-- who holds a byte is known, of a party that is kept
+pub holder_of : (s : CoreState) (a : Ask) (extent : Extent) (exclusive : Bool) (first last : ℕ) → IsGood s → (let claim = known_claim a extent exclusive s.names in holds_byte claim.file claim.owner first last s.claims ≡ true → (party : Party) × (are_kept s.names claim.owner party ≡ true))
 unfolding holds_byte
-holder_kept s a extent exclusive first last good client holds =
+holder_of s a extent exclusive first last good holds =
     let claim = known_claim a extent exclusive s.names in
     let found = span_owner claim.file claim.owner (meets first last) s.claims holds in
     let owner = (is_of-true claim.file claim.owner found.0 found.2).1 in
-    let kept = subst (λ (o : Owner). are_kept s.names o found.0.party ≡ true) owner (all_in (IsHeld s.names) found.0 s.claims good.known found.1).1 in
-    subst (λ (p : Party). are_kept s.names claim.owner p ≡ true) (known_party_is a s.names found.0.party good.distinct good.few client kept) kept
+    (found.0.party, subst (λ (o : Owner). are_kept s.names o found.0.party ≡ true) owner (all_in (IsHeld s.names) found.0 s.claims good.known found.1).1)
+
+-- a POSIX owner's is that of the asker
+pub holder_kept : (s : CoreState) (a : Ask) (extent : Extent) (exclusive : Bool) (first last : ℕ) → posix (known_owner a.owner s.names) ≡ true → IsGood s → is_client a.owner a.party ≡ true → (let claim = known_claim a extent exclusive s.names in holds_byte claim.file claim.owner first last s.claims ≡ true → are_kept s.names claim.owner claim.party ≡ true)
+holder_kept s a extent exclusive first last named good client holds =
+    let claim = known_claim a extent exclusive s.names in
+    let found = holder_of s a extent exclusive first last good holds in
+    subst (λ (p : Party). are_kept s.names claim.owner p ≡ true) (known_party_is a s.names found.0 named good.distinct good.few client found.1) found.1
 
 unlocked_bytes_good : (s : CoreState) (claim : Claim) (first last : ℕ) → IsGood s → first ≤ last → posix claim.owner ≡ true → (holds_byte claim.file claim.owner first last s.claims ≡ true → are_kept s.names claim.owner claim.party ≡ true) → IsGood (unlocked_bytes s claim first last).2
 unlocked_bytes_good s claim first last good ends own kept = go (holds_byte claim.file claim.owner first last s.claims) (nat_le (left_by_unlock s claim first last) most_claims) refl refl where
@@ -251,7 +265,7 @@ unlock_good s a (Bytes first last) good client ends = by (posix claim.owner) ref
   claim = known_claim a (Bytes first last) false s.names
 
   by : (b : Bool) → posix claim.owner ≡ b → IsGood (if b then unlocked_bytes s claim first last else unlocked_one s claim (Bytes first last)).2
-  by true named = unlocked_bytes_good s claim first last good ends named (holder_kept s a (Bytes first last) false first last good client)
+  by true named = unlocked_bytes_good s claim first last good ends named (holder_kept s a (Bytes first last) false first last named good client)
   by false unnamed = freed_good s claim (element_held claim (Bytes first last) s.claims) good
 unlock_good s a (Empty offset) good client ends = let claim = known_claim a (Empty offset) false s.names in freed_good s claim (element_held claim (Empty offset) s.claims) good
 
@@ -684,11 +698,10 @@ pub fewer_filtered : (keep : Waiter → Bool) (ws : List Waiter) → length (fil
 fewer_filtered keep [] = omega arith
 fewer_filtered keep (w ∷ ws) = elim (cases_Bool (keep w)) [ inl e ↦ rw e (omega (arith, fewer_filtered keep ws)) | inr e ↦ rw e (omega (arith, fewer_filtered keep ws)) ]
 
-pub end_party_good : (s : CoreState) (party : Party) → IsGood s → IsGood (end_party s party).1
-unfolding end_party
-end_party_good s party good =
-    let stays : Claim → Bool = λ c. not (same_parties c.party party) in
-    let waits : Waiter → Bool = λ w. not (waits_for party w) in
+pub departed_good : (s : CoreState) (leaver : Leaver) → IsGood s → IsGood (departed s leaver).1
+departed_good s leaver good =
+    let stays : Claim → Bool = λ c. not (goes leaver c) in
+    let waits : Waiter → Bool = λ w. not (waits_with leaver w) in
     good_from (record s { claims = filter stays s.claims; waiters = filter waits s.waiters })
     (record {
       kept = kept_filter stays s.claims good.kept;
@@ -699,6 +712,14 @@ end_party_good s party good =
     good.distinct good.few
     (all_from (IsWaiter s.names s.counter) (filter waits s.waiters) (λ w h. all_in (IsWaiter s.names s.counter) w s.waiters good.waiters (in_filter_from waits w s.waiters h).0))
     (pairwise_filter are_apart waits s.waiters good.apart) (omega (arith, fewer_filtered waits s.waiters, good.crowd))
+
+pub end_party_good : (s : CoreState) (party : Party) → IsGood s → IsGood (end_party s party).1
+unfolding end_party
+end_party_good s party good = departed_good s (leavers.Party party) good
+
+pub close_open_good : (s : CoreState) (number : ℕ) (party : Option Party) → IsGood s → IsGood (close_open s number party).1
+unfolding close_open
+close_open_good s number party good = departed_good s (leavers.Open number party) good
 
 -- ---- the clock
 

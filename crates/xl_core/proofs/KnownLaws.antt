@@ -23,9 +23,9 @@ use Rattle.xl_names.specs.declared.name.Name.{Name}
 use Rattle.xl_names.specs.declared.name.Name.TheVariants.{NlmRange, NlmShare, NlmParty, NfsRange, NfsShare, NfsParty, SmbLease}
 use Rattle.xl_names.proofs.NameLaws.{same_name_is, same_name_self, kept_from_number, number_at, name_at, number_entered, distinct_entered}
 use Rattle.xl_wait.specs.declared.waiter.Waiter.{Waiter}
-use Rattle.xl_core.specs.Asking.{owner_in, party_in, who_entered, asker, asking_party, both_entered, coming, asked_claim, asked_claims, no_number, number_or, known_owner, known_party, client_of, is_name, is_client, is_named, may_hold}
+use Rattle.xl_core.specs.Asking.{owner_in, party_in, who_entered, asker, asking_party, both_entered, coming, asked_claim, asked_claims, no_number, number_or, known_owner, known_party, client_of, is_name, is_lease, is_client, is_named, may_hold}
 use Rattle.xl_table.specs.Held.{IsShareOrLock, may_own}
-use Rattle.xl_core.specs.Good.{agree, are_kept, IsKnown, IsHeld, IsWaiter}
+use Rattle.xl_core.specs.Good.{agree, is_lease_of, are_kept, IsKnown, IsHeld, IsWaiter}
 use Rattle.xl_core.specs.declared.ask.Ask.{Ask}
 use Rattle.xl_core.specs.declared.ask.Who.{Who}
 use Rattle.xl_core.specs.declared.ask.Who.TheVariants.{Named, Open}
@@ -120,10 +120,14 @@ kept_named names protocol number (parties.Name other at) h =
     }
 kept_named names protocol number (parties.Open at) h = absurd (both_ways false refl h)
 
--- the party of an open is that open
-pub kept_open : (names : List Name) (number : ℕ) (party : Party) → are_kept names (owners.Open number) party ≡ true → party ≡ parties.Open number
-kept_open names number (parties.Open other) h = ap parties.Open (sym (eqb-true number other h))
-kept_open names number (parties.Name protocol at) h = absurd (both_ways false refl h)
+lease_parts : (protocol : Protocol) (o : Option Name) → is_lease_of protocol o ≡ true → (name : Name) × (o ≡ Some name) × (protocol ≡ protocol_of name) × (is_lease name ≡ true)
+lease_parts protocol None h = absurd (both_ways false refl h)
+lease_parts protocol (Some name) h =
+    let parts = and_parts (same_protocol protocol (protocol_of name)) (is_lease name) h in
+    (name, refl, same_protocol_is protocol (protocol_of name) parts.0, parts.1)
+
+lease_self : (name : Name) → is_lease name ≡ true → is_lease_of (protocol_of name) (Some name) ≡ true
+lease_self name h = and_from _ _ (same_protocol_self (protocol_of name)) h
 
 agree_self : (name client : Name) → client_of name ≡ Some client → agree (protocol_of name) (protocol_of client) (Some name) (Some client) ≡ true
 agree_self name client is =
@@ -140,8 +144,15 @@ kept_from names owner party is =
 open_kept : (names : List Name) (number : ℕ) → are_kept names (owners.Open number) (parties.Open number) ≡ true
 open_kept names number = eq-eqb number number refl
 
+-- an open's party stays known: it is the open, or a lease whose name is kept
+open_on : (names more : List Name) (number : ℕ) (party : Party) → GoOn names more → are_kept names (owners.Open number) party ≡ true → are_kept more (owners.Open number) party ≡ true
+open_on names more number (parties.Open other) on h = h
+open_on names more number (parties.Name protocol at) on h =
+    let parts = lease_parts protocol (slice_get names at) h in
+    ap (λ (o : Option Name). is_lease_of protocol o) (on at parts.0 parts.1) ∙ ap (λ (p : Protocol). is_lease_of p (Some parts.0)) parts.2 ∙ lease_self parts.0 parts.3
+
 pub kept_on : (names more : List Name) (owner : Owner) (party : Party) → GoOn names more → are_kept names owner party ≡ true → are_kept more owner party ≡ true
-kept_on names more (owners.Open number) party on h = ap (are_kept more (owners.Open number)) (kept_open names number party h) ∙ open_kept more number
+kept_on names more (owners.Open number) party on h = open_on names more number party on h
 kept_on names more (owners.Name protocol number) party on h =
     let is = kept_named names protocol number party h in
     kept_from more (owners.Name protocol number) party (record {
@@ -168,10 +179,10 @@ waiters_on names more counter next ws on h all = all_weaker (IsWaiter names coun
 number_same : (x y : Protocol) (n m : ℕ) → owners.Name x n ≡ owners.Name y m → n ≡ m
 number_same x y n m e = cc
 
--- an owner has one party
-pub one_party : (names : List Name) (owner : Owner) (p q : Party) → AreDistinct names → are_kept names owner p ≡ true → are_kept names owner q ≡ true → p ≡ q
-one_party names (owners.Open number) p q distinct h k = kept_open names number p h ∙ sym (kept_open names number q k)
-one_party names (owners.Name protocol own) p q distinct h k =
+-- a POSIX owner has one party
+pub one_party : (names : List Name) (owner : Owner) (p q : Party) → posix owner ≡ true → AreDistinct names → are_kept names owner p ≡ true → are_kept names owner q ≡ true → p ≡ q
+one_party names (owners.Open number) p q own distinct h k = absurd (both_ways false refl own)
+one_party names (owners.Name protocol own) p q named distinct h k =
     let a = kept_named names protocol own p h in
     let b = kept_named names protocol own q k in
     let number : a.number ≡ b.number = number_same (protocol_of a.name) (protocol_of b.name) a.number b.number (sym a.owner_is ∙ b.owner_is) in
@@ -182,15 +193,16 @@ one_party names (owners.Name protocol own) p q distinct h k =
 
 -- ---- who asks is known
 
--- who asks has a name, and so has its client; or is an open, and its own party
+-- who asks has a name, and so has its client; or is an open, and its own party, or under a lease
 pub data Asker (owner party : Who) : Type 0 where
   ByName : (name client : Name) → owner ≡ Named name → party ≡ Named client → client_of name ≡ Some client → Asker owner party
   AsOpen : (number : ℕ) → owner ≡ Open number → party ≡ Open number → Asker owner party
+  UnderLease : (number : ℕ) (lease : Name) → owner ≡ Open number → party ≡ Named lease → is_lease lease ≡ true → Asker owner party
 
 pub who_asks : (owner party : Who) → is_client owner party ≡ true → Asker owner party
 who_asks (Named name) (Named client) h = ByName name client refl refl (is_name_is (client_of name) client h)
 who_asks (Named name) (Open number) h = absurd (both_ways false refl h)
-who_asks (Open number) (Named client) h = absurd (both_ways false refl h)
+who_asks (Open number) (Named client) h = UnderLease number client refl refl h
 who_asks (Open number) (Open other) h = AsOpen number refl (ap Open (sym (eqb-true number other h)))
 
 pub is_client_is : (owner party : Who) → is_client owner party ≡ true → is_named owner ≡ true → (name : Name) × (client : Name) × (owner ≡ Named name) × (party ≡ Named client) × (client_of name ≡ Some client)
@@ -225,6 +237,10 @@ asker_kept a names h = by (who_asks a.owner a.party h) where
   by : Asker a.owner a.party → are_kept (both_entered a names) (asker a names) (asking_party a names) ≡ true
   by (ByName name client e f is) = same (Named name) (Named client) e f ∙ kept_from _ _ _ (names_entered names name client is)
   by (AsOpen number e f) = same (Open number) (Open number) e f ∙ open_kept names number
+  by (UnderLease number lease e f is) =
+      same (Open number) (Named lease) e f
+      ∙ ap (λ (o : Option Name). is_lease_of (protocol_of lease) o) (get_entered names lease)
+      ∙ lease_self lease is
 
 pub client_posix : (name client : Name) → client_of name ≡ Some client → (number : ℕ) → posix (owners.Name (protocol_of name) number) ≡ true
 client_posix (NlmRange caller svid oh) client is number = refl
@@ -241,6 +257,7 @@ asker_named a names h = by (who_asks a.owner a.party h) where
   by : Asker a.owner a.party → posix (asker a names) ≡ is_named a.owner
   by (ByName name client e f is) = ap (λ (w : Who). posix (owner_in w names)) e ∙ client_posix name client is (place_of name names) ∙ sym (ap is_named e)
   by (AsOpen number e f) = ap (λ (w : Who). posix (owner_in w names)) e ∙ sym (ap is_named e)
+  by (UnderLease number lease e f is) = ap (λ (w : Who). posix (owner_in w names)) e ∙ sym (ap is_named e)
 
 pub asker_posix : (a : Ask) (names : List Name) → is_client a.owner a.party ≡ true → is_named a.owner ≡ true → posix (asker a names) ≡ true
 asker_posix a names h named = asker_named a names h ∙ named
@@ -250,6 +267,7 @@ known_named a names h = by (who_asks a.owner a.party h) where
   by : Asker a.owner a.party → posix (known_owner a.owner names) ≡ is_named a.owner
   by (ByName name client e f is) = ap (λ (w : Who). posix (known_owner w names)) e ∙ client_posix name client is (number_or (number_of name names)) ∙ sym (ap is_named e)
   by (AsOpen number e f) = ap (λ (w : Who). posix (known_owner w names)) e ∙ sym (ap is_named e)
+  by (UnderLease number lease e f is) = ap (λ (w : Who). posix (known_owner w names)) e ∙ sym (ap is_named e)
 
 -- what may be asked for may be owned
 asked_owned : (a : Ask) (what : What) (names : List Name) → is_client a.owner a.party ≡ true → may_hold a.owner what ≡ true → may_own (asker a names) what ≡ true
@@ -273,7 +291,7 @@ get_none [] number name h e = cc
 get_none (n ∷ ns) zero name h e = omega (arith, h)
 get_none (n ∷ ns) (suc number) name h e = get_none ns number name (omega (arith, h)) e
 
-number_known : (names : List Name) (name : Name) (o : Option ℕ) → number_of name names ≡ o → length names ≤ most_names → (other : Name) → slice_get names (number_or o) ≡ Some other → (number_of name names ≡ Some (number_or o)) × (name ≡ other)
+pub number_known : (names : List Name) (name : Name) (o : Option ℕ) → number_of name names ≡ o → length names ≤ most_names → (other : Name) → slice_get names (number_or o) ≡ Some other → (number_of name names ≡ Some (number_or o)) × (name ≡ other)
 number_known names name None e room other h = absurd (get_none names no_number other (omega (arith, room)) h)
 number_known names name (Some number) e room other h = (e, same_Some name other (sym (name_at names name number e) ∙ h))
 
@@ -287,6 +305,7 @@ pub known_owner_is : (a : Ask) (names : List Name) (party : Party) → length na
 known_owner_is a names party room h kept = by (who_asks a.owner a.party h) where
   by : Asker a.owner a.party → known_owner a.owner names ≡ asker a names
   by (AsOpen number e f) = ap (λ (w : Who). known_owner w names) e ∙ sym (ap (λ (w : Who). owner_in w names) e)
+  by (UnderLease number lease e f is) = ap (λ (w : Who). known_owner w names) e ∙ sym (ap (λ (w : Who). owner_in w names) e)
   by (ByName own client e f is) =
       let at = number_or (number_of own names) in
       let named = kept_named names (protocol_of own) at party (ap (λ (w : Who). are_kept names (known_owner w names) party) (sym e) ∙ kept) in
@@ -297,11 +316,12 @@ known_owner_is a names party room h kept = by (who_asks a.owner a.party h) where
       ∙ ap (λ (n : ℕ). owners.Name (protocol_of own) n) (sym place)
       ∙ sym (ap (λ (w : Who). owner_in w names) e)
 
--- an owner with a known party is the asker whose name is kept, and the party is the asker's
-pub known_party_is : (a : Ask) (names : List Name) (party : Party) → AreDistinct names → length names ≤ most_names → is_client a.owner a.party ≡ true → are_kept names (known_owner a.owner names) party ≡ true → party ≡ known_party a.party names
-known_party_is a names party distinct room h kept = by (who_asks a.owner a.party h) where
+-- a POSIX owner with a known party is the asker whose name is kept, and the party is the asker's
+pub known_party_is : (a : Ask) (names : List Name) (party : Party) → posix (known_owner a.owner names) ≡ true → AreDistinct names → length names ≤ most_names → is_client a.owner a.party ≡ true → are_kept names (known_owner a.owner names) party ≡ true → party ≡ known_party a.party names
+known_party_is a names party posixes distinct room h kept = by (who_asks a.owner a.party h) where
   by : Asker a.owner a.party → party ≡ known_party a.party names
-  by (AsOpen number e f) = kept_open names number party (ap (λ (w : Who). are_kept names (known_owner w names) party) (sym e) ∙ kept) ∙ sym (ap (λ (w : Who). known_party w names) f)
+  by (AsOpen number e f) = absurd (both_ways (posix (known_owner a.owner names)) (ap (λ (w : Who). posix (known_owner w names)) e) posixes)
+  by (UnderLease number lease e f is) = absurd (both_ways (posix (known_owner a.owner names)) (ap (λ (w : Who). posix (known_owner w names)) e) posixes)
   by (ByName own other e f is) =
       let number_is = number_or (number_of own names) in
       let named = kept_named names (protocol_of own) number_is party (ap (λ (w : Who). are_kept names (known_owner w names) party) (sym e) ∙ kept) in
@@ -364,3 +384,4 @@ both_length a names h = by (who_asks a.owner a.party h) where
   by : Asker a.owner a.party → length (both_entered a names) ≡ length names + (coming a.owner names + coming a.party names)
   by (ByName name client e f is) = same (Named name) (Named client) e f (named_length name client names is)
   by (AsOpen number e f) = same (Open number) (Open number) e f (omega arith)
+  by (UnderLease number lease e f is) = same (Open number) (Named lease) e f (omega (arith, length_who (Named lease) names))

@@ -40,7 +40,9 @@ use Rattle.xl_core.specs.Judge.{held_with}
 use Rattle.xl_core.specs.Leases.{moment_after, first_ended}
 use Rattle.xl_core.specs.Frames.{who_left}
 use Rattle.xl_core.specs.Numbers.{may_be_broken, may_be_recalled, delegations_left, numbers_of}
-use Rattle.xl_core.specs.Settle.{plea_again, way_again, settle, waits_for, cancel, give_back, weaken, end_party}
+use Rattle.xl_table.specs.Leaving.{goes}
+use Rattle.xl_table.specs.declared.leaver.Leaver.TheVariants as leavers
+use Rattle.xl_core.specs.Settle.{plea_again, way_again, settle, waits_for, waits_as, cancel, give_back, weaken, end_party, close_open}
 use Rattle.xl_core.specs.State.{CoreState, drawn}
 use Rattle.xl_core.specs.Ticks.{advanced, renew, end_some, expire, expired_then, expired_for, expire_all, lapsed_by, lapse, lapsed_then, lapsed_for, tick}
 use Rattle.xl_core.specs.Ways.{made_way}
@@ -417,6 +419,10 @@ ack_numbers s cache to there may = omega (arith, acked_left cache to s.claims th
 pub end_party_numbers : (s : CoreState) (party : Party) → numbers_of (end_party s party).1 ≤ numbers_of s
 unfolding end_party
 end_party_numbers s party = omega (arith, fewer_filtered_claims (λ c. not (same_parties c.party party)) s.claims, fewer_filtered (λ w. not (waits_for party w)) s.waiters)
+
+pub close_open_numbers : (s : CoreState) (number : ℕ) (party : Option Party) → numbers_of (close_open s number party).1 ≤ numbers_of s
+unfolding close_open
+close_open_numbers s number party = omega (arith, fewer_filtered_claims (λ c. not (goes (leavers.Open number party) c)) s.claims, fewer_filtered (λ w. not (waits_as number w)) s.waiters)
 
 pub renew_numbers : (s : CoreState) (client : List ℕ) → numbers_of (renew s client).1 ≤ numbers_of s
 unfolding renew

@@ -1,5 +1,5 @@
 -- A turn is the first waiter's that nothing held blocks, nobody else's, and comes while there is one. Who leaves.
-use Rattle.std.proofs.Common.{◌≡◌, ℕ, ◌+◌, Bool, true, false, not, cond, ◌==◌, inl, inr, List, [], ◌∷◌, ◌++◌, map, length, append-nil, Some, None, IfSome, refl, sym, ap, subst, ◌∙◌, ◌↔◌, ◌⊎◌, ◌≤◌, suc, arith}
+use Rattle.std.proofs.Common.{◌≡◌, ℕ, ◌+◌, Bool, true, false, not, cond, ◌==◌, inl, inr, List, [], ◌∷◌, ◌++◌, map, length, append-nil, Some, None, IfSome, refl, sym, ap, subst, ◌∙◌, ◌↔◌, ◌⊎◌, ◌≤◌, suc, arith, Option}
 use Rattle.std.specs.List.{AllByRecursion, filter}
 use Rattle.std.proofs.lemmas.Bool.{cases_Bool, both_ways, eq-eqb, not-true, not_from_false}
 use Rattle.std.proofs.lemmas.List.{length-append}
@@ -23,7 +23,10 @@ use Rattle.xl_core.specs.Begin.{idle_caches, breaks_begun}
 use Rattle.xl_core.specs.Causes.{IsEachDue, held_once, IsServed, Answered, WaitsOn, IsTurn}
 use Rattle.xl_core.specs.Good.{are_apart, caches_of, caches_beside, caches_but, IsKnown, IsPled, IsGood, IsWaiter, is_held_up, holds_up, IsSettled}
 use Rattle.xl_core.specs.Judge.{Ruled, all_granted}
-use Rattle.xl_core.specs.Settle.{rests, turned, plea_again, way_again, again, turn_or, first_turn, settle, turns_left, AllRest, waits_for, numbers_for, all_cancelled, cancel, give_back, end_party}
+use Rattle.xl_table.specs.Leaving.{goes}
+use Rattle.xl_table.specs.declared.leaver.Leaver.{Leaver}
+use Rattle.xl_table.specs.declared.leaver.Leaver.TheVariants as leavers
+use Rattle.xl_core.specs.Settle.{rests, turned, plea_again, way_again, again, turn_or, first_turn, settle, turns_left, AllRest, waits_for, waits_as, waits_with, numbers_with, all_cancelled, cancel, give_back, departed, end_party, close_open}
 use Rattle.xl_core.specs.declared.ask.Answer.{Answer}
 use Rattle.xl_core.specs.declared.ask.Answer.TheVariants.{Granted, Queued, Conflict, Recall, Grace, NoGrace, NotRecorded, Full, NotHeld, StoreFailed}
 use Rattle.xl_core.proofs.CacheLaws.{all_granted_caches}
@@ -249,10 +252,10 @@ out p (w ∷ ws) apart =
       | inr e ↦ rw e (all_behind (map (λ v. v.id) (filter p ws)) w ws (apart_ids p w ws apart.0) ∙ ap (λ (vs : List Waiter). w ∷ vs) (out p ws apart.1))
     ]
 
--- the waiters without those of a party
-pub all_out : (party : Party) (ws : List Waiter) → Pairwise are_apart ws → all_cancelled (numbers_for party ws) ws ≡ filter (λ w. not (waits_for party w)) ws
-unfolding numbers_for
-all_out party ws apart = out (waits_for party) ws apart
+-- the waiters without those of who leaves
+pub all_out : (leaver : Leaver) (ws : List Waiter) → Pairwise are_apart ws → all_cancelled (numbers_with leaver ws) ws ≡ filter (λ w. not (waits_with leaver w)) ws
+unfolding numbers_with
+all_out leaver ws apart = out (waits_with leaver) ws apart
 
 -- ---- who leaves
 
@@ -264,18 +267,32 @@ pub give_back_is : (s : CoreState) (claim : Claim) → ((give_back s claim).1.cl
 unfolding give_back
 give_back_is s claim = (refl, refl)
 
--- of the claims a party takes its own with it
-pub party_claims : (s : CoreState) (party : Party) (c : Claim) → IsIn c (end_party s party).1.claims ↔ (IsIn c s.claims × (same_parties c.party party ≡ false))
-unfolding end_party
-party_claims s party c = (
-  λ h. let found = in_filter_from (λ (d : Claim). not (same_parties d.party party)) c s.claims h in (found.0, not-true (same_parties c.party party) found.1),
-  λ h. in_filter (λ (d : Claim). not (same_parties d.party party)) c s.claims h.0 (not_from_false (same_parties c.party party) h.1),
+-- of the claims who leaves takes those along that go with it
+departed_claims : (s : CoreState) (leaver : Leaver) (c : Claim) → IsIn c (departed s leaver).1.claims ↔ (IsIn c s.claims × (goes leaver c ≡ false))
+departed_claims s leaver c = (
+  λ h. let found = in_filter_from (λ (d : Claim). not (goes leaver d)) c s.claims h in (found.0, not-true (goes leaver c) found.1),
+  λ h. in_filter (λ (d : Claim). not (goes leaver d)) c s.claims h.0 (not_from_false (goes leaver c) h.1),
 )
 
--- and of the waiters those that wait for it
+-- and of the waiters its own
+departed_waiters : (s : CoreState) (leaver : Leaver) (w : Waiter) → IsIn w (departed s leaver).1.waiters ↔ (IsIn w s.waiters × (waits_with leaver w ≡ false))
+departed_waiters s leaver w = (
+  λ h. let found = in_filter_from (λ (v : Waiter). not (waits_with leaver v)) w s.waiters h in (found.0, not-true (waits_with leaver w) found.1),
+  λ h. in_filter (λ (v : Waiter). not (waits_with leaver v)) w s.waiters h.0 (not_from_false (waits_with leaver w) h.1),
+)
+
+pub party_claims : (s : CoreState) (party : Party) (c : Claim) → IsIn c (end_party s party).1.claims ↔ (IsIn c s.claims × (same_parties c.party party ≡ false))
+unfolding end_party
+party_claims s party c = departed_claims s (leavers.Party party) c
+
 pub party_waiters : (s : CoreState) (party : Party) (w : Waiter) → IsIn w (end_party s party).1.waiters ↔ (IsIn w s.waiters × (waits_for party w ≡ false))
 unfolding end_party
-party_waiters s party w = (
-  λ h. let found = in_filter_from (λ (v : Waiter). not (waits_for party v)) w s.waiters h in (found.0, not-true (waits_for party w) found.1),
-  λ h. in_filter (λ (v : Waiter). not (waits_for party v)) w s.waiters h.0 (not_from_false (waits_for party w) h.1),
-)
+party_waiters s party w = departed_waiters s (leavers.Party party) w
+
+pub open_claims : (s : CoreState) (number : ℕ) (party : Option Party) (c : Claim) → IsIn c (close_open s number party).1.claims ↔ (IsIn c s.claims × (goes (leavers.Open number party) c ≡ false))
+unfolding close_open
+open_claims s number party c = departed_claims s (leavers.Open number party) c
+
+pub open_waiters : (s : CoreState) (number : ℕ) (party : Option Party) (w : Waiter) → IsIn w (close_open s number party).1.waiters ↔ (IsIn w s.waiters × (waits_as number w ≡ false))
+unfolding close_open
+open_waiters s number party w = departed_waiters s (leavers.Open number party) w

@@ -15,7 +15,7 @@ use Rattle.xl_matrix.specs.declared.claim.What.{What}
 use Rattle.xl_matrix.specs.declared.claim.What.TheVariants as whats
 use Rattle.xl_names.specs.Names.{protocol_of, same_name, number_of, place_of, is_kept, entered}
 use Rattle.xl_names.specs.declared.name.Name.{Name}
-use Rattle.xl_names.specs.declared.name.Name.TheVariants.{NlmRange, NlmShare, NlmParty, NfsRange, NfsShare, NfsParty}
+use Rattle.xl_names.specs.declared.name.Name.TheVariants.{NlmRange, NlmShare, NlmParty, NfsRange, NfsShare, NfsParty, SmbLease}
 use Rattle.xl_core.specs.declared.ask.Who.{Who}
 use Rattle.xl_core.specs.declared.ask.Who.TheVariants.{Named, Open}
 use Rattle.xl_core.specs.declared.ask.Act.{Act}
@@ -122,10 +122,16 @@ abbrev pub is_name : Option Name → Name → Bool
 is_name None name = false
 is_name (Some client) name = same_name client name
 
--- the party is the owner's client, or both are one SMB open
+-- the name is that of an SMB lease, which opens of one client on one file are under (MS-SMB2 3.3.1.12)
+abbrev pub is_lease : Name → Bool
+is_lease (SmbLease guid key) = true
+is_lease _ = false
+
+-- the party is the owner's client; that of an SMB open is itself, or the lease that it is under
 abbrev pub is_client : Who → Who → Bool
 is_client (Named owner) (Named party) = is_name (client_of owner) party
 is_client (Open number) (Open other) = number == other
+is_client (Open number) (Named party) = is_lease party
 is_client _ _ = false
 
 -- who asks has a name
@@ -199,7 +205,7 @@ IsFitWish party waits reclaim Wish [] = ⊥
 IsFitWish party waits reclaim Wish (kind ∷ kinds) = (reclaim ≡ false) × AllByRecursion (λ other. may_wish_for party waits other ≡ true) (kind ∷ kinds)
 
 -- Which asks the core takes: a client's by its name for a share, one range with bytes, a test, an unlock or a cache; and an SMB
--- open's, which is its own party, for a share, for ranges, for the unlock of one, or for a cache.
+-- open's, which is its own party or under a lease, for a share, for ranges, for the unlock of one, or for a cache.
 pub record IsFit (a : Ask) : Type 0 where
   pub act : IsFitAct a.owner a.blocking a.act
   pub own : may_ask a.owner a.act ≡ true

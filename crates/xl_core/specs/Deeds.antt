@@ -20,10 +20,11 @@ use Rattle.xl_core.specs.Decide.{waiter_of, way, before_wish, does_wish, ask}
 use Rattle.xl_core.specs.Wishes.{caches_wished}
 use Rattle.xl_table.specs.Flat.{removed}
 use Rattle.xl_table.specs.Held.{is_range}
+use Rattle.xl_table.specs.Leaving.{is_of_some}
 use Rattle.xl_core.specs.Breaks.{may_be_left, with_rest, ack, first_due, client_of}
 use Rattle.xl_core.specs.Leases.{first_ended}
 use Rattle.xl_core.specs.Good.{caches_of}
-use Rattle.xl_core.specs.Settle.{next_way, settle, waits_for, cancel, give_back, share_has, weaken, end_party}
+use Rattle.xl_core.specs.Settle.{next_way, settle, waits_for, waits_as, cancel, give_back, share_has, weaken, end_party, close_open}
 use Rattle.xl_core.specs.Ticks.{advanced, renew, expire, lapse, lapsed_for}
 use Rattle.xl_core.specs.declared.ask.Answer.{Answer}
 use Rattle.xl_core.specs.declared.ask.Answer.TheVariants.{Queued}
@@ -36,7 +37,7 @@ use Rattle.xl_core.specs.declared.ask.Effect.TheVariants.{Served}
 -- an ask, with the room left in the fronts' tables; a claim given back; a share made weaker, to this access and deny; the
 -- break of this cache answered, so that this much is left of it; the waiter of this number taken out; a party ended; a
 -- turn; a number given out; the clock read; the break of this cache over without an answer; the lease of the NFSv4 client
--- of this id string renewed; such a client expired
+-- of this id string renewed; such a client expired; an SMB open closed, with which the caches of this party go
 pub data Deed : Type 0 where
   Asks : Rooms → Ask → Deed
   GivesBack : Claim → Deed
@@ -50,6 +51,7 @@ pub data Deed : Type 0 where
   Lapses : Claim → Deed
   Renews : List ℕ → Deed
   Expires : List ℕ → Deed
+  Closes : ℕ → Option Party → Deed
 
 -- the answer, where the call has one, what is told besides, and the state that is left
 abbrev pub Given : Type 0
@@ -80,6 +82,7 @@ given n s (Advances now) = (None, [], advanced s now)
 given n s (Lapses cache) = unanswered (lapse s cache)
 given n s (Renews client) = unanswered (renew s client)
 given n s (Expires client) = unanswered (expire s client)
+given n s (Closes number party) = unanswered (close_open s number party)
 
 -- the state after one deed, and after these in a row
 abbrev pub done : ℕ → CoreState → Deed → CoreState
@@ -154,6 +157,7 @@ waits_after n s (Ends party) waiters = filter (λ w. not (waits_for party w)) wa
 waits_after n s (Serves left) waiters = queue_without (given n s (Serves left)).1 waiters
 waits_after n s (Lapses cache) waiters = queue_without_client s.names (client_of s.names cache.party) waiters
 waits_after n s (Expires client) waiters = queue_without_party (party_named s.names (NfsParty client)) waiters
+waits_after n s (Closes number party) waiters = filter (λ w. not (waits_as number w)) waiters
 waits_after n s _ waiters = waiters
 
 -- who waits after these: who waited, but for those that each of them queued, took out, ended or served, in order
@@ -236,6 +240,7 @@ caches_after n s (Acks cache to) caches = with_rest cache to caches
 caches_after n s (Ends party) caches = caches_without_party (Some party) caches
 caches_after n s (Lapses cache) caches = caches_without s.names cache (client_of s.names cache.party) caches
 caches_after n s (Expires client) caches = caches_without_party (party_named s.names (NfsParty client)) caches
+caches_after n s (Closes number party) caches = caches_without_party party caches
 caches_after n s _ caches = caches
 
 -- and after these
@@ -245,24 +250,20 @@ all_caches_after n s (d ∷ ds) caches = all_caches_after n (done n s d) ds (cac
 
 -- ---- breaks that run
 
--- the claim is this party's
-abbrev pub is_of_some : Option Party → Claim → Bool
-is_of_some None c = false
-is_of_some (Some party) c = same_parties c.party party
-
 -- the cache is this one, or its client's that expires
 abbrev pub is_lapsed : List Name → Claim → Option (List ℕ) → Claim → Bool
 is_lapsed names cache None c = same_claims cache c
 is_lapsed names cache (Some client) c = is_of_some (party_named names (NfsParty client)) c
 
 -- The deed ends the break that runs of this cache: it is the party's answer, gives the cache back, ends its party, is the
--- passing of the deadline, or the expiry of the client.
+-- passing of the deadline, the expiry of the client, or the close of its last open.
 abbrev pub ends_break : CoreState → Claim → Deed → Bool
 ends_break s c (GivesBack claim) = same_claims claim c
 ends_break s c (Acks cache to) = same_claims cache c
 ends_break s c (Ends party) = same_parties c.party party
 ends_break s c (Lapses cache) = is_lapsed s.names cache (client_of s.names cache.party) c
 ends_break s c (Expires client) = is_of_some (party_named s.names (NfsParty client)) c
+ends_break s c (Closes number party) = is_of_some party c
 ends_break s c _ = false
 
 -- one of these does, in the state that those before it left

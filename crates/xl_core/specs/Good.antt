@@ -1,5 +1,5 @@
 -- What the core's state keeps at each free moment.
-use Rattle.std.specs.Prelude.{◌≡◌, ℕ, ◌≤◌, Bool, true, false, not, ◌&&◌, ◌==◌, if◌then◌else◌, List, [], ◌∷◌, length, Option, Some}
+use Rattle.std.specs.Prelude.{◌≡◌, ℕ, ◌≤◌, Bool, true, false, not, ◌&&◌, ◌==◌, if◌then◌else◌, List, [], ◌∷◌, length, Option, Some, None}
 use Rattle.std.specs.List.{AllByRecursion, filter, slice_get}
 use Rattle.xl_base.specs.Lists.{Pairwise}
 use Rattle.xl_base.specs.Stable.{same_protocol}
@@ -24,7 +24,7 @@ use Rattle.xl_table.specs.Flat.{is_blocked}
 use Rattle.xl_table.specs.Held.{is_share, is_cache, may_own, IsKept, IsGrantable, IsShareOrLock}
 use Rattle.xl_wait.specs.declared.waiter.Waiter.{Waiter}
 use Rattle.xl_core.specs.State.{CoreState}
-use Rattle.xl_core.specs.Asking.{client_of, is_name}
+use Rattle.xl_core.specs.Asking.{client_of, is_name, is_lease}
 use Rattle.xl_core.specs.Blockers.{is_stopped, all_run}
 use Rattle.xl_core.specs.Judge.{IsRow}
 use Rattle.xl_core.specs.Limits.{most_waiters}
@@ -45,11 +45,17 @@ abbrev pub agree : Protocol → Protocol → Option Name → Option Name → Boo
 agree protocol other (Some owner) (Some party) = same_protocol protocol (protocol_of owner) && (same_protocol other (protocol_of party) && is_name (client_of owner) party)
 agree protocol other _ _ = false
 
+-- a name of this protocol is an SMB lease's
+abbrev pub is_lease_of : Protocol → Option Name → Bool
+is_lease_of protocol None = false
+is_lease_of protocol (Some name) = same_protocol protocol (protocol_of name) && is_lease name
+
 -- the owner's name and the party's are kept, and the party is the owner's client; an SMB open has no name, and is its own
--- party
+-- party, or under a lease whose name is kept
 abbrev pub are_kept : List Name → Owner → Party → Bool
 are_kept names (owners.Name protocol number) (parties.Name other at) = agree protocol other (slice_get names number) (slice_get names at)
 are_kept names (owners.Open number) (parties.Open other) = number == other
+are_kept names (owners.Open number) (parties.Name protocol at) = is_lease_of protocol (slice_get names at)
 are_kept names _ _ = false
 
 -- a share of a client that is known by name or of an open, or a real range of such a client: what may be asked for, and

@@ -2,11 +2,12 @@
 use Rattle.std.specs.Prelude.{◌≡◌, ℕ, ◌≤◌, Bool, true, false, ◌&&◌, if◌then◌else◌, List, [], ◌∷◌, ◌++◌, length, Option, Some, None}
 use Rattle.std.specs.List.{AllByRecursion}
 use Rattle.xl_base.specs.Lists.{Pairwise}
+use Rattle.xl_matrix.specs.Equal.{same_parties}
 use Rattle.xl_matrix.specs.Owners.{posix}
 use Rattle.xl_matrix.specs.declared.claim.Claim.{Claim}
 use Rattle.xl_names.specs.Names.{most_names}
 use Rattle.xl_table.specs.Flat.{is_blocked}
-use Rattle.xl_table.specs.Held.{has_one_party, is_range, IsGrantable}
+use Rattle.xl_table.specs.Held.{is_range, IsGrantable}
 use Rattle.xl_wait.specs.declared.waiter.Rooms.{Rooms}
 use Rattle.xl_wait.specs.declared.waiter.Waiter.{Waiter}
 use Rattle.xl_core.specs.State.{CoreState}
@@ -165,10 +166,14 @@ gets (Told answer) = false
 abbrev pub AreElements : List Claim → Type 0
 AreElements cs = AllByRecursion (λ c. IsGrantable c × (is_range c.what ≡ true) × (posix c.owner ≡ false)) cs
 
+-- the two are of one party
+abbrev pub are_of_one_party : Claim → Claim → Bool
+are_of_one_party a b = same_parties a.party b.party
+
 abbrev pub IsRow : List Claim → Type 0
 IsRow [] = Unit {0}
 IsRow (c ∷ []) = IsGrantable c
-IsRow (c ∷ d ∷ cs) = AreElements (c ∷ d ∷ cs) × Pairwise has_one_party (c ∷ d ∷ cs)
+IsRow (c ∷ d ∷ cs) = AreElements (c ∷ d ∷ cs) × Pairwise are_of_one_party (c ∷ d ∷ cs)
 
 -- there is room for the names that are kept then, where something is asked for
 abbrev pub IsFew : Plea → List Claim → Type 0

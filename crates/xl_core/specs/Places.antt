@@ -1,10 +1,10 @@
 -- Places where something is held, and what a deed makes of each.
-use Rattle.std.specs.Prelude.{◌≡◌, ℕ, Bool, false, ◌&&◌, ◌==◌, if◌then◌else◌, List, [], ◌∷◌, ◌++◌, map, Option, Some, None}
+use Rattle.std.specs.Prelude.{◌≡◌, ℕ, Bool, true, false, not, ◌&&◌, ◌==◌, if◌then◌else◌, List, [], ◌∷◌, ◌++◌, map, Option, Some, None}
 use Rattle.std.specs.List.{filter, list_any}
 use Rattle.xl_base.specs.declared.name.Owner.{Owner}
 use Rattle.xl_base.specs.declared.name.Owner.TheVariants as owners
 use Rattle.xl_base.specs.declared.name.Party.{Party}
-use Rattle.xl_matrix.specs.Equal.{same_parties}
+use Rattle.xl_matrix.specs.Equal.{same_owners, same_parties}
 use Rattle.xl_matrix.specs.declared.claim.CacheKind.{CacheKind}
 use Rattle.xl_matrix.specs.declared.claim.Claim.{Claim}
 use Rattle.xl_matrix.specs.Owners.{posix}
@@ -29,7 +29,7 @@ use Rattle.xl_core.specs.Leases.{moment_after}
 use Rattle.xl_core.specs.Settle.{next_way}
 use Rattle.xl_core.specs.Asking.{party_named, range_what}
 use Rattle.xl_core.specs.Breaks.{client_of}
-use Rattle.xl_core.specs.Deeds.{wish_by_number, asked_by, once_served, Deed, Asks, GivesBack, Weakens, Acks, Ends, Serves, Lapses, Expires, given, done}
+use Rattle.xl_core.specs.Deeds.{wish_by_number, asked_by, once_served, Deed, Asks, GivesBack, Weakens, Acks, Ends, Serves, Lapses, Expires, Closes, given, done}
 use Rattle.xl_table.specs.Relock.{is_exclusive, is_range_of, shares_of, old_shares, united_by, granted_claims}
 use Rattle.xl_core.specs.declared.ask.Act.{Act}
 use Rattle.xl_core.specs.declared.ask.Act.TheVariants as acts
@@ -167,9 +167,24 @@ answered_at held (acts.Test extent exclusive) answer p = None
 answered_at held (acts.Unlock extent) answer p = unlocked_for held extent answer p
 answered_at held acts.Wish answer p = None
 
--- a party that ends leaves nothing at a place where it has something
+-- a party that ends leaves at a place where it has something what is not its own there
 abbrev pub ended_at : List Claim → Party → Place → Option (List What)
-ended_at claims party p = if list_any (λ c. if is_at p c then same_parties c.party party else false) claims then Some [] else None
+ended_at claims party p = if list_any (λ c. if is_at p c then same_parties c.party party else false) claims then Some (held_in (filter (λ c. not (same_parties c.party party)) claims) p) else None
+
+abbrev pub cleared_if : Bool → Option (List What)
+cleared_if true = Some []
+cleared_if false = None
+
+abbrev pub is_some_party : Option Party → Party → Bool
+is_some_party None holder = false
+is_some_party (Some party) holder = same_parties holder party
+
+-- an SMB open that is closed leaves neither its share nor its ranges, and nothing of the caches that go with it
+abbrev pub closed_at : ℕ → Option Party → Place → Option (List What)
+closed_at number party (ByteOf file owner byte) = None
+closed_at number party (ShareOf file owner) = cleared_if (same_owners owner (owners.Open number))
+closed_at number party (RangesOf file other) = cleared_if (other == number)
+closed_at number party (CacheOf file holder) = cleared_if (is_some_party party holder)
 
 abbrev pub ended_some : List Claim → Option Party → Place → Option (List What)
 ended_some claims None p = None
@@ -224,6 +239,7 @@ made n s (Ends party) p = ended_at s.claims party p
 made n s (Serves left) p = then_entered (then_entered (broken_at s (next_way s).0 p) (told_at (next_way s).1 (given n s (Serves left)).1 p)) (wished_then (next_way s).1 (given n s (Serves left)).1 p)
 made n s (Lapses cache) p = lapsed_at s cache (client_of s.names cache.party) p
 made n s (Expires client) p = ended_some s.claims (party_named s.names (NfsParty client)) p
+made n s (Closes number party) p = closed_at number party p
 made n s d p = None
 
 abbrev pub else_was : Option (List What) → List What → List What

@@ -1,14 +1,18 @@
 -- Who waits, and whose turn comes.
 use Rattle.std.specs.Prelude.{◌≡◌, ℕ, ◌+◌, Bool, true, false, not, ◌&&◌, if◌then◌else◌, List, [], ◌∷◌, ◌++◌, length, map, Option, Some, None}
 use Rattle.std.specs.List.{filter, list_any}
+use Rattle.xl_base.specs.declared.name.Owner.TheVariants as owners
 use Rattle.xl_base.specs.declared.name.Party.{Party}
-use Rattle.xl_matrix.specs.Equal.{same_parties}
+use Rattle.xl_matrix.specs.Equal.{same_owners, same_parties}
 use Rattle.xl_matrix.specs.Rights.{rights_lie_within}
 use Rattle.xl_matrix.specs.declared.claim.Claim.{Claim}
 use Rattle.xl_matrix.specs.declared.claim.Rwd.{Rwd}
 use Rattle.xl_matrix.specs.declared.claim.What.{What}
 use Rattle.xl_matrix.specs.declared.claim.What.TheVariants.{Share}
 use Rattle.xl_table.specs.Flat.{removed, changed}
+use Rattle.xl_table.specs.Leaving.{goes}
+use Rattle.xl_table.specs.declared.leaver.Leaver.{Leaver}
+use Rattle.xl_table.specs.declared.leaver.Leaver.TheVariants as leavers
 use Rattle.xl_wait.specs.Waiting.{cancelled}
 use Rattle.xl_wait.specs.declared.waiter.Rooms.{Rooms}
 use Rattle.xl_wait.specs.declared.waiter.Waiter.{Waiter}
@@ -114,9 +118,18 @@ next_way s = way_called s (first_called s s.waiters)
 unfoldable pub waits_for : Party → Waiter → Bool
 waits_for party w = list_any (λ c. same_parties c.party party) w.asked
 
--- the numbers of the party's waiters
-unfoldable pub numbers_for : Party → List Waiter → List ℕ
-numbers_for party waiters = map (λ w. w.id) (filter (waits_for party) waiters)
+-- the waiter is this SMB open's
+unfoldable pub waits_as : ℕ → Waiter → Bool
+waits_as number w = list_any (λ c. same_owners c.owner (owners.Open number)) w.asked
+
+-- the waiter waits no more once this one leaves
+abbrev pub waits_with : Leaver → Waiter → Bool
+waits_with (leavers.Party party) w = waits_for party w
+waits_with (leavers.Open number party) w = waits_as number w
+
+-- the numbers of those who wait no more then
+unfoldable pub numbers_with : Leaver → List Waiter → List ℕ
+numbers_with leaver waiters = map (λ w. w.id) (filter (waits_with leaver) waiters)
 
 abbrev pub all_told : List ℕ → List Effect
 all_told [] = []
@@ -139,12 +152,20 @@ share_has _ access deny = false
 unfoldable pub weaken : CoreState → Claim → Rwd → Rwd → List Effect × CoreState
 weaken s share access deny = ([], record s { claims = changed share (Share access deny) s.claims })
 
+-- the claims are taken out that go with who leaves, and the waiters
+abbrev pub departed : CoreState → Leaver → List Effect × CoreState
+departed s leaver = (
+  all_told (numbers_with leaver s.waiters),
+  record s { claims = filter (λ c. not (goes leaver c)) s.claims; waiters = filter (λ w. not (waits_with leaver w)) s.waiters },
+)
+
 -- all claims and waiters of a party are taken out; its name stays
 unfoldable pub end_party : CoreState → Party → List Effect × CoreState
-end_party s party = (
-  all_told (numbers_for party s.waiters),
-  record s { claims = filter (λ c. not (same_parties c.party party)) s.claims; waiters = filter (λ w. not (waits_for party w)) s.waiters },
-)
+end_party s party = departed s (leavers.Party party)
+
+-- an SMB open is closed: its share, its ranges and its waiters are taken out, and the caches of the party that goes with it
+unfoldable pub close_open : CoreState → ℕ → Option Party → List Effect × CoreState
+close_open s number party = departed s (leavers.Open number party)
 
 -- the waiters without those of these numbers, taken out one after another
 abbrev pub all_cancelled : List ℕ → List Waiter → List Waiter

@@ -9,7 +9,7 @@ ghost use Rattle.xl_matrix.specs.declared.claim.Claim.{Claim};
 ghost use Rattle.xl_table.specs.Elements.{elements_of};
 ghost use Rattle.xl_table.specs.Flat.{blocks};
 ghost use Rattle.xl_table.specs.Held.{is_cache, spans_of};
-ghost use Rattle.xl_table.specs.Relock.{shares_of};
+ghost use Rattle.xl_table.specs.Relock.{shares_of, most_claims};
 ghost use Rattle.xl_core.specs.Begin.{others_of, told_before, recalls, idle_delegations, breaks_begun, breaks_told, begun_at};
 ghost use Rattle.xl_core.specs.Frames.{who_left, serves_none};
 ghost use Rattle.xl_core.specs.Good.{IsGood};
@@ -30,7 +30,7 @@ pub fn breaks_change_caches_alone()
     ensures elsewhere { (s : CoreState) (ask : Claim) (file : ℕ) → (ask.file == file) ≡ false → filter (λ c. c.file == file) (breaks_begun ask s).1.claims ≡ filter (λ c. c.file == file) s.claims }
     ensures counter { (s : CoreState) (ask : Claim) → (breaks_begun ask s).1.counter ≡ s.counter + recalls (planned ask s.claims).breaks }
     ensures delegations { (s : CoreState) (ask : Claim) → idle_delegations (breaks_begun ask s).1.claims + recalls (planned ask s.claims).breaks ≡ idle_delegations s.claims }
-    ensures few { (s : CoreState) (ask : Claim) → IsGood s → recalls (planned ask s.claims).breaks ≤ 16384 }
+    ensures few { (s : CoreState) (ask : Claim) → IsGood s → recalls (planned ask s.claims).breaks ≤ most_claims }
     ensures waiters { (s : CoreState) (ask : Claim) → (breaks_begun ask s).1.waiters ≡ s.waiters }
     ensures names { (s : CoreState) (ask : Claim) → (breaks_begun ask s).1.names ≡ s.names }
     ensures stable { (s : CoreState) (ask : Claim) → (breaks_begun ask s).1.stable ≡ s.stable }

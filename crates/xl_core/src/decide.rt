@@ -1,10 +1,11 @@
 //! What an ask is answered.
-ghost use Rattle.std.specs.Prelude.{◌≡◌, ℕ, ◌+◌, ◌<◌, ◌≤◌, ◌^◌, true, [], ◌∷◌, length, None, IfOk, IfSome, OnOk};
+ghost use Rattle.std.specs.Prelude.{◌≡◌, ℕ, ◌+◌, ◌<◌, ◌≤◌, ◌^◌, true, false, [], ◌∷◌, length, None, IfOk, IfSome, OnOk};
 ghost use Rattle.std.specs.List.{AllByRecursion};
 ghost use Rattle.xl_base.specs.Limits.{most_waiters, numbers_left};
 ghost use Rattle.xl_matrix.specs.Owners.{posix};
 ghost use Rattle.xl_names.specs.Names.{most_names};
 ghost use Rattle.xl_table.specs.Held.{is_range, has_one_party, IsShareOrLock, IsGrantable};
+ghost use Rattle.xl_table.specs.Relock.{most_claims};
 ghost use Rattle.xl_core.specs.Asking.{both_entered, asked_whats, asked_claims, IsFitAct, IsFit, IsOrdered, is_client, may_hold, may_hold_all};
 ghost use Rattle.xl_core.specs.Decide.{plea_of, waiter_of, waiting, claims_asked, tested, unlocked_bytes, unlocked_one, unlocked, wish_asked, decided, way, before_wish, does_wish, ask};
 ghost use Rattle.xl_core.specs.Good.{IsGood};
@@ -159,21 +160,27 @@ fn unlock_bytes(
 
 /// Gives up one range of an SMB open.
 #[tactic(auto, unfolding(crate::specs::Decide::unlocked_one))]
-fn unlock_one(parts: &mut Parts, claim: &Claim, extent: Extent) -> Answer
-    ensures answer { unlocked_one (state_of parts.old) claim.now extent ≡ (result, [], state_of parts.new) }
+fn unlock_one(
+    alloc: Global,
+    parts: &mut Parts,
+    claim: &Claim,
+    extent: Extent,
+) -> Result<Answer, AllocError>
+    requires open { posix claim.now.owner ≡ false }
+    ensures answer { IfOk result (λ answer. unlocked_one (state_of parts.old) claim.now extent ≡ (answer, [], state_of parts.new)) }
     ensures made { parts.new.made ≡ parts.old.made }
     ensures failed { parts.new.failed ≡ parts.old.failed }
 {
-    match parts.table.element_held(claim, extent) {
+    match parts.table.element_held(alloc, claim, extent)? {
         Some(held) => {
             parts.table.remove(&held);
-            Answer::Granted(*claim)
+            Ok(Answer::Granted(*claim))
         }
-        None => Answer::NotHeld,
+        None => Ok(Answer::NotHeld),
     }
 }
 
-/// Answers an unlock of a range.
+/// Answers an unlock of a range. One without bytes is an SMB open's alone.
 #[tactic(auto, unfolding(crate::specs::Decide::unlocked))]
 fn unlock(
     alloc: Global,
@@ -184,6 +191,7 @@ fn unlock(
     requires range { is_range claim.now.what ≡ true }
     requires order { IsOrdered extent }
     requires party { AllByRecursion (λ c. has_one_party claim.now c ≡ true) parts.old.table }
+    requires good { IsGood (state_of parts.old) }
     ensures answer { IfOk result (λ answer. unlocked (state_of parts.old) claim.now extent ≡ (answer, [], state_of parts.new)) }
     ensures made { parts.new.made ≡ parts.old.made }
     ensures failed { parts.new.failed ≡ parts.old.failed }
@@ -193,10 +201,16 @@ fn unlock(
             if is_posix(claim.owner) {
                 unlock_bytes(alloc, parts, claim, first, last)
             } else {
-                Ok(unlock_one(parts, claim, extent))
+                unlock_one(alloc, parts, claim, extent)
             }
         }
-        Extent::Empty(_) => Ok(unlock_one(parts, claim, extent)),
+        Extent::Empty(_) => {
+            if is_posix(claim.owner) {
+                Ok(Answer::NotHeld)
+            } else {
+                unlock_one(alloc, parts, claim, extent)
+            }
+        }
     }
 }
 
@@ -306,7 +320,7 @@ fn make_way_for(
     requires good { IsGood (state_of parts.old) }
     requires numbers { parts.old.counter + numbers_left < 2 ^ 32 }
     ensures way { IfOk result (λ told. way left.now (state_of parts.old) request.now ≡ (told, state_of parts.new)) }
-    ensures few { OnOk result (parts.new.counter ≤ parts.old.counter + 16384) }
+    ensures few { OnOk result (parts.new.counter ≤ parts.old.counter + most_claims) }
     ensures made { parts.new.made ≡ parts.old.made }
     ensures failed { parts.new.failed ≡ parts.old.failed }
 {

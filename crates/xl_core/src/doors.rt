@@ -7,7 +7,7 @@ ghost use Rattle.xl_core.specs.State.{started, step_begun, drawn, MayBe, GoesOn}
 ghost use Rattle.xl_core.specs.Asking.{IsFit};
 ghost use Rattle.xl_core.specs.Good.{IsGood};
 ghost use Rattle.xl_core.specs.Decide.{ask};
-ghost use Rattle.xl_core.specs.Settle.{settle, cancel, give_back, share_has, weaken, end_party};
+ghost use Rattle.xl_core.specs.Settle.{settle, cancel, give_back, share_has, weaken, end_party, close_open};
 ghost use Rattle.xl_core.specs.Breaks.{may_be_left, ack};
 ghost use Rattle.xl_core.specs.Ticks.{renew, tick};
 ghost use Rattle.xl_core.specs.Whole.{state_of};
@@ -23,7 +23,7 @@ use std::marker::Model;
 use xl_base::{Keeper, Moment, Party, Record, Sequence};
 use xl_matrix::{CacheKind, Claim, Rwd};
 use xl_names::Names;
-use xl_table::Table;
+use xl_table::{Leaver, Table};
 use xl_wait::{Queue, Rooms};
 
 /// The claims that are held, those who wait, and the names of both. A contract sees them as flat lists. A call that
@@ -254,13 +254,33 @@ impl Core {
     }
 
     /// Takes out all claims and waiters of a party, and tells of the waiters. Its name stays.
-    #[tactic(auto, using(crate::proofs::GoodLaws::end_party_good))]
+    #[tactic(auto, unfolding(crate::specs::Settle::end_party), using(crate::proofs::GoodLaws::departed_good))]
     pub fn end_party(&mut self, alloc: Global, party: Party) -> Result<Sequence<Effect>, AllocError>
         requires good { IsGood self.old }
         ensures state { IfOk result (λ effects. end_party self.old party ≡ (effects, self.new)) }
         ensures good { OnOk result (IsGood self.new) }
     {
-        unsettled::end_party(alloc, &mut self.parts, &mut self.unsettled, party)
+        let leaver = Leaver::Party(party);
+        let effects = unsettled::leave(alloc, &mut self.parts, &mut self.unsettled, leaver)?;
+        Ok(effects)
+    }
+
+    /// Closes the SMB open of this number: takes out its share, its ranges and its waiters, and tells of the waiters; and the
+    /// caches of a party that go with it, its own or those of the lease that it was the last open of (MS-SMB2 3.3.4.17).
+    #[tactic(auto, unfolding(crate::specs::Settle::close_open), using(crate::proofs::GoodLaws::departed_good))]
+    pub fn close_open(
+        &mut self,
+        alloc: Global,
+        number: u32,
+        party: Option<Party>,
+    ) -> Result<Sequence<Effect>, AllocError>
+        requires good { IsGood self.old }
+        ensures state { IfOk result (λ effects. close_open self.old number party ≡ (effects, self.new)) }
+        ensures good { OnOk result (IsGood self.new) }
+    {
+        let leaver = Leaver::Open(number, party);
+        let effects = unsettled::leave(alloc, &mut self.parts, &mut self.unsettled, leaver)?;
+        Ok(effects)
     }
 
     /// The lease of the NFSv4 client of this id string runs for its whole length from now on (RFC 7530 9.5), also where it

@@ -3,7 +3,7 @@ ghost use Rattle.std.specs.Prelude.{◌≡◌, ℕ, ◌≤◌, List, [], ◌∷�
 ghost use Rattle.std.specs.List.{AllByRecursion};
 ghost use Rattle.xl_table.specs.Changes.{written, MayBeWritten};
 ghost use Rattle.xl_table.specs.Held.{has_one_party, IsGrantable, IsKept};
-ghost use Rattle.xl_table.specs.Relock.{granted_claims};
+ghost use Rattle.xl_table.specs.Relock.{granted_claims, most_claims};
 ghost use Rattle.xl_wait.specs.declared.waiter.Waiter.{Waiter};
 ghost use Rattle.xl_core.specs.Blockers.{blockers, cache_against};
 ghost use Rattle.xl_core.specs.Judge.{check_grace, stopped, waits, check_held, kept_off, check_caches, check_room, at_once, judged, or_else, stop_of, stop_left, gets, row, row_left, IsRow, IsFew};
@@ -185,7 +185,7 @@ fn check_room(
 ) -> Option<Ruling>
     requires change { change.now.held ≡ length (granted_claims claim.now parts.now.table) }
     ensures room { check_room left.now plea.now [] claim.now (state_of parts.now) ≡ (result, [], state_of parts.now) }
-    ensures fits { result ≡ None → (change.now.held ≤ 16384) × (plea.now.kept ≤ most_names) }
+    ensures fits { result ≡ None → (change.now.held ≤ most_claims) × (plea.now.kept ≤ most_names) }
     ensures told { IfSome result (λ r. (r ≡ Gets → ⊥) × (r ≡ Waits → ⊥)) }
 {
     match passed_by_grant(left, &plea.rows, change.held, plea.kept) {

@@ -32,7 +32,9 @@ ghost use Rattle.xl_core.specs.Decide.{waiter_of, way, ask};
 ghost use Rattle.xl_core.specs.Frames.{calls_in, drawn_by, names_after, come_by, who_left, serves_none, IsFrame, IsRenewed, IsTicked};
 ghost use Rattle.xl_core.specs.Good.{IsHeld, IsGood, IsSettled, holding, caches_of};
 ghost use Rattle.xl_core.specs.Limits.{IsRoom};
-ghost use Rattle.xl_core.specs.Settle.{settle, turns_left, AllRest, waits_for, cancel, give_back, share_has, weaken, end_party};
+ghost use Rattle.xl_core.specs.Settle.{settle, turns_left, AllRest, waits_for, waits_as, cancel, give_back, share_has, weaken, end_party, close_open};
+ghost use Rattle.xl_table.specs.Leaving.{goes};
+ghost use Rattle.xl_table.specs.declared.leaver.Leaver.TheVariants as Leaver;
 ghost use Rattle.xl_core.specs.declared.ask.Act.{Act};
 ghost use Rattle.xl_core.specs.declared.ask.Answer.{Answer};
 ghost use Rattle.xl_cache.specs.Planning.{is_running, is_obstacle, planned, is_slow};
@@ -57,6 +59,7 @@ pub fn stays_good()
     ensures acked { (s : CoreState) (cache : Claim) (to : Option CacheKind) → IsGood s → IsIn cache s.claims → may_be_left cache.what to ≡ true → IsGood (ack s cache to).1 }
     ensures drawn { (s : CoreState) → IsGood s → IsGood (drawn s) }
     ensures ended { (s : CoreState) (party : Party) → IsGood s → IsGood (end_party s party).1 }
+    ensures closed { (s : CoreState) (number : ℕ) (party : Option Party) → IsGood s → IsGood (close_open s number party).1 }
     ensures renewed { (s : CoreState) (client : List ℕ) → IsGood s → IsGood (renew s client).1 }
     ensures ticked { (s : CoreState) (now : Moment) → IsGood s → IsGood (tick s now).1 }
 {}
@@ -132,12 +135,15 @@ pub fn nobody_is_forgotten()
 {}
 
 /// Who gives a claim back takes that claim out, and no other. Who cancels takes no claim with it, and of the waiters only the
-/// one of this number. A party that ends takes its own claims and waiters, and no others.
+/// one of this number. A party that ends takes its own claims and waiters, and no others. An SMB open that is closed takes its
+/// own share, its ranges and its waiters, and the caches of the party that goes with it, and no others.
 pub fn only_a_party_leaves()
     ensures cancelled { (s : CoreState) (id : ℕ) → ((cancel s id).1.claims ≡ s.claims) × ((cancel s id).1.waiters ≡ cancelled id s.waiters) }
     ensures given_back { (s : CoreState) (claim : Claim) → ((give_back s claim).1.claims ≡ removed claim s.claims) × ((give_back s claim).1.waiters ≡ s.waiters) }
     ensures claims { (s : CoreState) (party : Party) (c : Claim) → IsIn c (end_party s party).1.claims ↔ (IsIn c s.claims × (same_parties c.party party ≡ false)) }
     ensures waiters { (s : CoreState) (party : Party) (w : Waiter) → IsIn w (end_party s party).1.waiters ↔ (IsIn w s.waiters × (waits_for party w ≡ false)) }
+    ensures opened { (s : CoreState) (number : ℕ) (party : Option Party) (c : Claim) → IsIn c (close_open s number party).1.claims ↔ (IsIn c s.claims × (goes (Leaver.Open number party) c ≡ false)) }
+    ensures locking { (s : CoreState) (number : ℕ) (party : Option Party) (w : Waiter) → IsIn w (close_open s number party).1.waiters ↔ (IsIn w s.waiters × (waits_as number w ≡ false)) }
 {}
 
 /// A share that is made weaker has just this access and deny. Each other share stays, each range, each cache, and who waits.
@@ -164,20 +170,22 @@ pub fn calls_have_frames()
     ensures weakens { (s : CoreState) (share : Claim) (access deny : Rwd) → IsFrame s (weaken s share access deny).0 (weaken s share access deny).1 0 s.names [] }
     ensures acks { (s : CoreState) (cache : Claim) (to : Option CacheKind) → IsFrame s (ack s cache to).0 (ack s cache to).1 0 s.names [] }
     ensures ends { (s : CoreState) (party : Party) → IsGood s → IsFrame s (end_party s party).0 (end_party s party).1 0 s.names [] }
+    ensures closes { (s : CoreState) (number : ℕ) (party : Option Party) → IsGood s → IsFrame s (close_open s number party).0 (close_open s number party).1 0 s.names [] }
     ensures draws { (s : CoreState) → IsFrame s [] (drawn s) 1 s.names [] }
     ensures renews { (s : CoreState) (client : List ℕ) → IsRenewed s client (renew s client).0 (renew s client).1 }
     ensures ticks { (s : CoreState) (now : Moment) → IsGood s → IsTicked s now (tick s now).0 (tick s now).1 }
 {}
 
 /// Nobody is served but by a turn: not where a waiter cancels, a claim is given back, a share is made weaker, a break is
-/// answered, a party ends, or the clock is read. (An ask tells of the breaks that it begins alone, see `calls_have_frames` and
-/// `breaks_are_told`.)
+/// answered, a party ends, an open is closed, or the clock is read. (An ask tells of the breaks that it begins alone, see
+/// `calls_have_frames` and `breaks_are_told`.)
 pub fn only_turns_serve()
     ensures cancels { (s : CoreState) (id : ℕ) → serves_none (cancel s id).0 ≡ true }
     ensures gives_back { (s : CoreState) (claim : Claim) → serves_none (give_back s claim).0 ≡ true }
     ensures weakens { (s : CoreState) (share : Claim) (access deny : Rwd) → serves_none (weaken s share access deny).0 ≡ true }
     ensures acks { (s : CoreState) (cache : Claim) (to : Option CacheKind) → serves_none (ack s cache to).0 ≡ true }
     ensures ends { (s : CoreState) (party : Party) → serves_none (end_party s party).0 ≡ true }
+    ensures closes { (s : CoreState) (number : ℕ) (party : Option Party) → serves_none (close_open s number party).0 ≡ true }
     ensures ticks { (s : CoreState) (now : Moment) → serves_none (tick s now).0 ≡ true }
 {}
 
@@ -196,7 +204,7 @@ pub fn a_grant_leaves_the_clock()
 /// as a call of the server's may tell that it is served, and one more for each delegation that may be recalled. An ask raises it
 /// by 2 at most, as one comes to wait under a number, or gets a delegation; one that doesn't wait by 1; a number that is given
 /// out by 1. A turn leaves one less for each who is served; no other call raises it.
-#[tactic(auto, using(crate::proofs::NumberLaws::counter_numbers, crate::proofs::NumberLaws::ask_numbers, crate::proofs::NumberLaws::ask_numbers_at_once, crate::proofs::NumberLaws::turn_numbers, crate::proofs::NumberLaws::drawn_numbers, crate::proofs::NumberLaws::cancel_numbers, crate::proofs::NumberLaws::give_back_numbers, crate::proofs::NumberLaws::weaken_numbers, crate::proofs::NumberLaws::ack_numbers, crate::proofs::NumberLaws::end_party_numbers, crate::proofs::NumberLaws::renew_numbers, crate::proofs::NumberLaws::expire_numbers, crate::proofs::NumberLaws::lapse_numbers, crate::proofs::NumberLaws::tick_numbers))]
+#[tactic(auto, using(crate::proofs::NumberLaws::counter_numbers, crate::proofs::NumberLaws::ask_numbers, crate::proofs::NumberLaws::ask_numbers_at_once, crate::proofs::NumberLaws::turn_numbers, crate::proofs::NumberLaws::drawn_numbers, crate::proofs::NumberLaws::cancel_numbers, crate::proofs::NumberLaws::give_back_numbers, crate::proofs::NumberLaws::weaken_numbers, crate::proofs::NumberLaws::ack_numbers, crate::proofs::NumberLaws::end_party_numbers, crate::proofs::NumberLaws::close_open_numbers, crate::proofs::NumberLaws::renew_numbers, crate::proofs::NumberLaws::expire_numbers, crate::proofs::NumberLaws::lapse_numbers, crate::proofs::NumberLaws::tick_numbers))]
 pub fn numbers_are_few()
     ensures counter { (s : CoreState) → s.counter ≤ numbers_of s }
     ensures asks { (n : ℕ) (left : Rooms) (s : CoreState) (a : Ask) → IsGood s → IsFit a → numbers_of (ask n left s a).2 ≤ numbers_of s + 2 }
@@ -208,6 +216,7 @@ pub fn numbers_are_few()
     ensures weakens { (s : CoreState) (share : Claim) (access deny : Rwd) → numbers_of (weaken s share access deny).1 ≤ numbers_of s }
     ensures acks { (s : CoreState) (cache : Claim) (to : Option CacheKind) → IsIn cache s.claims → may_be_left cache.what to ≡ true → numbers_of (ack s cache to).1 ≤ numbers_of s }
     ensures ends { (s : CoreState) (party : Party) → numbers_of (end_party s party).1 ≤ numbers_of s }
+    ensures closes { (s : CoreState) (number : ℕ) (party : Option Party) → numbers_of (close_open s number party).1 ≤ numbers_of s }
     ensures renews { (s : CoreState) (client : List ℕ) → numbers_of (renew s client).1 ≤ numbers_of s }
     ensures expires { (s : CoreState) (client : List ℕ) → numbers_of (expire s client).1 ≤ numbers_of s }
     ensures lapses { (s : CoreState) (cache : Claim) → numbers_of (lapse s cache).1 ≤ numbers_of s }

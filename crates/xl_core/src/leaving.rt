@@ -1,19 +1,20 @@
 //! Who waits no more, who leaves, and who has less from now on.
 ghost use Rattle.std.specs.Prelude.{◌≡◌, ℕ, ◌++◌, true, length, map, OnOk, IfOk};
 ghost use Rattle.std.specs.List.{filter, list_any};
-ghost use Rattle.xl_matrix.specs.Equal.{same_parties};
+ghost use Rattle.xl_matrix.specs.Equal.{same_owners, same_parties};
 ghost use Rattle.xl_wait.specs.Waiting.{cancelled};
 ghost use Rattle.xl_core.specs.Good.{IsGood};
 ghost use Rattle.xl_base.specs.Lists.{IsIn};
 ghost use Rattle.xl_core.specs.Breaks.{ack};
-ghost use Rattle.xl_core.specs.Settle.{waits_for, numbers_for, all_told, all_cancelled, cancel, give_back, weaken, end_party};
+ghost use Rattle.xl_core.specs.Settle.{waits_for, waits_as, waits_with, numbers_with, all_told, all_cancelled, cancel, give_back, weaken, departed};
 ghost use Rattle.xl_core.specs.Whole.{state_of};
 
 use crate::ask::Effect;
 use crate::parts::Parts;
 use std::alloc::{AllocError, Global};
-use xl_base::{Party, Sequence};
-use xl_matrix::{CacheKind, Claim, Rwd, What, same_party};
+use xl_base::{Owner, Party, Sequence};
+use xl_matrix::{CacheKind, Claim, Rwd, What, same_owner, same_party};
+use xl_table::Leaver;
 use xl_wait::{Queue, Waiter};
 
 /// Takes one waiter out.
@@ -87,14 +88,35 @@ fn waits_for(party: Party, waiter: &Waiter) -> bool
         .any(|claim| same_party(claim.party, party))
 }
 
-/// The numbers of the party's waiters.
-#[tactic(auto, unfolding(crate::specs::Settle::numbers_for))]
-fn numbers_for(alloc: Global, party: Party, waiters: &[Waiter]) -> Result<Vec<u32>, AllocError>
-    ensures { IfOk result (λ v. v.items ≡ numbers_for party waiters.now) }
+#[tactic(auto, unfolding(crate::specs::Settle::waits_as))]
+fn waits_as(number: u32, waiter: &Waiter) -> bool
+    ensures { result ≡ waits_as number waiter.now }
+{
+    waiter
+        .asked
+        .as_slice()
+        .iter()
+        .any(|claim| same_owner(claim.owner, Owner::Open(number)))
+}
+
+/// Whether a waiter waits no more once this one leaves.
+fn waits_with(leaver: Leaver, waiter: &Waiter) -> bool
+    ensures { result ≡ waits_with leaver waiter.now }
+{
+    match leaver {
+        Leaver::Party(party) => waits_for(party, waiter),
+        Leaver::Open(number, _) => waits_as(number, waiter),
+    }
+}
+
+/// The numbers of those who wait no more once this one leaves.
+#[tactic(auto, unfolding(crate::specs::Settle::numbers_with))]
+fn numbers_with(alloc: Global, leaver: Leaver, waiters: &[Waiter]) -> Result<Vec<u32>, AllocError>
+    ensures { IfOk result (λ v. v.items ≡ numbers_with leaver waiters.now) }
 {
     let mut numbers = Vec::new(alloc);
     for waiter in waiters {
-        if waits_for(party, waiter) {
+        if waits_with(leaver, waiter) {
             numbers.push(waiter.id)?;
         }
     }
@@ -119,19 +141,19 @@ fn cancel_all(queue: &mut Queue, numbers: &[u32])
     }
 }
 
-/// Takes out all claims and waiters of a party.
-#[tactic(auto, unfolding(crate::specs::Settle::end_party), using(crate::proofs::SettleLaws::all_out))]
-pub(crate) fn end_party(
+/// Takes out the claims and the waiters that go with who leaves.
+#[tactic(auto, using(crate::proofs::SettleLaws::all_out))]
+pub(crate) fn leave(
     alloc: Global,
     parts: &mut Parts,
-    party: Party,
+    leaver: Leaver,
 ) -> Result<Sequence<Effect>, AllocError>
     requires good { IsGood (state_of parts.old) }
-    ensures { IfOk result (λ effects. end_party (state_of parts.old) party ≡ (effects, state_of parts.new)) }
+    ensures { IfOk result (λ effects. departed (state_of parts.old) leaver ≡ (effects, state_of parts.new)) }
 {
-    let numbers = numbers_for(alloc, party, parts.queue.waiters())?;
+    let numbers = numbers_with(alloc, leaver, parts.queue.waiters())?;
     let effects = told(alloc, &numbers)?;
-    parts.table.remove_party(party);
+    parts.table.remove_leaver(leaver);
     cancel_all(&mut parts.queue, &numbers);
     Ok(effects)
 }

@@ -12,12 +12,13 @@ use crate::ask::Effect;
 use crate::due::first_due;
 use crate::lease;
 use crate::lease::{drop_lease, later, moment_after, put_lease};
-use crate::leaving::end_party;
+use crate::leaving::leave;
 use crate::parts::Parts;
 use std::alloc::{AllocError, Global};
 use xl_base::{Moment, Party, Protocol, Sequence};
 use xl_matrix::Claim;
 use xl_names::{Name, Names};
+use xl_table::Leaver;
 
 /// The clock reads this moment, where that is later.
 #[tactic(auto, unfolding(crate::specs::Ticks::advanced), using(crate::proofs::GoodLaws::advanced_good))]
@@ -60,6 +61,7 @@ fn party_of(alloc: Global, names: &Names, client: &[u8]) -> Result<Option<Party>
 }
 
 /// Takes out all claims and waiters of a party, where there is one.
+#[tactic(auto, unfolding(crate::specs::Settle::end_party))]
 fn end_some(
     alloc: Global,
     parts: &mut Parts,
@@ -69,7 +71,7 @@ fn end_some(
     ensures { IfOk result (λ effects. end_some (state_of parts.old) party ≡ (effects, state_of parts.new)) }
 {
     match party {
-        Some(party) => end_party(alloc, parts, party),
+        Some(party) => leave(alloc, parts, Leaver::Party(party)),
         None => Ok(Sequence::new(alloc)),
     }
 }

@@ -5,7 +5,7 @@ ghost use Rattle.xl_core.specs.Asking.{IsFit};
 ghost use Rattle.xl_core.specs.Decide.{ask};
 ghost use Rattle.xl_core.specs.Good.{IsGood};
 ghost use Rattle.xl_base.specs.Lists.{IsIn};
-ghost use Rattle.xl_core.specs.Settle.{settle, cancel, give_back, weaken, end_party};
+ghost use Rattle.xl_core.specs.Settle.{settle, cancel, give_back, weaken, departed};
 ghost use Rattle.xl_core.specs.Breaks.{ack};
 ghost use Rattle.xl_core.specs.Ticks.{renew, tick};
 ghost use Rattle.xl_core.specs.Watch.{with_file, may_free, left_by_ask, may_turn, AreHeldUp};
@@ -15,8 +15,9 @@ use crate::ask::{Act, Answer, Ask, Effect};
 use crate::parts::Parts;
 use crate::{decide, leaving, settling, ticking};
 use std::alloc::{AllocError, Global};
-use xl_base::{Moment, Party, Sequence};
+use xl_base::{Moment, Sequence};
 use xl_matrix::{CacheKind, Claim, Rwd};
+use xl_table::Leaver;
 use xl_wait::{Queue, Rooms};
 
 /// The files whose claims changed since all who wait were last found blocked.
@@ -212,20 +213,20 @@ pub(crate) fn ack(
     leaving::ack(alloc, parts, cache, to)
 }
 
-/// Takes out all claims and waiters of a party. All files are unsettled then.
+/// Takes out the claims and the waiters that go with who leaves. All files are unsettled then.
 #[tactic(auto, using(crate::proofs::WatchLaws::any_up))]
-pub(crate) fn end_party(
+pub(crate) fn leave(
     alloc: Global,
     parts: &mut Parts,
     unsettled: &mut Unsettled,
-    party: Party,
+    leaver: Leaver,
 ) -> Result<Sequence<Effect>, AllocError>
     requires good { IsGood (state_of parts.old) }
-    ensures state { IfOk result (λ effects. end_party (state_of parts.old) party ≡ (effects, state_of parts.new)) }
+    ensures state { IfOk result (λ effects. departed (state_of parts.old) leaver ≡ (effects, state_of parts.new)) }
     ensures held_up { AreHeldUp unsettled.new (state_of parts.new) }
 {
     *unsettled = Unsettled::All;
-    leaving::end_party(alloc, parts, party)
+    leaving::leave(alloc, parts, leaver)
 }
 
 /// Renews a client's lease.

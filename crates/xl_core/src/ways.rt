@@ -3,6 +3,7 @@ ghost use Rattle.std.specs.Prelude.{◌≡◌, ◌+◌, ◌<◌, ◌≤◌, ◌^
 ghost use Rattle.std.specs.List.{AllByRecursion};
 ghost use Rattle.xl_base.specs.Limits.{numbers_left};
 ghost use Rattle.xl_table.specs.Held.{is_cache};
+ghost use Rattle.xl_table.specs.Relock.{most_claims};
 ghost use Rattle.xl_cache.specs.Planning.{planned};
 ghost use Rattle.xl_core.specs.Good.{IsGood};
 ghost use Rattle.xl_core.specs.Ways.{begins, made_way};
@@ -47,7 +48,7 @@ pub(crate) fn make_way(
     requires locks { AllByRecursion (λ c. is_cache c.what ≡ false) claims.now }
     requires numbers { parts.old.counter + numbers_left < 2 ^ 32 }
     ensures way { IfOk result (λ told. made_way plea.now claims.now (state_of parts.old) ≡ (told, state_of parts.new)) }
-    ensures few { OnOk result (parts.new.counter ≤ parts.old.counter + 16384) }
+    ensures few { OnOk result (parts.new.counter ≤ parts.old.counter + most_claims) }
     ensures queue { parts.new.queue ≡ parts.old.queue }
     ensures names { parts.new.names ≡ parts.old.names }
     ensures made { parts.new.made ≡ parts.old.made }

@@ -3,6 +3,7 @@ ghost use Rattle.std.specs.Prelude.{◌≡◌, ◌<◌, true, OnOk, length, find
 ghost use Rattle.xl_cache.specs.Wishing.{wished_claim, is_its_cache};
 ghost use Rattle.xl_table.specs.Flat.{inserted};
 ghost use Rattle.xl_table.specs.Held.{IsKept};
+ghost use Rattle.xl_table.specs.Relock.{most_claims};
 ghost use Rattle.xl_core.specs.Whole.{state_of};
 ghost use Rattle.xl_core.specs.Wishes.{has_room, wished_kind, cached, wish_granted, wish_for};
 
@@ -25,7 +26,7 @@ fn has_room(own: Option<Claim>, table: &Table) -> bool
 
 /// Enters a first cache of this kind.
 fn enter_cache(table: &mut Table, wanted: &Wish, kind: CacheKind) -> Result<(), AllocError>
-    requires room { length table.old < 16384 }
+    requires room { length table.old < most_claims }
     requires kept { IsKept table.old }
     ensures { OnOk result (table.new ≡ inserted (wished_claim wanted.now kind) table.old) }
 {

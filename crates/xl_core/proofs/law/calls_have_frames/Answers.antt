@@ -1,4 +1,4 @@
-use Rattle.xl_core.proofs.FrameLaws.{ask_frame, ask_quiet, turn_frame, cancel_frame, give_back_frame, weaken_frame, ack_frame, end_party_frame, drawn_frame, renew_frame, tick_frame}
+use Rattle.xl_core.proofs.FrameLaws.{ask_frame, ask_quiet, turn_frame, cancel_frame, give_back_frame, weaken_frame, ack_frame, end_party_frame, close_open_frame, drawn_frame, renew_frame, tick_frame}
 use Rattle.xl_core.proofs.law.calls_have_frames.Goals as goal
 
 pub returns-clause-asks : goal.returns-clause-asks
@@ -18,6 +18,9 @@ returns-clause-gives_back c = give_back_frame
 
 pub returns-clause-ends : goal.returns-clause-ends
 returns-clause-ends c = end_party_frame
+
+pub returns-clause-closes : goal.returns-clause-closes
+returns-clause-closes c = close_open_frame
 
 pub returns-clause-draws : goal.returns-clause-draws
 returns-clause-draws c = drawn_frame

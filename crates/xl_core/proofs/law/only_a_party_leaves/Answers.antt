@@ -1,4 +1,4 @@
-use Rattle.xl_core.proofs.SettleLaws.{cancel_is, give_back_is, party_claims, party_waiters}
+use Rattle.xl_core.proofs.SettleLaws.{cancel_is, give_back_is, party_claims, party_waiters, open_claims, open_waiters}
 use Rattle.xl_core.proofs.law.only_a_party_leaves.Goals as goal
 
 pub returns-clause-cancelled : goal.returns-clause-cancelled
@@ -12,3 +12,9 @@ returns-clause-claims c = party_claims
 
 pub returns-clause-waiters : goal.returns-clause-waiters
 returns-clause-waiters c = party_waiters
+
+pub returns-clause-opened : goal.returns-clause-opened
+returns-clause-opened c = open_claims
+
+pub returns-clause-locking : goal.returns-clause-locking
+returns-clause-locking c = open_waiters

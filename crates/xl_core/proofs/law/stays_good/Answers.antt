@@ -1,5 +1,5 @@
 use Rattle.xl_core.proofs.BreakLaws.{ack_good}
-use Rattle.xl_core.proofs.GoodLaws.{started_good, begun_good, ask_good, settle_good, cancel_good, give_back_good, drawn_good, end_party_good, renew_good, tick_good}
+use Rattle.xl_core.proofs.GoodLaws.{started_good, begun_good, ask_good, settle_good, cancel_good, give_back_good, drawn_good, end_party_good, close_open_good, renew_good, tick_good}
 use Rattle.xl_core.proofs.WeakenLaws.{weaken_good}
 use Rattle.xl_core.proofs.law.stays_good.Goals as goal
 
@@ -26,6 +26,9 @@ returns-clause-drawn c = drawn_good
 
 pub returns-clause-ended : goal.returns-clause-ended
 returns-clause-ended c = end_party_good
+
+pub returns-clause-closed : goal.returns-clause-closed
+returns-clause-closed c = close_open_good
 
 pub returns-clause-renewed : goal.returns-clause-renewed
 returns-clause-renewed c = renew_good
