@@ -11,9 +11,13 @@ use Rattle.xl_nfs.specs.declared.basics.Owner.{Owner}
 use Rattle.xl_nfs.specs.declared.basics.LockType.{LockType}
 use Rattle.xl_nfs.specs.declared.basics.LockType.TheVariants as types
 
+-- bytes of a tag, an owner or a client's id (NFS4_OPAQUE_LIMIT)
+abbrev pub most_text_bytes : ℕ
+most_text_bytes = 1024
+
 -- opaque data: a tag, an owner or a client's id, a handle, and what has no bound but what its length can say
 abbrev pub identifier : Format (List ℕ) RpcBad
-identifier = text 1024 refl
+identifier = text most_text_bytes refl
 
 -- nfs_fh4
 unfoldable pub handle : Format (List ℕ) RpcBad

@@ -60,7 +60,8 @@ impl<'a> Bitmap<'a> {
     }
 }
 
-const MAX_TEXT_BYTES: u32 = 1024;
+/// The most bytes of a tag, an owner or a client's id (RFC 7531, NFS4_OPAQUE_LIMIT).
+pub const MOST_TEXT_BYTES: u32 = 1024;
 
 const MAX_HANDLE_BYTES: u32 = 128;
 
@@ -68,7 +69,7 @@ const MAX_HANDLE_BYTES: u32 = 128;
 pub(crate) fn read_text<'a>(xdr: &mut Xdr<'a>) -> Result<&'a [u8], RpcBad>
     ensures { Advances (λ s. s.now) result xdr.old.rest.now xdr.new.rest.now (identifier.at xdr.old.rest.now) }
 {
-    xdr.opaque(MAX_TEXT_BYTES)
+    xdr.opaque(MOST_TEXT_BYTES)
 }
 
 /// A name or another opaque without a bound of its own.

@@ -15,7 +15,7 @@ mod outcome;
 mod result;
 mod status;
 
-pub use basics::{Bitmap, LockType, Owner, Stateid};
+pub use basics::{Bitmap, LockType, MOST_TEXT_BYTES, Owner, Stateid};
 pub use callback::{RecallReply, RecallResult, read_recall_reply, recall_call};
 pub use clients::{ClientConfirm, SetClientIdArgs};
 pub use compound::{CompoundHead, read_head};
