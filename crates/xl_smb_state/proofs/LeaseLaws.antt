@@ -1,5 +1,5 @@
 -- An open that leaves its lease.
-use Rattle.std.proofs.Common.{◌≡◌, ℕ, Bool, true, false, eqb, cond, List, [], ◌∷◌, Option, Some, None, Result, Ok, Err, refl, sym, ap, subst, ◌∙◌, inl, inr, arith}
+use Rattle.std.proofs.Common.{◌≡◌, ℕ, Bool, true, false, eqb, cond, List, [], ◌∷◌, ◌++◌, if◌then◌else◌, Option, Some, None, is_some, Result, Ok, Err, refl, sym, ap, subst, ◌∙◌, inl, inr, arith}
 use Rattle.std.specs.Prelude.{nat_eq, bytes_eq}
 use Rattle.std.specs.List.{AllByRecursion, IsDistinct, list_any, filter_map}
 use Rattle.std.specs.Option.{IfSome, IfNone, option_map}
@@ -14,10 +14,10 @@ use Rattle.std.proofs.lemmas.Map.Keys.{IsDistinct-head, IsDistinct-tail}
 use Rattle.xl_smb_state.specs.declared.row.LeaseKey.{LeaseKey}
 use Rattle.xl_smb_state.specs.declared.row.Lease.{Lease}
 use Rattle.xl_smb_state.specs.declared.row.Open.{Open}
-use Rattle.xl_smb_state.specs.State.{Lists, is_key, key_of, is_empty, same_lease, without, left_row, grown_row, joined, kept_lease, lease_left, is_listed}
+use Rattle.xl_smb_state.specs.State.{Lists, is_key, key_of, is_empty, same_lease, without, left_row, grown_row, joined, kept_lease, lease_left, is_listed, open_of, open_added, lease_of, lease_added, lease_joined, lease_begun, come_under, with_open, is_of_file, is_last, is_last_under, is_last_open}
 use Rattle.xl_smb_state.specs.Links.{ListsOnly, IsLeaseLinked, is_under, only_opens}
 use Rattle.xl_smb_state.proofs.LinkLaws.{same_lease_is}
-use Rattle.xl_smb_state.proofs.RowLaws.{none_some, equal_from, same_Some}
+use Rattle.xl_smb_state.proofs.RowLaws.{none_some, equal_from, equal_self, same_Some}
 
 without_absent : (number : ℕ) (ns : List ℕ) → list_any (nat_eq number) ns ≡ false → without number ns ≡ ns
 without_absent number [] h = refl
@@ -39,7 +39,7 @@ none_left key number [] apart only = refl
 none_left key number (e ∷ es) apart only =
     rw (kept_whole number e (only.0.0 apart.0) only.0.1) (ap (λ fs. e ∷ fs) (none_left key number es apart.1 only.1))
 
-none_found : (key : LeaseKey) (es : List (LeaseKey × Lease)) → lookup (same_lease key) es ≡ None → AllByRecursion (λ e. same_lease key e.0 ≡ false) es
+pub none_found : (key : LeaseKey) (es : List (LeaseKey × Lease)) → lookup (same_lease key) es ≡ None → AllByRecursion (λ e. same_lease key e.0 ≡ false) es
 none_found key [] h = tt
 none_found key (e ∷ es) h =
     elim (cases_Bool (same_lease key e.0)) [
@@ -50,7 +50,7 @@ none_found key (e ∷ es) h =
 pub left_nowhere : (key : LeaseKey) (number : ℕ) (es : List (LeaseKey × Lease)) → lookup (same_lease key) es ≡ None → AllByRecursion (ListsOnly key number) es → filter_map (kept_lease number) es ≡ es
 left_nowhere key number es h only = none_left key number es (none_found key es h) only
 
-others_apart : (key k : LeaseKey) (es : List (LeaseKey × Lease)) → same_lease key k ≡ true → AllByRecursion (λ y. same_lease k y ≡ false) (keys_of es) → AllByRecursion (λ e. same_lease key e.0 ≡ false) es
+pub others_apart : (key k : LeaseKey) (es : List (LeaseKey × Lease)) → same_lease key k ≡ true → AllByRecursion (λ y. same_lease k y ≡ false) (keys_of es) → AllByRecursion (λ e. same_lease key e.0 ≡ false) es
 others_apart key k [] same all = tt
 others_apart key k (e ∷ es) same all = (subst (λ j. same_lease j e.0 ≡ false) (sym (same_lease_is key k same)) all.0, others_apart key k es same all.1)
 
@@ -131,7 +131,7 @@ unlisted number s = unlisted_in number s.leases
 bytes_self : (a : List ℕ) → bytes_eq a a ≡ true
 bytes_self a = (bytes_eq-Decides a a).1 refl
 
-same_lease_self : (a : LeaseKey) → same_lease a a ≡ true
+pub same_lease_self : (a : LeaseKey) → same_lease a a ≡ true
 same_lease_self a = rw (bytes_self a.client, bytes_self a.key) refl
 
 key_under : (key mine : LeaseKey) (file : ℕ) (found : Option Open) → is_under key file found ≡ true → key_of found ≡ Some mine → same_lease mine key ≡ true
@@ -203,3 +203,76 @@ module _ {A E : Type 0} where
       by : (found : Option Lease) → lookup (same_lease key) es ≡ found → IfSome found (λ row. mid ≡ set_value (same_lease key) es row) → IfNone found (mid ≡ es) → mid ≡ es
       by None at h k = k
       by (Some row) at h k = h ∙ set_value_same (same_lease key) es row at
+
+-- ---- the last open of a lease
+
+pub last_under : (number : ℕ) (key : LeaseKey) (s : Lists) (b : Bool) → key_of (open_of number s) ≡ Some key → b ≡ is_last number (lease_of key s) → b ≡ is_last_open number s
+last_under number key s b at is = is ∙ ap (λ (o : Option LeaseKey). is_last_under number o s) (sym at)
+
+-- ---- an open that comes under a lease
+
+row_came : (number : ℕ) (row : Open) (es : List (ℕ × Open)) → lookup (nat_eq number) es ≡ None → lookup (nat_eq number) (es ++ (number, row) ∷ []) ≡ Some row
+row_came number row [] none = rw (equal_self number) refl
+row_came number row (e ∷ es) none =
+    elim (cases_Bool (eqb number e.0)) [
+      | inl same ↦ absurd (none_some (sym (rw same at none)))
+      | inr apart ↦ rw apart (row_came number row es (rw apart at none))
+    ]
+
+own_key : (row : Open) (name : Option (List ℕ)) (key : LeaseKey) → option_map (λ k. record { client = row.client; key = k }) name ≡ Some key → is_key key row.client name ≡ true
+own_key row None key e = absurd (none_some e)
+own_key row (Some name) key e =
+    let is : record { client = row.client; key = name } ≡ key = same_Some e in
+    subst (λ (k : LeaseKey). is_key k row.client (Some name) ≡ true) is (rw ((bytes_eq-Decides row.client row.client).1 refl, (bytes_eq-Decides name name).1 refl) refl)
+
+-- it is under the lease that it asks for
+pub comes_under : (number : ℕ) (row : Open) (key : LeaseKey) (s : Lists) → open_of number s ≡ None → key_of (Some row) ≡ Some key → is_under key row.file (open_of number (open_added number row s)) ≡ true
+comes_under number row key s none e =
+    ap (is_under key row.file) (row_came number row s.opens none)
+    ∙ rw (equal_self row.file) (own_key row row.lease key e)
+
+-- it begins the lease, or joins it
+pub under_lease : (key : LeaseKey) (file number : ℕ) (s : Lists) → is_of_file file (lease_of key s) ≡ true → is_under key file (open_of number s) ≡ true → IfSome (lease_of key s) (λ row. is_under key row.file (open_of number s) ≡ true)
+under_lease key file number s on under = by (lease_of key s) on where
+  by : (o : Option Lease) → is_of_file file o ≡ true → IfSome o (λ row. is_under key row.file (open_of number s) ≡ true)
+  by None on = tt
+  by (Some row) on = subst (λ (n : ℕ). is_under key n (open_of number s) ≡ true) (equal_from row.file file on) under
+
+pub first_linked : (key : LeaseKey) (file number : ℕ) (s : Lists) → is_under key file (open_of number s) ≡ true → IsLeaseLinked s key (record { file = file; opens = number ∷ [] })
+first_linked key file number s under = (refl, (under, tt))
+
+pub lease_elsewhere : (key : LeaseKey) (file number : ℕ) (s : Lists) → is_of_file file (lease_of key s) ≡ false → s ≡ lease_begun number file key (lease_of key s) s
+lease_elsewhere key file number s apart = by (lease_of key s) apart where
+  by : (o : Option Lease) → is_of_file file o ≡ false → s ≡ lease_begun number file key o s
+  by None apart = absurd (true≢false apart)
+  by (Some row) apart = rw apart refl
+
+pub lease_joins : (key : LeaseKey) (file number : ℕ) (s : Lists) → is_of_file file (lease_of key s) ≡ true → is_some (lease_of key s) ≡ true → lease_joined key number s ≡ lease_begun number file key (lease_of key s) s
+lease_joins key file number s on there = by (lease_of key s) on there where
+  by : (o : Option Lease) → is_of_file file o ≡ true → is_some o ≡ true → lease_joined key number s ≡ lease_begun number file key o s
+  by None on there = absurd (false≢true there)
+  by (Some row) on there = rw on refl
+
+pub lease_begins : (key : LeaseKey) (file number : ℕ) (s : Lists) → is_some (lease_of key s) ≡ false → (lease_added key (record { file = file; opens = number ∷ [] }) s ≡ lease_begun number file key (lease_of key s) s) × (lease_of key s ≡ None)
+lease_begins key file number s new = by (lease_of key s) new where
+  by : (o : Option Lease) → is_some o ≡ false → (lease_added key (record { file = file; opens = number ∷ [] }) s ≡ lease_begun number file key o s) × (o ≡ None)
+  by None new = (refl, refl)
+  by (Some row) new = absurd (true≢false new)
+
+-- ---- what stands where an open comes
+
+begun_keeps : (number file : ℕ) (key : LeaseKey) (found : Option Lease) (s : Lists) → lease_begun number file key found s ≡ record s { leases = (lease_begun number file key found s).leases }
+begun_keeps number file key None s = refl
+begun_keeps number file key (Some row) s = by (eqb row.file file)
+  where
+    by : (b : Bool) → (if b then lease_joined key number s else s) ≡ record s { leases = (if b then lease_joined key number s else s).leases }
+    by true = refl
+    by false = refl
+
+under_keeps : (number file : ℕ) (key : Option LeaseKey) (s : Lists) → come_under number file key s ≡ record s { leases = (come_under number file key s).leases }
+under_keeps number file None s = refl
+under_keeps number file (Some key) s = begun_keeps number file key (lease_of key s) s
+
+-- an open that is added stands, and of all else the leases alone change
+pub with_keeps : (number : ℕ) (row : Open) (s : Lists) → with_open number row s ≡ record (open_added number row s) { leases = (with_open number row s).leases }
+with_keeps number row s = under_keeps number row.file (key_of (Some row)) (open_added number row s)

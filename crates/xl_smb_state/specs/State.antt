@@ -1,6 +1,6 @@
 -- The lists of an SMB server (MS-SMB2 3.3.1), each in the order in which its rows came, and what changes them.
 use Rattle.std.specs.Prelude.{ℕ, ◌==◌, nat_eq, min, Bool, true, false, not, ◌&&◌, bytes_eq, if◌then◌else◌, List, [], ◌∷◌, ◌++◌, filter, Option, Some, None, option_map, fold}
-use Rattle.std.specs.List.{list_any, filter_map, find}
+use Rattle.std.specs.List.{list_all, list_any, filter_map, find}
 use Rattle.std.specs.Map.{keys_of, lookup, remove_entry, set_value}
 use Rattle.std.specs.Option.{option_and_then}
 use Rattle.xl_smb_state.specs.declared.row.Place.{Place}
@@ -204,6 +204,38 @@ key_of (Some row) = option_map (λ key. record { client = row.client; key = key 
 -- the lowest of the opens of a lease that somebody holds, which breaks of the lease are told to
 abbrev pub lowest_open : LeaseKey → Lists → Option ℕ
 lowest_open key s = option_and_then (λ r. lowest (filter (λ n. is_held (open_of n s)) r.opens)) (lease_of key s)
+
+-- no other open than this is under the lease, if it is there
+abbrev pub is_last : ℕ → Option Lease → Bool
+is_last number None = true
+is_last number (Some row) = list_all (λ n. n == number) row.opens
+
+-- the open is under no lease, or no other open is under its lease
+abbrev pub is_last_under : ℕ → Option LeaseKey → Lists → Bool
+is_last_under number None s = true
+is_last_under number (Some key) s = is_last number (lease_of key s)
+
+abbrev pub is_last_open : ℕ → Lists → Bool
+is_last_open number s = is_last_under number (key_of (open_of number s)) s
+
+-- an open of this file may come under the lease: it is new, or on that file
+abbrev pub is_of_file : ℕ → Option Lease → Bool
+is_of_file file None = true
+is_of_file file (Some row) = row.file == file
+
+-- The open comes under the lease of this key, which it begins where there is none. Where that is on another file it comes under
+-- none: a CREATE is refused there.
+abbrev pub lease_begun : ℕ → ℕ → LeaseKey → Option Lease → Lists → Lists
+lease_begun number file key None s = lease_added key (record { file = file; opens = number ∷ [] }) s
+lease_begun number file key (Some row) s = if row.file == file then lease_joined key number s else s
+
+abbrev pub come_under : ℕ → ℕ → Option LeaseKey → Lists → Lists
+come_under number file None s = s
+come_under number file (Some key) s = lease_begun number file key (lease_of key s) s
+
+-- the open is added, and comes under the lease that it asks for, if it does
+abbrev pub with_open : ℕ → Open → Lists → Lists
+with_open number row s = come_under number row.file (key_of (Some row)) (open_added number row s)
 
 -- ---- requests that wait
 

@@ -1,13 +1,13 @@
 //! Leases.
-ghost use Rattle.std.specs.Prelude.{◌≡◌, nat_eq, true, false, None, Some, IsSome, OnOk, OnErr, is_ok, IfSome, IfNone, option_copied, if◌then◌else◌};
-ghost use Rattle.std.specs.List.{AllByRecursion, IsDistinct, filter_map};
+ghost use Rattle.std.specs.Prelude.{◌≡◌, ◌==◌, ◌<◌, length, nat_eq, true, false, None, Some, IsSome, OnOk, OnErr, is_ok, IfSome, IfNone, option_copied, if◌then◌else◌};
+ghost use Rattle.std.specs.List.{AllByRecursion, IsDistinct, filter_map, list_all};
 ghost use Rattle.std.specs.Map.{keys_of, lookup, set_value};
-ghost use Rattle.xl_smb_state.specs.State.{same_lease, is_empty, without, left_row, grown_row, kept_lease, open_of, lease_of, lease_added, lease_changed, lease_dropped, joined, lease_joined, lease_left, closed, lowest_open, is_listed, key_file};
-ghost use Rattle.xl_smb_state.specs.Links.{IsLeaseLinked, ListsOnly, is_under, only_opens};
+ghost use Rattle.xl_smb_state.specs.State.{same_lease, is_empty, without, left_row, grown_row, kept_lease, open_of, lease_of, lease_added, lease_changed, lease_dropped, joined, lease_joined, lease_left, closed, lowest_open, is_listed, key_file, key_of, is_last, is_last_open, is_of_file, lease_begun, with_open};
+ghost use Rattle.xl_smb_state.specs.Links.{most_opens, IsOpenLinked, IsLeaseLinked, ListsOnly, is_under, only_opens};
 
 use crate::listing::{is_key, key_of, lowest_held, waiting_file};
 use crate::opens::Opens;
-use crate::row::{Lease, LeaseKey};
+use crate::row::{Lease, LeaseKey, Open};
 use crate::rows::{add, change, remove};
 use crate::state::SmbState;
 use indexmap::IndexMap;
@@ -105,6 +105,40 @@ fn join(
     grow(leases, key, number)
 }
 
+/// Whether these are all this number.
+fn are_all(numbers: &[u32], number: u32) -> bool
+    ensures { result ≡ list_all (λ n. n == number) numbers.now }
+{
+    numbers.iter().all(|n| *n == number)
+}
+
+/// Whether no other open than this is under the lease.
+fn is_alone(found: Option<&Lease>, number: u32) -> bool
+    ensures { result ≡ is_last number (option_copied found.entry) }
+{
+    match found {
+        Some(lease) => are_all(lease.opens.as_slice(), number),
+        None => true,
+    }
+}
+
+/// Whether the lease is new, or on this file.
+fn is_of_file(found: Option<&Lease>, file: u32) -> bool
+    ensures { result ≡ is_of_file file (option_copied found.entry) }
+{
+    match found {
+        Some(lease) => lease.file == file,
+        None => true,
+    }
+}
+
+/// The key of the lease that an open asks for, if it does.
+fn key_in(row: &Open) -> Option<LeaseKey>
+    ensures { result ≡ key_of (Some row.now) }
+{
+    key_of(Some(row))
+}
+
 impl SmbState {
     /// The lease of this key; None exactly where there is none. A key that only a waiting CREATE has is of no lease.
     pub fn find_lease(&self, key: &LeaseKey) -> Option<&Lease>
@@ -160,6 +194,59 @@ impl SmbState {
         ensures unlisted { is_listed number self.new ≡ false }
     {
         leave_any(alloc, &self.opens, &mut self.leases, number);
+    }
+
+    /// Whether no other open is under the lease of this one, or this one is under none.
+    #[tactic(auto, using(crate::proofs::LeaseLaws::last_under))]
+    pub fn is_last_open(&self, number: u32) -> bool
+        ensures { result ≡ is_last_open number self.now }
+    {
+        match key_of(self.find_open(number)) {
+            Some(key) => is_alone(self.find_lease(&key), number),
+            None => true,
+        }
+    }
+
+    /// Puts an open that is there under the lease of this key, which it begins where there is none. Where that is on another file
+    /// it comes under none.
+    #[tactic(auto, using(crate::proofs::LeaseLaws::under_lease, crate::proofs::LeaseLaws::first_linked, crate::proofs::LeaseLaws::lease_elsewhere, crate::proofs::LeaseLaws::lease_joins, crate::proofs::LeaseLaws::lease_begins))]
+    fn begin_lease(
+        &mut self,
+        alloc: Global,
+        number: u32,
+        file: u32,
+        key: LeaseKey,
+    ) -> Result<(), AllocError>
+        requires under { is_under key file (open_of number self.old) ≡ true }
+        ensures { OnOk result (self.new ≡ lease_begun number file key (lease_of key self.old) self.old) }
+    {
+        if !is_of_file(self.leases.get(&key), file) {
+            return Ok(());
+        }
+        if self.find_lease(&key).is_some() {
+            self.join_lease(&key, number)?;
+            return Ok(());
+        }
+        let mut opens = Sequence::new(alloc);
+        opens.push(number)?;
+        self.add_lease(key, Lease { file, opens })?;
+        Ok(())
+    }
+
+    /// Adds an open as `add_open` does, and puts it under the lease that it asks for, if it does; it begins the lease where
+    /// there is none, and comes under none where that is on another file. Where there is no memory nothing is known of the lists.
+    #[tactic(auto, using(crate::proofs::LeaseLaws::comes_under))]
+    pub fn open(&mut self, alloc: Global, number: u32, row: Open) -> Result<(), AllocError>
+        requires new { open_of number self.old ≡ None }
+        requires link { IsOpenLinked self.old row }
+        requires room { length self.old.opens < most_opens }
+        ensures { OnOk result (self.new ≡ with_open number row self.old) }
+    {
+        self.add_open(number, row)?;
+        if let Some(key) = key_in(&row) {
+            self.begin_lease(alloc, number, row.file, key)?;
+        }
+        Ok(())
     }
 
     /// Closes an open: takes it out of its lease, which goes with its last open, and then out of the opens.
