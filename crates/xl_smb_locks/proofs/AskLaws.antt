@@ -1,6 +1,7 @@
 -- What an ask of an open leaves.
-use Rattle.std.proofs.Common.{◌≡◌, ℕ, Bool, true, false, List, if◌then◌else◌, refl, sym, ap, subst, ◌∙◌, arith}
-use Rattle.std.proofs.lemmas.Bool.{false≢true, true≢false}
+use Rattle.std.proofs.Common.{◌≡◌, ℕ, Bool, true, false, List, if◌then◌else◌, inl, inr, sym, ap, subst, ◌∙◌, arith}
+use Rattle.std.proofs.lemmas.Bool.{cases_Bool, true≢false}
+use Rattle.xl_names.specs.Names.{is_kept}
 use Rattle.xl_names.specs.declared.name.Name.{Name}
 use Rattle.xl_wait.specs.declared.waiter.Rooms.{Rooms}
 use Rattle.xl_core.specs.Asking.{who_entered, both_entered, is_named, is_client}
@@ -16,30 +17,35 @@ use Rattle.xl_core.specs.declared.ask.Who.{Who}
 use Rattle.xl_core.specs.declared.ask.Who.TheVariants as who
 use Rattle.xl_core.proofs.FrameLaws.{ask_frame}
 use Rattle.xl_core.proofs.NumberLaws.{ask_numbers}
-use Rattle.xl_smb_locks.specs.Short.{IsOpenAsk, Leaves}
+use Rattle.xl_smb_locks.specs.Short.{LeasesCome, IsOpenAsk, Leaves}
+use Rattle.xl_smb_locks.proofs.LeaveLaws.{come_self, come_behind}
 
--- ---- an open's ask enters no name
+-- ---- an open's ask enters no name but a lease's
 
-pub same_names : (owner party : Who) (names : List Name) → is_named owner ≡ false → is_client owner party ≡ true → who_entered party (who_entered owner names) ≡ names
-same_names (who.Named name) party names unnamed client = absurd (true≢false unnamed)
-same_names (who.Open number) (who.Named name) names unnamed client = absurd (false≢true client)
-same_names (who.Open number) (who.Open other) names unnamed client = refl
+pub names_come : (owner party : Who) (names : List Name) → is_named owner ≡ false → is_client owner party ≡ true → LeasesCome names (who_entered party (who_entered owner names))
+names_come (who.Named name) party names unnamed client = absurd (true≢false unnamed)
+names_come (who.Open number) (who.Named name) names unnamed client =
+    elim (cases_Bool (is_kept name names)) [
+      | inl old ↦ rw old (come_self names)
+      | inr new ↦ rw new (come_behind names name client)
+    ]
+names_come (who.Open number) (who.Open other) names unnamed client = come_self names
 
-held_or_not : (a : Ask) (names : List Name) (b : Bool) → both_entered a names ≡ names → (if b then both_entered a names else names) ≡ names
-held_or_not a names true same = same
-held_or_not a names false same = refl
+held_or_not : (a : Ask) (names : List Name) (b : Bool) → LeasesCome names (both_entered a names) → LeasesCome names (if b then both_entered a names else names)
+held_or_not a names true come = come
+held_or_not a names false come = come_self names
 
-names_stay : (a : Ask) (names : List Name) (answer : Answer) → both_entered a names ≡ names → names_after a answer names ≡ names
-names_stay a names (answers.Granted c) same = held_or_not a names (asks_to_hold a.act) same
-names_stay a names (answers.Conflict c) same = refl
-names_stay a names (answers.Queued id) same = same
-names_stay a names (answers.Recall c) same = refl
-names_stay a names (answers.Grace until) same = refl
-names_stay a names (answers.NoGrace clock) same = refl
-names_stay a names answers.NotRecorded same = refl
-names_stay a names (answers.Full limit) same = refl
-names_stay a names answers.NotHeld same = refl
-names_stay a names answers.StoreFailed same = refl
+names_then : (a : Ask) (names : List Name) (answer : Answer) → LeasesCome names (both_entered a names) → LeasesCome names (names_after a answer names)
+names_then a names (answers.Granted c) come = held_or_not a names (asks_to_hold a.act) come
+names_then a names (answers.Conflict c) come = come_self names
+names_then a names (answers.Queued id) come = come
+names_then a names (answers.Recall c) come = come_self names
+names_then a names (answers.Grace until) come = come_self names
+names_then a names (answers.NoGrace clock) come = come_self names
+names_then a names answers.NotRecorded come = come_self names
+names_then a names (answers.Full limit) come = come_self names
+names_then a names answers.NotHeld come = come_self names
+names_then a names answers.StoreFailed come = come_self names
 
 -- ---- a number at most is drawn for who waits, and one waiter comes
 
@@ -51,7 +57,7 @@ asked_leaves n left s a good given kept =
       on = record { made = omega (arith, frame.made); failed = λ f. (frame.failed ∙ f, frame.made) };
       good = kept;
       numbers = ask_numbers n left s a good given.fit;
-      names = frame.names ∙ names_stay a s.names r.0 (same_names a.owner a.party s.names given.unnamed given.fit.party);
+      names = subst (λ (ns : List Name). LeasesCome s.names ns) (sym frame.names) (names_then a s.names r.0 (names_come a.owner a.party s.names given.unnamed given.fit.party));
     }
 
 pub ask_leaves : (n : ℕ) (left : Rooms) (s new : CoreState) (a : Ask) (answer : Answer) (effects : List Effect) → ask n left s a ≡ (answer, effects, new) → IsGood s → IsOpenAsk a → IsGood new → Leaves 2 s new

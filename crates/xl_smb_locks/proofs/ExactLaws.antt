@@ -12,6 +12,7 @@ use Rattle.xl_matrix.specs.declared.claim.Extent.TheVariants.{Bytes, Empty}
 use Rattle.xl_matrix.specs.declared.claim.What.{What}
 use Rattle.xl_matrix.specs.declared.claim.What.TheVariants.{Range}
 use Rattle.xl_smb.specs.declared.lock.LockElement.{LockElement}
+use Rattle.xl_smb_state.specs.declared.row.Open.{Open}
 use Rattle.xl_table.specs.Elements.{is_among, without, unlocked_elements}
 use Rattle.xl_matrix.specs.declared.claim.Claim.{Claim}
 use Rattle.xl_wait.specs.Waiting.{no_rows}
@@ -134,13 +135,13 @@ done_by (answers.Full limit) h = absurd cc
 done_by answers.NotHeld h = absurd cc
 done_by answers.StoreFailed h = absurd cc
 
-pub locks_exactly : (n : ℕ) (s : CoreState) (conn file number : ℕ) (locks : List LockElement) (es : List Element) → IsGood s → lock_fault locks ≡ None → 1 ≤ length locks → held_at s (RangesOf file number) ≡ map what_of es
-    → (lock_done (ask n no_rows s (lock_ask conn file number locks))).0 ≡ locking.Done → held_at (lock_done (ask n no_rows s (lock_ask conn file number locks))).2 (RangesOf file number) ≡ map what_of (es ++ map element_of locks)
+pub locks_exactly : (n : ℕ) (s : CoreState) (conn number : ℕ) (row : Open) (locks : List LockElement) (es : List Element) → IsGood s → lock_fault locks ≡ None → 1 ≤ length locks → held_at s (RangesOf row.file number) ≡ map what_of es
+    → (lock_done (ask n no_rows s (lock_ask conn number row locks))).0 ≡ locking.Done → held_at (lock_done (ask n no_rows s (lock_ask conn number row locks))).2 (RangesOf row.file number) ≡ map what_of (es ++ map element_of locks)
 unfolding lock_ask
-locks_exactly n s conn file number locks es good fault some held is =
-    let a = lock_ask conn file number locks in
+locks_exactly n s conn number row locks es good fault some held is =
+    let a = lock_ask conn number row locks in
     let got = done_by (ask n no_rows s a).0 is in
-    ask_locked n no_rows s a (map range_of locks) number got.0 good (lock_fits conn file number locks fault some).fit refl refl got.1
+    ask_locked n no_rows s a (map range_of locks) number got.0 good (lock_fits conn number row locks fault some).fit refl refl got.1
     ∙ ap (λ (ws : List What). ws ++ map range_what (map range_of locks)) held
     ∙ ap (λ (ws : List What). map what_of es ++ ws) (all_elements locks)
     ∙ come_behind (map element_of locks) es

@@ -20,7 +20,9 @@ use Rattle.xl_smb_state.specs.declared.row.Header.{Header}
 use Rattle.xl_smb_state.specs.declared.row.Open.{Open}
 use Rattle.xl_core.specs.declared.ask.Effect.{Effect}
 use Rattle.xl_smb_locks.specs.Finals.{final_head, holder_stands, may_stand, request_ended, is_cancelled, dismissed}
-use Rattle.xl_smb_locks.specs.Levels.{opened}
+use Rattle.xl_smb.specs.Leases.{are_contexts}
+use Rattle.xl_smb_locks.specs.Levels.{contexts_told, opened}
+use Rattle.xl_smb_locks.specs.declared.levels.Caching.{Caching}
 use Rattle.xl_smb_locks.specs.Statuses.{status_number}
 use Rattle.xl_smb_locks.specs.declared.status.SmbStatus.{SmbStatus}
 use Rattle.xl_smb_locks.specs.declared.status.SmbStatus.TheVariants.{Cancelled}
@@ -30,6 +32,7 @@ use Rattle.xl_smb_locks.specs.declared.status.SmbStatus.TheVariants as status
 
 -- no status of a failure is 0
 pub fails : (s : SmbStatus) → (status_number s == 0) ≡ false
+fails status.Unsuccessful = refl
 fails status.InvalidParameter = refl
 fails status.ObjectNameNotFound = refl
 fails status.ObjectNameCollision = refl
@@ -40,6 +43,7 @@ fails status.InsufficientResources = refl
 fails status.NotSupported = refl
 fails status.NetworkNameDeleted = refl
 fails status.BadNetworkName = refl
+fails status.RequestNotAccepted = refl
 fails status.InvalidOplockProtocol = refl
 fails status.Cancelled = refl
 fails status.FileClosed = refl
@@ -65,9 +69,9 @@ locking : (id : ℕ) (h : Header) → ReplyStands (final_head id 10 h 0) Lock
 unfolding final_head
 locking id h = record { reply = refl; form = refl; no_notice = no_notice id 10 h 0; command = (refl, refl); has = tt }
 
-opening : (id : ℕ) (h : Header) (handle level : ℕ) → ReplyStands (final_head id 5 h 0) (Create (opened handle level))
+opening : (id : ℕ) (h : Header) (handle : ℕ) (told : Caching) → length (contexts_told told) ≤ 56 → are_contexts (contexts_told told) ≡ true → ReplyStands (final_head id 5 h 0) (Create (opened handle told))
 unfolding final_head
-opening id h handle level = record { reply = refl; form = refl; no_notice = no_notice id 5 h 0; command = (refl, refl); has = record { contexts = omega arith; within = refl } }
+opening id h handle told little within = record { reply = refl; form = refl; no_notice = no_notice id 5 h 0; command = (refl, refl); has = record { contexts = omega (arith, little); within = within } }
 
 -- the header and the body as the code has them
 pub failed_stands : (id command : ℕ) (h : Header) (status : SmbStatus) (number : ℕ) (head : SmbHead) → head ≡ final_head id command h number → number ≡ status_number status → ReplyStands head Error
@@ -76,9 +80,9 @@ failed_stands id command h status number head is same = subst (λ x. ReplyStands
 pub locked_stands : (id command : ℕ) (h : Header) (head : SmbHead) → head ≡ final_head id command h 0 → command ≡ 10 → ReplyStands head Lock
 locked_stands id command h head is same = subst (λ x. ReplyStands x Lock) (sym (is ∙ ap (λ (k : ℕ). final_head id k h 0) same)) (locking id h)
 
-pub opened_stands : (id command : ℕ) (h : Header) (handle level : ℕ) (head : SmbHead) (r : CreateReplyItem) → head ≡ final_head id command h 0 → command ≡ 5 → r ≡ opened handle level → ReplyStands head (Create r)
-opened_stands id command h handle level head r is same shown =
-    subst (λ x. ReplyStands x (Create r)) (sym (is ∙ ap (λ (k : ℕ). final_head id k h 0) same)) (subst (λ x. ReplyStands (final_head id 5 h 0) (Create x)) (sym shown) (opening id h handle level))
+pub opened_stands : (id command : ℕ) (h : Header) (handle : ℕ) (told : Caching) (list : List ℕ) (head : SmbHead) (r : CreateReplyItem) → head ≡ final_head id command h 0 → command ≡ 5 → r ≡ opened handle told → list ≡ contexts_told told → length list ≤ 56 → are_contexts list ≡ true → ReplyStands head (Create r)
+opened_stands id command h handle told list head r is same shown by little within =
+    subst (λ x. ReplyStands x (Create r)) (sym (is ∙ ap (λ (k : ℕ). final_head id k h 0) same)) (subst (λ x. ReplyStands (final_head id 5 h 0) (Create x)) (sym shown) (opening id h handle told (subst (λ (xs : List ℕ). length xs ≤ 56) by little) (ap are_contexts (sym by) ∙ within)))
 
 -- each is short
 pub failed_little : (body : ReplyItem) → body ≡ Error → 64 + reply_length body ≤ most_message_bytes
@@ -87,8 +91,10 @@ failed_little body is = subst (λ x. 64 + reply_length x ≤ most_message_bytes)
 pub locked_little : (body : ReplyItem) → body ≡ Lock → 64 + reply_length body ≤ most_message_bytes
 locked_little body is = subst (λ x. 64 + reply_length x ≤ most_message_bytes) (sym is) (omega arith)
 
-pub opened_little : (handle level : ℕ) (r : CreateReplyItem) → r ≡ opened handle level → 64 + reply_length (Create r) ≤ most_message_bytes
-opened_little handle level r is = subst (λ x. 64 + reply_length (Create x) ≤ most_message_bytes) (sym is) (omega arith)
+pub opened_little : (handle : ℕ) (told : Caching) (list : List ℕ) (r : CreateReplyItem) → r ≡ opened handle told → list ≡ contexts_told told → length list ≤ 56 → 64 + reply_length (Create r) ≤ most_message_bytes
+opened_little handle told list r is by little =
+    let few : length (contexts_told told) ≤ 56 = subst (λ (xs : List ℕ). length xs ≤ 56) by little in
+    subst (λ x. 64 + reply_length (Create x) ≤ most_message_bytes) (sym is) (omega (arith, few))
 
 -- ---- where an open may stand
 

@@ -1,5 +1,5 @@
 -- The core takes what is asked for an open's ranges.
-use Rattle.std.proofs.Common.{◌≡◌, ℕ, suc, ◌+◌, ◌-◌, ◌≤◌, ◌<◌, ◌^◌, Bool, true, false, not, ◌&&◌, ◌||◌, if◌then◌else◌, List, [], ◌∷◌, length, map, Some, None, refl, sym, ap, subst, ◌∙◌, arith, drop, get_or}
+use Rattle.std.proofs.Common.{◌≡◌, ℕ, suc, ◌+◌, ◌-◌, ◌≤◌, ◌<◌, ◌^◌, Bool, true, false, not, ◌&&◌, ◌||◌, if◌then◌else◌, List, [], ◌∷◌, length, map, Option, Some, None, refl, sym, ap, subst, ◌∙◌, arith, drop, get_or}
 use Rattle.std.specs.Prelude.{◌==◌, nat_lt}
 use Rattle.std.specs.List.{list_any}
 use Rattle.std.proofs.lemmas.Bool.{false≢true, true≢false}
@@ -10,7 +10,9 @@ use Rattle.xl_matrix.specs.declared.claim.Extent.TheVariants.{Bytes, Empty}
 use Rattle.xl_core.specs.declared.ask.Act.TheVariants as acts
 use Rattle.xl_smb.specs.declared.lock.LockElement.{LockElement}
 use Rattle.xl_smb_state.proofs.RowLaws.{equal_self}
-use Rattle.xl_core.specs.Asking.{range_what, may_hold, may_hold_all, IsOrdered, AreMore}
+use Rattle.xl_core.specs.Asking.{is_client, range_what, may_hold, may_hold_all, IsOrdered, AreMore}
+use Rattle.xl_smb_state.specs.declared.row.Open.{Open}
+use Rattle.xl_smb_locks.specs.Levels.{party_by, party_for}
 use Rattle.xl_core.specs.declared.ask.Ask.{Ask}
 use Rattle.xl_core.specs.declared.ask.Who.TheVariants as who
 use Rattle.xl_smb_locks.specs.Elements.{last_byte, wraps, extent_of, is_locking, is_lock, any_waits, unlock_fault, lock_fault}
@@ -18,6 +20,14 @@ use Rattle.xl_smb_locks.specs.Locks.{range_ask, range_of, unlock_ask, lock_ask}
 use Rattle.xl_smb_locks.specs.Short.{IsOpenAsk}
 use Rattle.xl_smb_locks.specs.declared.status.SmbStatus.{SmbStatus}
 use Rattle.xl_smb_locks.specs.declared.status.SmbStatus.TheVariants.{InvalidParameter, InvalidLockRange}
+
+-- ---- whose an ask is
+
+pub party_fits : (number : ℕ) (row : Open) → is_client (who.Open number) (party_for number row) ≡ true
+party_fits number row = by row.lease where
+  by : (name : Option (List ℕ)) → is_client (who.Open number) (party_by row.client number name) ≡ true
+  by None = equal_self number
+  by (Some key) = refl
 
 -- ---- one range
 
@@ -39,12 +49,12 @@ in_order e = ordered e.offset e.length (e.length == 0)
 may_be_held : (number : ℕ) (e : LockElement) → wraps e ≡ false → may_hold (who.Open number) (range_what (range_of e)) ≡ true
 may_be_held number e within = held number e.offset e.length _ (e.length == 0) refl within
 
-pub unlock_fits : (file number : ℕ) (e : LockElement) → IsOpenAsk (unlock_ask file number e)
+pub unlock_fits : (number : ℕ) (row : Open) (e : LockElement) → IsOpenAsk (unlock_ask number row e)
 unfolding unlock_ask
-unlock_fits file number e = record { fit = record { act = in_order e; own = refl; party = equal_self number; wish = refl }; unnamed = refl }
+unlock_fits number row e = record { fit = record { act = in_order e; own = refl; party = party_fits number row; wish = refl }; unnamed = refl }
 
-pub unlock_is : (a : Ask) (file number : ℕ) (e : LockElement) → a ≡ unlock_ask file number e → IsOpenAsk a
-unlock_is a file number e is = subst (λ (x : Ask). IsOpenAsk x) (sym is) (unlock_fits file number e)
+pub unlock_is : (a : Ask) (number : ℕ) (row : Open) (e : LockElement) → a ≡ unlock_ask number row e → IsOpenAsk a
+unlock_is a number row e is = subst (λ (x : Ask). IsOpenAsk x) (sym is) (unlock_fits number row e)
 
 -- ---- several
 
@@ -94,23 +104,23 @@ alone : (number : ℕ) (e : LockElement) (es : List LockElement) → lock_fault 
 alone number e [] h = tt
 alone number e (f ∷ fs) h = more number (any_waits (e ∷ f ∷ fs)) (f ∷ fs) (other_false (nat_lt 1 (length (e ∷ f ∷ fs))) (any_waits (e ∷ f ∷ fs)) (two_or_more (length fs)) (checks_pass (e ∷ f ∷ fs) h).0)
 
-pub lock_fits : (conn file number : ℕ) (es : List LockElement) → lock_fault es ≡ None → 1 ≤ length es → IsOpenAsk (lock_ask conn file number es)
+pub lock_fits : (conn number : ℕ) (row : Open) (es : List LockElement) → lock_fault es ≡ None → 1 ≤ length es → IsOpenAsk (lock_ask conn number row es)
 unfolding lock_ask
-lock_fits conn file number [] h some = absurd (omega (arith, some))
-lock_fits conn file number (e ∷ es) h some =
+lock_fits conn number row [] h some = absurd (omega (arith, some))
+lock_fits conn number row (e ∷ es) h some =
     record {
-      fit = record { act = (in_order e, alone number e es h); own = all_held number (e ∷ es) (none_wraps (e ∷ es) h); party = equal_self number; wish = refl };
+      fit = record { act = (in_order e, alone number e es h); own = all_held number (e ∷ es) (none_wraps (e ∷ es) h); party = party_fits number row; wish = refl };
       unnamed = refl;
     }
 
-pub lock_is : (a : Ask) (conn file number : ℕ) (es : List LockElement) → a ≡ lock_ask conn file number es → lock_fault es ≡ None → 1 ≤ length es → IsOpenAsk a
-lock_is a conn file number es is h some = subst (λ (x : Ask). IsOpenAsk x) (sym is) (lock_fits conn file number es h some)
+pub lock_is : (a : Ask) (conn number : ℕ) (row : Open) (es : List LockElement) → a ≡ lock_ask conn number row es → lock_fault es ≡ None → 1 ≤ length es → IsOpenAsk a
+lock_is a conn number row es is h some = subst (λ (x : Ask). IsOpenAsk x) (sym is) (lock_fits conn number row es h some)
 
 -- as the code asks
-pub lock_is_by : (a : Ask) (conn file number : ℕ) (blocking : Bool) (es : List LockElement) (ranges : List (Extent × Bool)) → a ≡ range_ask (Some conn) file number (acts.Ranges ranges) blocking → ranges ≡ map range_of es → blocking ≡ any_waits es → lock_fault es ≡ None → 1 ≤ length es → IsOpenAsk a
+pub lock_is_by : (a : Ask) (conn number : ℕ) (row : Open) (blocking : Bool) (es : List LockElement) (ranges : List (Extent × Bool)) → a ≡ range_ask (Some conn) number row (acts.Ranges ranges) blocking → ranges ≡ map range_of es → blocking ≡ any_waits es → lock_fault es ≡ None → 1 ≤ length es → IsOpenAsk a
 unfolding lock_ask
-lock_is_by a conn file number blocking es ranges is same waits h some =
-    lock_is a conn file number es (is ∙ (λ i. range_ask (Some conn) file number (acts.Ranges (same i)) (waits i))) h some
+lock_is_by a conn number row blocking es ranges is same waits h some =
+    lock_is a conn number row es (is ∙ (λ i. range_ask (Some conn) number row (acts.Ranges (same i)) (waits i))) h some
 
 -- an unlock that isn't refused doesn't wrap
 unlock_passed : (locking wrap : Bool) → (if locking then Some InvalidParameter else if wrap then Some InvalidLockRange else None) ≡ None → wrap ≡ false
@@ -128,10 +138,10 @@ next_within es i d there within = none_first (sym (ap (λ (xs : List LockElement
 
 -- ---- they are the open's
 
-pub unlock_owns : (file number : ℕ) (e : LockElement) → ((unlock_ask file number e).owner ≡ who.Open number) × ((unlock_ask file number e).party ≡ who.Open number)
+pub unlock_owns : (number : ℕ) (row : Open) (e : LockElement) → ((unlock_ask number row e).owner ≡ who.Open number) × ((unlock_ask number row e).party ≡ party_for number row)
 unfolding unlock_ask
-unlock_owns file number e = (refl, refl)
+unlock_owns number row e = (refl, refl)
 
-pub lock_owns : (conn file number : ℕ) (es : List LockElement) → ((lock_ask conn file number es).owner ≡ who.Open number) × ((lock_ask conn file number es).party ≡ who.Open number)
+pub lock_owns : (conn number : ℕ) (row : Open) (es : List LockElement) → ((lock_ask conn number row es).owner ≡ who.Open number) × ((lock_ask conn number row es).party ≡ party_for number row)
 unfolding lock_ask
-lock_owns conn file number es = (refl, refl)
+lock_owns conn number row es = (refl, refl)

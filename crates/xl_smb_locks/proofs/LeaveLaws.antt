@@ -1,20 +1,47 @@
 -- What the calls of the core leave.
-use Rattle.std.proofs.Common.{◌≡◌, ℕ, ◌+◌, ◌≤◌, List, [], refl, sym, ap, subst, ◌∙◌, arith}
+use Rattle.std.proofs.Common.{◌≡◌, ℕ, ◌+◌, ◌≤◌, true, List, [], ◌∷◌, ◌++◌, Option, refl, sym, ap, subst, ◌∙◌, arith}
+use Rattle.std.specs.List.{AllByRecursion}
 use Rattle.xl_base.specs.declared.name.Party.{Party}
+use Rattle.xl_names.specs.declared.name.Name.{Name}
+use Rattle.xl_core.specs.Asking.{is_lease}
 use Rattle.xl_core.specs.Frames.{IsFrame}
 use Rattle.xl_core.specs.Good.{IsGood}
 use Rattle.xl_core.specs.Numbers.{numbers_of}
-use Rattle.xl_core.specs.Settle.{end_party}
+use Rattle.xl_core.specs.Settle.{close_open}
 use Rattle.xl_core.specs.State.{CoreState, drawn}
 use Rattle.xl_core.specs.declared.ask.Effect.{Effect}
-use Rattle.xl_core.proofs.FrameLaws.{drawn_frame, end_party_frame, goes_on_self, frame_goes_on}
-use Rattle.xl_core.proofs.NumberLaws.{drawn_numbers, end_party_numbers}
-use Rattle.xl_smb_locks.specs.Short.{IsReady, Leaves}
+use Rattle.xl_core.proofs.FrameLaws.{drawn_frame, close_open_frame, goes_on_self, frame_goes_on}
+use Rattle.xl_core.proofs.NumberLaws.{drawn_numbers, close_open_numbers}
+use Rattle.xl_smb_locks.specs.Short.{LeasesCome, IsReady, Leaves}
+
+-- ---- names
+
+pub come_self : (names : List Name) → LeasesCome names names
+come_self [] = tt
+come_self (name ∷ names) = (refl, come_self names)
+
+come_all : (names more : List Name) → AllByRecursion (λ name. is_lease name ≡ true) names → LeasesCome names more → AllByRecursion (λ name. is_lease name ≡ true) more
+come_all [] more all come = come
+come_all (name ∷ names) [] all come = absurd come
+come_all (name ∷ names) (other ∷ more) all come = (subst (λ (x : Name). is_lease x ≡ true) come.0 all.0, come_all names more all.1 come.1)
+
+pub come_then : (names more last : List Name) → LeasesCome names more → LeasesCome more last → LeasesCome names last
+come_then [] more last first second = come_all more last first second
+come_then (name ∷ names) [] last first second = absurd first
+come_then (name ∷ names) (other ∷ more) [] first second = absurd second
+come_then (name ∷ names) (other ∷ more) (third ∷ last) first second = (first.0 ∙ second.0, come_then names more last first.1 second.1)
+
+pub come_behind : (names : List Name) (name : Name) → is_lease name ≡ true → LeasesCome names (names ++ name ∷ [])
+come_behind [] name is = (is, tt)
+come_behind (other ∷ names) name is = (refl, come_behind names name is)
+
+pub come_same : (names more : List Name) → more ≡ names → LeasesCome names more
+come_same names more same = subst (λ (ns : List Name). LeasesCome names ns) (sym same) (come_self names)
 
 -- ---- one after the other
 
 pub leaves_self : (s : CoreState) (more least : ℕ) → IsReady more s → Leaves least s s
-leaves_self s more least ready = record { on = goes_on_self s; good = ready.good; numbers = omega arith; names = refl }
+leaves_self s more least ready = record { on = goes_on_self s; good = ready.good; numbers = omega arith; names = come_self s.names }
 
 pub leaves_then : (s t u : CoreState) (a b : ℕ) → Leaves a s t → Leaves b t u → Leaves (a + b) s u
 leaves_then s t u a b first second =
@@ -22,7 +49,7 @@ leaves_then s t u a b first second =
       on = record { made = omega (arith, first.on.made, second.on.made); failed = λ f. (let g = first.on.failed f in let h = second.on.failed g.0 in (h.0, h.1 ∙ g.1)) };
       good = second.good;
       numbers = omega (arith, first.numbers, second.numbers);
-      names = second.names ∙ first.names;
+      names = come_then s.names t.names u.names first.names second.names;
     }
 
 pub leaves_more : (s t : CoreState) (a b : ℕ) → a ≤ b → Leaves a s t → Leaves b s t
@@ -51,12 +78,12 @@ ready_then s t a b ready leaves = record { good = leaves.good; numbers = omega (
 -- ---- the calls, by what each leaves alone
 
 pub frame_leaves : (s t : CoreState) (told : List Effect) (given most : ℕ) → IsGood t → IsFrame s told t given s.names [] → numbers_of t ≤ numbers_of s + most → Leaves most s t
-frame_leaves s t told given most good frame numbers = record { on = (frame_goes_on s t told given s.names frame).0; good = good; numbers = numbers; names = frame.names }
+frame_leaves s t told given most good frame numbers = record { on = (frame_goes_on s t told given s.names frame).0; good = good; numbers = numbers; names = come_same s.names t.names frame.names }
 
-pub end_leaves : (s new : CoreState) (party : Party) (effects : List Effect) → end_party s party ≡ (effects, new) → IsGood s → IsGood new → Leaves 0 s new
-end_leaves s new party effects e good kept =
+pub close_leaves : (s new : CoreState) (number : ℕ) (party : Option Party) (effects : List Effect) → close_open s number party ≡ (effects, new) → IsGood s → IsGood new → Leaves 0 s new
+close_leaves s new number party effects e good kept =
     let same = ap (λ (r : List Effect × CoreState). r.1) e in
-    subst (λ (t : CoreState). Leaves 0 s t) same (frame_leaves s (end_party s party).1 (end_party s party).0 0 0 (subst (λ (t : CoreState). IsGood t) (sym same) kept) (end_party_frame s party good) (omega (arith, end_party_numbers s party)))
+    subst (λ (t : CoreState). Leaves 0 s t) same (frame_leaves s (close_open s number party).1 (close_open s number party).0 0 0 (subst (λ (t : CoreState). IsGood t) (sym same) kept) (close_open_frame s number party good) (omega (arith, close_open_numbers s number party)))
 
 pub drawn_leaves : (s new : CoreState) → new ≡ drawn s → IsGood new → Leaves 1 s new
 drawn_leaves s new e good = subst (λ (t : CoreState). Leaves 1 s t) (sym e) (frame_leaves s (drawn s) [] 1 1 (subst (λ (t : CoreState). IsGood t) e good) (drawn_frame s) (omega (arith, drawn_numbers s)))

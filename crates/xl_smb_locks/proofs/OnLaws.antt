@@ -1,6 +1,6 @@
 -- Final replies and notices go to connections on which requests wait or opens are held.
 use Rattle.std.proofs.Common.{◌≡◌, ℕ, Bool, true, false, eqb, if◌then◌else◌, ◌++◌, List, [], ◌∷◌, Option, Some, None, refl, sym, ap, subst, inl, inr}
-use Rattle.std.specs.Prelude.{nat_eq}
+use Rattle.std.specs.Prelude.{nat_eq, slice_get}
 use Rattle.std.specs.List.{AllByRecursion, IsDistinct, list_any}
 use Rattle.std.specs.Map.{keys_of, lookup, remove_entry}
 use Rattle.std.proofs.lemmas.Bool.{cases_Bool, true≢false}
@@ -13,7 +13,8 @@ use Rattle.xl_base.specs.declared.name.Party.{Party}
 use Rattle.xl_base.specs.declared.name.Party.TheVariants as parties
 use Rattle.xl_matrix.specs.declared.claim.CacheKind.{CacheKind}
 use Rattle.xl_smb_state.proofs.RowLaws.{none_some, some_none, same_Some, unequal_both}
-use Rattle.xl_smb_state.specs.State.{Lists, open_of, waiting_of, waiting_dropped}
+use Rattle.xl_smb_state.specs.State.{Lists, open_of, waiting_of, waiting_dropped, with_open, lowest_open}
+use Rattle.xl_smb_state.proofs.LeaseLaws.{with_keeps}
 use Rattle.xl_smb_state.specs.declared.row.Holder.{Holder}
 use Rattle.xl_smb_state.specs.declared.row.Holder.TheVariants as holder
 use Rattle.xl_smb_state.specs.declared.row.Open.{Open}
@@ -25,10 +26,14 @@ use Rattle.xl_core.specs.declared.ask.Answer.{Answer}
 use Rattle.xl_core.specs.declared.ask.Effect.{Effect}
 use Rattle.xl_core.specs.declared.ask.Effect.TheVariants as effects
 use Rattle.xl_smb_locks.specs.Finals.{ended_with, request_ended, lock_refusal, open_refusal, locked_outs, may_stand, stood, opened_outs, served_by, served_with, request_served, told_of, is_cancelled, and_sent, dismissed}
-use Rattle.xl_smb_locks.specs.Levels.{id_of, noticed_by, noticed_to, noticed}
+use Rattle.xl_smb_locks.specs.Levels.{id_of, noticed_by, noticed_to, noticed, notice_of, lease_notice_of, noticed_under}
 use Rattle.xl_smb_locks.proofs.FinalLaws.{stand_new}
 use Rattle.xl_smb_locks.specs.declared.status.SmbStatus.{SmbStatus}
 use Rattle.xl_smb_locks.specs.declared.status.SmbStatus.TheVariants.{Cancelled}
+use Rattle.xl_matrix.specs.declared.claim.What.{What}
+use Rattle.xl_names.specs.declared.name.Name.{Name}
+use Rattle.xl_names.specs.declared.name.Name.TheVariants.{SmbLease}
+use Rattle.std.specs.Option.{option_and_then}
 
 -- an out goes to a connection of which this holds, or to nobody's
 abbrev pub GoesTo : (ℕ → Type 0) → Dest → Type 0
@@ -140,15 +145,16 @@ module _ (P : ℕ → Type 0) where
   locked_on id row None here = (here, tt)
   locked_on id row (Some status) here = (here, tt)
 
+  -- an open that comes is held on such a connection, and of the rest the leases alone change
+  pub came_on : (number : ℕ) (row : Open) (l : Lists) → open_of number l ≡ None → HolderOn P row.holder → IsOn P l → IsOn P (with_open number row l)
+  came_on number row l new there on = subst (λ (m : Lists). IsOn P m) (sym (with_keeps number row l)) (record {
+    waiting = on.waiting;
+    held = all_append (λ (e : ℕ × Open). HolderOn P e.1.holder) l.opens ((number, row) ∷ []) on.held (there, tt);
+    distinct = distinct_added number row l.opens new on.distinct;
+  })
+
   stood_on : (s : CoreState) (id : ℕ) (row : Waiting) (made : Open) (stands : Bool) (l : Lists) → may_stand row.opened made l ≡ stands → P row.place.connection → HolderOn P made.holder → IsOn P l → IsSentOn P (stood s id row made stands l)
-  stood_on s id row made true l may here there on = (
-    (here, tt),
-    record {
-      waiting = on.waiting;
-      held = all_append (λ (e : ℕ × Open). HolderOn P e.1.holder) l.opens ((row.opened, made) ∷ []) on.held (there, tt);
-      distinct = distinct_added row.opened made l.opens (stand_new row.opened made l may) on.distinct;
-    },
-  )
+  stood_on s id row made true l may here there on = ((here, tt), came_on row.opened made l (stand_new row.opened made l may) there on)
   stood_on s id row made false l may here there on = ((here, tt), on)
 
   opened_on : (s : CoreState) (id : ℕ) (row : Waiting) (made : Open) (refused : Option SmbStatus) (l : Lists) → P row.place.connection → HolderOn P made.holder → IsOn P l → IsSentOn P (opened_outs s id row made refused l)
@@ -171,21 +177,30 @@ module _ (P : ℕ → Type 0) where
 
   -- ---- a break
 
-  by_holder : (id : ℕ) (to : Option CacheKind) (by : Holder) → HolderOn P by → AllGo P (noticed_by id to by)
-  by_holder id to (holder.Tree place) here = (here, tt)
-  by_holder id to (holder.Nobody until) here = tt
+  by_holder : (told : List ℕ) (by : Holder) → HolderOn P by → AllGo P (noticed_by told by)
+  by_holder told (holder.Tree place) here = (here, tt)
+  by_holder told (holder.Nobody until) here = tt
 
-  to_open : (id : ℕ) (to : Option CacheKind) (number : ℕ) (l : Lists) (o : Option Open) → open_of number l ≡ o → HeldOn P l.opens → AllGo P (noticed_to id to o)
-  to_open id to number l None at on = tt
-  to_open id to number l (Some row) at on = by_holder id to row.holder (held_on (nat_eq number) l.opens row at on)
+  to_open : (told : List ℕ) (number : ℕ) (l : Lists) (o : Option Open) → open_of number l ≡ o → HeldOn P l.opens → AllGo P (noticed_to told o)
+  to_open told number l None at on = tt
+  to_open told number l (Some row) at on = by_holder told row.holder (held_on (nat_eq number) l.opens row at on)
 
-  noticed_on : (s : CoreState) (party : Party) (to : Option CacheKind) (l : Lists) → HeldOn P l.opens → AllGo P (noticed s party to l)
-  noticed_on s (parties.Open number) to l on = to_open (id_of s number) to number l (open_of number l) refl on
-  noticed_on s (parties.Name protocol number) to l on = tt
+  -- the lowest open of a lease is one of them
+  to_lowest : (told : List ℕ) (l : Lists) (lowest : Option ℕ) → HeldOn P l.opens → AllGo P (noticed_to told (option_and_then (λ number. open_of number l) lowest))
+  to_lowest told l None on = tt
+  to_lowest told l (Some number) on = to_open told number l (open_of number l) refl on
+
+  under_name : (what : What) (to : Option CacheKind) (l : Lists) (name : Option Name) → HeldOn P l.opens → AllGo P (noticed_under what to l name)
+  under_name what to l (Some (SmbLease client key)) on = to_lowest (lease_notice_of key what to) l (lowest_open (record { client = client; key = key }) l) on
+  under_name what to l name on = tt
+
+  noticed_on : (s : CoreState) (party : Party) (what : What) (to : Option CacheKind) (l : Lists) → HeldOn P l.opens → AllGo P (noticed s party what to l)
+  noticed_on s (parties.Open number) what to l on = to_open (notice_of (id_of s number) to) number l (open_of number l) refl on
+  noticed_on s (parties.Name protocol number) what to l on = under_name what to l (slice_get s.names number) on
 
   pub told_on : (s : CoreState) (effect : Effect) (l : Lists) → IsOn P l → IsSentOn P (told_of s effect l)
   unfolding told_of
-  told_on s (effects.Begun cache to call) l on = (noticed_on s cache.party to l on.held, on)
+  told_on s (effects.Begun cache to call) l on = (noticed_on s cache.party cache.what to l on.held, on)
   told_on s (effects.Served id answer) l on = served_on s id answer l on
   told_on s (effects.Cancelled id) l on = ended_on id Cancelled l on
   told_on s (effects.Expired client) l on = (tt, on)

@@ -9,9 +9,10 @@ use Rattle.xl_base.specs.declared.name.Party.TheVariants as parties
 use Rattle.xl_matrix.specs.declared.claim.CacheKind.{CacheKind}
 use Rattle.xl_matrix.specs.declared.claim.Claim.{Claim}
 use Rattle.xl_programs.specs.Sent.{sent_to}
+use Rattle.xl_smb_state.proofs.LeaseLaws.{with_keeps}
 use Rattle.xl_smb_state.proofs.RowLaws.{equal_self, some_none}
 use Rattle.xl_smb_state.specs.Links.{most_opens}
-use Rattle.xl_smb_state.specs.State.{Lists, open_added, open_of, waiting_of, waiting_dropped}
+use Rattle.xl_smb_state.specs.State.{Lists, open_of, lowest_open, waiting_of, waiting_dropped, with_open}
 use Rattle.xl_smb_state.specs.declared.row.Holder.{Holder}
 use Rattle.xl_smb_state.specs.declared.row.Holder.TheVariants as holder
 use Rattle.xl_smb_state.specs.declared.row.Open.{Open}
@@ -24,7 +25,12 @@ use Rattle.xl_core.specs.declared.ask.Answer.{Answer}
 use Rattle.xl_core.specs.declared.ask.Answer.TheVariants as answers
 use Rattle.xl_core.specs.declared.ask.Effect.TheVariants as effects
 use Rattle.xl_smb_locks.specs.Finals.{ended_with, failed_reply, final_lock, final_open, final_outs, final_reply, holder_stands, opened_reply, request_ended, lock_refusal, open_refusal, may_stand, stood, opened_outs, locked_outs, served_by, served_with, request_served, told_of, IsFinal}
-use Rattle.xl_smb_locks.specs.Levels.{id_of, level_held, notice_of, noticed_by, noticed_to, noticed}
+use Rattle.xl_smb_locks.specs.Levels.{id_of, caching, notice_of, lease_notice_of, noticed_by, noticed_to, noticed_under, noticed}
+use Rattle.std.specs.Prelude.{slice_get}
+use Rattle.std.specs.Option.{option_and_then}
+use Rattle.xl_base.specs.declared.name.Protocol.TheVariants.{Smb}
+use Rattle.xl_names.specs.declared.name.Name.{Name}
+use Rattle.xl_names.specs.declared.name.Name.TheVariants.{SmbLease}
 use Rattle.xl_smb_locks.specs.declared.status.SmbStatus.{SmbStatus}
 use Rattle.xl_smb_locks.specs.declared.status.SmbStatus.TheVariants.{Cancelled, InsufficientResources}
 use Rattle.xl_smb_locks.proofs.FinalLaws.{stand_new}
@@ -35,14 +41,25 @@ pub holder_told : (s : CoreState) (l : Lists) (cache : Claim) (to : Option Cache
     → told_of s (effects.Begun cache to call) l ≡ (sent_to place.connection (notice_of (id_of s number) to), l)
 unfolding told_of
 holder_told s l cache to call number row place party at held =
-    ap (λ (p : Party). (noticed s p to l, l)) party
-    ∙ ap (λ (o : Option Open). (noticed_to (id_of s number) to o, l)) at
-    ∙ ap (λ (by : Holder). (noticed_by (id_of s number) to by, l)) held
+    ap (λ (p : Party). (noticed s p cache.what to l, l)) party
+    ∙ ap (λ (o : Option Open). (noticed_to (notice_of (id_of s number) to) o, l)) at
+    ∙ ap (λ (by : Holder). (noticed_by (notice_of (id_of s number) to) by, l)) held
 
 pub nobody_told : (s : CoreState) (l : Lists) (cache : Claim) (to : Option CacheKind) (call : Option ℕ) (number : ℕ) → cache.party ≡ parties.Open number → open_of number l ≡ None → told_of s (effects.Begun cache to call) l ≡ ([], l)
 unfolding told_of
 nobody_told s l cache to call number party none =
-    ap (λ (p : Party). (noticed s p to l, l)) party ∙ ap (λ (o : Option Open). (noticed_to (id_of s number) to o, l)) none
+    ap (λ (p : Party). (noticed s p cache.what to l, l)) party ∙ ap (λ (o : Option Open). (noticed_to (notice_of (id_of s number) to) o, l)) none
+
+-- the lowest open of a lease hears of its break
+pub lease_told : (s : CoreState) (l : Lists) (cache : Claim) (to : Option CacheKind) (call : Option ℕ) (number lowest : ℕ) (client key : List ℕ) (row : Open) (place : Place) → cache.party ≡ parties.Name Smb number → slice_get s.names number ≡ Some (SmbLease client key)
+    → lowest_open (record { client = client; key = key }) l ≡ Some lowest → open_of lowest l ≡ Some row → row.holder ≡ holder.Tree place → told_of s (effects.Begun cache to call) l ≡ (sent_to place.connection (lease_notice_of key cache.what to), l)
+unfolding told_of
+lease_told s l cache to call number lowest client key row place party name low at held =
+    ap (λ (p : Party). (noticed s p cache.what to l, l)) party
+    ∙ ap (λ (o : Option Name). (noticed_under cache.what to l o, l)) name
+    ∙ ap (λ (o : Option ℕ). (noticed_to (lease_notice_of key cache.what to) (option_and_then (λ n. open_of n l) o), l)) low
+    ∙ ap (λ (o : Option Open). (noticed_to (lease_notice_of key cache.what to) o, l)) at
+    ∙ ap (λ (by : Holder). (noticed_by (lease_notice_of key cache.what to) by, l)) held
 
 -- ---- a request that waits no more
 
@@ -55,8 +72,8 @@ stand_same : (number id : ℕ) (made : Open) (l : Lists) → may_stand number ma
 stand_same number id made l = ap (λ (b : Bool). nat_lt (length l.opens) most_opens && (not (is_some (open_of number l)) && b)) (holder_same made.holder made.client id l)
 
 stood_final : (s : CoreState) (id : ℕ) (row : Waiting) (made : Open) (stands : Bool) (l : Lists)
-    → IsFinal id row (if stands then opened_reply id row (id_of s row.opened) (level_held s made.file row.opened) else failed_reply id row InsufficientResources) l (stood s id row made stands (waiting_dropped id l))
-stood_final s id row made true l = (refl, refl)
+    → IsFinal id row (if stands then opened_reply id row (id_of s row.opened) (caching s row.opened made) else failed_reply id row InsufficientResources) l (stood s id row made stands (waiting_dropped id l))
+stood_final s id row made true l = (refl, ap (λ (m : Lists). m.waiting) (with_keeps row.opened made (waiting_dropped id l)))
 stood_final s id row made false l = (refl, refl)
 
 opened_final : (s : CoreState) (id : ℕ) (row : Waiting) (made : Open) (refused : Option SmbStatus) (l : Lists) → IsFinal id row (final_open s l id row made refused) l (opened_outs s id row made refused (waiting_dropped id l))
@@ -84,7 +101,7 @@ cancelled_final s l id row at = subst (λ (o : Option Waiting). IsFinal id row (
 
 module _ (s : CoreState) (l : Lists) (id : ℕ) (claim : Claim) (row : Waiting) (made : Open) where
   pub granted_told : waiting_of id l ≡ Some row → row.request ≡ request.Create made → may_stand row.opened made l ≡ true
-      → told_of s (effects.Served id (answers.Granted claim)) l ≡ (final_outs row (opened_reply id row (id_of s row.opened) (level_held s made.file row.opened)), open_added row.opened made (waiting_dropped id l))
+      → told_of s (effects.Served id (answers.Granted claim)) l ≡ (final_outs row (opened_reply id row (id_of s row.opened) (caching s row.opened made)), with_open row.opened made (waiting_dropped id l))
   unfolding told_of request_served
   granted_told at makes may =
       ap (λ (o : Option Waiting). served_with s id (answers.Granted claim) o l) at
@@ -94,6 +111,7 @@ module _ (s : CoreState) (l : Lists) (id : ℕ) (claim : Claim) (row : Waiting) 
   pub granted_stands : waiting_of id l ≡ Some row → row.request ≡ request.Create made → may_stand row.opened made l ≡ true → open_of row.opened (told_of s (effects.Served id (answers.Granted claim)) l).1 ≡ Some made
   granted_stands at makes may =
       ap (λ (r : List Out × Lists). open_of row.opened r.1) (granted_told at makes may)
+      ∙ ap (λ (m : Lists). open_of row.opened m) (with_keeps row.opened made (waiting_dropped id l))
       ∙ last_found row.opened made l.opens (stand_new row.opened made l may)
     where
       last_found : (number : ℕ) (new : Open) (es : List (ℕ × Open)) → lookup (nat_eq number) es ≡ None → lookup (nat_eq number) (es ++ (number, new) ∷ []) ≡ Some new

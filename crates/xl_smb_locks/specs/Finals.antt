@@ -10,7 +10,7 @@ use Rattle.xl_smb.specs.Replies.{Create, Lock, Error}
 use Rattle.xl_smb.specs.declared.head.Route.TheVariants.{Async}
 use Rattle.xl_smb.specs.declared.head.SmbHead.{SmbHead}
 use Rattle.xl_smb_state.specs.Links.{most_opens, has_place}
-use Rattle.xl_smb_state.specs.State.{Lists, open_of, open_added, waiting_of, waiting_dropped}
+use Rattle.xl_smb_state.specs.State.{Lists, open_of, with_open, waiting_of, waiting_dropped}
 use Rattle.xl_smb_state.specs.declared.row.Header.{Header}
 use Rattle.xl_smb_state.specs.declared.row.Holder.{Holder}
 use Rattle.xl_smb_state.specs.declared.row.Holder.TheVariants as holder
@@ -23,8 +23,9 @@ use Rattle.xl_core.specs.declared.ask.Answer.{Answer}
 use Rattle.xl_core.specs.declared.ask.Answer.TheVariants as answers
 use Rattle.xl_core.specs.declared.ask.Effect.{Effect}
 use Rattle.xl_core.specs.declared.ask.Effect.TheVariants as effects
-use Rattle.xl_smb_locks.specs.Levels.{level_held, id_of, opened, noticed}
+use Rattle.xl_smb_locks.specs.Levels.{caching, id_of, opened, noticed}
 use Rattle.xl_smb_locks.specs.Statuses.{status_number}
+use Rattle.xl_smb_locks.specs.declared.levels.Caching.{Caching}
 use Rattle.xl_smb_locks.specs.declared.status.SmbStatus.{SmbStatus}
 use Rattle.xl_smb_locks.specs.declared.status.SmbStatus.TheVariants.{SharingViolation, LockNotGranted, InsufficientResources, Cancelled}
 
@@ -58,9 +59,9 @@ failed_reply id row status = spelling (Reply (final_head id (command_by row.requ
 abbrev pub locked_reply : ℕ → Waiting → List ℕ
 locked_reply id row = spelling (Reply (final_head id 10 row.header 0) Lock)
 
--- the file is open under this id, with an oplock of this level
-abbrev pub opened_reply : ℕ → Waiting → ℕ → ℕ → List ℕ
-opened_reply id row handle level = spelling (Reply (final_head id 5 row.header 0) (Create (opened handle level)))
+-- the file is open under this id, with this told of its cache
+abbrev pub opened_reply : ℕ → Waiting → ℕ → Caching → List ℕ
+opened_reply id row handle told = spelling (Reply (final_head id 5 row.header 0) (Create (opened handle told)))
 
 -- it goes to the connection that the request came by
 abbrev pub final_outs : Waiting → List ℕ → List Out
@@ -109,7 +110,7 @@ may_stand number made l = nat_lt (length l.opens) most_opens && (not (is_some (o
 
 -- what is sent once the share of the open is granted, and the lists
 abbrev pub stood : CoreState → ℕ → Waiting → Open → Bool → Lists → List Out × Lists
-stood s id row made true l = (final_outs row (opened_reply id row (id_of s row.opened) (level_held s made.file row.opened)), open_added row.opened made l)
+stood s id row made true l = (final_outs row (opened_reply id row (id_of s row.opened) (caching s row.opened made)), with_open row.opened made l)
 stood s id row made false l = (failed_outs id row InsufficientResources, l)
 
 abbrev pub opened_outs : CoreState → ℕ → Waiting → Open → Option SmbStatus → Lists → List Out × Lists
@@ -131,9 +132,9 @@ request_served s id answer l = served_with s id answer (waiting_of id l) l
 -- ---- an effect
 
 -- What is sent for an effect of the core, in the state that is left, and the lists then: the notice of a break to who holds the
--- open, or the final reply to the request that was served, or that waits no more.
+-- open, or the lowest open of the lease, or the final reply to the request that was served, or that waits no more.
 unfoldable pub told_of : CoreState → Effect → Lists → List Out × Lists
-told_of s (effects.Begun cache to call) l = (noticed s cache.party to l, l)
+told_of s (effects.Begun cache to call) l = (noticed s cache.party cache.what to l, l)
 told_of s (effects.Served id answer) l = request_served s id answer l
 told_of s (effects.Cancelled id) l = request_ended id Cancelled l
 told_of s (effects.Expired client) l = ([], l)
@@ -163,10 +164,10 @@ abbrev pub final_lock : ℕ → Waiting → Option SmbStatus → List ℕ
 final_lock id row None = locked_reply id row
 final_lock id row (Some status) = failed_reply id row status
 
--- the final reply to a CREATE, which failed so if it did: an open that may stand is told under its id, with the level of the oplock
--- that it has then
+-- the final reply to a CREATE, which failed so if it did: an open that may stand is told under its id, with what
+-- it has of caches then
 abbrev pub final_open : CoreState → Lists → ℕ → Waiting → Open → Option SmbStatus → List ℕ
-final_open s l id row made None = if may_stand row.opened made l then opened_reply id row (id_of s row.opened) (level_held s made.file row.opened) else failed_reply id row InsufficientResources
+final_open s l id row made None = if may_stand row.opened made l then opened_reply id row (id_of s row.opened) (caching s row.opened made) else failed_reply id row InsufficientResources
 final_open s l id row made (Some status) = failed_reply id row status
 
 -- the final reply to a request that is answered so, by what it waited to do

@@ -2,8 +2,8 @@
 use Rattle.std.specs.Prelude.{ℕ, Bool, true, false, List, [], ◌∷◌, map, Option, Some, None}
 use Rattle.xl_matrix.specs.declared.claim.Extent.{Extent}
 use Rattle.xl_smb.specs.declared.lock.LockElement.{LockElement}
+use Rattle.xl_smb_state.specs.declared.row.Open.{Open}
 use Rattle.xl_wait.specs.Waiting.{no_rows}
-use Rattle.xl_wait.specs.declared.waiter.Rooms.{Rooms}
 use Rattle.xl_core.specs.Decide.{ask}
 use Rattle.xl_core.specs.Deeds.{Deed, Asks}
 use Rattle.xl_core.specs.State.{CoreState}
@@ -15,6 +15,7 @@ use Rattle.xl_core.specs.declared.ask.Ask.{Ask}
 use Rattle.xl_core.specs.declared.ask.Effect.{Effect}
 use Rattle.xl_core.specs.declared.ask.Who.TheVariants as who
 use Rattle.xl_smb_locks.specs.Elements.{extent_of, is_exclusive, any_waits, unlock_fault}
+use Rattle.xl_smb_locks.specs.Levels.{party_for}
 use Rattle.xl_smb_locks.specs.declared.locking.Locking.{Locking}
 use Rattle.xl_smb_locks.specs.declared.locking.Locking.TheVariants.{Done, Failed, Waits}
 use Rattle.xl_smb_locks.specs.declared.status.SmbStatus.{SmbStatus}
@@ -22,12 +23,12 @@ use Rattle.xl_smb_locks.specs.declared.status.SmbStatus.TheVariants.{LockNotGran
 
 -- ---- what the core is asked
 
--- an ask of the open of this number, which is its own party; it waits for answers to breaks in any case (MS-SMB2 3.3.5.14)
-abbrev pub range_ask : Option ℕ → ℕ → ℕ → Act → Bool → Ask
-range_ask conn file number act blocking = record {
-  file = file;
+-- an ask of the open of this number; it waits for answers to breaks in any case (MS-SMB2 3.3.5.14)
+abbrev pub range_ask : Option ℕ → ℕ → Open → Act → Bool → Ask
+range_ask conn number row act blocking = record {
+  file = row.file;
   owner = who.Open number;
-  party = who.Open number;
+  party = party_for number row;
   act = act;
   wish = [];
   conn = conn;
@@ -39,16 +40,16 @@ range_ask conn file number act blocking = record {
 }
 
 -- one range is unlocked
-unfoldable pub unlock_ask : ℕ → ℕ → LockElement → Ask
-unlock_ask file number e = range_ask None file number (acts.Unlock (extent_of e)) false
+unfoldable pub unlock_ask : ℕ → Open → LockElement → Ask
+unlock_ask number row e = range_ask None number row (acts.Unlock (extent_of e)) false
 
 abbrev pub range_of : LockElement → Extent × Bool
 range_of e = (extent_of e, is_exclusive e)
 
 -- all ranges are locked in order, or none; where a cache keeps the first off they wait for the answer to its break, one that may
 -- wait does where something stands against it for good, and who waits is told by this connection
-unfoldable pub lock_ask : ℕ → ℕ → ℕ → List LockElement → Ask
-lock_ask conn file number es = range_ask (Some conn) file number (acts.Ranges (map range_of es)) (any_waits es)
+unfoldable pub lock_ask : ℕ → ℕ → Open → List LockElement → Ask
+lock_ask conn number row es = range_ask (Some conn) number row (acts.Ranges (map range_of es)) (any_waits es)
 
 -- what was asked for is granted
 abbrev pub is_granted : Answer → Bool
@@ -66,10 +67,10 @@ unlock_next None next = next
 unlock_next (Some status) next = ([], Failed status)
 
 -- what the unlocks do, and what they come to
-abbrev pub unlocks : CoreState → ℕ → ℕ → List LockElement → List Deed × Locking
-unlocks s file number [] = ([], Done)
-unlocks s file number (e ∷ es) =
-    let r = ask 0 no_rows s (unlock_ask file number e) in unlock_next (unlock_fault e) (unlock_told (unlock_ask file number e) r.0 (unlocks r.2 file number es))
+abbrev pub unlocks : CoreState → ℕ → Open → List LockElement → List Deed × Locking
+unlocks s number row [] = ([], Done)
+unlocks s number row (e ∷ es) =
+    let r = ask 0 no_rows s (unlock_ask number row e) in unlock_next (unlock_fault e) (unlock_told (unlock_ask number row e) r.0 (unlocks r.2 number row es))
 
 -- ---- locks: all of them, or none
 

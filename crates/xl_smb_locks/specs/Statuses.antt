@@ -4,6 +4,7 @@ use Rattle.xl_smb_locks.specs.declared.status.SmbStatus.{SmbStatus}
 use Rattle.xl_smb_locks.specs.declared.status.SmbStatus.TheVariants as status
 
 abbrev pub status_number : SmbStatus → ℕ
+status_number status.Unsuccessful = 0xC0000001
 status_number status.InvalidParameter = 0xC000000D
 status_number status.ObjectNameNotFound = 0xC0000034
 status_number status.ObjectNameCollision = 0xC0000035
@@ -14,6 +15,7 @@ status_number status.InsufficientResources = 0xC000009A
 status_number status.NotSupported = 0xC00000BB
 status_number status.NetworkNameDeleted = 0xC00000C9
 status_number status.BadNetworkName = 0xC00000CC
+status_number status.RequestNotAccepted = 0xC00000D0
 status_number status.InvalidOplockProtocol = 0xC00000E3
 status_number status.Cancelled = 0xC0000120
 status_number status.FileClosed = 0xC0000128

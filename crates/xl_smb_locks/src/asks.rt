@@ -8,28 +8,30 @@ ghost use Rattle.xl_smb_locks.specs.Locks.{range_ask, range_of, unlock_ask, lock
 ghost use Rattle.xl_smb_locks.specs.Short.{IsOpenAsk};
 
 use crate::elements::{any_waits, extent_of, is_exclusive};
+use crate::levels::party_for;
 use std::alloc::{AllocError, Global};
 use xl_base::Sequence;
 use xl_core::{Act, Ask, Who};
 use xl_matrix::Extent;
 use xl_smb::LockElement;
+use xl_smb_state::Open;
 use xl_wait::NO_ROWS;
 
-/// An ask of the open of this number, which is its own party. It waits for answers to breaks in any case.
+/// An ask of the open of this number. It waits for answers to breaks in any case.
 fn range_ask(
     alloc: Global,
     conn: Option<u64>,
-    file: u32,
     number: u32,
+    row: &Open,
     act: Act,
     blocking: bool,
 ) -> Ask
-    ensures { result ≡ range_ask conn file number act blocking }
+    ensures { result ≡ range_ask conn number row.now act blocking }
 {
     Ask {
-        file,
+        file: row.file,
         owner: Who::Open(number),
-        party: Who::Open(number),
+        party: party_for(number, row),
         act,
         wish: Sequence::new(alloc),
         conn,
@@ -43,13 +45,13 @@ fn range_ask(
 
 /// What is asked for to unlock one range.
 #[tactic(auto, unfolding(crate::specs::Locks::unlock_ask), using(crate::proofs::FitLaws::unlock_is))]
-pub(crate) fn unlock_ask(alloc: Global, file: u32, number: u32, element: &LockElement) -> Ask
+pub(crate) fn unlock_ask(alloc: Global, number: u32, row: &Open, element: &LockElement) -> Ask
     requires { wraps element.now ≡ false }
-    ensures value { result ≡ unlock_ask file number element.now }
+    ensures value { result ≡ unlock_ask number row.now element.now }
     ensures open { IsOpenAsk result }
 {
     let act = Act::Unlock(extent_of(element));
-    range_ask(alloc, None, file, number, act, false)
+    range_ask(alloc, None, number, row, act, false)
 }
 
 /// The ranges of locks, in order.
@@ -73,13 +75,13 @@ fn ranges_of(
 pub(crate) fn lock_ask(
     alloc: Global,
     conn: u64,
-    file: u32,
     number: u32,
+    row: &Open,
     elements: &[LockElement],
 ) -> Result<Ask, AllocError>
     requires sound { lock_fault elements.now ≡ None }
     requires some { 1 ≤ length elements.now }
-    ensures value { IfOk result (λ ask. ask ≡ lock_ask conn file number elements.now) }
+    ensures value { IfOk result (λ ask. ask ≡ lock_ask conn number row.now elements.now) }
     ensures open { IfOk result (λ ask. IsOpenAsk ask) }
 {
     let ranges = ranges_of(alloc, elements)?;
@@ -87,8 +89,8 @@ pub(crate) fn lock_ask(
     Ok(range_ask(
         alloc,
         Some(conn),
-        file,
         number,
+        row,
         Act::Ranges(ranges),
         blocking,
     ))

@@ -8,7 +8,7 @@ ghost use Rattle.xl_smb_state.specs.State.{open_of, waiting_of, waiting_dropped}
 ghost use Rattle.xl_smb_locks.specs.Finals.{final_head, command_by, failed_reply, locked_reply, opened_reply, final_outs, failed_outs, request_ended, lock_refusal, open_refusal, locked_outs, holder_stands, may_stand, stood, opened_outs, served_by, request_served, told_of, cancels, is_cancelled, dismissed};
 ghost use Rattle.xl_smb_locks.specs.declared.status.SmbStatus.TheVariants.{Cancelled};
 
-use crate::levels::{id_of, level_held, noticed, opened};
+use crate::levels::{Caching, caching_of, contexts_told, id_of, noticed, opened};
 use crate::status::SmbStatus;
 use std::alloc::{AllocError, Global};
 use xl_base::{Out, Sequence};
@@ -73,20 +73,21 @@ fn locked_reply(alloc: Global, id: u32, row: &Waiting) -> Result<Vec<u8>, AllocE
     Ok(write(alloc, &message)?)
 }
 
-/// The final reply to a CREATE whose open stands under this id, with an oplock of this level.
+/// The final reply to a CREATE whose open stands under this id, with this told of its cache.
 #[tactic(auto, using(crate::proofs::FinalLaws::opened_stands, crate::proofs::FinalLaws::opened_little))]
 fn opened_reply(
     alloc: Global,
     id: u32,
     row: &Waiting,
     handle: u64,
-    level: u8,
+    told: Caching,
 ) -> Result<Vec<u8>, AllocError>
-    ensures reply { IfOk result (λ v. v.items ≡ opened_reply id row.now handle level) }
+    ensures reply { IfOk result (λ v. v.items ≡ opened_reply id row.now handle told) }
     ensures little { IfOk result (λ v. length v.items ≤ most_message_bytes) }
 {
     let head = final_head(id, Command::Create.number(), &row.header, 0);
-    let message = SmbMessage::Reply(head, SmbReply::Create(opened(handle, level)));
+    let contexts = contexts_told(alloc, told)?;
+    let message = SmbMessage::Reply(head, SmbReply::Create(opened(handle, told, &contexts)));
     Ok(write(alloc, &message)?)
 }
 
@@ -225,10 +226,10 @@ fn stand(
     if !may_stand(state, row.opened, made) {
         return Ok(failed_outs(alloc, id, row, SmbStatus::InsufficientResources)?);
     }
-    let level = level_held(alloc, core, made.file, row.opened)?;
-    let reply = opened_reply(alloc, id, row, id_of(core, row.opened), level)?;
+    let told = caching_of(alloc, core, row.opened, made)?;
+    let reply = opened_reply(alloc, id, row, id_of(core, row.opened), told)?;
     let outs = final_outs(alloc, row, reply)?;
-    state.add_open(row.opened, *made)?;
+    state.open(alloc, row.opened, *made)?;
     Ok(outs)
 }
 
@@ -291,8 +292,8 @@ fn serve_request(
     Ok(outs)
 }
 
-/// What is sent for an effect of the core, in the state that it left: the notice of a break to who holds the open (MS-SMB2
-/// 3.3.4.6), or the final reply to the request that was served (3.3.4.4), or that waits no more; the request is forgotten
+/// What is sent for an effect of the core, in the state that it left: the notice of a break to who holds the open, or the lowest
+/// open of the lease (MS-SMB2 3.3.4.6, 3.3.4.7), or the final reply to the request that was served (3.3.4.4), or that waits no more; the request is forgotten
 /// then, and the open that it waited to make stands. It has no frame yet. All else sends nothing.
 #[tactic(auto, unfolding(crate::specs::Finals::told_of))]
 pub fn tell(
@@ -305,7 +306,7 @@ pub fn tell(
     ensures little { IfOk result (λ outs. AllByRecursion FitsFrame outs) }
 {
     match effect {
-        Effect::Begun(cache, to, _) => Ok(noticed(alloc, state, core, cache.party, *to)?),
+        Effect::Begun(cache, to, _) => Ok(noticed(alloc, state, core, cache, *to)?),
         Effect::Served(id, answer) => Ok(serve_request(alloc, state, core, *id, answer)?),
         Effect::Cancelled(id) => Ok(end_request(alloc, state, *id, SmbStatus::Cancelled)?),
         Effect::Expired(_) => Ok(Sequence::new(alloc)),

@@ -13,6 +13,7 @@ use std::alloc::{AllocError, Global};
 use xl_base::{Keeper, Sequence};
 use xl_core::{Answer, Core, Effect};
 use xl_smb::LockElement;
+use xl_smb_state::Open;
 use xl_wait::NO_ROWS;
 
 /// What a LOCK comes to.
@@ -54,18 +55,18 @@ pub fn lock<K: Keeper>(
     core: &mut Core,
     keeper: &mut K,
     conn: u64,
-    file: u32,
     number: u32,
+    row: &Open,
     elements: &[LockElement],
 ) -> Result<(Locking, Sequence<Effect>), AllocError>
     requires ready { IsReady 2 core.old }
     requires sound { lock_fault elements.now ≡ None }
     requires some { 1 ≤ length elements.now }
-    ensures state { (n : ℕ) → IfOk result (λ r. MayBe n core.new → lock_done (ask n no_rows core.old (lock_ask conn file number elements.now)) ≡ (r.0, r.1, core.new)) }
+    ensures state { (n : ℕ) → IfOk result (λ r. MayBe n core.new → lock_done (ask n no_rows core.old (lock_ask conn number row.now elements.now)) ≡ (r.0, r.1, core.new)) }
     ensures leaves { OnOk result (Leaves 2 core.old core.new) }
     ensures keeper { keeper.new ≡ keeper.old }
 {
-    let request = lock_ask(alloc, conn, file, number, elements)?;
+    let request = lock_ask(alloc, conn, number, row, elements)?;
     let (answer, effects) = core.ask(alloc, keeper, &request, &NO_ROWS)?;
     Ok((lock_told(&answer), effects))
 }

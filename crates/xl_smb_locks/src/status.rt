@@ -5,6 +5,8 @@ ghost use Rattle.xl_smb_locks.specs.Statuses.{status_number};
 /// Why a request fails (MS-ERREF 2.3).
 #[derive(Clone, Copy)]
 pub enum SmbStatus {
+    /// No break of the lease runs.
+    Unsuccessful,
     /// The request is not in order.
     InvalidParameter,
     /// There is no such file, or no such lease.
@@ -25,6 +27,8 @@ pub enum SmbStatus {
     NetworkNameDeleted,
     /// There is no such share.
     BadNetworkName,
+    /// The lease's break doesn't leave as much.
+    RequestNotAccepted,
     /// The level can't be acknowledged.
     InvalidOplockProtocol,
     /// The request waited, and was cancelled.
@@ -45,6 +49,7 @@ impl SmbStatus {
         ensures { result ≡ status_number self }
     {
         match self {
+            SmbStatus::Unsuccessful => 0xC000_0001,
             SmbStatus::InvalidParameter => 0xC000_000D,
             SmbStatus::ObjectNameNotFound => 0xC000_0034,
             SmbStatus::ObjectNameCollision => 0xC000_0035,
@@ -55,6 +60,7 @@ impl SmbStatus {
             SmbStatus::NotSupported => 0xC000_00BB,
             SmbStatus::NetworkNameDeleted => 0xC000_00C9,
             SmbStatus::BadNetworkName => 0xC000_00CC,
+            SmbStatus::RequestNotAccepted => 0xC000_00D0,
             SmbStatus::InvalidOplockProtocol => 0xC000_00E3,
             SmbStatus::Cancelled => 0xC000_0120,
             SmbStatus::FileClosed => 0xC000_0128,

@@ -16,6 +16,7 @@ use std::alloc::{AllocError, Global};
 use xl_base::Keeper;
 use xl_core::{Answer, Core};
 use xl_smb::LockElement;
+use xl_smb_state::Open;
 use xl_wait::NO_ROWS;
 
 /// Unlocks one range of an open.
@@ -23,17 +24,17 @@ fn unlock_one<K: Keeper>(
     alloc: Global,
     core: &mut Core,
     keeper: &mut K,
-    file: u32,
     number: u32,
+    row: &Open,
     element: &LockElement,
 ) -> Result<Answer, AllocError>
     requires ready { IsReady 0 core.old }
     requires sound { wraps element.now ≡ false }
-    ensures state { IfOk result (λ answer. ask 0 no_rows core.old (unlock_ask file number element.now) ≡ (answer, [], core.new)) }
+    ensures state { IfOk result (λ answer. ask 0 no_rows core.old (unlock_ask number row.now element.now) ≡ (answer, [], core.new)) }
     ensures leaves { OnOk result (Leaves 0 core.old core.new) }
     ensures keeper { keeper.new ≡ keeper.old }
 {
-    let request = unlock_ask(alloc, file, number, element);
+    let request = unlock_ask(alloc, number, row, element);
     let (answer, _effects) = core.ask(alloc, keeper, &request, &NO_ROWS)?;
     Ok(answer)
 }
@@ -53,13 +54,13 @@ pub fn unlock<K: Keeper>(
     alloc: Global,
     core: &mut Core,
     keeper: &mut K,
-    file: u32,
     number: u32,
+    row: &Open,
     elements: &[LockElement],
 ) -> Result<Locking, AllocError>
     requires ready { IsReady 0 core.old }
-    ensures told { IfOk result (λ told. told ≡ (unlocks core.old file number elements.now).1) }
-    ensures state { (n : ℕ) → OnOk result (core.new ≡ all_done n core.old (unlocks core.old file number elements.now).0) }
+    ensures told { IfOk result (λ told. told ≡ (unlocks core.old number row.now elements.now).1) }
+    ensures state { (n : ℕ) → OnOk result (core.new ≡ all_done n core.old (unlocks core.old number row.now elements.now).0) }
     ensures leaves { OnOk result (Leaves 0 core.old core.new) }
     ensures keeper { keeper.new ≡ keeper.old }
 {
@@ -67,7 +68,7 @@ pub fn unlock<K: Keeper>(
         if let Some(status) = unlock_fault(element) {
             return Ok(Locking::Failed(status));
         }
-        let answer = unlock_one(alloc, core, keeper, file, number, element)?;
+        let answer = unlock_one(alloc, core, keeper, number, row, element)?;
         if !is_granted(&answer) {
             return Ok(Locking::Failed(SmbStatus::RangeNotLocked));
         }
