@@ -1,13 +1,14 @@
 -- Acknowledgements: what they leave, and that the core takes them.
 use Rattle.std.proofs.Common.{◌≡◌, ℕ, Bool, true, false, not, ◌&&◌, ◌||◌, List, [], ◌∷◌, Option, Some, None, if◌then◌else◌, refl, sym, ap, subst, ◌∙◌, inl, inr, arith, append-nil}
 use Rattle.std.specs.Prelude.{◌==◌, nat_lt}
-use Rattle.std.proofs.lemmas.Bool.{cases_Bool, true≢false, false≢true, and_parts, eqb-true}
+use Rattle.std.proofs.lemmas.Bool.{cases_Bool, true≢false, and_parts}
 use Rattle.std.proofs.lemmas.Bool.Decides.{nat_tests}
 use Rattle.xl_base.specs.Lists.{IsIn}
 use Rattle.xl_base.specs.declared.name.Party.{Party}
 use Rattle.xl_base.specs.declared.name.Party.TheVariants as parties
 use Rattle.xl_cache.specs.Targets.{rest_lies_within}
 use Rattle.xl_matrix.specs.Equal.{same_parties}
+use Rattle.xl_matrix.proofs.EqualLaws.{same_parties-true}
 use Rattle.xl_matrix.specs.declared.claim.Break.{Break}
 use Rattle.xl_matrix.specs.declared.claim.CacheKind.{CacheKind}
 use Rattle.xl_matrix.specs.declared.claim.CacheKind.TheVariants.{R}
@@ -25,13 +26,15 @@ use Rattle.xl_core.specs.declared.ask.Effect.{Effect}
 use Rattle.xl_core.proofs.FrameLaws.{ack_frame}
 use Rattle.xl_core.proofs.NumberLaws.{ack_numbers}
 use Rattle.xl_smb_locks.proofs.LeaveLaws.{frame_leaves}
-use Rattle.xl_smb_locks.specs.Levels.{oplock_of, id_of}
+use Rattle.xl_smb_locks.specs.Levels.{cache_of, oplock_of, id_of}
 use Rattle.xl_smb_locks.specs.Short.{Leaves}
-use Rattle.xl_front_smb.specs.Files.{is_read, leaves_less, is_refused, left_at, ack_by, ack_of, ack_open, refused_ack, taken_ack}
-use Rattle.xl_front_smb.specs.Plans.{Does, carried, Outcome}
+use Rattle.xl_front_smb.specs.Files.{is_read, leaves_less, is_refused, left_at, may_keep, ack_by, ack_lease_by, ack_of, ack_open, lease_left, refused_ack, taken_ack}
+use Rattle.xl_front_smb.specs.Plans.{Does, Fails, carried, Outcome}
 use Rattle.xl_front_smb.specs.declared.told.Told.{Told}
-use Rattle.xl_cache.specs.Levels.{level_of}
-use Rattle.xl_front_smb.specs.declared.told.Told.TheVariants.{Acknowledged}
+use Rattle.xl_cache.specs.Levels.{kind_of_state, level_of}
+use Rattle.xl_front_smb.specs.declared.told.Told.TheVariants.{Acknowledged, Answered}
+use Rattle.xl_smb.specs.declared.lease.Lease.{Lease}
+use Rattle.xl_smb_locks.specs.declared.status.SmbStatus.TheVariants.{RequestNotAccepted}
 use Rattle.xl_smb_state.specs.declared.row.Open.{Open}
 
 -- ---- what may be left
@@ -70,22 +73,34 @@ left_within level kind running h =
           rw some (not_false (rest_lies_within (Some R) running.target) (two_parts (nat_lt 1 level) (is_read kind) (leaves_less (Some running)) (rw one at h))))
     ]
 
--- ---- the oplock that is found
+-- and a state that a lease may keep
+pub kept_within : (state : ℕ) (running : Break) → may_keep state running ≡ true → rest_lies_within (kind_of_state state) running.target ≡ true
+kept_within state running may = (and_parts (state == 0 || (state == 1 || state == 3)) (rest_lies_within (kind_of_state state) running.target) may).1
 
-same_party_is : (p : Party) (number : ℕ) → same_parties p (parties.Open number) ≡ true → p ≡ parties.Open number
-same_party_is (parties.Open k) number h = ap (λ (j : ℕ). parties.Open j) (eqb-true k number h)
-same_party_is (parties.Name protocol k) number h = absurd (false≢true h)
+-- a break of a lease's cache that runs is answered so
+pub kept_done : (n : ℕ) (s : CoreState) (l : Lists) (lease : Lease) (cache : Claim) (kind : CacheKind) (running : Break) (x : Outcome) (left : Option CacheKind) (given : Lease) → cache.what ≡ whats.Cache kind (Some running) → may_keep lease.state running ≡ true → left ≡ kind_of_state lease.state → given ≡ lease_left lease
+    → carried n s l (Does (Acks cache left ∷ []) l (Answered given)) ≡ x → carried n s l (ack_lease_by l lease cache cache.what) ≡ x
+kept_done n s l lease cache kind running x left given is may own told done =
+    ap (λ (w : What). carried n s l (ack_lease_by l lease cache w)) is
+    ∙ ap (λ (b : Bool). carried n s l (if b then Does (Acks cache (kind_of_state lease.state) ∷ []) l (Answered (lease_left lease)) else Fails RequestNotAccepted)) may
+    ∙ sym (λ i. carried n s l (Does (Acks cache (own i) ∷ []) l (Answered (told i))))
+    ∙ done
 
-pub oplock_is : (file number : ℕ) (cs : List Claim) (cache : Claim) → oplock_of file number cs ≡ Some cache → IsIn cache cs × (cache.party ≡ parties.Open number)
-oplock_is file number [] cache at = absurd (none_some at)
-oplock_is file number (c ∷ cs) cache at =
-    elim (cases_Bool (is_cache_on file (parties.Open number) c)) [
+-- ---- the cache that is found
+
+pub cache_is : (file : ℕ) (party : Party) (cs : List Claim) (cache : Claim) → cache_of file party cs ≡ Some cache → IsIn cache cs × (cache.party ≡ party)
+cache_is file party [] cache at = absurd (none_some at)
+cache_is file party (c ∷ cs) cache at =
+    elim (cases_Bool (is_cache_on file party c)) [
       | inl here ↦ (
           let is : c ≡ cache = same_Some (rw here at at) in
-          let its : same_parties c.party (parties.Open number) ≡ true = (and_parts (c.file == file) _ (and_parts _ _ here).1).1 in
-          (inl is, ap (λ (x : Claim). x.party) (sym is) ∙ same_party_is c.party number its))
-      | inr other ↦ (let rest = oplock_is file number cs cache (rw other at at) in (inr rest.0, rest.1))
+          let its : same_parties c.party party ≡ true = (and_parts (c.file == file) _ (and_parts _ _ here).1).1 in
+          (inl is, ap (λ (x : Claim). x.party) (sym is) ∙ same_parties-true c.party party its))
+      | inr other ↦ (let rest = cache_is file party cs cache (rw other at at) in (inr rest.0, rest.1))
     ]
+
+pub oplock_is : (file number : ℕ) (cs : List Claim) (cache : Claim) → oplock_of file number cs ≡ Some cache → IsIn cache cs × (cache.party ≡ parties.Open number)
+oplock_is file number cs cache at = cache_is file (parties.Open number) cs cache at
 
 -- ---- what an acknowledgement does
 

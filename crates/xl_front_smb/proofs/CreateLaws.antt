@@ -12,6 +12,7 @@ use Rattle.xl_smb.specs.declared.head.SmbHead.{SmbHead}
 use Rattle.xl_smb_state.specs.State.{Lists, client_of, open_of}
 use Rattle.xl_smb_state.specs.declared.row.Open.{Open}
 use Rattle.xl_smb_state.specs.declared.row.Place.{Place}
+use Rattle.xl_smb_state.proofs.LeaseLaws.{with_keeps}
 use Rattle.xl_smb_state.proofs.RowLaws.{equal_self, some_none}
 use Rattle.xl_wait.specs.declared.waiter.Rooms.{Rooms}
 use Rattle.xl_core.specs.Causes.{IsClaimDue}
@@ -27,67 +28,72 @@ use Rattle.xl_core.specs.declared.ask.Effect.{Effect}
 use Rattle.xl_core.proofs.BegunLaws.{begun_others}
 use Rattle.xl_core.proofs.GoodLaws.{drawn_good}
 use Rattle.xl_core.proofs.WayAsks.{ask_way_keeps, ask_due, ask_own, ask_shared}
+use Rattle.xl_front_smb.proofs.KeyLaws.{comes_leased, free_lease, key_free}
 use Rattle.xl_front_smb.specs.Checks.{id_of, session_named, tree_named, negotiated_by, in_session, on_tree}
-use Rattle.xl_front_smb.specs.Files.{access_of, deny_of, open_ask, open_row, rooms_left, open_as, has_room_for_open, open_file, open_found, overwrites, create_on, create, create_row}
-use Rattle.xl_front_smb.specs.Laws.{outcome_of, IsOnTree, FailsIf, OnceFound, IsRefusalDue, IsOpenDue, open_claim, IsNextDue, IsFileDue, IsDispositionDue, IsCreateDue}
+use Rattle.xl_front_smb.specs.Files.{access_of, deny_of, open_ask, open_row, rooms_left, key_asked, lease_key, is_key_elsewhere, open_as, has_room_for_open, open_file, open_keyed, open_found, overwrites, create_on, create, create_row}
+use Rattle.xl_front_smb.specs.Laws.{IsLeased, outcome_of, IsOnTree, FailsIf, OnceFound, IsRefusalDue, IsOpenDue, open_claim, IsNextDue, IsFileDue, IsDispositionDue, IsCreateDue}
 use Rattle.xl_front_smb.specs.Plans.{Plan, Fails, Outcome, carried, opened_told, opened_lists}
-use Rattle.xl_front_smb.specs.Replies.{tree_id}
 use Rattle.xl_front_smb.specs.Requests.{commanded, planned}
 use Rattle.xl_front_smb.specs.Texts.{file_spelled}
 use Rattle.xl_smb_locks.specs.declared.status.SmbStatus.{SmbStatus}
 use Rattle.xl_smb_locks.specs.declared.status.SmbStatus.TheVariants as status
 use Rattle.xl_front_smb.specs.declared.told.Told.{Told}
-use Rattle.xl_front_smb.specs.declared.told.Told.TheVariants.{Nothing, Failed, Negotiated, SetUp, LoggedOff, Connected, Disconnected, Opened, Closed, Locked, Pending, Echoed, Acknowledged}
+use Rattle.xl_front_smb.specs.declared.told.Told.TheVariants.{Nothing, Failed, Negotiated, SetUp, LoggedOff, Connected, Disconnected, Opened, Closed, Locked, Pending, Echoed, Acknowledged, Answered}
 use Rattle.xl_front_smb.proofs.PlanLaws.{open_new}
-use Rattle.xl_smb_locks.specs.Levels.{level_held}
+use Rattle.xl_smb_locks.proofs.FitLaws.{party_fits}
+use Rattle.xl_smb_locks.specs.Levels.{caching}
+use Rattle.xl_smb_locks.specs.declared.levels.Caching.{Caching}
 use Rattle.xl_smb_state.specs.declared.row.Waiting.{Waiting}
 
 -- ---- by what the core is due to answer
 
-due_forth : (left : Rooms) (s : CoreState) (a : Ask) (claim : Claim) (id level : ℕ) (answer : Answer) → a.reclaim ≡ false → a.awaits ≡ true → IsClaimDue left s a claim answer → IsOpenDue left s a claim id level (opened_told id level answer)
-due_forth left s a claim id level (answers.Granted c) timely rests due = (refl, refl, (refl, due.1, due.2, due.3))
-due_forth left s a claim id level (answers.Conflict c) timely rests due = (c, due)
-due_forth left s a claim id level (answers.Full limit) timely rests due = (limit, due)
-due_forth left s a claim id level (answers.Queued number) timely rests due = due
-due_forth left s a claim id level (answers.NoGrace clock) timely rests due = absurd (false≢true (sym timely ∙ due.1))
-due_forth left s a claim id level (answers.Recall c) timely rests due = absurd (true≢false (sym rests ∙ due.1))
-due_forth left s a claim id level (answers.Grace until) timely rests due = absurd due
-due_forth left s a claim id level answers.NotRecorded timely rests due = absurd due
-due_forth left s a claim id level answers.NotHeld timely rests due = absurd due
-due_forth left s a claim id level answers.StoreFailed timely rests due = absurd due
+due_forth : (left : Rooms) (s : CoreState) (a : Ask) (claim : Claim) (id : ℕ) (cache : Caching) (answer : Answer) → a.reclaim ≡ false → a.awaits ≡ true → IsClaimDue left s a claim answer → IsOpenDue left s a claim id cache (opened_told id cache answer)
+due_forth left s a claim id cache (answers.Granted c) timely rests due = (refl, refl, (refl, due.1, due.2, due.3))
+due_forth left s a claim id cache (answers.Conflict c) timely rests due = (c, due)
+due_forth left s a claim id cache (answers.Full limit) timely rests due = (limit, due)
+due_forth left s a claim id cache (answers.Queued number) timely rests due = due
+due_forth left s a claim id cache (answers.NoGrace clock) timely rests due = absurd (false≢true (sym timely ∙ due.1))
+due_forth left s a claim id cache (answers.Recall c) timely rests due = absurd (true≢false (sym rests ∙ due.1))
+due_forth left s a claim id cache (answers.Grace until) timely rests due = absurd due
+due_forth left s a claim id cache answers.NotRecorded timely rests due = absurd due
+due_forth left s a claim id cache answers.NotHeld timely rests due = absurd due
+due_forth left s a claim id cache answers.StoreFailed timely rests due = absurd due
 
-refusal_back : (left : Rooms) (s : CoreState) (a : Ask) (claim : Claim) (id level : ℕ) (r : Answer) → ((answer : Answer) → IsClaimDue left s a claim answer → r ≡ answer) → (refused : SmbStatus) → IsRefusalDue left s a claim refused → opened_told id level r ≡ Failed refused
-refusal_back left s a claim id level r exact status.SharingViolation due = ap (opened_told id level) (exact (answers.Conflict due.0) due.1)
-refusal_back left s a claim id level r exact status.InsufficientResources due = ap (opened_told id level) (exact (answers.Full due.0) due.1)
-refusal_back left s a claim id level r exact status.InvalidParameter due = absurd due
-refusal_back left s a claim id level r exact status.ObjectNameNotFound due = absurd due
-refusal_back left s a claim id level r exact status.ObjectNameCollision due = absurd due
-refusal_back left s a claim id level r exact status.NotSupported due = absurd due
-refusal_back left s a claim id level r exact status.NetworkNameDeleted due = absurd due
-refusal_back left s a claim id level r exact status.BadNetworkName due = absurd due
-refusal_back left s a claim id level r exact status.InvalidOplockProtocol due = absurd due
-refusal_back left s a claim id level r exact status.FileClosed due = absurd due
-refusal_back left s a claim id level r exact status.InvalidDeviceState due = absurd due
-refusal_back left s a claim id level r exact status.UserSessionDeleted due = absurd due
-refusal_back left s a claim id level r exact status.LockNotGranted due = absurd due
-refusal_back left s a claim id level r exact status.RangeNotLocked due = absurd due
-refusal_back left s a claim id level r exact status.InvalidLockRange due = absurd due
-refusal_back left s a claim id level r exact status.Cancelled due = absurd due
+refusal_back : (left : Rooms) (s : CoreState) (a : Ask) (claim : Claim) (id : ℕ) (cache : Caching) (r : Answer) → ((answer : Answer) → IsClaimDue left s a claim answer → r ≡ answer) → (refused : SmbStatus) → IsRefusalDue left s a claim refused → opened_told id cache r ≡ Failed refused
+refusal_back left s a claim id cache r exact status.SharingViolation due = ap (opened_told id cache) (exact (answers.Conflict due.0) due.1)
+refusal_back left s a claim id cache r exact status.InsufficientResources due = ap (opened_told id cache) (exact (answers.Full due.0) due.1)
+refusal_back left s a claim id cache r exact status.InvalidParameter due = absurd due
+refusal_back left s a claim id cache r exact status.ObjectNameNotFound due = absurd due
+refusal_back left s a claim id cache r exact status.ObjectNameCollision due = absurd due
+refusal_back left s a claim id cache r exact status.NotSupported due = absurd due
+refusal_back left s a claim id cache r exact status.NetworkNameDeleted due = absurd due
+refusal_back left s a claim id cache r exact status.BadNetworkName due = absurd due
+refusal_back left s a claim id cache r exact status.InvalidOplockProtocol due = absurd due
+refusal_back left s a claim id cache r exact status.FileClosed due = absurd due
+refusal_back left s a claim id cache r exact status.InvalidDeviceState due = absurd due
+refusal_back left s a claim id cache r exact status.UserSessionDeleted due = absurd due
+refusal_back left s a claim id cache r exact status.LockNotGranted due = absurd due
+refusal_back left s a claim id cache r exact status.RangeNotLocked due = absurd due
+refusal_back left s a claim id cache r exact status.InvalidLockRange due = absurd due
+refusal_back left s a claim id cache r exact status.Cancelled due = absurd due
+refusal_back left s a claim id cache r exact status.Unsuccessful due = absurd due
+refusal_back left s a claim id cache r exact status.RequestNotAccepted due = absurd due
 
-due_back : (left : Rooms) (s : CoreState) (a : Ask) (claim : Claim) (id level : ℕ) (r : Answer) → ((answer : Answer) → IsClaimDue left s a claim answer → r ≡ answer) → (told : Told) → IsOpenDue left s a claim id level told → opened_told id level r ≡ told
-due_back left s a claim id level r exact (Opened opened of) due = ap (opened_told id level) (exact (answers.Granted claim) due.2) ∙ (λ i. Opened ((sym due.0) i) ((sym due.1) i))
-due_back left s a claim id level r exact (Pending number) due = ap (opened_told id level) (exact (answers.Queued number) due)
-due_back left s a claim id level r exact (Failed refused) due = refusal_back left s a claim id level r exact refused due
-due_back left s a claim id level r exact Nothing due = absurd due
-due_back left s a claim id level r exact Negotiated due = absurd due
-due_back left s a claim id level r exact (SetUp session) due = absurd due
-due_back left s a claim id level r exact LoggedOff due = absurd due
-due_back left s a claim id level r exact (Connected tree) due = absurd due
-due_back left s a claim id level r exact Disconnected due = absurd due
-due_back left s a claim id level r exact Closed due = absurd due
-due_back left s a claim id level r exact Locked due = absurd due
-due_back left s a claim id level r exact (Acknowledged opened of) due = absurd due
-due_back left s a claim id level r exact Echoed due = absurd due
+due_back : (left : Rooms) (s : CoreState) (a : Ask) (claim : Claim) (id : ℕ) (cache : Caching) (r : Answer) → ((answer : Answer) → IsClaimDue left s a claim answer → r ≡ answer) → (told : Told) → IsOpenDue left s a claim id cache told → opened_told id cache r ≡ told
+due_back left s a claim id cache r exact (Opened opened of) due = ap (opened_told id cache) (exact (answers.Granted claim) due.2) ∙ (λ i. Opened ((sym due.0) i) ((sym due.1) i))
+due_back left s a claim id cache r exact (Pending number) due = ap (opened_told id cache) (exact (answers.Queued number) due)
+due_back left s a claim id cache r exact (Failed refused) due = refusal_back left s a claim id cache r exact refused due
+due_back left s a claim id cache r exact Nothing due = absurd due
+due_back left s a claim id cache r exact Negotiated due = absurd due
+due_back left s a claim id cache r exact (SetUp session) due = absurd due
+due_back left s a claim id cache r exact LoggedOff due = absurd due
+due_back left s a claim id cache r exact (Connected tree) due = absurd due
+due_back left s a claim id cache r exact Disconnected due = absurd due
+due_back left s a claim id cache r exact Closed due = absurd due
+due_back left s a claim id cache r exact Locked due = absurd due
+due_back left s a claim id cache r exact (Acknowledged opened of) due = absurd due
+due_back left s a claim id cache r exact (Answered lease) due = absurd due
+due_back left s a claim id cache r exact Echoed due = absurd due
 
 -- this is told exactly where that is due
 abbrev Exactly : Told → (Told → Type 0) → Type 0
@@ -97,15 +103,16 @@ Exactly is due = (told : Told) → (is ≡ told) ↔ due told
 abbrev Comes : Outcome → (CoreState → Told → Type 0) → Type 0
 Comes r due = Exactly r.0 (due r.3)
 
-open_exactly : (n : ℕ) (left : Rooms) (s : CoreState) (conn file number id level : ℕ) (c : CreateCallItem) → Exactly (opened_told id level (ask n left s (open_ask conn file number c)).0) (IsOpenDue left (way left s (open_ask conn file number c)).1 (open_ask conn file number c) (open_claim file number c) id level)
+open_exactly : (n : ℕ) (left : Rooms) (s : CoreState) (conn number id : ℕ) (cache : Caching) (row : Open) (c : CreateCallItem) → Exactly (opened_told id cache (ask n left s (open_ask conn number row c)).0) (IsOpenDue left (way left s (open_ask conn number row c)).1 (open_ask conn number row c) (open_claim s.names number row c) id cache)
 unfolding open_ask
-open_exactly n left s conn file number id level c told =
-    let a = open_ask conn file number c in
+open_exactly n left s conn number id cache row c told =
+    let a = open_ask conn number row c in
+    let claim = open_claim s.names number row c in
     let r = (ask n left s a).0 in
     let t = (way left s a).1 in
     let what = Share (access_of c.desired_access) (deny_of (access_of c.desired_access) c.share_access) in (
-      λ e. subst (IsOpenDue left t a (open_claim file number c) id level) e (due_forth left t a (open_claim file number c) id level r refl refl ((ask_due n left s a what r refl).0 refl)),
-      λ due. due_back left t a (open_claim file number c) id level r (λ answer k. (ask_due n left s a what answer refl).1 k) told due,
+      λ e. subst (IsOpenDue left t a claim id cache) e (due_forth left t a claim id cache r refl refl ((ask_due n left s a what r refl).0 refl)),
+      λ due. due_back left t a claim id cache r (λ answer k. (ask_due n left s a what answer refl).1 k) told due,
     )
 
 -- ---- by the checks before
@@ -122,17 +129,21 @@ module _ (n : ℕ) (s : CoreState) (l : Lists) where
   by_room true refused plan due rest = rest
   by_room false refused plan due rest = failed_exactly refused
 
-  file_exactly : (others : ℕ) (h : SmbHead) (client : List ℕ) (place : Place) (c : CreateCallItem) (found : Option ℕ) → Comes (carried n s l (open_found s others l h client place c found)) (λ t. OnceFound status.ObjectNameNotFound (IsFileDue s t others l place.connection c) found)
+  file_exactly : (others : ℕ) (h : SmbHead) (client : List ℕ) (place : Place) (c : CreateCallItem) (found : Option ℕ) → Comes (carried n s l (open_found s others l h client place c found)) (λ t. OnceFound status.ObjectNameNotFound (IsFileDue s t others l client place c) found)
   file_exactly others h client place c None = failed_exactly status.ObjectNameNotFound
   file_exactly others h client place c (Some file) =
-      let next = λ (t : CoreState). IsNextDue s t others l place.connection c file in
-      by_check (c.disposition == 2) status.ObjectNameCollision (open_file s others l h client place c file) (λ t. FailsIf (not (has_room_for_open others l (s.counter + 1))) status.InsufficientResources (next t))
+      let row = open_row file client place c in
+      let next = λ (t : CoreState). IsNextDue s t others l place.connection c row in
+      let room = λ (t : CoreState). FailsIf (not (has_room_for_open others l (s.counter + 1))) status.InsufficientResources (next t) in
+      let elsewhere = is_key_elsewhere file (lease_key client (key_asked c)) l in
+      by_check (c.disposition == 2) status.ObjectNameCollision (open_keyed s others l h client place c file) (λ t. FailsIf elsewhere status.InvalidParameter (room t))
+      (by_check elsewhere status.InvalidParameter (open_file s others l h client place c file) room
       (by_room (has_room_for_open others l (s.counter + 1)) status.InsufficientResources (open_as s others l h client place c file (s.counter + 1)) next
-      (open_exactly n (rooms_left others l) (drawn s) place.connection file (s.counter + 1) (id_of s (s.counter + 1)) _ c))
+      (open_exactly n (rooms_left others l) (drawn s) place.connection (s.counter + 1) (id_of s (s.counter + 1)) _ row c)))
 
-  create_exactly : (files : List (List ℕ)) (others : ℕ) (h : SmbHead) (client : List ℕ) (c : CreateCallItem) (place : Place) → Comes (carried n s l (create_on s files others l h client c place)) (λ t. IsDispositionDue s t files others l place.connection c)
+  create_exactly : (files : List (List ℕ)) (others : ℕ) (h : SmbHead) (client : List ℕ) (c : CreateCallItem) (place : Place) → Comes (carried n s l (create_on s files others l h client c place)) (λ t. IsDispositionDue s t files others l client place c)
   create_exactly files others h client c place =
-      let named = λ (t : CoreState). OnceFound status.ObjectNameNotFound (IsFileDue s t others l place.connection c) (file_spelled files c.name) in
+      let named = λ (t : CoreState). OnceFound status.ObjectNameNotFound (IsFileDue s t others l client place c) (file_spelled files c.name) in
       by_check (nat_lt 5 c.disposition) status.InvalidParameter _ (λ t. FailsIf (overwrites c.disposition) status.NotSupported (named t))
       (by_check (overwrites c.disposition) status.NotSupported (open_found s others l h client place c (file_spelled files c.name)) named
       (file_exactly others h client place c (file_spelled files c.name)))
@@ -145,60 +156,59 @@ module _ (n : ℕ) (s : CoreState) (l : Lists) where
   by_session go due None rest = failed_exactly status.UserSessionDeleted
   by_session go due (Some session) rest = rest session
 
-  -- a place that is found is on the connection
-  by_tree : (go : Place → Plan) (due : CoreState → ℕ → Told → Type 0) (place : Place) (b : Bool) → Comes (carried n s l (go place)) (λ t. due t place.connection)
-      → Comes (carried n s l (on_tree go (if b then Some place else None))) (λ t. OnceFound status.NetworkNameDeleted (λ (at : Place). due t place.connection) (if b then Some place else None))
-  by_tree go due place true rest = rest
-  by_tree go due place false rest = failed_exactly status.NetworkNameDeleted
+  by_tree : (go : Place → Plan) (due : CoreState → Place → Told → Type 0) (found : Option Place) → ((place : Place) → Comes (carried n s l (go place)) (λ t. due t place))
+      → Comes (carried n s l (on_tree go found)) (λ t. OnceFound status.NetworkNameDeleted (due t) found)
+  by_tree go due None rest = failed_exactly status.NetworkNameDeleted
+  by_tree go due (Some place) rest = rest place
 
 pub create_due : (n : ℕ) (s : CoreState) (files : List (List ℕ)) (others : ℕ) (l : Lists) (conn : ℕ) (h : SmbHead) (c : CreateCallItem) (told : Told) → ((outcome_of n s files others l conn h (Create c)).0 ≡ told) ↔ IsCreateDue s (outcome_of n s files others l conn h (Create c)).3 files others l conn h c told
 unfolding planned commanded create
 create_due n s files others l conn h c told =
     let at = λ (client : List ℕ) (session : ℕ). tree_named l conn client h session in
     by_client n s l (λ client. commanded s files others l conn h (Create c) client)
-    (λ t client. OnceFound status.UserSessionDeleted (λ session. OnceFound status.NetworkNameDeleted (λ (place : Place). IsDispositionDue s t files others l conn c) (at client session)) (session_named s l conn h.session_id)) (client_of conn l)
+    (λ t client. OnceFound status.UserSessionDeleted (λ session. OnceFound status.NetworkNameDeleted (λ (place : Place). IsDispositionDue s t files others l client place c) (at client session)) (session_named s l conn h.session_id)) (client_of conn l)
     (λ client. by_session n s l (λ session. on_tree (create_on s files others l h client c) (at client session))
-    (λ t session. OnceFound status.NetworkNameDeleted (λ (place : Place). IsDispositionDue s t files others l conn c) (at client session)) (session_named s l conn h.session_id)
-    (λ session. by_tree n s l (create_on s files others l h client c) (λ t k. IsDispositionDue s t files others l k c) (record { connection = conn; session = session; tree = tree_id h.route }) _
-    (create_exactly n s l files others h client c (record { connection = conn; session = session; tree = tree_id h.route })))) told
+    (λ t session. OnceFound status.NetworkNameDeleted (λ (place : Place). IsDispositionDue s t files others l client place c) (at client session)) (session_named s l conn h.session_id)
+    (λ session. by_tree n s l (create_on s files others l h client c) (λ t place. IsDispositionDue s t files others l client place c) (at client session) (λ place. create_exactly n s l files others h client c place))) told
 
 -- ---- what is open is held
 
-not_open : {refused : SmbStatus} {id level : ℕ} → Failed refused ≡ Opened id level → ⊥
+not_open : {refused : SmbStatus} {id : ℕ} {cache : Caching} → Failed refused ≡ Opened id cache → ⊥
 not_open e = cc
 
-not_pending : {number id level : ℕ} → Pending number ≡ Opened id level → ⊥
+not_pending : {number id : ℕ} {cache : Caching} → Pending number ≡ Opened id cache → ⊥
 not_pending e = cc
 
-same_number : {id level opened of : ℕ} → Opened id level ≡ Opened opened of → (id ≡ opened) × (level ≡ of)
+same_number : {id opened : ℕ} {cache of : Caching} → Opened id cache ≡ Opened opened of → (id ≡ opened) × (cache ≡ of)
 same_number e = (cc, cc)
 
 -- who is told that it is open was granted its share
-granted_from : (id level opened of : ℕ) (answer : Answer) → opened_told id level answer ≡ Opened opened of → ((id ≡ opened) × (level ≡ of)) × (c : Claim) × (answer ≡ answers.Granted c)
-granted_from id level opened of (answers.Granted c) e = (same_number e, c, refl)
-granted_from id level opened of (answers.Conflict c) e = absurd (not_open e)
-granted_from id level opened of (answers.Full limit) e = absurd (not_open e)
-granted_from id level opened of (answers.Queued number) e = absurd (not_pending e)
-granted_from id level opened of (answers.NoGrace clock) e = absurd (not_open e)
-granted_from id level opened of (answers.Recall c) e = absurd (not_open e)
-granted_from id level opened of (answers.Grace until) e = absurd (not_open e)
-granted_from id level opened of answers.NotRecorded e = absurd (not_open e)
-granted_from id level opened of answers.NotHeld e = absurd (not_open e)
-granted_from id level opened of answers.StoreFailed e = absurd (not_open e)
+granted_from : (id : ℕ) (cache : Caching) (opened : ℕ) (of : Caching) (answer : Answer) → opened_told id cache answer ≡ Opened opened of → ((id ≡ opened) × (cache ≡ of)) × (c : Claim) × (answer ≡ answers.Granted c)
+granted_from id cache opened of (answers.Granted c) e = (same_number e, c, refl)
+granted_from id cache opened of (answers.Conflict c) e = absurd (not_open e)
+granted_from id cache opened of (answers.Full limit) e = absurd (not_open e)
+granted_from id cache opened of (answers.Queued number) e = absurd (not_pending e)
+granted_from id cache opened of (answers.NoGrace clock) e = absurd (not_open e)
+granted_from id cache opened of (answers.Recall c) e = absurd (not_open e)
+granted_from id cache opened of (answers.Grace until) e = absurd (not_open e)
+granted_from id cache opened of answers.NotRecorded e = absurd (not_open e)
+granted_from id cache opened of answers.NotHeld e = absurd (not_open e)
+granted_from id cache opened of answers.StoreFailed e = absurd (not_open e)
 
 lookup_last : {X : Type 0} (k : ℕ) (x : X) (es : List (ℕ × X)) → lookup (nat_eq k) es ≡ None → lookup (nat_eq k) (es ++ (k, x) ∷ []) ≡ Some x
 lookup_last k x [] none = ap (λ b. cond b (Some x) None) (equal_self k)
 lookup_last k x (e ∷ es) none = elim (cases_Bool (eqb k e.0)) [ inl h ↦ absurd (some_none (rw h at none)) | inr h ↦ rw h (lookup_last k x es (rw h at none)) ]
 
 -- what is told open by a plan, and passes each of these checks, is the open that is asked for
-opened_by : (n : ℕ) (s : CoreState) (l : Lists) (id level : ℕ) (unknown changes makes room : Bool) (plan : Plan)
-    → (carried n s l (if unknown then Fails status.InvalidParameter else if changes then Fails status.NotSupported else if makes then Fails status.ObjectNameCollision else if room then plan else Fails status.InsufficientResources)).0 ≡ Opened id level
-    → ((if unknown then Fails status.InvalidParameter else if changes then Fails status.NotSupported else if makes then Fails status.ObjectNameCollision else if room then plan else Fails status.InsufficientResources) ≡ plan) × (room ≡ true)
-opened_by n s l id level true changes makes room plan e = absurd (not_open e)
-opened_by n s l id level false true makes room plan e = absurd (not_open e)
-opened_by n s l id level false false true room plan e = absurd (not_open e)
-opened_by n s l id level false false false true plan e = (refl, refl)
-opened_by n s l id level false false false false plan e = absurd (not_open e)
+opened_by : (n : ℕ) (s : CoreState) (l : Lists) (id : ℕ) (cache : Caching) (unknown changes makes elsewhere room : Bool) (plan : Plan)
+    → (carried n s l (if unknown then Fails status.InvalidParameter else if changes then Fails status.NotSupported else if makes then Fails status.ObjectNameCollision else if elsewhere then Fails status.InvalidParameter else if room then plan else Fails status.InsufficientResources)).0 ≡ Opened id cache
+    → ((if unknown then Fails status.InvalidParameter else if changes then Fails status.NotSupported else if makes then Fails status.ObjectNameCollision else if elsewhere then Fails status.InvalidParameter else if room then plan else Fails status.InsufficientResources) ≡ plan) × (room ≡ true) × (elsewhere ≡ false)
+opened_by n s l id cache true changes makes elsewhere room plan e = absurd (not_open e)
+opened_by n s l id cache false true makes elsewhere room plan e = absurd (not_open e)
+opened_by n s l id cache false false true elsewhere room plan e = absurd (not_open e)
+opened_by n s l id cache false false false true room plan e = absurd (not_open e)
+opened_by n s l id cache false false false false true plan e = (refl, refl, refl)
+opened_by n s l id cache false false false false false plan e = absurd (not_open e)
 
 -- the plan of a file that is found
 unfoldable found_plan : CoreState → ℕ → Lists → SmbHead → List ℕ → Place → CreateCallItem → ℕ → Plan
@@ -206,6 +216,7 @@ found_plan s others l h client place c file =
     if nat_lt 5 c.disposition then Fails status.InvalidParameter
     else if overwrites c.disposition then Fails status.NotSupported
     else if c.disposition == 2 then Fails status.ObjectNameCollision
+    else if is_key_elsewhere file (lease_key client (key_asked c)) l then Fails status.InvalidParameter
     else if has_room_for_open others l (s.counter + 1) then open_as s others l h client place c file (s.counter + 1) else Fails status.InsufficientResources
 
 found_is : (s : CoreState) (files : List (List ℕ)) (others : ℕ) (l : Lists) (conn : ℕ) (h : SmbHead) (client : List ℕ) (c : CreateCallItem) (session file : ℕ) (place : Place) → IsOnTree s l conn h client session place → file_spelled files c.name ≡ Some file
@@ -217,14 +228,17 @@ found_is s files others l conn h client c session file place named at =
     ∙ ap (on_tree (create_on s files others l h client c)) named.1
     ∙ ap (λ (found : Option ℕ). if nat_lt 5 c.disposition then Fails status.InvalidParameter else if overwrites c.disposition then Fails status.NotSupported else open_found s others l h client place c found) at
 
-module _ (n : ℕ) (s : CoreState) (files : List (List ℕ)) (others : ℕ) (l : Lists) (conn : ℕ) (h : SmbHead) (client : List ℕ) (c : CreateCallItem) (session file id level : ℕ) (place : Place)
-    (named : IsOnTree s l conn h client session place) (at : file_spelled files c.name ≡ Some file) (e : (outcome_of n s files others l conn h (Create c)).0 ≡ Opened id level) where
+module _ (n : ℕ) (s : CoreState) (files : List (List ℕ)) (others : ℕ) (l : Lists) (conn : ℕ) (h : SmbHead) (client : List ℕ) (c : CreateCallItem) (session file id : ℕ) (cache : Caching) (place : Place)
+    (named : IsOnTree s l conn h client session place) (at : file_spelled files c.name ≡ Some file) (e : (outcome_of n s files others l conn h (Create c)).0 ≡ Opened id cache) where
   -- the number, the ask and its answer
   abbrev number : ℕ
   number = s.counter + 1
 
+  abbrev row : Open
+  row = open_row file client place c
+
   abbrev asks : Ask
-  asks = open_ask place.connection file number c
+  asks = open_ask place.connection number row c
 
   abbrev answered : Answer × List Effect × CoreState
   answered = ask n (rooms_left others l) (drawn s) asks
@@ -232,62 +246,69 @@ module _ (n : ℕ) (s : CoreState) (files : List (List ℕ)) (others : ℕ) (l :
   abbrev is_planned : planned s files others l conn h (Create c) ≡ found_plan s others l h client place c file
   is_planned = found_is s files others l conn h client c session file place named at
 
-  passes : (found_plan s others l h client place c file ≡ open_as s others l h client place c file number) × (has_room_for_open others l number ≡ true)
+  passes : (found_plan s others l h client place c file ≡ open_as s others l h client place c file number) × (has_room_for_open others l number ≡ true) × (is_key_elsewhere file (lease_key client (key_asked c)) l ≡ false)
   unfolding found_plan
   passes =
-      opened_by n s l id level (nat_lt 5 c.disposition) (overwrites c.disposition) (c.disposition == 2) (has_room_for_open others l number) (open_as s others l h client place c file number)
+      opened_by n s l id cache (nat_lt 5 c.disposition) (overwrites c.disposition) (c.disposition == 2) (is_key_elsewhere file (lease_key client (key_asked c)) l) (has_room_for_open others l number) (open_as s others l h client place c file number)
       (ap (λ (p : Plan). (carried n s l p).0) (sym is_planned) ∙ e)
 
   abbrev is_asked : outcome_of n s files others l conn h (Create c) ≡ carried n s l (open_as s others l h client place c file number)
   is_asked = ap (carried n s l) (is_planned ∙ passes.0)
 
-  granted : ((id_of s number ≡ id) × (level_held answered.2 file number ≡ level)) × (g : Claim) × (answered.0 ≡ answers.Granted g)
-  granted = granted_from (id_of s number) (level_held answered.2 file number) id level answered.0 (ap (λ (o : Outcome). o.0) (sym is_asked) ∙ e)
+  granted : ((id_of s number ≡ id) × (caching answered.2 number row ≡ cache)) × (g : Claim) × (answered.0 ≡ answers.Granted g)
+  granted = granted_from (id_of s number) (caching answered.2 number row) id cache answered.0 (ap (λ (o : Outcome). o.0) (sym is_asked) ∙ e)
 
   pub open_numbered : id ≡ id_of s (s.counter + 1)
   open_numbered = sym granted.0.0
 
-  pub open_level : level ≡ level_held (outcome_of n s files others l conn h (Create c)).3 file (s.counter + 1)
-  open_level = sym granted.0.1 ∙ ap (λ (o : Outcome). level_held o.3 file number) (sym is_asked)
+  pub open_cache : cache ≡ caching (outcome_of n s files others l conn h (Create c)).3 (s.counter + 1) (open_row file client place c)
+  open_cache = sym granted.0.1 ∙ ap (λ (o : Outcome). caching o.3 number row) (sym is_asked)
 
-  pub open_stands : open_of (s.counter + 1) (outcome_of n s files others l conn h (Create c)).2 ≡ Some (open_row file client place)
+  pub open_stands : open_of (s.counter + 1) (outcome_of n s files others l conn h (Create c)).2 ≡ Some (open_row file client place c)
   open_stands =
       ap (λ (o : Outcome). open_of number o.2) is_asked
-      ∙ ap (λ (a : Answer). open_of number (opened_lists l number (open_row file client place) (create_row h place number (open_row file client place)) a)) granted.2
-      ∙ lookup_last number (open_row file client place) l.opens (open_new others l number passes.1)
+      ∙ ap (λ (a : Answer). open_of number (opened_lists l number row (create_row h place number row) a)) granted.2
+      ∙ ap (λ (m : Lists). open_of number m) (with_keeps number row l)
+      ∙ lookup_last number row l.opens (open_new others l number passes.1)
+
+  pub open_leased : IsLeased (outcome_of n s files others l conn h (Create c)).2 (s.counter + 1) (open_row file client place c)
+  open_leased =
+      subst (λ (m : Lists). IsLeased m number row)
+      (sym (ap (λ (o : Outcome). o.2) is_asked ∙ ap (λ (a : Answer). opened_lists l number row (create_row h place number row) a) granted.2))
+      (comes_leased number row l (λ key own. free_lease file key l (key_free row key l own passes.2)))
 
   pub open_shares : IsGood s → held_at (outcome_of n s files others l conn h (Create c)).3 (ShareOf file (owners.Open (s.counter + 1))) ≡ Share (access_of c.desired_access) (deny_of (access_of c.desired_access) c.share_access) ∷ []
   unfolding open_ask
   open_shares good =
       ap (λ (o : Outcome). held_at o.3 (ShareOf file (owners.Open number))) is_asked
-      ∙ ap (map share_held) (ask_shared n (rooms_left others l) (drawn s) asks (access_of c.desired_access) (deny_of (access_of c.desired_access) c.share_access) granted.1 (drawn_good s good) (equal_self number) refl refl granted.2)
+      ∙ ap (map share_held) (ask_shared n (rooms_left others l) (drawn s) asks (access_of c.desired_access) (deny_of (access_of c.desired_access) c.share_access) granted.1 (drawn_good s good) (party_fits number row) refl refl granted.2)
 
 -- ---- what is refused changes nothing but caches
 
-opened_failed : {id level : ℕ} {refused : SmbStatus} → Opened id level ≡ Failed refused → ⊥
+opened_failed : {id : ℕ} {cache : Caching} {refused : SmbStatus} → Opened id cache ≡ Failed refused → ⊥
 opened_failed e = cc
 
 pending_failed : {number : ℕ} {refused : SmbStatus} → Pending number ≡ Failed refused → ⊥
 pending_failed e = cc
 
-same_lists : (l : Lists) (key id level : ℕ) (row : Open) (waiting : Waiting) (refused : SmbStatus) (answer : Answer) → opened_told id level answer ≡ Failed refused → opened_lists l key row waiting answer ≡ l
-same_lists l key id level row waiting refused (answers.Granted c) e = absurd (opened_failed e)
-same_lists l key id level row waiting refused (answers.Conflict c) e = refl
-same_lists l key id level row waiting refused (answers.Full limit) e = refl
-same_lists l key id level row waiting refused (answers.Queued waiter) e = absurd (pending_failed e)
-same_lists l key id level row waiting refused (answers.NoGrace clock) e = refl
-same_lists l key id level row waiting refused (answers.Recall c) e = refl
-same_lists l key id level row waiting refused (answers.Grace until) e = refl
-same_lists l key id level row waiting refused answers.NotRecorded e = refl
-same_lists l key id level row waiting refused answers.NotHeld e = refl
-same_lists l key id level row waiting refused answers.StoreFailed e = refl
+same_lists : (l : Lists) (key id : ℕ) (cache : Caching) (row : Open) (waiting : Waiting) (refused : SmbStatus) (answer : Answer) → opened_told id cache answer ≡ Failed refused → opened_lists l key row waiting answer ≡ l
+same_lists l key id cache row waiting refused (answers.Granted c) e = absurd (opened_failed e)
+same_lists l key id cache row waiting refused (answers.Conflict c) e = refl
+same_lists l key id cache row waiting refused (answers.Full limit) e = refl
+same_lists l key id cache row waiting refused (answers.Queued waiter) e = absurd (pending_failed e)
+same_lists l key id cache row waiting refused (answers.NoGrace clock) e = refl
+same_lists l key id cache row waiting refused (answers.Recall c) e = refl
+same_lists l key id cache row waiting refused (answers.Grace until) e = refl
+same_lists l key id cache row waiting refused answers.NotRecorded e = refl
+same_lists l key id cache row waiting refused answers.NotHeld e = refl
+same_lists l key id cache row waiting refused answers.StoreFailed e = refl
 
-same_claims : (n : ℕ) (left : Rooms) (s : CoreState) (conn file number id level : ℕ) (c : CreateCallItem) (refused : SmbStatus) → IsGood s → opened_told id level (ask n left (drawn s) (open_ask conn file number c)).0 ≡ Failed refused
-    → others_of (ask n left (drawn s) (open_ask conn file number c)).2.claims ≡ others_of s.claims
+same_claims : (n : ℕ) (left : Rooms) (s : CoreState) (conn number id : ℕ) (cache : Caching) (row : Open) (c : CreateCallItem) (refused : SmbStatus) → IsGood s → opened_told id cache (ask n left (drawn s) (open_ask conn number row c)).0 ≡ Failed refused
+    → others_of (ask n left (drawn s) (open_ask conn number row c)).2.claims ≡ others_of s.claims
 unfolding open_ask drawn
-same_claims n left s conn file number id level c refused good e =
-    let a = open_ask conn file number c in
-    ap others_of ((ask_own n left (drawn s) a (drawn_good s good) (equal_self number)).claims (λ g at. opened_failed (sym (ap (opened_told id level) at) ∙ e)))
+same_claims n left s conn number id cache row c refused good e =
+    let a = open_ask conn number row c in
+    ap others_of ((ask_own n left (drawn s) a (drawn_good s good) (party_fits number row)).claims (λ g at. opened_failed (sym (ap (opened_told id cache) at) ∙ e)))
     ∙ ask_way_keeps (λ x. others_of x.claims) left (drawn s) a (λ d. begun_others (drawn s) d)
 
 module _ (n : ℕ) (s : CoreState) (l : Lists) (good : IsGood s) where
@@ -309,16 +330,19 @@ module _ (n : ℕ) (s : CoreState) (l : Lists) (good : IsGood s) where
   asks_keeps : (others : ℕ) (h : SmbHead) (client : List ℕ) (place : Place) (c : CreateCallItem) (file : ℕ) → Keeps (open_as s others l h client place c file (s.counter + 1))
   asks_keeps others h client place c file refused e =
       let number = s.counter + 1 in
-      let level = level_held (ask n (rooms_left others l) (drawn s) (open_ask place.connection file number c)).2 file number in (
-        same_lists l number (id_of s number) level (open_row file client place) (create_row h place number (open_row file client place)) refused (ask n (rooms_left others l) (drawn s) (open_ask place.connection file number c)).0 e,
-        same_claims n (rooms_left others l) s place.connection file number (id_of s number) level c refused good e,
+      let row = open_row file client place c in
+      let r = ask n (rooms_left others l) (drawn s) (open_ask place.connection number row c) in
+      let cache = caching r.2 number row in (
+        same_lists l number (id_of s number) cache row (create_row h place number row) refused r.0 e,
+        same_claims n (rooms_left others l) s place.connection number (id_of s number) cache row c refused good e,
       )
 
   found_keeps : (others : ℕ) (h : SmbHead) (client : List ℕ) (place : Place) (c : CreateCallItem) (found : Option ℕ) → Keeps (open_found s others l h client place c found)
   found_keeps others h client place c None = fails_keeps status.ObjectNameNotFound
   found_keeps others h client place c (Some file) =
-      keeps_if (c.disposition == 2) status.ObjectNameCollision (open_file s others l h client place c file)
-      (keeps_room (has_room_for_open others l (s.counter + 1)) status.InsufficientResources (open_as s others l h client place c file (s.counter + 1)) (asks_keeps others h client place c file))
+      keeps_if (c.disposition == 2) status.ObjectNameCollision (open_keyed s others l h client place c file)
+      (keeps_if (is_key_elsewhere file (lease_key client (key_asked c)) l) status.InvalidParameter (open_file s others l h client place c file)
+      (keeps_room (has_room_for_open others l (s.counter + 1)) status.InsufficientResources (open_as s others l h client place c file (s.counter + 1)) (asks_keeps others h client place c file)))
 
   create_keeps : (files : List (List ℕ)) (others : ℕ) (h : SmbHead) (client : List ℕ) (c : CreateCallItem) (place : Place) → Keeps (create_on s files others l h client c place)
   create_keeps files others h client c place =

@@ -9,7 +9,7 @@ use Rattle.xl_wait.specs.Waiting.{no_rows}
 use Rattle.xl_core.specs.Decide.{ask}
 use Rattle.xl_core.specs.Deeds.{all_done, all_told_of, answers_of}
 use Rattle.xl_core.specs.State.{CoreState, drawn}
-use Rattle.xl_front_smb.specs.Ending.{numbers_under, all_dismissed, smb_end_deeds, smb_end}
+use Rattle.xl_front_smb.specs.Ending.{leavers_under, all_dismissed, smb_end_deeds, smb_end}
 use Rattle.xl_front_smb.specs.FrontSmb.{sent_by, head_heard, plan_for, deeds_for, smb_deeds, reply_for, smb_reply, finals_for, smb_replies, stepped, smb_step}
 use Rattle.xl_front_smb.specs.Plans.{Plan, Fails, Does, Opens, Locks, deeds_of, told_by, lists_by, carried}
 use Rattle.xl_front_smb.specs.Replies.{reply_of}
@@ -75,10 +75,10 @@ step_replies n exports others f s conn bytes = heard_replies n exports others f 
 
 -- ---- the end of a connection
 
-pub end_does : (n : ℕ) (f : FrontSmb) (s : CoreState) (conn : ℕ) → (smb_end f s conn).2 ≡ all_done n s (smb_end_deeds f conn)
+pub end_does : (n : ℕ) (f : FrontSmb) (s : CoreState) (conn : ℕ) → (smb_end f s conn).2 ≡ all_done n s (smb_end_deeds f s conn)
 unfolding smb_end smb_end_deeds
-end_does n f s conn = sym (ended_done n s (numbers_under (scope.Connection conn) f.state))
+end_does n f s conn = sym (ended_done n s (leavers_under s.names (scope.Connection conn) f.state))
 
-pub end_tells : (n : ℕ) (f : FrontSmb) (s : CoreState) (conn : ℕ) → (smb_end f s conn).0 ≡ all_told_of n s (smb_end_deeds f conn)
+pub end_tells : (n : ℕ) (f : FrontSmb) (s : CoreState) (conn : ℕ) → (smb_end f s conn).0 ≡ all_told_of n s (smb_end_deeds f s conn)
 unfolding smb_end smb_end_deeds
-end_tells n f s conn = sym (ended_told n s (numbers_under (scope.Connection conn) f.state))
+end_tells n f s conn = sym (ended_told n s (leavers_under s.names (scope.Connection conn) f.state))

@@ -1,5 +1,5 @@
 -- Opens, tree connects and sessions go one after the other.
-use Rattle.std.proofs.Common.{◌≡◌, ℕ, ◌+◌, ◌<◌, Bool, true, false, eqb, List, [], ◌∷◌, ◌++◌, Option, Some, None, is_some, length, drop, get_or, refl, sym, ap, subst, ◌∙◌, inl, inr, append_assoc}
+use Rattle.std.proofs.Common.{◌≡◌, ℕ, ◌+◌, ◌<◌, Bool, true, false, eqb, List, [], ◌∷◌, ◌++◌, Option, Some, None, is_some, length, map, drop, get_or, refl, sym, ap, subst, ◌∙◌, inl, inr, append_assoc}
 use Rattle.std.specs.Prelude.{nat_eq, if◌then◌else◌}
 use Rattle.std.specs.List.{AllByRecursion, IsDistinct, list_any}
 use Rattle.std.specs.Map.{keys_of, lookup, remove_entry}
@@ -17,20 +17,21 @@ use Rattle.xl_smb_state.specs.declared.row.Session.{Session}
 use Rattle.xl_smb_state.specs.declared.row.Tree.{Tree}
 use Rattle.xl_smb_state.specs.declared.row.Waiting.{Waiting}
 use Rattle.xl_smb_state.specs.Links.{IsHolderLinked, IsOpenLinked, IsSound, AreDistinct}
-use Rattle.xl_smb_state.specs.State.{Lists, keys_where, connection_of, connection_dropped, session_of, sessions_on, tree_of, tree_dropped, trees_of, open_of, covers_holder, opens_under, closed, waiting_of}
+use Rattle.xl_smb_state.specs.State.{Lists, keys_where, connection_of, connection_dropped, session_of, sessions_on, tree_of, tree_dropped, trees_of, open_of, covers_holder, opens_under, creates_under, closed, waiting_of}
 use Rattle.xl_smb_state.proofs.LinkLaws.{place_session}
 use Rattle.xl_smb_state.proofs.RowLaws.{none_out, same_Some, equal_from, equal_self, all_both, none_where}
 use Rattle.xl_smb_state.proofs.WalkLaws.{opens_walk, sessions_walk, trees_walk, free_by_session}
-use Rattle.xl_base.specs.declared.name.Party.TheVariants as parties
+use Rattle.xl_base.specs.declared.name.Party.{Party}
+use Rattle.xl_names.specs.declared.name.Name.{Name}
 use Rattle.xl_core.specs.Deeds.{all_done, all_told_of}
-use Rattle.xl_core.specs.Settle.{end_party}
+use Rattle.xl_core.specs.Settle.{close_open}
 use Rattle.xl_core.specs.State.{CoreState}
 use Rattle.xl_core.specs.Ticks.{behind_told}
 use Rattle.xl_core.specs.declared.ask.Effect.{Effect}
 use Rattle.xl_smb_locks.specs.Finals.{ended_with, request_ended, is_cancelled, and_sent, dismissed}
 use Rattle.xl_smb_locks.specs.declared.status.SmbStatus.{SmbStatus}
 use Rattle.xl_smb_locks.specs.declared.status.SmbStatus.TheVariants.{Cancelled}
-use Rattle.xl_front_smb.specs.Ending.{ends, all_ended, all_closed, trees_dropped, session_gone, sessions_gone}
+use Rattle.xl_front_smb.specs.Ending.{numbers_under, party_going, leavers, without_party, leavers_under, ends, all_ended, all_closed, trees_dropped, session_gone, sessions_gone}
 
 cons_head : {n m : ℕ} {ns ms : List ℕ} → n ∷ ns ≡ m ∷ ms → n ≡ m
 cons_head h = cc
@@ -173,24 +174,66 @@ gone_step s numbers i d within = ap (λ (ns : List ℕ). sessions_gone ns s) (sy
 pub no_connection : (conn : ℕ) (s : Lists) → connection_of conn s ≡ None → connection_dropped conn s ≡ s
 no_connection conn s h = ap (λ (es : List (ℕ × Connection)). record s { connections = es }) (none_out (nat_eq conn) s.connections h)
 
+-- ---- those that are closed, with what goes with them
+
+-- one more is closed
+pub leavers_step : (names : List Name) (s : Lists) (numbers : List ℕ) (i d : ℕ) (before : List (ℕ × Option Party)) → i < length numbers
+    → (before ++ (get_or numbers i d, party_going names s (get_or numbers i d)) ∷ []) ++ leavers names (closed (get_or numbers i d) s) (drop (i + 1) numbers) ≡ before ++ leavers names s (drop i numbers)
+leavers_step names s numbers i d before within =
+    let number = get_or numbers i d in
+    append_assoc before ((number, party_going names s number) ∷ []) (leavers names (closed number s) (drop (i + 1) numbers))
+    ∙ ap (λ (ns : List ℕ). before ++ leavers names s ns) (sym (drop_more numbers i d within))
+
+pub leavers_next : (names : List Name) (s new : Lists) (numbers : List ℕ) (i d : ℕ) (before after all : List (ℕ × Option Party)) (party : Option Party) → i < length numbers → after ≡ before ++ (get_or numbers i d, party) ∷ [] → party ≡ party_going names s (get_or numbers i d)
+    → new ≡ closed (get_or numbers i d) s → before ++ leavers names s (drop i numbers) ≡ all → after ++ leavers names new (drop (i + 1) numbers) ≡ all
+leavers_next names s new numbers i d before after all party within push going close old =
+    (λ j. push j ++ leavers names (close j) (drop (i + 1) numbers))
+    ∙ ap (λ (p : Option Party). (before ++ (get_or numbers i d, p) ∷ []) ++ leavers names (closed (get_or numbers i d) s) (drop (i + 1) numbers)) going
+    ∙ leavers_step names s numbers i d before within
+    ∙ old
+
+-- one more that a request waits to make
+pub creates_step : (numbers : List ℕ) (i d : ℕ) (before : List (ℕ × Option Party)) → i < length numbers → (before ++ (get_or numbers i d, None) ∷ []) ++ without_party (drop (i + 1) numbers) ≡ before ++ without_party (drop i numbers)
+creates_step numbers i d before within =
+    append_assoc before ((get_or numbers i d, None) ∷ []) (without_party (drop (i + 1) numbers)) ∙ ap (λ (ns : List ℕ). before ++ without_party ns) (sym (drop_more numbers i d within))
+
+numbers_of_leavers : (names : List Name) (s : Lists) (numbers : List ℕ) → map (λ e. e.0) (leavers names s numbers) ≡ numbers
+numbers_of_leavers names s [] = refl
+numbers_of_leavers names s (number ∷ numbers) = ap (λ (ns : List ℕ). number ∷ ns) (numbers_of_leavers names (closed number s) numbers)
+
+numbers_without : (numbers : List ℕ) → map (λ e. e.0) (without_party numbers) ≡ numbers
+numbers_without [] = refl
+numbers_without (number ∷ numbers) = ap (λ (ns : List ℕ). number ∷ ns) (numbers_without numbers)
+
+map_both : (xs ys : List (ℕ × Option Party)) → map (λ e. e.0) (xs ++ ys) ≡ map (λ e. e.0) xs ++ map (λ e. e.0) ys
+map_both [] ys = refl
+map_both (x ∷ xs) ys = ap (λ (ns : List ℕ). x.0 ∷ ns) (map_both xs ys)
+
+-- they are those under it, and those that requests under it wait to make
+pub numbers_going : (names : List Name) (under : Scope) (s : Lists) → map (λ e. e.0) (leavers_under names under s) ≡ numbers_under under s
+numbers_going names under s =
+    map_both (leavers names s (opens_under under s)) (without_party (creates_under under s))
+    ∙ ap (λ (ns : List ℕ). ns ++ map (λ e. e.0) (without_party (creates_under under s))) (numbers_of_leavers names s (opens_under under s))
+    ∙ ap (λ (ns : List ℕ). opens_under under s ++ ns) (numbers_without (creates_under under s))
+
 -- ---- the core
 
-pub ended_step : (s : CoreState) (told : List Effect) (numbers : List ℕ) (i d : ℕ) → i < length numbers
-    → behind_told (told ++ (end_party s (parties.Open (get_or numbers i d))).0) (all_ended (drop (i + 1) numbers) (end_party s (parties.Open (get_or numbers i d))).1) ≡ behind_told told (all_ended (drop i numbers) s)
-ended_step s told numbers i d within =
-    let number = get_or numbers i d in
-    let ended = end_party s (parties.Open number) in
-    let rest = all_ended (drop (i + 1) numbers) ended.1 in
+pub ended_step : (s : CoreState) (told : List Effect) (going : List (ℕ × Option Party)) (i : ℕ) (d : ℕ × Option Party) → i < length going
+    → behind_told (told ++ (close_open s (get_or going i d).0 (get_or going i d).1).0) (all_ended (drop (i + 1) going) (close_open s (get_or going i d).0 (get_or going i d).1).1) ≡ behind_told told (all_ended (drop i going) s)
+ended_step s told going i d within =
+    let e = get_or going i d in
+    let ended = close_open s e.0 e.1 in
+    let rest = all_ended (drop (i + 1) going) ended.1 in
     ap (λ (x : List Effect). (x, rest.1)) (append_assoc told ended.0 rest.0)
-    ∙ ap (λ (ns : List ℕ). behind_told told (all_ended ns s)) (sym (drop_more numbers i d within))
+    ∙ ap (λ (es : List (ℕ × Option Party)). behind_told told (all_ended es s)) (sym (drop_more going i d within))
 
-pub ended_done : (n : ℕ) (s : CoreState) (numbers : List ℕ) → all_done n s (ends numbers) ≡ (all_ended numbers s).1
+pub ended_done : (n : ℕ) (s : CoreState) (going : List (ℕ × Option Party)) → all_done n s (ends going) ≡ (all_ended going s).1
 ended_done n s [] = refl
-ended_done n s (number ∷ numbers) = ended_done n (end_party s (parties.Open number)).1 numbers
+ended_done n s (e ∷ going) = ended_done n (close_open s e.0 e.1).1 going
 
-pub ended_told : (n : ℕ) (s : CoreState) (numbers : List ℕ) → all_told_of n s (ends numbers) ≡ (all_ended numbers s).0
+pub ended_told : (n : ℕ) (s : CoreState) (going : List (ℕ × Option Party)) → all_told_of n s (ends going) ≡ (all_ended going s).0
 ended_told n s [] = refl
-ended_told n s (number ∷ numbers) = ap (λ (told : List Effect). (end_party s (parties.Open number)).0 ++ told) (ended_told n (end_party s (parties.Open number)).1 numbers)
+ended_told n s (e ∷ going) = ap (λ (told : List Effect). (close_open s e.0 e.1).0 ++ told) (ended_told n (close_open s e.0 e.1).1 going)
 
 -- ---- closing opens takes out no session and no tree connect
 

@@ -7,8 +7,7 @@ use Rattle.std.proofs.lemmas.Bool.{cases_Bool, true≢false}
 use Rattle.std.proofs.lemmas.Map.Keys.{IsDistinct-head, IsDistinct-tail}
 use Rattle.std.proofs.lemmas.Map.Made.{IsDistinct-keys_filter}
 use Rattle.xl_base.specs.Lists.{IsIn}
-use Rattle.xl_base.specs.declared.name.Party.TheVariants as parties
-use Rattle.xl_matrix.specs.Equal.{same_parties}
+use Rattle.xl_base.specs.declared.name.Party.{Party}
 use Rattle.xl_matrix.specs.declared.claim.Claim.{Claim}
 use Rattle.xl_wait.specs.declared.waiter.Waiter.{Waiter}
 use Rattle.xl_smb.specs.Calls.{Logoff, TreeDisconnect, Close}
@@ -25,10 +24,12 @@ use Rattle.xl_smb_state.specs.declared.row.Session.{Session}
 use Rattle.xl_smb_state.specs.declared.row.Tree.{Tree}
 use Rattle.xl_smb_state.proofs.RowLaws.{unequal_both, equal_self, equal_from, none_some, same_Some}
 use Rattle.xl_core.specs.Deeds.{all_done, all_told_of}
-use Rattle.xl_core.specs.Settle.{end_party, waits_for}
+use Rattle.xl_table.specs.Leaving.{goes}
+use Rattle.xl_table.specs.declared.leaver.Leaver.TheVariants as leavers
+use Rattle.xl_core.specs.Settle.{close_open as close_core, waits_as}
 use Rattle.xl_core.specs.State.{CoreState}
-use Rattle.xl_core.proofs.SettleLaws.{party_claims, party_waiters}
-use Rattle.xl_front_smb.specs.Ending.{numbers_under, ends, all_ended, all_closed, trees_dropped, session_gone, sessions_gone, connection_gone, requests_gone, smb_end}
+use Rattle.xl_core.proofs.SettleLaws.{open_claims, open_waiters}
+use Rattle.xl_front_smb.specs.Ending.{party_going, leavers_under, ends, all_ended, all_closed, trees_dropped, session_gone, sessions_gone, connection_gone, requests_gone, smb_end}
 use Rattle.xl_front_smb.specs.Checks.{session_named, tree_named, open_named, negotiated_by, in_session, on_tree, on_open}
 use Rattle.xl_front_smb.specs.Files.{close_open, close}
 use Rattle.xl_front_smb.specs.Plans.{Plan, Does, Outcome, carried}
@@ -36,7 +37,7 @@ use Rattle.xl_front_smb.specs.Requests.{commanded, planned}
 use Rattle.xl_front_smb.specs.Sessions.{logoff, disconnect, tree_disconnect}
 use Rattle.xl_smb_locks.specs.declared.status.SmbStatus.TheVariants.{UserSessionDeleted, NetworkNameDeleted, FileClosed}
 use Rattle.xl_front_smb.specs.declared.told.Told.TheVariants.{Failed, LoggedOff, Disconnected, Closed}
-use Rattle.xl_front_smb.specs.Laws.{rows_but, is_among, waits_among, Without, outcome_of, IsInSession, IsOnTree}
+use Rattle.xl_front_smb.specs.Laws.{rows_but, goes_among, waits_among, Without, outcome_of, IsInSession, IsOnTree}
 use Rattle.xl_front_smb.specs.State.{FrontSmb}
 use Rattle.xl_front_smb.proofs.EndLaws.{ended_done, dismissed_keeps}
 
@@ -49,37 +50,37 @@ both_not : (a b : Bool) → (a || b) ≡ false → (a ≡ false) × (b ≡ false
 both_not true b h = absurd (true≢false h)
 both_not false b h = (refl, h)
 
-claims_left : (numbers : List ℕ) (s : CoreState) (c : Claim) → IsIn c (all_ended numbers s).1.claims ↔ (IsIn c s.claims × (is_among numbers c.party ≡ false))
+claims_left : (going : List (ℕ × Option Party)) (s : CoreState) (c : Claim) → IsIn c (all_ended going s).1.claims ↔ (IsIn c s.claims × (goes_among going c ≡ false))
 claims_left [] s c = (λ h. (h, refl), λ h. h.0)
-claims_left (number ∷ numbers) s c =
-    let t = (end_party s (parties.Open number)).1 in
-    let one = same_parties c.party (parties.Open number) in
-    let later = claims_left numbers t c in
-    let now = party_claims s (parties.Open number) c in (
-      λ h. let k = later.0 h in let j = now.0 k.0 in (j.0, neither one (is_among numbers c.party) j.1 k.1),
-      λ h. let k = both_not one (is_among numbers c.party) h.1 in later.1 (now.1 (h.0, k.0), k.1),
+claims_left (e ∷ going) s c =
+    let t = (close_core s e.0 e.1).1 in
+    let one = goes (leavers.Open e.0 e.1) c in
+    let later = claims_left going t c in
+    let now = open_claims s e.0 e.1 c in (
+      λ h. let k = later.0 h in let j = now.0 k.0 in (j.0, neither one (goes_among going c) j.1 k.1),
+      λ h. let k = both_not one (goes_among going c) h.1 in later.1 (now.1 (h.0, k.0), k.1),
     )
 
-waiters_left : (numbers : List ℕ) (s : CoreState) (w : Waiter) → IsIn w (all_ended numbers s).1.waiters ↔ (IsIn w s.waiters × (waits_among numbers w ≡ false))
+waiters_left : (going : List (ℕ × Option Party)) (s : CoreState) (w : Waiter) → IsIn w (all_ended going s).1.waiters ↔ (IsIn w s.waiters × (waits_among going w ≡ false))
 waiters_left [] s w = (λ h. (h, refl), λ h. h.0)
-waiters_left (number ∷ numbers) s w =
-    let t = (end_party s (parties.Open number)).1 in
-    let one = waits_for (parties.Open number) w in
-    let later = waiters_left numbers t w in
-    let now = party_waiters s (parties.Open number) w in (
-      λ h. let k = later.0 h in let j = now.0 k.0 in (j.0, neither one (waits_among numbers w) j.1 k.1),
-      λ h. let k = both_not one (waits_among numbers w) h.1 in later.1 (now.1 (h.0, k.0), k.1),
+waiters_left (e ∷ going) s w =
+    let t = (close_core s e.0 e.1).1 in
+    let one = waits_as e.0 w in
+    let later = waiters_left going t w in
+    let now = open_waiters s e.0 e.1 w in (
+      λ h. let k = later.0 h in let j = now.0 k.0 in (j.0, neither one (waits_among going w) j.1 k.1),
+      λ h. let k = both_not one (waits_among going w) h.1 in later.1 (now.1 (h.0, k.0), k.1),
     )
 
-without : (numbers : List ℕ) (s : CoreState) → Without numbers s (all_ended numbers s).1
-without numbers s = record { claims = claims_left numbers s; waiters = waiters_left numbers s }
+without : (going : List (ℕ × Option Party)) (s : CoreState) → Without going s (all_ended going s).1
+without going s = record { claims = claims_left going s; waiters = waiters_left going s }
 
-pub done_without : (n : ℕ) (numbers : List ℕ) (s : CoreState) → Without numbers s (all_done n s (ends numbers))
-done_without n numbers s = subst (λ (t : CoreState). Without numbers s t) (sym (ended_done n s numbers)) (without numbers s)
+pub done_without : (n : ℕ) (going : List (ℕ × Option Party)) (s : CoreState) → Without going s (all_done n s (ends going))
+done_without n going s = subst (λ (t : CoreState). Without going s t) (sym (ended_done n s going)) (without going s)
 
-pub end_without : (f : FrontSmb) (s : CoreState) (conn : ℕ) → Without (numbers_under (scope.Connection conn) f.state) s (smb_end f s conn).2
+pub end_without : (f : FrontSmb) (s : CoreState) (conn : ℕ) → Without (leavers_under s.names (scope.Connection conn) f.state) s (smb_end f s conn).2
 unfolding smb_end
-end_without f s conn = without (numbers_under (scope.Connection conn) f.state) s
+end_without f s conn = without (leavers_under s.names (scope.Connection conn) f.state) s
 
 -- ---- rows
 
@@ -272,7 +273,7 @@ left_lists : (f : FrontSmb) (s : CoreState) (conn : ℕ) → (smb_end f s conn).
 unfolding smb_end
 left_lists f s conn =
     let l = requests_gone conn (connection_gone conn (freed conn f.state)) in
-    dismissed_keeps (all_ended (numbers_under (scope.Connection conn) f.state) s).0 (keys_of l.waiting) l
+    dismissed_keeps (all_ended (leavers_under s.names (scope.Connection conn) f.state) s).0 (keys_of l.waiting) l
 
 pub end_opens : (f : FrontSmb) (s : CoreState) (conn : ℕ) → AreDistinct f.state → (smb_end f s conn).1.state.opens ≡ rows_but (λ e. covers_holder (scope.Connection conn) e.1.holder) f.state.opens
 unfolding connection_gone
@@ -320,19 +321,19 @@ planned_is s files others l conn h client at = (
 )
 
 logoff_by : (s : CoreState) (l : Lists) (conn : ℕ) (h : SmbHead) (o : Option ℕ) → session_named s l conn h.session_id ≡ o
-    → logoff s l conn h ≡ in_session (λ k. Does (ends (numbers_under (scope.Session k) l)) (session_gone k (all_closed (opens_under (scope.Session k) l) l)) LoggedOff) o
+    → logoff s l conn h ≡ in_session (λ k. Does (ends (leavers_under s.names (scope.Session k) l)) (session_gone k (all_closed (opens_under (scope.Session k) l) l)) LoggedOff) o
 unfolding logoff
-logoff_by s l conn h o at = ap (in_session (λ k. Does (ends (numbers_under (scope.Session k) l)) (session_gone k (all_closed (opens_under (scope.Session k) l) l)) LoggedOff)) at
+logoff_by s l conn h o at = ap (in_session (λ k. Does (ends (leavers_under s.names (scope.Session k) l)) (session_gone k (all_closed (opens_under (scope.Session k) l) l)) LoggedOff)) at
 
 disconnect_by : (s : CoreState) (l : Lists) (conn : ℕ) (client : List ℕ) (h : SmbHead) (o : Option ℕ) → session_named s l conn h.session_id ≡ o
-    → tree_disconnect s l conn client h ≡ in_session (λ k. on_tree (disconnect l) (tree_named l conn client h k)) o
+    → tree_disconnect s l conn client h ≡ in_session (λ k. on_tree (disconnect s l) (tree_named l conn client h k)) o
 unfolding tree_disconnect
-disconnect_by s l conn client h o at = ap (in_session (λ k. on_tree (disconnect l) (tree_named l conn client h k))) at
+disconnect_by s l conn client h o at = ap (in_session (λ k. on_tree (disconnect s l) (tree_named l conn client h k))) at
 
 close_by : (s : CoreState) (l : Lists) (conn : ℕ) (client : List ℕ) (h : SmbHead) (id : FileId) (o : Option ℕ) → session_named s l conn h.session_id ≡ o
-    → close s l conn client h id ≡ in_session (λ k. on_tree (λ _. on_open (close_open l) (open_named s l conn id)) (tree_named l conn client h k)) o
+    → close s l conn client h id ≡ in_session (λ k. on_tree (λ _. on_open (close_open s l) (open_named s l conn id)) (tree_named l conn client h k)) o
 unfolding close
-close_by s l conn client h id o at = ap (in_session (λ k. on_tree (λ _. on_open (close_open l) (open_named s l conn id)) (tree_named l conn client h k))) at
+close_by s l conn client h id o at = ap (in_session (λ k. on_tree (λ _. on_open (close_open s l) (open_named s l conn id)) (tree_named l conn client h k))) at
 
 -- what holds of an outcome holds of a request's that is planned so
 by_plan : (P : Outcome → Type 0) (n : ℕ) (s : CoreState) (l : Lists) (made plan : Plan) → made ≡ plan → P (carried n s l plan) → P (carried n s l made)
@@ -340,7 +341,7 @@ by_plan P n s l made plan e p = subst (λ (x : Plan). P (carried n s l x)) (sym 
 
 module _ (n : ℕ) (s : CoreState) (files : List (List ℕ)) (others : ℕ) (l : Lists) (conn : ℕ) (h : SmbHead) (client : List ℕ) where
   pub logged_off : (P : Outcome → Type 0) (session : ℕ) → IsInSession s l conn h client session
-      → P (LoggedOff, all_told_of n s (ends (numbers_under (scope.Session session) l)), session_gone session (all_closed (opens_under (scope.Session session) l) l), all_done n s (ends (numbers_under (scope.Session session) l)))
+      → P (LoggedOff, all_told_of n s (ends (leavers_under s.names (scope.Session session) l)), session_gone session (all_closed (opens_under (scope.Session session) l) l), all_done n s (ends (leavers_under s.names (scope.Session session) l)))
       → P (outcome_of n s files others l conn h Logoff)
   logged_off P session named = by_plan P n s l _ _ ((planned_is s files others l conn h client named.0).0 ∙ logoff_by s l conn h (Some session) named.1)
 
@@ -350,44 +351,44 @@ module _ (n : ℕ) (s : CoreState) (files : List (List ℕ)) (others : ℕ) (l :
   -- ---- TREE_DISCONNECT
 
   pub disconnected : (P : Outcome → Type 0) (session : ℕ) (place : Place) → IsOnTree s l conn h client session place
-      → P (Disconnected, all_told_of n s (ends (numbers_under (scope.Tree place.tree) l)), tree_dropped place.tree (all_closed (opens_under (scope.Tree place.tree) l) l), all_done n s (ends (numbers_under (scope.Tree place.tree) l)))
+      → P (Disconnected, all_told_of n s (ends (leavers_under s.names (scope.Tree place.tree) l)), tree_dropped place.tree (all_closed (opens_under (scope.Tree place.tree) l) l), all_done n s (ends (leavers_under s.names (scope.Tree place.tree) l)))
       → P (outcome_of n s files others l conn h TreeDisconnect)
   disconnected P session place named =
-      by_plan P n s l _ _ ((planned_is s files others l conn h client named.0.0).1 ∙ disconnect_by s l conn client h (Some session) named.0.1 ∙ ap (on_tree (disconnect l)) named.1)
+      by_plan P n s l _ _ ((planned_is s files others l conn h client named.0.0).1 ∙ disconnect_by s l conn client h (Some session) named.0.1 ∙ ap (on_tree (disconnect s l)) named.1)
 
   pub disconnect_lost : client_of conn l ≡ Some client → session_named s l conn h.session_id ≡ None → outcome_of n s files others l conn h TreeDisconnect ≡ (Failed UserSessionDeleted, [], l, s)
   disconnect_lost known none = ap (carried n s l) ((planned_is s files others l conn h client known).1 ∙ disconnect_by s l conn client h None none)
 
   pub disconnect_refused : (session : ℕ) → IsInSession s l conn h client session → tree_named l conn client h session ≡ None → outcome_of n s files others l conn h TreeDisconnect ≡ (Failed NetworkNameDeleted, [], l, s)
   disconnect_refused session named none =
-      ap (carried n s l) ((planned_is s files others l conn h client named.0).1 ∙ disconnect_by s l conn client h (Some session) named.1 ∙ ap (on_tree (disconnect l)) none)
+      ap (carried n s l) ((planned_is s files others l conn h client named.0).1 ∙ disconnect_by s l conn client h (Some session) named.1 ∙ ap (on_tree (disconnect s l)) none)
 
   -- ---- CLOSE
 
   pub closes_open : (P : Outcome → Type 0) (c : CloseCall) (session : ℕ) (place : Place) (number : ℕ) → IsOnTree s l conn h client session place → open_named s l conn c.file_id ≡ Some number
-      → P (Closed, all_told_of n s (ends (number ∷ [])), closed number l, all_done n s (ends (number ∷ [])))
+      → P (Closed, all_told_of n s (ends ((number, party_going s.names l number) ∷ [])), closed number l, all_done n s (ends ((number, party_going s.names l number) ∷ [])))
       → P (outcome_of n s files others l conn h (Close c))
   closes_open P c session place number named third =
       by_plan P n s l _ _
       ((planned_is s files others l conn h client named.0.0).2 c
       ∙ close_by s l conn client h c.file_id (Some session) named.0.1
-      ∙ ap (on_tree (λ _. on_open (close_open l) (open_named s l conn c.file_id))) named.1
-      ∙ ap (on_open (close_open l)) third)
+      ∙ ap (on_tree (λ _. on_open (close_open s l) (open_named s l conn c.file_id))) named.1
+      ∙ ap (on_open (close_open s l)) third)
 
   pub close_lost : (c : CloseCall) → client_of conn l ≡ Some client → session_named s l conn h.session_id ≡ None → outcome_of n s files others l conn h (Close c) ≡ (Failed UserSessionDeleted, [], l, s)
   close_lost c known none = ap (carried n s l) ((planned_is s files others l conn h client known).2 c ∙ close_by s l conn client h c.file_id None none)
 
   pub close_apart : (c : CloseCall) (session : ℕ) → IsInSession s l conn h client session → tree_named l conn client h session ≡ None → outcome_of n s files others l conn h (Close c) ≡ (Failed NetworkNameDeleted, [], l, s)
   close_apart c session named none =
-      ap (carried n s l) ((planned_is s files others l conn h client named.0).2 c ∙ close_by s l conn client h c.file_id (Some session) named.1 ∙ ap (on_tree (λ _. on_open (close_open l) (open_named s l conn c.file_id))) none)
+      ap (carried n s l) ((planned_is s files others l conn h client named.0).2 c ∙ close_by s l conn client h c.file_id (Some session) named.1 ∙ ap (on_tree (λ _. on_open (close_open s l) (open_named s l conn c.file_id))) none)
 
   pub close_refused : (c : CloseCall) (session : ℕ) (place : Place) → IsOnTree s l conn h client session place → open_named s l conn c.file_id ≡ None → outcome_of n s files others l conn h (Close c) ≡ (Failed FileClosed, [], l, s)
   close_refused c session place named none =
       ap (carried n s l)
       ((planned_is s files others l conn h client named.0.0).2 c
       ∙ close_by s l conn client h c.file_id (Some session) named.0.1
-      ∙ ap (on_tree (λ _. on_open (close_open l) (open_named s l conn c.file_id))) named.1
-      ∙ ap (on_open (close_open l)) none)
+      ∙ ap (on_tree (λ _. on_open (close_open s l) (open_named s l conn c.file_id))) named.1
+      ∙ ap (on_open (close_open s l)) none)
 
 pub tree_trees : (l : Lists) (tree : ℕ) (numbers : List ℕ) → AreDistinct l → (tree_dropped tree (all_closed numbers l)).trees ≡ rows_but (λ e. eqb tree e.0) l.trees
 tree_trees l tree numbers distinct = ap (remove_entry (nat_eq tree)) (closed_trees numbers l) ∙ out_one tree l.trees distinct.trees

@@ -8,19 +8,22 @@ use Rattle.std.proofs.lemmas.Map.Made.{IsDistinct-keys_filter}
 use Rattle.xl_base.proofs.Members.{all_from, all_in, in_filter, in_filter_from}
 use Rattle.xl_base.specs.Lists.{IsIn}
 use Rattle.xl_base.specs.declared.journal.Exports.{Exports}
-use Rattle.xl_base.specs.declared.name.Party.TheVariants as parties
-use Rattle.xl_matrix.specs.Equal.{same_parties}
+use Rattle.xl_base.specs.declared.name.Owner.TheVariants as owners
+use Rattle.xl_base.specs.declared.name.Party.{Party}
+use Rattle.xl_matrix.specs.Equal.{same_owners}
 use Rattle.xl_matrix.specs.declared.claim.Claim.{Claim}
 use Rattle.xl_matrix.specs.declared.claim.What.{What}
 use Rattle.xl_names.specs.declared.name.Name.{Name}
 use Rattle.xl_smb.specs.Heads.{head_of}
 use Rattle.xl_smb.specs.declared.head.SmbHead.{SmbHead}
+use Rattle.xl_smb_state.proofs.LeaseLaws.{with_keeps}
 use Rattle.xl_smb_state.proofs.RowLaws.{equal_from, equal_self, lookup_added, lookup_removed, none_some}
 use Rattle.xl_smb_state.specs.Links.{AreDistinct, most_waiting}
 use Rattle.xl_smb_state.specs.State.{Lists, connection_added, covers_holder, makes_open, open_of, opens_under, creates_under, keys_where, waiting_added, waiting_of}
 use Rattle.xl_smb_state.specs.declared.row.Open.{Open}
 use Rattle.xl_smb_state.specs.declared.row.Request.{Request}
 use Rattle.xl_smb_state.specs.declared.row.Request.TheVariants as request
+use Rattle.xl_smb_state.specs.declared.row.Scope.{Scope}
 use Rattle.xl_smb_state.specs.declared.row.Scope.TheVariants as scope
 use Rattle.xl_smb_state.specs.declared.row.Waiting.{Waiting}
 use Rattle.xl_wait.specs.Waiting.{no_rows}
@@ -29,12 +32,12 @@ use Rattle.xl_wait.specs.declared.waiter.Waiter.{Waiter}
 use Rattle.xl_core.proofs.DeedLaws.{deed_good}
 use Rattle.xl_core.proofs.DeedLists.{deeds_good}
 use Rattle.xl_core.proofs.FrameLaws.{ask_quiet, way_leaves}
-use Rattle.xl_core.specs.Asking.{asked_claims, asked_whats, asking_party, is_client, is_named, party_in, who_entered}
+use Rattle.xl_core.specs.Asking.{asked_claims, asked_whats, asker, is_client, is_named, owner_in}
 use Rattle.xl_core.specs.Decide.{ask, plea_of}
-use Rattle.xl_core.specs.Deeds.{Deed, Asks, GivesBack, Weakens, Acks, Cancels, Ends, Serves, Draws, Advances, Lapses, Renews, Expires, AreFit, IsFitDeed, all_done, all_told_of, done, given}
+use Rattle.xl_core.specs.Deeds.{Deed, Asks, GivesBack, Weakens, Acks, Cancels, Ends, Closes, Serves, Draws, Advances, Lapses, Renews, Expires, AreFit, IsFitDeed, all_done, all_told_of, done, given}
 use Rattle.xl_core.specs.Frames.{come_by, who_left}
 use Rattle.xl_core.specs.Good.{IsGood}
-use Rattle.xl_core.specs.Settle.{cancel, waits_for}
+use Rattle.xl_core.specs.Settle.{cancel, waits_as}
 use Rattle.xl_core.specs.State.{CoreState, drawn}
 use Rattle.xl_core.specs.declared.ask.Answer.{Answer}
 use Rattle.xl_core.specs.declared.ask.Answer.TheVariants as answers
@@ -50,14 +53,15 @@ use Rattle.xl_smb_locks.specs.declared.locking.Locking.TheVariants as locking
 use Rattle.xl_smb_locks.specs.declared.status.SmbStatus.TheVariants as statuses
 use Rattle.xl_front_smb.specs.Awaits.{AreAwaited, AreKept, AreLeft, IsAwaited, IsKept, IsUnder, ends_wait, is_open_ask}
 use Rattle.xl_front_smb.specs.Checks.{is_open_on}
-use Rattle.xl_front_smb.specs.Ending.{all_dismissed, all_ended, ends, numbers_under, smb_end}
+use Rattle.xl_front_smb.specs.Ending.{all_closed, all_dismissed, all_ended, ends, leavers_under, numbers_under, smb_end}
 use Rattle.xl_front_smb.specs.FrontSmb.{head_heard, plan_for, smb_shown, smb_step, stepped}
-use Rattle.xl_front_smb.specs.Laws.{waits_among}
+use Rattle.xl_front_smb.specs.Laws.{IsLeased, waits_among}
 use Rattle.xl_front_smb.specs.Plans.{Plan, Fails, Does, Opens, Locks, carried, deeds_of, has_room_to_wait, lists_as, opened_lists}
 use Rattle.xl_front_smb.specs.State.{FrontSmb, empty_smb_front, smb_begin}
-use Rattle.xl_front_smb.proofs.AwaitLaws.{AsksFor, Sorts, Way, any_left, asked_waits, asker_of, dismissed_in, dismissed_out, drawn_awaited, drawn_waits, ended_rows, ends_tell, gone_lists, gone_rows, in_append, key_in, requested_sorts, row_in, served_rows, waits_none, waits_some}
-use Rattle.xl_front_smb.proofs.EndLaws.{ended_told, ended_done}
+use Rattle.xl_front_smb.proofs.AwaitLaws.{AsksFor, Sorts, Way, any_left, asked_waits, asker_of, dismissed_in, dismissed_out, drawn_awaited, drawn_waits, ended_rows, ends_tell, gone_lists, gone_rows, in_append, key_in, numbers_in, requested_sorts, row_in, served_rows, waits_none, waits_some}
+use Rattle.xl_front_smb.proofs.EndLaws.{dismissed_keeps, ended_told, ended_done, numbers_going}
 use Rattle.xl_front_smb.proofs.GoneLaws.{done_without, end_without}
+use Rattle.xl_front_smb.proofs.KeyLaws.{ended_leases, leased_with, stay_leased}
 use Rattle.xl_front_smb.proofs.LeftLaws.{come_of, deed_moves, in_cancelled, moved_from, over_left, waits_still}
 use Rattle.xl_front_smb.proofs.OwnLaws.{requested_theirs}
 use Rattle.xl_front_smb.proofs.PlaceLaws.{apart_under, lookup_but}
@@ -66,22 +70,22 @@ use Rattle.xl_front_smb.proofs.StayLaws.{cancelled_over, over}
 
 -- ---- deeds that are no ask by an open
 
-none_for : (a : Ask) (names : List Name) (k : ℕ) (p : Who) (xs : List What) → a.party ≡ p → is_named p ≡ true → list_any (λ (c : Claim). same_parties c.party (parties.Open k)) (asked_claims a xs names) ≡ false
+none_for : (a : Ask) (names : List Name) (k : ℕ) (p : Who) (xs : List What) → a.owner ≡ p → is_named p ≡ true → list_any (λ (c : Claim). same_owners c.owner (owners.Open k)) (asked_claims a xs names) ≡ false
 none_for a names k (who.Open number) xs is named = absurd (false≢true named)
 none_for a names k (who.Named name) [] is named = refl
 none_for a names k (who.Named name) (x ∷ xs) is named =
-    let apart : same_parties (asking_party a names) (parties.Open k) ≡ false = ap (λ (w : Who). same_parties (party_in w (who_entered a.owner names)) (parties.Open k)) is in
+    let apart : same_owners (asker a names) (owners.Open k) ≡ false = ap (λ (w : Who). same_owners (owner_in w names) (owners.Open k)) is in
     rw apart (none_for a names k (who.Named name) xs is named)
 
 named_so : (p : Who) → not (is_named p) ≡ false → is_named p ≡ true
 named_so (who.Named name) h = refl
 named_so (who.Open number) h = absurd (true≢false h)
 
-named_waits : (a : Ask) (names : List Name) (id k : ℕ) → not (is_named a.party) ≡ false → waits_for (parties.Open k) (asker_of a id names) ≡ false
-unfolding waits_for
-named_waits a names id k other = none_for a names k a.party (asked_whats a.act) refl (named_so a.party other)
+named_waits : (a : Ask) (names : List Name) (id k : ℕ) → not (is_named a.owner) ≡ false → waits_as k (asker_of a id names) ≡ false
+unfolding waits_as
+named_waits a names id k other = none_for a names k a.owner (asked_whats a.act) refl (named_so a.owner other)
 
-named_kept : (l : Lists) (a : Ask) (answer : Answer) (names : List Name) (w : Waiter) → not (is_named a.party) ≡ false → IsIn w (come_by a answer names) → IsKept l w
+named_kept : (l : Lists) (a : Ask) (answer : Answer) (names : List Name) (w : Waiter) → not (is_named a.owner) ≡ false → IsIn w (come_by a answer names) → IsKept l w
 named_kept l a (answers.Queued id) names w other here =
     elim here [
       | inl same ↦ subst (λ (x : Waiter). IsKept l x) same (λ k asks. absurd (true≢false (sym asks ∙ named_waits a names id k other)))
@@ -104,6 +108,7 @@ come_kept n s l (Weakens share access deny) w other here = absurd here
 come_kept n s l (Acks cache to) w other here = absurd here
 come_kept n s l (Cancels id) w other here = absurd here
 come_kept n s l (Ends party) w other here = absurd here
+come_kept n s l (Closes number party) w other here = absurd here
 come_kept n s l (Serves left) w other here = absurd here
 come_kept n s l Draws w other here = absurd here
 come_kept n s l (Advances now) w other here = absurd here
@@ -179,7 +184,7 @@ locked_rows row l (locking.Failed status) k x at = at
 locked_rows row l (locking.Waits id) k x at = with_rows (has_room_to_wait l id) id row l k x at
 
 opened_rows : (l : Lists) (number : ℕ) (row : Open) (waiting : Waiting) (answer : Answer) (k : ℕ) (x : Waiting) → waiting_of k l ≡ Some x → waiting_of k (opened_lists l number row waiting answer) ≡ Some x
-opened_rows l number row waiting (answers.Granted c) k x at = at
+opened_rows l number row waiting (answers.Granted c) k x at = ap (λ (m : Lists). waiting_of k m) (with_keeps number row l) ∙ at
 opened_rows l number row waiting (answers.Queued id) k x at = with_rows (has_room_to_wait l id) id waiting l k x at
 opened_rows l number row waiting (answers.Conflict c) k x at = at
 opened_rows l number row waiting (answers.Recall c) k x at = at
@@ -326,21 +331,21 @@ under_conn conn l e (request.Create made) here makes on under =
       | inr none ↦ absurd (true≢false (sym on ∙ apart_under (scope.Connection conn) l e here (ap makes_open makes) none))
     ]
 
-ends_are_fit : (n : ℕ) (s : CoreState) (numbers : List ℕ) → AreFit n s (ends numbers)
+ends_are_fit : (n : ℕ) (s : CoreState) (going : List (ℕ × Option Party)) → AreFit n s (ends going)
 ends_are_fit n s [] = tt
-ends_are_fit n s (number ∷ numbers) = (tt, ends_are_fit n (done n s (Ends (parties.Open number))) numbers)
+ends_are_fit n s (e ∷ going) = (tt, ends_are_fit n (done n s (Closes e.0 e.1)) going)
 
 pub end_keeps : (f : FrontSmb) (s : CoreState) (conn : ℕ) → IsGood s → AreAwaited s f.state → AreKept s f.state → AreKept (smb_end f s conn).2 (smb_end f s conn).1.state
 unfolding smb_end
 end_keeps f s conn good awaited kept =
-    let numbers : List ℕ = numbers_under (scope.Connection conn) f.state in
-    let told : List Effect = (all_ended numbers s).0 in
-    let t : CoreState = (all_ended numbers s).1 in
+    let going : List (ℕ × Option Party) = leavers_under s.names (scope.Connection conn) f.state in
+    let told : List Effect = (all_ended going s).0 in
+    let t : CoreState = (all_ended going s).1 in
     let l : Lists = gone_lists conn f.state in
     all_from (IsKept (all_dismissed told l).1) t.waiters (λ w here.
     (let old = ((end_without f s conn).waiters w).0 here in
-    let there : IsIn w (all_done 0 s (ends numbers)).waiters = subst (λ (x : CoreState). IsIn w x.waiters) (sym (ended_done 0 s numbers)) here in
-    let quiet : over w.id told ≡ false = subst (λ (es : List Effect). over w.id es ≡ false) (ended_told 0 s numbers) (waits_still 0 s (ends numbers) w good (ends_are_fit 0 s numbers) there) in
+    let there : IsIn w (all_done 0 s (ends going)).waiters = subst (λ (x : CoreState). IsIn w x.waiters) (sym (ended_done 0 s going)) here in
+    let quiet : over w.id told ≡ false = subst (λ (es : List Effect). over w.id es ≡ false) (ended_told 0 s going) (waits_still 0 s (ends going) w good (ends_are_fit 0 s going) there) in
     λ k asks. (
     let is = all_in (IsKept f.state) w s.waiters kept old.0 k asks in
     let apart : eqb is.0.place.connection conn ≡ false = elsewhere w is.0 k old.1 asks is.1 is.2 in
@@ -348,7 +353,7 @@ end_keeps f s conn good awaited kept =
     (is.0, dismissed_stays told (keys_of l.waiting) l w.id is.0 (not_told w.id told quiet) stays, is.2))))
   where
     -- who stays came by another connection
-    elsewhere : (w : Waiter) (row : Waiting) (k : ℕ) → waits_among (numbers_under (scope.Connection conn) f.state) w ≡ false → waits_for (parties.Open k) w ≡ true → waiting_of w.id f.state ≡ Some row → row.opened ≡ k → eqb row.place.connection conn ≡ false
+    elsewhere : (w : Waiter) (row : Waiting) (k : ℕ) → waits_among (leavers_under s.names (scope.Connection conn) f.state) w ≡ false → waits_as k w ≡ true → waiting_of w.id f.state ≡ Some row → row.opened ≡ k → eqb row.place.connection conn ≡ false
     elsewhere w row k among asks at same =
         elim (cases_Bool (eqb row.place.connection conn)) [
           | inr apart ↦ apart
@@ -356,8 +361,8 @@ end_keeps f s conn good awaited kept =
               let here : IsIn (w.id, row) f.state.waiting = row_in w.id f.state.waiting row at in
               let is = all_in (IsAwaited s f.state) (w.id, row) f.state.waiting awaited here in
               let named = under_conn conn f.state (w.id, row) row.request here refl on is.under in
-              let any : list_any (nat_eq k) (numbers_under (scope.Connection conn) f.state) ≡ true = subst (λ (j : ℕ). list_any (nat_eq j) (numbers_under (scope.Connection conn) f.state) ≡ true) same named in
-              absurd (true≢false (sym (waits_some (numbers_under (scope.Connection conn) f.state) w k asks any) ∙ among)))
+              let any : list_any (nat_eq k) (numbers_in (leavers_under s.names (scope.Connection conn) f.state)) ≡ true = ap (list_any (nat_eq k)) (numbers_going s.names (scope.Connection conn) f.state) ∙ subst (λ (j : ℕ). list_any (nat_eq j) (numbers_under (scope.Connection conn) f.state) ≡ true) same named in
+              absurd (true≢false (sym (waits_some (leavers_under s.names (scope.Connection conn) f.state) w k asks any) ∙ among)))
         ]
 
 begun_by : (s : CoreState) (l : Lists) (number : ℕ) (b : Bool) → AreKept s l → AreKept s (if b then l else connection_added number (record { client = None }) l)
@@ -397,64 +402,83 @@ dismissed_still told (id ∷ ids) l e quiet here =
     by true first second is = first is
     by false first second is = second
 
-module _ (n : ℕ) (s : CoreState) (l : Lists) (good : IsGood s) (awaited : AreAwaited s l) (numbers : List ℕ) where
+module _ (n : ℕ) (s : CoreState) (l : Lists) (good : IsGood s) (awaited : AreAwaited s l) (going : List (ℕ × Option Party)) where
   abbrev told_then : List Effect
-  told_then = all_told_of n s (ends numbers)
+  told_then = all_told_of n s (ends going)
 
   -- a request for none of them isn't told of
-  stays_untold : (e : ℕ × Waiting) → IsIn e l.waiting → list_any (nat_eq e.1.opened) numbers ≡ false → is_cancelled e.0 told_then ≡ false
+  stays_untold : (e : ℕ × Waiting) → IsIn e l.waiting → list_any (nat_eq e.1.opened) (numbers_in going) ≡ false → is_cancelled e.0 told_then ≡ false
   stays_untold e here stays =
       let is = all_in (IsAwaited s l) e l.waiting awaited here in
-      let there = ((done_without n numbers s).waiters is.waiter).1 (is.waits, waits_none numbers is.waiter e.1.opened is.alone stays) in
-      not_told e.0 told_then (subst (λ (k : ℕ). over k told_then ≡ false) is.number (waits_still n s (ends numbers) is.waiter good (ends_are_fit n s numbers) there))
+      let there = ((done_without n going s).waiters is.waiter).1 (is.waits, waits_none going is.waiter e.1.opened is.alone stays) in
+      not_told e.0 told_then (subst (λ (k : ℕ). over k told_then ≡ false) is.number (waits_still n s (ends going) is.waiter good (ends_are_fit n s going) there))
 
   -- one for one of them is
-  goes_told : (e : ℕ × Waiting) → IsIn e l.waiting → list_any (nat_eq e.1.opened) numbers ≡ true → is_cancelled e.0 told_then ≡ true
+  goes_told : (e : ℕ × Waiting) → IsIn e l.waiting → list_any (nat_eq e.1.opened) (numbers_in going) ≡ true → is_cancelled e.0 told_then ≡ true
   goes_told e here gone =
       let is = all_in (IsAwaited s l) e l.waiting awaited here in
-      subst (λ (k : ℕ). is_cancelled k told_then ≡ true) is.number (ends_tell n numbers s is.waiter is.waits (waits_some numbers is.waiter e.1.opened is.own gone))
+      subst (λ (k : ℕ). is_cancelled k told_then ≡ true) is.number (ends_tell n going s is.waiter is.waits (waits_some going is.waiter e.1.opened is.own gone))
 
-  pub rows_left : (m : Lists) → IsDistinct nat_eq (keys_of m.waiting) → ((e : ℕ × Waiting) → IsIn e m.waiting → IsIn e l.waiting) → ((e : ℕ × Waiting) → IsIn e l.waiting → list_any (nat_eq e.1.opened) numbers ≡ false → IsIn e m.waiting)
-      → AreLeft numbers l (all_dismissed told_then m).1
+  pub rows_left : (m : Lists) → IsDistinct nat_eq (keys_of m.waiting) → ((e : ℕ × Waiting) → IsIn e m.waiting → IsIn e l.waiting) → ((e : ℕ × Waiting) → IsIn e l.waiting → list_any (nat_eq e.1.opened) (numbers_in going) ≡ false → IsIn e m.waiting)
+      → AreLeft (numbers_in going) l (all_dismissed told_then m).1
   rows_left m distinct from into = λ e. (
     λ here.
         let there : IsIn e m.waiting = dismissed_in told_then (keys_of m.waiting) m e here in
         let old : IsIn e l.waiting = from e there in
-        (old, elim (cases_Bool (list_any (nat_eq e.1.opened) numbers)) [ inr stays ↦ stays | inl gone ↦ absurd (dismissed_out told_then (keys_of m.waiting) m e distinct (key_in m.waiting e there) (goes_told e old gone) here) ]),
+        (old, elim (cases_Bool (list_any (nat_eq e.1.opened) (numbers_in going))) [ inr stays ↦ stays | inl gone ↦ absurd (dismissed_out told_then (keys_of m.waiting) m e distinct (key_in m.waiting e there) (goes_told e old gone) here) ]),
     λ h. dismissed_still told_then (keys_of m.waiting) m e (stays_untold e h.0 h.1) (into e h.0 h.1),
   )
 
-  pub same_left : (m : Lists) → AreDistinct l → m.waiting ≡ l.waiting → AreLeft numbers l (all_dismissed told_then m).1
+  pub same_left : (m : Lists) → AreDistinct l → m.waiting ≡ l.waiting → AreLeft (numbers_in going) l (all_dismissed told_then m).1
   same_left m distinct same =
       rows_left m (subst (λ (es : List (ℕ × Waiting)). IsDistinct nat_eq (keys_of es)) (sym same) distinct.waiting)
       (λ e here. subst (λ (es : List (ℕ × Waiting)). IsIn e es) same here)
       (λ e here apart. subst (λ (es : List (ℕ × Waiting)). IsIn e es) (sym same) here)
 
+-- so it is of those that end with what is under it
+pub under_left : (n : ℕ) (s : CoreState) (l : Lists) → IsGood s → AreAwaited s l → (under : Scope) (m : Lists) → AreDistinct l → m.waiting ≡ l.waiting → AreLeft (numbers_under under l) l (all_dismissed (all_told_of n s (ends (leavers_under s.names under l))) m).1
+under_left n s l good awaited under m distinct same =
+    let going : List (ℕ × Option Party) = leavers_under s.names under l in
+    subst (λ (numbers : List ℕ). AreLeft numbers l (all_dismissed (all_told_of n s (ends going)) m).1) (numbers_going s.names under l) (same_left n s l good awaited going m distinct same)
+
 pub end_left : (f : FrontSmb) (s : CoreState) (conn : ℕ) → IsGood s → AreDistinct f.state → AreAwaited s f.state → AreLeft (numbers_under (scope.Connection conn) f.state) f.state (smb_end f s conn).1.state
 unfolding smb_end
 end_left f s conn good distinct awaited =
     let l : Lists = f.state in
-    let numbers : List ℕ = numbers_under (scope.Connection conn) l in
+    let going : List (ℕ × Option Party) = leavers_under s.names (scope.Connection conn) l in
     let m : Lists = gone_lists conn l in
     let test : ℕ × Waiting → Bool = λ x. eqb x.1.place.connection conn in
     let rows = gone_rows conn l in
-    subst (λ (told : List Effect). AreLeft numbers l (all_dismissed told m).1) (ended_told 0 s numbers)
-    (rows_left 0 s l good awaited numbers m
+    subst (λ (told : List Effect). AreLeft (numbers_under (scope.Connection conn) l) l (all_dismissed told m).1) (ended_told 0 s going)
+    (subst (λ (numbers : List ℕ). AreLeft numbers l (all_dismissed (all_told_of 0 s (ends going)) m).1) (numbers_going s.names (scope.Connection conn) l)
+    (rows_left 0 s l good awaited going m
     (subst (λ (es : List (ℕ × Waiting)). IsDistinct nat_eq (keys_of es)) (sym rows) (IsDistinct-keys_filter nat_eq (λ (x : ℕ × Waiting). not (eqb x.1.place.connection conn)) l.waiting distinct.waiting))
     (λ e here. (in_filter_from (λ (x : ℕ × Waiting). not (eqb x.1.place.connection conn)) e l.waiting (subst (λ (es : List (ℕ × Waiting)). IsIn e es) rows here)).0)
-    (λ e here apart. subst (λ (es : List (ℕ × Waiting)). IsIn e es) (sym rows) (in_filter (λ (x : ℕ × Waiting). not (eqb x.1.place.connection conn)) e l.waiting here (ap (λ (b : Bool). not b) (elsewhere e here apart)))))
+    (λ e here apart. subst (λ (es : List (ℕ × Waiting)). IsIn e es) (sym rows) (in_filter (λ (x : ℕ × Waiting). not (eqb x.1.place.connection conn)) e l.waiting here (ap (λ (b : Bool). not b) (elsewhere e here apart))))))
   where
-    elsewhere : (e : ℕ × Waiting) → IsIn e f.state.waiting → list_any (nat_eq e.1.opened) (numbers_under (scope.Connection conn) f.state) ≡ false → eqb e.1.place.connection conn ≡ false
+    elsewhere : (e : ℕ × Waiting) → IsIn e f.state.waiting → list_any (nat_eq e.1.opened) (numbers_in (leavers_under s.names (scope.Connection conn) f.state)) ≡ false → eqb e.1.place.connection conn ≡ false
     elsewhere e here apart =
         elim (cases_Bool (eqb e.1.place.connection conn)) [
           | inr other ↦ other
-          | inl on ↦ absurd (true≢false (sym (under_conn conn f.state e e.1.request here refl on (all_in (IsAwaited s f.state) e f.state.waiting awaited here).under) ∙ apart))
+          | inl on ↦ absurd (true≢false (sym (under_conn conn f.state e e.1.request here refl on (all_in (IsAwaited s f.state) e f.state.waiting awaited here).under) ∙ ap (list_any (nat_eq e.1.opened)) (sym (numbers_going s.names (scope.Connection conn) f.state)) ∙ apart))
         ]
 
 pub end_others : (f : FrontSmb) (s : CoreState) (conn : ℕ) → AllByRecursion (λ (e : ℕ × Waiting). eqb e.1.place.connection conn ≡ false) (smb_end f s conn).1.state.waiting
 unfolding smb_end
 end_others f s conn =
     let m : Lists = gone_lists conn f.state in
-    let told : List Effect = (all_ended (numbers_under (scope.Connection conn) f.state) s).0 in
+    let told : List Effect = (all_ended (leavers_under s.names (scope.Connection conn) f.state) s).0 in
     all_from (λ (e : ℕ × Waiting). eqb e.1.place.connection conn ≡ false) (all_dismissed told m).1.waiting
     (λ e here. not-true (eqb e.1.place.connection conn) (in_filter_from (λ (x : ℕ × Waiting). not (eqb x.1.place.connection conn)) e f.state.waiting (subst (λ (es : List (ℕ × Waiting)). IsIn e es) (gone_rows conn f.state) (dismissed_in told (keys_of m.waiting) m e here))).1)
+
+-- ---- which opens stay under their leases
+
+pub end_leased : (f : FrontSmb) (s : CoreState) (conn number : ℕ) (made : Open) → list_any (nat_eq number) (opens_under (scope.Connection conn) f.state) ≡ false → IsLeased f.state number made → IsLeased (smb_end f s conn).1.state number made
+unfolding smb_end
+end_leased f s conn number made apart leased =
+    let numbers : List ℕ = opens_under (scope.Connection conn) f.state in
+    let closes : Lists = all_closed numbers f.state in
+    let m : Lists = gone_lists conn f.state in
+    let told : List Effect = (all_ended (leavers_under s.names (scope.Connection conn) f.state) s).0 in
+    leased_with m (all_dismissed told m).1 number made (ap (λ (x : Lists). x.leases) (dismissed_keeps told (keys_of m.waiting) m))
+    (leased_with closes m number made (ended_leases conn closes) (stay_leased numbers number made f.state apart leased))

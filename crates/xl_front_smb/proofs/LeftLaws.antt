@@ -12,11 +12,11 @@ use Rattle.xl_smb_state.proofs.RowLaws.{equal_from, equal_self, unequal_both}
 use Rattle.xl_wait.specs.Waiting.{cancelled, is_waiting}
 use Rattle.xl_wait.specs.declared.waiter.Waiter.{Waiter}
 use Rattle.xl_core.proofs.DeedLaws.{deed_good}
-use Rattle.xl_core.proofs.FrameLaws.{ack_frame, advanced_ticked, ask_frame, cancel_frame, drawn_frame, end_party_frame, expire_left, give_back_frame, lapse_left, turn_frame, weaken_frame}
+use Rattle.xl_core.proofs.FrameLaws.{ack_frame, advanced_ticked, ask_frame, cancel_frame, close_open_frame, drawn_frame, end_party_frame, expire_left, give_back_frame, lapse_left, turn_frame, weaken_frame}
 use Rattle.xl_core.proofs.GoodLaws.{cancelled_all}
 use Rattle.xl_core.specs.Asking.{is_client}
 use Rattle.xl_core.specs.Decide.{ask}
-use Rattle.xl_core.specs.Deeds.{Deed, Asks, GivesBack, Weakens, Acks, Cancels, Ends, Serves, Draws, Advances, Lapses, Renews, Expires, AreFit, IsFitDeed, all_done, all_told_of, done, given, turned}
+use Rattle.xl_core.specs.Deeds.{Deed, Asks, GivesBack, Weakens, Acks, Cancels, Ends, Closes, Serves, Draws, Advances, Lapses, Renews, Expires, AreFit, IsFitDeed, all_done, all_told_of, done, given, turned}
 use Rattle.xl_core.specs.Frames.{AllLeave, IsFrame, IsTicked, calls_in, come_by, drawn_by, names_after, who_left}
 use Rattle.xl_core.specs.Good.{IsGood, IsWaiter, are_apart}
 use Rattle.xl_core.specs.Settle.{all_cancelled, settle}
@@ -141,6 +141,7 @@ deed_moves n s (Weakens share access deny) good fit = frame_moves s _ _ 0 s.name
 deed_moves n s (Acks cache to) good fit = frame_moves s _ _ 0 s.names [] (ack_frame s cache to) (λ w none. absurd none)
 deed_moves n s (Cancels id) good fit = frame_moves s _ _ 0 s.names [] (cancel_frame s id fit) (λ w none. absurd none)
 deed_moves n s (Ends party) good fit = frame_moves s _ _ 0 s.names [] (end_party_frame s party good) (λ w none. absurd none)
+deed_moves n s (Closes number party) good fit = frame_moves s _ _ 0 s.names [] (close_open_frame s number party good) (λ w none. absurd none)
 deed_moves n s (Serves left) good fit = turn_moves s (settle n left s) calls_in (turn_frame n left s good)
 deed_moves n s Draws good fit = frame_moves s _ _ 1 s.names [] (drawn_frame s) (λ w none. absurd none)
 deed_moves n s (Advances now) good fit = ticked_moves s (advanced s now) [] now (advanced_ticked s now)

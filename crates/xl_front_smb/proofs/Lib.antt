@@ -16,6 +16,7 @@ pub mod WaitLaws
 pub mod LockLaws
 pub mod RangeLaws
 pub mod CancelLaws
+pub mod KeyLaws
 pub mod PlaceLaws
 pub mod AwaitLaws
 pub mod RoomLaws
@@ -23,3 +24,4 @@ pub mod StayLaws
 pub mod LeftLaws
 pub mod KeepLaws
 pub mod StandLaws
+pub mod LeaseLaws

@@ -9,6 +9,7 @@ use Rattle.xl_matrix.specs.declared.claim.Extent.{Extent}
 use Rattle.xl_matrix.specs.declared.claim.Extent.TheVariants.{Bytes, Empty}
 use Rattle.xl_smb.specs.declared.lock.LockElement.{LockElement}
 use Rattle.xl_smb_state.specs.Links.{most_waiting}
+use Rattle.xl_smb_state.specs.declared.row.Open.{Open}
 use Rattle.xl_smb_state.specs.State.{Lists, waiting_of}
 use Rattle.xl_wait.specs.Waiting.{no_rows, is_waiting}
 use Rattle.xl_wait.specs.declared.waiter.Waiter.{Waiter}
@@ -55,13 +56,13 @@ unfolding unlocked
 unlocked_tells s claim (Bytes first last) own = rw own (freed_tells s claim _)
 unlocked_tells s claim (Empty offset) own = freed_tells s claim _
 
-decided_tells : (n : ℕ) (s : CoreState) (file number : ℕ) (e : LockElement) → (decided n no_rows s (unlock_ask file number e)).1 ≡ []
+decided_tells : (n : ℕ) (s : CoreState) (number : ℕ) (row : Open) (e : LockElement) → (decided n no_rows s (unlock_ask number row e)).1 ≡ []
 unfolding decided unlock_ask
-decided_tells n s file number e = unlocked_tells s _ (extent_of e) refl
+decided_tells n s number row e = unlocked_tells s _ (extent_of e) refl
 
-unlock_tells : (n : ℕ) (s : CoreState) (file number : ℕ) (e : LockElement) → (ask n no_rows s (unlock_ask file number e)).1 ≡ []
-unlock_tells n s file number e =
-    ap (λ (r : Answered). r.1) (ask_there n no_rows s (unlock_ask file number e) (no_way s file number e)) ∙ decided_tells n s file number e
+unlock_tells : (n : ℕ) (s : CoreState) (number : ℕ) (row : Open) (e : LockElement) → (ask n no_rows s (unlock_ask number row e)).1 ≡ []
+unlock_tells n s number row e =
+    ap (λ (r : Answered). r.1) (ask_there n no_rows s (unlock_ask number row e) (no_way s number row e)) ∙ decided_tells n s number row e
 
 one_tells : (n : ℕ) (s : CoreState) (a : Ask) (answer : Answer) (rest : List Deed × Locking) → (ask n no_rows s a).1 ≡ [] → all_told_of n (ask n no_rows s a).2 rest.0 ≡ [] → all_told_of n s (unlock_told a answer rest).0 ≡ []
 one_tells n s a (answers.Granted c) rest none more = ap (λ (xs : List Effect). xs ++ all_told_of n (ask n no_rows s a).2 rest.0) none ∙ more
@@ -79,17 +80,17 @@ next_tells : (n : ℕ) (s : CoreState) (fault : Option SmbStatus) (next : List D
 next_tells n s None next none = none
 next_tells n s (Some status) next none = refl
 
-pub unlocks_tell : (n : ℕ) (s : CoreState) (file number : ℕ) (es : List LockElement) → all_told_of n s (unlocks s file number es).0 ≡ []
-unlocks_tell n s file number [] = refl
-unlocks_tell n s file number (e ∷ es) =
-    let a = unlock_ask file number e in
+pub unlocks_tell : (n : ℕ) (s : CoreState) (number : ℕ) (row : Open) (es : List LockElement) → all_told_of n s (unlocks s number row es).0 ≡ []
+unlocks_tell n s number row [] = refl
+unlocks_tell n s number row (e ∷ es) =
+    let a = unlock_ask number row e in
     let r = ask 0 no_rows s a in
-    let rest = unlocks r.2 file number es in
+    let rest = unlocks r.2 number row es in
     next_tells n s (unlock_fault e) (unlock_told a r.0 rest)
-    (one_tells n s a r.0 rest (unlock_tells n s file number e) (subst (λ (x : CoreState). all_told_of n x rest.0 ≡ []) (sym (ap (λ (x : Answered). x.2) (any_stores n s file number e))) (unlocks_tell n r.2 file number es)))
+    (one_tells n s a r.0 rest (unlock_tells n s number row e) (subst (λ (x : CoreState). all_told_of n x rest.0 ≡ []) (sym (ap (λ (x : Answered). x.2) (any_stores n s number row e))) (unlocks_tell n r.2 number row es)))
 
-pub unlocks_done : (n : ℕ) (s new : CoreState) (l : Lists) (file number : ℕ) (es : List LockElement) (told : Locking) (t : Told) (effects : List Effect) → told ≡ (unlocks s file number es).1 → ((m : ℕ) → new ≡ all_done m s (unlocks s file number es).0) → t ≡ told_as told → effects ≡ [] → carried n s l (unlock_by l (unlocks s file number es)) ≡ (t, effects, l, new)
-unlocks_done n s new l file number es told t effects said done tells none = λ i. ((ap told_as (sym said) ∙ sym tells) i, (unlocks_tell n s file number es ∙ sym none) i, l, (sym (done n)) i)
+pub unlocks_done : (n : ℕ) (s new : CoreState) (l : Lists) (number : ℕ) (row : Open) (es : List LockElement) (told : Locking) (t : Told) (effects : List Effect) → told ≡ (unlocks s number row es).1 → ((m : ℕ) → new ≡ all_done m s (unlocks s number row es).0) → t ≡ told_as told → effects ≡ [] → carried n s l (unlock_by l (unlocks s number row es)) ≡ (t, effects, l, new)
+unlocks_done n s new l number row es told t effects said done tells none = λ i. ((ap told_as (sym said) ∙ sym tells) i, (unlocks_tell n s number row es ∙ sym none) i, l, (sym (done n)) i)
 
 -- ---- what is judged
 

@@ -1,14 +1,17 @@
 -- The core takes the deeds, and they are of the connection's opens.
-use Rattle.std.proofs.Common.{◌≡◌, ℕ, ◌+◌, ◌≤◌, Bool, true, false, not, ◌&&◌, eqb, List, [], ◌∷◌, Option, Some, None, if◌then◌else◌, refl, sym, ap, subst, ◌∙◌, inl, inr, option_map}
+use Rattle.std.proofs.Common.{◌≡◌, ℕ, ◌+◌, ◌≤◌, Bool, true, false, not, ◌&&◌, eqb, List, [], ◌∷◌, ◌++◌, ◌⊎◌, Option, Some, None, if◌then◌else◌, refl, sym, ap, subst, ◌∙◌, inl, inr, option_map}
 use Rattle.std.specs.Prelude.{◌==◌, ◌^◌, nat_eq, nat_lt, length, is_some, Result, Ok, Err}
 use Rattle.std.specs.List.{AllByRecursion, find}
-use Rattle.std.specs.Map.{lookup}
+use Rattle.std.specs.Map.{lookup, remove_entry}
 use Rattle.std.proofs.lemmas.Bool.{cases_Bool, false≢true, and_parts}
-use Rattle.xl_base.proofs.Members.{in_append_left}
+use Rattle.xl_base.proofs.Members.{in_append_left, in_append_right}
 use Rattle.xl_base.specs.Lists.{IsIn}
 use Rattle.xl_base.specs.declared.journal.Exports.{Exports}
 use Rattle.xl_base.specs.declared.name.Party.{Party}
 use Rattle.xl_base.specs.declared.name.Party.TheVariants as parties
+use Rattle.xl_cache.specs.Levels.{kind_of_state}
+use Rattle.xl_matrix.specs.declared.claim.Break.{Break as Broken}
+use Rattle.xl_matrix.specs.declared.claim.CacheKind.{CacheKind}
 use Rattle.xl_matrix.specs.declared.claim.Claim.{Claim}
 use Rattle.xl_matrix.specs.declared.claim.What.{What}
 use Rattle.xl_matrix.specs.declared.claim.What.TheVariants as whats
@@ -24,10 +27,12 @@ use Rattle.xl_smb.specs.declared.file.FileId.{FileId}
 use Rattle.xl_smb.specs.declared.head.Route.{Route}
 use Rattle.xl_smb.specs.declared.head.Route.TheVariants.{Tree, Async}
 use Rattle.xl_smb.specs.declared.head.SmbHead.{SmbHead}
+use Rattle.xl_smb.specs.declared.lease.Lease.{Lease}
 use Rattle.xl_smb.specs.declared.lock.LockElement.{LockElement}
 use Rattle.xl_smb.specs.Locks.{LockItem, elements_of}
 use Rattle.xl_smb_state.specs.Links.{is_tree_at, is_client, has_place}
-use Rattle.xl_smb_state.specs.State.{Lists, keys_where, connection_of, connection_changed, client_of, session_of, tree_of, open_of, covers, covers_holder, creates_under, opens_under, waiting_of, waiting_under, is_message}
+use Rattle.xl_smb_state.specs.State.{Lists, lease_of as lease_row, keys_where, connection_of, connection_changed, client_of, session_of, tree_of, open_of, covers, covers_holder, creates_under, opens_under, is_last_open, closed, waiting_of, waiting_under, is_message}
+use Rattle.xl_smb_state.specs.declared.row.Lease.{Lease as LeaseRow}
 use Rattle.xl_smb_state.specs.declared.row.Open.{Open}
 use Rattle.xl_smb_state.specs.declared.row.Place.{Place}
 use Rattle.xl_smb_state.specs.declared.row.Request.TheVariants as request
@@ -37,39 +42,40 @@ use Rattle.xl_smb_state.specs.declared.row.Tree as tree
 use Rattle.xl_smb_state.specs.declared.row.Waiting.{Waiting}
 use Rattle.xl_smb_state.proofs.RowLaws.{none_some, same_Some, equal_from, equal_self}
 use Rattle.xl_core.specs.Breaks.{may_be_left}
-use Rattle.xl_core.specs.Deeds.{Cancels, AreFit}
+use Rattle.xl_core.specs.Deeds.{Acks, Cancels, AreFit}
+use Rattle.xl_names.specs.declared.name.Name.{Name}
 use Rattle.xl_core.specs.declared.ask.Who.{Who}
 use Rattle.xl_core.specs.declared.ask.Who.TheVariants as who
 use Rattle.xl_wait.specs.Waiting.{is_waiting}
 use Rattle.xl_smb_locks.specs.Elements.{is_count, unlocks_first, lock_fault}
-use Rattle.xl_smb_locks.specs.Levels.{oplock_of}
+use Rattle.xl_smb_locks.specs.Levels.{party_for, party_of, lease_party, cache_of, oplock_of}
 use Rattle.xl_smb_locks.specs.Locks.{unlock_ask, lock_ask, unlocks}
 use Rattle.xl_smb_locks.specs.declared.status.SmbStatus.{SmbStatus}
 use Rattle.xl_smb_locks.proofs.FitLaws.{lock_fits, lock_owns, unlock_owns}
 use Rattle.xl_smb_locks.proofs.UnlockLaws.{unlocks_fit, unlocks_are}
 use Rattle.xl_core.specs.State.{CoreState}
-use Rattle.xl_core.specs.Settle.{end_party}
+use Rattle.xl_core.specs.Settle.{close_open as close_core}
 use Rattle.xl_front_smb.specs.Checks.{id_of, is_fresh, kept_if, session_named, is_open_on, file_number, number_in, negotiated_by, in_session, on_tree, on_open}
-use Rattle.xl_front_smb.specs.Ending.{numbers_under, ends, smb_end_deeds}
-use Rattle.xl_front_smb.specs.Files.{open_ask, open_as, has_room_for_open, open_file, open_found, overwrites, create_on, create, close_open, close, is_refused, left_at, refused_ack, taken_ack, ack_by, ack_of, ack_open, ack_level, break_by, acknowledge}
+use Rattle.xl_front_smb.specs.Ending.{numbers_under, going_by, party_going, leavers, without_party, leavers_under, ends, smb_end_deeds}
+use Rattle.xl_front_smb.specs.Files.{open_ask, open_row, open_as, has_room_for_open, open_file, key_asked, lease_key, is_key_elsewhere, open_keyed, open_found, overwrites, create_on, create, close_open, close, is_refused, left_at, refused_ack, taken_ack, ack_by, ack_of, ack_open, ack_level, may_keep, lease_left, ack_lease_by, ack_cache, ack_lease, break_by, acknowledge}
 use Rattle.xl_front_smb.specs.Locks.{waiting_row, place_of, unlock_by, lock_by, lock_found, lock, came_by, request_named, cancel_named, cancel}
 use Rattle.xl_front_smb.specs.FrontSmb.{head_heard, deeds_for, smb_deeds}
-use Rattle.xl_front_smb.specs.Owners.{is_session_on, is_tree_on, is_on, IsOplockOn, IsAskerOn, IsAskedBy, IsOwn, AreOwn, is_end}
+use Rattle.xl_front_smb.specs.Owners.{is_session_on, is_tree_on, is_on, IsLeaseOf, IsHolderOn, IsAskerOn, IsRowOn, IsAskedBy, IsPartyIn, IsOwn, AreOwn, is_end}
 use Rattle.xl_front_smb.specs.Plans.{Plan, Fails, Does, deeds_of}
 use Rattle.xl_front_smb.specs.Requests.{commanded, planned, read_as, requested}
 use Rattle.xl_front_smb.specs.Sessions.{offers, negotiate, has_room_for_session, set_up_as, set_up, session_setup, logoff, has_room_for_tree, connect_as, connect, tree_connect, disconnect, tree_disconnect}
 use Rattle.xl_front_smb.specs.State.{FrontSmb}
 use Rattle.xl_front_smb.specs.Replies.{tree_id}
 use Rattle.xl_front_smb.specs.Texts.{is_share, file_spelled}
-use Rattle.xl_smb_locks.specs.declared.status.SmbStatus.TheVariants.{InvalidParameter, ObjectNameCollision, InsufficientResources, NotSupported, BadNetworkName, InvalidOplockProtocol, InvalidDeviceState}
-use Rattle.xl_front_smb.specs.declared.told.Told.TheVariants.{Nothing, Negotiated, SetUp}
+use Rattle.xl_smb_locks.specs.declared.status.SmbStatus.TheVariants.{InvalidParameter, ObjectNameCollision, InsufficientResources, NotSupported, BadNetworkName, InvalidOplockProtocol, InvalidDeviceState, RequestNotAccepted}
+use Rattle.xl_front_smb.specs.declared.told.Told.TheVariants.{Nothing, Negotiated, SetUp, Answered}
 use Rattle.xl_front_smb.proofs.AskLaws.{open_fits, open_owns}
-use Rattle.xl_front_smb.proofs.AckLaws.{left_within, may_be_none, oplock_is}
+use Rattle.xl_front_smb.proofs.AckLaws.{left_within, kept_within, may_be_none, cache_is, oplock_is}
 use Rattle.xl_front_smb.proofs.LockLaws.{counted}
 
 -- the core takes the plan's deeds, and they are the connection's
 abbrev pub IsTheirs : ℕ → CoreState → Lists → ℕ → Plan → Type 0
-IsTheirs n s l conn plan = AreFit n s (deeds_of plan) × AllByRecursion (IsOwn conn l s.counter) (deeds_of plan)
+IsTheirs n s l conn plan = AreFit n s (deeds_of plan) × AllByRecursion (IsOwn s.names conn l s.counter) (deeds_of plan)
 
 -- ---- checks, whatever holds of a plan
 
@@ -94,22 +100,84 @@ module _ (P : Plan → Type 0) where
   by_tree go place true fails goes = goes refl
   by_tree go place false fails goes = fails
 
+  by_known : (go : List ℕ → Plan) (o : Option (List ℕ)) → P (negotiated_by go None) → ((client : List ℕ) → o ≡ Some client → P (go client)) → P (negotiated_by go o)
+  by_known go None fails goes = fails
+  by_known go (Some client) fails goes = goes client refl
+
   pub by_client : (go : List ℕ → Plan) (o : Option (List ℕ)) → P (negotiated_by go None) → ((client : List ℕ) → P (go client)) → P (negotiated_by go o)
-  by_client go None fails goes = fails
-  by_client go (Some client) fails goes = goes client
+  by_client go o fails goes = by_known go o fails (λ client at. goes client)
 
--- ---- the ends of opens
+-- ---- opens that are closed, with what goes with them
 
-ends_fit : (n : ℕ) (s : CoreState) (numbers : List ℕ) → AreFit n s (ends numbers)
+ends_fit : (n : ℕ) (s : CoreState) (going : List (ℕ × Option Party)) → AreFit n s (ends going)
 ends_fit n s [] = tt
-ends_fit n s (number ∷ numbers) = (tt, ends_fit n (end_party s (parties.Open number)).1 numbers)
+ends_fit n s (e ∷ going) = (tt, ends_fit n (close_core s e.0 e.1).1 going)
 
-ends_in : (conn : ℕ) (l : Lists) (last : ℕ) (under : Scope) (numbers : List ℕ) → is_on conn l under ≡ true → ((k : ℕ) → IsIn k numbers → IsIn k (numbers_under under l)) → AllByRecursion (IsOwn conn l last) (ends numbers)
-ends_in conn l last under [] on within = tt
-ends_in conn l last under (number ∷ numbers) on within = ((under, on, within number (inl refl)), ends_in conn l last under numbers on (λ k later. within k (inr later)))
+ends_in : (names : List Name) (conn : ℕ) (l : Lists) (last : ℕ) (under : Scope) (going : List (ℕ × Option Party)) → is_on conn l under ≡ true
+    → ((e : ℕ × Option Party) → IsIn e going → IsIn e.0 (numbers_under under l) × IsPartyIn names l.opens e.0 e.1) → AllByRecursion (IsOwn names conn l last) (ends going)
+ends_in names conn l last under [] on within = tt
+ends_in names conn l last under (e ∷ going) on within = (
+  let this = within e (inl refl) in ((under, on, this.0), this.1),
+  ends_in names conn l last under going on (λ d later. within d (inr later)),
+)
 
-ends_own : (n : ℕ) (s : CoreState) (l : Lists) (conn : ℕ) (under : Scope) → is_on conn l under ≡ true → AreFit n s (ends (numbers_under under l)) × AllByRecursion (IsOwn conn l s.counter) (ends (numbers_under under l))
-ends_own n s l conn under on = (ends_fit n s (numbers_under under l), ends_in conn l s.counter under (numbers_under under l) on (λ k within. within))
+-- a row that is found is there
+row_in : (es : List (ℕ × Open)) (number : ℕ) (row : Open) → lookup (nat_eq number) es ≡ Some row → IsIn (number, row) es
+row_in [] number row at = absurd (none_some at)
+row_in (e ∷ es) number row at =
+    elim (cases_Bool (eqb number e.0)) [
+      | inl same ↦ inl (λ i. (equal_from number e.0 same i, same_Some (rw same at at) i))
+      | inr apart ↦ inr (row_in es number row (rw apart at at))
+    ]
+
+pub removed_of : (t : ℕ → Bool) (es : List (ℕ × Open)) (e : ℕ × Open) → IsIn e (remove_entry t es) → IsIn e es
+removed_of t [] e here = absurd here
+removed_of t (x ∷ es) e here =
+    elim (cases_Bool (t x.0)) [
+      | inl out ↦ inr (rw out at here)
+      | inr stays ↦ (let there : IsIn e (x ∷ remove_entry t es) = rw stays at here in elim there [ inl same ↦ inl same | inr rest ↦ inr (removed_of t es e rest) ])
+    ]
+
+party_in_last : (names : List Name) (number : ℕ) (row : Open) (es : List (ℕ × Open)) (last : Bool) → IsIn (number, row) es → IsPartyIn names es number (if last then Some (party_of names number row) else None)
+party_in_last names number row es true here = (row, here, refl)
+party_in_last names number row es false here = tt
+
+party_in_by : (names : List Name) (l m : Lists) (number : ℕ) (found : Option Open) → open_of number m ≡ found → ((e : ℕ × Open) → IsIn e m.opens → IsIn e l.opens) → IsPartyIn names l.opens number (going_by names m number found)
+party_in_by names l m number None at within = tt
+party_in_by names l m number (Some row) at within = party_in_last names number row l.opens (is_last_open number m) (within (number, row) (row_in m.opens number row at))
+
+going_in : (names : List Name) (l m : Lists) (number : ℕ) → ((e : ℕ × Open) → IsIn e m.opens → IsIn e l.opens) → IsPartyIn names l.opens number (party_going names m number)
+going_in names l m number within = party_in_by names l m number (open_of number m) refl within
+
+leavers_in : (names : List Name) (l m : Lists) (numbers : List ℕ) → ((e : ℕ × Open) → IsIn e m.opens → IsIn e l.opens) → (e : ℕ × Option Party) → IsIn e (leavers names m numbers) → IsIn e.0 numbers × IsPartyIn names l.opens e.0 e.1
+leavers_in names l m [] within e here = absurd here
+leavers_in names l m (number ∷ numbers) within e here =
+    elim here [
+      | inl is ↦ subst (λ (d : ℕ × Option Party). IsIn d.0 (number ∷ numbers) × IsPartyIn names l.opens d.0 d.1) is (inl refl, going_in names l m number within)
+      | inr later ↦ (let rest = leavers_in names l (closed number m) numbers (λ d there. within d (removed_of (nat_eq number) m.opens d there)) e later in (inr rest.0, rest.1))
+    ]
+
+creates_in : (names : List Name) (l : Lists) (numbers : List ℕ) (e : ℕ × Option Party) → IsIn e (without_party numbers) → IsIn e.0 numbers × IsPartyIn names l.opens e.0 e.1
+creates_in names l [] e here = absurd here
+creates_in names l (number ∷ numbers) e here =
+    elim here [
+      | inl is ↦ subst (λ (d : ℕ × Option Party). IsIn d.0 (number ∷ numbers) × IsPartyIn names l.opens d.0 d.1) is (inl refl, tt)
+      | inr later ↦ (let rest = creates_in names l numbers e later in (inr rest.0, rest.1))
+    ]
+
+pub in_append_from : {A : Type 0} (x : A) (xs ys : List A) → IsIn x (xs ++ ys) → IsIn x xs ⊎ IsIn x ys
+in_append_from x [] ys here = inr here
+in_append_from x (y ∷ xs) ys here = elim here [ inl is ↦ inl (inl is) | inr later ↦ elim (in_append_from x xs ys later) [ inl own ↦ inl (inr own) | inr other ↦ inr other ] ]
+
+under_in : (names : List Name) (l : Lists) (under : Scope) (e : ℕ × Option Party) → IsIn e (leavers_under names under l) → IsIn e.0 (numbers_under under l) × IsPartyIn names l.opens e.0 e.1
+under_in names l under e here =
+    elim (in_append_from e (leavers names l (opens_under under l)) (without_party (creates_under under l)) here) [
+      | inl own ↦ (let r = leavers_in names l l (opens_under under l) (λ d there. there) e own in (in_append_left e.0 (opens_under under l) (creates_under under l) r.0, r.1))
+      | inr made ↦ (let r = creates_in names l (creates_under under l) e made in (in_append_right e.0 (opens_under under l) (creates_under under l) r.0, r.1))
+    ]
+
+ends_own : (n : ℕ) (s : CoreState) (l : Lists) (conn : ℕ) (under : Scope) → is_on conn l under ≡ true → AreFit n s (ends (leavers_under s.names under l)) × AllByRecursion (IsOwn s.names conn l s.counter) (ends (leavers_under s.names under l))
+ends_own n s l conn under on = (ends_fit n s (leavers_under s.names under l), ends_in s.names conn l s.counter under (leavers_under s.names under l) on (under_in s.names l under))
 
 -- a row that is found, and passes, is among those that pass
 found_in : {X : Type 0} (test : X → Bool) (es : List (ℕ × X)) (number : ℕ) (row : X) → lookup (nat_eq number) es ≡ Some row → test row ≡ true → IsIn number (keys_where test es)
@@ -181,38 +249,44 @@ unfolding tree_disconnect
 disconnect_theirs n s l conn client h =
     let P = IsTheirs n s l conn in
     by_session P (λ number. is_session_on conn (session_of number l)) _ (number_in s h.session_id) (tt, tt)
-    (λ k is. by_tree P (disconnect l) _ (has_place _ client l) (tt, tt) (λ there. ends_own n s l conn (scope.Tree _) (place_on l client _ there)))
+    (λ k is. by_tree P (disconnect s l) _ (has_place _ client l) (tt, tt) (λ there. ends_own n s l conn (scope.Tree _) (place_on l client _ there)))
 
 -- an ask of an open that is new, or stands under the connection
-asked_own : (conn : ℕ) (l : Lists) (last number : ℕ) (owner party : Who) → owner ≡ who.Open number → party ≡ who.Open number → IsAskerOn conn l last number → IsAskedBy conn l last owner party
-asked_own conn l last number owner party is same on = subst (λ (x : Who). IsAskedBy conn l last x party) (sym is) (same, on)
+asked_own : (conn : ℕ) (l : Lists) (last number : ℕ) (row : Open) (owner party : Who) → owner ≡ who.Open number → party ≡ party_for number row → IsAskerOn conn l last number → IsRowOn conn l number row → IsAskedBy conn l last owner party
+asked_own conn l last number row owner party is same on of = subst (λ (x : Who). IsAskedBy conn l last x party) (sym is) (on, row, of, same)
 
-opens_by : (n : ℕ) (s : CoreState) (others : ℕ) (l : Lists) (conn : ℕ) (h : SmbHead) (client : List ℕ) (place : Place) (c : CreateCallItem) (file : ℕ) (room : Bool) → IsTheirs n s l conn (if room then open_as s others l h client place c file (s.counter + 1) else Fails InsufficientResources)
-opens_by n s others l conn h client place c file true =
-    let owns = open_owns place.connection file (s.counter + 1) c in
-    let a = open_ask place.connection file (s.counter + 1) c in
-    ((tt, (open_fits place.connection file (s.counter + 1) c, tt)), (tt, (asked_own conn l s.counter (s.counter + 1) a.owner a.party owns.0 owns.1 (inl refl), tt)))
-opens_by n s others l conn h client place c file false = (tt, tt)
+module _ (n : ℕ) (s : CoreState) (others : ℕ) (l : Lists) (conn : ℕ) (h : SmbHead) (client : List ℕ) (known : client_of conn l ≡ Some client) where
+  opens_by : (place : Place) (c : CreateCallItem) (file : ℕ) (room : Bool) → IsTheirs n s l conn (if room then open_as s others l h client place c file (s.counter + 1) else Fails InsufficientResources)
+  opens_by place c file true =
+      let row = open_row file client place c in
+      let owns = open_owns place.connection (s.counter + 1) row c in
+      let a = open_ask place.connection (s.counter + 1) row c in
+      ((tt, (open_fits place.connection (s.counter + 1) row c refl, tt)), (tt, (asked_own conn l s.counter (s.counter + 1) row a.owner a.party owns.0 owns.1 (inl refl) (inr known), tt)))
+  opens_by place c file false = (tt, tt)
 
-found_by : (n : ℕ) (s : CoreState) (others : ℕ) (l : Lists) (conn : ℕ) (h : SmbHead) (client : List ℕ) (place : Place) (c : CreateCallItem) (file : ℕ) (makes : Bool) → IsTheirs n s l conn (if makes then Fails ObjectNameCollision else open_file s others l h client place c file)
-found_by n s others l conn h client place c file true = (tt, tt)
-found_by n s others l conn h client place c file false = opens_by n s others l conn h client place c file (has_room_for_open others l (s.counter + 1))
+  keyed_by : (place : Place) (c : CreateCallItem) (file : ℕ) (elsewhere : Bool) → IsTheirs n s l conn (if elsewhere then Fails InvalidParameter else open_file s others l h client place c file)
+  keyed_by place c file true = (tt, tt)
+  keyed_by place c file false = opens_by place c file (has_room_for_open others l (s.counter + 1))
 
-found_theirs : (n : ℕ) (s : CoreState) (others : ℕ) (l : Lists) (conn : ℕ) (h : SmbHead) (client : List ℕ) (place : Place) (c : CreateCallItem) (file : Option ℕ) → IsTheirs n s l conn (open_found s others l h client place c file)
-found_theirs n s others l conn h client place c None = (tt, tt)
-found_theirs n s others l conn h client place c (Some file) = found_by n s others l conn h client place c file (c.disposition == 2)
+  found_by : (place : Place) (c : CreateCallItem) (file : ℕ) (makes : Bool) → IsTheirs n s l conn (if makes then Fails ObjectNameCollision else open_keyed s others l h client place c file)
+  found_by place c file true = (tt, tt)
+  found_by place c file false = keyed_by place c file (is_key_elsewhere file (lease_key client (key_asked c)) l)
 
-create_by : (n : ℕ) (s : CoreState) (others : ℕ) (l : Lists) (conn : ℕ) (h : SmbHead) (client : List ℕ) (place : Place) (c : CreateCallItem) (file : Option ℕ) (unknown changes : Bool) → IsTheirs n s l conn (if unknown then Fails InvalidParameter else if changes then Fails NotSupported else open_found s others l h client place c file)
-create_by n s others l conn h client place c file true changes = (tt, tt)
-create_by n s others l conn h client place c file false true = (tt, tt)
-create_by n s others l conn h client place c file false false = found_theirs n s others l conn h client place c file
+  found_theirs : (place : Place) (c : CreateCallItem) (file : Option ℕ) → IsTheirs n s l conn (open_found s others l h client place c file)
+  found_theirs place c None = (tt, tt)
+  found_theirs place c (Some file) = found_by place c file (c.disposition == 2)
 
-create_theirs : (n : ℕ) (s : CoreState) (files : List (List ℕ)) (others : ℕ) (l : Lists) (conn : ℕ) (client : List ℕ) (h : SmbHead) (c : CreateCallItem) → IsTheirs n s l conn (create s files others l conn client h c)
-unfolding create
-create_theirs n s files others l conn client h c =
-    by_session (IsTheirs n s l conn) (λ number. is_session_on conn (session_of number l)) _ (number_in s h.session_id) (tt, tt)
-    (λ k is. let place : Place = record { connection = conn; session = k; tree = tree_id h.route } in
-    by_tree (IsTheirs n s l conn) (create_on s files others l h client c) place (has_place place client l) (tt, tt) (λ there. create_by n s others l conn h client place c (file_spelled files c.name) (nat_lt 5 c.disposition) (overwrites c.disposition)))
+  create_by : (place : Place) (c : CreateCallItem) (file : Option ℕ) (unknown changes : Bool) → IsTheirs n s l conn (if unknown then Fails InvalidParameter else if changes then Fails NotSupported else open_found s others l h client place c file)
+  create_by place c file true changes = (tt, tt)
+  create_by place c file false true = (tt, tt)
+  create_by place c file false false = found_theirs place c file
+
+  create_theirs : (files : List (List ℕ)) (c : CreateCallItem) → IsTheirs n s l conn (create s files others l conn client h c)
+  unfolding create
+  create_theirs files c =
+      by_session (IsTheirs n s l conn) (λ number. is_session_on conn (session_of number l)) _ (number_in s h.session_id) (tt, tt)
+      (λ k is. let place : Place = record { connection = conn; session = k; tree = tree_id h.route } in
+      by_tree (IsTheirs n s l conn) (create_on s files others l h client c) place (has_place place client l) (tt, tt) (λ there. create_by place c (file_spelled files c.name) (nat_lt 5 c.disposition) (overwrites c.disposition)))
 
 close_theirs : (n : ℕ) (s : CoreState) (l : Lists) (conn : ℕ) (client : List ℕ) (h : SmbHead) (id : FileId) → IsTheirs n s l conn (close s l conn client h id)
 unfolding close
@@ -220,34 +294,46 @@ close_theirs n s l conn client h id =
     let P = IsTheirs n s l conn in
     by_session P (λ number. is_session_on conn (session_of number l)) _ (number_in s h.session_id) (tt, tt)
     (λ k is. by_tree P _ _ (has_place _ client l) (tt, tt)
-    (λ there. by_open P (λ number. is_open_on conn (open_of number l)) (close_open l) (file_number s id) (tt, tt)
-    (λ number on. ((tt, tt), ((scope.Connection conn, equal_self conn, in_append_left number (opens_under (scope.Connection conn) l) (creates_under (scope.Connection conn) l) (open_in conn number l (open_of number l) refl on)), tt)))))
+    (λ there. by_open P (λ number. is_open_on conn (open_of number l)) (close_open s l) (file_number s id) (tt, tt)
+    (λ number on. (
+      (tt, tt),
+      (
+        (
+          (scope.Connection conn, equal_self conn, in_append_left number (opens_under (scope.Connection conn) l) (creates_under (scope.Connection conn) l) (open_in conn number l (open_of number l) refl on)),
+          going_in s.names l l number (λ e here. here),
+        ),
+        tt,
+      ),
+    ))))
 
 -- ---- LOCK
 
-unlock_theirs : (n : ℕ) (s : CoreState) (l : Lists) (conn file number : ℕ) (es : List LockElement) → IsIn number (opens_under (scope.Connection conn) l) → IsTheirs n s l conn (unlock_by l (unlocks s file number es))
-unlock_theirs n s l conn file number es there = (
-  unlocks_fit n s file number es,
-  unlocks_are (IsOwn conn l s.counter) s file number es (λ e. let owns = unlock_owns file number e in asked_own conn l s.counter number (unlock_ask file number e).owner (unlock_ask file number e).party owns.0 owns.1 (inr there)),
+unlock_theirs : (n : ℕ) (s : CoreState) (l : Lists) (conn number : ℕ) (row : Open) (es : List LockElement) → open_of number l ≡ Some row → IsIn number (opens_under (scope.Connection conn) l) → IsTheirs n s l conn (unlock_by l (unlocks s number row es))
+unlock_theirs n s l conn number row es at there = (
+  unlocks_fit n s number row es,
+  unlocks_are (IsOwn s.names conn l s.counter) s number row es
+      (λ e. let owns = unlock_owns number row e in asked_own conn l s.counter number row (unlock_ask number row e).owner (unlock_ask number row e).party owns.0 owns.1 (inr there) (inl (row_in l.opens number row at))),
 )
 
-lock_by_theirs : (n : ℕ) (s : CoreState) (l : Lists) (conn : ℕ) (row : Waiting) (file number : ℕ) (es : List LockElement) (o : Option SmbStatus) → lock_fault es ≡ o → 1 ≤ length es → IsIn number (opens_under (scope.Connection conn) l) → IsTheirs n s l conn (lock_by conn row file number es o)
-lock_by_theirs n s l conn row file number es (Some status) fault some there = (tt, tt)
-lock_by_theirs n s l conn row file number es None fault some there =
-    let a = lock_ask conn file number es in
-    let owns = lock_owns conn file number es in
-    (((lock_fits conn file number es fault some).fit, tt), (asked_own conn l s.counter number a.owner a.party owns.0 owns.1 (inr there), tt))
+lock_by_theirs : (n : ℕ) (s : CoreState) (l : Lists) (conn : ℕ) (row : Waiting) (number : ℕ) (held : Open) (es : List LockElement) (o : Option SmbStatus) → lock_fault es ≡ o → 1 ≤ length es → open_of number l ≡ Some held → IsIn number (opens_under (scope.Connection conn) l)
+    → IsTheirs n s l conn (lock_by conn row number held es o)
+lock_by_theirs n s l conn row number held es (Some status) fault some at there = (tt, tt)
+lock_by_theirs n s l conn row number held es None fault some at there =
+    let a = lock_ask conn number held es in
+    let owns = lock_owns conn number held es in
+    (((lock_fits conn number held es fault some).fit, tt), (asked_own conn l s.counter number held a.owner a.party owns.0 owns.1 (inr there) (inl (row_in l.opens number held at)), tt))
 
-lock_on_theirs : (n : ℕ) (s : CoreState) (l : Lists) (conn : ℕ) (h : SmbHead) (number : ℕ) (place : Place) (es : List LockElement) (row : Open) (count first : Bool) → is_count (length es) ≡ count → IsIn number (opens_under (scope.Connection conn) l)
+lock_on_theirs : (n : ℕ) (s : CoreState) (l : Lists) (conn : ℕ) (h : SmbHead) (number : ℕ) (place : Place) (es : List LockElement) (row : Open) (count first : Bool) → is_count (length es) ≡ count → open_of number l ≡ Some row → IsIn number (opens_under (scope.Connection conn) l)
     → IsTheirs n s l conn
-    (if not count then Fails InvalidParameter else if first then unlock_by l (unlocks s row.file number es) else lock_by conn (waiting_row h (place_of row.holder place) number request.Lock) row.file number es (lock_fault es))
-lock_on_theirs n s l conn h number place es row false first is there = (tt, tt)
-lock_on_theirs n s l conn h number place es row true true is there = unlock_theirs n s l conn row.file number es there
-lock_on_theirs n s l conn h number place es row true false is there = lock_by_theirs n s l conn (waiting_row h (place_of row.holder place) number request.Lock) row.file number es (lock_fault es) refl (counted (length es) is) there
+    (if not count then Fails InvalidParameter else if first then unlock_by l (unlocks s number row es) else lock_by conn (waiting_row h (place_of row.holder place) number request.Lock) number row es (lock_fault es))
+lock_on_theirs n s l conn h number place es row false first is at there = (tt, tt)
+lock_on_theirs n s l conn h number place es row true true is at there = unlock_theirs n s l conn number row es at there
+lock_on_theirs n s l conn h number place es row true false is at there =
+    lock_by_theirs n s l conn (waiting_row h (place_of row.holder place) number request.Lock) number row es (lock_fault es) refl (counted (length es) is) at there
 
-lock_found_theirs : (n : ℕ) (s : CoreState) (l : Lists) (conn : ℕ) (h : SmbHead) (number : ℕ) (place : Place) (es : List LockElement) (o : Option Open) → IsIn number (opens_under (scope.Connection conn) l) → IsTheirs n s l conn (lock_found s l conn h number place es o)
-lock_found_theirs n s l conn h number place es None there = (tt, tt)
-lock_found_theirs n s l conn h number place es (Some row) there = lock_on_theirs n s l conn h number place es row (is_count (length es)) (unlocks_first es) refl there
+lock_found_theirs : (n : ℕ) (s : CoreState) (l : Lists) (conn : ℕ) (h : SmbHead) (number : ℕ) (place : Place) (es : List LockElement) (o : Option Open) → open_of number l ≡ o → IsIn number (opens_under (scope.Connection conn) l) → IsTheirs n s l conn (lock_found s l conn h number place es o)
+lock_found_theirs n s l conn h number place es None at there = (tt, tt)
+lock_found_theirs n s l conn h number place es (Some row) at there = lock_on_theirs n s l conn h number place es row (is_count (length es)) (unlocks_first es) refl at there
 
 lock_theirs : (n : ℕ) (s : CoreState) (l : Lists) (conn : ℕ) (client : List ℕ) (h : SmbHead) (c : LockItem) → IsTheirs n s l conn (lock s l conn client h c)
 unfolding lock
@@ -256,7 +342,7 @@ lock_theirs n s l conn client h c =
     by_session P (λ number. is_session_on conn (session_of number l)) _ (number_in s h.session_id) (tt, tt)
     (λ k is. by_tree P _ _ (has_place _ client l) (tt, tt)
     (λ there. by_open P (λ number. is_open_on conn (open_of number l)) _ (file_number s c.file_id) (tt, tt)
-    (λ number on. lock_found_theirs n s l conn h number _ (elements_of c.elements) (open_of number l) (open_in conn number l (open_of number l) refl on))))
+    (λ number on. lock_found_theirs n s l conn h number _ (elements_of c.elements) (open_of number l) refl (open_in conn number l (open_of number l) refl on))))
 
 -- ---- CANCEL
 
@@ -307,8 +393,8 @@ ack_by_theirs n s l conn number id level cache (whats.Cache kind None) here its 
     by false = (tt, tt)
 ack_by_theirs n s l conn number id level cache (whats.Cache kind (Some running)) here its is there = by (is_refused level kind (Some running)) refl
   where
-    own : IsOplockOn conn l cache.party
-    own = subst (λ (p : Party). IsOplockOn conn l p) (sym its) there
+    own : IsHolderOn s.names conn l cache.party
+    own = subst (λ (p : Party). IsHolderOn s.names conn l p) (sym its) there
 
     by : (refused : Bool) → is_refused level kind (Some running) ≡ refused → IsTheirs n s l conn (if refused then refused_ack l cache (Some running) else taken_ack l id level cache (Some running))
     by true at = (((here, may_be_none cache.what kind running is), tt), (own, tt))
@@ -334,36 +420,64 @@ ack_level_theirs : (n : ℕ) (s : CoreState) (l : Lists) (conn level number : �
 ack_level_theirs n s l conn level number true there = (tt, tt)
 ack_level_theirs n s l conn level number false there = ack_open_theirs n s l conn level number (open_of number l) there
 
-break_theirs : (n : ℕ) (s : CoreState) (l : Lists) (conn : ℕ) (b : Break) → IsTheirs n s l conn (break_by s l conn b)
-break_theirs n s l conn (held.Oplock level id) =
+-- ---- of a lease
+
+lease_left_by : (n : ℕ) (s : CoreState) (l : Lists) (conn : ℕ) (lease : Lease) (cache : Claim) (kind : CacheKind) (running : Broken) (may : Bool) → may_keep lease.state running ≡ may → cache.what ≡ whats.Cache kind (Some running) → IsIn cache s.claims → IsHolderOn s.names conn l cache.party
+    → IsTheirs n s l conn (if may then Does (Acks cache (kind_of_state lease.state) ∷ []) l (Answered (lease_left lease)) else Fails RequestNotAccepted)
+lease_left_by n s l conn lease cache kind running true may is here own =
+    (((here, ap (λ (w : What). may_be_left w (kind_of_state lease.state)) is ∙ kept_within lease.state running may), tt), (own, tt))
+lease_left_by n s l conn lease cache kind running false may is here own = (tt, tt)
+
+lease_by_theirs : (n : ℕ) (s : CoreState) (l : Lists) (conn : ℕ) (lease : Lease) (cache : Claim) (what : What) → cache.what ≡ what → IsIn cache s.claims → IsHolderOn s.names conn l cache.party → IsTheirs n s l conn (ack_lease_by l lease cache what)
+lease_by_theirs n s l conn lease cache (whats.Cache kind None) is here own = (tt, tt)
+lease_by_theirs n s l conn lease cache (whats.Cache kind (Some running)) is here own = lease_left_by n s l conn lease cache kind running (may_keep lease.state running) refl is here own
+lease_by_theirs n s l conn lease cache (whats.Share access deny) is here own = (tt, tt)
+lease_by_theirs n s l conn lease cache (whats.Range extent exclusive) is here own = (tt, tt)
+
+lease_own : (names : List Name) (conn : ℕ) (l : Lists) (client key : List ℕ) (party : Party) → client_of conn l ≡ Some client → party ≡ lease_party names client key → IsHolderOn names conn l party
+lease_own names conn l client key party known is =
+    subst (λ (p : Party). IsHolderOn names conn l p) (sym is) (subst (λ (o : Option (List ℕ)). IsLeaseOf names o (lease_party names client key)) (sym known) (key, refl))
+
+lease_cache_theirs : (n : ℕ) (s : CoreState) (l : Lists) (conn file : ℕ) (client : List ℕ) (lease : Lease) (o : Option Claim) → client_of conn l ≡ Some client → cache_of file (lease_party s.names client lease.key) s.claims ≡ o → IsTheirs n s l conn (ack_cache l lease o)
+lease_cache_theirs n s l conn file client lease None known at = (tt, tt)
+lease_cache_theirs n s l conn file client lease (Some cache) known at =
+    let is = cache_is file (lease_party s.names client lease.key) s.claims cache at in
+    lease_by_theirs n s l conn lease cache cache.what refl is.0 (lease_own s.names conn l client lease.key cache.party known is.1)
+
+lease_theirs : (n : ℕ) (s : CoreState) (l : Lists) (conn : ℕ) (client : List ℕ) (lease : Lease) (o : Option LeaseRow) → client_of conn l ≡ Some client → IsTheirs n s l conn (ack_lease s l client lease o)
+lease_theirs n s l conn client lease None known = (tt, tt)
+lease_theirs n s l conn client lease (Some row) known = lease_cache_theirs n s l conn row.file client lease (cache_of row.file (lease_party s.names client lease.key) s.claims) known refl
+
+break_theirs : (n : ℕ) (s : CoreState) (l : Lists) (conn : ℕ) (client : List ℕ) (b : Break) → client_of conn l ≡ Some client → IsTheirs n s l conn (break_by s l conn client b)
+break_theirs n s l conn client (held.Oplock level id) known =
     by_open (IsTheirs n s l conn) (λ number. is_open_on conn (open_of number l)) (ack_level s l level) (file_number s id) (tt, tt)
     (λ number on. ack_level_theirs n s l conn level number (level == 0xFF) (open_in conn number l (open_of number l) refl on))
-break_theirs n s l conn (held.Lease lease) = (tt, tt)
+break_theirs n s l conn client (held.Lease lease) known = lease_theirs n s l conn client lease (lease_row (record { client = client; key = lease.key }) l) known
 
-acknowledge_theirs : (n : ℕ) (s : CoreState) (l : Lists) (conn : ℕ) (h : SmbHead) (b : Break) → IsTheirs n s l conn (acknowledge s l conn h b)
+acknowledge_theirs : (n : ℕ) (s : CoreState) (l : Lists) (conn : ℕ) (client : List ℕ) (h : SmbHead) (b : Break) → client_of conn l ≡ Some client → IsTheirs n s l conn (acknowledge s l conn client h b)
 unfolding acknowledge
-acknowledge_theirs n s l conn h b =
-    by_session (IsTheirs n s l conn) (λ number. is_session_on conn (session_of number l)) _ (number_in s h.session_id) (tt, tt) (λ k is. break_theirs n s l conn b)
+acknowledge_theirs n s l conn client h b known =
+    by_session (IsTheirs n s l conn) (λ number. is_session_on conn (session_of number l)) _ (number_in s h.session_id) (tt, tt) (λ k is. break_theirs n s l conn client b known)
 
 -- ---- a request
 
-commanded_theirs : (n : ℕ) (s : CoreState) (files : List (List ℕ)) (others : ℕ) (l : Lists) (conn : ℕ) (h : SmbHead) (call : CallItem) (client : List ℕ) → IsTheirs n s l conn (commanded s files others l conn h call client)
+commanded_theirs : (n : ℕ) (s : CoreState) (files : List (List ℕ)) (others : ℕ) (l : Lists) (conn : ℕ) (h : SmbHead) (call : CallItem) (client : List ℕ) → client_of conn l ≡ Some client → IsTheirs n s l conn (commanded s files others l conn h call client)
 unfolding commanded
-commanded_theirs n s files others l conn h (SessionSetup c) client = setup_theirs n s l conn h
-commanded_theirs n s files others l conn h Logoff client = logoff_theirs n s l conn h
-commanded_theirs n s files others l conn h (TreeConnect path) client = connect_theirs n s l conn h path
-commanded_theirs n s files others l conn h TreeDisconnect client = disconnect_theirs n s l conn client h
-commanded_theirs n s files others l conn h (Create c) client = create_theirs n s files others l conn client h c
-commanded_theirs n s files others l conn h (Close c) client = close_theirs n s l conn client h c.file_id
-commanded_theirs n s files others l conn h (Lock c) client = lock_theirs n s l conn client h c
-commanded_theirs n s files others l conn h Cancel client = cancel_theirs n s l conn h
-commanded_theirs n s files others l conn h Echo client = (tt, tt)
-commanded_theirs n s files others l conn h (OplockBreak b) client = acknowledge_theirs n s l conn h b
-commanded_theirs n s files others l conn h (Negotiate c) client = (tt, tt)
-commanded_theirs n s files others l conn h Other client = (tt, tt)
+commanded_theirs n s files others l conn h (SessionSetup c) client known = setup_theirs n s l conn h
+commanded_theirs n s files others l conn h Logoff client known = logoff_theirs n s l conn h
+commanded_theirs n s files others l conn h (TreeConnect path) client known = connect_theirs n s l conn h path
+commanded_theirs n s files others l conn h TreeDisconnect client known = disconnect_theirs n s l conn client h
+commanded_theirs n s files others l conn h (Create c) client known = create_theirs n s others l conn h client known files c
+commanded_theirs n s files others l conn h (Close c) client known = close_theirs n s l conn client h c.file_id
+commanded_theirs n s files others l conn h (Lock c) client known = lock_theirs n s l conn client h c
+commanded_theirs n s files others l conn h Cancel client known = cancel_theirs n s l conn h
+commanded_theirs n s files others l conn h Echo client known = (tt, tt)
+commanded_theirs n s files others l conn h (OplockBreak b) client known = acknowledge_theirs n s l conn client h b known
+commanded_theirs n s files others l conn h (Negotiate c) client known = (tt, tt)
+commanded_theirs n s files others l conn h Other client known = (tt, tt)
 
 once_theirs : (n : ℕ) (s : CoreState) (files : List (List ℕ)) (others : ℕ) (l : Lists) (conn : ℕ) (h : SmbHead) (call : CallItem) → IsTheirs n s l conn (negotiated_by (commanded s files others l conn h call) (client_of conn l))
-once_theirs n s files others l conn h call = by_client (IsTheirs n s l conn) (commanded s files others l conn h call) (client_of conn l) (tt, tt) (λ client. commanded_theirs n s files others l conn h call client)
+once_theirs n s files others l conn h call = by_known (IsTheirs n s l conn) (commanded s files others l conn h call) (client_of conn l) (tt, tt) (λ client at. commanded_theirs n s files others l conn h call client at)
 
 planned_theirs : (n : ℕ) (s : CoreState) (files : List (List ℕ)) (others : ℕ) (l : Lists) (conn : ℕ) (h : SmbHead) (call : CallItem) → IsTheirs n s l conn (planned s files others l conn h call)
 unfolding planned
@@ -410,18 +524,18 @@ step_own n exports others f s conn bytes = (heard_theirs n exports others f s co
 
 -- ---- the end of a connection
 
-pub end_takes : (n : ℕ) (f : FrontSmb) (s : CoreState) (conn : ℕ) → AreFit n s (smb_end_deeds f conn)
+pub end_takes : (n : ℕ) (f : FrontSmb) (s : CoreState) (conn : ℕ) → AreFit n s (smb_end_deeds f s conn)
 unfolding smb_end_deeds
-end_takes n f s conn = ends_fit n s (numbers_under (scope.Connection conn) f.state)
+end_takes n f s conn = ends_fit n s (leavers_under s.names (scope.Connection conn) f.state)
 
-pub end_own : (f : FrontSmb) (s : CoreState) (conn : ℕ) → AreOwn f s conn (smb_end_deeds f conn)
+pub end_own : (f : FrontSmb) (s : CoreState) (conn : ℕ) → AreOwn f s conn (smb_end_deeds f s conn)
 unfolding smb_end_deeds
 end_own f s conn = (ends_own 0 s f.state conn (scope.Connection conn) (equal_self conn)).1
 
-only_ends : (numbers : List ℕ) → AllByRecursion (λ d. is_end d ≡ true) (ends numbers)
+only_ends : (going : List (ℕ × Option Party)) → AllByRecursion (λ d. is_end d ≡ true) (ends going)
 only_ends [] = tt
-only_ends (number ∷ numbers) = (refl, only_ends numbers)
+only_ends (e ∷ going) = (refl, only_ends going)
 
-pub ends_alone : (f : FrontSmb) (conn : ℕ) → AllByRecursion (λ d. is_end d ≡ true) (smb_end_deeds f conn)
+pub ends_alone : (f : FrontSmb) (s : CoreState) (conn : ℕ) → AllByRecursion (λ d. is_end d ≡ true) (smb_end_deeds f s conn)
 unfolding smb_end_deeds
-ends_alone f conn = only_ends (numbers_under (scope.Connection conn) f.state)
+ends_alone f s conn = only_ends (leavers_under s.names (scope.Connection conn) f.state)

@@ -10,8 +10,9 @@ use Rattle.xl_base.specs.Lists.{IsIn}
 use Rattle.xl_smb_state.proofs.LinkLaws.{place_linked}
 use Rattle.xl_smb_state.proofs.RowLaws.{equal_from, equal_self, unequal_both, lookup_added, lookup_removed, lookup_set, none_some, same_Some}
 use Rattle.xl_smb_state.specs.Links.{is_tree_at, is_client, has_place, AreDistinct, IsSound}
-use Rattle.xl_smb_state.specs.State.{Lists, client_of, connection_of, connection_added, connection_changed, covers, creates_under, made_in, makes_open, makes_under, open_of, opens_under, tree_added, tree_dropped, tree_of}
+use Rattle.xl_smb_state.specs.State.{Lists, client_of, connection_of, connection_added, connection_changed, covers, creates_under, is_key, made_in, makes_open, makes_under, open_of, opens_under, tree_added, tree_dropped, tree_of}
 use Rattle.xl_smb_state.specs.declared.row.Connection.{Connection}
+use Rattle.xl_smb_state.specs.declared.row.LeaseKey.{LeaseKey}
 use Rattle.xl_smb_state.specs.declared.row.Open.{Open}
 use Rattle.xl_smb_state.specs.declared.row.Place.{Place}
 use Rattle.xl_smb_state.specs.declared.row.Request.{Request}
@@ -20,7 +21,8 @@ use Rattle.xl_smb_state.specs.declared.row.Scope.{Scope}
 use Rattle.xl_smb_state.specs.declared.row.Tree.{Tree}
 use Rattle.xl_smb_state.specs.declared.row.Waiting.{Waiting}
 use Rattle.xl_core.specs.State.{CoreState}
-use Rattle.xl_front_smb.specs.Awaits.{IsUnder}
+use Rattle.xl_front_smb.proofs.KeyLaws.{LeasesStay, used_still}
+use Rattle.xl_front_smb.specs.Awaits.{IsUnder, IsUsedOn}
 use Rattle.xl_front_smb.specs.Checks.{is_fresh, is_open_on}
 use Rattle.xl_front_smb.specs.Ending.{all_closed, numbers_under, session_gone, smb_end}
 use Rattle.xl_front_smb.specs.Laws.{rows_but}
@@ -152,10 +154,11 @@ ended_place f s conn place client sound distinct apart here =
 -- ---- an open that may stand still may
 
 -- what keeps the open that this request waits to make fit to stand
-pub record KeepsFit (l m : Lists) (e : ℕ × Waiting) : Type 0 where
+pub record KeepsFit (l m : Lists) (e : ℕ × Waiting) (made : Open) : Type 0 where
   pub places : (client : List ℕ) → has_place e.1.place client l ≡ true → has_place e.1.place client m ≡ true
   pub opens : is_some (open_of e.1.opened l) ≡ false → is_some (open_of e.1.opened m) ≡ false
   pub rows : (x : ℕ × Waiting) → IsIn x m.waiting → makes_open x.1.request ≡ true → x.1.opened ≡ e.1.opened → IsIn x l.waiting
+  pub keyed : (key : LeaseKey) → is_key key made.client made.lease ≡ true → IsUsedOn key made.file l → IsUsedOn key made.file m
 
 -- an open that stands on a connection stays there
 abbrev pub Stays : ℕ → Lists → Lists → Type 0
@@ -164,7 +167,7 @@ Stays k l m = (c : ℕ) → is_open_on c (open_of k l) ≡ true → is_open_on c
 -- what keeps the open of a request as it waits for it
 abbrev pub Keeps : Lists → Lists → ℕ × Waiting → Request → Type 0
 Keeps l m e request.Lock = Stays e.1.opened l m
-Keeps l m e (request.Create made) = KeepsFit l m e
+Keeps l m e (request.Create made) = KeepsFit l m e made
 
 pub under_still : (l m : Lists) (e : ℕ × Waiting) (r : Request) → Keeps l m e r → IsUnder l e r → IsUnder m e r
 under_still l m e request.Lock keeps on = keeps e.1.place.connection on
@@ -174,21 +177,28 @@ under_still l m e (request.Create made) keeps may = record {
   free = keeps.opens may.free;
   earlier = may.earlier;
   single = λ x here makes same. may.single x (keeps.rows x here makes same) makes same;
+  keyed = λ key is. keeps.keyed key is (may.keyed key is);
 }
 
-pub keeps_by : (l m : Lists) (e : ℕ × Waiting) (r : Request) → Stays e.1.opened l m → (makes_open r ≡ true → KeepsFit l m e) → Keeps l m e r
+pub keeps_by : (l m : Lists) (e : ℕ × Waiting) (r : Request) → Stays e.1.opened l m → ((made : Open) → r ≡ request.Create made → KeepsFit l m e made) → Keeps l m e r
 keeps_by l m e request.Lock stays fits = stays
-keeps_by l m e (request.Create made) stays fits = fits refl
+keeps_by l m e (request.Create made) stays fits = fits made refl
 
--- where the opens, the tree connects and the connections stand, and no request came
-pub keeps_all : (l m : Lists) (e : ℕ × Waiting) (r : Request) → m.opens ≡ l.opens → ((client : List ℕ) → has_place e.1.place client l ≡ true → has_place e.1.place client m ≡ true)
-    → ((x : ℕ × Waiting) → IsIn x m.waiting → makes_open x.1.request ≡ true → x.1.opened ≡ e.1.opened → IsIn x l.waiting) → Keeps l m e r
-keeps_all l m e r opens places rows =
+-- where the opens, the tree connects and the connections stand, no lease came, and no request
+pub keeps_all : (l m : Lists) (e : ℕ × Waiting) (r : Request) → m.opens ≡ l.opens → LeasesStay l m → ((client : List ℕ) → has_place e.1.place client l ≡ true → has_place e.1.place client m ≡ true)
+    → ((x : ℕ × Waiting) → IsIn x m.waiting → IsIn x l.waiting) → Keeps l m e r
+keeps_all l m e r opens leases places rows =
     let same : open_of e.1.opened m ≡ open_of e.1.opened l = ap (λ (es : List (ℕ × Open)). lookup (nat_eq e.1.opened) es) opens in
-    keeps_by l m e r (λ c on. ap (is_open_on c) same ∙ on) (λ makes. record { places = places; opens = λ free. ap (λ (o : Option Open). is_some o) same ∙ free; rows = rows })
+    keeps_by l m e r (λ c on. ap (is_open_on c) same ∙ on)
+    (λ made is. record {
+      places = places;
+      opens = λ free. ap (λ (o : Option Open). is_some o) same ∙ free;
+      rows = λ x here makes at. rows x here;
+      keyed = λ key own. used_still l m key made.file leases rows;
+    })
 
 pub keeps_self : (l : Lists) (e : ℕ × Waiting) (r : Request) → Keeps l l e r
-keeps_self l e r = keeps_all l l e r refl (λ client here. here) (λ x here makes same. here)
+keeps_self l e r = keeps_all l l e r refl (λ key file all. all) (λ client here. here) (λ x here. here)
 
 -- ---- requests that wait under a scope
 

@@ -1,9 +1,9 @@
 -- What a plan leaves and tells.
-use Rattle.std.proofs.Common.{◌≡◌, ℕ, ◌+◌, ◌<◌, Bool, true, false, not, ◌&&◌, List, Option, Some, None, is_some, length, if◌then◌else◌, refl, sym, ap, ◌∙◌, arith, append-nil}
+use Rattle.std.proofs.Common.{◌≡◌, ℕ, ◌+◌, ◌<◌, Bool, true, false, not, ◌&&◌, List, Option, Some, None, is_some, length, if◌then◌else◌, [], ◌∷◌, refl, sym, ap, ◌∙◌, arith, append-nil}
 use Rattle.std.specs.Prelude.{nat_lt}
 use Rattle.std.specs.Option.{option_and_then}
 use Rattle.std.proofs.lemmas.Bool.{false≢true, true≢false, ltb-true}
-use Rattle.xl_base.specs.declared.name.Party.TheVariants as parties
+use Rattle.xl_base.specs.declared.name.Party.{Party}
 use Rattle.xl_smb.specs.declared.file.FileId.{FileId}
 use Rattle.xl_smb.specs.declared.head.SmbHead.{SmbHead}
 use Rattle.xl_smb_state.specs.Links.{most_sessions, most_trees}
@@ -11,12 +11,14 @@ use Rattle.xl_smb_state.specs.State.{Lists, connection_of, client_of, session_of
 use Rattle.xl_smb_state.specs.declared.row.Connection.{Connection}
 use Rattle.xl_smb_state.specs.declared.row.Place.{Place}
 use Rattle.xl_core.specs.Limits.{most_opens}
-use Rattle.xl_core.specs.Settle.{end_party}
+use Rattle.xl_core.specs.Deeds.{Closes}
+use Rattle.xl_core.specs.Settle.{close_open as close_core}
 use Rattle.xl_core.specs.State.{CoreState}
 use Rattle.xl_core.specs.declared.ask.Effect.{Effect}
 use Rattle.xl_front_smb.specs.Checks.{is_fresh, session_named, tree_named, open_named, in_session, on_tree, on_open}
 use Rattle.xl_front_smb.specs.Files.{all_opens, has_room_for_open, close_open, close}
-use Rattle.xl_front_smb.specs.Plans.{Plan, Fails, Outcome, carried}
+use Rattle.xl_front_smb.specs.Ending.{party_going}
+use Rattle.xl_front_smb.specs.Plans.{Plan, Fails, Does, Outcome, carried}
 use Rattle.xl_front_smb.specs.Sessions.{has_room_for_session, set_up_as, set_up, has_room_for_tree, connect_as, connect}
 use Rattle.xl_front_smb.specs.Texts.{is_share}
 use Rattle.xl_smb_locks.specs.declared.status.SmbStatus.TheVariants.{InsufficientResources, BadNetworkName}
@@ -79,9 +81,11 @@ open_new others l number h = none_of (open_of number l) (room_of (nat_lt (all_op
 
 -- ---- CLOSE
 
-pub closes : (n : ℕ) (s new : CoreState) (l after : Lists) (number : ℕ) (effects : List Effect) → new ≡ (end_party s (parties.Open number)).1 → effects ≡ (end_party s (parties.Open number)).0 → after ≡ closed number l
-    → carried n s l (close_open l number) ≡ (Closed, effects, after, new)
-closes n s new l after number effects core told lists = λ i. (Closed, (append-nil (end_party s (parties.Open number)).0 ∙ sym told) i, (sym lists) i, (sym core) i)
+pub closes : (n : ℕ) (s new : CoreState) (l after : Lists) (number : ℕ) (party : Option Party) (effects : List Effect) → new ≡ (close_core s number party).1 → effects ≡ (close_core s number party).0 → party ≡ party_going s.names l number → after ≡ closed number l
+    → carried n s l (close_open s l number) ≡ (Closed, effects, after, new)
+closes n s new l after number party effects core told going lists =
+    ap (λ (p : Option Party). carried n s l (Does (Closes number p ∷ []) (closed number l) Closed)) (sym going)
+    ∙ (λ i. (Closed, (append-nil (close_core s number party).0 ∙ sym told) i, (sym lists) i, (sym core) i))
 
 -- ---- what goes on where the checks before it pass
 
@@ -109,11 +113,11 @@ connect_done n s l conn path session last room share x at is named passes too do
     ap (carried n s l) (passed_both (has_room_for_tree l conn (s.counter + 1)) (is_share path) (Fails InsufficientResources) (Fails BadNetworkName) (connect_as l conn session (s.counter + 1)) has (sym named ∙ too)) ∙ done
 
 pub close_done : (n : ℕ) (s : CoreState) (l : Lists) (conn : ℕ) (client : List ℕ) (h : SmbHead) (id : FileId) (session : ℕ) (place : Place) (number : ℕ) (x : Outcome)
-    → session_named s l conn h.session_id ≡ Some session → tree_named l conn client h session ≡ Some place → open_named s l conn id ≡ Some number → carried n s l (close_open l number) ≡ x → carried n s l (close s l conn client h id) ≡ x
+    → session_named s l conn h.session_id ≡ Some session → tree_named l conn client h session ≡ Some place → open_named s l conn id ≡ Some number → carried n s l (close_open s l number) ≡ x → carried n s l (close s l conn client h id) ≡ x
 unfolding close
 close_done n s l conn client h id session place number x first second third done =
     ap (carried n s l)
-    (ap (in_session (λ k. on_tree (λ _. on_open (close_open l) (open_named s l conn id)) (tree_named l conn client h k))) first
-    ∙ ap (on_tree (λ _. on_open (close_open l) (open_named s l conn id))) second
-    ∙ ap (on_open (close_open l)) third)
+    (ap (in_session (λ k. on_tree (λ _. on_open (close_open s l) (open_named s l conn id)) (tree_named l conn client h k))) first
+    ∙ ap (on_tree (λ _. on_open (close_open s l) (open_named s l conn id))) second
+    ∙ ap (on_open (close_open s l)) third)
     ∙ done

@@ -1,18 +1,10 @@
 -- What LOCK leaves of an open's ranges, and what CANCEL leaves.
-use Rattle.std.proofs.Common.{◌≡◌, ℕ, ◌≤◌, ◌||◌, Bool, true, false, if◌then◌else◌, is_some, List, [], ◌∷◌, ◌++◌, length, map, Option, Some, None, refl, sym, ap, subst, ◌∙◌, ◌⊎◌, inl, inr}
-use Rattle.std.proofs.lemmas.Bool.{and_parts, false≢true, true≢false}
-use Rattle.xl_base.proofs.Members.{all_from, all_in}
-use Rattle.xl_base.specs.declared.name.Owner.{Owner}
-use Rattle.xl_base.specs.declared.name.Party.{Party}
-use Rattle.xl_base.specs.declared.name.Party.TheVariants as parties
+use Rattle.std.proofs.Common.{◌≡◌, ℕ, ◌≤◌, ◌||◌, Bool, true, false, if◌then◌else◌, is_some, List, [], ◌∷◌, ◌++◌, length, map, Option, Some, None, refl, sym, ap, subst, ◌∙◌, ◌⊎◌, inl, inr, find}
+use Rattle.std.specs.Option.{option_or}
+use Rattle.std.proofs.lemmas.Bool.{true≢false}
 use Rattle.xl_matrix.specs.declared.claim.Extent.{Extent}
 use Rattle.xl_matrix.specs.declared.claim.What.TheVariants.{Range}
-use Rattle.xl_names.specs.declared.name.Name.{Name}
-use Rattle.xl_smb_state.proofs.RowLaws.{equal_from}
-use Rattle.xl_table.proofs.ElementLaws.{AreOfParty, among_held}
-use Rattle.xl_table.proofs.WriteBack.{is_of-true}
-use Rattle.xl_table.specs.Held.{is_of, is_range}
-use Rattle.xl_table.specs.Relock.{is_range_of}
+use Rattle.xl_table.proofs.ElementLaws.{among_found}
 use Rattle.xl_core.specs.declared.ask.Effect.{Effect}
 use Rattle.xl_core.proofs.WayOpens.{ask_element, ask_refused}
 use Rattle.xl_smb_locks.specs.declared.status.SmbStatus.TheVariants as statuses
@@ -31,14 +23,14 @@ use Rattle.xl_smb_state.specs.declared.row.Place.{Place}
 use Rattle.xl_smb_state.specs.declared.row.Scope.TheVariants as scope
 use Rattle.xl_smb_state.specs.declared.row.Request.TheVariants as request
 use Rattle.xl_smb_state.specs.declared.row.Waiting.{Waiting}
-use Rattle.xl_table.specs.Elements.{element_held, is_held, unlocked_elements}
+use Rattle.xl_table.specs.Elements.{element_held, is_element, unlocked_elements}
 use Rattle.xl_table.specs.Elements.{elements_of as ranges_of}
 use Rattle.xl_wait.specs.Waiting.{no_rows, is_waiting}
 use Rattle.xl_core.specs.Asking.{known_claim, range_what}
 use Rattle.xl_core.specs.Begin.{others_of}
 use Rattle.xl_core.specs.Decide.{Answered, way, ask}
 use Rattle.xl_core.specs.Deeds.{Deed, Asks, all_done}
-use Rattle.xl_core.specs.Good.{are_kept, IsHeld, IsGood}
+use Rattle.xl_core.specs.Good.{IsGood}
 use Rattle.xl_core.specs.Places.{RangesOf, held_at}
 use Rattle.xl_core.specs.Settle.{cancel as cancel_of}
 use Rattle.xl_core.specs.State.{CoreState}
@@ -129,32 +121,32 @@ way_breaks left s a = record { claims = ask_way_keeps (λ x. others_of x.claims)
 unbroken : (s : CoreState) → OnlyBreaks s s
 unbroken s = record { claims = refl; waiters = refl; names = refl }
 
-asked_holds : (n : ℕ) (s : CoreState) (l : Lists) (conn file number : ℕ) (es : List LockElement) (row : Waiting) → IsGood s → lock_fault es ≡ None → 1 ≤ length es
-    → (let r = ask n no_rows s (lock_ask conn file number es) in told_as (lock_told r.0) ≡ told.Locked → (held_at r.2 (RangesOf file number) ≡ held_at s (RangesOf file number) ++ map held_as es) × (lists_as row l (lock_told r.0) ≡ l))
+asked_holds : (n : ℕ) (s : CoreState) (l : Lists) (conn number : ℕ) (held : Open) (es : List LockElement) (row : Waiting) → IsGood s → lock_fault es ≡ None → 1 ≤ length es
+    → (let r = ask n no_rows s (lock_ask conn number held es) in told_as (lock_told r.0) ≡ told.Locked → (held_at r.2 (RangesOf held.file number) ≡ held_at s (RangesOf held.file number) ++ map held_as es) × (lists_as row l (lock_told r.0) ≡ l))
 unfolding lock_ask
-asked_holds n s l conn file number es row good fault some is =
-    let a = lock_ask conn file number es in
+asked_holds n s l conn number held es row good fault some is =
+    let a = lock_ask conn number held es in
     let got = granted_by (ask n no_rows s a).0 is in
-    let fit = (lock_fits conn file number es fault some).fit in (
-      ask_locked n no_rows s a (map range_of es) number got.0 good fit refl refl got.1 ∙ ap (λ (ws : List What). ranges_of file (owners.Open number) s.claims ++ ws) (all_held es),
+    let fit = (lock_fits conn number held es fault some).fit in (
+      ask_locked n no_rows s a (map range_of es) number got.0 good fit refl refl got.1 ∙ ap (λ (ws : List What). ranges_of held.file (owners.Open number) s.claims ++ ws) (all_held es),
       kept_by row l (ask n no_rows s a).0 (λ id e. different (sym got.1 ∙ e)),
     )
   where
     different : {c : Claim} {id : ℕ} → answers.Granted c ≡ answers.Queued id → ⊥
     different h = cc
 
-asked_stays : (n : ℕ) (s : CoreState) (l : Lists) (conn file number : ℕ) (es : List LockElement) (row : Waiting) → IsGood s → lock_fault es ≡ None → 1 ≤ length es
-    → (status : SmbStatus) → (let r = ask n no_rows s (lock_ask conn file number es) in told_as (lock_told r.0) ≡ told.Failed status → (lists_as row l (lock_told r.0) ≡ l) × OnlyBreaks s r.2)
-asked_stays n s l conn file number es row good fault some status is =
-    let a = lock_ask conn file number es in
+asked_stays : (n : ℕ) (s : CoreState) (l : Lists) (conn number : ℕ) (held : Open) (es : List LockElement) (row : Waiting) → IsGood s → lock_fault es ≡ None → 1 ≤ length es
+    → (status : SmbStatus) → (let r = ask n no_rows s (lock_ask conn number held es) in told_as (lock_told r.0) ≡ told.Failed status → (lists_as row l (lock_told r.0) ≡ l) × OnlyBreaks s r.2)
+asked_stays n s l conn number held es row good fault some status is =
+    let a = lock_ask conn number held es in
     let none = refused_by (ask n no_rows s a).0 status is in
-    let fit = (lock_fits conn file number es fault some).fit in
+    let fit = (lock_fits conn number held es fault some).fit in
     (kept_by row l (ask n no_rows s a).0 none.1, subst (λ (t : CoreState). OnlyBreaks s t) (sym ((ask_own n no_rows s a good fit.party).refused none.0 none.1)) (way_breaks no_rows s a))
 
-by_holds : (n : ℕ) (s : CoreState) (l : Lists) (conn : ℕ) (row : Waiting) (file number : ℕ) (es : List LockElement) (o : Option SmbStatus) → IsGood s → lock_fault es ≡ o → 1 ≤ length es → Holds file number es s l (carried n s l (lock_by conn row file number es o)) × Stays s l (carried n s l (lock_by conn row file number es o))
-by_holds n s l conn row file number es (Some status) good fault some = (λ h. absurd (not_locked h), λ other h. (refl, unbroken s))
-by_holds n s l conn row file number es None good fault some =
-    (asked_holds n s l conn file number es row good fault some, asked_stays n s l conn file number es row good fault some)
+by_holds : (n : ℕ) (s : CoreState) (l : Lists) (conn : ℕ) (row : Waiting) (number : ℕ) (held : Open) (es : List LockElement) (o : Option SmbStatus) → IsGood s → lock_fault es ≡ o → 1 ≤ length es → Holds held.file number es s l (carried n s l (lock_by conn row number held es o)) × Stays s l (carried n s l (lock_by conn row number held es o))
+by_holds n s l conn row number held es (Some status) good fault some = (λ h. absurd (not_locked h), λ other h. (refl, unbroken s))
+by_holds n s l conn row number held es None good fault some =
+    (asked_holds n s l conn number held es row good fault some, asked_stays n s l conn number held es row good fault some)
 
 -- ---- a request
 
@@ -179,7 +171,7 @@ module _ (n : ℕ) (s : CoreState) (files : List (List ℕ)) (others : ℕ) (l :
   locks_on : (number : ℕ) (place : Place) (es : List LockElement) (row : Open) (count : Bool) → is_count (length es) ≡ count → unlocks_first es ≡ false → IsGood s
       → Holds row.file number es s l (carried n s l (lock_on s l conn h number place es row)) × Stays s l (carried n s l (lock_on s l conn h number place es row))
   locks_on number place es row true is first good =
-      rw (is, first) (by_holds n s l conn (waiting_row h (place_of row.holder place) number request.Lock) row.file number es (lock_fault es) good refl (counted (length es) is))
+      rw (is, first) (by_holds n s l conn (waiting_row h (place_of row.holder place) number request.Lock) number row es (lock_fault es) good refl (counted (length es) is))
   locks_on number place es row false is first good = rw is (λ e. absurd (not_locked e), λ other e. (refl, unbroken s))
 
   pub locked_holds : (c : LockItem) (session : ℕ) (place : Place) (number : ℕ) (row : Open) → IsOfOpen s l conn h client c.file_id session place number row → unlocks_first (elements_of c.elements) ≡ false → IsGood s
@@ -189,91 +181,77 @@ module _ (n : ℕ) (s : CoreState) (files : List (List ℕ)) (others : ℕ) (l :
 
 -- ---- unlocks
 
-given_up : (answer : Answer) (rest : List Deed × Locking) (file number : ℕ) (e : LockElement) → (unlock_told (unlock_ask file number e) answer rest).1 ≡ locking.Done → ((c : Claim) × (answer ≡ answers.Granted c)) × (rest.1 ≡ locking.Done)
-given_up (answers.Granted c) rest file number e h = ((c, refl), h)
-given_up (answers.Conflict c) rest file number e h = absurd cc
-given_up (answers.Queued id) rest file number e h = absurd cc
-given_up (answers.Recall c) rest file number e h = absurd cc
-given_up (answers.Grace until) rest file number e h = absurd cc
-given_up (answers.NoGrace clock) rest file number e h = absurd cc
-given_up answers.NotRecorded rest file number e h = absurd cc
-given_up (answers.Full limit) rest file number e h = absurd cc
-given_up answers.NotHeld rest file number e h = absurd cc
-given_up answers.StoreFailed rest file number e h = absurd cc
+given_up : (answer : Answer) (rest : List Deed × Locking) (number : ℕ) (held : Open) (e : LockElement) → (unlock_told (unlock_ask number held e) answer rest).1 ≡ locking.Done → ((c : Claim) × (answer ≡ answers.Granted c)) × (rest.1 ≡ locking.Done)
+given_up (answers.Granted c) rest number held e h = ((c, refl), h)
+given_up (answers.Conflict c) rest number held e h = absurd cc
+given_up (answers.Queued id) rest number held e h = absurd cc
+given_up (answers.Recall c) rest number held e h = absurd cc
+given_up (answers.Grace until) rest number held e h = absurd cc
+given_up (answers.NoGrace clock) rest number held e h = absurd cc
+given_up answers.NotRecorded rest number held e h = absurd cc
+given_up (answers.Full limit) rest number held e h = absurd cc
+given_up answers.NotHeld rest number held e h = absurd cc
+given_up answers.StoreFailed rest number held e h = absurd cc
 
 sound_by : (fault : Option SmbStatus) (next : List Deed × Locking) → (unlock_next fault next).1 ≡ locking.Done → (fault ≡ None) × (next.1 ≡ locking.Done)
 sound_by None next h = (refl, h)
 sound_by (Some status) next h = absurd cc
 
-unlock_takes : (n : ℕ) (s : CoreState) (file number : ℕ) (e : LockElement) (c : Claim) → IsGood s → (ask n no_rows s (unlock_ask file number e)).0 ≡ answers.Granted c
-    → ranges_of file (owners.Open number) (ask n no_rows s (unlock_ask file number e)).2.claims ≡ unlocked_elements (extent_of e) (ranges_of file (owners.Open number) s.claims)
+unlock_takes : (n : ℕ) (s : CoreState) (number : ℕ) (held : Open) (e : LockElement) (c : Claim) → IsGood s → (ask n no_rows s (unlock_ask number held e)).0 ≡ answers.Granted c
+    → ranges_of held.file (owners.Open number) (ask n no_rows s (unlock_ask number held e)).2.claims ≡ unlocked_elements (extent_of e) (ranges_of held.file (owners.Open number) s.claims)
 unfolding unlock_ask
-unlock_takes n s file number e c good at = ask_unlocked n no_rows s (unlock_ask file number e) (extent_of e) number c good (unlock_fits file number e).fit refl refl at
+unlock_takes n s number held e c good at = ask_unlocked n no_rows s (unlock_ask number held e) (extent_of e) number c good (unlock_fits number held e).fit refl refl at
 
-pub unlocks_take : (n : ℕ) (s : CoreState) (file number : ℕ) (es : List LockElement) → IsGood s → (unlocks s file number es).1 ≡ locking.Done
-    → held_at (all_done n s (unlocks s file number es).0) (RangesOf file number) ≡ all_unlocked es (held_at s (RangesOf file number))
-unlocks_take n s file number [] good h = refl
-unlocks_take n s file number (e ∷ es) good h =
-    let a = unlock_ask file number e in
+pub unlocks_take : (n : ℕ) (s : CoreState) (number : ℕ) (held : Open) (es : List LockElement) → IsGood s → (unlocks s number held es).1 ≡ locking.Done
+    → held_at (all_done n s (unlocks s number held es).0) (RangesOf held.file number) ≡ all_unlocked es (held_at s (RangesOf held.file number))
+unlocks_take n s number held [] good h = refl
+unlocks_take n s number held (e ∷ es) good h =
+    let a = unlock_ask number held e in
     let r = ask 0 no_rows s a in
-    let rest = unlocks r.2 file number es in
+    let rest = unlocks r.2 number held es in
     let sound = sound_by (unlock_fault e) (unlock_told a r.0 rest) h in
-    let got = given_up r.0 rest file number e sound.1 in
-    let deeds : (unlocks s file number (e ∷ es)).0 ≡ Asks no_rows a ∷ rest.0
+    let got = given_up r.0 rest number held e sound.1 in
+    let deeds : (unlocks s number held (e ∷ es)).0 ≡ Asks no_rows a ∷ rest.0
     = ap (λ (o : Option SmbStatus). (unlock_next o (unlock_told a r.0 rest)).0) sound.0 ∙ ap (λ (x : Answer). (unlock_told a x rest).0) got.0.1 in
-    let same : (ask n no_rows s a).2 ≡ r.2 = ap (λ (x : Answered). x.2) (any_stores n s file number e) in
-    ap (λ (ds : List Deed). held_at (all_done n s ds) (RangesOf file number)) deeds
-    ∙ ap (λ (t : CoreState). held_at (all_done n t rest.0) (RangesOf file number)) same
-    ∙ unlocks_take n r.2 file number es (ask_good 0 no_rows s a good (unlock_fits file number e).fit) got.1
-    ∙ ap (all_unlocked es) (unlock_takes 0 s file number e got.0.0 good got.0.1)
+    let same : (ask n no_rows s a).2 ≡ r.2 = ap (λ (x : Answered). x.2) (any_stores n s number held e) in
+    ap (λ (ds : List Deed). held_at (all_done n s ds) (RangesOf held.file number)) deeds
+    ∙ ap (λ (t : CoreState). held_at (all_done n t rest.0) (RangesOf held.file number)) same
+    ∙ unlocks_take n r.2 number held es (ask_good 0 no_rows s a good (unlock_fits number held e).fit) got.1
+    ∙ ap (all_unlocked es) (unlock_takes 0 s number held e got.0.0 good got.0.1)
 
 -- ---- unlocks up to the first that can't be done
 
-open_party : (names : List Name) (number : ℕ) (p : Party) → are_kept names (owners.Open number) p ≡ true → p ≡ parties.Open number
-open_party names number (parties.Open other) kept = ap (λ (k : ℕ). parties.Open k) (equal_from number other kept)
-open_party names number (parties.Name protocol at) kept = absurd (false≢true kept)
-
--- the ranges of an open on a file are of the party that the open is
-of_open : (s : CoreState) (file number : ℕ) (w : What) → IsGood s → AreOfParty (record { file = file; owner = owners.Open number; party = parties.Open number; what = w }) s.claims
-of_open s file number w good =
-    all_from (λ (d : Claim). is_range_of file (owners.Open number) d ≡ true → d.party ≡ parties.Open number) s.claims
-    (λ d here own. let at = is_of-true file (owners.Open number) d (and_parts (is_of file (owners.Open number) d) (is_range d.what) own).0 in
-    open_party s.names number d.party (subst (λ (o : Owner). are_kept s.names o d.party ≡ true) at.1 (all_in (IsHeld s.names) d s.claims good.known here).1))
-
 -- an open has a range to unlock exactly where one is among those that it holds
-by_either : {X : Type 0} (a b : Bool) (x y : X) → is_some (if a then Some x else if b then Some y else None) ≡ (a || b)
-by_either true b x y = refl
-by_either false true x y = refl
-by_either false false x y = refl
+by_either : {X : Type 0} (o p : Option X) → is_some (option_or o p) ≡ (is_some o || is_some p)
+by_either (Some x) p = refl
+by_either None p = refl
 
-is_held_one : (s : CoreState) (file number : ℕ) (extent : Extent) (w : What) → IsGood s
-    → is_some (element_held (record { file = file; owner = owners.Open number; party = parties.Open number; what = w }) extent s.claims) ≡ has_range extent (ranges_of file (owners.Open number) s.claims)
+is_held_one : (s : CoreState) (c : Claim) (extent : Extent) → is_some (element_held c extent s.claims) ≡ has_range extent (ranges_of c.file c.owner s.claims)
 unfolding element_held
-is_held_one s file number extent w good =
-    let c : Bool → Claim = λ b. record { file = file; owner = owners.Open number; party = parties.Open number; what = Range extent b } in
-    by_either (is_held (c true) s.claims) (is_held (c false) s.claims) _ _
-    ∙ (λ i. among_held (c true) s.claims refl (of_open s file number (Range extent true) good) i || among_held (c false) s.claims refl (of_open s file number (Range extent false) good) i)
+is_held_one s c extent =
+    by_either (find (is_element c (Range extent true)) s.claims) (find (is_element c (Range extent false)) s.claims)
+    ∙ (λ i. among_found c (Range extent true) s.claims i || among_found c (Range extent false) s.claims i)
 
 some_of : {X : Type 0} (o : Option X) → is_some o ≡ false → o ≡ None
 some_of None h = refl
 some_of (Some x) h = absurd (true≢false h)
 
-unlock_granted : (n : ℕ) (s : CoreState) (file number : ℕ) (e : LockElement) → IsGood s → has_range (extent_of e) (ranges_of file (owners.Open number) s.claims) ≡ true → (c : Claim) × ((ask n no_rows s (unlock_ask file number e)).0 ≡ answers.Granted c)
+unlock_granted : (n : ℕ) (s : CoreState) (number : ℕ) (held : Open) (e : LockElement) → IsGood s → has_range (extent_of e) (ranges_of held.file (owners.Open number) s.claims) ≡ true → (c : Claim) × ((ask n no_rows s (unlock_ask number held e)).0 ≡ answers.Granted c)
 unfolding unlock_ask
-unlock_granted n s file number e good has =
-    let a = unlock_ask file number e in
+unlock_granted n s number held e good has =
+    let a = unlock_ask number held e in
     let claim = known_claim a (extent_of e) false s.names in
-    (claim, (ask_element n no_rows s a (extent_of e) number (answers.Granted claim) refl refl).1 (refl, is_held_one s file number (extent_of e) claim.what good ∙ has))
+    (claim, (ask_element n no_rows s a (extent_of e) number (answers.Granted claim) refl refl).1 (refl, is_held_one s claim (extent_of e) ∙ has))
 
-unlock_missed : (n : ℕ) (s : CoreState) (file number : ℕ) (e : LockElement) → IsGood s → has_range (extent_of e) (ranges_of file (owners.Open number) s.claims) ≡ false
-    → ((ask n no_rows s (unlock_ask file number e)).0 ≡ answers.NotHeld) × ((ask n no_rows s (unlock_ask file number e)).2.claims ≡ s.claims)
+unlock_missed : (n : ℕ) (s : CoreState) (number : ℕ) (held : Open) (e : LockElement) → IsGood s → has_range (extent_of e) (ranges_of held.file (owners.Open number) s.claims) ≡ false
+    → ((ask n no_rows s (unlock_ask number held e)).0 ≡ answers.NotHeld) × ((ask n no_rows s (unlock_ask number held e)).2.claims ≡ s.claims)
 unfolding unlock_ask
-unlock_missed n s file number e good has =
-    let a = unlock_ask file number e in
+unlock_missed n s number held e good has =
+    let a = unlock_ask number held e in
     let claim = known_claim a (extent_of e) false s.names in
-    let none = (ask_element n no_rows s a (extent_of e) number answers.NotHeld refl refl).1 (some_of (element_held claim (extent_of e) s.claims) (is_held_one s file number (extent_of e) claim.what good ∙ has)) in (
+    let none = (ask_element n no_rows s a (extent_of e) number answers.NotHeld refl refl).1 (some_of (element_held claim (extent_of e) s.claims) (is_held_one s claim (extent_of e) ∙ has)) in (
       none,
-      ask_refused n no_rows s a good (unlock_fits file number e).fit (λ c h. different (sym none ∙ h)) ∙ ap (λ (r : List Effect × CoreState). r.1.claims) (no_way s file number e),
+      ask_refused n no_rows s a good (unlock_fits number held e).fit (λ c h. different (sym none ∙ h)) ∙ ap (λ (r : List Effect × CoreState). r.1.claims) (no_way s number held e),
     )
   where
     different : {c : Claim} → answers.NotHeld ≡ answers.Granted c → ⊥
@@ -291,52 +269,52 @@ goes_past : (e : LockElement) (es : List LockElement) (ws : List What) → unloc
 goes_past e es ws fault has = rw (fault, has) (refl, refl)
 
 -- what unlocks of these come to in a state, as their deeds and their answer
-abbrev Gives : ℕ → CoreState → ℕ → ℕ → List LockElement → List Deed × Locking → Type 0
-Gives n s file number es r =
-    (told_as r.1 ≡ unlocks_told es (held_at s (RangesOf file number)))
-    × (held_at (all_done n s r.0) (RangesOf file number) ≡ all_unlocked (before_fault es (held_at s (RangesOf file number))) (held_at s (RangesOf file number)))
+abbrev Gives : ℕ → CoreState → ℕ → Open → List LockElement → List Deed × Locking → Type 0
+Gives n s number held es r =
+    (told_as r.1 ≡ unlocks_told es (held_at s (RangesOf held.file number)))
+    × (held_at (all_done n s r.0) (RangesOf held.file number) ≡ all_unlocked (before_fault es (held_at s (RangesOf held.file number))) (held_at s (RangesOf held.file number)))
 
-one_gives : (n : ℕ) (s : CoreState) (file number : ℕ) (e : LockElement) (es : List LockElement) (has : Bool) → IsGood s → unlock_fault e ≡ None → has_range (extent_of e) (held_at s (RangesOf file number)) ≡ has
-    → Gives n (ask 0 no_rows s (unlock_ask file number e)).2 file number es (unlocks (ask 0 no_rows s (unlock_ask file number e)).2 file number es)
-    → Gives n s file number (e ∷ es) (unlock_told (unlock_ask file number e) (ask 0 no_rows s (unlock_ask file number e)).0 (unlocks (ask 0 no_rows s (unlock_ask file number e)).2 file number es))
-one_gives n s file number e es false good fault is later =
-    let a = unlock_ask file number e in
-    let ws = held_at s (RangesOf file number) in
-    let rest = unlocks (ask 0 no_rows s a).2 file number es in
+one_gives : (n : ℕ) (s : CoreState) (number : ℕ) (held : Open) (e : LockElement) (es : List LockElement) (has : Bool) → IsGood s → unlock_fault e ≡ None → has_range (extent_of e) (held_at s (RangesOf held.file number)) ≡ has
+    → Gives n (ask 0 no_rows s (unlock_ask number held e)).2 number held es (unlocks (ask 0 no_rows s (unlock_ask number held e)).2 number held es)
+    → Gives n s number held (e ∷ es) (unlock_told (unlock_ask number held e) (ask 0 no_rows s (unlock_ask number held e)).0 (unlocks (ask 0 no_rows s (unlock_ask number held e)).2 number held es))
+one_gives n s number held e es false good fault is later =
+    let a = unlock_ask number held e in
+    let ws = held_at s (RangesOf held.file number) in
+    let rest = unlocks (ask 0 no_rows s a).2 number held es in
     let all = misses_at e es ws fault is in
-    subst (λ (x : Answer). Gives n s file number (e ∷ es) (unlock_told a x rest)) (sym (unlock_missed 0 s file number e good is).0)
-    (all.0, ap (λ (cs : List Claim). ranges_of file (owners.Open number) cs) (unlock_missed n s file number e good is).1 ∙ ap (λ (fs : List LockElement). all_unlocked fs ws) (sym all.1))
-one_gives n s file number e es true good fault is later =
-    let a = unlock_ask file number e in
-    let ws = held_at s (RangesOf file number) in
+    subst (λ (x : Answer). Gives n s number held (e ∷ es) (unlock_told a x rest)) (sym (unlock_missed 0 s number held e good is).0)
+    (all.0, ap (λ (cs : List Claim). ranges_of held.file (owners.Open number) cs) (unlock_missed n s number held e good is).1 ∙ ap (λ (fs : List LockElement). all_unlocked fs ws) (sym all.1))
+one_gives n s number held e es true good fault is later =
+    let a = unlock_ask number held e in
+    let ws = held_at s (RangesOf held.file number) in
     let r = ask 0 no_rows s a in
-    let rest = unlocks r.2 file number es in
-    let got = unlock_granted 0 s file number e good is in
+    let rest = unlocks r.2 number held es in
+    let got = unlock_granted 0 s number held e good is in
     let all = goes_past e es ws fault is in
-    let takes : held_at r.2 (RangesOf file number) ≡ unlocked_elements (extent_of e) ws = unlock_takes 0 s file number e got.0 good got.1 in
-    let same : (ask n no_rows s a).2 ≡ r.2 = ap (λ (x : Answered). x.2) (any_stores n s file number e) in
-    subst (λ (x : Answer). Gives n s file number (e ∷ es) (unlock_told a x rest)) (sym got.1) (
+    let takes : held_at r.2 (RangesOf held.file number) ≡ unlocked_elements (extent_of e) ws = unlock_takes 0 s number held e got.0 good got.1 in
+    let same : (ask n no_rows s a).2 ≡ r.2 = ap (λ (x : Answered). x.2) (any_stores n s number held e) in
+    subst (λ (x : Answer). Gives n s number held (e ∷ es) (unlock_told a x rest)) (sym got.1) (
       later.0 ∙ ap (unlocks_told es) takes ∙ all.0,
-      ap (λ (t : CoreState). held_at (all_done n t rest.0) (RangesOf file number)) same
+      ap (λ (t : CoreState). held_at (all_done n t rest.0) (RangesOf held.file number)) same
           ∙ later.1
           ∙ ap (λ (vs : List What). all_unlocked (before_fault es vs) vs) takes
           ∙ ap (λ (fs : List LockElement). all_unlocked fs ws) (sym all.1),
     )
 
-next_gives : (n : ℕ) (s : CoreState) (file number : ℕ) (e : LockElement) (es : List LockElement) (o : Option SmbStatus) (next : List Deed × Locking) → unlock_fault e ≡ o → (o ≡ None → Gives n s file number (e ∷ es) next) → Gives n s file number (e ∷ es) (unlock_next o next)
-next_gives n s file number e es None next fault rest = rest refl
-next_gives n s file number e es (Some status) next fault rest =
-    let ws = held_at s (RangesOf file number) in
+next_gives : (n : ℕ) (s : CoreState) (number : ℕ) (held : Open) (e : LockElement) (es : List LockElement) (o : Option SmbStatus) (next : List Deed × Locking) → unlock_fault e ≡ o → (o ≡ None → Gives n s number held (e ∷ es) next) → Gives n s number held (e ∷ es) (unlock_next o next)
+next_gives n s number held e es None next fault rest = rest refl
+next_gives n s number held e es (Some status) next fault rest =
+    let ws = held_at s (RangesOf held.file number) in
     let all = stops_at e es ws status fault in
     (all.0, ap (λ (fs : List LockElement). all_unlocked fs ws) (sym all.1))
 
-pub unlocks_give : (n : ℕ) (s : CoreState) (file number : ℕ) (es : List LockElement) → IsGood s → Gives n s file number es (unlocks s file number es)
-unlocks_give n s file number [] good = (refl, refl)
-unlocks_give n s file number (e ∷ es) good =
-    let a = unlock_ask file number e in
+pub unlocks_give : (n : ℕ) (s : CoreState) (number : ℕ) (held : Open) (es : List LockElement) → IsGood s → Gives n s number held es (unlocks s number held es)
+unlocks_give n s number held [] good = (refl, refl)
+unlocks_give n s number held (e ∷ es) good =
+    let a = unlock_ask number held e in
     let r = ask 0 no_rows s a in
-    next_gives n s file number e es (unlock_fault e) (unlock_told a r.0 (unlocks r.2 file number es)) refl
-    (λ fault. one_gives n s file number e es (has_range (extent_of e) (held_at s (RangesOf file number))) good fault refl (unlocks_give n r.2 file number es (ask_good 0 no_rows s a good (unlock_fits file number e).fit)))
+    next_gives n s number held e es (unlock_fault e) (unlock_told a r.0 (unlocks r.2 number held es)) refl
+    (λ fault. one_gives n s number held e es (has_range (extent_of e) (held_at s (RangesOf held.file number))) good fault refl (unlocks_give n r.2 number held es (ask_good 0 no_rows s a good (unlock_fits number held e).fit)))
 
 module _ (n : ℕ) (s : CoreState) (files : List (List ℕ)) (others : ℕ) (l : Lists) (conn : ℕ) (h : SmbHead) (client : List ℕ) where
   abbrev Takes : ℕ → ℕ → List LockElement → Outcome → Type 0
@@ -348,7 +326,7 @@ module _ (n : ℕ) (s : CoreState) (files : List (List ℕ)) (others : ℕ) (l :
   done_by (locking.Waits id) h = absurd cc
 
   unlocks_on : (number : ℕ) (place : Place) (es : List LockElement) (row : Open) (count : Bool) → is_count (length es) ≡ count → unlocks_first es ≡ true → IsGood s → Takes row.file number es (carried n s l (lock_on s l conn h number place es row))
-  unlocks_on number place es row true is first good = rw (is, first) (λ e. (unlocks_take n s row.file number es good (done_by (unlocks s row.file number es).1 e), refl))
+  unlocks_on number place es row true is first good = rw (is, first) (λ e. (unlocks_take n s number row es good (done_by (unlocks s number row es).1 e), refl))
   unlocks_on number place es row false is first good = rw is (λ e. absurd (not_locked e))
 
   pub unlocked_takes : (c : LockItem) (session : ℕ) (place : Place) (number : ℕ) (row : Open) → IsOfOpen s l conn h client c.file_id session place number row → unlocks_first (elements_of c.elements) ≡ true → IsGood s → Takes row.file number (elements_of c.elements) (outcome_of n s files others l conn h (Lock c))
@@ -363,7 +341,7 @@ module _ (n : ℕ) (s : CoreState) (files : List (List ℕ)) (others : ℕ) (l :
       × (r.2 ≡ l)
 
   ends_on : (number : ℕ) (place : Place) (es : List LockElement) (row : Open) → is_count (length es) ≡ true → unlocks_first es ≡ true → IsGood s → Ends row.file number es (carried n s l (lock_on s l conn h number place es row))
-  ends_on number place es row is first good = let all = unlocks_give n s row.file number es good in rw (is, first) (all.0, all.1, refl)
+  ends_on number place es row is first good = let all = unlocks_give n s number row es good in rw (is, first) (all.0, all.1, refl)
 
   unlocked_ends : (c : LockItem) (session : ℕ) (place : Place) (number : ℕ) (row : Open) → IsOfOpen s l conn h client c.file_id session place number row → unlocks_first (elements_of c.elements) ≡ true → is_count (length (elements_of c.elements)) ≡ true → IsGood s
       → Ends row.file number (elements_of c.elements) (outcome_of n s files others l conn h (Lock c))

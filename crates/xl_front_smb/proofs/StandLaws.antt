@@ -10,8 +10,9 @@ use Rattle.xl_base.specs.declared.name.Owner.TheVariants as owners
 use Rattle.xl_matrix.specs.declared.claim.Claim.{Claim}
 use Rattle.xl_smb_state.proofs.RowLaws.{equal_self}
 use Rattle.xl_smb_state.specs.Links.{most_opens}
-use Rattle.xl_smb_state.specs.State.{Lists, open_of, waiting_of}
+use Rattle.xl_smb_state.specs.State.{Lists, is_key, is_of_file, lease_of, open_of, waiting_dropped, waiting_of}
 use Rattle.xl_smb_state.specs.declared.row.Holder.{Holder}
+use Rattle.xl_smb_state.specs.declared.row.LeaseKey.{LeaseKey}
 use Rattle.xl_smb_state.specs.declared.row.Open.{Open}
 use Rattle.xl_smb_state.specs.declared.row.Request.{Request}
 use Rattle.xl_smb_state.specs.declared.row.Request.TheVariants as request
@@ -39,11 +40,13 @@ use Rattle.xl_core.specs.declared.ask.Effect.{Effect}
 use Rattle.xl_core.specs.declared.ask.Effect.TheVariants as effects
 use Rattle.xl_smb_locks.proofs.ToldLaws.{granted_stands, granted_told}
 use Rattle.xl_smb_locks.specs.Finals.{final_outs, holder_stands, may_stand, opened_reply}
-use Rattle.xl_smb_locks.specs.Levels.{id_of, level_held}
+use Rattle.xl_smb_locks.specs.Levels.{id_of, caching}
 use Rattle.xl_front_smb.specs.Awaits.{AreAwaited, AsksToOpen, IsAskerOf, IsAwaited, IsGranted, IsUnder, MayStand}
 use Rattle.xl_front_smb.specs.FrontSmb.{smb_shown}
 use Rattle.xl_front_smb.specs.State.{FrontSmb}
+use Rattle.xl_front_smb.specs.Laws.{IsLeased}
 use Rattle.xl_front_smb.proofs.AwaitLaws.{row_in}
+use Rattle.xl_front_smb.proofs.KeyLaws.{comes_leased, lease_on}
 
 -- ---- who is granted had room
 
@@ -187,6 +190,7 @@ pub record MakesStand (l : Lists) (row : Waiting) (made : Open) (claim : Claim) 
   pub may : may_stand row.opened made l ≡ true
   pub owner : claim.owner ≡ owners.Open row.opened
   pub file : claim.file ≡ made.file
+  pub on : (key : LeaseKey) → is_key key made.client made.lease ≡ true → is_of_file made.file (lease_of key l) ≡ true
 
 all_three : (a b c : Bool) → a ≡ true → b ≡ false → c ≡ true → (a && (not b && c)) ≡ true
 all_three a b c first second third = rw (first, second, third) refl
@@ -208,6 +212,7 @@ grant_stands left s t l told id claim row made good all turn here room at makes 
       may = all_three (nat_lt (length l.opens) most_opens) (is_some (open_of row.opened l)) (holder_stands made.holder made.client l) few under.free (ap (λ (by : Holder). holder_stands by made.client l) under.held ∙ under.place);
       owner = ap (λ (c : Claim). c.owner) same ∙ asks.owner;
       file = ap (λ (c : Claim). c.file) same ∙ asks.file;
+      on = λ key own. lease_on key made.file l (under.keyed key own).leases;
     }
 
 pub turn_of : (n : ℕ) (left : Rooms) (s t : CoreState) (told : List Effect) → IsGood s → settle n left s ≡ Some (told, t) → IsTurn left s told t
@@ -226,6 +231,13 @@ module _ (n : ℕ) (left : Rooms) (s t u : CoreState) (f : FrontSmb) (id : ℕ) 
   unfolding smb_shown
   granted_row good all is = granted_stands u f.state id claim row made is.waits is.makes (stands good all is).may
 
-  pub granted_reply : IsGood s → AreAwaited s f.state → IsGranted n left s t f.state id row made claim → (smb_shown f u (effects.Served id (answers.Granted claim))).0 ≡ final_outs row (opened_reply id row (id_of u row.opened) (level_held u made.file row.opened))
+  pub granted_reply : IsGood s → AreAwaited s f.state → IsGranted n left s t f.state id row made claim → (smb_shown f u (effects.Served id (answers.Granted claim))).0 ≡ final_outs row (opened_reply id row (id_of u row.opened) (caching u row.opened made))
   unfolding smb_shown
   granted_reply good all is = ap (λ (r : List Out × Lists). r.0) (granted_told u f.state id claim row made is.waits is.makes (stands good all is).may)
+
+  pub granted_lease : IsGood s → AreAwaited s f.state → IsGranted n left s t f.state id row made claim → IsLeased (smb_shown f u (effects.Served id (answers.Granted claim))).1.state row.opened made
+  unfolding smb_shown
+  granted_lease good all is =
+      let made_so = stands good all is in
+      let told = ap (λ (r : List Out × Lists). r.1) (granted_told u f.state id claim row made is.waits is.makes made_so.may) in
+      subst (λ (m : Lists). IsLeased m row.opened made) (sym told) (comes_leased row.opened made (waiting_dropped id f.state) made_so.on)

@@ -14,22 +14,22 @@ use Rattle.xl_wait.specs.Waiting.{cancelled}
 use Rattle.xl_wait.specs.declared.waiter.Waiter.{Waiter}
 use Rattle.xl_core.proofs.DeedLaws.{deed_good}
 use Rattle.xl_core.proofs.FrameLaws.{turn_frame}
-use Rattle.xl_core.proofs.SettleLaws.{party_waiters}
+use Rattle.xl_core.proofs.SettleLaws.{open_waiters, party_waiters}
 use Rattle.xl_names.specs.declared.name.Name.TheVariants.{NfsParty}
 use Rattle.xl_core.specs.Asking.{party_named}
 use Rattle.xl_core.specs.Breaks.{ack}
 use Rattle.xl_core.specs.Decide.{ask}
-use Rattle.xl_core.specs.Deeds.{Deed, Asks, GivesBack, Weakens, Acks, Cancels, Ends, Serves, Draws, Advances, Lapses, Renews, Expires, AreFit, IsFitDeed, all_done, all_told_of, done, given, turned}
+use Rattle.xl_core.specs.Deeds.{Deed, Asks, GivesBack, Weakens, Acks, Cancels, Ends, Closes, Serves, Draws, Advances, Lapses, Renews, Expires, AreFit, IsFitDeed, all_done, all_told_of, done, given, turned}
 use Rattle.xl_core.specs.Frames.{IsFrame, calls_in, come_by, who_left}
 use Rattle.xl_core.specs.Good.{IsGood}
-use Rattle.xl_core.specs.Settle.{all_cancelled, cancel, end_party, give_back, settle, waits_for, weaken}
+use Rattle.xl_core.specs.Settle.{all_cancelled, cancel, close_open, end_party, give_back, settle, waits_as, waits_for, weaken}
 use Rattle.xl_core.specs.State.{CoreState, drawn}
 use Rattle.xl_core.specs.Ticks.{advanced, end_some, expire, lapse, lapsed_by, renew}
 use Rattle.xl_core.specs.declared.ask.Effect.{Effect}
 use Rattle.xl_core.specs.declared.ask.Effect.TheVariants as effects
 use Rattle.xl_smb_locks.specs.Finals.{cancels}
 use Rattle.xl_front_smb.specs.Awaits.{AreAwaited, IsAwaited, ends_wait}
-use Rattle.xl_front_smb.proofs.AwaitLaws.{any_left, any_right, asked_waits, cancelled_in, moved, party_told}
+use Rattle.xl_front_smb.proofs.AwaitLaws.{any_left, any_right, asked_waits, cancelled_in, moved, closed_told, party_told}
 use Rattle.xl_front_smb.proofs.PlaceLaws.{keeps_self}
 
 -- one of these tells that this one waits no more
@@ -54,6 +54,13 @@ party_stays s party w here =
     elim (cases_Bool (waits_for party w)) [
       | inl waits ↦ inr (cancelled_over w.id (end_party s party).0 (party_told s party w here waits))
       | inr no_wait ↦ inl ((party_waiters s party w).1 (here, no_wait))
+    ]
+
+closed_stays : (s : CoreState) (number : ℕ) (party : Option Party) (w : Waiter) → IsIn w s.waiters → Stays w (close_open s number party).0 (close_open s number party).1
+closed_stays s number party w here =
+    elim (cases_Bool (waits_as number w)) [
+      | inl waits ↦ inr (cancelled_over w.id (close_open s number party).0 (closed_told s number party w here waits))
+      | inr no_wait ↦ inl ((open_waiters s number party w).1 (here, no_wait))
     ]
 
 some_stays : (s : CoreState) (party : Option Party) (w : Waiter) → IsIn w s.waiters → Stays w (end_some s party).0 (end_some s party).1
@@ -117,6 +124,7 @@ deed_stays n s (Cancels id) w good fit here =
       | inr other ↦ inl (cancelled_in id s.waiters w here (unequal_both id w.id other))
     ]
 deed_stays n s (Ends party) w good fit here = party_stays s party w here
+deed_stays n s (Closes number party) w good fit here = closed_stays s number party w here
 deed_stays n s (Serves left) w good fit here = turn_stays s w (settle n left s) (turn_framed (settle n left s) s calls_in (turn_frame n left s good)) here
 deed_stays n s Draws w good fit here = inl here
 deed_stays n s (Advances now) w good fit here = inl here

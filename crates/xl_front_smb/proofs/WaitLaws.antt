@@ -19,11 +19,15 @@ use Rattle.xl_smb.specs.declared.breaks.Break.TheVariants as held
 use Rattle.xl_smb.specs.declared.fault.SmbBad.{SmbBad}
 use Rattle.xl_smb.specs.declared.file.FileId.{FileId}
 use Rattle.xl_smb.specs.declared.head.SmbHead.{SmbHead}
+use Rattle.xl_smb.specs.declared.lease.Lease.{Lease}
 use Rattle.xl_smb.specs.declared.lock.LockElement.{LockElement}
+use Rattle.xl_cache.specs.Levels.{kind_of_state}
+use Rattle.xl_core.specs.Deeds.{Acks}
 use Rattle.xl_smb_state.specs.Links.{has_place}
-use Rattle.xl_smb_state.specs.State.{Lists, connection_of, connection_changed, client_of, session_of, sessions_on, tree_dropped, trees_of, open_of, opens_under, closed, waiting_added, connection_added, covers_holder, session_added, tree_added}
+use Rattle.xl_smb_state.specs.State.{Lists, connection_of, connection_changed, client_of, session_of, sessions_on, tree_dropped, trees_of, open_of, opens_under, closed, waiting_added, connection_added, covers_holder, session_added, tree_added, lease_of as lease_row}
 use Rattle.xl_smb_state.specs.declared.row.Holder.{Holder}
 use Rattle.xl_smb_state.specs.declared.row.Holder.TheVariants as holder
+use Rattle.xl_smb_state.specs.declared.row.Lease.{Lease as LeaseRow}
 use Rattle.xl_smb_state.specs.declared.row.Open.{Open}
 use Rattle.xl_smb_state.specs.declared.row.Place.{Place}
 use Rattle.xl_smb_state.specs.declared.row.Scope.TheVariants as scope
@@ -39,12 +43,12 @@ use Rattle.xl_smb_locks.specs.Locks.{unlocks, lock_told}
 use Rattle.xl_smb_locks.specs.declared.locking.Locking.{Locking}
 use Rattle.xl_smb_locks.specs.declared.locking.Locking.TheVariants as locking
 use Rattle.xl_smb_locks.specs.declared.status.SmbStatus.{SmbStatus}
-use Rattle.xl_smb_locks.specs.declared.status.SmbStatus.TheVariants.{InvalidParameter, ObjectNameCollision, InsufficientResources, NotSupported, BadNetworkName, InvalidOplockProtocol, InvalidDeviceState}
-use Rattle.xl_smb_locks.proofs.OnLaws.{GoesTo, AllGo, AreOn, told_on, dismissed_on, HeldOn, HolderOn, IsAt, MakesAt, WaitsOn, distinct_added, held_at}
+use Rattle.xl_smb_locks.specs.declared.status.SmbStatus.TheVariants.{InvalidParameter, ObjectNameCollision, InsufficientResources, NotSupported, BadNetworkName, InvalidOplockProtocol, InvalidDeviceState, RequestNotAccepted}
+use Rattle.xl_smb_locks.proofs.OnLaws.{GoesTo, AllGo, AreOn, told_on, dismissed_on, HeldOn, HolderOn, IsAt, MakesAt, WaitsOn, held_at, came_on}
 pub use Rattle.xl_smb_locks.proofs.OnLaws.{IsOn, GoesTo}
 use Rattle.xl_front_smb.specs.Checks.{is_fresh, is_open_on, file_number, number_in, negotiated_by, id_of}
-use Rattle.xl_front_smb.specs.Ending.{all_closed, trees_dropped, session_gone, sessions_gone, connection_gone, smb_end, all_ended, numbers_under, requests_gone}
-use Rattle.xl_front_smb.specs.Files.{open_as, has_room_for_open, open_file, open_found, overwrites, create_on, create, close_open, close, break_by, acknowledge, ack_by, ack_level, ack_of, ack_open, is_refused, refused_ack, taken_ack}
+use Rattle.xl_front_smb.specs.Ending.{all_closed, trees_dropped, session_gone, sessions_gone, connection_gone, smb_end, all_ended, leavers_under, requests_gone}
+use Rattle.xl_front_smb.specs.Files.{open_as, has_room_for_open, open_file, key_asked, lease_key, is_key_elsewhere, open_keyed, may_keep, lease_left, ack_lease_by, ack_cache, ack_lease, open_found, overwrites, create_on, create, close_open, close, break_by, acknowledge, ack_by, ack_level, ack_of, ack_open, is_refused, refused_ack, taken_ack}
 use Rattle.xl_front_smb.specs.FrontSmb.{sent_by, head_heard, plan_for, smb_shown, stepped, smb_step}
 use Rattle.xl_front_smb.specs.Locks.{waiting_row, place_of, unlock_by, lock_by, lock_found, lock, request_named, cancel_named, cancel}
 use Rattle.xl_front_smb.specs.Owners.{is_session_on}
@@ -55,7 +59,7 @@ use Rattle.xl_front_smb.specs.Sessions.{offers, negotiate, has_room_for_session,
 use Rattle.xl_front_smb.specs.State.{FrontSmb, empty_smb_front, smb_begin}
 use Rattle.xl_front_smb.specs.Texts.{is_share, file_spelled}
 use Rattle.xl_front_smb.specs.declared.told.Told.TheVariants as told
-use Rattle.xl_front_smb.proofs.OwnLaws.{by_session, by_tree, by_open, by_client}
+use Rattle.xl_front_smb.proofs.OwnLaws.{by_session, by_tree, by_open, by_client, removed_of}
 use Rattle.xl_base.specs.Lists.{IsIn}
 use Rattle.std.specs.List.{AllByRecursion, IsDistinct}
 use Rattle.std.specs.Map.{keys_of, remove_entry}
@@ -64,7 +68,7 @@ use Rattle.xl_front_smb.proofs.GoneLaws.{all_gone_opens, gone_opens, opens_out}
 use Rattle.xl_front_smb.proofs.PlanLaws.{open_new}
 use Rattle.xl_matrix.specs.declared.claim.Claim.{Claim}
 use Rattle.xl_matrix.specs.declared.claim.What.{What}
-use Rattle.xl_smb_locks.specs.Levels.{oplock_of}
+use Rattle.xl_smb_locks.specs.Levels.{cache_of, lease_party, oplock_of}
 use Rattle.xl_front_smb.specs.Laws.{rows_but}
 use Rattle.std.proofs.lemmas.Map.Made.{IsDistinct-keys_filter}
 
@@ -92,14 +96,6 @@ Keeps l conn (Locks a row) = (row.place.connection ≡ conn) × MakesAt conn row
 pub closed_waiting : (numbers : List ℕ) (l : Lists) → (all_closed numbers l).waiting ≡ l.waiting
 closed_waiting [] l = refl
 closed_waiting (number ∷ numbers) l = closed_waiting numbers (closed number l)
-
-removed_of : (t : ℕ → Bool) (es : List (ℕ × Open)) (e : ℕ × Open) → IsIn e (remove_entry t es) → IsIn e es
-removed_of t [] e here = absurd here
-removed_of t (x ∷ es) e here =
-    elim (cases_Bool (t x.0)) [
-      | inl out ↦ inr (rw out at here)
-      | inr stays ↦ (let there : IsIn e (x ∷ remove_entry t es) = rw stays at here in elim there [ inl same ↦ inl same | inr rest ↦ inr (removed_of t es e rest) ])
-    ]
 
 keys_apart : (t : ℕ → Bool) (k : ℕ) (es : List (ℕ × Open)) → AllByRecursion (λ j. eqb k j ≡ false) (keys_of es) → AllByRecursion (λ j. eqb k j ≡ false) (keys_of (remove_entry t es))
 keys_apart t k [] all = tt
@@ -171,8 +167,8 @@ connect_keeps s l conn h path =
     by_session (Keeps l conn) (λ number. is_session_on conn (session_of number l)) (connect s l conn path) (number_in s h.session_id) tt
     (λ k on. connect_by l conn k (s.counter + 1) (not (has_room_for_tree l conn (s.counter + 1))) (not (is_share path)))
 
-disconnect_by : (l : Lists) (conn : ℕ) (place : Place) → Keeps l conn (disconnect l place)
-disconnect_by l conn place =
+disconnect_by : (s : CoreState) (l : Lists) (conn : ℕ) (place : Place) → Keeps l conn (disconnect s l place)
+disconnect_by s l conn place =
     let m = all_closed (opens_under (scope.Tree place.tree) l) l in
     (closed_waiting (opens_under (scope.Tree place.tree) l) l, of_then (tree_dropped place.tree m) m l (same_opens (tree_dropped place.tree m) m refl) (all_closed_of (opens_under (scope.Tree place.tree) l) l))
 
@@ -181,16 +177,20 @@ unfolding tree_disconnect
 disconnect_keeps s l conn client h =
     by_session (Keeps l conn) (λ number. is_session_on conn (session_of number l)) _ (number_in s h.session_id) tt
     (λ k on. let place : Place = record { connection = conn; session = k; tree = tree_id h.route } in
-    by_tree (Keeps l conn) (disconnect l) place (has_place place client l) tt (λ there. disconnect_by l conn place))
+    by_tree (Keeps l conn) (disconnect s l) place (has_place place client l) tt (λ there. disconnect_by s l conn place))
 
 opens_by : (s : CoreState) (others : ℕ) (l : Lists) (conn : ℕ) (h : SmbHead) (client : List ℕ) (place : Place) (c : CreateCallItem) (file : ℕ) (room : Bool) → place.connection ≡ conn → has_room_for_open others l (s.counter + 1) ≡ room
     → Keeps l conn (if room then open_as s others l h client place c file (s.counter + 1) else Fails InsufficientResources)
 opens_by s others l conn h client place c file true on at = (open_new others l (s.counter + 1) at, on, on, on)
 opens_by s others l conn h client place c file false on at = tt
 
-found_by : (s : CoreState) (others : ℕ) (l : Lists) (conn : ℕ) (h : SmbHead) (client : List ℕ) (place : Place) (c : CreateCallItem) (file : ℕ) (makes : Bool) → place.connection ≡ conn → Keeps l conn (if makes then Fails ObjectNameCollision else open_file s others l h client place c file)
+keyed_by : (s : CoreState) (others : ℕ) (l : Lists) (conn : ℕ) (h : SmbHead) (client : List ℕ) (place : Place) (c : CreateCallItem) (file : ℕ) (elsewhere : Bool) → place.connection ≡ conn → Keeps l conn (if elsewhere then Fails InvalidParameter else open_file s others l h client place c file)
+keyed_by s others l conn h client place c file true on = tt
+keyed_by s others l conn h client place c file false on = opens_by s others l conn h client place c file (has_room_for_open others l (s.counter + 1)) on refl
+
+found_by : (s : CoreState) (others : ℕ) (l : Lists) (conn : ℕ) (h : SmbHead) (client : List ℕ) (place : Place) (c : CreateCallItem) (file : ℕ) (makes : Bool) → place.connection ≡ conn → Keeps l conn (if makes then Fails ObjectNameCollision else open_keyed s others l h client place c file)
 found_by s others l conn h client place c file true on = tt
-found_by s others l conn h client place c file false on = opens_by s others l conn h client place c file (has_room_for_open others l (s.counter + 1)) on refl
+found_by s others l conn h client place c file false on = keyed_by s others l conn h client place c file (is_key_elsewhere file (lease_key client (key_asked c)) l) on
 
 found_keeps : (s : CoreState) (others : ℕ) (l : Lists) (conn : ℕ) (h : SmbHead) (client : List ℕ) (place : Place) (c : CreateCallItem) (file : Option ℕ) → place.connection ≡ conn → Keeps l conn (open_found s others l h client place c file)
 found_keeps s others l conn h client place c None on = tt
@@ -212,7 +212,7 @@ close_keeps : (s : CoreState) (l : Lists) (conn : ℕ) (client : List ℕ) (h : 
 unfolding close
 close_keeps s l conn client h id =
     by_session (Keeps l conn) (λ number. is_session_on conn (session_of number l)) _ (number_in s h.session_id) tt
-    (λ k on. by_tree (Keeps l conn) _ _ (has_place _ client l) tt (λ there. by_open (Keeps l conn) (λ number. is_open_on conn (open_of number l)) (close_open l) (file_number s id) tt (λ number under. (refl, closed_of number l))))
+    (λ k on. by_tree (Keeps l conn) _ _ (has_place _ client l) tt (λ there. by_open (Keeps l conn) (λ number. is_open_on conn (open_of number l)) (close_open s l) (file_number s id) tt (λ number under. (refl, closed_of number l))))
 
 -- an open that is found stands on the connection
 pub stands_on : (conn : ℕ) (by : Holder) (place : Place) (row : Open) → row.holder ≡ by → is_open_on conn (Some row) ≡ true → (place_of row.holder place).connection ≡ conn
@@ -222,15 +222,15 @@ stands_on conn (holder.Tree at) place row is on =
       covers_by conn by = is_open_on conn (Some (record row { holder = by }))
 stands_on conn (holder.Nobody until) place row is on = absurd (false≢true (sym (ap (λ (h : Holder). is_open_on conn (Some (record row { holder = h }))) is) ∙ on))
 
-lock_by_keeps : (l : Lists) (conn : ℕ) (row : Waiting) (file number : ℕ) (es : List LockElement) (o : Option SmbStatus) → (row.place.connection ≡ conn) × MakesAt conn row.request → Keeps l conn (lock_by conn row file number es o)
-lock_by_keeps l conn row file number es (Some status) on = tt
-lock_by_keeps l conn row file number es None on = on
+lock_by_keeps : (l : Lists) (conn : ℕ) (row : Waiting) (number : ℕ) (held : Open) (es : List LockElement) (o : Option SmbStatus) → (row.place.connection ≡ conn) × MakesAt conn row.request → Keeps l conn (lock_by conn row number held es o)
+lock_by_keeps l conn row number held es (Some status) on = tt
+lock_by_keeps l conn row number held es None on = on
 
 lock_on_keeps : (s : CoreState) (l : Lists) (conn : ℕ) (h : SmbHead) (number : ℕ) (place : Place) (es : List LockElement) (row : Open) (count first : Bool) → is_open_on conn (Some row) ≡ true
-    → Keeps l conn (if not count then Fails InvalidParameter else if first then unlock_by l (unlocks s row.file number es) else lock_by conn (waiting_row h (place_of row.holder place) number request.Lock) row.file number es (lock_fault es))
+    → Keeps l conn (if not count then Fails InvalidParameter else if first then unlock_by l (unlocks s number row es) else lock_by conn (waiting_row h (place_of row.holder place) number request.Lock) number row es (lock_fault es))
 lock_on_keeps s l conn h number place es row false first on = tt
 lock_on_keeps s l conn h number place es row true true on = (refl, same_opens l l refl)
-lock_on_keeps s l conn h number place es row true false on = lock_by_keeps l conn (waiting_row h (place_of row.holder place) number request.Lock) row.file number es (lock_fault es) (stands_on conn row.holder place row refl on, tt)
+lock_on_keeps s l conn h number place es row true false on = lock_by_keeps l conn (waiting_row h (place_of row.holder place) number request.Lock) number row es (lock_fault es) (stands_on conn row.holder place row refl on, tt)
 
 lock_found_keeps : (s : CoreState) (l : Lists) (conn : ℕ) (h : SmbHead) (number : ℕ) (place : Place) (es : List LockElement) (o : Option Open) → is_open_on conn o ≡ true → Keeps l conn (lock_found s l conn h number place es o)
 lock_found_keeps s l conn h number place es None on = tt
@@ -282,13 +282,31 @@ ack_level_keeps : (s : CoreState) (l : Lists) (conn level number : ℕ) (lease :
 ack_level_keeps s l conn level number true = tt
 ack_level_keeps s l conn level number false = ack_open_keeps s l conn level number (open_of number l)
 
-break_keeps : (s : CoreState) (l : Lists) (conn : ℕ) (b : Acknowledgement) → Keeps l conn (break_by s l conn b)
-break_keeps s l conn (held.Oplock level id) = by_open (Keeps l conn) (λ number. is_open_on conn (open_of number l)) (ack_level s l level) (file_number s id) tt (λ number on. ack_level_keeps s l conn level number (level == 0xFF))
-break_keeps s l conn (held.Lease lease) = tt
+lease_kept : (l : Lists) (conn : ℕ) (lease : Lease) (cache : Claim) (may : Bool) → Keeps l conn (if may then Does (Acks cache (kind_of_state lease.state) ∷ []) l (told.Answered (lease_left lease)) else Fails RequestNotAccepted)
+lease_kept l conn lease cache true = (refl, same_opens l l refl)
+lease_kept l conn lease cache false = tt
 
-acknowledge_keeps : (s : CoreState) (l : Lists) (conn : ℕ) (h : SmbHead) (b : Acknowledgement) → Keeps l conn (acknowledge s l conn h b)
+lease_by_keeps : (l : Lists) (conn : ℕ) (lease : Lease) (cache : Claim) (what : What) → Keeps l conn (ack_lease_by l lease cache what)
+lease_by_keeps l conn lease cache (whats.Cache kind None) = tt
+lease_by_keeps l conn lease cache (whats.Cache kind (Some running)) = lease_kept l conn lease cache (may_keep lease.state running)
+lease_by_keeps l conn lease cache (whats.Share access deny) = tt
+lease_by_keeps l conn lease cache (whats.Range extent exclusive) = tt
+
+lease_cache_keeps : (l : Lists) (conn : ℕ) (lease : Lease) (o : Option Claim) → Keeps l conn (ack_cache l lease o)
+lease_cache_keeps l conn lease None = tt
+lease_cache_keeps l conn lease (Some cache) = lease_by_keeps l conn lease cache cache.what
+
+lease_keeps : (s : CoreState) (l : Lists) (conn : ℕ) (client : List ℕ) (lease : Lease) (o : Option LeaseRow) → Keeps l conn (ack_lease s l client lease o)
+lease_keeps s l conn client lease None = tt
+lease_keeps s l conn client lease (Some row) = lease_cache_keeps l conn lease (cache_of row.file (lease_party s.names client lease.key) s.claims)
+
+break_keeps : (s : CoreState) (l : Lists) (conn : ℕ) (client : List ℕ) (b : Acknowledgement) → Keeps l conn (break_by s l conn client b)
+break_keeps s l conn client (held.Oplock level id) = by_open (Keeps l conn) (λ number. is_open_on conn (open_of number l)) (ack_level s l level) (file_number s id) tt (λ number on. ack_level_keeps s l conn level number (level == 0xFF))
+break_keeps s l conn client (held.Lease lease) = lease_keeps s l conn client lease (lease_row (record { client = client; key = lease.key }) l)
+
+acknowledge_keeps : (s : CoreState) (l : Lists) (conn : ℕ) (client : List ℕ) (h : SmbHead) (b : Acknowledgement) → Keeps l conn (acknowledge s l conn client h b)
 unfolding acknowledge
-acknowledge_keeps s l conn h b = by_session (Keeps l conn) (λ number. is_session_on conn (session_of number l)) _ (number_in s h.session_id) tt (λ k on. break_keeps s l conn b)
+acknowledge_keeps s l conn client h b = by_session (Keeps l conn) (λ number. is_session_on conn (session_of number l)) _ (number_in s h.session_id) tt (λ k on. break_keeps s l conn client b)
 
 -- ---- a request
 
@@ -303,7 +321,7 @@ commanded_keeps s files others l conn h (Close c) client = close_keeps s l conn 
 commanded_keeps s files others l conn h (Lock c) client = lock_keeps s l conn client h c
 commanded_keeps s files others l conn h Cancel client = cancel_keeps s l conn h
 commanded_keeps s files others l conn h Echo client = (refl, same_opens l l refl)
-commanded_keeps s files others l conn h (OplockBreak b) client = acknowledge_keeps s l conn h b
+commanded_keeps s files others l conn h (OplockBreak b) client = acknowledge_keeps s l conn client h b
 commanded_keeps s files others l conn h (Negotiate c) client = tt
 commanded_keeps s files others l conn h Other client = tt
 
@@ -357,8 +375,7 @@ module _ (P : ℕ → Type 0) where
   with_on false id row l here on = on
 
   opened_on : (l : Lists) (number : ℕ) (row : Open) (waiting : Waiting) (answer : Answer) → open_of number l ≡ None → HolderOn P row.holder → WaitsOn P waiting → IsOn P l → IsOn P (opened_lists l number row waiting answer)
-  opened_on l number row waiting (answers.Granted c) new held waits on =
-      record { waiting = on.waiting; held = all_append (λ (e : ℕ × Open). HolderOn P e.1.holder) l.opens ((number, row) ∷ []) on.held (held, tt); distinct = distinct_added number row l.opens new on.distinct }
+  opened_on l number row waiting (answers.Granted c) new held waits on = came_on P number row l new held on
   opened_on l number row waiting (answers.Queued id) new held waits on = with_on (has_room_to_wait l id) id waiting l waits on
   opened_on l number row waiting (answers.Conflict c) new held waits on = on
   opened_on l number row waiting (answers.Recall c) new held waits on = on
@@ -476,4 +493,4 @@ module _ (P Q : ℕ → Type 0) (conn : ℕ) (others : (other : ℕ) → eqb oth
   unfolding smb_end
   end_on f s on =
       let l = requests_gone conn (connection_gone conn (all_closed (opens_under (scope.Connection conn) f.state) f.state)) in
-      (dismissed_on Q (all_ended (numbers_under (scope.Connection conn) f.state) s).0 (keys_of l.waiting) l (gone_on f.state on)).1
+      (dismissed_on Q (all_ended (leavers_under s.names (scope.Connection conn) f.state) s).0 (keys_of l.waiting) l (gone_on f.state on)).1

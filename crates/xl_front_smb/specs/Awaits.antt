@@ -2,13 +2,14 @@
 use Rattle.std.specs.Prelude.{◌≡◌, ◌↔◌, ℕ, nat_eq, ◌-◌, ◌==◌, ◌<◌, ◌≤◌, Bool, true, false, not, List, [], ◌∷◌, length, Some, is_some}
 use Rattle.std.specs.List.{AllByRecursion, list_any}
 use Rattle.xl_base.specs.Lists.{IsIn}
-use Rattle.xl_base.specs.declared.name.Party.TheVariants as parties
 use Rattle.xl_matrix.specs.Blocks.{is_share}
 use Rattle.xl_matrix.specs.declared.claim.Claim.{Claim}
 use Rattle.xl_base.specs.declared.name.Owner.TheVariants as owners
 use Rattle.xl_smb_state.specs.Links.{has_place, most_opens}
-use Rattle.xl_smb_state.specs.State.{Lists, open_of, waiting_of, makes_open}
+use Rattle.xl_smb_state.specs.State.{Lists, file_for, is_key, open_of, same_lease, waiting_of, makes_open}
 use Rattle.xl_smb_state.specs.declared.row.Holder.TheVariants as holder
+use Rattle.xl_smb_state.specs.declared.row.Lease.{Lease}
+use Rattle.xl_smb_state.specs.declared.row.LeaseKey.{LeaseKey}
 use Rattle.xl_smb_state.specs.declared.row.Open.{Open}
 use Rattle.xl_smb_state.specs.declared.row.Request.{Request}
 use Rattle.xl_smb_state.specs.declared.row.Request.TheVariants as request
@@ -17,22 +18,34 @@ use Rattle.xl_wait.specs.declared.waiter.Rooms.{Rooms}
 use Rattle.xl_wait.specs.declared.waiter.Waiter.{Waiter}
 use Rattle.xl_core.specs.Asking.{is_named}
 use Rattle.xl_core.specs.Deeds.{Deed, Asks}
-use Rattle.xl_core.specs.Settle.{settle, waits_for}
+use Rattle.xl_core.specs.Settle.{settle, waits_as}
 use Rattle.xl_core.specs.State.{CoreState}
 use Rattle.xl_core.specs.declared.ask.Answer.TheVariants.{Granted}
 use Rattle.xl_core.specs.declared.ask.Effect.{Effect}
 use Rattle.xl_core.specs.declared.ask.Effect.TheVariants as effects
 use Rattle.xl_front_smb.specs.Checks.{is_open_on}
 
+-- a lease of this key is on this file
+abbrev pub IsOnFile : LeaseKey → ℕ → LeaseKey × Lease → Type 0
+IsOnFile key file e = same_lease key e.0 ≡ true → e.1.file ≡ file
+
+-- the key of a lease is in use on this file alone: by the lease, if it is there, and by each open that a request waits to make
+-- under it
+pub record IsUsedOn (key : LeaseKey) (file : ℕ) (l : Lists) : Type 0 where
+  pub leases : AllByRecursion (IsOnFile key file) l.leases
+  pub waiting : (x : ℕ × Waiting) → IsIn x l.waiting → (other : ℕ) → file_for key x.1.request ≡ Some other → other ≡ file
+
 -- The open that this request waits to make may stand: its tree connect is to be the one that the request came by, which is
--- there, on a connection of the open's client; no open stands under its number, which was given out before the request's own; and
--- no other request waits to make an open of this number.
+-- there, on a connection of the open's client; no open stands under its number, which was given out before the request's own; no
+-- other request waits to make an open of this number; and the key of the lease that it asks for, if it does, is in use on its file
+-- alone.
 pub record MayStand (l : Lists) (e : ℕ × Waiting) (made : Open) : Type 0 where
   pub held : made.holder ≡ holder.Tree e.1.place
   pub place : has_place e.1.place made.client l ≡ true
   pub free : is_some (open_of e.1.opened l) ≡ false
   pub earlier : e.1.opened < e.0
   pub single : (x : ℕ × Waiting) → IsIn x l.waiting → makes_open x.1.request ≡ true → x.1.opened ≡ e.1.opened → x.0 ≡ e.0
+  pub keyed : (key : LeaseKey) → is_key key made.client made.lease ≡ true → IsUsedOn key made.file l
 
 -- the open whose ranges a request waits for stands under the connection that it came by; an open that it waits to make may stand
 -- once it is granted
@@ -60,8 +73,8 @@ pub record IsAwaited (s : CoreState) (l : Lists) (e : ℕ × Waiting) : Type 0 w
   pub waiter : Waiter
   pub waits : IsIn waiter s.waiters
   pub number : waiter.id ≡ e.0
-  pub own : waits_for (parties.Open e.1.opened) waiter ≡ true
-  pub alone : (k : ℕ) → waits_for (parties.Open k) waiter ≡ true → k ≡ e.1.opened
+  pub own : waits_as e.1.opened waiter ≡ true
+  pub alone : (k : ℕ) → waits_as k waiter ≡ true → k ≡ e.1.opened
   pub asker : IsAskerOf waiter e.1.opened e.1.request
   pub under : IsUnder l e e.1.request
 
@@ -71,7 +84,7 @@ AreAwaited s l = AllByRecursion (IsAwaited s l) l.waiting
 
 -- The waiter has its row, where it asks for claims of an SMB open: a row of its number, of that open.
 abbrev pub IsKept : Lists → Waiter → Type 0
-IsKept l w = (k : ℕ) → waits_for (parties.Open k) w ≡ true → (row : Waiting) × (waiting_of w.id l ≡ Some row) × (row.opened ≡ k)
+IsKept l w = (k : ℕ) → waits_as k w ≡ true → (row : Waiting) × (waiting_of w.id l ≡ Some row) × (row.opened ≡ k)
 
 -- so has each
 abbrev pub AreKept : CoreState → Lists → Type 0
@@ -79,7 +92,7 @@ AreKept s l = AllByRecursion (IsKept l) s.waiters
 
 -- the deed is an ask by an SMB open
 abbrev pub is_open_ask : Deed → Bool
-is_open_ask (Asks left a) = not (is_named a.party)
+is_open_ask (Asks left a) = not (is_named a.owner)
 is_open_ask deed = false
 
 -- of the requests that wait just those stay that wait for none of these opens

@@ -1,7 +1,6 @@
 -- Opens: CREATE, CLOSE, and acknowledgements of breaks (MS-SMB2 3.3.5.9, 3.3.5.10, 3.3.5.22).
-use Rattle.std.specs.Prelude.{ℕ, ◌+◌, ◌-◌, Bool, true, false, not, ◌&&◌, ◌||◌, ◌==◌, nat_lt, bit_and, if◌then◌else◌, List, [], ◌∷◌, length, Option, Some, None, is_some}
-use Rattle.xl_base.specs.declared.name.Party.TheVariants as parties
-use Rattle.xl_cache.specs.Levels.{level_of, oplock_choices}
+use Rattle.std.specs.Prelude.{ℕ, ◌+◌, ◌-◌, Bool, true, false, not, ◌&&◌, ◌||◌, ◌==◌, nat_lt, bit_and, if◌then◌else◌, List, [], ◌∷◌, length, Option, Some, None, is_some, option_map}
+use Rattle.xl_cache.specs.Levels.{kind_of_state, level_of, lease_choices, oplock_choices}
 use Rattle.xl_cache.specs.Targets.{rest_lies_within}
 use Rattle.xl_matrix.specs.declared.claim.Break.{Break}
 use Rattle.xl_matrix.specs.declared.claim.CacheKind.{CacheKind}
@@ -12,30 +11,35 @@ use Rattle.xl_matrix.specs.declared.claim.What.{What}
 use Rattle.xl_matrix.specs.declared.claim.What.TheVariants as whats
 use Rattle.xl_smb.specs.Creates.{CreateCallItem}
 use Rattle.xl_smb.specs.Heads.{is_set}
+use Rattle.xl_smb.specs.Leases.{lease_of}
 use Rattle.xl_smb.specs.declared.breaks.Break.{Break as Acknowledgement}
 use Rattle.xl_smb.specs.declared.breaks.Break.TheVariants as held
 use Rattle.xl_smb.specs.declared.file.FileId.{FileId}
 use Rattle.xl_smb.specs.declared.head.SmbHead.{SmbHead}
-use Rattle.xl_smb_state.specs.State.{Lists, open_of, closed}
+use Rattle.xl_smb.specs.declared.lease.Lease.{Lease}
+use Rattle.xl_smb_state.specs.State.{Lists, open_of, lease_of as lease_row, key_file, closed}
 use Rattle.xl_smb_state.specs.declared.row.Holder.TheVariants as holder
+use Rattle.xl_smb_state.specs.declared.row.Lease.{Lease as LeaseRow}
+use Rattle.xl_smb_state.specs.declared.row.LeaseKey.{LeaseKey}
 use Rattle.xl_smb_state.specs.declared.row.Open.{Open}
 use Rattle.xl_smb_state.specs.declared.row.Place.{Place}
 use Rattle.xl_smb_state.specs.declared.row.Request.TheVariants as request
 use Rattle.xl_smb_state.specs.declared.row.Waiting.{Waiting}
 use Rattle.xl_wait.specs.declared.waiter.Rooms.{Rooms}
-use Rattle.xl_core.specs.Deeds.{Ends, Acks}
+use Rattle.xl_core.specs.Deeds.{Closes, Acks}
 use Rattle.xl_core.specs.Limits.{most_opens}
 use Rattle.xl_core.specs.State.{CoreState}
 use Rattle.xl_core.specs.declared.ask.Act.TheVariants.{Share}
 use Rattle.xl_core.specs.declared.ask.Ask.{Ask}
 use Rattle.xl_core.specs.declared.ask.Who.TheVariants as who
 use Rattle.xl_front_smb.specs.Checks.{id_of, session_named, tree_named, open_named, in_session, on_tree, on_open}
+use Rattle.xl_front_smb.specs.Ending.{party_going}
 use Rattle.xl_front_smb.specs.Locks.{waiting_row}
 use Rattle.xl_front_smb.specs.Plans.{Plan, Fails, Does, Opens}
 use Rattle.xl_front_smb.specs.Texts.{file_spelled}
-use Rattle.xl_smb_locks.specs.Levels.{oplock_of}
-use Rattle.xl_smb_locks.specs.declared.status.SmbStatus.TheVariants.{InvalidParameter, ObjectNameNotFound, ObjectNameCollision, InsufficientResources, NotSupported, InvalidOplockProtocol, FileClosed, InvalidDeviceState}
-use Rattle.xl_front_smb.specs.declared.told.Told.TheVariants.{Failed, Acknowledged, Closed}
+use Rattle.xl_smb_locks.specs.Levels.{party_for, lease_party, cache_of, oplock_of}
+use Rattle.xl_smb_locks.specs.declared.status.SmbStatus.TheVariants.{InvalidParameter, ObjectNameNotFound, ObjectNameCollision, InsufficientResources, NotSupported, InvalidOplockProtocol, FileClosed, InvalidDeviceState, Unsuccessful, RequestNotAccepted}
+use Rattle.xl_front_smb.specs.declared.told.Told.TheVariants.{Failed, Acknowledged, Answered, Closed}
 
 -- ---- access and sharing (2.2.13, 2.2.13.1.1)
 
@@ -74,14 +78,27 @@ deny_of access share =
 
 -- ---- CREATE
 
--- the open, which asks for its share of the file, waits for the answers to breaks, and wishes for an oplock
-unfoldable pub open_ask : ℕ → ℕ → ℕ → CreateCallItem → Ask
-open_ask conn file number c = record {
-  file = file;
+-- the lease that is asked for, by the level 0xFF and a context that carries it (3.3.5.9.8)
+abbrev pub lease_asked : CreateCallItem → Option Lease
+lease_asked c = if c.oplock_level == 0xFF then lease_of c.contexts else None
+
+abbrev pub key_asked : CreateCallItem → Option (List ℕ)
+key_asked c = option_map (λ lease. lease.key) (lease_asked c)
+
+-- the caches wished for: a lease's by its state, or an oplock's by its level
+abbrev pub choices_by : ℕ → Option Lease → List CacheKind
+choices_by level None = oplock_choices level
+choices_by level (Some lease) = lease_choices lease.state
+
+-- the open of this row, which asks for its share of the file, waits for the answers to breaks, and wishes for an oplock, or
+-- for the lease that it is to be under
+unfoldable pub open_ask : ℕ → ℕ → Open → CreateCallItem → Ask
+open_ask conn number row c = record {
+  file = row.file;
   owner = who.Open number;
-  party = who.Open number;
+  party = party_for number row;
   act = Share (access_of c.desired_access) (deny_of (access_of c.desired_access) c.share_access);
-  wish = oplock_choices c.oplock_level;
+  wish = choices_by c.oplock_level (lease_asked c);
   conn = Some conn;
   blocking = false;
   awaits = true;
@@ -90,9 +107,9 @@ open_ask conn file number c = record {
   rows = record { hosts = 0; owners = 0; opens = 1 };
 }
 
--- the open of this file, held by the tree connect at this place; no lease comes with it yet
-abbrev pub open_row : ℕ → List ℕ → Place → Open
-open_row file client place = record { file = file; client = client; lease = None; durable = false; holder = holder.Tree place }
+-- the open of this file, held by the tree connect at this place, and under the lease that is asked for
+abbrev pub open_row : ℕ → List ℕ → Place → CreateCallItem → Open
+open_row file client place c = record { file = file; client = client; lease = key_asked c; durable = false; holder = holder.Tree place }
 
 -- how many opens there are, with those of the other fronts
 abbrev pub all_opens : ℕ → Lists → ℕ
@@ -109,7 +126,7 @@ create_row h place number row = waiting_row h place number (request.Create row)
 -- the open of this number, which is the next, is asked for
 abbrev pub open_as : CoreState → ℕ → Lists → SmbHead → List ℕ → Place → CreateCallItem → ℕ → ℕ → Plan
 open_as s others l h client place c file number =
-    Opens (rooms_left others l) (open_ask place.connection file number c) number (open_row file client place) (id_of s number) (create_row h place number (open_row file client place))
+    Opens (rooms_left others l) (open_ask place.connection number (open_row file client place c) c) number (open_row file client place c) (id_of s number) (create_row h place number (open_row file client place c))
 
 -- there is room for an open, and none has this number yet
 abbrev pub has_room_for_open : ℕ → Lists → ℕ → Bool
@@ -118,10 +135,25 @@ has_room_for_open others l number = nat_lt (all_opens others l) most_opens && no
 abbrev pub open_file : CoreState → ℕ → Lists → SmbHead → List ℕ → Place → CreateCallItem → ℕ → Plan
 open_file s others l h client place c file = if has_room_for_open others l (s.counter + 1) then open_as s others l h client place c file (s.counter + 1) else Fails InsufficientResources
 
+-- the lease's key is in use on another file, also where only a CREATE that waits has it
+abbrev pub is_other : ℕ → Option ℕ → Bool
+is_other file None = false
+is_other file (Some used) = not (used == file)
+
+abbrev pub is_key_elsewhere : ℕ → Option LeaseKey → Lists → Bool
+is_key_elsewhere file None l = false
+is_key_elsewhere file (Some key) l = is_other file (key_file key l)
+
+abbrev pub lease_key : List ℕ → Option (List ℕ) → Option LeaseKey
+lease_key client asked = option_map (λ key. record { client = client; key = key }) asked
+
+abbrev pub open_keyed : CoreState → ℕ → Lists → SmbHead → List ℕ → Place → CreateCallItem → ℕ → Plan
+open_keyed s others l h client place c file = if is_key_elsewhere file (lease_key client (key_asked c)) l then Fails InvalidParameter else open_file s others l h client place c file
+
 -- files are only opened: FILE_CREATE, 2, meets the one that is there
 abbrev pub open_found : CoreState → ℕ → Lists → SmbHead → List ℕ → Place → CreateCallItem → Option ℕ → Plan
 open_found s others l h client place c None = Fails ObjectNameNotFound
-open_found s others l h client place c (Some file) = if c.disposition == 2 then Fails ObjectNameCollision else open_file s others l h client place c file
+open_found s others l h client place c (Some file) = if c.disposition == 2 then Fails ObjectNameCollision else open_keyed s others l h client place c file
 
 -- FILE_SUPERSEDE, FILE_OVERWRITE and FILE_OVERWRITE_IF change what the file holds
 abbrev pub overwrites : ℕ → Bool
@@ -140,13 +172,13 @@ create s files others l conn client h c = in_session (λ session. on_tree (creat
 -- ---- CLOSE
 
 -- the open ends with all that it holds
-abbrev pub close_open : Lists → ℕ → Plan
-close_open l number = Does (Ends (parties.Open number) ∷ []) (closed number l) Closed
+abbrev pub close_open : CoreState → Lists → ℕ → Plan
+close_open s l number = Does (Closes number (party_going s.names l number) ∷ []) (closed number l) Closed
 
 -- CLOSE: in a session, on a tree connect of it, of an open under the connection
 unfoldable pub close : CoreState → Lists → ℕ → List ℕ → SmbHead → FileId → Plan
 close s l conn client h id =
-    in_session (λ session. on_tree (λ place. on_open (close_open l) (open_named s l conn id)) (tree_named l conn client h session)) (session_named s l conn h.session_id)
+    in_session (λ session. on_tree (λ place. on_open (close_open s l) (open_named s l conn id)) (tree_named l conn client h session)) (session_named s l conn h.session_id)
 
 -- ---- acknowledgements of breaks
 
@@ -195,10 +227,34 @@ ack_open s l level number (Some row) = ack_of l (id_of s number) level (oplock_o
 abbrev pub ack_level : CoreState → Lists → ℕ → ℕ → Plan
 ack_level s l level number = if level == 0xFF then Fails InvalidParameter else ack_open s l level number (open_of number l)
 
--- OPLOCK_BREAK: in a session, of an open under the connection, or of a lease
-abbrev pub break_by : CoreState → Lists → ℕ → Acknowledgement → Plan
-break_by s l conn (held.Oplock level id) = on_open (ack_level s l level) (open_named s l conn id)
-break_by s l conn (held.Lease lease) = Fails ObjectNameNotFound
+-- none, 0, reading, 1, or reading and the handle, 3, where the break leaves as much
+abbrev pub may_keep : ℕ → Break → Bool
+may_keep state running = (state == 0 || (state == 1 || state == 3)) && rest_lies_within (kind_of_state state) running.target
 
-unfoldable pub acknowledge : CoreState → Lists → ℕ → SmbHead → Acknowledgement → Plan
-acknowledge s l conn h b = in_session (λ session. break_by s l conn b) (session_named s l conn h.session_id)
+-- the lease of this key, which holds this state
+abbrev pub lease_left : Lease → Lease
+lease_left lease = record { key = lease.key; state = lease.state; flags = 0; duration = 0 }
+
+-- a break that runs is answered, so that this state is left
+abbrev pub ack_lease_by : Lists → Lease → Claim → What → Plan
+ack_lease_by l lease cache (whats.Cache kind (Some running)) =
+    if may_keep lease.state running then Does (Acks cache (kind_of_state lease.state) ∷ []) l (Answered (lease_left lease)) else Fails RequestNotAccepted
+ack_lease_by l lease cache what = Fails Unsuccessful
+
+-- the cache that the lease has, if it has one
+abbrev pub ack_cache : Lists → Lease → Option Claim → Plan
+ack_cache l lease None = Fails Unsuccessful
+ack_cache l lease (Some cache) = ack_lease_by l lease cache cache.what
+
+-- the lease is there; a key that only a CREATE has that waits is of none
+abbrev pub ack_lease : CoreState → Lists → List ℕ → Lease → Option LeaseRow → Plan
+ack_lease s l client lease None = Fails ObjectNameNotFound
+ack_lease s l client lease (Some row) = ack_cache l lease (cache_of row.file (lease_party s.names client lease.key) s.claims)
+
+-- OPLOCK_BREAK: in a session, of an open under the connection, or of a lease of the client
+abbrev pub break_by : CoreState → Lists → ℕ → List ℕ → Acknowledgement → Plan
+break_by s l conn client (held.Oplock level id) = on_open (ack_level s l level) (open_named s l conn id)
+break_by s l conn client (held.Lease lease) = ack_lease s l client lease (lease_row (record { client = client; key = lease.key }) l)
+
+unfoldable pub acknowledge : CoreState → Lists → ℕ → List ℕ → SmbHead → Acknowledgement → Plan
+acknowledge s l conn client h b = in_session (λ session. break_by s l conn client b) (session_named s l conn h.session_id)

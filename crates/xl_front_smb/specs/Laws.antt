@@ -1,38 +1,43 @@
 -- Words of the laws: what ends leave, and what a request comes to.
-use Rattle.std.specs.Prelude.{◌≡◌, ◌↔◌, ℕ, ◌+◌, ◌==◌, nat_lt, Bool, true, false, not, List, Option, Some, None, is_some, Ok, if◌then◌else◌}
+use Rattle.std.specs.Prelude.{◌≡◌, ◌↔◌, ℕ, ◌+◌, ◌==◌, nat_eq, nat_lt, Bool, true, false, not, List, Option, Some, None, is_some, Ok, if◌then◌else◌}
 use Rattle.std.specs.List.{filter, list_any}
 use Rattle.xl_base.specs.Lists.{IsIn}
 use Rattle.xl_base.specs.declared.name.Owner.TheVariants as owners
 use Rattle.xl_base.specs.declared.name.Party.{Party}
-use Rattle.xl_base.specs.declared.name.Party.TheVariants as parties
-use Rattle.xl_matrix.specs.Equal.{same_parties}
 use Rattle.xl_matrix.specs.declared.claim.Claim.{Claim}
 use Rattle.xl_matrix.specs.declared.claim.What.TheVariants.{Share}
+use Rattle.xl_names.specs.declared.name.Name.{Name}
 use Rattle.xl_smb.specs.Calls.{CallItem}
 use Rattle.xl_smb.specs.Creates.{CreateCallItem}
 use Rattle.xl_smb.specs.Heads.{command_of, head_of}
 use Rattle.xl_smb.specs.Messages.{Call, message_at}
 use Rattle.xl_smb.specs.declared.file.FileId.{FileId}
 use Rattle.xl_smb.specs.declared.head.SmbHead.{SmbHead}
-use Rattle.xl_smb_state.specs.State.{Lists, client_of, open_of}
+use Rattle.xl_smb_state.specs.State.{Lists, client_of, key_of, lease_of, open_of}
+use Rattle.xl_smb_state.specs.declared.row.Lease.{Lease}
+use Rattle.xl_smb_state.specs.declared.row.LeaseKey.{LeaseKey}
 use Rattle.xl_smb_state.specs.declared.row.Open.{Open}
 use Rattle.xl_smb_state.specs.declared.row.Place.{Place}
+use Rattle.xl_table.specs.Leaving.{goes}
+use Rattle.xl_table.specs.declared.leaver.Leaver.TheVariants as leavers
 use Rattle.xl_wait.specs.declared.waiter.Rooms.{Rooms}
 use Rattle.xl_wait.specs.declared.waiter.Waiter.{Waiter}
 use Rattle.xl_core.specs.Causes.{IsClaimDue}
 use Rattle.xl_core.specs.Begin.{others_of}
 use Rattle.xl_core.specs.Decide.{way}
-use Rattle.xl_core.specs.Settle.{waits_for}
+use Rattle.xl_core.specs.Asking.{party_in}
+use Rattle.xl_core.specs.Settle.{waits_as}
 use Rattle.xl_core.specs.State.{CoreState, drawn}
 use Rattle.xl_core.specs.declared.ask.Answer.TheVariants as answers
 use Rattle.xl_core.specs.declared.ask.Ask.{Ask}
 use Rattle.xl_front_smb.specs.Checks.{id_of, session_named, tree_named, open_named}
-use Rattle.xl_front_smb.specs.Files.{access_of, deny_of, open_ask, rooms_left, has_room_for_open, overwrites}
+use Rattle.xl_front_smb.specs.Files.{access_of, deny_of, key_asked, lease_key, is_key_elsewhere, open_ask, open_row, rooms_left, has_room_for_open, overwrites}
 use Rattle.xl_front_smb.specs.FrontSmb.{head_heard}
 use Rattle.xl_front_smb.specs.Plans.{Outcome, carried}
 use Rattle.xl_front_smb.specs.Requests.{planned}
 use Rattle.xl_front_smb.specs.Texts.{file_spelled}
-use Rattle.xl_smb_locks.specs.Levels.{level_held}
+use Rattle.xl_smb_locks.specs.Levels.{party_for, caching}
+use Rattle.xl_smb_locks.specs.declared.levels.Caching.{Caching}
 use Rattle.xl_smb_locks.specs.declared.status.SmbStatus.{SmbStatus}
 use Rattle.xl_smb_locks.specs.declared.status.SmbStatus.TheVariants as status
 use Rattle.xl_front_smb.specs.declared.told.Told.{Told}
@@ -42,24 +47,28 @@ use Rattle.xl_front_smb.specs.declared.told.Told.TheVariants.{Failed, Opened, Pe
 abbrev pub rows_but : {X : Type 0} → (ℕ × X → Bool) → List (ℕ × X) → List (ℕ × X)
 rows_but test rows = filter (λ e. not (test e)) rows
 
--- the party is one of these opens
-abbrev pub is_among : List ℕ → Party → Bool
-is_among numbers party = list_any (λ number. same_parties party (parties.Open number)) numbers
+-- the claim is one of these opens', or of the party whose caches go with it
+abbrev pub goes_among : List (ℕ × Option Party) → Claim → Bool
+goes_among going c = list_any (λ e. goes (leavers.Open e.0 e.1) c) going
 
 -- the waiter waits for one of these opens
-abbrev pub waits_among : List ℕ → Waiter → Bool
-waits_among numbers w = list_any (λ number. waits_for (parties.Open number) w) numbers
+abbrev pub waits_among : List (ℕ × Option Party) → Waiter → Bool
+waits_among going w = list_any (λ e. waits_as e.0 w) going
 
--- of the claims just those stay that are none of these opens', and of the waiters
-pub record Without (numbers : List ℕ) (old new : CoreState) : Type 0 where
-  pub claims : (c : Claim) → IsIn c new.claims ↔ (IsIn c old.claims × (is_among numbers c.party ≡ false))
-  pub waiters : (w : Waiter) → IsIn w new.waiters ↔ (IsIn w old.waiters × (waits_among numbers w ≡ false))
+-- of the claims just those stay that go with none of these opens, and of the waiters
+pub record Without (going : List (ℕ × Option Party)) (old new : CoreState) : Type 0 where
+  pub claims : (c : Claim) → IsIn c new.claims ↔ (IsIn c old.claims × (goes_among going c ≡ false))
+  pub waiters : (w : Waiter) → IsIn w new.waiters ↔ (IsIn w old.waiters × (waits_among going w ≡ false))
 
 -- of what is held only caches changed, whose breaks began; who waits is who waited, and the names are those that were kept
 pub record OnlyBreaks (old new : CoreState) : Type 0 where
   pub claims : others_of new.claims ≡ others_of old.claims
   pub waiters : new.waiters ≡ old.waiters
   pub names : new.names ≡ old.names
+
+-- the open is one of those of the lease that it asks for, which is on its file, if it asks for one
+abbrev pub IsLeased : Lists → ℕ → Open → Type 0
+IsLeased l number made = (key : LeaseKey) → key_of (Some made) ≡ Some key → (row : Lease) × (lease_of key l ≡ Some row) × (row.file ≡ made.file) × (list_any (nat_eq number) row.opens ≡ true)
 
 -- ---- requests
 
@@ -109,45 +118,49 @@ IsRefusalDue left s a claim status.SharingViolation = (c : Claim) × IsClaimDue 
 IsRefusalDue left s a claim status.InsufficientResources = (limit : ℕ) × IsClaimDue left s a claim (answers.Full limit)
 IsRefusalDue left s a claim _ = ⊥
 
--- open under this id where the core is due to grant the share, which nothing held stands against, and with this level; pending
--- where the core is due to let it wait
-abbrev pub IsOpenDue : Rooms → CoreState → Ask → Claim → ℕ → ℕ → Told → Type 0
-IsOpenDue left s a claim id level (Opened opened of) = (opened ≡ id) × (of ≡ level) × IsClaimDue left s a claim (answers.Granted claim)
-IsOpenDue left s a claim id level (Pending number) = IsClaimDue left s a claim (answers.Queued number)
-IsOpenDue left s a claim id level (Failed refused) = IsRefusalDue left s a claim refused
-IsOpenDue left s a claim id level _ = ⊥
+-- open under this id where the core is due to grant the share, which nothing held stands against, and with this told of its
+-- cache; pending where the core is due to let it wait
+abbrev pub IsOpenDue : Rooms → CoreState → Ask → Claim → ℕ → Caching → Told → Type 0
+IsOpenDue left s a claim id cache (Opened opened of) = (opened ≡ id) × (of ≡ cache) × IsClaimDue left s a claim (answers.Granted claim)
+IsOpenDue left s a claim id cache (Pending number) = IsClaimDue left s a claim (answers.Queued number)
+IsOpenDue left s a claim id cache (Failed refused) = IsRefusalDue left s a claim refused
+IsOpenDue left s a claim id cache _ = ⊥
 
--- the share that the open of this number is for
-abbrev pub open_claim : ℕ → ℕ → CreateCallItem → Claim
-open_claim file number c = record {
-  file = file;
+-- the share that the open of this number is for; its party is the lease that it is under, if it is under one
+abbrev pub open_claim : List Name → ℕ → Open → CreateCallItem → Claim
+open_claim names number row c = record {
+  file = row.file;
   owner = owners.Open number;
-  party = parties.Open number;
+  party = party_in (party_for number row) names;
   what = Share (access_of c.desired_access) (deny_of (access_of c.desired_access) c.share_access);
 }
 
--- the open of the next number: by what is held once the breaks began that it begins; and its level is that of the oplock that it
--- has in the state that is left
-abbrev pub IsNextDue : CoreState → CoreState → ℕ → Lists → ℕ → CreateCallItem → ℕ → Told → Type 0
-IsNextDue s t others l conn c file =
-    let a = open_ask conn file (s.counter + 1) c in
-    IsOpenDue (rooms_left others l) (way (rooms_left others l) (drawn s) a).1 a (open_claim file (s.counter + 1) c) (id_of s (s.counter + 1)) (level_held t file (s.counter + 1))
+-- the open of the next number: by what is held once the breaks began that it begins; and it is told of the cache that it has in
+-- the state that is left
+abbrev pub IsNextDue : CoreState → CoreState → ℕ → Lists → ℕ → CreateCallItem → Open → Told → Type 0
+IsNextDue s t others l conn c row =
+    let a = open_ask conn (s.counter + 1) row c in
+    IsOpenDue (rooms_left others l) (way (rooms_left others l) (drawn s) a).1 a (open_claim (drawn s).names (s.counter + 1) row c) (id_of s (s.counter + 1)) (caching t (s.counter + 1) row)
 
--- of the file that is found, which is only opened
-abbrev pub IsFileDue : CoreState → CoreState → ℕ → Lists → ℕ → CreateCallItem → ℕ → Told → Type 0
-IsFileDue s t others l conn c file = FailsIf (c.disposition == 2) status.ObjectNameCollision (FailsIf (not (has_room_for_open others l (s.counter + 1))) status.InsufficientResources (IsNextDue s t others l conn c file))
+-- of the file that is found, which is only opened, under no lease whose key is in use on another file
+abbrev pub IsFileDue : CoreState → CoreState → ℕ → Lists → List ℕ → Place → CreateCallItem → ℕ → Told → Type 0
+IsFileDue s t others l client place c file =
+    FailsIf (c.disposition == 2) status.ObjectNameCollision
+    (FailsIf (is_key_elsewhere file (lease_key client (key_asked c)) l) status.InvalidParameter
+    (FailsIf (not (has_room_for_open others l (s.counter + 1))) status.InsufficientResources
+    (IsNextDue s t others l place.connection c (open_row file client place c))))
 
 -- by the disposition and the name
-abbrev pub IsDispositionDue : CoreState → CoreState → List (List ℕ) → ℕ → Lists → ℕ → CreateCallItem → Told → Type 0
-IsDispositionDue s t files others l conn c =
+abbrev pub IsDispositionDue : CoreState → CoreState → List (List ℕ) → ℕ → Lists → List ℕ → Place → CreateCallItem → Told → Type 0
+IsDispositionDue s t files others l client place c =
     FailsIf (nat_lt 5 c.disposition) status.InvalidParameter
     (FailsIf (overwrites c.disposition) status.NotSupported
-    (OnceFound status.ObjectNameNotFound (IsFileDue s t others l conn c) (file_spelled files c.name)))
+    (OnceFound status.ObjectNameNotFound (IsFileDue s t others l client place c) (file_spelled files c.name)))
 
 -- of a client, in a session, on a tree connect of it, where this state is left
 abbrev pub IsCreateDue : CoreState → CoreState → List (List ℕ) → ℕ → Lists → ℕ → SmbHead → CreateCallItem → Told → Type 0
 IsCreateDue s t files others l conn h c =
     OnceFound status.InvalidParameter
     (λ client. OnceFound status.UserSessionDeleted
-    (λ session. OnceFound status.NetworkNameDeleted (λ (place : Place). IsDispositionDue s t files others l conn c) (tree_named l conn client h session)) (session_named s l conn h.session_id))
+    (λ session. OnceFound status.NetworkNameDeleted (λ (place : Place). IsDispositionDue s t files others l client place c) (tree_named l conn client h session)) (session_named s l conn h.session_id))
     (client_of conn l)

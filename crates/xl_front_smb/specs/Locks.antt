@@ -47,16 +47,16 @@ waiting_row h place number asked = record { header = header_of h; place = place;
 abbrev pub unlock_by : Lists → List Deed × Locking → Plan
 unlock_by l r = Does r.0 l (told_as r.1)
 
-abbrev pub lock_by : ℕ → Waiting → ℕ → ℕ → List LockElement → Option SmbStatus → Plan
-lock_by conn row file number es (Some status) = Fails status
-lock_by conn row file number es None = Locks (lock_ask conn file number es) row
+abbrev pub lock_by : ℕ → Waiting → ℕ → Open → List LockElement → Option SmbStatus → Plan
+lock_by conn kept number row es (Some status) = Fails status
+lock_by conn kept number row es None = Locks (lock_ask conn number row es) kept
 
 -- 1 to 64 ranges: all are unlocked, or all are locked
 abbrev pub lock_on : CoreState → Lists → ℕ → SmbHead → ℕ → Place → List LockElement → Open → Plan
 lock_on s l conn h number place es row =
     if not (is_count (length es)) then Fails InvalidParameter
-    else if unlocks_first es then unlock_by l (unlocks s row.file number es)
-    else lock_by conn (waiting_row h (place_of row.holder place) number request.Lock) row.file number es (lock_fault es)
+    else if unlocks_first es then unlock_by l (unlocks s number row es)
+    else lock_by conn (waiting_row h (place_of row.holder place) number request.Lock) number row es (lock_fault es)
 
 abbrev pub lock_found : CoreState → Lists → ℕ → SmbHead → ℕ → Place → List LockElement → Option Open → Plan
 lock_found s l conn h number place es None = Fails FileClosed

@@ -1,13 +1,14 @@
 -- What becomes of a request.
 use Rattle.std.specs.Prelude.{ℕ, nat_lt, Bool, not, ◌&&◌, if◌then◌else◌, List, [], ◌∷◌, length, Option, Some, None, is_some}
 use Rattle.xl_smb_state.specs.Links.{most_waiting}
-use Rattle.xl_smb_state.specs.State.{Lists, open_added, waiting_of, waiting_added}
+use Rattle.xl_smb_state.specs.State.{Lists, with_open, waiting_of, waiting_added}
 use Rattle.xl_smb_state.specs.declared.row.Open.{Open}
 use Rattle.xl_smb_state.specs.declared.row.Waiting.{Waiting}
 use Rattle.xl_wait.specs.Waiting.{no_rows}
 use Rattle.xl_smb_locks.specs.Finals.{open_refusal}
-use Rattle.xl_smb_locks.specs.Levels.{level_held}
+use Rattle.xl_smb_locks.specs.Levels.{caching}
 use Rattle.xl_smb_locks.specs.Locks.{lock_told, lock_done}
+use Rattle.xl_smb_locks.specs.declared.levels.Caching.{Caching}
 use Rattle.xl_smb_locks.specs.declared.locking.Locking.{Locking}
 use Rattle.xl_smb_locks.specs.declared.locking.Locking.TheVariants as locking
 use Rattle.xl_wait.specs.declared.waiter.Rooms.{Rooms}
@@ -53,13 +54,13 @@ failed_by None = Nothing
 failed_by (Some status) = Failed status
 
 -- what an open is told, which then has an oplock of this level
-abbrev pub opened_told : ℕ → ℕ → Answer → Told
-opened_told id level (Granted claim) = Opened id level
-opened_told id level (Queued number) = Pending number
-opened_told id level answer = failed_by (open_refusal answer)
+abbrev pub opened_told : ℕ → Caching → Answer → Told
+opened_told id cache (Granted claim) = Opened id cache
+opened_told id cache (Queued number) = Pending number
+opened_told id cache answer = failed_by (open_refusal answer)
 
 abbrev pub opened_lists : Lists → ℕ → Open → Waiting → Answer → Lists
-opened_lists l number row waiting (Granted claim) = open_added number row l
+opened_lists l number row waiting (Granted claim) = with_open number row l
 opened_lists l number row waiting (Queued id) = with_waiting id waiting l
 opened_lists l number row waiting answer = l
 
@@ -74,9 +75,9 @@ lists_as row l locking.Done = l
 lists_as row l (locking.Failed status) = l
 lists_as row l (locking.Waits id) = with_waiting id row l
 
-abbrev pub first_told : ℕ → ℕ → List Answer → Told
-first_told id level [] = Nothing
-first_told id level (answer ∷ answers) = opened_told id level answer
+abbrev pub first_told : ℕ → Caching → List Answer → Told
+first_told id cache [] = Nothing
+first_told id cache (answer ∷ answers) = opened_told id cache answer
 
 abbrev pub first_lists : Lists → ℕ → Open → Waiting → List Answer → Lists
 first_lists l number row waiting [] = l
@@ -94,7 +95,7 @@ first_kept row l (answer ∷ answers) = lists_as row l (lock_told answer)
 abbrev pub told_by : CoreState → Plan → List Answer → Told
 told_by t (Fails status) answers = Failed status
 told_by t (Does deeds lists told) answers = told
-told_by t (Opens left a number row id waiting) answers = first_told id (level_held t row.file number) answers
+told_by t (Opens left a number row id waiting) answers = first_told id (caching t number row) answers
 told_by t (Locks a row) answers = first_locked answers
 
 -- the lists then
@@ -111,7 +112,7 @@ abbrev pub Outcome : Type 0
 Outcome = Told × List Effect × Lists × CoreState
 
 abbrev pub opened : Lists → ℕ → Open → ℕ → Waiting → Answer × List Effect × CoreState → Outcome
-opened l number row id waiting r = (opened_told id (level_held r.2 row.file number) r.0, r.1, opened_lists l number row waiting r.0, r.2)
+opened l number row id waiting r = (opened_told id (caching r.2 number row) r.0, r.1, opened_lists l number row waiting r.0, r.2)
 
 abbrev pub locked : Lists → Waiting → Locking × List Effect × CoreState → Outcome
 locked l row r = (told_as r.0, r.1, lists_as row l r.0, r.2)

@@ -12,7 +12,7 @@ use Rattle.xl_smb.specs.declared.head.Route.TheVariants.{Tree, Async}
 use Rattle.xl_smb.specs.declared.head.SmbHead.{SmbHead}
 use Rattle.xl_smb.specs.declared.lock.CloseReply.{CloseReply}
 use Rattle.xl_smb.specs.declared.session.TreeConnectReply.{TreeConnectReply}
-use Rattle.xl_smb_locks.specs.Levels.{file_id, file_of, opened}
+use Rattle.xl_smb_locks.specs.Levels.{contexts_told, file_id, file_of, opened}
 use Rattle.xl_smb_locks.specs.Statuses.{status_number}
 use Rattle.xl_front_smb.specs.declared.told.Told.{Told}
 use Rattle.xl_front_smb.specs.declared.told.Told.TheVariants as told
@@ -83,6 +83,11 @@ connected = record { share_type = 1; flags = 0; capabilities = 0; maximal_access
 abbrev pub closed : CloseReply
 closed = record { flags = 0; status = file_of 0 }
 
+-- the contexts: those of a file that is open
+abbrev pub contexts_of : Told → List ℕ
+contexts_of (told.Opened id cache) = contexts_told cache
+contexts_of _ = []
+
 abbrev pub body_of : Told → Option ReplyItem
 body_of told.Nothing = None
 body_of (told.Failed status) = Some Error
@@ -91,8 +96,9 @@ body_of (told.SetUp session) = Some (SessionSetup set_up)
 body_of told.LoggedOff = Some Logoff
 body_of (told.Connected tree) = Some (TreeConnect connected)
 body_of told.Disconnected = Some TreeDisconnect
-body_of (told.Opened id level) = Some (Create (opened id level))
+body_of (told.Opened id cache) = Some (Create (opened id cache))
 body_of (told.Acknowledged id level) = Some (OplockBreak (held.Oplock level (file_id id)))
+body_of (told.Answered lease) = Some (OplockBreak (held.Lease lease))
 body_of told.Closed = Some (Close closed)
 body_of told.Locked = Some Lock
 body_of (told.Pending id) = Some Error
@@ -117,8 +123,9 @@ IsAnswer c (told.SetUp session) = c ≡ Some command.SessionSetup
 IsAnswer c told.LoggedOff = c ≡ Some command.Logoff
 IsAnswer c (told.Connected tree) = c ≡ Some command.TreeConnect
 IsAnswer c told.Disconnected = c ≡ Some command.TreeDisconnect
-IsAnswer c (told.Opened id level) = c ≡ Some command.Create
+IsAnswer c (told.Opened id cache) = c ≡ Some command.Create
 IsAnswer c (told.Acknowledged id level) = c ≡ Some command.OplockBreak
+IsAnswer c (told.Answered lease) = c ≡ Some command.OplockBreak
 IsAnswer c told.Closed = c ≡ Some command.Close
 IsAnswer c told.Locked = c ≡ Some command.Lock
 IsAnswer c (told.Pending id) = Unit {0}

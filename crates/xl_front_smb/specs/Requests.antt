@@ -26,7 +26,7 @@ commanded s files others l conn h (Close c) client = close s l conn client h c.f
 commanded s files others l conn h (Lock c) client = lock s l conn client h c
 commanded s files others l conn h Cancel client = cancel s l conn h
 commanded s files others l conn h Echo client = Does [] l Echoed
-commanded s files others l conn h (OplockBreak b) client = acknowledge s l conn h b
+commanded s files others l conn h (OplockBreak b) client = acknowledge s l conn client h b
 commanded s files others l conn h (Negotiate c) client = Fails InvalidParameter
 commanded s files others l conn h Other client = Fails NotSupported
 

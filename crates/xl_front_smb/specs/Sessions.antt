@@ -10,7 +10,7 @@ use Rattle.xl_smb_state.specs.declared.row.Scope.TheVariants as scope
 use Rattle.xl_core.specs.Deeds.{Draws}
 use Rattle.xl_core.specs.State.{CoreState}
 use Rattle.xl_front_smb.specs.Checks.{id_of, session_named, tree_named, is_fresh, in_session, on_tree}
-use Rattle.xl_front_smb.specs.Ending.{numbers_under, ends, all_closed, session_gone}
+use Rattle.xl_front_smb.specs.Ending.{leavers_under, ends, all_closed, session_gone}
 use Rattle.xl_front_smb.specs.Plans.{Plan, Fails, Does}
 use Rattle.xl_front_smb.specs.Texts.{is_share}
 use Rattle.xl_smb_locks.specs.declared.status.SmbStatus.TheVariants.{InvalidParameter, InsufficientResources, NotSupported, BadNetworkName}
@@ -48,7 +48,7 @@ session_setup s l conn h =
 -- LOGOFF: the opens under the session end, with those that requests under it wait to make, and it goes with its tree connects
 unfoldable pub logoff : CoreState → Lists → ℕ → SmbHead → Plan
 logoff s l conn h =
-    in_session (λ session. Does (ends (numbers_under (scope.Session session) l)) (session_gone session (all_closed (opens_under (scope.Session session) l) l)) LoggedOff) (session_named s l conn h.session_id)
+    in_session (λ session. Does (ends (leavers_under s.names (scope.Session session) l)) (session_gone session (all_closed (opens_under (scope.Session session) l) l)) LoggedOff) (session_named s l conn h.session_id)
 
 -- the tree connect of this number, which is the next, begins
 abbrev pub connect_as : Lists → ℕ → ℕ → ℕ → Plan
@@ -69,9 +69,9 @@ unfoldable pub tree_connect : CoreState → Lists → ℕ → SmbHead → List �
 tree_connect s l conn h path = in_session (connect s l conn path) (session_named s l conn h.session_id)
 
 -- the opens under the tree connect end, with those that requests under it wait to make, and it goes
-abbrev pub disconnect : Lists → Place → Plan
-disconnect l place = Does (ends (numbers_under (scope.Tree place.tree) l)) (tree_dropped place.tree (all_closed (opens_under (scope.Tree place.tree) l) l)) Disconnected
+abbrev pub disconnect : CoreState → Lists → Place → Plan
+disconnect s l place = Does (ends (leavers_under s.names (scope.Tree place.tree) l)) (tree_dropped place.tree (all_closed (opens_under (scope.Tree place.tree) l) l)) Disconnected
 
 -- TREE_DISCONNECT: in a session, on a tree connect of it
 unfoldable pub tree_disconnect : CoreState → Lists → ℕ → List ℕ → SmbHead → Plan
-tree_disconnect s l conn client h = in_session (λ session. on_tree (disconnect l) (tree_named l conn client h session)) (session_named s l conn h.session_id)
+tree_disconnect s l conn client h = in_session (λ session. on_tree (disconnect s l) (tree_named l conn client h session)) (session_named s l conn h.session_id)

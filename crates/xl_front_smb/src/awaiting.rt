@@ -23,16 +23,18 @@ ghost use Rattle.xl_core.specs.declared.ask.Ask.{Ask};
 ghost use Rattle.xl_core.specs.declared.ask.Effect.{Effect};
 ghost use Rattle.xl_core.specs.declared.ask.Effect.TheVariants as Effect;
 ghost use Rattle.xl_smb_locks.specs.Finals.{final_outs, opened_reply};
-ghost use Rattle.xl_smb_locks.specs.Levels.{id_of, level_held};
+ghost use Rattle.xl_smb_locks.specs.Levels.{id_of, caching};
 ghost use Rattle.xl_front_smb.specs.Awaits.{AreAwaited, AreKept, IsAwaited, IsGranted, ends_wait, is_open_ask};
 ghost use Rattle.xl_front_smb.specs.Ending.{smb_end};
 ghost use Rattle.xl_front_smb.specs.FrontSmb.{smb_shown, smb_step};
+ghost use Rattle.xl_front_smb.specs.Laws.{IsLeased};
 ghost use Rattle.xl_front_smb.specs.Plans.{has_room_to_wait};
 ghost use Rattle.xl_front_smb.specs.State.{FrontSmb, empty_smb_front, smb_begin};
 
 /// Each request that waits in the front's lists is a waiter of the core, of the request's open; that stands under the connection
 /// that the request came by, or, where the request makes it, may stand once it is granted: on the tree connect that the request
-/// came by, which is there, under a number that no open has and no other request waits for (MS-SMB2 3.3.4.2, 3.3.5.9). So it is at
+/// came by, which is there, under a number that no open has and no other request waits for, and under a lease whose key is in use
+/// on its file alone (MS-SMB2 3.3.4.2, 3.3.5.9, 3.3.5.9.8). So it is at
 /// a start, and stays where a connection opens or ends, and whatever a message does; behind any deeds of the core it is so of each
 /// of which they don't tell that it waits no more; and where the core tells so of one, the others are all that is left. So there is
 /// room for each that is told to wait, and it is kept.
@@ -62,10 +64,12 @@ pub fn waiters_of_opens_are_kept()
 {}
 
 /// A CREATE that waited and is granted stands: the share that is granted is its open's, on the open's file; the open is in the
-/// lists under its number then; and its reply is STATUS_SUCCESS, with the level of the oplock that the open has (MS-SMB2 3.3.4.4,
-/// 3.3.5.9). So no share is held of an open that isn't there.
+/// lists under its number then, and under the lease that it asks for, if it does, which is on its file; and its reply is
+/// STATUS_SUCCESS, with what the open has of caches (MS-SMB2 3.3.4.4, 3.3.5.9, 3.3.5.9.8). So no share is held of an open that
+/// isn't there, and no lease's cache beside an open of it that its lease doesn't know.
 pub fn granted_creates_stand()
     ensures share { (n : ℕ) (left : Rooms) (s t : CoreState) (f : FrontSmb) (id : ℕ) (row : Waiting) (made : Open) (claim : Claim) → IsGood s → AreAwaited s f.state → IsGranted n left s t f.state id row made claim → (claim.owner ≡ Owner.Open row.opened) × (claim.file ≡ made.file) }
     ensures stands { (n : ℕ) (left : Rooms) (s t u : CoreState) (f : FrontSmb) (id : ℕ) (row : Waiting) (made : Open) (claim : Claim) → IsGood s → AreAwaited s f.state → IsGranted n left s t f.state id row made claim → open_of row.opened (smb_shown f u (Effect.Served id (Answer.Granted claim))).1.state ≡ Some made }
-    ensures told { (n : ℕ) (left : Rooms) (s t u : CoreState) (f : FrontSmb) (id : ℕ) (row : Waiting) (made : Open) (claim : Claim) → IsGood s → AreAwaited s f.state → IsGranted n left s t f.state id row made claim → (smb_shown f u (Effect.Served id (Answer.Granted claim))).0 ≡ final_outs row (opened_reply id row (id_of u row.opened) (level_held u made.file row.opened)) }
+    ensures leased { (n : ℕ) (left : Rooms) (s t u : CoreState) (f : FrontSmb) (id : ℕ) (row : Waiting) (made : Open) (claim : Claim) → IsGood s → AreAwaited s f.state → IsGranted n left s t f.state id row made claim → IsLeased (smb_shown f u (Effect.Served id (Answer.Granted claim))).1.state row.opened made }
+    ensures told { (n : ℕ) (left : Rooms) (s t u : CoreState) (f : FrontSmb) (id : ℕ) (row : Waiting) (made : Open) (claim : Claim) → IsGood s → AreAwaited s f.state → IsGranted n left s t f.state id row made claim → (smb_shown f u (Effect.Served id (Answer.Granted claim))).0 ≡ final_outs row (opened_reply id row (id_of u row.opened) (caching u row.opened made)) }
 {}

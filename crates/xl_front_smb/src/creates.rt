@@ -7,8 +7,8 @@ ghost use Rattle.xl_smb_state.specs.State.{open_of};
 ghost use Rattle.xl_smb_state.specs.declared.row.Holder.TheVariants as holder;
 ghost use Rattle.xl_core.specs.Decide.{ask};
 ghost use Rattle.xl_core.specs.State.{MayBe};
-ghost use Rattle.xl_smb_locks.specs.Levels.{level_held};
-ghost use Rattle.xl_front_smb.specs.Files.{access_of, deny_of, open_ask, open_row, all_opens, has_room_for_open, rooms_left, open_as, open_file, overwrites, create_on, create};
+ghost use Rattle.xl_smb_locks.specs.Levels.{caching};
+ghost use Rattle.xl_front_smb.specs.Files.{access_of, deny_of, lease_asked, key_asked, choices_by, open_ask, open_row, all_opens, has_room_for_open, rooms_left, open_as, open_file, is_key_elsewhere, lease_key, open_keyed, overwrites, create_on, create};
 ghost use Rattle.xl_front_smb.specs.Plans.{opened_told, opened_lists, carried};
 ghost use Rattle.xl_front_smb.specs.Replies.{IsAnswer};
 ghost use Rattle.xl_front_smb.specs.Short.{IsOpenAsk, IsReady, Leaves};
@@ -21,12 +21,12 @@ use crate::texts::file_spelled;
 use crate::told::Told;
 use std::alloc::{AllocError, Global};
 use xl_base::{Keeper, Sequence};
-use xl_cache::wish_of_oplock;
+use xl_cache::{CacheKind, wish_of_lease, wish_of_oplock};
 use xl_core::{Act, Answer, Ask, Core, Effect, Who};
 use xl_matrix::Rwd;
-use xl_smb::{CreateCall, SmbHead};
-use xl_smb_locks::{SmbStatus, id_of, level_held};
-use xl_smb_state::{Holder, OPENS, Open, Place, Request, SmbState, Waiting};
+use xl_smb::{CreateCall, Lease, SmbHead};
+use xl_smb_locks::{SmbStatus, caching_of, id_of, party_for};
+use xl_smb_state::{Holder, LeaseKey, OPENS, Open, Place, Request, SmbState, Waiting};
 use xl_wait::Rooms;
 
 /// GENERIC_ALL and MAXIMUM_ALLOWED (MS-SMB2 2.2.13.1.1).
@@ -37,6 +37,9 @@ const READ: u32 = 0x1 + 0x20 + 0x8000_0000 + 0x2000_0000 + ALL;
 const WRITE: u32 = 0x2 + 0x4 + 0x4000_0000 + ALL;
 /// DELETE is for deletion.
 const DELETE: u32 = 0x1_0000 + ALL;
+
+/// The level by which a lease is asked for.
+const LEASE: u8 = 0xFF;
 
 /// What an open is for, by the access that is asked for.
 fn access_of(desired: u32) -> Rwd
@@ -68,25 +71,61 @@ fn deny_of(access: Rwd, share: u32) -> Rwd
     }
 }
 
+/// The lease that is asked for, if one is.
+fn lease_asked(call: &CreateCall) -> Option<Lease>
+    ensures { result ≡ lease_asked (shown_create_call call.now) }
+{
+    if call.oplock_level == LEASE {
+        call.contexts.lease()
+    } else {
+        None
+    }
+}
+
+/// The key of that lease.
+fn key_asked(call: &CreateCall) -> Option<[u8; 16]>
+    ensures { result ≡ key_asked (shown_create_call call.now) }
+{
+    match lease_asked(call) {
+        Some(lease) => Some(lease.key),
+        None => None,
+    }
+}
+
+/// The caches that are wished for.
+fn choices_by(
+    alloc: Global,
+    level: u8,
+    lease: Option<Lease>,
+) -> Result<Sequence<CacheKind>, AllocError>
+    ensures { IfOk result (λ kinds. kinds ≡ choices_by level lease) }
+{
+    match lease {
+        Some(lease) => Ok(wish_of_lease(alloc, lease.state)?),
+        None => Ok(wish_of_oplock(alloc, level)?),
+    }
+}
+
 /// What the core is asked for an open.
-#[tactic(auto, unfolding(crate::specs::Files::open_ask))]
+#[tactic(auto, unfolding(crate::specs::Files::open_ask), using(crate::proofs::AskLaws::asks_open))]
 fn open_ask(
     alloc: Global,
     conn: u64,
-    file: u32,
     number: u32,
+    row: &Open,
     call: &CreateCall,
 ) -> Result<Ask, AllocError>
-    ensures value { IfOk result (λ ask. ask ≡ open_ask conn file number (shown_create_call call.now)) }
+    requires { row.now.lease ≡ key_asked (shown_create_call call.now) }
+    ensures value { IfOk result (λ ask. ask ≡ open_ask conn number row.now (shown_create_call call.now)) }
     ensures open { IfOk result (λ ask. IsOpenAsk ask) }
 {
     let access = access_of(call.desired_access);
     let deny = deny_of(access, call.share_access);
-    let wish = wish_of_oplock(alloc, call.oplock_level)?;
+    let wish = choices_by(alloc, call.oplock_level, lease_asked(call))?;
     Ok(Ask {
-        file,
+        file: row.file,
         owner: Who::Open(number),
-        party: Who::Open(number),
+        party: party_for(number, row),
         act: Act::Share(access, deny),
         wish,
         conn: Some(conn),
@@ -102,14 +141,14 @@ fn open_ask(
     })
 }
 
-/// The open of this file, held by the tree connect at this place.
-fn open_row(file: u32, client: &[u8; 16], place: &Place) -> Open
-    ensures { result ≡ open_row file client.now place.now }
+/// The open of this file, held by the tree connect at this place, and under the lease that is asked for.
+fn open_row(file: u32, client: &[u8; 16], place: &Place, call: &CreateCall) -> Open
+    ensures { result ≡ open_row file client.now place.now (shown_create_call call.now) }
 {
     Open {
         file,
         client: *client,
-        lease: None,
+        lease: key_asked(call),
         durable: false,
         holder: Holder::Tree(*place),
     }
@@ -168,15 +207,15 @@ fn opened(
     requires room { length state.old.opens < most_opens }
     requires new { open_of number state.old ≡ None }
     requires linked { IsOpenLinked state.old row }
-    ensures told { IfOk result (λ told. told ≡ opened_told id (level_held core.now row.file number) answer.now) }
+    ensures told { IfOk result (λ told. told ≡ opened_told id (caching core.now number row) answer.now) }
     ensures lists { OnOk result (state.new ≡ opened_lists state.old number row waiting answer.now) }
     ensures answer { IfOk result (λ told. IsAnswer (Some command.Create) told) }
 {
     match answer {
         Answer::Granted(_) => {
-            let level = level_held(alloc, core, row.file, number)?;
-            state.add_open(number, row)?;
-            Ok(Told::Opened(id, level))
+            let cache = caching_of(alloc, core, number, &row)?;
+            state.open(alloc, number, row)?;
+            Ok(Told::Opened(id, cache))
         }
         Answer::Queued(waiter) => {
             keep_waiting(state, *waiter, waiting)?;
@@ -218,9 +257,9 @@ fn open_as<K: Keeper>(
     let left = rooms_left(state, others);
     let number = drawn(core);
     let id = id_of(core, number);
-    let ask = open_ask(alloc, place.connection, file, number, call)?;
+    let row = open_row(file, client, place, call);
+    let ask = open_ask(alloc, place.connection, number, &row, call)?;
     let (answer, effects) = asked(alloc, core, keeper, &left, &ask)?;
-    let row = open_row(file, client, place);
     let waiting = waiting_row(alloc, head, *place, number, Request::Create(row));
     let told = opened(alloc, state, core, number, row, id, waiting, &answer)?;
     Ok((told, effects))
@@ -258,6 +297,63 @@ fn open_file<K: Keeper>(
         return Ok(failed(alloc, SmbStatus::InsufficientResources));
     }
     let done = open_as(
+        alloc, state, core, keeper, others, head, client, place, call, file,
+    )?;
+    Ok(done)
+}
+
+/// The key of the lease that a client asks for, if it does.
+fn lease_key(client: &[u8; 16], asked: Option<[u8; 16]>) -> Option<LeaseKey>
+    ensures { result ≡ lease_key client.now asked }
+{
+    match asked {
+        Some(key) => Some(LeaseKey {
+            client: *client,
+            key,
+        }),
+        None => None,
+    }
+}
+
+/// Whether a lease's key is in use on another file.
+fn is_key_elsewhere(state: &SmbState, file: u32, key: Option<LeaseKey>) -> bool
+    ensures { result ≡ is_key_elsewhere file key state.now }
+{
+    match key {
+        Some(key) => match state.key_file(&key) {
+            Some(used) => used != file,
+            None => false,
+        },
+        None => false,
+    }
+}
+
+/// Opens a file, where the key of the lease that is asked for isn't in use on another.
+#[tactic(auto, using(xl_smb_locks::proofs::LeaveLaws::leaves_self))]
+fn open_keyed<K: Keeper>(
+    alloc: Global,
+    state: &mut SmbState,
+    core: &mut Core,
+    keeper: &mut K,
+    others: u32,
+    head: &SmbHead,
+    client: &[u8; 16],
+    place: &Place,
+    call: &CreateCall,
+    file: u32,
+) -> Result<Done, AllocError>
+    requires ready { IsReady 3 core.old }
+    requires linked { IsHolderLinked state.old client.now (holder.Tree place.now) }
+    ensures done { (n : ℕ) → IfOk result (λ r. MayBe n core.new → carried n core.old state.old (open_keyed core.old others state.old head.now client.now place.now (shown_create_call call.now) file) ≡ (r.0, r.1, state.new, core.new)) }
+    ensures leaves { OnOk result (Leaves 3 core.old core.new) }
+    ensures answer { IfOk result (λ r. IsAnswer (Some command.Create) r.0) }
+    ensures keeper { keeper.new ≡ keeper.old }
+{
+    let key = lease_key(client, key_asked(call));
+    if is_key_elsewhere(state, file, key) {
+        return Ok(failed(alloc, SmbStatus::InvalidParameter));
+    }
+    let done = open_file(
         alloc, state, core, keeper, others, head, client, place, call, file,
     )?;
     Ok(done)
@@ -303,7 +399,7 @@ fn create_on<K: Keeper>(
     if call.disposition == 2 {
         return Ok(failed(alloc, SmbStatus::ObjectNameCollision));
     }
-    let done = open_file(
+    let done = open_keyed(
         alloc, state, core, keeper, others, head, client, place, call, file,
     )?;
     Ok(done)

@@ -1,19 +1,18 @@
 //! The end of opens, sessions and connections.
 ghost use Rattle.std.specs.Prelude.{◌≡◌, ℕ, [], ◌++◌, Some, IsSome, IfOk, OnOk};
 ghost use Rattle.std.specs.List.{AllByRecursion};
-ghost use Rattle.xl_base.specs.declared.name.Party.TheVariants as parties;
 ghost use Rattle.xl_programs.specs.Sent.{FitsFrame};
 ghost use Rattle.xl_smb_state.specs.State.{session_of, sessions_on, trees_of, opens_under};
 ghost use Rattle.xl_smb_state.specs.declared.row.Scope.TheVariants as scope;
-ghost use Rattle.xl_core.specs.Settle.{end_party};
-ghost use Rattle.xl_front_smb.specs.Ending.{numbers_under, all_dismissed, all_ended, all_closed, trees_dropped, session_gone, sessions_gone, connection_gone, requests_gone, requests_dropped, smb_end};
+ghost use Rattle.xl_core.specs.Settle.{close_open};
+ghost use Rattle.xl_front_smb.specs.Ending.{party_going, leavers, without_party, leavers_under, all_dismissed, all_ended, all_closed, trees_dropped, session_gone, sessions_gone, connection_gone, requests_gone, requests_dropped, smb_end};
 ghost use Rattle.xl_front_smb.specs.Short.{IsReady, Leaves};
 
 use crate::front::SmbFront;
 use std::alloc::{AllocError, Global};
 use xl_base::{Out, Party, Sequence};
 use xl_core::{Core, Effect};
-use xl_smb_locks::dismiss;
+use xl_smb_locks::{dismiss, party_of};
 use xl_smb_state::{Scope, SmbState};
 
 /// Puts effects behind others.
@@ -26,66 +25,88 @@ fn push_all(effects: &mut Sequence<Effect>, more: Sequence<Effect>) -> Result<()
     Ok(())
 }
 
+/// The party whose caches go with an open: its own, or the lease's that it is the last open of.
+pub(crate) fn party_going(core: &Core, state: &SmbState, number: u32) -> Option<Party>
+    ensures { result ≡ party_going core.now.names state.now number }
+{
+    let row = state.find_open(number)?;
+    if state.is_last_open(number) {
+        Some(party_of(core, number, row))
+    } else {
+        None
+    }
+}
+
+/// An open that is closed, with the party whose caches go with it.
+type Leaver = (u32, Option<Party>);
+
 /// Ends an open: all that it holds and waits for goes, and that is told behind what was told before.
-pub(crate) fn end_one(
+fn end_one(
     alloc: Global,
     core: &mut Core,
-    number: u32,
+    leaver: Leaver,
     effects: &mut Sequence<Effect>,
 ) -> Result<(), AllocError>
     requires ready { IsReady 0 core.old }
-    ensures state { OnOk result (core.new ≡ (end_party core.old (parties.Open number)).1) }
-    ensures told { OnOk result (effects.new ≡ effects.old ++ (end_party core.old (parties.Open number)).0) }
+    ensures state { OnOk result (core.new ≡ (close_open core.old leaver.0 leaver.1).1) }
+    ensures told { OnOk result (effects.new ≡ effects.old ++ (close_open core.old leaver.0 leaver.1).0) }
     ensures leaves { OnOk result (Leaves 0 core.old core.new) }
 {
-    let told = core.end_party(alloc, Party::Open(number))?;
+    let told = core.close_open(alloc, leaver.0, leaver.1)?;
     push_all(effects, told)?;
     Ok(())
 }
 
 /// Ends these opens, one after the other.
 #[tactic(auto, using(xl_smb_locks::proofs::LeaveLaws::leaves_self, xl_smb_locks::proofs::LeaveLaws::leaves_on, xl_smb_locks::proofs::LeaveLaws::ready_on, crate::proofs::EndLaws::ended_step))]
-fn end_all(alloc: Global, core: &mut Core, numbers: &[u32]) -> Result<Sequence<Effect>, AllocError>
+fn end_all(
+    alloc: Global,
+    core: &mut Core,
+    leavers: &[Leaver],
+) -> Result<Sequence<Effect>, AllocError>
     requires ready { IsReady 0 core.old }
-    ensures state { IfOk result (λ effects. all_ended numbers.now core.old ≡ (effects, core.new)) }
+    ensures state { IfOk result (λ effects. all_ended leavers.now core.old ≡ (effects, core.new)) }
     ensures leaves { OnOk result (Leaves 0 core.old core.new) }
 {
     let mut effects = Sequence::new(alloc);
-    'opens: for number in numbers {
-        end_one(alloc, core, *number, &mut effects)?;
+    'opens: for leaver in leavers {
+        end_one(alloc, core, *leaver, &mut effects)?;
     }
     Ok(effects)
 }
 
-/// Closes these opens, which are those under it.
-#[tactic(auto, using(crate::proofs::EndLaws::open_there, crate::proofs::EndLaws::opens_step, crate::proofs::EndLaws::closed_step))]
-fn close_all(alloc: Global, state: &mut SmbState, under: Scope, numbers: &[u32])
+/// Closes these opens, which are those under it; each with the party whose caches go with it.
+#[tactic(auto, using(crate::proofs::EndLaws::open_there, crate::proofs::EndLaws::opens_step, crate::proofs::EndLaws::closed_step, crate::proofs::EndLaws::leavers_step))]
+fn close_all(
+    alloc: Global,
+    state: &mut SmbState,
+    core: &Core,
+    under: Scope,
+    numbers: &[u32],
+) -> Result<Vec<Leaver>, AllocError>
     requires listed { opens_under under state.old ≡ numbers.now }
-    ensures closed { state.new ≡ all_closed numbers.now state.old }
-    ensures none { opens_under under state.new ≡ [] }
+    ensures leavers { IfOk result (λ v. v.items ≡ leavers core.now.names state.old numbers.now) }
+    ensures closed { OnOk result (state.new ≡ all_closed numbers.now state.old) }
+    ensures none { OnOk result (opens_under under state.new ≡ []) }
 {
+    let mut leavers = Vec::new(alloc);
     'opens: for number in numbers {
         state.links();
+        leavers.push((*number, party_going(core, state, *number)))?;
         state.close(alloc, *number);
     }
+    Ok(leavers)
 }
 
-/// The opens under it, and those that requests under it wait to make.
-fn numbers_under(
-    alloc: Global,
-    state: &SmbState,
-    under: Scope,
-    opens: &[u32],
-) -> Result<Vec<u32>, AllocError>
-    requires { opens_under under state.now ≡ opens.now }
-    ensures { IfOk result (λ v. v.items ≡ numbers_under under state.now) }
+/// Puts those behind the others that requests wait to make, which have no caches.
+#[tactic(auto, using(crate::proofs::EndLaws::creates_step))]
+fn push_creates(leavers: &mut Vec<Leaver>, creates: &[u32]) -> Result<(), AllocError>
+    ensures { OnOk result (leavers.new.items ≡ leavers.old.items ++ without_party creates.now) }
 {
-    let creates = state.creates_under(alloc, under)?;
-    let mut numbers = Vec::from_slice(alloc, opens)?;
-    for number in creates {
-        numbers.push(number)?;
+    'creates: for number in creates {
+        leavers.push((*number, None))?;
     }
-    Ok(numbers)
+    Ok(())
 }
 
 /// Ends and closes the opens under it, and ends those that requests under it wait to make.
@@ -96,15 +117,16 @@ pub(crate) fn end_under(
     under: Scope,
 ) -> Result<Sequence<Effect>, AllocError>
     requires ready { IsReady 0 core.old }
-    ensures core { IfOk result (λ effects. all_ended (numbers_under under state.old) core.old ≡ (effects, core.new)) }
+    ensures core { IfOk result (λ effects. all_ended (leavers_under core.old.names under state.old) core.old ≡ (effects, core.new)) }
     ensures closed { OnOk result (state.new ≡ all_closed (opens_under under state.old) state.old) }
     ensures none { OnOk result (opens_under under state.new ≡ []) }
     ensures leaves { OnOk result (Leaves 0 core.old core.new) }
 {
     let opens = state.under(alloc, under)?;
-    let numbers = numbers_under(alloc, state, under, &opens)?;
-    let effects = end_all(alloc, core, &numbers)?;
-    close_all(alloc, state, under, &opens);
+    let creates = state.creates_under(alloc, under)?;
+    let mut leavers = close_all(alloc, state, core, under, &opens)?;
+    push_creates(&mut leavers, &creates)?;
+    let effects = end_all(alloc, core, &leavers)?;
     Ok(effects)
 }
 

@@ -1,33 +1,33 @@
 //! Opens: CLOSE, and acknowledgements of breaks.
-ghost use Rattle.std.specs.Prelude.{◌≡◌, ℕ, true, [], ◌∷◌, Some, None, IsSome, IfOk, OnOk};
+ghost use Rattle.std.specs.Prelude.{◌≡◌, ℕ, true, [], ◌∷◌, Some, None, IsSome, IfOk, OnOk, option_map};
 ghost use Rattle.xl_base.specs.Lists.{IsIn};
 ghost use Rattle.xl_matrix.specs.declared.claim.What.TheVariants.{Cache};
 ghost use Rattle.xl_smb.specs.declared.command.Command.TheVariants as command;
-ghost use Rattle.xl_smb_state.specs.State.{Lists, open_of};
+ghost use Rattle.xl_smb_state.specs.State.{Lists, open_of, lease_of};
 ghost use Rattle.xl_core.specs.Breaks.{may_be_left};
 ghost use Rattle.xl_core.specs.Deeds.{Acks};
 ghost use Rattle.xl_core.specs.State.{CoreState};
-ghost use Rattle.xl_front_smb.specs.Files.{close_open, close, is_read, leaves_less, is_refused, left_at, ack_by, ack_of, ack_open, break_by, acknowledge};
+ghost use Rattle.xl_front_smb.specs.Files.{close_open, close, is_read, leaves_less, is_refused, left_at, ack_by, ack_of, ack_open, may_keep, lease_left, ack_lease_by, ack_lease, break_by, acknowledge};
 ghost use Rattle.xl_front_smb.specs.Plans.{Does, carried};
 ghost use Rattle.xl_front_smb.specs.Replies.{IsAnswer};
 ghost use Rattle.xl_front_smb.specs.Short.{IsReady, Leaves};
 
 use crate::checks::{open_named, session_named, tree_named};
-use crate::ending::end_one;
+use crate::ending::party_going;
 use crate::locks::open_row;
 use crate::outcome::{Done, failed};
 use crate::told::Told;
 use std::alloc::{AllocError, Global};
 use xl_base::Sequence;
-use xl_cache::{oplock_level, rest_within};
+use xl_cache::{kind_in_lease, oplock_level, rest_within};
 use xl_core::Core;
 use xl_matrix::{CacheKind, Claim, What};
-use xl_smb::{Break, FileId, SmbHead};
-use xl_smb_locks::{SmbStatus, id_of, oplock_of};
-use xl_smb_state::SmbState;
+use xl_smb::{Break, FileId, Lease, SmbHead};
+use xl_smb_locks::{SmbStatus, cache_of, id_of, lease_party, oplock_of};
+use xl_smb_state::{LeaseKey, SmbState};
 
 /// An open ends with all that it holds.
-#[tactic(auto, using(crate::proofs::PlanLaws::closes))]
+#[tactic(auto, using(crate::proofs::PlanLaws::closes, xl_smb_locks::proofs::LeaveLaws::close_leaves))]
 fn close_open(
     alloc: Global,
     state: &mut SmbState,
@@ -36,12 +36,12 @@ fn close_open(
 ) -> Result<Done, AllocError>
     requires ready { IsReady 0 core.old }
     requires there { IsSome (open_of number state.old) }
-    ensures done { (n : ℕ) → IfOk result (λ r. carried n core.old state.old (close_open state.old number) ≡ (r.0, r.1, state.new, core.new)) }
+    ensures done { (n : ℕ) → IfOk result (λ r. carried n core.old state.old (close_open core.old state.old number) ≡ (r.0, r.1, state.new, core.new)) }
     ensures leaves { OnOk result (Leaves 0 core.old core.new) }
     ensures answer { IfOk result (λ r. IsAnswer (Some command.Close) r.0) }
 {
-    let mut effects = Sequence::new(alloc);
-    end_one(alloc, core, number, &mut effects)?;
+    let party = party_going(core, state, number);
+    let effects = core.close_open(alloc, number, party)?;
     state.close(alloc, number);
     Ok((Told::Closed, effects))
 }
@@ -217,6 +217,79 @@ fn ack_open(
     Ok(ack_by(alloc, core, id, level, &cache))
 }
 
+/// Whether a lease may keep this state, where this break of its cache runs.
+fn may_keep(state: u32, running: xl_matrix::Break) -> bool
+    ensures { result ≡ may_keep state running }
+{
+    matches!(state, 0 | 1 | 3) && rest_within(kind_in_lease(state), running.target)
+}
+
+/// The lease of this key, which holds this state.
+fn lease_left(lease: &Lease) -> Lease
+    ensures { result ≡ lease_left lease.now }
+{
+    Lease {
+        key: lease.key,
+        state: lease.state,
+        flags: 0,
+        duration: 0,
+    }
+}
+
+/// What an acknowledgement of this state comes to, where this is the lease's cache.
+#[tactic(auto, using(xl_smb_locks::proofs::LeaveLaws::leaves_self, crate::proofs::AckLaws::kept_within))]
+fn ack_lease_by(alloc: Global, core: &mut Core, lease: &Lease, cache: &Claim) -> Done
+    requires ready { IsReady 0 core.old }
+    requires held { IsIn cache.now core.old.claims }
+    ensures done { (n : ℕ) (l : Lists) → carried n core.old l (ack_lease_by l lease.now cache.now cache.now.what) ≡ (result.0, result.1, l, core.new) }
+    ensures leaves { Leaves 0 core.old core.new }
+    ensures answer { IsAnswer (Some command.OplockBreak) result.0 }
+{
+    let What::Cache(_, Some(running)) = cache.what else {
+        return failed(alloc, SmbStatus::Unsuccessful);
+    };
+    if !may_keep(lease.state, running) {
+        return failed(alloc, SmbStatus::RequestNotAccepted);
+    }
+    let left = kind_in_lease(lease.state);
+    answer_break(alloc, core, cache, left, Told::Answered(lease_left(lease)))
+}
+
+/// The file of the lease of this key of a client, if there is one.
+fn file_leased(state: &SmbState, client: &[u8; 16], key: &[u8; 16]) -> Option<u32>
+    ensures { result ≡ option_map (λ row. row.file) (lease_of (record { client = client.now; key = key.now }) state.now) }
+{
+    let found = state.find_lease(&LeaseKey {
+        client: *client,
+        key: *key,
+    })?;
+    Some(found.file)
+}
+
+/// What an acknowledgement comes to, of a lease of a client.
+#[tactic(auto, using(xl_smb_locks::proofs::LeaveLaws::leaves_self))]
+fn ack_lease(
+    alloc: Global,
+    state: &SmbState,
+    core: &mut Core,
+    client: &[u8; 16],
+    lease: &Lease,
+) -> Result<Done, AllocError>
+    requires ready { IsReady 0 core.old }
+    ensures done { (n : ℕ) → IfOk result (λ r. carried n core.old state.now (ack_lease core.old state.now client.now lease.now (lease_of (record { client = client.now; key = lease.now.key }) state.now)) ≡ (r.0, r.1, state.now, core.new)) }
+    ensures leaves { OnOk result (Leaves 0 core.old core.new) }
+    ensures answer { IfOk result (λ r. IsAnswer (Some command.OplockBreak) r.0) }
+{
+    let Some(file) = file_leased(state, client, &lease.key) else {
+        return Ok(failed(alloc, SmbStatus::ObjectNameNotFound));
+    };
+    let party = lease_party(core, client, &lease.key);
+    let Some(cache) = cache_of(alloc, core, file, party)? else {
+        return Ok(failed(alloc, SmbStatus::Unsuccessful));
+    };
+    Ok(ack_lease_by(alloc, core, lease, &cache))
+}
+
 /// What an acknowledgement comes to, of an open under the connection or of a lease.
 #[tactic(auto, using(xl_smb_locks::proofs::LeaveLaws::leaves_self))]
 fn break_by(
@@ -224,10 +297,11 @@ fn break_by(
     state: &SmbState,
     core: &mut Core,
     conn: u64,
+    client: &[u8; 16],
     held: Break,
 ) -> Result<Done, AllocError>
     requires ready { IsReady 0 core.old }
-    ensures done { (n : ℕ) → IfOk result (λ r. carried n core.old state.now (break_by core.old state.now conn held) ≡ (r.0, r.1, state.now, core.new)) }
+    ensures done { (n : ℕ) → IfOk result (λ r. carried n core.old state.now (break_by core.old state.now conn client.now held) ≡ (r.0, r.1, state.now, core.new)) }
     ensures leaves { OnOk result (Leaves 0 core.old core.new) }
     ensures answer { IfOk result (λ r. IsAnswer (Some command.OplockBreak) r.0) }
 {
@@ -242,7 +316,7 @@ fn break_by(
             let done = ack_open(alloc, state, core, level, number)?;
             Ok(done)
         }
-        Break::Lease(_) => Ok(failed(alloc, SmbStatus::ObjectNameNotFound)),
+        Break::Lease(lease) => Ok(ack_lease(alloc, state, core, client, &lease)?),
     }
 }
 
@@ -253,17 +327,18 @@ pub(crate) fn acknowledge(
     state: &SmbState,
     core: &mut Core,
     conn: u64,
+    client: &[u8; 16],
     head: &SmbHead,
     held: Break,
 ) -> Result<Done, AllocError>
     requires ready { IsReady 0 core.old }
-    ensures done { (n : ℕ) → IfOk result (λ r. carried n core.old state.now (acknowledge core.old state.now conn head.now held) ≡ (r.0, r.1, state.now, core.new)) }
+    ensures done { (n : ℕ) → IfOk result (λ r. carried n core.old state.now (acknowledge core.old state.now conn client.now head.now held) ≡ (r.0, r.1, state.now, core.new)) }
     ensures leaves { OnOk result (Leaves 0 core.old core.new) }
     ensures answer { IfOk result (λ r. IsAnswer (Some command.OplockBreak) r.0) }
 {
     let Some(_session) = session_named(core, state, conn, head.session_id) else {
         return Ok(failed(alloc, SmbStatus::UserSessionDeleted));
     };
-    let done = break_by(alloc, state, core, conn, held)?;
+    let done = break_by(alloc, state, core, conn, client, held)?;
     Ok(done)
 }

@@ -114,21 +114,21 @@ fn lock_all<K: Keeper>(
     core: &mut Core,
     keeper: &mut K,
     conn: u64,
-    row: Waiting,
-    file: u32,
+    kept: Waiting,
     number: u32,
+    row: &Open,
     elements: &[LockElement],
 ) -> Result<Done, AllocError>
     requires ready { IsReady 2 core.old }
     requires sound { lock_fault elements.now ≡ None }
     requires some { 1 ≤ length elements.now }
-    ensures done { (n : ℕ) → IfOk result (λ r. MayBe n core.new → carried n core.old state.old (Locks (lock_ask conn file number elements.now) row) ≡ (r.0, r.1, state.new, core.new)) }
+    ensures done { (n : ℕ) → IfOk result (λ r. MayBe n core.new → carried n core.old state.old (Locks (lock_ask conn number row.now elements.now) kept) ≡ (r.0, r.1, state.new, core.new)) }
     ensures leaves { OnOk result (Leaves 2 core.old core.new) }
     ensures answer { IfOk result (λ r. IsAnswer (Some command.Lock) r.0) }
     ensures keeper { keeper.new ≡ keeper.old }
 {
-    let (locking, effects) = xl_smb_locks::lock(alloc, core, keeper, conn, file, number, elements)?;
-    keep(state, row, locking)?;
+    let (locking, effects) = xl_smb_locks::lock(alloc, core, keeper, conn, number, row, elements)?;
+    keep(state, kept, locking)?;
     Ok((told_as(locking), effects))
 }
 
@@ -138,17 +138,17 @@ fn unlock_all<K: Keeper>(
     state: &SmbState,
     core: &mut Core,
     keeper: &mut K,
-    file: u32,
     number: u32,
+    row: &Open,
     elements: &[LockElement],
 ) -> Result<Done, AllocError>
     requires ready { IsReady 0 core.old }
-    ensures done { (n : ℕ) → IfOk result (λ r. carried n core.old state.now (unlock_by state.now (unlocks core.old file number elements.now)) ≡ (r.0, r.1, state.now, core.new)) }
+    ensures done { (n : ℕ) → IfOk result (λ r. carried n core.old state.now (unlock_by state.now (unlocks core.old number row.now elements.now)) ≡ (r.0, r.1, state.now, core.new)) }
     ensures leaves { OnOk result (Leaves 0 core.old core.new) }
     ensures answer { IfOk result (λ r. IsAnswer (Some command.Lock) r.0) }
     ensures keeper { keeper.new ≡ keeper.old }
 {
-    let locking = xl_smb_locks::unlock(alloc, core, keeper, file, number, elements)?;
+    let locking = xl_smb_locks::unlock(alloc, core, keeper, number, row, elements)?;
     Ok((told_as(locking), Sequence::new(alloc)))
 }
 
@@ -176,7 +176,7 @@ fn lock_on<K: Keeper>(
         return Ok(failed(alloc, SmbStatus::InvalidParameter));
     }
     if unlocks_first(elements) {
-        return Ok(unlock_all(alloc, state, core, keeper, row.file, number, elements)?);
+        return Ok(unlock_all(alloc, state, core, keeper, number, row, elements)?);
     }
     if let Some(status) = lock_fault(elements) {
         return Ok(failed(alloc, status));
@@ -189,7 +189,7 @@ fn lock_on<K: Keeper>(
         Request::Lock,
     );
     let done = lock_all(
-        alloc, state, core, keeper, conn, waiting, row.file, number, elements,
+        alloc, state, core, keeper, conn, waiting, number, row, elements,
     )?;
     Ok(done)
 }

@@ -1,10 +1,11 @@
 //! How what a request is told is spelled.
-ghost use Rattle.std.specs.Prelude.{◌≡◌, ℕ, ◌≤◌, length, option_map, IfOk, IfSome};
+ghost use Rattle.std.specs.Prelude.{◌≡◌, ℕ, true, ◌≤◌, length, option_map, IfOk, IfSome};
+ghost use Rattle.xl_smb.specs.Leases.{are_contexts};
 ghost use Rattle.xl_smb.specs.Heads.{command_of};
 ghost use Rattle.xl_base.specs.Limits.{most_message_bytes};
 ghost use Rattle.xl_smb.specs.Replies.{shown_reply};
 ghost use Rattle.xl_smb.specs.Sessions.{shown_negotiate_reply};
-ghost use Rattle.xl_front_smb.specs.Replies.{credits_for, tree_id, reply_head, pending_head, head_by, negotiated, body_of, reply_of, IsAnswer};
+ghost use Rattle.xl_front_smb.specs.Replies.{credits_for, tree_id, reply_head, pending_head, head_by, negotiated, contexts_of, body_of, reply_of, IsAnswer};
 
 use crate::told::Told;
 use std::alloc::{AllocError, Global};
@@ -12,7 +13,7 @@ use xl_smb::{
     Break, CloseReply, Command, NegotiateReply, Route, SessionSetupReply, SmbHead, SmbMessage,
     SmbReply, TreeConnectReply, write,
 };
-use xl_smb_locks::{file_id, file_of, opened};
+use xl_smb_locks::{contexts_told, file_id, file_of, opened};
 
 /// The credits that are granted where so many are asked for.
 #[tactic(auto, unfolding(crate::specs::Replies::credits_for))]
@@ -89,6 +90,7 @@ fn head_by(head: &SmbHead, told: Told) -> SmbHead
         | Told::Disconnected
         | Told::Opened(_, _)
         | Told::Acknowledged(_, _)
+        | Told::Answered(_)
         | Told::Closed
         | Told::Locked
         | Told::Echoed => reply_head(head, 0, tree, head.session_id),
@@ -113,8 +115,21 @@ fn negotiated() -> NegotiateReply<'static>
     }
 }
 
-/// The body of the reply that tells this, where one is sent.
-fn body_of(told: Told) -> Option<SmbReply<'static>>
+/// The contexts of the reply that tells this: those of a file that is open.
+fn contexts_of(alloc: Global, told: Told) -> Result<Vec<u8>, AllocError>
+    ensures list { IfOk result (λ list. list.items ≡ contexts_of told) }
+    ensures within { IfOk result (λ list. are_contexts list.items ≡ true) }
+    ensures little { IfOk result (λ list. length list.items ≤ 56) }
+{
+    match told {
+        Told::Opened(_, cache) => Ok(contexts_told(alloc, cache)?),
+        _ => Ok(Vec::new(alloc)),
+    }
+}
+
+/// The body of the reply that tells this with these contexts, where one is sent.
+fn body_of(told: Told, contexts: &[u8]) -> Option<SmbReply<'_>>
+    requires { contexts.now ≡ contexts_of told }
     ensures { option_map shown_reply result ≡ body_of told }
 {
     match told {
@@ -133,10 +148,11 @@ fn body_of(told: Told) -> Option<SmbReply<'static>>
             maximal_access: 0x001F_01FF,
         })),
         Told::Disconnected => Some(SmbReply::TreeDisconnect),
-        Told::Opened(id, level) => Some(SmbReply::Create(opened(id, level))),
+        Told::Opened(id, cache) => Some(SmbReply::Create(opened(id, cache, contexts))),
         Told::Acknowledged(id, level) => {
             Some(SmbReply::OplockBreak(Break::Oplock(level, file_id(id))))
         }
+        Told::Answered(lease) => Some(SmbReply::OplockBreak(Break::Lease(lease))),
         Told::Locked => Some(SmbReply::Lock),
         Told::Pending(_) => Some(SmbReply::Error),
         Told::Closed => Some(SmbReply::Close(CloseReply {
@@ -161,7 +177,8 @@ pub(crate) fn reply_of(
     if head.command == Command::Cancel.number() {
         return Ok(None);
     }
-    let Some(body) = body_of(told) else {
+    let contexts = contexts_of(alloc, told)?;
+    let Some(body) = body_of(told, &contexts) else {
         return Ok(None);
     };
     let message = SmbMessage::Reply(head_by(head, told), body);

@@ -60,7 +60,9 @@ fn commanded<K: Keeper>(
         SmbCall::Lock(args) => Ok(lock(alloc, state, core, keeper, conn, client, head, args)?),
         SmbCall::Cancel => Ok(cancel(alloc, state, core, conn, head)?),
         SmbCall::Echo => Ok(told(alloc, Told::Echoed)),
-        SmbCall::OplockBreak(held) => Ok(acknowledge(alloc, state, core, conn, head, *held)?),
+        SmbCall::OplockBreak(held) => Ok(acknowledge(
+            alloc, state, core, conn, client, head, *held,
+        )?),
         SmbCall::Negotiate(_) => Ok(failed(alloc, SmbStatus::InvalidParameter)),
         SmbCall::Other => Ok(failed(alloc, SmbStatus::NotSupported)),
     }

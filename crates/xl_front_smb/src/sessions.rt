@@ -245,7 +245,7 @@ fn disconnect(
 ) -> Result<Done, AllocError>
     requires ready { IsReady 0 core.old }
     requires there { IsSome (tree_of place.now.tree state.old) }
-    ensures done { (n : ℕ) → IfOk result (λ r. carried n core.old state.old (disconnect state.old place.now) ≡ (r.0, r.1, state.new, core.new)) }
+    ensures done { (n : ℕ) → IfOk result (λ r. carried n core.old state.old (disconnect core.old state.old place.now) ≡ (r.0, r.1, state.new, core.new)) }
     ensures leaves { OnOk result (Leaves 0 core.old core.new) }
     ensures answer { IfOk result (λ r. IsAnswer (Some command.TreeDisconnect) r.0) }
 {

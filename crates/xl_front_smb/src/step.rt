@@ -32,10 +32,10 @@ fn sent_by(alloc: Global, conn: u64, reply: Option<Vec<u8>>) -> Result<Sequence<
 
 /// Answers a message of the SMB connection of this number, all of one frame: the final replies to the requests that it cancels,
 /// in order of arrival, and its own reply, where there is one, each without its frame and at most 65,536 bytes long; and what
-/// the core told of besides. The other fronts have this number of opens.  NEGOTIATE, SESSION_SETUP, LOGOFF, TREE_CONNECT,
-/// TREE_DISCONNECT, CREATE, CLOSE, LOCK, CANCEL, ECHO and acknowledgements of the breaks of oplocks are served; no lease is
-/// held. A CANCEL gets no reply, nor does what has no header of SMB 2.1 or is a reply by its flags. The breaks that begin for
-/// it come first among what the core tells of. After an error nothing is known of the front and the core.
+/// the core told of besides. The other fronts have this number of opens. NEGOTIATE, SESSION_SETUP, LOGOFF, TREE_CONNECT,
+/// TREE_DISCONNECT, CREATE, CLOSE, LOCK, CANCEL, ECHO and acknowledgements of the breaks of oplocks and leases are served. A
+/// CANCEL gets no reply, nor does what has no header of SMB 2.1 or is a reply by its flags. The breaks that begin for it come
+/// first among what the core tells of. After an error nothing is known of the front and the core.
 #[tactic(auto, unfolding(crate::specs::FrontSmb::smb_step), using(xl_smb_locks::proofs::LeaveLaws::leaves_self, xl_smb_locks::proofs::LeaveLaws::leaves_more, xl_smb_locks::proofs::LeaveLaws::ready_less, xl_smb_locks::proofs::FinalLaws::fit_both))]
 pub fn smb_step<K: Keeper>(
     alloc: Global,

@@ -1,6 +1,7 @@
 //! What a request is told.
 
-use xl_smb_locks::SmbStatus;
+use xl_smb::Lease;
+use xl_smb_locks::{Caching, SmbStatus};
 
 /// What a request is told.
 #[derive(Clone, Copy)]
@@ -19,10 +20,12 @@ pub enum Told {
     Connected(u32),
     /// The tree connect has ended (TREE_DISCONNECT).
     Disconnected,
-    /// The file is open under this id, with an oplock of this level (CREATE).
-    Opened(u64, u8),
+    /// The file is open under this id, with this oplock or lease (CREATE).
+    Opened(u64, Caching),
     /// The break of the oplock of the open of this id is answered, which is of this level now (OPLOCK_BREAK).
     Acknowledged(u64, u8),
+    /// The break of a lease is answered, which holds this now (OPLOCK_BREAK).
+    Answered(Lease),
     /// The open has ended (CLOSE).
     Closed,
     /// The ranges are locked, or unlocked (LOCK).

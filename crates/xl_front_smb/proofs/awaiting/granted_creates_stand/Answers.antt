@@ -1,4 +1,4 @@
-use Rattle.xl_front_smb.proofs.StandLaws.{granted_reply, granted_row, granted_share}
+use Rattle.xl_front_smb.proofs.StandLaws.{granted_lease, granted_reply, granted_row, granted_share}
 use Rattle.xl_front_smb.proofs.awaiting.granted_creates_stand.Goals as goal
 
 pub returns-clause-share : goal.returns-clause-share
@@ -9,3 +9,6 @@ returns-clause-stands c = granted_row
 
 pub returns-clause-told : goal.returns-clause-told
 returns-clause-told c = granted_reply
+
+pub returns-clause-leased : goal.returns-clause-leased
+returns-clause-leased c = granted_lease

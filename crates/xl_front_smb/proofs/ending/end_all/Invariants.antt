@@ -5,4 +5,4 @@ use Rattle.xl_front_smb.specs.Short.{Leaves}
 use Rattle.xl_front_smb.proofs.ending.end_all.Given as goal
 
 abbrev pub invariant-opens : goal.invariant-opens
-invariant-opens l = (behind_told l.effects (all_ended (drop l.number-index l.numbers) l.core) ≡ all_ended l.numbers l.initial.core) × Leaves 0 l.initial.core l.core
+invariant-opens l = (behind_told l.effects (all_ended (drop l.leaver-index l.leavers) l.core) ≡ all_ended l.leavers l.initial.core) × Leaves 0 l.initial.core l.core

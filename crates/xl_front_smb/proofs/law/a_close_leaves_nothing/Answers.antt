@@ -1,4 +1,5 @@
 use Rattle.std.proofs.Common.{◌≡◌, eqb, [], ◌∷◌, refl}
+use Rattle.xl_front_smb.specs.Ending.{party_going}
 use Rattle.xl_front_smb.specs.Laws.{rows_but, Without}
 use Rattle.xl_front_smb.specs.Plans.{Outcome}
 use Rattle.xl_front_smb.specs.declared.told.Told.TheVariants.{Closed}
@@ -13,7 +14,7 @@ pub returns-clause-told : goal.returns-clause-told
 returns-clause-told c = λ n s files others l conn h client call session place number named at. closes_open n s files others l conn h client (λ (r : Outcome). r.0 ≡ Closed) call session place number named at refl
 
 pub returns-clause-core : goal.returns-clause-core
-returns-clause-core c = λ n s files others l conn h client call session place number named at. closes_open n s files others l conn h client (λ (r : Outcome). Without (number ∷ []) s r.3) call session place number named at (done_without n (number ∷ []) s)
+returns-clause-core c = λ n s files others l conn h client call session place number named at. closes_open n s files others l conn h client (λ (r : Outcome). Without ((number, party_going s.names l number) ∷ []) s r.3) call session place number named at (done_without n ((number, party_going s.names l number) ∷ []) s)
 
 pub returns-clause-opens : goal.returns-clause-opens
 returns-clause-opens c = λ n s files others l conn h client call session place number named at distinct. closes_open n s files others l conn h client (λ (r : Outcome). r.2.opens ≡ rows_but (λ e. eqb number e.0) l.opens) call session place number named at (out_one number l.opens distinct.opens)
@@ -38,4 +39,4 @@ returns-clause-refused c = λ n s files others l conn h client call session plac
 
 pub returns-clause-waiting : goal.returns-clause-waiting
 returns-clause-waiting c = λ n s files others l conn h client call session place number named at good distinct awaited.
-    closes_open n s files others l conn h client (λ (r : Outcome). AreLeft (number ∷ []) l (all_dismissed r.1 r.2).1) call session place number named at (same_left n s l good awaited (number ∷ []) (closed number l) distinct refl)
+    closes_open n s files others l conn h client (λ (r : Outcome). AreLeft (number ∷ []) l (all_dismissed r.1 r.2).1) call session place number named at (same_left n s l good awaited ((number, party_going s.names l number) ∷ []) (closed number l) distinct refl)

@@ -1,15 +1,16 @@
 use Rattle.std.proofs.Common.{◌≡◌, eqb, refl}
 use Rattle.xl_smb_state.specs.State.{covers_holder, opens_under}
 use Rattle.xl_smb_state.specs.declared.row.Scope.TheVariants as scope
-use Rattle.xl_front_smb.specs.Ending.{numbers_under}
-use Rattle.xl_front_smb.specs.Laws.{rows_but, Without}
+use Rattle.xl_front_smb.specs.Ending.{leavers_under, numbers_under}
+use Rattle.xl_front_smb.specs.Laws.{rows_but, IsLeased, Without}
 use Rattle.xl_front_smb.specs.Plans.{Outcome}
 use Rattle.xl_front_smb.specs.declared.told.Told.TheVariants.{LoggedOff}
 use Rattle.xl_front_smb.proofs.GoneLaws.{done_without, off_opens, off_trees, off_sessions, off_connections, logged_off, logoff_refused}
 use Rattle.std.proofs.Common.{◌∙◌}
 use Rattle.xl_front_smb.specs.Awaits.{AreLeft}
 use Rattle.xl_front_smb.specs.Ending.{all_closed, all_dismissed, session_gone}
-use Rattle.xl_front_smb.proofs.KeepLaws.{same_left}
+use Rattle.xl_front_smb.proofs.KeepLaws.{under_left}
+use Rattle.xl_front_smb.proofs.KeyLaws.{gone_leases, leased_with, stay_leased}
 use Rattle.xl_front_smb.proofs.WaitLaws.{closed_waiting, gone_waiting}
 use Rattle.xl_front_smb.proofs.law.a_logoff_leaves_nothing.Goals as goal
 
@@ -17,7 +18,7 @@ pub returns-clause-told : goal.returns-clause-told
 returns-clause-told c = λ n s files others l conn h client session named. logged_off n s files others l conn h client (λ (r : Outcome). r.0 ≡ LoggedOff) session named refl
 
 pub returns-clause-core : goal.returns-clause-core
-returns-clause-core c = λ n s files others l conn h client session named. logged_off n s files others l conn h client (λ (r : Outcome). Without (numbers_under (scope.Session session) l) s r.3) session named (done_without n (numbers_under (scope.Session session) l) s)
+returns-clause-core c = λ n s files others l conn h client session named. logged_off n s files others l conn h client (λ (r : Outcome). Without (leavers_under s.names (scope.Session session) l) s r.3) session named (done_without n (leavers_under s.names (scope.Session session) l) s)
 
 pub returns-clause-opens : goal.returns-clause-opens
 returns-clause-opens c = λ n s files others l conn h client session named distinct. logged_off n s files others l conn h client (λ (r : Outcome). r.2.opens ≡ rows_but (λ e. covers_holder (scope.Session session) e.1.holder) l.opens) session named (off_opens session l distinct)
@@ -38,4 +39,11 @@ pub returns-clause-waiting : goal.returns-clause-waiting
 returns-clause-waiting c = λ n s files others l conn h client session named good distinct awaited.
     let closes = all_closed (opens_under (scope.Session session) l) l in
     logged_off n s files others l conn h client (λ (r : Outcome). AreLeft (numbers_under (scope.Session session) l) l (all_dismissed r.1 r.2).1) session named
-    (same_left n s l good awaited (numbers_under (scope.Session session) l) (session_gone session closes) distinct (gone_waiting session closes ∙ closed_waiting (opens_under (scope.Session session) l) l))
+    (under_left n s l good awaited (scope.Session session) (session_gone session closes) distinct (gone_waiting session closes ∙ closed_waiting (opens_under (scope.Session session) l) l))
+
+pub returns-clause-leases : goal.returns-clause-leases
+returns-clause-leases c = λ n s files others l conn h client session named number made apart leased.
+    let numbers = opens_under (scope.Session session) l in
+    let closes = all_closed numbers l in
+    logged_off n s files others l conn h client (λ (r : Outcome). IsLeased r.2 number made) session named
+    (leased_with closes (session_gone session closes) number made (gone_leases session closes) (stay_leased numbers number made l apart leased))

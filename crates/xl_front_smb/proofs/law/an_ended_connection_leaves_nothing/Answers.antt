@@ -1,5 +1,5 @@
 use Rattle.xl_front_smb.proofs.GoneLaws.{end_without, end_opens, end_sessions, end_trees, end_connections}
-use Rattle.xl_front_smb.proofs.KeepLaws.{end_left, end_others}
+use Rattle.xl_front_smb.proofs.KeepLaws.{end_left, end_leased, end_others}
 use Rattle.xl_front_smb.proofs.law.an_ended_connection_leaves_nothing.Goals as goal
 
 pub returns-clause-core : goal.returns-clause-core
@@ -22,3 +22,6 @@ returns-clause-waiting c = end_left
 
 pub returns-clause-requests : goal.returns-clause-requests
 returns-clause-requests c = end_others
+
+pub returns-clause-leases : goal.returns-clause-leases
+returns-clause-leases c = end_leased

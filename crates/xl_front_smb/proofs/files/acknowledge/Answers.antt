@@ -1,0 +1,5 @@
+use Rattle.xl_smb_locks.proofs.LeaveLaws.{leaves_self}
+use Rattle.xl_front_smb.proofs.files.acknowledge.Goals as goal
+
+pub returns-in_default-clause-leaves : goal.returns-in_default-clause-leaves
+returns-in_default-clause-leaves c = leaves_self _ _ _ c.requires.ready

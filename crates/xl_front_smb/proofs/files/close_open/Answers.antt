@@ -1,0 +1,5 @@
+use Rattle.xl_smb_locks.proofs.LeaveLaws.{close_leaves}
+use Rattle.xl_front_smb.proofs.files.close_open.Goals as goal
+
+pub returns-clause-leaves : goal.returns-clause-leaves
+returns-clause-leaves c = close_leaves _ _ _ _ _ c.in_ok-effects.ensures.state c.requires.ready.good c.in_ok-effects.ensures.good

@@ -1,0 +1,11 @@
+use Rattle.xl_smb_locks.proofs.LeaveLaws.{leaves_self}
+use Rattle.xl_front_smb.proofs.locks.lock.Goals as goal
+
+pub returns-in_default-clause-leaves : goal.returns-in_default-clause-leaves
+returns-in_default-clause-leaves g c = leaves_self _ _ _ c.requires.ready
+
+pub returns-in_default-tree_named-clause-leaves : goal.returns-in_default-tree_named-clause-leaves
+returns-in_default-tree_named-clause-leaves g c = leaves_self _ _ _ c.requires.ready
+
+pub returns-in_default-open_named-clause-leaves : goal.returns-in_default-open_named-clause-leaves
+returns-in_default-open_named-clause-leaves g c = leaves_self _ _ _ c.requires.ready

@@ -1,0 +1,5 @@
+use Rattle.xl_smb_locks.proofs.LeaveLaws.{drawn_leaves}
+use Rattle.xl_front_smb.proofs.numbers.drawn.Goals as goal
+
+pub returns-clause-leaves : goal.returns-clause-leaves
+returns-clause-leaves c = drawn_leaves _ _ c.draw.ensures.state c.draw.ensures.good

@@ -1,0 +1,8 @@
+use Rattle.xl_smb_locks.proofs.LeaveLaws.{leaves_self}
+use Rattle.xl_front_smb.proofs.step.smb_step.Goals as goal
+
+pub returns-in_default-clause-leaves : goal.returns-in_default-clause-leaves
+returns-in_default-clause-leaves g c = leaves_self _ _ _ c.requires.ready
+
+pub returns-then-is_reply-clause-leaves : goal.returns-then-is_reply-clause-leaves
+returns-then-is_reply-clause-leaves g c = leaves_self _ _ _ c.requires.ready
