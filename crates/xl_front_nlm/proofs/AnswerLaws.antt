@@ -1,5 +1,5 @@
 -- What the answer to a call of GRANTED does.
-use Rattle.std.proofs.Common.{◌≡◌, ℕ, Bool, true, false, not, ◌≤◌, List, [], ◌∷◌, ◌++◌, Option, Some, None, Ok, refl, sym, ap, ◌∙◌, append-nil}
+use Rattle.std.proofs.Common.{◌≡◌, ℕ, Bool, true, false, not, ◌≤◌, List, [], ◌∷◌, ◌++◌, Option, Some, None, refl, sym, ap, subst, ◌∙◌, append-nil}
 use Rattle.std.specs.Bool.{◌==◌}
 use Rattle.std.specs.List.{find}
 use Rattle.xl_nlm.specs.Items.{ResItem, Answer as ResAnswer}
@@ -13,13 +13,27 @@ use Rattle.xl_core.specs.Deeds.{Asks, all_done, all_told_of, AreFit}
 use Rattle.xl_front_nlm.proofs.AskLaws.{own_client}
 use Rattle.xl_front_nlm.proofs.AimLaws.{grant_real}
 use Rattle.xl_core.specs.State.{CoreState}
-use Rattle.xl_front_nlm.specs.Answers.{is_granted, refuses_with, refuses_by, refuses, refused_grant, refusal_deeds, called_deeds, given_up, called_by, nlm_called}
+use Rattle.xl_core.specs.declared.ask.Effect.{Effect}
+use Rattle.xl_front_nlm.specs.Answers.{is_granted, refuses_with, refuses_by, refuses, refused_grant, refusal_deeds, called_deeds, given_up, with_front, called_by, nlm_called}
 use Rattle.xl_front_nlm.specs.Asks.{refusal_ask}
 use Rattle.xl_front_nlm.specs.Grants.{grant_of}
 use Rattle.xl_front_nlm.specs.Hosts.{rooms}
-use Rattle.xl_front_nlm.specs.State.{FrontState}
+use Rattle.xl_front_nlm.specs.State.{FrontState, taken}
 use Rattle.xl_front_nlm.specs.declared.call.GrantedCall.{GrantedCall}
 use Rattle.xl_front_nlm.specs.declared.grant.Grant.{Grant}
+
+-- ---- as the code does it
+
+pub called_given_up : (n : ℕ) (f after : FrontState) (s new : CoreState) (number : ℕ) (reply : Option (List ℕ)) (call : GrantedCall) (refused : Bool) (grant : Option Grant) (effects : List Effect)
+    → refused ≡ refuses reply → Some call ≡ find (λ (c : GrantedCall). c.number == number) f.calls → after ≡ taken f number → grant ≡ refused_grant s refused (Some call)
+    → given_up n after.hosts s grant ≡ (effects, new) → nlm_called n f s number reply ≡ (effects, after, new)
+unfolding nlm_called
+called_given_up n f after s new number reply call refused grant effects said found gone told is =
+    ap (λ (o : Option GrantedCall). called_by n f s number (refuses reply) o) (sym found)
+    ∙ ap (λ (b : Bool). called_by n f s number b (Some call)) (sym said)
+    ∙ ap (λ (g : Option Grant). with_front (taken f number) (given_up n f.hosts s g)) (sym told)
+    ∙ ap (λ (r : List Effect × CoreState). with_front (taken f number) r) (subst (λ (hosts : List (List ℕ)). given_up n hosts s grant ≡ (effects, new)) (ap (λ (x : FrontState). x.hosts) gone) is)
+    ∙ ap (λ (x : FrontState). with_front x (effects, new)) (sym gone)
 
 -- ---- what it does
 

@@ -1,25 +1,19 @@
 -- A call's step is what its deeds leave, tell and answer, and the core takes them.
-use Rattle.std.proofs.Common.{◌≡◌, ℕ, ◌≤◌, Bool, true, false, List, [], ◌∷◌, ◌++◌, length, Option, Some, None, Result, Ok, Err, IfSome, refl, sym, ap, subst, ◌∙◌, inl, inr, append-nil}
+use Rattle.std.proofs.Common.{◌≡◌, ℕ, Bool, true, List, [], ◌++◌, length, Option, Some, None, Result, Ok, Err, refl, sym, ap, ◌∙◌, inl, inr, append-nil}
 use Rattle.std.proofs.lemmas.Bool.{cases_Bool, and_parts}
-use Rattle.std.specs.List.{find}
-use Rattle.std.specs.Prelude.{option_map}
-use Rattle.xl_base.specs.declared.event.Out.{Out}
 use Rattle.xl_base.specs.declared.journal.Exports.{Exports}
 use Rattle.xl_base.specs.declared.name.Owner.TheVariants as owners
 use Rattle.xl_base.specs.declared.name.Party.TheVariants as parties
 use Rattle.xl_base.specs.declared.name.Protocol.TheVariants.{Nlm}
 use Rattle.xl_matrix.specs.declared.claim.Claim.{Claim}
 use Rattle.xl_names.specs.Names.{number_of}
-use Rattle.xl_names.specs.declared.name.Name.{Name}
 use Rattle.xl_names.specs.declared.name.Name.TheVariants.{NlmParty}
-use Rattle.xl_nlm.specs.Items.{LockItem, TestArgsItem, LockArgsItem, CallItem, Null, Test, Lock, Cancel, Unlock, Granted, Share, Unshare, NmLock, FreeAll}
+use Rattle.xl_nlm.specs.Items.{TestArgsItem, LockArgsItem, CallItem, Null, Test, Lock, Cancel, Unlock, Granted, Share, Unshare, NmLock, FreeAll}
 use Rattle.xl_programs.specs.Programs.{RequestItem}
 use Rattle.xl_programs.specs.Sent.{sent_to}
 use Rattle.xl_wait.specs.Waiting.{is_waiting}
-use Rattle.xl_wait.specs.declared.waiter.Waiter.{Waiter}
 use Rattle.xl_core.specs.State.{CoreState}
 use Rattle.xl_core.specs.Deeds.{Deed, Asks, GivesBack, Cancels, Ends, given, all_done, all_told_of, with_answer, answers_of, IsFitDeed, AreFit}
-use Rattle.xl_core.specs.Good.{IsGood}
 use Rattle.xl_table.specs.Relock.{is_share_of}
 use Rattle.xl_table.specs.Held.{is_share}
 use Rattle.xl_table.specs.Held.{is_of}
@@ -29,9 +23,9 @@ use Rattle.xl_front_nlm.proofs.AimLaws.{aim_real}
 use Rattle.xl_front_nlm.proofs.AskLaws.{own_client}
 use Rattle.xl_front_nlm.proofs.StandLaws.{found_waits}
 use Rattle.xl_front_nlm.specs.Aims.{exported, aimed}
-use Rattle.xl_front_nlm.specs.Asks.{test_ask, lock_ask, unlock_ask, share_ask, share_owner, owner_of}
+use Rattle.xl_front_nlm.specs.Asks.{test_ask, unlock_ask, share_owner, owner_of}
 use Rattle.xl_front_nlm.specs.FrontNlm.{call_in, call_deeds, nlm_deeds, call_reply, nlm_reply, replied, nlm_step}
-use Rattle.xl_front_nlm.specs.Hosts.{rooms, host_rows}
+use Rattle.xl_front_nlm.specs.Hosts.{rooms}
 use Rattle.xl_front_nlm.specs.Results.{reply_of}
 use Rattle.xl_nlm.specs.Replies.{results}
 use Rattle.xl_rpc.specs.Replies.{reply}
@@ -43,19 +37,19 @@ use Rattle.xl_front_nlm.specs.declared.aim.Aim.{Aim}
 use Rattle.xl_front_nlm.specs.declared.outcome.Outcome.{Outcome}
 use Rattle.xl_front_nlm.specs.declared.outcome.Outcome.TheVariants.{Nothing}
 
--- ---- as the code serves it
+-- ---- as the code plans it
 
-pub nm_lock_is_lock : (n count : ℕ) (f : FrontState) (s : CoreState) (a : LockArgsItem) → served n count f s (NmLock a) ≡ served n count f s (Lock a)
-unfolding served planned
-nm_lock_is_lock n count f s a = refl
+pub nm_lock_is_lock : (count : ℕ) (hosts : List (List ℕ)) (s : CoreState) (a : LockArgsItem) → planned count hosts s (NmLock a) ≡ planned count hosts s (Lock a)
+unfolding planned
+nm_lock_is_lock count hosts s a = refl
 
-pub null_does_nothing : (n count : ℕ) (f : FrontState) (s : CoreState) → served n count f s Null ≡ (Nothing, [], f, s)
-unfolding served planned
-null_does_nothing n count f s = refl
+pub null_tells_nothing : (count : ℕ) (hosts : List (List ℕ)) (s : CoreState) → planned count hosts s Null ≡ Tells Nothing
+unfolding planned
+null_tells_nothing count hosts s = refl
 
-pub granted_does_nothing : (n count : ℕ) (f : FrontState) (s : CoreState) (a : TestArgsItem) → served n count f s (Granted a) ≡ (Nothing, [], f, s)
-unfolding served planned
-granted_does_nothing n count f s a = refl
+pub granted_tells_nothing : (count : ℕ) (hosts : List (List ℕ)) (s : CoreState) (a : TestArgsItem) → planned count hosts s (Granted a) ≡ Tells Nothing
+unfolding planned
+granted_tells_nothing count hosts s a = refl
 
 -- ---- a plan is carried out
 

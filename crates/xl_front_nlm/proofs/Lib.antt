@@ -11,4 +11,5 @@ pub mod StepLaws
 pub mod AimLaws
 pub mod DoesLaws
 pub mod OwnLaws
+pub mod PlanLaws
 pub mod StatusLaws

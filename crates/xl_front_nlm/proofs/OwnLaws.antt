@@ -1,11 +1,10 @@
 -- Each deed of a call is the client's that the call names.
-use Rattle.std.proofs.Common.{◌≡◌, ℕ, Bool, true, false, length, inl, inr, List, [], ◌∷◌, Option, Some, None, Result, Ok, Err, refl, sym, ap, subst, ◌∙◌, option_map, slice_get}
+use Rattle.std.proofs.Common.{◌≡◌, ℕ, Bool, true, length, inl, inr, List, Option, Some, None, Result, Ok, Err, refl, sym, ap, subst, ◌∙◌, option_map}
 use Rattle.std.proofs.lemmas.Bool.{cases_Bool, and_parts}
 use Rattle.std.specs.Bool.{◌==◌}
 use Rattle.std.specs.Prelude.{◌&&◌}
 use Rattle.std.specs.Option.{option_and_then}
 use Rattle.xl_base.proofs.Members.{all_in}
-use Rattle.xl_base.specs.Lists.{IsIn}
 use Rattle.xl_base.specs.declared.journal.Exports.{Exports}
 use Rattle.xl_base.specs.declared.name.Owner.{Owner}
 use Rattle.xl_base.specs.declared.name.Owner.TheVariants as owners
@@ -17,10 +16,9 @@ use Rattle.xl_matrix.specs.declared.claim.Claim.{Claim}
 use Rattle.xl_names.specs.Names.{protocol_of, number_of}
 use Rattle.xl_names.specs.declared.name.Name.{Name}
 use Rattle.xl_names.specs.declared.name.Name.TheVariants.{NlmParty}
-use Rattle.xl_nlm.specs.Items.{LockItem, LockArgsItem, CancelArgsItem, ShareArgsItem, CallItem, Null, Test, Lock, Cancel, Unlock, Granted, Share, Unshare, NmLock, FreeAll}
+use Rattle.xl_nlm.specs.Items.{LockItem, LockArgsItem, ShareArgsItem, CallItem, Null, Test, Lock, Cancel, Unlock, Granted, Share, Unshare, NmLock, FreeAll}
 use Rattle.xl_programs.specs.Programs.{RequestItem}
 use Rattle.xl_table.specs.Held.{is_of}
-use Rattle.xl_wait.specs.declared.waiter.Waiter.{Waiter}
 use Rattle.xl_core.proofs.DeedClients.{party_of_owner}
 use Rattle.xl_core.proofs.DeedLeaves.{found_in}
 use Rattle.xl_core.proofs.TurnLaws.{waiter_known}
@@ -38,7 +36,7 @@ use Rattle.xl_front_nlm.specs.Aims.{exported, aimed}
 use Rattle.xl_front_nlm.specs.Asks.{owner_of, share_owner}
 use Rattle.xl_front_nlm.specs.FrontNlm.{call_in, nlm_client, call_deeds, nlm_deeds}
 use Rattle.xl_front_nlm.specs.Serving.{Plan, at_bytes, on_file, if_found, lock_plan, planned, deeds_of, client_of}
-use Rattle.xl_front_nlm.specs.Standing.{is_aimed, is_same, waits_for, waiter_by, waiter_for, does_wait, share_by, share_held}
+use Rattle.xl_front_nlm.specs.Standing.{is_aimed, is_same, waiter_by, waiter_for, does_wait, share_by, share_held}
 use Rattle.xl_front_nlm.specs.State.{FrontState}
 use Rattle.xl_front_nlm.specs.declared.aim.Aim.{Aim}
 use Rattle.xl_front_nlm.specs.declared.outcome.Outcome.{Outcome}

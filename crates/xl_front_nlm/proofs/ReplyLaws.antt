@@ -1,5 +1,5 @@
 -- Replies and results fit a record.
-use Rattle.std.proofs.Common.{◌≡◌, ℕ, ◌+◌, ◌-◌, ◌%◌, ◌<◌, ◌≤◌, List, [], ◌++◌, length, replicate, Option, Some, None, refl, ap, arith}
+use Rattle.std.proofs.Common.{◌≡◌, ℕ, ◌-◌, ◌%◌, ◌<◌, ◌≤◌, List, ◌++◌, length, replicate, Option, Some, None, refl, ap, arith}
 use Rattle.std.proofs.Math.Nat.{mod-lt}
 use Rattle.std.proofs.lemmas.List.{length-append, length-replicate}
 use Rattle.std.specs.Int.{w32, cast_unsigned}
@@ -14,10 +14,9 @@ use Rattle.xl_format.specs.Formats.{nothing, chosen_part}
 use Rattle.xl_nlm.specs.declared.item.NlmStatus.{NlmStatus}
 use Rattle.xl_nlm.specs.Replies.{status, holder, test_res, res, share_res, results, status_number, ReplyFits}
 use Rattle.xl_rpc.specs.Xdr.{void, hyper, pad, fixed, opaque}
-use Rattle.xl_rpc.specs.Replies.{reply, told, detail, reply_stat}
+use Rattle.xl_rpc.specs.Replies.{reply}
 use Rattle.xl_rpc.specs.Xdr.{unsigned}
 use Rattle.xl_rpc.specs.declared.reply.Verdict.{Verdict}
-use Rattle.xl_rpc.specs.declared.reply.Verdict.TheVariants.{Success, ProgUnavail, ProgMismatch, ProcUnavail, GarbageArgs, SystemErr, RpcMismatch, AuthError}
 
 -- ---- results
 

@@ -1,10 +1,9 @@
 -- What an ask changes of the core.
-use Rattle.std.proofs.Common.{◌≡◌, ℕ, ◌+◌, ◌≤◌, ◌<◌, Bool, true, false, if◌then◌else◌, cond, List, [], ◌∷◌, ◌++◌, length, Some, None, Ok, refl, sym, ap, subst, ◌∙◌, arith}
+use Rattle.std.proofs.Common.{◌≡◌, ℕ, ◌≤◌, ◌<◌, Bool, true, false, if◌then◌else◌, cond, List, [], ◌∷◌, ◌++◌, length, Some, None, Ok, refl, sym, ap, subst, ◌∙◌, arith}
 use Rattle.std.proofs.lemmas.Bool.{false≢true}
 use Rattle.std.specs.Bool.{◌==◌}
 use Rattle.xl_matrix.specs.declared.claim.Claim.{Claim}
 use Rattle.xl_matrix.specs.declared.claim.Extent.TheVariants.{Bytes}
-use Rattle.xl_matrix.specs.declared.claim.What.{What}
 use Rattle.xl_matrix.specs.declared.claim.What.TheVariants as whats
 use Rattle.xl_names.specs.Names.{is_kept}
 use Rattle.xl_names.specs.declared.name.Name.{Name}
@@ -105,38 +104,22 @@ room_for left s a claim answers.NotRecorded due makes = absurd due
 room_for left s a claim answers.NotHeld due makes = absurd due
 room_for left s a claim answers.StoreFailed due makes = absurd due
 
-lock_has_room : (n : ℕ) (left rows : Rooms) (s : CoreState) (a : LockArgsItem) (at : Aim) → makes_host (ask n left s (lock_ask rows a at)).0 ≡ true → HasRoom left rows
+pub lock_has_room : (n : ℕ) (left rows : Rooms) (s : CoreState) (a : LockArgsItem) (at : Aim) → makes_host (ask n left s (lock_ask rows a at)).0 ≡ true → HasRoom left rows
 lock_has_room n left rows s a at makes =
     let request = lock_ask rows a at in
     let what = whats.Range (Bytes at.first at.last) a.exclusive in
     room_for left (way left s request).1 request (asked_claim request what s.names) (ask n left s request).0 ((ask_due n left s request what (ask n left s request).0 refl).0 refl) makes
 
-share_has_room : (n : ℕ) (left rows : Rooms) (s : CoreState) (a : ShareArgsItem) (file : ℕ) → makes_host (ask n left s (share_ask rows a file)).0 ≡ true → HasRoom left rows
+pub share_has_room : (n : ℕ) (left rows : Rooms) (s : CoreState) (a : ShareArgsItem) (file : ℕ) → makes_host (ask n left s (share_ask rows a file)).0 ≡ true → HasRoom left rows
 share_has_room n left rows s a file makes =
     let request = share_ask rows a file in
     let what = whats.Share (rights_of a.access) (rights_of a.mode) in
     room_for left (way left s request).1 request (asked_claim request what s.names) (ask n left s request).0 ((ask_due n left s request what (ask n left s request).0 refl).0 refl) makes
 
-fresh_room : (caller : List ℕ) (hosts : List (List ℕ)) (rows : Rooms) → rows ≡ host_rows caller hosts → HasRoom (rooms hosts) rows → is_host caller hosts ≡ false → length hosts < most_hosts
+pub fresh_room : (caller : List ℕ) (hosts : List (List ℕ)) (rows : Rooms) → rows ≡ host_rows caller hosts → HasRoom (rooms hosts) rows → is_host caller hosts ≡ false → length hosts < most_hosts
 fresh_room caller hosts rows e room fresh =
     let one : rows.hosts ≡ 1 = ap (λ (r : Rooms). r.hosts) e ∙ rw fresh refl in
     omega (arith, room, one)
-
--- a caller that comes as a host has room, by a lock and by a share
-answer_is : (n : ℕ) (left : Rooms) (s new : CoreState) (request asked : Ask) (answer : Answer) (effects : List Effect) → request ≡ asked → ask n left s request ≡ (answer, effects, new) → (ask n left s asked).0 ≡ answer
-answer_is n left s new request asked answer effects e is = ap (λ (q : Ask). (ask n left s q).0) (sym e) ∙ ap (λ (r : Answer × List Effect × CoreState). r.0) is
-
-pub lock_room_to_note : (n : ℕ) (hosts : List (List ℕ)) (s new : CoreState) (caller : List ℕ) (rows : Rooms) (a : LockArgsItem) (at : Aim) (request : Ask) (answer : Answer) (effects : List Effect)
-    → rows ≡ host_rows caller hosts → request ≡ lock_ask rows a at → ask n (rooms hosts) s request ≡ (answer, effects, new)
-    → makes_host answer ≡ true → is_host caller hosts ≡ false → length hosts < most_hosts
-lock_room_to_note n hosts s new caller rows a at request answer effects e k is makes fresh =
-    fresh_room caller hosts rows e (lock_has_room n (rooms hosts) rows s a at (ap makes_host (answer_is n (rooms hosts) s new request (lock_ask rows a at) answer effects k is) ∙ makes)) fresh
-
-pub share_room_to_note : (n : ℕ) (hosts : List (List ℕ)) (s new : CoreState) (caller : List ℕ) (rows : Rooms) (a : ShareArgsItem) (file : ℕ) (request : Ask) (answer : Answer) (effects : List Effect)
-    → rows ≡ host_rows caller hosts → request ≡ share_ask rows a file → ask n (rooms hosts) s request ≡ (answer, effects, new)
-    → makes_host answer ≡ true → is_host caller hosts ≡ false → length hosts < most_hosts
-share_room_to_note n hosts s new caller rows a file request answer effects e k is makes fresh =
-    fresh_room caller hosts rows e (share_has_room n (rooms hosts) rows s a file (ap makes_host (answer_is n (rooms hosts) s new request (share_ask rows a file) answer effects k is) ∙ makes)) fresh
 
 -- ---- the arguments of a call were read, and nothing stands behind them
 

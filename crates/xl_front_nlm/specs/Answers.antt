@@ -1,5 +1,5 @@
 -- What the answer to a call of GRANTED does (XNFS C702, NLM_GRANTED).
-use Rattle.std.specs.Prelude.{ℕ, Bool, true, false, not, ◌==◌, if◌then◌else◌, List, [], ◌∷◌, Option, Some, None, Result, Ok, Err}
+use Rattle.std.specs.Prelude.{ℕ, Bool, true, false, not, ◌==◌, if◌then◌else◌, List, [], ◌∷◌, Option, Some, None, Result, Ok}
 use Rattle.std.specs.List.{find}
 use Rattle.xl_nlm.specs.Items.{ReplyItem, Answer as ResAnswer}
 use Rattle.xl_nlm.specs.Replies.{results_at}

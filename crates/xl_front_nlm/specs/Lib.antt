@@ -6,6 +6,7 @@ pub mod Asks
 pub mod Standing
 pub mod Results
 pub mod Serving
+pub mod Plans
 pub mod Grants
 pub mod Answers
 pub mod FrontNlm

@@ -5,6 +5,7 @@ use Rattle.xl_base.specs.Limits.{numbers_left}
 use Rattle.xl_names.specs.declared.name.Name.{Name}
 use Rattle.xl_names.specs.declared.name.Name.TheVariants.{NlmRange}
 use Rattle.xl_nlm.specs.Arguments.{TextFits}
+use Rattle.xl_core.specs.Deeds.{Deed, Asks}
 use Rattle.xl_core.specs.Numbers.{numbers_of}
 use Rattle.xl_core.specs.State.{CoreState, GoesOn}
 use Rattle.xl_core.specs.Good.{IsGood}
@@ -27,6 +28,11 @@ IsShortWho (Open number) = Unit {0}
 
 abbrev pub IsShortAsk : Ask → Type 0
 IsShortAsk a = IsShortWho a.owner × IsShortWho a.party
+
+-- what is asked has short names
+abbrev pub IsShortDeed : Deed → Type 0
+IsShortDeed (Asks left a) = IsShortAsk a
+IsShortDeed _ = Unit {0}
 
 abbrev pub IsShortGrant : Grant → Type 0
 IsShortGrant g = TextFits g.caller × TextFits g.oh

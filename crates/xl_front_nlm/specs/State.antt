@@ -1,5 +1,5 @@
 -- What the front keeps: its hosts, and the calls of GRANTED that await an answer (XNFS C702, NLM_GRANTED).
-use Rattle.std.specs.Prelude.{◌≡◌, ℕ, not, ◌==◌, List, [], ◌∷◌, ◌++◌}
+use Rattle.std.specs.Prelude.{ℕ, not, ◌==◌, List, [], ◌∷◌, ◌++◌}
 use Rattle.std.specs.List.{AllByRecursion, filter}
 use Rattle.xl_core.specs.Good.{IsRangeBy}
 use Rattle.xl_core.specs.declared.ask.Answer.{Answer}

@@ -1,9 +1,9 @@
 -- Why a call is told its status, exactly, by procedure (XNFS C702, nlm4_stats).
-use Rattle.std.specs.Prelude.{◌≡◌, ℕ, ◌+◌, Bool, true, false, ◌⊎◌, List, [], ◌∷◌, Option, Some, None}
+use Rattle.std.specs.Prelude.{◌≡◌, ℕ, ◌+◌, Bool, true, false, ◌⊎◌, List, Option, Some, None}
 use Rattle.xl_matrix.specs.declared.claim.Claim.{Claim}
 use Rattle.xl_matrix.specs.declared.claim.Extent.TheVariants.{Bytes}
 use Rattle.xl_matrix.specs.declared.claim.What.TheVariants as whats
-use Rattle.xl_nlm.specs.Items.{LockItem, TestArgsItem, LockArgsItem, CancelArgsItem, UnlockArgsItem, ShareArgsItem, CallItem, Test, Lock, Cancel, Unlock, Share, Unshare, NmLock}
+use Rattle.xl_nlm.specs.Items.{LockItem, LockArgsItem, CallItem, Test, Lock, Cancel, Unlock, Share, Unshare, NmLock}
 use Rattle.xl_nlm.specs.declared.item.NlmStatus.{NlmStatus}
 use Rattle.xl_nlm.specs.declared.item.NlmStatus.TheVariants as stats
 use Rattle.xl_wait.specs.declared.waiter.Rooms.{Rooms}

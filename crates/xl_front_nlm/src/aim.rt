@@ -1,5 +1,5 @@
 //! What a lock names.
-ghost use Rattle.std.specs.Prelude.{◌≡◌, ◌≤◌, IfOk, IfSome};
+ghost use Rattle.std.specs.Prelude.{◌≡◌};
 ghost use Rattle.xl_nlm.specs.Items.{shown_lock};
 ghost use Rattle.xl_front_nlm.specs.Aims.{exported, last_of, length_of, aimed};
 
@@ -30,8 +30,7 @@ pub(crate) fn exported(count: usize, fh: &[u8]) -> Option<u32>
 
 /// The last byte of a range; a length of 0 reaches the last byte that there is, and none passes it.
 fn last_of(offset: u64, len: u64) -> Option<u64>
-    ensures value { result ≡ last_of offset len }
-    ensures ends { IfSome result (λ last. offset ≤ last) }
+    ensures { result ≡ last_of offset len }
 {
     if len == 0 {
         return Some(u64::MAX);
@@ -53,8 +52,7 @@ pub(crate) fn length_of(first: u64, last: u64) -> u64
 /// The bytes that a lock names, or why it names none: the handle is judged before the range.
 #[tactic(auto, unfolding(crate::specs::Aims::aimed))]
 pub(crate) fn aimed(count: usize, lock: &Lock) -> Result<Aim, Outcome>
-    ensures value { result ≡ aimed count (shown_lock lock.now) }
-    ensures ends { IfOk result (λ at. at.first ≤ at.last) }
+    ensures { result ≡ aimed count (shown_lock lock.now) }
 {
     let Some(file) = exported(count, lock.fh) else {
         return Err(Outcome::NoFile);

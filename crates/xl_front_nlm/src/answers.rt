@@ -1,16 +1,15 @@
 //! What the answer to a call of the server does.
-ghost use Rattle.std.specs.Prelude.{◌≡◌, ℕ, ◌+◌, ◌≤◌, ◌<◌, ◌^◌, Some, option_map, IfOk, OnOk};
-ghost use Rattle.xl_core.specs.Good.{IsGood};
-ghost use Rattle.xl_core.specs.State.{MayBe, GoesOn};
-ghost use Rattle.xl_front_nlm.specs.Answers.{is_granted, refuses_with, refuses_by, refuses, refused_grant, given_up, with_front, nlm_called};
-ghost use Rattle.xl_front_nlm.specs.Grants.{grant_of};
-ghost use Rattle.xl_front_nlm.specs.Short.{IsShortGrant, IsReady, Leaves};
+ghost use Rattle.std.specs.Prelude.{◌≡◌, ℕ, ◌≤◌, List, Some, option_map, IfOk, IfSome, OnOk};
+ghost use Rattle.xl_core.specs.State.{MayBe};
+ghost use Rattle.xl_front_nlm.specs.Answers.{is_granted, refuses_with, refuses_by, refuses, refused_grant, given_up, nlm_called};
+ghost use Rattle.xl_front_nlm.specs.Hosts.{rooms};
+ghost use Rattle.xl_front_nlm.specs.Short.{AreShort, IsShortGrant, IsReady, Leaves};
 ghost use Rattle.xl_nlm.specs.Replies.{results_at};
 ghost use Rattle.xl_rpc.specs.Replies.{reply_at};
 
-use crate::asking::asked;
 use crate::asks::refusal_ask;
 use crate::call::GrantedCall;
+use crate::deeds::asked;
 use crate::front::Front;
 use crate::grant::{Grant, grant_of};
 use std::alloc::{AllocError, Global};
@@ -18,6 +17,7 @@ use xl_base::{Keeper, Sequence};
 use xl_core::{Core, Effect};
 use xl_nlm::{NlmReply, NlmStatus, procedure, read_result};
 use xl_rpc::{Verdict, Xdr, read_reply};
+use xl_wait::Rooms;
 
 fn is_granted(status: NlmStatus) -> bool
     ensures { result ≡ is_granted status }
@@ -57,65 +57,41 @@ fn refuses(reply: Option<&[u8]>) -> bool
     }
 }
 
-/// Unlocks a granted range.
-fn unlock<K: Keeper>(
+/// What the call told, where it is refused.
+fn refused_grant(
     alloc: Global,
-    front: &Front,
+    core: &Core,
+    refused: bool,
+    call: &GrantedCall,
+) -> Result<Option<Grant>, AllocError>
+    requires short { AreShort core.now.names }
+    ensures value { IfOk result (λ grant. grant ≡ refused_grant core.now refused (Some call.now)) }
+    ensures ends { IfOk result (λ grant. IfSome grant (λ g. g.first ≤ g.last)) }
+    ensures short { IfOk result (λ grant. IfSome grant IsShortGrant) }
+{
+    if !refused {
+        return Ok(None);
+    }
+    grant_of(alloc, core.names(), &call.claim)
+}
+
+/// Unlocks a granted range, where so much room is left in the tables of the fronts.
+fn give_up<K: Keeper>(
+    alloc: Global,
     core: &mut Core,
     keeper: &mut K,
+    left: &Rooms,
     grant: &Grant,
 ) -> Result<Sequence<Effect>, AllocError>
     requires ends { grant.now.first ≤ grant.now.last }
     requires small { IsShortGrant grant.now }
     requires ready { IsReady core.old }
-    ensures done { (n : ℕ) → IfOk result (λ effects. MayBe n core.new → given_up n front.now.hosts core.old (Some grant.now) ≡ (effects, core.new)) }
+    ensures done { (n : ℕ) (hosts : List (List ℕ)) → left.now ≡ rooms hosts → IfOk result (λ effects. MayBe n core.new → given_up n hosts core.old (Some grant.now) ≡ (effects, core.new)) }
     ensures leaves { OnOk result (Leaves core.old core.new) }
     ensures keeper { keeper.new ≡ keeper.old }
 {
     let request = refusal_ask(alloc, grant)?;
-    let (_, effects) = asked(alloc, front, core, keeper, &request)?;
-    Ok(effects)
-}
-
-/// Unlocks the range that a call told.
-#[tactic(auto, using(crate::proofs::StepLaws::leaves_self))]
-fn give_up<K: Keeper>(
-    alloc: Global,
-    front: &Front,
-    core: &mut Core,
-    keeper: &mut K,
-    call: &GrantedCall,
-) -> Result<Sequence<Effect>, AllocError>
-    requires ready { IsReady core.old }
-    ensures done { (n : ℕ) → IfOk result (λ effects. MayBe n core.new → given_up n front.now.hosts core.old (grant_of core.old.names call.now.claim) ≡ (effects, core.new)) }
-    ensures leaves { OnOk result (Leaves core.old core.new) }
-    ensures keeper { keeper.new ≡ keeper.old }
-{
-    match grant_of(alloc, core.names(), &call.claim)? {
-        Some(grant) => unlock(alloc, front, core, keeper, &grant),
-        None => Ok(Sequence::new(alloc)),
-    }
-}
-
-/// What the end of a call does that awaited its answer, where the client refused the lock or didn't.
-#[tactic(auto, using(crate::proofs::StepLaws::leaves_self))]
-fn answered<K: Keeper>(
-    alloc: Global,
-    front: &Front,
-    core: &mut Core,
-    keeper: &mut K,
-    call: &GrantedCall,
-    refused: bool,
-) -> Result<Sequence<Effect>, AllocError>
-    requires ready { IsReady core.old }
-    ensures done { (n : ℕ) → IfOk result (λ effects. MayBe n core.new → with_front front.now (given_up n front.now.hosts core.old (refused_grant core.old refused (Some call.now))) ≡ (effects, front.now, core.new)) }
-    ensures leaves { OnOk result (Leaves core.old core.new) }
-    ensures keeper { keeper.new ≡ keeper.old }
-{
-    if !refused {
-        return Ok(Sequence::new(alloc));
-    }
-    let effects = give_up(alloc, front, core, keeper, call)?;
+    let (_, effects) = asked(alloc, core, keeper, left, &request)?;
     Ok(effects)
 }
 
@@ -141,8 +117,11 @@ pub fn nlm_called<K: Keeper>(
     ensures keeper { keeper.new ≡ keeper.old }
 {
     let refused = refuses(reply);
-    match front.take(number) {
-        Some(call) => answered(alloc, front, core, keeper, &call, refused),
+    let Some(call) = front.take(number) else {
+        return Ok(Sequence::new(alloc));
+    };
+    match refused_grant(alloc, core, refused, &call)? {
+        Some(grant) => give_up(alloc, core, keeper, &front.rooms(), &grant),
         None => Ok(Sequence::new(alloc)),
     }
 }

@@ -60,11 +60,8 @@ fn ask_of(
 }
 
 /// What is asked for TEST.
-#[tactic(auto, using(crate::proofs::AskLaws::own_client))]
 pub(crate) fn test_ask(alloc: Global, args: &TestArgs, at: &Aim) -> Result<Ask, AllocError>
-    requires ends { at.now.first ≤ at.now.last }
-    ensures value { IfOk result (λ ask. ask ≡ test_ask (shown_test_args args.now) at.now) }
-    ensures fit { IfOk result (λ ask. IsFit ask) }
+    ensures { IfOk result (λ ask. ask ≡ test_ask (shown_test_args args.now) at.now) }
 {
     let owner = owner_of(alloc, &args.lock)?;
     let act = Act::Test(Extent::Bytes(at.first, at.last), args.exclusive);
@@ -72,16 +69,13 @@ pub(crate) fn test_ask(alloc: Global, args: &TestArgs, at: &Aim) -> Result<Ask, 
 }
 
 /// What is asked for LOCK and NM_LOCK, which add these rows.
-#[tactic(auto, using(crate::proofs::AskLaws::own_client))]
 pub(crate) fn lock_ask(
     alloc: Global,
     rows: Rooms,
     args: &LockArgs,
     at: &Aim,
 ) -> Result<Ask, AllocError>
-    requires ends { at.now.first ≤ at.now.last }
-    ensures value { IfOk result (λ ask. ask ≡ lock_ask rows (shown_lock_args args.now) at.now) }
-    ensures fit { IfOk result (λ ask. IsFit ask) }
+    ensures { IfOk result (λ ask. ask ≡ lock_ask rows (shown_lock_args args.now) at.now) }
 {
     let owner = owner_of(alloc, &args.lock)?;
     let mut ranges = Sequence::new(alloc);
@@ -95,11 +89,8 @@ pub(crate) fn lock_ask(
 }
 
 /// What is asked for UNLOCK.
-#[tactic(auto, using(crate::proofs::AskLaws::own_client))]
 pub(crate) fn unlock_ask(alloc: Global, args: &UnlockArgs, at: &Aim) -> Result<Ask, AllocError>
-    requires ends { at.now.first ≤ at.now.last }
-    ensures value { IfOk result (λ ask. ask ≡ unlock_ask (shown_unlock_args args.now) at.now) }
-    ensures fit { IfOk result (λ ask. IsFit ask) }
+    ensures { IfOk result (λ ask. ask ≡ unlock_ask (shown_unlock_args args.now) at.now) }
 {
     let owner = owner_of(alloc, &args.lock)?;
     let act = Act::Unlock(Extent::Bytes(at.first, at.last));
@@ -139,15 +130,13 @@ fn rights_of(rights: Rights) -> Rwd
 }
 
 /// What is asked for SHARE, which adds these rows.
-#[tactic(auto, using(crate::proofs::AskLaws::own_client))]
 pub(crate) fn share_ask(
     alloc: Global,
     rows: Rooms,
     args: &ShareArgs,
     file: u32,
 ) -> Result<Ask, AllocError>
-    ensures value { IfOk result (λ ask. ask ≡ share_ask rows (shown_share_args args.now) file) }
-    ensures fit { IfOk result (λ ask. IsFit ask) }
+    ensures { IfOk result (λ ask. ask ≡ share_ask rows (shown_share_args args.now) file) }
 {
     let owner = share_owner(alloc, args)?;
     let act = Act::Share(rights_of(args.access), rights_of(args.mode));

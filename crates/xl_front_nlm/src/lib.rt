@@ -3,15 +3,16 @@
 
 mod aim;
 mod answers;
-mod asking;
 mod asks;
 mod call;
+mod deeds;
 mod effects;
 mod front;
 mod grant;
 pub mod law;
 mod leaving;
 mod outcome;
+mod plan;
 mod procedures;
 mod ranges;
 mod results;

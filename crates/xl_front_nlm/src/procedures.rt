@@ -1,20 +1,23 @@
 //! What becomes of a call.
-ghost use Rattle.std.specs.Prelude.{◌≡◌, ℕ, ◌+◌, ◌<◌, ◌^◌, IfOk, OnOk};
+ghost use Rattle.std.specs.Prelude.{◌≡◌, ℕ, option_map, IfOk, OnOk};
 ghost use Rattle.xl_names.specs.Names.{number_of};
 ghost use Rattle.xl_names.specs.declared.name.Name.TheVariants.{NlmParty};
 ghost use Rattle.xl_nlm.specs.Items.{shown_notify, shown_call, FreeAll};
 ghost use Rattle.xl_nlm.specs.Arguments.{CallFits};
-ghost use Rattle.xl_core.specs.Good.{IsGood};
-ghost use Rattle.xl_core.specs.State.{MayBe, GoesOn};
-ghost use Rattle.xl_front_nlm.specs.Serving.{served};
+ghost use Rattle.xl_core.specs.State.{MayBe};
+ghost use Rattle.xl_front_nlm.specs.Hosts.{HasHostRoom};
+ghost use Rattle.xl_front_nlm.specs.Plans.{shown_plan};
+ghost use Rattle.xl_front_nlm.specs.Serving.{planned, outcome_of, host_of, hosted, served};
 ghost use Rattle.xl_front_nlm.specs.Short.{IsReady, Leaves};
 
+use crate::deeds::carry_out;
 use crate::front::Front;
 use crate::outcome::Outcome;
-use crate::{leaving, ranges, shares};
+use crate::plan::{Deed, Met, Plan};
+use crate::{ranges, shares};
 use std::alloc::{AllocError, Global};
 use xl_base::{Keeper, Sequence};
-use xl_core::{Core, Effect};
+use xl_core::{Answer, Core, Effect};
 use xl_names::Name;
 use xl_nlm::{NlmCall, Notify};
 
@@ -27,26 +30,77 @@ fn party_number(alloc: Global, core: &Core, caller: &[u8]) -> Result<Option<u32>
 }
 
 /// FREE_ALL.
-#[tactic(auto, unfolding(crate::specs::Serving::served, crate::specs::Serving::planned), using(crate::proofs::StepLaws::leaves_self))]
-fn free_all(
-    alloc: Global,
-    front: &Front,
-    core: &mut Core,
-    args: &Notify,
-) -> Result<(Outcome, Sequence<Effect>), AllocError>
-    requires ready { IsReady core.old }
-    ensures done { (n count : ℕ) → IfOk result (λ r. MayBe n core.new → served n count front.now core.old (FreeAll (shown_notify args.now)) ≡ (r.0, r.1, front.now, core.new)) }
-    ensures leaves { OnOk result (Leaves core.old core.new) }
+#[tactic(auto, unfolding(crate::specs::Serving::planned))]
+fn free_all(alloc: Global, met: &Met, args: &Notify) -> Result<Plan, AllocError>
+    ensures { IfOk result (λ plan. planned met.now.count met.now.front.now.hosts met.now.core.now (FreeAll (shown_notify args.now)) ≡ shown_plan plan) }
 {
-    let Some(number) = party_number(alloc, core, args.name)? else {
-        return Ok((Outcome::Ended, Sequence::new(alloc)));
-    };
-    let effects = leaving::end_party(alloc, core, number)?;
-    Ok((Outcome::Ended, effects))
+    match party_number(alloc, met.core, args.name)? {
+        Some(number) => Ok(Plan::Does(Deed::Ends(number))),
+        None => Ok(Plan::Tells(Outcome::Ended)),
+    }
 }
 
-/// What becomes of a call, where so many files are exported.
-#[tactic(auto, using(crate::proofs::StepLaws::leaves_self, crate::proofs::DoesLaws::nm_lock_is_lock, crate::proofs::DoesLaws::null_does_nothing, crate::proofs::DoesLaws::granted_does_nothing))]
+/// What is to become of a call.
+#[tactic(auto, using(crate::proofs::DoesLaws::nm_lock_is_lock, crate::proofs::DoesLaws::null_tells_nothing, crate::proofs::DoesLaws::granted_tells_nothing))]
+fn planned(alloc: Global, met: &Met, call: &NlmCall) -> Result<Plan, AllocError>
+    ensures { IfOk result (λ plan. planned met.now.count met.now.front.now.hosts met.now.core.now (shown_call call.now) ≡ shown_plan plan) }
+{
+    match call {
+        NlmCall::Test(args) => ranges::test(alloc, met, args),
+        NlmCall::Lock(args) => ranges::lock(alloc, met, args),
+        NlmCall::Cancel(args) => ranges::cancel(alloc, met, args),
+        NlmCall::Unlock(args) => ranges::unlock(alloc, met, args),
+        NlmCall::Share(args) => shares::share(alloc, met, args),
+        NlmCall::Unshare(args) => shares::unshare(alloc, met, args),
+        NlmCall::NmLock(args) => ranges::lock(alloc, met, args),
+        NlmCall::FreeAll(args) => free_all(alloc, met, args),
+        NlmCall::Null | NlmCall::Granted(_) => Ok(Plan::Tells(Outcome::Nothing)),
+    }
+}
+
+/// Who is a host where the call is granted, or waits.
+fn host_of<'a>(call: &NlmCall<'a>) -> Option<&'a [u8]>
+    ensures { option_map (λ caller. caller.now) result ≡ host_of (shown_call call.now) }
+{
+    match call {
+        NlmCall::Lock(args) | NlmCall::NmLock(args) => Some(args.lock.caller_name),
+        NlmCall::Share(args) => Some(args.caller_name),
+        _ => None,
+    }
+}
+
+/// Enters the caller, if there is one, as a host where the answer makes it one.
+fn note_host(
+    alloc: Global,
+    front: &mut Front,
+    caller: Option<&[u8]>,
+    answer: Option<Answer>,
+) -> Result<(), AllocError>
+    requires room { HasHostRoom (option_map (λ name. name.now) caller) answer front.old.hosts }
+    ensures { OnOk result (front.new ≡ hosted (option_map (λ name. name.now) caller.entry) answer front.old) }
+{
+    let Some(caller) = caller else {
+        return Ok(());
+    };
+    let Some(answer) = answer else {
+        return Ok(());
+    };
+    front.note(answer, Sequence::from_slice(alloc, caller)?)?;
+    Ok(())
+}
+
+/// What comes of a deed that the core answers so.
+fn outcome_of(answer: Option<Answer>) -> Outcome
+    ensures { result ≡ outcome_of answer }
+{
+    match answer {
+        Some(answer) => Outcome::Answered(answer),
+        None => Outcome::Ended,
+    }
+}
+
+/// What becomes of a call, where so many files are exported. Who calls may be a host from then on.
+#[tactic(auto, using(crate::proofs::StepLaws::leaves_self))]
 pub(crate) fn serve<K: Keeper>(
     alloc: Global,
     count: usize,
@@ -61,15 +115,11 @@ pub(crate) fn serve<K: Keeper>(
     ensures leaves { OnOk result (Leaves core.old core.new) }
     ensures keeper { keeper.new ≡ keeper.old }
 {
-    match call {
-        NlmCall::Test(args) => ranges::test(alloc, count, front, core, keeper, args),
-        NlmCall::Lock(args) => ranges::lock(alloc, count, front, core, keeper, args),
-        NlmCall::Cancel(args) => ranges::cancel(alloc, count, front, core, args),
-        NlmCall::Unlock(args) => ranges::unlock(alloc, count, front, core, keeper, args),
-        NlmCall::Share(args) => shares::share(alloc, count, front, core, keeper, args),
-        NlmCall::Unshare(args) => shares::unshare(alloc, count, front, core, args),
-        NlmCall::NmLock(args) => ranges::lock(alloc, count, front, core, keeper, args),
-        NlmCall::FreeAll(args) => free_all(alloc, front, core, args),
-        NlmCall::Null | NlmCall::Granted(_) => Ok((Outcome::Nothing, Sequence::new(alloc))),
-    }
+    let deed = match planned(alloc, &Met { count, front, core }, call)? {
+        Plan::Tells(outcome) => return Ok((outcome, Sequence::new(alloc))),
+        Plan::Does(deed) => deed,
+    };
+    let (answer, effects) = carry_out(alloc, core, keeper, deed)?;
+    note_host(alloc, front, host_of(call), answer)?;
+    Ok((outcome_of(answer), effects))
 }

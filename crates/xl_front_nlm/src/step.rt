@@ -1,8 +1,8 @@
 //! What a call of program 100021 version 4 is answered: the Network Lock Manager (XNFS C702).
-ghost use Rattle.std.specs.Prelude.{◌≡◌, ℕ, ◌≤◌, true, [], ◌++◌, length, IfOk, OnOk};
+ghost use Rattle.std.specs.Prelude.{◌≡◌, ℕ, ◌≤◌, true, [], ◌++◌, length, option_map, IfOk, IfSome, OnOk};
 ghost use Rattle.std.specs.List.{AllByRecursion};
 ghost use Rattle.xl_base.specs.Limits.{most_message_bytes};
-ghost use Rattle.xl_nlm.specs.Arguments.{arguments_at, CallFits};
+ghost use Rattle.xl_nlm.specs.Arguments.{CallFits};
 ghost use Rattle.xl_nlm.specs.Items.{shown_call, shown_reply};
 ghost use Rattle.xl_nlm.specs.Replies.{results, ReplyFits};
 ghost use Rattle.xl_programs.specs.Programs.{serves, shown_request};
@@ -10,8 +10,7 @@ ghost use Rattle.xl_programs.specs.Sent.{sent_to, FitsFrame};
 ghost use Rattle.xl_rpc.specs.Replies.{reply};
 ghost use Rattle.xl_rpc.specs.declared.reply.Verdict.TheVariants.{Success, GarbageArgs};
 ghost use Rattle.xl_core.specs.State.{MayBe};
-ghost use Rattle.xl_front_nlm.specs.FrontNlm.{call_in, with_results, replied, nlm_step};
-ghost use Rattle.xl_front_nlm.specs.Serving.{served};
+ghost use Rattle.xl_front_nlm.specs.FrontNlm.{call_in, replied, nlm_step};
 ghost use Rattle.xl_front_nlm.specs.Short.{IsReady, Leaves};
 
 use crate::front::Front;
@@ -37,26 +36,21 @@ fn with_results(alloc: Global, xid: u32, told: &NlmReply) -> Result<Vec<u8>, All
     Ok(out.done())
 }
 
-/// The reply to a call whose arguments were read, where so many files are exported.
-fn served<K: Keeper>(
-    alloc: Global,
-    count: usize,
-    front: &mut Front,
-    core: &mut Core,
-    keeper: &mut K,
-    xid: u32,
-    call: &NlmCall,
-) -> Result<(Vec<u8>, Sequence<Effect>), AllocError>
-    requires fits { CallFits (shown_call call.now) }
-    requires ready { IsReady core.old }
-    ensures done { (n : ℕ) → IfOk result (λ r. MayBe n core.new → with_results xid (shown_call call.now) (served n count front.old core.old (shown_call call.now)) ≡ (r.0.items, r.1, front.new, core.new)) }
-    ensures leaves { OnOk result (Leaves core.old core.new) }
-    ensures keeper { keeper.new ≡ keeper.old }
-    ensures little { IfOk result (λ r. length r.0.items ≤ most_message_bytes) }
+/// The call that a request is, unless its arguments are garbage.
+#[tactic(auto, unfolding(crate::specs::FrontNlm::call_in))]
+fn call_in<'a>(request: &Request<'a>) -> Option<NlmCall<'a>>
+    requires known { serves Program.Nlm request.now.procedure ≡ true }
+    ensures call { option_map shown_call result ≡ call_in (shown_request request.now) }
+    ensures fits { IfSome result (λ call. CallFits (shown_call call)) }
 {
-    let (outcome, effects) = serve(alloc, count, front, core, keeper, call)?;
-    let results = reply_of(core.names(), call, outcome);
-    Ok((with_results(alloc, xid, &results)?, effects))
+    let mut args = request.arguments;
+    let Ok(call) = read(request.procedure, &mut args) else {
+        return None;
+    };
+    if !args.left().is_empty() {
+        return None;
+    }
+    Some(call)
 }
 
 /// The reply to arguments that can't be read, or behind which bytes stand; nothing happened besides.
@@ -70,7 +64,7 @@ fn garbage(alloc: Global, xid: u32) -> Result<(Vec<u8>, Sequence<Effect>), Alloc
 }
 
 /// The reply to a request.
-#[tactic(auto, unfolding(crate::specs::FrontNlm::call_in), using(crate::proofs::StepLaws::leaves_self))]
+#[tactic(auto, using(crate::proofs::StepLaws::leaves_self))]
 fn replied<K: Keeper>(
     alloc: Global,
     count: usize,
@@ -86,14 +80,13 @@ fn replied<K: Keeper>(
     ensures keeper { keeper.new ≡ keeper.old }
     ensures little { IfOk result (λ r. length r.0.items ≤ most_message_bytes) }
 {
-    let mut args = request.arguments;
-    let Ok(call) = read(request.procedure, &mut args) else {
+    let Some(call) = call_in(request) else {
         return garbage(alloc, request.xid);
     };
-    if !args.left().is_empty() {
-        return garbage(alloc, request.xid);
-    }
-    served(alloc, count, front, core, keeper, request.xid, &call)
+    let (outcome, effects) = serve(alloc, count, front, core, keeper, &call)?;
+    let told = reply_of(core.names(), &call, outcome);
+    let reply = with_results(alloc, request.xid, &told)?;
+    Ok((reply, effects))
 }
 
 /// Answers a call of NLM (XNFS C702) from the connection of this number: the reply, without its frame and at most 65,536

@@ -1,6 +1,6 @@
 use Rattle.xl_front_nlm.proofs.LeaveLaws.{ask_leaves}
 use Rattle.xl_core.proofs.FrameLaws.{may_be_made}
-use Rattle.xl_front_nlm.proofs.asking.asked.Goals as goal
+use Rattle.xl_front_nlm.proofs.deeds.asked.Goals as goal
 
 pub returns-clause-leaves : goal.returns-clause-leaves
 returns-clause-leaves g c =

@@ -1,0 +1,40 @@
+//! What becomes of a call, before the core is asked.
+
+use crate::front::Front;
+use crate::outcome::Outcome;
+use xl_core::{Ask, Core};
+use xl_matrix::Claim;
+use xl_wait::Rooms;
+
+/// What a call meets.
+#[derive(Clone, Copy)]
+pub(crate) struct Met<'a> {
+    /// How many files are exported.
+    pub count: usize,
+    /// What the front keeps.
+    pub front: &'a Front,
+    /// The core.
+    pub core: &'a Core,
+}
+
+/// What a call does to the core.
+#[derive(Drop)]
+pub(crate) enum Deed {
+    /// It asks this, where so much room is left in the tables of the fronts.
+    Asks(Rooms, Ask),
+    /// It gives back this claim.
+    GivesBack(Claim),
+    /// It takes out the waiter of this number.
+    Cancels(u32),
+    /// It ends the client whose name has this number.
+    Ends(u32),
+}
+
+/// What becomes of a call.
+#[derive(Drop)]
+pub(crate) enum Plan {
+    /// It is told so, and nothing is done.
+    Tells(Outcome),
+    /// This is done, and it is told what comes of it.
+    Does(Deed),
+}
