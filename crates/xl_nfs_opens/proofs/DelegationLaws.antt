@@ -16,7 +16,7 @@ use Rattle.xl_names.specs.declared.name.Name.{Name}
 use Rattle.xl_names.specs.declared.name.Name.TheVariants.{NfsParty}
 use Rattle.std.specs.Cmp.Lexicographic.{bytes_decides}
 use Rattle.std.specs.Prelude.{bytes_eq}
-use Rattle.xl_nfs.specs.Opens.{OpenArgsItem, OpenClaimItem, DelegateCurrent, NamedDelegationItem}
+use Rattle.xl_nfs.specs.Opens.{OpenArgsItem, OpenClaimItem, DelegateCurrent, NamedDelegationItem, Null, Previous}
 use Rattle.xl_nfs.specs.declared.basics.Stateid.{Stateid}
 use Rattle.xl_nfs.specs.declared.status.NfsStatus.{NfsStatus}
 use Rattle.xl_nfs.specs.declared.status.NfsStatus.TheVariants as statuses
@@ -47,7 +47,7 @@ use Rattle.xl_core.specs.declared.ask.Answer.{Answer}
 use Rattle.xl_core.specs.declared.ask.Effect.{Effect}
 use Rattle.xl_nfs_opens.specs.Closing.{Returning, cache_of_client, holder_returned, number_returned, return_done, returned, returned_status, row_returned, seqid_returned}
 use Rattle.xl_nfs_opens.specs.Numbers.{AreGivenOut}
-use Rattle.xl_nfs_opens.specs.Opens.{all_rooms, answered, by_delegation, check_bits, check_claim, check_how, file_of_claim, is_delegation, is_stateid_of, named_file, or_else, cache_by, cache_held, delegation_in, can_enter, can_stand, client_in, delegated, delegated_in, delegation_row, delegation_told, either_bits, entered, freed, gives, gives_all, granted_by, granted_more, granted_new, granted_wish, has_room, is_granted, judged, may_delegate, open_as, open_by, open_held, open_judged, open_row, open_turn, opened_file, opened_told, opener_of, reclaims, repeated, share_ask, stood, wish_of}
+use Rattle.xl_nfs_opens.specs.Opens.{all_rooms, answered, by_delegation, check_bits, check_claim, check_how, file_of_claim, is_delegation, is_stateid_of, named_file, or_else, cache_by, cache_held, delegation_in, can_enter, can_stand, client_in, delegated, delegated_in, delegation_row, delegation_told, either_bits, entered, freed, gives, gives_all, granted_by, granted_more, granted_new, granted_wish, has_room, is_granted, judged, open_as, open_by, open_held, open_judged, open_row, open_turn, opened_file, opened_told, opener_of, reclaims, repeated, share_ask, stood, wish_of, unless_held, kind_for, type_claimed, wished_kinds, has_program, rights_of, has_none}
 use Rattle.xl_nfs_opens.specs.Orderly.{IsDelegated, IsReturned}
 use Rattle.xl_nfs_opens.specs.Plans.{Outcome, carried, status_of, told_behind}
 use Rattle.xl_nfs_opens.specs.Renewing.{number_of, same_stateid, stateid_of}
@@ -61,11 +61,12 @@ use Rattle.xl_nfs_opens.specs.declared.told.Told.TheVariants.{Opened}
 use Rattle.xl_nfs_opens.proofs.EnterLaws.{found_behind, kept_stateids}
 use Rattle.xl_nfs_opens.proofs.KeepLaws.{none_in}
 use Rattle.xl_nfs_opens.proofs.KnownLaws.{free_of, seated_clients}
-use Rattle.xl_nfs_opens.proofs.NumberLaws.{entered_given, later_on, next_unused, seated_given, stood_given}
+use Rattle.xl_nfs_opens.proofs.NumberLaws.{entered_given, later_on, next_unused, seated_given, stood_given, deeds_rise, without_given}
 use Rattle.xl_nfs_opens.proofs.LeaveLaws.{drawn_number}
 use Rattle.xl_nfs_opens.proofs.OpenOwn.{all_given, ask_fits, no_range}
 use Rattle.xl_nfs_opens.proofs.OpenerLaws.{opener_there}
 use Rattle.xl_nfs_opens.proofs.OwnerLaws.{number_gone, own_client}
+use Rattle.xl_nfs.specs.declared.opens.DelegationType.{DelegationType}
 
 -- ---- the client has no delegation on the file
 
@@ -124,7 +125,7 @@ none_entered client file number owner at o a l none =
 none_stood : (client file number : ℕ) (r : StateidRow) (access deny : ℕ) (l : NfsLists) → HasNone client file l → HasNone client file (stood number r access deny false l)
 none_stood client file number r access deny l none = none_changed (delegated_on client file) (is_stateid number) (with_standing _) l.stateids (λ x. refl) none
 
-entered_clients : (r : StateidRow) (l : NfsLists) → (entered r l).clients ≡ l.clients
+pub entered_clients : (r : StateidRow) (l : NfsLists) → (entered r l).clients ≡ l.clients
 unfolding entered
 entered_clients r l =
     elim (cases_Bool (can_enter r (freed r.number l))) [
@@ -238,24 +239,23 @@ delegated_behind : (o : Opener) (given : Stateid) (write : Bool) (effects : List
 delegated_behind o given write effects done gives = λ stateid flags told. (let is = gives stateid flags told in record { row = is.row; found = is.found; named = is.named; client = is.client; file = is.file; holder = is.holder; held = is.held })
 
 -- one that is wished for isn't there before
-wish_free : (s : CoreState) (l : NfsLists) (o : Opener) (a : OpenArgsItem) (confirmed : Bool) (file : ℕ) (w : Bool) → wish_of s l o a confirmed file ≡ Some w → (confirmed ≡ true) × HasNone o.client file l
+wish_free : (s : CoreState) (l : NfsLists) (o : Opener) (a : OpenArgsItem) (confirmed : Bool) (file : ℕ) (w : Bool) → wish_of s l o a confirmed file ≡ Some w → HasNone o.client file l
 unfolding wish_of
-wish_free s l o a confirmed file w e =
-    elim (cases_Bool (may_delegate s l o a.claim confirmed file)) [
-      | inr d ↦ (let no : None ≡ Some w = rw d at e in absurd (true≢false (ap is_some (sym no))))
-      | inl d ↦
-          let first = and_parts confirmed _ d in
-          let second = and_parts _ _ first.1 in
-          let third = and_parts _ _ second.1 in
-          let free = (and_parts (not (is_some (cache_held s o.id file))) (not (is_some (find (delegated_on o.client file) l.stateids))) third.1).1 in
-          (first.0, none_of (find (delegated_on o.client file) l.stateids) free)
-    ]
+wish_free s l o a confirmed file w e = by (kind_for (find (is_client o.client true) l.clients) a confirmed a.claim) e
   where
     none_of : (x : Option StateidRow) → not (is_some x) ≡ true → x ≡ None
     none_of None h = refl
     none_of (Some r) h = absurd (true≢false (sym h))
 
-by_delegated : (n others : ℕ) (s : CoreState) (l : NfsLists) (current : Option ℕ) (o : Opener) (a : OpenArgsItem) (confirmed : Bool) (given : Stateid) (write : Bool) (r : Result ℕ NfsStatus) → IsGood s → (confirmed ≡ true → AreGivenOut s.counter l) → is_some (find (is_client o.client true) l.clients) ≡ true
+    by : (kind : Option Bool) → unless_held s l o file kind ≡ Some w → HasNone o.client file l
+    by None d = absurd (true≢false (ap is_some (sym d)))
+    by (Some write) d =
+        elim (cases_Bool (has_none s l o file)) [
+          | inr held ↦ (let no : None ≡ Some w = rw held at d in absurd (true≢false (ap is_some (sym no))))
+          | inl free ↦ none_of (find (delegated_on o.client file) l.stateids) (and_parts (not (is_some (cache_held s o.id file))) (not (is_some (find (delegated_on o.client file) l.stateids))) free).1
+        ]
+
+by_delegated : (n others : ℕ) (s : CoreState) (l : NfsLists) (current : Option ℕ) (o : Opener) (a : OpenArgsItem) (confirmed : Bool) (given : Stateid) (write : Bool) (r : Result ℕ NfsStatus) → IsGood s → AreGivenOut s.counter l → is_some (find (is_client o.client true) l.clients) ≡ true
     → Gives o given write (carried n s l current (open_by others s l current o a confirmed r))
 by_delegated n others s l current o a confirmed given write (Err status) good out client = λ stateid flags told. absurd cc
 by_delegated n others s l current o a confirmed given write (Ok file) good out client =
@@ -265,10 +265,10 @@ by_delegated n others s l current o a confirmed given write (Ok file) good out c
     elim (cases_Bool (has_room others l o file)) [
       | inr e ↦ rw e (λ stateid flags told. absurd cc)
       | inl e ↦ rw e (delegated_behind o given write r.1 (carried n r.2 l current (answered l current o a file confirmed wish r.0 r.2))
-          (answered_delegated n r.2 l current o a file confirmed wish r.0 given write (λ w d. (let is = wish_free s l o a confirmed file w d in (later_on s.counter r.2.counter l (omega (arith, frame.counter)) (out is.0), is.1))) client))
+          (answered_delegated n r.2 l current o a file confirmed wish r.0 given write (λ w d. (later_on s.counter r.2.counter l (omega (arith, frame.counter)) out, wish_free s l o a confirmed file w d)) client))
     ]
 
-as_delegated : (n : ℕ) (files : List (List ℕ)) (others : ℕ) (s : CoreState) (l : NfsLists) (current : Option ℕ) (at : ℕ) (o : Opener) (a : OpenArgsItem) (confirmed : Bool) (given : Stateid) (write : Bool) → IsGood s → (confirmed ≡ true → AreGivenOut s.counter l) → is_some (find (is_client o.client true) l.clients) ≡ true
+as_delegated : (n : ℕ) (files : List (List ℕ)) (others : ℕ) (s : CoreState) (l : NfsLists) (current : Option ℕ) (at : ℕ) (o : Opener) (a : OpenArgsItem) (confirmed : Bool) (given : Stateid) (write : Bool) → IsGood s → AreGivenOut s.counter l → is_some (find (is_client o.client true) l.clients) ≡ true
     → Gives o given write (carried n s l current (open_as files others s l current at o a confirmed))
 unfolding open_as
 as_delegated n files others s l current at o a confirmed given write good out client = by_delegated n others s l current o a confirmed given write (opened_file files s l o.client at a) good out client
@@ -286,10 +286,13 @@ judged_delegated n files others s l current at o a given write (judgements.Anew 
     let deeds = gives_all s o rows in
     let t = all_done n s deeds in
     let m = without_owner number l in
-    let left : IsGood t = deeds_good n s deeds good (all_given n s (λ _. Unit {0}) o rows good tt).0 in
-    delegated_behind o given write (all_told_of n s deeds) (carried n t m current (open_as files others t m current at o a false)) (as_delegated n files others t m current at o a false given write left (λ no. absurd (true≢false (sym no))) client)
-judged_delegated n files others s l current at o a given write judgements.New good out client = as_delegated n files others s l current at o a false given write good (λ no. absurd (true≢false (sym no))) client
-judged_delegated n files others s l current at o a given write judgements.Next good out client = as_delegated n files others s l current at o a true given write good (λ yes. out) client
+    let given_back = all_given n s (λ _. Unit {0}) o rows good tt in
+    let left : IsGood t = deeds_good n s deeds good given_back.0 in
+    let up = deeds_rise n s (λ _. Unit {0}) deeds good given_back.0 given_back.1 in
+    let still : AreGivenOut t.counter m = later_on s.counter t.counter m (omega (arith, up)) (without_given s.counter number l out) in
+    delegated_behind o given write (all_told_of n s deeds) (carried n t m current (open_as files others t m current at o a false)) (as_delegated n files others t m current at o a false given write left still client)
+judged_delegated n files others s l current at o a given write judgements.New good out client = as_delegated n files others s l current at o a false given write good out client
+judged_delegated n files others s l current at o a given write judgements.Next good out client = as_delegated n files others s l current at o a true given write good out client
 
 pub told_delegated : (n : ℕ) (files : List (List ℕ)) (others : ℕ) (s : CoreState) (l : NfsLists) (current : Option ℕ) (at : ℕ) (c : ClientRow) (a : OpenArgsItem) (stateid given : Stateid) (flags : ℕ) (write : Bool) → IsGood s → AreGivenOut s.counter l → client_in s l a.owner.clientid ≡ Some c → (carried n s l current (open_judged files others s l current at (opener_of c a) a (judged l (opener_of c a) a.seqid))).0 ≡ Opened stateid flags (Some (given, write))
     → IsDelegated (opener_of c a) given write (carried n s l current (open_judged files others s l current at (opener_of c a) a (judged l (opener_of c a) a.seqid)))
@@ -331,12 +334,12 @@ cache_goes n s file party (Some claim) good e =
     cleared (whats.Share access deny) h = absurd (true≢false (sym h))
     cleared (whats.Range extent exclusive) h = absurd (true≢false (sym h))
 
-given_names : (n : ℕ) (s : CoreState) (x : Option Claim) → (all_done n s (gives x)).names ≡ s.names
+pub given_names : (n : ℕ) (s : CoreState) (x : Option Claim) → (all_done n s (gives x)).names ≡ s.names
 unfolding give_back
 given_names n s None = refl
 given_names n s (Some claim) = refl
 
-client_cache_goes : (n : ℕ) (s : CoreState) (id : List ℕ) (file : ℕ) → IsGood s → cache_held (all_done n s (gives (cache_held s id file))) id file ≡ None
+pub client_cache_goes : (n : ℕ) (s : CoreState) (id : List ℕ) (file : ℕ) → IsGood s → cache_held (all_done n s (gives (cache_held s id file))) id file ≡ None
 unfolding cache_held
 client_cache_goes n s id file good = ap (λ (names : List Name). cache_by t.claims file (party_named names (NfsParty id))) (given_names n s (cache_by s.claims file (party_named s.names (NfsParty id)))) ∙ by (party_named s.names (NfsParty id)) refl
   where
@@ -475,3 +478,33 @@ claim_opens files s l client at file a d claim bits how is named =
     ∙ ap (λ (x : Option NfsStatus). or_else x (file_of_claim files s l client at a.claim)) how
     ∙ ap (λ (c : OpenClaimItem). file_of_claim files s l client at c) is
     ∙ ap (λ (x : Option ℕ). by_delegation s l client d.stateid x) named
+
+-- ---- what an OPEN wishes for
+
+unless_is : (s : CoreState) (l : NfsLists) (o : Opener) (file : ℕ) (kind : Option Bool) → unless_held s l o file kind ≡ (if has_none s l o file then kind else None)
+unless_is s l o file None = elim (cases_Bool (has_none s l o file)) [ inl e ↦ rw e refl | inr e ↦ rw e refl ]
+unless_is s l o file (Some write) = refl
+
+pub wish_reclaims : (s : CoreState) (l : NfsLists) (o : Opener) (a : OpenArgsItem) (confirmed : Bool) (file : ℕ) (type : DelegationType) → a.claim ≡ Previous type → wish_of s l o a confirmed file ≡ (if has_none s l o file then type_claimed type else None)
+unfolding wish_of
+wish_reclaims s l o a confirmed file type e =
+    ap (λ (claim : OpenClaimItem). unless_held s l o file (kind_for (find (is_client o.client true) l.clients) a confirmed claim)) e ∙ unless_is s l o file (type_claimed type)
+
+pub wish_names : (s : CoreState) (l : NfsLists) (o : Opener) (a : OpenArgsItem) (confirmed : Bool) (file : ℕ) (name : List ℕ) → a.claim ≡ Null name
+    → wish_of s l o a confirmed file ≡ (if has_none s l o file then (if confirmed && has_program (find (is_client o.client true) l.clients) then Some (rights_of a.access).w else None) else None)
+unfolding wish_of
+wish_names s l o a confirmed file name e =
+    let kind : Option Bool = if confirmed && has_program (find (is_client o.client true) l.clients) then Some (rights_of a.access).w else None in
+    ap (λ (claim : OpenClaimItem). unless_held s l o file (kind_for (find (is_client o.client true) l.clients) a confirmed claim)) e ∙ unless_is s l o file kind
+
+share_wish : (o : Opener) (a : OpenArgsItem) (file : ℕ) (wish : Option Bool) → ((share_ask wish o a file).wish ≡ wished_kinds wish) × ((share_ask wish o a file).reclaim ≡ reclaims a.claim)
+unfolding share_ask
+share_wish o a file wish = (refl, refl)
+
+-- the wish of a reclaim is in the same ask as its share
+pub wish_asks : (s : CoreState) (l : NfsLists) (o : Opener) (a : OpenArgsItem) (confirmed : Bool) (file : ℕ) (type : DelegationType) → a.claim ≡ Previous type → has_none s l o file ≡ true
+    → ((share_ask (wish_of s l o a confirmed file) o a file).wish ≡ wished_kinds (type_claimed type)) × ((share_ask (wish_of s l o a confirmed file) o a file).reclaim ≡ true)
+wish_asks s l o a confirmed file type e free =
+    let wish = wish_of s l o a confirmed file in
+    let is : wish ≡ type_claimed type = wish_reclaims s l o a confirmed file type e ∙ ap (λ (b : Bool). if b then type_claimed type else None) free in
+    ((share_wish o a file wish).0 ∙ ap wished_kinds is, (share_wish o a file wish).1 ∙ ap reclaims e)

@@ -3,7 +3,7 @@ use Rattle.std.proofs.Common.{◌≡◌, ℕ, ◌+◌, ◌≤◌, ◌<◌, ◌^�
 use Rattle.std.proofs.lemmas.Bool.{cases_Bool}
 use Rattle.std.proofs.lemmas.List.{length-append, length-replicate}
 use Rattle.std.specs.Bool.{◌==◌}
-use Rattle.xl_nfs.specs.Basics.{lock_type, lock_type_number, owner}
+use Rattle.xl_nfs.specs.Basics.{most_text_bytes, lock_type, lock_type_number, owner}
 use Rattle.xl_nfs.specs.Locks.{denied}
 use Rattle.xl_nfs.specs.Outcomes.{is_ok, lock_outcome, DeniedBy}
 use Rattle.xl_nfs.specs.Results.{ResultItem, LockAnswer, LockTAnswer, nfs_result, ResultFits}
@@ -19,7 +19,7 @@ use Rattle.xl_nfs_opens.specs.Seqids.{most_told, is_short, read_status, kept_sta
 use Rattle.xl_nfs_opens.specs.declared.told.HeldLock.{HeldLock}
 use Rattle.xl_nfs_state.specs.Bytes.{most_result_bytes}
 
-item_fits : (h : HeldLock) → h.offset < 2 ^ 64 → h.len < 2 ^ 64 → h.clientid < 2 ^ 64 → length h.owner ≤ 1024 → denied.Fit (denied_item h)
+item_fits : (h : HeldLock) → h.offset < 2 ^ 64 → h.len < 2 ^ 64 → h.clientid < 2 ^ 64 → length h.owner ≤ most_text_bytes → denied.Fit (denied_item h)
 unfolding denied lock_type owner
 item_fits h offset len clientid few = (offset, (len, (tt, (clientid, few))))
 
@@ -31,7 +31,7 @@ pub test_fits : (h : HeldLock) → denied.Fit (denied_item h) → ResultFits (Lo
 unfolding nfs_result lock_outcome status
 test_fits h fit = (omega arith, (tt, fit))
 
-pub denied_fits : (number : ℕ) (h : HeldLock) → h.offset < 2 ^ 64 → h.len < 2 ^ 64 → h.clientid < 2 ^ 64 → length h.owner ≤ 1024 → ResultFits (denied_as number h)
+pub denied_fits : (number : ℕ) (h : HeldLock) → h.offset < 2 ^ 64 → h.len < 2 ^ 64 → h.clientid < 2 ^ 64 → length h.owner ≤ most_text_bytes → ResultFits (denied_as number h)
 denied_fits number h offset len clientid few =
     let fit = item_fits h offset len clientid few in
     elim (cases_Bool (number == 13)) [
@@ -57,7 +57,7 @@ pad_little : (n : ℕ) → n ≤ 1024 → n + pad n ≤ 1024
 unfolding pad
 pad_little n le = omega (arith, le)
 
-fixed_little : (bytes : List ℕ) → length bytes ≤ 1024 → length (fixed bytes) ≤ 1024
+fixed_little : (bytes : List ℕ) → length bytes ≤ most_text_bytes → length (fixed bytes) ≤ 1024
 unfolding fixed
 fixed_little bytes few = omega (arith, length-append bytes (replicate (pad (length bytes)) 0), length-replicate {A = ℕ} (pad (length bytes)) 0, pad_little (length bytes) few)
 
@@ -65,7 +65,7 @@ more_little : (a b c d n : ℕ) (more : List ℕ) → length more ≤ 1024 → l
 unfolding big_endian
 more_little a b c d n more le = omega (arith, le)
 
-item_little : (h : HeldLock) → length h.owner ≤ 1024 → length (denied.spell (denied_item h)) ≤ 1056
+item_little : (h : HeldLock) → length h.owner ≤ most_text_bytes → length (denied.spell (denied_item h)) ≤ 1056
 unfolding denied lock_type owner opaque
 item_little h few = more_little h.offset h.len (lock_type_number h.kind) h.clientid (length h.owner) (fixed h.owner) (fixed_little h.owner few)
 
@@ -81,7 +81,7 @@ test_little : (h : HeldLock) → length (denied.spell (denied_item h)) ≤ 1056 
 unfolding nfs_result lock_outcome status status_number
 test_little h le = eight_more 13 10010 (denied.spell (denied_item h)) le
 
-held_little : (number : ℕ) (h : HeldLock) → length h.owner ≤ 1024 → length (nfs_result.spell (denied_as number h)) ≤ 1064
+held_little : (number : ℕ) (h : HeldLock) → length h.owner ≤ most_text_bytes → length (nfs_result.spell (denied_as number h)) ≤ 1064
 held_little number h few =
     let le = item_little h few in
     elim (cases_Bool (number == 13)) [
@@ -89,7 +89,7 @@ held_little number h few =
       | inr e ↦ rw e (lock_little h le)
     ]
 
-pub denied_grown : (old new : List ℕ) (r : ResultItem) (number : ℕ) (h : HeldLock) → length h.owner ≤ 1024 → r ≡ denied_as number h → new ≡ old ++ nfs_result.spell r → length new ≤ length old + most_result_bytes
+pub denied_grown : (old new : List ℕ) (r : ResultItem) (number : ℕ) (h : HeldLock) → length h.owner ≤ most_text_bytes → r ≡ denied_as number h → new ≡ old ++ nfs_result.spell r → length new ≤ length old + most_result_bytes
 denied_grown old new r number h few same is =
     subst (λ (x : List ℕ). length x ≤ length old + most_result_bytes) (sym (is ∙ ap (λ (x : ResultItem). old ++ nfs_result.spell x) same)) (omega (arith, length-append old (nfs_result.spell (denied_as number h)), held_little number h few))
 

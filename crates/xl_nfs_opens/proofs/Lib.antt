@@ -1,5 +1,6 @@
 pub mod OwnerLaws
 pub mod CacheLaws
+pub mod QuietLaws
 pub mod LeaveLaws
 pub mod ResultLaws
 pub mod HeldLaws
@@ -23,7 +24,11 @@ pub mod KeepLaws
 pub mod KnownLaws
 pub mod ShutLaws
 pub mod NumberLaws
+pub mod StillLaws
+pub mod CalmLaws
+pub mod GivenLaws
 pub mod LengthLaws
 pub mod TiedLaws
 pub mod DelegationLaws
+pub mod GrantLaws
 pub mod AdvanceLaws

@@ -25,7 +25,7 @@ use Rattle.xl_nfs_state.specs.declared.stateid.Whose.TheVariants as whose
 use Rattle.xl_core.proofs.DeedLists.{deeds_good}
 use Rattle.xl_core.proofs.FrameLaws.{ask_frame, end_party_frame, give_back_frame, renew_frame, weaken_frame}
 use Rattle.xl_core.specs.Decide.{ask}
-use Rattle.xl_core.specs.Deeds.{Deed, Asks, GivesBack, Weakens, Acks, Cancels, Ends, Serves, Draws, Advances, Lapses, Renews, Expires, done, all_done, IsFitDeed, AreFit}
+use Rattle.xl_core.specs.Deeds.{Deed, Asks, GivesBack, Weakens, Acks, Cancels, Ends, Closes, Serves, Draws, Advances, Lapses, Renews, Expires, done, all_done, IsFitDeed, AreFit}
 use Rattle.xl_core.specs.Good.{IsGood}
 use Rattle.xl_core.specs.State.{CoreState, drawn}
 use Rattle.xl_core.specs.declared.ask.Answer.{Answer}
@@ -156,6 +156,7 @@ deed_rises n s Client (Ends party) good fit own = (let frame = end_party_frame s
 deed_rises n s Client (Renews id) good fit own = (let frame = renew_frame s id in omega (arith, frame.counter))
 deed_rises n s Client (Acks cache to) good fit own = absurd own
 deed_rises n s Client (Cancels id) good fit own = absurd own
+deed_rises n s Client (Closes number party) good fit own = absurd own
 deed_rises n s Client (Serves left) good fit own = absurd own
 deed_rises n s Client (Advances now) good fit own = absurd own
 deed_rises n s Client (Lapses cache) good fit own = absurd own
@@ -168,7 +169,7 @@ deeds_rise n s Client (d ∷ ds) good fit own =
     let rest = deeds_rise n (done n s d) Client ds (deeds_good n s (d ∷ []) good (fit.0, tt)) fit.1 own.1 in
     omega (arith, one, rest)
 
-parts_own : (n : ℕ) (s : CoreState) (Client : List ℕ → Type 0) (ds es : List Deed) → AreFit n s (ds ++ es) → AreBy n s Client (ds ++ es) → (AreFit n s ds × AreBy n s Client ds) × (AreFit n (all_done n s ds) es × AreBy n (all_done n s ds) Client es)
+pub parts_own : (n : ℕ) (s : CoreState) (Client : List ℕ → Type 0) (ds es : List Deed) → AreFit n s (ds ++ es) → AreBy n s Client (ds ++ es) → (AreFit n s ds × AreBy n s Client ds) × (AreFit n (all_done n s ds) es × AreBy n (all_done n s ds) Client es)
 parts_own n s Client [] es fit own = ((tt, tt), (fit, own))
 parts_own n s Client (d ∷ ds) es fit own =
     let rest = parts_own n (done n s d) Client ds es fit.1 own.1 in

@@ -121,14 +121,13 @@ further_told n files others s l current at o a confirmed file status goes found 
 
 -- one that was never confirmed is judged further once what it had is gone
 pub anew_told : (n : ℕ) (files : List (List ℕ)) (others : ℕ) (s t : CoreState) (l : NfsLists) (current : Option ℕ) (at : ℕ) (o : Opener) (a : OpenArgsItem) (number file : ℕ) (status : NfsStatus) → judged l o a.seqid ≡ judgements.Anew number → t ≡ all_done n s (gives_all s o (filter (is_whose (whose.Owner number)) l.stateids)) → opened_file files t (without_owner number l) o.client at a ≡ Ok file → has_room others (without_owner number l) o file ≡ true
-    → (status_of (carried n s l current (open_judged files others s l current at o a (judged l o a.seqid))).0 ≡ status) ↔ IsOpenTold (share_way t None o a file) (share_ask None o a file) (share_claim t o a file) status
-unfolding wish_of
+    → (status_of (carried n s l current (open_judged files others s l current at o a (judged l o a.seqid))).0 ≡ status) ↔ IsOpenTold (share_way t (wish_of t (without_owner number l) o a false file) o a file) (share_ask (wish_of t (without_owner number l) o a false file) o a file) (share_claim t o a file) status
 anew_told n files others s t l current at o a number file status anew after found room =
     exactly_by _ _ status (
     ap (λ (j : Judged). status_of (carried n s l current (open_judged files others s l current at o a j)).0) anew
     ∙ ap (λ (u : CoreState). status_of (carried n u (without_owner number l) current (open_as files others u (without_owner number l) current at o a false)).0) (sym after)
     ∙ as_status n files others t (without_owner number l) current at o a false file found room
-    ) (share_exactly n t None o a file status)
+    ) (share_exactly n t (wish_of t (without_owner number l) o a false file) o a file status)
 
 pub further_fails : (n : ℕ) (files : List (List ℕ)) (others : ℕ) (s : CoreState) (l : NfsLists) (current : Option ℕ) (at : ℕ) (o : Opener) (a : OpenArgsItem) (confirmed : Bool) (status : NfsStatus) → goes_on (judged l o a.seqid) ≡ Some confirmed → opened_file files s l o.client at a ≡ Err status → carried n s l current (open_judged files others s l current at o a (judged l o a.seqid)) ≡ (Ended status, current, [], refused_lists o a confirmed status l, s)
 unfolding open_as

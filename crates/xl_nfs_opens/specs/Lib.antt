@@ -11,6 +11,7 @@ pub mod Closing
 pub mod Downgrades
 pub mod Laws
 pub mod Orderly
+pub mod Delegated
 pub mod Numbers
 pub mod Lengths
 pub mod Owners

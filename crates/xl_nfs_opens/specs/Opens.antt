@@ -16,6 +16,8 @@ use Rattle.xl_names.specs.declared.name.Name.TheVariants.{NfsShare, NfsParty}
 use Rattle.xl_nfs.specs.Opens.{OpenArgsItem, OpenHowItem, NoCreate, Create, Unchecked, Guarded, Exclusive, OpenClaimItem, Null, Previous, DelegateCurrent, DelegatePrevious}
 use Rattle.xl_nfs.specs.Results.{ResultItem, OpenAnswer, nfs_result}
 use Rattle.xl_nfs.specs.declared.basics.Stateid.{Stateid}
+use Rattle.xl_nfs.specs.declared.opens.DelegationType.{DelegationType}
+use Rattle.xl_nfs.specs.declared.opens.DelegationType.TheVariants as types
 use Rattle.xl_nfs.specs.declared.status.NfsStatus.{NfsStatus}
 use Rattle.xl_nfs.specs.declared.status.NfsStatus.TheVariants as statuses
 use Rattle.xl_nfs_state.specs.Filed.{changed}
@@ -205,15 +207,25 @@ reclaims _ = false
 
 -- ---- a delegation that is wished for (RFC 7530 10.4)
 
--- the file is claimed by its name
-abbrev pub is_by_name : OpenClaimItem → Bool
-is_by_name (Null name) = true
-is_by_name _ = false
-
 -- the client can be called back
 abbrev pub has_program : Option ClientRow → Bool
 has_program None = false
 has_program (Some c) = not (c.details.callback.program == 0)
+
+-- whether a delegation that is claimed from before a restart is for writing, where it is one (open_delegation_type4)
+abbrev pub type_claimed : DelegationType → Option Bool
+type_claimed types.None = None
+type_claimed types.Read = Some false
+type_claimed types.Write = Some true
+
+-- Whether the delegation is for writing that a claim may get, where it may. A file that is claimed by its name: of a confirmed owner
+-- whose client can be called back, for writing where the access has that, else for reading. A file that was open before a
+-- restart: what is claimed with it, by any owner and of any client (RFC 7530 9.6.2, 10.2.1).
+abbrev pub kind_for : Option ClientRow → OpenArgsItem → Bool → OpenClaimItem → Option Bool
+kind_for client a confirmed (Null name) = if confirmed && has_program client then Some (rights_of a.access).w else None
+kind_for client a confirmed (Previous type) = type_claimed type
+kind_for client a confirmed (DelegateCurrent named) = None
+kind_for client a confirmed (DelegatePrevious name) = None
 
 -- the cache that a party has on the file; it has one at most
 abbrev pub cache_by : List Claim → ℕ → Option Party → Option Claim
@@ -228,13 +240,14 @@ cache_held s id file = cache_by s.claims file (party_named s.names (NfsParty id)
 abbrev pub has_none : CoreState → NfsLists → Opener → ℕ → Bool
 has_none s l o file = not (is_some (cache_held s o.id file)) && not (is_some (find (delegated_on o.client file) l.stateids))
 
--- a confirmed owner claims the file by its name, of a client that can be called back and has none there
-abbrev pub may_delegate : CoreState → NfsLists → Opener → OpenClaimItem → Bool → ℕ → Bool
-may_delegate s l o claim confirmed file = confirmed && (is_by_name claim && (has_program (find (is_client o.client true) l.clients) && has_none s l o file))
+-- nothing is wished for where the client has one there
+abbrev pub unless_held : CoreState → NfsLists → Opener → ℕ → Option Bool → Option Bool
+unless_held s l o file None = None
+unless_held s l o file (Some write) = if has_none s l o file then Some write else None
 
--- the delegation that it gets if it may: for writing where the access has that, else for reading
+-- the delegation for which an OPEN wishes: whether it is for writing
 unfoldable pub wish_of : CoreState → NfsLists → Opener → OpenArgsItem → Bool → ℕ → Option Bool
-wish_of s l o a confirmed file = if may_delegate s l o a.claim confirmed file then Some (rights_of a.access).w else None
+wish_of s l o a confirmed file = unless_held s l o file (kind_for (find (is_client o.client true) l.clients) a confirmed a.claim)
 
 abbrev pub wished_kinds : Option Bool → List CacheKind
 wished_kinds None = []

@@ -7,7 +7,7 @@ ghost use Rattle.xl_names.specs.declared.name.Name.TheVariants.{NfsParty};
 ghost use Rattle.xl_nfs.specs.Opens.{shown_open_args, shown_open_claim};
 ghost use Rattle.xl_nfs_state.specs.Keys.{place_of, same_place};
 ghost use Rattle.xl_core.specs.Asking.{party_named};
-ghost use Rattle.xl_nfs_opens.specs.Opens.{cache_by, cache_held, delegation_of, can_stand, delegated, delegated_in, delegation_row, delegation_told, drawn_for, granted_wish, has_none, has_program, is_by_name, may_delegate, wish_of, wished_kinds};
+ghost use Rattle.xl_nfs_opens.specs.Opens.{cache_by, cache_held, delegation_of, can_stand, delegated, delegated_in, delegation_row, delegation_told, drawn_for, granted_wish, has_none, has_program, kind_for, type_claimed, wish_of, wished_kinds};
 ghost use Rattle.xl_nfs_opens.specs.Short.{IsReady, Leaves};
 
 use crate::leases::drawn;
@@ -19,15 +19,8 @@ use xl_base::{Party, Protocol, Sequence};
 use xl_core::Core;
 use xl_matrix::{CacheKind, Claim, What, same_party};
 use xl_names::Name;
-use xl_nfs::{OpenArgs, OpenClaim, Stateid};
+use xl_nfs::{DelegationType, OpenArgs, OpenClaim, Stateid};
 use xl_nfs_state::{ClientRow, Holder, NfsState, Standing, StateidRow};
-
-/// Whether the file is claimed by its name.
-fn is_by_name(claim: &OpenClaim) -> bool
-    ensures { result ≡ is_by_name (shown_open_claim claim.now) }
-{
-    matches!(claim, OpenClaim::Null(_))
-}
 
 /// Whether the client can be called back.
 fn has_program(client: Option<&ClientRow>) -> bool
@@ -36,6 +29,29 @@ fn has_program(client: Option<&ClientRow>) -> bool
     match client {
         Some(row) => row.details.callback.program != 0,
         None => false,
+    }
+}
+
+/// Whether a delegation that is claimed from before a restart is for writing, where it is one.
+fn type_claimed(kind: DelegationType) -> Option<bool>
+    ensures { result ≡ type_claimed kind }
+{
+    match kind {
+        DelegationType::None => None,
+        DelegationType::Read => Some(false),
+        DelegationType::Write => Some(true),
+    }
+}
+
+/// Whether the delegation is for writing that a claim may get, where it may: of a file by its name that of a confirmed owner
+/// whose client can be called back, by the access; of a file that was open before a restart what is claimed with it.
+fn kind_for(client: Option<&ClientRow>, args: &OpenArgs, confirmed: bool) -> Option<bool>
+    ensures { result ≡ kind_for (option_copied client.entry) (shown_open_args args.now) confirmed (shown_open_claim args.now.claim) }
+{
+    match args.claim {
+        OpenClaim::Null(_) if confirmed && has_program(client) => Some(rights_of(args.access).w),
+        OpenClaim::Previous(kind) => type_claimed(kind),
+        OpenClaim::Null(_) | OpenClaim::DelegateCurrent(_) | OpenClaim::DelegatePrevious(_) => None,
     }
 }
 
@@ -110,27 +126,7 @@ fn has_none(
     Ok(cache.is_none() && state.find_delegation(opener.client, file).is_none())
 }
 
-/// Whether it may get one: a confirmed owner claims the file by its name, of a client that can be called back and has none
-/// there.
-fn may_delegate(
-    alloc: Global,
-    core: &Core,
-    state: &NfsState,
-    opener: &Opener,
-    claim: &OpenClaim,
-    confirmed: bool,
-    file: u32,
-) -> Result<bool, AllocError>
-    ensures { IfOk result (λ may. may ≡ may_delegate core.now state.now opener.now (shown_open_claim claim.now) confirmed file) }
-{
-    if !confirmed || !is_by_name(claim) || !has_program(state.find_client(opener.client, true)) {
-        return Ok(false);
-    }
-    let none = has_none(alloc, core, state, opener, file)?;
-    Ok(none)
-}
-
-/// The delegation that it gets if it may: for writing where the access has that, else for reading.
+/// The delegation for which an OPEN wishes: what its claim may get, where the client has none there.
 #[tactic(auto, unfolding(crate::specs::Opens::wish_of))]
 pub(crate) fn wish_of(
     alloc: Global,
@@ -143,10 +139,14 @@ pub(crate) fn wish_of(
 ) -> Result<Option<bool>, AllocError>
     ensures { IfOk result (λ wish. wish ≡ wish_of core.now state.now opener.now (shown_open_args args.now) confirmed file) }
 {
-    if !may_delegate(alloc, core, state, opener, &args.claim, confirmed, file)? {
+    let client = state.find_client(opener.client, true);
+    let Some(write) = kind_for(client, args, confirmed) else {
+        return Ok(None);
+    };
+    if !has_none(alloc, core, state, opener, file)? {
         return Ok(None);
     }
-    Ok(Some(rights_of(args.access).w))
+    Ok(Some(write))
 }
 
 /// The kinds of such a wish.

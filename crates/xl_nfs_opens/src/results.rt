@@ -1,5 +1,6 @@
 //! How what an operation told is spelled.
 ghost use Rattle.std.specs.Prelude.{◌≡◌, ◌+◌, ◌≤◌, ◌++◌, if◌then◌else◌, length, Ok, IfOk, OnOk};
+ghost use Rattle.xl_nfs.specs.Basics.{most_text_bytes};
 ghost use Rattle.xl_nfs.specs.Opened.{shown_delegation};
 ghost use Rattle.xl_nfs.specs.Ops.{is_numbered};
 ghost use Rattle.xl_nfs.specs.Results.{shown_result, GetFhAnswer, SetClientIdAnswer, NotSupportedAnswer, OpenAnswer, LockTAnswer, IllegalAnswer, ResultFits, nfs_result};
@@ -183,7 +184,7 @@ fn put_state(out: &mut XdrOut, number: u32, stateid: Stateid) -> Result<(), Allo
 /// The operation of this number is denied by this lock.
 fn denied_as<'a>(number: u32, held: &'a HeldLock) -> NfsResult<'a>
     ensures value { shown_result result ≡ denied_as number held.now }
-    ensures few { length held.now.owner ≤ 1024 }
+    ensures few { length held.now.owner ≤ most_text_bytes }
 {
     let denied = Denied {
         offset: held.offset,

@@ -1,5 +1,6 @@
 //! What an operation tells.
 ghost use Rattle.std.specs.Prelude.{◌≡◌, ◌≤◌, length};
+ghost use Rattle.xl_nfs.specs.Basics.{most_text_bytes};
 ghost use Rattle.xl_nfs_opens.specs.Plans.{status_of};
 ghost use Rattle.xl_nfs_opens.specs.Seqids.{kept_status, is_short};
 
@@ -21,18 +22,19 @@ pub struct HolderBytes {
 
 impl Model for HolderBytes {
     ghost use Rattle.std.specs.Prelude.{◌≤◌, ℕ, List, length};
+    ghost use Rattle.xl_nfs.specs.Basics.{most_text_bytes};
 
     ghost Value = { List ℕ };
 
     ghost view = { λ h. h.bytes };
 
-    ghost invariant = { λ h. length h.bytes ≤ 1024 };
+    ghost invariant = { λ h. length h.bytes ≤ most_text_bytes };
 }
 
 impl HolderBytes {
     /// These bytes, 1,024 at most. It takes no memory.
     pub fn new(bytes: Sequence<u8>) -> HolderBytes
-        requires { length bytes ≤ 1024 }
+        requires { length bytes ≤ most_text_bytes }
         ensures { result ≡ bytes }
     {
         HolderBytes { bytes }
@@ -41,7 +43,7 @@ impl HolderBytes {
     /// The bytes.
     pub fn as_slice(&self) -> &[u8]
         ensures bytes { result.now ≡ self.now }
-        ensures few { length self.now ≤ 1024 }
+        ensures few { length self.now ≤ most_text_bytes }
     {
         self.bytes.as_slice()
     }
