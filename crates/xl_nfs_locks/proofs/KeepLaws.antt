@@ -79,7 +79,7 @@ number_passed : (l : NfsLists) (at op seqid : ℕ) (o : Option ℕ) → IfPassed
 number_passed l at op seqid None = tt
 number_passed l at op seqid (Some number) = row_passed l at op seqid number (find (is_stateid number) l.stateids) refl
 
-found_passed : (s : CoreState) (l : NfsLists) (current : Option ℕ) (op seqid : ℕ) (stateid : Stateid) → IfPassed l (locks_found s l current op seqid stateid)
+pub found_passed : (s : CoreState) (l : NfsLists) (current : Option ℕ) (op seqid : ℕ) (stateid : Stateid) → IfPassed l (locks_found s l current op seqid stateid)
 unfolding locks_found
 found_passed s l None op seqid stateid = tt
 found_passed s l (Some at) op seqid stateid = number_passed l at op seqid (number_of s stateid.other)

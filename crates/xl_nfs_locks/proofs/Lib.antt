@@ -9,6 +9,7 @@ pub mod KeepLaws
 pub mod CloseLaws
 pub mod CountLaws
 pub mod NumberLaws
+pub mod CalmLaws
 pub mod JudgeLaws
 pub mod AdvanceLaws
 pub mod FaultLaws

@@ -9,6 +9,7 @@ use Rattle.xl_matrix.specs.declared.claim.What.{What}
 use Rattle.xl_matrix.specs.declared.claim.What.TheVariants.{Range}
 use Rattle.xl_names.specs.declared.name.Name.{Name}
 use Rattle.xl_names.specs.declared.name.Name.TheVariants.{NfsRange}
+use Rattle.xl_nfs.specs.Basics.{most_text_bytes}
 use Rattle.xl_nfs.specs.declared.basics.LockType.{LockType}
 use Rattle.xl_nfs.specs.declared.basics.LockType.TheVariants as types
 use Rattle.xl_nfs.specs.declared.status.NfsStatus.TheVariants as statuses
@@ -32,7 +33,7 @@ clientid_by s (Some c) = clientid_of s c.number
 -- the clientid and the bytes of an NFSv4 lock owner, which has 1,024 of these at most; of an owner of NLM 0 and `nlm`
 abbrev pub named_parts : CoreState → NfsLists → Option Name → ℕ × List ℕ
 named_parts s l (Some (NfsRange id owner)) =
-    if nat_le (length owner) 1024 then (clientid_by s (find (is_client_named id true) l.clients), owner) else (0, codes "nlm")
+    if nat_le (length owner) most_text_bytes then (clientid_by s (find (is_client_named id true) l.clients), owner) else (0, codes "nlm")
 named_parts s l _ = (0, codes "nlm")
 
 -- the same of who holds a lock; of an SMB open 0 and `smb`

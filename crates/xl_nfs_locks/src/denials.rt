@@ -1,6 +1,7 @@
 //! The lock that stands against another, as LOCK and LOCKT tell it (RFC 7531, LOCK4denied).
 ghost use Rattle.std.specs.Prelude.{◌≡◌, ◌≤◌, true, length, IfOk};
 ghost use Rattle.std.specs.List.{find};
+ghost use Rattle.xl_nfs.specs.Basics.{most_text_bytes};
 ghost use Rattle.xl_nfs_state.specs.State.{is_client_named};
 ghost use Rattle.xl_nfs_locks.specs.Denials.{clientid_by, held_by, held_lock, holder_parts, kind_of, lock_told};
 
@@ -10,7 +11,7 @@ use xl_base::{Owner, Sequence};
 use xl_core::{Answer, Core};
 use xl_matrix::{Claim, Extent, What};
 use xl_names::Name;
-use xl_nfs::{LockType, NfsStatus};
+use xl_nfs::{LockType, MOST_TEXT_BYTES, NfsStatus};
 use xl_nfs_opens::{HeldLock, HolderBytes, Told, answer_status, clientid_of};
 use xl_nfs_state::NfsState;
 
@@ -27,13 +28,13 @@ fn clientid_by(state: &NfsState, core: &Core, id: &[u8]) -> u64
 /// The clientid and the bytes of who holds a lock.
 fn holder_parts<'a>(state: &NfsState, core: &'a Core, owner: Owner) -> (u64, &'a [u8])
     ensures value { (result.0, result.1.now) ≡ holder_parts core.now state.now owner }
-    ensures few { length result.1.now ≤ 1024 }
+    ensures few { length result.1.now ≤ most_text_bytes }
 {
     let Owner::Name(_, number) = owner else {
         return (0, b"smb");
     };
     match core.names().as_slice().get(number as usize) {
-        Some(Name::NfsRange(id, bytes)) if bytes.len() <= 1024 => {
+        Some(Name::NfsRange(id, bytes)) if bytes.len() <= MOST_TEXT_BYTES as usize => {
             (clientid_by(state, core, id.as_slice()), bytes.as_slice())
         }
         _ => (0, b"nlm"),
