@@ -10,5 +10,6 @@ pub mod RenewedLaws
 pub mod OwnLaws
 pub mod HandleLaws
 pub mod OrderlyLaws
+pub mod TiedLaws
 pub mod NumberLaws
 pub mod RecallLaws

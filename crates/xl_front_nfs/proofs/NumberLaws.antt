@@ -134,7 +134,7 @@ item_few files others s l current (NotSupported number) given = tt
 pub item_given : (n : ℕ) (files : List (List ℕ)) (others : ℕ) (s : CoreState) (l : NfsLists) (current : Option ℕ) (item : OpItem) → IsGood s → AreGivenOut s.counter l → StayGivenOut s (carried n s l current (planned files others s l current item))
 item_given n files others s l current item good given = carried_few n s l current (planned files others s l current item) _ good (plan_own n files others s l current item good) given (item_few files others s l current item given)
 
-item_good : (n : ℕ) (files : List (List ℕ)) (others : ℕ) (s : CoreState) (l : NfsLists) (current : Option ℕ) (item : OpItem) → IsGood s → IsGood (carried n s l current (planned files others s l current item)).4
+pub item_good : (n : ℕ) (files : List (List ℕ)) (others : ℕ) (s : CoreState) (l : NfsLists) (current : Option ℕ) (item : OpItem) → IsGood s → IsGood (carried n s l current (planned files others s l current item)).4
 item_good n files others s l current item good =
     let plan : Plan = planned files others s l current item in
     subst IsGood (sym (plan_does n s l current plan)) (deeds_good n s (deeds_of n s plan) good (plan_own n files others s l current item good).0)

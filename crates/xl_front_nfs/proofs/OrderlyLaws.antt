@@ -141,7 +141,7 @@ item_keeps files others s l current (NotSupported number) orderly = tt
 
 -- ---- a request
 
-step_orderly : (n : ℕ) (files : List (List ℕ)) (others : ℕ) (c : Course) (s : CoreState) (step : Step) → IsOrderly c.lists → IsOrderly (ran files others n c s step).1.lists
+pub step_orderly : (n : ℕ) (files : List (List ℕ)) (others : ℕ) (c : Course) (s : CoreState) (step : Step) → IsOrderly c.lists → IsOrderly (ran files others n c s step).1.lists
 unfolding ran
 step_orderly n files others c s (Runs op) orderly = carried_orderly n s c.lists c.current (planned files others s c.lists c.current op) orderly (item_keeps files others s c.lists c.current op orderly)
 step_orderly n files others c s (Garbled number) orderly = orderly

@@ -20,7 +20,7 @@ use Rattle.xl_front_nfs.specs.State.{FrontNfs}
 is_below : (a b : ℕ) → nat_lt a b ≡ true → a < b
 is_below a b e = grind (arith, nat_tests, e)
 
-below_is : (a b : ℕ) → a < b → nat_lt a b ≡ true
+pub below_is : (a b : ℕ) → a < b → nat_lt a b ≡ true
 below_is a b e = grind (arith, nat_tests, e)
 
 one_in : (x y : Out) → IsIn x (y ∷ []) → x ≡ y

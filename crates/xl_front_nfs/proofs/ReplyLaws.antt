@@ -2,6 +2,7 @@
 use Rattle.std.proofs.Common.{◌≡◌, ℕ, ◌+◌, ◌≤◌, List, ◌++◌, length, sym, subst, arith}
 use Rattle.std.specs.Prelude.{replicate}
 use Rattle.std.proofs.lemmas.List.{length-append, length-replicate}
+use Rattle.xl_base.specs.Limits.{most_message_bytes}
 use Rattle.xl_nfs.specs.Statuses.{status_number}
 use Rattle.xl_nfs.specs.declared.status.NfsStatus.{NfsStatus}
 use Rattle.xl_programs.proofs.ReplyLaws.{longer, reply_little}
@@ -27,6 +28,6 @@ results_little tag status count results short few =
           (omega (arith, length-append (opaque tag) (unsigned count ++ results), opaque_little tag 1024 short, longer count results 7720 few)),
     )
 
-pub compound_little : (whole : List ℕ) (xid : ℕ) (tag : List ℕ) (status : NfsStatus) (count : ℕ) (results : List ℕ) → whole ≡ reply xid Success ++ compound_results tag status count results → length tag ≤ 1024 → length results ≤ 7720 → length whole ≤ 65536
+pub compound_little : (whole : List ℕ) (xid : ℕ) (tag : List ℕ) (status : NfsStatus) (count : ℕ) (results : List ℕ) → whole ≡ reply xid Success ++ compound_results tag status count results → length tag ≤ 1024 → length results ≤ 7720 → length whole ≤ most_message_bytes
 compound_little whole xid tag status count results is short few =
-    subst (λ (x : List ℕ). length x ≤ 65536) (sym is) (omega (arith, length-append (reply xid Success) (compound_results tag status count results), reply_little xid Success, results_little tag status count results short few))
+    subst (λ (x : List ℕ). length x ≤ most_message_bytes) (sym is) (omega (arith, length-append (reply xid Success) (compound_results tag status count results), reply_little xid Success, results_little tag status count results short few))

@@ -1,5 +1,5 @@
 -- What a call of program 100003 version 4 is answered (RFC 7530 14.1, 14.2).
-use Rattle.std.specs.Prelude.{ℕ, not, ◌==◌, nat_lt, if◌then◌else◌, List, [], ◌++◌, length, Result, Ok, Err}
+use Rattle.std.specs.Prelude.{ℕ, ◌*◌, not, ◌==◌, nat_lt, if◌then◌else◌, List, [], ◌++◌, length, Result, Ok, Err}
 use Rattle.xl_base.specs.declared.event.Out.{Out}
 use Rattle.xl_base.specs.declared.journal.Exports.{Exports}
 use Rattle.xl_nfs.specs.Compounds.{CompoundHeadItem, compound_head_at}
@@ -34,6 +34,10 @@ null_in bytes = if length bytes == 0 then Null else Garbage
 -- how many operations a COMPOUND has at most
 abbrev pub most_ops : ℕ
 most_ops = 64
+
+-- numbers that a COMPOUND draws at most, four an operation
+abbrev pub most_drawn : ℕ
+most_drawn = 4 * most_ops
 
 -- the minor version is judged before the count; what stands behind the last operation is not read
 abbrev pub compound_in : Result (CompoundHeadItem × List ℕ) RpcBad → Called

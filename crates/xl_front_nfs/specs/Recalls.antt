@@ -8,6 +8,7 @@ use Rattle.xl_nfs_state.specs.State.{NfsLists, delegated_on, is_client_named}
 use Rattle.xl_nfs_state.specs.declared.client.ClientRow.{ClientRow}
 use Rattle.xl_nfs_state.specs.declared.stateid.StateidRow.{StateidRow}
 use Rattle.xl_core.specs.Breaks.{client_of}
+use Rattle.xl_matrix.specs.declared.claim.CacheKind.{CacheKind}
 use Rattle.xl_matrix.specs.declared.claim.Claim.{Claim}
 use Rattle.xl_core.specs.State.{CoreState}
 use Rattle.xl_core.specs.declared.ask.Effect.{Effect}
@@ -54,3 +55,12 @@ pub record IsRecall (f : FrontNfs) (s : CoreState) (cache : Claim) (number : ℕ
   pub delegated : find (delegated_on client.number cache.file) f.state.stateids ≡ Some row
   pub before : row.number < number
   pub sent : out ≡ recall_out s number cache.file client row
+
+-- The break that this call's number is of is told by one call: to the client's callback, as it is confirmed now, for the client's
+-- delegation on the file.
+pub record IsRecalledOnce (f : FrontNfs) (s : CoreState) (cache : Claim) (to : Option CacheKind) (number : ℕ) (id : List ℕ) : Type 0 where
+  pub client : ClientRow
+  pub row : StateidRow
+  pub confirmed : find (is_client_named id true) f.state.clients ≡ Some client
+  pub delegated : find (delegated_on client.number cache.file) f.state.stateids ≡ Some row
+  pub sent : recalls f s (Begun cache to (Some number)) ≡ recall_out s number cache.file client row ∷ []

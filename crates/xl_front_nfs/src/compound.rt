@@ -8,6 +8,7 @@ ghost use Rattle.xl_rpc.specs.Xdr.{unsigned_at};
 ghost use Rattle.xl_core.specs.Rows.{all_ran};
 ghost use Rattle.xl_core.specs.State.{CoreState, MayBe};
 ghost use Rattle.xl_front_nfs.specs.Courses.{course_of};
+ghost use Rattle.xl_front_nfs.specs.FrontNfs.{most_ops};
 ghost use Rattle.xl_nfs_opens.specs.Results.{ToldFits};
 ghost use Rattle.xl_nfs_opens.specs.Short.{IsReady, Leaves};
 ghost use Rattle.xl_front_nfs.specs.Steps.{steps_in, fault_of, noted, ran, Runs, Garbled};
@@ -57,7 +58,7 @@ fn push_all(effects: &mut Sequence<Effect>, more: Sequence<Effect>) -> Result<()
 #[tactic(auto, using(xl_nfs_opens::proofs::HeldLaws::most_most, xl_nfs_opens::proofs::HeldLaws::short_told))]
 fn note(progress: &mut Progress, number: u32, done: Done) -> Result<bool, AllocError>
     requires fits { ToldFits number done.0 }
-    requires few { progress.old.count < 64 }
+    requires few { progress.old.count < most_ops }
     ensures noted { (old lists : NfsLists) (core : CoreState) → IfOk result (λ more. noted (course_of old progress.old) number (done.0, done.1, done.2, lists, core) ≡ (more, course_of lists progress.new, core)) }
     ensures little { OnOk result (length progress.new.results ≤ length progress.old.results + most_result_bytes) }
     ensures short { IfOk result (λ more. more ≡ true → length progress.new.results ≤ length progress.old.results + 104) }
@@ -85,7 +86,7 @@ fn do_op<K: Keeper>(
 ) -> Result<bool, AllocError>
     requires ready { IsReady 4 core.old }
     requires fits { OpFits (shown_op op.now) }
-    requires few { progress.old.count < 64 }
+    requires few { progress.old.count < most_ops }
     ensures done { (n : ℕ) → IfOk result (λ more. MayBe n core.new → ran files.now others n (course_of state.old progress.old) core.old (Runs (shown_op op.now)) ≡ (more, course_of state.new progress.new, core.new)) }
     ensures leaves { OnOk result (Leaves 4 core.old core.new) }
     ensures little { OnOk result (length progress.new.results ≤ length progress.old.results + most_result_bytes) }
@@ -109,7 +110,7 @@ fn do_op<K: Keeper>(
 
 /// Refuses an operation whose arguments can't be read.
 fn refuse(alloc: Global, progress: &mut Progress, number: u32) -> Result<(), AllocError>
-    requires few { progress.old.count < 64 }
+    requires few { progress.old.count < most_ops }
     ensures done { (n : ℕ) (files : List (List ℕ)) (others : ℕ) (lists : NfsLists) (core : CoreState) → OnOk result (ran files others n (course_of lists progress.old) core (Garbled number) ≡ (false, course_of lists progress.new, core)) }
     ensures little { OnOk result (length progress.new.results ≤ length progress.old.results + most_result_bytes) }
 {
@@ -121,7 +122,7 @@ fn refuse(alloc: Global, progress: &mut Progress, number: u32) -> Result<(), All
 /// Refuses what can't be read as an operation: its arguments, or its number.
 #[tactic(auto, unfolding(crate::specs::Steps::ran))]
 fn refuse_rest(alloc: Global, progress: &mut Progress, rest: &Xdr) -> Result<(), AllocError>
-    requires few { progress.old.count < 64 }
+    requires few { progress.old.count < most_ops }
     ensures done { (n : ℕ) (files : List (List ℕ)) (others : ℕ) (lists : NfsLists) (core : CoreState) → OnOk result (ran files others n (course_of lists progress.old) core (fault_of (unsigned_at rest.now.rest.now)) ≡ (false, course_of lists progress.new, core)) }
     ensures little { OnOk result (length progress.new.results ≤ length progress.old.results + most_result_bytes) }
 {
@@ -147,7 +148,7 @@ pub(crate) fn run_ops<K: Keeper>(
     count: u32,
 ) -> Result<(), AllocError>
     requires ready { IsReady (4 * count) core.old }
-    requires few { progress.old.count + count ≤ 64 }
+    requires few { progress.old.count + count ≤ most_ops }
     ensures course { (n : ℕ) → OnOk result (MayBe n core.new → (all_ran (ran files.now others) n (course_of state.old progress.old) core.old (steps_in count args.now.rest.now)).1 ≡ course_of state.new progress.new) }
     ensures core { (n : ℕ) → OnOk result (MayBe n core.new → (all_ran (ran files.now others) n (course_of state.old progress.old) core.old (steps_in count args.now.rest.now)).2 ≡ core.new) }
     ensures leaves { OnOk result (Leaves (4 * count) core.old core.new) }

@@ -1,6 +1,7 @@
 //! What a call of program 100003 version 4 is answered (RFC 7530 14.1, 14.2).
 ghost use Rattle.std.specs.Prelude.{◌≡◌, ℕ, ◌+◌, ◌≤◌, List, [], ◌++◌, true, length, IfOk, OnOk};
 ghost use Rattle.std.specs.List.{AllByRecursion};
+ghost use Rattle.xl_base.specs.Limits.{most_message_bytes};
 ghost use Rattle.xl_nfs.specs.Compounds.{compound_head_at};
 ghost use Rattle.xl_programs.specs.Programs.{serves, shown_request};
 ghost use Rattle.xl_programs.specs.Sent.{sent_to, FitsFrame};
@@ -8,7 +9,7 @@ ghost use Rattle.xl_rpc.specs.Replies.{reply};
 ghost use Rattle.xl_rpc.specs.declared.reply.Verdict.TheVariants.{Success, GarbageArgs};
 ghost use Rattle.xl_core.specs.State.{CoreState, MayBe};
 ghost use Rattle.xl_front_nfs.specs.Courses.{course_of};
-ghost use Rattle.xl_front_nfs.specs.FrontNfs.{null_in, compound_in, call_in, run, with_reply, replied, nfs_step};
+ghost use Rattle.xl_front_nfs.specs.FrontNfs.{null_in, compound_in, call_in, most_ops, most_drawn, run, with_reply, replied, nfs_step};
 ghost use Rattle.xl_nfs_opens.specs.Results.{compound_results};
 ghost use Rattle.xl_nfs_opens.specs.Short.{IsReady, Leaves};
 ghost use Rattle.xl_front_nfs.specs.State.{FrontNfs};
@@ -58,7 +59,7 @@ fn compound_reply(
     requires tag { length tag.now ≤ 1024 }
     requires few { length results.now ≤ 7720 }
     ensures reply { IfOk result (λ v. v.items ≡ reply xid Success ++ compound_results tag.now status count results.now) }
-    ensures little { IfOk result (λ v. length v.items ≤ 65536) }
+    ensures little { IfOk result (λ v. length v.items ≤ most_message_bytes) }
 {
     let mut out = XdrOut::new(alloc);
     write_reply(&mut out, xid, Verdict::Success)?;
@@ -93,11 +94,11 @@ fn done<K: Keeper>(
     args: &Xdr,
 ) -> Result<(Vec<u8>, Sequence<Effect>), AllocError>
     requires tag { length head.now.tag.now ≤ 1024 }
-    requires few { head.now.count ≤ 64 }
-    requires ready { IsReady 256 core.old }
+    requires few { head.now.count ≤ most_ops }
+    requires ready { IsReady most_drawn core.old }
     ensures done { (n : ℕ) → IfOk result (λ r. MayBe n core.new → with_reply xid head.now.tag.now (run n files.now others front.old core.old (steps_in head.now.count args.now.rest.now)) ≡ (r.0.items, r.1, front.new, core.new)) }
-    ensures leaves { OnOk result (Leaves 256 core.old core.new) }
-    ensures little { IfOk result (λ r. length r.0.items ≤ 65536) }
+    ensures leaves { OnOk result (Leaves most_drawn core.old core.new) }
+    ensures little { IfOk result (λ r. length r.0.items ≤ most_message_bytes) }
     ensures keeper { keeper.new ≡ keeper.old }
 {
     let mut progress = begun(alloc);
@@ -127,7 +128,7 @@ fn done<K: Keeper>(
 fn garbage(alloc: Global, xid: u32) -> Result<(Vec<u8>, Sequence<Effect>), AllocError>
     ensures reply { IfOk result (λ r. r.0.items ≡ reply xid GarbageArgs) }
     ensures none { IfOk result (λ r. r.1 ≡ []) }
-    ensures little { IfOk result (λ r. length r.0.items ≤ 65536) }
+    ensures little { IfOk result (λ r. length r.0.items ≤ most_message_bytes) }
 {
     let bytes = refusal(alloc, xid, Verdict::GarbageArgs)?;
     Ok((bytes, Sequence::new(alloc)))
@@ -143,7 +144,7 @@ fn refused(
     requires tag { length tag.now ≤ 1024 }
     ensures reply { IfOk result (λ r. r.0.items ≡ reply xid Success ++ compound_results tag.now status 0 []) }
     ensures none { IfOk result (λ r. r.1 ≡ []) }
-    ensures little { IfOk result (λ r. length r.0.items ≤ 65536) }
+    ensures little { IfOk result (λ r. length r.0.items ≤ most_message_bytes) }
 {
     let bytes = compound_reply(alloc, xid, tag, status, 0, &XdrOut::new(alloc))?;
     Ok((bytes, Sequence::new(alloc)))
@@ -153,7 +154,7 @@ fn refused(
 #[tactic(auto, using(xl_nfs_opens::proofs::LeaveLaws::leaves_self, xl_nfs_opens::proofs::LeaveLaws::leaves_more))]
 fn null(alloc: Global, request: &Request) -> Result<(Vec<u8>, Sequence<Effect>), AllocError>
     ensures done { (n : ℕ) (files : List (List ℕ)) (others : ℕ) (f : FrontNfs) (s : CoreState) → IfOk result (λ r. replied n files others f s request.now.xid (null_in request.now.arguments.rest.now) ≡ (r.0.items, r.1, f, s)) }
-    ensures little { IfOk result (λ r. length r.0.items ≤ 65536) }
+    ensures little { IfOk result (λ r. length r.0.items ≤ most_message_bytes) }
 {
     if !request.arguments.left().is_empty() {
         return garbage(alloc, request.xid);
@@ -173,10 +174,10 @@ fn compound<K: Keeper>(
     keeper: &mut K,
     request: &Request,
 ) -> Result<(Vec<u8>, Sequence<Effect>), AllocError>
-    requires ready { IsReady 256 core.old }
+    requires ready { IsReady most_drawn core.old }
     ensures done { (n : ℕ) → IfOk result (λ r. MayBe n core.new → replied n files.now others front.old core.old request.now.xid (compound_in (compound_head_at request.now.arguments.rest.now)) ≡ (r.0.items, r.1, front.new, core.new)) }
-    ensures leaves { OnOk result (Leaves 256 core.old core.new) }
-    ensures little { IfOk result (λ r. length r.0.items ≤ 65536) }
+    ensures leaves { OnOk result (Leaves most_drawn core.old core.new) }
+    ensures little { IfOk result (λ r. length r.0.items ≤ most_message_bytes) }
     ensures keeper { keeper.new ≡ keeper.old }
 {
     let mut args = request.arguments;
@@ -213,10 +214,10 @@ fn replied<K: Keeper>(
     keeper: &mut K,
     request: &Request,
 ) -> Result<(Vec<u8>, Sequence<Effect>), AllocError>
-    requires ready { IsReady 256 core.old }
+    requires ready { IsReady most_drawn core.old }
     ensures done { (n : ℕ) → IfOk result (λ r. MayBe n core.new → replied n files.now others front.old core.old request.now.xid (call_in (shown_request request.now)) ≡ (r.0.items, r.1, front.new, core.new)) }
-    ensures leaves { OnOk result (Leaves 256 core.old core.new) }
-    ensures little { IfOk result (λ r. length r.0.items ≤ 65536) }
+    ensures leaves { OnOk result (Leaves most_drawn core.old core.new) }
+    ensures little { IfOk result (λ r. length r.0.items ≤ most_message_bytes) }
     ensures keeper { keeper.new ≡ keeper.old }
 {
     if request.procedure == 0 {
@@ -248,9 +249,9 @@ pub fn nfs_step<K: Keeper>(
     request: &Request,
 ) -> Result<(Sequence<Out>, Sequence<Effect>), AllocError>
     requires known { serves Program.Nfs request.now.procedure ≡ true }
-    requires ready { IsReady 256 core.old }
+    requires ready { IsReady most_drawn core.old }
     ensures state { (n : ℕ) → IfOk result (λ r. MayBe n core.new → nfs_step n exports.now others front.old core.old conn (shown_request request.now) ≡ (r.0, r.1, front.new, core.new)) }
-    ensures leaves { OnOk result (Leaves 256 core.old core.new) }
+    ensures leaves { OnOk result (Leaves most_drawn core.old core.new) }
     ensures little { IfOk result (λ r. AllByRecursion FitsFrame r.0) }
     ensures keeper { keeper.new ≡ keeper.old }
 {
