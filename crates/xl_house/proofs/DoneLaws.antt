@@ -152,7 +152,7 @@ message_does n exports f s None number bytes = refl
 message_does n exports f s (Some Smb) number bytes = smb.step_does n exports (nfs_opens f) f.smb s number bytes
 message_does n exports f s (Some Rpc) number bytes = record_does n exports f s number (incoming_at bytes)
 
-end_does : (n : ℕ) (f : Fronts) (s : CoreState) (kind : Option Kind) (number : ℕ) → (end_given f s kind number).2 ≡ all_done n s (end_deeds f kind number)
+end_does : (n : ℕ) (f : Fronts) (s : CoreState) (kind : Option Kind) (number : ℕ) → (end_given f s kind number).2 ≡ all_done n s (end_deeds f s kind number)
 end_does n f s None number = refl
 end_does n f s (Some Rpc) number = refl
 end_does n f s (Some Smb) number = smb.end_does n f.smb s number
@@ -179,7 +179,7 @@ message_takes n exports f s None number bytes good = tt
 message_takes n exports f s (Some Smb) number bytes good = smb_own.step_takes n exports (nfs_opens f) f.smb s number bytes
 message_takes n exports f s (Some Rpc) number bytes good = record_takes n exports f s (incoming_at bytes) good
 
-end_takes : (n : ℕ) (f : Fronts) (s : CoreState) (kind : Option Kind) (number : ℕ) → AreFit n s (end_deeds f kind number)
+end_takes : (n : ℕ) (f : Fronts) (s : CoreState) (kind : Option Kind) (number : ℕ) → AreFit n s (end_deeds f s kind number)
 end_takes n f s None number = tt
 end_takes n f s (Some Rpc) number = tt
 end_takes n f s (Some Smb) number = smb_own.end_takes n f.smb s number
@@ -320,10 +320,10 @@ message_may n number bytes exports f s None good = tt
 message_may n number bytes exports f s (Some Smb) good = smb_may n exports (nfs_opens f) f.smb s number bytes
 message_may n number bytes exports f s (Some Rpc) good = record_may n number bytes exports f s (incoming_at bytes) good
 
-end_may : (f : Fronts) (kind : Option Kind) (number : ℕ) → MayEnd number (end_deeds f kind number)
-end_may f None number = tt
-end_may f (Some Rpc) number = tt
-end_may f (Some Smb) number = last_may f.smb number
+end_may : (f : Fronts) (s : CoreState) (kind : Option Kind) (number : ℕ) → MayEnd number (end_deeds f s kind number)
+end_may f s None number = tt
+end_may f s (Some Rpc) number = tt
+end_may f s (Some Smb) number = last_may f.smb s number
 
 refusal_may : (hosts : List (List ℕ)) (number : ℕ) (bytes : Option (List ℕ)) (o : Option Grant) → AllByRecursion (λ d. may_do (Called number bytes) d ≡ true) (refusal_deeds hosts o)
 refusal_may hosts number bytes None = tt
@@ -353,7 +353,7 @@ tick_may now s =
 pub own_may : (n : ℕ) (s : Whole) (event : Event) → IsGood (step_begun s.core) → AllByRecursion (λ d. may_do event d ≡ true) (own_deeds n s event)
 own_may n s (Open kind) good = tt
 own_may n s (Message number bytes) good = message_may n number bytes s.exports s.front (step_begun s.core) (kind_of s.connections number) good
-own_may n s (End number) good = end_may s.front (kind_of s.connections number) number
+own_may n s (End number) good = end_may s.front (step_begun s.core) (kind_of s.connections number) number
 own_may n s (Called number bytes) good = refusal_may s.front.nlm.hosts number bytes _
 own_may n s (Tick moment) good = tick_may moment (step_begun s.core)
 own_may n s Restart good = tt

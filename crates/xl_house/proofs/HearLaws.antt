@@ -1,14 +1,17 @@
 -- What is heard, as the code tells it.
-use Rattle.std.proofs.Common.{◌≡◌, ℕ, ◌+◌, ◌≤◌, Option, Some, List, [], ◌∷◌, ◌++◌, refl, sym, ap, subst, ◌∙◌, arith}
+use Rattle.std.proofs.Common.{◌≡◌, ℕ, ◌+◌, ◌≤◌, false, true, Option, Some, List, [], ◌∷◌, ◌++◌, refl, sym, ap, subst, ◌∙◌, arith}
 use Rattle.xl_base.specs.Limits.{most_numbers}
 use Rattle.xl_base.specs.declared.event.Kind.{Kind}
 use Rattle.xl_base.specs.declared.event.Kind.TheVariants.{Smb}
 use Rattle.xl_base.specs.declared.event.Moment.{Moment}
 use Rattle.std.specs.List.{AllByRecursion}
+use Rattle.std.proofs.lemmas.Bool.{both_ways}
+use Rattle.xl_base.proofs.Members.{all_weaker}
 use Rattle.xl_base.specs.declared.name.Protocol.TheVariants.{Nfs}
 use Rattle.xl_names.specs.Names.{protocol_of}
 use Rattle.xl_names.specs.declared.name.Name.{Name}
 use Rattle.xl_names.specs.declared.name.Name.TheVariants.{NlmRange}
+use Rattle.xl_core.specs.Asking.{is_lease}
 use Rattle.xl_core.proofs.FrameLaws.{tick_frame}
 use Rattle.xl_core.proofs.GoodLaws.{begun_good, tick_good}
 use Rattle.xl_core.proofs.NumberLaws.{tick_numbers}
@@ -22,6 +25,7 @@ use Rattle.xl_programs.specs.Programs.{RequestItem, IncomingItem, Asked}
 use Rattle.xl_programs.specs.declared.program.Program.{Program}
 use Rattle.xl_nfs_opens.specs.Short as nfs
 use Rattle.xl_front_smb.specs.Short as smb
+use Rattle.xl_smb_locks.specs.Short.{LeasesCome}
 use Rattle.xl_house.specs.declared.parts.Fronts.{Fronts}
 use Rattle.xl_house.specs.Machine.{Sent, grants, program_heard, record_heard, packet_heard, heard_by}
 use Rattle.xl_house.specs.Shown.{IsReadyFor, LeavesBy}
@@ -130,12 +134,23 @@ pub packet_is_heard : (n : ℕ) (exports : Exports) (f : Fronts) (s : CoreState)
 packet_is_heard n exports f s number bytes kind k sent opened smb is =
     ap (λ (o : Option Kind). heard_by n exports f s o number bytes) (opened ∙ ap (λ (x : Kind). Some x) smb) ∙ is
 
+-- a lease's name is short
+lease_short : (name : Name) → is_lease name ≡ true → IsShort name
+lease_short (NlmRange caller svid oh) lease = absurd (both_ways false refl lease)
+lease_short name lease = tt
+
+-- so names stay short where those of leases come behind them
+leases_short : (names more : List Name) → LeasesCome names more → AreShort names → AreShort more
+leases_short [] more come short = all_weaker (λ name. is_lease name ≡ true) IsShort more (λ name lease. lease_short name lease) come
+leases_short (name ∷ names) [] come short = absurd come
+leases_short (name ∷ names) (other ∷ more) come short = (subst (λ (n : Name). IsShort n) come.0 short.0, leases_short names more come.1 short.1)
+
 -- what the front of SMB left may be told
 pub smb_ready : (most : ℕ) (s t : CoreState) (effects : List Effect) → most ≤ most_numbers → grants effects ≡ 0 → IsReadyFor most_numbers s → smb.Leaves most s t → IsReadyFor (grants effects) t
 smb_ready most s t effects few none ready leaves = record {
   good = leaves.good;
   numbers = omega (arith, few, none, leaves.numbers, ready.numbers);
-  short = subst (λ (names : List Name). AreShort names) (sym leaves.names) ready.short;
+  short = leases_short s.names t.names leaves.names ready.short;
 }
 
 pub smb_leaves : (most : ℕ) (s t u : CoreState) (effects : List Effect) → most ≤ most_numbers → grants effects ≡ 0 → smb.Leaves most s t → LeavesBy (grants effects) t u → LeavesBy most_numbers s u

@@ -1,6 +1,8 @@
--- Machines that keep nothing, drop who waits, let go what is to be kept, or stand still at a reading of the clock, don't meet the
--- laws of an entry.
-use Rattle.std.proofs.Common.{◌≡◌, ℕ, nat_lt, if◌then◌else◌, Bool, true, false, List, [], ◌∷◌, Some, None, refl, sym, ap, subst, ◌∙◌, arith}
+-- Machines that keep nothing, drop who waits, let go what is to be kept, stand still at a reading of the clock, or forget requests of
+-- SMB that wait, or their opens, don't meet the laws of an entry.
+use Rattle.std.proofs.Common.{◌≡◌, ℕ, zero, suc, ◌≤◌, nat_lt, if◌then◌else◌, Bool, true, false, List, [], ◌∷◌, Option, Some, None, refl, sym, ap, subst, ◌∙◌, arith}
+use Rattle.std.specs.Prelude.{nat_eq}
+use Rattle.std.specs.Map.{lookup}
 use Rattle.std.proofs.lemmas.Bool.{both_ways}
 use Rattle.std.proofs.lemmas.Bool.Decides.{nat_tests}
 use Rattle.xl_base.specs.Lists.{IsIn}
@@ -8,6 +10,16 @@ use Rattle.xl_base.specs.Stable.{Stable}
 use Rattle.xl_base.specs.declared.event.Event.TheVariants.{Message, Tick}
 use Rattle.xl_base.specs.declared.event.Moment.{Moment}
 use Rattle.xl_base.specs.declared.event.Out.{Out}
+use Rattle.xl_base.specs.declared.event.Event.{Event}
+use Rattle.xl_base.specs.declared.journal.Entry.{Entry}
+use Rattle.xl_base.specs.declared.journal.Exports.{Exports}
+use Rattle.xl_base.specs.declared.name.Owner.TheVariants as owners
+use Rattle.xl_smb_state.proofs.RowLaws.{none_some}
+use Rattle.xl_smb_state.specs.State.{Lists, open_of}
+use Rattle.xl_smb_state.specs.declared.row.Open.{Open}
+use Rattle.xl_smb_state.specs.declared.row.Request.{Request}
+use Rattle.xl_smb_state.specs.declared.row.Request.TheVariants as request
+use Rattle.xl_smb_state.specs.declared.row.Waiting.{Waiting}
 use Rattle.xl_cache.specs.Planning.{is_running}
 use Rattle.xl_matrix.specs.declared.claim.Claim.{Claim}
 use Rattle.xl_matrix.specs.declared.claim.Extent.{Extent}
@@ -22,11 +34,25 @@ use Rattle.xl_core.specs.State.{CoreState, started, step_begun}
 use Rattle.xl_core.specs.declared.ask.Act.TheVariants.{Test}
 use Rattle.xl_core.specs.declared.ask.Ask.{Ask}
 use Rattle.xl_core.specs.declared.lease.Times.{Times}
+use Rattle.xl_base.proofs.Members.{all_in}
+use Rattle.xl_core.specs.Good.{IsGood}
+use Rattle.xl_core.specs.Settle.{settle, turns_left, waits_as}
+use Rattle.xl_core.specs.declared.ask.Answer.TheVariants.{Granted}
+use Rattle.xl_core.specs.declared.ask.Effect.{Effect}
+use Rattle.xl_core.specs.declared.ask.Effect.TheVariants.{Served}
+use Rattle.xl_front_smb.specs.Awaits.{IsKept as HasRequest}
+use Rattle.xl_front_smb.specs.Checks.{is_open_on}
+use Rattle.xl_house.specs.Awaited.{IsServed, OpenStands, turn_serves, turns_serve}
 use Rattle.xl_house.specs.Done.{deeds}
+use Rattle.xl_house.specs.Free.{IsFree}
 use Rattle.xl_house.specs.Lawful.{found, IsLawful, IsWaiting, IsKept, IsComplete}
-use Rattle.xl_house.specs.Machine.{Whole}
+use Rattle.xl_house.specs.Machine.{Whole, heard, rooms_of}
 use Rattle.xl_house.specs.Timed.{leases_after}
+use Rattle.xl_house.specs.declared.parts.Fronts.{Fronts}
 use Rattle.xl_house.proofs.LawfulLaws.{begun_waits}
+use Rattle.xl_house.proofs.MachineLaws.{heard_good}
+use Rattle.xl_house.proofs.ServedLaws.{awaiting_by}
+use Rattle.xl_house.proofs.SettleLaws.{no_more}
 
 pub nothing_kept_in : (n stores number : ℕ) (bytes : List ℕ) (outs : List Out) (s t : Whole) (stable : Stable) (clock : Moment) (times : Times) → found s ≡ started stable clock times → deeds n s (Message number bytes) ≡ Asks all_room smallest_lock ∷ []
     → t.core.claims ≡ [] → IsLawful n s (record { event = Message number bytes; stores = stores; outs = outs }) t → ⊥
@@ -60,3 +86,33 @@ clock_stands_in n stores outs s t now less stands lawful =
 
 pub lease_runs_on_in : (n stores : ℕ) (outs : List Out) (s t : Whole) (now : Moment) (client : List ℕ) → first_ended t.core.clock t.core.leases ≡ Some client → IsComplete n s (record { event = Tick now; stores = stores; outs = outs }) t → ⊥
 lease_runs_on_in n stores outs s t now client ended complete = let none : None ≡ Some client = sym complete.1.leases ∙ ended in absurd cc
+
+-- ---- requests of SMB that wait, and their opens
+
+pub request_forgotten_in : (n : ℕ) (s t : Whole) (e : Entry) (w : Waiter) (number : ℕ) → IsIn w t.core.waiters → waits_as number w ≡ true → t.front.smb.state.waiting ≡ [] → IsServed n s e t → ⊥
+request_forgotten_in n s t e w number there waits none served =
+    let l : Lists = t.front.smb.state in
+    let kept = all_in (HasRequest l) w t.core.waiters (awaiting_by n s t e.event served).keeps there number waits in
+    none_some (sym (ap (λ (es : List (ℕ × Waiting)). lookup (nat_eq w.id) es) none) ∙ kept.1)
+
+-- an open that isn't there doesn't stand
+none_stands : (last : Lists) (row : Waiting) (claim : Claim) (r : Request) → open_of row.opened last ≡ None → OpenStands last row claim r → ⊥
+none_stands last row claim (request.Create made) none stands = none_some (sym none ∙ stands.1)
+none_stands last row claim request.Lock none stands = both_ways false refl (sym (ap (λ (o : Option Open). is_open_on row.place.connection o) none) ∙ stands)
+
+unmade_by : (fuel n : ℕ) (exports : Exports) (last : Lists) (f : Fronts) (s u : CoreState) (told : List Effect) (id number : ℕ) (claim : Claim) → turns_left s ≡ fuel → IsGood s → settle n (rooms_of f) s ≡ Some (told, u)
+    → IsIn (Served id (Granted claim)) told → claim.owner ≡ owners.Open number → open_of number last ≡ None → turns_serve fuel n exports last f s → ⊥
+unmade_by zero n exports last f s u told id number claim left good e here owner none serves =
+    (let few : turns_left s ≤ 0 = omega (arith, left) in
+    let no_turn : None ≡ Some (told, u) = sym (no_more n f s good few) ∙ e in
+    none_some no_turn)
+unmade_by (suc fuel) n exports last f s u told id number claim left good e here owner none serves =
+    (let first = subst (λ (o : Option (List Effect × CoreState)). turn_serves exports last (turns_serve fuel n exports last) f o) e serves in
+    let is = first.0 id number claim here owner in
+    none_stands last is.row claim is.row.request (ap (λ (k : ℕ). open_of k last) is.own ∙ none) is.there)
+
+pub open_unmade_in : (n stores conn : ℕ) (bytes : List ℕ) (outs : List Out) (s t : Whole) (u : CoreState) (told : List Effect) (id number : ℕ) (claim : Claim) → IsFree s → (let h = heard n s (Message conn bytes) in settle n (rooms_of h.1) h.2 ≡ Some (told, u))
+    → IsIn (Served id (Granted claim)) told → claim.owner ≡ owners.Open number → open_of number t.front.smb.state ≡ None → IsServed n s (record { event = Message conn bytes; stores = stores; outs = outs }) t → ⊥
+open_unmade_in n stores conn bytes outs s t u told id number claim free e here owner none served =
+    let h = heard n s (Message conn bytes) in
+    unmade_by (turns_left h.2) n s.exports t.front.smb.state h.1 h.2 u told id number claim refl (heard_good n s (Message conn bytes) free.good) e here owner none served.1

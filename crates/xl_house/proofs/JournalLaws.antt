@@ -11,11 +11,15 @@ use Rattle.xl_core.specs.Numbers.{numbers_of}
 use Rattle.xl_core.specs.State.{CoreState, started}
 use Rattle.xl_core.specs.declared.lease.Times.{Times}
 use Rattle.xl_front_nlm.specs.Short.{AreShort}
+use Rattle.xl_house.specs.Awaited.{IsAwaiting, IsServed, IsServedBy}
+use Rattle.xl_house.specs.Lawful.{Always}
 use Rattle.xl_house.specs.Machine.{Whole, times_of, begin, step}
 use Rattle.xl_house.specs.Journals.{replay, IsLegal, entry, entries_of, is_restart}
 use Rattle.xl_house.specs.Free.{IsFree}
 use Rattle.xl_house.specs.Housed.{Holds, Stands}
+use Rattle.xl_house.proofs.AwaitedLaws.{Ready}
 use Rattle.xl_house.proofs.MachineLaws.{begin_free, none_made, next_place, step_free, step_still}
+use Rattle.xl_house.proofs.ServedLaws.{always_more, begin_awaits, step_awaits, step_serves}
 
 pub replay_entry : (s : Whole) (es : List Entry) (event : Event) → replay s (es ++ entry 0 (replay s es) event ∷ []) ≡ (step 0 (replay s es) event).next
 replay_entry s [] event = refl
@@ -63,6 +67,7 @@ begun_stands head s e = record {
   replayed = e;
   place = ap (λ (w : Whole). w.place) e;
   free = subst (λ (w : Whole). IsFree w) (sym e) (begin_free head);
+  awaiting = subst (λ (w : Whole). IsAwaiting w) (sym e) (begin_awaits head);
   numbers = started_numbers s (raised head.record) head.start (times_of head.exports) (ap (λ (w : Whole). w.core) e);
   short = started_short s (raised head.record) head.start (times_of head.exports) (ap (λ (w : Whole). w.core) e);
 }
@@ -73,13 +78,14 @@ holds_started held s stable now times e holds = subst (λ (c : CoreState). Holds
 pub holds_stands : (held : Option Stable) (start s : Whole) (es : List Entry) → Stands start es s → Holds held s.core.stable → Holds held (replay start es).core.stable
 holds_stands held start s es stands holds = subst (λ (w : Whole). Holds held w.core.stable) stands.replayed holds
 
-pub stands_next : (start : Whole) (es : List Entry) (old new : Whole) (event : Event) → Stands start es old → new ≡ (step 0 old event).next → numbers_of new.core ≤ numbers_of old.core + most_numbers → AreShort new.core.names → Stands start (es ++ entry 0 old event ∷ []) new
-stands_next start es old new event stands e numbers short =
+pub stands_next : (start : Whole) (es : List Entry) (old new : Whole) (event : Event) → Stands start es old → Ready old.front → new ≡ (step 0 old event).next → numbers_of new.core ≤ numbers_of old.core + most_numbers → AreShort new.core.names → Stands start (es ++ entry 0 old event ∷ []) new
+stands_next start es old new event stands ready e numbers short =
     let longer = length-append es (entry 0 old event ∷ []) in
     record {
       replayed = e ∙ ap (λ (s : Whole). (step 0 s event).next) stands.replayed ∙ sym (replay_entry start es event) ∙ ap (λ (s : Whole). replay start (es ++ entry 0 s event ∷ [])) (sym stands.replayed);
       place = ap (λ (s : Whole). s.place) e ∙ next_place 0 old event ∙ omega (arith, stands.place, longer);
       free = subst (λ (s : Whole). IsFree s) (sym e) (step_free 0 old event stands.free);
+      awaiting = subst (λ (s : Whole). IsAwaiting s) (sym e) (step_awaits 0 old event stands.free ready stands.awaiting);
       numbers = omega (arith, numbers, stands.numbers, longer);
       short = short;
     }
@@ -93,3 +99,16 @@ pub holds_after : (held : Option Stable) (start : Whole) (es : List Entry) (old 
 holds_after held start es old new event stands e holds =
     let replayed = e ∙ ap (λ (s : Whole). (step 0 s event).next) stands.replayed ∙ sym (replay_entry start es event) ∙ ap (λ (s : Whole). replay start (es ++ entry 0 s event ∷ [])) (sym stands.replayed) in
     subst (λ (s : Whole). Holds held s.core.stable) replayed holds
+
+-- ---- what a step grants to SMB's opens
+
+pub served_after : (start : Whole) (es : List Entry) (old : Whole) (event : Event) → Stands start es old → Ready old.front → IsServedBy 0 (replay start es) event (replay start (es ++ entry 0 old event ∷ []))
+served_after start es old event stands ready =
+    let s : Whole = replay start es in
+    let after : replay start (es ++ entry 0 old event ∷ []) ≡ (step 0 s event).next = ap (λ (x : Whole). replay start (es ++ entry 0 x event ∷ [])) stands.replayed ∙ replay_entry start es event in
+    subst (λ (t : Whole). IsServedBy 0 s event t) (sym after) (subst (λ (x : Whole). IsServedBy 0 x event (step 0 x event).next) stands.replayed (step_serves 0 old event stands.free ready stands.awaiting))
+
+pub served_next : (start : Whole) (es : List Entry) (old : Whole) (event : Event) → Stands start es old → Ready old.front → Always IsServed start es → Always IsServed start (es ++ entry 0 old event ∷ [])
+served_next start es old event stands ready served =
+    subst (λ (x : Whole). Always IsServed start (es ++ entry 0 x event ∷ [])) (sym stands.replayed)
+    (always_more IsServed start es (entry 0 (replay start es) event) served (subst (λ (x : Whole). IsServedBy 0 x event (step 0 x event).next) stands.replayed (step_serves 0 old event stands.free ready stands.awaiting)))

@@ -13,16 +13,16 @@ use Rattle.xl_core.specs.Asking.{asked_whats, asked_claims, is_client}
 use Rattle.xl_core.specs.Breaks.{ack}
 use Rattle.xl_core.specs.Clients.{IsOf, AreOf, AreOfSome}
 use Rattle.xl_core.specs.Decide.{plea_of, way, ask}
-use Rattle.xl_core.specs.Deeds.{Deed, Asks, GivesBack, Weakens, Acks, Cancels, Ends, Serves, Draws, Advances, Renews, Expires, given, done, all_told_of, IsFitDeed, AreFit}
+use Rattle.xl_core.specs.Deeds.{Deed, Asks, GivesBack, Weakens, Acks, Cancels, Ends, Closes, Serves, Draws, Advances, Renews, Expires, given, done, all_told_of, IsFitDeed, AreFit}
 use Rattle.xl_core.specs.Frames.{serves_none}
 use Rattle.xl_core.specs.Good.{IsGood}
-use Rattle.xl_core.specs.Settle.{cancel, give_back, weaken, end_party}
+use Rattle.xl_core.specs.Settle.{cancel, close_open, give_back, weaken, end_party}
 use Rattle.xl_core.specs.Ticks.{renew}
 use Rattle.xl_core.specs.declared.ask.Ask.{Ask}
 use Rattle.xl_core.specs.declared.ask.Effect.{Effect}
 use Rattle.xl_core.specs.declared.ask.Effect.TheVariants.{Begun, Served, Cancelled, Expired}
 use Rattle.xl_core.proofs.DeedLaws.{deed_good}
-use Rattle.xl_core.proofs.FrameLaws.{ask_quiet, cancel_unserved, give_back_unserved, weaken_unserved, ack_unserved, end_party_unserved, renew_unserved}
+use Rattle.xl_core.proofs.FrameLaws.{ask_quiet, cancel_unserved, give_back_unserved, weaken_unserved, ack_unserved, close_open_unserved, end_party_unserved, renew_unserved}
 use Rattle.xl_core.proofs.WayLaws.{way_serves}
 use Rattle.xl_front_nfs.specs.FrontNfs.{nfs_deeds}
 use Rattle.xl_nfs_opens.specs.Owners.{IsBy, AreBy}
@@ -88,29 +88,29 @@ nfs_may n number bytes exports others f s r good = theirs_may n s number bytes (
 
 -- ---- SMB
 
-open_may : (number : ℕ) (bytes : List ℕ) (conn : ℕ) (l : Lists) (last : ℕ) (d : Deed) → IsOwn conn l last d → may_do (Message number bytes) d ≡ true
-open_may number bytes conn l last Draws own = refl
-open_may number bytes conn l last (Ends party) own = refl
-open_may number bytes conn l last (Asks left a) own = refl
-open_may number bytes conn l last (Acks cache to) own = refl
-open_may number bytes conn l last (Cancels id) own = refl
-open_may number bytes conn l last d own = absurd own
+open_may : (number : ℕ) (bytes : List ℕ) (names : List Name) (conn : ℕ) (l : Lists) (last : ℕ) (d : Deed) → IsOwn names conn l last d → may_do (Message number bytes) d ≡ true
+open_may number bytes names conn l last Draws own = refl
+open_may number bytes names conn l last (Closes opened party) own = refl
+open_may number bytes names conn l last (Asks left a) own = refl
+open_may number bytes names conn l last (Acks cache to) own = refl
+open_may number bytes names conn l last (Cancels id) own = refl
+open_may number bytes names conn l last d own = absurd own
 
 pub smb_may : (n : ℕ) (exports : Exports) (others : ℕ) (f : FrontSmb) (s : CoreState) (number : ℕ) (bytes : List ℕ) → May number bytes (smb_deeds n exports others f s number bytes)
 smb_may n exports others f s number bytes =
-    all_weaker (IsOwn number f.state s.counter) (λ d. may_do (Message number bytes) d ≡ true) (smb_deeds n exports others f s number bytes)
-    (λ d own. open_may number bytes number f.state s.counter d own) (smb.step_own n exports others f s number bytes)
+    all_weaker (IsOwn s.names number f.state s.counter) (λ d. may_do (Message number bytes) d ≡ true) (smb_deeds n exports others f s number bytes)
+    (λ d own. open_may number bytes s.names number f.state s.counter d own) (smb.step_own n exports others f s number bytes)
 
 last_one_may : (number : ℕ) (d : Deed) → is_end d ≡ true → may_do (End number) d ≡ true
-last_one_may number (Ends party) is = refl
+last_one_may number (Closes opened party) is = refl
 last_one_may number d is = absurd cc
 
-pub last_may : (f : FrontSmb) (number : ℕ) → MayEnd number (smb_end_deeds f number)
-last_may f number = all_weaker (λ d. is_end d ≡ true) (λ d. may_do (End number) d ≡ true) (smb_end_deeds f number) (λ d is. last_one_may number d is) (smb.ends_alone f number)
+pub last_may : (f : FrontSmb) (s : CoreState) (number : ℕ) → MayEnd number (smb_end_deeds f s number)
+last_may f s number = all_weaker (λ d. is_end d ≡ true) (λ d. may_do (End number) d ≡ true) (smb_end_deeds f s number) (λ d is. last_one_may number d is) (smb.ends_alone f s number)
 
 -- what the end of a connection may do, a message may too
 may_of_end : (number : ℕ) (d : Deed) → may_do (End number) d ≡ true → may_do (Message number []) d ≡ true
-may_of_end number (Ends party) may = refl
+may_of_end number (Closes opened party) may = refl
 may_of_end number d may = absurd cc
 
 -- ---- nobody is served by them
@@ -143,6 +143,7 @@ deed_quiet n s number bytes (Weakens share access deny) good fit may = unserved_
 deed_quiet n s number bytes (Acks cache to) good fit may = unserved_quiet (ack s cache to).0 (ack_unserved s cache to)
 deed_quiet n s number bytes (Cancels id) good fit may = unserved_quiet (cancel s id).0 (cancel_unserved s id)
 deed_quiet n s number bytes (Ends party) good fit may = unserved_quiet (end_party s party).0 (end_party_unserved s party)
+deed_quiet n s number bytes (Closes opened party) good fit may = unserved_quiet (close_open s opened party).0 (close_open_unserved s opened party)
 deed_quiet n s number bytes (Renews id) good fit may = unserved_quiet (renew s id).0 (renew_unserved s id)
 deed_quiet n s number bytes Draws good fit may = refl
 deed_quiet n s number bytes d good fit may = absurd cc

@@ -73,7 +73,7 @@ pub last_quiet : (f g : FrontSmb) (s t : CoreState) (conn : ℕ) (effects : List
 last_quiet f g s t conn effects good is =
     ap (λ (x : List Effect × FrontSmb × CoreState). grants x.0) (sym is)
     ∙ ap (λ (told : List Effect). grants told) (smb.end_tells 0 f s conn)
-    ∙ end_quiet 0 s conn (smb_end_deeds f conn) good (smb_own.end_takes 0 f s conn) (last_may f conn)
+    ∙ end_quiet 0 s conn (smb_end_deeds f s conn) good (smb_own.end_takes 0 f s conn) (last_may f s conn)
 
 refusal_quiet : (n : ℕ) (hosts : List (List ℕ)) (s : CoreState) (o : Option Grant) → IsGood s → AreFit n s (refusal_deeds hosts o) → grants (all_told_of n s (refusal_deeds hosts o)) ≡ 0
 refusal_quiet n hosts s None good fit = refl

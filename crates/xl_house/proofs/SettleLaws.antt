@@ -68,7 +68,7 @@ pub none_settles : (n : ℕ) (exports : Exports) (f : Fronts) (s : CoreState) �
 unfolding settled
 none_settles n exports f s e = none_for (turns_left s) n exports f s e
 
-turned_good : (n : ℕ) (f : Fronts) (s t : CoreState) (effects : List Effect) → IsGood s → settle n (rooms_of f) s ≡ Some (effects, t) → IsGood t
+pub turned_good : (n : ℕ) (f : Fronts) (s t : CoreState) (effects : List Effect) → IsGood s → settle n (rooms_of f) s ≡ Some (effects, t) → IsGood t
 turned_good n f s t effects good e = subst (λ (r : Turned). IfSome r (λ x. IsGood x.1)) e (settle_good n (rooms_of f) s good)
 
 -- a turn, and then the rest

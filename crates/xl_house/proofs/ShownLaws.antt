@@ -76,7 +76,7 @@ drawn_shown : (s : CoreState) → IsShown 1 s (drawn s)
 unfolding drawn
 drawn_shown s = record { rises = omega arith; most = omega arith; parts = refl }
 
-shown_one : (exports : Exports) (f : Fronts) (s : CoreState) (effect : Effect) → IsShown 1 s (showing exports f s effect).2
+pub shown_one : (exports : Exports) (f : Fronts) (s : CoreState) (effect : Effect) → IsShown 1 s (showing exports f s effect).2
 shown_one exports f s effect = shown_holds (λ t. IsShown 1 s t) exports f s effect (shown_less 0 1 s s (omega arith) (shown_self s), drawn_shown s)
 
 shown_good : (exports : Exports) (f : Fronts) (s : CoreState) (effect : Effect) → IsGood s → IsGood (showing exports f s effect).2

@@ -3,17 +3,17 @@ use Rattle.std.proofs.Common.{◌≡◌, ℕ, ◌+◌, Option, Some, None, IfSom
 use Rattle.xl_names.specs.declared.name.Name.{Name}
 use Rattle.xl_wait.specs.declared.waiter.Waiter.{Waiter}
 use Rattle.xl_core.specs.State.{CoreState, drawn}
-use Rattle.xl_core.specs.Deeds.{Deed, Asks, GivesBack, Weakens, Acks, Cancels, Ends, Serves, Draws, Advances, Lapses, Renews, Expires, turned, done, all_done, IsFitDeed, AreFit}
+use Rattle.xl_core.specs.Deeds.{Deed, Asks, GivesBack, Weakens, Acks, Cancels, Ends, Closes, Serves, Draws, Advances, Lapses, Renews, Expires, turned, done, all_done, IsFitDeed, AreFit}
 use Rattle.xl_core.specs.Frames.{IsFrame, IsTicked, calls_in, drawn_by, names_after, come_by}
 use Rattle.xl_core.specs.Decide.{ask}
 use Rattle.xl_core.specs.Good.{IsGood}
 use Rattle.xl_base.specs.declared.event.Moment.{Moment}
-use Rattle.xl_core.specs.Settle.{settle, cancel, give_back, weaken, end_party}
+use Rattle.xl_core.specs.Settle.{settle, cancel, close_open, give_back, weaken, end_party}
 use Rattle.xl_core.specs.Breaks.{ack}
 use Rattle.xl_core.specs.Ticks.{advanced, expire, lapse}
 use Rattle.xl_core.specs.declared.ask.Effect.{Effect}
 use Rattle.xl_core.proofs.DeedLaws.{deed_good}
-use Rattle.xl_core.proofs.FrameLaws.{ask_frame, turn_frame, cancel_frame, give_back_frame, weaken_frame, ack_frame, drawn_frame, end_party_frame, advanced_ticked, renew_frame, expire_left, lapse_left}
+use Rattle.xl_core.proofs.FrameLaws.{ask_frame, turn_frame, cancel_frame, give_back_frame, weaken_frame, ack_frame, drawn_frame, close_open_frame, end_party_frame, advanced_ticked, renew_frame, expire_left, lapse_left}
 
 pub record IsStill (s t : CoreState) : Type 0 where
   pub stable : t.stable ≡ s.stable
@@ -43,6 +43,7 @@ deed_still n s (Weakens share access deny) good fit = let r = weaken s share acc
 deed_still n s (Acks cache to) good fit = let r = ack s cache to in framed_still s r.0 r.1 0 s.names [] (ack_frame s cache to)
 deed_still n s (Cancels id) good fit = let r = cancel s id in framed_still s r.0 r.1 0 s.names [] (cancel_frame s id fit)
 deed_still n s (Ends party) good fit = let r = end_party s party in framed_still s r.0 r.1 0 s.names [] (end_party_frame s party good)
+deed_still n s (Closes opened party) good fit = let r = close_open s opened party in framed_still s r.0 r.1 0 s.names [] (close_open_frame s opened party good)
 deed_still n s (Serves left) good fit = turned_still s (settle n left s) (turn_frame n left s good)
 deed_still n s Draws good fit = framed_still s [] (drawn s) 1 s.names [] (drawn_frame s)
 deed_still n s (Advances now) good fit = ticked_still s now [] (advanced s now) (advanced_ticked s now)

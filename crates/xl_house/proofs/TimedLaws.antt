@@ -14,11 +14,11 @@ use Rattle.xl_core.specs.State.{CoreState, step_begun, drawn}
 use Rattle.xl_core.specs.Asking.{party_named}
 use Rattle.xl_core.specs.Breaks.{ack, client_of}
 use Rattle.xl_core.specs.Decide.{ask}
-use Rattle.xl_core.specs.Deeds.{Deed, Asks, GivesBack, Weakens, Acks, Cancels, Ends, Serves, Draws, Advances, Lapses, Renews, Expires, turned, done, all_done, IsFitDeed, AreFit}
+use Rattle.xl_core.specs.Deeds.{Deed, Asks, GivesBack, Weakens, Acks, Cancels, Ends, Closes, Serves, Draws, Advances, Lapses, Renews, Expires, turned, done, all_done, IsFitDeed, AreFit}
 use Rattle.xl_core.specs.Frames.{calls_in, drawn_by, names_after, come_by, IsFrame}
 use Rattle.xl_core.specs.Good.{IsGood}
 use Rattle.xl_core.specs.Leases.{Lease, later, without_lease}
-use Rattle.xl_core.specs.Settle.{settle, cancel, give_back, weaken, end_party}
+use Rattle.xl_core.specs.Settle.{settle, cancel, give_back, weaken, end_party, close_open}
 use Rattle.xl_core.specs.Ticks.{advanced, renew, end_some, unleased, expire, lapsed_by, lapse}
 use Rattle.xl_core.specs.declared.ask.Effect.{Effect}
 use Rattle.xl_core.proofs.DeedLaws.{deed_good}
@@ -76,7 +76,7 @@ clock_by [] clock = clock
 clock_by (d ∷ ds) clock = clock_by ds (clock_left d clock)
 
 deed_times : (n : ℕ) (s : CoreState) (d : Deed) → IsGood s → IsFitDeed s d → times_in (done n s d) ≡ (leases_left s d s.leases, clock_left d s.clock)
-unfolding give_back weaken ack cancel end_party drawn advanced renew
+unfolding give_back weaken ack cancel end_party close_open drawn advanced renew
 deed_times n s (Asks left a) good fit =
     let r = ask n left s a in
     frame_times s r.2 r.1 (drawn_by r.0 + calls_in r.1) (names_after a r.0 s.names) (come_by a r.0 s.names) (ask_frame n left s a good fit.party)
@@ -85,6 +85,7 @@ deed_times n s (Weakens share access deny) good fit = refl
 deed_times n s (Acks cache to) good fit = refl
 deed_times n s (Cancels id) good fit = refl
 deed_times n s (Ends party) good fit = refl
+deed_times n s (Closes number party) good fit = refl
 deed_times n s (Serves left) good fit = turn_times s (settle n left s) (turn_frame n left s good)
 deed_times n s Draws good fit = refl
 deed_times n s (Advances now) good fit = refl
@@ -153,6 +154,7 @@ stands event (Weakens share access deny) clock other may = refl
 stands event (Acks cache to) clock other may = refl
 stands event (Cancels id) clock other may = refl
 stands event (Ends party) clock other may = refl
+stands event (Closes number party) clock other may = refl
 stands event (Serves left) clock other may = refl
 stands event Draws clock other may = refl
 stands event (Lapses cache) clock other may = refl

@@ -88,15 +88,15 @@ message_replies n exports f s t None number bytes answers effects = []
 
 -- ---- the end of a connection
 
--- each open of SMB under it ends
-abbrev pub end_deeds : Fronts → Option Kind → ℕ → List Deed
-end_deeds f (Some Smb) number = smb_end_deeds f.smb number
-end_deeds f (Some Rpc) number = []
-end_deeds f None number = []
+-- each open of SMB under it is closed
+abbrev pub end_deeds : Fronts → CoreState → Option Kind → ℕ → List Deed
+end_deeds f s (Some Smb) number = smb_end_deeds f.smb s number
+end_deeds f s (Some Rpc) number = []
+end_deeds f s None number = []
 
 -- whose they are: of opens under the connection
 abbrev pub end_owns : Fronts → CoreState → Option Kind → ℕ → Type 0
-end_owns f s (Some Smb) number = AreOwn f.smb s number (smb_end_deeds f.smb number)
+end_owns f s (Some Smb) number = AreOwn f.smb s number (smb_end_deeds f.smb s number)
 end_owns f s (Some Rpc) number = Unit {0}
 end_owns f s None number = Unit {0}
 
@@ -121,7 +121,7 @@ called_owns f s number reply = AreRefusals (refused_grant s (refuses reply) (fin
 -- what it does itself
 abbrev pub own_deeds : ℕ → Whole → Event → List Deed
 own_deeds n s (Message number bytes) = message_deeds n s.exports s.front (step_begun s.core) (kind_of s.connections number) number bytes
-own_deeds n s (End number) = end_deeds s.front (kind_of s.connections number) number
+own_deeds n s (End number) = end_deeds s.front (step_begun s.core) (kind_of s.connections number) number
 own_deeds n s (Called number bytes) = called_deeds s.front.nlm (step_begun s.core) number bytes
 own_deeds n s (Tick now) = tick_deeds (step_begun s.core) now
 own_deeds n s event = []

@@ -8,6 +8,7 @@ use Rattle.xl_base.specs.declared.journal.Entry.{Entry}
 use Rattle.xl_base.specs.declared.journal.Head.{Head}
 use Rattle.xl_core.specs.Numbers.{numbers_of}
 use Rattle.xl_front_nlm.specs.Short.{AreShort}
+use Rattle.xl_house.specs.Awaited.{IsAwaiting}
 use Rattle.xl_house.specs.Machine.{Whole}
 use Rattle.xl_house.specs.Journals.{replay}
 use Rattle.xl_house.specs.Free.{IsFree}
@@ -28,12 +29,13 @@ is_spoiled _ = false
 abbrev pub Holds : Option Stable → Stable → Type 0
 Holds held stable = held ≡ option_map (λ _. stable) held
 
--- The state is the one that the entries lead to, at its place and a free moment. Each entry gives out 512 numbers at most, those
--- among them that one who comes to wait, the call that tells of its grant, and the recall of a delegation that came may take
--- later; and the names fit the messages that tell them.
+-- The state is the one that the entries lead to, at its place and a free moment, at which each request of SMB that waits is awaited.
+-- Each entry gives out 512 numbers at most, those among them that one who comes to wait, the call that tells of its grant, and the
+-- recall of a delegation that came may take later; and the names fit the messages that tell them.
 pub record Stands (start : Whole) (es : List Entry) (s : Whole) : Type 0 where
   pub replayed : s ≡ replay start es
   pub place : s.place ≡ length es
   pub free : IsFree s
+  pub awaiting : IsAwaiting s
   pub numbers : numbers_of s.core ≤ most_numbers * length es
   pub short : AreShort s.core.names

@@ -32,6 +32,7 @@ abbrev pub entries_of : Whole → List Event → List Entry
 entries_of s [] = []
 entries_of s (e ∷ es) = entry 0 s e ∷ entries_of (step 0 s e).next es
 
+-- the most entries of a journal
 abbrev pub most_entries : ℕ
 most_entries = 1048576
 

@@ -14,7 +14,7 @@ use Rattle.xl_names.specs.declared.name.Name.{Name}
 use Rattle.xl_table.specs.Held.{is_cache}
 use Rattle.xl_core.specs.State.{CoreState, step_begun}
 use Rattle.xl_core.specs.Breaks.{first_due}
-use Rattle.xl_core.specs.Deeds.{Deed, Asks, GivesBack, Weakens, Acks, Cancels, Ends, Serves, Draws, Advances, Lapses, Renews, Expires, all_done, queue_after, any_ends_break, KeepNames}
+use Rattle.xl_core.specs.Deeds.{Deed, Asks, GivesBack, Weakens, Acks, Cancels, Ends, Closes, Serves, Draws, Advances, Lapses, Renews, Expires, all_done, queue_after, any_ends_break, KeepNames}
 use Rattle.xl_core.specs.Dues.{AreDue}
 use Rattle.xl_core.specs.Leases.{first_ended}
 use Rattle.xl_core.specs.Places.{Place, held_at, IsChangedBy}
@@ -109,7 +109,7 @@ is_unlock (Unlock extent) = true
 is_unlock act = false
 
 -- which event does what itself: a message asks, gives back, makes a share weaker, answers a break, cancels, ends, renews or
--- draws a number, the end of a connection ends, the end of a call unlocks, and a reading of the clock has it show that moment,
+-- draws a number, the end of a connection closes opens, the end of a call unlocks, and a reading of the clock has it show that moment,
 -- ends breaks and lets clients expire
 abbrev pub may_do : Event → Deed → Bool
 may_do (Message number bytes) (Asks left a) = true
@@ -118,9 +118,10 @@ may_do (Message number bytes) (Weakens share access deny) = true
 may_do (Message number bytes) (Acks cache to) = true
 may_do (Message number bytes) (Cancels id) = true
 may_do (Message number bytes) (Ends party) = true
+may_do (Message number bytes) (Closes opened party) = true
 may_do (Message number bytes) (Renews client) = true
 may_do (Message number bytes) Draws = true
-may_do (End number) (Ends party) = true
+may_do (End number) (Closes opened party) = true
 may_do (Called number bytes) (Asks left a) = is_unlock a.act
 may_do (Tick now) (Advances moment) = moment.0 == now.0
 may_do (Tick now) (Lapses cache) = true

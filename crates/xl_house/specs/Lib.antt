@@ -3,6 +3,7 @@ pub mod Shown
 pub mod Done
 pub mod Timed
 pub mod Lawful
+pub mod Awaited
 pub mod Journals
 pub mod Free
 pub mod Housed

@@ -4,9 +4,11 @@ ghost use Rattle.xl_base.specs.Limits.{most_numbers};
 ghost use Rattle.xl_base.specs.Stable.{raised};
 ghost use Rattle.xl_core.specs.Numbers.{numbers_of};
 ghost use Rattle.xl_front_nlm.specs.Short.{AreShort};
+ghost use Rattle.xl_smb_state.specs.Links.{AreDistinct, IsSound};
+ghost use Rattle.xl_house.specs.Awaited.{IsServed, IsServedBy};
 ghost use Rattle.xl_house.specs.Free.{IsFree, AlwaysFree};
 ghost use Rattle.xl_house.specs.Housed.{Housed, is_spoiled, Holds, Stands};
-ghost use Rattle.xl_house.specs.Journals.{replay, IsLegal, IsOrderly, entry, is_restart};
+ghost use Rattle.xl_house.specs.Journals.{replay, IsLegal, IsOrderly, entry, is_restart, most_entries};
 ghost use Rattle.xl_house.specs.Lawful.{Always, IsLawful, IsWaiting, IsKept, IsComplete, IsCaused, IsTold};
 ghost use Rattle.xl_house.specs.Machine.{times_of, begin, step};
 ghost use Rattle.xl_house.specs.Whole.{whole_of};
@@ -48,7 +50,9 @@ pub struct House<K: Keeper> {
 impl<K: Keeper> Model for House<K> {
     ghost use Rattle.std.specs.Prelude.{◌≡◌, ◌≤◌, length, false};
     ghost use Rattle.xl_house.specs.Machine.{begin};
-    ghost use Rattle.xl_house.specs.Journals.{IsLegal};
+    ghost use Rattle.xl_house.specs.Awaited.{IsServed};
+    ghost use Rattle.xl_house.specs.Journals.{IsLegal, most_entries};
+    ghost use Rattle.xl_house.specs.Lawful.{Always};
     ghost use Rattle.xl_house.specs.Housed.{Housed, is_spoiled, Holds, Stands};
     ghost use Rattle.xl_house.specs.Whole.{whole_of};
 
@@ -59,8 +63,9 @@ impl<K: Keeper> Model for House<K> {
     ghost invariant = { λ h. record {
       stands : is_spoiled h.halt ≡ false → Stands (begin h.head) h.entries (whole_of h.head.exports h.machine);
       holds : is_spoiled h.halt ≡ false → Holds (K.held h.keeper) h.machine.parts.core.stable;
-      few : length h.entries ≤ 1048576;
+      few : length h.entries ≤ most_entries;
       legal : IsLegal (begin h.head) h.entries;
+      served : Always IsServed (begin h.head) h.entries;
     } };
 }
 
@@ -74,23 +79,26 @@ fn act_and_enter<K: Keeper>(
     event: Event,
 ) -> Result<u64, Halt>
     requires place { machine.old.place ≡ length entries.old }
-    requires few { length entries.old ≤ 1048576 }
+    requires few { length entries.old ≤ most_entries }
     requires free { IsFree (whole_of exports.now machine.old) }
     requires numbers { numbers_of machine.old.parts.core ≤ most_numbers * length entries.old }
     requires short { AreShort machine.old.parts.core.names }
     requires goes_on { is_restart event ≡ false }
     ensures place { IfOk result (λ place. place ≡ length entries.old) }
-    ensures few { length entries.new ≤ 1048576 }
+    ensures few { length entries.new ≤ most_entries }
     ensures short { OnOk result (AreShort machine.new.parts.core.names) }
     ensures numbers { OnOk result (numbers_of machine.new.parts.core ≤ numbers_of machine.old.parts.core + most_numbers) }
     ensures entered { OnOk result (entries.new ≡ entries.old ++ entry 0 (whole_of exports.now machine.old) event ∷ []) }
     ensures next { OnOk result (whole_of exports.now machine.new ≡ (step 0 (whole_of exports.now machine.old) event).next) }
     ensures err { OnErr result (entries.new ≡ entries.old) }
-    ensures full { (count : ℕ) → (result ≡ Err (Halt.JournalFull count)) ↔ ((count ≡ length entries.old) × (length entries.old ≡ 1048576)) }
+    ensures full { (count : ℕ) → (result ≡ Err (Halt.JournalFull count)) ↔ ((count ≡ length entries.old) × (length entries.old ≡ most_entries)) }
     ensures started { (count : ℕ) → result ≡ Err (Halt.StartStore count) → ⊥ }
     ensures kept { IfErr result (λ halt. is_spoiled (Some halt) ≡ false → machine.new ≡ machine.old) }
+    ensures sound { IsSound machine.old.parts.front.smb.state }
+    ensures distinct { AreDistinct machine.old.parts.front.smb.state }
     ensures keeper { keeper.new ≡ keeper.old }
 {
+    machine.parts.front.smb.state().links();
     if entries.len() == MOST_ENTRIES {
         return Err(Halt::JournalFull(entries.len() as u64));
     }
@@ -151,15 +159,17 @@ impl<K: Keeper> House<K> {
 
     /// One event that is no restart, entered with what it did at the place that is answered. After an error the journal
     /// is as it was, and each later step answers the same error: JournalFull exactly where the journal has 1,048,576
-    /// entries. No step stores the record yet.
+    /// entries. No step stores the record yet. What a turn of the step grants to an SMB open was waited for by a request of
+    /// that open, which is there then: a CREATE that waited and is granted has its open.
     #[tactic(auto, using(crate::proofs::JournalLaws::legal_next, crate::proofs::JournalLaws::stands_next))]
     pub fn step(&mut self, alloc: Global, event: Event) -> Result<u64, Halt>
         requires goes_on { is_restart event ≡ false }
         ensures ok { IfOk result (λ place. (place ≡ length self.old.entries) × (self.new ≡ record { head = self.old.head; entries = self.old.entries ++ entry 0 (replay (begin self.old.head) self.old.entries) event ∷ []; halt = None; keeper = self.old.keeper })) }
         ensures err { IfErr result (λ halt. self.new ≡ record { head = self.old.head; entries = self.old.entries; halt = Some halt; keeper = self.old.keeper }) }
         ensures stays { IfSome self.old.halt (λ halt. result ≡ Err halt) }
-        ensures full { (count : ℕ) → self.old.halt ≡ None → (result ≡ Err (Halt.JournalFull count)) ↔ ((count ≡ length self.old.entries) × (length self.old.entries ≡ 1048576)) }
+        ensures full { (count : ℕ) → self.old.halt ≡ None → (result ≡ Err (Halt.JournalFull count)) ↔ ((count ≡ length self.old.entries) × (length self.old.entries ≡ most_entries)) }
         ensures started { (count : ℕ) → self.old.halt ≡ None → result ≡ Err (Halt.StartStore count) → ⊥ }
+        ensures served { OnOk result (IsServedBy 0 (replay (begin self.old.head) self.old.entries) event (replay (begin self.new.head) self.new.entries)) }
         ensures holds { OnOk result (Holds (K.held self.new.keeper) (replay (begin self.new.head) self.new.entries).core.stable) }
     {
         match self.halt {
@@ -227,8 +237,9 @@ impl<K: Keeper> House<K> {
     /// but for those whom they queued, took out, ended or served, a cache of which a break runs stands until its party answers
     /// or gives it back, ends or expires, or the deadline passes, what nothing stands against was granted, what was due by a
     /// reading of the clock is done, the deeds are those that its event may cause, and what is sent is what the fronts say of
-    /// the answers. No out to a connection stands before its opening or after its end. It has at most 1,048,576 entries. The
-    /// keeper holds the machine's record.
+    /// the answers; each request of SMB that waits is awaited, each waiter of an SMB open has its request, and what is granted
+    /// to an SMB open that waited has its open then. No out to a connection stands before its opening or after its end. It has
+    /// at most 1,048,576 entries. The keeper holds the machine's record.
     pub fn end(self) -> (Journal, K)
         ensures journal { (result.0.head ≡ self.head) × (result.0.entries ≡ self.entries) }
         ensures keeper { result.1 ≡ self.keeper }
@@ -240,8 +251,9 @@ impl<K: Keeper> House<K> {
         ensures complete { Always IsComplete (begin result.0.head) result.0.entries }
         ensures caused { Always IsCaused (begin result.0.head) result.0.entries }
         ensures told { Always IsTold (begin result.0.head) result.0.entries }
+        ensures served { Always IsServed (begin result.0.head) result.0.entries }
         ensures orderly { IsOrderly [] 0 result.0.entries }
-        ensures most { length result.0.entries ≤ 1048576 }
+        ensures most { length result.0.entries ≤ most_entries }
         ensures holds { is_spoiled self.halt ≡ false → Holds (K.held result.1) (replay (begin result.0.head) result.0.entries).core.stable }
     {
         let House {

@@ -15,4 +15,5 @@ invariant_of-result g c =
       holds = λ _. holds_started _ _ _ _ _ state c.requires.holds;
       few = omega (arith, ap (λ (es : List Entry). length es) c.new.ensures);
       legal = rw (c.new.ensures) tt;
+      served = rw (c.new.ensures) tt;
     }

@@ -1,0 +1,203 @@
+-- What a turn grants to an SMB open was waited for, and the open is there afterwards.
+use Rattle.std.proofs.Common.{◌≡◌, ℕ, zero, suc, ◌-◌, ◌≤◌, Bool, true, false, ◌||◌, List, [], ◌∷◌, ◌++◌, length, map, Option, Some, None, refl, sym, ap, subst, ◌∙◌, arith}
+use Rattle.std.specs.List.{list_any}
+use Rattle.std.proofs.lemmas.Bool.{true≢false}
+use Rattle.xl_base.proofs.Members.{all_in}
+use Rattle.xl_base.specs.Lists.{IsIn}
+use Rattle.xl_base.specs.declared.event.Event.{Event}
+use Rattle.xl_base.specs.declared.event.Event.TheVariants.{Open, Message, End, Called, Tick, Restart}
+use Rattle.xl_base.specs.declared.event.Kind.TheVariants.{Smb}
+use Rattle.xl_base.specs.declared.event.Out.{Out}
+use Rattle.xl_base.specs.declared.journal.Entry.{Entry}
+use Rattle.xl_base.specs.declared.journal.Exports.{Exports}
+use Rattle.xl_base.specs.declared.journal.Head.{Head}
+use Rattle.xl_base.specs.declared.name.Owner.{Owner}
+use Rattle.xl_base.specs.declared.name.Owner.TheVariants as owners
+use Rattle.xl_matrix.specs.Equal.{same_owners}
+use Rattle.xl_matrix.specs.declared.claim.Claim.{Claim}
+use Rattle.xl_smb_state.proofs.RowLaws.{equal_self}
+use Rattle.xl_smb_state.specs.Links.{most_opens}
+use Rattle.xl_smb_state.specs.State.{Lists, open_of, waiting_of}
+use Rattle.xl_smb_state.specs.declared.row.Open.{Open as OpenRow}
+use Rattle.xl_smb_state.specs.declared.row.Request.{Request}
+use Rattle.xl_smb_state.specs.declared.row.Request.TheVariants as request
+use Rattle.xl_smb_state.specs.declared.row.Waiting.{Waiting}
+use Rattle.xl_wait.specs.declared.waiter.Waiter.{Waiter}
+use Rattle.xl_core.specs.Good.{IsGood}
+use Rattle.xl_core.specs.Settle.{settle, turns_left, waits_as}
+use Rattle.xl_core.specs.State.{CoreState, step_begun}
+use Rattle.xl_core.specs.declared.ask.Answer.TheVariants as answers
+use Rattle.xl_core.specs.declared.ask.Effect.{Effect}
+use Rattle.xl_core.specs.declared.ask.Effect.TheVariants as effects
+use Rattle.xl_smb_locks.specs.Finals.{final_outs, locked_reply, opened_reply}
+use Rattle.xl_smb_locks.specs.Levels.{caching, id_of}
+use Rattle.xl_smb_locks.specs.declared.levels.Caching.{Caching}
+use Rattle.xl_front_smb.proofs.AwaitLaws.{row_in}
+use Rattle.xl_front_smb.proofs.StandLaws.{granted_lease, granted_reply, granted_row, granted_share, served_grant, turn_of}
+use Rattle.xl_front_smb.specs.Awaits.{IsAwaited, IsGranted, IsKept, IsUnder}
+use Rattle.xl_front_smb.specs.Checks.{is_open_on}
+use Rattle.xl_front_smb.specs.FrontSmb.{smb_shown}
+use Rattle.xl_front_smb.specs.Laws.{IsLeased}
+use Rattle.xl_house.specs.Awaited.{HasItsOpen, HaveOpens, IsAwaiting, IsServed, IsServedBy, OpenStands, success_of, turn_serves, turns_serve}
+use Rattle.xl_house.specs.Free.{IsFree}
+use Rattle.xl_house.specs.Journals.{replay}
+use Rattle.xl_house.specs.Lawful.{Always, Law}
+use Rattle.xl_house.specs.Machine.{Whole, after_turn, all_shown, begin, framed, heard, rooms_of, settled, settled_for, step}
+use Rattle.xl_house.specs.declared.parts.Fronts.{Fronts}
+use Rattle.xl_house.proofs.AwaitedLaws.{Ready, heard_stand, settled_stand, shown_stand, turn_tells}
+use Rattle.xl_house.proofs.AwaitingLaws.{Stand, same_stand}
+use Rattle.xl_house.proofs.LawfulLaws.{begun_waits}
+use Rattle.xl_house.proofs.MachineLaws.{heard_good}
+use Rattle.xl_house.proofs.SettleLaws.{turned_good}
+use Rattle.xl_house.proofs.ShownLaws.{all_shown_good, all_shown_is}
+use Rattle.xl_house.proofs.LeasedLaws.{leased_stays}
+use Rattle.xl_house.proofs.OpensLaws.{asks_as, lock_told, open_stays, same_caching, stays_on}
+use Rattle.xl_house.proofs.TellLaws.{last_ends, last_shows, quiet_shows, settled_so, told_so}
+
+-- ---- who is granted
+
+rooms_leave : (f : Fronts) → (rooms_of f).opens ≤ most_opens - length f.smb.state.opens
+rooms_leave f = omega arith
+
+-- ---- a turn
+
+-- of a waiter that a turn grants a claim for an SMB open, and of its request
+module _ (n fuel : ℕ) (exports : Exports) (f : Fronts) (s t : CoreState) (told : List Effect) (id number : ℕ) (claim : Claim) (good : IsGood s) (stand : Stand s f.smb.state) (turn : settle n (rooms_of f) s ≡ Some (told, t))
+    (served : IsIn (effects.Served id (answers.Granted claim)) told) (row : Waiting) (waited : waiting_of id f.smb.state ≡ Some row) where
+  -- the lists at the end
+  abbrev last_lists : Lists
+  last_lists = (settled_for fuel n exports (all_shown exports f t told).1 (all_shown exports f t told).2).1.smb.state
+
+  stays : (k : ℕ) (found : OpenRow) → open_of k (all_shown exports f t told).1.smb.state ≡ Some found → open_of k last_lists ≡ Some found
+  stays k found at = (let r = all_shown exports f t told in settled_so (λ (l : Lists). open_of k l ≡ Some found) (open_stays k found) fuel n exports r.1 r.2 at)
+
+  granted : (made : OpenRow) → row.request ≡ request.Create made → IsGranted n (rooms_of f) s t f.smb.state id row made claim
+  granted made makes = record { told = told; turn = turn; served = served; waits = waited; makes = makes; room = rooms_leave f }
+
+  -- what the turn leaves of the lists is what its grant leaves
+  ends_as : (u : CoreState) × ((all_shown exports f t told).1.smb.state ≡ (smb_shown f.smb u (effects.Served id (answers.Granted claim))).1.state)
+  ends_as =
+      let x : Effect = effects.Served id (answers.Granted claim) in
+      let grant = served_grant (rooms_of f) s t told id claim (turn_of n (rooms_of f) s t told good turn) served in
+      let r = all_shown exports f t grant.before in (
+        r.2,
+        ap (λ (es : List Effect). (all_shown exports f t es).1.smb.state) grant.last
+            ∙ last_shows exports f t grant.before x
+            ∙ ap (λ (l : Lists). (smb_shown (record { state = l }) r.2 x).1.state) (quiet_shows exports f t grant.before grant.begun),
+      )
+
+  makes_open : (made : OpenRow) → row.request ≡ request.Create made → (claim.file ≡ made.file) × (open_of row.opened last_lists ≡ Some made) × IsLeased last_lists row.opened made
+  makes_open made makes =
+      let ends = ends_as in
+      let is = granted made makes in
+      let r = all_shown exports f t told in (
+        (granted_share n (rooms_of f) s t ends.0 f.smb id row made claim good stand.awaits is).1,
+        stays row.opened made (ap (λ (l : Lists). open_of row.opened l) ends.1 ∙ granted_row n (rooms_of f) s t ends.0 f.smb id row made claim good stand.awaits is),
+        settled_so (λ (l : Lists). IsLeased l row.opened made) (leased_stays row.opened made) fuel n exports r.1 r.2
+            (subst (λ (l : Lists). IsLeased l row.opened made) (sym ends.1) (granted_lease n (rooms_of f) s t ends.0 f.smb id row made claim good stand.awaits is)),
+      )
+
+  is_there : (r : Request) → row.request ≡ r → OpenStands last_lists row claim r
+  is_there (request.Create made) makes = makes_open made makes
+  is_there request.Lock locks =
+      let is = all_in (IsAwaited s f.smb.state) (id, row) f.smb.state.waiting stand.awaits (row_in id f.smb.state.waiting row waited) in
+      stays_on row.place.connection row.opened f.smb.state last_lists (open_of row.opened f.smb.state)
+      (λ found at. stays row.opened found (told_so (λ (l : Lists). open_of row.opened l ≡ Some found) (open_stays row.opened found) exports f t told at))
+      refl (subst (λ (r : Request). IsUnder f.smb.state (id, row) r) locks is.under)
+
+  -- what SMB's front says, in a core that is the turn's but for the numbers that were given out since
+  says : (u : CoreState) (counter : ℕ) (r : Request) → u ≡ record t { counter = counter } → row.request ≡ r → (smb_shown f.smb u (effects.Served id (answers.Granted claim))).0 ≡ final_outs row (success_of t id row r)
+  says u counter (request.Create made) same makes =
+      granted_reply n (rooms_of f) s t u f.smb id row made claim good stand.awaits (granted made makes)
+      ∙ ap (λ (c : CoreState). final_outs row (opened_reply id row (id_of c row.opened) (caching c row.opened made))) same
+      ∙ ap (λ (held : Caching). final_outs row (opened_reply id row (id_of t row.opened) held)) (same_caching t counter row.opened made)
+  says u counter request.Lock same locks = lock_told f.smb u id row claim waited locks
+
+  pub is_told : (earlier : List Out) × ((all_shown exports f t told).0 ≡ earlier ++ map (framed Smb) (final_outs row (success_of t id row row.request)))
+  is_told =
+      let x : Effect = effects.Served id (answers.Granted claim) in
+      let grant = served_grant (rooms_of f) s t told id claim (turn_of n (rooms_of f) s t told good turn) served in
+      let r = all_shown exports f t grant.before in
+      let ends = last_ends exports f t grant.before x in (
+        ends.0,
+        ap (λ (es : List Effect). (all_shown exports f t es).0) grant.last
+            ∙ ends.1
+            ∙ ap (λ (l : Lists). ends.0 ++ map (framed Smb) (smb_shown (record { state = l }) r.2 x).0) (quiet_shows exports f t grant.before grant.begun)
+            ∙ ap (λ (outs : List Out). ends.0 ++ map (framed Smb) outs) (says r.2 r.2.counter row.request (all_shown_is exports f t grant.before).parts refl),
+      )
+
+  pub has_open : row.opened ≡ number → HasItsOpen exports last_lists f t told id number claim
+  has_open own = record { row = row; waited = waited; own = own; there = is_there row.request refl; earlier = is_told.0; sent = is_told.1 }
+
+turn_has : (n fuel : ℕ) (exports : Exports) (f : Fronts) (s t : CoreState) (told : List Effect) → IsGood s → Stand s f.smb.state → settle n (rooms_of f) s ≡ Some (told, t)
+    → (let r = all_shown exports f t told in HaveOpens exports (settled_for fuel n exports r.1 r.2).1.smb.state f t told)
+turn_has n fuel exports f s t told good stand e = λ id number claim served owner.
+    let left = rooms_of f in
+    let grant = served_grant left s t told id claim (turn_of n left s t told good e) served in
+    let kept = all_in (IsKept f.smb.state) grant.waiter s.waiters stand.keeps grant.waits number (asks_as grant.waiter claim grant.claims number grant.asked owner) in
+    has_open n fuel exports f s t told id number claim good stand e served kept.0 (subst (λ (k : ℕ). waiting_of k f.smb.state ≡ Some kept.0) grant.number kept.1) kept.2
+
+-- ---- all turns
+
+serves_by : (fuel n : ℕ) (exports : Exports) (f : Fronts) (s : CoreState) (o : Option (List Effect × CoreState)) → settle n (rooms_of f) s ≡ o → IsGood s → Stand s f.smb.state
+    → ((g : Fronts) (t : CoreState) → IsGood t → Stand t g.smb.state → turns_serve fuel n exports (settled_for fuel n exports g t).1.smb.state g t)
+    → (let last = (after_turn exports (settled_for fuel n exports) f s o).1.smb.state in turn_serves exports last (turns_serve fuel n exports last) f o)
+serves_by fuel n exports f s None e good stand later = tt
+serves_by fuel n exports f s (Some turn) e good stand later =
+    let r = all_shown exports f turn.1 turn.0 in (
+      turn_has n fuel exports f s turn.1 turn.0 good stand e,
+      later r.1 r.2 (all_shown_good exports f turn.1 turn.0 (turned_good n f s turn.1 turn.0 good e)) (shown_stand exports f turn.1 turn.0 (turn_tells n f s turn.1 turn.0 good e stand)),
+    )
+
+serve_for : (fuel n : ℕ) (exports : Exports) (f : Fronts) (s : CoreState) → IsGood s → Stand s f.smb.state → turns_serve fuel n exports (settled_for fuel n exports f s).1.smb.state f s
+serve_for zero n exports f s good stand = tt
+serve_for (suc fuel) n exports f s good stand = serves_by fuel n exports f s (settle n (rooms_of f) s) refl good stand (λ g t h k. serve_for fuel n exports g t h k)
+
+turns_have : (n : ℕ) (exports : Exports) (f : Fronts) (s : CoreState) → IsGood s → Stand s f.smb.state → turns_serve (turns_left s) n exports (settled n exports f s).1.smb.state f s
+unfolding settled
+turns_have n exports f s good stand = serve_for (turns_left s) n exports f s good stand
+
+-- ---- a step
+
+-- what holds of the core at the end of the turns, and then of the next state
+turn_awaits : (n : ℕ) (s : Whole) (event : Event) → IsFree s → Ready s.front → IsAwaiting s → (let r = settled n s.exports (heard n s event).1 (heard n s event).2 in Stand (step_begun r.2) r.1.smb.state)
+turn_awaits n s event free ready awaiting =
+    let h = heard n s event in
+    let r = settled n s.exports h.1 h.2 in
+    same_stand r.2 (step_begun r.2) r.1.smb.state (begun_waits r.2) (settled_stand n s.exports h.1 h.2 (heard_good n s event free.good) (heard_stand n s event free ready awaiting))
+
+turn_haves : (n : ℕ) (s : Whole) (event : Event) → IsFree s → Ready s.front → IsAwaiting s → (let h = heard n s event in turns_serve (turns_left h.2) n s.exports (settled n s.exports h.1 h.2).1.smb.state h.1 h.2)
+turn_haves n s event free ready awaiting = (let h = heard n s event in turns_have n s.exports h.1 h.2 (heard_good n s event free.good) (heard_stand n s event free ready awaiting))
+
+pub step_serves : (n : ℕ) (s : Whole) (event : Event) → IsFree s → Ready s.front → IsAwaiting s → IsServedBy n s event (step n s event).next
+unfolding step
+step_serves n s (Open kind) free ready awaiting = (let stand = turn_awaits n s (Open kind) free ready awaiting in (record { awaits = stand.awaits; keeps = stand.keeps }, turn_haves n s (Open kind) free ready awaiting))
+step_serves n s (Message number bytes) free ready awaiting =
+    (let stand = turn_awaits n s (Message number bytes) free ready awaiting in (record { awaits = stand.awaits; keeps = stand.keeps }, turn_haves n s (Message number bytes) free ready awaiting))
+step_serves n s (End number) free ready awaiting = (let stand = turn_awaits n s (End number) free ready awaiting in (record { awaits = stand.awaits; keeps = stand.keeps }, turn_haves n s (End number) free ready awaiting))
+step_serves n s (Called call reply) free ready awaiting =
+    (let stand = turn_awaits n s (Called call reply) free ready awaiting in (record { awaits = stand.awaits; keeps = stand.keeps }, turn_haves n s (Called call reply) free ready awaiting))
+step_serves n s (Tick now) free ready awaiting = (let stand = turn_awaits n s (Tick now) free ready awaiting in (record { awaits = stand.awaits; keeps = stand.keeps }, turn_haves n s (Tick now) free ready awaiting))
+step_serves n s Restart free ready awaiting = record { awaits = tt; keeps = tt }
+
+pub awaiting_by : (n : ℕ) (s t : Whole) (event : Event) → IsServedBy n s event t → IsAwaiting t
+awaiting_by n s t (Open kind) is = is.0
+awaiting_by n s t (Message number bytes) is = is.0
+awaiting_by n s t (End number) is = is.0
+awaiting_by n s t (Called call reply) is = is.0
+awaiting_by n s t (Tick now) is = is.0
+awaiting_by n s t Restart is = is
+
+pub step_awaits : (n : ℕ) (s : Whole) (event : Event) → IsFree s → Ready s.front → IsAwaiting s → IsAwaiting (step n s event).next
+step_awaits n s event free ready awaiting = awaiting_by n s (step n s event).next event (step_serves n s event free ready awaiting)
+
+-- at a start nobody waits
+pub begin_awaits : (head : Head) → IsAwaiting (begin head)
+begin_awaits head = record { awaits = tt; keeps = tt }
+
+-- ---- journals
+
+-- a law that holds of each entry, and of one more
+pub always_more : (law : Law) (s : Whole) (es : List Entry) (e : Entry) → Always law s es → law e.stores (replay s es) e (step e.stores (replay s es) e.event).next → Always law s (es ++ e ∷ [])
+always_more law s [] e always more = (more, tt)
+always_more law s (x ∷ es) e always more = (always.0, always_more law (step x.stores s x.event).next es e always.1 more)

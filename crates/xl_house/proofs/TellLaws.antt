@@ -1,0 +1,68 @@
+-- What telling of effects, and settling, leave of SMB's lists.
+use Rattle.std.proofs.Common.{◌≡◌, ℕ, zero, suc, List, [], ◌∷◌, ◌++◌, map, Option, Some, None, refl, sym, ap, ◌∙◌, append_assoc, append-nil}
+use Rattle.xl_base.specs.declared.event.Kind.TheVariants.{Rpc, Smb}
+use Rattle.xl_base.specs.declared.event.Out.{Out}
+use Rattle.xl_base.specs.declared.journal.Exports.{Exports}
+use Rattle.xl_smb_state.specs.State.{Lists}
+use Rattle.xl_core.specs.Frames.{who_left}
+use Rattle.xl_core.specs.Settle.{settle}
+use Rattle.xl_core.specs.State.{CoreState}
+use Rattle.xl_core.specs.declared.ask.Effect.{Effect}
+use Rattle.xl_core.specs.declared.ask.Effect.TheVariants as effects
+use Rattle.xl_front_nlm.specs.Grants.{shown}
+use Rattle.xl_front_nfs.specs.Recalls.{recalls}
+use Rattle.xl_front_smb.specs.FrontSmb.{smb_shown}
+use Rattle.xl_house.specs.Machine.{after_turn, all_shown, framed, rooms_of, settled_for, showing}
+use Rattle.xl_house.specs.declared.parts.Fronts.{Fronts}
+use Rattle.xl_house.proofs.OpensLaws.{StaysSo, begun_shows, expired_shows, shown_so}
+
+-- ---- what is so of opens stays
+
+module _ (P : Lists → Type 0) (stays : StaysSo P) where
+  pub told_so : (exports : Exports) (f : Fronts) (s : CoreState) (told : List Effect) → P f.smb.state → P (all_shown exports f s told).1.smb.state
+  told_so exports f s [] so = so
+  told_so exports f s (effect ∷ told) so = (let r = showing exports f s effect in told_so exports r.1 r.2 told (shown_so P stays f.smb s effect so))
+
+  turn_so : (fuel n : ℕ) (exports : Exports) (f : Fronts) (s : CoreState) (o : Option (List Effect × CoreState)) → P f.smb.state → ((g : Fronts) (t : CoreState) → P g.smb.state → P (settled_for fuel n exports g t).1.smb.state)
+      → P (after_turn exports (settled_for fuel n exports) f s o).1.smb.state
+  turn_so fuel n exports f s None so later = so
+  turn_so fuel n exports f s (Some turn) so later = (let r = all_shown exports f turn.1 turn.0 in later r.1 r.2 (told_so exports f turn.1 turn.0 so))
+
+  -- also while the table is settled
+  pub settled_so : (fuel n : ℕ) (exports : Exports) (f : Fronts) (s : CoreState) → P f.smb.state → P (settled_for fuel n exports f s).1.smb.state
+  settled_so zero n exports f s so = so
+  settled_so (suc fuel) n exports f s so = turn_so fuel n exports f s (settle n (rooms_of f) s) so (λ g t later. settled_so fuel n exports g t later)
+
+-- ---- what tells of nobody that it waits no more leaves the lists
+
+pub quiet_shows : (exports : Exports) (f : Fronts) (s : CoreState) (told : List Effect) → who_left told ≡ [] → (all_shown exports f s told).1.smb.state ≡ f.smb.state
+quiet_shows exports f s [] none = refl
+quiet_shows exports f s (effects.Begun cache to call ∷ told) none = (let r = showing exports f s (effects.Begun cache to call) in quiet_shows exports r.1 r.2 told none ∙ begun_shows f.smb s cache to call)
+quiet_shows exports f s (effects.Expired client ∷ told) none = (let r = showing exports f s (effects.Expired client) in quiet_shows exports r.1 r.2 told none ∙ expired_shows f.smb s client)
+quiet_shows exports f s (effects.Served k answer ∷ told) none = absurd cc
+quiet_shows exports f s (effects.Cancelled k ∷ told) none = absurd cc
+
+-- ---- the last effect
+
+pub last_shows : (exports : Exports) (f : Fronts) (s : CoreState) (told : List Effect) (effect : Effect) → (all_shown exports f s (told ++ effect ∷ [])).1.smb.state ≡ (smb_shown (all_shown exports f s told).1.smb (all_shown exports f s told).2 effect).1.state
+last_shows exports f s [] effect = refl
+last_shows exports f s (first ∷ told) effect = (let r = showing exports f s first in last_shows exports r.1 r.2 told effect)
+
+last_sends : (exports : Exports) (f : Fronts) (s : CoreState) (told : List Effect) (effect : Effect) → (all_shown exports f s (told ++ effect ∷ [])).0 ≡ (all_shown exports f s told).0 ++ (showing exports (all_shown exports f s told).1 (all_shown exports f s told).2 effect).0
+last_sends exports f s [] effect = append-nil (showing exports f s effect).0
+last_sends exports f s (first ∷ told) effect =
+    let r = showing exports f s first in
+    let later = all_shown exports r.1 r.2 told in
+    ap (λ (outs : List Out). r.0 ++ outs) (last_sends exports r.1 r.2 told effect) ∙ sym (append_assoc r.0 later.0 (showing exports later.1 later.2 effect).0)
+
+-- what SMB's front says of it stands at the end
+pub last_ends : (exports : Exports) (f : Fronts) (s : CoreState) (told : List Effect) (effect : Effect)
+    → (let r = all_shown exports f s told in (earlier : List Out) × ((all_shown exports f s (told ++ effect ∷ [])).0 ≡ earlier ++ map (framed Smb) (smb_shown r.1.smb r.2 effect).0))
+last_ends exports f s told effect =
+    let r = all_shown exports f s told in
+    let first : List Out = map (framed Rpc) (shown exports r.1.nlm r.2 effect).0 in
+    let calls : List Out = map (framed Rpc) (recalls r.1.nfs r.2 effect) in
+    let own : List Out = map (framed Smb) (smb_shown r.1.smb r.2 effect).0 in (
+      r.0 ++ (first ++ calls),
+      last_sends exports f s told effect ∙ ap (λ (outs : List Out). r.0 ++ outs) (sym (append_assoc first calls own)) ∙ sym (append_assoc r.0 (first ++ calls) own),
+    )
