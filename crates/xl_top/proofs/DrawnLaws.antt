@@ -355,7 +355,7 @@ unlock_well n left s who file first last rows core one at real short = by (holds
   few_names_kept = few_names five s.names core.good.distinct core.names
 
   small : holds_byte claim.file claim.owner first last s.claims ≡ true → number_or (number_of (name_by who) s.names) < 5
-  small holds = known_small s.names (number_or (number_of (name_by who) s.names)) claim.party few_names_kept (holder_kept s a (Bytes first last) false first last core.good refl holds)
+  small holds = known_small s.names (number_or (number_of (name_by who) s.names)) claim.party few_names_kept (holder_kept s a (Bytes first last) false first last refl core.good refl holds)
 
   is : (h f : Bool) → holds_byte claim.file claim.owner first last s.claims ≡ h → nat_le (left_by_unlock s claim first last) most_claims ≡ f → ask n left s a ≡ left_so s claim first last h f
   is h f e k = judged_there n left s a core refl ∙ unlock_is n left s a first last refl refl refl ∙ unlock_by s claim first last h f e k

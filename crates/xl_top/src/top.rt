@@ -4,6 +4,7 @@ ghost use Rattle.std.specs.Result.{result_ok};
 ghost use Rattle.xl_base.specs.Outside.{Rose, Took, Ended, Added, Began};
 ghost use Rattle.xl_capture.specs.Capture.{captured, most_bytes};
 ghost use Rattle.xl_house.specs.Lawful.{Always, IsLawful, IsWaiting, IsKept, IsComplete, IsCaused, IsTold};
+ghost use Rattle.xl_house.specs.Awaited.{IsServed};
 ghost use Rattle.xl_house.specs.Free.{AlwaysFree};
 ghost use Rattle.xl_house.specs.Housed.{Housed, is_spoiled};
 ghost use Rattle.xl_house.specs.Journals.{replay, IsLegal, IsOrderly, entries_of, most_entries};
@@ -156,6 +157,7 @@ fn write_whole<O: Sink>(alloc: Global, house: &House<SureKeeper>, out: &mut O) -
 fn journal_in(house: House<SureKeeper>) -> Journal
     ensures journal { (result.head ≡ house.head) × (result.entries ≡ house.entries) }
     ensures legal { IsLegal (begin result.head) result.entries }
+    ensures served { Always IsServed (begin result.head) result.entries }
     ensures orderly { IsOrderly [] 0 result.entries }
     ensures most { length result.entries ≤ most_entries }
 {
@@ -265,6 +267,7 @@ fn replay<O: Sink>(alloc: Global, capture: Capture, out: &mut O) -> Done
     ensures still { result.status ≢ 3 → result.status ≢ 7 → O.faults out.new ≡ O.faults out.old }
     ensures written_full { result.status ≡ 7 → (Rose (O.faults out.old) (O.faults out.new) → ⊥) → Added (O.held out.old) (whole_transcript result.journal) (O.held out.new) }
     ensures legal { IsLegal (begin result.journal.head) result.journal.entries }
+    ensures served { Always IsServed (begin result.journal.head) result.journal.entries }
     ensures orderly { IsOrderly [] 0 result.journal.entries }
     ensures most { length result.journal.entries ≤ most_entries }
 {
@@ -297,6 +300,7 @@ fn replay_text<O: Sink>(alloc: Global, text: &[u8], out: &mut O) -> Done
     ensures written_full { result.status ≡ 7 → (Rose (O.faults out.old) (O.faults out.new) → ⊥) → Added (O.held out.old) (whole_transcript result.journal) (O.held out.new) }
     ensures idle { result.status ≡ 4 → (result.journal ≡ no_journal) × (O.held out.new ≡ O.held out.old) }
     ensures legal { IsLegal (begin result.journal.head) result.journal.entries }
+    ensures served { Always IsServed (begin result.journal.head) result.journal.entries }
     ensures orderly { IsOrderly [] 0 result.journal.entries }
     ensures most { length result.journal.entries ≤ most_entries }
 {
@@ -327,6 +331,7 @@ fn replay_input<I: Source, O: Sink>(alloc: Global, input: &mut I, out: &mut O) -
     ensures began { Began (O.held out.old) (whole_transcript result.journal) (O.held out.new) }
     ensures idle { is_idle result.status ≡ true → (result.journal ≡ no_journal) × (O.held out.new ≡ O.held out.old) }
     ensures legal { IsLegal (begin result.journal.head) result.journal.entries }
+    ensures served { Always IsServed (begin result.journal.head) result.journal.entries }
     ensures orderly { IsOrderly [] 0 result.journal.entries }
     ensures most { length result.journal.entries ≤ most_entries }
 {
@@ -445,6 +450,7 @@ fn make<O: Sink>(alloc: Global, seed: u32, count: u32, out: &mut O) -> Done
     ensures failed { result.status ≡ 3 → Rose (O.faults out.old) (O.faults out.new) }
     ensures still { result.status ≢ 3 → O.faults out.new ≡ O.faults out.old }
     ensures legal { IsLegal (begin result.journal.head) result.journal.entries }
+    ensures served { Always IsServed (begin result.journal.head) result.journal.entries }
     ensures orderly { IsOrderly [] 0 result.journal.entries }
     ensures most { length result.journal.entries ≤ most_entries }
 {
@@ -528,6 +534,10 @@ pub fn run<I: Source, O: Sink>(alloc: Global, words: &[String], input: &mut I, o
     ensures complete { Always IsComplete (begin result.journal.head) result.journal.entries }
     ensures caused { Always IsCaused (begin result.journal.head) result.journal.entries }
     ensures told { Always IsTold (begin result.journal.head) result.journal.entries }
+
+    // Each request of SMB that waits is awaited, and each waiter of an SMB open has its request. What is granted to an SMB open
+    // that waited has its open then, and the request is told that it succeeded.
+    ensures served { Always IsServed (begin result.journal.head) result.journal.entries }
 {
     match parse(alloc, words) {
         Ok(Job::Replay) => replay_input(alloc, input, out),
