@@ -9,6 +9,7 @@ mod elements;
 mod endings;
 mod grants;
 mod house;
+mod leases;
 mod limits;
 mod lines;
 mod locks;

@@ -12,7 +12,7 @@ use xl_matrix::{Claim, Extent, Rwd, What, is_posix, same_claim, same_owner, same
 use xl_names::{Name, Names};
 use xl_spans::{Mode, Span};
 use xl_table::{
-    CLAIMS, Table, TableErr, is_answer_due, is_blocked_by, stays_compatible, stays_sound,
+    CLAIMS, Leaver, Table, TableErr, is_answer_due, is_blocked_by, stays_compatible, stays_sound,
     united_shares_stay_compatible, unlocks_grow_only_by_a_cut,
 };
 
@@ -249,7 +249,7 @@ fn change_and_go(alloc: Global, table: &mut Table) -> bool {
 
 /// The lease's party goes, and the others' claims stay.
 fn party_goes(alloc: Global, table: &mut Table) -> bool {
-    table.remove_party(Party::Name(Protocol::Smb, 5));
+    table.remove_leaver(Leaver::Party(Party::Name(Protocol::Smb, 5)));
     are_held(
         alloc,
         table,
@@ -363,7 +363,7 @@ fn a_full_table(rt: HostRuntime) {
             Err(TableErr::Full(16_384))
         )
     );
-    table.remove_party(Party::Name(Protocol::Nlm, 7));
+    table.remove_leaver(Leaver::Party(Party::Name(Protocol::Nlm, 7)));
     assert!(rt; share_enters(&mut table, 20_000).is_ok() && table.len() == 16_384);
 }
 

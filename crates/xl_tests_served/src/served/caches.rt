@@ -1,5 +1,5 @@
-//! Caches of one client, and asks of another that they keep off: delegations of NFSv4 (RFC 7530 10.4) and oplocks of SMB
-//! (MS-SMB2 3.3.4.6).
+//! Caches of one client, and asks of another that they keep off: delegations of NFSv4 (RFC 7530 10.4), and oplocks and leases
+//! of SMB (MS-SMB2 3.3.4.6, 3.3.4.7).
 
 use super::spelled::wrong_words;
 use std::alloc::{AllocError, Global};
@@ -433,14 +433,23 @@ enum Holder {
     LevelTwo,
     ReadDelegation,
     WriteDelegation,
+    /// A lease for reads, writes and the handle.
+    WholeLease,
+    WriteLease,
+    HandleLease,
+    ReadLease,
 }
 
-const HOLDERS: [Holder; 5] = [
+const HOLDERS: [Holder; 9] = [
     Holder::Batch,
     Holder::Exclusive,
     Holder::LevelTwo,
     Holder::ReadDelegation,
     Holder::WriteDelegation,
+    Holder::WholeLease,
+    Holder::WriteLease,
+    Holder::HandleLease,
+    Holder::ReadLease,
 ];
 
 /// What another client asks for.
@@ -472,6 +481,22 @@ impl Holder {
         matches!(self, Holder::ReadDelegation | Holder::WriteDelegation)
     }
 
+    /// The state of a lease: 1 for reads, 2 for the handle, 4 for writes; 0 of what is none.
+    fn state(self) -> u32 {
+        match self {
+            Holder::WholeLease => 7,
+            Holder::WriteLease => 5,
+            Holder::HandleLease => 3,
+            Holder::ReadLease => 1,
+            _ => 0,
+        }
+    }
+
+    /// It is for reads alone, so that its break needs no answer.
+    fn is_for_reads(self) -> bool {
+        matches!(self, Holder::LevelTwo | Holder::ReadLease)
+    }
+
     /// How the file is opened, under seqid 3 where it is by the confirmed owner of NFSv4.
     fn line(self) -> &'static str {
         match self {
@@ -480,6 +505,18 @@ impl Holder {
             Holder::LevelTwo => "B 0 : smb create ask .2 s1 made-two .3 .0 .7 .1 .0 named-a",
             Holder::ReadDelegation => "B 1 : nfs 2 root open 3 1 0 k3 owner byname a.txt",
             Holder::WriteDelegation => "B 1 : nfs 2 root open 3 2 0 k3 owner byname a.txt",
+            Holder::WholeLease => {
+                "B 0 : smb create ask .2 s1 by-lease .3 .0 .7 .1 .0 leased-a key-k .7 .0 none"
+            }
+            Holder::WriteLease => {
+                "B 0 : smb create ask .2 s1 by-lease .3 .0 .7 .1 .0 leased-a key-k .5 .0 none"
+            }
+            Holder::HandleLease => {
+                "B 0 : smb create ask .2 s1 by-lease .3 .0 .7 .1 .0 leased-a key-k .3 .0 none"
+            }
+            Holder::ReadLease => {
+                "B 0 : smb create ask .2 s1 by-lease .3 .0 .7 .1 .0 leased-a key-k .1 .0 none"
+            }
         }
     }
 
@@ -494,6 +531,18 @@ impl Holder {
             }
             Holder::WriteDelegation => {
                 "c1 : told OK 0 2 root OK open OK 1 n6 cinfo 0 0 2 1 n7 delegated-write"
+            }
+            Holder::WholeLease => {
+                "c0 : answer OK create did .2 s1 created-leased id6 holding key-k .7 .0 none"
+            }
+            Holder::WriteLease => {
+                "c0 : answer OK create did .2 s1 created-leased id6 holding key-k .5 .0 none"
+            }
+            Holder::HandleLease => {
+                "c0 : answer OK create did .2 s1 created-leased id6 holding key-k .3 .0 none"
+            }
+            Holder::ReadLease => {
+                "c0 : answer OK create did .2 s1 created-leased id6 holding key-k .1 .0 none"
             }
         }
     }
@@ -518,6 +567,18 @@ impl Holder {
             Holder::LevelTwo => "1 cache smb:6 R",
             Holder::ReadDelegation => "1 cache nfs:63 ReadDeleg",
             Holder::WriteDelegation => "1 cache nfs:63 WriteDeleg",
+            Holder::WholeLease => {
+                "1 cache smb:11111111111111111111111111111111/6b6b6b6b6b6b6b6b6b6b6b6b6b6b6b6b RWH"
+            }
+            Holder::WriteLease => {
+                "1 cache smb:11111111111111111111111111111111/6b6b6b6b6b6b6b6b6b6b6b6b6b6b6b6b RW"
+            }
+            Holder::HandleLease => {
+                "1 cache smb:11111111111111111111111111111111/6b6b6b6b6b6b6b6b6b6b6b6b6b6b6b6b RH"
+            }
+            Holder::ReadLease => {
+                "1 cache smb:11111111111111111111111111111111/6b6b6b6b6b6b6b6b6b6b6b6b6b6b6b6b R"
+            }
         }
     }
 }
@@ -634,38 +695,46 @@ impl Asking {
     }
 }
 
-/// Whether the cache may stay as it is beside what is asked: one for reading beside shares, a read delegation not beside those
-/// that write.
+/// Whether the cache may stay as it is beside what is asked: one without writes beside shares, a read delegation not beside
+/// those that write.
 fn goes_with(holder: Holder, asking: Asking) -> bool {
     match holder {
-        Holder::LevelTwo => !asking.is_lock(),
+        Holder::LevelTwo | Holder::ReadLease | Holder::HandleLease => !asking.is_lock(),
         Holder::ReadDelegation => !asking.is_lock() && !asking.writes(),
         _ => false,
     }
 }
 
-/// What its break leaves: level II beside a share, but nothing of a delegation, nor beside a lock.
-fn target(holder: Holder, asking: Asking) -> &'static str {
+/// What its break leaves beside a share: what a lease has but its writes, level II, and nothing of a delegation; beside a lock
+/// nothing. Its level is its state as a lease.
+fn target(holder: Holder, asking: Asking) -> u32 {
     if holder.is_delegation() || asking.is_lock() {
-        "none"
+        0
+    } else if holder.state() == 0 {
+        1
     } else {
-        "R"
+        holder.state() & 3
     }
 }
 
-/// How the break is told: by a call to the client, whose number comes next, or by a notice.
+/// How the break is told: by a call to the client, whose number comes next, or by a notice, of a lease with the state that it
+/// has, and with flag 1 where an answer is needed.
 fn broken(alloc: Global, holder: Holder, asking: Asking, call: u32) -> Result<String, AllocError> {
     if holder.is_delegation() {
         return format!(in alloc;
             "13 b{call} 3132372e302e302e312e332e34 {call:08x}0000000000000002400000000000000100000001000000000000000000000000000000000000000000000000000000070000000100000004000000010000000100000000000000070000000000000008584c4b3100000001\n"
         );
     }
-    let level = if target(holder, asking) == "R" {
-        "level-two"
-    } else {
-        "level-none"
-    };
-    format!(in alloc; "13 c0 : notice {level} id6\n")
+    let left = target(holder, asking);
+    if holder.state() == 0 {
+        let level = if left == 1 { "level-two" } else { "level-none" };
+        return format!(in alloc; "13 c0 : notice {level} id6\n");
+    }
+    format!(in alloc;
+        "13 c0 : notice lease-notice .{} key-k .{} .{left} none .0\n",
+        !holder.is_for_reads() as u32,
+        holder.state()
+    )
 }
 
 /// The lines of the ask, and the claims then; at a second reading of the clock each break that ran is over.
@@ -689,7 +758,7 @@ fn met(alloc: Global, holder: Holder, asking: Asking) -> Result<String, AllocErr
         )?);
     }
     let begun = broken(alloc, holder, asking, call)?;
-    if holder == Holder::LevelTwo {
+    if holder.is_for_reads() {
         let told = asking.granted(alloc, next)?;
         return claims(
             alloc,

@@ -272,7 +272,7 @@ B 0 : smb create ask .2 s1 made .3 .0 .7 .1 .0 78000a00 none 61002e0074007800740
 B 0 : smb create ask .2 s1 made .3 .0 .7 .1 .0 78000000 none
 # capitals are the small ones; OPEN_IF
 B 0 : smb create ask .2 s1 made .3 .0 .7 .3 .0 78000a00 none 41002e00740058005400
-# batch beside another open is level II; a lease is asked for, and not given
+# batch beside another open is level II; the level of a lease without its context asks for nothing
 B 0 : smb create ask .2 s1 made-batch .3 .0 .7 .1 .0 named-a
 B 0 : smb create ask .2 s1 390000ff0200000000000000000000000000000000000000 .3 .0 .7 .1 .0 named-a
 =>
@@ -360,22 +360,23 @@ B 0 : smb create ask .2 s1 made 00000100 .0 .3 .1 .0 named-d
 3 share smb:16 - -
 4 share smb:17 d d
 --
-# A lease is asked for in full, and not given; one that leaves its list of contexts (MS-SMB2 2.2.13.2, 2.2.13.2.8).
+# A lease is asked for in full, and given; one that leaves its list of contexts (MS-SMB2 2.2.13.2, 2.2.13.2.8).
 F a.txt
 O smb
 B 0 : smb negotiate ask .0 s0 hello
 B 0 : smb setup ask .0 s0 guest
 B 0 : smb tree ask .0 s1 xl
-B 0 : smb create ask .2 s1 390000ff0200000000000000000000000000000000000000 .3 .0 .7 .1 .0 78000a008800000038000000 61002e00740078007400 000000000000 0000000010000400000018002000000052714c7300000000 11111111111111111111111111111111 .7 00000000 0000000000000000
-B 0 : smb create ask .2 s1 390000ff0200000000000000000000000000000000000000 .3 .0 .7 .1 .0 78000a008800000038000000 61002e00740078007400 000000000000 0000000010000400000018002100000052714c7300000000 11111111111111111111111111111111 .7 00000000 0000000000000000
+B 0 : smb create ask .2 s1 by-lease .3 .0 .7 .1 .0 78000a008800000038000000 61002e00740078007400 000000000000 0000000010000400000018002000000052714c7300000000 key-k .7 00000000 0000000000000000
+B 0 : smb create ask .2 s1 by-lease .3 .0 .7 .1 .0 78000a008800000038000000 61002e00740078007400 000000000000 0000000010000400000018002100000052714c7300000000 key-k .7 00000000 0000000000000000
 =>
 0 0 6
 1 c0 : answer OK negotiate did .0 s0 welcome
 2 c0 : answer OK setup did .0 s1 guested
 3 c0 : answer OK tree did .2 s1 disk
-4 c0 : answer OK create did .2 s1 created id3 none
+4 c0 : answer OK create did .2 s1 created-leased id3 holding key-k .7 .0 none
 5 c0 : answer INVALID_PARAMETER create did .2 s1 error
 1 share smb:3 rw -
+1 cache smb:11111111111111111111111111111111/6b6b6b6b6b6b6b6b6b6b6b6b6b6b6b6b RWH
 ";
 
 /// The most sessions, trees and opens.
