@@ -122,6 +122,28 @@ def create(name, access=3, share=7):
     return fixed + struct.pack("<HHII", 120, len(name), 0, 0) + name
 
 
+ALL_OF_A_LEASE, READS_AND_HANDLE = 7, 3
+
+
+def create_leased(name, key, state=ALL_OF_A_LEASE):
+    """The same for reading, with a lease of this state, of a key of one letter and zeros."""
+    name = name.encode("utf-16-le")
+    fixed = struct.pack("<HBBIQQ5I", 57, 0, 0xFF, 0, 0, 0, 1, 0, 7, 1, 0)
+    padding = bytes(-len(name) % 8)
+    lease = struct.pack("<16s2IQ", key, state, 0, 0)
+    context = struct.pack("<I4HI4s4x", 0, 16, 4, 0, 24, len(lease), b"RqLs") + lease
+    return fixed + struct.pack("<HHII", 120, len(name), 120 + len(name + padding), len(context)) + name + padding + context
+
+
+def keep(key, state):
+    """The acknowledgement of a lease's break, which keeps this state."""
+    return struct.pack("<HHI16sIQ", 36, 0, 0, key, state, 0)
+
+
+def close(opened):
+    return struct.pack("<HHI2Q", 24, 0, 0, smb_number(opened), smb_number(opened))
+
+
 EXCLUSIVE_AT_ONCE, UNLOCKED = 0x12, 4
 
 

@@ -16,9 +16,10 @@ from dataclasses import dataclass, field
 from typing import Callable
 
 from calls import (
-    ECHO, EXCLUSIVE_AT_ONCE, GET_FH, LOCK, NEGOTIATE, NFS, NLM, PUT_ROOT_FH, SESSION_SETUP, TEST, UNLOCK, UNLOCKED, compound,
-    confirm, create, first_lock, framed, lookup, message, nfs_lock, nfs_unlock, open_confirm, open_file, put_fh, record, renew,
-    replay, set_client_id, smb_lock, smb_number, stateid, tree_connect, write_capture,
+    ECHO, EXCLUSIVE_AT_ONCE, GET_FH, LOCK, NEGOTIATE, NFS, NLM, PUT_ROOT_FH, READS_AND_HANDLE, SESSION_SETUP, TEST, UNLOCK,
+    UNLOCKED, close, compound, confirm, create, create_leased, first_lock, framed, keep, lookup, message, nfs_lock, nfs_unlock,
+    open_confirm, open_file, put_fh, record, renew, replay, set_client_id, smb_lock, smb_number, stateid, tree_connect,
+    write_capture,
 )  # fmt: skip
 
 CALLS, TIMES = 100_000, 5
@@ -65,18 +66,38 @@ def nfs_locks(xid, at):
     return compound(xid, put_fh(1), made(0, 1, stateid(4, at + 1), at + 1))
 
 
-# A session (1), a tree connect (2) and an open (3).
-OPENED = [
+# A session (1) and a tree connect (2); an open (3) besides.
+CONNECTED = [
     lambda number: message(number, 0, NEGOTIATE),
     lambda number: message(number, 1, SESSION_SETUP),
     lambda number: message(number, 3, tree_connect("\\\\x\\xl"), session=smb_number(1)),
-    lambda number: message(number, 5, create("f0"), 2, smb_number(1)),
 ]
+OPENED = [*CONNECTED, lambda number: message(number, 5, create("f0"), 2, smb_number(1))]
 
 
 def smb_locks(number, at):
     flags = UNLOCKED if at % 2 else EXCLUSIVE_AT_ONCE
     return message(number, 10, smb_lock(3, 0, 1, flags), 2, smb_number(1))
+
+
+def leases(number, at):
+    """By turns an open under a lease for all, and its CLOSE: the opens are 3, 4 and so on."""
+    command, body = (6, close(3 + at // 2)) if at % 2 else (5, create_leased("f0", b"k"))
+    return message(number, command, body, 2, smb_number(1))
+
+
+def broken_leases(number, at):
+    """By turns such an open, one under another lease, which waits for the break of the first, the acknowledgement, and both
+    CLOSEs: of three numbers that each turn takes, from 3 on, two are the opens'."""
+    first, step = 3 + at // 5 * 3, at % 5
+    command, body = [
+        (5, create_leased("f0", b"k")),
+        (5, create_leased("f0", b"l")),
+        (18, keep(b"k", READS_AND_HANDLE)),
+        (6, close(first)),
+        (6, close(first + 1)),
+    ][step]
+    return message(number, command, body, 2, smb_number(1))
 
 
 HELD = [lambda xid: record(xid, LOCK, 1, 1, 0, 1)]
@@ -93,6 +114,8 @@ ROWS = [
     Row("NLM LOCK or UNLOCK", nlm_locks, is_nlm=True),
     Row("PUTFH, LOCK or LOCKU", nfs_locks, LOCKED),
     Row("SMB LOCK, of a lock or an unlock", smb_locks, OPENED, kind="smb"),
+    Row("SMB CREATE with a lease, or CLOSE", leases, CONNECTED, kind="smb"),
+    Row("two leases, of which one breaks the other: each of five", broken_leases, CONNECTED, kind="smb"),
     Row("RENEW: 1 client", lambda xid, at: compound(xid, renew(1)), come(1)),
     Row("the last of 256 clients", lambda xid, at: compound(xid, renew(2 * MOST_CLIENTS - 1)), come(MOST_CLIENTS)),
     Row("SETCLIENTID_CONFIRM again: 1 client", lambda xid, at: compound(xid, confirm(1, 2)), come(1)),

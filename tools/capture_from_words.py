@@ -33,8 +33,9 @@ number. REQUEST is one of SMB 2.1:
 {requests}
 
 ELEMENT is {element}, ACCESS and SHARED are letters of rwd, LEVEL is
-{levels}. OPEN, and ID below, is an epoch and a number, as 1.3. Each request also
-takes session=ID and tree=N, which those that follow on the connection keep, and message=N.
+{levels}. KEY is that of a lease, a name of 16 bytes at most, with zeros behind them, and
+STATE its state: letters of rwh, of which h is the handle, or -. OPEN, and ID below, is an epoch and a number, as 1.3. Each
+request also takes session=ID and tree=N, which those that follow on the connection keep, and message=N.
 
 Each call also takes xid=N, fragments=N (its record in fragments of N bytes) and pieces=N (its bytes in lines of N).
 Empty lines and the words from one on that begins with `#` are passed over. In the capture a comment above

@@ -166,11 +166,14 @@ def told_lines(event, place, outs, files):
 
 
 def holder_in_words(text):
-    """The text of an owner or party: its protocol and its parts, of which svid and an open's number are no bytes."""
+    """The text of an owner or party: its protocol and its parts, of which svid and an open's number are no bytes; of a lease
+    its client's guid and its key."""
     protocol, _, rest = text.partition(":")
     parts = rest.split("/")
     number = {("nlm", 3): 1, ("smb", 1): 0}.get((protocol, len(parts)))
     shown = [part if place == number else name_in_words(part) for place, part in enumerate(parts)]
+    if (protocol, len(parts)) == ("smb", 2):
+        shown = ["client", shown[0], "lease", smb.key_word(bytes.fromhex(parts[1]))]
     return " ".join([protocol] + shown)
 
 

@@ -3,7 +3,7 @@ import unittest
 
 from capture_from_words import capture_of
 from transcript_in_words import in_words
-from xlock import nfs
+from xlock import nfs, smb
 from xlock.captures import Capture
 from xlock.rpc import RecordCutter
 from xlock.words import WordError
@@ -52,6 +52,18 @@ SMB_LOCKS = (
     "0100000001000000" + "00" * 16 + "3000 0100 00000000 0300000001000000 0300000001000000"
     "0000000000000000 0a00000000000000 12000000 00000000"
 ).replace(" ", "")
+# CREATE (2.2.13) of a.txt for reading, which shares all, in the session 1.1 and the tree 2, with the context of a lease
+# (2.2.13.2.8) for reads and the handle, of the key `k` and zeros; and the acknowledgement of its break (2.2.24.2) down to reads.
+SMB_LEASES = (
+    "000000c0 fe534d42 4000 0000 00000000 0500 0100 00000000 00000000 0000000000000000 00000000 02000000"
+    "0100000001000000" + "00" * 16 + "3900 00 ff 00000000" + "00" * 16 + "01000000 00000000 07000000 01000000 00000000"
+    "7800 0a00 88000000 38000000 6100 2e00 7400 7800 7400" + "00" * 6 + "00000000 1000 0400 0000 1800 20000000 52714c73 00000000"
+    "6b" + "00" * 15 + "03000000 00000000" + "00" * 8
+).replace(" ", "")
+SMB_KEEPS = (
+    "00000064 fe534d42 4000 0000 00000000 1200 0100 00000000 00000000 0100000000000000 00000000 02000000"
+    "0100000001000000" + "00" * 16 + "2400 0000 00000000 6b" + "00" * 15 + "01000000" + "00" * 8
+).replace(" ", "")
 
 # What a text of words comes to, comments aside.
 CAPTURES = [
@@ -73,6 +85,10 @@ CAPTURES = [
         "open smb\nsmb negotiate\nsmb lock 1.3 0 10 x session=1.1 tree=2",
         ["O smb", f"B 0 {NEGOTIATES}", f"B 0 {SMB_LOCKS}"],
     ),
+    (
+        "open smb\nsmb create a.txt r lease=k state=rh session=1.1 tree=2\nsmb break_lease k r",
+        ["O smb", f"B 0 {SMB_LEASES}", f"B 0 {SMB_KEEPS}"],
+    ),
     ("open\nO rpc\nB 1 00\n", ["O rpc", "O rpc", "B 1 00"]),
     ("open smb\nB 0 00\n", ["O smb", "B 0 00"]),
     ("call 100003 4 0", ["O rpc", "B 0 80000028" + "00000001 00000000 00000002 000186a3 00000004 00000000".replace(" ", "") + "0" * 32]),
@@ -82,7 +98,8 @@ REFUSED = [
     "fly", "lock a 7 a.txt 0 10", "lock a 7 a.txt 0 10 y", "lock a 7 A.txt 0 10 x", "lock a 7 a.txt 0 -1 x", "use b",
     "share a a.txt d -", "answer 1 perhaps", "R", "unlock a 7 a.txt 0 10 block", "Q", "B 0 0",
     "compound renew", "compound renew 1", "compound confirm 1.5 0x00", "compound open a.txt", "compound get_fh then", "nfs_null 1",
-    "compound lock 0 10 y 1.5.1 2", "compound close 2 1.5.x", "smb echo",
+    "compound lock 0 10 y 1.5.1 2", "compound close 2 1.5.x", "smb echo", "open smb\nsmb break_lease k rx",
+    "open smb\nsmb create a.txt r lease=a_key_of_17_bytes",
 ]  # fmt: skip
 
 # Each call is said again as it was written.
@@ -120,11 +137,15 @@ smb session_setup
 smb tree_connect \\\\x\\xl session=1.1
 smb create a.txt rwd session=1.1 tree=2
 smb create a.txt r rd oplock=batch disposition=3 session=1.1 tree=2
+smb create a.txt rw lease=k state=rwh session=1.1 tree=2
+smb create long.name.txt r rd lease=0xff0102030405060708090a0b0c0d0e0f state=- disposition=3 session=1.1 tree=2
 smb lock 1.3 0 10 x wait session=1.1 tree=2
 smb lock 1.3 0 10 unlock then 20 0 unlock session=1.1 tree=2
 smb cancel async=5 session=1.1
 smb cancel message=5 session=1.1 tree=2
 smb break 1.3 level2 session=1.1 tree=2
+smb break_lease k rh session=1.1 tree=2
+smb break_lease - - session=1.1 tree=2
 smb close 1.3 session=1.1 tree=2
 smb tree_disconnect session=1.1 tree=2
 smb logoff session=1.1
@@ -155,6 +176,25 @@ RESULTS = [
     ("00002734 00000000 00000001 00000018 00000000", "BADXDR behind put_root_fh"),
     ("00002722 00000001 74000000 00000000", "RESOURCE tag=t"),
     ("00002725 00000000 00000000", "MINOR_VERS_MISMATCH"),
+]  # fmt: skip
+
+# Messages of SMB to a client (2.2.14, 2.2.23.2, 2.2.24.2, 2.2.25.2) in words: the reply to a CREATE under a lease whose break
+# runs, notices of breaks that need an answer and don't, and the reply to an acknowledgement.
+LEASE_CONTEXT = "00000000 1000 0400 0000 1800 20000000 52714c73 00000000 6b" + "00" * 15
+SMB_HEAD = "fe534d42 4000 0000 00000000 {} 0100 01000000 00000000 0000000000000000 00000000 02000000 0100000001000000" + "00" * 16
+NOTICE_HEAD = "fe534d42 4000 0000 00000000 1200 0000 01000000 00000000 ffffffffffffffff" + "00" * 32
+TO_CLIENTS = [
+    (
+        SMB_HEAD.format("0500") + "5900 ff 00 01000000" + "00" * 48 + "80000000 00000000" + "0300000001000000" * 2
+        + "98000000 38000000" + LEASE_CONTEXT + "05000000 02000000" + "00" * 8,
+        "SUCCESS open=1.3 lease=k state=rw breaking",
+    ),
+    (NOTICE_HEAD + "2c00 0000 01000000 6b" + "00" * 15 + "07000000 03000000" + "00" * 12, "notice: the lease k breaks from rwh to rh"),
+    (
+        NOTICE_HEAD + "2c00 0000 00000000 6b" + "00" * 15 + "01000000 00000000" + "00" * 12,
+        "notice: the lease k breaks from r to -, without an answer",
+    ),
+    (SMB_HEAD.format("1200") + "2400 0000 00000000 6b" + "00" * 15 + "01000000" + "00" * 8, "SUCCESS lease=k state=r"),
 ]  # fmt: skip
 
 # The call that recalls the delegation 1.7.1 of file 1, of the program 9 with the ident 3, laid out by RFC 7531 (CB_COMPOUND).
@@ -212,6 +252,10 @@ class Words(unittest.TestCase):
 
 
 class Transcripts(unittest.TestCase):
+    def test_to_clients(self):
+        for message, wanted in TO_CLIENTS:
+            self.assertEqual(smb.reply_in_words(bytes.fromhex(message)), wanted)
+
     def test_recalls(self):
         said = in_words("F a.txt\nT 1\n", f"0 b5 312e32 {RECALLS}\n")
         self.assertEqual(said[1].split(": ", 1)[1], "recall 1.7.1 a.txt program=9 ident=3")
@@ -227,6 +271,7 @@ class Transcripts(unittest.TestCase):
 1 range nlm:61/7/6f68 0 9 x
 1 range nfs:63/6f 0 18446744073709551615 s
 1 range smb:12 5 - x
+2 cache smb:11111111111111111111111111111111/6b700000000000000000000000000000 RH
 2 cache smb:3 RWH > none 35000
 """
         self.assertEqual(
@@ -243,6 +288,7 @@ class Transcripts(unittest.TestCase):
                 "held: a.txt, bytes 0 to 9, exclusive, by nlm a 7 oh",
                 "held: a.txt, bytes 0 to the end, shared, by nfs c o",
                 "held: a.txt, no byte at 5, exclusive, by smb 12",
+                "held: file 2, a cache RH, by smb client 0x11111111111111111111111111111111 lease kp",
                 "held: file 2, a cache RWH > none 35000, by smb 3",
             ],
         )

@@ -25,6 +25,11 @@ STATUSES = {
 LEVELS = {"none": 0, "level2": 1, "exclusive": 8, "batch": 9, "lease": 255}
 RIGHTS = {"r": 1, "w": 2, "d": 0x10000}
 SHARED = {"r": 1, "w": 2, "d": 4}
+# The states of a lease: for reads, for the handle, for writes (2.2.13.2.8); the flag of a reply while its break runs.
+STATES, BREAKS = {"r": 1, "h": 2, "w": 4}, 2
+LEASE = struct.Struct("<16s2IQ")
+CONTEXT = struct.Struct("<I4HI4s4x")
+LEASE_NAME = b"RqLs"
 # The flags of an element of a LOCK: shared, exclusive, an unlock; and that it is refused rather than waits.
 KINDS, AT_ONCE = {"s": 1, "x": 2, "unlock": 4}, 0x10
 
@@ -36,15 +41,16 @@ USAGES = {
     "logoff": (LOGOFF, ""),
     "tree_connect": (TREE_CONNECT, "PATH"),
     "tree_disconnect": (TREE_DISCONNECT, ""),
-    "create": (CREATE, "NAME ACCESS [SHARED] [oplock=LEVEL] [disposition=N]"),
+    "create": (CREATE, "NAME ACCESS [SHARED] [oplock=LEVEL] [lease=KEY] [state=STATE] [disposition=N]"),
     "close": (CLOSE, "OPEN"),
     "lock": (LOCK, "OPEN ELEMENT [then ELEMENT ..]"),
     "cancel": (CANCEL, "[async=N]"),
     "echo": (ECHO, ""),
     "break": (BREAK, "OPEN LEVEL"),
+    "break_lease": (BREAK, "KEY STATE"),
 }
 ELEMENT = "OFFSET LENGTH x|s|unlock [wait]"
-NAMES = {number: name for name, (number, _) in USAGES.items()}
+NAMES = {number: name for name, (number, _) in reversed(USAGES.items())}
 
 
 class FrameCutter:
@@ -109,6 +115,21 @@ def _level(word):
     return LEVELS[word]
 
 
+def _key(word):
+    key = bytes_of(word)
+    if len(key) > 16:
+        raise WordError("a lease's key has 16 bytes")
+    return key.ljust(16, b"\0")
+
+
+def _state(word):
+    return sum(STATES[letter] for letter in words.rights_of(word, "rwh"))
+
+
+def _lease_context(key, state):
+    return CONTEXT.pack(0, 16, len(LEASE_NAME), 0, 24, LEASE.size, LEASE_NAME) + LEASE.pack(_key(key), _state(state), 0, 0)
+
+
 def _element(given):
     (offset, length, kind), flags, _ = words.Usage("an element", ELEMENT).read(given)
     if kind not in KINDS:
@@ -135,9 +156,13 @@ def _create_body(given, options):
     rights = sum(RIGHTS[letter] for letter in words.rights_of(access, "rwd"))
     shares = sum(SHARED[letter] for letter in words.rights_of(shared, "rwd"))
     level, disposition = _level(options.get("oplock", "none")), words.number_of(options.get("disposition", "1"), 2**32 - 1)
-    name = name.encode("utf-16-le")
+    name, contexts = name.encode("utf-16-le"), b""
+    behind, padding = 120 + len(name), -len(name) % 8
+    if "lease" in options:
+        level, contexts = LEVELS["lease"], _lease_context(options["lease"], options.get("state", "-"))
     fixed = struct.pack("<HBBIQQ5I", 57, 0, level, 0, 0, 0, rights, 0, shares, disposition, 0)
-    return fixed + struct.pack("<HHII", 120, len(name), 0, 0) + name
+    fixed += struct.pack("<HHII", 120, len(name), behind + padding if contexts else 0, len(contexts))
+    return fixed + name + (bytes(padding) + contexts if contexts else b"")
 
 
 def _path_body(path):
@@ -152,16 +177,17 @@ def _negotiate_body(given):
     return struct.pack("<HHHHI16sQH", 36, 1, 1, 0, 0, guid, 0, DIALECT)
 
 
-def _body(command, given, options):
+def _body(name, given, options):
     return {
-        NEGOTIATE: lambda: _negotiate_body(given),
-        SESSION_SETUP: lambda: struct.pack("<HBBIIHHQ", 25, 0, 1, 0, 0, 88, 0, 0),
-        TREE_CONNECT: lambda: _path_body(given[0]),
-        CREATE: lambda: _create_body(given, options),
-        CLOSE: lambda: struct.pack("<HHI", 24, 0, 0) + _file_id(given[0]),
-        LOCK: lambda: _lock_body(given),
-        BREAK: lambda: struct.pack("<HBBI", 24, _level(given[1]), 0, 0) + _file_id(given[0]),
-    }.get(command, lambda: struct.pack("<HH", 4, 0))()
+        "negotiate": lambda: _negotiate_body(given),
+        "session_setup": lambda: struct.pack("<HBBIIHHQ", 25, 0, 1, 0, 0, 88, 0, 0),
+        "tree_connect": lambda: _path_body(given[0]),
+        "create": lambda: _create_body(given, options),
+        "close": lambda: struct.pack("<HHI", 24, 0, 0) + _file_id(given[0]),
+        "lock": lambda: _lock_body(given),
+        "break": lambda: struct.pack("<HBBI", 24, _level(given[1]), 0, 0) + _file_id(given[0]),
+        "break_lease": lambda: struct.pack("<HHI", 36, 0, 0) + struct.pack("<16sIQ", _key(given[0]), _state(given[1]), 0),
+    }.get(name, lambda: struct.pack("<HH", 4, 0))()
 
 
 class Sender:
@@ -188,7 +214,7 @@ class Sender:
         if "async" in options:
             flags, ids = ASYNC, words.number_of(options["async"])
         head = HEADER.pack(MAGIC, 64, 0, 0, command, 1, flags, 0, number, ids, id_of(self.session), bytes(16))
-        return head + _body(command, positions, options)
+        return head + _body(name, positions, options)
 
 
 # ---- into words
@@ -252,12 +278,39 @@ def _level_word(level):
     return next((name for name, number in LEVELS.items() if number == level), str(level))
 
 
+def key_word(key):
+    return words.word_of(key.rstrip(b"\0"))
+
+
+def _state_word(state):
+    letters = {letter for letter, bit in STATES.items() if state & bit}
+    if state != sum(STATES[letter] for letter in letters):
+        raise SmbError("this state has no word")
+    return words.rights_word(letters, "rwh")
+
+
+def _lease_in(message, at, length):
+    """The key, state and flags of the lease that is the one context at this place."""
+    found = _part("I4HI4s4x", message, at)
+    if length != CONTEXT.size + LEASE.size or found != (0, 16, len(LEASE_NAME), 0, 24, LEASE.size, LEASE_NAME):
+        raise SmbError("other contexts have no words")
+    return _part("16s2I", message, at + CONTEXT.size)
+
+
+def _oplock_words(message, level, at, length):
+    """The oplock or the lease that a CREATE asks for."""
+    if not length:
+        return [f"oplock={_level_word(level)}"] * (level != 0)
+    key, state, flags = _lease_in(message, at, length)
+    if level != LEVELS["lease"] or flags:
+        raise SmbError("this lease has no words")
+    return [f"lease={key_word(key)}", f"state={_state_word(state)}"]
+
+
 def _create_words(message):
-    _, _, level, _, _, _, access, _, shared, disposition, _, offset, length, contexts, _ = _part("HBBIQQ5IHHII", message)
-    if contexts:
-        raise SmbError("contexts have no words")
+    _, _, level, _, _, _, access, _, shared, disposition, _, offset, length, *contexts = _part("HBBIQQ5IHHII", message)
     out = [_text(message, offset, length), _letters(access, RIGHTS)]
-    out += [_letters(shared, SHARED)] * (shared != 7) + [f"oplock={_level_word(level)}"] * (level != 0)
+    out += [_letters(shared, SHARED)] * (shared != 7) + _oplock_words(message, level, *contexts)
     return out + [f"disposition={disposition}"] * (disposition != 1)
 
 
@@ -292,7 +345,8 @@ def _request_words(head, message):
             [_level_word(message[HEADER.size + 2])] if head.command == BREAK else []
         )
     if head.command == BREAK:
-        raise SmbError("a lease's break has no words")
+        _, _, _, key, state = _part("HHI16sI", message)
+        return [key_word(key), _state_word(state)]
     return []
 
 
@@ -303,16 +357,32 @@ def request_in_words(message):
         raise SmbError("no request that has words")
     ids = [f"session={id_word(head.session)}"] * (head.session != 0)
     ids += [f"tree={head.ids >> 32}"] * (not head.is_async and head.ids >> 32 != 0)
-    return " ".join(["smb", NAMES[head.command]] + _request_words(head, message) + ids)
+    name = "break_lease" if head.command == BREAK and _part("H", message) == (36,) else NAMES[head.command]
+    return " ".join(["smb", name] + _request_words(head, message) + ids)
+
+
+def _notice_words(message):
+    size, level = _part("HB", message)
+    if size == 24:
+        return f"notice: the cache of open {id_word(_part('Q', message, HEADER.size + 8)[0])} to {_level_word(level)} breaks"
+    _, _, flags, key, current, new = _part("HHI16s2I", message)
+    answer = "" if flags & 1 else ", without an answer"
+    return f"notice: the lease {key_word(key)} breaks from {_state_word(current)} to {_state_word(new)}{answer}"
+
+
+def _cache_words(message, level, at, length):
+    """What an open has of an oplock or a lease."""
+    if not length:
+        return f" oplock={_level_word(level)}" if level else ""
+    key, state, flags = _lease_in(message, at, length)
+    return f" lease={key_word(key)} state={_state_word(state)}" + (" breaking" if flags & BREAKS else "")
 
 
 def reply_in_words(message):
     """What a reply or a notice says beside the message that it answers."""
     head = read_head(message)
     if head.is_notice:
-        size, level = _part("HB", message)
-        of = f"open {id_word(_part('Q', message, HEADER.size + 8)[0])} to {_level_word(level)}" if size == 24 else "a lease"
-        return f"notice: the cache of {of} breaks"
+        return _notice_words(message)
     said = STATUSES.get(head.status, f"status {head.status:08x}")
     if head.status == 0x103:
         return f"{said} async={head.ids}"
@@ -321,6 +391,9 @@ def reply_in_words(message):
     if head.status == 0 and head.command == TREE_CONNECT:
         return f"{said} tree={head.ids >> 32}"
     if head.status == 0 and head.command == CREATE:
-        (level,), (number,) = _part("B", message, HEADER.size + 2), _part("Q", message, HEADER.size + 64)
-        return f"{said} open={id_word(number)}" + (f" oplock={_level_word(level)}" if level else "")
+        (level,), (number, _, *contexts) = _part("B", message, HEADER.size + 2), _part("2Q2I", message, HEADER.size + 64)
+        return f"{said} open={id_word(number)}" + _cache_words(message, level, *contexts)
+    if head.status == 0 and head.command == BREAK and _part("H", message) == (36,):
+        _, _, _, key, state = _part("HHI16sI", message)
+        return f"{said} lease={key_word(key)} state={_state_word(state)}"
     return said
