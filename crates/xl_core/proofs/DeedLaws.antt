@@ -1,6 +1,6 @@
 -- What one deed makes of each place, and who waits after it.
 use Rattle.xl_base.specs.declared.name.Owner.TheVariants as owners
-use Rattle.xl_table.specs.Leaving.{goes, is_of_some}
+use Rattle.xl_table.specs.Leaving.{goes, is_some_party}
 use Rattle.xl_table.specs.declared.leaver.Leaver.TheVariants as leavers
 use Rattle.xl_base.proofs.Members.{all_in, in_append_right}
 use Rattle.std.proofs.Common.{◌≡◌, ℕ, Bool, true, false, cond, if◌then◌else◌, ◌==◌, inl, inr, List, [], ◌∷◌, ◌++◌, map, append-nil, Option, Some, None, IfSome, refl, sym, ap, subst, ◌∙◌, slice_get, ◌&&◌, length, filter, not}
@@ -51,7 +51,7 @@ use Rattle.xl_core.proofs.WayDeeds.{then_else, nothing_made, way_made, next_is, 
 use Rattle.xl_core.proofs.WayLaws.{way_good, way_names, way_waiters, way_serves, known_no_cache}
 use Rattle.xl_core.specs.Dues.{IsDue}
 use Rattle.xl_core.specs.Good.{IsGood, are_apart, IsKnown, holds_up}
-use Rattle.xl_core.specs.Places.{wish_at, wished_for, wished_then, Place, ByteOf, ShareOf, byte_held, share_held, held_in, held_at, part_by, held_as, entered_by, entered_at, CacheOf, is_cache_on, acked_at, lapsed_at, cleared_by, cleared_at, entered_for, answered_at, ended_at, ended_some, told_at, broken_at, made, else_was, unlocked_at, RangesOf, all_entered_at, all_entered_for, unlocked_for, then_entered, served_at, is_at, closed_at, is_some_party}
+use Rattle.xl_core.specs.Places.{wish_at, wished_for, wished_then, Place, ByteOf, ShareOf, byte_held, share_held, held_in, held_at, part_by, held_as, entered_by, entered_at, CacheOf, is_cache_on, acked_at, lapsed_at, cleared_by, cleared_at, entered_for, answered_at, ended_at, ended_some, told_at, broken_at, made, else_was, unlocked_at, RangesOf, all_entered_at, all_entered_for, unlocked_for, then_entered, served_at, is_at, closed_at}
 use Rattle.xl_table.specs.Relock.{with_share, shares_of, old_shares, united_by, granted_claims, is_range_of}
 use Rattle.xl_table.proofs.ShareLaws.{united_share}
 use Rattle.xl_core.specs.Settle.{next_way, way_again, settle, waits_as, cancel, give_back, weaken, end_party, close_open, plea_again}
@@ -423,15 +423,11 @@ close_open_made s number party (CacheOf file holder) good =
       | inr stays ↦ rw stays (place_stays (goes (leavers.Open number party)) s.claims (CacheOf file holder) (λ d h on. at_cache d on ∙ stays))
     ]
   where
-    some_party : (o : Option Party) (d : Claim) → d.party ≡ holder → is_of_some o d ≡ is_some_party o holder
-    some_party None d same = refl
-    some_party (Some p) d same = ap (λ (x : Party). same_parties x p) same
-
     at_cache : (d : Claim) → is_cache_on file holder d ≡ true → goes (leavers.Open number party) d ≡ is_some_party party holder
     at_cache d on =
         let parts = and_parts (is_cache d.what) ((d.file == file) && same_parties d.party holder) on in
         let same = same_parties-true d.party holder (and_parts (d.file == file) (same_parties d.party holder) parts.1).1 in
-        rw parts.0 (some_party party d same)
+        rw parts.0 (ap (is_some_party party) same)
 
     no_cache : (ds : List Claim) → is_some_party party holder ≡ true → filter (is_cache_on file holder) (filter (λ c. not (goes (leavers.Open number party) c)) ds) ≡ []
     no_cache [] gone = refl

@@ -18,6 +18,7 @@ use Rattle.xl_spans.specs.declared.span.Mode.{Mode}
 use Rattle.xl_table.specs.Elements.{elements_of, unlocked_elements}
 use Rattle.xl_table.specs.Flat.{with_what}
 use Rattle.xl_table.specs.Held.{is_cache, is_of, spans_of}
+use Rattle.xl_table.specs.Leaving.{is_some_party}
 use Rattle.xl_names.specs.declared.name.Name.TheVariants.{NfsParty}
 use Rattle.xl_cache.specs.declared.wish.Wish.{Wish}
 use Rattle.xl_wait.specs.declared.waiter.Rooms.{Rooms}
@@ -174,10 +175,6 @@ ended_at claims party p = if list_any (λ c. if is_at p c then same_parties c.pa
 abbrev pub cleared_if : Bool → Option (List What)
 cleared_if true = Some []
 cleared_if false = None
-
-abbrev pub is_some_party : Option Party → Party → Bool
-is_some_party None holder = false
-is_some_party (Some party) holder = same_parties holder party
 
 -- an SMB open that is closed leaves neither its share nor its ranges, and nothing of the caches that go with it
 abbrev pub closed_at : ℕ → Option Party → Place → Option (List What)

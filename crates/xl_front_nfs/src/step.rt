@@ -2,6 +2,7 @@
 ghost use Rattle.std.specs.Prelude.{◌≡◌, ℕ, ◌+◌, ◌≤◌, List, [], ◌++◌, true, length, IfOk, OnOk};
 ghost use Rattle.std.specs.List.{AllByRecursion};
 ghost use Rattle.xl_base.specs.Limits.{most_message_bytes};
+ghost use Rattle.xl_nfs.specs.Basics.{most_text_bytes};
 ghost use Rattle.xl_nfs.specs.Compounds.{compound_head_at};
 ghost use Rattle.xl_programs.specs.Programs.{serves, shown_request};
 ghost use Rattle.xl_programs.specs.Sent.{sent_to, FitsFrame};
@@ -36,7 +37,7 @@ fn put_results(
     count: u32,
     results: &XdrOut,
 ) -> Result<(), AllocError>
-    requires { length tag.now ≤ 1024 }
+    requires { length tag.now ≤ most_text_bytes }
     ensures { OnOk result (out.new ≡ out.old ++ compound_results tag.now status count results.now) }
 {
     out.u32(status.number())?;
@@ -56,7 +57,7 @@ fn compound_reply(
     count: u32,
     results: &XdrOut,
 ) -> Result<Vec<u8>, AllocError>
-    requires tag { length tag.now ≤ 1024 }
+    requires tag { length tag.now ≤ most_text_bytes }
     requires few { length results.now ≤ 7720 }
     ensures reply { IfOk result (λ v. v.items ≡ reply xid Success ++ compound_results tag.now status count results.now) }
     ensures little { IfOk result (λ v. length v.items ≤ most_message_bytes) }
@@ -93,7 +94,7 @@ fn done<K: Keeper>(
     head: &CompoundHead,
     args: &Xdr,
 ) -> Result<(Vec<u8>, Sequence<Effect>), AllocError>
-    requires tag { length head.now.tag.now ≤ 1024 }
+    requires tag { length head.now.tag.now ≤ most_text_bytes }
     requires few { head.now.count ≤ most_ops }
     requires ready { IsReady most_drawn core.old }
     ensures done { (n : ℕ) → IfOk result (λ r. MayBe n core.new → with_reply xid head.now.tag.now (run n files.now others front.old core.old (steps_in head.now.count args.now.rest.now)) ≡ (r.0.items, r.1, front.new, core.new)) }
@@ -141,7 +142,7 @@ fn refused(
     tag: &[u8],
     status: NfsStatus,
 ) -> Result<(Vec<u8>, Sequence<Effect>), AllocError>
-    requires tag { length tag.now ≤ 1024 }
+    requires tag { length tag.now ≤ most_text_bytes }
     ensures reply { IfOk result (λ r. r.0.items ≡ reply xid Success ++ compound_results tag.now status 0 []) }
     ensures none { IfOk result (λ r. r.1 ≡ []) }
     ensures little { IfOk result (λ r. length r.0.items ≤ most_message_bytes) }

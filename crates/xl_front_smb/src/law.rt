@@ -70,10 +70,10 @@ pub fn deeds_are_taken()
     ensures ends { (n : ℕ) (f : FrontSmb) (s : CoreState) (conn : ℕ) → AreFit n s (smb_end_deeds f s conn) }
 {}
 
-/// Each deed of a message draws a number, ends an open under the connection that the message came by, or under a session or
-/// a tree connect on it, cancels a request that came by it, answers the break of an oplock of an open under it or of a lease of
-/// its client, or is an ask of an open under it or of a new one: no other open's claims are reached, and no other client's
-/// leases. The end of a connection ends the opens under it alone.
+/// Each deed of a message draws a number, closes an open under the connection that the message came by, or one that a request
+/// under it waits to make, cancels a request that came by it, answers the break of an oplock of an open under it or of a lease
+/// of its client, or is an ask of an open under it or of a new one: no other open's claims are reached, and no other client's
+/// leases. The end of a connection does nothing but close such opens.
 #[tactic(auto, using(crate::proofs::OwnLaws::step_own, crate::proofs::OwnLaws::end_own, crate::proofs::OwnLaws::ends_alone))]
 pub fn deeds_are_the_connections()
     ensures messages { (n : ℕ) (exports : Exports) (others : ℕ) (f : FrontSmb) (s : CoreState) (conn : ℕ) (bytes : List ℕ) → AreOwn f s conn (smb_deeds n exports others f s conn bytes) }

@@ -3,7 +3,7 @@ use Rattle.std.proofs.Common.{◌≡◌, ℕ, ◌+◌, ◌-◌, ◌≤◌, Bool,
 use Rattle.std.specs.Prelude.{◌==◌}
 use Rattle.std.specs.List.{list_any}
 use Rattle.std.specs.Set.{remove_key}
-use Rattle.std.proofs.lemmas.Bool.{cases_Bool, true≢false}
+use Rattle.std.proofs.lemmas.Bool.{cases_Bool, or_parts}
 use Rattle.std.proofs.lemmas.Bool.Decides.{nat_tests}
 use Rattle.xl_exact.specs.Elements.{has_range, is_exclusive_at, unlocked}
 use Rattle.xl_exact.specs.declared.element.Element.{Element}
@@ -15,6 +15,7 @@ use Rattle.xl_smb.specs.declared.lock.LockElement.{LockElement}
 use Rattle.xl_smb_state.specs.declared.row.Open.{Open}
 use Rattle.xl_table.specs.Elements.{is_among, without, unlocked_elements}
 use Rattle.xl_matrix.specs.declared.claim.Claim.{Claim}
+use Rattle.xl_table.proofs.ExactLaws.{flag_true, flag_false}
 use Rattle.xl_wait.specs.Waiting.{no_rows}
 use Rattle.xl_core.specs.Asking.{range_what}
 use Rattle.xl_core.specs.Decide.{ask}
@@ -57,17 +58,8 @@ equal_range : (first len : ℕ) (x : Element) (m : Bool) → same_what (what_of 
 unfolding same_what
 equal_range first len x m = ap (λ (b : Bool). b && same_flag x.exclusive m) (equal_extents x.first x.len first len)
 
-flag_true : (b : Bool) → same_flag b true ≡ b
-flag_true true = refl
-flag_true false = refl
-
 equal_exclusive : (first len : ℕ) (x : Element) → same_what (what_of x) (Range (extent_at first len) true) ≡ is_exclusive_at first len x
 equal_exclusive first len x = equal_range first len x true ∙ ap (λ (b : Bool). has_range first len x && b) (flag_true x.exclusive)
-
-flag_false : (h b : Bool) → (h && b) ≡ false → (h && same_flag b false) ≡ h
-flag_false true true none = absurd (true≢false none)
-flag_false true false none = refl
-flag_false false b none = refl
 
 -- where it isn't exclusive
 equal_shared : (first len : ℕ) (x : Element) → is_exclusive_at first len x ≡ false → same_what (what_of x) (Range (extent_at first len) false) ≡ has_range first len x
@@ -88,14 +80,10 @@ out_exclusive first len (x ∷ xs) =
       | inr h ↦ rw (same ∙ h, h) (ap (λ (ws : List What). what_of x ∷ ws) (out_exclusive first len xs))
     ]
 
-none_first : (x y : Bool) → (x || y) ≡ false → (x ≡ false) × (y ≡ false)
-none_first true y h = absurd (true≢false h)
-none_first false y h = (refl, h)
-
 out_shared : (first len : ℕ) (es : List Element) → list_any (is_exclusive_at first len) es ≡ false → without (Range (extent_at first len) false) (map what_of es) ≡ map what_of (remove_key (has_range first len) es)
 out_shared first len [] none = refl
 out_shared first len (x ∷ xs) none =
-    let two = none_first (is_exclusive_at first len x) (list_any (is_exclusive_at first len) xs) none in
+    let two = or_parts (is_exclusive_at first len x) (list_any (is_exclusive_at first len) xs) none in
     let same = equal_shared first len x two.0 in
     elim (cases_Bool (has_range first len x)) [
       | inl h ↦ rw (same ∙ h, h) refl

@@ -77,11 +77,11 @@ same_range (Range (Empty f) x) (Empty g) m a b is at =
     subst (λ (e : Element). ((f == g) && same_flag x m) ≡ (has_range b.first b.len e && same_flag e.exclusive m)) (same_Some (record { first = f; len = 0; exclusive = x }) a is)
     (subst (λ (e : Element). ((f == g) && same_flag x m) ≡ (((f == e.first) && (0 == e.len)) && same_flag x m)) (same_Some (record { first = g; len = 0; exclusive = false }) b at) (ap (λ (t : Bool). t && same_flag x m) (no_bytes f g)))
 
-flag_true : (b : Bool) → same_flag b true ≡ b
+pub flag_true : (b : Bool) → same_flag b true ≡ b
 flag_true true = refl
 flag_true false = refl
 
-flag_false : (h b : Bool) → (h && b) ≡ false → (h && same_flag b false) ≡ h
+pub flag_false : (h b : Bool) → (h && b) ≡ false → (h && same_flag b false) ≡ h
 flag_false true true none = absurd (true≢false none)
 flag_false true false none = refl
 flag_false false b none = refl

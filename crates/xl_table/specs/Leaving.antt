@@ -8,10 +8,14 @@ use Rattle.xl_matrix.specs.declared.claim.Claim.{Claim}
 use Rattle.xl_table.specs.declared.leaver.Leaver.{Leaver}
 use Rattle.xl_table.specs.declared.leaver.Leaver.TheVariants as leavers
 
+-- it is this party, where there is one
+abbrev pub is_some_party : Option Party → Party → Bool
+is_some_party None holder = false
+is_some_party (Some party) holder = same_parties holder party
+
 -- the claim is this party's
 abbrev pub is_of_some : Option Party → Claim → Bool
-is_of_some None c = false
-is_of_some (Some party) c = same_parties c.party party
+is_of_some party c = is_some_party party c.party
 
 -- With a party goes all that it has; with an SMB open its share and its ranges, and the caches of the party that goes with it.
 abbrev pub goes : Leaver → Claim → Bool
