@@ -7,3 +7,4 @@ pub mod Search
 pub mod Conflicts
 pub mod Untouched
 pub mod Forward
+pub mod Looks

@@ -1,5 +1,5 @@
 -- The byte ranges that one owner has locked in one file, as maximal runs of one mode (XNFS C702, RFC 7530 16.10 and 16.12).
-use Rattle.std.specs.Prelude.{◌≡◌, ℕ, ◌+◌, ◌-◌, ◌<◌, ◌≤◌, ◌==◌, nat_lt, nat_le, min, max, Bool, true, false, not, ◌&&◌, if◌then◌else◌, List, [], ◌∷◌, ◌++◌, Option, Some, None, length}
+use Rattle.std.specs.Prelude.{◌≡◌, ℕ, ◌+◌, ◌-◌, ◌*◌, ◌<◌, ◌≤◌, ◌==◌, nat_lt, nat_le, min, max, Bool, true, false, not, ◌&&◌, if◌then◌else◌, List, [], ◌∷◌, ◌++◌, Option, Some, None, length}
 use Rattle.std.specs.List.{AllByRecursion, filter_map, find, slice_get}
 use Rattle.std.specs.Option.{option_and_then, option_to_list}
 use Rattle.xl_spans.specs.declared.span.Mode.{Mode}
@@ -125,3 +125,7 @@ leaves_free mode (Some held) = not (excludes mode held)
 -- the span has a byte in the range, or right beside it; a lock or unlock of the range leaves all other spans as they stand
 abbrev pub touches : ℕ → ℕ → Span → Bool
 touches first last s = nat_le first (s.last + 1) && nat_le s.first (last + 1)
+
+-- two to the number of looks that a bisection of so many spans takes is at most this
+abbrev pub most_looks : ℕ → ℕ
+most_looks n = max 1 (2 * n)

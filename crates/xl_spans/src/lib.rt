@@ -3,6 +3,7 @@
 #![tactic(auto)]
 
 mod bisect;
+mod counted;
 pub mod laws;
 pub mod plain;
 mod relock;

@@ -1,13 +1,16 @@
 //! An owner's spans in one file.
-ghost use Rattle.std.specs.Prelude.{◌≡◌, ℕ, ◌+◌, ◌-◌, ◌^◌, ◌≤◌, true, ◌↔◌, List, [], if◌then◌else◌, length, Some, None, IfSome, OnOk, OnErr, vec_len, vec_capacity};
+ghost use Rattle.std.specs.Prelude.{◌≡◌, ℕ, ◌+◌, ◌-◌, ◌*◌, ◌^◌, ◌≤◌, true, ◌↔◌, List, [], if◌then◌else◌, length, Some, None, IfSome, OnOk, OnErr, vec_len, vec_capacity};
 ghost use Rattle.xl_base.specs.Lists.{IsIn};
 ghost use Rattle.xl_spans.specs.Spans.{IsCanonical, EndsBelow, within, mode_at, relocked, conflicts, leaves_free, first_conflict};
 
 use crate::bisect::{conflict_in, last_byte, mode_of};
+use crate::counted::mode_in;
 use crate::relock::relock;
 use crate::span::{Mode, Span};
 use std::alloc::{AllocError, Global};
 use std::marker::Model;
+use std::sync::ledger::Ledger;
+use xl_steps::Steps;
 
 /// The byte ranges that one owner has locked in one file, as maximal runs of one mode in the order of their bytes
 /// (XNFS C702, RFC 7530 16.10). A contract sees the runs, and how many more fit without memory.
@@ -115,6 +118,16 @@ impl Spans {
         ensures { result ≡ mode_at self.now.spans byte }
     {
         mode_of(&self.items, byte)
+    }
+
+    /// The same as `at`, with each look at a span counted as a step: two to the number of these steps is at most one more
+    /// than twice the number of spans.
+    pub fn at_in<L: Ledger>(&self, byte: u64, steps: &mut Steps<L>) -> Option<Mode>
+        ensures mode { result ≡ mode_at self.now.spans byte }
+        ensures more { steps.old ≤ steps.new }
+        ensures few { 2 ^ (steps.new - steps.old) ≤ 2 * length self.now.spans + 1 }
+    {
+        mode_in(&self.items, byte, steps)
     }
 
     /// The least span that another owner's lock of the bytes from `first` to `last` in this mode conflicts with: it has

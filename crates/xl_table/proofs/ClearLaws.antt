@@ -54,10 +54,10 @@ record IsClearOf (asked : What) (b : Bounds) (w : What) : Type 0 where
   pub this : is_clear asked w ≡ true
 
 past_one : (asked w : What) (b : Bounds) → is_past asked (widened b w) ≡ true → IsClearOf asked b w
-past_one (Range (Bytes first last) exclusive) (Range (Bytes start end) alone) b h = step b.mixed b.low b.high h where
-  step : (mixed : Bool) (low high : ℕ) → (not mixed && (nat_lt (max high end) first || nat_lt last (min low start))) ≡ true → IsClearOf (Range (Bytes first last) exclusive) (record { low = low; high = high; mixed = mixed }) (Range (Bytes start end) alone)
-  step true low high h = cc
-  step false low high h = record { others = grind (arith, nat_tests); this = grind (arith, nat_tests) }
+past_one (Range (Bytes first last) exclusive) (Range (Bytes start end) alone) b h = step b.mixed b.low b.high b.due h where
+  step : (mixed : Bool) (low high due : ℕ) → (not mixed && (nat_lt (max high end) first || nat_lt last (min low start))) ≡ true → IsClearOf (Range (Bytes first last) exclusive) (record { low = low; high = high; mixed = mixed; due = due }) (Range (Bytes start end) alone)
+  step true low high due h = cc
+  step false low high due h = record { others = grind (arith, nat_tests); this = grind (arith, nat_tests) }
 past_one (Range (Bytes first last) exclusive) (Range (Empty offset) alone) b h = cc
 past_one (Range (Bytes first last) exclusive) (Share x y) b h = cc
 past_one (Range (Bytes first last) exclusive) (Cache x y) b h = cc

@@ -124,6 +124,9 @@ here_at file (suc at) (l ∷ ls) x filed h is =
 pub here_on : (file : ℕ) (cs : List Claim) → AreOn file (here file cs)
 here_on file cs = all_from (λ c. (c.file == file) ≡ true) (here file cs) (λ c h. (in_filter_from (λ d. d.file == file) c cs h).1)
 
+pub own_here : (file : ℕ) (cs on : List Claim) → on ≡ here file cs → AreOn file on
+own_here file cs on is = subst (λ (ds : List Claim). AreOn file ds) (sym is) (here_on file cs)
+
 pub ordered_here : (file : ℕ) (cs : List Claim) → Pairwise goes_first cs → Pairwise goes_first (here file cs)
 ordered_here file cs ordered = pairwise_filter goes_first (λ c. c.file == file) cs ordered
 
@@ -322,6 +325,10 @@ filtered_more p out claims rest whole new e so_far =
     ∙ append_assoc out (filter p claims) (filter p rest)
     ∙ ap (λ (ds : List Claim). out ++ ds) (sym (filter-append p claims rest))
     ∙ so_far
+
+pub filtered_both : (p : Claim → Bool) (out mid new claims rest : List Claim) → mid ≡ out ++ filter p claims → new ≡ mid ++ filter p rest → new ≡ out ++ filter p (claims ++ rest)
+filtered_both p out mid new claims rest e k =
+    k ∙ ap (λ (ds : List Claim). ds ++ filter p rest) e ∙ append_assoc out (filter p claims) (filter p rest) ∙ ap (λ (ds : List Claim). out ++ ds) (sym (filter-append p claims rest))
 
 -- a claim that is held stands among its file's
 pub held_here : (claim : Claim) (cs on : List Claim) → IsIn claim cs → on ≡ here claim.file cs → IsIn claim on

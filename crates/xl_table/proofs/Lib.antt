@@ -21,3 +21,7 @@ pub mod PageLaws
 pub mod TouchLaws
 pub mod ElementLaws
 pub mod ExactLaws
+pub mod SideLaws
+pub mod DueLaws
+pub mod CountLaws
+pub mod CacheLaws

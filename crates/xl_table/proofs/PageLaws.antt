@@ -1,5 +1,5 @@
 -- What is found in pages is what is found in their claims, one behind another.
-use Rattle.std.proofs.Common.{◌≡◌, ℕ, ◌+◌, ◌-◌, ◌<◌, ◌≤◌, ◌^◌, suc, zero, nat_lt, Bool, true, false, ◌||◌, List, [], ◌∷◌, ◌++◌, length, take, drop, get_or, Some, refl, sym, ap, subst, ◌∙◌, inl, inr, arith, append_assoc}
+use Rattle.std.proofs.Common.{◌≡◌, ℕ, ◌+◌, ◌-◌, ◌<◌, ◌≤◌, ◌^◌, suc, zero, nat_lt, Bool, true, false, ◌||◌, List, [], ◌∷◌, ◌++◌, length, take, drop, get_or, Some, None, refl, sym, ap, subst, ◌∙◌, inl, inr, arith, append_assoc}
 use Rattle.std.proofs.Math.Numerals.{one-add}
 use Rattle.std.proofs.Math.ListN.{set}
 use Rattle.std.proofs.lemmas.List.Elements.{filter-append}
@@ -124,6 +124,61 @@ pages_parted p ((c ∷ cs) ∷ ps) full parted = (
   λ fails. none_end p ps full.1 (ended_in p c cs (paged ps) parted (sym (ends_is p c cs) ∙ fails)).behind,
   pages_parted p ps full.1 (parted_second p (c ∷ cs) (paged ps) parted),
 )
+
+last_after : (p : Claim → Bool) (c : Claim) (cs : List Claim) → p (last_or c cs) ≡ false → prefix_len p (c ∷ cs) < length (c ∷ cs)
+last_after p c [] h = rw h (omega arith)
+last_after p c (d ∷ ds) h =
+    elim (cases_Bool (p c)) [
+      | inl passes ↦ rw passes (omega (arith, last_after p d ds h))
+      | inr fails ↦ rw fails (omega arith)
+    ]
+
+-- the first claim that fails stands in the first page whose last claim fails
+pub failing_in : (p : Claim → Bool) (ps : List (List Claim)) (at : ℕ) (page : List Claim) → AreFull ps → IsParted p (paged ps) → at ≡ prefix_len (ends p) ps → at < length ps → page ≡ get_or ps at page → slice_get page (prefix_len p page) ≡ slice_get (paged ps) (prefix_len p (paged ps))
+failing_in p ps at page full parted is h there =
+    go ps full parted (subst (λ (n : ℕ). n < length ps) is h) (subst (λ (n : ℕ). page ≡ get_or ps n page) is there)
+  where
+    go : (ps : List (List Claim)) → AreFull ps → IsParted p (paged ps) → prefix_len (ends p) ps < length ps → page ≡ get_or ps (prefix_len (ends p) ps) page → slice_get page (prefix_len p page) ≡ slice_get (paged ps) (prefix_len p (paged ps))
+    go [] full parted h there = absurd (omega (arith, h))
+    go ([] ∷ ps) full parted h there = absurd (omega (arith, full.0))
+    go ((c ∷ cs) ∷ ps) full parted h there =
+        let k = prefix_len (ends p) ps in
+        elim (cases_Bool (ends p (c ∷ cs))) [
+          | inl whole ↦
+              let all = past_all p (c ∷ cs) (paged ps) (all_pass p c cs (parted_first p (c ∷ cs) (paged ps) parted) (sym (ends_is p c cs) ∙ whole)) in
+              let n = prefix_len p (paged ps) in
+              let less : (length (c ∷ cs) + n) - length (c ∷ cs) ≡ n = omega arith in
+              go ps full.1 (parted_second p (c ∷ cs) (paged ps) parted) (omega (arith, (rw (whole, one-add k) at h))) ((rw (whole, one-add k) at there))
+              ∙ ap (λ (i : ℕ). slice_get (paged ps) i) (sym less)
+              ∙ get_late (c ∷ cs) (paged ps) (length (c ∷ cs) + n) (omega arith)
+              ∙ ap (λ (i : ℕ). slice_get ((c ∷ cs) ++ paged ps) i) (sym all)
+          | inr part ↦
+              let fails : p (last_or c cs) ≡ false = sym (ends_is p c cs) ∙ part in
+              let same : page ≡ c ∷ cs = (rw part at there) in
+              ap (λ (q : List Claim). slice_get q (prefix_len p q)) same
+              ∙ get_early (c ∷ cs) (paged ps) (prefix_len p (c ∷ cs)) (last_after p c cs fails)
+              ∙ ap (λ (i : ℕ). slice_get ((c ∷ cs) ++ paged ps) i) (sym (ended_in p c cs (paged ps) parted fails).count)
+        ]
+
+-- where the last claims of all pages pass, none fails
+pub failing_past : (p : Claim → Bool) (ps : List (List Claim)) (at : ℕ) → AreFull ps → IsParted p (paged ps) → at ≡ prefix_len (ends p) ps → length ps ≤ at → None ≡ slice_get (paged ps) (prefix_len p (paged ps))
+failing_past p ps at full parted is h = go ps full parted (subst (λ (n : ℕ). length ps ≤ n) is h) where
+  go : (ps : List (List Claim)) → AreFull ps → IsParted p (paged ps) → length ps ≤ prefix_len (ends p) ps → None ≡ slice_get (paged ps) (prefix_len p (paged ps))
+  go [] full parted h = refl
+  go ([] ∷ ps) full parted h = absurd (omega (arith, full.0))
+  go ((c ∷ cs) ∷ ps) full parted h =
+      let k = prefix_len (ends p) ps in
+      elim (cases_Bool (ends p (c ∷ cs))) [
+        | inl whole ↦
+            let all = past_all p (c ∷ cs) (paged ps) (all_pass p c cs (parted_first p (c ∷ cs) (paged ps) parted) (sym (ends_is p c cs) ∙ whole)) in
+            let n = prefix_len p (paged ps) in
+            let less : (length (c ∷ cs) + n) - length (c ∷ cs) ≡ n = omega arith in
+            go ps full.1 (parted_second p (c ∷ cs) (paged ps) parted) (omega (arith, (rw (whole, one-add k) at h)))
+            ∙ ap (λ (i : ℕ). slice_get (paged ps) i) (sym less)
+            ∙ get_late (c ∷ cs) (paged ps) (length (c ∷ cs) + n) (omega arith)
+            ∙ ap (λ (i : ℕ). slice_get ((c ∷ cs) ++ paged ps) i) (sym all)
+        | inr part ↦ absurd (omega (arith, (rw part at h)))
+      ]
 
 -- how many pass: all of the pages whose last claim does, and so many of the next one
 pub count_is : (p : Claim → Bool) (ps : List (List Claim)) → AreFull ps → IsParted p (paged ps) → length (paged (take (prefix_len (ends p) ps) ps)) + count_at p ps (prefix_len (ends p) ps) ≡ prefix_len p (paged ps)

@@ -331,23 +331,6 @@ spans_of-section file owner (c ∷ cs) =
 pub spans_on_file : (file : ℕ) (owner : Owner) (cs out : List Claim) → out ≡ filter (is_range_of file owner) cs → spans_in out ≡ spans_of file owner cs
 spans_on_file file owner cs out is = ap spans_in is ∙ spans_of-section file owner cs
 
--- ---- whether a section has a claim
-
-any_kept : (p : Claim → Bool) (cs : List Claim) → list_any p cs ≡ nat_lt 0 (length (filter p cs))
-any_kept p [] = refl
-any_kept p (c ∷ cs) = elim (cases_Bool (p c)) [ inl h ↦ rw h (some (length (filter p cs))) | inr h ↦ rw h (any_kept p cs) ] where
-  some : (n : ℕ) → true ≡ nat_lt 0 (suc n)
-  some n = grind (arith, nat_tests)
-
-pub has_section : (file : ℕ) (cs : List Claim) (i j n : ℕ) (b : Bool) → n ≡ file → Pairwise goes_first cs → i ≡ prefix_len (is_before (n ∷ 2 ∷ [])) cs → j ≡ prefix_len (is_upto (n ∷ 2 ∷ [])) cs → j ≤ length cs → b ≡ nat_lt i j → b ≡ list_any (λ c. (c.file == file) && is_cache c.what) cs
-has_section file cs i j n b e ordered from to within is =
-    let many : length (slice_range cs i j) ≡ j - i = simp (length-take, length-drop) (omega (arith, within)) in
-    let some : length (filter (λ c. (c.file == file) && is_cache c.what) cs) ≡ j - i = ap length (sym (caches_section file cs (slice_range cs i j) i j n e ordered from to refl)) ∙ many in
-    is ∙ more i j ∙ ap (λ (k : ℕ). nat_lt 0 k) (sym some) ∙ sym (any_kept (λ c. (c.file == file) && is_cache c.what) cs)
-  where
-    more : (i j : ℕ) → nat_lt i j ≡ nat_lt 0 (j - i)
-    more i j = grind (arith, nat_tests)
-
 pub has_here : (file : ℕ) (cs on : List Claim) (b : Bool) → b ≡ list_any (λ c. (c.file == file) && is_cache c.what) on → on ≡ here file cs → b ≡ list_any (λ c. (c.file == file) && is_cache c.what) cs
 has_here file cs on b e is =
     e ∙ ap (λ (ds : List Claim). list_any (λ c. (c.file == file) && is_cache c.what) ds) is

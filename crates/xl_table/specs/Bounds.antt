@@ -5,15 +5,16 @@ use Rattle.xl_matrix.specs.declared.claim.Extent.TheVariants.{Bytes}
 use Rattle.xl_matrix.specs.declared.claim.What.{What}
 use Rattle.xl_matrix.specs.declared.claim.What.TheVariants.{Range}
 use Rattle.xl_table.specs.declared.bounds.Bounds.{Bounds}
+use Rattle.xl_table.specs.Due.{due_with}
 
 -- the bounds of no claims
 abbrev pub unbounded : Bounds
-unbounded = record { low = 2 ^ 64 - 1; high = 0; mixed = false }
+unbounded = record { low = 2 ^ 64 - 1; high = 0; mixed = false; due = 2 ^ 64 - 1 }
 
 -- the bounds with one more claim
 abbrev pub widened : Bounds → What → Bounds
-widened b (Range (Bytes first last) exclusive) = record { low = min b.low first; high = max b.high last; mixed = b.mixed }
-widened b _ = record { low = b.low; high = b.high; mixed = true }
+widened b (Range (Bytes first last) exclusive) = record { low = min b.low first; high = max b.high last; mixed = b.mixed; due = b.due }
+widened b w = record { low = b.low; high = b.high; mixed = true; due = due_with b.due w }
 
 abbrev pub bounds_from : Bounds → List Claim → Bounds
 bounds_from b [] = b

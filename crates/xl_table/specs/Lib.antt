@@ -11,4 +11,5 @@ pub mod Clear
 pub mod Bounds
 pub mod Pages
 pub mod Elements
+pub mod Due
 pub mod Exact

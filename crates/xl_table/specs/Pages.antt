@@ -9,6 +9,8 @@ use Rattle.xl_spans.specs.Spans.{meets}
 use Rattle.xl_table.specs.Held.{is_of, is_range, with_span}
 use Rattle.xl_table.specs.declared.marks.Mark.{Mark}
 use Rattle.xl_table.specs.declared.marks.Mark.TheVariants.{Before, Upto, Ending, Beginning}
+use Rattle.xl_table.specs.declared.ordering.Side.{Side}
+use Rattle.xl_table.specs.declared.ordering.Side.TheVariants.{Earlier, Among, Later}
 use Rattle.xl_table.specs.Sections.{is_before, is_upto, range_ends_before, range_begins_by}
 
 -- the claims of all pages, one behind another
@@ -27,6 +29,15 @@ passes Before front c = is_before front c
 passes Upto front c = is_upto front c
 passes (Ending byte) front c = is_before front c || is_upto front c && range_ends_before byte c.what
 passes (Beginning byte) front c = is_before front c || is_upto front c && range_begins_by byte c.what
+
+-- the same by the side on which a claim's numbers stand of those that begin with some
+abbrev pub passes_side : Mark → Side → Claim → Bool
+passes_side mark Earlier c = true
+passes_side mark Later c = false
+passes_side Before Among c = false
+passes_side Upto Among c = true
+passes_side (Ending byte) Among c = range_ends_before byte c.what
+passes_side (Beginning byte) Among c = range_begins_by byte c.what
 
 -- the last of a page's claims passes
 abbrev pub passes_there : (Claim → Bool) → Option Claim → Bool

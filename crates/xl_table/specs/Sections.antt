@@ -1,13 +1,15 @@
 -- Parts of the flat list that bisection finds: a file's claims, an owner's share or its ranges, those that a range touches.
-use Rattle.std.specs.Prelude.{◌≡◌, ℕ, ◌-◌, Bool, true, false, not, ◌&&◌, ◌||◌, ◌==◌, nat_lt, nat_le, List, [], ◌∷◌}
-use Rattle.std.specs.List.{AllByRecursion}
+use Rattle.std.specs.Prelude.{◌≡◌, ℕ, ◌-◌, Bool, true, false, not, ◌&&◌, ◌||◌, ◌==◌, nat_lt, nat_le, if◌then◌else◌, List, [], ◌∷◌, length, Option, Some, None}
+use Rattle.std.specs.List.{AllByRecursion, slice_get}
 use Rattle.xl_base.specs.declared.name.Owner.{Owner}
 use Rattle.xl_matrix.specs.declared.claim.Extent.TheVariants.{Bytes}
 use Rattle.xl_matrix.specs.declared.claim.What.{What}
 use Rattle.xl_matrix.specs.declared.claim.What.TheVariants.{Range}
 use Rattle.xl_matrix.specs.declared.claim.Claim.{Claim}
 use Rattle.xl_spans.specs.declared.span.Span.{Span}
-use Rattle.xl_table.specs.Held.{with_span}
+use Rattle.xl_table.specs.declared.ordering.Side.{Side}
+use Rattle.xl_table.specs.declared.ordering.Side.TheVariants.{Earlier, Among, Later}
+use Rattle.xl_table.specs.Held.{is_cache, with_span}
 use Rattle.xl_table.specs.Order.{no_later, owner_key, key}
 
 -- the numbers with which those of a file's claims begin, and those of an owner's shares (class 0) or ranges (class 1) there
@@ -25,6 +27,12 @@ abbrev pub is_no_later_than : List ℕ → List ℕ → Bool
 is_no_later_than [] ks = true
 is_no_later_than (f ∷ fs) [] = true
 is_no_later_than (f ∷ fs) (k ∷ ks) = nat_lt k f || (k == f) && is_no_later_than fs ks
+
+-- where numbers stand by those that begin with these
+abbrev pub side_of : List ℕ → List ℕ → Side
+side_of [] ks = Among
+side_of (f ∷ fs) [] = Earlier
+side_of (f ∷ fs) (k ∷ ks) = if nat_lt k f then Earlier else if nat_lt f k then Later else side_of fs ks
 
 -- the claim stands before those whose numbers begin with these, or at most among them
 abbrev pub is_before : List ℕ → Claim → Bool
@@ -51,3 +59,11 @@ IsParted p (x ∷ xs) = (p x ≡ false → AllByRecursion (λ y. p y ≡ false) 
 abbrev pub spans_in : List Claim → List Span
 spans_in [] = []
 spans_in (c ∷ cs) = with_span c.what (spans_in cs)
+
+-- the last of these claims is a cache
+abbrev pub is_cache_there : Option Claim → Bool
+is_cache_there None = false
+is_cache_there (Some c) = is_cache c.what
+
+abbrev pub ends_in_cache : List Claim → Bool
+ends_in_cache cs = is_cache_there (slice_get cs (length cs - 1))

@@ -2,18 +2,20 @@
 ghost use Rattle.std.specs.Prelude.{◌≡◌, min, max};
 ghost use Rattle.xl_table.specs.Bounds.{unbounded, widened, bounds_of, is_past};
 
+use crate::due::due_with;
 use xl_matrix::{Claim, Extent, What};
 
-/// The least first byte and the greatest last byte of a page's ranges, and whether it has other claims than ranges
-/// with bytes.
+/// The least first byte and the greatest last byte of a page's ranges, whether it has other claims than ranges with
+/// bytes, and the first moment at which an answer is due to one of its caches, else the last moment of all.
 #[derive(Clone, Copy)]
 pub struct Bounds {
     pub(crate) low: u64,
     pub(crate) high: u64,
     pub(crate) mixed: bool,
+    pub(crate) due: u64,
 }
 
-fn least(a: u64, b: u64) -> u64
+pub(crate) fn least(a: u64, b: u64) -> u64
     ensures { result ≡ min a b }
 {
     a.min(b)
@@ -34,11 +36,13 @@ fn widened(bounds: Bounds, what: What) -> Bounds
             low: least(bounds.low, first),
             high: greatest(bounds.high, last),
             mixed: bounds.mixed,
+            due: bounds.due,
         },
         _ => Bounds {
             low: bounds.low,
             high: bounds.high,
             mixed: true,
+            due: due_with(bounds.due, what),
         },
     }
 }
@@ -51,6 +55,7 @@ pub(crate) fn bounds_of(claims: &[Claim]) -> Bounds
         low: u64::MAX,
         high: 0,
         mixed: false,
+        due: u64::MAX,
     };
     for claim in claims {
         bounds = widened(bounds, claim.what);

@@ -28,7 +28,7 @@ pub struct Change {
     file: u32,
     start: usize,
     end: usize,
-    entered: Vec<Claim>,
+    pub(crate) entered: Vec<Claim>,
     /// How many claims there are afterwards.
     pub held: usize,
 }

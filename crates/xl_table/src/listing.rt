@@ -1,5 +1,5 @@
 //! The claims that pass a test, in their order.
-ghost use Rattle.std.specs.Prelude.{◌≡◌, ◌==◌, ◌≤◌, ◌++◌, not, nat_lt, length, IfOk, OnOk};
+ghost use Rattle.std.specs.Prelude.{◌≡◌, ◌==◌, ◌+◌, ◌<◌, ◌≤◌, ◌++◌, not, nat_lt, length, IfOk, OnOk};
 ghost use Rattle.std.specs.List.{filter, list_any};
 ghost use Rattle.xl_matrix.specs.Equal.{same_parties};
 ghost use Rattle.xl_table.specs.Files.{joined, IsFiled};
@@ -15,8 +15,11 @@ use crate::leaver::{Leaver, goes};
 use crate::page::Page;
 use crate::pages::count_claims;
 use std::alloc::{AllocError, Global};
+use std::marker::Brand;
+use std::sync::ledger::{Blank, Ledger};
 use xl_base::{Moment, Party};
 use xl_matrix::{Claim, Extent, What, is_blocked_by, same_party};
+use xl_steps::Steps;
 
 /// Whether a range with bytes is claimed that has none of these.
 fn lies_apart(first: u64, last: u64, what: What) -> bool
@@ -49,6 +52,88 @@ fn blocks(ask: &Claim, held: &Claim) -> bool
     is_blocked_by(ask, held)
 }
 
+/// Whether the held claim blocks the ask: one step.
+fn look<L: Ledger>(ask: &Claim, held: &Claim, steps: &mut Steps<L>) -> bool
+    ensures test { result ≡ blocks ask.now held.now }
+    ensures step { steps.new ≡ steps.old + 1 }
+{
+    steps.tick();
+    blocks(ask, held)
+}
+
+/// Adds those of these claims that block the ask.
+pub(crate) fn push_blockers<L: Ledger>(
+    found: &mut Vec<Claim>,
+    claims: &[Claim],
+    ask: &Claim,
+    steps: &mut Steps<L>,
+) -> Result<(), AllocError>
+    ensures found { OnOk result (found.new.items ≡ found.old.items ++ filter (λ held. blocks ask.now held) claims.now) }
+    ensures more { steps.old ≤ steps.new }
+    ensures few { steps.new ≤ steps.old + length claims.now }
+{
+    for held in claims {
+        if look(ask, held, steps) {
+            found.push(*held)?;
+        }
+    }
+    Ok(())
+}
+
+/// Adds those of the claims in these pages that block the ask.
+#[tactic(auto, using(crate::proofs::FileLaws::filtered_both, crate::proofs::CountLaws::looked_more))]
+fn push_blockers_in<L: Ledger>(
+    found: &mut Vec<Claim>,
+    pages: &[Page],
+    ask: &Claim,
+    steps: &mut Steps<L>,
+) -> Result<(), AllocError>
+    ensures found { OnOk result (found.new.items ≡ found.old.items ++ filter (λ held. blocks ask.now held) (paged pages.now)) }
+    ensures more { steps.old ≤ steps.new }
+    ensures few { steps.new ≤ steps.old + length (paged pages.now) }
+{
+    if let [page, rest @ ..] = pages {
+        page.push_blockers(found, ask, steps)?;
+        push_blockers_in(found, rest, ask, steps)?;
+    }
+    Ok(())
+}
+
+/// Those that block the ask. A step is a look at a claim on its file.
+pub(crate) fn list_blockers_in<L: Ledger>(
+    alloc: Global,
+    lists: &[OnFile],
+    ask: &Claim,
+    steps: &mut Steps<L>,
+) -> Result<Vec<Claim>, AllocError>
+    requires { IsFiled lists.now }
+    ensures found { IfOk result (λ v. v.items ≡ filter (λ held. blocks ask.now held) (joined lists.now)) }
+    ensures more { steps.old ≤ steps.new }
+    ensures few { steps.new ≤ steps.old + length (filter (λ held. held.file == ask.now.file) (joined lists.now)) }
+{
+    let mut found = Vec::new(alloc);
+    push_blockers_in(&mut found, on_file(lists, ask.file), ask, steps)?;
+    Ok(found)
+}
+
+/// The same with steps of a ledger's own, which nobody looks at.
+fn list_blockers_by<L: Ledger>(
+    alloc: Global,
+    lists: &[OnFile],
+    ask: &Claim,
+    blank: Blank,
+) -> Result<Vec<Claim>, AllocError>
+    requires filed { IsFiled lists.now }
+    requires name { blank.name ≡ L.name }
+    requires parts { blank.parts ≡ L.parts }
+    requires some { 0 < blank.parts }
+    ensures { IfOk result (λ v. v.items ≡ filter (λ held. blocks ask.now held) (joined lists.now)) }
+{
+    let mut steps = Steps::<L>::new(blank);
+    let found = list_blockers_in(alloc, lists, ask, &mut steps)?;
+    Ok(found)
+}
+
 /// Those that block the ask.
 pub(crate) fn list_blockers(
     alloc: Global,
@@ -58,34 +143,7 @@ pub(crate) fn list_blockers(
     requires { IsFiled lists.now }
     ensures { IfOk result (λ v. v.items ≡ filter (λ held. blocks ask.now held) (joined lists.now)) }
 {
-    let blockers = blockers_in(alloc, on_file(lists, ask.file), ask)?;
-    Ok(blockers)
-}
-
-/// Those of the claims in these pages that block the ask.
-#[tactic(auto, using(crate::proofs::FileLaws::filtered_more))]
-fn blockers_in(alloc: Global, pages: &[Page], ask: &Claim) -> Result<Vec<Claim>, AllocError>
-    ensures { IfOk result (λ v. v.items ≡ filter (λ held. blocks ask.now held) (paged pages.now)) }
-{
-    let mut found = Vec::new(alloc);
-    for page in pages {
-        page.push_blockers(alloc, &mut found, ask)?;
-    }
-    Ok(found)
-}
-
-pub(crate) fn blockers_among(
-    alloc: Global,
-    claims: &[Claim],
-    ask: &Claim,
-) -> Result<Vec<Claim>, AllocError>
-    ensures { IfOk result (λ v. v.items ≡ filter (λ held. blocks ask.now held) claims.now) }
-{
-    claims
-        .iter()
-        .filter(|held| blocks(ask, held))
-        .copied()
-        .collect(alloc)
+    list_blockers_by::<Brand>(alloc, lists, ask, Blank::new(1))
 }
 
 pub(crate) fn any_blocks(claims: &[Claim], ask: &Claim) -> bool
@@ -294,7 +352,7 @@ fn due_among(alloc: Global, claims: &[Claim], now: Moment) -> Result<Vec<Claim>,
 }
 
 /// Adds the caches among these whose answer is due.
-fn push_due(
+pub(crate) fn push_due(
     alloc: Global,
     due: &mut Vec<Claim>,
     claims: &[Claim],
@@ -318,7 +376,7 @@ fn push_due_in(
     ensures { OnOk result (due.new.items ≡ due.old.items ++ filter (λ held. is_due now held) (paged pages.now)) }
 {
     for page in pages {
-        push_due(alloc, due, page.as_slice(), now)?;
+        page.push_due(alloc, due, now)?;
     }
     Ok(())
 }

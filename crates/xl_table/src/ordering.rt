@@ -1,5 +1,6 @@
 //! The order of the flat list.
 ghost use Rattle.std.specs.Prelude.{◌≡◌};
+ghost use Rattle.xl_table.specs.Sections.{side_of};
 ghost use Rattle.xl_table.specs.Order.{no_later, rank, owner_key, party_key, first_of, place_in_group, key, goes_first};
 
 use xl_base::{Owner, Party, Protocol};
@@ -14,6 +15,38 @@ pub(crate) fn is_no_later(a: &[u64], b: &[u64]) -> bool
         [x, xs @ ..] => match b {
             [] => false,
             [y, ys @ ..] => *x < *y || (*x == *y && is_no_later(xs, ys)),
+        },
+    }
+}
+
+/// Where a claim's numbers stand by those that begin with some.
+#[derive(Clone, Copy)]
+pub enum Side {
+    /// Before them all.
+    Earlier,
+    /// Among them.
+    Among,
+    /// Behind them all.
+    Later,
+}
+
+/// Where the numbers stand by those that begin with these.
+pub(crate) fn side_of(front: &[u64], key: &[u64]) -> Side
+    ensures { result ≡ side_of front.now key.now }
+{
+    match front {
+        [] => Side::Among,
+        [f, fs @ ..] => match key {
+            [] => Side::Earlier,
+            [k, ks @ ..] => {
+                if *k < *f {
+                    Side::Earlier
+                } else if *f < *k {
+                    Side::Later
+                } else {
+                    side_of(fs, ks)
+                }
+            }
         },
     }
 }

@@ -1,23 +1,28 @@
 //! A page: some of a file's claims, in their order.
-ghost use Rattle.std.specs.Prelude.{◌≡◌, ℕ, ◌<◌, ◌≤◌, ◌++◌, ◌∷◌, [], not, length, take, drop, IfOk, OnOk, OnErr, IfSome, slice_range};
-ghost use Rattle.std.specs.List.{filter, list_any, prefix_len};
+ghost use Rattle.std.specs.Prelude.{◌≡◌, ℕ, ◌+◌, ◌<◌, ◌≤◌, ◌++◌, ◌∷◌, [], not, length, take, drop, IfOk, OnOk, OnErr, IfSome, slice_range};
+ghost use Rattle.std.specs.List.{filter, list_any, prefix_len, slice_get};
 ghost use Rattle.std.proofs.Math.ListN.{set};
-ghost use Rattle.xl_table.specs.Flat.{blocks, is_blocked};
+ghost use Rattle.xl_table.specs.Flat.{blocks, is_blocked, is_due};
 ghost use Rattle.xl_table.specs.Leaving.{goes};
-ghost use Rattle.xl_table.specs.Pages.{passes, ends};
-ghost use Rattle.xl_table.specs.Sections.{IsParted};
+ghost use Rattle.xl_table.specs.Due.{AreDueFrom};
+ghost use Rattle.xl_table.specs.Pages.{passes, passes_side, ends};
+ghost use Rattle.xl_table.specs.Held.{is_cache};
+ghost use Rattle.xl_table.specs.Sections.{IsParted, ends_in_cache};
 
-use crate::bounds::{Bounds, bounds_of, is_past};
+use crate::bounds::{Bounds, bounds_of, is_past, least};
 use crate::change::{put_all, take_between};
+use crate::due::is_asleep;
 use crate::leaver::Leaver;
-use crate::listing::{any_blocks, blockers_among, drop_from};
+use crate::listing::{any_blocks, drop_from, push_blockers, push_due};
 use crate::marks::Mark;
-use crate::ordering::{is_no_later, key_of};
+use crate::ordering::{Side, key_of, side_of};
 use crate::relock::{begins_by, ends_before};
-use crate::section::is_no_later_than;
 use std::alloc::{AllocError, Global};
 use std::marker::Model;
-use xl_matrix::Claim;
+use std::sync::ledger::Ledger;
+use xl_base::Moment;
+use xl_matrix::{Claim, What};
+use xl_steps::Steps;
 
 /// Some of a file's claims. A contract sees their list.
 #[derive(Drop)]
@@ -38,22 +43,28 @@ impl Model for Page {
     ghost invariant = { λ p. p.bounds ≡ bounds_of p.claims.items };
 }
 
+/// Whether a claim passes the mark that stands on this side of those whose numbers begin with some.
+fn passes_side(mark: Mark, side: Side, claim: &Claim) -> bool
+    ensures { result ≡ passes_side mark side claim.now }
+{
+    match side {
+        Side::Earlier => true,
+        Side::Later => false,
+        Side::Among => match mark {
+            Mark::Before => false,
+            Mark::Upto => true,
+            Mark::Ending(byte) => ends_before(byte, claim.what),
+            Mark::Beginning(byte) => begins_by(byte, claim.what),
+        },
+    }
+}
+
+#[tactic(auto, using(crate::proofs::SideLaws::passes_sided))]
 fn passes(mark: Mark, front: &[u64], claim: &Claim) -> bool
     ensures { result ≡ passes mark front.now claim.now }
 {
     let key = key_of(claim);
-    match mark {
-        Mark::Before => !is_no_later(front, &key),
-        Mark::Upto => is_no_later_than(front, &key),
-        Mark::Ending(byte) => {
-            !is_no_later(front, &key)
-                || (is_no_later_than(front, &key) && ends_before(byte, claim.what))
-        }
-        Mark::Beginning(byte) => {
-            !is_no_later(front, &key)
-                || (is_no_later_than(front, &key) && begins_by(byte, claim.what))
-        }
-    }
+    passes_side(mark, side_of(front, &key), claim)
 }
 
 /// How many of the claims pass the mark.
@@ -101,6 +112,21 @@ fn set_at(claims: &mut Vec<Claim>, place: usize, claim: Claim)
     claims[place] = claim;
 }
 
+fn is_cache(what: What) -> bool
+    ensures { result ≡ is_cache what }
+{
+    matches!(what, What::Cache(_, _))
+}
+
+fn ends_in_cache(claims: &[Claim]) -> bool
+    ensures { result ≡ ends_in_cache claims.now }
+{
+    match claims.last() {
+        Some(claim) => is_cache(claim.what),
+        None => false,
+    }
+}
+
 impl Page {
     /// A page of these claims.
     pub(crate) fn of(claims: Vec<Claim>) -> Page
@@ -131,6 +157,13 @@ impl Page {
         last_passes(self.claims.as_slice(), mark, front)
     }
 
+    /// Whether the last of the claims is a cache.
+    pub(crate) fn ends_in_cache(&self) -> bool
+        ensures { result ≡ ends_in_cache self.now }
+    {
+        ends_in_cache(self.claims.as_slice())
+    }
+
     /// How many of the claims pass the mark.
     pub(crate) fn count(&self, mark: Mark, front: &[u64]) -> usize
         requires { IsParted (passes mark front.now) self.now }
@@ -138,6 +171,15 @@ impl Page {
         ensures within { result ≤ length self.now }
     {
         count_passing(self.claims.as_slice(), mark, front)
+    }
+
+    /// The first of the claims that does not pass the mark, if there is one.
+    pub(crate) fn first_failing(&self, mark: Mark, front: &[u64]) -> Option<Claim>
+        requires { IsParted (passes mark front.now) self.now }
+        ensures { result ≡ slice_get self.now (prefix_len (passes mark front.now) self.now) }
+    {
+        let at = count_passing(self.claims.as_slice(), mark, front);
+        self.claims.get(at).copied()
     }
 
     /// Puts claims in at the place. After an error the page is as it was.
@@ -197,20 +239,46 @@ impl Page {
         any_blocks(self.claims.as_slice(), ask)
     }
 
-    /// Adds those of the claims that block the ask.
-    pub(crate) fn push_blockers(
+    /// Adds those of the claims that block the ask: one step for each of them at most.
+    #[tactic(auto, using(crate::proofs::ClearLaws::past_is_none))]
+    pub(crate) fn push_blockers<L: Ledger>(
         &self,
-        alloc: Global,
         found: &mut Vec<Claim>,
         ask: &Claim,
+        steps: &mut Steps<L>,
     ) -> Result<(), AllocError>
-        ensures { OnOk result (found.new.items ≡ found.old.items ++ filter (λ held. blocks ask.now held) self.now) }
+        ensures found { OnOk result (found.new.items ≡ found.old.items ++ filter (λ held. blocks ask.now held) self.now) }
+        ensures more { steps.old ≤ steps.new }
+        ensures few { steps.new ≤ steps.old + length self.now }
     {
         if is_past(ask.what, self.bounds) {
             return Ok(());
         }
-        let part = blockers_among(alloc, self.claims.as_slice(), ask)?;
-        found.extend_from_slice(&part)?;
+        push_blockers(found, self.claims.as_slice(), ask, steps)?;
         Ok(())
+    }
+
+    /// Adds those of the claims whose answer is due.
+    pub(crate) fn push_due(
+        &self,
+        alloc: Global,
+        due: &mut Vec<Claim>,
+        now: Moment,
+    ) -> Result<(), AllocError>
+        ensures { OnOk result (due.new.items ≡ due.old.items ++ filter (λ held. is_due now held) self.now) }
+    {
+        if is_asleep(now, self.bounds.due) {
+            return Ok(());
+        }
+        push_due(alloc, due, self.claims.as_slice(), now)?;
+        Ok(())
+    }
+
+    /// The lesser of a moment and the first at which an answer is due to one of the claims.
+    pub(crate) fn first_due(&self, from: u64) -> u64
+        ensures less { result ≤ from }
+        ensures these { AreDueFrom result self.now }
+    {
+        least(from, self.bounds.due)
     }
 }

@@ -74,6 +74,21 @@ pub(crate) fn count_passing(pages: &[Page], mark: Mark, front: &[u64]) -> usize
     count_front(pages, at) + count_at(pages, at, mark, front)
 }
 
+/// The first claim that does not pass the mark, if there is one.
+#[tactic(auto, using(crate::proofs::PageLaws::parted_at, crate::proofs::PageLaws::failing_in, crate::proofs::PageLaws::failing_past))]
+pub(crate) fn first_failing(pages: &[Page], mark: Mark, front: &[u64]) -> Option<Claim>
+    requires full { AreFull pages.now }
+    requires parted { IsParted (passes mark front.now) (paged pages.now) }
+    ensures { result ≡ slice_get (paged pages.now) (prefix_len (passes mark front.now) (paged pages.now)) }
+{
+    let at = count_whole(pages, mark, front);
+    if at < pages.len() {
+        pages[at].first_failing(mark, front)
+    } else {
+        None
+    }
+}
+
 /// The claim at this place.
 #[tactic(auto, using(crate::proofs::PageLaws::get_early, crate::proofs::PageLaws::get_late))]
 pub(crate) fn claim_at(pages: &[Page], place: usize) -> Option<Claim>
@@ -264,8 +279,8 @@ fn make_room(pages: &mut Vec<Page>, place: usize) -> Result<(), AllocError>
     Ok(())
 }
 
-/// Puts claims in at a place, where there are some already. After an error the claims are as they were.
-fn put_among(pages: &mut Vec<Page>, place: usize, entered: &[Claim]) -> Result<(), AllocError>
+/// Puts claims in at a place that lies in a full page, once that is made two. After an error the claims are as they were.
+fn put_halved(pages: &mut Vec<Page>, place: usize, entered: &[Claim]) -> Result<(), AllocError>
     requires some { 0 < length pages.old.items }
     requires within { place ≤ length (paged pages.old.items) }
     requires full { AreFull pages.old.items }
@@ -276,6 +291,24 @@ fn put_among(pages: &mut Vec<Page>, place: usize, entered: &[Claim]) -> Result<(
     make_room(pages, place)?;
     let (at, left) = find_seat(pages.as_slice(), place);
     put_there(pages, at, left, entered)?;
+    Ok(())
+}
+
+/// Puts claims in at a place, where there are some already. After an error the claims are as they were.
+fn put_among(pages: &mut Vec<Page>, place: usize, entered: &[Claim]) -> Result<(), AllocError>
+    requires some { 0 < length pages.old.items }
+    requires within { place ≤ length (paged pages.old.items) }
+    requires full { AreFull pages.old.items }
+    ensures ok { OnOk result (paged pages.new.items ≡ take place (paged pages.old.items) ++ (entered.now ++ drop place (paged pages.old.items))) }
+    ensures err { OnErr result (paged pages.new.items ≡ paged pages.old.items) }
+    ensures full { AreFull pages.new.items }
+{
+    let (at, left) = find_seat(pages.as_slice(), place);
+    if is_full(pages.as_slice(), at) {
+        put_halved(pages, place, entered)?;
+    } else {
+        put_there(pages, at, left, entered)?;
+    }
     Ok(())
 }
 

@@ -3,11 +3,11 @@ ghost use Rattle.std.specs.Prelude.{◌≡◌, ◌≤◌, ◌==◌, ◌&&◌, �
 ghost use Rattle.std.specs.List.{filter, find, list_any, prefix_len, slice_get};
 ghost use Rattle.xl_base.specs.Lists.{Pairwise};
 ghost use Rattle.xl_table.specs.Order.{goes_first};
-ghost use Rattle.xl_table.specs.Files.{joined, IsFiled};
+ghost use Rattle.xl_table.specs.Files.{joined, AreOn, IsFiled};
 ghost use Rattle.xl_table.specs.Pages.{paged, AreFull};
 ghost use Rattle.xl_table.specs.Held.{is_cache, is_share, most_claims};
 ghost use Rattle.xl_table.specs.Relock.{is_share_of, is_range_of};
-ghost use Rattle.xl_table.specs.Sections.{group, is_no_later_than, is_before, is_upto};
+ghost use Rattle.xl_table.specs.Sections.{group, is_before, is_upto, ends_in_cache};
 
 use crate::files::{OnFile, on_file};
 use crate::marks::Mark;
@@ -17,19 +17,6 @@ use crate::pages::{between, claim_at, count_passing};
 use std::alloc::{AllocError, Global};
 use xl_base::Owner;
 use xl_matrix::Claim;
-
-/// Whether numbers are no later than all that begin with these.
-pub(crate) fn is_no_later_than(front: &[u64], key: &[u64]) -> bool
-    ensures { result ≡ is_no_later_than front.now key.now }
-{
-    match front {
-        [] => true,
-        [f, fs @ ..] => match key {
-            [] => true,
-            [k, ks @ ..] => *k < *f || (*k == *f && is_no_later_than(fs, ks)),
-        },
-    }
-}
 
 /// How many claims stand before those whose numbers begin with these.
 #[tactic(auto, using(crate::proofs::SectionLaws::before_parted))]
@@ -125,19 +112,32 @@ pub(crate) fn caches_on(
     Ok(caches)
 }
 
-/// Whether there is a cache among a file's claims.
+/// Whether the last of a file's claims is a cache.
+fn last_is_cache(pages: &[Page]) -> bool
+    requires some { 0 < length pages.now }
+    requires full { AreFull pages.now }
+    ensures { result ≡ ends_in_cache (paged pages.now) }
+{
+    let last = pages.len() - 1;
+    pages[last].ends_in_cache()
+}
+
+/// Whether there is a cache among a file's claims: caches stand behind all others.
+#[tactic(auto, using(crate::proofs::CacheLaws::cache_is_last))]
 fn is_cache_in(pages: &[Page], file: u32) -> bool
+    requires own { AreOn file (paged pages.now) }
     requires ordered { Pairwise goes_first (paged pages.now) }
     requires full { AreFull pages.now }
-    requires room { length (paged pages.now) < 2 ^ 32 }
     ensures { result ≡ list_any (λ c. (c.file == file) && is_cache c.what) (paged pages.now) }
 {
-    let (start, end) = places(pages, &[u64::from(file), 2]);
-    start < end
+    if pages.is_empty() {
+        return false;
+    }
+    last_is_cache(pages)
 }
 
 /// Whether there is a cache on the file.
-#[tactic(auto, using(crate::proofs::FileLaws::ordered_here, crate::proofs::FileLaws::room_here))]
+#[tactic(auto, using(crate::proofs::FileLaws::ordered_here, crate::proofs::FileLaws::own_here))]
 pub(crate) fn has_cache(lists: &[OnFile], file: u32) -> bool
     requires filed { IsFiled lists.now }
     requires ordered { Pairwise goes_first (joined lists.now) }

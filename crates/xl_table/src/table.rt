@@ -1,18 +1,19 @@
 //! The table of claims.
-ghost use Rattle.std.specs.Prelude.{◌≡◌, ℕ, ◌≤◌, ◌==◌, ◌&&◌, not, true, false, List, [], length, None, IsTrue, ◌↔◌, IfOk, IfSome, OnOk, OnErr};
+ghost use Rattle.std.specs.Prelude.{◌≡◌, ℕ, ◌+◌, ◌≤◌, ◌==◌, ◌&&◌, not, true, false, List, [], length, None, IsTrue, ◌↔◌, IfOk, IfSome, OnOk, OnErr};
 ghost use Rattle.std.specs.List.{AllByRecursion, filter, find, list_any};
 ghost use Rattle.xl_table.specs.Flat.{with_what};
 ghost use Rattle.xl_table.specs.declared.table.TableErr.TheVariants.{NoMemory};
 
 use crate::change::{Change, grant, unlock, write};
+use crate::due::{due_after, due_from, due_with, first_due, is_asleep};
 use crate::exact::find_unlocked;
 use crate::files::{OnFile, open_file};
 use crate::holding::find_holder;
 use crate::least::least_of;
 use crate::leaver::Leaver;
 use crate::listing::{
-    count_all, drop_leaver, is_blocked, keep_ranges, list_all, list_blockers, list_due, list_file,
-    list_party,
+    count_all, drop_leaver, is_blocked, keep_ranges, list_all, list_blockers, list_blockers_in,
+    list_due, list_file, list_party,
 };
 use crate::placing::{is_held, put, replace, take_back, take_out};
 use crate::relock::spans_in;
@@ -20,11 +21,13 @@ use crate::section::{caches_on, find_share, has_cache, ranges_by, shares_on};
 use crate::touching::{has_byte, has_range};
 use std::alloc::{AllocError, AllocFailed, Global};
 use std::marker::Model;
+use std::sync::ledger::Ledger;
 use thiserror::Error;
 use xl_base::{Moment, Owner, Party};
 use xl_matrix::{Claim, Extent, What};
 use xl_names::Names;
 use xl_spans::Span;
+use xl_steps::Steps;
 
 /// How many claims a table holds.
 pub const CLAIMS: usize = 16_384;
@@ -57,6 +60,8 @@ pub struct Table {
     lists: Vec<OnFile>,
     /// How many claims there are on all files.
     count: usize,
+    /// No answer is due to a cache before this moment.
+    due_from: u64,
 }
 
 impl Model for Table {
@@ -64,12 +69,13 @@ impl Model for Table {
     ghost use Rattle.xl_matrix.specs.declared.claim.Claim.{Claim};
     ghost use Rattle.xl_table.specs.Held.{IsKept};
     ghost use Rattle.xl_table.specs.Files.{joined, IsFiled};
+    ghost use Rattle.xl_table.specs.Due.{AreDueFrom};
 
     ghost Value = { List Claim };
 
     ghost view = { λ t. joined t.lists.items };
 
-    ghost invariant = { λ t. IsFiled t.lists.items × IsKept (joined t.lists.items) × (t.count ≡ length (joined t.lists.items)) };
+    ghost invariant = { λ t. IsFiled t.lists.items × IsKept (joined t.lists.items) × (t.count ≡ length (joined t.lists.items)) × AreDueFrom t.due_from (joined t.lists.items) };
 }
 
 #[tactic(auto, using(crate::proofs::KeptLaws::kept_empty))]
@@ -93,6 +99,7 @@ impl Table {
         Table {
             lists: Vec::new(alloc),
             count: 0,
+            due_from: u64::MAX,
         }
     }
 
@@ -131,6 +138,21 @@ impl Table {
         ensures { IfOk result (λ v. v.items ≡ filter (λ held. blocks ask.now held) self.now) }
     {
         list_blockers(alloc, &self.lists, ask)
+    }
+
+    /// The same as `blockers`, with each look at a claim counted as a step: there are no more steps than claims on the
+    /// ask's file.
+    pub fn blockers_in<L: Ledger>(
+        &self,
+        alloc: Global,
+        ask: &Claim,
+        steps: &mut Steps<L>,
+    ) -> Result<Vec<Claim>, AllocError>
+        ensures blockers { IfOk result (λ v. v.items ≡ filter (λ held. blocks ask.now held) self.now) }
+        ensures more { steps.old ≤ steps.new }
+        ensures few { steps.new ≤ steps.old + length (filter (λ held. held.file == ask.now.file) self.now) }
+    {
+        list_blockers_in(alloc, &self.lists, ask, steps)
     }
 
     /// Whether something held blocks the ask. It takes no memory.
@@ -268,7 +290,7 @@ impl Table {
 
     /// Writes a change that was worked out on these claims, where there is room for what it leaves. After an error the
     /// table is as it was.
-    #[tactic(auto, using(crate::proofs::KeptLaws::kept_written))]
+    #[tactic(auto, using(crate::proofs::KeptLaws::kept_written, crate::proofs::DueLaws::due_written))]
     pub fn write(&mut self, change: &Change) -> Result<(), AllocError>
         requires fits { MayBeWritten change.now self.old }
         requires room { change.now.held ≤ most_claims }
@@ -278,6 +300,7 @@ impl Table {
         let alloc = *self.lists.allocator();
         write(alloc, &mut self.lists, change)?;
         self.count = change.held;
+        self.due_from = due_from(self.due_from, &change.entered);
         Ok(())
     }
 
@@ -288,6 +311,7 @@ impl Table {
     {
         drop_leaver(&mut self.lists, leaver);
         self.count = count_all(&self.lists);
+        self.due_from = first_due(&self.lists);
     }
 
     /// Enters a claim at its place: behind all that stand no later. Full comes exactly where the table holds 16,384.
@@ -296,7 +320,7 @@ impl Table {
     /// Afterwards each range with bytes must have a first byte no later than its last, and an owner's ranges on a file
     /// one party; the ranges of an NLM or NFSv4 owner on a file must be maximal runs of one mode, none of them empty;
     /// and no SMB range may have all bytes from 0 to 2^64 - 1.
-    #[tactic(auto, using(crate::proofs::KeptLaws::kept_inserted, crate::proofs::FlatLaws::length_inserted))]
+    #[tactic(auto, using(crate::proofs::KeptLaws::kept_inserted, crate::proofs::FlatLaws::length_inserted, crate::proofs::DueLaws::due_inserted))]
     pub fn insert(&mut self, claim: Claim) -> Result<(), TableErr>
         requires { IsSound (inserted claim self.old) }
         ensures ok { OnOk result (self.new ≡ inserted claim self.old) }
@@ -312,33 +336,37 @@ impl Table {
             return Err(TableErr::NoMemory);
         }
         self.count += 1;
+        self.due_from = due_with(self.due_from, claim.what);
         Ok(())
     }
 
     /// Gives the first claim equal to this one something else to claim, and puts it at its place then. It takes no
     /// memory. Afterwards the same must hold as after `insert`.
-    #[tactic(auto, using(crate::proofs::KeptLaws::kept_changed, crate::proofs::FlatLaws::count_changed))]
+    #[tactic(auto, using(crate::proofs::KeptLaws::kept_changed, crate::proofs::FlatLaws::count_changed, crate::proofs::DueLaws::due_changed))]
     pub fn change(&mut self, claim: &Claim, to: What)
         requires held { IsIn claim.now self.old }
         requires sound { IsSound (changed claim.now to self.old) }
         ensures { self.new ≡ changed claim.now to self.old }
     {
         replace(&mut self.lists, claim, to);
+        let from = due_with(self.due_from, to);
+        self.due_from = due_after(&self.lists, from, claim.what);
     }
 
     /// Takes out the first claim equal to this one; the table is as it was where none is. It takes no memory.
-    #[tactic(auto, using(crate::proofs::KeptLaws::kept_removed, crate::proofs::FlatLaws::count_removed, crate::proofs::FlatLaws::removed_none))]
+    #[tactic(auto, using(crate::proofs::KeptLaws::kept_removed, crate::proofs::FlatLaws::count_removed, crate::proofs::FlatLaws::removed_none, crate::proofs::DueLaws::due_removed))]
     pub fn remove(&mut self, claim: &Claim)
         ensures { self.new ≡ removed claim.now self.old }
     {
         if take_out(&mut self.lists, claim) {
             self.count -= 1;
+            self.due_from = due_after(&self.lists, self.due_from, claim.what);
         }
     }
 
     /// Takes back a claim that was the last to come among those that stand at its place: the table is then as it was before
     /// that came. It takes no memory.
-    #[tactic(auto, using(crate::proofs::ElementLaws::last_kept, crate::proofs::ElementLaws::last_count, crate::proofs::ElementLaws::last_before))]
+    #[tactic(auto, using(crate::proofs::ElementLaws::last_kept, crate::proofs::ElementLaws::last_count, crate::proofs::ElementLaws::last_before, crate::proofs::DueLaws::due_taken_back))]
     pub fn take_back(&mut self, claim: &Claim)
         requires last { CameLast claim.now self.old }
         ensures claims { self.new ≡ taken_back claim.now self.old }
@@ -363,9 +391,13 @@ impl Table {
     }
 
     /// The caches whose break runs with a deadline at or before now, in the table's order.
+    #[tactic(auto, using(crate::proofs::DueLaws::none_due))]
     pub fn due(&self, alloc: Global, now: Moment) -> Result<Vec<Claim>, AllocError>
         ensures { IfOk result (λ v. v.items ≡ filter (λ held. is_due now held) self.now) }
     {
+        if is_asleep(now, self.due_from) {
+            return Ok(Vec::new(alloc));
+        }
         list_due(alloc, &self.lists, now)
     }
 

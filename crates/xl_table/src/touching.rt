@@ -14,7 +14,7 @@ ghost use Rattle.xl_table.specs.declared.marks.Mark.TheVariants.{Ending, Beginni
 use crate::files::{OnFile, on_file};
 use crate::marks::Mark;
 use crate::page::Page;
-use crate::pages::{claim_at, count_passing};
+use crate::pages::{count_passing, first_failing};
 use crate::relock::meets;
 use crate::section::{group_of, group_places};
 use xl_base::Owner;
@@ -99,8 +99,8 @@ fn has_byte_posix(pages: &[Page], file: u32, owner: Owner, first: u64, last: u64
     ensures { result ≡ holds_byte file owner first last (paged pages.now) }
 {
     let front = group_of(file, 1, owner);
-    let at = count_passing(pages, Mark::Ending(first), &front);
-    is_met_there(claim_at(pages, at), file, owner, first, last)
+    let claim = first_failing(pages, Mark::Ending(first), &front);
+    is_met_there(claim, file, owner, first, last)
 }
 
 /// Whether the owner has a byte of the range on the file.

@@ -3,11 +3,12 @@ ghost use Rattle.std.specs.Prelude.{◌≡◌, ℕ, ◌≤◌, ◌∷◌, ◌++�
 ghost use Rattle.xl_base.specs.Limits.{most_waiters};
 ghost use Rattle.xl_wait.specs.declared.queue.QueueErr.TheVariants.{NoMemory};
 
-use crate::files::has_file;
+use crate::files::{Counts, count_on};
 use crate::listing::list_numbers;
 use crate::parts::{enter, take_out};
 use crate::waiter::Waiter;
 use std::alloc::{AllocError, AllocFailed, Global};
+use std::collections::BTreeMap;
 use std::marker::Model;
 use thiserror::Error;
 use xl_base::MOST_WAITERS;
@@ -45,19 +46,21 @@ pub struct Queue {
     waiters: Vec<Waiter>,
     /// The file on which each of them waits.
     files: Vec<Option<u32>>,
+    /// How many of them wait on each file.
+    counts: Counts,
 }
 
 impl Model for Queue {
     ghost use Rattle.std.specs.Prelude.{List, ◌≡◌, ◌≤◌, length};
     ghost use Rattle.xl_base.specs.Limits.{most_waiters};
-    ghost use Rattle.xl_wait.specs.Waiting.{files_of};
+    ghost use Rattle.xl_wait.specs.Waiting.{files_of, IsCounted};
     ghost use Rattle.xl_wait.specs.declared.waiter.Waiter.{Waiter};
 
     ghost Value = { List Waiter };
 
     ghost view = { λ q. q.waiters.items };
 
-    ghost invariant = { λ q. (length q.waiters.items ≤ most_waiters) × (q.files.items ≡ files_of q.waiters.items) };
+    ghost invariant = { λ q. (length q.waiters.items ≤ most_waiters) × (q.files.items ≡ files_of q.waiters.items) × IsCounted q.counts q.files.items };
 }
 
 impl Queue {
@@ -70,6 +73,7 @@ impl Queue {
         Queue {
             waiters: Vec::new(alloc),
             files: Vec::new(alloc),
+            counts: BTreeMap::new(alloc),
         }
     }
 
@@ -104,7 +108,7 @@ impl Queue {
         if self.waiters.len() >= MOST_WAITERS {
             return Err(QueueErr::Full(MOST_WAITERS as u32));
         }
-        enter(&mut self.waiters, &mut self.files, waiter)?;
+        enter(&mut self.waiters, &mut self.files, &mut self.counts, waiter)?;
         Ok(())
     }
 
@@ -114,14 +118,15 @@ impl Queue {
         ensures waiting { result ≡ is_waiting id self.old }
         ensures after { self.new ≡ cancelled id self.old }
     {
-        take_out(&mut self.waiters, &mut self.files, id)
+        take_out(&mut self.waiters, &mut self.files, &mut self.counts, id)
     }
 
     /// Whether someone waits on this file: whether the first claim that it asks for is there. It takes no memory.
+    #[tactic(auto, using(crate::proofs::FileLaws::waits_counted))]
     pub fn waits_on(&self, file: u32) -> bool
         ensures { result ≡ waits_on file self.now }
     {
-        has_file(&self.files, file)
+        count_on(&self.counts, file) > 0
     }
 
     /// The waiter at this place, counted from 0; None exactly where fewer wait.

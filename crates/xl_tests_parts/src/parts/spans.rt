@@ -1,7 +1,12 @@
 //! The ranges that one owner has locked in one file.
 
+ghost use Rattle.std.specs.Prelude.{◌≡◌, ◌<◌};
+
 use std::alloc::AllocError;
+use std::marker::Brand;
+use std::sync::ledger::{Blank, Ledger};
 use xl_spans::{Mode, Span, Spans, plain};
+use xl_steps::Steps;
 
 fn is_shared(mode: Mode) -> bool {
     matches!(mode, Mode::Shared)
@@ -91,6 +96,16 @@ fn reach_the_last_byte(spans: &mut Spans) -> bool {
         && relock(spans, 7, u64::MAX - 1, Some(Mode::Shared)).is_ok()
 }
 
+/// Byte 50 is free, between two spans of one mode.
+#[test]
+fn looks_find_a_mode(rt: HostRuntime) {
+    let mut spans = Spans::new(rt.alloc());
+    assert!(rt; make_four(&mut spans) && mode_by_looks(&spans, 50).is_none());
+    assert!(rt; same_mode(mode_by_looks(&spans, 49), Some(Mode::Shared)));
+    assert!(rt; same_mode(mode_by_looks(&spans, 99), Some(Mode::Exclusive)));
+    assert!(rt; mode_by_looks(&spans, 100).is_none());
+}
+
 #[test]
 fn locks_make_runs(rt: HostRuntime) {
     assert!(rt; make_four(&mut Spans::new(rt.alloc())));
@@ -116,9 +131,24 @@ fn same_conflict(spans: &Spans, held: &[Span], first: u64, last: u64, mode: Mode
         )
 }
 
+/// The mode of a byte by the search whose looks are counted.
+fn counted_mode<L: Ledger>(spans: &Spans, byte: u64, blank: Blank) -> Option<Mode>
+    requires name { blank.name ≡ L.name }
+    requires parts { blank.parts ≡ L.parts }
+    requires some { 0 < blank.parts }
+{
+    let mut steps = Steps::<L>::new(blank);
+    spans.at_in(byte, &mut steps)
+}
+
+fn mode_by_looks(spans: &Spans, byte: u64) -> Option<Mode> {
+    counted_mode::<Brand>(spans, byte, Blank::new(1))
+}
+
 fn same_answers(spans: &Spans, held: &[Span], first: u64, last: u64) -> bool {
     for k in 0..8 {
-        if !same_mode(spans.at(byte(k)), plain::mode_at(held, byte(k))) {
+        let mode = plain::mode_at(held, byte(k));
+        if !same_mode(spans.at(byte(k)), mode) || !same_mode(mode_by_looks(spans, byte(k)), mode) {
             return false;
         }
     }

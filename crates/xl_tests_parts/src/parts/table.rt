@@ -1,16 +1,19 @@
 //! The claims that are held.
 
-ghost use Rattle.std.specs.Prelude.{◌≡◌};
+ghost use Rattle.std.specs.Prelude.{◌≡◌, ◌<◌};
 ghost use Rattle.std.specs.List.{list_all};
 ghost use Rattle.xl_table.specs.Held.{is_real_by, is_range};
 ghost use Rattle.xl_tests_parts.specs.Trials.{is_beside, is_simple};
 
 use super::matrix::claim_in;
 use std::alloc::{AllocError, Global};
+use std::marker::Brand;
+use std::sync::ledger::{Blank, Ledger};
 use xl_base::{Moment, Owner, Party, Protocol, Sequence};
 use xl_matrix::{Claim, Extent, Rwd, What, is_posix, same_claim, same_owner, same_party};
 use xl_names::{Name, Names};
 use xl_spans::{Mode, Span};
+use xl_steps::Steps;
 use xl_table::{
     CLAIMS, Leaver, Table, TableErr, is_answer_due, is_blocked_by, stays_compatible, stays_sound,
     united_shares_stay_compatible, unlocks_grow_only_by_a_cut,
@@ -134,8 +137,28 @@ fn fills(alloc: Global, table: &mut Table) -> bool {
     true
 }
 
+/// The blockers by the walk whose looks are counted.
+fn counted_blockers<L: Ledger>(
+    alloc: Global,
+    table: &Table,
+    ask: &Claim,
+    blank: Blank,
+) -> Result<Vec<Claim>, AllocError>
+    requires name { blank.name ≡ L.name }
+    requires parts { blank.parts ≡ L.parts }
+    requires some { 0 < blank.parts }
+{
+    let mut steps = Steps::<L>::new(blank);
+    table.blockers_in(alloc, ask, &mut steps)
+}
+
+fn blockers_by_looks(alloc: Global, table: &Table, ask: &Claim) -> Result<Vec<Claim>, AllocError> {
+    counted_blockers::<Brand>(alloc, table, ask, Blank::new(1))
+}
+
 fn is_blocked(alloc: Global, table: &Table, ask: &str, blockers: &str) -> bool {
     are_listed(table.blockers(alloc, &claim_in(ask)), blockers)
+        && are_listed(blockers_by_looks(alloc, table, &claim_in(ask)), blockers)
 }
 
 fn is_holder(table: &Table, file: u32, byte: u64, row: &str) -> bool {
@@ -245,6 +268,24 @@ fn change_and_go(alloc: Global, table: &mut Table) -> bool {
         && is_left(alloc, table, "caller read 20 29", LEFT)
         && is_left(alloc, table, "caller read 20 29", LEFT)
         && party_goes(alloc, table)
+}
+
+/// Two breaks run; the one whose answer is due first goes, and the other is due at its own moment.
+fn breaks_end(alloc: Global, table: &mut Table) -> bool {
+    enters(alloc, table, claim_in("caller break RH 9"))
+        && enters(alloc, table, claim_in("lease break RH 7"))
+        && is_due(alloc, table, 6, "")
+        && is_due(alloc, table, 8, "lease break RH 7")
+        && is_left(alloc, table, "lease break RH 7", "caller break RH 9")
+        && is_due(alloc, table, 8, "")
+        && is_due(alloc, table, 9, "caller break RH 9")
+        && breaks(table, "caller break RH 9", "caller cache RH -")
+        && is_due(alloc, table, 9, "")
+}
+
+#[test]
+fn answers_are_due_by_their_deadlines(rt: HostRuntime) {
+    assert!(rt; breaks_end(rt.alloc(), &mut Table::new(rt.alloc())));
 }
 
 /// The lease's party goes, and the others' claims stay.
