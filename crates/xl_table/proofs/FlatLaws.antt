@@ -128,7 +128,7 @@ held_from_test claim (c ∷ cs) h =
       | inr later ↦ inr (held_from_test claim cs later)
     ]
 
-test_from_held : (claim : Claim) (held : List Claim) → IsIn claim held → list_any (λ c. same_claims c claim) held ≡ true
+pub test_from_held : (claim : Claim) (held : List Claim) → IsIn claim held → list_any (λ c. same_claims c claim) held ≡ true
 test_from_held claim [] h = absurd h
 test_from_held claim (c ∷ cs) h =
     elim h [

@@ -23,5 +23,7 @@ pub mod ElementLaws
 pub mod ExactLaws
 pub mod SideLaws
 pub mod DueLaws
+pub mod MomentLaws
+pub mod DatedLaws
 pub mod CountLaws
 pub mod CacheLaws

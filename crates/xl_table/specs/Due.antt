@@ -1,5 +1,5 @@
--- From which moment on answers are due to caches whose breaks run.
-use Rattle.std.specs.Prelude.{ℕ, ◌≤◌, Bool, false, nat_le, min, List, [], ◌∷◌, Some}
+-- From which moment on answers are due to a page's caches whose breaks run.
+use Rattle.std.specs.Prelude.{ℕ, ◌≤◌, min, List, [], ◌∷◌, Some}
 use Rattle.std.specs.List.{AllByRecursion}
 use Rattle.xl_matrix.specs.declared.claim.Claim.{Claim}
 use Rattle.xl_matrix.specs.declared.claim.What.{What}
@@ -14,11 +14,6 @@ due_with from _ = from
 abbrev pub due_from : ℕ → List Claim → ℕ
 due_from from [] = from
 due_from from (c ∷ cs) = due_from (due_with from c.what) cs
-
--- an answer is due to what is claimed at this moment or before
-abbrev pub is_due_by : ℕ → What → Bool
-is_due_by from (Cache kind (Some running)) = nat_le running.deadline.0 from
-is_due_by from _ = false
 
 -- no answer is due to what is claimed before this moment
 abbrev pub IsDueFrom : ℕ → What → Type 0

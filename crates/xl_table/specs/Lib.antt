@@ -12,4 +12,5 @@ pub mod Bounds
 pub mod Pages
 pub mod Elements
 pub mod Due
+pub mod Deadlines
 pub mod Exact

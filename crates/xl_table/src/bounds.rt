@@ -15,7 +15,7 @@ pub struct Bounds {
     pub(crate) due: u64,
 }
 
-pub(crate) fn least(a: u64, b: u64) -> u64
+fn least(a: u64, b: u64) -> u64
     ensures { result ≡ min a b }
 {
     a.min(b)

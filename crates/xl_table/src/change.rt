@@ -1,14 +1,17 @@
 //! What a grant or an unlock changes, worked out once and then written.
-ghost use Rattle.std.specs.Prelude.{◌≡◌, ℕ, ◌+◌, ◌-◌, ◌≤◌, ◌<◌, ◌++◌, ◌∷◌, [], length, map, take, drop, true, None, Some, Option, IfOk, OnOk, OnErr, vec_len, vec_capacity};
+ghost use Rattle.std.specs.Prelude.{◌≡◌, ℕ, Bool, ◌+◌, ◌-◌, ◌≤◌, ◌<◌, ◌++◌, ◌∷◌, [], length, map, take, drop, true, None, Some, Option, IfOk, OnOk, OnErr, vec_len, vec_capacity, slice_range};
 ghost use Rattle.std.specs.List.{AllByRecursion};
 ghost use Rattle.xl_matrix.specs.Owners.{posix};
 ghost use Rattle.xl_spans.specs.declared.span.Mode.{Mode};
 ghost use Rattle.xl_table.specs.Held.{IsKept, IsGrantable, is_range, is_share, has_one_party, mode_of, most_claims};
 ghost use Rattle.xl_table.specs.Relock.{relocked_in, shared_in, granted_claims};
-ghost use Rattle.xl_table.specs.Files.{joined, IsFiled, IsAt};
+ghost use Rattle.xl_table.specs.Files.{joined, IsFiled, IsAt, here};
 ghost use Rattle.xl_table.specs.Flat.{inserted};
 ghost use Rattle.xl_table.specs.Pages.{paged, AreFull};
 ghost use Rattle.xl_table.specs.Changes.{spliced, written, IsOn, MayBeWritten};
+ghost use Rattle.xl_table.specs.Deadlines.{running, AreDeadlines};
+ghost use Rattle.xl_table.specs.Order.{goes_first};
+ghost use Rattle.xl_base.specs.Lists.{Pairwise};
 
 use crate::files::{OnFile, on_file, open_file};
 use crate::page::Page;
@@ -192,6 +195,28 @@ pub(crate) fn unlock(
     let pages = on_file(lists, ask.file);
     let change = relock(alloc, pages, count, ask, first, last, None)?;
     Ok(change)
+}
+
+/// Those claims that give way once the change is written, of which some may be caches whose breaks run: none where there are
+/// no deadlines at all.
+#[tactic(auto, using(crate::proofs::DatedLaws::none_run))]
+pub(crate) fn gone_by(
+    alloc: Global,
+    lists: &[OnFile],
+    deadlines: &[u64],
+    change: &Change,
+) -> Result<Vec<Claim>, AllocError>
+    requires filed { IsFiled lists.now }
+    requires ordered { Pairwise goes_first (joined lists.now) }
+    requires deadlines { AreDeadlines deadlines.now (joined lists.now) }
+    requires fits { MayBeWritten change.now (joined lists.now) }
+    ensures { IfOk result (λ v. (p : ℕ → Bool) → running p v.items ≡ running p (slice_range (here change.now.file (joined lists.now)) change.now.start change.now.end)) }
+{
+    if deadlines.is_empty() {
+        return Ok(Vec::new(alloc));
+    }
+    let gone = between(alloc, on_file(lists, change.file), change.start, change.end)?;
+    Ok(gone)
 }
 
 /// Takes the claims from `start` to before `end` out.

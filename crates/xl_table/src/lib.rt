@@ -4,6 +4,7 @@
 mod block;
 mod bounds;
 mod change;
+mod deadlines;
 mod due;
 mod exact;
 mod files;

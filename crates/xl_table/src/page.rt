@@ -4,12 +4,11 @@ ghost use Rattle.std.specs.List.{filter, list_any, prefix_len, slice_get};
 ghost use Rattle.std.proofs.Math.ListN.{set};
 ghost use Rattle.xl_table.specs.Flat.{blocks, is_blocked, is_due};
 ghost use Rattle.xl_table.specs.Leaving.{goes};
-ghost use Rattle.xl_table.specs.Due.{AreDueFrom};
 ghost use Rattle.xl_table.specs.Pages.{passes, passes_side, ends};
 ghost use Rattle.xl_table.specs.Held.{is_cache};
 ghost use Rattle.xl_table.specs.Sections.{IsParted, ends_in_cache};
 
-use crate::bounds::{Bounds, bounds_of, is_past, least};
+use crate::bounds::{Bounds, bounds_of, is_past};
 use crate::change::{put_all, take_between};
 use crate::due::is_asleep;
 use crate::leaver::Leaver;
@@ -272,13 +271,5 @@ impl Page {
         }
         push_due(alloc, due, self.claims.as_slice(), now)?;
         Ok(())
-    }
-
-    /// The lesser of a moment and the first at which an answer is due to one of the claims.
-    pub(crate) fn first_due(&self, from: u64) -> u64
-        ensures less { result ≤ from }
-        ensures these { AreDueFrom result self.now }
-    {
-        least(from, self.bounds.due)
     }
 }

@@ -4,8 +4,8 @@ ghost use Rattle.std.specs.List.{AllByRecursion, filter, find, list_any};
 ghost use Rattle.xl_table.specs.Flat.{with_what};
 ghost use Rattle.xl_table.specs.declared.table.TableErr.TheVariants.{NoMemory};
 
-use crate::change::{Change, grant, unlock, write};
-use crate::due::{due_after, due_from, due_with, first_due, is_asleep};
+use crate::change::{Change, gone_by, grant, unlock, write};
+use crate::deadlines::{count_come, enter, exchange, has_come, leave, leave_gone, make_room};
 use crate::exact::find_unlocked;
 use crate::files::{OnFile, open_file};
 use crate::holding::find_holder;
@@ -51,6 +51,14 @@ impl<T: Drop> From<AllocFailed<T>> for TableErr {
     }
 }
 
+impl From<AllocError> for TableErr {
+    ghost from_gives = { λ _ e. e ≡ NoMemory };
+
+    fn from(_e: AllocError) -> TableErr {
+        TableErr::NoMemory
+    }
+}
+
 /// The claims that are held, at most 16,384. A contract sees their flat list, which stands in this order: by file;
 /// then shares, ranges, caches; then by owner (shares, ranges) or party (caches), in the order of their protocol (NLM,
 /// NFSv4, SMB) and number; the ranges of an NLM or NFSv4 owner by first byte, those of an SMB open as they were locked.
@@ -60,25 +68,25 @@ pub struct Table {
     lists: Vec<OnFile>,
     /// How many claims there are on all files.
     count: usize,
-    /// No answer is due to a cache before this moment.
-    due_from: u64,
+    /// The deadlines of the breaks that run, in order. There is room for one of each claim.
+    deadlines: Vec<u64>,
 }
 
 impl Model for Table {
-    ghost use Rattle.std.specs.Prelude.{◌≡◌, List, length};
+    ghost use Rattle.std.specs.Prelude.{◌≡◌, ◌≤◌, List, length, vec_capacity};
     ghost use Rattle.xl_matrix.specs.declared.claim.Claim.{Claim};
     ghost use Rattle.xl_table.specs.Held.{IsKept};
     ghost use Rattle.xl_table.specs.Files.{joined, IsFiled};
-    ghost use Rattle.xl_table.specs.Due.{AreDueFrom};
+    ghost use Rattle.xl_table.specs.Deadlines.{AreDeadlines};
 
     ghost Value = { List Claim };
 
     ghost view = { λ t. joined t.lists.items };
 
-    ghost invariant = { λ t. IsFiled t.lists.items × IsKept (joined t.lists.items) × (t.count ≡ length (joined t.lists.items)) × AreDueFrom t.due_from (joined t.lists.items) };
+    ghost invariant = { λ t. IsFiled t.lists.items × IsKept (joined t.lists.items) × (t.count ≡ length (joined t.lists.items)) × AreDeadlines t.deadlines.items (joined t.lists.items) × (length (joined t.lists.items) ≤ vec_capacity t.deadlines) };
 }
 
-#[tactic(auto, using(crate::proofs::KeptLaws::kept_empty))]
+#[tactic(auto, using(crate::proofs::KeptLaws::kept_empty, crate::proofs::DatedLaws::dated_first))]
 impl Table {
     ghost use Rattle.xl_base.specs.Lists.{IsIn};
     ghost use Rattle.xl_matrix.specs.Equal.{same_parties};
@@ -99,7 +107,7 @@ impl Table {
         Table {
             lists: Vec::new(alloc),
             count: 0,
-            due_from: u64::MAX,
+            deadlines: Vec::new(alloc),
         }
     }
 
@@ -290,7 +298,7 @@ impl Table {
 
     /// Writes a change that was worked out on these claims, where there is room for what it leaves. After an error the
     /// table is as it was.
-    #[tactic(auto, using(crate::proofs::KeptLaws::kept_written, crate::proofs::DueLaws::due_written))]
+    #[tactic(auto, using(crate::proofs::KeptLaws::kept_written, crate::proofs::DatedLaws::dated_still, crate::proofs::DatedLaws::some_written, crate::proofs::DatedLaws::dated_written))]
     pub fn write(&mut self, change: &Change) -> Result<(), AllocError>
         requires fits { MayBeWritten change.now self.old }
         requires room { change.now.held ≤ most_claims }
@@ -298,20 +306,22 @@ impl Table {
         ensures err { OnErr result (self.new ≡ self.old) }
     {
         let alloc = *self.lists.allocator();
+        let gone = gone_by(alloc, &self.lists, &self.deadlines, change)?;
+        make_room(&mut self.deadlines, change.entered.len(), change.held)?;
         write(alloc, &mut self.lists, change)?;
         self.count = change.held;
-        self.due_from = due_from(self.due_from, &change.entered);
+        exchange(&mut self.deadlines, &gone, &change.entered);
         Ok(())
     }
 
     /// Takes out the claims that go with who leaves. It takes no memory.
-    #[tactic(auto, using(crate::proofs::WriteBack::kept_filter))]
+    #[tactic(auto, using(crate::proofs::WriteBack::kept_filter, crate::proofs::DatedLaws::some_gone, crate::proofs::DatedLaws::dated_gone, crate::proofs::DatedLaws::room_gone))]
     pub fn remove_leaver(&mut self, leaver: Leaver)
         ensures { self.new ≡ filter (λ held. not (goes leaver held)) self.old }
     {
+        leave_gone(&mut self.deadlines, &self.lists, leaver);
         drop_leaver(&mut self.lists, leaver);
         self.count = count_all(&self.lists);
-        self.due_from = first_due(&self.lists);
     }
 
     /// Enters a claim at its place: behind all that stand no later. Full comes exactly where the table holds 16,384.
@@ -320,7 +330,7 @@ impl Table {
     /// Afterwards each range with bytes must have a first byte no later than its last, and an owner's ranges on a file
     /// one party; the ranges of an NLM or NFSv4 owner on a file must be maximal runs of one mode, none of them empty;
     /// and no SMB range may have all bytes from 0 to 2^64 - 1.
-    #[tactic(auto, using(crate::proofs::KeptLaws::kept_inserted, crate::proofs::FlatLaws::length_inserted, crate::proofs::DueLaws::due_inserted))]
+    #[tactic(auto, using(crate::proofs::KeptLaws::kept_inserted, crate::proofs::FlatLaws::length_inserted, crate::proofs::DatedLaws::dated_still, crate::proofs::DatedLaws::dated_inserted))]
     pub fn insert(&mut self, claim: Claim) -> Result<(), TableErr>
         requires { IsSound (inserted claim self.old) }
         ensures ok { OnOk result (self.new ≡ inserted claim self.old) }
@@ -331,42 +341,41 @@ impl Table {
             return Err(TableErr::Full(CLAIMS as u32));
         }
         let alloc = *self.lists.allocator();
+        make_room(&mut self.deadlines, 1, self.count + 1)?;
         let at = open_file(alloc, &mut self.lists, claim.file)?;
-        if put(&mut self.lists, at, claim).is_err() {
-            return Err(TableErr::NoMemory);
-        }
+        put(&mut self.lists, at, claim)?;
         self.count += 1;
-        self.due_from = due_with(self.due_from, claim.what);
+        enter(&mut self.deadlines, claim.what);
         Ok(())
     }
 
     /// Gives the first claim equal to this one something else to claim, and puts it at its place then. It takes no
     /// memory. Afterwards the same must hold as after `insert`.
-    #[tactic(auto, using(crate::proofs::KeptLaws::kept_changed, crate::proofs::FlatLaws::count_changed, crate::proofs::DueLaws::due_changed))]
+    #[tactic(auto, using(crate::proofs::KeptLaws::kept_changed, crate::proofs::FlatLaws::count_changed, crate::proofs::DatedLaws::some_held, crate::proofs::DatedLaws::room_changed, crate::proofs::DatedLaws::dated_changed))]
     pub fn change(&mut self, claim: &Claim, to: What)
         requires held { IsIn claim.now self.old }
         requires sound { IsSound (changed claim.now to self.old) }
         ensures { self.new ≡ changed claim.now to self.old }
     {
         replace(&mut self.lists, claim, to);
-        let from = due_with(self.due_from, to);
-        self.due_from = due_after(&self.lists, from, claim.what);
+        leave(&mut self.deadlines, claim.what);
+        enter(&mut self.deadlines, to);
     }
 
     /// Takes out the first claim equal to this one; the table is as it was where none is. It takes no memory.
-    #[tactic(auto, using(crate::proofs::KeptLaws::kept_removed, crate::proofs::FlatLaws::count_removed, crate::proofs::FlatLaws::removed_none, crate::proofs::DueLaws::due_removed))]
+    #[tactic(auto, using(crate::proofs::KeptLaws::kept_removed, crate::proofs::FlatLaws::count_removed, crate::proofs::FlatLaws::removed_none, crate::proofs::DatedLaws::some_removed, crate::proofs::DatedLaws::dated_removed, crate::proofs::DatedLaws::dated_none))]
     pub fn remove(&mut self, claim: &Claim)
         ensures { self.new ≡ removed claim.now self.old }
     {
         if take_out(&mut self.lists, claim) {
             self.count -= 1;
-            self.due_from = due_after(&self.lists, self.due_from, claim.what);
+            leave(&mut self.deadlines, claim.what);
         }
     }
 
     /// Takes back a claim that was the last to come among those that stand at its place: the table is then as it was before
     /// that came. It takes no memory.
-    #[tactic(auto, using(crate::proofs::ElementLaws::last_kept, crate::proofs::ElementLaws::last_count, crate::proofs::ElementLaws::last_before, crate::proofs::DueLaws::due_taken_back))]
+    #[tactic(auto, using(crate::proofs::ElementLaws::last_kept, crate::proofs::ElementLaws::last_count, crate::proofs::ElementLaws::last_before, crate::proofs::DatedLaws::some_back, crate::proofs::DatedLaws::dated_back))]
     pub fn take_back(&mut self, claim: &Claim)
         requires last { CameLast claim.now self.old }
         ensures claims { self.new ≡ taken_back claim.now self.old }
@@ -374,6 +383,7 @@ impl Table {
     {
         take_back(&mut self.lists, claim);
         self.count -= 1;
+        leave(&mut self.deadlines, claim.what);
     }
 
     /// The claims of a party, in the table's order.
@@ -391,11 +401,29 @@ impl Table {
     }
 
     /// The caches whose break runs with a deadline at or before now, in the table's order.
-    #[tactic(auto, using(crate::proofs::DueLaws::none_due))]
+    #[tactic(auto, using(crate::proofs::DatedLaws::none_due))]
     pub fn due(&self, alloc: Global, now: Moment) -> Result<Vec<Claim>, AllocError>
         ensures { IfOk result (λ v. v.items ≡ filter (λ held. is_due now held) self.now) }
     {
-        if is_asleep(now, self.due_from) {
+        if !has_come(&self.deadlines, now) {
+            return Ok(Vec::new(alloc));
+        }
+        list_due(alloc, &self.lists, now)
+    }
+
+    /// The same as `due`, with each look at a deadline counted as a step: there is at most one more than claims are due.
+    #[tactic(auto, using(crate::proofs::DatedLaws::none_counted, crate::proofs::DatedLaws::few_due))]
+    pub fn due_in<L: Ledger>(
+        &self,
+        alloc: Global,
+        now: Moment,
+        steps: &mut Steps<L>,
+    ) -> Result<Vec<Claim>, AllocError>
+        ensures due { IfOk result (λ v. v.items ≡ filter (λ held. is_due now held) self.now) }
+        ensures more { steps.old ≤ steps.new }
+        ensures few { steps.new ≤ steps.old + length (filter (λ held. is_due now held) self.now) + 1 }
+    {
+        if count_come(&self.deadlines, now, steps) == 0 {
             return Ok(Vec::new(alloc));
         }
         list_due(alloc, &self.lists, now)

@@ -168,8 +168,36 @@ fn is_holder(table: &Table, file: u32, byte: u64, row: &str) -> bool {
     }
 }
 
+/// The caches whose answer is due by the walk whose looks are counted.
+fn counted_due<L: Ledger>(
+    alloc: Global,
+    table: &Table,
+    now: Moment,
+    blank: Blank,
+) -> Result<Vec<Claim>, AllocError>
+    requires name { blank.name ≡ L.name }
+    requires parts { blank.parts ≡ L.parts }
+    requires some { 0 < blank.parts }
+{
+    let mut steps = Steps::<L>::new(blank);
+    table.due_in(alloc, now, &mut steps)
+}
+
+fn due_by_looks(alloc: Global, table: &Table, now: Moment) -> Result<Vec<Claim>, AllocError> {
+    counted_due::<Brand>(alloc, table, now, Blank::new(1))
+}
+
+/// The same by a look at each claim.
+fn due_of_all(alloc: Global, table: &Table, now: Moment) -> Result<Vec<Claim>, AllocError> {
+    let mut claims = table.claims(alloc)?;
+    claims.retain(|claim| is_answer_due(now, claim));
+    Ok(claims)
+}
+
 fn is_due(alloc: Global, table: &Table, now: u64, rows: &str) -> bool {
     are_listed(table.due(alloc, Moment(now)), rows)
+        && are_listed(due_by_looks(alloc, table, Moment(now)), rows)
+        && are_listed(due_of_all(alloc, table, Moment(now)), rows)
 }
 
 fn are_held(alloc: Global, table: &Table, rows: &str) -> bool {
@@ -295,7 +323,7 @@ fn party_goes(alloc: Global, table: &mut Table) -> bool {
         alloc,
         table,
         "client share r -\nclient read 10 24\nmoved lock 0 0",
-    )
+    ) && is_due(alloc, table, 7, "")
 }
 
 #[test]

@@ -1,10 +1,15 @@
-use Rattle.std.proofs.Common.{List, subst}
+use Rattle.std.proofs.Common.{ℕ, nat_le, nat_lt, List, sym, ap, ◌∙◌}
+use Rattle.std.specs.List.{filter}
 use Rattle.xl_matrix.specs.declared.claim.Claim.{Claim}
-use Rattle.xl_table.specs.Due.{AreDueFrom}
-use Rattle.xl_table.proofs.DueLaws.{none_due}
+use Rattle.xl_table.specs.Deadlines.{passing}
+use Rattle.xl_table.specs.Files.{joined}
+use Rattle.xl_table.specs.Flat.{is_due}
+use Rattle.xl_table.proofs.DatedLaws.{none_due}
 use Rattle.xl_table.proofs.table.Table.due.Goals as goal
 
-pub returns-then-is_asleep : goal.returns-then-is_asleep
-returns-then-is_asleep c =
-    none_due c.args.now c.self.inside.due_from c.args.self.now c.new.result.items c.is_asleep.result c.new.ensures.items c.is_asleep.ensures c.if-is_asleep.true
-    (subst (λ (held : List Claim). AreDueFrom c.self.inside.due_from held) c.self.view_is c.self.invariant.3)
+pub returns-then-not-has_come : goal.returns-then-not-has_come
+returns-then-not-has_come c =
+    c.new.ensures.items
+    ∙ sym (none_due c.self.inside.deadlines.items c.args.now (joined c.self.inside.lists.items) c.has_come.result c.self.invariant.3
+    (c.has_come.ensures ∙ ap (λ (ms : List ℕ). nat_lt 0 (passing (λ m. nat_le m c.args.now.0) ms)) c.deref.ensures.value) c.if-not-has_come.true)
+    ∙ ap (λ (cs : List Claim). filter (λ held. is_due c.args.now held) cs) c.self.view_is
