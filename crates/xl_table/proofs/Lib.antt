@@ -27,3 +27,4 @@ pub mod MomentLaws
 pub mod DatedLaws
 pub mod CountLaws
 pub mod CacheLaws
+pub mod AlongLaws

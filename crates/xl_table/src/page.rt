@@ -75,6 +75,22 @@ fn count_passing(claims: &[Claim], mark: Mark, front: &[u64]) -> usize
     claims.partition_point(|claim| passes(mark, front, claim))
 }
 
+/// How many of these claims pass the mark before the first that does not; they are looked at one by one.
+#[tactic(auto, using(crate::proofs::AlongLaws::along_on, crate::proofs::AlongLaws::along_stop))]
+fn count_along(claims: &[Claim], mark: Mark, front: &[u64]) -> usize
+    ensures count { result ≡ prefix_len (passes mark front.now) claims.now }
+    ensures within { result ≤ length claims.now }
+{
+    let mut count = 0;
+    for claim in claims {
+        if !passes(mark, front, claim) {
+            return count;
+        }
+        count += 1;
+    }
+    count
+}
+
 fn last_passes(claims: &[Claim], mark: Mark, front: &[u64]) -> bool
     ensures { result ≡ ends (passes mark front.now) claims.now }
 {
@@ -170,6 +186,16 @@ impl Page {
         ensures within { result ≤ length self.now }
     {
         count_passing(self.claims.as_slice(), mark, front)
+    }
+
+    /// How many of the claims from the place on pass the mark before the first that does not.
+    #[tactic(auto, using(crate::proofs::AlongLaws::along_within))]
+    pub(crate) fn count_from(&self, place: usize, mark: Mark, front: &[u64]) -> usize
+        requires { place ≤ length self.now }
+        ensures count { result ≡ prefix_len (passes mark front.now) (drop place self.now) }
+        ensures within { place + result ≤ length self.now }
+    {
+        count_along(&self.claims[place..], mark, front)
     }
 
     /// The first of the claims that does not pass the mark, if there is one.

@@ -62,7 +62,6 @@ fn count_at(pages: &[Page], at: usize, mark: Mark, front: &[u64]) -> usize
 }
 
 /// How many claims pass the mark.
-
 pub(crate) fn count_passing(pages: &[Page], mark: Mark, front: &[u64]) -> usize
     requires full { AreFull pages.now }
     requires room { length (paged pages.now) < 2 ^ 32 }
@@ -72,6 +71,28 @@ pub(crate) fn count_passing(pages: &[Page], mark: Mark, front: &[u64]) -> usize
 {
     let at = count_whole(pages, mark, front);
     count_front(pages, at) + count_at(pages, at, mark, front)
+}
+
+/// How many claims pass the mark, where so many are known to: those behind them in their page are looked at one by one, and
+/// others by bisection, where all of these pass.
+#[tactic(auto, using(crate::proofs::AlongLaws::inside_fits, crate::proofs::AlongLaws::along_page))]
+pub(crate) fn count_on(pages: &[Page], known: usize, mark: Mark, front: &[u64]) -> usize
+    requires full { AreFull pages.now }
+    requires room { length (paged pages.now) < 2 ^ 32 }
+    requires parted { IsParted (passes mark front.now) (paged pages.now) }
+    requires known { known ≤ prefix_len (passes mark front.now) (paged pages.now) }
+    ensures count { result ≡ prefix_len (passes mark front.now) (paged pages.now) }
+    ensures within { result ≤ length (paged pages.now) }
+{
+    let (at, left) = locate(pages, known);
+    if at < pages.len() {
+        let page = &pages[at];
+        let more = page.count_from(left, mark, front);
+        if left + more < page.len() {
+            return known + more;
+        }
+    }
+    count_passing(pages, mark, front)
 }
 
 /// The first claim that does not pass the mark, if there is one.
@@ -162,6 +183,7 @@ fn push_between(
 }
 
 /// The claims from one place to before another.
+#[tactic(auto, using(crate::proofs::AlongLaws::nothing_between))]
 pub(crate) fn between(
     alloc: Global,
     pages: &[Page],
@@ -172,6 +194,9 @@ pub(crate) fn between(
     requires within { end ≤ length (paged pages.now) }
     ensures { IfOk result (λ v. v.items ≡ slice_range (paged pages.now) start end) }
 {
+    if start == end {
+        return Ok(Vec::new(alloc));
+    }
     let mut found = Vec::with_capacity(alloc, end - start)?;
     push_between(&mut found, pages, start, end)?;
     Ok(found)

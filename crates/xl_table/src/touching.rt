@@ -14,7 +14,7 @@ ghost use Rattle.xl_table.specs.declared.marks.Mark.TheVariants.{Ending, Beginni
 use crate::files::{OnFile, on_file};
 use crate::marks::Mark;
 use crate::page::Page;
-use crate::pages::{count_passing, first_failing};
+use crate::pages::{count_on, count_passing, first_failing};
 use crate::relock::meets;
 use crate::section::{group_of, group_places};
 use xl_base::Owner;
@@ -32,13 +32,14 @@ pub(crate) fn touched_places(
     requires room { length (paged pages.now) < 2 ^ 32 }
     requires ending { IsParted (passes (Ending (first - 1)) (group file 1 owner)) (paged pages.now) }
     requires beginning { IsParted (passes (Beginning last) (group file 1 owner)) (paged pages.now) }
+    requires order { prefix_len (passes (Ending (first - 1)) (group file 1 owner)) (paged pages.now) ≤ prefix_len (passes (Beginning last) (group file 1 owner)) (paged pages.now) }
     ensures start { result.0 ≡ prefix_len (passes (Ending (first - 1)) (group file 1 owner)) (paged pages.now) }
     ensures end { result.1 ≡ prefix_len (passes (Beginning last) (group file 1 owner)) (paged pages.now) }
     ensures within { result.1 ≤ length (paged pages.now) }
 {
     let front = group_of(file, 1, owner);
     let start = count_passing(pages, Mark::Ending(first.saturating_sub(1)), &front);
-    let end = count_passing(pages, Mark::Beginning(last), &front);
+    let end = count_on(pages, start, Mark::Beginning(last), &front);
     (start, end)
 }
 

@@ -19,6 +19,9 @@ touched_places-near-requires-clause-ending c = (touched c.args.ask.now c.args.fi
 pub touched_places-near-requires-clause-beginning : goal.touched_places-near-requires-clause-beginning
 touched_places-near-requires-clause-beginning c = (touched c.args.ask.now c.args.first c.args.last (paged c.args.pages.now) c.requires.kept c.requires.posix c.requires.range c.requires.ends c.requires.party).beginning
 
+pub touched_places-near-requires-clause-order : goal.touched_places-near-requires-clause-order
+touched_places-near-requires-clause-order c = (touched c.args.ask.now c.args.first c.args.last (paged c.args.pages.now) c.requires.kept c.requires.posix c.requires.range c.requires.ends c.requires.party).order
+
 pub between-requires-clause-order : goal.between-requires-clause-order
 between-requires-clause-order c =
     omega (arith, c.touched_places-near.ensures.start, c.touched_places-near.ensures.end, (touched c.args.ask.now c.args.first c.args.last (paged c.args.pages.now) c.requires.kept c.requires.posix c.requires.range c.requires.ends c.requires.party).order)
