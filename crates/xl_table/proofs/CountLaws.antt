@@ -1,10 +1,7 @@
 -- Looks at claims, one after another.
-use Rattle.std.proofs.Common.{◌≡◌, ℕ, ◌+◌, ◌≤◌, ◌<◌, true, false, Bool, List, ◌++◌, ◌∷◌, [], length, drop, get_or, arith}
+use Rattle.std.proofs.Common.{ℕ, ◌+◌, ◌≤◌, List, ◌++◌, length, arith}
 use Rattle.std.proofs.lemmas.List.{length-append}
-use Rattle.std.specs.List.{filter}
 use Rattle.xl_matrix.specs.declared.claim.Claim.{Claim}
-use Rattle.xl_table.specs.Files.{here}
-use Rattle.xl_table.specs.Pages.{paged}
 
 -- so many steps for the claims of a page, and so many for those behind it
 pub looked_more : (old mid new : ℕ) (p rest : List Claim) → mid ≤ old + length p → new ≤ mid + length rest → new ≤ old + length (p ++ rest)

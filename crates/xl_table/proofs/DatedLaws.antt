@@ -1,9 +1,9 @@
 -- The deadlines that stand beside the claims, as the claims change.
-use Rattle.std.proofs.Common.{◌≡◌, ℕ, zero, suc, ◌+◌, ◌-◌, ◌<◌, ◌≤◌, Bool, true, false, not, ◌==◌, nat_lt, nat_le, List, [], ◌∷◌, ◌++◌, length, take, drop, Some, None, refl, sym, ap, subst, ◌∙◌, inl, inr, arith}
-use Rattle.std.proofs.lemmas.Bool.{cases_Bool, both_ways, or_parts, ltb-true}
+use Rattle.std.proofs.Common.{◌≡◌, ℕ, zero, suc, ◌+◌, ◌-◌, ◌<◌, ◌≤◌, Bool, true, false, not, nat_lt, nat_le, List, [], ◌∷◌, ◌++◌, length, take, drop, Some, None, refl, sym, ap, subst, ◌∙◌, inl, inr, arith}
+use Rattle.std.proofs.lemmas.Bool.{cases_Bool, both_ways}
 use Rattle.std.proofs.lemmas.Bool.Decides.{nat_tests}
 use Rattle.std.proofs.lemmas.List.{nil_from_length}
-use Rattle.std.specs.List.{AllByRecursion, filter, list_any, slice_range}
+use Rattle.std.specs.List.{filter, list_any, slice_range}
 use Rattle.xl_base.specs.Lists.{IsIn, Pairwise, placed}
 use Rattle.xl_base.specs.declared.event.Moment.{Moment}
 use Rattle.xl_matrix.proofs.EqualLaws.{same_claims-true}
@@ -22,7 +22,7 @@ use Rattle.xl_table.specs.Leaving.{goes}
 use Rattle.xl_table.specs.Order.{goes_first}
 use Rattle.xl_table.proofs.AloneLaws.{in_files}
 use Rattle.xl_table.proofs.ElementLaws.{back_entered}
-use Rattle.xl_table.proofs.FlatLaws.{length_inserted, removed_shorter, removed_none, test_from_held}
+use Rattle.xl_table.proofs.FlatLaws.{removed_shorter, removed_none, test_from_held}
 use Rattle.xl_table.proofs.MomentLaws.{running_append}
 
 -- ---- how many run, as claims come and go

@@ -1,25 +1,18 @@
 -- From which moment on answers are due to a page's claims.
-use Rattle.std.proofs.Common.{◌≡◌, ℕ, ◌+◌, ◌-◌, ◌<◌, ◌≤◌, ◌^◌, min, Bool, true, false, nat_lt, nat_le, ◌==◌, List, [], ◌∷◌, ◌++◌, length, take, drop, Some, None, zero, suc, refl, sym, ap, subst, ◌∙◌, inl, inr, arith}
+use Rattle.std.proofs.Common.{◌≡◌, ℕ, ◌<◌, ◌≤◌, Bool, true, false, nat_lt, List, [], ◌∷◌, ◌++◌, Some, None, refl, sym, ap, subst, ◌∙◌, arith}
 use Rattle.std.proofs.lemmas.Bool.{lt-leb, ltb-true}
 use Rattle.std.proofs.lemmas.List.{append-nil}
-use Rattle.std.specs.List.{AllByRecursion, filter, remove, prefix_len}
-use Rattle.xl_base.proofs.Members.{all_append, all_weaker}
+use Rattle.std.specs.List.{filter}
+use Rattle.xl_base.proofs.Members.{all_weaker}
 use Rattle.xl_base.specs.declared.event.Moment.{Moment}
 use Rattle.xl_matrix.specs.declared.claim.Claim.{Claim}
 use Rattle.xl_matrix.specs.declared.claim.Extent.TheVariants.{Bytes, Empty}
 use Rattle.xl_matrix.specs.declared.claim.What.{What}
 use Rattle.xl_matrix.specs.declared.claim.What.TheVariants.{Share, Range, Cache}
 use Rattle.xl_table.specs.declared.bounds.Bounds.{Bounds}
-use Rattle.xl_table.specs.declared.change.Change.{Change}
 use Rattle.xl_table.specs.Bounds.{unbounded, widened, bounds_from, bounds_of}
-use Rattle.xl_table.specs.Changes.{spliced, written}
 use Rattle.xl_table.specs.Due.{due_with, due_from, IsDueFrom, AreDueFrom}
-use Rattle.xl_table.specs.Elements.{taken_back}
-use Rattle.xl_table.specs.Files.{here}
-use Rattle.xl_table.specs.Flat.{inserted, removed, changed, with_what, is_due, due_by}
-use Rattle.xl_table.specs.Order.{goes_first}
-use Rattle.xl_table.proofs.FileLaws.{all_filtered}
-use Rattle.xl_table.proofs.FlatLaws.{all_inserted, all_removed}
+use Rattle.xl_table.specs.Flat.{is_due, due_by}
 
 -- ---- one claim
 

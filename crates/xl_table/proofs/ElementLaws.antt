@@ -1,17 +1,16 @@
 -- The ranges of an SMB open: one put in behind the others, one taken out, the last taken back.
-use Rattle.std.proofs.Common.{◌≡◌, ℕ, ◌-◌, ◌<◌, ◌+◌, suc, zero, Bool, true, false, not, ◌&&◌, ◌||◌, ◌==◌, nat_le, nat_lt, ◌^◌, if◌then◌else◌, List, [], ◌∷◌, ◌++◌, length, Option, Some, None, is_some, inl, inr, refl, sym, ap, subst, ◌∙◌, arith}
+use Rattle.std.proofs.Common.{◌≡◌, ℕ, ◌-◌, ◌<◌, ◌+◌, suc, Bool, true, false, not, ◌&&◌, ◌||◌, ◌==◌, nat_le, nat_lt, ◌^◌, if◌then◌else◌, List, [], ◌∷◌, ◌++◌, length, Option, Some, None, is_some, inl, inr, refl, sym, ap, subst, ◌∙◌, arith}
 use Rattle.std.proofs.Math.Numerals.{one-add}
-use Rattle.std.specs.List.{AllByRecursion, filter, find, list_any, prefix_len, remove}
+use Rattle.std.specs.List.{AllByRecursion, filter, find, prefix_len, remove}
 use Rattle.std.specs.Option.{option_or}
 use Rattle.std.proofs.lemmas.Bool.{cases_Bool, both_ways, and_parts, and_from, or_parts, false_from_ne_true, eqb-true, eq-eqb, le-leb}
 use Rattle.std.proofs.lemmas.Option.{same_Some}
 use Rattle.xl_base.specs.Lists.{IsIn, Pairwise, placed}
 use Rattle.xl_base.specs.declared.name.Owner.{Owner}
 use Rattle.xl_matrix.proofs.EqualLaws.{same_claims-true, same_claims-self, same_owners-true, same_owners-self, same_parties-self}
-use Rattle.xl_matrix.specs.Equal.{same_owners, same_parties, same_what, same_claims}
+use Rattle.xl_matrix.specs.Equal.{same_owners, same_what, same_claims}
 use Rattle.xl_matrix.specs.Owners.{posix}
 use Rattle.xl_matrix.specs.declared.claim.Claim.{Claim}
-use Rattle.xl_base.specs.declared.name.Party.{Party}
 use Rattle.xl_matrix.specs.declared.claim.Extent.{Extent}
 use Rattle.xl_matrix.specs.declared.claim.Extent.TheVariants.{Bytes, Empty}
 use Rattle.xl_matrix.specs.declared.claim.What.{What}
@@ -22,7 +21,7 @@ use Rattle.xl_table.specs.Flat.{inserted, removed, with_what}
 use Rattle.xl_table.specs.Held.{is_of, is_range, is_real_by, is_real, has_one_party, may_own, IsShareOrLock, IsSound, IsKept}
 use Rattle.xl_table.specs.Order.{no_later, owner_key, place_in_group, key_from, key_by, key, goes_first}
 use Rattle.xl_table.specs.Relock.{is_range_of}
-use Rattle.xl_table.proofs.AloneLaws.{alone_parts, here_parts, in_files, inserted_parts, parts_of, AreParts}
+use Rattle.xl_table.proofs.AloneLaws.{alone_parts, here_parts, in_files, inserted_parts, parts_of}
 use Rattle.xl_table.proofs.FileLaws.{here_on}
 use Rattle.xl_table.proofs.FlatLaws.{all_inserted as all_put, length_inserted}
 use Rattle.xl_table.proofs.InsertLaws.{sound_inserted}

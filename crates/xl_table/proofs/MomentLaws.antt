@@ -1,5 +1,5 @@
 -- The deadlines of the breaks that run, as one is put in and taken out, and as claims come and go.
-use Rattle.std.proofs.Common.{◌≡◌, ℕ, zero, suc, ◌+◌, ◌-◌, ◌<◌, ◌≤◌, Bool, true, false, not, ◌==◌, nat_lt, nat_le, List, [], ◌∷◌, ◌++◌, length, take, drop, get_or, refl, sym, ap, subst, ◌∙◌, inl, inr, arith}
+use Rattle.std.proofs.Common.{◌≡◌, ℕ, zero, suc, ◌+◌, ◌<◌, ◌≤◌, Bool, true, false, ◌==◌, nat_lt, nat_le, List, [], ◌∷◌, ◌++◌, length, take, drop, get_or, refl, sym, ap, subst, ◌∙◌, inl, inr, arith}
 use Rattle.std.proofs.Math.Numerals.{one-add, suc-eq-add-one}
 use Rattle.std.proofs.Math.Seq.{drop-cons}
 use Rattle.std.proofs.lemmas.Bool.{cases_Bool, eqb-true, eq-eqb}
@@ -7,9 +7,7 @@ use Rattle.std.proofs.lemmas.Bool.Decides.{nat_tests}
 use Rattle.std.proofs.lemmas.List.Elements.{filter-append}
 use Rattle.std.specs.List.{AllByRecursion, filter, prefix_len, remove}
 use Rattle.xl_base.proofs.Members.{all_append, all_weaker}
-use Rattle.xl_base.specs.declared.event.Moment.{Moment}
 use Rattle.xl_matrix.specs.declared.claim.Claim.{Claim}
-use Rattle.xl_matrix.specs.declared.claim.What.{What}
 use Rattle.xl_table.specs.Deadlines.{one, passing, runs, running, AreRising}
 use Rattle.xl_table.specs.Leaving.{goes}
 use Rattle.xl_table.specs.Sections.{IsParted}

@@ -5,7 +5,6 @@ use Rattle.std.proofs.Math.Nat.{suc-sub-suc, sub-zero}
 use Rattle.std.specs.List.{AllByRecursion, filter, find, list_any, prefix_len, slice_get, slice_range}
 use Rattle.std.specs.List.Sorted.{IsPartitionPoint, IsPartitionedBy}
 use Rattle.std.proofs.lemmas.List.Sums.{prefix_len_is}
-use Rattle.std.proofs.lemmas.List.{length-take, length-drop}
 use Rattle.std.proofs.lemmas.Option.{same_Some}
 use Rattle.std.proofs.lemmas.Bool.{cases_Bool, both_ways, not-true, not_from_false, false_from_ne_true}
 use Rattle.std.proofs.lemmas.Bool.Decides.{nat_tests}

@@ -1,5 +1,5 @@
 -- A claim passes a mark by the side on which its numbers stand of those that begin with some.
-use Rattle.std.proofs.Common.{◌≡◌, ℕ, Bool, true, false, not, ◌&&◌, ◌||◌, ◌==◌, nat_lt, List, [], ◌∷◌, refl, sym, ap, subst, ◌∙◌, inl, inr, arith}
+use Rattle.std.proofs.Common.{◌≡◌, ℕ, Bool, true, false, not, ◌==◌, nat_lt, List, [], ◌∷◌, refl, sym, ap, ◌∙◌, inl, inr, arith}
 use Rattle.std.proofs.lemmas.Bool.{cases_Bool}
 use Rattle.std.proofs.lemmas.Bool.Decides.{nat_tests}
 use Rattle.xl_matrix.specs.declared.claim.Claim.{Claim}
@@ -9,7 +9,7 @@ use Rattle.xl_table.specs.declared.ordering.Side.{Side}
 use Rattle.xl_table.specs.declared.ordering.Side.TheVariants.{Earlier, Among, Later}
 use Rattle.xl_table.specs.Order.{no_later, key}
 use Rattle.xl_table.specs.Pages.{passes, passes_side}
-use Rattle.xl_table.specs.Sections.{side_of, is_no_later_than, range_ends_before, range_begins_by}
+use Rattle.xl_table.specs.Sections.{side_of, is_no_later_than}
 
 abbrev is_earlier : Side → Bool
 is_earlier Earlier = true

@@ -3,7 +3,6 @@ use Rattle.std.proofs.Common.{◌≡◌, ◌≢◌, ℕ, zero, suc, ◌+◌, ◌
 use Rattle.std.proofs.lemmas.Bool.{both_ways, cases_Bool, eq-eqb, eqb-true}
 use Rattle.std.proofs.lemmas.Bool.Decides.{nat_tests}
 use Rattle.std.proofs.lemmas.List.{map-append, take-map, drop-map}
-use Rattle.std.proofs.Math.Numerals.{suc-eq-add-one}
 use Rattle.std.specs.BTreeMap.{BTreeMap, IsUnchanged}
 use Rattle.std.specs.List.{list_any, remove}
 use Rattle.std.specs.Map.{lookup}

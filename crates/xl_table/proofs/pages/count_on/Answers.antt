@@ -1,4 +1,4 @@
-use Rattle.std.proofs.Common.{◌+◌, ◌<◌, length, arith}
+use Rattle.std.proofs.Common.{◌+◌, arith}
 use Rattle.xl_table.specs.Pages.{paged, passes}
 use Rattle.xl_table.proofs.AlongLaws.{along_page, inside_fits, page_fits, prefix_within}
 use Rattle.xl_table.proofs.pages.count_on.Goals as goal

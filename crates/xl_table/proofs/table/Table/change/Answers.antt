@@ -1,4 +1,4 @@
-use Rattle.std.proofs.Common.{◌≡◌, ◌≤◌, ◌-◌, ◌+◌, ℕ, Bool, true, nat_le, nat_lt, List, length, sym, ap, subst, ◌∙◌, arith, vec_capacity}
+use Rattle.std.proofs.Common.{List, length, sym, ap, subst, arith, vec_capacity}
 use Rattle.xl_matrix.specs.declared.claim.Claim.{Claim}
 use Rattle.xl_base.specs.Lists.{IsIn}
 use Rattle.xl_table.specs.Files.{joined}

@@ -1,4 +1,4 @@
-use Rattle.std.proofs.Common.{◌≡◌, ◌≤◌, ◌-◌, ◌+◌, ℕ, Bool, true, nat_le, nat_lt, List, length, sym, ap, subst, ◌∙◌, arith, vec_capacity}
+use Rattle.std.proofs.Common.{◌≡◌, true, List, length, sym, ap, subst, ◌∙◌, arith}
 use Rattle.xl_matrix.specs.declared.claim.Claim.{Claim}
 use Rattle.std.specs.List.{list_any}
 use Rattle.xl_matrix.specs.Equal.{same_claims}

@@ -1,5 +1,4 @@
-use Rattle.std.proofs.Common.{◌≡◌, ◌≤◌, ◌-◌, ◌+◌, ℕ, Bool, true, not, nat_le, nat_lt, List, length, sym, ap, subst, ◌∙◌, arith, vec_capacity}
-use Rattle.xl_matrix.specs.declared.claim.Claim.{Claim}
+use Rattle.std.proofs.Common.{◌+◌, not, List, length, sym, ap, subst, ◌∙◌, vec_capacity}
 use Rattle.std.specs.List.{filter}
 use Rattle.xl_table.specs.declared.files.OnFile.{OnFile}
 use Rattle.xl_table.specs.Deadlines.{passing, running}

@@ -1,4 +1,4 @@
-use Rattle.std.proofs.Common.{◌≡◌, ◌≤◌, ◌-◌, ◌+◌, ℕ, Bool, List, length, sym, ap, subst, ◌∙◌, arith}
+use Rattle.std.proofs.Common.{◌≡◌, ◌+◌, ℕ, Bool, List, length, sym, ap, subst, ◌∙◌, arith}
 use Rattle.xl_matrix.specs.declared.claim.Claim.{Claim}
 use Rattle.std.specs.List.{slice_range}
 use Rattle.xl_table.specs.declared.files.OnFile.{OnFile}
