@@ -3,7 +3,7 @@
 
     python3 bench/growth.py BINARY
 
-replays captures with a built xlockd and prints two tables. A pair is a LOCK of one byte that nothing stands against and
+replays captures with a built xlockd and prints three tables. A pair is a LOCK of one byte that nothing stands against and
 its UNLOCK; its cost is the processor's time of a capture that prepares what is held and then makes many pairs, without
 that of one that prepares alone, over the number of pairs. The first column has microseconds, the others the ratio to it.
 
@@ -12,19 +12,25 @@ that of one that prepares alone, over the number of pairs. The first column has 
 - files before, files behind: as many ranges of as many owners, in other files, whose claims stand before or behind in
   the table's list;
 - waiters: so many who wait for a range of another file, with 1 claim, and with 10,000 in other files.
+
+The third table has the cost of a reading of the clock with so many caches, as leases of SMB opens, none of which breaks; an
+SMB server has 4,096 opens at most.
 """
 import argparse
 import os
 import tempfile
 
-from calls import LOCK, UNLOCK, record, replay, write_capture
+from calls import LOCK, READS_AND_HANDLE, UNLOCK, create_leased, message, record, replay, smb_number, write_capture
+from protocols import CONNECTED
 
 HELD = (1, 100, 1_000, 10_000)
 WAITERS = (0, 100, 1_000)
+CACHES = (0, 100, 1_000, 4_000)
 FILES = 1_000
 STEP = 10
 # The processor's time that the pairs of one measure take at least, and how often it is taken.
 LEAST_SECONDS, TIMES = 0.5, 3
+TICKS = 200_000
 
 
 def held_by_one(count):
@@ -58,12 +64,38 @@ def waiting(held):
     return prepare
 
 
-def seconds(binary, calls):
-    """The least time of the replays of a capture."""
+def leased(count):
+    """Opens of so many files and keys, each with a lease for reading and its handle."""
+    for number, make in enumerate(CONNECTED, 1):
+        yield make(number)
+    for at in range(count):
+        body = create_leased(f"f{at % FILES}", at.to_bytes(4, "little"), READS_AND_HANDLE)
+        yield message(len(CONNECTED) + 1 + at, 5, body, 2, smb_number(1))
+
+
+def least_time(binary, write):
+    """The least time of the replays of a capture that is written so to a path."""
     with tempfile.TemporaryDirectory() as folder:
         path = os.path.join(folder, "capture")
-        write_capture(path, FILES, (record(xid % 2**32, *call) for xid, call in enumerate(calls, 1)))
+        write(path)
         return min(replay(binary, path)[0] for _ in range(TIMES))
+
+
+def seconds(binary, calls):
+    """The least time of the replays of a capture of these calls."""
+    records = [record(xid % 2**32, *call) for xid, call in enumerate(calls, 1)]
+    return least_time(binary, lambda path: write_capture(path, FILES, records))
+
+
+def seconds_of_ticks(binary, caches, ticks):
+    """The same of so many caches and readings of the clock behind them."""
+
+    def write(path):
+        write_capture(path, FILES, leased(caches), "smb")
+        with open(path, "a") as out:
+            out.writelines(f"T {at}\n" for at in range(1, 1 + ticks))
+
+    return least_time(binary, write)
 
 
 def microseconds(binary, prepare, count):
@@ -78,14 +110,24 @@ def microseconds(binary, prepare, count):
         pairs *= 4
 
 
-def table(binary, title, columns, rows):
+def microseconds_of_tick(binary, caches):
+    """What a reading of the clock costs."""
+    return (seconds_of_ticks(binary, caches, TICKS) - seconds_of_ticks(binary, caches, 0)) / TICKS * 1e6
+
+
+def table(title, columns, rows):
     print(f"| {title} | {' | '.join(f'{column:,}' for column in columns)} |")
     print("|---" * (1 + len(columns)) + "|")
-    for name, prepare in rows:
-        costs = [microseconds(binary, prepare, column) for column in columns]
+    for name, cost in rows:
+        costs = [cost(column) for column in columns]
         ratios = [f"{cost / costs[0]:.1f}" for cost in costs[1:]]
         print(f"| {name} | {costs[0]:.1f} us | {' | '.join(ratios)} |", flush=True)
     print()
+
+
+def pairs(binary, rows):
+    """For each row what a pair costs behind what it prepares."""
+    return [(name, lambda count, prepare=prepare: microseconds(binary, prepare, count)) for name, prepare in rows]
 
 
 def main():
@@ -94,9 +136,10 @@ def main():
     parser.add_argument("binary", metavar="BINARY", help="a built xlockd, as crates/xlockd/out/xlockd")
     binary = parser.parse_args().binary
     held = [("one owner", held_by_one), ("as many owners", held_by_many), ("files before", held_before), ("files behind", held_behind)]
-    table(binary, "a LOCK and UNLOCK with so many ranges held by", HELD, held)
     waits = [("1 claim", waiting(1)), ("10,000 claims in other files", waiting(10_000))]
-    table(binary, "with so many who wait elsewhere, and", WAITERS, waits)
+    table("a LOCK and UNLOCK with so many ranges held by", HELD, pairs(binary, held))
+    table("with so many who wait elsewhere, and", WAITERS, pairs(binary, waits))
+    table("a reading of the clock with so many caches", CACHES, [("none due", lambda caches: microseconds_of_tick(binary, caches))])
 
 
 if __name__ == "__main__":

@@ -5,7 +5,7 @@ use Rattle.std.proofs.lemmas.Bool.{cases_Bool}
 use Rattle.std.proofs.lemmas.List.{drop-append-le, length-drop}
 use Rattle.std.specs.List.{prefix_len, slice_range}
 use Rattle.xl_matrix.specs.declared.claim.Claim.{Claim}
-use Rattle.xl_table.specs.Pages.{paged, IsInside}
+use Rattle.xl_table.specs.Pages.{paged, count_at, IsThere}
 
 along_one : (p : Claim → Bool) (c : Claim) (cs : List Claim) (b : Bool) → b ≡ p c → b ≡ true → prefix_len p (c ∷ cs) ≡ 1 + prefix_len p cs
 along_one p c cs b is h = rw (sym is ∙ h) refl
@@ -66,10 +66,15 @@ drop_seat (q ∷ qs) (suc at) left page h is few =
     ∙ drop-append-add q (paged qs) (length ahead + left)
     ∙ drop_seat qs at left page (omega (arith, h)) is few
 
-pub inside_fits : (ps : List (List Claim)) (at left : ℕ) (page : List Claim) → IsInside at left ps → page ≡ get_or ps at page → left ≤ length page
-inside_fits [] at left page h is = absurd h
-inside_fits (q ∷ qs) zero left page h is = subst (λ (r : List Claim). left ≤ length r) (sym is) (omega (arith, h))
-inside_fits (q ∷ qs) (suc at) left page h is = inside_fits qs at left page h is
+pub there_fits : (ps : List (List Claim)) (at left : ℕ) (page : List Claim) → IsThere at left ps → page ≡ get_or ps at page → left ≤ length page
+there_fits [] at left page h is = absurd h
+there_fits (q ∷ qs) zero left page h is = subst (λ (r : List Claim). left ≤ length r) (sym is) h
+there_fits (q ∷ qs) (suc at) left page h is = there_fits qs at left page h is
+
+pub there_counted : (p : Claim → Bool) (ps : List (List Claim)) (at left : ℕ) → left ≡ count_at p ps at → at < length ps → IsThere at left ps
+there_counted p [] at left is h = absurd (omega (arith, h))
+there_counted p (q ∷ qs) zero left is h = omega (arith, is, prefix_few p q)
+there_counted p (q ∷ qs) (suc at) left is h = there_counted p qs at left is (omega (arith, h))
 
 pub page_fits : (ps : List (List Claim)) (at : ℕ) (page : List Claim) → at < length ps → page ≡ get_or ps at page → length page ≤ length (paged ps)
 page_fits [] at page h is = absurd (omega (arith, h))

@@ -1,8 +1,10 @@
 -- What has no byte in common with a range that is asked doesn't block it.
-use Rattle.std.proofs.Common.{◌≡◌, ℕ, Bool, true, false, not, ◌&&◌, ◌||◌, nat_lt, nat_le, min, max, List, [], ◌∷◌, ◌++◌, refl, sym, subst, ap, ◌∙◌, arith}
+use Rattle.std.proofs.Common.{◌≡◌, ℕ, ◌≤◌, Bool, true, false, not, ◌&&◌, ◌||◌, nat_lt, nat_le, min, max, List, [], ◌∷◌, ◌++◌, refl, sym, subst, ap, ◌∙◌, arith}
 use Rattle.std.specs.List.{AllByRecursion, filter}
 use Rattle.std.proofs.lemmas.List.{append-nil}
+use Rattle.std.proofs.lemmas.Bool.{both_ways}
 use Rattle.std.proofs.lemmas.Bool.Decides.{nat_tests}
+use Rattle.xl_base.proofs.Members.{all_weaker}
 use Rattle.xl_matrix.specs.declared.claim.Claim.{Claim}
 use Rattle.xl_matrix.specs.declared.claim.Extent.TheVariants.{Bytes, Empty}
 use Rattle.xl_matrix.specs.declared.claim.What.{What}
@@ -12,7 +14,7 @@ use Rattle.xl_matrix.specs.Matrix.{compat, fit_by}
 use Rattle.xl_table.specs.Flat.{blocks, is_blocked}
 use Rattle.xl_table.specs.Clear.{is_clear}
 use Rattle.xl_table.specs.declared.bounds.Bounds.{Bounds}
-use Rattle.xl_table.specs.Bounds.{widened, bounds_from, bounds_of, is_past}
+use Rattle.xl_table.specs.Bounds.{is_past, IsWithin, AreWithin}
 
 apart_meets_none : (first last start end : ℕ) → (nat_lt end first || nat_lt last start) ≡ true → nat_le (max first start) (min last end) ≡ false
 apart_meets_none first last start end h = grind (arith, nat_tests)
@@ -49,32 +51,24 @@ clear_is_false ask held b e h = sym (clear_none ask held (sym e ∙ h))
 
 -- ---- the bounds of a page
 
-record IsClearOf (asked : What) (b : Bounds) (w : What) : Type 0 where
-  pub others : is_past asked b ≡ true
-  pub this : is_clear asked w ≡ true
+-- past bounds there are ranges with bytes alone
+mixed_past : {A : Type 0} (b : Bounds) (first last : ℕ) → (not b.mixed && (nat_lt b.high first || nat_lt last b.low)) ≡ true → b.mixed ≡ true → A
+mixed_past b first last h mixed = let h = rw mixed at h in absurd (both_ways false refl h)
 
-past_one : (asked w : What) (b : Bounds) → is_past asked (widened b w) ≡ true → IsClearOf asked b w
-past_one (Range (Bytes first last) exclusive) (Range (Bytes start end) alone) b h = step b.mixed b.low b.high b.due h where
-  step : (mixed : Bool) (low high due : ℕ) → (not mixed && (nat_lt (max high end) first || nat_lt last (min low start))) ≡ true → IsClearOf (Range (Bytes first last) exclusive) (record { low = low; high = high; mixed = mixed; due = due }) (Range (Bytes start end) alone)
-  step true low high due h = cc
-  step false low high due h = record { others = grind (arith, nat_tests); this = grind (arith, nat_tests) }
-past_one (Range (Bytes first last) exclusive) (Range (Empty offset) alone) b h = cc
-past_one (Range (Bytes first last) exclusive) (Share x y) b h = cc
-past_one (Range (Bytes first last) exclusive) (Cache x y) b h = cc
-past_one (Range (Empty offset) exclusive) w b h = cc
-past_one (Share x y) w b h = cc
-past_one (Cache x y) w b h = cc
+past_one : (asked w : What) (b : Bounds) → is_past asked b ≡ true → IsWithin b w → is_clear asked w ≡ true
+past_one (Range (Bytes first last) exclusive) (Range (Bytes start end) alone) b h within = step b.mixed b.low b.high h within.0 within.1 where
+  step : (mixed : Bool) (low high : ℕ) → (not mixed && (nat_lt high first || nat_lt last low)) ≡ true → low ≤ start → end ≤ high → (nat_lt end first || nat_lt last start) ≡ true
+  step true low high h l r = cc
+  step false low high h l r = grind (arith, nat_tests)
+past_one (Range (Bytes first last) exclusive) (Range (Empty offset) alone) b h within = mixed_past b first last h within.0
+past_one (Range (Bytes first last) exclusive) (Share x y) b h within = mixed_past b first last h within.0
+past_one (Range (Bytes first last) exclusive) (Cache x y) b h within = mixed_past b first last h within.0
+past_one (Range (Empty offset) exclusive) w b h within = cc
+past_one (Share x y) w b h within = cc
+past_one (Cache x y) w b h within = cc
 
-record AreClear (asked : What) (b : Bounds) (cs : List Claim) : Type 0 where
-  pub others : is_past asked b ≡ true
-  pub these : AllByRecursion (λ c. is_clear asked c.what ≡ true) cs
-
-past_all : (asked : What) (b : Bounds) (cs : List Claim) → is_past asked (bounds_from b cs) ≡ true → AreClear asked b cs
-past_all asked b [] h = record { others = h; these = tt }
-past_all asked b (c ∷ cs) h =
-    let rest = past_all asked (widened b c.what) cs h in
-    let one = past_one asked c.what b rest.others in
-    record { others = one.others; these = (one.this, rest.these) }
+past_all : (asked : What) (b : Bounds) (cs : List Claim) → is_past asked b ≡ true → AreWithin b cs → AllByRecursion (λ c. is_clear asked c.what ≡ true) cs
+past_all asked b cs h all = all_weaker (λ c. IsWithin b c.what) (λ c. is_clear asked c.what ≡ true) cs (λ c within. past_one asked c.what b h within) all
 
 none_there : (ask : Claim) (cs : List Claim) → AllByRecursion (λ c. is_clear ask.what c.what ≡ true) cs → filter (λ held. blocks ask held) cs ≡ []
 none_there ask [] all = refl
@@ -85,12 +79,9 @@ free_there ask [] all = refl
 free_there ask (c ∷ cs) all = rw (clear_none ask c all.0) (free_there ask cs all.1)
 
 -- where a range is asked that lies past the bounds of these claims, none of them blocks it
-pub past_is_none : (ask : Claim) (cs found : List Claim) (b : Bool) (bounds : Bounds) → bounds ≡ bounds_of cs → b ≡ is_past ask.what bounds → b ≡ true → found ≡ found ++ filter (λ held. blocks ask held) cs
-past_is_none ask cs found b bounds is e h =
-    let past : is_past ask.what (bounds_of cs) ≡ true = subst (λ (x : Bounds). is_past ask.what x ≡ true) is (sym e ∙ h) in
-    sym (ap (λ (ds : List Claim). found ++ ds) (none_there ask cs (past_all ask.what _ cs past).these) ∙ append-nil found)
+pub past_is_none : (ask : Claim) (cs found : List Claim) (b : Bool) (bounds : Bounds) → AreWithin bounds cs → b ≡ is_past ask.what bounds → b ≡ true → found ≡ found ++ filter (λ held. blocks ask held) cs
+past_is_none ask cs found b bounds all e h =
+    sym (ap (λ (ds : List Claim). found ++ ds) (none_there ask cs (past_all ask.what bounds cs (sym e ∙ h) all)) ∙ append-nil found)
 
-pub past_is_free : (ask : Claim) (cs : List Claim) (b : Bool) (bounds : Bounds) → bounds ≡ bounds_of cs → b ≡ is_past ask.what bounds → b ≡ true → false ≡ is_blocked cs ask
-past_is_free ask cs b bounds is e h =
-    let past : is_past ask.what (bounds_of cs) ≡ true = subst (λ (x : Bounds). is_past ask.what x ≡ true) is (sym e ∙ h) in
-    sym (free_there ask cs (past_all ask.what _ cs past).these)
+pub past_is_free : (ask : Claim) (cs : List Claim) (b : Bool) (bounds : Bounds) → AreWithin bounds cs → b ≡ is_past ask.what bounds → b ≡ true → false ≡ is_blocked cs ask
+past_is_free ask cs b bounds all e h = sym (free_there ask cs (past_all ask.what bounds cs (sym e ∙ h) all))

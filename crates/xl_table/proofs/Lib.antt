@@ -28,3 +28,4 @@ pub mod DatedLaws
 pub mod CountLaws
 pub mod CacheLaws
 pub mod AlongLaws
+pub mod WithinLaws

@@ -224,6 +224,11 @@ one_more who old now new c ys all is rising less = leaving_more who old now new 
 pub leaving_done : (who : Leaver) (old now : List ℕ) (all : List Claim) → IsLeaving who old now [] all → (p : ℕ → Bool) → running p (filter (goes who) all) + passing p now ≡ passing p old
 leaving_done who old now all is p = omega (arith, is.left p)
 
+-- of no moments none leaves
+pub none_left : (ms : List ℕ) (gone : List Claim) → length ms ≡ 0 → ((p : ℕ → Bool) → running p gone ≤ passing p ms) → (p : ℕ → Bool) → running p gone + passing p ms ≡ passing p ms
+none_left [] gone none some p = omega (arith, some p)
+none_left (m ∷ ms) gone none some p = absurd (omega (arith, none))
+
 -- one claim goes, or stays
 pub goes_some : (who : Leaver) (c : Claim) (ms : List ℕ) (b : Bool) → b ≡ goes who c → b ≡ true → ((p : ℕ → Bool) → running p (filter (goes who) (c ∷ [])) ≤ passing p ms) → (p : ℕ → Bool) → one (runs p c.what) ≤ passing p ms
 goes_some who c ms b is h some p = let e = sym is ∙ h in let few = some p in omega (arith, rw e at few)

@@ -1,11 +1,12 @@
 -- Between which bytes the ranges of a page lie.
-use Rattle.std.specs.Prelude.{◌-◌, ◌^◌, Bool, true, false, not, ◌&&◌, ◌||◌, nat_lt, min, max, List, [], ◌∷◌}
+use Rattle.std.specs.Prelude.{◌≡◌, ◌≤◌, ◌-◌, ◌^◌, Bool, true, false, not, ◌&&◌, ◌||◌, nat_lt, nat_le, min, max, List, [], ◌∷◌}
 use Rattle.xl_matrix.specs.declared.claim.Claim.{Claim}
 use Rattle.xl_matrix.specs.declared.claim.Extent.TheVariants.{Bytes}
 use Rattle.xl_matrix.specs.declared.claim.What.{What}
 use Rattle.xl_matrix.specs.declared.claim.What.TheVariants.{Range}
 use Rattle.xl_table.specs.declared.bounds.Bounds.{Bounds}
-use Rattle.xl_table.specs.Due.{due_with}
+use Rattle.std.specs.List.{AllByRecursion}
+use Rattle.xl_table.specs.Due.{due_with, IsDueFrom}
 
 -- the bounds of no claims
 abbrev pub unbounded : Bounds
@@ -28,3 +29,17 @@ bounds_of cs = bounds_from unbounded cs
 abbrev pub is_past : What → Bounds → Bool
 is_past (Range (Bytes first last) exclusive) b = not b.mixed && (nat_lt b.high first || nat_lt last b.low)
 is_past _ b = false
+
+-- what is claimed lies within the bounds: the bytes of a range do; of anything else it is known that there is such, and no
+-- answer is due to it before the bounds' moment
+abbrev pub IsWithin : Bounds → What → Type 0
+IsWithin b (Range (Bytes first last) exclusive) = (b.low ≤ first) × (last ≤ b.high)
+IsWithin b w = (b.mixed ≡ true) × IsDueFrom b.due w
+
+abbrev pub AreWithin : Bounds → List Claim → Type 0
+AreWithin b cs = AllByRecursion (λ c. IsWithin b c.what) cs
+
+-- without this claim the bounds may be narrower
+abbrev pub is_edge : Bounds → What → Bool
+is_edge b (Range (Bytes first last) exclusive) = nat_le first b.low || nat_le b.high last
+is_edge b _ = true

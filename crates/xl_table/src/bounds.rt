@@ -1,12 +1,13 @@
 //! Between which bytes the ranges of a page lie.
 ghost use Rattle.std.specs.Prelude.{◌≡◌, min, max};
-ghost use Rattle.xl_table.specs.Bounds.{unbounded, widened, bounds_of, is_past};
+ghost use Rattle.std.specs.List.{list_any};
+ghost use Rattle.xl_table.specs.Bounds.{unbounded, widened, bounds_from, bounds_of, is_past, is_edge};
 
 use crate::due::due_with;
 use xl_matrix::{Claim, Extent, What};
 
-/// The least first byte and the greatest last byte of a page's ranges, whether it has other claims than ranges with
-/// bytes, and the first moment at which an answer is due to one of its caches, else the last moment of all.
+/// No range of a page has a byte before the low one or behind the high one, it has other claims than ranges with bytes only
+/// where it is mixed, and no answer is due to one of its caches before the moment.
 #[derive(Clone, Copy)]
 pub struct Bounds {
     pub(crate) low: u64,
@@ -28,7 +29,7 @@ fn greatest(a: u64, b: u64) -> u64
 }
 
 /// The bounds with one more claim.
-fn widened(bounds: Bounds, what: What) -> Bounds
+pub(crate) fn widened(bounds: Bounds, what: What) -> Bounds
     ensures { result ≡ widened bounds what }
 {
     match what {
@@ -47,20 +48,45 @@ fn widened(bounds: Bounds, what: What) -> Bounds
     }
 }
 
+/// The bounds with more claims.
+pub(crate) fn widened_by(bounds: Bounds, claims: &[Claim]) -> Bounds
+    ensures { result ≡ bounds_from bounds claims.now }
+{
+    let mut bounds = bounds;
+    for claim in claims {
+        bounds = widened(bounds, claim.what);
+    }
+    bounds
+}
+
 /// The bounds of these claims.
 pub(crate) fn bounds_of(claims: &[Claim]) -> Bounds
     ensures { result ≡ bounds_of claims.now }
 {
-    let mut bounds = Bounds {
+    let none = Bounds {
         low: u64::MAX,
         high: 0,
         mixed: false,
         due: u64::MAX,
     };
-    for claim in claims {
-        bounds = widened(bounds, claim.what);
+    widened_by(none, claims)
+}
+
+/// Whether the bounds may be narrower without this claim.
+fn is_edge(bounds: Bounds, what: What) -> bool
+    ensures { result ≡ is_edge bounds what }
+{
+    match what {
+        What::Range(Extent::Bytes(first, last), _) => first <= bounds.low || bounds.high <= last,
+        _ => true,
     }
-    bounds
+}
+
+/// Whether they may be so without these.
+pub(crate) fn any_edge(bounds: Bounds, claims: &[Claim]) -> bool
+    ensures { result ≡ list_any (λ c. is_edge bounds c.what) claims.now }
+{
+    claims.iter().any(|claim| is_edge(bounds, claim.what))
 }
 
 /// Whether a range with bytes is asked, and none within these bounds has any of them.

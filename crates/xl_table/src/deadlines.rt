@@ -219,8 +219,8 @@ fn leave_file(moments: &mut Vec<u64>, pages: &[Page], leaver: Leaver)
     }
 }
 
-/// Takes the deadlines of the claims out that go.
-#[tactic(auto, using(crate::proofs::MomentLaws::leaving_first, crate::proofs::MomentLaws::leaving_some, crate::proofs::MomentLaws::leaving_more, crate::proofs::MomentLaws::leaving_done))]
+/// Takes the deadlines of the claims out that go; where there are none at all, no claim is looked at.
+#[tactic(auto, using(crate::proofs::MomentLaws::none_left, crate::proofs::MomentLaws::leaving_first, crate::proofs::MomentLaws::leaving_some, crate::proofs::MomentLaws::leaving_more, crate::proofs::MomentLaws::leaving_done))]
 pub(crate) fn leave_gone(moments: &mut Vec<u64>, lists: &[OnFile], leaver: Leaver)
     requires rising { AreRising moments.old.items }
     requires some { (p : ℕ → Bool) → running p (filter (goes leaver) (joined lists.now)) ≤ passing p moments.old.items }
@@ -228,6 +228,9 @@ pub(crate) fn leave_gone(moments: &mut Vec<u64>, lists: &[OnFile], leaver: Leave
     ensures fewer { (p : ℕ → Bool) → running p (filter (goes leaver) (joined lists.now)) + passing p moments.new.items ≡ passing p moments.old.items }
     ensures capacity { vec_capacity moments.new ≡ vec_capacity moments.old }
 {
+    if moments.is_empty() {
+        return;
+    }
     for list in lists {
         leave_file(moments, &list.pages, leaver);
     }

@@ -8,7 +8,7 @@ ghost use Rattle.xl_table.specs.Pages.{passes, passes_side, ends};
 ghost use Rattle.xl_table.specs.Held.{is_cache};
 ghost use Rattle.xl_table.specs.Sections.{IsParted, ends_in_cache};
 
-use crate::bounds::{Bounds, bounds_of, is_past};
+use crate::bounds::{Bounds, any_edge, bounds_of, is_past, widened, widened_by};
 use crate::change::{put_all, take_between};
 use crate::due::is_asleep;
 use crate::leaver::Leaver;
@@ -31,15 +31,15 @@ pub struct Page {
 }
 
 impl Model for Page {
-    ghost use Rattle.std.specs.Prelude.{◌≡◌, List};
+    ghost use Rattle.std.specs.Prelude.{List};
     ghost use Rattle.xl_matrix.specs.declared.claim.Claim.{Claim};
-    ghost use Rattle.xl_table.specs.Bounds.{bounds_of};
+    ghost use Rattle.xl_table.specs.Bounds.{AreWithin};
 
     ghost Value = { List Claim };
 
     ghost view = { λ p. p.claims.items };
 
-    ghost invariant = { λ p. p.bounds ≡ bounds_of p.claims.items };
+    ghost invariant = { λ p. AreWithin p.bounds p.claims.items };
 }
 
 /// Whether a claim passes the mark that stands on this side of those whose numbers begin with some.
@@ -144,6 +144,7 @@ fn ends_in_cache(claims: &[Claim]) -> bool
 
 impl Page {
     /// A page of these claims.
+    #[tactic(auto, using(crate::proofs::WithinLaws::within_of))]
     pub(crate) fn of(claims: Vec<Claim>) -> Page
         ensures { result ≡ claims.items }
     {
@@ -208,24 +209,29 @@ impl Page {
     }
 
     /// Puts claims in at the place. After an error the page is as it was.
+    #[tactic(auto, using(crate::proofs::WithinLaws::within_put))]
     pub(crate) fn put(&mut self, place: usize, entered: &[Claim]) -> Result<(), AllocError>
         requires { place ≤ length self.old }
         ensures ok { OnOk result (self.new ≡ take place self.old ++ (entered.now ++ drop place self.old)) }
         ensures err { OnErr result (self.new ≡ self.old) }
     {
         enter(&mut self.claims, place, entered)?;
-        self.bounds = bounds_of(self.claims.as_slice());
+        self.bounds = widened_by(self.bounds, entered);
         Ok(())
     }
 
-    /// Takes out the claims from `start` to before `end`.
+    /// Takes out the claims from `start` to before `end`. The bounds are worked out anew where these bore them.
+    #[tactic(auto, using(crate::proofs::WithinLaws::within_of, crate::proofs::WithinLaws::within_out))]
     pub(crate) fn take_out(&mut self, start: usize, end: usize)
         requires order { start ≤ end }
         requires within { end ≤ length self.old }
         ensures { self.new ≡ take start self.old ++ drop end self.old }
     {
+        let narrower = any_edge(self.bounds, &self.claims[start..end]);
         take_between(&mut self.claims, start, end);
-        self.bounds = bounds_of(self.claims.as_slice());
+        if narrower {
+            self.bounds = bounds_of(self.claims.as_slice());
+        }
     }
 
     /// A page of the claims from the place on.
@@ -236,16 +242,23 @@ impl Page {
         Ok(Page::of(tail_from(&self.claims, place)?))
     }
 
-    /// Puts a claim in the place of another.
+    /// Puts a claim in the place of another. The bounds are worked out anew where that bore them.
+    #[tactic(auto, using(crate::proofs::WithinLaws::within_of, crate::proofs::WithinLaws::within_set))]
     pub(crate) fn set(&mut self, place: usize, claim: Claim)
         requires { place < length self.old }
         ensures { self.new ≡ set self.old place claim }
     {
+        let narrower = any_edge(self.bounds, &self.claims[place..place + 1]);
         set_at(&mut self.claims, place, claim);
-        self.bounds = bounds_of(self.claims.as_slice());
+        self.bounds = if narrower {
+            bounds_of(self.claims.as_slice())
+        } else {
+            widened(self.bounds, claim.what)
+        };
     }
 
     /// Takes out the claims that go.
+    #[tactic(auto, using(crate::proofs::WithinLaws::within_of))]
     pub(crate) fn drop_leaver(&mut self, leaver: Leaver)
         ensures { self.new ≡ filter (λ held. not (goes leaver held)) self.old }
     {

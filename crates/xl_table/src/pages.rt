@@ -73,18 +73,26 @@ pub(crate) fn count_passing(pages: &[Page], mark: Mark, front: &[u64]) -> usize
     count_front(pages, at) + count_at(pages, at, mark, front)
 }
 
-/// How many claims pass the mark, where so many are known to: those behind them in their page are looked at one by one, and
-/// others by bisection, where all of these pass.
-#[tactic(auto, using(crate::proofs::AlongLaws::inside_fits, crate::proofs::AlongLaws::along_page))]
-pub(crate) fn count_on(pages: &[Page], known: usize, mark: Mark, front: &[u64]) -> usize
+/// How many claims pass the mark, where those are known to that stand before the place in this page: the others of the page
+/// are looked at one by one, and the pages behind it by bisection, where all of these pass.
+#[tactic(auto, using(crate::proofs::AlongLaws::there_fits))]
+fn count_on(
+    pages: &[Page],
+    at: usize,
+    left: usize,
+    known: usize,
+    mark: Mark,
+    front: &[u64],
+) -> usize
     requires full { AreFull pages.now }
     requires room { length (paged pages.now) < 2 ^ 32 }
     requires parted { IsParted (passes mark front.now) (paged pages.now) }
+    requires there { at < length pages.now → IsThere at left pages.now }
+    requires sum { known ≡ length (paged (take at pages.now)) + left }
     requires known { known ≤ prefix_len (passes mark front.now) (paged pages.now) }
     ensures count { result ≡ prefix_len (passes mark front.now) (paged pages.now) }
     ensures within { result ≤ length (paged pages.now) }
 {
-    let (at, left) = locate(pages, known);
     if at < pages.len() {
         let page = &pages[at];
         let more = page.count_from(left, mark, front);
@@ -93,6 +101,24 @@ pub(crate) fn count_on(pages: &[Page], known: usize, mark: Mark, front: &[u64]) 
         }
     }
     count_passing(pages, mark, front)
+}
+
+/// How many claims pass one mark, and how many a later one.
+#[tactic(auto, using(crate::proofs::AlongLaws::there_counted))]
+pub(crate) fn count_both(pages: &[Page], near: Mark, far: Mark, front: &[u64]) -> (usize, usize)
+    requires full { AreFull pages.now }
+    requires room { length (paged pages.now) < 2 ^ 32 }
+    requires near { IsParted (passes near front.now) (paged pages.now) }
+    requires far { IsParted (passes far front.now) (paged pages.now) }
+    requires order { prefix_len (passes near front.now) (paged pages.now) ≤ prefix_len (passes far front.now) (paged pages.now) }
+    ensures near { result.0 ≡ prefix_len (passes near front.now) (paged pages.now) }
+    ensures far { result.1 ≡ prefix_len (passes far front.now) (paged pages.now) }
+    ensures within { result.1 ≤ length (paged pages.now) }
+{
+    let at = count_whole(pages, near, front);
+    let left = count_at(pages, at, near, front);
+    let known = count_front(pages, at) + left;
+    (known, count_on(pages, at, left, known, far, front))
 }
 
 /// The first claim that does not pass the mark, if there is one.

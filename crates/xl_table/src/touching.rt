@@ -14,7 +14,7 @@ ghost use Rattle.xl_table.specs.declared.marks.Mark.TheVariants.{Ending, Beginni
 use crate::files::{OnFile, on_file};
 use crate::marks::Mark;
 use crate::page::Page;
-use crate::pages::{count_on, count_passing, first_failing};
+use crate::pages::{count_both, first_failing};
 use crate::relock::meets;
 use crate::section::{group_of, group_places};
 use xl_base::Owner;
@@ -38,9 +38,8 @@ pub(crate) fn touched_places(
     ensures within { result.1 ≤ length (paged pages.now) }
 {
     let front = group_of(file, 1, owner);
-    let start = count_passing(pages, Mark::Ending(first.saturating_sub(1)), &front);
-    let end = count_on(pages, start, Mark::Beginning(last), &front);
-    (start, end)
+    let near = Mark::Ending(first.saturating_sub(1));
+    count_both(pages, near, Mark::Beginning(last), &front)
 }
 
 fn is_range(what: What) -> bool

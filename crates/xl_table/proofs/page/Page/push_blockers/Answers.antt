@@ -1,10 +1,10 @@
-use Rattle.std.proofs.Common.{List, ap, ◌∙◌}
+use Rattle.std.proofs.Common.{List, subst}
 use Rattle.xl_matrix.specs.declared.claim.Claim.{Claim}
-use Rattle.xl_table.specs.Bounds.{bounds_of}
+use Rattle.xl_table.specs.Bounds.{AreWithin}
 use Rattle.xl_table.proofs.ClearLaws.{past_is_none}
 use Rattle.xl_table.proofs.page.Page.push_blockers.Goals as goal
 
 pub returns-then-is_past-clause-found : goal.returns-then-is_past-clause-found
 returns-then-is_past-clause-found g c =
     past_is_none c.args.ask.now c.args.self.now c.args.found.now.items c.is_past.result c.self.inside.bounds
-    (c.self.invariant ∙ ap (λ (cs : List Claim). bounds_of cs) c.self.view_is) c.is_past.ensures c.if-is_past.true
+    (subst (λ (cs : List Claim). AreWithin c.self.inside.bounds cs) c.self.view_is c.self.invariant) c.is_past.ensures c.if-is_past.true

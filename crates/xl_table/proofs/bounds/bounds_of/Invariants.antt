@@ -1,6 +1,0 @@
-use Rattle.std.proofs.Common.{◌≡◌, drop}
-use Rattle.xl_table.specs.Bounds.{bounds_from, bounds_of}
-use Rattle.xl_table.proofs.bounds.bounds_of.Given as goal
-
-abbrev pub invariant-loop-claim : goal.invariant-loop-claim
-invariant-loop-claim l = bounds_from l.bounds (drop l.claim-index l.claims) ≡ bounds_of l.claims
