@@ -1,5 +1,5 @@
 -- What has no byte in common with a range that is asked doesn't block it.
-use Rattle.std.proofs.Common.{◌≡◌, ℕ, ◌≤◌, Bool, true, false, not, ◌&&◌, ◌||◌, nat_lt, nat_le, min, max, List, [], ◌∷◌, ◌++◌, refl, sym, subst, ap, ◌∙◌, arith}
+use Rattle.std.proofs.Common.{◌≡◌, ℕ, ◌≤◌, Bool, true, false, not, ◌&&◌, ◌||◌, ◌==◌, nat_lt, nat_le, min, max, List, [], ◌∷◌, ◌++◌, Option, refl, sym, ap, ◌∙◌, arith}
 use Rattle.std.specs.List.{AllByRecursion, filter}
 use Rattle.std.proofs.lemmas.List.{append-nil}
 use Rattle.std.proofs.lemmas.Bool.{both_ways}
@@ -11,7 +11,7 @@ use Rattle.xl_matrix.specs.declared.claim.What.{What}
 use Rattle.xl_matrix.specs.declared.claim.What.TheVariants.{Share, Range, Cache}
 use Rattle.xl_matrix.specs.Blocks.{is_met}
 use Rattle.xl_matrix.specs.Matrix.{compat, fit_by}
-use Rattle.xl_table.specs.Flat.{blocks, is_blocked}
+use Rattle.xl_table.specs.Flat.{blocks, is_blocked, locks_by, holder_from}
 use Rattle.xl_table.specs.Clear.{is_clear}
 use Rattle.xl_table.specs.declared.bounds.Bounds.{Bounds}
 use Rattle.xl_table.specs.Bounds.{is_past, IsWithin, AreWithin}
@@ -85,3 +85,23 @@ past_is_none ask cs found b bounds all e h =
 
 pub past_is_free : (ask : Claim) (cs : List Claim) (b : Bool) (bounds : Bounds) → AreWithin bounds cs → b ≡ is_past ask.what bounds → b ≡ true → false ≡ is_blocked cs ask
 past_is_free ask cs b bounds all e h = sym (free_there ask cs (past_all ask.what bounds cs (sym e ∙ h) all))
+
+-- ---- who has a byte
+
+unlocked_one : (byte : ℕ) (w : What) → is_clear (Range (Bytes byte byte) true) w ≡ true → locks_by w byte ≡ false
+unlocked_one byte (Range (Bytes start end) x) h = grind (arith, nat_tests)
+unlocked_one byte (Range (Empty offset) x) h = cc
+unlocked_one byte (Share p q) h = cc
+unlocked_one byte (Cache p q) h = cc
+
+and_no : (a : Bool) → (a && false) ≡ false
+and_no true = refl
+and_no false = refl
+
+none_locks : (least : Option Claim) (file byte : ℕ) (cs : List Claim) → AllByRecursion (λ c. is_clear (Range (Bytes byte byte) true) c.what ≡ true) cs → holder_from least file byte cs ≡ least
+none_locks least file byte [] all = refl
+none_locks least file byte (c ∷ cs) all = rw (unlocked_one byte c.what all.0, and_no (c.file == file)) (none_locks least file byte cs all.1)
+
+-- where the byte lies past the bounds of these claims, none of them has it
+pub past_holds_none : (least : Option Claim) (file byte : ℕ) (cs : List Claim) (b : Bool) (bounds : Bounds) → AreWithin bounds cs → b ≡ is_past (Range (Bytes byte byte) true) bounds → b ≡ true → least ≡ holder_from least file byte cs
+past_holds_none least file byte cs b bounds all e h = sym (none_locks least file byte cs (past_all (Range (Bytes byte byte) true) bounds cs (sym e ∙ h) all))

@@ -52,7 +52,12 @@ fn lesser_of(least: Option<Claim>, claim: Claim) -> Claim
 }
 
 /// The lesser of the least range so far that has the byte, and those of these claims.
-fn holder_with(least: Option<Claim>, claims: &[Claim], file: u32, byte: u64) -> Option<Claim>
+pub(crate) fn holder_with(
+    least: Option<Claim>,
+    claims: &[Claim],
+    file: u32,
+    byte: u64,
+) -> Option<Claim>
     ensures { result ≡ holder_from least file byte claims.now }
 {
     let mut least = least;
@@ -71,7 +76,7 @@ fn holder_among(pages: &[Page], file: u32, byte: u64) -> Option<Claim>
 {
     let mut least = None;
     for page in pages {
-        least = holder_with(least, page.as_slice(), file, byte);
+        least = page.holder_with(least, file, byte);
     }
     least
 }

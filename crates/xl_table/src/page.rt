@@ -2,7 +2,7 @@
 ghost use Rattle.std.specs.Prelude.{◌≡◌, ℕ, ◌+◌, ◌<◌, ◌≤◌, ◌++◌, ◌∷◌, [], not, length, take, drop, IfOk, OnOk, OnErr, IfSome, slice_range};
 ghost use Rattle.std.specs.List.{filter, list_any, prefix_len, slice_get};
 ghost use Rattle.std.proofs.Math.ListN.{set};
-ghost use Rattle.xl_table.specs.Flat.{blocks, is_blocked, is_due};
+ghost use Rattle.xl_table.specs.Flat.{blocks, is_blocked, is_due, holder_from};
 ghost use Rattle.xl_table.specs.Leaving.{goes};
 ghost use Rattle.xl_table.specs.Pages.{passes, passes_side, ends};
 ghost use Rattle.xl_table.specs.Held.{is_cache};
@@ -11,6 +11,7 @@ ghost use Rattle.xl_table.specs.Sections.{IsParted, ends_in_cache};
 use crate::bounds::{Bounds, any_edge, bounds_of, is_past, widened, widened_by};
 use crate::change::{put_all, take_between};
 use crate::due::is_asleep;
+use crate::holding::holder_with;
 use crate::leaver::Leaver;
 use crate::listing::{any_blocks, drop_from, push_blockers, push_due};
 use crate::marks::Mark;
@@ -20,7 +21,7 @@ use std::alloc::{AllocError, Global};
 use std::marker::Model;
 use std::sync::ledger::Ledger;
 use xl_base::Moment;
-use xl_matrix::{Claim, What};
+use xl_matrix::{Claim, Extent, What};
 use xl_steps::Steps;
 
 /// Some of a file's claims. A contract sees their list.
@@ -294,6 +295,17 @@ impl Page {
         }
         push_blockers(found, self.claims.as_slice(), ask, steps)?;
         Ok(())
+    }
+
+    /// The lesser of the least range so far that has the byte, and those of the claims.
+    #[tactic(auto, using(crate::proofs::ClearLaws::past_holds_none))]
+    pub(crate) fn holder_with(&self, least: Option<Claim>, file: u32, byte: u64) -> Option<Claim>
+        ensures { result ≡ holder_from least file byte self.now }
+    {
+        if is_past(What::Range(Extent::Bytes(byte, byte), true), self.bounds) {
+            return least;
+        }
+        holder_with(least, self.claims.as_slice(), file, byte)
     }
 
     /// Adds those of the claims whose answer is due.
