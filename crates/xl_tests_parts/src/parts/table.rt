@@ -8,7 +8,7 @@ ghost use Rattle.xl_tests_parts.specs.Trials.{is_beside, is_simple};
 use super::matrix::claim_in;
 use std::alloc::{AllocError, Global};
 use xl_base::{Moment, Owner, Party, Protocol, Sequence};
-use xl_matrix::{Claim, Extent, Rwd, What, is_posix, same_claim, same_owner, same_party};
+use xl_matrix::{Claim, Extent, Rwd, What, is_posix, same_claim, same_owner};
 use xl_names::{Name, Names};
 use xl_spans::{Mode, Span};
 use xl_table::{
@@ -37,7 +37,7 @@ fn stands_beside(claim: &Claim, held: &Claim) -> bool
     ensures { result ≡ is_beside claim.now held.now }
 {
     !(is_a_range(held.what) && held.file == claim.file && same_owner(held.owner, claim.owner))
-        || (!is_posix(claim.owner) && same_party(held.party, claim.party))
+        || !is_posix(claim.owner)
 }
 
 fn all_beside(claim: &Claim, held: &[Claim]) -> bool
