@@ -4,9 +4,9 @@ use Rattle.std.proofs.lemmas.Bool.{and_from, and_parts, cases_Bool, eq-eqb, eqb-
 use Rattle.std.proofs.lemmas.Option.{same_Some}
 use Rattle.std.specs.Bool.{beq, ◌==◌}
 use Rattle.std.specs.Cmp.Lexicographic.{bytes_decides}
-use Rattle.std.specs.List.{AllByRecursion, filter, find, slice_get}
+use Rattle.std.specs.List.{AllByRecursion, find, slice_get}
 use Rattle.std.specs.Option.{option_and_then}
-use Rattle.std.specs.Prelude.{bytes_eq, if◌then◌else◌, nat_le, ◌&&◌, ◌<◌, ◌||◌, ◌⊎◌}
+use Rattle.std.specs.Prelude.{bytes_eq, if◌then◌else◌, nat_le, ◌<◌, ◌⊎◌}
 use Rattle.xl_base.proofs.Members.{all_append, all_from, all_in, all_weaker, in_filter_from, pairwise_append, pairwise_filter}
 use Rattle.xl_base.specs.Handles.{file_at}
 use Rattle.xl_base.specs.Lists.{IsIn, Pairwise}
@@ -18,9 +18,8 @@ use Rattle.xl_base.specs.declared.name.Protocol.TheVariants.{Nfs, Nlm, Smb}
 use Rattle.xl_nfs.specs.Clients.{SetClientIdArgsItem}
 use Rattle.xl_nfs.specs.Ops.{Close, DelegReturn, GetFh, Illegal, Lock, LockT, LockU, Lookup, NotSupported, OpItem, Open, OpenConfirm, OpenDowngrade, PutFh, PutRootFh, ReleaseLockOwner, Renew, SetClientId, SetClientIdConfirm}
 use Rattle.xl_nfs_state.proofs.AnyLaws.{all_left}
-use Rattle.xl_nfs_state.specs.Filed.{changed}
-use Rattle.xl_nfs_state.specs.Rows.{with_details, with_time}
-use Rattle.xl_nfs_state.specs.State.{NfsLists, delegated_on, is_client, is_client_named, is_due, other_owners, with_clients, with_stateids, without, without_client}
+use Rattle.xl_nfs_state.specs.Rows.{with_details}
+use Rattle.xl_nfs_state.specs.State.{NfsLists, delegated_on, is_client, is_client_named, is_due, with_clients, without, without_client}
 use Rattle.xl_nfs_state.specs.declared.client.ClientRow.{ClientRow}
 use Rattle.xl_nfs_state.specs.declared.owner.OwnerRow.{OwnerRow}
 use Rattle.xl_nfs_state.specs.Keys.{held_at as place_at, same_place}
@@ -29,8 +28,7 @@ use Rattle.xl_nfs_state.specs.declared.stateid.Holder.TheVariants as holders
 use Rattle.xl_nfs_state.specs.declared.stateid.Place.TheVariants.{Delegated}
 use Rattle.xl_nfs_state.specs.declared.stateid.StateidRow.{StateidRow}
 use Rattle.xl_core.proofs.DeedLeaves.{found_in}
-use Rattle.xl_names.proofs.NameLaws.{number_at, one_number}
-use Rattle.xl_names.specs.Names.{number_of}
+use Rattle.xl_names.proofs.NameLaws.{number_at}
 use Rattle.xl_names.specs.declared.name.Name.{Name}
 use Rattle.xl_names.specs.declared.name.Name.TheVariants.{NfsParty, NfsRange, NfsShare, NlmParty, NlmRange, NlmShare, SmbLease}
 use Rattle.xl_programs.specs.Programs.{RequestItem}
@@ -39,7 +37,6 @@ use Rattle.xl_core.specs.Deeds.{AreFit, Deed, Draws, Ends, Expires, Lapses, Rene
 use Rattle.xl_core.specs.Good.{IsGood, caches_of}
 use Rattle.xl_core.specs.Rows.{Ran, all_ran, go_on}
 use Rattle.xl_core.specs.State.{CoreState, drawn, started}
-use Rattle.xl_core.specs.declared.ask.Effect.{Effect}
 use Rattle.xl_core.specs.declared.ask.Effect.TheVariants.{Expired}
 use Rattle.xl_nfs_locks.proofs.CalmLaws.{lock_tied, release_tied, test_tied, unlock_tied}
 use Rattle.xl_nfs_opens.proofs.CalmLaws.{close_tied, confirm_tied, downgrade_tied, tied_by}
@@ -47,9 +44,9 @@ use Rattle.xl_nfs_opens.proofs.GivenLaws.{find_behind, find_last as last_found, 
 use Rattle.xl_nfs_opens.proofs.GrantLaws.{open_tied, return_tied}
 use Rattle.xl_nfs_opens.proofs.KeepLaws.{none_in}
 use Rattle.xl_nfs_opens.proofs.LeaveLaws.{drawn_number}
-use Rattle.xl_nfs_opens.proofs.QuietLaws.{IsLeft, IsQuiet, IsQuietDeed, all_quiet, deed_leaves, find_gone_in, find_kept, named_held, one_quiet, quiet_then}
-use Rattle.xl_nfs_opens.proofs.StillLaws.{AreStill, details_still, later_set, less_still, still_kept, still_self, still_then, time_still}
-use Rattle.xl_nfs_opens.specs.Delegated.{AreClients, AreDelegated, AreSet, AreTied, AreTiedBut, IsShut, clients_apart, delegation_held, delegation_kept, delegation_numbered, is_one_client, is_open_still, number_confirmed, written_by}
+use Rattle.xl_nfs_opens.proofs.QuietLaws.{IsLeft, IsQuiet, all_quiet, deed_leaves, find_gone_in, find_kept, named_held}
+use Rattle.xl_nfs_opens.proofs.StillLaws.{AreStill, details_still, later_set, still_kept, still_self, still_then, time_still}
+use Rattle.xl_nfs_opens.specs.Delegated.{AreDelegated, AreSet, AreTied, AreTiedBut, IsShut, clients_apart, delegation_held, delegation_kept, delegation_numbered, is_one_client, is_open_still, number_confirmed, written_by}
 use Rattle.xl_nfs_opens.specs.Files.{file_named}
 use Rattle.xl_nfs_opens.specs.Leases.{lease_end, number_in}
 use Rattle.xl_nfs_opens.specs.Orderly.{IsOrderly}
@@ -58,7 +55,7 @@ use Rattle.xl_front_nfs.proofs.OrderlyLaws.{step_orderly}
 use Rattle.xl_front_nfs.specs.Clients.{come, come_again, confirm_found, confirm_held, confirm_number, confirm_over, confirmed_by, confirmed_row, draws, ends, has_room, number_kept, numbers, renew, renew_found, renew_number, row_of, set_by, set_client_id, set_client_id_confirm, set_under, with_row, without_found, without_named, without_number}
 use Rattle.xl_front_nfs.specs.FrontNfs.{Called, Compound, Garbage, Null, Refused, call_in, nfs_step, replied}
 use Rattle.xl_front_nfs.specs.Handles.{found_file, get_fh, look_up, put_fh, put_file, put_root_fh}
-use Rattle.xl_front_nfs.specs.State.{FrontNfs, empty_nfs_front, forgotten, lists_shown, nfs_shown, nfs_tick}
+use Rattle.xl_front_nfs.specs.State.{FrontNfs, empty_nfs_front, forgotten, nfs_shown, nfs_tick}
 use Rattle.xl_front_nfs.specs.Steps.{Course, Cut, Garbled, Runs, Step, begun, planned, ran}
 use Rattle.xl_base.specs.Stable.{Stable}
 use Rattle.xl_matrix.specs.Blocks.{is_cache}

@@ -91,7 +91,7 @@ fn give_up<K: Keeper>(
     ensures keeper { keeper.new ≡ keeper.old }
 {
     let request = refusal_ask(alloc, grant)?;
-    let (_, effects) = asked(alloc, core, keeper, left, &request)?;
+    let (_, effects) = asked(alloc, core, keeper, left, request)?;
     Ok(effects)
 }
 

@@ -20,16 +20,16 @@ pub(crate) fn asked<K: Keeper>(
     core: &mut Core,
     keeper: &mut K,
     left: &Rooms,
-    request: &Ask,
+    request: Ask,
 ) -> Result<(Answer, Sequence<Effect>), AllocError>
-    requires fit { IsFit request.now }
-    requires small { IsShortAsk request.now }
+    requires fit { IsFit request }
+    requires small { IsShortAsk request }
     requires ready { IsReady core.old }
-    ensures state { (n : ℕ) → IfOk result (λ r. MayBe n core.new → ask n left.now core.old request.now ≡ (r.0, r.1, core.new)) }
+    ensures state { (n : ℕ) → IfOk result (λ r. MayBe n core.new → ask n left.now core.old request ≡ (r.0, r.1, core.new)) }
     ensures leaves { OnOk result (Leaves core.old core.new) }
     ensures keeper { keeper.new ≡ keeper.old }
 {
-    let (answer, effects) = core.ask(alloc, keeper, request, left)?;
+    let (answer, effects) = core.ask(alloc, keeper, &request, left)?;
     Ok((answer, effects))
 }
 
@@ -49,7 +49,7 @@ pub(crate) fn carry_out<K: Keeper>(
 {
     match deed {
         Deed::Asks(left, request) => {
-            let (answer, effects) = asked(alloc, core, keeper, &left, &request)?;
+            let (answer, effects) = asked(alloc, core, keeper, &left, request)?;
             Ok((Some(answer), effects))
         }
         Deed::GivesBack(claim) => {

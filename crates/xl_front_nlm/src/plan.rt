@@ -6,9 +6,9 @@ use xl_core::{Ask, Core};
 use xl_matrix::Claim;
 use xl_wait::Rooms;
 
-/// What a call meets.
+/// What a call is planned by.
 #[derive(Clone, Copy)]
-pub(crate) struct Met<'a> {
+pub(crate) struct Context<'a> {
     /// How many files are exported.
     pub count: usize,
     /// What the front keeps.

@@ -13,7 +13,7 @@ ghost use Rattle.xl_front_nlm.specs.Short.{IsReady, Leaves};
 use crate::deeds::carry_out;
 use crate::front::Front;
 use crate::outcome::Outcome;
-use crate::plan::{Deed, Met, Plan};
+use crate::plan::{Context, Deed, Plan};
 use crate::{ranges, shares};
 use std::alloc::{AllocError, Global};
 use xl_base::{Keeper, Sequence};
@@ -31,10 +31,10 @@ fn party_number(alloc: Global, core: &Core, caller: &[u8]) -> Result<Option<u32>
 
 /// FREE_ALL.
 #[tactic(auto, unfolding(crate::specs::Serving::planned))]
-fn free_all(alloc: Global, met: &Met, args: &Notify) -> Result<Plan, AllocError>
-    ensures { IfOk result (λ plan. planned met.now.count met.now.front.now.hosts met.now.core.now (FreeAll (shown_notify args.now)) ≡ shown_plan plan) }
+fn free_all(alloc: Global, context: &Context, args: &Notify) -> Result<Plan, AllocError>
+    ensures { IfOk result (λ plan. planned context.now.count context.now.front.now.hosts context.now.core.now (FreeAll (shown_notify args.now)) ≡ shown_plan plan) }
 {
-    match party_number(alloc, met.core, args.name)? {
+    match party_number(alloc, context.core, args.name)? {
         Some(number) => Ok(Plan::Does(Deed::Ends(number))),
         None => Ok(Plan::Tells(Outcome::Ended)),
     }
@@ -42,18 +42,18 @@ fn free_all(alloc: Global, met: &Met, args: &Notify) -> Result<Plan, AllocError>
 
 /// What is to become of a call.
 #[tactic(auto, using(crate::proofs::DoesLaws::nm_lock_is_lock, crate::proofs::DoesLaws::null_tells_nothing, crate::proofs::DoesLaws::granted_tells_nothing))]
-fn planned(alloc: Global, met: &Met, call: &NlmCall) -> Result<Plan, AllocError>
-    ensures { IfOk result (λ plan. planned met.now.count met.now.front.now.hosts met.now.core.now (shown_call call.now) ≡ shown_plan plan) }
+fn planned(alloc: Global, context: &Context, call: &NlmCall) -> Result<Plan, AllocError>
+    ensures { IfOk result (λ plan. planned context.now.count context.now.front.now.hosts context.now.core.now (shown_call call.now) ≡ shown_plan plan) }
 {
     match call {
-        NlmCall::Test(args) => ranges::test(alloc, met, args),
-        NlmCall::Lock(args) => ranges::lock(alloc, met, args),
-        NlmCall::Cancel(args) => ranges::cancel(alloc, met, args),
-        NlmCall::Unlock(args) => ranges::unlock(alloc, met, args),
-        NlmCall::Share(args) => shares::share(alloc, met, args),
-        NlmCall::Unshare(args) => shares::unshare(alloc, met, args),
-        NlmCall::NmLock(args) => ranges::lock(alloc, met, args),
-        NlmCall::FreeAll(args) => free_all(alloc, met, args),
+        NlmCall::Test(args) => ranges::test(alloc, context, args),
+        NlmCall::Lock(args) => ranges::lock(alloc, context, args),
+        NlmCall::Cancel(args) => ranges::cancel(alloc, context, args),
+        NlmCall::Unlock(args) => ranges::unlock(alloc, context, args),
+        NlmCall::Share(args) => shares::share(alloc, context, args),
+        NlmCall::Unshare(args) => shares::unshare(alloc, context, args),
+        NlmCall::NmLock(args) => ranges::lock(alloc, context, args),
+        NlmCall::FreeAll(args) => free_all(alloc, context, args),
         NlmCall::Null | NlmCall::Granted(_) => Ok(Plan::Tells(Outcome::Nothing)),
     }
 }
@@ -115,7 +115,7 @@ pub(crate) fn serve<K: Keeper>(
     ensures leaves { OnOk result (Leaves core.old core.new) }
     ensures keeper { keeper.new ≡ keeper.old }
 {
-    let deed = match planned(alloc, &Met { count, front, core }, call)? {
+    let deed = match planned(alloc, &Context { count, front, core }, call)? {
         Plan::Tells(outcome) => return Ok((outcome, Sequence::new(alloc))),
         Plan::Does(deed) => deed,
     };

@@ -7,7 +7,7 @@ ghost use Rattle.xl_front_nlm.specs.Serving.{planned};
 use crate::aim::aimed;
 use crate::asks::{lock_ask, test_ask, unlock_ask};
 use crate::outcome::Outcome;
-use crate::plan::{Deed, Met, Plan};
+use crate::plan::{Context, Deed, Plan};
 use crate::standing::{does_wait, waiter_for};
 use std::alloc::{AllocError, Global};
 use xl_base::Sequence;
@@ -15,57 +15,65 @@ use xl_nlm::{CancelArgs, LockArgs, TestArgs, UnlockArgs};
 
 /// TEST.
 #[tactic(auto, unfolding(crate::specs::Serving::planned))]
-pub(crate) fn test(alloc: Global, met: &Met, args: &TestArgs) -> Result<Plan, AllocError>
-    ensures { IfOk result (λ plan. planned met.now.count met.now.front.now.hosts met.now.core.now (Test (shown_test_args args.now)) ≡ shown_plan plan) }
+pub(crate) fn test(alloc: Global, context: &Context, args: &TestArgs) -> Result<Plan, AllocError>
+    ensures { IfOk result (λ plan. planned context.now.count context.now.front.now.hosts context.now.core.now (Test (shown_test_args args.now)) ≡ shown_plan plan) }
 {
-    let at = match aimed(met.count, &args.lock) {
+    let at = match aimed(context.count, &args.lock) {
         Ok(at) => at,
         Err(outcome) => return Ok(Plan::Tells(outcome)),
     };
     let request = test_ask(alloc, args, &at)?;
-    Ok(Plan::Does(Deed::Asks(met.front.rooms(), request)))
+    Ok(Plan::Does(Deed::Asks(context.front.rooms(), request)))
 }
 
 /// LOCK and NM_LOCK. Who waits for the same already waits on.
 #[tactic(auto, unfolding(crate::specs::Serving::planned))]
-pub(crate) fn lock(alloc: Global, met: &Met, args: &LockArgs) -> Result<Plan, AllocError>
-    ensures { IfOk result (λ plan. planned met.now.count met.now.front.now.hosts met.now.core.now (Lock (shown_lock_args args.now)) ≡ shown_plan plan) }
+pub(crate) fn lock(alloc: Global, context: &Context, args: &LockArgs) -> Result<Plan, AllocError>
+    ensures { IfOk result (λ plan. planned context.now.count context.now.front.now.hosts context.now.core.now (Lock (shown_lock_args args.now)) ≡ shown_plan plan) }
 {
-    let at = match aimed(met.count, &args.lock) {
+    let at = match aimed(context.count, &args.lock) {
         Ok(at) => at,
         Err(outcome) => return Ok(Plan::Tells(outcome)),
     };
-    if does_wait(alloc, met.core, args, &at)? {
+    if does_wait(alloc, context.core, args, &at)? {
         return Ok(Plan::Tells(Outcome::Waits));
     }
     let caller = Sequence::from_slice(alloc, args.lock.caller_name)?;
-    let request = lock_ask(alloc, met.front.host_rows(&caller), args, &at)?;
-    Ok(Plan::Does(Deed::Asks(met.front.rooms(), request)))
+    let request = lock_ask(alloc, context.front.host_rows(&caller), args, &at)?;
+    Ok(Plan::Does(Deed::Asks(context.front.rooms(), request)))
 }
 
 /// UNLOCK.
 #[tactic(auto, unfolding(crate::specs::Serving::planned))]
-pub(crate) fn unlock(alloc: Global, met: &Met, args: &UnlockArgs) -> Result<Plan, AllocError>
-    ensures { IfOk result (λ plan. planned met.now.count met.now.front.now.hosts met.now.core.now (Unlock (shown_unlock_args args.now)) ≡ shown_plan plan) }
+pub(crate) fn unlock(
+    alloc: Global,
+    context: &Context,
+    args: &UnlockArgs,
+) -> Result<Plan, AllocError>
+    ensures { IfOk result (λ plan. planned context.now.count context.now.front.now.hosts context.now.core.now (Unlock (shown_unlock_args args.now)) ≡ shown_plan plan) }
 {
-    let at = match aimed(met.count, &args.lock) {
+    let at = match aimed(context.count, &args.lock) {
         Ok(at) => at,
         Err(outcome) => return Ok(Plan::Tells(outcome)),
     };
     let request = unlock_ask(alloc, args, &at)?;
-    Ok(Plan::Does(Deed::Asks(met.front.rooms(), request)))
+    Ok(Plan::Does(Deed::Asks(context.front.rooms(), request)))
 }
 
 /// CANCEL.
 #[tactic(auto, unfolding(crate::specs::Serving::planned))]
-pub(crate) fn cancel(alloc: Global, met: &Met, args: &CancelArgs) -> Result<Plan, AllocError>
-    ensures { IfOk result (λ plan. planned met.now.count met.now.front.now.hosts met.now.core.now (Cancel (shown_cancel_args args.now)) ≡ shown_plan plan) }
+pub(crate) fn cancel(
+    alloc: Global,
+    context: &Context,
+    args: &CancelArgs,
+) -> Result<Plan, AllocError>
+    ensures { IfOk result (λ plan. planned context.now.count context.now.front.now.hosts context.now.core.now (Cancel (shown_cancel_args args.now)) ≡ shown_plan plan) }
 {
-    let at = match aimed(met.count, &args.lock) {
+    let at = match aimed(context.count, &args.lock) {
         Ok(at) => at,
         Err(outcome) => return Ok(Plan::Tells(outcome)),
     };
-    match waiter_for(alloc, met.core, &args.lock, args.exclusive, &at)? {
+    match waiter_for(alloc, context.core, &args.lock, args.exclusive, &at)? {
         Some(waiter) => Ok(Plan::Does(Deed::Cancels(waiter))),
         None => Ok(Plan::Tells(Outcome::NotWaiting)),
     }

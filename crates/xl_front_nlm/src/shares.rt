@@ -7,7 +7,7 @@ ghost use Rattle.xl_front_nlm.specs.Serving.{planned};
 use crate::aim::exported;
 use crate::asks::share_ask;
 use crate::outcome::Outcome;
-use crate::plan::{Deed, Met, Plan};
+use crate::plan::{Context, Deed, Plan};
 use crate::standing::share_held;
 use std::alloc::{AllocError, Global};
 use xl_base::Sequence;
@@ -15,26 +15,30 @@ use xl_nlm::ShareArgs;
 
 /// SHARE.
 #[tactic(auto, unfolding(crate::specs::Serving::planned))]
-pub(crate) fn share(alloc: Global, met: &Met, args: &ShareArgs) -> Result<Plan, AllocError>
-    ensures { IfOk result (λ plan. planned met.now.count met.now.front.now.hosts met.now.core.now (Share (shown_share_args args.now)) ≡ shown_plan plan) }
+pub(crate) fn share(alloc: Global, context: &Context, args: &ShareArgs) -> Result<Plan, AllocError>
+    ensures { IfOk result (λ plan. planned context.now.count context.now.front.now.hosts context.now.core.now (Share (shown_share_args args.now)) ≡ shown_plan plan) }
 {
-    let Some(file) = exported(met.count, args.fh) else {
+    let Some(file) = exported(context.count, args.fh) else {
         return Ok(Plan::Tells(Outcome::NoFile));
     };
     let caller = Sequence::from_slice(alloc, args.caller_name)?;
-    let request = share_ask(alloc, met.front.host_rows(&caller), args, file)?;
-    Ok(Plan::Does(Deed::Asks(met.front.rooms(), request)))
+    let request = share_ask(alloc, context.front.host_rows(&caller), args, file)?;
+    Ok(Plan::Does(Deed::Asks(context.front.rooms(), request)))
 }
 
 /// UNSHARE.
 #[tactic(auto, unfolding(crate::specs::Serving::planned))]
-pub(crate) fn unshare(alloc: Global, met: &Met, args: &ShareArgs) -> Result<Plan, AllocError>
-    ensures { IfOk result (λ plan. planned met.now.count met.now.front.now.hosts met.now.core.now (Unshare (shown_share_args args.now)) ≡ shown_plan plan) }
+pub(crate) fn unshare(
+    alloc: Global,
+    context: &Context,
+    args: &ShareArgs,
+) -> Result<Plan, AllocError>
+    ensures { IfOk result (λ plan. planned context.now.count context.now.front.now.hosts context.now.core.now (Unshare (shown_share_args args.now)) ≡ shown_plan plan) }
 {
-    let Some(file) = exported(met.count, args.fh) else {
+    let Some(file) = exported(context.count, args.fh) else {
         return Ok(Plan::Tells(Outcome::NoFile));
     };
-    match share_held(alloc, met.core, args, file)? {
+    match share_held(alloc, context.core, args, file)? {
         Some(share) => Ok(Plan::Does(Deed::GivesBack(share))),
         None => Ok(Plan::Tells(Outcome::Ended)),
     }

@@ -5,7 +5,6 @@ ghost use Rattle.xl_smb.specs.declared.command.Command.TheVariants as command;
 ghost use Rattle.xl_smb_state.specs.Links.{most_opens, IsHolderLinked, IsOpenLinked};
 ghost use Rattle.xl_smb_state.specs.State.{open_of};
 ghost use Rattle.xl_smb_state.specs.declared.row.Holder.TheVariants as holder;
-ghost use Rattle.xl_core.specs.Decide.{ask};
 ghost use Rattle.xl_core.specs.State.{MayBe};
 ghost use Rattle.xl_smb_locks.specs.Levels.{caching};
 ghost use Rattle.xl_front_smb.specs.Files.{access_of, deny_of, lease_asked, key_asked, choices_by, open_ask, open_row, all_opens, has_room_for_open, rooms_left, open_as, open_file, is_key_elsewhere, lease_key, open_keyed, overwrites, create_on, create};
@@ -22,10 +21,10 @@ use crate::told::Told;
 use std::alloc::{AllocError, Global};
 use xl_base::{Keeper, Sequence};
 use xl_cache::{CacheKind, wish_of_lease, wish_of_oplock};
-use xl_core::{Act, Answer, Ask, Core, Effect, Who};
+use xl_core::{Act, Answer, Ask, Core, Who};
 use xl_matrix::Rwd;
 use xl_smb::{CreateCall, Lease, SmbHead};
-use xl_smb_locks::{SmbStatus, caching_of, id_of, party_for};
+use xl_smb_locks::{SmbStatus, asked, caching_of, id_of, party_for};
 use xl_smb_state::{Holder, LeaseKey, OPENS, Open, Place, Request, SmbState, Waiting};
 use xl_wait::Rooms;
 
@@ -174,24 +173,6 @@ fn rooms_left(state: &SmbState, others: u32) -> Rooms
     }
 }
 
-/// Asks for the open of this number, which is drawn.
-fn asked<K: Keeper>(
-    alloc: Global,
-    core: &mut Core,
-    keeper: &mut K,
-    left: &Rooms,
-    request: &Ask,
-) -> Result<(Answer, Sequence<Effect>), AllocError>
-    requires ready { IsReady 2 core.old }
-    requires unnamed { IsOpenAsk request.now }
-    ensures state { (n : ℕ) → IfOk result (λ r. MayBe n core.new → ask n left.now core.old request.now ≡ (r.0, r.1, core.new)) }
-    ensures leaves { OnOk result (Leaves 2 core.old core.new) }
-    ensures keeper { keeper.new ≡ keeper.old }
-{
-    let (answer, effects) = core.ask(alloc, keeper, request, left)?;
-    Ok((answer, effects))
-}
-
 /// What an open is told that is answered so; where it is granted it stands under its number, and where it waits the request is
 /// kept.
 fn opened(
@@ -259,7 +240,7 @@ fn open_as<K: Keeper>(
     let id = id_of(core, number);
     let row = open_row(file, client, place, call);
     let ask = open_ask(alloc, place.connection, number, &row, call)?;
-    let (answer, effects) = asked(alloc, core, keeper, &left, &ask)?;
+    let (answer, effects) = asked(alloc, core, keeper, &left, ask)?;
     let waiting = waiting_row(alloc, head, *place, number, Request::Create(row));
     let told = opened(alloc, state, core, number, row, id, waiting, &answer)?;
     Ok((told, effects))

@@ -18,7 +18,7 @@ ghost use Rattle.xl_house.specs.Shown.{IsReadyFor, LeavesBy};
 ghost use Rattle.xl_house.specs.Whole.{whole_of};
 
 use crate::connections::{Connection, end, has_room, kind_of, open};
-use crate::outs::{send_all, show_all};
+use crate::outs::{send_all, sent_for, sent_with};
 use crate::parts::{Fronts, Parts};
 use crate::settling::settle;
 use std::alloc::{AllocError, Global};
@@ -77,9 +77,7 @@ fn hear_nlm<K: Keeper>(
         number,
         request,
     )?;
-    let mut outs = Sequence::new(alloc);
-    show_all(alloc, exports, parts, effects.as_slice(), &mut outs)?;
-    send_all(alloc, Kind::Rpc, reply, &mut outs)?;
+    let outs = sent_with(alloc, exports, Kind::Rpc, parts, reply, effects)?;
     Ok(outs)
 }
 
@@ -109,9 +107,7 @@ fn hear_nfs<K: Keeper>(
         number,
         request,
     )?;
-    let mut outs = Sequence::new(alloc);
-    show_all(alloc, exports, parts, effects.as_slice(), &mut outs)?;
-    send_all(alloc, Kind::Rpc, reply, &mut outs)?;
+    let outs = sent_with(alloc, exports, Kind::Rpc, parts, reply, effects)?;
     Ok(outs)
 }
 
@@ -181,9 +177,7 @@ fn hear_packet<K: Keeper>(
         bytes,
         others,
     )?;
-    let mut outs = Sequence::new(alloc);
-    show_all(alloc, exports, parts, effects.as_slice(), &mut outs)?;
-    send_all(alloc, Kind::Smb, reply, &mut outs)?;
+    let outs = sent_with(alloc, exports, Kind::Smb, parts, reply, effects)?;
     Ok(outs)
 }
 
@@ -242,8 +236,7 @@ fn hear_last(
     ensures leaves { OnOk result (LeavesBy most_numbers parts.old.core parts.new.core) }
 {
     let effects = smb_end(alloc, &mut parts.front.smb, &mut parts.core, number)?;
-    let mut outs = Sequence::new(alloc);
-    show_all(alloc, exports, parts, effects.as_slice(), &mut outs)?;
+    let outs = sent_for(alloc, exports, parts, effects)?;
     Ok(outs)
 }
 
@@ -299,8 +292,7 @@ fn hear_answer<K: Keeper>(
         call,
         bytes_of(reply),
     )?;
-    let mut outs = Sequence::new(alloc);
-    show_all(alloc, exports, parts, effects.as_slice(), &mut outs)?;
+    let outs = sent_for(alloc, exports, parts, effects)?;
     Ok(outs)
 }
 
@@ -319,8 +311,7 @@ fn hear_tick<K: Keeper>(
 {
     let effects = parts.core.tick(alloc, keeper, now)?;
     nfs_tick(&mut parts.front.nfs, parts.core.clock());
-    let mut outs = Sequence::new(alloc);
-    show_all(alloc, exports, parts, effects.as_slice(), &mut outs)?;
+    let outs = sent_for(alloc, exports, parts, effects)?;
     Ok(outs)
 }
 

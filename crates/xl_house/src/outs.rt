@@ -3,7 +3,7 @@ ghost use Rattle.std.specs.Prelude.{◌≡◌, ◌++◌, map, OnOk, IfOk};
 ghost use Rattle.std.specs.List.{AllByRecursion};
 ghost use Rattle.xl_front_nlm.specs.Short.{IsReady, Leaves};
 ghost use Rattle.xl_programs.specs.Sent.{FitsFrame};
-ghost use Rattle.xl_house.specs.Machine.{showing, framed, grants, behind, all_shown};
+ghost use Rattle.xl_house.specs.Machine.{showing, framed, front_done, grants, behind, all_shown};
 ghost use Rattle.xl_house.specs.Shown.{IsReadyFor, LeavesBy};
 
 use crate::parts::Parts;
@@ -104,4 +104,39 @@ pub(crate) fn show_all(
 {
     show_each(alloc, exports, parts, effects, outs)?;
     Ok(())
+}
+
+/// What the fronts send for these effects.
+pub(crate) fn sent_for(
+    alloc: Global,
+    exports: &Exports,
+    parts: &mut Parts,
+    effects: Sequence<Effect>,
+) -> Result<Sequence<Out>, AllocError>
+    requires ready { IsReadyFor (grants effects) parts.old.core }
+    ensures sent { IfOk result (λ outs. all_shown exports.now parts.old.front parts.old.core effects ≡ (outs, parts.new.front, parts.new.core)) }
+    ensures leaves { OnOk result (LeavesBy (grants effects) parts.old.core parts.new.core) }
+{
+    let mut outs = Sequence::new(alloc);
+    show_all(alloc, exports, parts, effects.as_slice(), &mut outs)?;
+    Ok(outs)
+}
+
+/// What the fronts send for these effects, and behind it this reply to a connection of this kind.
+pub(crate) fn sent_with(
+    alloc: Global,
+    exports: &Exports,
+    kind: Kind,
+    parts: &mut Parts,
+    reply: Sequence<Out>,
+    effects: Sequence<Effect>,
+) -> Result<Sequence<Out>, AllocError>
+    requires fits { AllByRecursion FitsFrame reply }
+    requires ready { IsReadyFor (grants effects) parts.old.core }
+    ensures sent { IfOk result (λ outs. front_done kind exports.now (reply, effects, parts.old.front, parts.old.core) ≡ (outs, parts.new.front, parts.new.core)) }
+    ensures leaves { OnOk result (LeavesBy (grants effects) parts.old.core parts.new.core) }
+{
+    let mut outs = sent_for(alloc, exports, parts, effects)?;
+    send_all(alloc, kind, reply, &mut outs)?;
+    Ok(outs)
 }

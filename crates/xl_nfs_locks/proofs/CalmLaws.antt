@@ -1,75 +1,53 @@
 -- Operations on locks leave each client the delegations that it had, by the core and by the lists.
-use Rattle.std.proofs.Common.{Bool, Err, List, None, Ok, Option, Result, Some, [], ap, arith, false, if◌then◌else◌, inl, inr, is_some, length, nat_lt, not, refl, subst, suc, sym, true, ℕ, ◌&&◌, ◌+◌, ◌++◌, ◌<◌, ◌^◌, ◌||◌, ◌∙◌, ◌∷◌, ◌≡◌, ◌≤◌}
-use Rattle.std.proofs.lemmas.Bool.{and_parts, cases_Bool, eqb-true}
+use Rattle.std.proofs.Common.{Bool, Err, List, None, Ok, Option, Result, Some, [], arith, false, inl, inr, refl, subst, sym, true, ℕ, ◌+◌, ◌++◌, ◌<◌, ◌∷◌, ◌≡◌}
+use Rattle.std.proofs.lemmas.Bool.{cases_Bool}
 use Rattle.std.specs.Bool.{◌==◌}
-use Rattle.std.specs.List.{AllByRecursion, find}
+use Rattle.std.specs.List.{find}
 use Rattle.xl_nfs.specs.Basics.{OwnerItem}
 use Rattle.xl_nfs.specs.Locks.{Known, LockArgsItem, LockTestArgsItem, LockerItem, New, NewLockerItem}
 use Rattle.xl_nfs.specs.Outcomes.{is_ok}
-use Rattle.xl_nfs.specs.declared.basics.Stateid.{Stateid}
 use Rattle.xl_nfs.specs.declared.locks.KnownLocker.{KnownLocker}
 use Rattle.xl_nfs.specs.declared.locks.UnlockArgs.{UnlockArgs}
 use Rattle.xl_nfs.specs.declared.status.NfsStatus.{NfsStatus}
 use Rattle.xl_nfs.specs.declared.status.NfsStatus.TheVariants as statuses
-use Rattle.xl_nfs_state.specs.Filed.{changed}
-use Rattle.xl_nfs_state.specs.Keys.{place_of, same_place}
-use Rattle.xl_nfs_state.specs.Rows.{with_turn}
-use Rattle.xl_nfs_state.specs.State.{IsRising, NfsLists, is_kept, is_owner, is_owner_named, is_stateid, is_whose, last_number, most_owners, next_owner, owned_on, with_stateids, without}
-use Rattle.xl_nfs_state.specs.Verdict.{verdict}
+use Rattle.xl_nfs_state.specs.State.{NfsLists, is_kept, is_owner, is_owner_named, with_stateids}
 use Rattle.xl_nfs_state.specs.declared.client.ClientRow.{ClientRow}
 use Rattle.xl_nfs_state.specs.declared.kept.KeptRow.{KeptRow}
 use Rattle.xl_nfs_state.specs.declared.owner.OwnerKind.TheVariants as kinds
 use Rattle.xl_nfs_state.specs.declared.owner.OwnerRow.{OwnerRow}
 use Rattle.xl_nfs_state.specs.declared.owner.Turn.{Turn}
-use Rattle.xl_nfs_state.specs.declared.seqid.SeqidVerdict.{SeqidVerdict}
-use Rattle.xl_nfs_state.specs.declared.seqid.SeqidVerdict.TheVariants as verdicts
-use Rattle.xl_nfs_state.specs.declared.stateid.Holder.{Holder}
-use Rattle.xl_nfs_state.specs.declared.stateid.Holder.TheVariants as holders
 use Rattle.xl_nfs_state.specs.declared.stateid.StateidRow.{StateidRow}
-use Rattle.xl_nfs_state.specs.declared.stateid.Whose.TheVariants as whose
 use Rattle.xl_core.specs.State.{CoreState, drawn}
 use Rattle.xl_core.specs.declared.ask.Answer.{Answer}
-use Rattle.xl_nfs_opens.proofs.KeepLaws.{IsSeated, Keeps, apart_found, comes_orderly, counted_orderly, done_orderly, failed_orderly, live_is, none_of, remembered_orderly, renewed_orderly, repeat_keeps, seat_is, stood_orderly}
-use Rattle.xl_nfs_opens.proofs.KeptLaws.{gone_owners}
-use Rattle.xl_nfs_opens.proofs.OpenLaws.{kept_owners}
-use Rattle.xl_nfs_opens.proofs.OrderLaws.{owned_by, owner_goes, stateids_go}
-use Rattle.xl_nfs_opens.proofs.OwnerLaws.{number_gone, same_number}
-use Rattle.xl_nfs_opens.proofs.PassedLaws.{IfPassed, IsPassed, checked_passed, owner_passed}
+use Rattle.xl_nfs_opens.proofs.PassedLaws.{IfPassed, IsPassed, checked_passed}
 use Rattle.xl_nfs_opens.specs.Closing.{checked, done_lists, failed_lists, next_turn, opener_by, standing_fault, state_told}
 use Rattle.xl_nfs_opens.specs.Leases.{number_in}
-use Rattle.xl_nfs_opens.specs.Opens.{client_in, freed, is_granted, live, stood}
-use Rattle.xl_nfs_opens.specs.Orderly.{IsHeldBy, IsOrderly, IsOwnedBy, closes}
-use Rattle.xl_nfs_opens.specs.Plans.{carried, deeds_of, status_of}
-use Rattle.xl_nfs_opens.specs.Renewing.{number_of, renewed_for, state_client, stateid_of}
+use Rattle.xl_nfs_opens.specs.Opens.{client_in, freed, is_granted, stood}
+use Rattle.xl_nfs_opens.specs.Plans.{carried, status_of}
+use Rattle.xl_nfs_opens.specs.Renewing.{renewed_for, state_client, stateid_of}
 use Rattle.xl_nfs_opens.specs.Results.{spelled}
-use Rattle.xl_nfs_opens.specs.Seqids.{advances, closed_gone, counted, is_opener, is_room_for, kept_for, number_by, opener_number, remembered, seated, turned}
+use Rattle.xl_nfs_opens.specs.Seqids.{advances, is_room_for, opener_number}
 use Rattle.xl_nfs_opens.specs.declared.opener.Checked.{Checked}
 use Rattle.xl_nfs_opens.specs.declared.opener.Checked.TheVariants.{Passed, Refused, Repeated}
 use Rattle.xl_nfs_opens.specs.declared.opener.Opener.{Opener}
 use Rattle.xl_nfs_opens.specs.declared.told.Told.{Told}
 use Rattle.xl_nfs_opens.specs.declared.told.Told.TheVariants.{Ended, State}
-use Rattle.xl_nfs_locks.specs.Checks.{holder_found, locks_found, number_found, row_found}
+use Rattle.xl_nfs_locks.specs.Checks.{locks_found}
 use Rattle.xl_nfs_locks.specs.Denials.{lock_told}
 use Rattle.xl_nfs_locks.specs.FirstLocks as first
 use Rattle.xl_nfs_locks.specs.Locks.{access_above, lock_answered, lock_by_owner, lock_end, lock_found, lock_known, lock_standing, lock_to, refused_lists}
-use Rattle.xl_nfs_locks.specs.Ranges.{last_byte, lock_ask, test_ask}
+use Rattle.xl_nfs_locks.specs.Ranges.{last_byte}
 use Rattle.xl_nfs_locks.specs.Releases.{holds_any, release, release_of, released, without_found}
 use Rattle.xl_nfs_locks.specs.Tests.{lock_test, locker_of, test_at, test_of, test_to}
 use Rattle.xl_nfs_locks.specs.Unlocks.{unlock, unlock_by_owner, unlock_found, unlock_standing, unlock_status, unlock_to, unlocked_as}
 use Rattle.xl_nfs_locks.specs.declared.joining.BothOwners.{BothOwners}
 use Rattle.xl_nfs_locks.specs.declared.joining.Joined.{Joined}
-use Rattle.xl_base.proofs.Members.{all_append}
-use Rattle.xl_core.specs.Deeds.{Draws}
 use Rattle.xl_core.specs.Good.{IsGood}
-use Rattle.xl_nfs_opens.proofs.NumberLaws.{AreFew, carried_few, counted_given, does_few, done_given, draws, failed_given, later_on, less_given, remembered_given, renewed_given, repeat_few, stood_given, without_given}
-use Rattle.xl_nfs_opens.specs.Numbers.{AreGivenOut, StayGivenOut}
 use Rattle.xl_nfs_locks.specs.declared.joining.Joined.TheVariants.{Again, Bad, Joins}
 use Rattle.xl_nfs_locks.proofs.LockOwn.{lock_own, release_own, test_own, unlock_own}
-use Rattle.xl_nfs_opens.proofs.StillLaws.{AreStill, comes_still, counted_still, failed_still, freed_still, gone_still, later_set, less_still, none_shut, owner_shut, owner_still, remembered_still, renewed_still, still_self, still_then, stood_still}
-use Rattle.xl_nfs_opens.proofs.QuietLaws.{IsQuietDeed}
+use Rattle.xl_nfs_opens.proofs.StillLaws.{AreStill, comes_still, counted_still, failed_still, freed_still, later_set, none_shut, owner_shut, owner_still, remembered_still, still_self, still_then, stood_still}
 use Rattle.xl_nfs_opens.specs.Delegated.{AreSet, AreTied, IsShut, written_by}
-use Rattle.xl_nfs_opens.specs.Asks.{unlock_ask}
-use Rattle.xl_nfs_opens.proofs.CalmLaws.{IsCalm, carried_tied, does_still, done_still, later_still, passed_shut, renewing_calm, repeat_calm}
+use Rattle.xl_nfs_opens.proofs.CalmLaws.{IsCalm, carried_tied, does_still, done_still, passed_shut, renewing_calm, repeat_calm}
 use Rattle.xl_nfs_locks.proofs.KeepLaws.{found_passed}
 
 -- ---- lists

@@ -303,7 +303,7 @@ fn join_bytes<K: Keeper>(
         args.offset,
         last,
     )?;
-    let (said, effects) = asked(alloc, core, keeper, &request)?;
+    let (said, effects) = asked(alloc, core, keeper, request)?;
     let (told, handle) = join_answered(
         alloc, state, core, current, both, locker, above, had, reclaim, said,
     )?;

@@ -122,7 +122,7 @@ fn lock_bytes<K: Keeper>(
 {
     let reclaim = args.reclaim;
     let request = lock_ask(alloc, by, row.file, args.kind, reclaim, args.offset, last)?;
-    let (said, effects) = asked(alloc, core, keeper, &request)?;
+    let (said, effects) = asked(alloc, core, keeper, request)?;
     let (told, handle) = lock_answered(
         alloc, state, core, current, row, owner, turn, seqid, reclaim, said,
     )?;

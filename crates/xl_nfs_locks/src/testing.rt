@@ -63,7 +63,7 @@ fn test_bytes<K: Keeper>(
     ensures keeper { keeper.new ≡ keeper.old }
 {
     let request = test_ask(alloc, by, file, args.kind, args.offset, last)?;
-    let (said, effects) = asked(alloc, core, keeper, &request)?;
+    let (said, effects) = asked(alloc, core, keeper, request)?;
     let told = tested_told(alloc, state, core, said)?;
     Ok((told, current, effects))
 }

@@ -101,7 +101,7 @@ fn unlock_bytes<K: Keeper>(
     ensures keeper { keeper.new ≡ keeper.old }
 {
     let request = unlock_ask(alloc, by, row.file, args.offset, last)?;
-    let (said, effects) = asked(alloc, core, keeper, &request)?;
+    let (said, effects) = asked(alloc, core, keeper, request)?;
     let status = unlock_status(said);
     let (told, handle) = unlocked_as(alloc, state, core, current, args, row, owner, turn, status)?;
     Ok((told, handle, effects))

@@ -1,10 +1,9 @@
 -- Operations that neither give a delegation nor take one back leave each client the delegations that it had, by the core and by
 -- the lists.
-use Rattle.std.proofs.Common.{◌≡◌, ℕ, ◌+◌, ◌≤◌, Bool, true, false, List, [], ◌∷◌, ◌++◌, Option, Some, None, is_some, refl, sym, ap, subst, ◌∙◌, inl, inr, true≢false, arith}
+use Rattle.std.proofs.Common.{◌≡◌, ℕ, ◌+◌, ◌≤◌, Bool, true, false, List, [], ◌∷◌, Option, Some, None, is_some, refl, sym, ap, subst, ◌∙◌, inl, inr, true≢false, arith}
 use Rattle.std.proofs.lemmas.Bool.{and_parts, cases_Bool}
 use Rattle.std.specs.Bool.{◌==◌}
-use Rattle.std.specs.List.{AllByRecursion, filter, find}
-use Rattle.std.specs.Prelude.{◌&&◌}
+use Rattle.std.specs.List.{AllByRecursion, find}
 use Rattle.xl_base.proofs.Members.{all_append, all_from, all_in}
 use Rattle.xl_base.specs.declared.name.Owner.TheVariants as owners
 use Rattle.xl_base.specs.declared.name.Protocol.TheVariants.{Nfs}
@@ -15,41 +14,36 @@ use Rattle.xl_matrix.specs.declared.claim.What.{What}
 use Rattle.xl_matrix.specs.declared.claim.What.TheVariants as whats
 use Rattle.xl_names.specs.Names.{number_of}
 use Rattle.xl_names.specs.declared.name.Name.TheVariants.{NfsShare}
-use Rattle.xl_nfs.specs.declared.basics.Stateid.{Stateid}
 use Rattle.xl_nfs.specs.declared.opens.CloseArgs.{CloseArgs}
 use Rattle.xl_nfs.specs.declared.opens.OpenConfirmArgs.{OpenConfirmArgs}
 use Rattle.xl_nfs.specs.declared.opens.OpenDowngradeArgs.{OpenDowngradeArgs}
 use Rattle.xl_nfs.specs.declared.status.NfsStatus.{NfsStatus}
-use Rattle.xl_nfs_state.specs.Filed.{changed}
 use Rattle.xl_nfs_state.specs.Rows.{with_standing}
-use Rattle.xl_nfs_state.specs.State.{NfsLists, is_client, is_kept, is_owner, is_stateid, is_whose}
+use Rattle.xl_nfs_state.specs.State.{NfsLists, is_client, is_kept, is_owner, is_stateid}
 use Rattle.xl_nfs_state.specs.Verdict.{next_seqid}
 use Rattle.xl_nfs_state.specs.declared.client.ClientRow.{ClientRow}
 use Rattle.xl_nfs_state.specs.declared.kept.KeptRow.{KeptRow}
-use Rattle.xl_nfs_state.specs.declared.owner.OwnerRow.{OwnerRow}
 use Rattle.xl_nfs_state.specs.declared.owner.Turn.{Turn}
 use Rattle.xl_nfs_state.specs.declared.stateid.Holder.{Holder}
 use Rattle.xl_nfs_state.specs.declared.stateid.Holder.TheVariants as holders
 use Rattle.xl_nfs_state.specs.declared.stateid.Standing.{Standing}
 use Rattle.xl_nfs_state.specs.declared.stateid.StateidRow.{StateidRow}
-use Rattle.xl_nfs_state.specs.declared.stateid.Whose.TheVariants as whose
 use Rattle.xl_core.proofs.DeedLeaves.{found_in}
 use Rattle.xl_core.specs.Decide.{ask}
-use Rattle.xl_core.specs.Deeds.{Deed, Asks, all_done, AreFit, GivesBack}
+use Rattle.xl_core.specs.Deeds.{Deed, Asks, all_done}
 use Rattle.xl_core.specs.Good.{IsGood}
 use Rattle.xl_core.specs.Settle.{share_has}
 use Rattle.xl_core.specs.State.{CoreState}
 use Rattle.xl_core.specs.declared.ask.Answer.{Answer}
 use Rattle.xl_table.specs.Relock.{is_share_of}
-use Rattle.xl_nfs_opens.specs.Closing.{Returning, checked, close, close_by, close_done, confirm_by, confirm_done, done_lists, ends_locks, failed_lists, gives_up, lock_owner, locks_gone, locks_under, next_turn, open_confirm, opener_by, share_by_opener, share_of_open, standing_fault, state_told}
-use Rattle.xl_nfs_opens.specs.Delegated.{AreDelegated, AreSet, AreTied, IsShut, is_open_still, written_by}
+use Rattle.xl_nfs_opens.specs.Closing.{checked, close, close_by, close_done, confirm_by, confirm_done, done_lists, ends_locks, failed_lists, gives_up, lock_owner, locks_gone, locks_under, next_turn, open_confirm, opener_by, share_by_opener, share_of_open, standing_fault, state_told}
+use Rattle.xl_nfs_opens.specs.Delegated.{AreSet, AreTied, IsShut, is_open_still, written_by}
 use Rattle.xl_nfs_opens.specs.Downgrades.{downgrade_by, downgrade_done, downgrade_fault, open_downgrade, weakens}
 use Rattle.xl_nfs_opens.specs.Opens.{gives, repeated, rights_of, share_by, share_held, stood}
-use Rattle.xl_nfs_opens.specs.Orderly.{IsOrderly, closes}
+use Rattle.xl_nfs_opens.specs.Orderly.{IsOrderly}
 use Rattle.xl_nfs_opens.specs.Plans.{Plan, Fails, Does, Behind, Asking, carried, deeds_of}
 use Rattle.xl_nfs_opens.specs.Renewing.{renewals, renewals_by, renewed_for, renewing, state_client}
 use Rattle.xl_nfs_opens.specs.Results.{spelled}
-use Rattle.xl_nfs_opens.specs.Seqids.{counted}
 use Rattle.xl_nfs_opens.specs.declared.opener.Checked.{Checked}
 use Rattle.xl_nfs_opens.specs.declared.opener.Checked.TheVariants.{Refused, Repeated, Passed}
 use Rattle.xl_nfs_opens.specs.declared.opener.Opener.{Opener}

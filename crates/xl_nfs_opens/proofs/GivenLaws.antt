@@ -1,11 +1,11 @@
 -- OPEN and DELEGRETURN: where a client gets a cache it gets a delegation, and where it gives one back it has neither.
-use Rattle.std.proofs.Common.{◌≡◌, ℕ, ◌+◌, ◌<◌, ◌≤◌, Bool, true, false, not, List, [], ◌∷◌, ◌++◌, Option, Some, None, Ok, Err, Result, is_some, option_map, refl, sym, ap, subst, ◌∙◌, inl, inr, true≢false, arith}
+use Rattle.std.proofs.Common.{◌≡◌, ℕ, ◌+◌, ◌<◌, ◌≤◌, Bool, true, false, not, List, [], ◌∷◌, ◌++◌, Option, Some, None, is_some, option_map, refl, sym, ap, subst, ◌∙◌, inl, inr, true≢false, arith}
 use Rattle.std.proofs.lemmas.Bool.{and_from, and_parts, cases_Bool, eq-eqb, eqb-true}
 use Rattle.std.proofs.lemmas.Option.{same_Some}
 use Rattle.std.specs.Bool.{◌==◌, beq}
 use Rattle.std.specs.Cmp.{booleans_Decides}
 use Rattle.std.specs.Cmp.Lexicographic.{bytes_decides}
-use Rattle.std.specs.List.{AllByRecursion, filter, find}
+use Rattle.std.specs.List.{find}
 use Rattle.std.specs.Option.{option_and_then}
 use Rattle.std.specs.Prelude.{◌&&◌, ◌||◌, bytes_eq, IfSome}
 use Rattle.xl_base.proofs.Members.{all_append, all_in, all_weaker}
@@ -14,7 +14,6 @@ use Rattle.xl_base.specs.declared.name.Party.{Party}
 use Rattle.xl_base.specs.declared.name.Party.TheVariants as parties
 use Rattle.xl_base.specs.declared.name.Protocol.TheVariants.{Nfs}
 use Rattle.xl_matrix.specs.declared.claim.Claim.{Claim}
-use Rattle.xl_matrix.specs.declared.claim.CacheKind.{CacheKind}
 use Rattle.xl_matrix.proofs.EqualLaws.{same_parties-true}
 use Rattle.xl_matrix.specs.Equal.{same_parties}
 use Rattle.xl_matrix.specs.declared.claim.What.{What}
@@ -23,7 +22,6 @@ use Rattle.xl_names.proofs.NameLaws.{number_entered, one_number}
 use Rattle.xl_names.specs.Names.{entered as name_entered, number_of, place_of as place_named}
 use Rattle.xl_names.specs.declared.name.Name.{Name}
 use Rattle.xl_names.specs.declared.name.Name.TheVariants.{NfsParty, NfsShare}
-use Rattle.xl_nfs_state.specs.Keys.{held_at as place_at, place_of, same_place}
 use Rattle.xl_nfs_state.specs.State.{NfsLists, delegated_on, is_client, is_client_named, is_stateid, with_stateids}
 use Rattle.xl_nfs_state.specs.declared.client.ClientRow.{ClientRow}
 use Rattle.xl_nfs_state.specs.declared.owner.OwnerRow.{OwnerRow}
@@ -32,22 +30,22 @@ use Rattle.xl_core.proofs.DeedLaws.{deed_due}
 use Rattle.xl_core.proofs.DeedLeaves.{found_in}
 use Rattle.xl_core.proofs.FrameLaws.{ask_frame}
 use Rattle.xl_core.proofs.WayAsks.{ask_way_names}
-use Rattle.xl_core.specs.Asking.{asked_claim, asking_party, both_entered, who_entered}
+use Rattle.xl_core.specs.Asking.{asked_claim, asking_party}
 use Rattle.xl_core.specs.Breaks.{id_of}
 use Rattle.xl_core.specs.Causes.{IsClaimDue}
 use Rattle.xl_core.specs.Decide.{ask, before_wish, does_wish, way}
 use Rattle.xl_core.specs.Places.{is_cache_on}
-use Rattle.xl_core.specs.Deeds.{Asks, done, caches_asked}
+use Rattle.xl_core.specs.Deeds.{Asks, caches_asked}
 use Rattle.xl_core.specs.Frames.{names_after}
 use Rattle.xl_core.specs.Good.{IsGood, caches_of}
-use Rattle.xl_core.specs.State.{CoreState, drawn}
+use Rattle.xl_core.specs.State.{CoreState}
 use Rattle.xl_core.specs.Wishes.{caches_wished, wish_of as wish_by, wished_kind}
 use Rattle.xl_core.specs.declared.ask.Ask.{Ask}
 use Rattle.xl_core.specs.declared.ask.Answer.{Answer}
 use Rattle.xl_wait.specs.declared.waiter.Rooms.{Rooms}
 use Rattle.xl_nfs.specs.Opens.{OpenArgsItem}
 use Rattle.xl_core.specs.declared.ask.Answer.TheVariants as answers
-use Rattle.xl_nfs_opens.specs.Delegated.{AreDelegated, AreSet, AreTied, IsShut, clients_apart, delegation_held, delegation_kept, delegation_numbered, is_open_still, number_confirmed, written_by}
+use Rattle.xl_nfs_opens.specs.Delegated.{AreDelegated, AreSet, IsShut, clients_apart, delegation_held, delegation_kept, delegation_numbered, is_open_still, number_confirmed, written_by}
 use Rattle.xl_nfs_opens.specs.Opens.{all_rooms, can_stand, delegated, delegated_in, delegation_in, delegation_row, draws_for, is_granted, rights_of, share_ask}
 use Rattle.xl_nfs_opens.specs.Orderly.{closes}
 use Rattle.xl_nfs_opens.specs.declared.opener.Opener.{Opener}

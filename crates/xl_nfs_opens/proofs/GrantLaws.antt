@@ -1,5 +1,5 @@
 -- Whatever an OPEN or a DELEGRETURN comes to, each client has just the delegations that its caches are.
-use Rattle.std.proofs.Common.{◌≡◌, ℕ, ◌+◌, ◌<◌, ◌≤◌, Bool, true, false, not, List, [], ◌∷◌, ◌++◌, Option, Some, None, Ok, Err, Result, is_some, option_map, refl, sym, ap, subst, ◌∙◌, inl, inr, true≢false, arith}
+use Rattle.std.proofs.Common.{◌≡◌, ℕ, ◌+◌, ◌≤◌, Bool, true, false, not, List, [], ◌∷◌, Option, Some, None, Ok, Err, Result, is_some, option_map, refl, sym, ap, subst, ◌∙◌, inl, inr, true≢false, arith}
 use Rattle.std.proofs.lemmas.Bool.{and_from, and_parts, cases_Bool, eq-eqb, eqb-true}
 use Rattle.std.proofs.lemmas.Option.{same_Some}
 use Rattle.std.specs.Bool.{◌==◌, beq}
@@ -28,14 +28,13 @@ use Rattle.xl_core.proofs.DeedLeaves.{found_in}
 use Rattle.xl_core.specs.Breaks.{id_of}
 use Rattle.xl_core.specs.Places.{is_cache_on}
 use Rattle.xl_core.specs.Settle.{give_back}
-use Rattle.xl_nfs_state.specs.Keys.{held_at as place_at, place_of, same_place}
+use Rattle.xl_nfs_state.specs.Keys.{held_at as place_at, same_place}
 use Rattle.xl_nfs_state.specs.declared.stateid.Holder.{Holder}
 use Rattle.xl_nfs_state.specs.declared.stateid.Holder.TheVariants as holders
 use Rattle.xl_nfs_state.specs.declared.stateid.Place.TheVariants.{Delegated}
 use Rattle.xl_nfs.specs.Opens.{OpenArgsItem}
 use Rattle.xl_nfs.specs.declared.status.NfsStatus.{NfsStatus}
 use Rattle.xl_nfs_state.specs.State.{NfsLists, delegated_on, is_client, is_client_named, is_kept, is_stateid, is_under, is_whose, with_stateids, without, without_owner}
-use Rattle.xl_nfs_state.specs.Verdict.{next_seqid}
 use Rattle.xl_nfs_state.specs.declared.client.ClientRow.{ClientRow}
 use Rattle.xl_nfs_state.specs.declared.kept.KeptRow.{KeptRow}
 use Rattle.xl_nfs_state.specs.declared.stateid.StateidRow.{StateidRow}
@@ -46,16 +45,14 @@ use Rattle.xl_core.proofs.FrameLaws.{ask_frame}
 use Rattle.xl_core.specs.Deeds.{Deed, Asks, Draws, GivesBack, AreFit, IsFitDeed, all_done}
 use Rattle.xl_core.specs.Good.{IsGood, caches_of}
 use Rattle.xl_core.specs.State.{CoreState, drawn}
-use Rattle.xl_core.specs.declared.ask.Answer.{Answer}
-use Rattle.xl_nfs_opens.specs.Delegated.{AreDelegated, AreSet, AreTied, IsShut, delegation_held, delegation_kept, delegation_numbered, is_open_still, number_confirmed, written_by}
+use Rattle.xl_nfs_opens.specs.Delegated.{AreSet, AreTied, IsShut, delegation_held, delegation_kept, delegation_numbered, is_open_still, number_confirmed, written_by}
 use Rattle.xl_nfs_opens.specs.Closing.{Returning, cache_of, cache_of_client, deleg_return, return_done, returned}
 use Rattle.xl_nfs_opens.specs.Leases.{number_in}
-use Rattle.xl_nfs_opens.specs.Opens.{all_rooms, answer_status, answered, cache_by, cache_held, claim_client, client_in, delegated, delegation_in, delegation_told, drawn_for, draws_for, either_bits, entered, freed, given_up, gives, gives_all, granted_by, granted_more, granted_new, granted_wish, has_none, has_room, is_granted, judged, kind_for, open_as, open_at, open_by, open_claimed, open_file, open_held, open_judged, open_of, open_on, open_row, open_turn, opened_file, opened_told, opener_of, reclaims, refused_lists, repeated, share_ask, share_held, stood, unless_held, wish_of}
-use Rattle.xl_nfs_opens.specs.Plans.{Plan, Does, Behind, Asking, carried}
+use Rattle.xl_nfs_opens.specs.Opens.{all_rooms, answer_status, answered, cache_by, cache_held, claim_client, client_in, delegated, delegation_in, draws_for, either_bits, entered, freed, given_up, gives, gives_all, granted_by, granted_more, granted_new, granted_wish, has_none, has_room, is_granted, judged, kind_for, open_as, open_at, open_by, open_claimed, open_file, open_held, open_judged, open_of, open_row, open_turn, opened_file, opener_of, reclaims, refused_lists, repeated, share_ask, share_held, stood, unless_held, wish_of}
+use Rattle.xl_nfs_opens.specs.Plans.{Plan, Behind, carried}
 use Rattle.xl_nfs_opens.specs.Orderly.{IsOrderly, are_apart}
 use Rattle.xl_nfs_opens.specs.Renewing.{renewals, renewals_by, renewed_for, renewing, state_client}
-use Rattle.xl_nfs_opens.specs.Results.{spelled}
-use Rattle.xl_nfs_opens.specs.Seqids.{kept_for, opener_number, seated}
+use Rattle.xl_nfs_opens.specs.Seqids.{opener_number, seated}
 use Rattle.xl_nfs_opens.specs.declared.opener.Judged.{Judged}
 use Rattle.xl_nfs_opens.specs.declared.opener.Judged.TheVariants as judgements
 use Rattle.xl_nfs_opens.specs.declared.opener.Opener.{Opener}
@@ -69,7 +66,7 @@ use Rattle.xl_nfs_opens.proofs.NumberLaws.{draws, less_given}
 use Rattle.xl_nfs_opens.proofs.OpenOwn.{all_given, ask_fits, no_range}
 use Rattle.xl_nfs_opens.proofs.OpenerLaws.{opener_there}
 use Rattle.xl_nfs_opens.proofs.QuietLaws.{IsQuiet, IsQuietDeed, all_quiet, deed_held, find_gone_in, find_kept, find_removed, kind_among}
-use Rattle.xl_nfs_opens.proofs.StillLaws.{AreStill, entered_still, kept_still, later_set, owner_still, placed_delegation, refused_still, renewed_still, seated_still, still_kept, still_self, still_then, stood_still, under_stays}
+use Rattle.xl_nfs_opens.proofs.StillLaws.{AreStill, entered_still, kept_still, later_set, owner_still, placed_delegation, refused_still, renewed_still, seated_still, still_kept, still_then, stood_still, under_stays}
 
 -- ---- deeds before the rest
 

@@ -1,8 +1,8 @@
 -- What operations change in the lists, but for delegations: each client has the delegations that it had.
-use Rattle.std.proofs.Common.{◌≡◌, ℕ, ◌+◌, ◌<◌, ◌≤◌, Bool, true, false, not, List, [], ◌∷◌, ◌++◌, Option, Some, None, IfSome, is_some, option_map, refl, sym, ap, subst, ◌∙◌, inl, inr, true≢false, arith}
-use Rattle.std.proofs.lemmas.Bool.{and_from, and_parts, cases_Bool, eqb-true}
+use Rattle.std.proofs.Common.{◌≡◌, ℕ, ◌<◌, ◌≤◌, Bool, true, false, not, List, [], ◌∷◌, ◌++◌, Option, Some, None, IfSome, is_some, option_map, refl, sym, ap, subst, ◌∙◌, inl, inr, true≢false, arith}
+use Rattle.std.proofs.lemmas.Bool.{cases_Bool, eqb-true}
 use Rattle.std.specs.Bool.{◌==◌, beq}
-use Rattle.std.specs.List.{AllByRecursion, filter, find}
+use Rattle.std.specs.List.{AllByRecursion, find}
 use Rattle.std.specs.Option.{option_and_then}
 use Rattle.std.specs.Prelude.{◌&&◌, ◌||◌, bytes_eq}
 use Rattle.xl_base.proofs.Members.{all_append, all_from, all_in, all_weaker}
@@ -10,9 +10,9 @@ use Rattle.xl_base.specs.Lists.{IsIn, Pairwise}
 use Rattle.xl_base.specs.declared.event.Moment.{Moment}
 use Rattle.xl_nfs_state.proofs.AnyLaws.{all_changed, all_left}
 use Rattle.xl_nfs_state.specs.Filed.{changed}
-use Rattle.xl_nfs_state.specs.Keys.{held_at as place_at, place_of, same_place}
+use Rattle.xl_nfs_state.specs.Keys.{held_at as place_at, same_place}
 use Rattle.xl_nfs_state.specs.Rows.{with_standing, with_time, with_turn}
-use Rattle.xl_nfs_state.specs.State.{NfsLists, delegated_on, hangs_on, is_client, is_client_named, is_kept, is_owner, is_stateid, is_under, is_whose, next_owner, with_clients, with_owners, with_stateids, without, without_owner}
+use Rattle.xl_nfs_state.specs.State.{NfsLists, delegated_on, hangs_on, is_client, is_client_named, is_kept, is_owner, is_stateid, is_under, is_whose, next_owner, with_clients, with_stateids, without, without_owner}
 use Rattle.xl_nfs_state.specs.Verdict.{next_seqid}
 use Rattle.xl_nfs_state.specs.declared.client.ClientRow.{ClientRow}
 use Rattle.xl_nfs_state.specs.declared.owner.OwnerRow.{OwnerRow}
@@ -25,12 +25,10 @@ use Rattle.xl_nfs_state.specs.declared.stateid.StateidRow.{StateidRow}
 use Rattle.xl_nfs_state.specs.declared.stateid.Whose.TheVariants as whose
 use Rattle.xl_core.proofs.DeedLeaves.{found_in}
 use Rattle.xl_core.specs.State.{CoreState}
-use Rattle.xl_nfs_opens.specs.Closing.{locks_gone, next_turn, done_lists, failed_lists, state_told}
+use Rattle.xl_nfs_opens.specs.Closing.{locks_gone, next_turn, failed_lists}
 use Rattle.xl_nfs_opens.specs.Delegated.{AreClients, AreSet, AreShut, IsShut, clients_apart, is_one_client, delegation_kept, delegation_numbered, is_open_still, number_confirmed, written_by}
 use Rattle.xl_nfs_opens.specs.Leases.{lease_end, renewed}
-use Rattle.xl_nfs_opens.specs.Numbers.{AreGivenOut}
 use Rattle.xl_nfs_opens.specs.Opens.{can_enter, entered, freed, open_turn, refused_lists, stood}
-use Rattle.xl_nfs_opens.specs.Orderly.{closes}
 use Rattle.xl_nfs_opens.specs.Renewing.{renewed_for, renewed_if}
 use Rattle.xl_nfs_opens.specs.Results.{spelled}
 use Rattle.xl_nfs_opens.specs.Seqids.{advances, closed_gone, counted, is_opener, is_room_for, kept_for, opener_number, remembered, seated, seated_by, seated_new, turned}

@@ -41,7 +41,7 @@ fn give_up<K: Keeper>(
         return Ok(());
     };
     let request = unlock_ask(alloc, opener, file, 0, u64::MAX)?;
-    let _said = asked(alloc, core, keeper, &request)?;
+    let _said = asked(alloc, core, keeper, request)?;
     Ok(())
 }
 

@@ -255,7 +255,7 @@ fn open_on<K: Keeper>(
     }
     let wish = wish_of(alloc, core, state, opener, args, confirmed, file)?;
     let request = share_ask(alloc, wish, opener, args, file)?;
-    let (said, effects) = asked(alloc, core, keeper, &request)?;
+    let (said, effects) = asked(alloc, core, keeper, request)?;
     let (told, handle) = answer(
         alloc, state, core, current, opener, args, file, confirmed, wish, said,
     )?;

@@ -161,6 +161,7 @@ pub(crate) fn share_ask(
     ensures fit { IfOk result (λ ask. IsFit ask) }
     ensures nfs { IfOk result (λ ask. IsNfsAsk ask) }
 {
+    let kinds = wished_kinds(alloc, wish)?;
     let owner = share_name(alloc, opener)?;
     let id = Sequence::from_slice(alloc, opener.id.as_slice())?;
     Ok(Ask {
@@ -168,7 +169,7 @@ pub(crate) fn share_ask(
         owner: Who::Named(owner),
         party: Who::Named(Name::NfsParty(id)),
         act: Act::Share(rights_of(args.access), rights_of(args.deny)),
-        wish: wished_kinds(alloc, wish)?,
+        wish: kinds,
         conn: None,
         blocking: false,
         awaits: false,
@@ -184,15 +185,15 @@ pub fn asked<K: Keeper>(
     alloc: Global,
     core: &mut Core,
     keeper: &mut K,
-    request: &Ask,
+    request: Ask,
 ) -> Result<(Answer, Sequence<Effect>), AllocError>
-    requires fit { IsFit request.now }
-    requires nfs { IsNfsAsk request.now }
+    requires fit { IsFit request }
+    requires nfs { IsNfsAsk request }
     requires ready { IsReady 2 core.old }
-    ensures state { (n : ℕ) → IfOk result (λ r. MayBe n core.new → ask n all_rooms core.old request.now ≡ (r.0, r.1, core.new)) }
+    ensures state { (n : ℕ) → IfOk result (λ r. MayBe n core.new → ask n all_rooms core.old request ≡ (r.0, r.1, core.new)) }
     ensures leaves { OnOk result (Leaves 2 core.old core.new) }
     ensures keeper { keeper.new ≡ keeper.old }
 {
-    let (answer, effects) = core.ask(alloc, keeper, request, &ALL_ROOMS)?;
+    let (answer, effects) = core.ask(alloc, keeper, &request, &ALL_ROOMS)?;
     Ok((answer, effects))
 }

@@ -16,6 +16,6 @@ pub use levels::{
     Caching, cache_of, caching_of, contexts_told, file_id, file_of, id_of, lease_party, level_held,
     opened, oplock_of, party_for, party_of,
 };
-pub use locking::{Locking, lock};
+pub use locking::{Locking, asked, lock};
 pub use status::SmbStatus;
 pub use unlocking::unlock;

@@ -4,17 +4,17 @@ ghost use Rattle.xl_core.specs.Decide.{ask};
 ghost use Rattle.xl_core.specs.State.{MayBe};
 ghost use Rattle.xl_smb_locks.specs.Elements.{lock_fault};
 ghost use Rattle.xl_smb_locks.specs.Locks.{lock_ask, lock_told, lock_done};
-ghost use Rattle.xl_smb_locks.specs.Short.{IsReady, Leaves};
+ghost use Rattle.xl_smb_locks.specs.Short.{IsOpenAsk, IsReady, Leaves};
 ghost use Rattle.xl_wait.specs.Waiting.{no_rows};
 
 use crate::asks::lock_ask;
 use crate::status::SmbStatus;
 use std::alloc::{AllocError, Global};
 use xl_base::{Keeper, Sequence};
-use xl_core::{Answer, Core, Effect};
+use xl_core::{Answer, Ask, Core, Effect};
 use xl_smb::LockElement;
 use xl_smb_state::Open;
-use xl_wait::NO_ROWS;
+use xl_wait::{NO_ROWS, Rooms};
 
 /// What a LOCK comes to.
 #[derive(Clone, Copy)]
@@ -45,6 +45,25 @@ fn lock_told(answer: &Answer) -> Locking
     }
 }
 
+/// Asks the core for an open, where so much room is left in the tables of the fronts. At least 65,536 numbers must be left to
+/// give out.
+pub fn asked<K: Keeper>(
+    alloc: Global,
+    core: &mut Core,
+    keeper: &mut K,
+    left: &Rooms,
+    request: Ask,
+) -> Result<(Answer, Sequence<Effect>), AllocError>
+    requires ready { IsReady 2 core.old }
+    requires unnamed { IsOpenAsk request }
+    ensures state { (n : ℕ) → IfOk result (λ r. MayBe n core.new → ask n left.now core.old request ≡ (r.0, r.1, core.new)) }
+    ensures leaves { OnOk result (Leaves 2 core.old core.new) }
+    ensures keeper { keeper.new ≡ keeper.old }
+{
+    let (answer, effects) = core.ask(alloc, keeper, &request, left)?;
+    Ok((answer, effects))
+}
+
 /// Locks all of these ranges of an open of a file, or none (MS-SMB2 3.3.5.14.2, MS-FSA 2.1.5.8). Where something held
 /// stands against one for good, it waits if it may, and is told by this connection; else it is LOCK_NOT_GRANTED. Where a cache
 /// keeps the first off all of them wait for the answer to its break. Where a limit is passed it is INSUFFICIENT_RESOURCES. The
@@ -67,6 +86,6 @@ pub fn lock<K: Keeper>(
     ensures keeper { keeper.new ≡ keeper.old }
 {
     let request = lock_ask(alloc, conn, number, row, elements)?;
-    let (answer, effects) = core.ask(alloc, keeper, &request, &NO_ROWS)?;
+    let (answer, effects) = asked(alloc, core, keeper, &NO_ROWS, request)?;
     Ok((lock_told(&answer), effects))
 }

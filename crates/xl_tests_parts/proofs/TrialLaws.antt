@@ -1,7 +1,7 @@
 -- What the tests enter leaves the list sound.
 use Rattle.std.proofs.Common.{◌≡◌, Bool, true, false, not, ◌&&◌, ◌==◌, nat_le, List, [], ◌∷◌, inl, inr, refl, sym, ap, subst, ◌∙◌}
 use Rattle.std.specs.List.{AllByRecursion, list_all}
-use Rattle.std.proofs.lemmas.Bool.{cases_Bool, both_ways, and_parts, or_cases, or_left, or_right, not-true, not_from_false, and_cases, and_right, and_from, eq-eqb, leb-true}
+use Rattle.std.proofs.lemmas.Bool.{cases_Bool, both_ways, and_parts, or_cases, or_left, not-true, not_from_false, and_cases, and_right, and_from, eq-eqb, leb-true}
 use Rattle.xl_base.specs.Lists.{placed, Pairwise}
 use Rattle.xl_matrix.specs.declared.claim.Extent.TheVariants.{Bytes, Empty}
 use Rattle.xl_matrix.specs.declared.claim.What.{What}
@@ -9,7 +9,7 @@ use Rattle.xl_matrix.specs.declared.claim.What.TheVariants.{Share, Range, Cache}
 use Rattle.xl_matrix.specs.declared.claim.Claim.{Claim}
 use Rattle.xl_matrix.specs.Owners.{posix}
 use Rattle.xl_matrix.specs.Equal.{same_owners, same_parties}
-use Rattle.xl_matrix.proofs.EqualLaws.{eqb-sym, same_owners-sym, same_owners-self, same_parties-sym}
+use Rattle.xl_matrix.proofs.EqualLaws.{eqb-sym, same_owners-sym, same_owners-self}
 use Rattle.xl_spans.specs.declared.span.Span.{Span}
 use Rattle.xl_spans.specs.Spans.{IsCanonical}
 use Rattle.xl_table.specs.Order.{goes_first}
@@ -24,15 +24,14 @@ all_from p (c ∷ cs) h = let both = and_parts (p c) (list_all p cs) h in (both.
 
 one_party : (claim c : Claim) → is_beside claim c ≡ true → has_one_party claim c ≡ true
 one_party claim c h =
-    elim (or_cases (not (is_range c.what && is_of claim.file claim.owner c)) (not (posix claim.owner) && same_parties c.party claim.party) h) [
+    elim (or_cases (not (is_range c.what && is_of claim.file claim.owner c)) (not (posix claim.owner)) h) [
       | inl none ↦
-          or_left (not (is_range claim.what && (is_range c.what && ((claim.file == c.file) && same_owners claim.owner c.owner)))) (same_parties claim.party c.party)
-          (not_from_false (is_range claim.what && (is_range c.what && ((claim.file == c.file) && same_owners claim.owner c.owner)))
+          or_left (not (posix claim.owner && (is_range claim.what && (is_range c.what && ((claim.file == c.file) && same_owners claim.owner c.owner))))) (same_parties claim.party c.party)
+          (not_from_false (posix claim.owner && (is_range claim.what && (is_range c.what && ((claim.file == c.file) && same_owners claim.owner c.owner))))
+          (and_right (posix claim.owner) (is_range claim.what && (is_range c.what && ((claim.file == c.file) && same_owners claim.owner c.owner)))
           (and_right (is_range claim.what) (is_range c.what && ((claim.file == c.file) && same_owners claim.owner c.owner))
-          (rw (eqb-sym claim.file c.file, same_owners-sym claim.owner c.owner) (not-true (is_range c.what && is_of claim.file claim.owner c) none))))
-      | inr one ↦
-          or_right (not (is_range claim.what && (is_range c.what && ((claim.file == c.file) && same_owners claim.owner c.owner)))) (same_parties claim.party c.party)
-          (same_parties-sym claim.party c.party ∙ (and_parts (not (posix claim.owner)) (same_parties c.party claim.party) one).1)
+          (rw (eqb-sym claim.file c.file, same_owners-sym claim.owner c.owner) (not-true (is_range c.what && is_of claim.file claim.owner c) none)))))
+      | inr smb ↦ rw (not-true (posix claim.owner) smb) refl
     ]
 
 parties : (claim : Claim) (held : List Claim) → AllByRecursion (λ c. is_beside claim c ≡ true) held → AllByRecursion (λ c. has_one_party claim c ≡ true) held
@@ -50,13 +49,13 @@ no_spans claim (c ∷ cs) p all =
       | inr apart ↦ rw apart (no_spans claim cs p all.1)
       | inl own ↦
           rw own
-          (elim (or_cases (not (is_range c.what && is_of claim.file claim.owner c)) (not (posix claim.owner) && same_parties c.party claim.party) all.0) [
+          (elim (or_cases (not (is_range c.what && is_of claim.file claim.owner c)) (not (posix claim.owner)) all.0) [
             | inl none ↦
                 elim (and_cases (is_range c.what) (is_of claim.file claim.owner c) (not-true (is_range c.what && is_of claim.file claim.owner c) none)) [
                   | inl other ↦ no_span c.what (spans_of claim.file claim.owner cs) other ∙ no_spans claim cs p all.1
                   | inr apart ↦ absurd (both_ways (is_of claim.file claim.owner c) apart own)
                 ]
-            | inr smb ↦ absurd (both_ways (posix claim.owner) (not-true (posix claim.owner) (and_parts (not (posix claim.owner)) (same_parties c.party claim.party) smb).0) p)
+            | inr smb ↦ absurd (both_ways (posix claim.owner) (not-true (posix claim.owner) smb) p)
           ])
     ]
 

@@ -63,7 +63,7 @@ fn locked(
     let mut ranges = Sequence::new(alloc);
     ranges.push((extent, exclusive))?;
     let ask = ask_by(alloc, number, Act::Ranges(ranges));
-    Ok(told(ask_of(alloc, core, &ask)?))
+    Ok(told(ask_of(alloc, core, ask)?))
 }
 
 /// What an open's unlock of a range is told.
@@ -75,7 +75,7 @@ fn unlocked(alloc: Global, core: &mut Core, number: u32, extent: Extent) -> Resu
     ensures numbers { OnOk result (numbers_of core.new ≤ numbers_of core.old + 2) }
 {
     let ask = ask_by(alloc, number, Act::Unlock(extent));
-    Ok(told(ask_of(alloc, core, &ask)?))
+    Ok(told(ask_of(alloc, core, ask)?))
 }
 
 /// Whether the one range that is held is of this mode.
@@ -167,7 +167,7 @@ fn three_locked(alloc: Global, core: &mut Core, first: u64) -> Result<u32, Alloc
 {
     let ranges = three_from(alloc, first)?;
     let ask = ask_by(alloc, 3, Act::Ranges(ranges));
-    Ok(told(ask_of(alloc, core, &ask)?))
+    Ok(told(ask_of(alloc, core, ask)?))
 }
 
 /// Whether several locks of one request are all held, or none is.

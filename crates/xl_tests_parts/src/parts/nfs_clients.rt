@@ -218,15 +218,20 @@ fn one_goes(alloc: Global, state: &mut NfsState) -> bool {
         && changes(alloc, state, 4)
 }
 
+fn come_and_go(alloc: Global, state: &mut NfsState) -> bool {
+    two_come(alloc, state)
+        && are_found(state)
+        && one_is_confirmed(alloc, state)
+        && two_more_come(alloc, state)
+        && leases_end(alloc, state)
+        && one_goes(alloc, state)
+        && has_number(state.find_client(1, true), 1)
+}
+
 #[test]
 fn clients_come_and_go(rt: HostRuntime) {
     let mut state = NfsState::new(rt.alloc());
-    assert!(rt; two_come(rt.alloc(), &mut state) && are_found(&state));
-    assert!(rt; one_is_confirmed(rt.alloc(), &mut state));
-    assert!(rt; two_more_come(rt.alloc(), &mut state));
-    assert!(rt; leases_end(rt.alloc(), &mut state));
-    assert!(rt; one_goes(rt.alloc(), &mut state));
-    assert!(rt; has_number(state.find_client(1, true), 1));
+    assert!(rt; come_and_go(rt.alloc(), &mut state));
 }
 
 fn named<'a>(kind: OwnerKind, owner: &'a [u8]) -> OwnerNamed<'a>
@@ -369,12 +374,18 @@ fn last_goes(state: &mut NfsState) -> bool {
     drops_owner(state, 2) && state.next_owner() == Some(1)
 }
 
+fn advance_and_go(alloc: Global, state: &mut NfsState) -> bool {
+    two_owners(alloc, state)
+        && one_of_a_kind(alloc, state)
+        && are_named(state)
+        && one_advances(state)
+        && results_are_kept(alloc, state)
+        && first_goes(state)
+        && last_goes(state)
+}
+
 #[test]
 fn owners_advance(rt: HostRuntime) {
     let mut state = NfsState::new(rt.alloc());
-    assert!(rt; two_owners(rt.alloc(), &mut state));
-    assert!(rt; one_of_a_kind(rt.alloc(), &mut state));
-    assert!(rt; are_named(&state) && one_advances(&mut state));
-    assert!(rt; results_are_kept(rt.alloc(), &mut state));
-    assert!(rt; first_goes(&mut state) && last_goes(&mut state));
+    assert!(rt; advance_and_go(rt.alloc(), &mut state));
 }

@@ -186,13 +186,21 @@ fn two_stay(state: &NfsState) -> bool {
     state.open_count() == 1 && state.stateid_count() == 2
 }
 
+fn hang_together(alloc: Global, state: &mut NfsState) -> bool {
+    begins(alloc, state)
+        && opens(alloc, state)
+        && refuses(alloc, state)
+        && are_found(state)
+        && are_listed(alloc, state)
+        && one_closes(state)
+        && two_go(state)
+        && two_stay(state)
+}
+
 #[test]
 fn stateids_hang_together(rt: HostRuntime) {
     let mut state = NfsState::new(rt.alloc());
-    assert!(rt; begins(rt.alloc(), &mut state) && opens(rt.alloc(), &mut state));
-    assert!(rt; refuses(rt.alloc(), &mut state) && are_found(&state));
-    assert!(rt; are_listed(rt.alloc(), &state) && one_closes(&mut state));
-    assert!(rt; two_go(&mut state) && two_stay(&state));
+    assert!(rt; hang_together(rt.alloc(), &mut state));
 }
 
 fn results_are_kept(alloc: Global, state: &mut NfsState) -> bool {
@@ -220,10 +228,17 @@ fn client_goes(state: &mut NfsState) -> bool {
     are_left(state, 0) && state.client_count() == 0 && state.is_client_idle(1)
 }
 
+fn go_with_whom_they_belong_to(alloc: Global, state: &mut NfsState) -> bool {
+    begins(alloc, state)
+        && opens(alloc, state)
+        && results_are_kept(alloc, state)
+        && locks_go(alloc, state)
+        && owner_goes(state)
+        && client_goes(state)
+}
+
 #[test]
 fn all_that_belongs_goes(rt: HostRuntime) {
     let mut state = NfsState::new(rt.alloc());
-    assert!(rt; begins(rt.alloc(), &mut state) && opens(rt.alloc(), &mut state));
-    assert!(rt; results_are_kept(rt.alloc(), &mut state) && locks_go(rt.alloc(), &mut state));
-    assert!(rt; owner_goes(&mut state) && client_goes(&mut state));
+    assert!(rt; go_with_whom_they_belong_to(rt.alloc(), &mut state));
 }

@@ -82,7 +82,7 @@ fn against(
     ensures numbers { OnOk result (numbers_of core.new ≤ numbers_of core.old + 2) }
 {
     let ask = share_by(alloc, number, access, deny);
-    let answer = ask_of(alloc, core, &ask)?;
+    let answer = ask_of(alloc, core, ask)?;
     Ok(told(answer))
 }
 

@@ -10,7 +10,7 @@ use std::alloc::{AllocError, Global};
 use std::marker::Brand;
 use std::sync::ledger::{Blank, Ledger};
 use xl_base::{Moment, Owner, Party, Protocol, Sequence};
-use xl_matrix::{Claim, Extent, Rwd, What, is_posix, same_claim, same_owner, same_party};
+use xl_matrix::{Claim, Extent, Rwd, What, is_posix, same_claim, same_owner};
 use xl_names::{Name, Names};
 use xl_spans::{Mode, Span};
 use xl_steps::Steps;
@@ -40,7 +40,7 @@ fn stands_beside(claim: &Claim, held: &Claim) -> bool
     ensures { result ≡ is_beside claim.now held.now }
 {
     !(is_a_range(held.what) && held.file == claim.file && same_owner(held.owner, claim.owner))
-        || (!is_posix(claim.owner) && same_party(held.party, claim.party))
+        || !is_posix(claim.owner)
 }
 
 fn all_beside(claim: &Claim, held: &[Claim]) -> bool

@@ -67,14 +67,14 @@ fn lock_of(alloc: Global, file: u32, caller: u8) -> Result<Ask, AllocError>
     Ok(lock_by(alloc, file, name, same, ranges))
 }
 
-pub(crate) fn ask_of(alloc: Global, core: &mut Core, ask: &Ask) -> Result<Answer, AllocError>
-    requires fit { IsFit ask.now }
+pub(crate) fn ask_of(alloc: Global, core: &mut Core, ask: Ask) -> Result<Answer, AllocError>
+    requires fit { IsFit ask }
     requires good { IsGood core.old }
     requires few { numbers_of core.old ≤ 100 }
     ensures good { OnOk result (IsGood core.new) }
     ensures numbers { OnOk result (numbers_of core.new ≤ numbers_of core.old + 2) }
 {
-    let (answer, _told) = core.ask(alloc, &mut keeper(alloc), ask, &LEFT)?;
+    let (answer, _told) = core.ask(alloc, &mut keeper(alloc), &ask, &LEFT)?;
     Ok(answer)
 }
 
@@ -90,7 +90,7 @@ pub(crate) fn lock(
     ensures numbers { OnOk result (numbers_of core.new ≤ numbers_of core.old + 2) }
 {
     let ask = lock_of(alloc, file, caller)?;
-    let answer = ask_of(alloc, core, &ask)?;
+    let answer = ask_of(alloc, core, ask)?;
     Ok(answer)
 }
 

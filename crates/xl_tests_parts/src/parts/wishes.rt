@@ -211,6 +211,24 @@ fn is_told(
     Ok(word_of(answer) == word && told.as_slice().len() == breaks)
 }
 
+/// Whether the ask is answered so, and so many breaks begin.
+fn comes_to(
+    alloc: Global,
+    core: &mut Core,
+    ask: Ask,
+    word: &str,
+    breaks: usize,
+) -> Result<bool, AllocError>
+    requires fit { IsFit ask }
+    requires good { IsGood core.old }
+    requires few { numbers_of core.old ≤ 100 }
+    ensures good { OnOk result (IsGood core.new) }
+    ensures numbers { OnOk result (numbers_of core.new ≤ numbers_of core.old + 2) }
+{
+    let is = is_told(alloc, core, &ask, &LEFT, word, breaks)?;
+    Ok(is)
+}
+
 /// Whether the open's share, with a batch oplock, is answered so, and so many breaks begin.
 fn shares(
     alloc: Global,
@@ -227,7 +245,7 @@ fn shares(
 {
     let kinds = batch(alloc)?;
     let ask = share_by(number, deny, kinds);
-    let is = is_told(alloc, core, &ask, &LEFT, word, breaks)?;
+    let is = comes_to(alloc, core, ask, word, breaks)?;
     Ok(is)
 }
 
@@ -240,7 +258,7 @@ fn waits(alloc: Global, core: &mut Core, number: u32, breaks: usize) -> Result<b
 {
     let kinds = batch(alloc)?;
     let ask = waiting_share_by(number, kinds);
-    let is = is_told(alloc, core, &ask, &LEFT, "queued", breaks)?;
+    let is = comes_to(alloc, core, ask, "queued", breaks)?;
     Ok(is)
 }
 
@@ -253,7 +271,7 @@ fn wishes(alloc: Global, core: &mut Core, number: u32) -> Result<bool, AllocErro
 {
     let kinds = batch(alloc)?;
     let ask = wish_by(number, kinds);
-    let is = is_told(alloc, core, &ask, &LEFT, "granted", 0)?;
+    let is = comes_to(alloc, core, ask, "granted", 0)?;
     Ok(is)
 }
 

@@ -8,14 +8,12 @@ use Rattle.xl_house.proofs.machine.hear_last.Goals as goal
 pub smb_end-requires : goal.smb_end-requires
 smb_end-requires c = record { ready = record { good = c.requires.ready.good; numbers = omega (arith, c.requires.ready.numbers) } }
 
-pub show_all-requires : goal.show_all-requires
-show_all-requires c =
+pub sent_for-requires : goal.sent_for-requires
+sent_for-requires c =
     let quiet = last_quiet c.args.parts.now.front.smb _ c.args.parts.now.core _ c.args.number c.in_ok-effects.effects c.requires.ready.good c.in_ok-effects.ensures.state in
-    let none : grants c.as_slice.result.now ≡ 0 = ap (λ (effects : List Effect). grants effects) c.as_slice.ensures ∙ quiet in
-    record { ready = smb_ready 0 _ _ c.as_slice.result.now (omega arith) none c.requires.ready c.in_ok-effects.ensures.leaves }
+    record { ready = smb_ready 0 _ _ c.in_ok-effects.effects (omega arith) quiet c.requires.ready c.in_ok-effects.ensures.leaves }
 
 pub returns-clause-leaves : goal.returns-clause-leaves
 returns-clause-leaves c =
     let quiet = last_quiet c.args.parts.now.front.smb _ c.args.parts.now.core _ c.args.number c.in_ok-effects.effects c.requires.ready.good c.in_ok-effects.ensures.state in
-    let none : grants c.as_slice.result.now ≡ 0 = ap (λ (effects : List Effect). grants effects) c.as_slice.ensures ∙ quiet in
-    smb_leaves 0 _ _ _ c.as_slice.result.now (omega arith) none c.in_ok-effects.ensures.leaves c.in_ok-show_all.ensures.leaves
+    smb_leaves 0 _ _ _ c.in_ok-effects.effects (omega arith) quiet c.in_ok-effects.ensures.leaves c.in_ok-outs.ensures.leaves

@@ -10,14 +10,12 @@ use Rattle.xl_house.proofs.machine.hear_nfs.Goals as goal
 pub nfs_step-requires : goal.nfs_step-requires
 nfs_step-requires g c = record { known = c.requires.known; ready = record { good = c.requires.ready.good; numbers = omega (arith, c.requires.ready.numbers) } }
 
-pub show_all-requires : goal.show_all-requires
-show_all-requires g c =
+pub sent_with-requires : goal.sent_with-requires
+sent_with-requires g c =
     let quiet = nfs_quiet c.args.exports.now c.opens_held-others.result c.args.parts.now.front.nfs c.nfs_step.new.front c.args.parts.now.core c.nfs_step.new.core c.args.number (shown_request c.args.request.now) c.in_ok-reply.reply c.in_ok-reply.effects c.requires.ready.good c.in_ok-reply.ensures.state in
-    let none : grants c.as_slice.result.now ≡ 0 = ap (λ (effects : List Effect). grants effects) c.as_slice.ensures ∙ quiet in
-    record { ready = nfs_ready most_drawn _ _ c.as_slice.result.now (omega arith) none c.requires.ready c.in_ok-reply.ensures.leaves }
+    record { fits = c.in_ok-reply.ensures.little; ready = nfs_ready most_drawn _ _ c.in_ok-reply.effects (omega arith) quiet c.requires.ready c.in_ok-reply.ensures.leaves }
 
 pub returns-clause-leaves : goal.returns-clause-leaves
 returns-clause-leaves g c =
     let quiet = nfs_quiet c.args.exports.now c.opens_held-others.result c.args.parts.now.front.nfs c.nfs_step.new.front c.args.parts.now.core c.nfs_step.new.core c.args.number (shown_request c.args.request.now) c.in_ok-reply.reply c.in_ok-reply.effects c.requires.ready.good c.in_ok-reply.ensures.state in
-    let none : grants c.as_slice.result.now ≡ 0 = ap (λ (effects : List Effect). grants effects) c.as_slice.ensures ∙ quiet in
-    nfs_leaves most_drawn _ _ _ c.as_slice.result.now (omega arith) none c.in_ok-reply.ensures.leaves c.in_ok-show_all.ensures.leaves
+    nfs_leaves most_drawn _ _ _ c.in_ok-reply.effects (omega arith) quiet c.in_ok-reply.ensures.leaves c.in_ok-outs.ensures.leaves

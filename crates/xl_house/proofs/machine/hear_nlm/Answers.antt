@@ -6,14 +6,12 @@ use Rattle.xl_house.specs.Machine.{grants}
 use Rattle.xl_programs.specs.Programs.{shown_request}
 use Rattle.xl_house.proofs.machine.hear_nlm.Goals as goal
 
-pub show_all-requires : goal.show_all-requires
-show_all-requires g c =
+pub sent_with-requires : goal.sent_with-requires
+sent_with-requires g c =
     let quiet = step_quiet c.args.exports.now c.args.parts.now.front.nlm c.nlm_step.new.front c.args.parts.now.core c.nlm_step.new.core c.args.number (shown_request c.args.request.now) c.in_ok-reply.reply c.in_ok-reply.effects c.requires.ready.good c.in_ok-reply.ensures.state in
-    let none : grants c.as_slice.result.now ≡ 0 = ap (λ (effects : List Effect). grants effects) c.as_slice.ensures ∙ quiet in
-    record { ready = tell_ready _ _ c.as_slice.result.now none c.requires.ready c.in_ok-reply.ensures.leaves }
+    record { fits = c.in_ok-reply.ensures.little; ready = tell_ready _ _ c.in_ok-reply.effects quiet c.requires.ready c.in_ok-reply.ensures.leaves }
 
 pub returns-clause-leaves : goal.returns-clause-leaves
 returns-clause-leaves g c =
     let quiet = step_quiet c.args.exports.now c.args.parts.now.front.nlm c.nlm_step.new.front c.args.parts.now.core c.nlm_step.new.core c.args.number (shown_request c.args.request.now) c.in_ok-reply.reply c.in_ok-reply.effects c.requires.ready.good c.in_ok-reply.ensures.state in
-    let none : grants c.as_slice.result.now ≡ 0 = ap (λ (effects : List Effect). grants effects) c.as_slice.ensures ∙ quiet in
-    tell_leaves _ _ _ c.as_slice.result.now none c.in_ok-reply.ensures.leaves c.in_ok-show_all.ensures.leaves
+    tell_leaves _ _ _ c.in_ok-reply.effects quiet c.in_ok-reply.ensures.leaves c.in_ok-outs.ensures.leaves

@@ -4,4 +4,4 @@ use Rattle.xl_nfs_opens.proofs.shares.asked.Goals as goal
 pub returns-clause-leaves : goal.returns-clause-leaves
 returns-clause-leaves g c =
     let t = c.ask.new.self in
-    ask_leaves t.made _ c.args.core.now t c.args.request.now c.in_ok-answer.answer c.in_ok-answer.effects (c.in_ok-answer.ensures.state t.made (may_be_made t)) c.in_ok-answer.ensures.on c.requires.fit c.requires.ready.good c.in_ok-answer.ensures.good c.requires.nfs
+    ask_leaves t.made _ c.args.core.now t c.args.request c.in_ok-answer.answer c.in_ok-answer.effects (c.in_ok-answer.ensures.state t.made (may_be_made t)) c.in_ok-answer.ensures.on c.requires.fit c.requires.ready.good c.in_ok-answer.ensures.good c.requires.nfs

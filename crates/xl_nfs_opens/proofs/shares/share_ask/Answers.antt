@@ -3,4 +3,4 @@ use Rattle.xl_nfs_opens.proofs.OwnerLaws.{kinds_fit}
 use Rattle.xl_nfs_opens.proofs.shares.share_ask.Goals as goal
 
 pub returns-clause-fit : goal.returns-clause-fit
-returns-clause-fit c = record { act = tt; own = refl; party = search rules; wish = kinds_fit c.in_ok-id.id c.args.wish c.in_ok-wished_kinds.field-0 (search rules) }
+returns-clause-fit c = record { act = tt; own = refl; party = search rules; wish = kinds_fit c.in_ok-id.id c.args.wish c.in_ok-kinds.kinds (search rules) }

@@ -1,6 +1,6 @@
 use Rattle.xl_core.proofs.FrameLaws.{may_be_made}
 use Rattle.xl_smb_locks.proofs.AskLaws.{ask_leaves}
-use Rattle.xl_front_smb.proofs.creates.asked.Goals as goal
+use Rattle.xl_smb_locks.proofs.locking.asked.Goals as goal
 
 pub returns-clause-leaves : goal.returns-clause-leaves
 returns-clause-leaves g c =
