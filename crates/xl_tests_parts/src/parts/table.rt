@@ -156,9 +156,17 @@ fn blockers_by_looks(alloc: Global, table: &Table, ask: &Claim) -> Result<Vec<Cl
     counted_blockers::<Brand>(alloc, table, ask, Blank::new(1))
 }
 
+/// The same by a look at each claim.
+fn blockers_of_all(alloc: Global, table: &Table, ask: &Claim) -> Result<Vec<Claim>, AllocError> {
+    let mut claims = table.claims(alloc)?;
+    claims.retain(|held| is_blocked_by(ask, held));
+    Ok(claims)
+}
+
 fn is_blocked(alloc: Global, table: &Table, ask: &str, blockers: &str) -> bool {
     are_listed(table.blockers(alloc, &claim_in(ask)), blockers)
         && are_listed(blockers_by_looks(alloc, table, &claim_in(ask)), blockers)
+        && are_listed(blockers_of_all(alloc, table, &claim_in(ask)), blockers)
 }
 
 fn is_holder(table: &Table, file: u32, byte: u64, row: &str) -> bool {
