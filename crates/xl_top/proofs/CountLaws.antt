@@ -32,6 +32,7 @@ use Rattle.xl_house.proofs.MachineLaws.{step_is}
 use Rattle.xl_house.proofs.SettleLaws.{none_settles}
 use Rattle.xl_capture.specs.Summary.{is_granted, is_denied, granted, denied, results_status, told_status, or_status}
 use Rattle.xl_top.specs.Made.{next, draw, exclusive_by, asked_by, call_from, lock_by, record_of, calls_from, fourth, made, made_head, made_entries, made_journal}
+use Rattle.xl_top.specs.Words.{most_made}
 use Rattle.xl_top.proofs.CallLaws.{arrives, call_fits, framed_is, replied_is, request, whole}
 use Rattle.xl_top.proofs.DrawnLaws.{AreOurs, IsMadeCore}
 use Rattle.xl_top.proofs.StepLaws.{IsServed, IsTold, call_served}
@@ -180,7 +181,7 @@ begun_made = record {
 }
 
 -- each call that is made is granted or denied
-pub made_counts : (seed count : ℕ) → count ≤ 1000000 → granted (made_entries seed count) + denied (made_entries seed count) ≡ count
+pub made_counts : (seed count : ℕ) → count ≤ most_made → granted (made_entries seed count) + denied (made_entries seed count) ≡ count
 unfolding made_entries
 made_counts seed count few =
     subst (λ (r : Turn). tally (record { event = Open Rpc; stores = 0; outs = r.outs } ∷ entries_of r.next (calls_from seed 1 count)) ≡ count) (sym opened_is)
@@ -205,6 +206,6 @@ pub made_length : (seed count : ℕ) → length (made_entries seed count) ≡ co
 unfolding made_entries
 made_length seed count = omega (arith, length-entries_of (begin made_head) (made seed count), length_calls seed 1 count)
 
-pub journal_counts : (seed count : ℕ) (journal : Journal) → count ≤ 1000000 → journal ≡ made_journal seed count → (length journal.entries ≡ count + 1) × (granted journal.entries + denied journal.entries ≡ count)
+pub journal_counts : (seed count : ℕ) (journal : Journal) → count ≤ most_made → journal ≡ made_journal seed count → (length journal.entries ≡ count + 1) × (granted journal.entries + denied journal.entries ≡ count)
 journal_counts seed count journal few e =
     subst (λ (j : Journal). (length j.entries ≡ count + 1) × (granted j.entries + denied j.entries ≡ count)) (sym e) (made_length seed count, made_counts seed count few)

@@ -31,9 +31,13 @@ unless_faulty (k ∷ ks) x = None
 unfoldable pub asked : List Text → Option (Text × List Row)
 asked words = unless_faulty (fault_of program words) (subcommand_of program words)
 
--- the seed is below 2 ^ 31, and there are at most 1,000,000 calls
+-- the most calls that are made
+abbrev pub most_made : ℕ
+most_made = 1000000
+
+-- the seed is below 2 ^ 31, and there are no more calls than that
 abbrev pub fits : ℕ → ℕ → Bool
-fits seed count = nat_lt seed (2 ^ 31) && nat_le count 1000000
+fits seed count = nat_lt seed (2 ^ 31) && nat_le count most_made
 
 abbrev pub make_of : ℕ → ℕ → Option Job
 make_of seed count = if fits seed count then Some (Make seed count) else None
@@ -63,7 +67,7 @@ job words = job_of (asked words)
 
 -- the numbers of a job are in their ranges
 abbrev pub HasFit : Job → Type 0
-HasFit (Make seed count) = (seed < 2 ^ 31) × (count ≤ 1000000)
+HasFit (Make seed count) = (seed < 2 ^ 31) × (count ≤ most_made)
 HasFit job = Unit {0}
 
 -- a job that reads the input

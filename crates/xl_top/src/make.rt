@@ -8,6 +8,7 @@ ghost use Rattle.xl_nlm.specs.Items.{shown_lock, shown_call};
 ghost use Rattle.xl_house.specs.Housed.{Housed, is_spoiled};
 ghost use Rattle.xl_house.specs.Journals.{replay, entries_of, most_entries};
 ghost use Rattle.xl_house.specs.Machine.{begin};
+ghost use Rattle.xl_top.specs.Words.{most_made};
 ghost use Rattle.xl_top.specs.Made.{next, draw, fourth, exclusive_by, lock_by, asked_by, call_by, call_from, head_to, record_of, calls_from, made, made_files, made_head, made_entries};
 
 use crate::keeper::SureKeeper;
@@ -172,7 +173,7 @@ fn step_calls(alloc: Global, house: &mut House<SureKeeper>, x: u32, count: u32) 
     requires goes { house.old.halt ≡ None }
     requires begun { length house.old.entries ≡ 1 }
     requires seed { x < 2 ^ 31 }
-    requires few { count ≤ 1000000 }
+    requires few { count ≤ most_made }
     ensures head { house.new.head ≡ house.old.head }
     ensures ok { OnOk result (house.new.entries ≡ house.old.entries ++ entries_of (replay (begin house.old.head) house.old.entries) (calls_from x 1 count)) }
     ensures err { OnErr result (take (length house.new.entries) (house.old.entries ++ entries_of (replay (begin house.old.head) house.old.entries) (calls_from x 1 count)) ≡ house.new.entries) }
@@ -208,7 +209,7 @@ fn step_made(
     requires goes { house.old.halt ≡ None }
     requires begun { house.old.entries ≡ [] }
     requires seed { seed < 2 ^ 31 }
-    requires few { count ≤ 1000000 }
+    requires few { count ≤ most_made }
     ensures head { house.new.head ≡ house.old.head }
     ensures ok { OnOk result (house.new.entries ≡ entries_of (begin house.old.head) (made seed count)) }
     ensures err { OnErr result (take (length house.new.entries) (entries_of (begin house.old.head) (made seed count)) ≡ house.new.entries) }
@@ -226,7 +227,7 @@ fn step_made(
 #[tactic(auto, unfolding(crate::specs::Made::made_entries))]
 pub(crate) fn made_house(alloc: Global, seed: u32, count: u32) -> Option<(House<SureKeeper>, bool)>
     requires seed { seed < 2 ^ 31 }
-    requires few { count ≤ 1000000 }
+    requires few { count ≤ most_made }
     ensures head { IfSome result (λ r. r.0.head ≡ made_head) }
     ensures all { IfSome result (λ r. r.1 ≡ true → (r.0.entries ≡ made_entries seed count) × (is_spoiled r.0.halt ≡ false)) }
     ensures begun { IfSome result (λ r. take (length r.0.entries) (made_entries seed count) ≡ r.0.entries) }

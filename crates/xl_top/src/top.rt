@@ -14,7 +14,7 @@ ghost use Rattle.xl_capture.specs.Show.{shown};
 ghost use Rattle.xl_capture.specs.Summary.{granted, denied};
 ghost use Rattle.xl_capture.specs.Transcript.{transcript};
 ghost use Rattle.xl_top.specs.Made.{IsMadePart, made_journal, summary_from, whole_summary};
-ghost use Rattle.xl_top.specs.Words.{job, HasFit, is_reader};
+ghost use Rattle.xl_top.specs.Words.{job, HasFit, is_reader, most_made};
 
 use crate::keeper::SureKeeper;
 use crate::make::made_house;
@@ -438,7 +438,7 @@ fn write_made<O: Sink>(alloc: Global, house: &House<SureKeeper>, all: bool, out:
 #[tactic(auto, using(crate::proofs::MadeLaws::same_journal, crate::proofs::MadeLaws::no_part, crate::proofs::CountLaws::journal_counts))]
 fn make<O: Sink>(alloc: Global, seed: u32, count: u32, out: &mut O) -> Done
     requires seed { seed < 2 ^ 31 }
-    requires few { count ≤ 1000000 }
+    requires few { count ≤ most_made }
     ensures known { is_made result.status ≡ true }
     ensures line { result.line ≡ 0 }
     ensures made { result.status ≡ 0 → result.journal ≡ made_journal seed count }

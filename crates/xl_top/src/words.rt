@@ -8,6 +8,9 @@ use clap::{Arg, ArgMatches, Command, Error};
 use std::alloc::Global;
 use xl_capture::number_of;
 
+/// The most calls that are made.
+const MOST_MADE: u64 = 1_000_000;
+
 /// What the program's words ask for.
 #[derive(Clone, Copy)]
 pub enum Job {
@@ -53,7 +56,7 @@ fn make_of(seed: u64, count: u64) -> Option<Job>
     ensures is { result ≡ make_of seed count }
     ensures fit { IfSome result HasFit }
 {
-    if seed < 1 << 31 && count <= 1_000_000 {
+    if seed < 1 << 31 && count <= MOST_MADE {
         Some(Job::Make(seed as u32, count as u32))
     } else {
         None
