@@ -36,7 +36,7 @@ pub record AreParts (file : ℕ) (front on back : List Claim) : Type 0 where
   pub own : AreOn file on
   pub late : AllByRecursion (λ c. nat_lt file c.file ≡ true) back
 
-ordered_files : (a b : Claim) → goes_first a b ≡ true → nat_lt b.file a.file ≡ false
+pub ordered_files : (a b : Claim) → goes_first a b ≡ true → nat_lt b.file a.file ≡ false
 unfolding key
 ordered_files a b h = by a.what b.what h where
   step : (m n : ℕ) (rest : Bool) → (nat_lt m n || (m == n) && rest) ≡ true → nat_lt n m ≡ false

@@ -32,7 +32,8 @@ use Rattle.xl_matrix.specs.Equal.{same_owners}
 use Rattle.xl_matrix.proofs.EqualLaws.{same_owners-self}
 use Rattle.xl_table.proofs.InsertLaws.{range_order}
 use Rattle.xl_table.proofs.ShareLaws.{united_share}
-use Rattle.xl_table.specs.Sections.{group, starts, is_before, is_upto, range_ends_before, range_begins_by, IsParted, spans_in}
+use Rattle.xl_table.specs.Sections.{group, starts, is_before, is_upto, range_ends_before, range_begins_by, spans_in}
+use Rattle.xl_index.specs.Parted.{IsParted}
 use Rattle.xl_table.proofs.SectionLaws.{section_cut, section_is, section_rest, range_section, share_section, before_section, behind_section, starts_share, starts_range}
 use Rattle.xl_table.proofs.WriteBack.{is_of-self, mode_exclusive, is_of-true, later_spans, relocked_is, IsOfParty, of_party}
 

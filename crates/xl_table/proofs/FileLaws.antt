@@ -14,7 +14,7 @@ use Rattle.xl_table.specs.declared.files.OnFile.{OnFile}
 use Rattle.xl_table.specs.Files.{joined, AreOn, IsFiled, IsAt, here, alone}
 use Rattle.xl_table.specs.Order.{goes_first}
 use Rattle.xl_table.specs.Pages.{paged, AreFull}
-use Rattle.xl_table.specs.Sections.{IsParted}
+use Rattle.xl_index.specs.Parted.{IsParted}
 
 -- ---- a test that passes for all of a list, or for none
 

@@ -23,8 +23,8 @@ pub mod ElementLaws
 pub mod ExactLaws
 pub mod SideLaws
 pub mod DueLaws
-pub mod MomentLaws
-pub mod DatedLaws
+pub mod IndexedLaws
+pub mod LeavingLaws
 pub mod CountLaws
 pub mod CacheLaws
 pub mod AlongLaws

@@ -10,7 +10,7 @@ use Rattle.std.proofs.lemmas.List.{length-append, take-append-drop, take-append-
 use Rattle.std.proofs.lemmas.Option.{same_Some}
 use Rattle.xl_matrix.specs.declared.claim.Claim.{Claim}
 use Rattle.xl_table.specs.Pages.{paged, AreFull, IsBehind, IsInside, IsThere, IsFullBut, IsShifting, ends, count_at}
-use Rattle.xl_table.specs.Sections.{IsParted}
+use Rattle.xl_index.specs.Parted.{IsParted}
 use Rattle.xl_table.proofs.ChangeLaws.{take_within, drop_within}
 use Rattle.xl_table.proofs.FileLaws.{filtered_more}
 

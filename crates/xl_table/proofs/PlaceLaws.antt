@@ -18,7 +18,8 @@ use Rattle.xl_matrix.specs.Equal.{same_claims}
 use Rattle.xl_table.specs.Order.{no_later, owner_key, party_key, place_in_group, key_from, key_by, key, goes_first}
 use Rattle.xl_table.specs.Flat.{inserted, removed, changed, with_what, locks_by, locks, lesser, holder_from, holder}
 use Rattle.xl_table.specs.Elements.{taken_back}
-use Rattle.xl_table.specs.Sections.{is_no_later_than, is_upto, IsParted}
+use Rattle.xl_table.specs.Sections.{is_no_later_than, is_upto}
+use Rattle.xl_index.specs.Parted.{IsParted}
 use Rattle.xl_table.proofs.AloneLaws.{equal_here}
 use Rattle.xl_table.proofs.FlatLaws.{held_iff}
 use Rattle.xl_table.proofs.OrderLaws.{no_later-on}

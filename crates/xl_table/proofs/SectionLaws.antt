@@ -1,10 +1,8 @@
 -- What bisection finds in the flat list: a file's claims, an owner's shares, its ranges.
-use Rattle.std.proofs.Common.{◌≡◌, ℕ, ◌-◌, ◌<◌, ◌≤◌, suc, zero, Bool, true, false, not, ◌&&◌, ◌||◌, ◌==◌, nat_lt, List, [], ◌∷◌, ◌++◌, length, take, drop, get_or, Option, Some, None, IfSome, refl, sym, ap, subst, ◌∙◌, inl, inr, arith}
+use Rattle.std.proofs.Common.{◌≡◌, ℕ, ◌-◌, ◌<◌, ◌≤◌, suc, zero, Bool, true, false, not, ◌&&◌, ◌||◌, ◌==◌, nat_lt, List, [], ◌∷◌, ◌++◌, take, drop, Option, Some, None, IfSome, refl, sym, ap, subst, ◌∙◌, inl, inr, arith}
 use Rattle.std.proofs.Math.Numerals.{one-add}
 use Rattle.std.proofs.Math.Nat.{suc-sub-suc, sub-zero}
 use Rattle.std.specs.List.{AllByRecursion, filter, find, list_any, prefix_len, slice_get, slice_range}
-use Rattle.std.specs.List.Sorted.{IsPartitionPoint, IsPartitionedBy}
-use Rattle.std.proofs.lemmas.List.Sums.{prefix_len_is}
 use Rattle.std.proofs.lemmas.Option.{same_Some}
 use Rattle.std.proofs.lemmas.Bool.{cases_Bool, both_ways, not-true, not_from_false, false_from_ne_true}
 use Rattle.std.proofs.lemmas.Bool.Decides.{nat_tests}
@@ -24,32 +22,10 @@ use Rattle.xl_table.specs.Files.{here}
 use Rattle.xl_table.specs.Flat.{is_own, blocks, is_blocked}
 use Rattle.xl_table.specs.Held.{is_range, is_share, is_cache, is_of, with_span, spans_of}
 use Rattle.xl_table.specs.Relock.{is_range_of, is_share_of}
-use Rattle.xl_table.specs.Sections.{group, starts, is_no_later_than, is_before, is_upto, IsParted, spans_in}
+use Rattle.xl_table.specs.Sections.{group, starts, is_no_later_than, is_before, is_upto, spans_in}
+use Rattle.xl_index.specs.Parted.{IsParted}
 use Rattle.xl_table.proofs.OrderLaws.{no_later-on}
 use Rattle.xl_table.proofs.InsertLaws.{not_range}
-
--- ---- a list in which all that pass a test stand before all that fail it
-
-fails_at : {A : Type 0} (p : A → Bool) (xs : List A) → AllByRecursion (λ x. p x ≡ false) xs → (i : ℕ) (d : A) → i < length xs → p (get_or xs i d) ≡ false
-fails_at p [] all i d h = absurd (omega arith)
-fails_at p (x ∷ xs) all zero d h = all.0
-fails_at p (x ∷ xs) all (suc i) d h = fails_at p xs all.1 i d (omega (arith, h))
-
-pub parted_by : {A : Type 0} (p : A → Bool) (xs : List A) → IsParted p xs → IsPartitionedBy p xs
-parted_by p [] parted i j d le h e = absurd (omega arith)
-parted_by p (x ∷ xs) parted zero zero d le h e = e
-parted_by p (x ∷ xs) parted zero (suc j) d le h e =
-    elim (cases_Bool (p x)) [
-      | inl passes ↦ passes
-      | inr fails ↦ absurd (both_ways (p (get_or xs j d)) (fails_at p xs (parted.0 fails) j d (omega (arith, h))) e)
-    ]
-parted_by p (x ∷ xs) parted (suc i) zero d le h e = absurd (omega arith)
-parted_by p (x ∷ xs) parted (suc i) (suc j) d le h e = parted_by p xs parted.1 i j d (omega (arith, le)) (omega (arith, h)) e
-
-pub point_is : {A : Type 0} (p : A → Bool) (xs : List A) (i : ℕ) → i ≤ length xs → IsPartitionPoint (λ x. p x ≡ true) (λ x. p x ≡ false) xs i → i ≡ prefix_len p xs
-point_is p [] i h parted = omega (arith, h)
-point_is p (x ∷ xs) i h parted =
-    sym (prefix_len_is p (x ∷ xs) i x h (λ k below. parted.0 k x (omega arith) below) (λ more. parted.1 i x (omega arith) more))
 
 -- a test that passes for all that stand no later than one for which it passes
 pub parted_ordered : (p : Claim → Bool) → ((a b : Claim) → goes_first a b ≡ true → p b ≡ true → p a ≡ true) → (cs : List Claim) → Pairwise goes_first cs → IsParted p cs

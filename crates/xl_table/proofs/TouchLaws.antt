@@ -24,7 +24,8 @@ use Rattle.xl_table.specs.Held.{is_of, is_range, is_real_by, is_real, mode_of, h
 use Rattle.xl_table.specs.Order.{key, goes_first, no_later}
 use Rattle.xl_table.specs.Pages.{paged, passes, is_met, is_met_there}
 use Rattle.xl_table.specs.Relock.{range_claim, is_range_of, relocked_in, holds_byte, is_range_by, holds_range}
-use Rattle.xl_table.specs.Sections.{group, is_before, is_upto, range_ends_before, range_begins_by, IsParted, spans_in}
+use Rattle.xl_table.specs.Sections.{group, is_before, is_upto, range_ends_before, range_begins_by, spans_in}
+use Rattle.xl_index.specs.Parted.{IsParted}
 use Rattle.xl_table.specs.declared.marks.Mark.TheVariants.{Ending, Beginning}
 use Rattle.xl_table.proofs.ChangeLaws.{in_parts, drop_within, runs_of, relock_is}
 use Rattle.xl_table.proofs.SectionLaws.{section_cut, section_is, is_between, starts_is, starts_range, range_section, upto_before, any_within, spans_on_file}

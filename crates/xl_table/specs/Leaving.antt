@@ -1,5 +1,5 @@
 -- Who leaves, and what goes with it.
-use Rattle.std.specs.Prelude.{Bool, false, if◌then◌else◌, Option, Some, None}
+use Rattle.std.specs.Prelude.{ℕ, ◌==◌, ◌&&◌, Bool, false, if◌then◌else◌, Option, Some, None}
 use Rattle.xl_base.specs.declared.name.Owner.TheVariants as owners
 use Rattle.xl_base.specs.declared.name.Party.{Party}
 use Rattle.xl_matrix.specs.Blocks.{is_cache}
@@ -21,3 +21,7 @@ is_of_some party c = is_some_party party c.party
 abbrev pub goes : Leaver → Claim → Bool
 goes (leavers.Party party) c = same_parties c.party party
 goes (leavers.Open number party) c = if is_cache c.what then is_of_some party c else same_owners c.owner (owners.Open number)
+
+-- and it does, being on this file
+abbrev pub goes_on : Leaver → ℕ → Claim → Bool
+goes_on who file c = goes who c && (c.file == file)

@@ -12,5 +12,4 @@ pub mod Bounds
 pub mod Pages
 pub mod Elements
 pub mod Due
-pub mod Deadlines
 pub mod Exact

@@ -1,6 +1,6 @@
 -- Parts of the flat list that bisection finds: a file's claims, an owner's share or its ranges, those that a range touches.
-use Rattle.std.specs.Prelude.{◌≡◌, ℕ, ◌-◌, Bool, true, false, not, ◌&&◌, ◌||◌, ◌==◌, nat_lt, nat_le, if◌then◌else◌, List, [], ◌∷◌, length, Option, Some, None}
-use Rattle.std.specs.List.{AllByRecursion, slice_get}
+use Rattle.std.specs.Prelude.{ℕ, ◌-◌, Bool, true, false, not, ◌&&◌, ◌||◌, ◌==◌, nat_lt, nat_le, if◌then◌else◌, List, [], ◌∷◌, length, Option, Some, None}
+use Rattle.std.specs.List.{slice_get}
 use Rattle.xl_base.specs.declared.name.Owner.{Owner}
 use Rattle.xl_matrix.specs.declared.claim.Extent.TheVariants.{Bytes}
 use Rattle.xl_matrix.specs.declared.claim.What.{What}
@@ -49,11 +49,6 @@ range_ends_before byte _ = false
 abbrev pub range_begins_by : ℕ → What → Bool
 range_begins_by byte (Range (Bytes first last) exclusive) = nat_le (first - 1) byte
 range_begins_by byte _ = false
-
--- once an element fails the test, so do all behind it
-abbrev pub IsParted : {A : Type 0} → (A → Bool) → List A → Type 0
-IsParted p [] = Unit {0}
-IsParted p (x ∷ xs) = (p x ≡ false → AllByRecursion (λ y. p y ≡ false) xs) × IsParted p xs
 
 -- the spans of these claims, whoever's they are
 abbrev pub spans_in : List Claim → List Span

@@ -9,7 +9,6 @@ ghost use Rattle.xl_table.specs.Files.{joined, IsFiled, IsAt, here};
 ghost use Rattle.xl_table.specs.Flat.{inserted};
 ghost use Rattle.xl_table.specs.Pages.{paged, AreFull};
 ghost use Rattle.xl_table.specs.Changes.{spliced, written, IsOn, MayBeWritten};
-ghost use Rattle.xl_table.specs.Deadlines.{running, AreDeadlines};
 ghost use Rattle.xl_table.specs.Order.{goes_first};
 ghost use Rattle.xl_base.specs.Lists.{Pairwise};
 
@@ -197,24 +196,16 @@ pub(crate) fn unlock(
     Ok(change)
 }
 
-/// Those claims that give way once the change is written, of which some may be caches whose breaks run: none where there are
-/// no deadlines at all.
-#[tactic(auto, using(crate::proofs::DatedLaws::none_run))]
+/// Those claims that give way once the change is written.
 pub(crate) fn gone_by(
     alloc: Global,
     lists: &[OnFile],
-    deadlines: &[u64],
     change: &Change,
 ) -> Result<Vec<Claim>, AllocError>
     requires filed { IsFiled lists.now }
-    requires ordered { Pairwise goes_first (joined lists.now) }
-    requires deadlines { AreDeadlines deadlines.now (joined lists.now) }
     requires fits { MayBeWritten change.now (joined lists.now) }
-    ensures { IfOk result (λ v. (p : ℕ → Bool) → running p v.items ≡ running p (slice_range (here change.now.file (joined lists.now)) change.now.start change.now.end)) }
+    ensures { IfOk result (λ v. v.items ≡ slice_range (here change.now.file (joined lists.now)) change.now.start change.now.end) }
 {
-    if deadlines.is_empty() {
-        return Ok(Vec::new(alloc));
-    }
     let gone = between(alloc, on_file(lists, change.file), change.start, change.end)?;
     Ok(gone)
 }

@@ -4,7 +4,6 @@
 mod block;
 mod bounds;
 mod change;
-mod deadlines;
 mod due;
 mod exact;
 mod files;
@@ -12,6 +11,7 @@ mod holding;
 mod law;
 mod least;
 mod leaver;
+mod leaving;
 mod listing;
 mod marks;
 mod ordering;

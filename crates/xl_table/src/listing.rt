@@ -13,7 +13,6 @@ use crate::block::is_answer_due;
 use crate::files::{OnFile, on_file};
 use crate::leaver::{Leaver, goes};
 use crate::page::Page;
-use crate::pages::count_claims;
 use std::alloc::{AllocError, Global};
 use std::marker::Brand;
 use std::sync::ledger::{Blank, Ledger};
@@ -250,39 +249,12 @@ fn drop_empty(pages: &mut Vec<Page>)
 
 /// Takes the claims that go out of a file's pages.
 #[tactic(auto, using(crate::proofs::PageLaws::full_left, crate::proofs::PageLaws::same_left))]
-fn drop_in(pages: &mut Vec<Page>, leaver: Leaver)
+pub(crate) fn drop_in(pages: &mut Vec<Page>, leaver: Leaver)
     ensures claims { paged pages.new.items ≡ filter (λ held. not (goes leaver held)) (paged pages.old.items) }
     ensures full { AreFull pages.new.items }
 {
     thin_pages(pages, leaver);
     drop_empty(pages);
-}
-
-/// Takes the claims that go out.
-#[tactic(auto, using(crate::proofs::FileLaws::thinned_more, crate::proofs::FileLaws::thinned_done))]
-pub(crate) fn drop_leaver(lists: &mut Vec<OnFile>, leaver: Leaver)
-    requires { IsFiled lists.old.items }
-    ensures claims { joined lists.new.items ≡ filter (λ held. not (goes leaver held)) (joined lists.old.items) }
-    ensures filed { IsFiled lists.new.items }
-{
-    let mut at = 0;
-    'lists: while at < lists.len() {
-        drop_in(&mut lists[at].pages, leaver);
-        at += 1;
-    }
-}
-
-/// How many claims there are.
-#[tactic(auto, using(crate::proofs::PageLaws::counted_more, crate::proofs::PageLaws::counted_fits))]
-pub(crate) fn count_all(lists: &[OnFile]) -> usize
-    requires { length (joined lists.now) ≤ most_claims }
-    ensures { result ≡ length (joined lists.now) }
-{
-    let mut count = 0;
-    for list in lists {
-        count += count_claims(&list.pages);
-    }
-    count
 }
 
 fn party_among(alloc: Global, claims: &[Claim], party: Party) -> Result<Vec<Claim>, AllocError>
@@ -311,7 +283,7 @@ fn push_party(
 
 /// Adds those of the party in these pages.
 #[tactic(auto, using(crate::proofs::FileLaws::filtered_more))]
-fn push_party_in(
+pub(crate) fn push_party_in(
     alloc: Global,
     found: &mut Vec<Claim>,
     pages: &[Page],
@@ -323,22 +295,6 @@ fn push_party_in(
         push_party(alloc, found, page.as_slice(), party)?;
     }
     Ok(())
-}
-
-/// Those of the party.
-#[tactic(auto, using(crate::proofs::FileLaws::filtered_more))]
-pub(crate) fn list_party(
-    alloc: Global,
-    lists: &[OnFile],
-    party: Party,
-) -> Result<Vec<Claim>, AllocError>
-    ensures { IfOk result (λ v. v.items ≡ filter (λ held. same_parties held.party party) (joined lists.now)) }
-{
-    let mut found = Vec::new(alloc);
-    for list in lists {
-        push_party_in(alloc, &mut found, &list.pages, party)?;
-    }
-    Ok(found)
 }
 
 fn due_among(alloc: Global, claims: &[Claim], now: Moment) -> Result<Vec<Claim>, AllocError>

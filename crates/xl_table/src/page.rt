@@ -6,7 +6,8 @@ ghost use Rattle.xl_table.specs.Flat.{blocks, is_blocked, is_due, holder_from};
 ghost use Rattle.xl_table.specs.Leaving.{goes};
 ghost use Rattle.xl_table.specs.Pages.{passes, passes_side, ends};
 ghost use Rattle.xl_table.specs.Held.{is_cache};
-ghost use Rattle.xl_table.specs.Sections.{IsParted, ends_in_cache};
+ghost use Rattle.xl_table.specs.Sections.{ends_in_cache};
+ghost use Rattle.xl_index.specs.Parted.{IsParted};
 
 use crate::bounds::{Bounds, any_edge, bounds_of, is_past, widened, widened_by};
 use crate::change::{put_all, take_between};

@@ -3,7 +3,7 @@ ghost use Rattle.std.specs.Prelude.{◌≡◌, true, false, ℕ, ◌+◌, ◌-�
 ghost use Rattle.std.specs.List.{prefix_len, remove, slice_get};
 ghost use Rattle.std.proofs.Math.ListN.{set};
 ghost use Rattle.xl_table.specs.Pages.{paged, AreFull, IsBehind, IsInside, IsThere, IsFullBut, IsShifting, passes, ends, count_at};
-ghost use Rattle.xl_table.specs.Sections.{IsParted};
+ghost use Rattle.xl_index.specs.Parted.{IsParted};
 ghost use Rattle.xl_matrix.specs.declared.claim.Claim.{Claim};
 
 use crate::marks::Mark;

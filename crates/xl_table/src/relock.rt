@@ -6,7 +6,8 @@ ghost use Rattle.xl_spans.specs.Spans.{IsCanonical, meets, relocked};
 ghost use Rattle.xl_table.specs.Flat.{with_what};
 ghost use Rattle.xl_table.specs.Held.{is_of, is_range, is_share, with_span, spans_of, mode_of};
 ghost use Rattle.xl_table.specs.Relock.{is_exclusive, range_claim, is_range_of, is_share_of, old_shares, either_right, united_what, united_with, unites, united_by};
-ghost use Rattle.xl_table.specs.Sections.{range_ends_before, range_begins_by, IsParted, spans_in};
+ghost use Rattle.xl_table.specs.Sections.{range_ends_before, range_begins_by, spans_in};
+ghost use Rattle.xl_index.specs.Parted.{IsParted};
 
 use std::alloc::{AllocError, Global};
 use xl_base::{Owner, Protocol};

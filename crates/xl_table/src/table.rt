@@ -5,15 +5,14 @@ ghost use Rattle.xl_table.specs.Flat.{with_what};
 ghost use Rattle.xl_table.specs.declared.table.TableErr.TheVariants.{NoMemory};
 
 use crate::change::{Change, gone_by, grant, unlock, write};
-use crate::deadlines::{count_come, enter, exchange, has_come, leave, leave_gone, make_room};
 use crate::exact::find_unlocked;
 use crate::files::{OnFile, open_file};
 use crate::holding::find_holder;
 use crate::least::least_of;
 use crate::leaver::Leaver;
+use crate::leaving::{drop_leaver, list_party};
 use crate::listing::{
-    count_all, drop_leaver, is_blocked, keep_ranges, list_all, list_blockers, list_blockers_in,
-    list_due, list_file, list_party,
+    is_blocked, keep_ranges, list_all, list_blockers, list_blockers_in, list_due, list_file,
 };
 use crate::placing::{is_held, put, replace, take_back, take_out};
 use crate::relock::spans_in;
@@ -24,6 +23,7 @@ use std::marker::Model;
 use std::sync::ledger::Ledger;
 use thiserror::Error;
 use xl_base::{Moment, Owner, Party};
+use xl_index::{Index, enter_all, leave_all};
 use xl_matrix::{Claim, Extent, What};
 use xl_names::Names;
 use xl_spans::Span;
@@ -66,27 +66,25 @@ impl From<AllocError> for TableErr {
 pub struct Table {
     /// A list of each file's claims, by file. A list may be without claims.
     lists: Vec<OnFile>,
-    /// How many claims there are on all files.
-    count: usize,
-    /// The deadlines of the breaks that run, in order. There is room for one of each claim.
-    deadlines: Vec<u64>,
+    /// How many claims there are, the deadlines of the breaks that run, and on which files each party stands.
+    index: Index,
 }
 
 impl Model for Table {
-    ghost use Rattle.std.specs.Prelude.{◌≡◌, ◌≤◌, List, length, vec_capacity};
+    ghost use Rattle.std.specs.Prelude.{List};
     ghost use Rattle.xl_matrix.specs.declared.claim.Claim.{Claim};
     ghost use Rattle.xl_table.specs.Held.{IsKept};
     ghost use Rattle.xl_table.specs.Files.{joined, IsFiled};
-    ghost use Rattle.xl_table.specs.Deadlines.{AreDeadlines};
+    ghost use Rattle.xl_index.specs.Index.{IsIndexOf};
 
     ghost Value = { List Claim };
 
     ghost view = { λ t. joined t.lists.items };
 
-    ghost invariant = { λ t. IsFiled t.lists.items × IsKept (joined t.lists.items) × (t.count ≡ length (joined t.lists.items)) × AreDeadlines t.deadlines.items (joined t.lists.items) × (length (joined t.lists.items) ≤ vec_capacity t.deadlines) };
+    ghost invariant = { λ t. IsFiled t.lists.items × IsKept (joined t.lists.items) × IsIndexOf t.index (joined t.lists.items) };
 }
 
-#[tactic(auto, using(crate::proofs::KeptLaws::kept_empty, crate::proofs::DatedLaws::dated_first))]
+#[tactic(auto, using(crate::proofs::KeptLaws::kept_empty))]
 impl Table {
     ghost use Rattle.xl_base.specs.Lists.{IsIn};
     ghost use Rattle.xl_matrix.specs.Equal.{same_parties};
@@ -106,8 +104,7 @@ impl Table {
     {
         Table {
             lists: Vec::new(alloc),
-            count: 0,
-            deadlines: Vec::new(alloc),
+            index: Index::new(alloc),
         }
     }
 
@@ -115,7 +112,7 @@ impl Table {
     pub fn claims(&self, alloc: Global) -> Result<Vec<Claim>, AllocError>
         ensures { IfOk result (λ v. v.items ≡ self.now) }
     {
-        list_all(alloc, &self.lists, self.count)
+        list_all(alloc, &self.lists, self.index.len())
     }
 
     /// How many claims there are; and what a table keeps of them.
@@ -123,14 +120,14 @@ impl Table {
         ensures len { result ≡ length self.now }
         ensures kept { IsKept self.now }
     {
-        self.count
+        self.index.len()
     }
 
     /// Whether there is no claim.
     pub fn is_empty(&self) -> bool
         ensures { IsTrue result ↔ (self.now ≡ []) }
     {
-        self.count == 0
+        self.index.len() == 0
     }
 
     /// Whether this claim is held. It takes no memory.
@@ -275,7 +272,7 @@ impl Table {
         ensures fits { IfOk result (λ change. MayBeWritten change self.now) }
         ensures kept { IsKept self.now }
     {
-        Ok(grant(alloc, &self.lists, self.count, claim)?)
+        Ok(grant(alloc, &self.lists, self.index.len(), claim)?)
     }
 
     /// What an unlock of this range of an NLM or NFSv4 owner changes. `ask` is a range of the owner on the file.
@@ -293,12 +290,12 @@ impl Table {
         ensures claims { IfOk result (λ change. written change self.now ≡ relocked_in ask.now.file ask.now.owner ask.now.party first last None self.now) }
         ensures fits { IfOk result (λ change. MayBeWritten change self.now) }
     {
-        Ok(unlock(alloc, &self.lists, self.count, ask, first, last)?)
+        Ok(unlock(alloc, &self.lists, self.index.len(), ask, first, last)?)
     }
 
     /// Writes a change that was worked out on these claims, where there is room for what it leaves. After an error the
     /// table is as it was.
-    #[tactic(auto, using(crate::proofs::KeptLaws::kept_written, crate::proofs::DatedLaws::dated_still, crate::proofs::DatedLaws::some_written, crate::proofs::DatedLaws::dated_written))]
+    #[tactic(auto, using(crate::proofs::IndexedLaws::has_none, crate::proofs::IndexedLaws::few_written, crate::proofs::IndexedLaws::has_come, crate::proofs::IndexedLaws::back_again, crate::proofs::IndexedLaws::still, crate::proofs::IndexedLaws::has_gone))]
     pub fn write(&mut self, change: &Change) -> Result<(), AllocError>
         requires fits { MayBeWritten change.now self.old }
         requires room { change.now.held ≤ most_claims }
@@ -306,22 +303,23 @@ impl Table {
         ensures err { OnErr result (self.new ≡ self.old) }
     {
         let alloc = *self.lists.allocator();
-        let gone = gone_by(alloc, &self.lists, &self.deadlines, change)?;
-        make_room(&mut self.deadlines, change.entered.len(), change.held)?;
-        write(alloc, &mut self.lists, change)?;
-        self.count = change.held;
-        exchange(&mut self.deadlines, &gone, &change.entered);
+        let gone = gone_by(alloc, &self.lists, change)?;
+        enter_all(&mut self.index, &change.entered)?;
+        if let Err(error) = write(alloc, &mut self.lists, change) {
+            leave_all(&mut self.index, &change.entered);
+            return Err(error);
+        }
+        leave_all(&mut self.index, &gone);
         Ok(())
     }
 
-    /// Takes out the claims that go with who leaves. It takes no memory.
-    #[tactic(auto, using(crate::proofs::WriteBack::kept_filter, crate::proofs::DatedLaws::some_gone, crate::proofs::DatedLaws::dated_gone, crate::proofs::DatedLaws::room_gone))]
+    /// Takes out the claims that go with who leaves: on those files alone on which that party, or that open, stands. It
+    /// takes no memory.
+    #[tactic(auto, using(crate::proofs::WriteBack::kept_filter))]
     pub fn remove_leaver(&mut self, leaver: Leaver)
         ensures { self.new ≡ filter (λ held. not (goes leaver held)) self.old }
     {
-        leave_gone(&mut self.deadlines, &self.lists, leaver);
-        drop_leaver(&mut self.lists, leaver);
-        self.count = count_all(&self.lists);
+        drop_leaver(&mut self.lists, &mut self.index, leaver);
     }
 
     /// Enters a claim at its place: behind all that stand no later. Full comes exactly where the table holds 16,384.
@@ -330,67 +328,65 @@ impl Table {
     /// Afterwards each range with bytes must have a first byte no later than its last, and an owner's ranges on a file
     /// one party; the ranges of an NLM or NFSv4 owner on a file must be maximal runs of one mode, none of them empty;
     /// and no SMB range may have all bytes from 0 to 2^64 - 1.
-    #[tactic(auto, using(crate::proofs::KeptLaws::kept_inserted, crate::proofs::FlatLaws::length_inserted, crate::proofs::DatedLaws::dated_still, crate::proofs::DatedLaws::dated_inserted))]
+    #[tactic(auto, using(crate::proofs::KeptLaws::kept_inserted, crate::proofs::IndexedLaws::has_none, crate::proofs::IndexedLaws::one_come, crate::proofs::IndexedLaws::back_again, crate::proofs::IndexedLaws::still, crate::proofs::IndexedLaws::index_inserted))]
     pub fn insert(&mut self, claim: Claim) -> Result<(), TableErr>
         requires { IsSound (inserted claim self.old) }
         ensures ok { OnOk result (self.new ≡ inserted claim self.old) }
         ensures full { (n : ℕ) → (result ≡ Err (TableErr.Full n)) ↔ ((n ≡ most_claims) × (length self.old ≡ most_claims)) }
         ensures err { OnErr result (self.new ≡ self.old) }
     {
-        if self.count >= CLAIMS {
+        if self.index.len() >= CLAIMS {
             return Err(TableErr::Full(CLAIMS as u32));
         }
         let alloc = *self.lists.allocator();
-        make_room(&mut self.deadlines, 1, self.count + 1)?;
         let at = open_file(alloc, &mut self.lists, claim.file)?;
-        put(&mut self.lists, at, claim)?;
-        self.count += 1;
-        enter(&mut self.deadlines, claim.what);
+        self.index.enter(&claim)?;
+        if let Err(error) = put(&mut self.lists, at, claim) {
+            self.index.leave(&claim);
+            return Err(TableErr::from(error));
+        }
         Ok(())
     }
 
     /// Gives the first claim equal to this one something else to claim, and puts it at its place then. It takes no
     /// memory. Afterwards the same must hold as after `insert`.
-    #[tactic(auto, using(crate::proofs::KeptLaws::kept_changed, crate::proofs::FlatLaws::count_changed, crate::proofs::DatedLaws::some_held, crate::proofs::DatedLaws::room_changed, crate::proofs::DatedLaws::dated_changed))]
+    #[tactic(auto, using(crate::proofs::KeptLaws::kept_changed, crate::proofs::IndexedLaws::has_held, crate::proofs::IndexedLaws::index_changed))]
     pub fn change(&mut self, claim: &Claim, to: What)
         requires held { IsIn claim.now self.old }
         requires sound { IsSound (changed claim.now to self.old) }
         ensures { self.new ≡ changed claim.now to self.old }
     {
         replace(&mut self.lists, claim, to);
-        leave(&mut self.deadlines, claim.what);
-        enter(&mut self.deadlines, to);
+        self.index.recast(claim, to);
     }
 
     /// Takes out the first claim equal to this one; the table is as it was where none is. It takes no memory.
-    #[tactic(auto, using(crate::proofs::KeptLaws::kept_removed, crate::proofs::FlatLaws::count_removed, crate::proofs::FlatLaws::removed_none, crate::proofs::DatedLaws::some_removed, crate::proofs::DatedLaws::dated_removed, crate::proofs::DatedLaws::dated_none))]
+    #[tactic(auto, using(crate::proofs::KeptLaws::kept_removed, crate::proofs::FlatLaws::removed_none, crate::proofs::IndexedLaws::has_equal, crate::proofs::IndexedLaws::index_removed, crate::proofs::IndexedLaws::index_none))]
     pub fn remove(&mut self, claim: &Claim)
         ensures { self.new ≡ removed claim.now self.old }
     {
         if take_out(&mut self.lists, claim) {
-            self.count -= 1;
-            leave(&mut self.deadlines, claim.what);
+            self.index.leave(claim);
         }
     }
 
     /// Takes back a claim that was the last to come among those that stand at its place: the table is then as it was before
     /// that came. It takes no memory.
-    #[tactic(auto, using(crate::proofs::ElementLaws::last_kept, crate::proofs::ElementLaws::last_count, crate::proofs::ElementLaws::last_before, crate::proofs::DatedLaws::some_back, crate::proofs::DatedLaws::dated_back))]
+    #[tactic(auto, using(crate::proofs::ElementLaws::last_kept, crate::proofs::ElementLaws::last_before, crate::proofs::IndexedLaws::has_last, crate::proofs::IndexedLaws::index_back))]
     pub fn take_back(&mut self, claim: &Claim)
         requires last { CameLast claim.now self.old }
         ensures claims { self.new ≡ taken_back claim.now self.old }
         ensures before { (before : List Claim) → self.old ≡ inserted claim.now before → self.new ≡ before }
     {
         take_back(&mut self.lists, claim);
-        self.count -= 1;
-        leave(&mut self.deadlines, claim.what);
+        self.index.leave(claim);
     }
 
-    /// The claims of a party, in the table's order.
+    /// The claims of a party, in the table's order: only those files are gone through on which it has some.
     pub fn of_party(&self, alloc: Global, party: Party) -> Result<Vec<Claim>, AllocError>
         ensures { IfOk result (λ v. v.items ≡ filter (λ held. same_parties held.party party) self.now) }
     {
-        list_party(alloc, &self.lists, party)
+        list_party(alloc, &self.lists, &self.index, party)
     }
 
     /// The claims on a file, in the table's order.
@@ -401,18 +397,18 @@ impl Table {
     }
 
     /// The caches whose break runs with a deadline at or before now, in the table's order.
-    #[tactic(auto, using(crate::proofs::DatedLaws::none_due))]
+    #[tactic(auto, using(crate::proofs::IndexedLaws::has_none, crate::proofs::IndexedLaws::none_due))]
     pub fn due(&self, alloc: Global, now: Moment) -> Result<Vec<Claim>, AllocError>
         ensures { IfOk result (λ v. v.items ≡ filter (λ held. is_due now held) self.now) }
     {
-        if !has_come(&self.deadlines, now) {
+        if !self.index.has_due(now) {
             return Ok(Vec::new(alloc));
         }
         list_due(alloc, &self.lists, now)
     }
 
     /// The same as `due`, with each look at a deadline counted as a step: there is at most one more than claims are due.
-    #[tactic(auto, using(crate::proofs::DatedLaws::none_counted, crate::proofs::DatedLaws::few_due))]
+    #[tactic(auto, using(crate::proofs::IndexedLaws::has_none, crate::proofs::IndexedLaws::none_counted, crate::proofs::IndexedLaws::few_due))]
     pub fn due_in<L: Ledger>(
         &self,
         alloc: Global,
@@ -423,7 +419,7 @@ impl Table {
         ensures more { steps.old ≤ steps.new }
         ensures few { steps.new ≤ steps.old + length (filter (λ held. is_due now held) self.now) + 1 }
     {
-        if count_come(&self.deadlines, now, steps) == 0 {
+        if self.index.count_due(now, steps) == 0 {
             return Ok(Vec::new(alloc));
         }
         list_due(alloc, &self.lists, now)

@@ -8,7 +8,8 @@ ghost use Rattle.xl_table.specs.Held.{IsKept, is_range, most_claims};
 ghost use Rattle.xl_table.specs.Order.{goes_first};
 ghost use Rattle.xl_table.specs.Pages.{paged, AreFull, passes, is_met, is_met_there};
 ghost use Rattle.xl_table.specs.Relock.{holds_byte, is_range_of, holds_range};
-ghost use Rattle.xl_table.specs.Sections.{group, IsParted};
+ghost use Rattle.xl_table.specs.Sections.{group};
+ghost use Rattle.xl_index.specs.Parted.{IsParted};
 ghost use Rattle.xl_table.specs.declared.marks.Mark.TheVariants.{Ending, Beginning};
 
 use crate::files::{OnFile, on_file};

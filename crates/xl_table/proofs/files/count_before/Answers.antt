@@ -2,7 +2,7 @@ use Rattle.std.proofs.Common.{Bool, nat_lt, rules}
 use Rattle.std.proofs.lemmas.List.Sorted.{IsPartitionPoint-from_clause}
 use Rattle.xl_table.specs.declared.files.OnFile.{OnFile}
 use Rattle.xl_table.proofs.FileLaws.{before_parted}
-use Rattle.xl_table.proofs.SectionLaws.{parted_by, point_is}
+use Rattle.xl_index.proofs.PartedLaws.{parted_by, point_is}
 use Rattle.xl_table.proofs.files.count_before.Goals as goal
 
 pub returns-clause-count : goal.returns-clause-count

@@ -1,7 +1,7 @@
 use Rattle.std.proofs.Common.{rules}
 use Rattle.std.proofs.lemmas.List.Sorted.{IsPartitionPoint-from_clause}
 use Rattle.xl_table.specs.Pages.{passes}
-use Rattle.xl_table.proofs.SectionLaws.{parted_by, point_is}
+use Rattle.xl_index.proofs.PartedLaws.{parted_by, point_is}
 use Rattle.xl_table.proofs.page.count_passing.Goals as goal
 
 pub returns-clause-count : goal.returns-clause-count

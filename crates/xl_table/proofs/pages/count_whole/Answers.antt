@@ -2,7 +2,7 @@ use Rattle.std.proofs.Common.{Bool, List, rules}
 use Rattle.std.proofs.lemmas.List.Sorted.{IsPartitionPoint-from_clause}
 use Rattle.xl_matrix.specs.declared.claim.Claim.{Claim}
 use Rattle.xl_table.specs.Pages.{passes, ends}
-use Rattle.xl_table.proofs.SectionLaws.{parted_by, point_is}
+use Rattle.xl_index.proofs.PartedLaws.{parted_by, point_is}
 use Rattle.xl_table.proofs.PageLaws.{pages_parted}
 use Rattle.xl_table.proofs.pages.count_whole.Goals as goal
 

@@ -2,7 +2,7 @@ use Rattle.std.proofs.Common.{ℕ, List, Option, ap, sym, subst, ◌∙◌}
 use Rattle.std.specs.List.{slice_get, prefix_len}
 use Rattle.xl_matrix.specs.declared.claim.Claim.{Claim}
 use Rattle.xl_table.specs.Pages.{paged, passes, is_met_there}
-use Rattle.xl_table.specs.Sections.{IsParted}
+use Rattle.xl_index.specs.Parted.{IsParted}
 use Rattle.xl_table.specs.declared.marks.Mark.TheVariants.{Ending}
 use Rattle.xl_table.proofs.TouchLaws.{byte_asked}
 use Rattle.xl_table.proofs.touching.has_byte_posix.Goals as goal

@@ -1,0 +1,5 @@
+pub mod Totals
+pub mod Parted
+pub mod Moments
+pub mod Stands
+pub mod Index

@@ -1,0 +1,148 @@
+//! What is done, and listed, file by file: only those files are gone through on which the index says that someone stands.
+ghost use Rattle.std.specs.Prelude.{◌≡◌, ◌&&◌, Bool, [], ◌∷◌, false, true, not, List, IfOk};
+ghost use Rattle.std.specs.List.{AllByRecursion, filter};
+ghost use Rattle.xl_base.specs.Lists.{Pairwise};
+ghost use Rattle.xl_index.specs.Index.{Has, HasLeft, IsIndexOf};
+ghost use Rattle.xl_index.specs.Stands.{is_by};
+ghost use Rattle.xl_matrix.specs.Equal.{same_parties};
+ghost use Rattle.xl_matrix.specs.declared.claim.Claim.{Claim};
+ghost use Rattle.xl_table.specs.Files.{joined, IsFiled};
+ghost use Rattle.xl_table.specs.Leaving.{goes, goes_on};
+ghost use Rattle.xl_table.specs.declared.leaver.Leaver.TheVariants as Leaver;
+ghost use Rattle.xl_table.specs.Order.{goes_first};
+ghost use Rattle.xl_table.specs.Pages.{paged};
+
+use crate::files::{OnFile, find_file, on_file};
+use crate::leaver::{Leaver, goes};
+use crate::listing::{drop_in, push_party_in};
+use crate::page::Page;
+use std::alloc::{AllocError, Global};
+use xl_base::Party;
+use xl_index::{Index, who_of, who_opens};
+use xl_matrix::Claim;
+
+/// Takes a claim out of the index, where it goes.
+#[tactic(auto, using(crate::proofs::LeavingLaws::one_goes, crate::proofs::LeavingLaws::one_stays, crate::proofs::LeavingLaws::one_has))]
+fn leave_one(index: &mut Index, claim: &Claim, leaver: Leaver)
+    requires { Has index.old (filter (goes leaver) (claim.now ∷ [])) }
+    ensures { HasLeft index.old index.new (filter (goes leaver) (claim.now ∷ [])) }
+{
+    if goes(leaver, claim) {
+        index.leave(claim);
+    }
+}
+
+/// Takes those of these claims out of the index that go.
+#[tactic(auto, using(crate::proofs::LeavingLaws::claim_first, crate::proofs::LeavingLaws::claim_rest, crate::proofs::LeavingLaws::claim_both, crate::proofs::IndexedLaws::none_left))]
+fn leave_page(index: &mut Index, claims: &[Claim], leaver: Leaver)
+    requires { Has index.old (filter (goes leaver) claims.now) }
+    ensures { HasLeft index.old index.new (filter (goes leaver) claims.now) }
+{
+    if let [claim, rest @ ..] = claims {
+        leave_one(index, claim, leaver);
+        leave_page(index, rest, leaver);
+    }
+}
+
+/// Takes those of the claims in these pages out of the index that go.
+#[tactic(auto, using(crate::proofs::LeavingLaws::first_has, crate::proofs::LeavingLaws::rest_has, crate::proofs::LeavingLaws::both_left, crate::proofs::IndexedLaws::none_left))]
+fn leave_file(index: &mut Index, pages: &[Page], leaver: Leaver)
+    requires { Has index.old (filter (goes leaver) (paged pages.now)) }
+    ensures { HasLeft index.old index.new (filter (goes leaver) (paged pages.now)) }
+{
+    if let [page, rest @ ..] = pages {
+        leave_page(index, page.as_slice(), leaver);
+        leave_file(index, rest, leaver);
+    }
+}
+
+/// Takes the claims on a file out that go.
+fn drop_on(lists: &mut Vec<OnFile>, index: &mut Index, file: u32, leaver: Leaver)
+    requires filed { IsFiled lists.old.items }
+    requires ordered { Pairwise goes_first (joined lists.old.items) }
+    requires index { IsIndexOf index.old (joined lists.old.items) }
+    ensures claims { joined lists.new.items ≡ filter (λ c. not (goes_on leaver file c)) (joined lists.old.items) }
+    ensures filed { IsFiled lists.new.items }
+    ensures index { IsIndexOf index.new (joined lists.new.items) }
+{
+    if let Some(at) = find_file(lists.as_slice(), file) {
+        leave_file(index, &lists[at].pages, leaver);
+        drop_in(&mut lists[at].pages, leaver);
+    }
+}
+
+/// Takes the claims out that go, on each file on which this one stands.
+#[tactic(auto, using(crate::proofs::LeavingLaws::dropping_first, crate::proofs::LeavingLaws::dropping_more, crate::proofs::LeavingLaws::dropping_done, crate::proofs::LeavingLaws::fewer_left))]
+fn drop_by(lists: &mut Vec<OnFile>, index: &mut Index, leaver: Leaver, who: u64)
+    requires filed { IsFiled lists.old.items }
+    requires ordered { Pairwise goes_first (joined lists.old.items) }
+    requires index { IsIndexOf index.old (joined lists.old.items) }
+    ensures gone { AllByRecursion (λ c. (goes leaver c && is_by who c) ≡ false) (joined lists.new.items) }
+    ensures fewer { (p : Claim → Bool) → AllByRecursion (λ c. p c ≡ true) (joined lists.old.items) → AllByRecursion (λ c. p c ≡ true) (joined lists.new.items) }
+    ensures still { filter (λ c. not (goes leaver c)) (joined lists.new.items) ≡ filter (λ c. not (goes leaver c)) (joined lists.old.items) }
+    ensures filed { IsFiled lists.new.items }
+    ensures ordered { Pairwise goes_first (joined lists.new.items) }
+    ensures index { IsIndexOf index.new (joined lists.new.items) }
+{
+    let mut past = None;
+    'files: while let Some(file) = index.next_file(who, past) {
+        drop_on(lists, index, file, leaver);
+        past = Some(file);
+    }
+}
+
+/// Takes the claims out that go with an SMB open, and with the party that goes with it, if one does.
+fn drop_open(lists: &mut Vec<OnFile>, index: &mut Index, number: u32, party: Option<Party>)
+    requires filed { IsFiled lists.old.items }
+    requires ordered { Pairwise goes_first (joined lists.old.items) }
+    requires index { IsIndexOf index.old (joined lists.old.items) }
+    ensures claims { joined lists.new.items ≡ filter (λ held. not (goes (Leaver.Open number party) held)) (joined lists.old.items) }
+    ensures filed { IsFiled lists.new.items }
+    ensures index { IsIndexOf index.new (joined lists.new.items) }
+{
+    match party {
+        None => drop_by(lists, index, Leaver::Open(number, None), who_opens(number)),
+        Some(own) => {
+            let leaver = Leaver::Open(number, Some(own));
+            drop_by(lists, index, leaver, who_opens(number));
+            drop_by(lists, index, leaver, who_of(own));
+        }
+    }
+}
+
+/// Takes the claims out that go.
+pub(crate) fn drop_leaver(lists: &mut Vec<OnFile>, index: &mut Index, leaver: Leaver)
+    requires filed { IsFiled lists.old.items }
+    requires ordered { Pairwise goes_first (joined lists.old.items) }
+    requires index { IsIndexOf index.old (joined lists.old.items) }
+    ensures claims { joined lists.new.items ≡ filter (λ held. not (goes leaver held)) (joined lists.old.items) }
+    ensures filed { IsFiled lists.new.items }
+    ensures index { IsIndexOf index.new (joined lists.new.items) }
+{
+    match leaver {
+        Leaver::Party(party) => drop_by(lists, index, leaver, who_of(party)),
+        Leaver::Open(number, party) => drop_open(lists, index, number, party),
+    }
+}
+
+/// Those of the party.
+pub(crate) fn list_party(
+    alloc: Global,
+    lists: &[OnFile],
+    index: &Index,
+    party: Party,
+) -> Result<Vec<Claim>, AllocError>
+    requires filed { IsFiled lists.now }
+    requires ordered { Pairwise goes_first (joined lists.now) }
+    requires index { IsIndexOf index.now (joined lists.now) }
+    ensures { IfOk result (λ v. v.items ≡ filter (λ held. same_parties held.party party) (joined lists.now)) }
+{
+    let who = who_of(party);
+    let mut found = Vec::new(alloc);
+    let mut past = None;
+    'files: while let Some(file) = index.next_file(who, past) {
+        push_party_in(alloc, &mut found, on_file(lists, file), party)?;
+        past = Some(file);
+    }
+    Ok(found)
+}
