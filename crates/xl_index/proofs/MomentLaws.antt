@@ -45,14 +45,7 @@ pub row : {A : Type 0} (xs : List A) (d : A) → 1 ≤ length xs → xs ≡ get_
 row [] d h = absurd (omega (arith, h))
 row (x ∷ xs) d h = let n : length (x ∷ xs) - 1 ≡ length xs = omega arith in ap (λ ys. x ∷ ys) (sym (ap (λ (k : ℕ). take k xs) n ∙ whole xs))
 
--- what is left of a list from a place on, of which the first stands there
-pub row_here : {A : Type 0} (xs : List A) (i : ℕ) (x : A) → i < length xs → x ≡ get_or xs i x → drop i xs ≡ x ∷ drop (i + 1) xs
-row_here xs i x h is =
-    drop-cons xs i x h ∙ ap (λ (k : ℕ). get_or xs i x ∷ drop k xs) (suc-eq-add-one i) ∙ ap (λ y. y ∷ drop (i + 1) xs) (sym is)
-
-pub row_at : {A : Type 0} (xs : List A) (i : ℕ) (d : A) → i < length xs → drop i xs ≡ get_or xs i d ∷ drop (i + 1) xs
-row_at xs i d h = drop-cons xs i d h ∙ ap (λ (k : ℕ). get_or xs i d ∷ drop k xs) (suc-eq-add-one i)
-
+-- what is left of moments from a place on, of which the first stands there
 pub row_read : (ms : List ℕ) (i : ℕ) → i < length ms → drop i ms ≡ get_or ms i 0 ∷ drop (i + 1) ms
 row_read ms i h = drop-cons ms i 0 h ∙ ap (λ (k : ℕ). get_or ms i 0 ∷ drop k ms) (suc-eq-add-one i)
 

@@ -277,46 +277,6 @@ on_err (Err e) p = p
 
 -- ---- each list without some of its claims
 
--- of the first so many lists only the claims that pass the test are left, and the others are as they were
-abbrev pub AreThinned : (Claim → Bool) → ℕ → List OnFile → List OnFile → Type 0
-AreThinned p zero xs ys = xs ≡ ys
-AreThinned p (suc n) [] [] = Unit {0}
-AreThinned p (suc n) (x ∷ xs) (y ∷ ys) = (x.file ≡ y.file) × ((paged x.pages.items) ≡ filter p (paged y.pages.items)) × AreThinned p n xs ys × AreFull x.pages.items
-AreThinned p (suc n) [] (y ∷ ys) = ⊥
-AreThinned p (suc n) (x ∷ xs) [] = ⊥
-
-pub thinned_more : (p : Claim → Bool) (n : ℕ) (xs ys : List OnFile) (x z : OnFile) → AreThinned p n xs ys → n < length xs → x ≡ get_or xs n x → z.file ≡ x.file → AreFull z.pages.items → (paged z.pages.items) ≡ filter p (paged x.pages.items) → AreThinned p (suc n) (set xs n z) ys
-thinned_more p zero [] ys x z thin h is e full new = absurd (omega (arith, h))
-thinned_more p zero (w ∷ ws) ys x z thin h is e full new =
-    subst (λ (us : List OnFile). AreThinned p 1 (z ∷ ws) us) thin (e ∙ ap (λ (u : OnFile). u.file) is, new ∙ ap (λ (u : OnFile). filter p (paged u.pages.items)) is, refl, full)
-thinned_more p (suc n) [] ys x z thin h is e full new = absurd (omega (arith, h))
-thinned_more p (suc n) (w ∷ ws) [] x z thin h is e full new = absurd thin
-thinned_more p (suc n) (w ∷ ws) (y ∷ ys) x z thin h is e full new = (thin.0, thin.1, thinned_more p n ws ys x z thin.2 (omega (arith, h)) is e full new, thin.3)
-
-thinned_past : (p : Claim → Bool) (m n : ℕ) (xs ys : List OnFile) → AreThinned p n xs ys → AllByRecursion (λ l. nat_lt m l.file ≡ true) ys → AllByRecursion (λ l. nat_lt m l.file ≡ true) xs
-thinned_past p m zero xs ys thin all = subst (λ (us : List OnFile). AllByRecursion (λ l. nat_lt m l.file ≡ true) us) (sym thin) all
-thinned_past p m (suc n) [] ys thin all = tt
-thinned_past p m (suc n) (x ∷ xs) [] thin all = absurd thin
-thinned_past p m (suc n) (x ∷ xs) (y ∷ ys) thin all = (subst (λ (k : ℕ). nat_lt m k ≡ true) (sym thin.0) all.0, thinned_past p m n xs ys thin.2 all.1)
-
-pub thinned_done : (p : Claim → Bool) (n : ℕ) (xs ys : List OnFile) → IsFiled ys → length xs ≤ n → AreThinned p n xs ys → IsDone (filter p) ys xs
-thinned_done p zero [] ys filed h thin = subst (λ (us : List OnFile). IsDone (filter p) us []) thin (record { claims = refl; filed = tt })
-thinned_done p zero (x ∷ xs) ys filed h thin = absurd (omega (arith, h))
-thinned_done p (suc n) [] [] filed h thin = record { claims = refl; filed = tt }
-thinned_done p (suc n) [] (y ∷ ys) filed h thin = absurd thin
-thinned_done p (suc n) (x ∷ xs) [] filed h thin = absurd thin
-thinned_done p (suc n) (x ∷ xs) (y ∷ ys) filed h thin =
-    let rest = thinned_done p n xs ys filed.2 (omega (arith, h)) thin.2 in
-    record {
-      claims = ap (λ (ds : List Claim). ds ++ joined xs) thin.1 ∙ ap (λ (ds : List Claim). filter p (paged y.pages.items) ++ ds) rest.claims ∙ sym (filter-append p (paged y.pages.items) (joined ys));
-      filed = (
-        subst (λ (ds : List Claim). AreOn x.file ds) (sym thin.1) (subst (λ (k : ℕ). AreOn k (filter p (paged y.pages.items))) (sym thin.0) (all_filtered (λ c. (c.file == y.file) ≡ true) p (paged y.pages.items) filed.0)),
-        subst (λ (k : ℕ). AllByRecursion (λ m. nat_lt k m.file ≡ true) xs) (sym thin.0) (thinned_past p y.file n xs ys thin.2 filed.1),
-        rest.filed,
-        thin.3,
-      );
-    }
-
 -- ---- what of a list passes a test, list by list
 
 pub filtered_more : (p : Claim → Bool) (out claims rest whole new : List Claim) → new ≡ out ++ filter p claims → out ++ filter p (claims ++ rest) ≡ whole → new ++ filter p rest ≡ whole

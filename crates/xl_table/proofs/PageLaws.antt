@@ -1,5 +1,5 @@
 -- What is found in pages is what is found in their claims, one behind another.
-use Rattle.std.proofs.Common.{◌≡◌, ℕ, ◌+◌, ◌-◌, ◌<◌, ◌≤◌, ◌^◌, suc, zero, nat_lt, Bool, true, false, ◌||◌, List, [], ◌∷◌, ◌++◌, length, take, drop, get_or, Some, None, refl, sym, ap, subst, ◌∙◌, inl, inr, arith, append_assoc}
+use Rattle.std.proofs.Common.{◌≡◌, ℕ, ◌+◌, ◌-◌, ◌<◌, ◌≤◌, suc, zero, nat_lt, Bool, true, false, ◌||◌, List, [], ◌∷◌, ◌++◌, length, take, drop, get_or, Some, None, refl, sym, ap, subst, ◌∙◌, inl, inr, arith, append_assoc}
 use Rattle.std.proofs.Math.Numerals.{one-add}
 use Rattle.std.proofs.Math.ListN.{set}
 use Rattle.std.proofs.lemmas.List.Elements.{filter-append}
@@ -613,12 +613,6 @@ any_more p (x ∷ xs) ys = elim (cases_Bool (p x)) [ inl h ↦ rw h refl | inr h
 
 pub joined_more : (all more rest whole new : List Claim) → new ≡ all ++ more → all ++ (more ++ rest) ≡ whole → new ++ rest ≡ whole
 joined_more all more rest whole new e so_far = ap (λ (ds : List Claim). ds ++ rest) e ∙ append_assoc all more rest ∙ so_far
-
-pub counted_more : (n m : ℕ) (more rest whole : List Claim) → m ≡ length more → n + length (more ++ rest) ≡ length whole → n + m + length rest ≡ length whole
-counted_more n m more rest whole is so_far = omega (arith, is, so_far, length-append more rest)
-
-pub counted_fits : (n : ℕ) (more rest whole : List Claim) → n + length (more ++ rest) ≡ length whole → length whole ≤ 16384 → length more < 2 ^ 32
-counted_fits n more rest whole so_far room = omega (arith, so_far, room, length-append more rest)
 
 -- ---- pages without some of their claims
 
