@@ -3,6 +3,7 @@ ghost use Rattle.std.specs.Prelude.{◌≡◌, ℕ, ◌≤◌, List, Some, optio
 ghost use Rattle.xl_core.specs.State.{MayBe};
 ghost use Rattle.xl_front_nlm.specs.Answers.{is_granted, refuses_with, refuses_by, refuses, refused_grant, given_up, nlm_called};
 ghost use Rattle.xl_front_nlm.specs.Hosts.{rooms};
+ghost use Rattle.xl_front_nlm.specs.Parts.{core_of, front_of};
 ghost use Rattle.xl_front_nlm.specs.Short.{AreShort, IsShortGrant, IsReady, Leaves};
 ghost use Rattle.xl_nlm.specs.Replies.{results_at};
 ghost use Rattle.xl_rpc.specs.Replies.{reply_at};
@@ -10,8 +11,8 @@ ghost use Rattle.xl_rpc.specs.Replies.{reply_at};
 use crate::asks::refusal_ask;
 use crate::call::GrantedCall;
 use crate::deeds::asked;
-use crate::front::Front;
 use crate::grant::{Grant, grant_of};
+use crate::parts::NlmParts;
 use std::alloc::{AllocError, Global};
 use xl_base::{Keeper, Sequence};
 use xl_core::{Core, Effect};
@@ -104,24 +105,24 @@ fn give_up<K: Keeper>(
 #[tactic(auto, unfolding(crate::specs::Answers::nlm_called), using(crate::proofs::StepLaws::leaves_self))]
 pub fn nlm_called<K: Keeper>(
     alloc: Global,
-    front: &mut Front,
-    core: &mut Core,
+    parts: NlmParts,
     keeper: &mut K,
     number: u64,
     reply: Option<&[u8]>,
 ) -> Result<Sequence<Effect>, AllocError>
-    requires ready { IsReady core.old }
-    ensures state { (n : ℕ) → IfOk result (λ effects. MayBe n core.new → nlm_called n front.old core.old number (option_map (λ bytes. bytes.now) reply.entry) ≡ (effects, front.new, core.new)) }
-    ensures leaves { OnOk result (Leaves core.old core.new) }
-    ensures hosts { front.new.hosts ≡ front.old.hosts }
+    requires ready { IsReady parts.core.now }
+    ensures state { (n : ℕ) → IfOk result (λ effects. MayBe n (core_of parts.exit) → nlm_called n parts.entry.front.now parts.entry.core.now number (option_map (λ bytes. bytes.now) reply.entry) ≡ (effects, front_of parts.exit, core_of parts.exit)) }
+    ensures leaves { OnOk result (Leaves parts.entry.core.now (core_of parts.exit)) }
+    ensures hosts { (front_of parts.exit).hosts ≡ parts.entry.front.now.hosts }
     ensures keeper { keeper.new ≡ keeper.old }
 {
+    let NlmParts { front, core } = parts;
     let refused = refuses(reply);
     let Some(call) = front.take(number) else {
         return Ok(Sequence::new(alloc));
     };
-    match refused_grant(alloc, core, refused, &call)? {
-        Some(grant) => give_up(alloc, core, keeper, &front.rooms(), &grant),
-        None => Ok(Sequence::new(alloc)),
-    }
+    let Some(grant) = refused_grant(alloc, core, refused, &call)? else {
+        return Ok(Sequence::new(alloc));
+    };
+    give_up(alloc, core, keeper, &front.rooms(), &grant)
 }

@@ -11,14 +11,15 @@ ghost use Rattle.xl_rpc.specs.Replies.{reply};
 ghost use Rattle.xl_rpc.specs.declared.reply.Verdict.TheVariants.{Success, GarbageArgs};
 ghost use Rattle.xl_core.specs.State.{MayBe};
 ghost use Rattle.xl_front_nlm.specs.FrontNlm.{call_in, replied, nlm_step};
+ghost use Rattle.xl_front_nlm.specs.Parts.{core_of, front_of};
 ghost use Rattle.xl_front_nlm.specs.Short.{IsReady, Leaves};
 
-use crate::front::Front;
+use crate::parts::NlmParts;
 use crate::procedures::serve;
 use crate::results::reply_of;
 use std::alloc::{AllocError, Global};
 use xl_base::{Exports, Keeper, Out, Sequence};
-use xl_core::{Core, Effect};
+use xl_core::Effect;
 use xl_nlm::{NlmCall, NlmReply, read, write_result};
 use xl_programs::{Program, Request, refusal, sent_to};
 use xl_rpc::{Verdict, XdrOut, write_reply};
@@ -68,22 +69,22 @@ fn garbage(alloc: Global, xid: u32) -> Result<(Vec<u8>, Sequence<Effect>), Alloc
 fn replied<K: Keeper>(
     alloc: Global,
     count: usize,
-    front: &mut Front,
-    core: &mut Core,
+    parts: NlmParts,
     keeper: &mut K,
     request: &Request,
 ) -> Result<(Vec<u8>, Sequence<Effect>), AllocError>
     requires known { serves Program.Nlm request.now.procedure ≡ true }
-    requires ready { IsReady core.old }
-    ensures done { (n : ℕ) → IfOk result (λ r. MayBe n core.new → replied n count front.old core.old request.now.xid (call_in (shown_request request.now)) ≡ (r.0.items, r.1, front.new, core.new)) }
-    ensures leaves { OnOk result (Leaves core.old core.new) }
+    requires ready { IsReady parts.core.now }
+    ensures done { (n : ℕ) → IfOk result (λ r. MayBe n (core_of parts.exit) → replied n count parts.entry.front.now parts.entry.core.now request.now.xid (call_in (shown_request request.now)) ≡ (r.0.items, r.1, front_of parts.exit, core_of parts.exit)) }
+    ensures leaves { OnOk result (Leaves parts.entry.core.now (core_of parts.exit)) }
     ensures keeper { keeper.new ≡ keeper.old }
     ensures little { IfOk result (λ r. length r.0.items ≤ most_message_bytes) }
 {
     let Some(call) = call_in(request) else {
         return garbage(alloc, request.xid);
     };
-    let (outcome, effects) = serve(alloc, count, front, core, keeper, &call)?;
+    let NlmParts { front, core } = parts;
+    let (outcome, effects) = serve(alloc, count, NlmParts { front, core }, keeper, &call)?;
     let told = reply_of(core.names(), &call, outcome);
     let reply = with_results(alloc, request.xid, &told)?;
     Ok((reply, effects))
@@ -99,20 +100,19 @@ fn replied<K: Keeper>(
 pub fn nlm_step<K: Keeper>(
     alloc: Global,
     exports: &Exports,
-    front: &mut Front,
-    core: &mut Core,
+    parts: NlmParts,
     keeper: &mut K,
     conn: u64,
     request: &Request,
 ) -> Result<(Sequence<Out>, Sequence<Effect>), AllocError>
     requires known { serves Program.Nlm request.now.procedure ≡ true }
-    requires ready { IsReady core.old }
-    ensures state { (n : ℕ) → IfOk result (λ r. MayBe n core.new → nlm_step n exports.now front.old core.old conn (shown_request request.now) ≡ (r.0, r.1, front.new, core.new)) }
-    ensures leaves { OnOk result (Leaves core.old core.new) }
+    requires ready { IsReady parts.core.now }
+    ensures state { (n : ℕ) → IfOk result (λ r. MayBe n (core_of parts.exit) → nlm_step n exports.now parts.entry.front.now parts.entry.core.now conn (shown_request request.now) ≡ (r.0, r.1, front_of parts.exit, core_of parts.exit)) }
+    ensures leaves { OnOk result (Leaves parts.entry.core.now (core_of parts.exit)) }
     ensures little { IfOk result (λ r. AllByRecursion FitsFrame r.0) }
     ensures keeper { keeper.new ≡ keeper.old }
 {
     let count = exports.files.len();
-    let (reply, effects) = replied(alloc, count, front, core, keeper, request)?;
+    let (reply, effects) = replied(alloc, count, parts, keeper, request)?;
     Ok((sent_to(alloc, conn, reply)?, effects))
 }

@@ -24,7 +24,7 @@ use crate::settling::settle;
 use std::alloc::{AllocError, Global};
 use xl_base::{Event, Exports, Keeper, Kind, Moment, Out, Sequence};
 use xl_front_nfs::{nfs_step, nfs_tick};
-use xl_front_nlm::{nlm_called, nlm_step};
+use xl_front_nlm::{NlmParts, nlm_called, nlm_step};
 use xl_front_smb::{smb_begin, smb_end, smb_step};
 use xl_programs::{Incoming, Program, Request, read_incoming, refusal, sent_to};
 use xl_rpc::Verdict;
@@ -71,8 +71,10 @@ fn hear_nlm<K: Keeper>(
     let (reply, effects) = nlm_step(
         alloc,
         exports,
-        &mut parts.front.nlm,
-        &mut parts.core,
+        NlmParts {
+            front: &mut parts.front.nlm,
+            core: &mut parts.core,
+        },
         keeper,
         number,
         request,
@@ -286,8 +288,10 @@ fn hear_answer<K: Keeper>(
 {
     let effects = nlm_called(
         alloc,
-        &mut parts.front.nlm,
-        &mut parts.core,
+        NlmParts {
+            front: &mut parts.front.nlm,
+            core: &mut parts.core,
+        },
         keeper,
         call,
         bytes_of(reply),

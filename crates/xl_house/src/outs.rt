@@ -12,7 +12,7 @@ use xl_base::{Dest, Exports, Kind, Out, Sequence};
 use xl_core::Effect;
 use xl_frame::wrap;
 use xl_front_nfs::{nfs_shown, recalls};
-use xl_front_nlm::shown;
+use xl_front_nlm::{NlmParts, shown};
 use xl_front_smb::smb_shown;
 
 /// An out in its frame, where it goes to a connection of this kind; a call has none.
@@ -62,8 +62,10 @@ fn show(
     let calls = shown(
         alloc,
         exports,
-        &mut parts.front.nlm,
-        &mut parts.core,
+        NlmParts {
+            front: &mut parts.front.nlm,
+            core: &mut parts.core,
+        },
         effect,
     )?;
     send_all(alloc, Kind::Rpc, calls, outs)?;
