@@ -55,14 +55,11 @@ fn find_waiter(owner: Owner, at: &Aim, exclusive: bool, waiters: &[Waiter]) -> O
         .map(|waiter| waiter.id)
 }
 
-/// The same of an NLM owner by its number. Who wait are looked at only where one of them waits on the file.
+/// The same of an NLM owner by its number.
 fn waiter_by(queue: &Queue, at: &Aim, exclusive: bool, number: Option<u32>) -> Option<u32>
     ensures value { result ≡ waiter_by queue.now at.now exclusive number }
     ensures waits { IfSome result (λ id. is_waiting id queue.now ≡ true) }
 {
-    if !queue.waits_on(at.file) {
-        return None;
-    }
     match number {
         Some(known) => {
             let owner = Owner::Name(Protocol::Nlm, known);
@@ -72,7 +69,8 @@ fn waiter_by(queue: &Queue, at: &Aim, exclusive: bool, number: Option<u32>) -> O
     }
 }
 
-/// The number of the first waiter of the same owner, file, range and mode.
+/// The number of the first waiter of the same owner, file, range and mode. The owner is looked up, and who wait are
+/// looked at, only where one of them waits on the file.
 pub(crate) fn waiter_for(
     alloc: Global,
     core: &Core,
@@ -83,6 +81,9 @@ pub(crate) fn waiter_for(
     ensures value { IfOk result (λ id. id ≡ waiter_for core.now (shown_lock lock.now) exclusive at.now) }
     ensures waits { IfOk result (λ id. IfSome id (λ number. is_waiting number core.now.waiters ≡ true)) }
 {
+    if !core.queue().waits_on(at.file) {
+        return Ok(None);
+    }
     let number = core.names().find(&owner_of(alloc, lock)?);
     Ok(waiter_by(core.queue(), at, exclusive, number))
 }

@@ -23,6 +23,12 @@ zeros_are (suc (suc zero)) h = refl
 zeros_are (suc (suc (suc zero))) h = refl
 zeros_are (suc (suc (suc (suc n)))) h = absurd (omega arith)
 
+-- of nothing the length alone is spelled
+pub opaque_none : (bytes : List ℕ) → (length bytes == 0) ≡ true → unsigned 0 ≡ opaque bytes
+unfolding fixed opaque pad
+opaque_none [] e = sym (append-nil (unsigned 0))
+opaque_none (b ∷ bytes) e = absurd (omega (arith, eqb-true (length (b ∷ bytes)) 0 e))
+
 -- bytes that are all zero
 zeros_from : (n : ℕ) (bytes : List ℕ) → length bytes ≡ n → list_all (λ b. b == 0) bytes ≡ true → bytes ≡ replicate n 0
 zeros_from zero [] len all = refl

@@ -52,6 +52,9 @@ const DENIED: u32 = 1;
 
 const AUTH_NONE: u32 = 0;
 
+/// The room that a reply takes at first, in bytes: as many as it has with results that are short.
+const REPLY_ROOM: usize = 64;
+
 /// The verdict behind an accept_stat.
 fn read_accepted_with(stat: u32, xdr: &mut Xdr) -> Result<Verdict, RpcBad>
     ensures { Advances (λ v. v) result xdr.old.rest.now xdr.new.rest.now (accepted_with stat xdr.old.rest.now) }
@@ -235,5 +238,6 @@ pub fn write_reply(out: &mut XdrOut, xid: u32, verdict: Verdict) -> Result<(), A
     ensures again { OnOk result (IsReadAgain reply_at (xid, verdict) out.old out.new) }
     ensures err { OnErr result (out.new ≡ out.old) }
 {
+    out.reserve(REPLY_ROOM)?;
     put_whole!(out; put_reply(out, xid, verdict))
 }

@@ -153,6 +153,13 @@ impl XdrOut {
         self.bytes.extend_from_slice(written.as_slice())
     }
 
+    /// Takes room for so many bytes more, which are then written without taking memory. Nothing is written.
+    pub fn reserve(&mut self, bytes: usize) -> Result<(), AllocError>
+        ensures { self.new ≡ self.old }
+    {
+        self.bytes.reserve(bytes)
+    }
+
     /// How many bytes are written so far.
     pub fn len(&self) -> usize
         ensures { result ≡ length self.now }
@@ -199,11 +206,15 @@ fn put_units(bytes: &mut Vec<u8>, front: &[u8], value: &[u8]) -> Result<(), Allo
     Ok(())
 }
 
+/// Of nothing the length alone is written.
 #[tactic(auto, unfolding(crate::specs::Xdr::opaque, xl_base::specs::Codec::big_endian))]
 fn put_opaque(bytes: &mut Vec<u8>, value: &[u8]) -> Result<(), AllocError>
     requires { length value.now < 2 ^ 32 }
     ensures ok { OnOk result (bytes.new.items ≡ bytes.old.items ++ opaque value.now) }
     ensures err { OnErr result (bytes.new.items ≡ bytes.old.items) }
 {
+    if value.is_empty() {
+        return put_u32(bytes, 0);
+    }
     put_units(bytes, &(value.len() as u32).to_be_bytes(), value)
 }

@@ -1,14 +1,11 @@
-use Rattle.std.proofs.Common.{Bool, List, option_map, sym, ap, ◌∙◌}
+use Rattle.std.proofs.Common.{Bool, List, option_map, ap, ◌∙◌}
 use Rattle.std.specs.List.{find}
 use Rattle.xl_base.specs.declared.name.Owner.TheVariants as owners
 use Rattle.xl_base.specs.declared.name.Protocol.TheVariants.{Nlm}
 use Rattle.xl_wait.specs.declared.waiter.Waiter.{Waiter}
-use Rattle.xl_front_nlm.proofs.StandLaws.{found_waits, nobody_there}
+use Rattle.xl_front_nlm.proofs.StandLaws.{found_waits}
 use Rattle.xl_front_nlm.specs.Standing.{waits_for}
 use Rattle.xl_front_nlm.proofs.standing.waiter_by.Goals as goal
-
-pub returns-then-not-waits_on-clause-value : goal.returns-then-not-waits_on-clause-value
-returns-then-not-waits_on-clause-value c = sym (nobody_there c.args.queue.now c.args.at.now c.args.exclusive c.args.number (sym c.waits_on.ensures ∙ c.if-not-waits_on.true))
 
 pub returns-in-Some-clause-waits : goal.returns-in-Some-clause-waits
 returns-in-Some-clause-waits c =
