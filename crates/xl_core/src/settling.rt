@@ -1,15 +1,18 @@
 //! Whose turn comes, and what it gets.
 ghost use Rattle.std.specs.Prelude.{◌≡◌, ◌+◌, ◌<◌, ◌^◌, ℕ, [], ◌∷◌, Ok, None, option_map, IfOk};
+ghost use Rattle.std.specs.List.{AllByRecursion};
 ghost use Rattle.xl_base.specs.Limits.{numbers_left};
 ghost use Rattle.xl_wait.specs.declared.waiter.Waiter.{Waiter};
 ghost use Rattle.xl_core.specs.Good.{is_held_up, holds_up, IsGood};
 ghost use Rattle.xl_core.specs.Settle.{plea_again, all_of, turned, settle, called_of, first_called};
+ghost use Rattle.xl_core.specs.Watch.{AreHeldUp, IsHeldUp};
 ghost use Rattle.xl_core.specs.Whole.{state_of};
 
 use crate::ask::{Answer, Effect};
 use crate::blockers::{all_run, is_stopped};
 use crate::judge::{Plea, Ruling, judge_all};
 use crate::parts::Parts;
+use crate::unsettled::{Unsettled, is_among};
 use crate::ways::make_way;
 use crate::wishing::grant_for;
 use std::alloc::{AllocError, Global};
@@ -65,12 +68,24 @@ fn is_held_up(
     all_run(alloc, parts, claim)
 }
 
-/// Whether the first claim that the waiter asks for is held up.
-fn holds_up(alloc: Global, parts: &Parts, waiter: &Waiter) -> Result<bool, AllocError>
+/// Whether the first claim that the waiter asks for is held up. What is held on its file is looked at only where that is
+/// one of the unsettled files.
+fn holds_up(
+    alloc: Global,
+    parts: &Parts,
+    unsettled: Unsettled,
+    waiter: &Waiter,
+) -> Result<bool, AllocError>
+    requires { IsHeldUp unsettled parts.now.table waiter.now waiter.now.asked }
     ensures { IfOk result (λ b. b ≡ holds_up parts.now.table waiter.now waiter.now.asked) }
 {
     match waiter.asked.as_slice() {
-        [claim, ..] => is_held_up(alloc, parts, waiter, claim),
+        [claim, ..] => {
+            if !is_among(unsettled, claim.file) {
+                return Ok(true);
+            }
+            is_held_up(alloc, parts, waiter, claim)
+        }
         [] => Ok(false),
     }
 }
@@ -87,16 +102,18 @@ fn called_of(alloc: Global, parts: &Parts, waiter: &Waiter) -> Result<Called, Al
     })
 }
 
-/// The first of these that isn't held up.
+/// The first of these that isn't held up, who waits on one of the unsettled files.
 fn first_called(
     alloc: Global,
     parts: &Parts,
+    unsettled: Unsettled,
     waiters: &[Waiter],
 ) -> Result<Option<Called>, AllocError>
+    requires { AllByRecursion (λ w. IsHeldUp unsettled parts.now.table w w.asked) waiters.now }
     ensures { IfOk result (λ called. called ≡ first_called (state_of parts.now) waiters.now) }
 {
     for waiter in waiters {
-        if !holds_up(alloc, parts, waiter)? {
+        if !holds_up(alloc, parts, unsettled, waiter)? {
             return Ok(Some(called_of(alloc, parts, waiter)?));
         }
     }
@@ -142,21 +159,23 @@ fn serve(
     Ok(effects)
 }
 
-/// One turn, where a waiter has one.
+/// One turn, where a waiter has one. It is looked for among those who wait on the unsettled files.
 #[tactic(auto, unfolding(crate::specs::Settle::settle))]
 pub(crate) fn settle(
     alloc: Global,
     parts: &mut Parts,
+    unsettled: Unsettled,
     left: &Rooms,
 ) -> Result<Option<Sequence<Effect>>, AllocError>
     requires good { IsGood (state_of parts.old) }
+    requires held_up { AreHeldUp unsettled (state_of parts.old) }
     requires numbers { parts.old.counter + numbers_left < 2 ^ 32 }
     ensures turn { (n : ℕ) → IfOk result (λ r. settle n left.now (state_of parts.old) ≡ option_map (λ effects. (effects, state_of parts.new)) r) }
     ensures none { result ≡ Ok None → parts.new ≡ parts.old }
     ensures made { parts.new.made ≡ parts.old.made }
     ensures failed { parts.new.failed ≡ parts.old.failed }
 {
-    let Some(called) = first_called(alloc, parts, parts.queue.waiters())? else {
+    let Some(called) = first_called(alloc, parts, unsettled, parts.queue.waiters())? else {
         return Ok(None);
     };
     let begun = make_way(alloc, parts, &called.plea, called.asked.as_slice())?;

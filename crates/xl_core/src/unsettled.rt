@@ -8,7 +8,7 @@ ghost use Rattle.xl_base.specs.Lists.{IsIn};
 ghost use Rattle.xl_core.specs.Settle.{settle, cancel, give_back, weaken, departed};
 ghost use Rattle.xl_core.specs.Breaks.{ack};
 ghost use Rattle.xl_core.specs.Ticks.{renew, tick};
-ghost use Rattle.xl_core.specs.Watch.{with_file, may_free, left_by_ask, may_turn, AreHeldUp};
+ghost use Rattle.xl_core.specs.Watch.{is_among, with_file, may_free, left_by_ask, may_turn, AreHeldUp};
 ghost use Rattle.xl_core.specs.Whole.{state_of};
 
 use crate::ask::{Act, Answer, Ask, Effect};
@@ -29,6 +29,17 @@ pub(crate) enum Unsettled {
     File(u32),
     /// Any.
     All,
+}
+
+/// Whether the file is one of these.
+pub(crate) fn is_among(unsettled: Unsettled, file: u32) -> bool
+    ensures { result ≡ is_among unsettled file }
+{
+    match unsettled {
+        Unsettled::Nothing => false,
+        Unsettled::File(own) => file == own,
+        Unsettled::All => true,
+    }
 }
 
 fn with_file(file: u32, unsettled: Unsettled) -> Unsettled
@@ -111,7 +122,7 @@ pub(crate) fn answer(
     Ok((answer, told))
 }
 
-/// One turn, where a waiter has one. All are looked at only where someone waits on an unsettled file.
+/// One turn, where a waiter has one. It is looked for only where someone waits on an unsettled file, and among those who do.
 pub(crate) fn settle(
     alloc: Global,
     parts: &mut Parts,
@@ -133,7 +144,7 @@ pub(crate) fn settle(
         return Ok(None);
     }
     *unsettled = Unsettled::All;
-    let turn = settling::settle(alloc, parts, left)?;
+    let turn = settling::settle(alloc, parts, before, left)?;
     *unsettled = if turn.is_some() {
         before
     } else {
