@@ -1,5 +1,6 @@
 """Calls of NLM, of NFSv4.0 and of SMB 2.1 in captures, and how long a replay takes."""
 import os
+import re
 import struct
 import subprocess
 import sys
@@ -176,6 +177,17 @@ def replay(binary, path):
     """The same of a replay of the capture in this file."""
     with open(path) as capture:
         return measured([binary, "replay"], capture)
+
+
+def instructions(binary, path):
+    """The instructions of a replay of the capture in this file, as callgrind of valgrind counts them: each run has as many."""
+    words = ["valgrind", "--tool=callgrind", "--callgrind-out-file=/dev/null", binary, "replay"]
+    with open(path) as capture:
+        ran = subprocess.run(words, stdin=capture, stdout=subprocess.DEVNULL, stderr=subprocess.PIPE, text=True)
+    counted = re.search(r"refs:\s+([\d,]+)", ran.stderr)
+    if ran.returncode != 0 or counted is None:
+        sys.exit(f"{' '.join(words)} ended in {ran.returncode}")
+    return int(counted[1].replace(",", ""))
 
 
 def make(binary, seed, count):

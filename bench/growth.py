@@ -1,7 +1,7 @@
 #!/usr/bin/env python3
 """How the cost of a LOCK and its UNLOCK grows with what is held, and with who waits.
 
-    python3 bench/growth.py BINARY
+    python3 bench/growth.py BINARY [--instructions]
 
 replays captures with a built xlockd and prints three tables. A pair is a LOCK of one byte that nothing stands against and
 its UNLOCK; its cost is the processor's time of a capture that prepares what is held and then makes many pairs, without
@@ -15,12 +15,14 @@ that of one that prepares alone, over the number of pairs. The first column has 
 
 The third table has the cost of a reading of the clock with so many caches, as leases of SMB opens, none of which breaks; an
 SMB server has 4,096 opens at most.
+
+With --instructions a cost is a count of instructions, by valgrind: it is the same in each run, whatever else the machine does.
 """
 import argparse
 import os
 import tempfile
 
-from calls import LOCK, READS_AND_HANDLE, UNLOCK, create_leased, message, record, replay, smb_number, write_capture
+from calls import LOCK, READS_AND_HANDLE, UNLOCK, create_leased, instructions, message, record, replay, smb_number, write_capture
 from protocols import CONNECTED
 
 HELD = (1, 100, 1_000, 10_000)
@@ -31,6 +33,8 @@ STEP = 10
 # The processor's time that the pairs of one measure take at least, and how often it is taken.
 LEAST_SECONDS, TIMES = 0.5, 3
 TICKS = 200_000
+# How many pairs, and how many readings of the clock, are counted.
+COUNTED, COUNTED_TICKS = 500, 20_000
 
 
 def held_by_one(count):
@@ -73,38 +77,42 @@ def leased(count):
         yield message(len(CONNECTED) + 1 + at, 5, body, 2, smb_number(1))
 
 
-def least_time(binary, write):
-    """The least time of the replays of a capture that is written so to a path."""
+def least_time(binary, path):
+    """The least time of the replays of a capture."""
+    return min(replay(binary, path)[0] for _ in range(TIMES))
+
+
+def of_calls(measure, binary, calls):
+    """A measure of a capture of these calls."""
+    records = [record(xid % 2**32, *call) for xid, call in enumerate(calls, 1)]
     with tempfile.TemporaryDirectory() as folder:
         path = os.path.join(folder, "capture")
-        write(path)
-        return min(replay(binary, path)[0] for _ in range(TIMES))
+        write_capture(path, FILES, records)
+        return measure(binary, path)
 
 
-def seconds(binary, calls):
-    """The least time of the replays of a capture of these calls."""
-    records = [record(xid % 2**32, *call) for xid, call in enumerate(calls, 1)]
-    return least_time(binary, lambda path: write_capture(path, FILES, records))
-
-
-def seconds_of_ticks(binary, caches, ticks):
+def of_ticks(measure, binary, caches, ticks):
     """The same of so many caches and readings of the clock behind them."""
-
-    def write(path):
+    with tempfile.TemporaryDirectory() as folder:
+        path = os.path.join(folder, "capture")
         write_capture(path, FILES, leased(caches), "smb")
         with open(path, "a") as out:
             out.writelines(f"T {at}\n" for at in range(1, 1 + ticks))
+        return measure(binary, path)
 
-    return least_time(binary, write)
+
+def prepared(prepare, count):
+    """The calls that prepare what is held, and a pair behind them."""
+    calls, (file, svid, offset) = prepare(count)
+    return calls, [(LOCK, file, svid, offset, 1, True, False), (UNLOCK, file, svid, offset, 1)]
 
 
 def microseconds(binary, prepare, count):
     """What a pair costs."""
-    calls, (file, svid, offset) = prepare(count)
-    pair = [(LOCK, file, svid, offset, 1, True, False), (UNLOCK, file, svid, offset, 1)]
-    before, pairs = seconds(binary, calls), 64
+    calls, pair = prepared(prepare, count)
+    before, pairs = of_calls(least_time, binary, calls), 64
     while True:
-        spent = seconds(binary, calls + pair * pairs) - before
+        spent = of_calls(least_time, binary, calls + pair * pairs) - before
         if spent >= max(LEAST_SECONDS, before / 20) or pairs >= 400_000:
             return spent / pairs * 1e6
         pairs *= 4
@@ -112,34 +120,49 @@ def microseconds(binary, prepare, count):
 
 def microseconds_of_tick(binary, caches):
     """What a reading of the clock costs."""
-    return (seconds_of_ticks(binary, caches, TICKS) - seconds_of_ticks(binary, caches, 0)) / TICKS * 1e6
+    return (of_ticks(least_time, binary, caches, TICKS) - of_ticks(least_time, binary, caches, 0)) / TICKS * 1e6
 
 
-def table(title, columns, rows):
+def instructions_of_pair(binary, prepare, count):
+    """How many instructions a pair is."""
+    calls, pair = prepared(prepare, count)
+    return (of_calls(instructions, binary, calls + pair * (1 + COUNTED)) - of_calls(instructions, binary, calls + pair)) / COUNTED
+
+
+def instructions_of_tick(binary, caches):
+    """How many instructions a reading of the clock is."""
+    return (of_ticks(instructions, binary, caches, COUNTED_TICKS) - of_ticks(instructions, binary, caches, 0)) / COUNTED_TICKS
+
+
+def table(title, columns, places, unit, rows):
     print(f"| {title} | {' | '.join(f'{column:,}' for column in columns)} |")
     print("|---" * (1 + len(columns)) + "|")
     for name, cost in rows:
         costs = [cost(column) for column in columns]
-        ratios = [f"{cost / costs[0]:.1f}" for cost in costs[1:]]
-        print(f"| {name} | {costs[0]:.1f} us | {' | '.join(ratios)} |", flush=True)
+        ratios = [f"{cost / costs[0]:.2f}" for cost in costs[1:]]
+        print(f"| {name} | {costs[0]:,.{places}f}{unit} | {' | '.join(ratios)} |", flush=True)
     print()
 
 
-def pairs(binary, rows):
+def pairs(cost, binary, rows):
     """For each row what a pair costs behind what it prepares."""
-    return [(name, lambda count, prepare=prepare: microseconds(binary, prepare, count)) for name, prepare in rows]
+    return [(name, lambda count, prepare=prepare: cost(binary, prepare, count)) for name, prepare in rows]
 
 
 def main():
     form = argparse.RawDescriptionHelpFormatter
     parser = argparse.ArgumentParser(description=__doc__, formatter_class=form)
     parser.add_argument("binary", metavar="BINARY", help="a built xlockd, as crates/xlockd/out/xlockd")
-    binary = parser.parse_args().binary
+    parser.add_argument("--instructions", action="store_true", help="count instructions by valgrind in the place of seconds")
+    given = parser.parse_args()
+    binary, cost, tick, unit = given.binary, microseconds, microseconds_of_tick, (1, " us")
+    if given.instructions:
+        cost, tick, unit = instructions_of_pair, instructions_of_tick, (0, "")
     held = [("one owner", held_by_one), ("as many owners", held_by_many), ("files before", held_before), ("files behind", held_behind)]
     waits = [("1 claim", waiting(1)), ("10,000 claims in other files", waiting(10_000))]
-    table("a LOCK and UNLOCK with so many ranges held by", HELD, pairs(binary, held))
-    table("with so many who wait elsewhere, and", WAITERS, pairs(binary, waits))
-    table("a reading of the clock with so many caches", CACHES, [("none due", lambda caches: microseconds_of_tick(binary, caches))])
+    table("a LOCK and UNLOCK with so many ranges held by", HELD, *unit, pairs(cost, binary, held))
+    table("with so many who wait elsewhere, and", WAITERS, *unit, pairs(cost, binary, waits))
+    table("a reading of the clock with so many caches", CACHES, *unit, [("none due", lambda caches: tick(binary, caches))])
 
 
 if __name__ == "__main__":
