@@ -153,7 +153,7 @@ impl XdrOut {
         self.bytes.extend_from_slice(written.as_slice())
     }
 
-    /// Takes room for so many bytes more, which are then written without taking memory. Nothing is written.
+    /// Asks for room for so many bytes more, so that memory is taken once. Nothing is written, and no clause tells of the room.
     pub fn reserve(&mut self, bytes: usize) -> Result<(), AllocError>
         ensures { self.new ≡ self.old }
     {
