@@ -18,7 +18,7 @@ ghost use Rattle.xl_house.specs.Shown.{IsReadyFor, LeavesBy};
 ghost use Rattle.xl_house.specs.Whole.{whole_of};
 
 use crate::connections::{Connection, end, has_room, kind_of, open};
-use crate::outs::{send_all, sent_for, sent_with};
+use crate::outs::{room_for, send_all, sent_for, sent_with};
 use crate::parts::{Fronts, Parts};
 use crate::settling::settle;
 use std::alloc::{AllocError, Global};
@@ -124,7 +124,7 @@ fn refuse(
 {
     let bytes = refusal(alloc, xid, verdict)?;
     let sent = sent_to(alloc, number, bytes)?;
-    let mut outs = Sequence::new(alloc);
+    let mut outs = room_for(alloc, sent.len())?;
     send_all(alloc, Kind::Rpc, sent, &mut outs)?;
     Ok(outs)
 }

@@ -1,5 +1,5 @@
 //! What is sent, in its frames.
-ghost use Rattle.std.specs.Prelude.{◌≡◌, ◌++◌, map, OnOk, IfOk};
+ghost use Rattle.std.specs.Prelude.{◌≡◌, ◌++◌, [], map, OnOk, IfOk};
 ghost use Rattle.std.specs.List.{AllByRecursion};
 ghost use Rattle.xl_front_nlm.specs.Short.{IsReady, Leaves};
 ghost use Rattle.xl_programs.specs.Sent.{FitsFrame};
@@ -26,6 +26,14 @@ fn framed(alloc: Global, kind: Kind, out: Out) -> Result<Out, AllocError>
         Dest::Back(_) => bytes,
     };
     Ok(Out { dest, to, bytes })
+}
+
+/// An empty list with room for so many outs. A list that grows by itself takes room for four at once, and the journal keeps
+/// each.
+pub(crate) fn room_for(alloc: Global, many: usize) -> Result<Sequence<Out>, AllocError>
+    ensures { IfOk result (λ outs. outs ≡ []) }
+{
+    Ok(Sequence::from_vec(Vec::with_capacity(alloc, many)?))
 }
 
 /// Adds these in their frames.
@@ -138,7 +146,8 @@ pub(crate) fn sent_with(
     ensures sent { IfOk result (λ outs. front_done kind exports.now (reply, effects, parts.old.front, parts.old.core) ≡ (outs, parts.new.front, parts.new.core)) }
     ensures leaves { OnOk result (LeavesBy (grants effects) parts.old.core parts.new.core) }
 {
-    let mut outs = sent_for(alloc, exports, parts, effects)?;
+    let mut outs = room_for(alloc, reply.len())?;
+    show_all(alloc, exports, parts, effects.as_slice(), &mut outs)?;
     send_all(alloc, kind, reply, &mut outs)?;
     Ok(outs)
 }
