@@ -140,12 +140,7 @@ fn earlier(one: Option<u32>, other: Option<u32>) -> Option<u32>
 
 /// The first file, or the first past this one, from which something goes with an SMB open, or with the party that goes with it.
 #[tactic(auto, using(crate::proofs::LeavingLaws::open_first, crate::proofs::LeavingLaws::both_first))]
-fn next_open(
-    index: &Index,
-    number: u32,
-    party: Option<Party>,
-    past: Option<u32>,
-) -> Option<u32>
+fn next_open(index: &Index, number: u32, party: Option<Party>, past: Option<u32>) -> Option<u32>
     ensures { (cs : List Claim) → IsIndexOf index.now cs → IsNextLeft result (Leaver.Open number party) past cs }
 {
     let owned = index.next_file(who_opens(number), past);

@@ -7,4 +7,4 @@ use Rattle.xl_core.proofs.ticking.+expire_ended.Goals as goal
 pub expire_ended-requires : goal.expire_ended-requires
 expire_ended-requires t c =
     let some : 0 < c.args.most = grind (arith, nat_tests) in
-    (omega (arith, c.decreases, some), expired_is_good (state_of c.args.parts.now) (state_of c.expire.new.parts) c.in-Some.client c.in_ok-told.told c.requires.good c.in_ok-told.ensures)
+    (omega (arith, c.decreases, some), record { good = expired_is_good (state_of c.args.parts.now) (state_of c.expire.new.parts) c.in-Some.client c.in_ok-told.told c.requires.good c.in_ok-told.ensures.state; held_up = c.expire.ensures.held_up })

@@ -7,4 +7,4 @@ use Rattle.xl_core.proofs.ticking.+lapse_due.Goals as goal
 pub lapse_due-requires : goal.lapse_due-requires
 lapse_due-requires t c =
     let some : 0 < c.args.most = grind (arith, nat_tests) in
-    (omega (arith, c.decreases, some), lapsed_is_good (state_of c.args.parts.now) (state_of c.lapse.new.parts) c.in-Some.cache c.in_ok-told.told c.requires.good c.in_ok-told.ensures)
+    (omega (arith, c.decreases, some), record { good = lapsed_is_good (state_of c.args.parts.now) (state_of c.lapse.new.parts) c.in-Some.cache c.in_ok-told.told c.requires.good c.in_ok-told.ensures.state; held_up = c.lapse.ensures.held_up })

@@ -2,18 +2,14 @@ use Rattle.std.proofs.Common.{◌≡◌, true, false, Option, List, Ok, ap, sym,
 use Rattle.xl_core.specs.Watch.{AreHeldUp}
 use Rattle.xl_core.specs.Whole.{state_of}
 use Rattle.xl_core.specs.declared.ask.Effect.{Effect}
-use Rattle.xl_core.specs.declared.unsettled.Unsettled.{Unsettled}
-use Rattle.xl_core.proofs.WatchLaws.{any_up, idle_none, idle_up, settle_up}
+use Rattle.xl_core.specs.declared.watch.Unsettled.{Unsettled}
+use Rattle.xl_core.proofs.WatchLaws.{any_up, idle_none, settle_up}
 use Rattle.xl_core.proofs.unsettled.settle.Goals.{then-is_some, else-is_some}
 use Rattle.xl_core.proofs.unsettled.settle.Goals as goal
 
-pub returns-then-not-may_turn-clause-turn : goal.returns-then-not-may_turn-clause-turn
-returns-then-not-may_turn-clause-turn c =
-    idle_none c.args.unsettled.now c.args.left.now (state_of c.args.parts.now) c.requires.good (sym c.may_turn.ensures ∙ c.if-not-may_turn.true) c.requires.held_up
-
-pub returns-then-not-may_turn-clause-held_up : goal.returns-then-not-may_turn-clause-held_up
-returns-then-not-may_turn-clause-held_up c =
-    idle_up c.args.unsettled.now (state_of c.args.parts.now) c.requires.good (sym c.may_turn.ensures ∙ c.if-not-may_turn.true) c.requires.held_up
+pub returns-then-is_none-clause-turn : goal.returns-then-is_none-clause-turn
+returns-then-is_none-clause-turn c =
+    idle_none c.args.unsettled.now c.args.left.now (state_of c.args.parts.now) c.requires.good (sym c.is_none.ensures ∙ c.if-is_none.true) c.requires.held_up
 
 pub returns-in_err-turn-clause-held_up : goal.returns-in_err-turn-clause-held_up
 returns-in_err-turn-clause-held_up c = any_up (state_of c.settle.new.parts)

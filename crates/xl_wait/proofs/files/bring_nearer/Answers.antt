@@ -1,4 +1,4 @@
-use Rattle.std.proofs.Common.{◌≡◌, ℕ, ◌+◌, ◌-◌, ◌<◌, ◌≤◌, List, length, get_or, set, ap, ◌∙◌, arith}
+use Rattle.std.proofs.Common.{◌≡◌, ℕ, ◌<◌, List, length, get_or, set, ap, ◌∙◌, arith}
 use Rattle.std.proofs.Math.Numerals.{suc-eq-add-one}
 use Rattle.xl_wait.specs.Waiting.{nearer}
 use Rattle.xl_wait.proofs.FileLaws.{done_to, done_next, all_done, as_long}
@@ -16,13 +16,12 @@ places-preserved c =
     let i : ℕ = c.places.i in
     let xs : List ℕ = c.args.places.now.items in
     let ys : List ℕ = c.places.places.items in
-    let below : i < length xs = within g i (length c.as_slice.result.now) xs ys c.places.invariant.1 c.places-test.true (ap (λ (zs : List ℕ). length zs) c.as_slice.ensures.value) in
-    (
+    let below : i < length xs = within g i (length c.as_slice.result.now) xs ys c.places.invariant.1 c.places-test.true (ap (λ (zs : List ℕ). length zs) c.as_slice.ensures.value) in (
       omega (arith, below),
       ap (λ (v : ℕ). set ys i v) (c.nearer.ensures ∙ ap g c.index.ensures)
-      ∙ ap (λ (zs : List ℕ). set zs i (g (get_or zs i c.index.result.now))) c.places.invariant.1
-      ∙ done_next g i c.index.result.now xs below
-      ∙ ap (λ (k : ℕ). done_to g k xs) (suc-eq-add-one i),
+          ∙ ap (λ (zs : List ℕ). set zs i (g (get_or zs i c.index.result.now))) c.places.invariant.1
+          ∙ done_next g i c.index.result.now xs below
+          ∙ ap (λ (k : ℕ). done_to g k xs) (suc-eq-add-one i),
     )
 
 pub returns : goal.returns

@@ -1,4 +1,3 @@
-use Rattle.std.proofs.Common.{rules}
 use Rattle.xl_wait.proofs.FileLaws.{queued_out}
 use Rattle.xl_wait.proofs.parts.leave.Goals as goal
 
