@@ -1,5 +1,5 @@
 -- The files that are noted as unsettled, and who is called by them.
-use Rattle.std.proofs.Common.{◌≡◌, ℕ, suc, ◌+◌, ◌≤◌, ◌<◌, Bool, true, false, not, ◌&&◌, ◌==◌, nat_lt, inl, inr, List, [], ◌∷◌, ◌++◌, map, Option, Some, None, slice_get, if◌then◌else◌, refl, sym, ap, subst, ◌∙◌, arith}
+use Rattle.std.proofs.Common.{◌≡◌, ℕ, suc, ◌+◌, ◌≤◌, ◌<◌, Bool, true, false, not, ◌&&◌, ◌||◌, ◌==◌, nat_lt, inl, inr, List, [], ◌∷◌, ◌++◌, map, Option, Some, None, slice_get, if◌then◌else◌, refl, sym, ap, subst, ◌∙◌, arith}
 use Rattle.std.specs.List.{AllByRecursion, filter, list_any}
 use Rattle.std.proofs.lemmas.Bool.{cases_Bool, both_ways, or_parts, eqb-true, eq-eqb}
 use Rattle.std.proofs.lemmas.Bool.Decides.{nat_tests}
@@ -10,7 +10,7 @@ use Rattle.xl_matrix.specs.declared.claim.Claim.{Claim}
 use Rattle.xl_matrix.specs.declared.claim.Rwd.{Rwd}
 use Rattle.xl_index.specs.Stands.{is_past}
 use Rattle.xl_table.specs.Flat.{removed}
-use Rattle.xl_table.specs.Leaving.{goes, earlier, IsNextLeft}
+use Rattle.xl_table.specs.Leaving.{goes, IsNextLeft}
 use Rattle.xl_table.specs.declared.leaver.Leaver.{Leaver}
 use Rattle.xl_wait.specs.Waiting.{first_file, is_file, files_of, waits_on, places_from, places_on}
 use Rattle.xl_wait.specs.declared.waiter.Waiter.{Waiter}
@@ -19,7 +19,7 @@ use Rattle.xl_core.specs.Good.{IsGood, IsWaiter, IsPled, is_held_up, holds_up}
 use Rattle.xl_core.specs.Breaks.{ack}
 use Rattle.xl_core.specs.Ticks.{advanced}
 use Rattle.xl_core.specs.Settle.{called_of, first_called, waits_with, give_back, weaken, departed}
-use Rattle.xl_core.specs.Watch.{is_among, with_file, may_change, left_by_ask, stays_up, first_free, first_among, called_waiter, called_at, IsWider, Notes, NotesLeft, IsHeldUp, AreHeldUp}
+use Rattle.xl_core.specs.Watch.{is_among, with_file, may_change, left_by_ask, stays_up, first_free, called_waiter, called_at, IsWider, Notes, NotesLeft, IsHeldUp, AreHeldUp}
 use Rattle.xl_core.specs.declared.ask.Answer.{Answer}
 use Rattle.xl_core.specs.declared.ask.Ask.{Ask}
 use Rattle.xl_core.specs.declared.ask.Effect.{Effect}
@@ -70,13 +70,13 @@ narrowed u v file held ws notes all = all_from (λ (w : Waiter). IsHeldUp v held
 
     one : (w : Waiter) (asked : List Claim) → w.asked ≡ asked → IsIn w ws → IsHeldUp (with_file file u) held w asked → IsHeldUp v held w asked
     one w [] is there up = tt
-    one w (c ∷ cs) is there up = λ e.
-    elim (cases_Bool (c.file == file)) [
-      | inl same ↦
-          let waits : waits_on file ws ≡ true = subst (λ (f : ℕ). waits_on f ws ≡ true) (eqb-true c.file file same) (waits_among w c cs ws there is) in
-          absurd (both_ways (is_among v c.file) e (subst (λ (f : ℕ). is_among v f ≡ true) (sym (eqb-true c.file file same)) (notes.own waits)))
-      | inr apart ↦ up (off c u (notes.wider c.file e) apart)
-    ]
+    one w (c ∷ cs) is there up e =
+        elim (cases_Bool (c.file == file)) [
+          | inl same ↦
+              let waits : waits_on file ws ≡ true = subst (λ (f : ℕ). waits_on f ws ≡ true) (eqb-true c.file file same) (waits_among w c cs ws there is) in
+              absurd (both_ways (is_among v c.file) e (subst (λ (f : ℕ). is_among v f ≡ true) (sym (eqb-true c.file file same)) (notes.own waits)))
+          | inr apart ↦ up (off c u (notes.wider c.file e) apart)
+        ]
 
 pub noted_up : (u v : Unsettled) (file : ℕ) (s : CoreState) → Notes u v file s.waiters → AreHeldUp (with_file file u) s → AreHeldUp v s
 noted_up u v file s notes all = narrowed u v file s.claims s.waiters notes all
@@ -184,10 +184,10 @@ left_up u v s leaver notes all =
 
     one : (w : Waiter) (asked : List Claim) → w.asked ≡ asked → IsIn w s.waiters → IsHeldUp u s.claims w asked → IsHeldUp v after w asked
     one w [] is there up = tt
-    one w (c ∷ cs) is there up = λ e. held_up_still w c s.claims after (kept_there c.file (λ d. not (goes leaver d)) s.claims (stays e)) ∙ up (notes.wider c.file e)
+    one w (c ∷ cs) is there up e = held_up_still w c s.claims after (kept_there c.file (λ d. not (goes leaver d)) s.claims stays) ∙ up (notes.wider c.file e)
       where
-        stays : is_among v c.file ≡ false → (d : Claim) → IsIn d s.claims → (d.file == c.file) ≡ true → not (goes leaver d) ≡ true
-        stays e d held on =
+        stays : (d : Claim) → IsIn d s.claims → (d.file == c.file) ≡ true → not (goes leaver d) ≡ true
+        stays d held on =
             elim (cases_Bool (goes leaver d)) [
               | inr out ↦ rw out refl
               | inl out ↦
@@ -198,17 +198,14 @@ left_up u v s leaver notes all =
 
 -- ---- who is called
 
--- one waits on one of these files, and isn't held up
-abbrev on_some : List ℕ → Waiter → Bool
-on_some files w = list_any (λ f. is_file f (first_file w.asked)) files
-
-abbrev is_free : CoreState → List ℕ → Waiter → Bool
-is_free s files w = on_some files w && not (holds_up s.claims w w.asked)
+-- one waits on this file, and isn't held up
+abbrev is_free : CoreState → ℕ → Waiter → Bool
+is_free s file w = is_file file (first_file w.asked) && not (holds_up s.claims w w.asked)
 
 -- the first such, of whom the first has this place
-abbrev free_from : CoreState → List ℕ → ℕ → List Waiter → Option ℕ
-free_from s files n [] = None
-free_from s files n (w ∷ ws) = if is_free s files w then Some n else free_from s files (n + 1) ws
+abbrev free_from : CoreState → ℕ → ℕ → List Waiter → Option ℕ
+free_from s file n [] = None
+free_from s file n (w ∷ ws) = if is_free s file w then Some n else free_from s file (n + 1) ws
 
 -- these wait from this place on
 abbrev IsTail : CoreState → ℕ → List Waiter → Type 0
@@ -220,7 +217,7 @@ tail_first s n w ws tail = let at : n ≡ n + 0 = omega arith in ap (λ (k : ℕ
 tail_rest : (s : CoreState) (n : ℕ) (w : Waiter) (ws : List Waiter) → IsTail s n (w ∷ ws) → IsTail s (n + 1) ws
 tail_rest s n w ws tail i = let at : n + 1 + i ≡ n + suc i = omega arith in ap (λ (k : ℕ). slice_get s.waiters k) at ∙ tail (suc i)
 
-free_on : (s : CoreState) (file n : ℕ) (ws : List Waiter) → IsTail s n ws → first_free s (places_from n file (files_of ws)) ≡ free_from s (file ∷ []) n ws
+free_on : (s : CoreState) (file n : ℕ) (ws : List Waiter) → IsTail s n ws → first_free s (places_from n file (files_of ws)) ≡ free_from s file n ws
 free_on s file n [] tail = refl
 free_on s file n (w ∷ ws) tail =
     let behind = free_on s file (n + 1) ws (tail_rest s n w ws tail) in
@@ -232,91 +229,35 @@ free_on s file n (w ∷ ws) tail =
       ]
     ]
 
-none_free : (s : CoreState) (n : ℕ) (ws : List Waiter) → free_from s [] n ws ≡ None
-none_free s n [] = refl
-none_free s n (w ∷ ws) = none_free s (n + 1) ws
+-- who isn't held up is free on the unsettled file
+free_one : (s : CoreState) (file : ℕ) (w : Waiter) → IsPled w.asked → IsHeldUp (Files (file ∷ [])) s.claims w w.asked → holds_up s.claims w w.asked ≡ false → is_file file (first_file w.asked) ≡ true
+free_one s file w pled up free = by w.asked pled up free where
+  alone : (b : Bool) → b ≡ false → (b || false) ≡ false
+  alone true e = e
+  alone false e = e
 
--- a place that is found is no earlier than the first
-no_earlier : (s : CoreState) (files : List ℕ) (n m : ℕ) (ws : List Waiter) → free_from s files n ws ≡ Some m → n ≤ m
-no_earlier s files n m [] is = absurd cc
-no_earlier s files n m (w ∷ ws) is =
-    elim (cases_Bool (is_free s files w)) [
-      | inl e ↦ let here : Some n ≡ Some m = rw e at is in let same : n ≡ m = cc in omega (arith, same)
-      | inr e ↦ let later : n + 1 ≤ m = no_earlier s files (n + 1) m ws (rw e at is) in omega (arith, later)
-    ]
+  by : (asked : List Claim) → IsPled asked → IsHeldUp (Files (file ∷ [])) s.claims w asked → holds_up s.claims w asked ≡ false → is_file file (first_file asked) ≡ true
+  by [] none up free = absurd none
+  by (c ∷ cs) some up free =
+      elim (cases_Bool (c.file == file)) [
+        | inl on ↦ on
+        | inr off ↦ absurd (both_ways (is_held_up s.claims w c) free (up (alone (c.file == file) off)))
+      ]
 
-not_later : (n m : ℕ) → n + 1 ≤ m → nat_lt n m ≡ true
-not_later n m h = grind (arith, nat_tests)
-
-not_sooner : (n m : ℕ) → n + 1 ≤ m → nat_lt m n ≡ false
-not_sooner n m h = grind (arith, nat_tests)
-
-earlier_same : (n : ℕ) → earlier (Some n) (Some n) ≡ Some n
-earlier_same n = elim (cases_Bool (nat_lt n n)) [ inl e ↦ rw e refl | inr e ↦ rw e refl ]
-
-earlier_one : (n : ℕ) (o : Option ℕ) → ((m : ℕ) → o ≡ Some m → n + 1 ≤ m) → earlier (Some n) o ≡ Some n
-earlier_one n None later = refl
-earlier_one n (Some m) later = rw (not_later n m (later m refl)) refl
-
-earlier_other : (n : ℕ) (o : Option ℕ) → ((m : ℕ) → o ≡ Some m → n + 1 ≤ m) → earlier o (Some n) ≡ Some n
-earlier_other n None later = refl
-earlier_other n (Some m) later = rw (not_sooner n m (later m refl)) refl
-
-free_earlier : (s : CoreState) (file : ℕ) (files : List ℕ) (n : ℕ) (ws : List Waiter) → earlier (free_from s (file ∷ []) n ws) (free_from s files n ws) ≡ free_from s (file ∷ files) n ws
-free_earlier s file files n [] = refl
-free_earlier s file files n (w ∷ ws) =
-    let behind = free_earlier s file files (n + 1) ws in
+called_from : (s : CoreState) (file n : ℕ) (ws : List Waiter) → IsTail s n ws → AllByRecursion (IsWaiter s.names s.counter) ws → AllByRecursion (λ w. IsHeldUp (Files (file ∷ [])) s.claims w w.asked) ws → called_at s (free_from s file n ws) ≡ first_called s ws
+called_from s file n [] tail are all = refl
+called_from s file n (w ∷ ws) tail are all =
     elim (cases_Bool (holds_up s.claims w w.asked)) [
       | inl up ↦ elim (cases_Bool (is_file file (first_file w.asked))) [
-        | inl on ↦ elim (cases_Bool (on_some files w)) [ inl some ↦ rw (on, some, up) behind | inr none ↦ rw (on, none, up) behind ]
-        | inr off ↦ elim (cases_Bool (on_some files w)) [ inl some ↦ rw (off, some, up) behind | inr none ↦ rw (off, none, up) behind ]
+        | inl on ↦ rw (on, up) (called_from s file (n + 1) ws (tail_rest s n w ws tail) are.1 all.1)
+        | inr off ↦ rw (off, up) (called_from s file (n + 1) ws (tail_rest s n w ws tail) are.1 all.1)
       ]
-      | inr free ↦ elim (cases_Bool (is_file file (first_file w.asked))) [
-        | inl on ↦ elim (cases_Bool (on_some files w)) [
-          | inl some ↦ rw (on, some, free) (earlier_same n)
-          | inr none ↦ rw (on, none, free) (earlier_one n (free_from s files (n + 1) ws) (λ m is. no_earlier s files (n + 1) m ws is))
-        ]
-        | inr off ↦ elim (cases_Bool (on_some files w)) [
-          | inl some ↦ rw (off, some, free) (earlier_other n (free_from s (file ∷ []) (n + 1) ws) (λ m is. no_earlier s (file ∷ []) (n + 1) m ws is))
-          | inr none ↦ rw (off, none, free) behind
-        ]
-      ]
+      | inr free ↦ rw (free_one s file w are.0.2 all.0 free, free, tail_first s n w ws tail) refl
     ]
 
-among_free : (s : CoreState) (files : List ℕ) → first_among s files ≡ free_from s files 0 s.waiters
-among_free s [] = sym (none_free s 0 s.waiters)
-among_free s (file ∷ files) =
-    (λ i. earlier (free_on s file 0 s.waiters (λ k. ap (λ (n : ℕ). slice_get s.waiters n) (from_first k)) i) (among_free s files i))
-    ∙ free_earlier s file files 0 s.waiters
+pub called_on : (s : CoreState) (file : ℕ) (place : Option ℕ) (called : Option Called) → IsGood s → AreHeldUp (Files (file ∷ [])) s → place ≡ first_free s (places_on file (files_of s.waiters)) → called ≡ called_at s place → called ≡ first_called s s.waiters
+called_on s file place called good all at is =
+    is ∙ ap (λ (p : Option ℕ). called_at s p) (at ∙ free_on s file 0 s.waiters all_stand) ∙ called_from s file 0 s.waiters all_stand good.waiters all
   where
-    from_first : (k : ℕ) → 0 + k ≡ k
-    from_first k = omega arith
-
--- who isn't held up is free on one of the unsettled files
-free_one : (s : CoreState) (files : List ℕ) (w : Waiter) → IsPled w.asked → IsHeldUp (Files files) s.claims w w.asked → holds_up s.claims w w.asked ≡ false → is_free s files w ≡ true
-free_one s files w pled up free = by w.asked refl pled up free where
-  by : (asked : List Claim) → w.asked ≡ asked → IsPled asked → IsHeldUp (Files files) s.claims w asked → holds_up s.claims w asked ≡ false → is_free s files w ≡ true
-  by [] is none up free = absurd none
-  by (c ∷ cs) is some up free =
-      elim (cases_Bool (is_among (Files files) c.file)) [
-        | inl on ↦
-            let there : on_some files w ≡ true = ap (λ (ds : List Claim). list_any (λ f. is_file f (first_file ds)) files) is ∙ on in
-            rw (there, ap (λ (ds : List Claim). holds_up s.claims w ds) is ∙ free) refl
-        | inr off ↦ absurd (both_ways (is_held_up s.claims w c) free (up off))
-      ]
-
-called_from : (s : CoreState) (files : List ℕ) (n : ℕ) (ws : List Waiter) → IsTail s n ws → AllByRecursion (IsWaiter s.names s.counter) ws → AllByRecursion (λ w. IsHeldUp (Files files) s.claims w w.asked) ws → called_at s (free_from s files n ws) ≡ first_called s ws
-called_from s files n [] tail are all = refl
-called_from s files n (w ∷ ws) tail are all =
-    elim (cases_Bool (holds_up s.claims w w.asked)) [
-      | inl up ↦ elim (cases_Bool (on_some files w)) [
-        | inl on ↦ rw (on, up) (called_from s files (n + 1) ws (tail_rest s n w ws tail) are.1 all.1)
-        | inr off ↦ rw (off, up) (called_from s files (n + 1) ws (tail_rest s n w ws tail) are.1 all.1)
-      ]
-      | inr free ↦ rw (free_one s files w are.0.2 all.0 free, tail_first s n w ws tail, free) refl
-    ]
-
-pub called_among : (s : CoreState) (files : List ℕ) (place : Option ℕ) (called : Option Called) → IsGood s → AreHeldUp (Files files) s → place ≡ first_among s files → called ≡ called_at s place → called ≡ first_called s s.waiters
-called_among s files place called good all at is =
-    let here : (k : ℕ) → 0 + k ≡ k = λ k. omega arith in
-    is ∙ ap (λ (p : Option ℕ). called_at s p) (at ∙ among_free s files) ∙ called_from s files 0 s.waiters (λ k. ap (λ (n : ℕ). slice_get s.waiters n) (here k)) good.waiters all
+    all_stand : IsTail s 0 s.waiters
+    all_stand i = let at : 0 + i ≡ i = omega arith in ap (λ (k : ℕ). slice_get s.waiters k) at

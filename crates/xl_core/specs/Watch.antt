@@ -3,9 +3,9 @@
 use Rattle.std.specs.Prelude.{◌≡◌, ℕ, Bool, true, false, ◌==◌, if◌then◌else◌, List, [], ◌∷◌, Option, Some, None, slice_get}
 use Rattle.std.specs.List.{AllByRecursion, list_any}
 use Rattle.xl_matrix.specs.declared.claim.Claim.{Claim}
-use Rattle.xl_table.specs.Leaving.{goes, earlier}
+use Rattle.xl_table.specs.Leaving.{goes}
 use Rattle.xl_table.specs.declared.leaver.Leaver.{Leaver}
-use Rattle.xl_wait.specs.Waiting.{waits_on, files_of, places_on}
+use Rattle.xl_wait.specs.Waiting.{waits_on}
 use Rattle.xl_wait.specs.declared.waiter.Waiter.{Waiter}
 use Rattle.xl_core.specs.State.{CoreState}
 use Rattle.xl_core.specs.Good.{is_held_up, holds_up}
@@ -79,11 +79,6 @@ stays_up s (Some w) = holds_up s.claims w w.asked
 abbrev pub first_free : CoreState → List ℕ → Option ℕ
 first_free s [] = None
 first_free s (p ∷ ps) = if stays_up s (slice_get s.waiters p) then first_free s ps else Some p
-
--- and the first of those on one of these files
-abbrev pub first_among : CoreState → List ℕ → Option ℕ
-first_among s [] = None
-first_among s (file ∷ files) = earlier (first_free s (places_on file (files_of s.waiters))) (first_among s files)
 
 -- who waits at this place, as it is called
 abbrev pub called_waiter : CoreState → Option Waiter → Option Called

@@ -1,18 +1,19 @@
 //! Whose turn comes, and what it gets.
 ghost use Rattle.std.specs.Prelude.{◌≡◌, ◌+◌, ◌<◌, ◌^◌, ℕ, [], ◌∷◌, Ok, None, option_copied, option_map, IfOk};
+ghost use Rattle.std.specs.List.{AllByRecursion};
 ghost use Rattle.xl_base.specs.Limits.{numbers_left};
 ghost use Rattle.xl_wait.specs.declared.waiter.Waiter.{Waiter};
 ghost use Rattle.xl_core.specs.Good.{is_held_up, holds_up, IsGood};
 ghost use Rattle.xl_core.specs.Settle.{plea_again, all_of, turned, settle, called_of, first_called};
-ghost use Rattle.xl_core.specs.Watch.{stays_up, first_free, first_among, called_at, AreHeldUp};
-ghost use Rattle.xl_table.specs.Leaving.{earlier};
+ghost use Rattle.xl_core.specs.Watch.{stays_up, first_free, called_at, IsHeldUp, AreHeldUp};
+ghost use Rattle.xl_core.specs.declared.watch.Unsettled.TheVariants.{Files};
 ghost use Rattle.xl_core.specs.Whole.{state_of};
 
 use crate::ask::{Answer, Effect};
 use crate::blockers::{all_run, is_stopped};
 use crate::judge::{Plea, Ruling, judge_all};
 use crate::parts::Parts;
-use crate::watch::Unsettled;
+use crate::watch::{Unsettled, is_among, only_file};
 use crate::ways::make_way;
 use crate::wishing::grant_for;
 use std::alloc::{AllocError, Global};
@@ -69,7 +70,7 @@ fn is_held_up(
 }
 
 /// Whether the first claim that the waiter asks for is held up.
-fn holds_up(alloc: Global, parts: &Parts, waiter: &Waiter) -> Result<bool, AllocError>
+fn is_up(alloc: Global, parts: &Parts, waiter: &Waiter) -> Result<bool, AllocError>
     ensures { IfOk result (λ b. b ≡ holds_up parts.now.table waiter.now waiter.now.asked) }
 {
     match waiter.asked.as_slice() {
@@ -78,12 +79,30 @@ fn holds_up(alloc: Global, parts: &Parts, waiter: &Waiter) -> Result<bool, Alloc
     }
 }
 
+/// The same. What is held on its file is looked at only where that is one of the unsettled files.
+fn holds_up(
+    alloc: Global,
+    parts: &Parts,
+    unsettled: &Unsettled,
+    waiter: &Waiter,
+) -> Result<bool, AllocError>
+    requires { IsHeldUp unsettled.now parts.now.table waiter.now waiter.now.asked }
+    ensures { IfOk result (λ b. b ≡ holds_up parts.now.table waiter.now waiter.now.asked) }
+{
+    if let [claim, ..] = waiter.asked.as_slice() {
+        if !is_among(unsettled, claim.file) {
+            return Ok(true);
+        }
+    }
+    is_up(alloc, parts, waiter)
+}
+
 /// Whether nobody waits at this place of the queue, or one who is held up.
 fn stays_up(alloc: Global, parts: &Parts, waiter: Option<&Waiter>) -> Result<bool, AllocError>
     ensures { IfOk result (λ b. b ≡ stays_up (state_of parts.now) (option_copied waiter)) }
 {
     match waiter {
-        Some(waiter) => holds_up(alloc, parts, waiter),
+        Some(waiter) => is_up(alloc, parts, waiter),
         None => Ok(true),
     }
 }
@@ -98,31 +117,6 @@ fn first_free(alloc: Global, parts: &Parts, places: &[usize]) -> Result<Option<u
         }
     }
     Ok(None)
-}
-
-/// The earlier of two places, as far as they are there.
-fn earlier(one: Option<usize>, other: Option<usize>) -> Option<usize>
-    ensures { result ≡ earlier one other }
-{
-    let Some(first) = one else {
-        return other;
-    };
-    let Some(second) = other else {
-        return one;
-    };
-    if first < second { one } else { other }
-}
-
-/// The place of the first who isn't held up of those who wait on one of these files.
-fn first_among(alloc: Global, parts: &Parts, files: &[u32]) -> Result<Option<usize>, AllocError>
-    ensures { IfOk result (λ at. at ≡ first_among (state_of parts.now) files.now) }
-{
-    let [file, rest @ ..] = files else {
-        return Ok(None);
-    };
-    let own = first_free(alloc, parts, parts.queue.on(*file))?;
-    let others = first_among(alloc, parts, rest)?;
-    Ok(earlier(own, others))
 }
 
 /// The waiter, as it is called.
@@ -154,24 +148,37 @@ fn called_at(
     }
 }
 
-/// The first of these that isn't held up.
+/// The first who isn't held up, where this is the one unsettled file: the first such in its queue.
+#[tactic(auto, using(crate::proofs::NoteLaws::called_on))]
+fn called_on(alloc: Global, parts: &Parts, file: u32) -> Result<Option<Called>, AllocError>
+    requires good { IsGood (state_of parts.now) }
+    requires held_up { AreHeldUp (Files (file ∷ [])) (state_of parts.now) }
+    ensures { IfOk result (λ called. called ≡ first_called (state_of parts.now) parts.now.queue) }
+{
+    let place = first_free(alloc, parts, parts.queue.on(file))?;
+    called_at(alloc, parts, place)
+}
+
+/// The first of these that isn't held up, who waits on one of the unsettled files.
 fn first_called(
     alloc: Global,
     parts: &Parts,
+    unsettled: &Unsettled,
     waiters: &[Waiter],
 ) -> Result<Option<Called>, AllocError>
+    requires { AllByRecursion (λ w. IsHeldUp unsettled.now parts.now.table w w.asked) waiters.now }
     ensures { IfOk result (λ called. called ≡ first_called (state_of parts.now) waiters.now) }
 {
     for waiter in waiters {
-        if !holds_up(alloc, parts, waiter)? {
+        if !holds_up(alloc, parts, unsettled, waiter)? {
             return Ok(Some(called_of(alloc, parts, waiter)?));
         }
     }
     Ok(None)
 }
 
-/// The first who isn't held up, as it is called. It is looked for among those alone who wait on one of the unsettled files.
-#[tactic(auto, using(crate::proofs::NoteLaws::called_among))]
+/// The first who isn't held up, as it is called. It is looked for among those alone who wait on an unsettled file: in its
+/// queue, where it is one, and else in the order of arrival.
 fn next_called(
     alloc: Global,
     parts: &Parts,
@@ -181,12 +188,9 @@ fn next_called(
     requires held_up { AreHeldUp unsettled.now (state_of parts.now) }
     ensures { IfOk result (λ called. called ≡ first_called (state_of parts.now) parts.now.queue) }
 {
-    match unsettled {
-        Unsettled::Files(files) => {
-            let place = first_among(alloc, parts, files.as_slice())?;
-            called_at(alloc, parts, place)
-        }
-        Unsettled::All => first_called(alloc, parts, parts.queue.waiters()),
+    match only_file(unsettled) {
+        Some(file) => called_on(alloc, parts, file),
+        None => first_called(alloc, parts, unsettled, parts.queue.waiters()),
     }
 }
 

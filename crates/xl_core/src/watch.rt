@@ -1,6 +1,7 @@
 //! The files on which someone may wait whom nothing blocks, so that not all who wait are looked at after each change.
-ghost use Rattle.std.specs.Prelude.{◌≡◌, true, false};
+ghost use Rattle.std.specs.Prelude.{◌≡◌, [], ◌∷◌, true, false, IfSome};
 ghost use Rattle.xl_core.specs.Watch.{is_among, is_none, may_free, may_change, IsWider, Notes, NotesLeft};
+ghost use Rattle.xl_core.specs.declared.watch.Unsettled.TheVariants.{Files};
 
 use crate::ask::{Act, Answer, Ask, Effect};
 use xl_base::Sequence;
@@ -17,7 +18,7 @@ pub(crate) enum Unsettled {
 }
 
 /// Whether the file is one of these.
-fn is_among(unsettled: &Unsettled, file: u32) -> bool
+pub(crate) fn is_among(unsettled: &Unsettled, file: u32) -> bool
     ensures { result ≡ is_among unsettled.now file }
 {
     match unsettled {
@@ -33,6 +34,19 @@ pub(crate) fn is_none(unsettled: &Unsettled) -> bool
     match unsettled {
         Unsettled::Files(files) => files.is_empty(),
         Unsettled::All => false,
+    }
+}
+
+/// The file, where there is one alone.
+pub(crate) fn only_file(unsettled: &Unsettled) -> Option<u32>
+    ensures { IfSome result (λ file. unsettled.now ≡ Files (file ∷ [])) }
+{
+    match unsettled {
+        Unsettled::Files(files) => match files.as_slice() {
+            [file] => Some(*file),
+            _ => None,
+        },
+        Unsettled::All => None,
     }
 }
 
