@@ -1,14 +1,15 @@
 -- The files that are noted as unsettled, and who is called by them.
-use Rattle.std.proofs.Common.{◌≡◌, ℕ, suc, ◌+◌, ◌≤◌, ◌<◌, Bool, true, false, not, ◌&&◌, ◌||◌, ◌==◌, nat_lt, inl, inr, List, [], ◌∷◌, ◌++◌, map, Option, Some, None, slice_get, if◌then◌else◌, refl, sym, ap, subst, ◌∙◌, arith}
+use Rattle.std.proofs.Common.{◌≡◌, ℕ, zero, suc, ◌+◌, ◌-◌, ◌<◌, Bool, true, false, not, ◌&&◌, ◌||◌, ◌==◌, nat_lt, inl, inr, List, [], ◌∷◌, ◌++◌, Option, Some, None, ◌⊎◌, slice_get, if◌then◌else◌, refl, sym, ap, subst, ◌∙◌, arith}
 use Rattle.std.specs.List.{AllByRecursion, filter, list_any}
 use Rattle.std.proofs.lemmas.Bool.{cases_Bool, both_ways, or_parts, eqb-true, eq-eqb}
 use Rattle.std.proofs.lemmas.Bool.Decides.{nat_tests}
+use Rattle.std.proofs.lemmas.List.{append_assoc}
 use Rattle.xl_base.specs.Lists.{IsIn}
+use Rattle.xl_base.specs.declared.event.Moment.{Moment}
 use Rattle.xl_base.proofs.Members.{all_in, all_from, in_filter_from}
 use Rattle.xl_matrix.specs.declared.claim.CacheKind.{CacheKind}
 use Rattle.xl_matrix.specs.declared.claim.Claim.{Claim}
 use Rattle.xl_matrix.specs.declared.claim.Rwd.{Rwd}
-use Rattle.xl_index.specs.Stands.{is_past}
 use Rattle.xl_table.specs.Flat.{removed}
 use Rattle.xl_table.specs.Leaving.{goes, IsNextLeft}
 use Rattle.xl_table.specs.declared.leaver.Leaver.{Leaver}
@@ -16,10 +17,11 @@ use Rattle.xl_wait.specs.Waiting.{first_file, is_file, files_of, waits_on, place
 use Rattle.xl_wait.specs.declared.waiter.Waiter.{Waiter}
 use Rattle.xl_core.specs.State.{CoreState}
 use Rattle.xl_core.specs.Good.{IsGood, IsWaiter, IsPled, is_held_up, holds_up}
-use Rattle.xl_core.specs.Breaks.{ack}
-use Rattle.xl_core.specs.Ticks.{advanced}
-use Rattle.xl_core.specs.Settle.{called_of, first_called, waits_with, give_back, weaken, departed}
-use Rattle.xl_core.specs.Watch.{is_among, with_file, may_change, left_by_ask, stays_up, first_free, called_waiter, called_at, IsWider, Notes, NotesLeft, IsHeldUp, AreHeldUp}
+use Rattle.xl_core.specs.Breaks.{ack, first_due}
+use Rattle.xl_core.specs.Leases.{first_ended}
+use Rattle.xl_core.specs.Ticks.{advanced, behind_told, expire, expired_then, expired_for, lapse, lapsed_then, lapsed_for}
+use Rattle.xl_core.specs.Settle.{first_called, waits_with, give_back, weaken, departed}
+use Rattle.xl_core.specs.Watch.{is_among, with_file, may_change, left_by_ask, first_free, called_at, IsWider, Notes, NotesLeft, IsHeldUp, AreHeldUp}
 use Rattle.xl_core.specs.declared.ask.Answer.{Answer}
 use Rattle.xl_core.specs.declared.ask.Ask.{Ask}
 use Rattle.xl_core.specs.declared.ask.Effect.{Effect}
@@ -53,12 +55,12 @@ waits_among w c cs [] there asked = absurd there
 waits_among w c cs (v ∷ vs) there asked =
     elim (cases_Bool (is_file c.file (first_file v.asked))) [
       | inl e ↦ rw e refl
-      | inr e ↦ rw e (by there e)
+      | inr e ↦ rw e (by there e (λ behind. waits_among w c cs vs behind asked))
     ]
   where
-    by : (v ≡ w) ⊎ IsIn w vs → is_file c.file (first_file v.asked) ≡ false → waits_on c.file vs ≡ true
-    by (inl is) off = absurd (both_ways (is_file c.file (first_file v.asked)) off (ap (λ (x : Waiter). is_file c.file (first_file x.asked)) is ∙ ap (λ (ds : List Claim). is_file c.file (first_file ds)) asked ∙ eq-eqb c.file c.file refl))
-    by (inr behind) off = waits_among w c cs vs behind asked
+    by : (v ≡ w) ⊎ IsIn w vs → is_file c.file (first_file v.asked) ≡ false → (IsIn w vs → waits_on c.file vs ≡ true) → waits_on c.file vs ≡ true
+    by (inl is) off rest = absurd (both_ways (is_file c.file (first_file v.asked)) off (ap (λ (x : Waiter). is_file c.file (first_file x.asked)) is ∙ ap (λ (ds : List Claim). is_file c.file (first_file ds)) asked ∙ eq-eqb c.file c.file refl))
+    by (inr behind) off rest = rest behind
 
 -- who is held up but for one file is held up but for those that were noted with it
 narrowed : (u v : Unsettled) (file : ℕ) (held : List Claim) (ws : List Waiter) → Notes u v file ws → AllByRecursion (λ w. IsHeldUp (with_file file u) held w w.asked) ws → AllByRecursion (λ w. IsHeldUp v held w w.asked) ws
@@ -70,7 +72,7 @@ narrowed u v file held ws notes all = all_from (λ (w : Waiter). IsHeldUp v held
 
     one : (w : Waiter) (asked : List Claim) → w.asked ≡ asked → IsIn w ws → IsHeldUp (with_file file u) held w asked → IsHeldUp v held w asked
     one w [] is there up = tt
-    one w (c ∷ cs) is there up e =
+    one w (c ∷ cs) is there up = λ e.
         elim (cases_Bool (c.file == file)) [
           | inl same ↦
               let waits : waits_on file ws ≡ true = subst (λ (f : ℕ). waits_on f ws ≡ true) (eqb-true c.file file same) (waits_among w c cs ws there is) in
@@ -100,29 +102,42 @@ pub ack_noted : (u v : Unsettled) (s : CoreState) (cache : Claim) (to : Option C
 unfolding ack
 ack_noted u v s cache to notes all = noted_up u v cache.file (ack s cache to).1 notes (ack_up u s cache to all)
 
-pub removed_noted : (u v : Unsettled) (s t : CoreState) (claim : Claim) → Notes u v claim.file s.waiters → t.claims ≡ removed claim s.claims → t.waiters ≡ s.waiters → AreHeldUp u s → AreHeldUp v t
+pub removed_noted : (u v : Unsettled) (s : CoreState) (claim : Claim) (held : List Claim) → Notes u v claim.file s.waiters → held ≡ removed claim s.claims → AreHeldUp u s → AllByRecursion (λ w. IsHeldUp v held w w.asked) s.waiters
 unfolding give_back
-removed_noted u v s t claim notes claims waiters all =
-    subst (λ (cs : List Claim). AllByRecursion (λ w. IsHeldUp v cs w w.asked) t.waiters) (sym claims)
-    (subst (λ (ws : List Waiter). AllByRecursion (λ w. IsHeldUp v (removed claim s.claims) w w.asked) ws) (sym waiters)
-    (noted_up u v claim.file (give_back s claim).1 notes (give_back_up u s claim all)))
+removed_noted u v s claim held notes is all =
+    subst (λ (cs : List Claim). AllByRecursion (λ w. IsHeldUp v cs w w.asked) s.waiters) (sym is)
+    (noted_up u v claim.file (give_back s claim).1 notes (give_back_up u s claim all))
 
 -- the clock, and who has a lease, hold up nobody
-pub advanced_up : (u : Unsettled) (s : CoreState) (now : ℕ) → AreHeldUp u s → AreHeldUp u (advanced s now)
+pub advanced_up : (u : Unsettled) (s : CoreState) (now : Moment) → AreHeldUp u s → AreHeldUp u (advanced s now)
 unfolding advanced
 advanced_up u s now all = all
 
 -- ---- who leaves
 
+-- the file stands behind this one, if there is one
+abbrev pub is_behind : Option ℕ → ℕ → Bool
+is_behind None file = true
+is_behind (Some past) file = nat_lt past file
+
+-- nothing goes from a file between that one and the next
+none_between : (leaver : Leaver) (past : Option ℕ) (file : ℕ) (held : List Claim) → IsNextLeft (Some file) leaver past held → AllByRecursion (λ c. ((goes leaver c && is_behind past c.file) && nat_lt c.file file) ≡ false) held
+none_between leaver None file held next = next.1
+none_between leaver (Some past) file held next = next.1
+
+none_behind : (leaver : Leaver) (past : Option ℕ) (held : List Claim) → IsNextLeft None leaver past held → AllByRecursion (λ c. (goes leaver c && is_behind past c.file) ≡ false) held
+none_behind leaver None held next = next
+none_behind leaver (Some past) held next = next
+
 -- the files up to this one are noted from which claims go
 pub record IsNoting (old new : Unsettled) (leaver : Leaver) (past : Option ℕ) (held : List Claim) (ws : List Waiter) : Type 0 where
   pub wider : IsWider old new
-  pub own : AllByRecursion (λ c. goes leaver c ≡ true → is_past past c.file ≡ false → waits_on c.file ws ≡ true → is_among new c.file ≡ true) held
+  pub own : AllByRecursion (λ c. goes leaver c ≡ true → is_behind past c.file ≡ false → waits_on c.file ws ≡ true → is_among new c.file ≡ true) held
 
 pub noting_first : (u : Unsettled) (leaver : Leaver) (held : List Claim) (ws : List Waiter) → IsNoting u u leaver None held ws
 noting_first u leaver held ws = record {
   wider = λ f n. n;
-  own = all_from (λ c. goes leaver c ≡ true → is_past None c.file ≡ false → waits_on c.file ws ≡ true → is_among u c.file ≡ true) held (λ c there g p waits. absurd (both_ways true p refl));
+  own = all_from (λ c. goes leaver c ≡ true → is_behind None c.file ≡ false → waits_on c.file ws ≡ true → is_among u c.file ≡ true) held (λ c there g p waits. absurd (both_ways true p refl));
 }
 
 one_file : (n m : ℕ) → nat_lt n m ≡ false → nat_lt m n ≡ false → n ≡ m
@@ -144,12 +159,12 @@ noting_more u v x leaver past file held ws noting next notes = record {
 
   one : (c : Claim) → IsIn c held → goes leaver c ≡ true → nat_lt file c.file ≡ false → waits_on c.file ws ≡ true → is_among x c.file ≡ true
   one c there g late waits =
-      elim (cases_Bool (is_past past c.file)) [
+      elim (cases_Bool (is_behind past c.file)) [
         | inl p ↦
-            let early : nat_lt c.file file ≡ false = not_before (goes leaver c) (is_past past c.file) (nat_lt c.file file) g p (all_in (λ d. ((goes leaver d && is_past past d.file) && nat_lt d.file file) ≡ false) c held next.1 there) in
+            let early : nat_lt c.file file ≡ false = not_before (goes leaver c) (is_behind past c.file) (nat_lt c.file file) g p (all_in (λ d. ((goes leaver d && is_behind past d.file) && nat_lt d.file file) ≡ false) c held (none_between leaver past file held next) there) in
             let is : file ≡ c.file = one_file file c.file late early in
             subst (λ (f : ℕ). is_among x f ≡ true) is (notes.own (subst (λ (f : ℕ). waits_on f ws ≡ true) (sym is) waits))
-        | inr p ↦ stays c.file (all_in (λ d. goes leaver d ≡ true → is_past past d.file ≡ false → waits_on d.file ws ≡ true → is_among v d.file ≡ true) c held noting.own there g p waits)
+        | inr p ↦ stays c.file (all_in (λ d. goes leaver d ≡ true → is_behind past d.file ≡ false → waits_on d.file ws ≡ true → is_among v d.file ≡ true) c held noting.own there g p waits)
       ]
 
 pub noting_done : (u v : Unsettled) (leaver : Leaver) (past : Option ℕ) (held : List Claim) (ws : List Waiter) → IsNoting u v leaver past held ws → IsNextLeft None leaver past held → NotesLeft u v leaver held ws
@@ -157,8 +172,8 @@ noting_done u v leaver past held ws noting next = record {
   wider = noting.wider;
   own = all_from (λ c. goes leaver c ≡ true → waits_on c.file ws ≡ true → is_among v c.file ≡ true) held
       (λ c there g waits.
-      all_in (λ d. goes leaver d ≡ true → is_past past d.file ≡ false → waits_on d.file ws ≡ true → is_among v d.file ≡ true) c held noting.own there g
-      (not_past (goes leaver c) (is_past past c.file) g (all_in (λ d. (goes leaver d && is_past past d.file) ≡ false) c held next there)) waits);
+      all_in (λ d. goes leaver d ≡ true → is_behind past d.file ≡ false → waits_on d.file ws ≡ true → is_among v d.file ≡ true) c held noting.own there g
+      (not_past (goes leaver c) (is_behind past c.file) g (all_in (λ d. (goes leaver d && is_behind past d.file) ≡ false) c held (none_behind leaver past held next) there)) waits);
 }
 
 -- what is kept of a file's claims, where none of them goes
@@ -184,10 +199,10 @@ left_up u v s leaver notes all =
 
     one : (w : Waiter) (asked : List Claim) → w.asked ≡ asked → IsIn w s.waiters → IsHeldUp u s.claims w asked → IsHeldUp v after w asked
     one w [] is there up = tt
-    one w (c ∷ cs) is there up e = held_up_still w c s.claims after (kept_there c.file (λ d. not (goes leaver d)) s.claims stays) ∙ up (notes.wider c.file e)
+    one w (c ∷ cs) is there up = λ e. held_up_still w c s.claims after (kept_there c.file (λ d. not (goes leaver d)) s.claims (stays e)) ∙ up (notes.wider c.file e)
       where
-        stays : (d : Claim) → IsIn d s.claims → (d.file == c.file) ≡ true → not (goes leaver d) ≡ true
-        stays d held on =
+        stays : is_among v c.file ≡ false → (d : Claim) → IsIn d s.claims → (d.file == c.file) ≡ true → not (goes leaver d) ≡ true
+        stays e d held on =
             elim (cases_Bool (goes leaver d)) [
               | inr out ↦ rw out refl
               | inl out ↦
@@ -261,3 +276,25 @@ called_on s file place called good all at is =
   where
     all_stand : IsTail s 0 s.waiters
     all_stand i = let at : 0 + i ≡ i = omega arith in ap (λ (k : ℕ). slice_get s.waiters k) at
+
+-- ---- what a reading of the clock tells
+
+pub expired_told : (most : ℕ) (s t : CoreState) (client : List ℕ) (told old mid new : List Effect) → 0 < most → first_ended s.clock s.leases ≡ Some client → expire s client ≡ (told, t) → mid ≡ old ++ told → new ≡ mid ++ (expired_for (most - 1) t).0 → new ≡ old ++ (expired_for most s).0
+expired_told zero s t client told old mid new some ended went first behind = absurd (omega (arith, some))
+expired_told (suc fuel) s t client told old mid new some ended went first behind =
+    let one_less : suc fuel - 1 ≡ fuel = omega arith in
+    behind
+    ∙ (λ i. first i ++ (expired_for (one_less i) t).0)
+    ∙ append_assoc old told (expired_for fuel t).0
+    ∙ ap (λ (r : List Effect × CoreState). old ++ (behind_told r.0 (expired_for fuel r.1)).0) (sym went)
+    ∙ ap (λ (o : Option (List ℕ)). old ++ (expired_then (expired_for fuel) s o).0) (sym ended)
+
+pub lapsed_told : (most : ℕ) (s t : CoreState) (cache : Claim) (told old mid new : List Effect) → 0 < most → first_due s ≡ Some cache → lapse s cache ≡ (told, t) → mid ≡ old ++ told → new ≡ mid ++ (lapsed_for (most - 1) t).0 → new ≡ old ++ (lapsed_for most s).0
+lapsed_told zero s t cache told old mid new some due went first behind = absurd (omega (arith, some))
+lapsed_told (suc fuel) s t cache told old mid new some due went first behind =
+    let one_less : suc fuel - 1 ≡ fuel = omega arith in
+    behind
+    ∙ (λ i. first i ++ (lapsed_for (one_less i) t).0)
+    ∙ append_assoc old told (lapsed_for fuel t).0
+    ∙ ap (λ (r : List Effect × CoreState). old ++ (behind_told r.0 (lapsed_for fuel r.1)).0) (sym went)
+    ∙ ap (λ (o : Option Claim). old ++ (lapsed_then (lapsed_for fuel) s o).0) (sym due)

@@ -99,7 +99,7 @@ fn holds_up(
 
 /// Whether nobody waits at this place of the queue, or one who is held up.
 fn stays_up(alloc: Global, parts: &Parts, waiter: Option<&Waiter>) -> Result<bool, AllocError>
-    ensures { IfOk result (λ b. b ≡ stays_up (state_of parts.now) (option_copied waiter)) }
+    ensures { IfOk result (λ b. b ≡ stays_up (state_of parts.now) (option_copied waiter.entry)) }
 {
     match waiter {
         Some(waiter) => is_up(alloc, parts, waiter),
@@ -149,14 +149,14 @@ fn called_at(
 }
 
 /// The first who isn't held up, where this is the one unsettled file: the first such in its queue.
-#[tactic(auto, using(crate::proofs::NoteLaws::called_on))]
 fn called_on(alloc: Global, parts: &Parts, file: u32) -> Result<Option<Called>, AllocError>
     requires good { IsGood (state_of parts.now) }
     requires held_up { AreHeldUp (Files (file ∷ [])) (state_of parts.now) }
     ensures { IfOk result (λ called. called ≡ first_called (state_of parts.now) parts.now.queue) }
 {
     let place = first_free(alloc, parts, parts.queue.on(file))?;
-    called_at(alloc, parts, place)
+    let called = called_at(alloc, parts, place)?;
+    Ok(called)
 }
 
 /// The first of these that isn't held up, who waits on one of the unsettled files.

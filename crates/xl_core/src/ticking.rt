@@ -145,7 +145,8 @@ fn expire_ended(
     };
     let told = expire(alloc, parts, unsettled, client)?;
     push_all(effects, told)?;
-    expire_ended(alloc, parts, unsettled, effects, most - 1)
+    expire_ended(alloc, parts, unsettled, effects, most - 1)?;
+    Ok(())
 }
 
 /// Lets each client expire whose lease has ended, and tells that behind what was told before.
@@ -224,7 +225,8 @@ fn lapse_due(
     };
     let told = lapse(alloc, parts, unsettled, &cache)?;
     push_all(effects, told)?;
-    lapse_due(alloc, parts, unsettled, effects, most - 1)
+    lapse_due(alloc, parts, unsettled, effects, most - 1)?;
+    Ok(())
 }
 
 /// Reads the clock: each break is over whose deadline has come, and each client expires whose lease has ended. The files of

@@ -1,5 +1,5 @@
 //! What is done to the core, and the files that it leaves unsettled.
-ghost use Rattle.std.specs.Prelude.{◌≡◌, ℕ, ◌+◌, ◌<◌, ◌^◌, Ok, None, option_map, IfOk};
+ghost use Rattle.std.specs.Prelude.{◌≡◌, ℕ, ◌+◌, ◌<◌, ◌^◌, if◌then◌else◌, [], Ok, None, option_map, IfOk};
 ghost use Rattle.xl_base.specs.Limits.{numbers_left};
 ghost use Rattle.xl_base.specs.Lists.{IsIn};
 ghost use Rattle.xl_core.specs.Asking.{IsFit};
@@ -10,6 +10,7 @@ ghost use Rattle.xl_core.specs.Settle.{settle, cancel, give_back, weaken, depart
 ghost use Rattle.xl_core.specs.Ticks.{renew};
 ghost use Rattle.xl_core.specs.Watch.{AreHeldUp};
 ghost use Rattle.xl_core.specs.Whole.{state_of};
+ghost use Rattle.xl_core.specs.declared.watch.Unsettled.TheVariants.{Files};
 
 use crate::ask::{Answer, Ask, Effect};
 use crate::parts::Parts;
@@ -48,6 +49,17 @@ pub(crate) fn answer(
     Ok((answer, told))
 }
 
+/// The unsettled files after a turn: where there was none there are none.
+fn left_by_turn(alloc: Global, had_turn: bool, before: Unsettled) -> Unsettled
+    ensures { result ≡ (if had_turn then before else Files []) }
+{
+    if had_turn {
+        before
+    } else {
+        Unsettled::Files(Sequence::new(alloc))
+    }
+}
+
 /// One turn, where a waiter has one. It is looked for among those alone who wait on an unsettled file.
 pub(crate) fn settle(
     alloc: Global,
@@ -69,11 +81,7 @@ pub(crate) fn settle(
     }
     let before = mem::replace(unsettled, Unsettled::All);
     let turn = settling::settle(alloc, parts, &before, left)?;
-    *unsettled = if turn.is_some() {
-        before
-    } else {
-        Unsettled::Files(Sequence::new(alloc))
-    };
+    *unsettled = left_by_turn(alloc, turn.is_some(), before);
     Ok(turn)
 }
 

@@ -1,5 +1,6 @@
 //! The files on which someone may wait whom nothing blocks, so that not all who wait are looked at after each change.
-ghost use Rattle.std.specs.Prelude.{◌≡◌, [], ◌∷◌, true, false, IfSome};
+ghost use Rattle.std.specs.Prelude.{◌≡◌, ◌==◌, [], ◌∷◌, true, false, IfSome};
+ghost use Rattle.std.specs.List.{list_any};
 ghost use Rattle.xl_core.specs.Watch.{is_among, is_none, may_free, may_change, IsWider, Notes, NotesLeft};
 ghost use Rattle.xl_core.specs.declared.watch.Unsettled.TheVariants.{Files};
 
@@ -17,12 +18,19 @@ pub(crate) enum Unsettled {
     All,
 }
 
+/// Whether the file is in the list.
+fn has_file(files: &[u32], file: u32) -> bool
+    ensures { result ≡ list_any (λ f. file == f) files.now }
+{
+    files.iter().any(|own| file == *own)
+}
+
 /// Whether the file is one of these.
 pub(crate) fn is_among(unsettled: &Unsettled, file: u32) -> bool
     ensures { result ≡ is_among unsettled.now file }
 {
     match unsettled {
-        Unsettled::Files(files) => files.as_slice().iter().any(|own| file == *own),
+        Unsettled::Files(files) => has_file(files.as_slice(), file),
         Unsettled::All => true,
     }
 }

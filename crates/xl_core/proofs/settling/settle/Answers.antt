@@ -2,9 +2,8 @@ use Rattle.std.proofs.Common.{◌≡◌, true, false, [], List, ap, sym, subst, 
 use Rattle.std.specs.List.{AllByRecursion}
 use Rattle.xl_matrix.specs.declared.claim.Claim.{Claim}
 use Rattle.xl_table.specs.Held.{is_cache, has_one_party}
-use Rattle.xl_wait.specs.declared.waiter.Waiter.{Waiter}
 use Rattle.xl_core.specs.Judge.{IsRow, judged}
-use Rattle.xl_core.specs.Settle.{settle, first_called}
+use Rattle.xl_core.specs.Settle.{settle}
 use Rattle.xl_core.specs.Whole.{state_of}
 use Rattle.xl_core.specs.Ways.{made_way}
 use Rattle.xl_core.proofs.DoorLaws.{called_row}
