@@ -24,6 +24,7 @@ pub mod ChangeLaws
 pub mod SettleLaws
 pub mod FrameLaws
 pub mod WatchLaws
+pub mod NoteLaws
 pub mod DoorLaws
 pub mod TestLaws
 pub mod LeaseLaws

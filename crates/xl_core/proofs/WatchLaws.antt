@@ -39,7 +39,7 @@ use Rattle.xl_table.specs.Flat.{blocks, inserted, removed, with_what, changed, i
 use Rattle.xl_table.specs.Held.{is_of, is_range, is_share, mode_of, spans_of}
 use Rattle.xl_table.specs.Order.{goes_first}
 use Rattle.xl_table.specs.Relock.{all_inserted, range_claim, is_range_of, unranged, relocked_in, is_share_of, unshared, united, shared_in, granted_by, granted_claims}
-use Rattle.xl_wait.specs.Waiting.{first_file, is_file, waits_on, cancelled}
+use Rattle.xl_wait.specs.Waiting.{cancelled}
 use Rattle.xl_wait.specs.declared.waiter.Rooms.{Rooms}
 use Rattle.xl_wait.specs.declared.waiter.Waiter.{Waiter}
 use Rattle.xl_core.specs.State.{CoreState, step_begun, drawn}
@@ -55,15 +55,15 @@ use Rattle.xl_core.specs.Judge.{all_granted, held_with}
 use Rattle.xl_core.specs.Settle.{plea_again, way_again, settle, cancel, give_back, weaken}
 use Rattle.xl_core.specs.Breaks.{with_rest, ack}
 use Rattle.xl_core.specs.Ticks.{renew}
-use Rattle.xl_core.specs.Watch.{is_among, with_file, is_granted, may_free, left_by_ask, may_turn, IsHeldUp, AreHeldUp}
+use Rattle.xl_core.specs.Watch.{is_among, is_none, with_file, is_granted, may_free, left_by_ask, IsWider, IsHeldUp, AreHeldUp}
 use Rattle.xl_core.specs.declared.ask.Act.{Act}
 use Rattle.xl_core.specs.declared.ask.Act.TheVariants as acts
 use Rattle.xl_core.specs.declared.ask.Answer.{Answer}
 use Rattle.xl_core.specs.declared.ask.Answer.TheVariants as answers
 use Rattle.xl_core.specs.declared.ask.Ask.{Ask}
 use Rattle.xl_core.specs.declared.ask.Effect.{Effect}
-use Rattle.xl_core.specs.declared.unsettled.Unsettled.{Unsettled}
-use Rattle.xl_core.specs.declared.unsettled.Unsettled.TheVariants.{Nothing, File, All}
+use Rattle.xl_core.specs.declared.watch.Unsettled.{Unsettled}
+use Rattle.xl_core.specs.declared.watch.Unsettled.TheVariants.{Files, All}
 use Rattle.xl_core.proofs.CauseLaws.{test_leaves, first_due}
 use Rattle.xl_core.proofs.ChangeLaws.{AskWay, Stays, Tests, Holds, Waits, Frees, decided_way, Gives}
 use Rattle.xl_core.proofs.GoodLaws.{cancelled_all, asked_way_good, decided_grants}
@@ -74,11 +74,11 @@ use Rattle.xl_matrix.specs.Owners.{posix}
 -- ---- what is held on a file, where another changes
 
 -- the claims on this file
-abbrev on_file : ℕ → List Claim → List Claim
+abbrev pub on_file : ℕ → List Claim → List Claim
 on_file file cs = filter (λ c. c.file == file) cs
 
 -- the file is another
-abbrev IsElsewhere : ℕ → ℕ → Type 0
+abbrev pub IsElsewhere : ℕ → ℕ → Type 0
 IsElsewhere file other = (file == other) ≡ false
 
 filter_placed : (p : Claim → Bool) (below : Claim → Claim → Bool) (c : Claim) (cs : List Claim) → p c ≡ false → filter p (placed below c cs) ≡ filter p cs
@@ -149,7 +149,7 @@ there_all_granted file at [] held are apart = refl
 there_all_granted file at (c ∷ cs) held are apart =
     there_all_granted file at cs (granted_claims c held) are.1 apart ∙ there_granted file c held (subst (λ (f : ℕ). IsElsewhere f file) (sym are.0) apart)
 
-there_removed : (file : ℕ) (claim : Claim) (cs : List Claim) → IsElsewhere claim.file file → on_file file (removed claim cs) ≡ on_file file cs
+pub there_removed : (file : ℕ) (claim : Claim) (cs : List Claim) → IsElsewhere claim.file file → on_file file (removed claim cs) ≡ on_file file cs
 there_removed file claim [] apart = refl
 there_removed file claim (c ∷ cs) apart =
     elim (cases_Bool (same_claims c claim)) [
@@ -195,20 +195,13 @@ blocked_here c held = any_within (blocks c) (λ d. d.file == c.file) held (λ d 
 held_up_here : (w : Waiter) (c : Claim) (held : List Claim) → is_held_up (on_file c.file held) w c ≡ is_held_up held w c
 held_up_here w c held = λ i. blocked_here c held i && (if stopped_here c held i then w.blocking else run_here c held i)
 
-held_up_still : (w : Waiter) (c : Claim) (old new : List Claim) → on_file c.file new ≡ on_file c.file old → is_held_up new w c ≡ is_held_up old w c
+pub held_up_still : (w : Waiter) (c : Claim) (old new : List Claim) → on_file c.file new ≡ on_file c.file old → is_held_up new w c ≡ is_held_up old w c
 held_up_still w c old new e = sym (held_up_here w c new) ∙ ap (λ (cs : List Claim). is_held_up cs w c) e ∙ held_up_here w c old
 
 -- ---- the unsettled files
 
-both_apart : (file other : ℕ) (u : Unsettled) → is_among (with_file file u) other ≡ false → (is_among u other ≡ false) × ((file == other) ≡ false)
-both_apart file other Nothing e = (refl, eqb-sym file other ∙ e)
-both_apart file other (File own) e =
-    elim (cases_Bool (file == own)) [
-      | inl same ↦
-          let apart : (other == own) ≡ false = rw same at e in
-          (apart, eqb-sym file other ∙ subst (λ (f : ℕ). (other == f) ≡ false) (sym (eqb-true file own same)) apart)
-      | inr apart ↦ let two : true ≡ false = rw apart at e in absurd (both_ways true two refl)
-    ]
+pub both_apart : (file other : ℕ) (u : Unsettled) → is_among (with_file file u) other ≡ false → (is_among u other ≡ false) × ((file == other) ≡ false)
+both_apart file other (Files files) e = let parts = or_parts (other == file) (list_any (λ f. other == f) files) e in (parts.1, eqb-sym file other ∙ parts.0)
 both_apart file other All e = absurd (both_ways true e refl)
 
 -- who is held up stays so where each other file has what was held there
@@ -219,7 +212,7 @@ still_up : (u v : Unsettled) (old new : List Claim) (w : Waiter) (asked : List C
 still_up u v old new w [] on up = up
 still_up u v old new w (c ∷ cs) on up = λ e. let same = on c.file e in held_up_still w c old new same.1 ∙ up same.0
 
-all_still_up : (u v : Unsettled) (old new : List Claim) (ws : List Waiter) → StaysElsewhere u v old new → AllByRecursion (λ w. IsHeldUp u old w w.asked) ws → AllByRecursion (λ w. IsHeldUp v new w w.asked) ws
+pub all_still_up : (u v : Unsettled) (old new : List Claim) (ws : List Waiter) → StaysElsewhere u v old new → AllByRecursion (λ w. IsHeldUp u old w w.asked) ws → AllByRecursion (λ w. IsHeldUp v new w w.asked) ws
 all_still_up u v old new ws on all = all_weaker (λ (w : Waiter). IsHeldUp u old w w.asked) (λ w. IsHeldUp v new w w.asked) ws (λ w up. still_up u v old new w w.asked on up) all
 
 -- where all files are unsettled nothing is said of anyone
@@ -343,10 +336,13 @@ way_all_run left s a id c cs at is holds blocked moves =
           ∙ way_runs (plea_of left s a) c cs s (ap (λ (p : Plea). p.reclaim) (sym same) ∙ pleads.0) (ap (λ (p : Plea). p.crowded) (sym same) ∙ pleads.1) moved
     ]
 
-same_file : (f : ℕ) (u : Unsettled) → with_file f (with_file f u) ≡ with_file f u
-same_file f Nothing = ap (λ (b : Bool). if b then File f else All) (eq-eqb f f refl)
-same_file f (File own) = elim (cases_Bool (f == own)) [ inl e ↦ rw (e, e) refl | inr e ↦ rw e refl ]
-same_file f All = refl
+-- who waits on a file that isn't among more of them is held up, where all are that don't wait on these
+pub wider_up : (u v : Unsettled) (held : List Claim) (ws : List Waiter) → IsWider u v → AllByRecursion (λ w. IsHeldUp u held w w.asked) ws → AllByRecursion (λ w. IsHeldUp v held w w.asked) ws
+wider_up u v held ws wider all = all_still_up u v held held ws (λ file n. (wider file n, refl)) all
+
+same_file : (f : ℕ) (u : Unsettled) → IsWider (with_file f (with_file f u)) (with_file f u)
+same_file f (Files files) file n = let apart = both_apart f file (Files files) n in rw (eqb-sym file f ∙ apart.1, apart.0) refl
+same_file f All file n = n
 
 -- what an ask begins it begins on its own file
 way_elsewhere : (left : Rooms) (s : CoreState) (a : Ask) (file : ℕ) → (a.file == file) ≡ false → on_file file (way left s a).1.claims ≡ on_file file s.claims
@@ -392,8 +388,7 @@ after_up v a answer s own there all = by (does_wish a.act) refl where
   by false doesnt = all
 
 is_with : (file : ℕ) (u : Unsettled) → is_among (with_file file u) file ≡ true
-is_with file Nothing = eq-eqb file file refl
-is_with file (File own) = elim (cases_Bool (file == own)) [ inl same ↦ rw (same, same) refl | inr apart ↦ rw apart refl ]
+is_with file (Files files) = rw (eq-eqb file file refl) refl
 is_with file All = refl
 
 wish_frees : (act : Act) (answer : Answer) → does_wish act ≡ true → is_granted answer ≡ true → may_free act answer ≡ true
@@ -449,7 +444,7 @@ ask_up u left s t a answer told e good fit all =
         both (may_free a.act answer) (decided_up (with_file a.file u) left way_state before a answer judged_so sound fit runs on_its_file)
       where
         both : (b : Bool) → AreHeldUp (if b then with_file a.file (with_file a.file u) else with_file a.file u) before → AreHeldUp (with_file a.file u) before
-        both true up = subst (λ (v : Unsettled). AreHeldUp v before) (same_file a.file u) up
+        both true up = wider_up (with_file a.file (with_file a.file u)) (with_file a.file u) before.claims before.waiters (same_file a.file u) up
         both false up = up
 
 -- ---- who leaves
@@ -493,47 +488,38 @@ drawn_up u s all = all
 
 -- ---- a turn
 
--- one who waits on a file where nobody may have a turn
-idle_one : (u : Unsettled) (w : Waiter) (ws : List Waiter) → may_turn u (w ∷ ws) ≡ false → ((c : Claim) (cs : List Claim) → w.asked ≡ c ∷ cs → is_among u c.file ≡ false) × (may_turn u ws ≡ false)
-idle_one Nothing w ws e = (λ c cs asked. refl, refl)
-idle_one (File file) w ws e =
-    let parts = or_parts _ (waits_on file ws) e in
-    (λ c cs asked. by w.asked c cs asked parts.0, parts.1)
-  where
-    by : (asked : List Claim) (c : Claim) (cs : List Claim) → asked ≡ c ∷ cs → is_file file (first_file asked) ≡ false → (c.file == file) ≡ false
-    by asked c cs is e = subst (λ (ds : List Claim). is_file file (first_file ds) ≡ false) is e
-idle_one All w ws e = absurd (both_ways true e refl)
+-- where no file is unsettled none is among them
+none_among : (u : Unsettled) (file : ℕ) → is_none u ≡ true → is_among u file ≡ false
+none_among (Files []) file e = refl
+none_among (Files (f ∷ fs)) file e = absurd (both_ways false refl e)
+none_among All file e = absurd (both_ways false refl e)
 
 held_one : (u : Unsettled) (held : List Claim) (w : Waiter) (asked : List Claim) → IsPled asked → ((c : Claim) (cs : List Claim) → asked ≡ c ∷ cs → is_among u c.file ≡ false) → IsHeldUp u held w asked → holds_up held w asked ≡ true
 held_one u held w [] none apart up = absurd none
 held_one u held w (c ∷ cs) some apart up = up (apart c cs refl)
 
-idle_all : (u : Unsettled) (held : List Claim) (names : List Name) (counter : ℕ) (ws : List Waiter) → AllByRecursion (IsWaiter names counter) ws → may_turn u ws ≡ false → AllByRecursion (λ w. IsHeldUp u held w w.asked) ws
+idle_all : (u : Unsettled) (held : List Claim) (names : List Name) (counter : ℕ) (ws : List Waiter) → AllByRecursion (IsWaiter names counter) ws → is_none u ≡ true → AllByRecursion (λ w. IsHeldUp u held w w.asked) ws
     → AllByRecursion (λ w. holds_up held w w.asked ≡ true) ws
 idle_all u held names counter [] are e all = tt
 idle_all u held names counter (w ∷ ws) are e all =
-    let one = idle_one u w ws e in
-    (held_one u held w w.asked are.0.2 one.0 all.0, idle_all u held names counter ws are.1 one.1 all.1)
+    (held_one u held w w.asked are.0.2 (λ c cs asked. none_among u c.file e) all.0, idle_all u held names counter ws are.1 e all.1)
 
-idle_settled : (u : Unsettled) (s : CoreState) → IsGood s → may_turn u s.waiters ≡ false → AreHeldUp u s → IsSettled s
+idle_settled : (u : Unsettled) (s : CoreState) → IsGood s → is_none u ≡ true → AreHeldUp u s → IsSettled s
 idle_settled u s good e all = idle_all u s.claims s.names s.counter s.waiters good.waiters e all
 
 settled_none : (n : ℕ) (left : Rooms) (s : CoreState) → IsSettled s → settle n left s ≡ None
 settled_none n left s is = (settle_rests n left s).1 ((settled_is n left s).1 is)
 
-pub idle_none : (u : Unsettled) (left : Rooms) (s : CoreState) → IsGood s → may_turn u s.waiters ≡ false → AreHeldUp u s → (n : ℕ) → settle n left s ≡ None
+pub idle_none : (u : Unsettled) (left : Rooms) (s : CoreState) → IsGood s → is_none u ≡ true → AreHeldUp u s → (n : ℕ) → settle n left s ≡ None
 idle_none u left s good e all n = settled_none n left s (idle_settled u s good e all)
 
 -- once all are found held up no file is unsettled
-one_up : (held : List Claim) (w : Waiter) (asked : List Claim) → holds_up held w asked ≡ true → IsHeldUp Nothing held w asked
+one_up : (held : List Claim) (w : Waiter) (asked : List Claim) → holds_up held w asked ≡ true → IsHeldUp (Files []) held w asked
 one_up held w [] up = tt
 one_up held w (c ∷ cs) up = λ none. up
 
-settled_up : (s : CoreState) → IsSettled s → AreHeldUp Nothing s
-settled_up s is = all_weaker (λ (w : Waiter). holds_up s.claims w w.asked ≡ true) (λ w. IsHeldUp Nothing s.claims w w.asked) s.waiters (λ w up. one_up s.claims w w.asked up) is
-
-pub idle_up : (u : Unsettled) (s : CoreState) → IsGood s → may_turn u s.waiters ≡ false → AreHeldUp u s → AreHeldUp Nothing s
-idle_up u s good e all = settled_up s (idle_settled u s good e all)
+settled_up : (s : CoreState) → IsSettled s → AreHeldUp (Files []) s
+settled_up s is = all_weaker (λ (w : Waiter). holds_up s.claims w w.asked ≡ true) (λ w. IsHeldUp (Files []) s.claims w w.asked) s.waiters (λ w up. one_up s.claims w w.asked up) is
 
 -- who has a turn waited on an unsettled file, and only what is held there changes
 on_unsettled : (u : Unsettled) (held : List Claim) (w : Waiter) (asked : List Claim) (claim : Claim) (claims : List Claim) → asked ≡ claim ∷ claims → is_held_up held w claim ≡ false → IsHeldUp u held w asked → is_among u claim.file ≡ true
@@ -598,8 +584,8 @@ turn_up u left s effects t good turn all = by turn.served where
       (subst (λ (ws : List Waiter). AllByRecursion (λ v. IsHeldUp u way_state.claims v v.asked) ws) (sym same)
       (all_still_up u u s.claims way_state.claims s.waiters (λ file n. (n, next_elsewhere s w turn.claim turn.claims file turn.asked (other_file u turn.claim.file file there n))) all))
 
-pub settle_up : (u : Unsettled) (left : Rooms) (s t : CoreState) (r : Option (List Effect)) → ((n : ℕ) → settle n left s ≡ option_map (λ effects. (effects, t)) r) → (r ≡ None → t ≡ s) → IsGood s → AreHeldUp u s → AreHeldUp (if is_some r then u else Nothing) t
-settle_up u left s t None e same good all = subst (λ (x : CoreState). AreHeldUp Nothing x) (sym (same refl)) (settled_up s (none_settled 0 left s (e 0)))
+pub settle_up : (u : Unsettled) (left : Rooms) (s t : CoreState) (r : Option (List Effect)) → ((n : ℕ) → settle n left s ≡ option_map (λ effects. (effects, t)) r) → (r ≡ None → t ≡ s) → IsGood s → AreHeldUp u s → AreHeldUp (if is_some r then u else Files []) t
+settle_up u left s t None e same good all = subst (λ (x : CoreState). AreHeldUp (Files []) x) (sym (same refl)) (settled_up s (none_settled 0 left s (e 0)))
 settle_up u left s t (Some effects) e same good all =
     let turn = subst (λ (o : Option (List Effect × CoreState)). IfSome o (λ x. IsTurn left s x.0 x.1)) (e 0) (turn_is 0 left s good) in
     turn_up u left s effects t good turn all

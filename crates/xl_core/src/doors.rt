@@ -15,8 +15,8 @@ ghost use Rattle.xl_core.specs.Whole.{state_of};
 use crate::ask::{Answer, Ask, Effect};
 use crate::lease::Times;
 use crate::parts::Parts;
-use crate::unsettled;
-use crate::unsettled::Unsettled;
+use crate::watch::Unsettled;
+use crate::{ticking, unsettled};
 use indexmap::IndexMap;
 use std::alloc::{AllocError, Global};
 use std::marker::Model;
@@ -68,7 +68,7 @@ impl Core {
                 made: 0,
                 failed: false,
             },
-            unsettled: Unsettled::Nothing,
+            unsettled: Unsettled::Files(Sequence::new(alloc)),
         }
     }
 
@@ -311,7 +311,7 @@ impl Core {
         ensures good { OnOk result (IsGood self.new) }
         ensures keeper { _keeper.new ≡ _keeper.old }
     {
-        unsettled::tick(alloc, &mut self.parts, &mut self.unsettled, now)
+        ticking::tick(alloc, &mut self.parts, &mut self.unsettled, now)
     }
 }
 

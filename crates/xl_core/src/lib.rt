@@ -21,6 +21,7 @@ mod parts;
 mod settling;
 mod ticking;
 mod unsettled;
+mod watch;
 mod ways;
 pub mod wished;
 mod wishing;

@@ -1,18 +1,19 @@
 //! Whose turn comes, and what it gets.
-ghost use Rattle.std.specs.Prelude.{◌≡◌, ◌+◌, ◌<◌, ◌^◌, ℕ, [], ◌∷◌, Ok, None, option_map, IfOk};
+ghost use Rattle.std.specs.Prelude.{◌≡◌, ◌+◌, ◌<◌, ◌^◌, ℕ, [], ◌∷◌, Ok, None, option_copied, option_map, IfOk};
 ghost use Rattle.std.specs.List.{AllByRecursion};
 ghost use Rattle.xl_base.specs.Limits.{numbers_left};
 ghost use Rattle.xl_wait.specs.declared.waiter.Waiter.{Waiter};
 ghost use Rattle.xl_core.specs.Good.{is_held_up, holds_up, IsGood};
 ghost use Rattle.xl_core.specs.Settle.{plea_again, all_of, turned, settle, called_of, first_called};
-ghost use Rattle.xl_core.specs.Watch.{AreHeldUp, IsHeldUp};
+ghost use Rattle.xl_core.specs.Watch.{stays_up, first_free, called_at, IsHeldUp, AreHeldUp};
+ghost use Rattle.xl_core.specs.declared.watch.Unsettled.TheVariants.{Files};
 ghost use Rattle.xl_core.specs.Whole.{state_of};
 
 use crate::ask::{Answer, Effect};
 use crate::blockers::{all_run, is_stopped};
 use crate::judge::{Plea, Ruling, judge_all};
 use crate::parts::Parts;
-use crate::unsettled::{Unsettled, is_among};
+use crate::watch::{Unsettled, is_among, only_file};
 use crate::ways::make_way;
 use crate::wishing::grant_for;
 use std::alloc::{AllocError, Global};
@@ -68,26 +69,54 @@ fn is_held_up(
     all_run(alloc, parts, claim)
 }
 
-/// Whether the first claim that the waiter asks for is held up. What is held on its file is looked at only where that is
-/// one of the unsettled files.
-fn holds_up(
-    alloc: Global,
-    parts: &Parts,
-    unsettled: Unsettled,
-    waiter: &Waiter,
-) -> Result<bool, AllocError>
-    requires { IsHeldUp unsettled parts.now.table waiter.now waiter.now.asked }
+/// Whether the first claim that the waiter asks for is held up.
+fn is_up(alloc: Global, parts: &Parts, waiter: &Waiter) -> Result<bool, AllocError>
     ensures { IfOk result (λ b. b ≡ holds_up parts.now.table waiter.now waiter.now.asked) }
 {
     match waiter.asked.as_slice() {
-        [claim, ..] => {
-            if !is_among(unsettled, claim.file) {
-                return Ok(true);
-            }
-            is_held_up(alloc, parts, waiter, claim)
-        }
+        [claim, ..] => is_held_up(alloc, parts, waiter, claim),
         [] => Ok(false),
     }
+}
+
+/// The same. What is held on its file is looked at only where that is one of the unsettled files.
+fn holds_up(
+    alloc: Global,
+    parts: &Parts,
+    unsettled: &Unsettled,
+    waiter: &Waiter,
+) -> Result<bool, AllocError>
+    requires { IsHeldUp unsettled.now parts.now.table waiter.now waiter.now.asked }
+    ensures { IfOk result (λ b. b ≡ holds_up parts.now.table waiter.now waiter.now.asked) }
+{
+    if let [claim, ..] = waiter.asked.as_slice() {
+        if !is_among(unsettled, claim.file) {
+            return Ok(true);
+        }
+    }
+    is_up(alloc, parts, waiter)
+}
+
+/// Whether nobody waits at this place of the queue, or one who is held up.
+fn stays_up(alloc: Global, parts: &Parts, waiter: Option<&Waiter>) -> Result<bool, AllocError>
+    ensures { IfOk result (λ b. b ≡ stays_up (state_of parts.now) (option_copied waiter.entry)) }
+{
+    match waiter {
+        Some(waiter) => is_up(alloc, parts, waiter),
+        None => Ok(true),
+    }
+}
+
+/// The first of these places where one waits who isn't held up.
+fn first_free(alloc: Global, parts: &Parts, places: &[usize]) -> Result<Option<usize>, AllocError>
+    ensures { IfOk result (λ at. at ≡ first_free (state_of parts.now) places.now) }
+{
+    for place in places {
+        if !stays_up(alloc, parts, parts.queue.at(*place))? {
+            return Ok(Some(*place));
+        }
+    }
+    Ok(None)
 }
 
 /// The waiter, as it is called.
@@ -102,14 +131,42 @@ fn called_of(alloc: Global, parts: &Parts, waiter: &Waiter) -> Result<Called, Al
     })
 }
 
+/// Who waits at this place, as it is called.
+fn called_at(
+    alloc: Global,
+    parts: &Parts,
+    place: Option<usize>,
+) -> Result<Option<Called>, AllocError>
+    ensures { IfOk result (λ called. called ≡ called_at (state_of parts.now) place) }
+{
+    let Some(place) = place else {
+        return Ok(None);
+    };
+    match parts.queue.at(place) {
+        Some(waiter) => Ok(Some(called_of(alloc, parts, waiter)?)),
+        None => Ok(None),
+    }
+}
+
+/// The first who isn't held up, where this is the one unsettled file: the first such in its queue.
+fn called_on(alloc: Global, parts: &Parts, file: u32) -> Result<Option<Called>, AllocError>
+    requires good { IsGood (state_of parts.now) }
+    requires held_up { AreHeldUp (Files (file ∷ [])) (state_of parts.now) }
+    ensures { IfOk result (λ called. called ≡ first_called (state_of parts.now) parts.now.queue) }
+{
+    let place = first_free(alloc, parts, parts.queue.on(file))?;
+    let called = called_at(alloc, parts, place)?;
+    Ok(called)
+}
+
 /// The first of these that isn't held up, who waits on one of the unsettled files.
 fn first_called(
     alloc: Global,
     parts: &Parts,
-    unsettled: Unsettled,
+    unsettled: &Unsettled,
     waiters: &[Waiter],
 ) -> Result<Option<Called>, AllocError>
-    requires { AllByRecursion (λ w. IsHeldUp unsettled parts.now.table w w.asked) waiters.now }
+    requires { AllByRecursion (λ w. IsHeldUp unsettled.now parts.now.table w w.asked) waiters.now }
     ensures { IfOk result (λ called. called ≡ first_called (state_of parts.now) waiters.now) }
 {
     for waiter in waiters {
@@ -118,6 +175,23 @@ fn first_called(
         }
     }
     Ok(None)
+}
+
+/// The first who isn't held up, as it is called. It is looked for among those alone who wait on an unsettled file: in its
+/// queue, where it is one, and else in the order of arrival.
+fn next_called(
+    alloc: Global,
+    parts: &Parts,
+    unsettled: &Unsettled,
+) -> Result<Option<Called>, AllocError>
+    requires good { IsGood (state_of parts.now) }
+    requires held_up { AreHeldUp unsettled.now (state_of parts.now) }
+    ensures { IfOk result (λ called. called ≡ first_called (state_of parts.now) parts.now.queue) }
+{
+    match only_file(unsettled) {
+        Some(file) => called_on(alloc, parts, file),
+        None => first_called(alloc, parts, unsettled, parts.queue.waiters()),
+    }
 }
 
 fn all_of(asked: &[Claim]) -> Answer
@@ -164,18 +238,18 @@ fn serve(
 pub(crate) fn settle(
     alloc: Global,
     parts: &mut Parts,
-    unsettled: Unsettled,
+    unsettled: &Unsettled,
     left: &Rooms,
 ) -> Result<Option<Sequence<Effect>>, AllocError>
     requires good { IsGood (state_of parts.old) }
-    requires held_up { AreHeldUp unsettled (state_of parts.old) }
+    requires held_up { AreHeldUp unsettled.now (state_of parts.old) }
     requires numbers { parts.old.counter + numbers_left < 2 ^ 32 }
     ensures turn { (n : ℕ) → IfOk result (λ r. settle n left.now (state_of parts.old) ≡ option_map (λ effects. (effects, state_of parts.new)) r) }
     ensures none { result ≡ Ok None → parts.new ≡ parts.old }
     ensures made { parts.new.made ≡ parts.old.made }
     ensures failed { parts.new.failed ≡ parts.old.failed }
 {
-    let Some(called) = first_called(alloc, parts, unsettled, parts.queue.waiters())? else {
+    let Some(called) = next_called(alloc, parts, unsettled)? else {
         return Ok(None);
     };
     let begun = make_way(alloc, parts, &called.plea, called.asked.as_slice())?;

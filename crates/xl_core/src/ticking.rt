@@ -6,14 +6,17 @@ ghost use Rattle.xl_core.specs.Asking.{party_named};
 ghost use Rattle.xl_core.specs.Leases.{first_ended};
 ghost use Rattle.xl_core.specs.Good.{IsGood};
 ghost use Rattle.xl_core.specs.Ticks.{advanced, renew, end_some, expire, expired_for, expire_all, lapse, lapsed_for, tick};
+ghost use Rattle.xl_core.specs.Watch.{AreHeldUp};
+ghost use Rattle.xl_core.specs.declared.watch.Unsettled.{Unsettled};
 ghost use Rattle.xl_core.specs.Whole.{state_of};
 
 use crate::ask::Effect;
 use crate::due::first_due;
 use crate::lease;
 use crate::lease::{drop_lease, later, moment_after, put_lease};
-use crate::leaving::leave;
 use crate::parts::Parts;
+use crate::unsettled::leave;
+use crate::watch::{Unsettled, note};
 use std::alloc::{AllocError, Global};
 use xl_base::{Moment, Party, Protocol, Sequence};
 use xl_matrix::Claim;
@@ -21,11 +24,12 @@ use xl_names::{Name, Names};
 use xl_table::Leaver;
 
 /// The clock reads this moment, where that is later.
-#[tactic(auto, unfolding(crate::specs::Ticks::advanced), using(crate::proofs::GoodLaws::advanced_good))]
+#[tactic(auto, unfolding(crate::specs::Ticks::advanced), using(crate::proofs::GoodLaws::advanced_good, crate::proofs::NoteLaws::advanced_up))]
 fn advance(parts: &mut Parts, now: Moment)
     requires good { IsGood (state_of parts.old) }
     ensures state { state_of parts.new ≡ advanced (state_of parts.old) now }
     ensures good { IsGood (state_of parts.new) }
+    ensures held_up { (u : Unsettled) → AreHeldUp u (state_of parts.old) → AreHeldUp u (state_of parts.new) }
 {
     parts.clock = later(parts.clock, now);
 }
@@ -65,13 +69,16 @@ fn party_of(alloc: Global, names: &Names, client: &[u8]) -> Result<Option<Party>
 fn end_some(
     alloc: Global,
     parts: &mut Parts,
+    unsettled: &mut Unsettled,
     party: Option<Party>,
 ) -> Result<Sequence<Effect>, AllocError>
     requires good { IsGood (state_of parts.old) }
-    ensures { IfOk result (λ effects. end_some (state_of parts.old) party ≡ (effects, state_of parts.new)) }
+    requires held_up { AreHeldUp unsettled.old (state_of parts.old) }
+    ensures state { IfOk result (λ effects. end_some (state_of parts.old) party ≡ (effects, state_of parts.new)) }
+    ensures held_up { AreHeldUp unsettled.new (state_of parts.new) }
 {
     match party {
-        Some(party) => leave(alloc, parts, Leaver::Party(party)),
+        Some(party) => leave(alloc, parts, unsettled, Leaver::Party(party)),
         None => Ok(Sequence::new(alloc)),
     }
 }
@@ -81,13 +88,16 @@ fn end_some(
 fn expire(
     alloc: Global,
     parts: &mut Parts,
+    unsettled: &mut Unsettled,
     client: Sequence<u8>,
 ) -> Result<Sequence<Effect>, AllocError>
     requires good { IsGood (state_of parts.old) }
-    ensures { IfOk result (λ effects. expire (state_of parts.old) client ≡ (effects, state_of parts.new)) }
+    requires held_up { AreHeldUp unsettled.old (state_of parts.old) }
+    ensures state { IfOk result (λ effects. expire (state_of parts.old) client ≡ (effects, state_of parts.new)) }
+    ensures held_up { AreHeldUp unsettled.new (state_of parts.new) }
 {
     let party = party_of(alloc, &parts.names, client.as_slice())?;
-    let mut effects = end_some(alloc, parts, party)?;
+    let mut effects = end_some(alloc, parts, unsettled, party)?;
     drop_lease(&mut parts.leases, &client);
     effects.push(Effect::Expired(client))?;
     Ok(effects)
@@ -117,12 +127,15 @@ fn push_all(effects: &mut Sequence<Effect>, more: Sequence<Effect>) -> Result<()
 fn expire_ended(
     alloc: Global,
     parts: &mut Parts,
+    unsettled: &mut Unsettled,
     effects: &mut Sequence<Effect>,
     most: usize,
 ) -> Result<(), AllocError>
     requires good { IsGood (state_of parts.old) }
+    requires held_up { AreHeldUp unsettled.old (state_of parts.old) }
     ensures state { OnOk result ((expired_for most (state_of parts.old)).1 ≡ state_of parts.new) }
     ensures told { OnOk result (effects.new ≡ effects.old ++ (expired_for most (state_of parts.old)).0) }
+    ensures held_up { AreHeldUp unsettled.new (state_of parts.new) }
 {
     if most == 0 {
         return Ok(());
@@ -130,9 +143,10 @@ fn expire_ended(
     let Some(client) = next_ended(alloc, parts)? else {
         return Ok(());
     };
-    let told = expire(alloc, parts, client)?;
+    let told = expire(alloc, parts, unsettled, client)?;
     push_all(effects, told)?;
-    expire_ended(alloc, parts, effects, most - 1)
+    expire_ended(alloc, parts, unsettled, effects, most - 1)?;
+    Ok(())
 }
 
 /// Lets each client expire whose lease has ended, and tells that behind what was told before.
@@ -140,14 +154,17 @@ fn expire_ended(
 fn expire_all(
     alloc: Global,
     parts: &mut Parts,
+    unsettled: &mut Unsettled,
     effects: &mut Sequence<Effect>,
 ) -> Result<(), AllocError>
     requires good { IsGood (state_of parts.old) }
+    requires held_up { AreHeldUp unsettled.old (state_of parts.old) }
     ensures state { OnOk result ((expire_all (state_of parts.old)).1 ≡ state_of parts.new) }
     ensures told { OnOk result (effects.new ≡ effects.old ++ (expire_all (state_of parts.old)).0) }
+    ensures held_up { AreHeldUp unsettled.new (state_of parts.new) }
 {
     let most = parts.leases.len();
-    expire_ended(alloc, parts, effects, most)
+    expire_ended(alloc, parts, unsettled, effects, most)
 }
 
 /// A copy of the id string of the party, where it is an NFSv4 client.
@@ -165,13 +182,21 @@ fn client_of(alloc: Global, names: &Names, party: Party) -> Result<Option<Sequen
 
 /// Ends the break of a cache that nobody answered.
 #[tactic(auto, unfolding(crate::specs::Ticks::lapse))]
-fn lapse(alloc: Global, parts: &mut Parts, cache: &Claim) -> Result<Sequence<Effect>, AllocError>
+fn lapse(
+    alloc: Global,
+    parts: &mut Parts,
+    unsettled: &mut Unsettled,
+    cache: &Claim,
+) -> Result<Sequence<Effect>, AllocError>
     requires good { IsGood (state_of parts.old) }
-    ensures { IfOk result (λ effects. lapse (state_of parts.old) cache.now ≡ (effects, state_of parts.new)) }
+    requires held_up { AreHeldUp unsettled.old (state_of parts.old) }
+    ensures state { IfOk result (λ effects. lapse (state_of parts.old) cache.now ≡ (effects, state_of parts.new)) }
+    ensures held_up { AreHeldUp unsettled.new (state_of parts.new) }
 {
     match client_of(alloc, &parts.names, cache.party)? {
-        Some(client) => expire(alloc, parts, client),
+        Some(client) => expire(alloc, parts, unsettled, client),
         None => {
+            note(&parts.queue, unsettled, cache.file);
             parts.table.remove(cache);
             Ok(Sequence::new(alloc))
         }
@@ -182,12 +207,15 @@ fn lapse(alloc: Global, parts: &mut Parts, cache: &Claim) -> Result<Sequence<Eff
 fn lapse_due(
     alloc: Global,
     parts: &mut Parts,
+    unsettled: &mut Unsettled,
     effects: &mut Sequence<Effect>,
     most: usize,
 ) -> Result<(), AllocError>
     requires good { IsGood (state_of parts.old) }
+    requires held_up { AreHeldUp unsettled.old (state_of parts.old) }
     ensures state { OnOk result ((lapsed_for most (state_of parts.old)).1 ≡ state_of parts.new) }
     ensures told { OnOk result (effects.new ≡ effects.old ++ (lapsed_for most (state_of parts.old)).0) }
+    ensures held_up { AreHeldUp unsettled.new (state_of parts.new) }
 {
     if most == 0 {
         return Ok(());
@@ -195,25 +223,30 @@ fn lapse_due(
     let Some(cache) = first_due(alloc, parts)? else {
         return Ok(());
     };
-    let told = lapse(alloc, parts, &cache)?;
+    let told = lapse(alloc, parts, unsettled, &cache)?;
     push_all(effects, told)?;
-    lapse_due(alloc, parts, effects, most - 1)
+    lapse_due(alloc, parts, unsettled, effects, most - 1)?;
+    Ok(())
 }
 
-/// Reads the clock: each break is over whose deadline has come, and each client expires whose lease has ended.
+/// Reads the clock: each break is over whose deadline has come, and each client expires whose lease has ended. The files of
+/// the claims that go are noted.
 #[tactic(auto, unfolding(crate::specs::Ticks::tick))]
 pub(crate) fn tick(
     alloc: Global,
     parts: &mut Parts,
+    unsettled: &mut Unsettled,
     now: Moment,
 ) -> Result<Sequence<Effect>, AllocError>
     requires good { IsGood (state_of parts.old) }
-    ensures { IfOk result (λ effects. tick (state_of parts.old) now ≡ (effects, state_of parts.new)) }
+    requires held_up { AreHeldUp unsettled.old (state_of parts.old) }
+    ensures state { IfOk result (λ effects. tick (state_of parts.old) now ≡ (effects, state_of parts.new)) }
+    ensures held_up { AreHeldUp unsettled.new (state_of parts.new) }
 {
     let most = parts.table.len();
     advance(parts, now);
     let mut effects = Sequence::new(alloc);
-    lapse_due(alloc, parts, &mut effects, most)?;
-    expire_all(alloc, parts, &mut effects)?;
+    lapse_due(alloc, parts, unsettled, &mut effects, most)?;
+    expire_all(alloc, parts, unsettled, &mut effects)?;
     Ok(effects)
 }

@@ -1,103 +1,30 @@
-//! The files on which someone may wait whom nothing blocks, so that not all who wait are looked at after each change.
-ghost use Rattle.std.specs.Prelude.{◌≡◌, ℕ, ◌+◌, ◌<◌, ◌^◌, [], Ok, None, option_map, IfOk};
+//! What is done to the core, and the files that it leaves unsettled.
+ghost use Rattle.std.specs.Prelude.{◌≡◌, ℕ, ◌+◌, ◌<◌, ◌^◌, if◌then◌else◌, [], Ok, None, option_map, IfOk};
 ghost use Rattle.xl_base.specs.Limits.{numbers_left};
+ghost use Rattle.xl_base.specs.Lists.{IsIn};
 ghost use Rattle.xl_core.specs.Asking.{IsFit};
+ghost use Rattle.xl_core.specs.Breaks.{ack};
 ghost use Rattle.xl_core.specs.Decide.{ask};
 ghost use Rattle.xl_core.specs.Good.{IsGood};
-ghost use Rattle.xl_base.specs.Lists.{IsIn};
 ghost use Rattle.xl_core.specs.Settle.{settle, cancel, give_back, weaken, departed};
-ghost use Rattle.xl_core.specs.Breaks.{ack};
-ghost use Rattle.xl_core.specs.Ticks.{renew, tick};
-ghost use Rattle.xl_core.specs.Watch.{is_among, with_file, may_free, left_by_ask, may_turn, AreHeldUp};
+ghost use Rattle.xl_core.specs.Ticks.{renew};
+ghost use Rattle.xl_core.specs.Watch.{AreHeldUp};
 ghost use Rattle.xl_core.specs.Whole.{state_of};
+ghost use Rattle.xl_core.specs.declared.watch.Unsettled.TheVariants.{Files};
 
-use crate::ask::{Act, Answer, Ask, Effect};
+use crate::ask::{Answer, Ask, Effect};
 use crate::parts::Parts;
+use crate::watch::{Unsettled, is_none, note, note_asked, note_left};
 use crate::{decide, leaving, settling, ticking};
 use std::alloc::{AllocError, Global};
-use xl_base::{Moment, Sequence};
+use std::mem;
+use xl_base::Sequence;
 use xl_matrix::{CacheKind, Claim, Rwd};
 use xl_table::Leaver;
-use xl_wait::{Queue, Rooms};
+use xl_wait::Rooms;
 
-/// The files whose claims changed since all who wait were last found blocked.
-#[derive(Clone, Copy)]
-pub(crate) enum Unsettled {
-    /// None.
-    Nothing,
-    /// This one.
-    File(u32),
-    /// Any.
-    All,
-}
-
-/// Whether the file is one of these.
-pub(crate) fn is_among(unsettled: Unsettled, file: u32) -> bool
-    ensures { result ≡ is_among unsettled file }
-{
-    match unsettled {
-        Unsettled::Nothing => false,
-        Unsettled::File(own) => file == own,
-        Unsettled::All => true,
-    }
-}
-
-fn with_file(file: u32, unsettled: Unsettled) -> Unsettled
-    ensures { result ≡ with_file file unsettled }
-{
-    match unsettled {
-        Unsettled::Nothing => Unsettled::File(file),
-        Unsettled::File(own) => {
-            if file == own {
-                Unsettled::File(own)
-            } else {
-                Unsettled::All
-            }
-        }
-        Unsettled::All => Unsettled::All,
-    }
-}
-
-/// Whether an ask that is answered so may have changed what is held on its file.
-fn may_free(act: &Act, answer: Answer) -> bool
-    ensures { result ≡ may_free act.now answer }
-{
-    match (act, answer) {
-        (Act::Test(_, _), _) => false,
-        (_, Answer::Granted(_)) => true,
-        _ => false,
-    }
-}
-
-/// The unsettled files once an ask was answered so, and told of these breaks that began.
-fn left_by_ask(request: &Ask, answer: Answer, told: &[Effect], unsettled: Unsettled) -> Unsettled
-    ensures { result ≡ left_by_ask request.now answer told.now unsettled }
-{
-    match told {
-        [] => {
-            if may_free(&request.act, answer) {
-                with_file(request.file, unsettled)
-            } else {
-                unsettled
-            }
-        }
-        [_, ..] => with_file(request.file, unsettled),
-    }
-}
-
-/// Whether someone waits on one of the files.
-fn may_turn(unsettled: Unsettled, queue: &Queue) -> bool
-    ensures { result ≡ may_turn unsettled queue.now }
-{
-    match unsettled {
-        Unsettled::Nothing => false,
-        Unsettled::File(file) => queue.waits_on(file),
-        Unsettled::All => true,
-    }
-}
-
-/// Answers an ask, and tells of the breaks that it begins. Its file is unsettled then, where some began, or where it was granted
-/// what changes it.
+/// Answers an ask, and tells of the breaks that it begins. Its file is noted, where some began, or where it was granted what
+/// changes it.
 #[tactic(auto, using(crate::proofs::WatchLaws::any_up))]
 pub(crate) fn answer(
     alloc: Global,
@@ -115,14 +42,25 @@ pub(crate) fn answer(
     ensures failed { parts.new.failed ≡ parts.old.failed }
     ensures held_up { AreHeldUp unsettled.new (state_of parts.new) }
 {
-    let before = *unsettled;
-    *unsettled = Unsettled::All;
+    let before = mem::replace(unsettled, Unsettled::All);
     let (answer, told) = decide::answer(alloc, parts, left, request)?;
-    *unsettled = left_by_ask(request, answer, told.as_slice(), before);
+    *unsettled = before;
+    note_asked(&parts.queue, unsettled, request, answer, told.as_slice());
     Ok((answer, told))
 }
 
-/// One turn, where a waiter has one. It is looked for only where someone waits on an unsettled file, and among those who do.
+/// The unsettled files after a turn: where there was none there are none.
+fn left_by_turn(alloc: Global, had_turn: bool, before: Unsettled) -> Unsettled
+    ensures { result ≡ (if had_turn then before else Files []) }
+{
+    if had_turn {
+        before
+    } else {
+        Unsettled::Files(Sequence::new(alloc))
+    }
+}
+
+/// One turn, where a waiter has one. It is looked for among those alone who wait on an unsettled file.
 pub(crate) fn settle(
     alloc: Global,
     parts: &mut Parts,
@@ -138,18 +76,12 @@ pub(crate) fn settle(
     ensures failed { parts.new.failed ≡ parts.old.failed }
     ensures held_up { AreHeldUp unsettled.new (state_of parts.new) }
 {
-    let before = *unsettled;
-    if !may_turn(before, &parts.queue) {
-        *unsettled = Unsettled::Nothing;
+    if is_none(unsettled) {
         return Ok(None);
     }
-    *unsettled = Unsettled::All;
-    let turn = settling::settle(alloc, parts, before, left)?;
-    *unsettled = if turn.is_some() {
-        before
-    } else {
-        Unsettled::Nothing
-    };
+    let before = mem::replace(unsettled, Unsettled::All);
+    let turn = settling::settle(alloc, parts, &before, left)?;
+    *unsettled = left_by_turn(alloc, turn.is_some(), before);
     Ok(turn)
 }
 
@@ -165,14 +97,13 @@ pub(crate) fn cancel(
     ensures state { IfOk result (λ effects. cancel (state_of parts.old) id ≡ (effects, state_of parts.new)) }
     ensures held_up { AreHeldUp unsettled.new (state_of parts.new) }
 {
-    let before = *unsettled;
-    *unsettled = Unsettled::All;
+    let before = mem::replace(unsettled, Unsettled::All);
     let effects = leaving::cancel(alloc, parts, id)?;
     *unsettled = before;
     Ok(effects)
 }
 
-/// Takes one claim out. Its file is unsettled then.
+/// Takes one claim out, and notes its file.
 pub(crate) fn give_back(
     alloc: Global,
     parts: &mut Parts,
@@ -183,11 +114,11 @@ pub(crate) fn give_back(
     ensures state { give_back (state_of parts.old) claim.now ≡ (result, state_of parts.new) }
     ensures held_up { AreHeldUp unsettled.new (state_of parts.new) }
 {
-    *unsettled = with_file(claim.file, *unsettled);
+    note(&parts.queue, unsettled, claim.file);
     leaving::give_back(alloc, parts, claim)
 }
 
-/// Gives a share this access and deny in place of its own. Its file is unsettled then.
+/// Gives a share this access and deny in place of its own, and notes its file.
 pub(crate) fn weaken(
     alloc: Global,
     parts: &mut Parts,
@@ -202,11 +133,11 @@ pub(crate) fn weaken(
     ensures state { weaken (state_of parts.old) share.now access deny ≡ (result, state_of parts.new) }
     ensures held_up { AreHeldUp unsettled.new (state_of parts.new) }
 {
-    *unsettled = with_file(share.file, *unsettled);
+    note(&parts.queue, unsettled, share.file);
     leaving::weaken(alloc, parts, share, access, deny)
 }
 
-/// Leaves this much of a cache. Its file is unsettled then.
+/// Leaves this much of a cache, and notes its file.
 pub(crate) fn ack(
     alloc: Global,
     parts: &mut Parts,
@@ -220,11 +151,11 @@ pub(crate) fn ack(
     ensures state { ack (state_of parts.old) cache.now to ≡ (result, state_of parts.new) }
     ensures held_up { AreHeldUp unsettled.new (state_of parts.new) }
 {
-    *unsettled = with_file(cache.file, *unsettled);
+    note(&parts.queue, unsettled, cache.file);
     leaving::ack(alloc, parts, cache, to)
 }
 
-/// Takes out the claims and the waiters that go with who leaves. All files are unsettled then.
+/// Takes out the claims and the waiters that go with who leaves, and notes the files of these claims.
 #[tactic(auto, using(crate::proofs::WatchLaws::any_up))]
 pub(crate) fn leave(
     alloc: Global,
@@ -233,11 +164,15 @@ pub(crate) fn leave(
     leaver: Leaver,
 ) -> Result<Sequence<Effect>, AllocError>
     requires good { IsGood (state_of parts.old) }
+    requires held_up { AreHeldUp unsettled.old (state_of parts.old) }
     ensures state { IfOk result (λ effects. departed (state_of parts.old) leaver ≡ (effects, state_of parts.new)) }
     ensures held_up { AreHeldUp unsettled.new (state_of parts.new) }
 {
-    *unsettled = Unsettled::All;
-    leaving::leave(alloc, parts, leaver)
+    let mut before = mem::replace(unsettled, Unsettled::All);
+    note_left(&parts.table, &parts.queue, &mut before, leaver);
+    let effects = leaving::leave(alloc, parts, leaver)?;
+    *unsettled = before;
+    Ok(effects)
 }
 
 /// Renews a client's lease.
@@ -252,26 +187,8 @@ pub(crate) fn renew(
     ensures state { IfOk result (λ effects. renew (state_of parts.old) client.now ≡ (effects, state_of parts.new)) }
     ensures held_up { AreHeldUp unsettled.new (state_of parts.new) }
 {
-    let before = *unsettled;
-    *unsettled = Unsettled::All;
+    let before = mem::replace(unsettled, Unsettled::All);
     let effects = ticking::renew(alloc, parts, client)?;
     *unsettled = before;
     Ok(effects)
-}
-
-/// Reads the clock. All files are unsettled then.
-#[tactic(auto, using(crate::proofs::WatchLaws::any_up))]
-pub(crate) fn tick(
-    alloc: Global,
-    parts: &mut Parts,
-    unsettled: &mut Unsettled,
-    now: Moment,
-) -> Result<Sequence<Effect>, AllocError>
-    requires good { IsGood (state_of parts.old) }
-    requires held_up { AreHeldUp unsettled.old (state_of parts.old) }
-    ensures state { IfOk result (λ effects. tick (state_of parts.old) now ≡ (effects, state_of parts.new)) }
-    ensures held_up { AreHeldUp unsettled.new (state_of parts.new) }
-{
-    *unsettled = Unsettled::All;
-    ticking::tick(alloc, parts, now)
 }

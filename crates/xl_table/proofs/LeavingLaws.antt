@@ -1,5 +1,5 @@
 -- What is done file by file, as far as someone stands there.
-use Rattle.std.proofs.Common.{◌≡◌, ℕ, suc, ◌-◌, ◌<◌, ◌≤◌, length, Bool, true, false, not, ◌==◌, ◌&&◌, nat_lt, List, [], ◌∷◌, ◌++◌, Option, Some, None, refl, sym, ap, subst, ◌∙◌, inl, inr, arith}
+use Rattle.std.proofs.Common.{◌≡◌, ℕ, suc, ◌-◌, ◌<◌, ◌≤◌, length, Bool, true, false, not, ◌==◌, ◌&&◌, ◌||◌, nat_lt, List, [], ◌∷◌, ◌++◌, Option, Some, None, refl, sym, ap, subst, ◌∙◌, inl, inr, arith}
 use Rattle.std.proofs.lemmas.Bool.{cases_Bool, both_ways, eq-eqb, false_from_ne_true}
 use Rattle.std.proofs.lemmas.Bool.Decides.{nat_tests}
 use Rattle.std.proofs.lemmas.List.{append_assoc}
@@ -20,7 +20,7 @@ use Rattle.xl_matrix.specs.Blocks.{is_cache}
 use Rattle.xl_matrix.specs.Equal.{same_owners, same_parties}
 use Rattle.xl_matrix.specs.declared.claim.Claim.{Claim}
 use Rattle.xl_table.specs.Files.{here, alone, AreOn}
-use Rattle.xl_table.specs.Leaving.{goes, goes_on}
+use Rattle.xl_table.specs.Leaving.{goes, goes_on, earlier, IsFirst, IsNextLeft}
 use Rattle.xl_table.specs.Order.{goes_first}
 use Rattle.xl_table.specs.declared.leaver.Leaver.{Leaver}
 use Rattle.xl_table.specs.declared.leaver.Leaver.TheVariants as leavers
@@ -408,3 +408,103 @@ listed_done party by past held out who is next =
     go false by_it past_it m n = refl
     go true true past_it m n = ap not n
     go true false past_it m n = absurd (both_ways false refl (m refl))
+
+-- ---- the first file from which something goes
+
+all_two : (P Q R : Claim → Type 0) (cs : List Claim) → ((c : Claim) → P c → Q c → R c) → AllByRecursion P cs → AllByRecursion Q cs → AllByRecursion R cs
+all_two P Q R [] both ps qs = tt
+all_two P Q R (c ∷ cs) both ps qs = (both c ps.0 qs.0, all_two P Q R cs both ps.1 qs.1)
+
+neither : (r p q ahead here one other : Bool) → (r ≡ true → (p || q) ≡ true) → (here ≡ true → one ≡ true) → (here ≡ true → other ≡ true) → ((p && ahead) && one) ≡ false → ((q && ahead) && other) ≡ false → ((r && ahead) && here) ≡ false
+neither false p q ahead here one other some a b f g = refl
+neither true p q false here one other some a b f g = refl
+neither true p q true false one other some a b f g = refl
+neither true true q true true one other some a b f g = absurd (both_ways one f (a refl))
+neither true false true true true one other some a b f g = absurd (both_ways other g (b refl))
+neither true false false true true one other some a b f g = absurd (both_ways false refl (some refl))
+
+never_both : (b c : Bool) → b ≡ false → (b && c) ≡ false
+never_both false c e = refl
+never_both true c e = absurd (both_ways true e refl)
+
+never_alone : (b : Bool) → (b && true) ≡ false → b ≡ false
+never_alone false e = refl
+never_alone true e = e
+
+before_both : (n one other : ℕ) → nat_lt one other ≡ true → nat_lt n one ≡ true → nat_lt n other ≡ true
+before_both n one other h e = grind (arith, nat_tests)
+
+before_first : (n one other : ℕ) → nat_lt one other ≡ false → nat_lt n other ≡ true → nat_lt n one ≡ true
+before_first n one other h e = grind (arith, nat_tests)
+
+earlier_first : (these one_s other_s : Claim → Bool) (one other past : Option ℕ) (cs : List Claim) → ((c : Claim) → these c ≡ true → (one_s c || other_s c) ≡ true) → IsFirst one one_s past cs → IsFirst other other_s past cs → IsFirst (earlier one other) these past cs
+earlier_first r p q None None past cs some f g =
+    all_two (λ c. (p c && is_past past c.file) ≡ false) (λ c. (q c && is_past past c.file) ≡ false) (λ c. (r c && is_past past c.file) ≡ false) cs
+    (λ c a b. never_alone (r c && is_past past c.file)
+    (neither (r c) (p c) (q c) (is_past past c.file) true true true (some c) (λ e. e) (λ e. e) (never_both (p c && is_past past c.file) true a) (never_both (q c && is_past past c.file) true b))) f g
+earlier_first r p q None (Some second) past cs some f g = (
+  g.0,
+  all_two (λ c. (p c && is_past past c.file) ≡ false) (λ c. ((q c && is_past past c.file) && nat_lt c.file second) ≡ false) (λ c. ((r c && is_past past c.file) && nat_lt c.file second) ≡ false) cs
+      (λ c a b. let lt = nat_lt c.file second in neither (r c) (p c) (q c) (is_past past c.file) lt lt lt (some c) (λ e. e) (λ e. e) (never_both (p c && is_past past c.file) lt a) b) f g.1,
+)
+earlier_first r p q (Some first) None past cs some f g = (
+  f.0,
+  all_two (λ c. ((p c && is_past past c.file) && nat_lt c.file first) ≡ false) (λ c. (q c && is_past past c.file) ≡ false) (λ c. ((r c && is_past past c.file) && nat_lt c.file first) ≡ false) cs
+      (λ c a b. let lt = nat_lt c.file first in neither (r c) (p c) (q c) (is_past past c.file) lt lt lt (some c) (λ e. e) (λ e. e) a (never_both (q c && is_past past c.file) lt b)) f.1 g,
+)
+earlier_first r p q (Some first) (Some second) past cs some f g =
+    elim (cases_Bool (nat_lt first second)) [
+      | inl e ↦ rw e (
+        f.0,
+        all_two (λ c. ((p c && is_past past c.file) && nat_lt c.file first) ≡ false) (λ c. ((q c && is_past past c.file) && nat_lt c.file second) ≡ false) (λ c. ((r c && is_past past c.file) && nat_lt c.file first) ≡ false) cs
+            (λ c a b. neither (r c) (p c) (q c) (is_past past c.file) (nat_lt c.file first) (nat_lt c.file first) (nat_lt c.file second) (some c) (λ h. h) (λ h. before_both c.file first second e h) a b) f.1 g.1,
+      )
+      | inr e ↦ rw e (
+        g.0,
+        all_two (λ c. ((p c && is_past past c.file) && nat_lt c.file first) ≡ false) (λ c. ((q c && is_past past c.file) && nat_lt c.file second) ≡ false) (λ c. ((r c && is_past past c.file) && nat_lt c.file second) ≡ false) cs
+            (λ c a b. neither (r c) (p c) (q c) (is_past past c.file) (nat_lt c.file second) (nat_lt c.file first) (nat_lt c.file second) (some c) (λ h. before_first c.file first second e h) (λ h. h) a b) f.1 g.1,
+      )
+    ]
+
+-- the earlier of a file and none is that one, and of a file and itself too
+same_earlier : (one : Option ℕ) → earlier one one ≡ one
+same_earlier None = refl
+same_earlier (Some first) = elim (cases_Bool (nat_lt first first)) [ inl e ↦ rw e refl | inr e ↦ rw e refl ]
+
+either_of : (b : Bool) → b ≡ true → (b || b) ≡ true
+either_of true e = refl
+either_of false e = e
+
+alone_first : (these those : Claim → Bool) (file past : Option ℕ) (cs : List Claim) → ((c : Claim) → these c ≡ true → those c ≡ true) → IsFirst file those past cs → IsFirst file these past cs
+alone_first these those file past cs some f =
+    subst (λ (o : Option ℕ). IsFirst o these past cs) (same_earlier file) (earlier_first these those those file file past cs (λ c e. either_of (those c) (some c e)) f f)
+
+next_first : (by : ℕ) (file past : Option ℕ) (cs : List Claim) → IsNext file by past cs → IsFirst file (is_by by) past cs
+next_first by None past cs f = f
+next_first by (Some n) past cs f = f
+
+pub party_first : (party : Party) (by : ℕ) (file past : Option ℕ) (cs : List Claim) → by ≡ who_of party → IsNext file by past cs → IsNextLeft file (leavers.Party party) past cs
+party_first party by file past cs is first =
+    alone_first (goes (leavers.Party party)) (is_by by) file past cs (λ c e. subst (λ (n : ℕ). is_by n c ≡ true) (sym is) (party_by party c e)) (next_first by file past cs first)
+
+pub open_first : (number by : ℕ) (file past : Option ℕ) (cs : List Claim) → by ≡ who_opens number → IsNext file by past cs → IsNextLeft file (leavers.Open number None) past cs
+open_first number by file past cs is first =
+    alone_first (goes (leavers.Open number None)) (is_by by) file past cs (λ c e. subst (λ (n : ℕ). is_by n c ≡ true) (sym is) (open_goes number None c e (no_cache_goes number c e))) (next_first by file past cs first)
+
+either_goes : (number : ℕ) (party : Party) (c : Claim) → goes (leavers.Open number (Some party)) c ≡ true → (is_by (who_opens number) c || is_by (who_of party) c) ≡ true
+either_goes number party c e =
+    elim (cases_Bool (is_by (who_opens number) c)) [
+      | inl own ↦ rw own refl
+      | inr other ↦ rw other
+          (elim (cases_Bool (is_cache c.what)) [
+            | inl cache ↦ cache_goes number party c e cache
+            | inr plain ↦ absurd (both_ways (is_by (who_opens number) c) other (open_goes number (Some party) c e plain))
+          ])
+    ]
+
+pub both_first : (number own by : ℕ) (party : Party) (one other result past : Option ℕ) (cs : List Claim) → own ≡ who_opens number → by ≡ who_of party → IsNext one own past cs → IsNext other by past cs → result ≡ earlier one other → IsNextLeft result (leavers.Open number (Some party)) past cs
+both_first number own by party one other result past cs own_is by_is first second is =
+    subst (λ (o : Option ℕ). IsFirst o (goes (leavers.Open number (Some party))) past cs) (sym is)
+    (earlier_first (goes (leavers.Open number (Some party))) (is_by own) (is_by by) one other past cs
+    (λ c e. subst (λ (n : ℕ). (is_by n c || is_by by c) ≡ true) (sym own_is) (subst (λ (m : ℕ). (is_by (who_opens number) c || is_by m c) ≡ true) (sym by_is) (either_goes number party c e)))
+    (next_first own one past cs first) (next_first by other past cs second))

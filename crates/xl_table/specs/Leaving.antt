@@ -1,7 +1,9 @@
 -- Who leaves, and what goes with it.
-use Rattle.std.specs.Prelude.{ℕ, ◌==◌, ◌&&◌, Bool, false, if◌then◌else◌, Option, Some, None}
+use Rattle.std.specs.Prelude.{◌≡◌, ℕ, ◌==◌, ◌&&◌, nat_lt, Bool, true, false, if◌then◌else◌, List, Option, Some, None}
+use Rattle.std.specs.List.{AllByRecursion}
 use Rattle.xl_base.specs.declared.name.Owner.TheVariants as owners
 use Rattle.xl_base.specs.declared.name.Party.{Party}
+use Rattle.xl_index.specs.Stands.{is_past}
 use Rattle.xl_matrix.specs.Blocks.{is_cache}
 use Rattle.xl_matrix.specs.Equal.{same_owners, same_parties}
 use Rattle.xl_matrix.specs.declared.claim.Claim.{Claim}
@@ -25,3 +27,18 @@ goes (leavers.Open number party) c = if is_cache c.what then is_of_some party c 
 -- and it does, being on this file
 abbrev pub goes_on : Leaver → ℕ → Claim → Bool
 goes_on who file c = goes who c && (c.file == file)
+
+-- the first file past one that has some of these claims: none of them is on one between; or on any past it
+abbrev pub IsFirst : Option ℕ → (Claim → Bool) → Option ℕ → List Claim → Type 0
+IsFirst (Some file) these past cs = (is_past past file ≡ true) × AllByRecursion (λ c. ((these c && is_past past c.file) && nat_lt c.file file) ≡ false) cs
+IsFirst None these past cs = AllByRecursion (λ c. (these c && is_past past c.file) ≡ false) cs
+
+-- the first file past one from which something goes
+abbrev pub IsNextLeft : Option ℕ → Leaver → Option ℕ → List Claim → Type 0
+IsNextLeft file who past cs = IsFirst file (goes who) past cs
+
+-- the earlier of two files, as far as they are there
+abbrev pub earlier : Option ℕ → Option ℕ → Option ℕ
+earlier None other = other
+earlier (Some one) None = Some one
+earlier (Some one) (Some other) = if nat_lt one other then Some one else Some other

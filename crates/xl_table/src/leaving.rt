@@ -7,7 +7,7 @@ ghost use Rattle.xl_index.specs.Stands.{is_by};
 ghost use Rattle.xl_matrix.specs.Equal.{same_parties};
 ghost use Rattle.xl_matrix.specs.declared.claim.Claim.{Claim};
 ghost use Rattle.xl_table.specs.Files.{joined, IsFiled};
-ghost use Rattle.xl_table.specs.Leaving.{goes, goes_on};
+ghost use Rattle.xl_table.specs.Leaving.{goes, goes_on, earlier, IsNextLeft};
 ghost use Rattle.xl_table.specs.declared.leaver.Leaver.TheVariants as Leaver;
 ghost use Rattle.xl_table.specs.Order.{goes_first};
 ghost use Rattle.xl_table.specs.Pages.{paged};
@@ -122,6 +122,42 @@ pub(crate) fn drop_leaver(lists: &mut Vec<OnFile>, index: &mut Index, leaver: Le
     match leaver {
         Leaver::Party(party) => drop_by(lists, index, leaver, who_of(party)),
         Leaver::Open(number, party) => drop_open(lists, index, number, party),
+    }
+}
+
+/// The earlier of two files, as far as they are there.
+fn earlier(one: Option<u32>, other: Option<u32>) -> Option<u32>
+    ensures { result ≡ earlier one other }
+{
+    let Some(first) = one else {
+        return other;
+    };
+    let Some(second) = other else {
+        return one;
+    };
+    if first < second { one } else { other }
+}
+
+/// The first file, or the first past this one, from which something goes with an SMB open, or with the party that goes with it.
+#[tactic(auto, using(crate::proofs::LeavingLaws::open_first, crate::proofs::LeavingLaws::both_first))]
+fn next_open(index: &Index, number: u32, party: Option<Party>, past: Option<u32>) -> Option<u32>
+    ensures { (cs : List Claim) → IsIndexOf index.now cs → IsNextLeft result (Leaver.Open number party) past cs }
+{
+    let owned = index.next_file(who_opens(number), past);
+    match party {
+        None => owned,
+        Some(own) => earlier(owned, index.next_file(who_of(own), past)),
+    }
+}
+
+/// The first file, or the first past this one, from which something goes with who leaves.
+#[tactic(auto, using(crate::proofs::LeavingLaws::party_first))]
+pub(crate) fn next_left(index: &Index, leaver: Leaver, past: Option<u32>) -> Option<u32>
+    ensures { (cs : List Claim) → IsIndexOf index.now cs → IsNextLeft result leaver past cs }
+{
+    match leaver {
+        Leaver::Party(party) => index.next_file(who_of(party), past),
+        Leaver::Open(number, party) => next_open(index, number, party, past),
     }
 }
 

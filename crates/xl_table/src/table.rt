@@ -10,7 +10,7 @@ use crate::files::{OnFile, open_file};
 use crate::holding::find_holder;
 use crate::least::least_of;
 use crate::leaver::Leaver;
-use crate::leaving::{drop_leaver, list_party};
+use crate::leaving::{drop_leaver, list_party, next_left};
 use crate::listing::{
     is_blocked, keep_ranges, list_all, list_blockers, list_blockers_in, list_due, list_file,
 };
@@ -92,7 +92,7 @@ impl Table {
     ghost use Rattle.xl_matrix.specs.Owners.{posix};
     ghost use Rattle.xl_table.specs.Flat.{inserted, removed, changed, blocks, is_blocked, is_due, locks, range_key, holder};
     ghost use Rattle.xl_table.specs.Held.{is_range, is_share, is_cache, has_one_party, spans_of, IsGrantable, IsSound, IsKept};
-    ghost use Rattle.xl_table.specs.Leaving.{goes};
+    ghost use Rattle.xl_table.specs.Leaving.{goes, IsNextLeft};
     ghost use Rattle.xl_table.specs.Relock.{is_share_of, holds_byte, holds_range, relocked_in, granted_claims, most_claims};
     ghost use Rattle.xl_table.specs.Changes.{written, MayBeWritten};
     ghost use Rattle.xl_table.specs.Elements.{is_held, element_held, taken_back, CameLast};
@@ -320,6 +320,13 @@ impl Table {
         ensures { self.new ≡ filter (λ held. not (goes leaver held)) self.old }
     {
         drop_leaver(&mut self.lists, &mut self.index, leaver);
+    }
+
+    /// The first file, or the first past this one, from which claims go with who leaves. It takes no memory.
+    pub fn next_left(&self, leaver: Leaver, past: Option<u32>) -> Option<u32>
+        ensures { IsNextLeft result leaver past self.now }
+    {
+        next_left(&self.index, leaver, past)
     }
 
     /// Enters a claim at its place: behind all that stand no later. Full comes exactly where the table holds 16,384.

@@ -1,107 +1,160 @@
--- The files on which some wait, as one comes and as one leaves, and how many wait on each.
-use Rattle.std.proofs.Common.{◌≡◌, ◌≢◌, ℕ, zero, suc, ◌+◌, ◌-◌, ◌≤◌, ◌<◌, ◌==◌, Bool, true, false, if◌then◌else◌, nat_lt, List, [], ◌∷◌, ◌++◌, take, drop, Option, Some, length, get_or, refl, sym, ap, subst, ◌∙◌, inl, inr, arith}
-use Rattle.std.proofs.lemmas.Bool.{both_ways, cases_Bool, eq-eqb, eqb-true}
+-- The queues of the files on which some wait, as one comes and as one leaves.
+use Rattle.std.proofs.Common.{◌≡◌, ℕ, zero, suc, ◌+◌, ◌<◌, ◌==◌, Bool, true, false, nat_lt, List, [], ◌∷◌, ◌++◌, map, take, drop, Option, length, get_or, set, refl, sym, ap, subst, ◌∙◌, inl, inr, arith}
+use Rattle.std.proofs.lemmas.Bool.{cases_Bool, eq-eqb}
 use Rattle.std.proofs.lemmas.Bool.Decides.{nat_tests}
 use Rattle.std.proofs.lemmas.List.{map-append, take-map, drop-map}
-use Rattle.std.specs.BTreeMap.{BTreeMap, IsUnchanged}
+use Rattle.std.specs.BTreeMap.{BTreeMap}
 use Rattle.std.specs.List.{list_any, remove}
 use Rattle.std.specs.Map.{lookup}
 use Rattle.std.specs.Option.{unwrap_or}
 use Rattle.std.specs.Ordering.{is_eq, nat_cmp}
-use Rattle.xl_wait.specs.Waiting.{first_file, files_of, is_file, waits_on, one_on, many_on, many_in, IsCounted, ChangesOnly}
+use Rattle.xl_wait.specs.Waiting.{first_file, files_of, is_file, waits_on, places_from, places_on, places_in, nearer, closed_up, one_more, AreQueued}
 use Rattle.xl_wait.specs.declared.waiter.Waiter.{Waiter}
 
-pub files_entered : (ws : List Waiter) (w : Waiter) → files_of (ws ++ w ∷ []) ≡ files_of ws ++ first_file w.asked ∷ []
+files_entered : (ws : List Waiter) (w : Waiter) → files_of (ws ++ w ∷ []) ≡ files_of ws ++ first_file w.asked ∷ []
 files_entered ws w = map-append (λ (v : Waiter). first_file v.asked) ws (w ∷ [])
 
-pub files_left : (i : ℕ) (ws : List Waiter) → files_of (take i ws ++ drop (i + 1) ws) ≡ take i (files_of ws) ++ drop (i + 1) (files_of ws)
-files_left i ws =
+files_left : (ws : List Waiter) (i : ℕ) → files_of (remove ws i) ≡ remove (files_of ws) i
+files_left ws i =
     let file : Waiter → Option ℕ = λ w. first_file w.asked in
-    map-append file (take i ws) (drop (i + 1) ws) ∙ (λ j. sym (take-map file i ws) j ++ sym (drop-map file (i + 1) ws) j)
+    map-append file (take i ws) (drop (suc i) ws) ∙ (λ j. sym (take-map file i ws) j ++ sym (drop-map file (suc i) ws) j)
 
-pub as_many : (ws : List Waiter) → length (files_of ws) ≡ length ws
+as_many : (ws : List Waiter) → length (files_of ws) ≡ length ws
 as_many [] = refl
 as_many (w ∷ ws) = omega (arith, as_many ws)
 
--- ---- how many wait on a file
+-- ---- one comes
 
-many_append : (file : ℕ) (fs gs : List (Option ℕ)) → many_on file (fs ++ gs) ≡ many_on file fs + many_on file gs
-many_append file [] gs = omega arith
-many_append file (f ∷ fs) gs = omega (arith, many_append file fs gs)
-
-most_one : (file : ℕ) (own : Option ℕ) → one_on file own ≤ 1
-most_one file own = elim (cases_Bool (is_file file own)) [ inl e ↦ rw e (omega arith) | inr e ↦ rw e (omega arith) ]
-
-many_few : (file : ℕ) (fs : List (Option ℕ)) → many_on file fs ≤ length fs
-many_few file [] = omega arith
-many_few file (f ∷ fs) = omega (arith, most_one file f, many_few file fs)
-
-pub few_counted : (counts : BTreeMap ℕ ℕ) (fs : List (Option ℕ)) → IsCounted counts fs → length fs < 1024 → (file : ℕ) → many_in counts file ≤ 1024
-few_counted counts fs counted few file = omega (arith, counted file, many_few file fs, few)
-
-pub few_files : (ws : List Waiter) (fs : List (Option ℕ)) → fs ≡ files_of ws → length ws < 1024 → length fs < 1024
-few_files ws fs is few = omega (arith, ap (λ (gs : List (Option ℕ)). length gs) is, as_many ws, few)
-
-pub counted_in : (old new : BTreeMap ℕ ℕ) (fs xs gs : List (Option ℕ)) (own : Option ℕ) → IsCounted old fs → ((file : ℕ) → many_in new file ≡ one_on file own + many_in old file) → xs ≡ fs → gs ≡ xs ++ own ∷ [] → IsCounted new gs
-counted_in old new fs xs gs own counted more same is file =
-    omega (arith, more file, counted file, many_append file fs (own ∷ []), ap (λ (hs : List (Option ℕ)). many_on file hs) is, ap (λ (hs : List (Option ℕ)). many_on file (hs ++ own ∷ [])) same)
-
--- after an error they are counted as they were
-pub counted_still : (old new : BTreeMap ℕ ℕ) (fs xs : List (Option ℕ)) → IsCounted old fs → ((file : ℕ) → many_in new file ≡ many_in old file) → xs ≡ fs → IsCounted new xs
-counted_still old new fs xs counted stay same file = stay file ∙ counted file ∙ ap (λ (hs : List (Option ℕ)). many_on file hs) (sym same)
-
--- the one at a place counts among all
-many_without : (file i : ℕ) (fs : List (Option ℕ)) (own : Option ℕ) → i < length fs → own ≡ get_or fs i own → one_on file own + many_on file (remove fs i) ≡ many_on file fs
-many_without file i [] own h is = absurd (omega (arith, h))
-many_without file zero (f ∷ fs) own h is = ap (λ (g : Option ℕ). one_on file g + many_on file fs) is
-many_without file (suc i) (f ∷ fs) own h is = omega (arith, many_without file i fs own (omega (arith, h)) is)
-
-pub counts_here : (counts : BTreeMap ℕ ℕ) (fs : List (Option ℕ)) (i : ℕ) (own : Option ℕ) → IsCounted counts fs → i < length fs → own ≡ get_or fs i own → (file : ℕ) → one_on file own ≤ many_in counts file
-counts_here counts fs i own counted h is file = omega (arith, counted file, many_without file i fs own h is)
-
-pub counted_out : (old new : BTreeMap ℕ ℕ) (fs gs : List (Option ℕ)) (i : ℕ) (own : Option ℕ) → IsCounted old fs → i < length fs → own ≡ get_or fs i own → ((file : ℕ) → one_on file own + many_in new file ≡ many_in old file) → gs ≡ remove fs i → IsCounted new gs
-counted_out old new fs gs i own counted h is fewer left file =
-    omega (arith, fewer file, counted file, many_without file i fs own h is, ap (λ (hs : List (Option ℕ)). many_on file hs) left)
-
-some_waits : (file : ℕ) (fs : List (Option ℕ)) → nat_lt 0 (many_on file fs) ≡ list_any (is_file file) fs
-some_waits file [] = refl
-some_waits file (f ∷ fs) =
+come_from : (n file : ℕ) (fs : List (Option ℕ)) (own : Option ℕ) → places_from n file (fs ++ own ∷ []) ≡ places_from n file fs ++ one_more file own (n + length fs)
+come_from n file [] own =
+    elim (cases_Bool (is_file file own)) [
+      | inl e ↦ rw e (ap (λ (k : ℕ). k ∷ []) (omega arith))
+      | inr e ↦ rw e refl
+    ]
+come_from n file (f ∷ fs) own =
+    let behind : places_from (n + 1) file (fs ++ own ∷ []) ≡ places_from (n + 1) file fs ++ one_more file own (n + length (f ∷ fs)) =
+    come_from (n + 1) file fs own ∙ ap (λ (k : ℕ). places_from (n + 1) file fs ++ one_more file own k) (omega arith) in
     elim (cases_Bool (is_file file f)) [
-      | inl e ↦ rw e (positive (many_on file fs))
-      | inr e ↦ rw e (none (many_on file fs) ∙ some_waits file fs)
+      | inl e ↦ rw e (ap (λ (ps : List ℕ). n ∷ ps) behind)
+      | inr e ↦ rw e behind
+    ]
+
+pub queued_in : (old new : BTreeMap ℕ (List ℕ)) (ws vs : List Waiter) (w : Waiter) (place : ℕ) → AreQueued old (files_of ws) → place ≡ length ws → ((file : ℕ) → places_in new file ≡ places_in old file ++ one_more file (first_file w.asked) place) → vs ≡ ws ++ w ∷ [] → AreQueued new (files_of vs)
+queued_in old new ws vs w place queued at more is file =
+    let here : place ≡ 0 + length (files_of ws) = omega (arith, at, as_many ws) in
+    more file
+    ∙ (λ i. queued file i ++ one_more file (first_file w.asked) (here i))
+    ∙ sym (come_from 0 file (files_of ws) (first_file w.asked))
+    ∙ ap (λ (fs : List (Option ℕ)). places_on file fs) (sym (files_entered ws w) ∙ ap files_of (sym is))
+
+-- after an error they stand as they stood
+pub queued_still : (old new : BTreeMap ℕ (List ℕ)) (ws vs : List Waiter) → AreQueued old (files_of ws) → ((file : ℕ) → places_in new file ≡ places_in old file) → vs ≡ ws → AreQueued new (files_of vs)
+queued_still old new ws vs queued stay same file = stay file ∙ queued file ∙ ap (λ (us : List Waiter). places_on file (files_of us)) (sym same)
+
+-- ---- one leaves
+
+-- all of these stand behind the place
+far_first : (at n : ℕ) → at < n → (n == at) ≡ false
+far_first at n h = grind (arith, nat_tests)
+
+near_first : (at n : ℕ) → n < at → (n == at) ≡ false
+near_first at n h = grind (arith, nat_tests)
+
+nearer_far : (at n : ℕ) → at < n + 1 → nearer at (n + 1) ≡ n
+nearer_far at n h = grind (arith, nat_tests)
+
+nearer_near : (at n : ℕ) → n < at → nearer at n ≡ n
+nearer_near at n h = grind (arith, nat_tests)
+
+-- a queue by its first
+closed_far : (at n : ℕ) (ps : List ℕ) → at < n + 1 → closed_up at ((n + 1) ∷ ps) ≡ n ∷ closed_up at ps
+closed_far at n ps h = rw (far_first at (n + 1) h) (ap (λ (k : ℕ). k ∷ closed_up at ps) (nearer_far at n h))
+
+closed_near : (at n : ℕ) (ps : List ℕ) → n < at → closed_up at (n ∷ ps) ≡ n ∷ closed_up at ps
+closed_near at n ps h = rw (near_first at n h) (ap (λ (k : ℕ). k ∷ closed_up at ps) (nearer_near at n h))
+
+closed_here : (at : ℕ) (ps : List ℕ) → closed_up at (at ∷ ps) ≡ closed_up at ps
+closed_here at ps = rw (eq-eqb at at refl) refl
+
+-- those behind the place that is left come one nearer
+all_nearer : (at n file : ℕ) (fs : List (Option ℕ)) → at < n + 1 → closed_up at (places_from (n + 1) file fs) ≡ places_from n file fs
+all_nearer at n file [] h = refl
+all_nearer at n file (f ∷ fs) h =
+    let behind : closed_up at (places_from (n + 1 + 1) file fs) ≡ places_from (n + 1) file fs = all_nearer at (n + 1) file fs (omega (arith, h)) in
+    elim (cases_Bool (is_file file f)) [
+      | inl e ↦ rw e (closed_far at n (places_from (n + 1 + 1) file fs) h ∙ ap (λ (ps : List ℕ). n ∷ ps) behind)
+      | inr e ↦ rw e behind
+    ]
+
+leave_from : (n file i : ℕ) (fs : List (Option ℕ)) → i < length fs → places_from n file (remove fs i) ≡ closed_up (n + i) (places_from n file fs)
+leave_from n file i [] h = absurd (omega (arith, h))
+leave_from n file zero (f ∷ fs) h =
+    let here : n ≡ n + 0 = omega arith in
+    subst (λ (at : ℕ). places_from n file fs ≡ closed_up at (places_from n file (f ∷ fs))) here
+    (elim (cases_Bool (is_file file f)) [
+      | inl e ↦ rw e (sym (closed_here n (places_from (n + 1) file fs) ∙ all_nearer n n file fs (omega arith)))
+      | inr e ↦ rw e (sym (all_nearer n n file fs (omega arith)))
+    ])
+leave_from n file (suc i) (f ∷ fs) h =
+    let at : (n + 1) + i ≡ n + suc i = omega arith in
+    let behind : places_from (n + 1) file (remove fs i) ≡ closed_up (n + suc i) (places_from (n + 1) file fs) =
+    leave_from (n + 1) file i fs (omega (arith, h)) ∙ ap (λ (k : ℕ). closed_up k (places_from (n + 1) file fs)) at in
+    elim (cases_Bool (is_file file f)) [
+      | inl e ↦ rw e (ap (λ (ps : List ℕ). n ∷ ps) behind ∙ sym (closed_near (n + suc i) n (places_from (n + 1) file fs) (omega arith)))
+      | inr e ↦ rw e behind
+    ]
+
+pub queued_out : (old new : BTreeMap ℕ (List ℕ)) (ws vs : List Waiter) (at : ℕ) → AreQueued old (files_of ws) → at < length ws → ((file : ℕ) → places_in new file ≡ closed_up at (places_in old file)) → vs ≡ remove ws at → AreQueued new (files_of vs)
+queued_out old new ws vs at queued h left is file =
+    let here : at ≡ 0 + at = omega arith in
+    left file
+    ∙ ap (λ (ps : List ℕ). closed_up at ps) (queued file)
+    ∙ ap (λ (k : ℕ). closed_up k (places_on file (files_of ws))) here
+    ∙ sym (leave_from 0 file at (files_of ws) (omega (arith, h, as_many ws)))
+    ∙ ap (λ (fs : List (Option ℕ)). places_on file fs) (sym (files_left ws at) ∙ ap files_of (sym is))
+
+-- something is done to the first i of these, and not to the others
+abbrev pub done_to : (g : ℕ → ℕ) (i : ℕ) (xs : List ℕ) → List ℕ
+done_to g zero xs = xs
+done_to g (suc i) [] = []
+done_to g (suc i) (x ∷ xs) = g x ∷ done_to g i xs
+
+pub done_next : (g : ℕ → ℕ) (i d : ℕ) (xs : List ℕ) → i < length xs → set (done_to g i xs) i (g (get_or (done_to g i xs) i d)) ≡ done_to g (suc i) xs
+done_next g i d [] h = absurd (omega (arith, h))
+done_next g zero d (x ∷ xs) h = refl
+done_next g (suc i) d (x ∷ xs) h = ap (λ (ys : List ℕ). g x ∷ ys) (done_next g i d xs (omega (arith, h)))
+
+pub all_done : (g : ℕ → ℕ) (xs : List ℕ) → done_to g (length xs) xs ≡ map g xs
+all_done g [] = refl
+all_done g (x ∷ xs) = ap (λ (ys : List ℕ). g x ∷ ys) (all_done g xs)
+
+pub as_long : (g : ℕ → ℕ) (i : ℕ) (xs : List ℕ) → length (done_to g i xs) ≡ length xs
+as_long g zero xs = refl
+as_long g (suc i) [] = refl
+as_long g (suc i) (x ∷ xs) = ap (λ (n : ℕ). suc n) (as_long g i xs)
+
+-- what is done to each queue is done to a file's
+mapped : (test : ℕ → Bool) (g : List ℕ → List ℕ) (es : List (ℕ × List ℕ)) → g [] ≡ [] → unwrap_or (lookup test (map (λ e. (e.0, g e.1)) es)) [] ≡ g (unwrap_or (lookup test es) [])
+mapped test g [] none = sym none
+mapped test g (e ∷ es) none = elim (cases_Bool (test e.0)) [ inl is ↦ rw is refl | inr is ↦ rw is (mapped test g es none) ]
+
+pub closed_all : (old new : BTreeMap ℕ (List ℕ)) (at : ℕ) → new.entries ≡ map (λ e. (e.0, closed_up at e.1)) old.entries → (file : ℕ) → places_in new file ≡ closed_up at (places_in old file)
+closed_all old new at is file =
+    ap (λ (es : List (ℕ × List ℕ)). unwrap_or (lookup (λ q. is_eq (nat_cmp file q)) es) []) is
+    ∙ mapped (λ q. is_eq (nat_cmp file q)) (closed_up at) old.entries refl
+
+-- ---- someone waits
+
+some_from : (n file : ℕ) (fs : List (Option ℕ)) → nat_lt 0 (length (places_from n file fs)) ≡ list_any (is_file file) fs
+some_from n file [] = refl
+some_from n file (f ∷ fs) =
+    elim (cases_Bool (is_file file f)) [
+      | inl e ↦ rw e (positive (length (places_from (n + 1) file fs)))
+      | inr e ↦ rw e (some_from (n + 1) file fs)
     ]
   where
-    positive : (n : ℕ) → nat_lt 0 (1 + n) ≡ true
-    positive n = grind (arith, nat_tests)
+    positive : (k : ℕ) → nat_lt 0 (suc k) ≡ true
+    positive k = grind (arith, nat_tests)
 
-    none : (n : ℕ) → nat_lt 0 (0 + n) ≡ nat_lt 0 n
-    none n = grind (arith, nat_tests)
-
-pub waits_counted : (counts : BTreeMap ℕ ℕ) (ws : List Waiter) (fs : List (Option ℕ)) (file : ℕ) → fs ≡ files_of ws → IsCounted counts fs → nat_lt 0 (many_in counts file) ≡ waits_on file ws
-waits_counted counts ws fs file is counted =
-    ap (λ (n : ℕ). nat_lt 0 n) (counted file) ∙ some_waits file fs ∙ ap (λ (gs : List (Option ℕ)). list_any (is_file file) gs) is
-
--- ---- one file's count changes alone
-
-apart : (own f : ℕ) → (own == f) ≡ false → f ≢ own
-apart own f e is = both_ways (own == f) e (eq-eqb own f (sym is))
-
-pub one_more : (old new : BTreeMap ℕ ℕ) (own n : ℕ) → ChangesOnly old new own n → n ≡ many_in old own + 1 → (f : ℕ) → many_in new f ≡ one_on f (Some own) + many_in old f
-one_more old new own n only is f =
-    elim (cases_Bool (own == f)) [
-      | inl e ↦ rw e (subst (λ (k : ℕ). many_in new k ≡ 1 + many_in old k) (eqb-true own f e) (omega (arith, only.here, is)))
-      | inr e ↦ rw e (omega (arith, only.others f (apart own f e)))
-    ]
-
-pub one_less : (old new : BTreeMap ℕ ℕ) (own n : ℕ) → ChangesOnly old new own n → n ≡ many_in old own - 1 → 0 < many_in old own → (f : ℕ) → one_on f (Some own) + many_in new f ≡ many_in old f
-one_less old new own n only is some f =
-    elim (cases_Bool (own == f)) [
-      | inl e ↦ rw e (subst (λ (k : ℕ). 1 + many_in new k ≡ many_in old k) (eqb-true own f e) (omega (arith, only.here, is, some)))
-      | inr e ↦ rw e (omega (arith, only.others f (apart own f e)))
-    ]
-
-pub some_here : (counts : BTreeMap ℕ ℕ) (own : ℕ) → ((f : ℕ) → one_on f (Some own) ≤ many_in counts f) → 0 < many_in counts own
-some_here counts own all = omega (arith, all own, ap {B = ℕ} (λ (b : Bool). if b then 1 else 0) (eq-eqb own own refl))
-
-pub all_stay : (old new : BTreeMap ℕ ℕ) → IsUnchanged old new → (f : ℕ) → many_in new f ≡ many_in old f
-all_stay old new same f = ap (λ (es : List (ℕ × ℕ)). unwrap_or (lookup (λ q. is_eq (nat_cmp f q)) es) 0) same
+pub some_queued : (queues : BTreeMap ℕ (List ℕ)) (ws : List Waiter) (file : ℕ) → AreQueued queues (files_of ws) → nat_lt 0 (length (places_in queues file)) ≡ waits_on file ws
+some_queued queues ws file queued = ap (λ (ps : List ℕ). nat_lt 0 (length ps)) (queued file) ∙ some_from 0 file (files_of ws)

@@ -1,7 +1,7 @@
 -- The list of those who wait, in order of arrival.
-use Rattle.std.specs.Prelude.{◌≡◌, ◌≢◌, ℕ, ◌+◌, Bool, true, false, ◌==◌, List, [], ◌∷◌, map, Option, Some, None, if◌then◌else◌}
+use Rattle.std.specs.Prelude.{◌≡◌, ℕ, ◌+◌, ◌-◌, nat_lt, Bool, true, false, not, ◌==◌, List, [], ◌∷◌, map, Option, Some, None, if◌then◌else◌}
 use Rattle.std.specs.BTreeMap.{BTreeMap, get}
-use Rattle.std.specs.List.{list_any}
+use Rattle.std.specs.List.{filter, list_any}
 use Rattle.std.specs.Option.{unwrap_or}
 use Rattle.std.specs.Ordering.{nat_cmp}
 use Rattle.xl_matrix.specs.declared.claim.Claim.{Claim}
@@ -49,23 +49,30 @@ is_file file (Some own) = own == file
 abbrev pub waits_on : ℕ → List Waiter → Bool
 waits_on file ws = list_any (is_file file) (files_of ws)
 
--- how many wait on this file
-abbrev pub one_on : ℕ → Option ℕ → ℕ
-one_on file own = if is_file file own then 1 else 0
+-- the places of those who wait on this file, of whom the first has this place
+abbrev pub places_from : ℕ → ℕ → List (Option ℕ) → List ℕ
+places_from n file [] = []
+places_from n file (f ∷ fs) = if is_file file f then n ∷ places_from (n + 1) file fs else places_from (n + 1) file fs
 
-abbrev pub many_on : ℕ → List (Option ℕ) → ℕ
-many_on file [] = 0
-many_on file (f ∷ fs) = one_on file f + many_on file fs
+-- a file's queue: the places of those who wait on it, in order of arrival
+abbrev pub places_on : ℕ → List (Option ℕ) → List ℕ
+places_on file fs = places_from 0 file fs
 
--- how many wait on a file, as a map from files says, which may lack those on which nobody does
-abbrev pub many_in : BTreeMap ℕ ℕ → ℕ → ℕ
-many_in counts file = unwrap_or (get nat_cmp counts file) 0
+-- a queue once the one at this place is gone: those behind it stand one place nearer
+abbrev pub nearer : ℕ → ℕ → ℕ
+nearer at place = if nat_lt at place then place - 1 else place
 
--- the map has for each file how many wait on it
-abbrev pub IsCounted : BTreeMap ℕ ℕ → List (Option ℕ) → Type 0
-IsCounted counts fs = (file : ℕ) → many_in counts file ≡ many_on file fs
+abbrev pub closed_up : ℕ → List ℕ → List ℕ
+closed_up at places = map (nearer at) (filter (λ p. not (p == at)) places)
 
--- on this file so many wait now, and on each other file as many as before
-pub record ChangesOnly (old new : BTreeMap ℕ ℕ) (file many : ℕ) : Type 0 where
-  pub here : many_in new file ≡ many
-  pub others : (f : ℕ) → f ≢ file → many_in new f ≡ many_in old f
+-- a file's queue, as a map from files says, which may lack those on which nobody waits
+abbrev pub places_in : BTreeMap ℕ (List ℕ) → ℕ → List ℕ
+places_in queues file = unwrap_or (get nat_cmp queues file) []
+
+-- the map has each file's queue
+abbrev pub AreQueued : BTreeMap ℕ (List ℕ) → List (Option ℕ) → Type 0
+AreQueued queues fs = (file : ℕ) → places_in queues file ≡ places_on file fs
+
+-- one more stands at this place in the queue of its file, where it has one
+abbrev pub one_more : ℕ → Option ℕ → ℕ → List ℕ
+one_more file own place = if is_file file own then place ∷ [] else []

@@ -1,14 +1,15 @@
-//! The files on which some wait, and how many do.
-ghost use Rattle.std.specs.Prelude.{◌≡◌, ℕ, ◌+◌, ◌-◌, ◌≤◌, ◌<◌, OnOk, OnErr};
-ghost use Rattle.std.specs.BTreeMap.{IsUnchanged};
-ghost use Rattle.xl_wait.specs.Waiting.{first_file, one_on, many_in, ChangesOnly};
+//! The queue of each file: the places of those who wait on it.
+ghost use Rattle.std.specs.Prelude.{◌≡◌, ℕ, ◌++◌, [], ◌∷◌, map, Some, OnOk, OnErr, IfOk};
+ghost use Rattle.xl_wait.specs.Waiting.{first_file, places_in, one_more, nearer, closed_up};
 
-use std::alloc::AllocFailed;
+use std::alloc::{AllocError, Global};
 use std::collections::BTreeMap;
+use std::mem;
+use xl_base::Sequence;
 use xl_matrix::Claim;
 
-/// How many wait on each file; a file on which nobody does may stand with none.
-pub(crate) type Counts = BTreeMap<u32, usize>;
+/// By file the places of those who wait on it, in order of arrival.
+pub(crate) type Queues = BTreeMap<u32, Sequence<usize>>;
 
 /// The file of the first of these claims.
 pub(crate) fn first_file(asked: &[Claim]) -> Option<u32>
@@ -20,59 +21,109 @@ pub(crate) fn first_file(asked: &[Claim]) -> Option<u32>
     }
 }
 
-/// How many wait on this file.
-pub(crate) fn count_on(counts: &Counts, file: u32) -> usize
-    ensures { result ≡ many_in counts.now file }
+/// A file's queue.
+pub(crate) fn places_on(queues: &Queues, file: u32) -> &[usize]
+    ensures { result.now ≡ places_in queues.now file }
 {
-    counts.get(&file).copied().unwrap_or(0)
+    match queues.get(&file) {
+        Some(places) => places.as_slice(),
+        None => &[],
+    }
 }
 
-/// One more waits on the file. After an error all counts are as they were.
-fn count_in(counts: &mut Counts, file: u32) -> Result<(), AllocFailed<(u32, usize)>>
-    requires { many_in counts.old file ≤ 1024 }
-    ensures ok { OnOk result (ChangesOnly counts.old counts.new file (many_in counts.old file + 1)) }
-    ensures err { OnErr result (IsUnchanged counts.old counts.new) }
+/// A queue where this place stands alone.
+fn one_place(alloc: Global, place: usize) -> Result<Sequence<usize>, AllocError>
+    ensures { IfOk result (λ places. places ≡ place ∷ []) }
 {
-    let many = count_on(counts, file) + 1;
-    counts.insert(file, many)?;
+    let mut places = Sequence::new(alloc);
+    places.push(place)?;
+    Ok(places)
+}
+
+/// Puts a place behind the others of a file's queue. After an error all queues are as they were.
+fn put_place(alloc: Global, queues: &mut Queues, file: u32, place: usize) -> Result<(), AllocError>
+    ensures ok { OnOk result ((f : ℕ) → places_in queues.new f ≡ places_in queues.old f ++ one_more f (Some file) place) }
+    ensures err { OnErr result ((f : ℕ) → places_in queues.new f ≡ places_in queues.old f) }
+{
+    match queues.get_mut(&file) {
+        Some(places) => places.push(place)?,
+        None => {
+            queues.insert(file, one_place(alloc, place)?)?;
+        }
+    }
     Ok(())
 }
 
-/// One fewer waits on the file. It takes no memory, since the file stands in the map.
-fn count_out(counts: &mut Counts, file: u32)
-    requires { 0 < many_in counts.old file }
-    ensures { ChangesOnly counts.old counts.new file (many_in counts.old file - 1) }
-{
-    let many = count_on(counts, file) - 1;
-    let _ = counts.insert(file, many);
-}
-
-/// One more waits, on this file if there is one. After an error all counts are as they were.
-#[tactic(auto, using(crate::proofs::FileLaws::one_more, crate::proofs::FileLaws::all_stay))]
-pub(crate) fn enter_count(
-    counts: &mut Counts,
+/// Puts a place behind the others of the queue of its file, if it has one. After an error all queues are as they were.
+pub(crate) fn enter_place(
+    alloc: Global,
+    queues: &mut Queues,
     file: Option<u32>,
-) -> Result<(), AllocFailed<(u32, usize)>>
-    requires { (f : ℕ) → many_in counts.old f ≤ 1024 }
-    ensures ok { OnOk result ((f : ℕ) → many_in counts.new f ≡ one_on f file + many_in counts.old f) }
-    ensures err { OnErr result ((f : ℕ) → many_in counts.new f ≡ many_in counts.old f) }
+    place: usize,
+) -> Result<(), AllocError>
+    ensures ok { OnOk result ((f : ℕ) → places_in queues.new f ≡ places_in queues.old f ++ one_more f file place) }
+    ensures err { OnErr result ((f : ℕ) → places_in queues.new f ≡ places_in queues.old f) }
 {
     match file {
-        Some(file) => {
-            count_in(counts, file)?;
-            Ok(())
-        }
+        Some(file) => put_place(alloc, queues, file, place),
         None => Ok(()),
     }
 }
 
-/// One fewer waits, on this file if there is one.
-#[tactic(auto, using(crate::proofs::FileLaws::one_less, crate::proofs::FileLaws::some_here))]
-pub(crate) fn leave_count(counts: &mut Counts, file: Option<u32>)
-    requires { (f : ℕ) → one_on f file ≤ many_in counts.old f }
-    ensures { (f : ℕ) → one_on f file + many_in counts.new f ≡ many_in counts.old f }
+/// A place, which is one nearer where it is behind the other.
+fn nearer(at: usize, place: usize) -> usize
+    ensures { result ≡ nearer at place }
+{
+    if place > at { place - 1 } else { place }
+}
+
+/// Brings those of these places that are behind this one nearer by one.
+fn bring_nearer(at: usize, places: &mut Vec<usize>)
+    ensures { places.new.items ≡ map (nearer at) places.old.items }
+{
+    let mut i = 0;
+    'places: while i < places.as_slice().len() {
+        places[i] = nearer(at, places[i]);
+        i += 1;
+    }
+}
+
+/// The places but this one, those behind it one nearer.
+fn close_up(places: Sequence<usize>, at: usize) -> Sequence<usize>
+    ensures { result ≡ closed_up at places }
+{
+    let mut places = places.into_vec();
+    places.retain(|place| *place != at);
+    bring_nearer(at, &mut places);
+    Sequence::from_vec(places)
+}
+
+/// Takes a place out of all queues; those behind it are one nearer.
+fn close_all(alloc: Global, queues: &mut Queues, at: usize)
+    ensures { (f : ℕ) → places_in queues.new f ≡ closed_up at (places_in queues.old f) }
+{
+    queues.retain(|_, places| {
+        let own = mem::replace(places, Sequence::new(alloc));
+        *places = close_up(own, at);
+        true
+    });
+}
+
+/// Takes the queue of this file out of the map, where nobody stands in it.
+fn drop_empty(queues: &mut Queues, file: Option<u32>)
+    ensures { (f : ℕ) → places_in queues.new f ≡ places_in queues.old f }
 {
     if let Some(file) = file {
-        count_out(counts, file);
+        if places_on(queues, file).is_empty() {
+            queues.remove(&file);
+        }
     }
+}
+
+/// Takes the place of one who waited on this file out of all queues; those behind it are one nearer. It takes no memory.
+pub(crate) fn leave_place(alloc: Global, queues: &mut Queues, file: Option<u32>, at: usize)
+    ensures { (f : ℕ) → places_in queues.new f ≡ closed_up at (places_in queues.old f) }
+{
+    close_all(alloc, queues, at);
+    drop_empty(queues, file);
 }

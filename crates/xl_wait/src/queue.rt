@@ -3,7 +3,7 @@ ghost use Rattle.std.specs.Prelude.{◌≡◌, ℕ, ◌≤◌, ◌∷◌, ◌++�
 ghost use Rattle.xl_base.specs.Limits.{most_waiters};
 ghost use Rattle.xl_wait.specs.declared.queue.QueueErr.TheVariants.{NoMemory};
 
-use crate::files::{Counts, count_on};
+use crate::files::{Queues, places_on};
 use crate::listing::list_numbers;
 use crate::parts::{enter, take_out};
 use crate::waiter::Waiter;
@@ -44,27 +44,25 @@ impl<T: Drop> From<AllocFailed<T>> for QueueErr {
 #[derive(Drop)]
 pub struct Queue {
     waiters: Vec<Waiter>,
-    /// The file on which each of them waits.
-    files: Vec<Option<u32>>,
-    /// How many of them wait on each file.
-    counts: Counts,
+    /// The queue of each file on which some of them wait.
+    queues: Queues,
 }
 
 impl Model for Queue {
     ghost use Rattle.std.specs.Prelude.{List, ◌≡◌, ◌≤◌, length};
     ghost use Rattle.xl_base.specs.Limits.{most_waiters};
-    ghost use Rattle.xl_wait.specs.Waiting.{files_of, IsCounted};
+    ghost use Rattle.xl_wait.specs.Waiting.{files_of, AreQueued};
     ghost use Rattle.xl_wait.specs.declared.waiter.Waiter.{Waiter};
 
     ghost Value = { List Waiter };
 
     ghost view = { λ q. q.waiters.items };
 
-    ghost invariant = { λ q. (length q.waiters.items ≤ most_waiters) × (q.files.items ≡ files_of q.waiters.items) × IsCounted q.counts q.files.items };
+    ghost invariant = { λ q. (length q.waiters.items ≤ most_waiters) × AreQueued q.queues (files_of q.waiters.items) };
 }
 
 impl Queue {
-    ghost use Rattle.xl_wait.specs.Waiting.{is_waiting, cancelled, numbers_of, waits_on};
+    ghost use Rattle.xl_wait.specs.Waiting.{is_waiting, cancelled, numbers_of, waits_on, files_of, places_on};
 
     /// The queue where nobody waits; it takes no memory.
     pub fn new(alloc: Global) -> Queue
@@ -72,8 +70,7 @@ impl Queue {
     {
         Queue {
             waiters: Vec::new(alloc),
-            files: Vec::new(alloc),
-            counts: BTreeMap::new(alloc),
+            queues: BTreeMap::new(alloc),
         }
     }
 
@@ -108,7 +105,7 @@ impl Queue {
         if self.waiters.len() >= MOST_WAITERS {
             return Err(QueueErr::Full(MOST_WAITERS as u32));
         }
-        enter(&mut self.waiters, &mut self.files, &mut self.counts, waiter)?;
+        enter(&mut self.waiters, &mut self.queues, waiter)?;
         Ok(())
     }
 
@@ -118,15 +115,22 @@ impl Queue {
         ensures waiting { result ≡ is_waiting id self.old }
         ensures after { self.new ≡ cancelled id self.old }
     {
-        take_out(&mut self.waiters, &mut self.files, &mut self.counts, id)
+        take_out(&mut self.waiters, &mut self.queues, id)
     }
 
     /// Whether someone waits on this file: whether the first claim that it asks for is there. It takes no memory.
-    #[tactic(auto, using(crate::proofs::FileLaws::waits_counted))]
+    #[tactic(auto, using(crate::proofs::FileLaws::some_queued))]
     pub fn waits_on(&self, file: u32) -> bool
         ensures { result ≡ waits_on file self.now }
     {
-        count_on(&self.counts, file) > 0
+        places_on(&self.queues, file).len() > 0
+    }
+
+    /// The queue of this file: the places of those who wait on it, in order of arrival. It takes no memory.
+    pub fn on(&self, file: u32) -> &[usize]
+        ensures { result.now ≡ places_on file (files_of self.now) }
+    {
+        places_on(&self.queues, file)
     }
 
     /// The waiter at this place, counted from 0; None exactly where fewer wait.

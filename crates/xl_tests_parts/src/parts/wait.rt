@@ -5,15 +5,17 @@ use xl_base::{Owner, Party, Protocol, Sequence};
 use xl_matrix::{Claim, Extent, What};
 use xl_wait::{Queue, QueueErr, Rooms, Waiter};
 
-const CLAIM: Claim = Claim {
-    file: 1,
-    owner: Owner::Name(Protocol::Nlm, 1),
-    party: Party::Name(Protocol::Nlm, 2),
-    what: What::Range(Extent::Bytes(0, 9), true),
-};
+fn claim_on(file: u32) -> Claim {
+    Claim {
+        file,
+        owner: Owner::Name(Protocol::Nlm, 1),
+        party: Party::Name(Protocol::Nlm, 2),
+        what: What::Range(Extent::Bytes(0, 9), true),
+    }
+}
 
-fn waiter(alloc: Global, id: u32, conn: Option<u64>) -> Result<Waiter, AllocError> {
-    let asked = Sequence::from_slice(alloc, &[CLAIM])?;
+fn waiter(alloc: Global, id: u32, conn: Option<u64>, file: u32) -> Result<Waiter, AllocError> {
+    let asked = Sequence::from_slice(alloc, &[claim_on(file)])?;
     Ok(Waiter {
         id,
         conn,
@@ -38,11 +40,15 @@ fn limit(pushed: Result<(), QueueErr>) -> u32 {
     }
 }
 
-fn pushes(alloc: Global, queue: &mut Queue, id: u32, conn: Option<u64>) -> u32 {
-    match waiter(alloc, id, conn) {
+fn pushes_on(alloc: Global, queue: &mut Queue, id: u32, conn: Option<u64>, file: u32) -> u32 {
+    match waiter(alloc, id, conn, file) {
         Ok(waiter) => limit(queue.push(waiter)),
         Err(_) => 1,
     }
+}
+
+fn pushes(alloc: Global, queue: &mut Queue, id: u32, conn: Option<u64>) -> u32 {
+    pushes_on(alloc, queue, id, conn, 1)
 }
 
 fn is_room(rows: Rooms) -> bool {
@@ -86,6 +92,47 @@ fn waiters_come_and_go(rt: HostRuntime) {
     let mut queue = Queue::new(rt.alloc());
     assert!(rt; queue.is_empty() && !queue.waits_on(1));
     assert!(rt; come_and_go(rt.alloc(), &mut queue));
+}
+
+fn waits_on(waiter: &Waiter, file: u32) -> bool {
+    matches!(waiter.asked.as_slice(), [claim, ..] if claim.file == file)
+}
+
+/// Whether the queue of each file, by its number, is what a walk over all who wait finds.
+fn are_queued(alloc: Global, queue: &Queue) -> Result<bool, AllocError> {
+    for file in 0..4u32 {
+        let mut places = Vec::new(alloc);
+        for (place, waiter) in queue.waiters().iter().enumerate() {
+            if waits_on(waiter, file) {
+                places.push(place)?;
+            }
+        }
+        if places.as_slice() != queue.on(file) {
+            return Ok(false);
+        }
+    }
+    Ok(true)
+}
+
+/// Whether the queues are so while waiters come on three files, and the first, one between and the last leave.
+fn queues_keep(alloc: Global, queue: &mut Queue) -> Result<bool, AllocError> {
+    for id in 0..9u32 {
+        if pushes_on(alloc, queue, id, None, 1 + id % 3) != 0 || !are_queued(alloc, queue)? {
+            return Ok(false);
+        }
+    }
+    for id in [0u32, 4, 8, 3, 6] {
+        if !cancels(queue, id) || !are_queued(alloc, queue)? {
+            return Ok(false);
+        }
+    }
+    Ok(!queue.waits_on(1) && queue.waits_on(2) && matches!(queue.on(3), [1, 2]))
+}
+
+#[test]
+fn a_queue_for_each_file(rt: HostRuntime) {
+    let mut queue = Queue::new(rt.alloc());
+    assert!(rt; matches!(queues_keep(rt.alloc(), &mut queue), Ok(true)));
 }
 
 #[test]

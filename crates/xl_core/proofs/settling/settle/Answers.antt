@@ -2,9 +2,8 @@ use Rattle.std.proofs.Common.{◌≡◌, true, false, [], List, ap, sym, subst, 
 use Rattle.std.specs.List.{AllByRecursion}
 use Rattle.xl_matrix.specs.declared.claim.Claim.{Claim}
 use Rattle.xl_table.specs.Held.{is_cache, has_one_party}
-use Rattle.xl_wait.specs.declared.waiter.Waiter.{Waiter}
 use Rattle.xl_core.specs.Judge.{IsRow, judged}
-use Rattle.xl_core.specs.Settle.{settle, first_called}
+use Rattle.xl_core.specs.Settle.{settle}
 use Rattle.xl_core.specs.Whole.{state_of}
 use Rattle.xl_core.specs.Ways.{made_way}
 use Rattle.xl_core.proofs.DoorLaws.{called_row}
@@ -16,32 +15,32 @@ pub returns-in_default-clause-turn : goal.returns-in_default-clause-turn
 unfolding settle
 returns-in_default-clause-turn c =
     λ n. none_is_found c.args.left.now (state_of c.args.parts.now) c.args.parts.now.queue
-    (ap (λ (ws : List Waiter). first_called (state_of c.args.parts.now) ws) (sym c.waiters.ensures.waiters) ∙ sym c.in_ok-called.ensures ∙ c.in_default.is) n []
+    (sym c.in_ok-called.ensures ∙ c.in_default.is) n []
 
 pub make_way-requires-clause-locks : goal.make_way-requires-clause-locks
 make_way-requires-clause-locks c =
     subst (λ (cs : List Claim). AllByRecursion (λ d. is_cache d.what ≡ false) cs) (sym c.as_slice.ensures)
     (called_no_cache c.args.parts.now c.in-Some.called c.requires.good
-    (ap (λ (ws : List Waiter). first_called (state_of c.args.parts.now) ws) (sym c.waiters.ensures.waiters) ∙ sym c.in_ok-called.ensures ∙ c.in-Some.is))
+    (sym c.in_ok-called.ensures ∙ c.in-Some.is))
 
 pub judge_all-requires-clause-row : goal.judge_all-requires-clause-row
 judge_all-requires-clause-row c =
     subst IsRow (sym c.as_slice-2.ensures)
     (called_row c.args.parts.now c.in-Some.called c.requires.good
-    (ap (λ (ws : List Waiter). first_called (state_of c.args.parts.now) ws) (sym c.waiters.ensures.waiters) ∙ sym c.in_ok-called.ensures ∙ c.in-Some.is))
+    (sym c.in_ok-called.ensures ∙ c.in-Some.is))
 
 pub judge_all-requires-clause-party : goal.judge_all-requires-clause-party
 judge_all-requires-clause-party c =
     subst (λ (cs : List Claim). AllByRecursion (λ d. AllByRecursion (λ e. has_one_party d e ≡ true) c.make_way.new.parts.table) cs) (sym c.as_slice-2.ensures)
     (called_alone_then c.args.parts.now c.make_way.new.parts c.in-Some.called c.in_ok-begun.begun c.requires.good
-    (ap (λ (ws : List Waiter). first_called (state_of c.args.parts.now) ws) (sym c.waiters.ensures.waiters) ∙ sym c.in_ok-called.ensures ∙ c.in-Some.is)
+    (sym c.in_ok-called.ensures ∙ c.in-Some.is)
     (ap (λ (cs : List Claim). made_way c.in-Some.called.plea cs (state_of c.args.parts.now)) (sym c.as_slice.ensures) ∙ c.in_ok-begun.ensures.way))
 
 pub returns-clause-turn : goal.returns-clause-turn
 unfolding settle
 returns-clause-turn c =
     λ n. turn_is_found c.args.left.now (state_of c.args.parts.now) (state_of c.make_way.new.parts) (state_of c.judge_all.new.parts) (state_of c.serve.new.parts) c.args.parts.now.queue c.in-Some.called c.in_ok-begun.begun c.in_ok-ruling.ruling c.in_ok-serve.field-0
-    (ap (λ (ws : List Waiter). first_called (state_of c.args.parts.now) ws) (sym c.waiters.ensures.waiters) ∙ sym c.in_ok-called.ensures ∙ c.in-Some.is)
+    (sym c.in_ok-called.ensures ∙ c.in-Some.is)
     (ap (λ (cs : List Claim). made_way c.in-Some.called.plea cs (state_of c.args.parts.now)) (sym c.as_slice.ensures) ∙ c.in_ok-begun.ensures.way)
     (λ m earlier. ap (λ (cs : List Claim). judged m earlier c.args.left.now c.in-Some.called.plea cs (state_of c.make_way.new.parts)) (sym c.as_slice-2.ensures) ∙ c.in_ok-ruling.ensures.judged m earlier)
     c.in_ok-serve.ensures.turned n []

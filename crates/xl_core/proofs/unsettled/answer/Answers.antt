@@ -1,13 +1,20 @@
-use Rattle.std.proofs.Common.{List, sym, subst}
-use Rattle.xl_core.specs.Watch.{left_by_ask, AreHeldUp}
+use Rattle.std.proofs.Common.{◌≡◌, List, true, false, sym, subst, ◌∙◌}
+use Rattle.xl_core.specs.Watch.{may_change, Notes}
 use Rattle.xl_core.specs.Whole.{state_of}
 use Rattle.xl_core.specs.declared.ask.Effect.{Effect}
-use Rattle.xl_core.specs.declared.unsettled.Unsettled.{Unsettled}
+use Rattle.xl_core.specs.declared.watch.Unsettled.{Unsettled}
+use Rattle.xl_core.proofs.NoteLaws.{asked_noted}
 use Rattle.xl_core.proofs.WatchLaws.{ask_up}
 use Rattle.xl_core.proofs.unsettled.answer.Goals as goal
 
 pub returns-clause-held_up : goal.returns-clause-held_up
 returns-clause-held_up c =
-    subst (λ (u : Unsettled). AreHeldUp u (state_of c.answer.new.parts)) (sym c.left_by_ask.ensures)
-    (subst (λ (told : List Effect). AreHeldUp (left_by_ask c.args.request.now c.in_ok-answer.answer told c.args.unsettled.now) (state_of c.answer.new.parts)) (sym c.as_slice.ensures)
-    (ask_up c.args.unsettled.now c.args.left.now (state_of c.args.parts.now) (state_of c.answer.new.parts) c.args.request.now c.in_ok-answer.answer c.in_ok-answer.told c.in_ok-answer.ensures.answer c.requires.good c.requires.fit c.requires.held_up))
+    let request = c.args.request.now in
+    let answer = c.in_ok-answer.answer in
+    let told : List Effect = c.in_ok-answer.told in
+    let before = c.args.unsettled.now in
+    let after = c.note_asked.new.unsettled in
+    asked_noted before after request answer told (state_of c.answer.new.parts)
+    (ask_up before c.args.left.now (state_of c.args.parts.now) (state_of c.answer.new.parts) request answer told c.in_ok-answer.ensures.answer c.requires.good c.requires.fit c.requires.held_up)
+    (λ e. subst (λ (u : Unsettled). Notes u after request.file c.answer.new.parts.queue) c.replace-before.ensures.value (c.note_asked.ensures.changed (subst (λ (xs : List Effect). may_change request answer xs ≡ true) (sym c.as_slice.ensures) e)))
+    (λ e. c.note_asked.ensures.same (subst (λ (xs : List Effect). may_change request answer xs ≡ false) (sym c.as_slice.ensures) e) ∙ c.replace-before.ensures.value)

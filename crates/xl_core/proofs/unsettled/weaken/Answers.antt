@@ -1,14 +1,12 @@
-use Rattle.std.proofs.Common.{List, sym, subst}
+use Rattle.std.proofs.Common.{List, subst}
 use Rattle.xl_core.specs.State.{CoreState}
-use Rattle.xl_core.specs.Watch.{with_file, AreHeldUp}
+use Rattle.xl_core.specs.Watch.{AreHeldUp}
 use Rattle.xl_core.specs.Whole.{state_of}
 use Rattle.xl_core.specs.declared.ask.Effect.{Effect}
-use Rattle.xl_core.specs.declared.unsettled.Unsettled.{Unsettled}
-use Rattle.xl_core.proofs.WatchLaws.{weaken_up}
+use Rattle.xl_core.proofs.NoteLaws.{weaken_noted}
 use Rattle.xl_core.proofs.unsettled.weaken.Goals as goal
 
 pub returns-clause-held_up : goal.returns-clause-held_up
 returns-clause-held_up c =
-    subst (λ (u : Unsettled). AreHeldUp u (state_of c.weaken.new.parts)) (sym c.with_file.ensures)
-    (subst (λ (x : List Effect × CoreState). AreHeldUp (with_file c.args.share.now.file c.args.unsettled.now) x.1) c.weaken.ensures
-    (weaken_up c.args.unsettled.now (state_of c.args.parts.now) c.args.share.now c.args.access c.args.deny c.requires.held_up))
+    subst (λ (x : List Effect × CoreState). AreHeldUp c.note.new.unsettled x.1) c.weaken.ensures
+    (weaken_noted c.args.unsettled.now c.note.new.unsettled (state_of c.args.parts.now) c.args.share.now c.args.access c.args.deny c.note.ensures c.requires.held_up)
