@@ -5,7 +5,7 @@ import struct
 import subprocess
 import sys
 
-TEST, LOCK, UNLOCK = 1, 2, 4
+TEST, LOCK, UNLOCK, FREE_ALL = 1, 2, 4, 23
 NLM, NFS = 100021, 100003
 CALLER = b"m"
 
@@ -20,14 +20,19 @@ def framed(xid, program, procedure, arguments):
     return struct.pack(">I", 2**31 + len(call)) + call
 
 
-def record(xid, procedure, file, svid, offset, length, exclusive=True, block=False):
-    """A framed call of NLM."""
+def record(xid, procedure, file, svid, offset, length, exclusive=True, block=False, caller=CALLER):
+    """A framed call of NLM, with a lock as its argument."""
     mode = struct.pack(">I", exclusive)
     before = {LOCK: struct.pack(">I", block) + mode, TEST: mode, UNLOCK: b""}[procedure]
     handle = b"XLK1" + struct.pack(">I", file)
-    lock = opaque(CALLER) + opaque(handle) + opaque(b"") + struct.pack(">iQQ", svid, offset, length)
+    lock = opaque(caller) + opaque(handle) + opaque(b"") + struct.pack(">iQQ", svid, offset, length)
     after = bytes(8) if procedure == LOCK else b""
     return framed(xid, NLM, procedure, opaque(b"") + before + lock + after)
+
+
+def free_all(xid, caller):
+    """A framed FREE_ALL of this host."""
+    return framed(xid, NLM, FREE_ALL, opaque(caller) + bytes(4))
 
 
 def compound(xid, *ops):

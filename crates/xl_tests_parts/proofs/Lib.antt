@@ -1,2 +1,1 @@
 pub mod TrialLaws
-pub mod CountLaws

@@ -1,5 +1,5 @@
 #![tactic(auto)]
-//! Tests of the parts below the fronts: matrix, spans, table, queue, names, core, and what all layers share.
+//! Tests of the parts below the core: matrix, spans, table, queue, names, what the fronts keep, and what all layers share.
 
 #[cfg(test)]
 mod parts;

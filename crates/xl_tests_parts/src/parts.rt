@@ -1,24 +1,18 @@
-//! The parts below the fronts and the house.
+//! The parts below the core, and what the fronts keep.
 
 use std::str::Split;
 
-mod asks;
 mod base;
 mod caches;
-mod elements;
 mod exact;
 mod matrix;
 mod names;
 mod nfs_clients;
 mod nfs_stateids;
-mod opens;
 mod smb_state;
 mod spans;
 mod table;
-mod ticks;
-mod turns;
 mod wait;
-mod wishes;
 
 /// The next word of a row; it is empty where none is left.
 fn next<'a>(words: &mut Split<'a, char>) -> &'a str {

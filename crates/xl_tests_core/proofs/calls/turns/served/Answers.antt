@@ -1,7 +1,7 @@
 use Rattle.std.proofs.Common.{List, Option, Ok, ap}
 use Rattle.xl_core.specs.declared.ask.Effect.{Effect}
-use Rattle.xl_tests_parts.proofs.CountLaws.{settle_counts}
-use Rattle.xl_tests_parts.proofs.parts.turns.served.Goals as goal
+use Rattle.xl_tests_core.proofs.CountLaws.{settle_counts}
+use Rattle.xl_tests_core.proofs.calls.turns.served.Goals as goal
 
 pub returns-in-Some-clause-numbers : goal.returns-in-Some-clause-numbers
 returns-in-Some-clause-numbers c =

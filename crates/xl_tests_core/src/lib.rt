@@ -1,0 +1,5 @@
+#![tactic(auto)]
+//! Tests of the core: what is asked, turns, wishes, the clock.
+
+#[cfg(test)]
+mod calls;
