@@ -21,8 +21,8 @@ use Rattle.xl_names.specs.declared.name.Name.TheVariants.{NlmRange, NlmShare, Nl
 use Rattle.xl_table.specs.Flat.{removed, due_by, is_due}
 use Rattle.xl_table.specs.Held.{is_cache}
 use Rattle.xl_core.specs.State.{CoreState}
-use Rattle.xl_core.specs.Asking.{party_named}
-use Rattle.xl_core.specs.Breaks.{due_before, earlier, earliest_from, first_due, id_of, client_of}
+use Rattle.xl_core.specs.Askers.{party_named}
+use Rattle.xl_core.specs.BreakAnswers.{due_before, earlier, earliest_from, first_due, id_of, client_of}
 use Rattle.xl_core.specs.Good.{IsGood}
 use Rattle.xl_core.specs.Leases.{first_ended}
 use Rattle.xl_core.specs.Settle.{end_party}

@@ -28,7 +28,7 @@ use Rattle.xl_table.specs.Least.{least}
 use Rattle.xl_table.proofs.LeastLaws.{one_passes}
 use Rattle.xl_wait.specs.declared.waiter.Rooms.{Rooms}
 use Rattle.xl_core.specs.State.{CoreState}
-use Rattle.xl_core.specs.Asking.{asked_claim, asked_what, known_claim, known_owner, number_or, no_number, is_client, is_named, owner_in}
+use Rattle.xl_core.specs.Askers.{asked_claim, asked_what, known_claim, known_owner, number_or, no_number, is_client, is_named, owner_in}
 use Rattle.xl_core.specs.Blockers.{test_blockers, is_stopped}
 use Rattle.xl_core.specs.Causes.{stands_against, IsSameAsker, IsConflict}
 use Rattle.xl_core.specs.Decide.{decided}

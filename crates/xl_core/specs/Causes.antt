@@ -17,7 +17,7 @@ use Rattle.xl_table.specs.Held.{is_range, is_share, spans_of}
 use Rattle.xl_wait.specs.declared.waiter.Rooms.{Rooms}
 use Rattle.xl_wait.specs.declared.waiter.Waiter.{Waiter}
 use Rattle.xl_core.specs.State.{CoreState}
-use Rattle.xl_core.specs.Asking.{asker, asking_party, both_entered, asked_claim}
+use Rattle.xl_core.specs.Askers.{asker, asking_party, both_entered, asked_claim}
 use Rattle.xl_table.specs.Least.{least}
 use Rattle.xl_core.specs.Blockers.{blockers, is_stopped, cache_against, test_blockers}
 use Rattle.xl_core.specs.Limits.{grant_limits, wait_limits, wish_limits, IsRoom, IsLeastPassed}

@@ -3,7 +3,7 @@ use Rattle.std.specs.Prelude.{Bool, not, ◌&&◌, if◌then◌else◌, List, []
 use Rattle.xl_cache.specs.Planning.{recalled_by, planned}
 use Rattle.xl_matrix.specs.declared.claim.Claim.{Claim}
 use Rattle.xl_core.specs.State.{CoreState}
-use Rattle.xl_core.specs.Begin.{breaks_begun}
+use Rattle.xl_core.specs.BreaksBegun.{breaks_begun}
 use Rattle.xl_core.specs.Blockers.{is_stopped}
 use Rattle.xl_core.specs.declared.ask.Effect.{Effect}
 use Rattle.xl_core.specs.declared.judge.Plea.{Plea}

@@ -5,7 +5,7 @@ ghost use Rattle.xl_wait.specs.declared.waiter.Waiter.{Waiter};
 ghost use Rattle.xl_core.specs.Blockers.{blockers, is_stopped, first_broken, all_run, cache_in, cache_against};
 ghost use Rattle.xl_core.specs.Whole.{state_of};
 
-use crate::breaking::{final_blockers, plan_for};
+use crate::breaks::{final_blockers, plan_for};
 use crate::parts::Parts;
 use std::alloc::{AllocError, Global};
 use xl_cache::Plan;

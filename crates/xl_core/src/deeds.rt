@@ -16,7 +16,7 @@ ghost use Rattle.xl_core.specs.declared.ask.Act.{Act};
 ghost use Rattle.xl_core.specs.declared.ask.Ask.{Ask};
 ghost use Rattle.xl_core.specs.declared.lease.Times.{Times};
 ghost use Rattle.xl_core.specs.Leases.{first_ended};
-ghost use Rattle.xl_core.specs.Breaks.{first_due};
+ghost use Rattle.xl_core.specs.BreakAnswers.{first_due};
 ghost use Rattle.xl_core.specs.Ticks.{tick};
 ghost use Rattle.xl_core.specs.Deeds.{Deed, Asks, all_done, all_told_of, tick_deeds, AreFit, queue_after, all_caches_after, any_ends_break, KeepNames};
 ghost use Rattle.xl_core.specs.Dues.{AreDue};

@@ -4,19 +4,19 @@ ghost use Rattle.xl_base.specs.Limits.{numbers_left};
 ghost use Rattle.xl_base.specs.Lists.{IsIn};
 ghost use Rattle.xl_wait.specs.Waiting.{is_waiting};
 ghost use Rattle.xl_core.specs.State.{started, step_begun, drawn, MayBe, GoesOn};
-ghost use Rattle.xl_core.specs.Asking.{IsFit};
+ghost use Rattle.xl_core.specs.Askers.{IsFit};
 ghost use Rattle.xl_core.specs.Good.{IsGood};
 ghost use Rattle.xl_core.specs.Decide.{ask};
 ghost use Rattle.xl_core.specs.Settle.{settle, cancel, give_back, share_has, weaken, end_party, close_open};
-ghost use Rattle.xl_core.specs.Breaks.{may_be_left, ack};
+ghost use Rattle.xl_core.specs.BreakAnswers.{may_be_left, ack};
 ghost use Rattle.xl_core.specs.Ticks.{renew, tick};
 ghost use Rattle.xl_core.specs.Whole.{state_of};
 
 use crate::ask::{Answer, Ask, Effect};
 use crate::lease::Times;
 use crate::parts::Parts;
-use crate::watch::Unsettled;
-use crate::{ticking, unsettled};
+use crate::unsettled::Unsettled;
+use crate::{calls, ticking};
 use indexmap::IndexMap;
 use std::alloc::{AllocError, Global};
 use std::marker::Model;
@@ -37,7 +37,7 @@ pub struct Core {
 
 impl Model for Core {
     ghost use Rattle.xl_core.specs.State.{CoreState};
-    ghost use Rattle.xl_core.specs.Watch.{AreHeldUp};
+    ghost use Rattle.xl_core.specs.Unsettled.{AreHeldUp};
     ghost use Rattle.xl_core.specs.Whole.{state_of};
 
     ghost Value = { CoreState };
@@ -148,7 +148,7 @@ impl Core {
         ensures good { OnOk result (IsGood self.new) }
         ensures keeper { _keeper.new ≡ _keeper.old }
     {
-        let answered = unsettled::answer(
+        let answered = calls::answer(
             alloc,
             &mut self.parts,
             &mut self.unsettled,
@@ -176,7 +176,7 @@ impl Core {
         ensures good { OnOk result (IsGood self.new) }
         ensures keeper { _keeper.new ≡ _keeper.old }
     {
-        let turn = unsettled::settle(alloc, &mut self.parts, &mut self.unsettled, left)?;
+        let turn = calls::settle(alloc, &mut self.parts, &mut self.unsettled, left)?;
         Ok(turn)
     }
 
@@ -188,7 +188,7 @@ impl Core {
         ensures state { IfOk result (λ effects. cancel self.old waiter ≡ (effects, self.new)) }
         ensures good { OnOk result (IsGood self.new) }
     {
-        unsettled::cancel(alloc, &mut self.parts, &mut self.unsettled, waiter)
+        calls::cancel(alloc, &mut self.parts, &mut self.unsettled, waiter)
     }
 
     /// Takes out one claim, which is held: what its owner gives back. There is nothing to tell.
@@ -199,7 +199,7 @@ impl Core {
         ensures state { give_back self.old claim.now ≡ (result, self.new) }
         ensures good { IsGood self.new }
     {
-        unsettled::give_back(alloc, &mut self.parts, &mut self.unsettled, claim)
+        calls::give_back(alloc, &mut self.parts, &mut self.unsettled, claim)
     }
 
     /// Makes a share that is held weaker: from then on it has this access and deny, which lie within what it had (RFC 7530
@@ -218,7 +218,7 @@ impl Core {
         ensures state { weaken self.old share.now access deny ≡ (result, self.new) }
         ensures good { IsGood self.new }
     {
-        unsettled::weaken(
+        calls::weaken(
             alloc,
             &mut self.parts,
             &mut self.unsettled,
@@ -230,7 +230,7 @@ impl Core {
 
     /// Takes the answer to the break of a cache that is held: this much of it is left, or nothing, which lies within what the
     /// break leaves (MS-SMB2 3.3.5.22). There is nothing to tell. It takes no memory.
-    #[tactic(auto, using(crate::proofs::BreakLaws::ack_good))]
+    #[tactic(auto, using(crate::proofs::BreakAnswerLaws::ack_good))]
     pub fn ack(&mut self, alloc: Global, cache: &Claim, to: Option<CacheKind>) -> Sequence<Effect>
         requires held { IsIn cache.now self.old.claims }
         requires runs { may_be_left cache.now.what to ≡ true }
@@ -238,11 +238,11 @@ impl Core {
         ensures state { ack self.old cache.now to ≡ (result, self.new) }
         ensures good { IsGood self.new }
     {
-        unsettled::ack(alloc, &mut self.parts, &mut self.unsettled, cache, to)
+        calls::ack(alloc, &mut self.parts, &mut self.unsettled, cache, to)
     }
 
     /// Gives out the next number. At least 65,536 numbers must be left to give out. It takes no memory.
-    #[tactic(auto, using(crate::proofs::GoodLaws::drawn_good, crate::proofs::WatchLaws::drawn_up))]
+    #[tactic(auto, using(crate::proofs::GoodLaws::drawn_good, crate::proofs::HeldUpLaws::drawn_up))]
     pub fn draw(&mut self) -> u32
         requires good { IsGood self.old }
         requires numbers { self.old.counter + numbers_left < 2 ^ 32 }
@@ -261,7 +261,7 @@ impl Core {
         ensures good { OnOk result (IsGood self.new) }
     {
         let leaver = Leaver::Party(party);
-        let effects = unsettled::leave(alloc, &mut self.parts, &mut self.unsettled, leaver)?;
+        let effects = calls::leave(alloc, &mut self.parts, &mut self.unsettled, leaver)?;
         Ok(effects)
     }
 
@@ -279,7 +279,7 @@ impl Core {
         ensures good { OnOk result (IsGood self.new) }
     {
         let leaver = Leaver::Open(number, party);
-        let effects = unsettled::leave(alloc, &mut self.parts, &mut self.unsettled, leaver)?;
+        let effects = calls::leave(alloc, &mut self.parts, &mut self.unsettled, leaver)?;
         Ok(effects)
     }
 
@@ -291,7 +291,7 @@ impl Core {
         ensures state { IfOk result (λ effects. renew self.old client.now ≡ (effects, self.new)) }
         ensures good { OnOk result (IsGood self.new) }
     {
-        unsettled::renew(alloc, &mut self.parts, &mut self.unsettled, client)
+        calls::renew(alloc, &mut self.parts, &mut self.unsettled, client)
     }
 
     /// The clock reads this moment, where that is later than what it read. Then each break is over whose deadline has come

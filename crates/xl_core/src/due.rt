@@ -3,7 +3,7 @@ ghost use Rattle.std.specs.Prelude.{◌≡◌, None, IfOk};
 ghost use Rattle.std.specs.Ordering.{nat_cmp, is_lt};
 ghost use Rattle.std.specs.Cmp.Lexicographic.{slice_cmp};
 ghost use Rattle.xl_names.specs.Texts.{party_text};
-ghost use Rattle.xl_core.specs.Breaks.{deadline_of, due_before, earlier, earliest_from, first_due};
+ghost use Rattle.xl_core.specs.BreakAnswers.{deadline_of, due_before, earlier, earliest_from, first_due};
 ghost use Rattle.xl_core.specs.Whole.{state_of};
 
 use crate::parts::Parts;
@@ -74,7 +74,7 @@ fn earliest(alloc: Global, names: &Names, claims: &[Claim]) -> Result<Option<Cla
 }
 
 /// Of the caches whose deadline has come the one that is due first.
-#[tactic(auto, unfolding(crate::specs::Breaks::first_due))]
+#[tactic(auto, unfolding(crate::specs::BreakAnswers::first_due))]
 pub(crate) fn first_due(alloc: Global, parts: &Parts) -> Result<Option<Claim>, AllocError>
     ensures { IfOk result (λ c. c ≡ first_due (state_of parts.now)) }
 {

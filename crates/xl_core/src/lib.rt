@@ -3,10 +3,10 @@
 #![tactic(auto)]
 
 mod ask;
-mod asking;
-pub mod begun;
+mod askers;
+pub mod break_laws;
 mod blockers;
-mod breaking;
+mod breaks;
 mod decide;
 pub mod deeds;
 mod doors;
@@ -20,11 +20,11 @@ pub mod opens;
 mod parts;
 mod settling;
 mod ticking;
+mod calls;
 mod unsettled;
-mod watch;
 mod ways;
-pub mod wished;
-mod wishing;
+pub mod wish_laws;
+mod wishes;
 
 pub use ask::{Act, Answer, Ask, Effect, Who};
 pub use doors::Core;

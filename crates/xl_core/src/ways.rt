@@ -11,7 +11,7 @@ ghost use Rattle.xl_core.specs.Whole.{state_of};
 
 use crate::ask::Effect;
 use crate::blockers::is_stopped;
-use crate::breaking::{begin_breaks, plan_for};
+use crate::breaks::{begin_breaks, plan_for};
 use crate::judge::Plea;
 use crate::parts::Parts;
 use std::alloc::{AllocError, Global};

@@ -12,7 +12,7 @@ use Rattle.xl_nfs.specs.Clients.{SetClientIdArgsItem}
 use Rattle.xl_nfs.specs.declared.status.NfsStatus.TheVariants as statuses
 use Rattle.xl_nfs_state.specs.State.{NfsLists, is_client, is_client_named, without_client}
 use Rattle.xl_names.specs.declared.name.Name.TheVariants.{NfsParty}
-use Rattle.xl_core.specs.Asking.{party_named}
+use Rattle.xl_core.specs.Askers.{party_named}
 use Rattle.xl_nfs_state.specs.declared.client.ClientRow.{ClientRow}
 use Rattle.xl_core.specs.Deeds.{Deed, Renews, all_done, all_told_of}
 use Rattle.xl_core.specs.State.{CoreState}

@@ -14,7 +14,7 @@ use Rattle.xl_nfs_state.specs.declared.client.ClientRow.{ClientRow}
 use Rattle.xl_names.specs.declared.name.Name.TheVariants.{NfsParty}
 use Rattle.xl_programs.specs.Programs.{RequestItem}
 use Rattle.xl_core.proofs.DeedLists.{deeds_good}
-use Rattle.xl_core.specs.Asking.{party_named}
+use Rattle.xl_core.specs.Askers.{party_named}
 use Rattle.xl_core.specs.Deeds.{Renews}
 use Rattle.xl_core.specs.Good.{IsGood}
 use Rattle.xl_core.specs.Rows.{Ran, go_on, all_ran}

@@ -23,7 +23,7 @@ use Rattle.xl_nfs_opens.proofs.OpenOwn.{Owned, by_append, open_own, confirm_own,
 use Rattle.xl_nfs_opens.proofs.CloseOwn.{close_own}
 use Rattle.xl_nfs_locks.proofs.LockOwn.{lock_own, test_own, unlock_own, release_own}
 use Rattle.std.proofs.Common.{sym}
-use Rattle.xl_core.specs.Asking.{party_named}
+use Rattle.xl_core.specs.Askers.{party_named}
 use Rattle.xl_core.specs.Deeds.{Deed, Asks, GivesBack, Weakens, Draws, Ends, Renews, done, AreFit}
 use Rattle.xl_core.specs.Rows.{Ran, more_deeds, all_deeds}
 use Rattle.xl_core.specs.State.{CoreState}

@@ -11,7 +11,7 @@ use Rattle.xl_matrix.specs.declared.claim.Claim.{Claim}
 use Rattle.xl_nfs_state.specs.State.{delegated_on, is_client_named}
 use Rattle.xl_nfs_state.specs.declared.client.ClientRow.{ClientRow}
 use Rattle.xl_nfs_state.specs.declared.stateid.StateidRow.{StateidRow}
-use Rattle.xl_core.specs.Breaks.{client_of}
+use Rattle.xl_core.specs.BreakAnswers.{client_of}
 use Rattle.xl_core.specs.State.{CoreState}
 use Rattle.xl_core.specs.declared.ask.Effect.TheVariants.{Begun}
 use Rattle.xl_front_nfs.specs.Recalls.{IsRecall, client_by, recall_out, recalled_as, recalled_from, recalls}

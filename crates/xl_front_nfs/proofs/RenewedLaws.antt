@@ -17,7 +17,7 @@ use Rattle.xl_nfs_state.specs.Filed.{changed}
 use Rattle.xl_nfs_state.specs.Rows.{with_time}
 use Rattle.xl_nfs_state.specs.State.{NfsLists, is_client, is_client_named}
 use Rattle.xl_nfs_state.specs.declared.client.ClientRow.{ClientRow}
-use Rattle.xl_core.specs.Asking.{party_named}
+use Rattle.xl_core.specs.Askers.{party_named}
 use Rattle.xl_core.specs.Deeds.{Deed, Renews, all_done}
 use Rattle.xl_core.specs.State.{CoreState}
 use Rattle.xl_core.specs.Ticks.{renew as renew_lease}

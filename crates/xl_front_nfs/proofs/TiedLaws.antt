@@ -32,7 +32,7 @@ use Rattle.xl_names.proofs.NameLaws.{number_at}
 use Rattle.xl_names.specs.declared.name.Name.{Name}
 use Rattle.xl_names.specs.declared.name.Name.TheVariants.{NfsParty, NfsRange, NfsShare, NlmParty, NlmRange, NlmShare, SmbLease}
 use Rattle.xl_programs.specs.Programs.{RequestItem}
-use Rattle.xl_core.specs.Asking.{party_named}
+use Rattle.xl_core.specs.Askers.{party_named}
 use Rattle.xl_core.specs.Deeds.{AreFit, Deed, Draws, Ends, Expires, Lapses, Renews, all_done, caches_without, caches_without_party, done}
 use Rattle.xl_core.specs.Good.{IsGood, caches_of}
 use Rattle.xl_core.specs.Rows.{Ran, all_ran, go_on}
@@ -62,7 +62,7 @@ use Rattle.xl_matrix.specs.Blocks.{is_cache}
 use Rattle.xl_matrix.specs.declared.claim.CacheKind.{CacheKind}
 use Rattle.xl_matrix.specs.declared.claim.Claim.{Claim}
 use Rattle.xl_core.proofs.FrameLaws.{end_party_frame}
-use Rattle.xl_core.specs.Breaks.{client_of, first_due, id_of}
+use Rattle.xl_core.specs.BreakAnswers.{client_of, first_due, id_of}
 use Rattle.xl_core.specs.Leases.{first_ended}
 use Rattle.xl_core.specs.Settle.{end_party}
 use Rattle.xl_core.specs.Ticks.{end_some, expire, lapse, lapsed_by, unleased}

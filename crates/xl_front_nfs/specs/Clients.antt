@@ -13,7 +13,7 @@ use Rattle.xl_nfs_state.specs.Rows.{with_details, with_time}
 use Rattle.xl_nfs_state.specs.State.{NfsLists, with_clients, without, without_client, is_client, is_client_named, most_clients}
 use Rattle.xl_nfs_state.specs.declared.client.ClientDetails.{ClientDetails}
 use Rattle.xl_nfs_state.specs.declared.client.ClientRow.{ClientRow}
-use Rattle.xl_core.specs.Asking.{party_named}
+use Rattle.xl_core.specs.Askers.{party_named}
 use Rattle.xl_core.specs.Deeds.{Deed, Draws, Ends, Renews}
 use Rattle.xl_core.specs.State.{CoreState}
 use Rattle.xl_nfs_opens.specs.Leases.{clientid_of, number_in, lease_end, renewed}

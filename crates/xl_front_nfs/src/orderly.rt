@@ -12,7 +12,7 @@ ghost use Rattle.xl_base.specs.Stable.{Stable as StableRecord};
 ghost use Rattle.xl_matrix.specs.Blocks.{is_cache};
 ghost use Rattle.xl_matrix.specs.declared.claim.CacheKind.{CacheKind};
 ghost use Rattle.xl_matrix.specs.declared.claim.Claim.{Claim};
-ghost use Rattle.xl_core.specs.Breaks.{client_of, first_due};
+ghost use Rattle.xl_core.specs.BreakAnswers.{client_of, first_due};
 ghost use Rattle.xl_core.specs.Deeds.{Expires, Lapses, done};
 ghost use Rattle.xl_core.specs.Good.{IsGood};
 ghost use Rattle.xl_core.specs.Leases.{first_ended};

@@ -17,7 +17,7 @@ use Rattle.xl_matrix.specs.declared.claim.What.{What}
 use Rattle.xl_matrix.specs.declared.claim.What.TheVariants as whats
 use Rattle.xl_smb_state.proofs.RowLaws.{none_some, same_Some}
 use Rattle.xl_smb_state.specs.State.{Lists, open_of}
-use Rattle.xl_core.specs.Breaks.{may_be_left, ack}
+use Rattle.xl_core.specs.BreakAnswers.{may_be_left, ack}
 use Rattle.xl_core.specs.Deeds.{Acks}
 use Rattle.xl_core.specs.Good.{IsGood}
 use Rattle.xl_core.specs.Places.{is_cache_on}

@@ -55,7 +55,7 @@ use Rattle.xl_core.proofs.DeedLists.{deeds_good}
 use Rattle.xl_core.proofs.FrameLaws.{ask_frame, ask_quiet, way_leaves}
 use Rattle.xl_core.proofs.SettleLaws.{open_waiters}
 use Rattle.xl_core.proofs.WayAsks.{ask_there}
-use Rattle.xl_core.specs.Asking.{asked_claim, asked_claims, asked_whats, asker, is_client, owner_in, range_what}
+use Rattle.xl_core.specs.Askers.{asked_claim, asked_claims, asked_whats, asker, is_client, owner_in, range_what}
 use Rattle.xl_core.specs.Decide.{Answered as Asked, ask, decided, freed, plea_of, unlocked, waiter_of}
 use Rattle.xl_core.specs.Deeds.{Deed, Cancels, Draws, all_done, all_told_of, Acks}
 use Rattle.xl_core.specs.Frames.{come_by, who_left}
@@ -101,7 +101,7 @@ use Rattle.xl_front_smb.proofs.PlaceLaws.{Keeps, Stays, apart_under, begun_place
 use Rattle.xl_front_smb.proofs.OwnLaws.{by_client, by_open, by_session, by_tree}
 use Rattle.xl_front_smb.proofs.WaitLaws.{all_gone_waiting, closed_waiting, gone_waiting, stands_on}
 use Rattle.xl_matrix.specs.declared.claim.CacheKind.{CacheKind}
-use Rattle.xl_core.specs.Breaks.{ack}
+use Rattle.xl_core.specs.BreakAnswers.{ack}
 use Rattle.xl_smb_locks.proofs.FitLaws.{party_fits}
 use Rattle.xl_smb_locks.specs.Levels.{cache_of, lease_party, oplock_of}
 

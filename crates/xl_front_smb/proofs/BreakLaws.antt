@@ -23,7 +23,7 @@ use Rattle.xl_smb_state.specs.State.{Lists, lease_of as lease_row, open_of}
 use Rattle.xl_smb_state.specs.declared.row.Lease.{Lease as LeaseRow}
 use Rattle.xl_smb_state.specs.declared.row.Open.{Open}
 use Rattle.xl_table.specs.Held.{is_cache}
-use Rattle.xl_core.specs.Breaks.{may_be_left, ack}
+use Rattle.xl_core.specs.BreakAnswers.{may_be_left, ack}
 use Rattle.xl_core.specs.Deeds.{Acks}
 use Rattle.xl_core.specs.Good.{IsGood}
 use Rattle.xl_core.specs.Places.{CacheOf, is_cache_on, part_by, entered_by, cleared_by, acked_at, else_was, held_at}

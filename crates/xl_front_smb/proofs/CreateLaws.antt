@@ -16,7 +16,7 @@ use Rattle.xl_smb_state.proofs.LeaseLaws.{with_keeps}
 use Rattle.xl_smb_state.proofs.RowLaws.{equal_self, some_none}
 use Rattle.xl_wait.specs.declared.waiter.Rooms.{Rooms}
 use Rattle.xl_core.specs.Causes.{IsClaimDue}
-use Rattle.xl_core.specs.Begin.{others_of}
+use Rattle.xl_core.specs.BreaksBegun.{others_of}
 use Rattle.xl_core.specs.Decide.{way, ask}
 use Rattle.xl_core.specs.Good.{IsGood}
 use Rattle.xl_core.specs.Places.{ShareOf, share_held, held_at}
@@ -25,7 +25,7 @@ use Rattle.xl_core.specs.declared.ask.Answer.{Answer}
 use Rattle.xl_core.specs.declared.ask.Answer.TheVariants as answers
 use Rattle.xl_core.specs.declared.ask.Ask.{Ask}
 use Rattle.xl_core.specs.declared.ask.Effect.{Effect}
-use Rattle.xl_core.proofs.BegunLaws.{begun_others}
+use Rattle.xl_core.proofs.BreaksBegunLaws.{begun_others}
 use Rattle.xl_core.proofs.GoodLaws.{drawn_good}
 use Rattle.xl_core.proofs.WayAsks.{ask_way_keeps, ask_due, ask_own, ask_shared}
 use Rattle.xl_front_smb.proofs.KeyLaws.{comes_leased, free_lease, key_free}

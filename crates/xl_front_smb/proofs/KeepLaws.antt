@@ -32,7 +32,7 @@ use Rattle.xl_wait.specs.declared.waiter.Waiter.{Waiter}
 use Rattle.xl_core.proofs.DeedLaws.{deed_good}
 use Rattle.xl_core.proofs.DeedLists.{deeds_good}
 use Rattle.xl_core.proofs.FrameLaws.{ask_quiet, way_leaves}
-use Rattle.xl_core.specs.Asking.{asked_claims, asked_whats, asker, is_client, is_named, owner_in}
+use Rattle.xl_core.specs.Askers.{asked_claims, asked_whats, asker, is_client, is_named, owner_in}
 use Rattle.xl_core.specs.Decide.{ask, plea_of}
 use Rattle.xl_core.specs.Deeds.{Deed, Asks, GivesBack, Weakens, Acks, Cancels, Ends, Closes, Serves, Draws, Advances, Lapses, Renews, Expires, AreFit, IsFitDeed, all_done, all_told_of, done, given}
 use Rattle.xl_core.specs.Frames.{come_by, who_left}

@@ -17,7 +17,7 @@ use Rattle.xl_names.specs.declared.name.Name.TheVariants.{SmbLease}
 use Rattle.xl_table.specs.Leaving.{goes, is_of_some}
 use Rattle.xl_table.specs.declared.leaver.Leaver.TheVariants as leavers_of
 use Rattle.xl_core.proofs.KnownLaws.{number_known}
-use Rattle.xl_core.specs.Asking.{known_party, number_or}
+use Rattle.xl_core.specs.Askers.{known_party, number_or}
 use Rattle.xl_smb.specs.Calls.{Close}
 use Rattle.xl_smb.specs.declared.head.SmbHead.{SmbHead}
 use Rattle.xl_smb.specs.declared.lock.CloseCall.{CloseCall}

@@ -14,7 +14,7 @@ use Rattle.xl_wait.specs.declared.waiter.Waiter.{Waiter}
 use Rattle.xl_core.proofs.DeedLaws.{deed_good}
 use Rattle.xl_core.proofs.FrameLaws.{ack_frame, advanced_ticked, ask_frame, cancel_frame, close_open_frame, drawn_frame, end_party_frame, expire_left, give_back_frame, lapse_left, turn_frame, weaken_frame}
 use Rattle.xl_core.proofs.GoodLaws.{cancelled_all}
-use Rattle.xl_core.specs.Asking.{is_client}
+use Rattle.xl_core.specs.Askers.{is_client}
 use Rattle.xl_core.specs.Decide.{ask}
 use Rattle.xl_core.specs.Deeds.{Deed, Asks, GivesBack, Weakens, Acks, Cancels, Ends, Closes, Serves, Draws, Advances, Lapses, Renews, Expires, AreFit, IsFitDeed, all_done, all_told_of, done, given, turned}
 use Rattle.xl_core.specs.Frames.{AllLeave, IsFrame, IsTicked, calls_in, come_by, drawn_by, names_after, who_left}

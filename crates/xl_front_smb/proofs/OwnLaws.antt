@@ -41,7 +41,7 @@ use Rattle.xl_smb_state.specs.declared.row.Scope.TheVariants as scope
 use Rattle.xl_smb_state.specs.declared.row.Tree as tree
 use Rattle.xl_smb_state.specs.declared.row.Waiting.{Waiting}
 use Rattle.xl_smb_state.proofs.RowLaws.{none_some, same_Some, equal_from, equal_self}
-use Rattle.xl_core.specs.Breaks.{may_be_left}
+use Rattle.xl_core.specs.BreakAnswers.{may_be_left}
 use Rattle.xl_core.specs.Deeds.{Acks, Cancels, AreFit}
 use Rattle.xl_names.specs.declared.name.Name.{Name}
 use Rattle.xl_core.specs.declared.ask.Who.{Who}

@@ -26,8 +26,8 @@ use Rattle.xl_smb_state.specs.declared.row.Waiting.{Waiting}
 use Rattle.xl_table.specs.Elements.{element_held, is_element, unlocked_elements}
 use Rattle.xl_table.specs.Elements.{elements_of as ranges_of}
 use Rattle.xl_wait.specs.Waiting.{no_rows, is_waiting}
-use Rattle.xl_core.specs.Asking.{known_claim, range_what}
-use Rattle.xl_core.specs.Begin.{others_of}
+use Rattle.xl_core.specs.Askers.{known_claim, range_what}
+use Rattle.xl_core.specs.BreaksBegun.{others_of}
 use Rattle.xl_core.specs.Decide.{Answered, way, ask}
 use Rattle.xl_core.specs.Deeds.{Deed, Asks, all_done}
 use Rattle.xl_core.specs.Good.{IsGood}
@@ -39,7 +39,7 @@ use Rattle.xl_core.specs.declared.ask.Answer.TheVariants as answers
 use Rattle.xl_core.specs.declared.ask.Ask.{Ask}
 use Rattle.xl_core.specs.declared.ask.Effect.TheVariants.{Cancelled}
 use Rattle.xl_wait.specs.declared.waiter.Rooms.{Rooms}
-use Rattle.xl_core.proofs.BegunLaws.{begun_others}
+use Rattle.xl_core.proofs.BreaksBegunLaws.{begun_others}
 use Rattle.xl_core.proofs.GoodLaws.{ask_good}
 use Rattle.xl_core.proofs.WayAsks.{ask_way_keeps, ask_way_names, ask_way_waiters, ask_own}
 use Rattle.xl_core.proofs.WayOpens.{ask_locked, ask_unlocked}

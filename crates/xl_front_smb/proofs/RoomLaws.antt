@@ -17,7 +17,7 @@ use Rattle.xl_smb_state.specs.declared.row.Waiting.{Waiting}
 use Rattle.xl_wait.specs.declared.waiter.Rooms.{Rooms}
 use Rattle.xl_wait.specs.declared.waiter.Waiter.{Waiter}
 use Rattle.xl_core.proofs.GoodLaws.{ask_good}
-use Rattle.xl_core.specs.Asking.{IsFit, asked_claims, asked_whats}
+use Rattle.xl_core.specs.Askers.{IsFit, asked_claims, asked_whats}
 use Rattle.xl_core.specs.Decide.{ask, waiter_of}
 use Rattle.xl_core.specs.Frames.{come_by}
 use Rattle.xl_core.specs.Good.{IsGood, are_apart}

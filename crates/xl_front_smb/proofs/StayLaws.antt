@@ -16,8 +16,8 @@ use Rattle.xl_core.proofs.DeedLaws.{deed_good}
 use Rattle.xl_core.proofs.FrameLaws.{turn_frame}
 use Rattle.xl_core.proofs.SettleLaws.{open_waiters, party_waiters}
 use Rattle.xl_names.specs.declared.name.Name.TheVariants.{NfsParty}
-use Rattle.xl_core.specs.Asking.{party_named}
-use Rattle.xl_core.specs.Breaks.{ack}
+use Rattle.xl_core.specs.Askers.{party_named}
+use Rattle.xl_core.specs.BreakAnswers.{ack}
 use Rattle.xl_core.specs.Decide.{ask}
 use Rattle.xl_core.specs.Deeds.{Deed, Asks, GivesBack, Weakens, Acks, Cancels, Ends, Closes, Serves, Draws, Advances, Lapses, Renews, Expires, AreFit, IsFitDeed, all_done, all_told_of, done, given, turned}
 use Rattle.xl_core.specs.Frames.{IsFrame, calls_in, come_by, who_left}

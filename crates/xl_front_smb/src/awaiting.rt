@@ -13,7 +13,7 @@ ghost use Rattle.xl_smb_state.specs.declared.row.Waiting.{Waiting};
 ghost use Rattle.xl_wait.specs.Waiting.{is_waiting};
 ghost use Rattle.xl_wait.specs.declared.waiter.Rooms.{Rooms};
 ghost use Rattle.xl_wait.specs.declared.waiter.Waiter.{Waiter};
-ghost use Rattle.xl_core.specs.Asking.{IsFit};
+ghost use Rattle.xl_core.specs.Askers.{IsFit};
 ghost use Rattle.xl_core.specs.Decide.{ask};
 ghost use Rattle.xl_core.specs.Deeds.{Deed, AreFit, all_done, all_told_of};
 ghost use Rattle.xl_core.specs.Good.{IsGood};

@@ -3,8 +3,8 @@ ghost use Rattle.std.specs.Prelude.{◌≡◌, ℕ, ◌+◌, ◌==◌, ◌↔◌
 ghost use Rattle.std.specs.List.{AllByRecursion, list_any};
 ghost use Rattle.xl_base.specs.declared.name.Owner.{Owner};
 ghost use Rattle.xl_base.specs.declared.journal.Exports.{Exports};
-ghost use Rattle.xl_core.specs.Begin.{others_of};
-ghost use Rattle.xl_core.specs.Breaks.{ack};
+ghost use Rattle.xl_core.specs.BreaksBegun.{others_of};
+ghost use Rattle.xl_core.specs.BreakAnswers.{ack};
 ghost use Rattle.xl_core.specs.Deeds.{all_done, all_told_of, answers_of, AreFit};
 ghost use Rattle.xl_core.specs.Good.{IsGood};
 ghost use Rattle.xl_base.specs.declared.name.Party.{Party};

@@ -10,7 +10,7 @@ use Rattle.xl_smb_state.specs.Links.{AreDistinct, IsSound}
 use Rattle.xl_smb_state.specs.State.{Lists}
 use Rattle.xl_smb_state.specs.declared.row.Waiting.{Waiting}
 use Rattle.xl_wait.specs.declared.waiter.Waiter.{Waiter}
-use Rattle.xl_core.specs.Asking.{is_client, is_lease, is_named}
+use Rattle.xl_core.specs.Askers.{is_client, is_lease, is_named}
 use Rattle.xl_core.specs.Clients.{AreOf, AreOfSome, IsOf}
 use Rattle.xl_core.specs.Deeds.{AreFit, Deed, Asks, GivesBack, Weakens, Acks, Cancels, Ends, Serves, Draws, Advances, Lapses, Renews, Expires, Closes, IsFitDeed, all_done, all_told_of, done}
 use Rattle.xl_core.specs.Good.{IsGood}

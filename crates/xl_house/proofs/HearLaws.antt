@@ -11,7 +11,7 @@ use Rattle.xl_base.specs.declared.name.Protocol.TheVariants.{Nfs}
 use Rattle.xl_names.specs.Names.{protocol_of}
 use Rattle.xl_names.specs.declared.name.Name.{Name}
 use Rattle.xl_names.specs.declared.name.Name.TheVariants.{NlmRange}
-use Rattle.xl_core.specs.Asking.{is_lease}
+use Rattle.xl_core.specs.Askers.{is_lease}
 use Rattle.xl_core.proofs.FrameLaws.{tick_frame}
 use Rattle.xl_core.proofs.GoodLaws.{begun_good, tick_good}
 use Rattle.xl_core.proofs.NumberLaws.{tick_numbers}

@@ -9,8 +9,8 @@ use Rattle.xl_names.specs.declared.name.Name.{Name}
 use Rattle.xl_programs.specs.Programs.{RequestItem}
 use Rattle.xl_wait.specs.declared.waiter.Rooms.{Rooms}
 use Rattle.xl_core.specs.State.{CoreState}
-use Rattle.xl_core.specs.Asking.{asked_whats, asked_claims, is_client}
-use Rattle.xl_core.specs.Breaks.{ack}
+use Rattle.xl_core.specs.Askers.{asked_whats, asked_claims, is_client}
+use Rattle.xl_core.specs.BreakAnswers.{ack}
 use Rattle.xl_core.specs.Clients.{IsOf, AreOf, AreOfSome}
 use Rattle.xl_core.specs.Decide.{plea_of, way, ask}
 use Rattle.xl_core.specs.Deeds.{Deed, Asks, GivesBack, Weakens, Acks, Cancels, Ends, Closes, Serves, Draws, Advances, Renews, Expires, given, done, all_told_of, IsFitDeed, AreFit}

@@ -33,7 +33,7 @@ use Rattle.xl_front_nfs.specs.State.{FrontNfs}
 use Rattle.xl_nfs_state.specs.State.{NfsLists, delegated_on}
 use Rattle.xl_nfs_state.specs.declared.client.ClientRow.{ClientRow}
 use Rattle.xl_nfs_state.specs.declared.stateid.StateidRow.{StateidRow}
-use Rattle.xl_core.specs.Breaks.{client_of}
+use Rattle.xl_core.specs.BreakAnswers.{client_of}
 use Rattle.xl_front_nlm.proofs.DoesLaws as nlm
 use Rattle.xl_front_nlm.specs.FrontNlm.{nlm_step}
 use Rattle.xl_front_nlm.specs.Grants.{news, told_by, shown}

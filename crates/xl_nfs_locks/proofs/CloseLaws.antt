@@ -27,7 +27,7 @@ use Rattle.xl_core.proofs.WayAsks.{ask_there, ask_unlock, ask_way_none}
 use Rattle.xl_core.proofs.WayDeeds.{then_else}
 use Rattle.xl_core.proofs.DeedLaws.{deed_good, deed_makes}
 use Rattle.xl_core.proofs.DeedLists.{deeds_good}
-use Rattle.xl_core.specs.Asking.{known_claim}
+use Rattle.xl_core.specs.Askers.{known_claim}
 use Rattle.xl_core.specs.Decide.{Answered, ask, decided, unlocked, unlocked_bytes, unlocked_claims, way}
 use Rattle.xl_core.specs.Deeds.{Asks, GivesBack, IsFitDeed, all_done}
 use Rattle.xl_core.specs.Good.{IsGood}

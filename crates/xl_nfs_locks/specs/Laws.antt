@@ -16,7 +16,7 @@ use Rattle.xl_table.specs.Held.{is_of}
 use Rattle.xl_table.specs.Least.{least}
 use Rattle.xl_names.specs.declared.name.Name.{Name}
 use Rattle.xl_names.specs.declared.name.Name.TheVariants.{NfsRange}
-use Rattle.xl_core.specs.Asking.{asked_claim, known_claim, known_owner}
+use Rattle.xl_core.specs.Askers.{asked_claim, known_claim, known_owner}
 use Rattle.xl_core.specs.Blockers.{blockers, test_blockers}
 use Rattle.xl_core.specs.Causes.{IsClaimDue, IsTestDue, stands_against}
 use Rattle.xl_core.specs.Decide.{way}

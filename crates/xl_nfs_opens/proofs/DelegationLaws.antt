@@ -34,7 +34,7 @@ use Rattle.xl_nfs_state.specs.declared.stateid.Whose.TheVariants as whose
 use Rattle.xl_table.specs.Held.{is_cache}
 use Rattle.xl_core.proofs.DeedLaws.{deed_makes}
 use Rattle.xl_core.proofs.FrameLaws.{ask_frame}
-use Rattle.xl_core.specs.Asking.{party_named}
+use Rattle.xl_core.specs.Askers.{party_named}
 use Rattle.xl_core.specs.Decide.{ask}
 use Rattle.xl_core.proofs.DeedLeaves.{found_in}
 use Rattle.xl_core.proofs.DeedLists.{deeds_good}

@@ -30,8 +30,8 @@ use Rattle.xl_core.proofs.DeedLaws.{deed_due}
 use Rattle.xl_core.proofs.DeedLeaves.{found_in}
 use Rattle.xl_core.proofs.FrameLaws.{ask_frame}
 use Rattle.xl_core.proofs.WayAsks.{ask_way_names}
-use Rattle.xl_core.specs.Asking.{asked_claim, asking_party}
-use Rattle.xl_core.specs.Breaks.{id_of}
+use Rattle.xl_core.specs.Askers.{asked_claim, asking_party}
+use Rattle.xl_core.specs.BreakAnswers.{id_of}
 use Rattle.xl_core.specs.Causes.{IsClaimDue}
 use Rattle.xl_core.specs.Decide.{ask, before_wish, does_wish, way}
 use Rattle.xl_core.specs.Places.{is_cache_on}

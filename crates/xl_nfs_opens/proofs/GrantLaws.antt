@@ -25,7 +25,7 @@ use Rattle.xl_nfs.specs.declared.status.NfsStatus.TheVariants as statuses
 use Rattle.xl_nfs_state.proofs.AnyLaws.{all_left}
 use Rattle.xl_nfs_state.specs.declared.owner.OwnerRow.{OwnerRow}
 use Rattle.xl_core.proofs.DeedLeaves.{found_in}
-use Rattle.xl_core.specs.Breaks.{id_of}
+use Rattle.xl_core.specs.BreakAnswers.{id_of}
 use Rattle.xl_core.specs.Places.{is_cache_on}
 use Rattle.xl_core.specs.Settle.{give_back}
 use Rattle.xl_nfs_state.specs.Keys.{held_at as place_at, same_place}

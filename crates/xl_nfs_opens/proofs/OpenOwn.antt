@@ -45,7 +45,7 @@ use Rattle.xl_table.specs.Relock.{is_share_of}
 use Rattle.xl_core.proofs.DeedClients.{party_of_owner}
 use Rattle.xl_core.proofs.DeedLeaves.{share_given, found_in}
 use Rattle.xl_core.proofs.DeedLists.{deeds_good, fit_append}
-use Rattle.xl_core.specs.Asking.{IsFit, party_named}
+use Rattle.xl_core.specs.Askers.{IsFit, party_named}
 use Rattle.xl_core.specs.Settle.{share_has}
 use Rattle.xl_base.specs.Lists.{IsIn}
 use Rattle.xl_matrix.specs.declared.claim.Rwd.{Rwd}

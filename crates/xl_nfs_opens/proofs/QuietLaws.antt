@@ -37,10 +37,10 @@ use Rattle.xl_core.proofs.DeedCaches.{deeds_caches}
 use Rattle.xl_core.proofs.DeedLaws.{deed_good, deed_names}
 use Rattle.xl_core.proofs.DeedLeaves.{found_in}
 use Rattle.xl_core.proofs.WayLaws.{Begins, NoWay, way_is}
-use Rattle.xl_core.specs.Begin.{breaks_begun, once_begun, once_broken, with_break}
+use Rattle.xl_core.specs.BreaksBegun.{breaks_begun, once_begun, once_broken, with_break}
 use Rattle.xl_core.proofs.FrameLaws.{ask_frame, give_back_frame, renew_frame, weaken_frame}
-use Rattle.xl_core.specs.Asking.{asked_claims, asked_whats, party_named}
-use Rattle.xl_core.specs.Breaks.{id_of}
+use Rattle.xl_core.specs.Askers.{asked_claims, asked_whats, party_named}
+use Rattle.xl_core.specs.BreakAnswers.{id_of}
 use Rattle.xl_core.specs.Decide.{ask, before_wish, does_wish, plea_of, way}
 use Rattle.xl_core.specs.Deeds.{Deed, Asks, GivesBack, Weakens, Acks, Cancels, Ends, Closes, Serves, Draws, Advances, Lapses, Renews, Expires, all_done, caches_after, caches_asked, caches_without_party, done, AreFit, IsFitDeed, KeepNames}
 use Rattle.xl_core.specs.Wishes.{cached, caches_wished, has_room, once_wished, wish_of, wished_kind}

@@ -18,7 +18,7 @@ use Rattle.xl_nfs_state.specs.declared.stateid.StateidRow.{StateidRow}
 use Rattle.xl_table.specs.Relock.{either_right, old_shares, shares_of, united_by, united_what, united_with, unites, with_share}
 use Rattle.xl_core.proofs.WayAsks.{ask_due, ask_shares}
 use Rattle.xl_core.proofs.DeedLists.{deeds_good}
-use Rattle.xl_core.specs.Asking.{asker}
+use Rattle.xl_core.specs.Askers.{asker}
 use Rattle.xl_core.specs.Deeds.{all_done}
 use Rattle.xl_core.specs.Good.{IsGood}
 use Rattle.xl_core.specs.Blockers.{is_stopped}

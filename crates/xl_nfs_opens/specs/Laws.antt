@@ -14,7 +14,7 @@ use Rattle.xl_matrix.specs.declared.claim.Rwd.{Rwd}
 use Rattle.xl_matrix.specs.declared.claim.What.TheVariants as whats
 use Rattle.xl_nfs.specs.declared.status.NfsStatus.{NfsStatus}
 use Rattle.xl_nfs.specs.declared.status.NfsStatus.TheVariants as statuses
-use Rattle.xl_core.specs.Asking.{asked_claim}
+use Rattle.xl_core.specs.Askers.{asked_claim}
 use Rattle.xl_core.specs.Causes.{IsClaimDue}
 use Rattle.xl_core.specs.Decide.{way}
 use Rattle.xl_core.specs.State.{CoreState}

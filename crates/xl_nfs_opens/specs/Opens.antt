@@ -38,7 +38,7 @@ use Rattle.xl_nfs_state.specs.declared.stateid.Whose.TheVariants as whose
 use Rattle.xl_table.specs.Relock.{either_right, is_share_of}
 use Rattle.xl_wait.specs.Waiting.{no_rows}
 use Rattle.xl_wait.specs.declared.waiter.Rooms.{Rooms}
-use Rattle.xl_core.specs.Asking.{party_named}
+use Rattle.xl_core.specs.Askers.{party_named}
 use Rattle.xl_core.specs.Deeds.{Deed, GivesBack, Draws}
 use Rattle.xl_core.specs.Limits.{most_hosts, most_owners}
 use Rattle.xl_core.specs.Limits as limits

@@ -31,7 +31,7 @@ ghost use Rattle.xl_nfs_opens.specs.declared.opener.Judged.TheVariants.{Anew, Ne
 ghost use Rattle.xl_nfs_opens.specs.declared.opener.Opener.{Opener as OpenOwner};
 ghost use Rattle.xl_matrix.specs.declared.claim.What.TheVariants.{Share};
 ghost use Rattle.xl_table.specs.Relock.{old_shares, shares_of, united_by, with_share};
-ghost use Rattle.xl_core.specs.Asking.{asker};
+ghost use Rattle.xl_core.specs.Askers.{asker};
 ghost use Rattle.xl_core.specs.Deeds.{all_done};
 ghost use Rattle.xl_core.specs.Good.{IsGood};
 ghost use Rattle.xl_core.specs.State.{CoreState};

@@ -27,7 +27,7 @@ use Rattle.xl_smb_state.specs.declared.row.Holder.{Holder}
 use Rattle.xl_smb_state.specs.declared.row.Holder.TheVariants as holder
 use Rattle.xl_smb_state.specs.declared.row.LeaseKey.{LeaseKey}
 use Rattle.xl_smb_state.specs.declared.row.Open.{Open}
-use Rattle.xl_core.specs.Asking.{known_party}
+use Rattle.xl_core.specs.Askers.{known_party}
 use Rattle.xl_core.specs.Places.{CacheOf, is_cache_on, held_at}
 use Rattle.xl_core.specs.State.{CoreState}
 use Rattle.xl_core.specs.declared.ask.Who.{Who}
