@@ -1,5 +1,5 @@
 -- The files that are noted as unsettled, and who is called by them.
-use Rattle.std.proofs.Common.{◌≡◌, ℕ, zero, suc, ◌+◌, ◌-◌, ◌<◌, Bool, true, false, not, ◌&&◌, ◌||◌, ◌==◌, nat_lt, inl, inr, List, [], ◌∷◌, ◌++◌, Option, Some, None, ◌⊎◌, slice_get, if◌then◌else◌, refl, sym, ap, subst, ◌∙◌, arith}
+use Rattle.std.proofs.Common.{◌≡◌, ℕ, zero, suc, ◌+◌, ◌-◌, ◌<◌, Bool, true, false, not, ◌&&◌, ◌||◌, ◌==◌, nat_lt, inl, inr, List, [], ◌∷◌, ◌++◌, Option, Some, None, ◌⊎◌, slice_get, IfSome, if◌then◌else◌, refl, sym, ap, subst, ◌∙◌, arith}
 use Rattle.std.specs.List.{AllByRecursion, filter, list_any}
 use Rattle.std.proofs.lemmas.Bool.{cases_Bool, both_ways, or_parts, eqb-true, eq-eqb}
 use Rattle.std.proofs.lemmas.Bool.Decides.{nat_tests}
@@ -7,6 +7,7 @@ use Rattle.std.proofs.lemmas.List.{append_assoc}
 use Rattle.xl_base.specs.Lists.{IsIn}
 use Rattle.xl_base.specs.declared.event.Moment.{Moment}
 use Rattle.xl_base.proofs.Members.{all_in, all_from, in_filter_from}
+use Rattle.xl_matrix.proofs.EqualLaws.{eqb-sym}
 use Rattle.xl_matrix.specs.declared.claim.CacheKind.{CacheKind}
 use Rattle.xl_matrix.specs.declared.claim.Claim.{Claim}
 use Rattle.xl_matrix.specs.declared.claim.Rwd.{Rwd}
@@ -21,7 +22,7 @@ use Rattle.xl_core.specs.BreakAnswers.{ack, first_due}
 use Rattle.xl_core.specs.Leases.{first_ended}
 use Rattle.xl_core.specs.Ticks.{advanced, behind_told, expire, expired_then, expired_for, lapse, lapsed_then, lapsed_for}
 use Rattle.xl_core.specs.Settle.{first_called, waits_with, give_back, weaken, departed}
-use Rattle.xl_core.specs.Unsettled.{is_among, with_file, may_change, left_by_ask, first_free, called_at, IsWider, Notes, NotesLeft, IsHeldUp, AreHeldUp}
+use Rattle.xl_core.specs.Unsettled.{is_among, only_file, with_file, may_change, left_by_ask, first_free, called_at, IsWider, Notes, NotesLeft, IsHeldUp, AreHeldUp}
 use Rattle.xl_core.specs.declared.ask.Answer.{Answer}
 use Rattle.xl_core.specs.declared.ask.Ask.{Ask}
 use Rattle.xl_core.specs.declared.ask.Effect.{Effect}
@@ -29,6 +30,25 @@ use Rattle.xl_core.specs.declared.settling.Called.{Called}
 use Rattle.xl_core.specs.declared.unsettled.Unsettled.{Unsettled}
 use Rattle.xl_core.specs.declared.unsettled.Unsettled.TheVariants.{Files, All}
 use Rattle.xl_core.proofs.HeldUpLaws.{on_file, held_up_still, give_back_up, weaken_up, ack_up}
+
+-- ---- which files they are
+
+-- a list is searched from either side of the test
+pub among_files : (b : Bool) (file : ℕ) (files : List ℕ) → b ≡ list_any (λ f. f == file) files → b ≡ is_among (Files files) file
+among_files b file files is = is ∙ either_way files
+  where
+    either_way : (fs : List ℕ) → list_any (λ f. f == file) fs ≡ list_any (λ f. file == f) fs
+    either_way [] = refl
+    either_way (f ∷ fs) = λ i. eqb-sym f file i || either_way fs i
+
+pub only_is : (u : Unsettled) (o : Option ℕ) → o ≡ only_file u → IfSome o (λ file. u ≡ Files (file ∷ []))
+only_is u o is = subst (λ (p : Option ℕ). IfSome p (λ file. u ≡ Files (file ∷ []))) (sym is) (one u)
+  where
+    one : (v : Unsettled) → IfSome (only_file v) (λ file. v ≡ Files (file ∷ []))
+    one (Files []) = tt
+    one (Files (file ∷ [])) = refl
+    one (Files (file ∷ other ∷ files)) = tt
+    one All = tt
 
 -- ---- one more file
 

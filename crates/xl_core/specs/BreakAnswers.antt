@@ -51,13 +51,13 @@ due_before names a b =
     before_by (deadline_of a.what, a.file) (deadline_of b.what, b.file) (is_lt (slice_cmp nat_cmp (party_text names a.party) (party_text names b.party)))
 
 -- the earlier of the first so far and one more
-abbrev pub earlier : List Name → Option Claim → Claim → Option Claim
-earlier names None c = Some c
-earlier names (Some first) c = if due_before names c first then Some c else Some first
+abbrev pub earlier_due : List Name → Option Claim → Claim → Option Claim
+earlier_due names None c = Some c
+earlier_due names (Some first) c = if due_before names c first then Some c else Some first
 
 abbrev pub earliest_from : List Name → Option Claim → List Claim → Option Claim
 earliest_from names first [] = first
-earliest_from names first (c ∷ cs) = earliest_from names (earlier names first c) cs
+earliest_from names first (c ∷ cs) = earliest_from names (earlier_due names first c) cs
 
 -- of the caches whose deadline has come the one that is due first
 unfoldable pub first_due : CoreState → Option Claim

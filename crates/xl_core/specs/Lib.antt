@@ -24,3 +24,4 @@ pub mod Dues
 pub mod Rows
 pub mod Clients
 pub mod Smallest
+pub mod Ids

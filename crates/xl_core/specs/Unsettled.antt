@@ -25,6 +25,13 @@ abbrev pub is_among : Unsettled → ℕ → Bool
 is_among (Files files) file = list_any (λ f. file == f) files
 is_among All file = true
 
+-- the file, where there is one alone
+abbrev pub only_file : Unsettled → Option ℕ
+only_file (Files []) = None
+only_file (Files (file ∷ [])) = Some file
+only_file (Files (file ∷ other ∷ files)) = None
+only_file All = None
+
 -- this file is one of them too
 abbrev pub with_file : ℕ → Unsettled → Unsettled
 with_file file (Files files) = Files (file ∷ files)

@@ -11,6 +11,7 @@ mod decide;
 pub mod deeds;
 mod doors;
 mod due;
+mod ids;
 mod judge;
 pub mod law;
 mod lease;
@@ -28,5 +29,6 @@ mod wishes;
 
 pub use ask::{Act, Answer, Ask, Effect, Who};
 pub use doors::Core;
+pub use ids::{id_of, number_in};
 pub use lease::Times;
-pub use limits::{MOST_HOSTS, MOST_OPENS, MOST_OWNERS, NUMBERS};
+pub use limits::{MOST_HOSTS, MOST_OPENS, MOST_OWNERS};

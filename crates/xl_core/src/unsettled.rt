@@ -1,7 +1,6 @@
 //! The files on which someone may wait whom nothing blocks, so that not all who wait are looked at after each change.
 ghost use Rattle.std.specs.Prelude.{◌≡◌, ◌==◌, [], ◌∷◌, true, false, IfSome};
-ghost use Rattle.std.specs.List.{list_any};
-ghost use Rattle.xl_core.specs.Unsettled.{is_among, is_none, may_free, may_change, IsWider, Notes, NotesLeft};
+ghost use Rattle.xl_core.specs.Unsettled.{is_among, is_none, only_file, may_free, may_change, IsWider, Notes, NotesLeft};
 ghost use Rattle.xl_core.specs.declared.unsettled.Unsettled.TheVariants.{Files};
 
 use crate::ask::{Act, Answer, Ask, Effect};
@@ -18,19 +17,13 @@ pub(crate) enum Unsettled {
     All,
 }
 
-/// Whether the file is in the list.
-fn has_file(files: &[u32], file: u32) -> bool
-    ensures { result ≡ list_any (λ f. file == f) files.now }
-{
-    files.iter().any(|own| file == *own)
-}
-
 /// Whether the file is one of these.
+#[tactic(auto, using(crate::proofs::UnsettledLaws::among_files))]
 pub(crate) fn is_among(unsettled: &Unsettled, file: u32) -> bool
     ensures { result ≡ is_among unsettled.now file }
 {
     match unsettled {
-        Unsettled::Files(files) => has_file(files.as_slice(), file),
+        Unsettled::Files(files) => files.as_slice().contains(&file),
         Unsettled::All => true,
     }
 }
@@ -45,15 +38,25 @@ pub(crate) fn is_none(unsettled: &Unsettled) -> bool
     }
 }
 
+/// The file of a list, where it has one alone.
+fn one_of(files: &[u32]) -> Option<u32>
+    ensures { result ≡ only_file (Files files.now) }
+{
+    match files {
+        [] => None,
+        [file] => Some(*file),
+        [_, _, ..] => None,
+    }
+}
+
 /// The file, where there is one alone.
+#[tactic(auto, using(crate::proofs::UnsettledLaws::only_is))]
 pub(crate) fn only_file(unsettled: &Unsettled) -> Option<u32>
-    ensures { IfSome result (λ file. unsettled.now ≡ Files (file ∷ [])) }
+    ensures value { result ≡ only_file unsettled.now }
+    ensures found { IfSome result (λ file. unsettled.now ≡ Files (file ∷ [])) }
 {
     match unsettled {
-        Unsettled::Files(files) => match files.as_slice() {
-            [file] => Some(*file),
-            _ => None,
-        },
+        Unsettled::Files(files) => one_of(files.as_slice()),
         Unsettled::All => None,
     }
 }

@@ -18,7 +18,8 @@ use Rattle.xl_core.specs.Deeds.{Deed, Renews, all_done, all_told_of}
 use Rattle.xl_core.specs.State.{CoreState}
 use Rattle.xl_core.specs.declared.ask.Effect.{Effect}
 use Rattle.xl_front_nfs.specs.Clients.{renew_found, renew_number, renew, number_kept, numbers, draws, has_room, set_under, set_by, set_beside, confirm_of, ends, come, come_again, confirm_over, confirm_beside, confirm_held, confirmed_by}
-use Rattle.xl_nfs_opens.specs.Leases.{number_in, lease_end, renewed}
+use Rattle.xl_core.specs.Ids.{number_in}
+use Rattle.xl_nfs_opens.specs.Leases.{lease_end, renewed}
 use Rattle.xl_nfs_opens.specs.Plans.{carried}
 use Rattle.xl_nfs_opens.specs.declared.told.Told.TheVariants.{Ended, Client}
 

@@ -24,7 +24,8 @@ use Rattle.xl_core.specs.declared.ask.Effect.TheVariants.{Expired}
 use Rattle.xl_nfs_opens.proofs.NumberLaws.{AreFew, carried_few, close_few, confirm_few, does_few, downgrade_few, less_given, open_few, return_few}
 use Rattle.xl_nfs_locks.proofs.NumberLaws.{lock_few, release_few, test_few, unlock_few}
 use Rattle.xl_nfs_opens.specs.Files.{file_named}
-use Rattle.xl_nfs_opens.specs.Leases.{lease_end, number_in}
+use Rattle.xl_core.specs.Ids.{number_in}
+use Rattle.xl_nfs_opens.specs.Leases.{lease_end}
 use Rattle.xl_nfs_opens.specs.Numbers.{AreGivenOut, StayGivenOut}
 use Rattle.xl_nfs_opens.specs.Plans.{Plan, carried, deeds_of}
 use Rattle.xl_front_nfs.specs.Clients.{come, confirm_found, confirm_held, confirm_number, confirm_over, confirmed_by, draws, ends, has_room, number_kept, renew, renew_found, renew_number, set_by, set_client_id, set_client_id_confirm, without_found, without_named, without_number}

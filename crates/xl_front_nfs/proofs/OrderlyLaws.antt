@@ -31,7 +31,8 @@ use Rattle.xl_nfs_locks.specs.Releases.{holds_any, release, release_of, released
 use Rattle.xl_nfs_locks.specs.Tests.{lock_test, locker_of, test_at, test_of, test_to}
 use Rattle.xl_nfs_opens.specs.Closing.{Returning, deleg_return, return_done, returned}
 use Rattle.xl_nfs_opens.specs.Files.{file_named}
-use Rattle.xl_nfs_opens.specs.Leases.{lease_end, number_in}
+use Rattle.xl_core.specs.Ids.{number_in}
+use Rattle.xl_nfs_opens.specs.Leases.{lease_end}
 use Rattle.xl_nfs_opens.specs.Orderly.{IsOrderly}
 use Rattle.xl_nfs_opens.specs.Plans.{carried}
 use Rattle.xl_nfs_opens.specs.Opens.{client_in}

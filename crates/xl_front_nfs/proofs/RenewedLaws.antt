@@ -31,7 +31,8 @@ use Rattle.xl_nfs_locks.specs.Tests.{lock_test}
 use Rattle.xl_nfs_locks.specs.Unlocks.{unlock}
 use Rattle.xl_nfs_opens.specs.Closing.{open_confirm, close, deleg_return}
 use Rattle.xl_nfs_opens.specs.Downgrades.{open_downgrade}
-use Rattle.xl_nfs_opens.specs.Leases.{number_in, lease_end}
+use Rattle.xl_core.specs.Ids.{number_in}
+use Rattle.xl_nfs_opens.specs.Leases.{lease_end}
 use Rattle.xl_nfs_opens.specs.Opens.{claim_client, open_claimed, open_file}
 use Rattle.xl_nfs_opens.specs.Owners.{is_named, is_holder, is_claimant, is_locker, Names}
 use Rattle.xl_nfs_opens.specs.Plans.{deeds_of}

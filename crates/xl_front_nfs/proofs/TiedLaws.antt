@@ -48,7 +48,8 @@ use Rattle.xl_nfs_opens.proofs.QuietLaws.{IsLeft, IsQuiet, all_quiet, deed_leave
 use Rattle.xl_nfs_opens.proofs.StillLaws.{AreStill, details_still, later_set, still_kept, still_self, still_then, time_still}
 use Rattle.xl_nfs_opens.specs.Delegated.{AreDelegated, AreSet, AreTied, AreTiedBut, IsShut, clients_apart, delegation_held, delegation_kept, delegation_numbered, is_one_client, is_open_still, number_confirmed, written_by}
 use Rattle.xl_nfs_opens.specs.Files.{file_named}
-use Rattle.xl_nfs_opens.specs.Leases.{lease_end, number_in}
+use Rattle.xl_core.specs.Ids.{number_in}
+use Rattle.xl_nfs_opens.specs.Leases.{lease_end}
 use Rattle.xl_nfs_opens.specs.Orderly.{IsOrderly}
 use Rattle.xl_nfs_opens.specs.Plans.{Plan, carried}
 use Rattle.xl_front_nfs.proofs.OrderlyLaws.{step_orderly}

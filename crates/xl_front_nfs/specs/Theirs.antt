@@ -12,7 +12,7 @@ use Rattle.xl_core.specs.Deeds.{Renews}
 use Rattle.xl_core.specs.State.{CoreState}
 use Rattle.xl_front_nfs.specs.Clients.{confirmed_by}
 use Rattle.xl_front_nfs.specs.FrontNfs.{Called, Compound, call_in}
-use Rattle.xl_nfs_opens.specs.Leases.{number_in}
+use Rattle.xl_core.specs.Ids.{number_in}
 use Rattle.xl_nfs_opens.specs.Owners.{Names, AreBy}
 use Rattle.xl_front_nfs.specs.State.{FrontNfs}
 use Rattle.xl_front_nfs.specs.Steps.{Step, Runs, Course, begun, ran, step_deeds}

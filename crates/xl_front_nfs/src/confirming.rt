@@ -14,9 +14,9 @@ use crate::ending::ended;
 use crate::rows::{confirmed_by, drop_number, enter, forget, number_named};
 use std::alloc::{AllocError, Global};
 use xl_base::{Moment, Sequence};
-use xl_core::{Core, Effect};
+use xl_core::{Core, Effect, number_in};
 use xl_nfs::{ClientConfirm, NfsStatus};
-use xl_nfs_opens::{Done, Told, ended_as, lease_end, number_in, renewed};
+use xl_nfs_opens::{Done, Told, ended_as, lease_end, renewed};
 use xl_nfs_state::{ClientRow, NfsState};
 
 /// The client comes under this number, where there is room and none has its id string.

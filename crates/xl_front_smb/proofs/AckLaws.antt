@@ -26,7 +26,8 @@ use Rattle.xl_core.specs.declared.ask.Effect.{Effect}
 use Rattle.xl_core.proofs.FrameLaws.{ack_frame}
 use Rattle.xl_core.proofs.NumberLaws.{ack_numbers}
 use Rattle.xl_smb_locks.proofs.LeaveLaws.{frame_leaves}
-use Rattle.xl_smb_locks.specs.Levels.{cache_of, oplock_of, id_of}
+use Rattle.xl_core.specs.Ids.{id_of}
+use Rattle.xl_smb_locks.specs.Levels.{cache_of, oplock_of}
 use Rattle.xl_smb_locks.specs.Short.{Leaves}
 use Rattle.xl_front_smb.specs.Files.{is_read, leaves_less, is_refused, left_at, may_keep, ack_by, ack_lease_by, ack_of, ack_open, lease_left, refused_ack, taken_ack}
 use Rattle.xl_front_smb.specs.Plans.{Does, Fails, carried, Outcome}

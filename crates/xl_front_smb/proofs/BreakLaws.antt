@@ -29,7 +29,8 @@ use Rattle.xl_core.specs.Good.{IsGood}
 use Rattle.xl_core.specs.Places.{CacheOf, is_cache_on, part_by, entered_by, cleared_by, acked_at, else_was, held_at}
 use Rattle.xl_core.specs.State.{CoreState}
 use Rattle.xl_core.proofs.DeedLaws.{deed_makes}
-use Rattle.xl_smb_locks.specs.Levels.{id_of, cache_of, first_kind, lease_party, level_held, oplock_of}
+use Rattle.xl_core.specs.Ids.{id_of}
+use Rattle.xl_smb_locks.specs.Levels.{cache_of, first_kind, lease_party, level_held, oplock_of}
 use Rattle.xl_smb_locks.specs.declared.status.SmbStatus.TheVariants.{InvalidParameter, InvalidOplockProtocol, InvalidDeviceState, FileClosed, ObjectNameNotFound, Unsuccessful, RequestNotAccepted}
 use Rattle.xl_front_smb.specs.Checks.{open_named, negotiated_by, in_session, on_open}
 use Rattle.xl_front_smb.specs.Files.{is_refused, left_at, ack_by, ack_of, ack_open, ack_level, may_keep, lease_left, ack_lease_by, ack_cache, ack_lease, break_by, acknowledge}

@@ -40,7 +40,8 @@ use Rattle.xl_core.specs.declared.ask.Effect.{Effect}
 use Rattle.xl_core.specs.declared.ask.Effect.TheVariants as effects
 use Rattle.xl_smb_locks.proofs.ToldLaws.{granted_stands, granted_told}
 use Rattle.xl_smb_locks.specs.Finals.{final_outs, holder_stands, may_stand, opened_reply}
-use Rattle.xl_smb_locks.specs.Levels.{id_of, caching}
+use Rattle.xl_core.specs.Ids.{id_of}
+use Rattle.xl_smb_locks.specs.Levels.{caching}
 use Rattle.xl_front_smb.specs.Awaits.{AreAwaited, AsksToOpen, IsAskerOf, IsAwaited, IsGranted, IsUnder, MayStand}
 use Rattle.xl_front_smb.specs.FrontSmb.{smb_shown}
 use Rattle.xl_front_smb.specs.State.{FrontSmb}

@@ -20,10 +20,10 @@ use crate::told::Told;
 use std::alloc::{AllocError, Global};
 use xl_base::Sequence;
 use xl_cache::{kind_in_lease, oplock_level, rest_within};
-use xl_core::Core;
+use xl_core::{Core, id_of};
 use xl_matrix::{CacheKind, Claim, What};
 use xl_smb::{Break, FileId, Lease, SmbHead};
-use xl_smb_locks::{SmbStatus, cache_of, id_of, lease_party, oplock_of};
+use xl_smb_locks::{SmbStatus, cache_of, lease_party, oplock_of};
 use xl_smb_state::{LeaseKey, SmbState};
 
 /// An open ends with all that it holds.

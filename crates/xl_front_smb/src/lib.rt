@@ -8,7 +8,6 @@ mod creates;
 mod ending;
 mod files;
 mod front;
-mod ids;
 pub mod law;
 mod locks;
 mod numbers;

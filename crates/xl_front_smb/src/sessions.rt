@@ -18,9 +18,9 @@ use crate::outcome::{Done, failed, told};
 use crate::texts::is_share;
 use crate::told::Told;
 use std::alloc::{AllocError, Global};
-use xl_core::Core;
+use xl_core::{Core, id_of};
 use xl_smb::{NegotiateCall, SmbHead};
-use xl_smb_locks::{SmbStatus, id_of};
+use xl_smb_locks::SmbStatus;
 use xl_smb_state::{Connection, Place, SESSIONS, Scope, Session, SmbState, TREES, Tree};
 
 /// The number of SMB 2.1.

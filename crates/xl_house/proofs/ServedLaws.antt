@@ -30,7 +30,8 @@ use Rattle.xl_core.specs.declared.ask.Answer.TheVariants as answers
 use Rattle.xl_core.specs.declared.ask.Effect.{Effect}
 use Rattle.xl_core.specs.declared.ask.Effect.TheVariants as effects
 use Rattle.xl_smb_locks.specs.Finals.{final_outs, locked_reply, opened_reply}
-use Rattle.xl_smb_locks.specs.Levels.{caching, id_of}
+use Rattle.xl_core.specs.Ids.{id_of}
+use Rattle.xl_smb_locks.specs.Levels.{caching}
 use Rattle.xl_smb_locks.specs.declared.levels.Caching.{Caching}
 use Rattle.xl_front_smb.proofs.AwaitLaws.{row_in}
 use Rattle.xl_front_smb.proofs.StandLaws.{granted_lease, granted_reply, granted_row, granted_share, served_grant, turn_of}

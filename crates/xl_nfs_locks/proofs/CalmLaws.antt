@@ -21,7 +21,7 @@ use Rattle.xl_core.specs.State.{CoreState, drawn}
 use Rattle.xl_core.specs.declared.ask.Answer.{Answer}
 use Rattle.xl_nfs_opens.proofs.PassedLaws.{IfPassed, IsPassed, checked_passed}
 use Rattle.xl_nfs_opens.specs.Closing.{checked, done_lists, failed_lists, next_turn, opener_by, standing_fault, state_told}
-use Rattle.xl_nfs_opens.specs.Leases.{number_in}
+use Rattle.xl_core.specs.Ids.{number_in}
 use Rattle.xl_nfs_opens.specs.Opens.{client_in, freed, is_granted, stood}
 use Rattle.xl_nfs_opens.specs.Plans.{carried, status_of}
 use Rattle.xl_nfs_opens.specs.Renewing.{renewed_for, state_client, stateid_of}

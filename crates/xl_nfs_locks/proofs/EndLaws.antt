@@ -32,7 +32,7 @@ use Rattle.xl_nfs_locks.specs.declared.joining.BothOwners.{BothOwners}
 use Rattle.xl_nfs_locks.specs.declared.joining.Joined.{Joined}
 use Rattle.xl_nfs_locks.specs.declared.joining.Joined.TheVariants.{Bad, Again, Joins}
 use Rattle.xl_nfs_opens.specs.Closing.{checked, standing_fault, opener_by}
-use Rattle.xl_nfs_opens.specs.Leases.{number_in}
+use Rattle.xl_core.specs.Ids.{number_in}
 use Rattle.xl_nfs_opens.specs.Opens.{client_in, is_granted}
 use Rattle.xl_nfs_opens.specs.Renewing.{number_of, state_client, renewed_for}
 use Rattle.xl_nfs_opens.specs.Results.{ToldFits}

@@ -30,7 +30,8 @@ use Rattle.xl_core.specs.declared.ask.Answer.TheVariants as answers
 use Rattle.xl_nfs_opens.proofs.AdvanceLaws.{IfRefused, refused_not}
 use Rattle.xl_nfs_opens.specs.Asks.{unlock_ask}
 use Rattle.xl_nfs_opens.specs.Closing.{checked, opener_by, standing_fault}
-use Rattle.xl_nfs_opens.specs.Leases.{lease_end, number_in}
+use Rattle.xl_core.specs.Ids.{number_in}
+use Rattle.xl_nfs_opens.specs.Leases.{lease_end}
 use Rattle.xl_nfs_opens.specs.Opens.{all_rooms, client_in, repeated}
 use Rattle.xl_nfs_opens.specs.Plans.{carried, status_of}
 use Rattle.xl_nfs_opens.specs.Renewing.{renewals, renewals_by, renewed_for, renewed_if, state_client}

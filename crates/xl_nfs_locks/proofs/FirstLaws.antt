@@ -14,7 +14,7 @@ use Rattle.xl_nfs_locks.specs.declared.joining.BothOwners.{BothOwners}
 use Rattle.xl_nfs_locks.specs.FirstLocks.{counted_open, locker_under}
 use Rattle.xl_nfs_locks.specs.Tests.{locker_of}
 use Rattle.xl_nfs_opens.proofs.OpenerLaws.{number_there}
-use Rattle.xl_nfs_opens.specs.Leases.{number_in}
+use Rattle.xl_core.specs.Ids.{number_in}
 use Rattle.xl_nfs_opens.specs.Opens.{client_in}
 use Rattle.xl_nfs_opens.specs.declared.opener.Opener.{Opener}
 use Rattle.xl_core.specs.State.{CoreState}

@@ -36,7 +36,7 @@ use Rattle.xl_nfs_opens.proofs.OrderLaws.{owned_by, owner_goes, stateids_go}
 use Rattle.xl_nfs_opens.proofs.OwnerLaws.{number_gone, same_number}
 use Rattle.xl_nfs_opens.proofs.PassedLaws.{IfPassed, IsPassed, checked_passed, owner_passed}
 use Rattle.xl_nfs_opens.specs.Closing.{checked, next_turn, opener_by, standing_fault, state_told}
-use Rattle.xl_nfs_opens.specs.Leases.{number_in}
+use Rattle.xl_core.specs.Ids.{number_in}
 use Rattle.xl_nfs_opens.specs.Opens.{client_in, is_granted, live, stood}
 use Rattle.xl_nfs_opens.specs.Orderly.{closes, IsHeldBy, IsOrderly, IsOwnedBy}
 use Rattle.xl_nfs_opens.specs.Plans.{status_of}

@@ -44,7 +44,7 @@ use Rattle.xl_nfs_locks.specs.declared.joining.Joined.{Joined}
 use Rattle.xl_nfs_locks.specs.declared.joining.Joined.TheVariants.{Bad, Again, Joins}
 use Rattle.xl_nfs_opens.specs.Asks.{all_ones, unlock_ask}
 use Rattle.xl_nfs_opens.specs.Closing.{checked, standing_fault, opener_by}
-use Rattle.xl_nfs_opens.specs.Leases.{number_in}
+use Rattle.xl_core.specs.Ids.{number_in}
 use Rattle.xl_nfs_opens.specs.Opens.{all_rooms, client_in, is_granted}
 use Rattle.xl_nfs_opens.specs.Owners.{is_named, is_holder, is_locker, Names}
 use Rattle.xl_nfs_opens.specs.Plans.{Plan, Does, Asking}

@@ -25,7 +25,7 @@ use Rattle.xl_core.specs.State.{CoreState, drawn}
 use Rattle.xl_core.specs.declared.ask.Answer.{Answer}
 use Rattle.xl_nfs_opens.proofs.NumberLaws.{AreFew, carried_few, counted_given, does_few, done_given, draws, failed_given, later_on, less_given, remembered_given, renewed_given, repeat_few, stood_given, without_given}
 use Rattle.xl_nfs_opens.specs.Closing.{checked, done_lists, failed_lists, next_turn, opener_by, standing_fault, state_told}
-use Rattle.xl_nfs_opens.specs.Leases.{number_in}
+use Rattle.xl_core.specs.Ids.{number_in}
 use Rattle.xl_nfs_opens.specs.Numbers.{AreGivenOut, StayGivenOut}
 use Rattle.xl_nfs_opens.specs.Opens.{client_in, is_granted, stood}
 use Rattle.xl_nfs_opens.specs.Plans.{carried, status_of}

@@ -27,7 +27,7 @@ use Rattle.xl_nfs_locks.specs.declared.joining.BothOwners.{BothOwners}
 use Rattle.xl_nfs_locks.specs.declared.joining.Joined.{Joined}
 use Rattle.xl_nfs_locks.specs.declared.joining.Joined.TheVariants.{Bad, Again, Joins}
 use Rattle.xl_nfs_opens.specs.Closing.{checked, standing_fault, failed, next_turn, state_told}
-use Rattle.xl_nfs_opens.specs.Leases.{number_in}
+use Rattle.xl_core.specs.Ids.{number_in}
 use Rattle.xl_nfs_opens.specs.Opens.{all_rooms, client_in, is_granted, live, repeated, stood}
 use Rattle.xl_nfs_opens.specs.Plans.{Plan, Does, Asking, status_of}
 use Rattle.xl_nfs_opens.specs.Renewing.{stateid_of, state_client, renewing}

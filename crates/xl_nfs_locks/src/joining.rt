@@ -21,13 +21,9 @@ use crate::locking::{is_granted, lock_end};
 use crate::testing::locker_of;
 use std::alloc::{AllocError, Global};
 use xl_base::{Keeper, Sequence};
-use xl_core::{Answer, Core};
+use xl_core::{Answer, Core, number_in};
 use xl_nfs::{LockArgs, NewLocker, NfsStatus, operation};
-use xl_nfs_opens::{
-    Checked, Done, Opener, Told, advances, asked, beside, check, client_in, count, drawn, ended_as,
-    fail, find_opener, held_on, is_room_for, next_turn, number_in, opener_number, remember,
-    renew_for, repeat, result_bytes, stand, standing_fault, state_client, state_told, stateid_of,
-};
+use xl_nfs_opens::{Checked, Done, Opener, Told, advances, asked, beside, check, client_in, count, drawn, ended_as, fail, find_opener, held_on, is_room_for, next_turn, opener_number, remember, renew_for, repeat, result_bytes, stand, standing_fault, state_client, state_told, stateid_of};
 use xl_nfs_state::{
     ClientRow, Holder, NfsState, OwnerRow, ResultBytes, SeqidVerdict, Standing, StateidRow, Turn,
     Whose, verdict,

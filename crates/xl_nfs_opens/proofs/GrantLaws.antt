@@ -47,7 +47,7 @@ use Rattle.xl_core.specs.Good.{IsGood, caches_of}
 use Rattle.xl_core.specs.State.{CoreState, drawn}
 use Rattle.xl_nfs_opens.specs.Delegated.{AreSet, AreTied, IsShut, delegation_held, delegation_kept, delegation_numbered, is_open_still, number_confirmed, written_by}
 use Rattle.xl_nfs_opens.specs.Closing.{Returning, cache_of, cache_of_client, deleg_return, return_done, returned}
-use Rattle.xl_nfs_opens.specs.Leases.{number_in}
+use Rattle.xl_core.specs.Ids.{number_in}
 use Rattle.xl_nfs_opens.specs.Opens.{all_rooms, answer_status, answered, cache_by, cache_held, claim_client, client_in, delegated, delegation_in, draws_for, either_bits, entered, freed, given_up, gives, gives_all, granted_by, granted_more, granted_new, granted_wish, has_none, has_room, is_granted, judged, kind_for, open_as, open_at, open_by, open_claimed, open_file, open_held, open_judged, open_of, open_row, open_turn, opened_file, opener_of, reclaims, refused_lists, repeated, share_ask, share_held, stood, unless_held, wish_of}
 use Rattle.xl_nfs_opens.specs.Plans.{Plan, Behind, carried}
 use Rattle.xl_nfs_opens.specs.Orderly.{IsOrderly, are_apart}

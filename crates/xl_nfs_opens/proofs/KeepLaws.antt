@@ -40,7 +40,7 @@ use Rattle.xl_nfs_opens.specs.Closing.{checked, close, close_by, close_done, con
 use Rattle.xl_nfs_opens.specs.Downgrades.{downgrade_by, downgrade_done, downgrade_fault, open_downgrade}
 use Rattle.xl_nfs_opens.specs.Opens.{answer_status, answered, can_enter, can_stand, delegated, delegated_in, delegation_row, delegation_told, drawn_for, granted_wish, wish_of, either_bits, entered, granted_by, has_room, is_granted, judged, live, open_as, open_at, open_by, open_claimed, open_file, open_held, open_judged, open_of, open_row, open_turn, opened_file, opened_told, opener_of, claim_client, client_in, reclaims, refused_lists, repeated, stood}
 use Rattle.xl_nfs_opens.specs.Orderly.{are_apart, closes, IsHeldBy, IsOrderly, IsOwnedBy}
-use Rattle.xl_nfs_opens.specs.Leases.{number_in}
+use Rattle.xl_core.specs.Ids.{number_in}
 use Rattle.xl_nfs_opens.specs.Plans.{Plan, Fails, Does, Behind, Asking, carried}
 use Rattle.xl_nfs_opens.specs.Renewing.{renewed_for, renewed_if, state_client}
 use Rattle.xl_nfs_opens.specs.Results.{spelled}

@@ -31,7 +31,7 @@ use Rattle.xl_core.specs.State.{CoreState, drawn}
 use Rattle.xl_core.specs.declared.ask.Answer.{Answer}
 use Rattle.xl_nfs_opens.specs.Closing.{checked, close, close_by, close_done, confirm_by, cache_of, confirm_done, Returning, returned, return_done, deleg_return, done_lists, failed_lists, locks_gone, next_turn, open_confirm, share_of_open, standing_fault, state_told}
 use Rattle.xl_nfs_opens.specs.Downgrades.{downgrade_by, downgrade_done, downgrade_fault, open_downgrade, weakens}
-use Rattle.xl_nfs_opens.specs.Leases.{number_in}
+use Rattle.xl_core.specs.Ids.{number_in}
 use Rattle.xl_nfs_opens.specs.Numbers.{AreGivenOut, StayGivenOut}
 use Rattle.xl_nfs_opens.specs.Opens.{freed, answer_status, answered, can_enter, can_stand, claim_client, client_in, delegated, delegated_in, delegation_row, delegation_told, drawn_for, draws_for, either_bits, entered, gives, granted_by, granted_new, granted_wish, has_room, is_granted, judged, open_as, open_at, open_by, open_claimed, open_file, open_held, open_judged, open_of, open_row, open_turn, opened_file, opened_told, opener_of, reclaims, refused, refused_lists, repeated, rights_of, stood, wish_of}
 use Rattle.xl_nfs_opens.specs.Owners.{IsBy, AreBy}

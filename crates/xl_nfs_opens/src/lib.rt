@@ -38,7 +38,7 @@ pub use done::{Done, beside, ended_as};
 pub use downgrading::open_downgrade;
 pub use entering::{held_on, stand};
 pub use files::file_named;
-pub use leases::{clientid_of, drawn, lease_end, number_in, renewed};
+pub use leases::{drawn, lease_end, renewed};
 pub use opener::{Checked, Opener};
 pub use opening::{answer_status, client_in, open_file};
 pub use renewing::{number_of, renew_for, state_client, stateid_of};

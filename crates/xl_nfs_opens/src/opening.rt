@@ -15,7 +15,7 @@ use crate::done::{Done, beside, ended_as};
 use crate::entering::{
     either_bits, enter, flags_of, has_room, open_held, open_row, open_turn, stand,
 };
-use crate::leases::{drawn, number_in};
+use crate::leases::drawn;
 use crate::opener::{Judged, Opener};
 use crate::renewing::{renew_for, state_client, stateid_of};
 use crate::repeats::{keep_told, repeat};
@@ -25,7 +25,7 @@ use crate::shares::{asked, give_all, reclaims, share_ask};
 use crate::told::Told;
 use std::alloc::{AllocError, Global};
 use xl_base::{Keeper, Sequence};
-use xl_core::{Answer, Core, Effect};
+use xl_core::{Answer, Core, Effect, number_in};
 use xl_nfs::{NfsStatus, OpenArgs, OpenClaim, operation};
 use xl_nfs_state::{
     ClientRow, NfsState, OwnerKind, OwnerRow, SeqidVerdict, StateidRow, Whose, verdict,

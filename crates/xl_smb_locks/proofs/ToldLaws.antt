@@ -25,7 +25,8 @@ use Rattle.xl_core.specs.declared.ask.Answer.{Answer}
 use Rattle.xl_core.specs.declared.ask.Answer.TheVariants as answers
 use Rattle.xl_core.specs.declared.ask.Effect.TheVariants as effects
 use Rattle.xl_smb_locks.specs.Finals.{ended_with, failed_reply, final_lock, final_open, final_outs, final_reply, holder_stands, opened_reply, request_ended, lock_refusal, open_refusal, may_stand, stood, opened_outs, locked_outs, served_by, served_with, request_served, told_of, IsFinal}
-use Rattle.xl_smb_locks.specs.Levels.{id_of, caching, notice_of, lease_notice_of, noticed_by, noticed_to, noticed_under, noticed}
+use Rattle.xl_core.specs.Ids.{id_of}
+use Rattle.xl_smb_locks.specs.Levels.{caching, notice_of, lease_notice_of, noticed_by, noticed_to, noticed_under, noticed}
 use Rattle.std.specs.Prelude.{slice_get}
 use Rattle.std.specs.Option.{option_and_then}
 use Rattle.xl_base.specs.declared.name.Protocol.TheVariants.{Smb}

@@ -1,6 +1,6 @@
 -- Oplocks and leases: what an open holds of one, what it is told of it, and how a break is told (MS-SMB2 2.2.13, 2.2.13.2.8,
 -- 2.2.14, 2.2.23, 3.3.4.6, 3.3.4.7).
-use Rattle.std.specs.Prelude.{ℕ, ◌+◌, ◌*◌, ◌^◌, if◌then◌else◌, List, [], ◌∷◌, slice_get, Option, Some, None}
+use Rattle.std.specs.Prelude.{ℕ, if◌then◌else◌, List, [], ◌∷◌, slice_get, Option, Some, None}
 use Rattle.std.specs.List.{find}
 use Rattle.std.specs.Option.{option_and_then}
 use Rattle.xl_base.specs.declared.event.Out.{Out}
@@ -28,6 +28,7 @@ use Rattle.xl_smb_state.specs.declared.row.Holder.TheVariants as holder
 use Rattle.xl_smb_state.specs.declared.row.LeaseKey.{LeaseKey}
 use Rattle.xl_smb_state.specs.declared.row.Open.{Open}
 use Rattle.xl_core.specs.Askers.{known_party}
+use Rattle.xl_core.specs.Ids.{id_of}
 use Rattle.xl_core.specs.Places.{CacheOf, is_cache_on, held_at}
 use Rattle.xl_core.specs.State.{CoreState}
 use Rattle.xl_core.specs.declared.ask.Who.{Who}
@@ -108,10 +109,6 @@ abbrev pub caching : CoreState → ℕ → Open → Caching
 caching s number row = cache_told s number row row.lease
 
 -- ---- a file that is open
-
--- the id of a session or an open: the epoch of this start, and the number
-abbrev pub id_of : CoreState → ℕ → ℕ
-id_of s number = s.stable.epoch * 2 ^ 32 + number
 
 abbrev pub file_id : ℕ → FileId
 file_id id = record { persistent = id; volatile = id }
