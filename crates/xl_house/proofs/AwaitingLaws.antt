@@ -18,14 +18,14 @@ use Rattle.xl_core.specs.State.{CoreState}
 use Rattle.xl_core.specs.declared.ask.Effect.{Effect}
 use Rattle.xl_core.specs.declared.ask.Who.{Who}
 use Rattle.xl_core.specs.declared.ask.Who.TheVariants as who
-use Rattle.xl_front_smb.proofs.AwaitLaws.{begin_awaited, end_awaited, moved, one_shown, step_awaited}
-use Rattle.xl_front_smb.proofs.DoesLaws as smb
-use Rattle.xl_front_smb.proofs.KeepLaws.{begin_keeps, deeds_keep, end_keeps, shown_keeps, step_keeps}
-use Rattle.xl_front_smb.proofs.LeftLaws.{waits_still}
-use Rattle.xl_front_smb.proofs.OwnLaws as smb_own
-use Rattle.xl_front_smb.proofs.PlaceLaws.{keeps_self}
-use Rattle.xl_front_smb.proofs.StayLaws.{over, told_awaited}
-use Rattle.xl_front_smb.specs.Awaits.{AreAwaited, AreKept, IsAwaited, IsKept, ends_wait, is_open_ask}
+use Rattle.xl_smb_laws.proofs.AwaitedRequestLaws.{begin_awaited, end_awaited, moved, one_shown, step_awaited}
+use Rattle.xl_smb_laws.proofs.RequestDeedLaws as smb
+use Rattle.xl_smb_laws.proofs.KeptWaiterLaws.{begin_keeps, deeds_keep, end_keeps, shown_keeps, step_keeps}
+use Rattle.xl_smb_laws.proofs.StillUntoldLaws.{waits_still}
+use Rattle.xl_smb_laws.proofs.RequestOwn as smb_own
+use Rattle.xl_smb_laws.proofs.PlaceLaws.{keeps_self}
+use Rattle.xl_smb_laws.proofs.StillWaitingLaws.{over, told_awaited}
+use Rattle.xl_smb_laws.specs.WaitingRequests.{AreAwaited, AreKept, IsAwaited, IsKept, ends_wait, is_open_ask}
 use Rattle.xl_front_smb.specs.Ending.{smb_end, smb_end_deeds}
 use Rattle.xl_front_smb.specs.FrontSmb.{smb_deeds, smb_shown, smb_step}
 use Rattle.xl_front_smb.specs.State.{FrontSmb, smb_begin}

@@ -36,11 +36,11 @@ use Rattle.xl_front_nlm.specs.Grants.{news, drawn_for, shown, shown_deeds}
 use Rattle.xl_house.specs.declared.parts.Fronts.{Fronts}
 use Rattle.xl_front_nlm.specs.declared.grant.Grant.{Grant}
 use Rattle.xl_front_nfs.specs.FrontNfs.{nfs_step}
-use Rattle.xl_front_nfs.proofs.DoesLaws as nfs
-use Rattle.xl_front_nfs.proofs.OwnLaws as nfs_own
+use Rattle.xl_nfs_laws.proofs.RequestDeedLaws as nfs
+use Rattle.xl_nfs_laws.proofs.RequestOwn as nfs_own
 use Rattle.xl_front_smb.specs.FrontSmb.{smb_step}
-use Rattle.xl_front_smb.proofs.DoesLaws as smb
-use Rattle.xl_front_smb.proofs.OwnLaws as smb_own
+use Rattle.xl_smb_laws.proofs.RequestDeedLaws as smb
+use Rattle.xl_smb_laws.proofs.RequestOwn as smb_own
 use Rattle.xl_house.specs.Done.{program_deeds, program_owns, program_reply, record_deeds, record_owns, message_deeds, message_owns, record_replies, message_replies, end_deeds, end_owns, AreRefusals, own_deeds, own_replies, told_deeds, turn_deeds, turns_for, turns, given_of, program_given, record_given, message_given, end_given, given_by, behind_own, deeds, messages}
 use Rattle.xl_house.specs.Journals.{is_restart}
 use Rattle.xl_house.specs.Lawful.{may_do, may_follow, IsOwnersBy}

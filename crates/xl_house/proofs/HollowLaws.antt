@@ -40,7 +40,7 @@ use Rattle.xl_core.specs.Settle.{settle, turns_left, waits_as}
 use Rattle.xl_core.specs.declared.ask.Answer.TheVariants.{Granted}
 use Rattle.xl_core.specs.declared.ask.Effect.{Effect}
 use Rattle.xl_core.specs.declared.ask.Effect.TheVariants.{Served}
-use Rattle.xl_front_smb.specs.Awaits.{IsKept as HasRequest}
+use Rattle.xl_smb_laws.specs.WaitingRequests.{IsKept as HasRequest}
 use Rattle.xl_front_smb.specs.Checks.{is_open_on}
 use Rattle.xl_house.specs.Awaited.{IsServed, OpenStands, turn_serves, turns_serve}
 use Rattle.xl_house.specs.Done.{deeds}

@@ -27,7 +27,7 @@ use Rattle.xl_core.proofs.WayLaws.{way_serves}
 use Rattle.xl_front_nfs.specs.FrontNfs.{nfs_deeds}
 use Rattle.xl_nfs_opens.specs.Owners.{IsBy, AreBy}
 use Rattle.xl_front_nfs.specs.State.{FrontNfs}
-use Rattle.xl_front_nfs.proofs.OwnLaws.{request_by}
+use Rattle.xl_nfs_laws.proofs.RequestOwn.{request_by}
 use Rattle.xl_front_nlm.specs.FrontNlm.{nlm_client, nlm_deeds}
 use Rattle.xl_front_nlm.specs.State.{FrontState}
 use Rattle.xl_front_nlm.proofs.OwnLaws.{step_own}
@@ -35,7 +35,7 @@ use Rattle.xl_front_smb.specs.Ending.{smb_end_deeds}
 use Rattle.xl_front_smb.specs.FrontSmb.{smb_deeds}
 use Rattle.xl_front_smb.specs.Owners.{IsOwn, is_end}
 use Rattle.xl_front_smb.specs.State.{FrontSmb}
-use Rattle.xl_front_smb.proofs.OwnLaws as smb
+use Rattle.xl_smb_laws.proofs.RequestOwn as smb
 use Rattle.xl_smb_state.specs.State.{Lists}
 use Rattle.xl_house.specs.Lawful.{may_do}
 use Rattle.xl_house.specs.Machine.{is_grant, grants}

@@ -19,7 +19,7 @@ use Rattle.xl_front_nlm.specs.Serving.{client_of}
 use Rattle.xl_front_nlm.specs.State.{FrontState}
 use Rattle.xl_front_nlm.specs.declared.grant.Grant.{Grant}
 use Rattle.xl_nfs_opens.specs.Owners.{AreBy, IsBy}
-use Rattle.xl_front_smb.specs.Awaits.{is_open_ask}
+use Rattle.xl_smb_laws.specs.WaitingRequests.{is_open_ask}
 use Rattle.xl_house.proofs.AwaitingLaws.{Others, asked_named, some_named}
 
 -- a caller of NLM is no lease

@@ -33,9 +33,9 @@ use Rattle.xl_smb_locks.specs.Finals.{final_outs, locked_reply, opened_reply}
 use Rattle.xl_core.specs.Ids.{id_of}
 use Rattle.xl_smb_locks.specs.Levels.{caching}
 use Rattle.xl_smb_locks.specs.declared.levels.Caching.{Caching}
-use Rattle.xl_front_smb.proofs.AwaitLaws.{row_in}
-use Rattle.xl_front_smb.proofs.StandLaws.{granted_lease, granted_reply, granted_row, granted_share, served_grant, turn_of}
-use Rattle.xl_front_smb.specs.Awaits.{IsAwaited, IsGranted, IsKept, IsUnder}
+use Rattle.xl_smb_laws.proofs.AwaitedRequestLaws.{row_in}
+use Rattle.xl_smb_laws.proofs.GrantedCreateLaws.{granted_lease, granted_reply, granted_row, granted_share, served_grant, turn_of}
+use Rattle.xl_smb_laws.specs.WaitingRequests.{IsAwaited, IsGranted, IsKept, IsUnder}
 use Rattle.xl_front_smb.specs.Checks.{is_open_on}
 use Rattle.xl_front_smb.specs.FrontSmb.{smb_shown}
 use Rattle.xl_front_smb.specs.Laws.{IsLeased}

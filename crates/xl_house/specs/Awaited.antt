@@ -21,7 +21,7 @@ use Rattle.xl_core.specs.declared.ask.Effect.TheVariants.{Served}
 use Rattle.xl_smb_locks.specs.Finals.{final_outs, locked_reply, opened_reply}
 use Rattle.xl_core.specs.Ids.{id_of}
 use Rattle.xl_smb_locks.specs.Levels.{caching}
-use Rattle.xl_front_smb.specs.Awaits.{AreAwaited, AreKept}
+use Rattle.xl_smb_laws.specs.WaitingRequests.{AreAwaited, AreKept}
 use Rattle.xl_front_smb.specs.Checks.{is_open_on}
 use Rattle.xl_front_smb.specs.Laws.{IsLeased}
 use Rattle.xl_house.specs.Lawful.{Law}

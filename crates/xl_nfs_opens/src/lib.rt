@@ -2,30 +2,23 @@
 //! OPEN_DOWNGRADE, CLOSE and DELEGRETURN over the core.
 #![tactic(auto)]
 
-pub mod advancing;
 mod aims;
 mod asks;
 mod closing;
 mod delegating;
-pub mod delegations;
 mod done;
 mod downgrading;
 mod ending;
 mod entering;
 mod files;
-pub mod law;
 mod leases;
-pub mod lengths;
-pub mod numbers;
 mod opener;
 mod opening;
-pub mod orderly;
 mod renewing;
 mod repeats;
 mod results;
 mod seqids;
 mod shares;
-pub mod tied;
 mod told;
 
 pub use asks::{range_ask, unlock_ask};
