@@ -9,12 +9,12 @@ use Rattle.xl_base.proofs.Searches.{in_filter_map, in_filter_map_from}
 use Rattle.xl_base.specs.declared.event.Moment.{Moment}
 use Rattle.xl_base.specs.declared.name.Owner.{Owner}
 use Rattle.xl_cache.specs.Parties.{is_kind_of, is_rest_of, is_cache_of}
-use Rattle.xl_cache.specs.Planning.{is_running, blocking_shares, is_in_the_way, is_obstacle, need_of, break_by, break_of, planned, is_slow, is_less}
+use Rattle.xl_cache.specs.BreakPlans.{is_running, blocking_shares, is_in_the_way, is_obstacle, need_of, break_by, break_of, planned, is_slow, is_less}
 use Rattle.xl_cache.specs.declared.need.Need.{Need}
 use Rattle.xl_cache.specs.Targets.{target_of}
 use Rattle.xl_cache.proofs.BreakLaws.{plan_less}
 use Rattle.xl_cache.proofs.PartyLaws.{kept_kind}
-use Rattle.xl_cache.proofs.PlanLaws.{obstacle_is_cache, break_is_of}
+use Rattle.xl_cache.proofs.BreakPlanLaws.{obstacle_is_cache, break_is_of}
 use Rattle.xl_matrix.specs.Owners.{posix}
 use Rattle.xl_matrix.specs.Equal.{same_owners, same_parties}
 use Rattle.xl_matrix.specs.Matrix.{compat, fit_by}

@@ -7,7 +7,7 @@ use Rattle.xl_base.specs.declared.name.Party.{Party}
 use Rattle.xl_base.specs.declared.name.Party.TheVariants as parties
 use Rattle.xl_base.specs.declared.name.Protocol.TheVariants.{Nlm, Nfs, Smb}
 use Rattle.xl_cache.specs.Parties.{is_lease_kind, is_oplock_kind, is_kind_of, is_rest_of, is_break_of, is_cache_of}
-use Rattle.xl_cache.specs.Planning.{is_less}
+use Rattle.xl_cache.specs.BreakPlans.{is_less}
 use Rattle.xl_cache.specs.Targets.{is_delegation, rest_lies_within}
 use Rattle.xl_matrix.proofs.EqualLaws.{same_parties-self}
 use Rattle.xl_matrix.specs.Equal.{same_parties}

@@ -8,9 +8,9 @@ use Rattle.xl_base.proofs.Searches.{in_filter_map_from}
 use Rattle.xl_base.specs.declared.event.Moment.{Moment}
 use Rattle.xl_base.specs.declared.name.Owner.{Owner}
 use Rattle.xl_base.specs.declared.name.Party.{Party}
-use Rattle.xl_cache.specs.Planning.{is_in_the_way, blocking_shares, is_running, break_of, planned, is_slow}
-use Rattle.xl_cache.specs.declared.planner.Plan.{Plan}
-use Rattle.xl_cache.proofs.PlanLaws.{obstacle_is_cache, break_is_of}
+use Rattle.xl_cache.specs.BreakPlans.{is_in_the_way, blocking_shares, is_running, break_of, planned, is_slow}
+use Rattle.xl_cache.specs.declared.break_plan.BreakPlan.{BreakPlan}
+use Rattle.xl_cache.proofs.BreakPlanLaws.{obstacle_is_cache, break_is_of}
 use Rattle.xl_matrix.specs.Equal.{same_parties}
 use Rattle.xl_matrix.proofs.EqualLaws.{same_parties-true, same_parties-self}
 use Rattle.xl_matrix.specs.declared.claim.CacheKind.{CacheKind}
@@ -294,7 +294,7 @@ none_begun s ask none = λ i. (told i, record s { claims = no_breaks (moment_aft
 
 -- where the ask's file has no cache
 pub none_begun_there : (s : CoreState) (ask : Claim) → list_any (λ c. (c.file == ask.file) && is_cache c.what) s.claims ≡ false → breaks_begun ask s ≡ ([], s)
-none_begun_there s ask none = none_begun s ask (ap (λ (p : Plan). p.breaks) (none_planned ask s.claims none))
+none_begun_there s ask none = none_begun s ask (ap (λ (p : BreakPlan). p.breaks) (none_planned ask s.claims none))
 
 -- ---- the one that passes a test stands wherever it is sorted to
 

@@ -17,9 +17,9 @@ use Rattle.xl_base.specs.declared.name.Party.{Party}
 use Rattle.xl_base.specs.declared.name.Party.TheVariants as parties
 use Rattle.xl_base.specs.declared.name.Protocol.{Protocol}
 use Rattle.xl_base.specs.declared.name.Protocol.TheVariants.{Nlm, Nfs, Smb}
-use Rattle.xl_cache.specs.Planning.{is_in_the_way, blocking_shares, keeps_handle_by, keeps_open, is_covered, is_final, break_of, is_awaited, plan_with, planned, needs_answer_by, is_slow}
+use Rattle.xl_cache.specs.BreakPlans.{is_in_the_way, blocking_shares, keeps_handle_by, keeps_open, is_covered, is_final, break_of, is_awaited, plan_with, planned, needs_answer_by, is_slow}
 use Rattle.xl_cache.specs.Targets.{needs_answer}
-use Rattle.xl_cache.proofs.PlanLaws.{obstacle_is_cache, break_is_of}
+use Rattle.xl_cache.proofs.BreakPlanLaws.{obstacle_is_cache, break_is_of}
 use Rattle.xl_matrix.specs.Equal.{same_claims, same_parties}
 use Rattle.xl_matrix.proofs.EqualLaws.{same_claims-true, same_claims-self}
 use Rattle.xl_matrix.specs.declared.claim.CacheKind.{CacheKind}

@@ -15,7 +15,7 @@ use Rattle.xl_core.specs.State.{CoreState, GoesOn, MayBe, drawn}
 use Rattle.xl_core.specs.Askers.{party_named, both_entered, asked_whats, asked_claims, is_client}
 use Rattle.xl_core.specs.Decide.{Answered, plea_of, waiter_of, decided, way, before_wish, wish_after, ask}
 use Rattle.xl_core.specs.Wishes.{wish_for}
-use Rattle.xl_cache.specs.Planning.{planned}
+use Rattle.xl_cache.specs.BreakPlans.{planned}
 use Rattle.xl_core.specs.Ways.{made_way}
 use Rattle.xl_core.specs.BreaksBegun.{is_recall, recalls, begun_told, told_before, breaks_in_order, breaks_begun}
 use Rattle.xl_core.specs.declared.judge.Plea.{Plea}

@@ -1,5 +1,5 @@
 -- Who is blocked stays so by what changes on other files; so who may have a turn waits on a file that is kept as unsettled.
-use Rattle.xl_cache.specs.declared.planner.Plan.{Plan}
+use Rattle.xl_cache.specs.declared.break_plan.BreakPlan.{BreakPlan}
 use Rattle.xl_core.proofs.BreaksInOrderLaws.{final_here, planned_here}
 use Rattle.xl_core.proofs.BreaksBegunLaws.{begun_elsewhere}
 use Rattle.xl_core.proofs.WayLaws.{NoWay, Begins, way_is, way_stopped, way_runs, way_quiet, way_waiters}
@@ -10,7 +10,7 @@ use Rattle.xl_core.specs.Limits.{wait_limits, first_passed}
 use Rattle.xl_core.specs.Ways.{made_way}
 use Rattle.xl_core.specs.Frames.{asks_to_hold}
 use Rattle.xl_core.specs.declared.judge.Plea.{Plea}
-use Rattle.xl_cache.specs.Planning.{is_final}
+use Rattle.xl_cache.specs.BreakPlans.{is_final}
 use Rattle.xl_core.specs.Blockers.{is_stopped, first_broken, all_run}
 use Rattle.std.proofs.Common.{◌≡◌, ℕ, ◌+◌, Bool, true, false, not, ◌&&◌, ◌==◌, inl, inr, List, [], ◌∷◌, ◌++◌, map, length, append-nil, Option, Some, None, IfSome, is_some, if◌then◌else◌, option_map, refl, sym, ap, subst, ◌∙◌}
 use Rattle.std.specs.List.{AllByRecursion, filter, list_any}
@@ -187,7 +187,7 @@ stopped_here : (c : Claim) (held : List Claim) → is_stopped (on_file c.file he
 stopped_here c held = any_of (is_final c (on_file c.file held)) (on_file c.file held) ∙ ap is_filled (final_here c held) ∙ sym (any_of (is_final c held) held)
 
 run_here : (c : Claim) (held : List Claim) → all_run (on_file c.file held) c ≡ all_run held c
-run_here c held = ap (λ (p : Plan). not (is_some (first_broken p.breaks))) (planned_here c held)
+run_here c held = ap (λ (p : BreakPlan). not (is_some (first_broken p.breaks))) (planned_here c held)
 
 blocked_here : (c : Claim) (held : List Claim) → is_blocked (on_file c.file held) c ≡ is_blocked held c
 blocked_here c held = any_within (blocks c) (λ d. d.file == c.file) held (λ d apart. blocks_elsewhere c d apart)

@@ -9,7 +9,7 @@ use Rattle.xl_base.specs.declared.name.Party.{Party}
 use Rattle.xl_base.specs.declared.name.Party.TheVariants as parties
 use Rattle.xl_base.specs.declared.name.Protocol.TheVariants.{Nlm, Nfs, Smb}
 use Rattle.xl_cache.specs.Parties.{is_kind_of, is_cache_of}
-use Rattle.xl_cache.specs.Planning.{is_in_the_way, blocking_shares, need_of, break_by, break_of, planned, is_slow}
+use Rattle.xl_cache.specs.BreakPlans.{is_in_the_way, blocking_shares, need_of, break_by, break_of, planned, is_slow}
 use Rattle.xl_cache.specs.Targets.{is_delegation, loses_handle, target_of, rest_lies_within}
 use Rattle.xl_cache.specs.declared.need.Need.{Need}
 use Rattle.xl_matrix.specs.Equal.{same_parties, same_claims}

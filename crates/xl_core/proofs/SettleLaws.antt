@@ -10,7 +10,7 @@ use Rattle.xl_matrix.specs.Equal.{same_parties}
 use Rattle.xl_matrix.specs.declared.claim.Claim.{Claim}
 use Rattle.xl_names.specs.declared.name.Name.{Name}
 use Rattle.xl_table.specs.Flat.{removed}
-use Rattle.xl_cache.specs.Planning.{is_running}
+use Rattle.xl_cache.specs.BreakPlans.{is_running}
 use Rattle.xl_base.specs.declared.name.Owner.{Owner}
 use Rattle.xl_table.specs.Held.{spans_of, is_cache, is_share}
 use Rattle.xl_table.specs.Relock.{shares_of}

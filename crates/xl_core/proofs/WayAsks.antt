@@ -25,7 +25,7 @@ use Rattle.xl_core.specs.Askers.{alone, asker, asking_party, asked_whats, asked_
 use Rattle.xl_core.specs.BreaksBegun.{with_break, once_broken, breaks_begun}
 use Rattle.xl_core.specs.Frames.{calls_in, drawn_by}
 use Rattle.xl_core.specs.Leases.{moment_after}
-use Rattle.xl_cache.specs.Planning.{is_running}
+use Rattle.xl_cache.specs.BreakPlans.{is_running}
 use Rattle.xl_core.specs.Blockers.{is_stopped, all_run, test_blockers}
 use Rattle.xl_core.specs.Causes.{IsWishDue, IsSameAsker, IsConflict, IsClaimDue, IsTestDue, IsUnlockDue, IsOwn, limits_of_grant}
 use Rattle.xl_core.specs.Decide.{Answered, test_answered, tested, plea_of, waiter_of, decided, way, before_wish, does_wish, wish_after, with_wish, ask}

@@ -1,7 +1,7 @@
 -- How the way is made: where no cache stands on the file none is.
 use Rattle.std.proofs.Common.{◌≡◌, ℕ, ◌+◌, ◌≤◌, Bool, true, false, ◌&&◌, ◌==◌, List, [], ◌∷◌, map, Some, refl, sym, ap, subst, ◌∙◌, arith}
 use Rattle.std.specs.List.{AllByRecursion, list_any}
-use Rattle.xl_cache.specs.Planning.{is_final, planned}
+use Rattle.xl_cache.specs.BreakPlans.{is_final, planned}
 use Rattle.xl_table.specs.Flat.{blocks, is_blocked}
 use Rattle.xl_core.specs.Blockers.{is_stopped}
 use Rattle.xl_core.proofs.BreaksInOrderLaws.{all_final}

@@ -3,8 +3,8 @@ use Rattle.std.proofs.Common.{◌≡◌, ℕ, ◌+◌, ◌≤◌, Bool, true, fa
 use Rattle.std.specs.List.{AllByRecursion}
 use Rattle.std.proofs.lemmas.Bool.{cases_Bool, both_ways}
 use Rattle.xl_base.specs.Lists.{IsIn, sorted}
-use Rattle.xl_cache.specs.Planning.{is_obstacle, is_running, planned, recalled_by}
-use Rattle.xl_cache.proofs.PlanLaws.{names_only}
+use Rattle.xl_cache.specs.BreakPlans.{is_obstacle, is_running, planned, recalled_by}
+use Rattle.xl_cache.proofs.BreakPlanLaws.{names_only}
 use Rattle.xl_matrix.specs.declared.claim.CacheKind.{CacheKind}
 use Rattle.xl_matrix.specs.declared.claim.Claim.{Claim}
 use Rattle.xl_matrix.specs.declared.claim.What.{What}

@@ -10,7 +10,7 @@ use Rattle.xl_base.proofs.Searches.{find_in, none_found, in_filter_map_from}
 use Rattle.xl_base.specs.declared.name.Owner.{Owner}
 use Rattle.xl_base.specs.declared.name.Party.{Party}
 use Rattle.xl_cache.specs.Parties.{is_kind_of, is_cache_of}
-use Rattle.xl_cache.specs.Planning.{is_running}
+use Rattle.xl_cache.specs.BreakPlans.{is_running}
 use Rattle.xl_cache.specs.Wishing.{wished_claim, may_stand, best_of, joined, is_its_cache, may_replace, best_join_of, raised_by, granted_beside, granted_kind}
 use Rattle.xl_cache.specs.declared.wish.Wish.{Wish}
 use Rattle.xl_cache.proofs.PartyLaws.{joined_kind}

@@ -6,7 +6,7 @@ use Rattle.xl_base.specs.declared.event.Moment.{Moment}
 use Rattle.xl_base.specs.declared.name.Party.{Party}
 use Rattle.xl_base.specs.declared.name.Party.TheVariants as parties
 use Rattle.xl_base.specs.declared.name.Protocol.TheVariants.{Nfs}
-use Rattle.xl_cache.specs.Planning.{is_running, blocking_shares, break_of, planned, is_slow}
+use Rattle.xl_cache.specs.BreakPlans.{is_running, blocking_shares, break_of, planned, is_slow}
 use Rattle.xl_matrix.specs.Equal.{same_parties}
 use Rattle.xl_matrix.specs.declared.claim.CacheKind.{CacheKind}
 use Rattle.xl_matrix.specs.declared.claim.Claim.{Claim}

@@ -2,7 +2,7 @@
 use Rattle.std.specs.Prelude.{◌≡◌, ℕ, ◌+◌, ◌<◌, ◌≤◌, Bool, true, false, ◌&&◌, if◌then◌else◌, ◌⊎◌, List, [], ◌∷◌, ◌++◌, length, Some, None, is_some}
 use Rattle.std.specs.List.{AllByRecursion, list_any, slice_get}
 use Rattle.xl_base.specs.Lists.{IsIn}
-use Rattle.xl_cache.specs.Planning.{is_obstacle}
+use Rattle.xl_cache.specs.BreakPlans.{is_obstacle}
 use Rattle.xl_base.specs.declared.name.Owner.{Owner}
 use Rattle.xl_matrix.specs.declared.claim.CacheKind.{CacheKind}
 use Rattle.xl_matrix.specs.declared.claim.Claim.{Claim}

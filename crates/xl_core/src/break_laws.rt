@@ -4,7 +4,7 @@ ghost use Rattle.std.specs.List.{filter, list_any};
 ghost use Rattle.xl_base.specs.Lists.{sorted};
 ghost use Rattle.xl_base.specs.declared.name.Owner.{Owner};
 ghost use Rattle.xl_base.specs.declared.name.Party.{Party};
-ghost use Rattle.xl_cache.specs.Planning.{is_final, planned};
+ghost use Rattle.xl_cache.specs.BreakPlans.{is_final, planned};
 ghost use Rattle.xl_matrix.specs.declared.claim.Claim.{Claim};
 ghost use Rattle.xl_table.specs.Elements.{elements_of};
 ghost use Rattle.xl_table.specs.Flat.{blocks};

@@ -2,7 +2,7 @@
 ghost use Rattle.std.specs.Prelude.{◌≡◌, ◌+◌, ◌<◌, ◌^◌, List, length, map, filter, IfOk};
 ghost use Rattle.xl_base.specs.Limits.{numbers_left};
 ghost use Rattle.xl_base.specs.Lists.{IsIn, sorted};
-ghost use Rattle.xl_cache.specs.Planning.{planned, is_final};
+ghost use Rattle.xl_cache.specs.BreakPlans.{planned, is_final};
 ghost use Rattle.xl_table.specs.Held.{IsSound};
 ghost use Rattle.xl_core.specs.BreaksBegun.{told_before, is_recalled, recalls, call_of, last_of, begun_told, breaks_begun};
 ghost use Rattle.xl_core.specs.BreaksInOrder.{row_of, begun_of, row_before, begun_in, all_begun, AreHeldThen};
@@ -14,7 +14,7 @@ use crate::lease::moment_after;
 use crate::parts::Parts;
 use std::alloc::{AllocError, Global};
 use xl_base::{Moment, Party, Protocol, Sequence};
-use xl_cache::{Plan, answer_needed, is_final_blocker, plan};
+use xl_cache::{BreakPlan, answer_needed, is_final_blocker, plan_breaks};
 use xl_matrix::{Break, CacheKind, Claim, What};
 use xl_names::{Names, party_text};
 use xl_table::Table;
@@ -22,11 +22,11 @@ use xl_table::Table;
 // ---- what is planned
 
 /// The breaks that an ask begins, and whether it waits for one that runs.
-pub(crate) fn plan_for(alloc: Global, parts: &Parts, ask: &Claim) -> Result<Plan, AllocError>
+pub(crate) fn plan_for(alloc: Global, parts: &Parts, ask: &Claim) -> Result<BreakPlan, AllocError>
     ensures { IfOk result (λ plan. planned ask.now parts.now.table ≡ plan) }
 {
     let held = parts.table.of_file(alloc, ask.file)?;
-    let plan = plan(alloc, ask, &held)?;
+    let plan = plan_breaks(alloc, ask, &held)?;
     Ok(plan)
 }
 
@@ -199,7 +199,7 @@ pub(crate) fn begin_breaks(
     alloc: Global,
     parts: &mut Parts,
     ask: &Claim,
-    plan: &Plan,
+    plan: &BreakPlan,
 ) -> Result<Sequence<Effect>, AllocError>
     requires plan { plan.now ≡ planned ask.now parts.old.table }
     requires good { IsGood (state_of parts.old) }

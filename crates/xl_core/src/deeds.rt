@@ -2,7 +2,7 @@
 //! do nothing; what they ensure holds of every state and every list of such calls.
 ghost use Rattle.std.specs.Prelude.{◌≡◌, ℕ, Bool, true, false, List, [], ◌∷◌, None};
 ghost use Rattle.xl_base.specs.Lists.{IsIn};
-ghost use Rattle.xl_cache.specs.Planning.{is_running};
+ghost use Rattle.xl_cache.specs.BreakPlans.{is_running};
 ghost use Rattle.xl_matrix.specs.declared.claim.Claim.{Claim};
 ghost use Rattle.xl_base.specs.Stable.{Stable};
 ghost use Rattle.xl_base.specs.declared.event.Moment.{Moment};

@@ -148,13 +148,7 @@ impl Core {
         ensures good { OnOk result (IsGood self.new) }
         ensures keeper { _keeper.new ≡ _keeper.old }
     {
-        let answered = calls::answer(
-            alloc,
-            &mut self.parts,
-            &mut self.unsettled,
-            left,
-            request,
-        )?;
+        let answered = calls::answer(alloc, &mut self.parts, &mut self.unsettled, left, request)?;
         Ok(answered)
     }
 

@@ -37,7 +37,7 @@ ghost use Rattle.xl_table.specs.Leaving.{goes};
 ghost use Rattle.xl_table.specs.declared.leaver.Leaver.TheVariants as Leaver;
 ghost use Rattle.xl_core.specs.declared.ask.Act.{Act};
 ghost use Rattle.xl_core.specs.declared.ask.Answer.{Answer};
-ghost use Rattle.xl_cache.specs.Planning.{is_running, is_obstacle, planned, is_slow};
+ghost use Rattle.xl_cache.specs.BreakPlans.{is_running, is_obstacle, planned, is_slow};
 ghost use Rattle.xl_core.specs.BreaksBegun.{with_break, once_broken, idle_caches};
 ghost use Rattle.xl_core.specs.BreakAnswers.{may_be_left, ack};
 ghost use Rattle.xl_core.specs.Numbers.{numbers_of};

@@ -4,9 +4,10 @@
 
 mod ask;
 mod askers;
-pub mod break_laws;
 mod blockers;
+pub mod break_laws;
 mod breaks;
+mod calls;
 mod decide;
 pub mod deeds;
 mod doors;
@@ -21,7 +22,6 @@ pub mod opens;
 mod parts;
 mod settling;
 mod ticking;
-mod calls;
 mod unsettled;
 mod ways;
 pub mod wish_laws;

@@ -11,11 +11,11 @@ ghost use Rattle.xl_core.specs.declared.unsettled.Unsettled.{Unsettled};
 ghost use Rattle.xl_core.specs.Whole.{state_of};
 
 use crate::ask::Effect;
+use crate::calls::leave;
 use crate::due::first_due;
 use crate::lease;
 use crate::lease::{drop_lease, later, moment_after, put_lease};
 use crate::parts::Parts;
-use crate::calls::leave;
 use crate::unsettled::{Unsettled, note};
 use std::alloc::{AllocError, Global};
 use xl_base::{Moment, Party, Protocol, Sequence};

@@ -5,7 +5,7 @@ ghost use Rattle.std.specs.List.{AllByRecursion, filter};
 ghost use Rattle.xl_base.specs.declared.name.Owner.{Owner};
 ghost use Rattle.xl_base.specs.declared.name.Party.{Party};
 ghost use Rattle.xl_cache.specs.Parties.{is_kind_of};
-ghost use Rattle.xl_cache.specs.Planning.{is_running};
+ghost use Rattle.xl_cache.specs.BreakPlans.{is_running};
 ghost use Rattle.xl_matrix.specs.declared.claim.Claim.{Claim};
 ghost use Rattle.xl_wait.specs.Waiting.{waits_on};
 ghost use Rattle.xl_wait.specs.declared.waiter.Rooms.{Rooms};

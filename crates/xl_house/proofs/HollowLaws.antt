@@ -20,7 +20,7 @@ use Rattle.xl_smb_state.specs.declared.row.Open.{Open}
 use Rattle.xl_smb_state.specs.declared.row.Request.{Request}
 use Rattle.xl_smb_state.specs.declared.row.Request.TheVariants as request
 use Rattle.xl_smb_state.specs.declared.row.Waiting.{Waiting}
-use Rattle.xl_cache.specs.Planning.{is_running}
+use Rattle.xl_cache.specs.BreakPlans.{is_running}
 use Rattle.xl_matrix.specs.declared.claim.Claim.{Claim}
 use Rattle.xl_matrix.specs.declared.claim.Extent.{Extent}
 use Rattle.xl_wait.specs.declared.waiter.Rooms.{Rooms}

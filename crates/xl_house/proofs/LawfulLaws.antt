@@ -9,7 +9,7 @@ use Rattle.xl_base.specs.declared.event.Event.TheVariants.{Open, Message, End, C
 use Rattle.xl_base.specs.declared.event.Moment.{Moment}
 use Rattle.xl_base.specs.declared.journal.Entry.{Entry}
 use Rattle.xl_base.specs.declared.journal.Head.{Head}
-use Rattle.xl_cache.specs.Planning.{is_running}
+use Rattle.xl_cache.specs.BreakPlans.{is_running}
 use Rattle.xl_matrix.proofs.SideLaws.{compat-sym}
 use Rattle.xl_matrix.specs.Matrix.{compat}
 use Rattle.xl_matrix.specs.declared.claim.Claim.{Claim}

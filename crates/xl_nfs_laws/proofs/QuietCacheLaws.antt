@@ -16,7 +16,7 @@ use Rattle.xl_base.specs.declared.name.Party.TheVariants as parties
 use Rattle.xl_base.specs.declared.name.Protocol.{Protocol}
 use Rattle.xl_base.specs.declared.name.Protocol.TheVariants.{Nfs}
 use Rattle.xl_cache.specs.Parties.{is_cache_of, is_kind_of, is_break_of}
-use Rattle.xl_cache.specs.Planning.{blocking_shares, break_by, break_of, is_in_the_way, is_slow, need_of}
+use Rattle.xl_cache.specs.BreakPlans.{blocking_shares, break_by, break_of, is_in_the_way, is_slow, need_of}
 use Rattle.xl_cache.specs.Targets.{is_delegation, needs_answer, target_of}
 use Rattle.xl_matrix.proofs.EqualLaws.{same_claims-true, same_parties-self, same_parties-true}
 use Rattle.xl_matrix.specs.Equal.{same_claims, same_parties}

@@ -7,7 +7,7 @@ use Rattle.xl_base.specs.declared.event.Out.{Out}
 use Rattle.xl_base.specs.declared.name.Party.{Party}
 use Rattle.xl_base.specs.declared.name.Party.TheVariants as parties
 use Rattle.xl_cache.specs.Levels.{state_of, level_of}
-use Rattle.xl_cache.specs.Planning.{needs_answer_by}
+use Rattle.xl_cache.specs.BreakPlans.{needs_answer_by}
 use Rattle.xl_matrix.specs.declared.claim.CacheKind.{CacheKind}
 use Rattle.xl_matrix.specs.declared.claim.Claim.{Claim}
 use Rattle.xl_matrix.specs.declared.claim.What.{What}

@@ -7,7 +7,7 @@ ghost use Rattle.xl_matrix.specs.Equal.{same_parties};
 ghost use Rattle.xl_programs.specs.Sent.{FitsFrame};
 ghost use Rattle.xl_smb.specs.Creates.{shown_create_reply};
 ghost use Rattle.xl_smb.specs.Leases.{are_contexts, lease_context};
-ghost use Rattle.xl_cache.specs.Planning.{needs_answer_by};
+ghost use Rattle.xl_cache.specs.BreakPlans.{needs_answer_by};
 ghost use Rattle.xl_core.specs.Ids.{id_of};
 ghost use Rattle.xl_smb_locks.specs.Levels.{party_for, lease_party, party_of, cache_of, oplock_of, kind_by, kind_found, level_held, flags_by, flags_found, lease_found, cache_told, caching, level_told, contexts_told, file_id, file_of, opened, notice_of, lease_notice_of, noticed_by, noticed_to, hearer_of, noticed_under, noticed};
 

@@ -1,6 +1,6 @@
 use Rattle.std.proofs.Common.{List, ap, ◌∙◌}
 use Rattle.std.specs.List.{filter}
-use Rattle.xl_cache.specs.Planning.{is_final}
+use Rattle.xl_cache.specs.BreakPlans.{is_final}
 use Rattle.xl_matrix.specs.declared.claim.Claim.{Claim}
 use Rattle.xl_core.proofs.BreaksInOrderLaws.{final_here}
 use Rattle.xl_core.proofs.breaks.final_blockers.Goals as goal

@@ -1,5 +1,5 @@
 use Rattle.std.proofs.Common.{List, ap, sym, ◌∙◌}
-use Rattle.xl_cache.specs.Planning.{planned}
+use Rattle.xl_cache.specs.BreakPlans.{planned}
 use Rattle.xl_matrix.specs.declared.claim.Claim.{Claim}
 use Rattle.xl_core.proofs.BreaksInOrderLaws.{planned_here}
 use Rattle.xl_core.proofs.breaks.plan_for.Goals as goal

@@ -2,10 +2,10 @@
 ghost use Rattle.std.specs.Prelude.{◌≡◌, ◌&&◌, Bool, true, false, None, IfOk, IfSome, IsSome, filter, find};
 ghost use Rattle.std.specs.List.{AllByRecursion, filter_map, list_any};
 ghost use Rattle.xl_matrix.specs.Blocks.{is_share, is_range, is_cache, blocks};
-ghost use Rattle.xl_cache.specs.Planning.{keeps_handle_by, is_running, is_oplock, keeps_open, is_covered, is_final, blocking_shares, covers, is_in_the_way, need_of, break_by, break_of, is_awaited, plan_with, planned, NamesAll, NamesOnly, MakesWay, IsFreeUnlessRecalled};
+ghost use Rattle.xl_cache.specs.BreakPlans.{keeps_handle_by, is_running, is_oplock, keeps_open, is_covered, is_final, blocking_shares, covers, is_in_the_way, need_of, break_by, break_of, is_awaited, plan_with, planned, NamesAll, NamesOnly, MakesWay, IsFreeUnlessRecalled};
 
+use crate::break_plan::BreakPlan;
 use crate::need::{Need, target};
-use crate::planner::Plan;
 use std::alloc::{AllocError, Global};
 use xl_base::{Party, Sequence};
 use xl_matrix::{
@@ -57,7 +57,7 @@ fn has_keeper(share: &Claim, held: &[Claim]) -> bool
 /// Whether a share that blocks the ask is covered: its party, another than the asker's, has a cache on the file that
 /// keeps the handle. The break of that cache may make way, as its party may close what it has open only for later use
 /// (MS-FSA 2.1.4.12). Other blockers but caches never make way. It takes no memory.
-#[tactic(auto, unfolding(crate::specs::Planning::is_covered))]
+#[tactic(auto, unfolding(crate::specs::BreakPlans::is_covered))]
 pub fn is_share_covered(ask: &Claim, held: &[Claim], share: &Claim) -> bool
     ensures { result ≡ is_covered ask.now held.now share.now }
 {
@@ -99,7 +99,7 @@ fn does_cover(ask: &Claim, shares: &[Claim], cache: &Claim) -> bool
 }
 
 /// Whether the claim is a cache that blocks the ask, or covers one of the shares that do.
-#[tactic(auto, unfolding(crate::specs::Planning::is_in_the_way))]
+#[tactic(auto, unfolding(crate::specs::BreakPlans::is_in_the_way))]
 fn stands_in_the_way(ask: &Claim, shares: &[Claim], claim: &Claim) -> bool
     ensures { result ≡ is_in_the_way ask.now shares.now claim.now }
 {
@@ -126,7 +126,7 @@ fn begin(claim: &Claim, need: Need, what: What) -> Option<(Claim, Option<CacheKi
 }
 
 /// The break of this claim that the ask begins, if it begins one.
-#[tactic(auto, unfolding(crate::specs::Planning::break_of))]
+#[tactic(auto, unfolding(crate::specs::BreakPlans::break_of))]
 fn break_for(ask: &Claim, shares: &[Claim], claim: &Claim) -> Option<(Claim, Option<CacheKind>)>
     ensures { result ≡ break_of ask.now shares.now claim.now }
 {
@@ -167,14 +167,14 @@ fn find_awaited(ask: &Claim, shares: &[Claim], held: &[Claim]) -> Option<Claim>
     None
 }
 
-#[tactic(auto, unfolding(crate::specs::Planning::planned))]
-fn make_plan(alloc: Global, ask: &Claim, held: &[Claim]) -> Result<Plan, AllocError>
+#[tactic(auto, unfolding(crate::specs::BreakPlans::planned))]
+fn make_plan(alloc: Global, ask: &Claim, held: &[Claim]) -> Result<BreakPlan, AllocError>
     ensures { IfOk result (λ p. p ≡ planned ask.now held.now) }
 {
     let shares = list_blocking_shares(alloc, ask, held)?;
     let breaks = list_breaks(alloc, ask, &shares, held)?;
     let awaited = find_awaited(ask, &shares, held);
-    Ok(Plan {
+    Ok(BreakPlan {
         breaks: Sequence::from_vec(breaks),
         awaited,
     })
@@ -184,7 +184,7 @@ fn make_plan(alloc: Global, ask: &Claim, held: &[Claim]) -> Result<Plan, AllocEr
 /// RFC 7530 10.4.4). In the way are the caches that block the ask, and those that cover a share that does. Each of which
 /// no break runs is broken, in the order in which they are held; of the others the ask waits for the first. An ask that
 /// a claim blocks for good (see `is_final_blocker`) breaks nothing, and its plan is not to be carried out.
-pub fn plan(alloc: Global, ask: &Claim, held: &[Claim]) -> Result<Plan, AllocError>
+pub fn plan_breaks(alloc: Global, ask: &Claim, held: &[Claim]) -> Result<BreakPlan, AllocError>
     ensures is { IfOk result (λ p. p ≡ planned ask.now held.now) }
     ensures all { IfOk result (λ p. NamesAll ask.now held.now p) }
     ensures only { IfOk result (λ p. NamesOnly ask.now held.now p) }

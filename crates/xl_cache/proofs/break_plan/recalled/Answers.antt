@@ -3,9 +3,9 @@ use Rattle.std.specs.Prelude.{IfSome}
 use Rattle.std.specs.List.{filter}
 use Rattle.xl_base.specs.Lists.{IsIn}
 use Rattle.xl_matrix.specs.declared.claim.Claim.{Claim}
-use Rattle.xl_cache.specs.Planning.{is_slow, broken_claim}
-use Rattle.xl_cache.proofs.PlanLaws.{awaited_is_recalled, slow_is_recalled, none_is_slow}
-use Rattle.xl_cache.proofs.planner.recalled.Goals as goal
+use Rattle.xl_cache.specs.BreakPlans.{is_slow, broken_claim}
+use Rattle.xl_cache.proofs.BreakPlanLaws.{awaited_is_recalled, slow_is_recalled, none_is_slow}
+use Rattle.xl_cache.proofs.break_plan.recalled.Goals as goal
 
 pub returns-clause-awaited : goal.returns-clause-awaited
 returns-clause-awaited c = subst (λ (o : Option Claim). IfSome c.args.plan.now.awaited (λ d. o ≡ Some d)) (sym c.find_recalled.ensures) (awaited_is_recalled c.args.plan.now)

@@ -13,7 +13,7 @@ use Rattle.xl_matrix.specs.Equal.{same_parties, same_claims}
 use Rattle.xl_matrix.specs.Matrix.{compat}
 use Rattle.xl_matrix.specs.Blocks.{is_share, is_range, is_cache, blocks}
 use Rattle.xl_cache.specs.declared.need.Need.{Need}
-use Rattle.xl_cache.specs.declared.planner.Plan.{Plan}
+use Rattle.xl_cache.specs.declared.break_plan.BreakPlan.{BreakPlan}
 use Rattle.xl_cache.specs.Targets.{target_of, needs_answer}
 
 -- ---- caches
@@ -82,11 +82,11 @@ break_of ask shares c = if is_in_the_way ask shares c then break_by c (need_of a
 abbrev pub is_awaited : Claim → List Claim → Claim → Bool
 is_awaited ask shares c = is_in_the_way ask shares c && is_running c.what
 
-abbrev pub plan_with : Claim → List Claim → List Claim → Plan
+abbrev pub plan_with : Claim → List Claim → List Claim → BreakPlan
 plan_with ask shares held = record { breaks = filter_map (break_of ask shares) held; awaited = find (is_awaited ask shares) held }
 
 -- the breaks that the ask begins, in the order of what is held, and the first cache there whose break it waits for
-unfoldable pub planned : Claim → List Claim → Plan
+unfoldable pub planned : Claim → List Claim → BreakPlan
 planned ask held = plan_with ask (blocking_shares ask held) held
 
 -- ---- what a plan comes to
@@ -109,7 +109,7 @@ recalled_from None None = None
 
 -- the cache whose answer the ask has to wait for: one whose break runs already, else the first that needs an answer;
 -- None where the ask need not wait
-unfoldable pub recalled_by : Plan → Option Claim
+unfoldable pub recalled_by : BreakPlan → Option Claim
 recalled_by p = recalled_from p.awaited (find is_slow p.breaks)
 
 -- the claim is a cache whose break ends it at once
@@ -117,7 +117,7 @@ abbrev pub is_ended : List (Claim × Option CacheKind) → Claim → Bool
 is_ended breaks c = list_any (λ begun. same_claims begun.0 c && not (is_slow begun)) breaks
 
 -- what stays of the held claims when the breaks begin: all but the caches that end at once
-unfoldable pub left_by : Plan → List Claim → List Claim
+unfoldable pub left_by : BreakPlan → List Claim → List Claim
 left_by p held = filter (λ c. not (is_ended p.breaks c)) held
 
 -- ---- what a plan says
@@ -127,12 +127,12 @@ abbrev pub is_obstacle : Claim → List Claim → Claim → Bool
 is_obstacle ask held c = is_in_the_way ask (blocking_shares ask held) c
 
 -- each such cache is in the plan: its break begins, or where one runs already the ask waits
-pub record NamesAll (ask : Claim) (held : List Claim) (p : Plan) : Type 0 where
+pub record NamesAll (ask : Claim) (held : List Claim) (p : BreakPlan) : Type 0 where
   pub begun : (c : Claim) → IsIn c held → is_obstacle ask held c ≡ true → is_running c.what ≡ false → IsIn c (map broken_claim p.breaks)
   pub awaited : (c : Claim) → IsIn c held → is_obstacle ask held c ≡ true → is_running c.what ≡ true → IsSome p.awaited
 
 -- a break that begins is that of such a cache, of which none runs; and what the ask waits for is such a cache
-pub record NamesOnly (ask : Claim) (held : List Claim) (p : Plan) : Type 0 where
+pub record NamesOnly (ask : Claim) (held : List Claim) (p : BreakPlan) : Type 0 where
   pub begun : (b : Claim × Option CacheKind) → IsIn b p.breaks → IsIn b.0 held × (is_obstacle ask held b.0 ≡ true) × (is_running b.0.what ≡ false)
   pub awaited : IfSome p.awaited (λ c. IsIn c held × (is_obstacle ask held c ≡ true) × (is_running c.what ≡ true))
   pub recalled : IfSome (recalled_by p) (λ c. IsIn c held × (is_obstacle ask held c ≡ true))
@@ -149,9 +149,9 @@ is_less _ left = false
 
 -- Each break of a plan leaves less than there was, and nothing that the ask can't stand beside. A cache wish is no such
 -- ask: it breaks nothing.
-abbrev pub MakesWay : Claim → Plan → Type 0
+abbrev pub MakesWay : Claim → BreakPlan → Type 0
 MakesWay ask p = is_cache ask.what ≡ false → (b : Claim × Option CacheKind) → IsIn b p.breaks → FitsWhenBroken ask b × (is_less b.0.what b.1 ≡ true)
 
 -- an ask that need not wait is blocked by nothing that is left, unless by what no break moves
-abbrev pub IsFreeUnlessRecalled : Claim → List Claim → Plan → Type 0
+abbrev pub IsFreeUnlessRecalled : Claim → List Claim → BreakPlan → Type 0
 IsFreeUnlessRecalled ask held p = recalled_by p ≡ None → list_any (is_final ask held) held ≡ false → list_any (blocks ask) (left_by p held) ≡ false

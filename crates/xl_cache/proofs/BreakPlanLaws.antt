@@ -13,9 +13,9 @@ use Rattle.xl_matrix.specs.declared.claim.Claim.{Claim}
 use Rattle.xl_matrix.specs.Equal.{same_parties}
 use Rattle.xl_matrix.specs.Blocks.{is_cache, blocks}
 use Rattle.xl_cache.specs.declared.need.Need.{Need}
-use Rattle.xl_cache.specs.declared.planner.Plan.{Plan}
+use Rattle.xl_cache.specs.declared.break_plan.BreakPlan.{BreakPlan}
 use Rattle.xl_cache.specs.Targets.{target_of}
-use Rattle.xl_cache.specs.Planning.{keeps_handle_by, is_running, keeps_open, blocking_shares, covers, is_in_the_way, need_of, break_by, break_of, is_awaited, is_slow, recalled_from, recalled_by, planned, broken_claim, is_obstacle, NamesAll, NamesOnly}
+use Rattle.xl_cache.specs.BreakPlans.{keeps_handle_by, is_running, keeps_open, blocking_shares, covers, is_in_the_way, need_of, break_by, break_of, is_awaited, is_slow, recalled_from, recalled_by, planned, broken_claim, is_obstacle, NamesAll, NamesOnly}
 
 -- what keeps a handle is a cache
 keeper_is_cache : (what : What) → keeps_handle_by what ≡ true → is_cache what ≡ true
@@ -99,14 +99,14 @@ names_only ask held = record { begun = begun_in ask held; awaited = awaited_in a
 
 -- ---- who is recalled
 
-pub awaited_is_recalled : (p : Plan) → IfSome p.awaited (λ c. recalled_by p ≡ Some c)
+pub awaited_is_recalled : (p : BreakPlan) → IfSome p.awaited (λ c. recalled_by p ≡ Some c)
 unfolding recalled_by
 awaited_is_recalled p = by p.awaited where
   by : (o : Option Claim) → IfSome o (λ c. recalled_from o (find is_slow p.breaks) ≡ Some c)
   by None = tt
   by (Some c) = refl
 
-pub slow_is_recalled : (p : Plan) → p.awaited ≡ None → IfSome (recalled_by p) (λ c. IsIn c (map broken_claim (filter is_slow p.breaks)))
+pub slow_is_recalled : (p : BreakPlan) → p.awaited ≡ None → IfSome (recalled_by p) (λ c. IsIn c (map broken_claim (filter is_slow p.breaks)))
 unfolding recalled_by
 slow_is_recalled p none = rw none (by (find is_slow p.breaks) (find_in is_slow p.breaks)) where
   by : (s : Option (Claim × Option CacheKind)) → IfSome s (λ b. IsIn b p.breaks × (is_slow b ≡ true)) → IfSome (recalled_from None s) (λ c. IsIn c (map broken_claim (filter is_slow p.breaks)))
@@ -118,9 +118,9 @@ recalled_none (Some c) slow h = absurd cc
 recalled_none None (Some b) h = absurd cc
 recalled_none None None h = (refl, refl)
 
-pub no_wait : (p : Plan) → recalled_by p ≡ None → (p.awaited ≡ None) × (find is_slow p.breaks ≡ None)
+pub no_wait : (p : BreakPlan) → recalled_by p ≡ None → (p.awaited ≡ None) × (find is_slow p.breaks ≡ None)
 unfolding recalled_by
 no_wait p h = recalled_none p.awaited (find is_slow p.breaks) h
 
-pub none_is_slow : (p : Plan) → recalled_by p ≡ None → (p.awaited ≡ None) × AllByRecursion (λ b. is_slow b ≡ false) p.breaks
+pub none_is_slow : (p : BreakPlan) → recalled_by p ≡ None → (p.awaited ≡ None) × AllByRecursion (λ b. is_slow b ≡ false) p.breaks
 none_is_slow p h = let both = no_wait p h in (both.0, none_found is_slow p.breaks both.1)

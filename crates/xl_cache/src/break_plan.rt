@@ -2,7 +2,7 @@
 ghost use Rattle.std.specs.Prelude.{◌≡◌, false, Some, None, IfSome, filter, find, map};
 ghost use Rattle.std.specs.List.{AllByRecursion};
 ghost use Rattle.xl_base.specs.Lists.{IsIn};
-ghost use Rattle.xl_cache.specs.Planning.{needs_answer_by, is_slow, broken_claim, recalled_from, recalled_by};
+ghost use Rattle.xl_cache.specs.BreakPlans.{needs_answer_by, is_slow, broken_claim, recalled_from, recalled_by};
 
 use crate::need::answer_needed;
 use xl_base::Sequence;
@@ -10,7 +10,7 @@ use xl_matrix::{CacheKind, Claim, What};
 
 /// The breaks that an ask begins, and whether it waits for one that runs.
 #[derive(Drop)]
-pub struct Plan {
+pub struct BreakPlan {
     /// The caches that the ask breaks, each with what the break leaves of it, None where it leaves nothing; in the order
     /// in which they are held.
     pub breaks: Sequence<(Claim, Option<CacheKind>)>,
@@ -44,8 +44,8 @@ fn first_slow(breaks: &[(Claim, Option<CacheKind>)]) -> Option<(Claim, Option<Ca
     None
 }
 
-#[tactic(auto, unfolding(crate::specs::Planning::recalled_by))]
-fn find_recalled(plan: &Plan) -> Option<Claim>
+#[tactic(auto, unfolding(crate::specs::BreakPlans::recalled_by))]
+fn find_recalled(plan: &BreakPlan) -> Option<Claim>
     ensures { result ≡ recalled_by plan.now }
 {
     match plan.awaited {
@@ -60,7 +60,7 @@ fn find_recalled(plan: &Plan) -> Option<Claim>
 /// The cache whose answer the ask has to wait for: the awaited one, else the first whose break begins now and needs an
 /// answer. None where the ask need not wait: every break of the plan then takes effect as it is told. It takes no
 /// memory.
-pub fn recalled(plan: &Plan) -> Option<Claim>
+pub fn recalled(plan: &BreakPlan) -> Option<Claim>
     ensures is { result ≡ recalled_by plan.now }
     ensures awaited { IfSome plan.now.awaited (λ c. result ≡ Some c) }
     ensures begun { plan.now.awaited ≡ None → IfSome result (λ c. IsIn c (map broken_claim (filter is_slow plan.now.breaks))) }
