@@ -23,7 +23,7 @@ use Rattle.xl_nfs_state.specs.State.{NfsLists, is_client, is_kept, is_owner, is_
 use Rattle.xl_nfs_state.specs.Verdict.{next_seqid}
 use Rattle.xl_nfs_state.specs.declared.client.ClientRow.{ClientRow}
 use Rattle.xl_nfs_state.specs.declared.kept.KeptRow.{KeptRow}
-use Rattle.xl_nfs_state.specs.declared.owner.Turn.{Turn}
+use Rattle.xl_nfs_state.specs.declared.owner.SeqidState.{SeqidState}
 use Rattle.xl_nfs_state.specs.declared.stateid.Holder.{Holder}
 use Rattle.xl_nfs_state.specs.declared.stateid.Holder.TheVariants as holders
 use Rattle.xl_nfs_state.specs.declared.stateid.Standing.{Standing}
@@ -36,7 +36,7 @@ use Rattle.xl_core.specs.Settle.{share_has}
 use Rattle.xl_core.specs.State.{CoreState}
 use Rattle.xl_core.specs.declared.ask.Answer.{Answer}
 use Rattle.xl_table.specs.Relock.{is_share_of}
-use Rattle.xl_nfs_opens.specs.Closing.{checked, close, close_by, close_done, confirm_by, confirm_done, done_lists, ends_locks, failed_lists, gives_up, lock_owner, locks_gone, locks_under, next_turn, open_confirm, opener_by, share_by_opener, share_of_open, standing_fault, state_told}
+use Rattle.xl_nfs_opens.specs.Closing.{checked, close, close_by, close_done, confirm_by, confirm_done, done_lists, ends_locks, failed_lists, gives_up, lock_owner, locks_gone, locks_under, next_seqids, open_confirm, opener_by, share_by_opener, share_of_open, standing_fault, state_told}
 use Rattle.xl_nfs_laws.specs.Delegated.{AreSet, AreTied, IsShut, is_open_still, written_by}
 use Rattle.xl_nfs_opens.specs.Downgrades.{downgrade_by, downgrade_done, downgrade_fault, open_downgrade, weakens}
 use Rattle.xl_nfs_opens.specs.Opens.{gives, repeated, rights_of, share_by, share_held, stood}
@@ -152,17 +152,17 @@ ends_quiet l r (q ∷ qs) = all_append IsQuietDeed (gives_up r.file (opener_by l
     by (Some o) = (refl, tt)
 
 -- what the owner's last request closed is no delegation
-pub passed_shut : (last : ℕ) (l : NfsLists) (r : StateidRow) (owner : ℕ) (turn : Turn) → IsPassed l r owner turn → AreSet last l → IsShut last l.stateids turn.closed
-passed_shut last l r owner turn passed set =
-    subst (λ (t : Turn). IsShut last l.stateids t.closed) (sym passed.turn_is) (owner_shut last l (is_owner owner) passed.row passed.owned set)
+pub passed_shut : (last : ℕ) (l : NfsLists) (r : StateidRow) (owner : ℕ) (seqids : SeqidState) → IsPassed l r owner seqids → AreSet last l → IsShut last l.stateids seqids.closed
+passed_shut last l r owner seqids passed set =
+    subst (λ (t : SeqidState). IsShut last l.stateids t.closed) (sym passed.seqids_is) (owner_shut last l (is_owner owner) passed.row passed.owned set)
 
-pub done_still : (last : ℕ) (s : CoreState) (l : NfsLists) (r : StateidRow) (owner : ℕ) (turn : Turn) (op seqid : ℕ) (confirmed : Bool) (closing : Option ℕ) (access deny : ℕ) (closed : Bool) → IsPassed l r owner turn
-    → IsShut last (stood r.number r access deny closed l).stateids closing → AreSet last l → AreStill last l (done_lists s l r owner turn op seqid confirmed closing access deny closed)
-done_still last s l r owner turn op seqid confirmed closing access deny closed passed shut set =
+pub done_still : (last : ℕ) (s : CoreState) (l : NfsLists) (r : StateidRow) (owner : ℕ) (seqids : SeqidState) (op seqid : ℕ) (confirmed : Bool) (closing : Option ℕ) (access deny : ℕ) (closed : Bool) → IsPassed l r owner seqids
+    → IsShut last (stood r.number r access deny closed l).stateids closing → AreSet last l → AreStill last l (done_lists s l r owner seqids op seqid confirmed closing access deny closed)
+done_still last s l r owner seqids op seqid confirmed closing access deny closed passed shut set =
     let a : NfsLists = stood r.number r access deny closed l in
     let one = stood_still last r.number r access deny closed l set in
-    let was : IsShut last a.stateids turn.closed = subst (λ (t : Turn). IsShut last a.stateids t.closed) (sym passed.turn_is) (owner_shut last a (is_owner owner) passed.row passed.owned one.set) in
-    still_then last last l a (done_lists s l r owner turn op seqid confirmed closing access deny closed) one (counted_still last owner turn.closed (next_turn op seqid confirmed closing) (spelled op (state_told s r)) a was shut one.set)
+    let was : IsShut last a.stateids seqids.closed = subst (λ (t : SeqidState). IsShut last a.stateids t.closed) (sym passed.seqids_is) (owner_shut last a (is_owner owner) passed.row passed.owned one.set) in
+    still_then last last l a (done_lists s l r owner seqids op seqid confirmed closing access deny closed) one (counted_still last owner seqids.closed (next_seqids op seqid confirmed closing) (spelled op (state_told s r)) a was shut one.set)
 
 -- an open that is closed is no delegation
 not_written : (h : Holder) (owner : ℕ) → owned_by h ≡ Some owner → written_by h ≡ None
@@ -170,8 +170,8 @@ not_written (holders.Open by) owner e = refl
 not_written (holders.Lock by under opener) owner e = refl
 not_written (holders.Delegation write) owner e = absurd (true≢false (ap is_some (sym e)))
 
-closed_shut : (last : ℕ) (l : NfsLists) (r : StateidRow) (owner : ℕ) (turn : Turn) (access deny : ℕ) → IsPassed l r owner turn → IsOrderly l → AreSet last l → IsShut last (stood r.number r access deny true l).stateids (Some r.number)
-closed_shut last l r owner turn access deny passed orderly set =
+closed_shut : (last : ℕ) (l : NfsLists) (r : StateidRow) (owner : ℕ) (seqids : SeqidState) (access deny : ℕ) → IsPassed l r owner seqids → IsOrderly l → AreSet last l → IsShut last (stood r.number r access deny true l).stateids (Some r.number)
+closed_shut last l r owner seqids access deny passed orderly set =
     let to : Standing = record { seqid = next_seqid r.standing.seqid; access = access; deny = deny; closed = true } in
     record {
       given = all_in (λ (q : StateidRow). q.number ≤ last) r l.stateids set.given (found_in (is_stateid r.number) l.stateids r passed.found).0;
@@ -188,15 +188,15 @@ repeat_calm last s l current (Some k) set = (tt, does_still last [] l l (still_s
 
 -- ---- OPEN_CONFIRM, OPEN_DOWNGRADE, CLOSE
 
-confirm_done_calm : (last : ℕ) (s : CoreState) (l : NfsLists) (current : Option ℕ) (a : OpenConfirmArgs) (r : StateidRow) (owner : ℕ) (turn : Turn) (x : Option NfsStatus) → IsPassed l r owner turn → AreSet last l → IsCalm last l (confirm_done s l current a r owner turn x)
-confirm_done_calm last s l current a r owner turn (Some status) passed set = (tt, does_still last [] l (failed_lists l owner turn 20 a.seqid status) (failed_still last l owner turn 20 a.seqid status (passed_shut last l r owner turn passed set) set))
-confirm_done_calm last s l current a r owner turn None passed set =
-    (tt, does_still last [] l (done_lists s l r owner turn 20 a.seqid true None r.standing.access r.standing.deny false) (done_still last s l r owner turn 20 a.seqid true None r.standing.access r.standing.deny false passed (none_shut last _ None refl) set))
+confirm_done_calm : (last : ℕ) (s : CoreState) (l : NfsLists) (current : Option ℕ) (a : OpenConfirmArgs) (r : StateidRow) (owner : ℕ) (seqids : SeqidState) (x : Option NfsStatus) → IsPassed l r owner seqids → AreSet last l → IsCalm last l (confirm_done s l current a r owner seqids x)
+confirm_done_calm last s l current a r owner seqids (Some status) passed set = (tt, does_still last [] l (failed_lists l owner seqids 20 a.seqid status) (failed_still last l owner seqids 20 a.seqid status (passed_shut last l r owner seqids passed set) set))
+confirm_done_calm last s l current a r owner seqids None passed set =
+    (tt, does_still last [] l (done_lists s l r owner seqids 20 a.seqid true None r.standing.access r.standing.deny false) (done_still last s l r owner seqids 20 a.seqid true None r.standing.access r.standing.deny false passed (none_shut last _ None refl) set))
 
 confirm_by_calm : (last : ℕ) (s : CoreState) (l : NfsLists) (current : Option ℕ) (a : OpenConfirmArgs) (c : Checked) → IfPassed l c → AreSet last l → IsCalm last l (confirm_by s l current a c)
 confirm_by_calm last s l current a (Refused status) passed set = (tt, does_still last [] l l (still_self last l set))
 confirm_by_calm last s l current a (Repeated owner) passed set = repeat_calm last s l current (find (is_kept owner) l.kept) set
-confirm_by_calm last s l current a (Passed r owner turn) passed set = confirm_done_calm last s l current a r owner turn (standing_fault r turn a.stateid.seqid false) passed set
+confirm_by_calm last s l current a (Passed r owner seqids) passed set = confirm_done_calm last s l current a r owner seqids (standing_fault r seqids a.stateid.seqid false) passed set
 
 confirm_calm : (last : ℕ) (s : CoreState) (l : NfsLists) (current : Option ℕ) (a : OpenConfirmArgs) → AreSet last l → IsCalm last l (open_confirm s l current a)
 unfolding open_confirm
@@ -204,18 +204,18 @@ confirm_calm last s l current a set =
     let m : NfsLists = renewed_for s l (state_client s l a.stateid) in
     renewing_calm last s l (state_client s l a.stateid) (λ t k. confirm_by t k current a (checked t k current 20 a.seqid a.stateid)) set (λ t le after. confirm_by_calm t.counter t m current a (checked t m current 20 a.seqid a.stateid) (checked_passed t m current 20 a.seqid a.stateid) after)
 
-downgrade_done_calm : (last : ℕ) (s : CoreState) (l : NfsLists) (current : Option ℕ) (a : OpenDowngradeArgs) (r : StateidRow) (owner : ℕ) (turn : Turn) (x : Option NfsStatus) → IsPassed l r owner turn → AreSet last l → IsCalm last l (downgrade_done s l current a r owner turn x)
-downgrade_done_calm last s l current a r owner turn (Some status) passed set = (tt, does_still last [] l (failed_lists l owner turn 21 a.seqid status) (failed_still last l owner turn 21 a.seqid status (passed_shut last l r owner turn passed set) set))
-downgrade_done_calm last s l current a r owner turn None passed set = (
+downgrade_done_calm : (last : ℕ) (s : CoreState) (l : NfsLists) (current : Option ℕ) (a : OpenDowngradeArgs) (r : StateidRow) (owner : ℕ) (seqids : SeqidState) (x : Option NfsStatus) → IsPassed l r owner seqids → AreSet last l → IsCalm last l (downgrade_done s l current a r owner seqids x)
+downgrade_done_calm last s l current a r owner seqids (Some status) passed set = (tt, does_still last [] l (failed_lists l owner seqids 21 a.seqid status) (failed_still last l owner seqids 21 a.seqid status (passed_shut last l r owner seqids passed set) set))
+downgrade_done_calm last s l current a r owner seqids None passed set = (
   weakens_quiet (share_of_open s l r owner) (rights_of a.access) (rights_of a.deny),
-  does_still last (weakens (share_of_open s l r owner) (rights_of a.access) (rights_of a.deny)) l (done_lists s l r owner turn 21 a.seqid turn.confirmed None a.access a.deny false)
-      (done_still last s l r owner turn 21 a.seqid turn.confirmed None a.access a.deny false passed (none_shut last _ None refl) set),
+  does_still last (weakens (share_of_open s l r owner) (rights_of a.access) (rights_of a.deny)) l (done_lists s l r owner seqids 21 a.seqid seqids.confirmed None a.access a.deny false)
+      (done_still last s l r owner seqids 21 a.seqid seqids.confirmed None a.access a.deny false passed (none_shut last _ None refl) set),
 )
 
 downgrade_by_calm : (last : ℕ) (s : CoreState) (l : NfsLists) (current : Option ℕ) (a : OpenDowngradeArgs) (c : Checked) → IfPassed l c → AreSet last l → IsCalm last l (downgrade_by s l current a c)
 downgrade_by_calm last s l current a (Refused status) passed set = (tt, does_still last [] l l (still_self last l set))
 downgrade_by_calm last s l current a (Repeated owner) passed set = repeat_calm last s l current (find (is_kept owner) l.kept) set
-downgrade_by_calm last s l current a (Passed r owner turn) passed set = downgrade_done_calm last s l current a r owner turn (downgrade_fault r turn a) passed set
+downgrade_by_calm last s l current a (Passed r owner seqids) passed set = downgrade_done_calm last s l current a r owner seqids (downgrade_fault r seqids a) passed set
 
 downgrade_calm : (last : ℕ) (s : CoreState) (l : NfsLists) (current : Option ℕ) (a : OpenDowngradeArgs) → AreSet last l → IsCalm last l (open_downgrade s l current a)
 unfolding open_downgrade
@@ -223,22 +223,22 @@ downgrade_calm last s l current a set =
     let m : NfsLists = renewed_for s l (state_client s l a.stateid) in
     renewing_calm last s l (state_client s l a.stateid) (λ t k. downgrade_by t k current a (checked t k current 21 a.seqid a.stateid)) set (λ t le after. downgrade_by_calm t.counter t m current a (checked t m current 21 a.seqid a.stateid) (checked_passed t m current 21 a.seqid a.stateid) after)
 
-close_done_calm : (last : ℕ) (s : CoreState) (l : NfsLists) (current : Option ℕ) (a : CloseArgs) (r : StateidRow) (owner : ℕ) (turn : Turn) (x : Option NfsStatus) → IsPassed l r owner turn → IsOrderly l → AreSet last l → IsCalm last l (close_done s l current a r owner turn x)
-close_done_calm last s l current a r owner turn (Some status) passed orderly set = (tt, does_still last [] l (failed_lists l owner turn 4 a.seqid status) (failed_still last l owner turn 4 a.seqid status (passed_shut last l r owner turn passed set) set))
-close_done_calm last s l current a r owner turn None passed orderly set = (
+close_done_calm : (last : ℕ) (s : CoreState) (l : NfsLists) (current : Option ℕ) (a : CloseArgs) (r : StateidRow) (owner : ℕ) (seqids : SeqidState) (x : Option NfsStatus) → IsPassed l r owner seqids → IsOrderly l → AreSet last l → IsCalm last l (close_done s l current a r owner seqids x)
+close_done_calm last s l current a r owner seqids (Some status) passed orderly set = (tt, does_still last [] l (failed_lists l owner seqids 4 a.seqid status) (failed_still last l owner seqids 4 a.seqid status (passed_shut last l r owner seqids passed set) set))
+close_done_calm last s l current a r owner seqids None passed orderly set = (
   ends_quiet l r (locks_under l r.number),
   still_self last l set,
   λ t le.
       (let later = later_set last t.counter l le set in
-      let after : NfsLists = done_lists t l r owner turn 4 a.seqid turn.confirmed (Some r.number) r.standing.access r.standing.deny true in
-      let one = done_still t.counter t l r owner turn 4 a.seqid turn.confirmed (Some r.number) r.standing.access r.standing.deny true passed (closed_shut t.counter l r owner turn r.standing.access r.standing.deny passed orderly later) later in
+      let after : NfsLists = done_lists t l r owner seqids 4 a.seqid seqids.confirmed (Some r.number) r.standing.access r.standing.deny true in
+      let one = done_still t.counter t l r owner seqids 4 a.seqid seqids.confirmed (Some r.number) r.standing.access r.standing.deny true passed (closed_shut t.counter l r owner seqids r.standing.access r.standing.deny passed orderly later) later in
       (open_quiet t l r owner, does_still t.counter (gives (share_of_open t l r owner)) l (locks_gone r.number after) (still_then t.counter t.counter l after (locks_gone r.number after) one (locks_still t.counter r.number after one.set)))),
 )
 
 close_by_calm : (last : ℕ) (s : CoreState) (l : NfsLists) (current : Option ℕ) (a : CloseArgs) (c : Checked) → IfPassed l c → IsOrderly l → AreSet last l → IsCalm last l (close_by s l current a c)
 close_by_calm last s l current a (Refused status) passed orderly set = (tt, does_still last [] l l (still_self last l set))
 close_by_calm last s l current a (Repeated owner) passed orderly set = repeat_calm last s l current (find (is_kept owner) l.kept) set
-close_by_calm last s l current a (Passed r owner turn) passed orderly set = close_done_calm last s l current a r owner turn (standing_fault r turn a.stateid.seqid true) passed orderly set
+close_by_calm last s l current a (Passed r owner seqids) passed orderly set = close_done_calm last s l current a r owner seqids (standing_fault r seqids a.stateid.seqid true) passed orderly set
 
 close_calm : (last : ℕ) (s : CoreState) (l : NfsLists) (current : Option ℕ) (a : CloseArgs) → IsOrderly l → AreSet last l → IsCalm last l (close s l current a)
 unfolding close

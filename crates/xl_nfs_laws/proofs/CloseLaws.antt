@@ -18,7 +18,7 @@ use Rattle.xl_names.specs.Names.{number_of}
 use Rattle.xl_names.specs.declared.name.Name.TheVariants.{NfsShare}
 use Rattle.xl_nfs.specs.declared.opens.CloseArgs.{CloseArgs}
 use Rattle.xl_nfs_state.specs.State.{NfsLists, is_stateid}
-use Rattle.xl_nfs_state.specs.declared.owner.Turn.{Turn}
+use Rattle.xl_nfs_state.specs.declared.owner.SeqidState.{SeqidState}
 use Rattle.xl_nfs_state.specs.declared.stateid.Holder.TheVariants as holders
 use Rattle.xl_nfs_state.specs.declared.stateid.StateidRow.{StateidRow}
 use Rattle.xl_table.specs.Held.{is_of}
@@ -73,9 +73,9 @@ unfolding give_back
 same_names n s None = refl
 same_names n s (Some claim) = refl
 
-pub close_gives : (n : ℕ) (s : CoreState) (l : NfsLists) (current : Option ℕ) (a : CloseArgs) (r : StateidRow) (owner number : ℕ) (turn : Turn) (o : Opener) → IsGood s → opener_by l r.client owner ≡ Some o → number_of (NfsShare o.id o.owner) (carried n s l current (close_done s l current a r owner turn None)).4.names ≡ Some number → shares_of r.file (owners.Name Nfs number) (carried n s l current (close_done s l current a r owner turn None)).4.claims ≡ []
+pub close_gives : (n : ℕ) (s : CoreState) (l : NfsLists) (current : Option ℕ) (a : CloseArgs) (r : StateidRow) (owner number : ℕ) (seqids : SeqidState) (o : Opener) → IsGood s → opener_by l r.client owner ≡ Some o → number_of (NfsShare o.id o.owner) (carried n s l current (close_done s l current a r owner seqids None)).4.names ≡ Some number → shares_of r.file (owners.Name Nfs number) (carried n s l current (close_done s l current a r owner seqids None)).4.claims ≡ []
 unfolding share_held
-close_gives n s l current a r owner number turn o good is named =
+close_gives n s l current a r owner number seqids o good is named =
     let ds = ends_locks l r (locks_under l r.number) in
     let t = all_done n s ds in
     let well : IsGood t = deeds_good n s ds good (ends_own n s l (λ _. Unit {0}) r (locks_under l r.number) (λ c e. tt)).0 in
@@ -86,9 +86,9 @@ close_gives n s l current a r owner number turn o good is named =
 
 -- ---- the open
 
-pub close_is_marked : (n : ℕ) (s : CoreState) (l : NfsLists) (current : Option ℕ) (a : CloseArgs) (r : StateidRow) (owner by : ℕ) (turn : Turn) → IsOrderly l → checked s l current 4 a.seqid a.stateid ≡ Passed r owner turn → r.holder ≡ holders.Open by → option_map (λ (x : StateidRow). x.standing.closed) (find (is_stateid r.number) (carried n s l current (close_done s l current a r owner turn None)).3.stateids) ≡ Some true
-close_is_marked n s l current a r owner by turn orderly e holds =
-    let passed : IsPassed l r owner turn = subst (λ (c : Checked). IfPassed l c) e (checked_passed s l current 4 a.seqid a.stateid) in
+pub close_is_marked : (n : ℕ) (s : CoreState) (l : NfsLists) (current : Option ℕ) (a : CloseArgs) (r : StateidRow) (owner by : ℕ) (seqids : SeqidState) → IsOrderly l → checked s l current 4 a.seqid a.stateid ≡ Passed r owner seqids → r.holder ≡ holders.Open by → option_map (λ (x : StateidRow). x.standing.closed) (find (is_stateid r.number) (carried n s l current (close_done s l current a r owner seqids None)).3.stateids) ≡ Some true
+close_is_marked n s l current a r owner by seqids orderly e holds =
+    let passed : IsPassed l r owner seqids = subst (λ (c : Checked). IfPassed l c) e (checked_passed s l current 4 a.seqid a.stateid) in
     let there : IsIn r l.stateids × (is_stateid r.number r ≡ true) = subst (λ (o : Option StateidRow). IfSome o (λ y. IsIn y l.stateids × (is_stateid r.number y ≡ true))) passed.found (find_in (is_stateid r.number) l.stateids) in
     let held : IsHeldBy l.owners r r.holder = all_in (λ z. IsHeldBy l.owners z z.holder) r l.stateids orderly.held there.0 in
-    close_marks n s l current a r owner by turn passed.found holds (λ d. true≢false (sym (closed_by l.owners r r.holder owner passed.row passed.holder passed.owned held ∙ ap (λ (c : Option ℕ). closes c r.number) (sym (ap (λ (t : Turn). t.closed) passed.turn_is) ∙ d) ∙ eq-eqb r.number r.number refl) ∙ passed.live))
+    close_marks n s l current a r owner by seqids passed.found holds (λ d. true≢false (sym (closed_by l.owners r r.holder owner passed.row passed.holder passed.owned held ∙ ap (λ (c : Option ℕ). closes c r.number) (sym (ap (λ (t : SeqidState). t.closed) passed.seqids_is) ∙ d) ∙ eq-eqb r.number r.number refl) ∙ passed.live))

@@ -19,7 +19,7 @@ use Rattle.xl_nfs.specs.declared.opens.OpenDowngradeArgs.{OpenDowngradeArgs}
 use Rattle.xl_nfs_state.specs.Rows.{with_standing}
 use Rattle.xl_nfs_state.specs.State.{NfsLists, is_stateid}
 use Rattle.xl_nfs_state.specs.Verdict.{next_seqid}
-use Rattle.xl_nfs_state.specs.declared.owner.Turn.{Turn}
+use Rattle.xl_nfs_state.specs.declared.owner.SeqidState.{SeqidState}
 use Rattle.xl_nfs_state.specs.declared.stateid.Holder.TheVariants as holders
 use Rattle.xl_nfs_state.specs.declared.stateid.Standing.{Standing}
 use Rattle.xl_nfs_state.specs.declared.stateid.StateidRow.{StateidRow}
@@ -30,22 +30,22 @@ use Rattle.xl_core.specs.Deeds.{all_done}
 use Rattle.xl_core.specs.Good.{IsGood}
 use Rattle.xl_core.specs.Settle.{share_has}
 use Rattle.xl_core.specs.State.{CoreState}
-use Rattle.xl_nfs_opens.specs.Closing.{next_turn, opener_by, share_by_opener, share_of_open, state_told}
+use Rattle.xl_nfs_opens.specs.Closing.{next_seqids, opener_by, share_by_opener, share_of_open, state_told}
 use Rattle.xl_nfs_opens.specs.Downgrades.{downgrade_done, weakens}
 use Rattle.xl_nfs_opens.specs.Opens.{rights_of, share_by, share_held, stood}
 use Rattle.xl_nfs_opens.specs.Plans.{carried}
 use Rattle.xl_nfs_opens.specs.Results.{spelled}
-use Rattle.xl_nfs_opens.specs.Seqids.{closed_gone, counted, turned}
+use Rattle.xl_nfs_opens.specs.Seqids.{closed_gone, counted, seqid_set}
 use Rattle.xl_nfs_opens.specs.declared.opener.Opener.{Opener}
 use Rattle.xl_nfs_laws.proofs.EnteredOpenLaws.{changed_found, kept_stateids, still_there}
 
-pub downgrade_row : (n : ℕ) (s : CoreState) (l : NfsLists) (current : Option ℕ) (a : OpenDowngradeArgs) (r : StateidRow) (owner by : ℕ) (turn : Turn) → find (is_stateid r.number) l.stateids ≡ Some r → r.holder ≡ holders.Open by → (turn.closed ≡ Some r.number → ⊥) → find (is_stateid r.number) (carried n s l current (downgrade_done s l current a r owner turn None)).3.stateids ≡ Some (with_standing (record { seqid = next_seqid r.standing.seqid; access = a.access; deny = a.deny; closed = false }) r)
+pub downgrade_row : (n : ℕ) (s : CoreState) (l : NfsLists) (current : Option ℕ) (a : OpenDowngradeArgs) (r : StateidRow) (owner by : ℕ) (seqids : SeqidState) → find (is_stateid r.number) l.stateids ≡ Some r → r.holder ≡ holders.Open by → (seqids.closed ≡ Some r.number → ⊥) → find (is_stateid r.number) (carried n s l current (downgrade_done s l current a r owner seqids None)).3.stateids ≡ Some (with_standing (record { seqid = next_seqid r.standing.seqid; access = a.access; deny = a.deny; closed = false }) r)
 unfolding counted
-downgrade_row n s l current a r owner by turn found holds other =
+downgrade_row n s l current a r owner by seqids found holds other =
     let to : Standing = record { seqid = next_seqid r.standing.seqid; access = a.access; deny = a.deny; closed = false } in
-    let after : NfsLists = turned owner (next_turn 21 a.seqid turn.confirmed None) (stood r.number r a.access a.deny false l) in
-    ap (λ (ss : List StateidRow). find (is_stateid r.number) ss) (kept_stateids owner (spelled 21 (state_told s r)) (closed_gone turn.closed after))
-    ∙ still_there turn.closed after (with_standing to r) by (changed_found r.number to l.stateids r found) holds other
+    let after : NfsLists = seqid_set owner (next_seqids 21 a.seqid seqids.confirmed None) (stood r.number r a.access a.deny false l) in
+    ap (λ (ss : List StateidRow). find (is_stateid r.number) ss) (kept_stateids owner (spelled 21 (state_told s r)) (closed_gone seqids.closed after))
+    ∙ still_there seqids.closed after (with_standing to r) by (changed_found r.number to l.stateids r found) holds other
 
 -- where it has these rights it is left with just these
 weakened_to : (n : ℕ) (s : CoreState) (claim : Claim) (access deny : Rwd) → IsGood s → IsIn claim s.claims → share_has claim.what access deny ≡ true → shares_of claim.file claim.owner (all_done n s (weakens (Some claim) access deny)).claims ≡ (access, deny) ∷ []
@@ -54,9 +54,9 @@ weakened_to n s claim access deny good here has = rw has (weakened_share s claim
 found_claim : (s : CoreState) (file : ℕ) (owner : Owner) (claim : Claim) → find (is_share_of file owner) s.claims ≡ Some claim → IsIn claim s.claims × (is_share_of file owner claim ≡ true)
 found_claim s file owner claim found = subst (λ (o : Option Claim). IfSome o (λ y. IsIn y s.claims × (is_share_of file owner y ≡ true))) found (find_in (is_share_of file owner) s.claims)
 
-pub downgrade_share : (n : ℕ) (s : CoreState) (l : NfsLists) (current : Option ℕ) (a : OpenDowngradeArgs) (r : StateidRow) (owner number : ℕ) (turn : Turn) (o : Opener) (claim : Claim) → IsGood s → opener_by l r.client owner ≡ Some o → number_of (NfsShare o.id o.owner) s.names ≡ Some number → share_held s o r.file ≡ Some claim → share_has claim.what (rights_of a.access) (rights_of a.deny) ≡ true → shares_of r.file (owners.Name Nfs number) (carried n s l current (downgrade_done s l current a r owner turn None)).4.claims ≡ (rights_of a.access, rights_of a.deny) ∷ []
+pub downgrade_share : (n : ℕ) (s : CoreState) (l : NfsLists) (current : Option ℕ) (a : OpenDowngradeArgs) (r : StateidRow) (owner number : ℕ) (seqids : SeqidState) (o : Opener) (claim : Claim) → IsGood s → opener_by l r.client owner ≡ Some o → number_of (NfsShare o.id o.owner) s.names ≡ Some number → share_held s o r.file ≡ Some claim → share_has claim.what (rights_of a.access) (rights_of a.deny) ≡ true → shares_of r.file (owners.Name Nfs number) (carried n s l current (downgrade_done s l current a r owner seqids None)).4.claims ≡ (rights_of a.access, rights_of a.deny) ∷ []
 unfolding share_held
-downgrade_share n s l current a r owner number turn o claim good is named held has =
+downgrade_share n s l current a r owner number seqids o claim good is named held has =
     let access : Rwd = rights_of a.access in
     let deny : Rwd = rights_of a.deny in
     let mine : Owner = owners.Name Nfs number in

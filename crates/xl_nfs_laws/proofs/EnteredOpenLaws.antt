@@ -14,7 +14,7 @@ use Rattle.xl_nfs_state.specs.Rows.{with_standing}
 use Rattle.xl_nfs_state.specs.State.{NfsLists, next_owner, without, is_kept, is_owner, is_stateid, is_under, is_whose}
 use Rattle.xl_nfs_state.specs.Verdict.{next_seqid}
 use Rattle.xl_nfs_state.specs.declared.owner.OwnerRow.{OwnerRow}
-use Rattle.xl_nfs_state.specs.declared.owner.Turn.{Turn}
+use Rattle.xl_nfs_state.specs.declared.owner.SeqidState.{SeqidState}
 use Rattle.xl_nfs_state.specs.declared.stateid.Holder.{Holder}
 use Rattle.xl_nfs_state.specs.declared.stateid.Holder.TheVariants as holders
 use Rattle.xl_nfs_state.specs.declared.stateid.Standing.{Standing}
@@ -22,12 +22,12 @@ use Rattle.xl_nfs_state.specs.declared.stateid.StateidRow.{StateidRow}
 use Rattle.xl_nfs_state.specs.declared.stateid.Whose.TheVariants as whose
 use Rattle.xl_core.specs.Deeds.{all_done}
 use Rattle.xl_core.specs.State.{CoreState, drawn}
-use Rattle.xl_nfs_opens.specs.Closing.{ends_locks, locks_under, next_turn, state_told, close_done}
+use Rattle.xl_nfs_opens.specs.Closing.{ends_locks, locks_under, next_seqids, state_told, close_done}
 use Rattle.xl_nfs_laws.specs.OpenLaws.{can_come}
-use Rattle.xl_nfs_opens.specs.Opens.{can_stand, delegated, delegated_in, delegation_row, either_bits, entered, open_row, open_turn, granted_more, granted_new, judged_by, judged, open_judged, stood}
+use Rattle.xl_nfs_opens.specs.Opens.{can_stand, delegated, delegated_in, delegation_row, either_bits, entered, open_row, open_seqids, granted_more, granted_new, judged_by, judged, open_judged, stood}
 use Rattle.xl_nfs_opens.specs.Plans.{carried}
 use Rattle.xl_nfs_opens.specs.Results.{spelled}
-use Rattle.xl_nfs_opens.specs.Seqids.{is_opener, closed_gone, turned, kept_for, counted, opener_number, seated, seated_by, seated_new}
+use Rattle.xl_nfs_opens.specs.Seqids.{is_opener, closed_gone, seqid_set, kept_for, counted, opener_number, seated, seated_by, seated_new}
 use Rattle.xl_nfs_opens.specs.declared.opener.Judged.{Judged}
 use Rattle.xl_nfs_opens.specs.declared.opener.Judged.TheVariants as judgements
 use Rattle.xl_nfs_opens.specs.declared.opener.Opener.{Opener}
@@ -78,7 +78,7 @@ pub new_open_comes : (n : ℕ) (s : CoreState) (l : NfsLists) (current : Option 
 unfolding entered
 new_open_comes n s l current o a file confirmed write room =
     let row = open_row (s.counter + 1) o (opener_number o l) file a in
-    let there : NfsLists = seated o (open_turn a confirmed) l in
+    let there : NfsLists = seated o (open_seqids a confirmed) l in
     let come : find (is_stateid (s.counter + 1)) (entered row there).stateids ≡ Some row = rw room (found_behind row (without (is_whose (whose.Stateid (s.counter + 1))) there.stateids) (number_gone (s.counter + 1) there.stateids)) in
     let whole : NfsLists = delegated (drawn s) o file write (entered row there) in
     ap (λ (ss : List StateidRow). find (is_stateid (s.counter + 1)) ss) (kept_stateids (opener_number o l) (spelled 18 (carried n s l current (granted_new s l o a file confirmed write)).0) whole)
@@ -116,45 +116,45 @@ still_there (Some m) l r by found holds other =
       | inr h ↦ rw h (not_under m by r.holder holds)
     ])
 
-pub close_marks : (n : ℕ) (s : CoreState) (l : NfsLists) (current : Option ℕ) (a : CloseArgs) (r : StateidRow) (owner by : ℕ) (turn : Turn) → find (is_stateid r.number) l.stateids ≡ Some r → r.holder ≡ holders.Open by → (turn.closed ≡ Some r.number → ⊥) → option_map (λ (x : StateidRow). x.standing.closed) (find (is_stateid r.number) (carried n s l current (close_done s l current a r owner turn None)).3.stateids) ≡ Some true
+pub close_marks : (n : ℕ) (s : CoreState) (l : NfsLists) (current : Option ℕ) (a : CloseArgs) (r : StateidRow) (owner by : ℕ) (seqids : SeqidState) → find (is_stateid r.number) l.stateids ≡ Some r → r.holder ≡ holders.Open by → (seqids.closed ≡ Some r.number → ⊥) → option_map (λ (x : StateidRow). x.standing.closed) (find (is_stateid r.number) (carried n s l current (close_done s l current a r owner seqids None)).3.stateids) ≡ Some true
 unfolding counted
-close_marks n s l current a r owner by turn found holds other =
+close_marks n s l current a r owner by seqids found holds other =
     let t = all_done n s (ends_locks l r (locks_under l r.number)) in
     let to : Standing = record { seqid = next_seqid r.standing.seqid; access = r.standing.access; deny = r.standing.deny; closed = true } in
-    let after : NfsLists = turned owner (next_turn 4 a.seqid turn.confirmed (Some r.number)) (stood r.number r r.standing.access r.standing.deny true l) in
-    let there : find (is_stateid r.number) (closed_gone turn.closed after).stateids ≡ Some (with_standing to r) = still_there turn.closed after (with_standing to r) by (changed_found r.number to l.stateids r found) holds other in
-    let left : find (is_stateid r.number) (without (is_whose (whose.Under r.number)) (closed_gone turn.closed after).stateids) ≡ Some (with_standing to r) = left_found (is_stateid r.number) (is_whose (whose.Under r.number)) (closed_gone turn.closed after).stateids (with_standing to r) there (not_under r.number by r.holder holds) in
-    ap (λ (ss : List StateidRow). option_map (λ (x : StateidRow). x.standing.closed) (find (is_stateid r.number) (without (is_whose (whose.Under r.number)) ss))) (kept_stateids owner (spelled 4 (state_told t r)) (closed_gone turn.closed after))
+    let after : NfsLists = seqid_set owner (next_seqids 4 a.seqid seqids.confirmed (Some r.number)) (stood r.number r r.standing.access r.standing.deny true l) in
+    let there : find (is_stateid r.number) (closed_gone seqids.closed after).stateids ≡ Some (with_standing to r) = still_there seqids.closed after (with_standing to r) by (changed_found r.number to l.stateids r found) holds other in
+    let left : find (is_stateid r.number) (without (is_whose (whose.Under r.number)) (closed_gone seqids.closed after).stateids) ≡ Some (with_standing to r) = left_found (is_stateid r.number) (is_whose (whose.Under r.number)) (closed_gone seqids.closed after).stateids (with_standing to r) there (not_under r.number by r.holder holds) in
+    ap (λ (ss : List StateidRow). option_map (λ (x : StateidRow). x.standing.closed) (find (is_stateid r.number) (without (is_whose (whose.Under r.number)) ss))) (kept_stateids owner (spelled 4 (state_told t r)) (closed_gone seqids.closed after))
     ∙ ap (λ (x : Option StateidRow). option_map (λ (x : StateidRow). x.standing.closed) x) left
 
 -- ---- an open is opened again
 
-seated_new_there : (o : Opener) (turn : Turn) (l : NfsLists) (r : StateidRow) (next : Option ℕ) → find (is_stateid r.number) l.stateids ≡ Some r → find (is_stateid r.number) (seated_new o turn l next).stateids ≡ Some r
-seated_new_there o turn l r None found = found
-seated_new_there o turn l r (Some number) found = found
+seated_new_there : (o : Opener) (seqids : SeqidState) (l : NfsLists) (r : StateidRow) (next : Option ℕ) → find (is_stateid r.number) l.stateids ≡ Some r → find (is_stateid r.number) (seated_new o seqids l next).stateids ≡ Some r
+seated_new_there o seqids l r None found = found
+seated_new_there o seqids l r (Some number) found = found
 
-seated_by_there : (o : Opener) (turn : Turn) (l : NfsLists) (r : StateidRow) (by : ℕ) (x : Option OwnerRow) → find (is_stateid r.number) l.stateids ≡ Some r → r.holder ≡ holders.Open by → (option_and_then (λ (y : OwnerRow). y.turn.closed) x ≡ Some r.number → ⊥) → find (is_stateid r.number) (seated_by o turn l x).stateids ≡ Some r
-seated_by_there o turn l r by None found holds other = seated_new_there o turn l r (next_owner l.owners) found
-seated_by_there o turn l r by (Some y) found holds other = still_there y.turn.closed (turned y.number turn l) r by found holds other
+seated_by_there : (o : Opener) (seqids : SeqidState) (l : NfsLists) (r : StateidRow) (by : ℕ) (x : Option OwnerRow) → find (is_stateid r.number) l.stateids ≡ Some r → r.holder ≡ holders.Open by → (option_and_then (λ (y : OwnerRow). y.seqids.closed) x ≡ Some r.number → ⊥) → find (is_stateid r.number) (seated_by o seqids l x).stateids ≡ Some r
+seated_by_there o seqids l r by None found holds other = seated_new_there o seqids l r (next_owner l.owners) found
+seated_by_there o seqids l r by (Some y) found holds other = still_there y.seqids.closed (seqid_set y.number seqids l) r by found holds other
 
-seated_there : (o : Opener) (turn : Turn) (l : NfsLists) (r : StateidRow) (by : ℕ) → find (is_stateid r.number) l.stateids ≡ Some r → r.holder ≡ holders.Open by → (option_and_then (λ (y : OwnerRow). y.turn.closed) (find (is_opener o) l.owners) ≡ Some r.number → ⊥) → find (is_stateid r.number) (seated o turn l).stateids ≡ Some r
+seated_there : (o : Opener) (seqids : SeqidState) (l : NfsLists) (r : StateidRow) (by : ℕ) → find (is_stateid r.number) l.stateids ≡ Some r → r.holder ≡ holders.Open by → (option_and_then (λ (y : OwnerRow). y.seqids.closed) (find (is_opener o) l.owners) ≡ Some r.number → ⊥) → find (is_stateid r.number) (seated o seqids l).stateids ≡ Some r
 unfolding seated
-seated_there o turn l r by found holds other = seated_by_there o turn l r by (find (is_opener o) l.owners) found holds other
+seated_there o seqids l r by found holds other = seated_by_there o seqids l r by (find (is_opener o) l.owners) found holds other
 
-pub more_is_had : (n : ℕ) (s : CoreState) (l : NfsLists) (current : Option ℕ) (o : Opener) (a : OpenArgsItem) (file : ℕ) (confirmed : Bool) (write : Option Bool) (r : StateidRow) (by : ℕ) → find (is_stateid r.number) l.stateids ≡ Some r → r.holder ≡ holders.Open by → (option_and_then (λ (y : OwnerRow). y.turn.closed) (find (is_opener o) l.owners) ≡ Some r.number → ⊥)
+pub more_is_had : (n : ℕ) (s : CoreState) (l : NfsLists) (current : Option ℕ) (o : Opener) (a : OpenArgsItem) (file : ℕ) (confirmed : Bool) (write : Option Bool) (r : StateidRow) (by : ℕ) → find (is_stateid r.number) l.stateids ≡ Some r → r.holder ≡ holders.Open by → (option_and_then (λ (y : OwnerRow). y.seqids.closed) (find (is_opener o) l.owners) ≡ Some r.number → ⊥)
     → find (is_stateid r.number) (carried n s l current (granted_more s l o a file confirmed write r)).3.stateids ≡ Some (with_standing (record { seqid = next_seqid r.standing.seqid; access = either_bits r.standing.access a.access; deny = either_bits r.standing.deny a.deny; closed = false }) r)
 more_is_had n s l current o a file confirmed write r by found holds other =
     let to : Standing = record { seqid = next_seqid r.standing.seqid; access = either_bits r.standing.access a.access; deny = either_bits r.standing.deny a.deny; closed = false } in
     let after : NfsLists = stood r.number r (either_bits r.standing.access a.access) (either_bits r.standing.deny a.deny) false l in
-    let there : NfsLists = seated o (open_turn a confirmed) after in
+    let there : NfsLists = seated o (open_seqids a confirmed) after in
     ap (λ (ss : List StateidRow). find (is_stateid r.number) ss) (kept_stateids (opener_number o l) (spelled 18 (carried n s l current (granted_more s l o a file confirmed write r)).0) (delegated s o file write there))
-    ∙ delegated_found (is_stateid r.number) s o file write there (with_standing to r) (seated_there o (open_turn a confirmed) after (with_standing to r) by (changed_found r.number to l.stateids r found) holds other)
+    ∙ delegated_found (is_stateid r.number) s o file write there (with_standing to r) (seated_there o (open_seqids a confirmed) after (with_standing to r) by (changed_found r.number to l.stateids r found) holds other)
 
 -- ---- the seqid of an OPEN
 
-pub next_goes_on : (l : NfsLists) (o : Opener) (r : OwnerRow) (seqid : ℕ) → find (is_opener o) l.owners ≡ Some r → r.turn.confirmed ≡ true → seqid ≡ next_seqid r.turn.seqid → judged l o seqid ≡ judgements.Next
+pub next_goes_on : (l : NfsLists) (o : Opener) (r : OwnerRow) (seqid : ℕ) → find (is_opener o) l.owners ≡ Some r → r.seqids.confirmed ≡ true → seqid ≡ next_seqid r.seqids.seqid → judged l o seqid ≡ judgements.Next
 unfolding judged
-next_goes_on l o r seqid found confirmed next = ap (λ (x : Option OwnerRow). judged_by seqid x) found ∙ rw (eq-eqb seqid (next_seqid r.turn.seqid) next) (rw confirmed refl)
+next_goes_on l o r seqid found confirmed next = ap (λ (x : Option OwnerRow). judged_by seqid x) found ∙ rw (eq-eqb seqid (next_seqid r.seqids.seqid) next) (rw confirmed refl)
 
 differ : (a b : ℕ) → (a ≡ b → ⊥) → (a == b) ≡ false
 differ a b other =
@@ -170,11 +170,11 @@ not_both seqid last op other =
       | inr h ↦ rw h refl
     ]
 
-bad_judged : (l : NfsLists) (o : Opener) (r : OwnerRow) (seqid : ℕ) → find (is_opener o) l.owners ≡ Some r → r.turn.confirmed ≡ true → (seqid ≡ next_seqid r.turn.seqid → ⊥) → (seqid ≡ r.turn.seqid → r.turn.op ≡ 18 → ⊥) → judged l o seqid ≡ judgements.Bad
+bad_judged : (l : NfsLists) (o : Opener) (r : OwnerRow) (seqid : ℕ) → find (is_opener o) l.owners ≡ Some r → r.seqids.confirmed ≡ true → (seqid ≡ next_seqid r.seqids.seqid → ⊥) → (seqid ≡ r.seqids.seqid → r.seqids.op ≡ 18 → ⊥) → judged l o seqid ≡ judgements.Bad
 unfolding judged
 bad_judged l o r seqid found confirmed next last =
-    ap (λ (x : Option OwnerRow). judged_by seqid x) found ∙ rw (differ seqid (next_seqid r.turn.seqid) next) (rw (not_both seqid r.turn.seqid r.turn.op last) (rw confirmed refl))
+    ap (λ (x : Option OwnerRow). judged_by seqid x) found ∙ rw (differ seqid (next_seqid r.seqids.seqid) next) (rw (not_both seqid r.seqids.seqid r.seqids.op last) (rw confirmed refl))
 
-pub others_are_bad : (n : ℕ) (files : List (List ℕ)) (others : ℕ) (s : CoreState) (l : NfsLists) (current : Option ℕ) (at : ℕ) (o : Opener) (a : OpenArgsItem) (r : OwnerRow) → find (is_opener o) l.owners ≡ Some r → r.turn.confirmed ≡ true → (a.seqid ≡ next_seqid r.turn.seqid → ⊥) → (a.seqid ≡ r.turn.seqid → r.turn.op ≡ 18 → ⊥) → carried n s l current (open_judged files others s l current at o a (judged l o a.seqid)) ≡ (Ended statuses.BadSeqid, current, [], l, s)
+pub others_are_bad : (n : ℕ) (files : List (List ℕ)) (others : ℕ) (s : CoreState) (l : NfsLists) (current : Option ℕ) (at : ℕ) (o : Opener) (a : OpenArgsItem) (r : OwnerRow) → find (is_opener o) l.owners ≡ Some r → r.seqids.confirmed ≡ true → (a.seqid ≡ next_seqid r.seqids.seqid → ⊥) → (a.seqid ≡ r.seqids.seqid → r.seqids.op ≡ 18 → ⊥) → carried n s l current (open_judged files others s l current at o a (judged l o a.seqid)) ≡ (Ended statuses.BadSeqid, current, [], l, s)
 others_are_bad n files others s l current at o a r found confirmed next last =
     ap (λ (j : Judged). carried n s l current (open_judged files others s l current at o a j)) (bad_judged l o r a.seqid found confirmed next last)

@@ -243,9 +243,9 @@ new_set last row m above set =
     let up = later_set last row.number m (omega (arith, above)) set in
     record {
       given = all_append (λ (q : StateidRow). q.number ≤ row.number) m.stateids (row ∷ []) up.given (omega arith, tt);
-      shut = all_weaker (λ (o : OwnerRow). IsShut last m.stateids o.turn.closed) (λ (o : OwnerRow). IsShut row.number (m.stateids ++ row ∷ []) o.turn.closed) m.owners (λ o h. record {
-        given = raised o.turn.closed h.given;
-        other = all_append (λ (q : StateidRow). is_open_still o.turn.closed q ≡ true) m.stateids (row ∷ []) h.other (still o.turn.closed h.given, tt);
+      shut = all_weaker (λ (o : OwnerRow). IsShut last m.stateids o.seqids.closed) (λ (o : OwnerRow). IsShut row.number (m.stateids ++ row ∷ []) o.seqids.closed) m.owners (λ o h. record {
+        given = raised o.seqids.closed h.given;
+        other = all_append (λ (q : StateidRow). is_open_still o.seqids.closed q ≡ true) m.stateids (row ∷ []) h.other (still o.seqids.closed h.given, tt);
       }) set.shut;
       clients = up.clients;
     }

@@ -22,7 +22,7 @@ use Rattle.xl_nfs_state.specs.declared.client.ClientRow.{ClientRow}
 use Rattle.xl_nfs_state.specs.declared.kept.KeptRow.{KeptRow}
 use Rattle.xl_nfs_state.specs.declared.owner.OwnerKind.TheVariants as kinds
 use Rattle.xl_nfs_state.specs.declared.owner.OwnerRow.{OwnerRow}
-use Rattle.xl_nfs_state.specs.declared.owner.Turn.{Turn}
+use Rattle.xl_nfs_state.specs.declared.owner.SeqidState.{SeqidState}
 use Rattle.xl_nfs_state.specs.declared.stateid.Holder.{Holder}
 use Rattle.xl_nfs_state.specs.declared.stateid.Holder.TheVariants as holders
 use Rattle.xl_nfs_state.specs.declared.stateid.Place.{Place}
@@ -35,12 +35,12 @@ use Rattle.xl_core.specs.State.{CoreState, drawn}
 use Rattle.xl_core.specs.declared.ask.Answer.{Answer}
 use Rattle.xl_core.specs.declared.ask.Effect.{Effect}
 use Rattle.xl_nfs_laws.specs.OpenLaws.{can_come}
-use Rattle.xl_nfs_opens.specs.Opens.{freed, all_rooms, answered, delegated, delegation_told, drawn_for, draws_for, either_bits, entered, gives_all, granted_by, granted_more, granted_new, granted_wish, has_room, is_granted, judged, live, client_in, open_as, open_by, open_held, open_judged, open_row, open_turn, opened_file, opened_told, opener_of, reclaims, repeated, rights_of, share_ask, stood, wish_of}
+use Rattle.xl_nfs_opens.specs.Opens.{freed, all_rooms, answered, delegated, delegation_told, drawn_for, draws_for, either_bits, entered, gives_all, granted_by, granted_more, granted_new, granted_wish, has_room, is_granted, judged, live, client_in, open_as, open_by, open_held, open_judged, open_row, open_seqids, opened_file, opened_told, opener_of, reclaims, repeated, rights_of, share_ask, stood, wish_of}
 use Rattle.xl_nfs_opens.specs.Renewing.{stateid_of}
 use Rattle.xl_nfs_laws.specs.Orderly.{are_apart, closes, IsHeldBy, IsKnown, IsOrderly, IsOwnedBy}
 use Rattle.xl_nfs_opens.specs.Plans.{Outcome, carried, told_behind}
 use Rattle.xl_nfs_opens.specs.Results.{spelled}
-use Rattle.xl_nfs_opens.specs.Seqids.{closed_gone, is_opener, is_room_for, number_by, opener_number, seated, seated_by, seated_new, turned}
+use Rattle.xl_nfs_opens.specs.Seqids.{closed_gone, is_opener, is_room_for, number_by, opener_number, seated, seated_by, seated_new, seqid_set}
 use Rattle.xl_nfs_opens.specs.declared.opener.Judged.{Judged}
 use Rattle.xl_nfs_opens.specs.declared.opener.Judged.TheVariants as judgements
 use Rattle.xl_nfs_opens.specs.declared.opener.Opener.{Opener}
@@ -124,9 +124,9 @@ not_held r owner os (holders.Lock w under opener) is none held = subst (λ (x : 
 not_held r owner os (holders.Delegation write) is none held = true≢false (sym (ap is_some is))
 
 -- nothing stands in its place
-place_free : (o : Opener) (turn : Turn) (l : NfsLists) (file : ℕ) → IsOrderly l → is_room_for o l ≡ true → open_held l o file ≡ None → (y : StateidRow) → IsIn y (seated o turn l).stateids → owned_on (opener_number o l) file y ≡ false
+place_free : (o : Opener) (seqids : SeqidState) (l : NfsLists) (file : ℕ) → IsOrderly l → is_room_for o l ≡ true → open_held l o file ≡ None → (y : StateidRow) → IsIn y (seated o seqids l).stateids → owned_on (opener_number o l) file y ≡ false
 unfolding seated
-place_free o turn l file orderly room none y here = by (find (is_opener o) l.owners) (next_owner l.owners) refl refl room none here
+place_free o seqids l file orderly room none y here = by (find (is_opener o) l.owners) (next_owner l.owners) refl refl room none here
   where
     closed_there : (r : StateidRow) → live (Some r) ≡ None → r.standing.closed ≡ true
     closed_there r e = told r.standing.closed refl e
@@ -135,7 +135,7 @@ place_free o turn l file orderly room none y here = by (find (is_opener o) l.own
         told true is f = is
         told false is f = absurd (true≢false (ap is_some f))
 
-    had : (x : OwnerRow) → find (is_opener o) l.owners ≡ Some x → (q : Option StateidRow) → find (owned_on x.number file) l.stateids ≡ q → live q ≡ None → IsIn y l.stateids → closes x.turn.closed y.number ≡ false → owned_on x.number file y ≡ true → ⊥
+    had : (x : OwnerRow) → find (is_opener o) l.owners ≡ Some x → (q : Option StateidRow) → find (owned_on x.number file) l.stateids ≡ q → live q ≡ None → IsIn y l.stateids → closes x.seqids.closed y.number ≡ false → owned_on x.number file y ≡ true → ⊥
     had x named None f e there left at = true≢false (sym at ∙ none_in (owned_on x.number file) l.stateids y f there)
     had x named (Some r) f e there left at =
         let same : y ≡ r = alone_there (Owned x.number file) l.stateids r y orderly.apart f there at in
@@ -143,12 +143,12 @@ place_free o turn l file orderly room none y here = by (find (is_opener o) l.own
         let is = closed_by l.owners y y.holder x.number x (held_by x.number file y.client y.file y.holder at) (rising_found (is_opener o) l.owners x orderly.rising named) held in
         true≢false (sym (ap (λ (z : StateidRow). z.standing.closed) same ∙ closed_there r e) ∙ is ∙ left)
 
-    by : (x : Option OwnerRow) (next : Option ℕ) → find (is_opener o) l.owners ≡ x → next_owner l.owners ≡ next → (is_some x || is_some next) ≡ true → live (option_and_then (λ (w : OwnerRow). find (owned_on w.number file) l.stateids) x) ≡ None → IsIn y (seated_by o turn l x).stateids → owned_on (number_by x next) file y ≡ false
+    by : (x : Option OwnerRow) (next : Option ℕ) → find (is_opener o) l.owners ≡ x → next_owner l.owners ≡ next → (is_some x || is_some next) ≡ true → live (option_and_then (λ (w : OwnerRow). find (owned_on w.number file) l.stateids) x) ≡ None → IsIn y (seated_by o seqids l x).stateids → owned_on (number_by x next) file y ≡ false
     by (Some x) next named f is e there =
-        let parts = gone_in x.turn.closed (turned x.number turn l) y there in
+        let parts = gone_in x.seqids.closed (seqid_set x.number seqids l) y there in
         false_from_ne_true (owned_on x.number file y) (had x named (find (owned_on x.number file) l.stateids) refl e parts.0 parts.1)
     by None (Some number) named f is e there =
-        let in_old : IsIn y l.stateids = subst (λ (next : Option ℕ). IsIn y (seated_new o turn l next).stateids) f there in
+        let in_old : IsIn y l.stateids = subst (λ (next : Option ℕ). IsIn y (seated_new o seqids l next).stateids) f there in
         false_from_ne_true (owned_on number file y) (λ at. not_held y number l.owners y.holder (held_by number file y.client y.file y.holder at) (fresh_number l.owners number orderly.rising f) (all_in (λ z. IsHeldBy l.owners z z.holder) y l.stateids orderly.held in_old))
     by None None named f is e there = absurd (true≢false (sym is))
 
@@ -165,56 +165,56 @@ gone_fewer : (closed : Option ℕ) (l : NfsLists) → opens (closed_gone closed 
 gone_fewer None l = omega arith
 gone_fewer (Some number) l = fewer (is_whose (whose.Stateid number)) l.stateids
 
-seated_fewer : (o : Opener) (turn : Turn) (l : NfsLists) → opens (seated o turn l).stateids ≤ opens l.stateids
+seated_fewer : (o : Opener) (seqids : SeqidState) (l : NfsLists) → opens (seated o seqids l).stateids ≤ opens l.stateids
 unfolding seated
-seated_fewer o turn l = by (find (is_opener o) l.owners)
+seated_fewer o seqids l = by (find (is_opener o) l.owners)
   where
-    new : (next : Option ℕ) → opens (seated_new o turn l next).stateids ≤ opens l.stateids
+    new : (next : Option ℕ) → opens (seated_new o seqids l next).stateids ≤ opens l.stateids
     new None = omega arith
     new (Some number) = omega arith
 
-    by : (x : Option OwnerRow) → opens (seated_by o turn l x).stateids ≤ opens l.stateids
+    by : (x : Option OwnerRow) → opens (seated_by o seqids l x).stateids ≤ opens l.stateids
     by None = new (next_owner l.owners)
-    by (Some r) = gone_fewer r.turn.closed (turned r.number turn l)
+    by (Some r) = gone_fewer r.seqids.closed (seqid_set r.number seqids l)
 
-pub seated_clients : (o : Opener) (turn : Turn) (l : NfsLists) → (seated o turn l).clients ≡ l.clients
+pub seated_clients : (o : Opener) (seqids : SeqidState) (l : NfsLists) → (seated o seqids l).clients ≡ l.clients
 unfolding seated
-seated_clients o turn l = by (find (is_opener o) l.owners)
+seated_clients o seqids l = by (find (is_opener o) l.owners)
   where
     gone : (closed : Option ℕ) (m : NfsLists) → (closed_gone closed m).clients ≡ m.clients
     gone None m = refl
     gone (Some number) m = refl
 
-    new : (next : Option ℕ) → (seated_new o turn l next).clients ≡ l.clients
+    new : (next : Option ℕ) → (seated_new o seqids l next).clients ≡ l.clients
     new None = refl
     new (Some number) = refl
 
-    by : (x : Option OwnerRow) → (seated_by o turn l x).clients ≡ l.clients
+    by : (x : Option OwnerRow) → (seated_by o seqids l x).clients ≡ l.clients
     by None = new (next_owner l.owners)
-    by (Some r) = gone r.turn.closed (turned r.number turn l)
+    by (Some r) = gone r.seqids.closed (seqid_set r.number seqids l)
 
 -- its owner is there, and of its client
-owner_hangs : (o : Opener) (turn : Turn) (l : NfsLists) → o.kind ≡ kinds.Open → IsSeated o turn l (seated o turn l) → owner_fits o.client kinds.Open (find (is_owner (opener_number o l)) (seated o turn l).owners) ≡ true
-owner_hangs o turn l kind is =
-    ap (λ (m : ℕ). owner_fits o.client kinds.Open (find (is_owner m) (seated o turn l).owners)) (sym is.number)
+owner_hangs : (o : Opener) (seqids : SeqidState) (l : NfsLists) → o.kind ≡ kinds.Open → IsSeated o seqids l (seated o seqids l) → owner_fits o.client kinds.Open (find (is_owner (opener_number o l)) (seated o seqids l).owners) ≡ true
+owner_hangs o seqids l kind is =
+    ap (λ (m : ℕ). owner_fits o.client kinds.Open (find (is_owner m) (seated o seqids l).owners)) (sym is.number)
     ∙ ap (owner_fits o.client kinds.Open) is.found
     ∙ and_from (o.client == is.row.name.client) (same_kind kinds.Open is.row.name.kind) (eq-eqb o.client is.row.name.client (sym is.client)) (ap (same_kind kinds.Open) (is.kind ∙ kind))
 
 pub comes : (others : ℕ) (s : CoreState) (l : NfsLists) (o : Opener) (a : OpenArgsItem) (file : ℕ) (confirmed : Bool) → o.kind ≡ kinds.Open → is_some (find (is_client o.client true) l.clients) ≡ true → IsOrderly l → has_room others l o file ≡ true → open_held l o file ≡ None → can_come s l o a file confirmed ≡ true
 comes others s l o a file confirmed kind client orderly room none =
-    let turn = open_turn a confirmed in
+    let seqids = open_seqids a confirmed in
     let parts = and_parts (is_room_for o l) (is_some (open_held l o file) || nat_lt (opens l.stateids + others) most_opens) room in
     let few : nat_lt (opens l.stateids + others) most_opens ≡ true = ap (λ (x : Option StateidRow). is_some x || nat_lt (opens l.stateids + others) most_opens) (sym none) ∙ parts.1 in
-    let is = seat_is o turn l orderly.rising parts.0 in
-    let l' = freed (s.counter + 1) (seated o turn l) in
+    let is = seat_is o seqids l orderly.rising parts.0 in
+    let l' = freed (s.counter + 1) (seated o seqids l) in
     let p : StateidRow → Bool = owned_on (opener_number o l) file in
-    let free : find p l'.stateids ≡ None = free_of p l'.stateids (λ y here. place_free o turn l file orderly parts.0 none y (in_filter_from (λ q. not (is_whose (whose.Stateid (s.counter + 1)) q)) y (seated o turn l).stateids here).0) in
+    let free : find p l'.stateids ≡ None = free_of p l'.stateids (λ y here. place_free o seqids l file orderly parts.0 none y (in_filter_from (λ q. not (is_whose (whose.Stateid (s.counter + 1)) q)) y (seated o seqids l).stateids here).0) in
     let less = ltb-true (opens l.stateids + others) most_opens few in
-    let fits : opens l'.stateids < most_opens = omega (arith, less, fewer (is_whose (whose.Stateid (s.counter + 1))) (seated o turn l).stateids, seated_fewer o turn l) in
+    let fits : opens l'.stateids < most_opens = omega (arith, less, fewer (is_whose (whose.Stateid (s.counter + 1))) (seated o seqids l).stateids, seated_fewer o seqids l) in
     and_from (not (is_some (find p l'.stateids))) (can_hang l' (open_row (s.counter + 1) o (opener_number o l) file a) && nat_lt (opens l'.stateids) most_opens) (ap (λ (x : Option StateidRow). not (is_some x)) free)
     (and_from (can_hang l' (open_row (s.counter + 1) o (opener_number o l) file a)) (nat_lt (opens l'.stateids) most_opens)
-    (and_from (is_some (find (is_client o.client true) (seated o turn l).clients)) (owner_fits o.client kinds.Open (find (is_owner (opener_number o l)) (seated o turn l).owners))
-    (ap (λ (cs : List ClientRow). is_some (find (is_client o.client true) cs)) (seated_clients o turn l) ∙ client) (owner_hangs o turn l kind is))
+    (and_from (is_some (find (is_client o.client true) (seated o seqids l).clients)) (owner_fits o.client kinds.Open (find (is_owner (opener_number o l)) (seated o seqids l).owners))
+    (ap (λ (cs : List ClientRow). is_some (find (is_client o.client true) cs)) (seated_clients o seqids l) ∙ client) (owner_hangs o seqids l kind is))
     (lt-ltb (opens l'.stateids) most_opens fits))
 
 -- ---- what it tells
@@ -231,11 +231,11 @@ done_for n s (Some write) = refl
 new_known : (n others : ℕ) (s : CoreState) (l : NfsLists) (current : Option ℕ) (o : Opener) (a : OpenArgsItem) (file : ℕ) (confirmed : Bool) (write : Option Bool) (stateid : Stateid) (flags : ℕ) (gave : Option (Stateid × Bool)) → o.kind ≡ kinds.Open → is_some (find (is_client o.client true) l.clients) ≡ true → IsOrderly l → has_room others l o file ≡ true → open_held l o file ≡ None
     → (carried n s l current (granted_new s l o a file confirmed write)).0 ≡ Opened stateid flags gave → IsKnown o a stateid (carried n s l current (granted_new s l o a file confirmed write))
 new_known n others s l current o a file confirmed write stateid flags gave kind client orderly room none told =
-    let turn = open_turn a confirmed in
-    let there : NfsLists = seated o turn l in
+    let seqids = open_seqids a confirmed in
+    let there : NfsLists = seated o seqids l in
     let row = open_row (s.counter + 1) o (opener_number o l) file a in
     let whole : NfsLists = delegated (drawn s) o file write (entered row there) in
-    let is = seat_is o turn l orderly.rising (and_parts (is_room_for o l) _ room).0 in
+    let is = seat_is o seqids l orderly.rising (and_parts (is_room_for o l) _ room).0 in
     record {
       row = row;
       owner = is.row;
@@ -263,7 +263,7 @@ found_there {A = A} p xs x found = subst (λ (o : Option A). IfSome o (λ y. IsI
 more_known : (n : ℕ) (s : CoreState) (l : NfsLists) (current : Option ℕ) (o : Opener) (a : OpenArgsItem) (file : ℕ) (confirmed : Bool) (write : Option Bool) (r : StateidRow) (stateid : Stateid) (flags : ℕ) (gave : Option (Stateid × Bool)) → o.kind ≡ kinds.Open → is_room_for o l ≡ true → IsOrderly l → open_held l o file ≡ Some r
     → (carried n s l current (granted_more s l o a file confirmed write r)).0 ≡ Opened stateid flags gave → IsKnown o a stateid (carried n s l current (granted_more s l o a file confirmed write r))
 more_known n s l current o a file confirmed write r stateid flags gave kind room orderly e told =
-    let turn = open_turn a confirmed in
+    let seqids = open_seqids a confirmed in
     let had = had_is o file l r orderly e in
     let x = had.owner in
     let there = found_there (owned_on x.number file) l.stateids r had.placed in
@@ -273,15 +273,15 @@ more_known n s l current o a file confirmed write r stateid flags gave kind room
     let names = and_parts (o.client == x.name.client) _ (found_there (is_opener o) l.owners x had.named).1 in
     let same : x.name.kind ≡ o.kind = sym (kinds_are o.kind x.name.kind (and_parts (same_kind o.kind x.name.kind) _ names.1).0) in
     let holds : r.holder ≡ holders.Open x.number = open_holds r o x l.owners r.holder kind same mine found held in
-    let stays : option_and_then (λ (y : OwnerRow). y.turn.closed) (find (is_opener o) l.owners) ≡ Some r.number → ⊥ = λ d. true≢false (sym (closed_by l.owners r r.holder x.number x mine found held ∙ ap (λ (c : Option ℕ). closes c r.number) (sym (ap (λ (y : Option OwnerRow). option_and_then (λ (z : OwnerRow). z.turn.closed) y) had.named) ∙ d) ∙ eq-eqb r.number r.number refl) ∙ had.live) in
+    let stays : option_and_then (λ (y : OwnerRow). y.seqids.closed) (find (is_opener o) l.owners) ≡ Some r.number → ⊥ = λ d. true≢false (sym (closed_by l.owners r r.holder x.number x mine found held ∙ ap (λ (c : Option ℕ). closes c r.number) (sym (ap (λ (y : Option OwnerRow). option_and_then (λ (z : OwnerRow). z.seqids.closed) y) had.named) ∙ d) ∙ eq-eqb r.number r.number refl) ∙ had.live) in
     let after : NfsLists = stood r.number r (either_bits r.standing.access a.access) (either_bits r.standing.deny a.deny) false l in
-    let is = seat_is o turn after orderly.rising room in
+    let is = seat_is o seqids after orderly.rising room in
     record {
       row = with_standing (record { seqid = next_seqid r.standing.seqid; access = either_bits r.standing.access a.access; deny = either_bits r.standing.deny a.deny; closed = false }) r;
       owner = is.row;
       found = more_is_had n s l current o a file confirmed write r x.number had.found holds stays;
       named = sym (ap (stateid_in stateid) told) ∙ ap (λ (u : CoreState). stateid_of u r.number (next_seqid r.standing.seqid)) (sym (done_for n s write));
-      opener = ap (λ (os : List OwnerRow). find (is_opener o) os) (kept_owners (opener_number o l) (spelled 18 (opened_told (drawn_for write s) r.number (next_seqid r.standing.seqid) confirmed (delegation_told s write))) (delegated s o file write (seated o turn after)) ∙ delegated_owners s o file write (seated o turn after)) ∙ is.named;
+      opener = ap (λ (os : List OwnerRow). find (is_opener o) os) (kept_owners (opener_number o l) (spelled 18 (opened_told (drawn_for write s) r.number (next_seqid r.standing.seqid) confirmed (delegation_told s write))) (delegated s o file write (seated o seqids after)) ∙ delegated_owners s o file write (seated o seqids after)) ∙ is.named;
       holder = holds ∙ ap (λ (m : ℕ). holders.Open m) (ap (λ (y : Option OwnerRow). number_by y (next_owner l.owners)) (sym had.named) ∙ sym is.number);
       file = ap (λ (m : ℕ). Some m) (place_file x.number file r there.1);
       live = refl;

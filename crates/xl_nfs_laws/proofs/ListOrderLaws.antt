@@ -10,21 +10,21 @@ use Rattle.xl_nfs_state.proofs.AnyLaws.{all_changed, all_left}
 use Rattle.xl_nfs_state.proofs.SoundLaws.{rising_changed, rising_left, rising_added}
 use Rattle.xl_nfs_state.specs.Filed.{changed}
 use Rattle.xl_nfs_state.specs.Keys.{place_of, same_place}
-use Rattle.xl_nfs_state.specs.Rows.{with_standing, with_turn}
+use Rattle.xl_nfs_state.specs.Rows.{with_standing, with_seqids}
 use Rattle.xl_nfs_state.specs.State.{NfsLists, hangs_on, is_owner, is_stateid, is_under, is_whose, next_owner, other_owners, with_owners, with_stateids, without, without_client, without_owner}
 use Rattle.xl_nfs_state.specs.declared.owner.OwnerKind.{OwnerKind}
 use Rattle.xl_nfs_state.specs.declared.owner.OwnerKind.TheVariants as kinds
 use Rattle.xl_nfs_state.specs.declared.owner.OwnerRow.{OwnerRow}
-use Rattle.xl_nfs_state.specs.declared.owner.Turn.{Turn}
+use Rattle.xl_nfs_state.specs.declared.owner.SeqidState.{SeqidState}
 use Rattle.xl_nfs_state.specs.declared.stateid.Holder.{Holder}
 use Rattle.xl_nfs_state.specs.declared.stateid.Holder.TheVariants as holders
 use Rattle.xl_nfs_state.specs.declared.stateid.Standing.{Standing}
 use Rattle.xl_nfs_state.specs.declared.stateid.StateidRow.{StateidRow}
 use Rattle.xl_nfs_state.specs.declared.stateid.Whose.TheVariants as whose
 use Rattle.xl_nfs_laws.specs.Orderly.{are_apart, closes, IsHeldBy, IsOrderly, IsOwnedBy}
-use Rattle.xl_nfs_opens.specs.Seqids.{closed_gone, turned}
+use Rattle.xl_nfs_opens.specs.Seqids.{closed_gone, seqid_set}
 use Rattle.xl_nfs_laws.proofs.EnteredOpenLaws.{left_found}
-use Rattle.xl_nfs_laws.proofs.OpenLaws.{turned_at}
+use Rattle.xl_nfs_laws.proofs.OpenLaws.{seqid_set_at}
 
 -- ---- whose it is
 
@@ -40,26 +40,26 @@ held_on old new r q (holders.Lock owner under opener) keeps held = keeps owner k
 held_on old new r q (holders.Delegation write) keeps held = tt
 
 -- what its owner's requests have closed says whether it is closed
-pub closed_by : (os : List OwnerRow) (r : StateidRow) (h : Holder) (owner : ℕ) (o : OwnerRow) → owned_by h ≡ Some owner → find (is_owner owner) os ≡ Some o → IsHeldBy os r h → r.standing.closed ≡ closes o.turn.closed r.number
+pub closed_by : (os : List OwnerRow) (r : StateidRow) (h : Holder) (owner : ℕ) (o : OwnerRow) → owned_by h ≡ Some owner → find (is_owner owner) os ≡ Some o → IsHeldBy os r h → r.standing.closed ≡ closes o.seqids.closed r.number
 closed_by os r (holders.Open w) owner o is found held = (let owned : IsOwnedBy r kinds.Open (Some o) = subst (λ (x : Option OwnerRow). IsOwnedBy r kinds.Open x) (ap (λ (m : ℕ). find (is_owner m) os) (same_Some w owner is) ∙ found) held in owned.2)
 closed_by os r (holders.Lock w under opener) owner o is found held = (let owned : IsOwnedBy r kinds.Lock (Some o) = subst (λ (x : Option OwnerRow). IsOwnedBy r kinds.Lock x) (ap (λ (m : ℕ). find (is_owner m) os) (same_Some w owner is) ∙ found) held in owned.2)
 closed_by os r (holders.Delegation write) owner o is found held = absurd (true≢false (ap is_some (sym is)))
 
 -- ---- an owner's requests come further
 
-owned_turned : (r q : StateidRow) (kind : OwnerKind) (w owner : ℕ) (turn : Turn) (x : Option OwnerRow) → r.client ≡ q.client → r.number ≡ q.number → (w ≡ owner → q.standing.closed ≡ closes turn.closed q.number) → ((w == owner) ≡ false → q.standing.closed ≡ r.standing.closed) → IsOwnedBy r kind x → IsOwnedBy q kind (option_map (λ (o : OwnerRow). if w == owner then with_turn turn o else o) x)
-owned_turned r q kind w owner turn None client number own other owned = absurd owned
-owned_turned r q kind w owner turn (Some o) client number own other owned =
+owned_seqid_set : (r q : StateidRow) (kind : OwnerKind) (w owner : ℕ) (seqids : SeqidState) (x : Option OwnerRow) → r.client ≡ q.client → r.number ≡ q.number → (w ≡ owner → q.standing.closed ≡ closes seqids.closed q.number) → ((w == owner) ≡ false → q.standing.closed ≡ r.standing.closed) → IsOwnedBy r kind x → IsOwnedBy q kind (option_map (λ (o : OwnerRow). if w == owner then with_seqids seqids o else o) x)
+owned_seqid_set r q kind w owner seqids None client number own other owned = absurd owned
+owned_seqid_set r q kind w owner seqids (Some o) client number own other owned =
     elim (cases_Bool (w == owner)) [
       | inl e ↦ rw e (owned.0 ∙ client, owned.1, own (eqb-true w owner e))
-      | inr e ↦ rw e (owned.0 ∙ client, owned.1, other e ∙ owned.2 ∙ ap (closes o.turn.closed) number)
+      | inr e ↦ rw e (owned.0 ∙ client, owned.1, other e ∙ owned.2 ∙ ap (closes o.seqids.closed) number)
     ]
 
-pub held_turned : (os : List OwnerRow) (owner : ℕ) (turn : Turn) (r q : StateidRow) → r.client ≡ q.client → r.number ≡ q.number → (owned_by r.holder ≡ Some owner → q.standing.closed ≡ closes turn.closed q.number) → ((owned_by r.holder ≡ Some owner → ⊥) → q.standing.closed ≡ r.standing.closed) → IsHeldBy os r r.holder → IsHeldBy (changed (is_owner owner) (with_turn turn) os) q r.holder
-held_turned os owner turn r q client number own other held =
-    held_on os (changed (is_owner owner) (with_turn turn) os) r q r.holder (λ w kind is owned.
-    subst (λ (x : Option OwnerRow). IsOwnedBy q kind x) (sym (turned_at w owner turn os))
-    (owned_turned r q kind w owner turn (find (is_owner w) os) client number
+pub held_seqid_set : (os : List OwnerRow) (owner : ℕ) (seqids : SeqidState) (r q : StateidRow) → r.client ≡ q.client → r.number ≡ q.number → (owned_by r.holder ≡ Some owner → q.standing.closed ≡ closes seqids.closed q.number) → ((owned_by r.holder ≡ Some owner → ⊥) → q.standing.closed ≡ r.standing.closed) → IsHeldBy os r r.holder → IsHeldBy (changed (is_owner owner) (with_seqids seqids) os) q r.holder
+held_seqid_set os owner seqids r q client number own other held =
+    held_on os (changed (is_owner owner) (with_seqids seqids) os) r q r.holder (λ w kind is owned.
+    subst (λ (x : Option OwnerRow). IsOwnedBy q kind x) (sym (seqid_set_at w owner seqids os))
+    (owned_seqid_set r q kind w owner seqids (find (is_owner w) os) client number
     (λ e. own (is ∙ ap (λ (m : ℕ). Some m) e))
     (λ d. other (λ e. true≢false (sym (eq-eqb w owner (same_Some w owner (sym is ∙ e))) ∙ d)))
     owned)) held
@@ -74,32 +74,32 @@ not_closed None r stays = refl
 not_closed (Some number) r stays = (or_parts (number == r.number) (is_under number r.holder) stays).0
 
 -- what is left is held, once the owner's requests have come further
-abbrev pub IsLeft : List OwnerRow → ℕ → OwnerRow → Turn → StateidRow → Type 0
-IsLeft os owner o turn q = dropped o.turn.closed q ≡ false → IsHeldBy (changed (is_owner owner) (with_turn turn) os) q q.holder
+abbrev pub IsLeft : List OwnerRow → ℕ → OwnerRow → SeqidState → StateidRow → Type 0
+IsLeft os owner o seqids q = dropped o.seqids.closed q ≡ false → IsHeldBy (changed (is_owner owner) (with_seqids seqids) os) q q.holder
 
 -- it is another than what the owner's request closes
-pub left_as_it_was : (os : List OwnerRow) (owner : ℕ) (o : OwnerRow) (turn : Turn) (r : StateidRow) → find (is_owner owner) os ≡ Some o → closes turn.closed r.number ≡ false → IsHeldBy os r r.holder → IsLeft os owner o turn r
-left_as_it_was os owner o turn r found other held = λ stays.
-    held_turned os owner turn r r refl refl (λ is. closed_by os r r.holder owner o is found held ∙ not_closed o.turn.closed r stays ∙ sym other) (λ _. refl) held
+pub left_as_it_was : (os : List OwnerRow) (owner : ℕ) (o : OwnerRow) (seqids : SeqidState) (r : StateidRow) → find (is_owner owner) os ≡ Some o → closes seqids.closed r.number ≡ false → IsHeldBy os r r.holder → IsLeft os owner o seqids r
+left_as_it_was os owner o seqids r found other held = λ stays.
+    held_seqid_set os owner seqids r r refl refl (λ is. closed_by os r r.holder owner o is found held ∙ not_closed o.seqids.closed r stays ∙ sym other) (λ _. refl) held
 
 -- it changes, and isn't closed
-pub left_live : (os : List OwnerRow) (owner : ℕ) (o : OwnerRow) (turn : Turn) (to : Standing) (r : StateidRow) → to.closed ≡ false → r.standing.closed ≡ false → turn.closed ≡ None → IsHeldBy os r r.holder → IsLeft os owner o turn (with_standing to r)
-left_live os owner o turn to r is was none held = λ stays.
-    held_turned os owner turn r (with_standing to r) refl refl (λ _. is ∙ ap (λ (x : Option ℕ). closes x r.number) (sym none)) (λ _. is ∙ sym was) held
+pub left_live : (os : List OwnerRow) (owner : ℕ) (o : OwnerRow) (seqids : SeqidState) (to : Standing) (r : StateidRow) → to.closed ≡ false → r.standing.closed ≡ false → seqids.closed ≡ None → IsHeldBy os r r.holder → IsLeft os owner o seqids (with_standing to r)
+left_live os owner o seqids to r is was none held = λ stays.
+    held_seqid_set os owner seqids r (with_standing to r) refl refl (λ _. is ∙ ap (λ (x : Option ℕ). closes x r.number) (sym none)) (λ _. is ∙ sym was) held
 
 -- the owner's request closes it
-pub left_closed : (os : List OwnerRow) (owner : ℕ) (o : OwnerRow) (turn : Turn) (to : Standing) (r : StateidRow) → to.closed ≡ true → turn.closed ≡ Some r.number → owned_by r.holder ≡ Some owner → IsHeldBy os r r.holder → IsLeft os owner o turn (with_standing to r)
-left_closed os owner o turn to r is closing holds held = λ stays.
-    held_turned os owner turn r (with_standing to r) refl refl (λ _. is ∙ sym (ap (λ (x : Option ℕ). closes x r.number) closing ∙ eq-eqb r.number r.number refl)) (λ other. absurd (other holds)) held
+pub left_closed : (os : List OwnerRow) (owner : ℕ) (o : OwnerRow) (seqids : SeqidState) (to : Standing) (r : StateidRow) → to.closed ≡ true → seqids.closed ≡ Some r.number → owned_by r.holder ≡ Some owner → IsHeldBy os r r.holder → IsLeft os owner o seqids (with_standing to r)
+left_closed os owner o seqids to r is closing holds held = λ stays.
+    held_seqid_set os owner seqids r (with_standing to r) refl refl (λ _. is ∙ sym (ap (λ (x : Option ℕ). closes x r.number) closing ∙ eq-eqb r.number r.number refl)) (λ other. absurd (other holds)) held
 
-pub turn_orderly : (l : NfsLists) (owner : ℕ) (o : OwnerRow) (turn : Turn) (closed : Option ℕ) (ss : List StateidRow) → closed ≡ o.turn.closed → IsOrderly l → Pairwise are_apart ss → AllByRecursion (IsLeft l.owners owner o turn) ss → IsOrderly (closed_gone closed (turned owner turn (with_stateids l ss)))
-turn_orderly l owner o turn None ss is orderly apart left = record {
-  rising = rising_changed (is_owner owner) turn l.owners orderly.rising;
+pub seqids_orderly : (l : NfsLists) (owner : ℕ) (o : OwnerRow) (seqids : SeqidState) (closed : Option ℕ) (ss : List StateidRow) → closed ≡ o.seqids.closed → IsOrderly l → Pairwise are_apart ss → AllByRecursion (IsLeft l.owners owner o seqids) ss → IsOrderly (closed_gone closed (seqid_set owner seqids (with_stateids l ss)))
+seqids_orderly l owner o seqids None ss is orderly apart left = record {
+  rising = rising_changed (is_owner owner) seqids l.owners orderly.rising;
   apart = apart;
   held = all_weaker _ _ ss (λ q h. h (ap (λ (x : Option ℕ). dropped x q) (sym is))) left;
 }
-turn_orderly l owner o turn (Some number) ss is orderly apart left = record {
-  rising = rising_changed (is_owner owner) turn l.owners orderly.rising;
+seqids_orderly l owner o seqids (Some number) ss is orderly apart left = record {
+  rising = rising_changed (is_owner owner) seqids l.owners orderly.rising;
   apart = pairwise_filter are_apart (λ q. not (is_whose (whose.Stateid number) q)) ss apart;
   held = all_left _ _ (is_whose (whose.Stateid number)) ss (λ q e h. h (ap (λ (x : Option ℕ). dropped x q) (sym is) ∙ e)) left;
 }

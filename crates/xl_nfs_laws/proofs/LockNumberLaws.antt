@@ -16,7 +16,7 @@ use Rattle.xl_nfs_state.specs.declared.client.ClientRow.{ClientRow}
 use Rattle.xl_nfs_state.specs.declared.kept.KeptRow.{KeptRow}
 use Rattle.xl_nfs_state.specs.declared.owner.OwnerKind.TheVariants as kinds
 use Rattle.xl_nfs_state.specs.declared.owner.OwnerRow.{OwnerRow}
-use Rattle.xl_nfs_state.specs.declared.owner.Turn.{Turn}
+use Rattle.xl_nfs_state.specs.declared.owner.SeqidState.{SeqidState}
 use Rattle.xl_nfs_state.specs.declared.stateid.StateidRow.{StateidRow}
 use Rattle.xl_nfs_state.specs.declared.stateid.Whose.TheVariants as whose
 use Rattle.xl_core.specs.Deeds.{Draws}
@@ -24,7 +24,7 @@ use Rattle.xl_core.specs.Good.{IsGood}
 use Rattle.xl_core.specs.State.{CoreState, drawn}
 use Rattle.xl_core.specs.declared.ask.Answer.{Answer}
 use Rattle.xl_nfs_laws.proofs.OpenNumberLaws.{AreFew, carried_few, counted_given, does_few, done_given, draws, failed_given, later_on, less_given, remembered_given, renewed_given, repeat_few, stood_given, without_given}
-use Rattle.xl_nfs_opens.specs.Closing.{checked, done_lists, failed_lists, next_turn, opener_by, standing_fault, state_told}
+use Rattle.xl_nfs_opens.specs.Closing.{checked, done_lists, failed_lists, next_seqids, opener_by, standing_fault, state_told}
 use Rattle.xl_core.specs.Ids.{number_in}
 use Rattle.xl_nfs_laws.specs.StateidNumbers.{AreGivenOut, StayGivenOut}
 use Rattle.xl_nfs_opens.specs.Opens.{client_in, is_granted, stood}
@@ -52,36 +52,36 @@ use Rattle.xl_nfs_laws.proofs.LockOwn.{lock_own, release_own, test_own, unlock_o
 
 -- ---- LOCK by an owner that has locks there
 
-refused_given : (last : ℕ) (l : NfsLists) (owner : ℕ) (turn : Turn) (seqid : ℕ) (told : Told) → AreGivenOut last l → AreGivenOut last (refused_lists l owner turn seqid told)
-refused_given last l owner turn seqid told given =
+refused_given : (last : ℕ) (l : NfsLists) (owner : ℕ) (seqids : SeqidState) (seqid : ℕ) (told : Told) → AreGivenOut last l → AreGivenOut last (refused_lists l owner seqids seqid told)
+refused_given last l owner seqids seqid told given =
     elim (cases_Bool (advances (status_of told))) [
-      | inl e ↦ rw e (counted_given last owner turn.closed (next_turn 12 seqid turn.confirmed None) (spelled 12 told) l given)
+      | inl e ↦ rw e (counted_given last owner seqids.closed (next_seqids 12 seqid seqids.confirmed None) (spelled 12 told) l given)
       | inr e ↦ rw e given
     ]
 
-answered_few : (l : NfsLists) (current : Option ℕ) (r : StateidRow) (owner : ℕ) (turn : Turn) (seqid : ℕ) (reclaim : Bool) (answer : Answer) (s : CoreState) → AreGivenOut s.counter l → AreFew s.counter (lock_answered l current r owner turn seqid reclaim answer s)
-answered_few l current r owner turn seqid reclaim answer s given =
+answered_few : (l : NfsLists) (current : Option ℕ) (r : StateidRow) (owner : ℕ) (seqids : SeqidState) (seqid : ℕ) (reclaim : Bool) (answer : Answer) (s : CoreState) → AreGivenOut s.counter l → AreFew s.counter (lock_answered l current r owner seqids seqid reclaim answer s)
+answered_few l current r owner seqids seqid reclaim answer s given =
     elim (cases_Bool (is_granted answer)) [
-      | inl e ↦ rw e (does_few s.counter [] (done_lists s l r owner turn 12 seqid turn.confirmed None 0 0 false) (done_given s.counter s l r owner turn 12 seqid turn.confirmed None 0 0 false given))
-      | inr e ↦ rw e (does_few s.counter [] (refused_lists l owner turn seqid (lock_told s l reclaim answer)) (refused_given s.counter l owner turn seqid (lock_told s l reclaim answer) given))
+      | inl e ↦ rw e (does_few s.counter [] (done_lists s l r owner seqids 12 seqid seqids.confirmed None 0 0 false) (done_given s.counter s l r owner seqids 12 seqid seqids.confirmed None 0 0 false given))
+      | inr e ↦ rw e (does_few s.counter [] (refused_lists l owner seqids seqid (lock_told s l reclaim answer)) (refused_given s.counter l owner seqids seqid (lock_told s l reclaim answer) given))
     ]
 
-by_owner_few : (last : ℕ) (l : NfsLists) (current : Option ℕ) (a : LockArgsItem) (r : StateidRow) (owner : ℕ) (turn : Turn) (seqid end : ℕ) (o : Option Opener) → AreGivenOut last l → AreFew last (lock_by_owner l current a r owner turn seqid end o)
-by_owner_few last l current a r owner turn seqid end None given = does_few last [] l given
-by_owner_few last l current a r owner turn seqid end (Some o) given = λ answer t le. answered_few l current r owner turn seqid a.reclaim answer t (later_on last t.counter l le given)
+by_owner_few : (last : ℕ) (l : NfsLists) (current : Option ℕ) (a : LockArgsItem) (r : StateidRow) (owner : ℕ) (seqids : SeqidState) (seqid end : ℕ) (o : Option Opener) → AreGivenOut last l → AreFew last (lock_by_owner l current a r owner seqids seqid end o)
+by_owner_few last l current a r owner seqids seqid end None given = does_few last [] l given
+by_owner_few last l current a r owner seqids seqid end (Some o) given = λ answer t le. answered_few l current r owner seqids seqid a.reclaim answer t (later_on last t.counter l le given)
 
-to_few : (last : ℕ) (l : NfsLists) (current : Option ℕ) (a : LockArgsItem) (r : StateidRow) (owner : ℕ) (turn : Turn) (seqid : ℕ) (x : Result ℕ NfsStatus) → AreGivenOut last l → AreFew last (lock_to l current a r owner turn seqid x)
-to_few last l current a r owner turn seqid (Err status) given = does_few last [] (failed_lists l owner turn 12 seqid status) (failed_given last l owner turn 12 seqid status given)
-to_few last l current a r owner turn seqid (Ok end) given = by_owner_few last l current a r owner turn seqid end (opener_by l r.client owner) given
+to_few : (last : ℕ) (l : NfsLists) (current : Option ℕ) (a : LockArgsItem) (r : StateidRow) (owner : ℕ) (seqids : SeqidState) (seqid : ℕ) (x : Result ℕ NfsStatus) → AreGivenOut last l → AreFew last (lock_to l current a r owner seqids seqid x)
+to_few last l current a r owner seqids seqid (Err status) given = does_few last [] (failed_lists l owner seqids 12 seqid status) (failed_given last l owner seqids 12 seqid status given)
+to_few last l current a r owner seqids seqid (Ok end) given = by_owner_few last l current a r owner seqids seqid end (opener_by l r.client owner) given
 
-standing_few : (last : ℕ) (l : NfsLists) (current : Option ℕ) (a : LockArgsItem) (r : StateidRow) (owner : ℕ) (turn : Turn) (seqid : ℕ) (x : Option NfsStatus) → AreGivenOut last l → AreFew last (lock_standing l current a r owner turn seqid x)
-standing_few last l current a r owner turn seqid (Some status) given = does_few last [] (failed_lists l owner turn 12 seqid status) (failed_given last l owner turn 12 seqid status given)
-standing_few last l current a r owner turn seqid None given = to_few last l current a r owner turn seqid (lock_end a.kind (access_above l r.holder) (last_byte a.offset a.len)) given
+standing_few : (last : ℕ) (l : NfsLists) (current : Option ℕ) (a : LockArgsItem) (r : StateidRow) (owner : ℕ) (seqids : SeqidState) (seqid : ℕ) (x : Option NfsStatus) → AreGivenOut last l → AreFew last (lock_standing l current a r owner seqids seqid x)
+standing_few last l current a r owner seqids seqid (Some status) given = does_few last [] (failed_lists l owner seqids 12 seqid status) (failed_given last l owner seqids 12 seqid status given)
+standing_few last l current a r owner seqids seqid None given = to_few last l current a r owner seqids seqid (lock_end a.kind (access_above l r.holder) (last_byte a.offset a.len)) given
 
 known_by : (last : ℕ) (s : CoreState) (l : NfsLists) (current : Option ℕ) (a : LockArgsItem) (x : KnownLocker) (c : Checked) → AreGivenOut last l → AreFew last (lock_found s l current a x c)
 known_by last s l current a x (Refused status) given = does_few last [] l given
 known_by last s l current a x (Repeated owner) given = repeat_few last s l current (find (is_kept owner) l.kept) given
-known_by last s l current a x (Passed r owner turn) given = standing_few last l current a r owner turn x.seqid (standing_fault r turn x.stateid.seqid true) given
+known_by last s l current a x (Passed r owner seqids) given = standing_few last l current a r owner seqids x.seqid (standing_fault r seqids x.stateid.seqid true) given
 
 known_few : (s : CoreState) (l : NfsLists) (current : Option ℕ) (a : LockArgsItem) (x : KnownLocker) → AreGivenOut s.counter l → AreFew s.counter (lock_known s l current a x)
 unfolding lock_known
@@ -93,10 +93,10 @@ known_few s l current a x given =
 -- ---- LOCK by an owner under an open
 
 open_given : (last : ℕ) (b : BothOwners) (bytes : List ℕ) (l : NfsLists) → AreGivenOut last l → AreGivenOut last (first.counted_open b bytes l)
-open_given last b bytes l given = counted_given last b.number b.turn.closed (next_turn 12 b.open_seqid b.turn.confirmed None) bytes l given
+open_given last b bytes l given = counted_given last b.number b.seqids.closed (next_seqids 12 b.open_seqid b.seqids.confirmed None) bytes l given
 
 both_given : (last : ℕ) (b : BothOwners) (o : Opener) (bytes : List ℕ) (l : NfsLists) → AreGivenOut last l → AreGivenOut last (first.counted_both b o bytes l)
-both_given last b o bytes l given = remembered_given last o (next_turn 12 b.lock_seqid true None) bytes (first.counted_open b bytes l) (open_given last b bytes l given)
+both_given last b o bytes l given = remembered_given last o (next_seqids 12 b.lock_seqid true None) bytes (first.counted_open b bytes l) (open_given last b bytes l given)
 
 both_refused_given : (last : ℕ) (b : BothOwners) (o : Opener) (told : Told) (l : NfsLists) → AreGivenOut last l → AreGivenOut last (if advances (status_of told) then first.counted_both b o (spelled 12 told) l else l)
 both_refused_given last b o told l given =
@@ -154,17 +154,17 @@ join_as_few last l current a b o r (Again owner) given = again_few last l curren
 join_as_few last l current a b o r (Joins q) given = join_to_few last l current a b o r q (lock_end a.kind r.standing.access (last_byte a.offset a.len)) given
 
 join_of_few : (last : ℕ) (l : NfsLists) (current : Option ℕ) (a : LockArgsItem) (x : NewLockerItem) (b : BothOwners) (r : StateidRow) (o : Option Opener) → AreGivenOut last l → AreFew last (first.join_of l current a x b r o)
-join_of_few last l current a x b r None given = does_few last [] (failed_lists l b.number b.turn 12 b.open_seqid statuses.Inval) (failed_given last l b.number b.turn 12 b.open_seqid statuses.Inval given)
+join_of_few last l current a x b r None given = does_few last [] (failed_lists l b.number b.seqids 12 b.open_seqid statuses.Inval) (failed_given last l b.number b.seqids 12 b.open_seqid statuses.Inval given)
 join_of_few last l current a x b r (Some o) given = join_as_few last l current a b o r (first.found_joined l r o x.lock_seqid) given
 
 join_standing_few : (last : ℕ) (s : CoreState) (l : NfsLists) (current : Option ℕ) (a : LockArgsItem) (x : NewLockerItem) (b : BothOwners) (r : StateidRow) (status : Option NfsStatus) → AreGivenOut last l → AreFew last (first.join_standing s l current a x b r status)
-join_standing_few last s l current a x b r (Some status) given = does_few last [] (failed_lists l b.number b.turn 12 b.open_seqid status) (failed_given last l b.number b.turn 12 b.open_seqid status given)
+join_standing_few last s l current a x b r (Some status) given = does_few last [] (failed_lists l b.number b.seqids 12 b.open_seqid status) (failed_given last l b.number b.seqids 12 b.open_seqid status given)
 join_standing_few last s l current a x b r None given = join_of_few last l current a x b r (first.locker_under r x.owner.owner (client_in s l x.owner.clientid)) given
 
 join_checked_few : (last : ℕ) (s : CoreState) (l : NfsLists) (current : Option ℕ) (a : LockArgsItem) (x : NewLockerItem) (c : Checked) → AreGivenOut last l → AreFew last (first.join_checked s l current a x c)
 join_checked_few last s l current a x (Refused status) given = does_few last [] l given
 join_checked_few last s l current a x (Repeated owner) given = repeat_few last s l current (find (is_kept owner) l.kept) given
-join_checked_few last s l current a x (Passed r owner turn) given = join_standing_few last s l current a x (first.both_of x owner turn) r (standing_fault r turn x.open_stateid.seqid true) given
+join_checked_few last s l current a x (Passed r owner seqids) given = join_standing_few last s l current a x (first.both_of x owner seqids) r (standing_fault r seqids x.open_stateid.seqid true) given
 
 named_few : (s : CoreState) (l : NfsLists) (current : Option ℕ) (a : LockArgsItem) (x : NewLockerItem) → AreGivenOut s.counter l → AreFew s.counter (first.lock_named s l current a x)
 unfolding first.lock_named
@@ -213,29 +213,29 @@ test_few s l current a given =
     let once : AreGivenOut s.counter m = renewed_given s.counter s l (number_in s a.owner.clientid) given in
     (once, λ t le. test_at_few t.counter t m a current (later_on s.counter t.counter m le once))
 
-unlocked_few : (s : CoreState) (l : NfsLists) (current : Option ℕ) (a : UnlockArgs) (r : StateidRow) (owner : ℕ) (turn : Turn) (status : NfsStatus) → AreGivenOut s.counter l → AreFew s.counter (unlocked_as s l current a r owner turn status)
-unlocked_few s l current a r owner turn status given =
+unlocked_few : (s : CoreState) (l : NfsLists) (current : Option ℕ) (a : UnlockArgs) (r : StateidRow) (owner : ℕ) (seqids : SeqidState) (status : NfsStatus) → AreGivenOut s.counter l → AreFew s.counter (unlocked_as s l current a r owner seqids status)
+unlocked_few s l current a r owner seqids status given =
     elim (cases_Bool (is_ok status)) [
-      | inl e ↦ rw e (does_few s.counter [] (done_lists s l r owner turn 14 a.seqid turn.confirmed None 0 0 false) (done_given s.counter s l r owner turn 14 a.seqid turn.confirmed None 0 0 false given))
-      | inr e ↦ rw e (does_few s.counter [] (failed_lists l owner turn 14 a.seqid status) (failed_given s.counter l owner turn 14 a.seqid status given))
+      | inl e ↦ rw e (does_few s.counter [] (done_lists s l r owner seqids 14 a.seqid seqids.confirmed None 0 0 false) (done_given s.counter s l r owner seqids 14 a.seqid seqids.confirmed None 0 0 false given))
+      | inr e ↦ rw e (does_few s.counter [] (failed_lists l owner seqids 14 a.seqid status) (failed_given s.counter l owner seqids 14 a.seqid status given))
     ]
 
-unlock_owner_few : (last : ℕ) (l : NfsLists) (current : Option ℕ) (a : UnlockArgs) (r : StateidRow) (owner : ℕ) (turn : Turn) (end : ℕ) (o : Option Opener) → AreGivenOut last l → AreFew last (unlock_by_owner l current a r owner turn end o)
-unlock_owner_few last l current a r owner turn end None given = does_few last [] l given
-unlock_owner_few last l current a r owner turn end (Some o) given = λ answer t le. unlocked_few t l current a r owner turn (unlock_status answer) (later_on last t.counter l le given)
+unlock_owner_few : (last : ℕ) (l : NfsLists) (current : Option ℕ) (a : UnlockArgs) (r : StateidRow) (owner : ℕ) (seqids : SeqidState) (end : ℕ) (o : Option Opener) → AreGivenOut last l → AreFew last (unlock_by_owner l current a r owner seqids end o)
+unlock_owner_few last l current a r owner seqids end None given = does_few last [] l given
+unlock_owner_few last l current a r owner seqids end (Some o) given = λ answer t le. unlocked_few t l current a r owner seqids (unlock_status answer) (later_on last t.counter l le given)
 
-unlock_to_few : (last : ℕ) (l : NfsLists) (current : Option ℕ) (a : UnlockArgs) (r : StateidRow) (owner : ℕ) (turn : Turn) (end : Option ℕ) → AreGivenOut last l → AreFew last (unlock_to l current a r owner turn end)
-unlock_to_few last l current a r owner turn None given = does_few last [] (failed_lists l owner turn 14 a.seqid statuses.Inval) (failed_given last l owner turn 14 a.seqid statuses.Inval given)
-unlock_to_few last l current a r owner turn (Some end) given = unlock_owner_few last l current a r owner turn end (opener_by l r.client owner) given
+unlock_to_few : (last : ℕ) (l : NfsLists) (current : Option ℕ) (a : UnlockArgs) (r : StateidRow) (owner : ℕ) (seqids : SeqidState) (end : Option ℕ) → AreGivenOut last l → AreFew last (unlock_to l current a r owner seqids end)
+unlock_to_few last l current a r owner seqids None given = does_few last [] (failed_lists l owner seqids 14 a.seqid statuses.Inval) (failed_given last l owner seqids 14 a.seqid statuses.Inval given)
+unlock_to_few last l current a r owner seqids (Some end) given = unlock_owner_few last l current a r owner seqids end (opener_by l r.client owner) given
 
-unlock_standing_few : (last : ℕ) (l : NfsLists) (current : Option ℕ) (a : UnlockArgs) (r : StateidRow) (owner : ℕ) (turn : Turn) (status : Option NfsStatus) → AreGivenOut last l → AreFew last (unlock_standing l current a r owner turn status)
-unlock_standing_few last l current a r owner turn (Some status) given = does_few last [] (failed_lists l owner turn 14 a.seqid status) (failed_given last l owner turn 14 a.seqid status given)
-unlock_standing_few last l current a r owner turn None given = unlock_to_few last l current a r owner turn (last_byte a.offset a.len) given
+unlock_standing_few : (last : ℕ) (l : NfsLists) (current : Option ℕ) (a : UnlockArgs) (r : StateidRow) (owner : ℕ) (seqids : SeqidState) (status : Option NfsStatus) → AreGivenOut last l → AreFew last (unlock_standing l current a r owner seqids status)
+unlock_standing_few last l current a r owner seqids (Some status) given = does_few last [] (failed_lists l owner seqids 14 a.seqid status) (failed_given last l owner seqids 14 a.seqid status given)
+unlock_standing_few last l current a r owner seqids None given = unlock_to_few last l current a r owner seqids (last_byte a.offset a.len) given
 
 unlock_by : (last : ℕ) (s : CoreState) (l : NfsLists) (current : Option ℕ) (a : UnlockArgs) (c : Checked) → AreGivenOut last l → AreFew last (unlock_found s l current a c)
 unlock_by last s l current a (Refused status) given = does_few last [] l given
 unlock_by last s l current a (Repeated owner) given = repeat_few last s l current (find (is_kept owner) l.kept) given
-unlock_by last s l current a (Passed r owner turn) given = unlock_standing_few last l current a r owner turn (standing_fault r turn a.stateid.seqid true) given
+unlock_by last s l current a (Passed r owner seqids) given = unlock_standing_few last l current a r owner seqids (standing_fault r seqids a.stateid.seqid true) given
 
 pub unlock_few : (s : CoreState) (l : NfsLists) (current : Option ℕ) (a : UnlockArgs) → AreGivenOut s.counter l → AreFew s.counter (unlock s l current a)
 unfolding unlock

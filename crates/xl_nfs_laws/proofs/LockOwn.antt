@@ -20,7 +20,7 @@ use Rattle.xl_nfs.specs.declared.status.NfsStatus.TheVariants as statuses
 use Rattle.xl_nfs_state.specs.State.{NfsLists, is_client, is_kept, is_owner, is_stateid}
 use Rattle.xl_nfs_state.specs.declared.client.ClientRow.{ClientRow}
 use Rattle.xl_nfs_state.specs.declared.kept.KeptRow.{KeptRow}
-use Rattle.xl_nfs_state.specs.declared.owner.Turn.{Turn}
+use Rattle.xl_nfs_state.specs.declared.owner.SeqidState.{SeqidState}
 use Rattle.xl_nfs_state.specs.declared.stateid.Holder.{Holder}
 use Rattle.xl_nfs_state.specs.declared.stateid.Holder.TheVariants as holders
 use Rattle.xl_nfs_state.specs.declared.stateid.StateidRow.{StateidRow}
@@ -120,12 +120,12 @@ asks_own n s Client id a rest is fits of more =
 
 -- ---- the client of a lock's stateid
 
-holder_client : (l : NfsLists) (x r : StateidRow) (op seqid w : ℕ) (t : Turn) (h : Holder) → holder_found l x op seqid h ≡ Passed r w t → client_if_live (Some x) ≡ Some r.client
+holder_client : (l : NfsLists) (x r : StateidRow) (op seqid w : ℕ) (t : SeqidState) (h : Holder) → holder_found l x op seqid h ≡ Passed r w t → client_if_live (Some x) ≡ Some r.client
 holder_client l x r op seqid w t (holders.Lock owner under opener) e = owner_client x r op seqid owner w t (find (is_owner owner) l.owners) e
 holder_client l x r op seqid w t (holders.Open owner) e = absurd cc
 holder_client l x r op seqid w t (holders.Delegation write) e = absurd cc
 
-row_client : (l : NfsLists) (r : StateidRow) (at op seqid w : ℕ) (t : Turn) (o : Option StateidRow) → row_found l at op seqid o ≡ Passed r w t → client_if_live o ≡ Some r.client
+row_client : (l : NfsLists) (r : StateidRow) (at op seqid w : ℕ) (t : SeqidState) (o : Option StateidRow) → row_found l at op seqid o ≡ Passed r w t → client_if_live o ≡ Some r.client
 row_client l r at op seqid w t None e = absurd cc
 row_client l r at op seqid w t (Some x) e =
     elim (cases_Bool (x.file == at)) [
@@ -133,40 +133,40 @@ row_client l r at op seqid w t (Some x) e =
       | inr other ↦ (let differs : Refused statuses.BadStateid ≡ Passed r w t = rw other at e in absurd cc)
     ]
 
-number_client : (l : NfsLists) (r : StateidRow) (at op seqid w : ℕ) (t : Turn) (o : Option ℕ) → number_found l at op seqid o ≡ Passed r w t → state_numbered l o ≡ Some r.client
+number_client : (l : NfsLists) (r : StateidRow) (at op seqid w : ℕ) (t : SeqidState) (o : Option ℕ) → number_found l at op seqid o ≡ Passed r w t → state_numbered l o ≡ Some r.client
 number_client l r at op seqid w t None e = absurd cc
 number_client l r at op seqid w t (Some number) e = row_client l r at op seqid w t (find (is_stateid number) l.stateids) e
 
-found_client : (s : CoreState) (l : NfsLists) (current : Option ℕ) (op seqid : ℕ) (stateid : Stateid) (r : StateidRow) (w : ℕ) (t : Turn) → locks_found s l current op seqid stateid ≡ Passed r w t → state_client s l stateid ≡ Some r.client
+found_client : (s : CoreState) (l : NfsLists) (current : Option ℕ) (op seqid : ℕ) (stateid : Stateid) (r : StateidRow) (w : ℕ) (t : SeqidState) → locks_found s l current op seqid stateid ≡ Passed r w t → state_client s l stateid ≡ Some r.client
 unfolding locks_found
 found_client s l None op seqid stateid r w t e = absurd cc
 found_client s l (Some at) op seqid stateid r w t e = number_client l r at op seqid w t (number_of s stateid.other) e
 
 -- ---- LOCK by a known owner
 
-lock_answered_own : (n : ℕ) (l : NfsLists) (current : Option ℕ) (r : StateidRow) (owner : ℕ) (turn : Turn) (seqid : ℕ) (reclaim : Bool) (Client : List ℕ → Type 0) (answer : Answer) (s : CoreState) → Owned n s Client (lock_answered l current r owner turn seqid reclaim answer s)
-lock_answered_own n l current r owner turn seqid reclaim Client answer s =
+lock_answered_own : (n : ℕ) (l : NfsLists) (current : Option ℕ) (r : StateidRow) (owner : ℕ) (seqids : SeqidState) (seqid : ℕ) (reclaim : Bool) (Client : List ℕ → Type 0) (answer : Answer) (s : CoreState) → Owned n s Client (lock_answered l current r owner seqids seqid reclaim answer s)
+lock_answered_own n l current r owner seqids seqid reclaim Client answer s =
     elim (cases_Bool (is_granted answer)) [
       | inl e ↦ rw e (tt, tt)
       | inr e ↦ rw e (tt, tt)
     ]
 
-lock_owner_own : (n : ℕ) (s : CoreState) (l : NfsLists) (current : Option ℕ) (a : LockArgsItem) (r : StateidRow) (owner : ℕ) (turn : Turn) (seqid last : ℕ) (Client : List ℕ → Type 0) (o : Option Opener) → a.offset ≤ last → ((x : Opener) → o ≡ Some x → Client x.id) → Owned n s Client (lock_by_owner l current a r owner turn seqid last o)
-lock_owner_own n s l current a r owner turn seqid last Client None le each = (tt, tt)
-lock_owner_own n s l current a r owner turn seqid last Client (Some o) le each = asks_own n s Client o.id (lock_ask o r.file a.kind a.reclaim a.offset last) (lock_answered l current r owner turn seqid a.reclaim) (each o refl) (lock_fits o r.file a.kind a.reclaim a.offset last le) refl (λ answer t. lock_answered_own n l current r owner turn seqid a.reclaim Client answer t)
+lock_owner_own : (n : ℕ) (s : CoreState) (l : NfsLists) (current : Option ℕ) (a : LockArgsItem) (r : StateidRow) (owner : ℕ) (seqids : SeqidState) (seqid last : ℕ) (Client : List ℕ → Type 0) (o : Option Opener) → a.offset ≤ last → ((x : Opener) → o ≡ Some x → Client x.id) → Owned n s Client (lock_by_owner l current a r owner seqids seqid last o)
+lock_owner_own n s l current a r owner seqids seqid last Client None le each = (tt, tt)
+lock_owner_own n s l current a r owner seqids seqid last Client (Some o) le each = asks_own n s Client o.id (lock_ask o r.file a.kind a.reclaim a.offset last) (lock_answered l current r owner seqids seqid a.reclaim) (each o refl) (lock_fits o r.file a.kind a.reclaim a.offset last le) refl (λ answer t. lock_answered_own n l current r owner seqids seqid a.reclaim Client answer t)
 
-lock_to_own : (n : ℕ) (s : CoreState) (l : NfsLists) (current : Option ℕ) (a : LockArgsItem) (r : StateidRow) (owner : ℕ) (turn : Turn) (seqid : ℕ) (Client : List ℕ → Type 0) (e : Result ℕ NfsStatus) → EndNotBefore a.offset e → ((c : ClientRow) → find (is_client r.client true) l.clients ≡ Some c → Client c.id) → Owned n s Client (lock_to l current a r owner turn seqid e)
-lock_to_own n s l current a r owner turn seqid Client (Err status) le each = (tt, tt)
-lock_to_own n s l current a r owner turn seqid Client (Ok last) le each = lock_owner_own n s l current a r owner turn seqid last Client (opener_by l r.client owner) le (λ x e. opener_is Client l r.client owner x each e)
+lock_to_own : (n : ℕ) (s : CoreState) (l : NfsLists) (current : Option ℕ) (a : LockArgsItem) (r : StateidRow) (owner : ℕ) (seqids : SeqidState) (seqid : ℕ) (Client : List ℕ → Type 0) (e : Result ℕ NfsStatus) → EndNotBefore a.offset e → ((c : ClientRow) → find (is_client r.client true) l.clients ≡ Some c → Client c.id) → Owned n s Client (lock_to l current a r owner seqids seqid e)
+lock_to_own n s l current a r owner seqids seqid Client (Err status) le each = (tt, tt)
+lock_to_own n s l current a r owner seqids seqid Client (Ok last) le each = lock_owner_own n s l current a r owner seqids seqid last Client (opener_by l r.client owner) le (λ x e. opener_is Client l r.client owner x each e)
 
-lock_standing_own : (n : ℕ) (s : CoreState) (l : NfsLists) (current : Option ℕ) (a : LockArgsItem) (r : StateidRow) (owner : ℕ) (turn : Turn) (seqid : ℕ) (Client : List ℕ → Type 0) (o : Option NfsStatus) → ((c : ClientRow) → find (is_client r.client true) l.clients ≡ Some c → Client c.id) → Owned n s Client (lock_standing l current a r owner turn seqid o)
-lock_standing_own n s l current a r owner turn seqid Client (Some status) each = (tt, tt)
-lock_standing_own n s l current a r owner turn seqid Client None each = lock_to_own n s l current a r owner turn seqid Client (lock_end a.kind (access_above l r.holder) (last_byte a.offset a.len)) (end_not_before a.kind (access_above l r.holder) a.offset a.len) each
+lock_standing_own : (n : ℕ) (s : CoreState) (l : NfsLists) (current : Option ℕ) (a : LockArgsItem) (r : StateidRow) (owner : ℕ) (seqids : SeqidState) (seqid : ℕ) (Client : List ℕ → Type 0) (o : Option NfsStatus) → ((c : ClientRow) → find (is_client r.client true) l.clients ≡ Some c → Client c.id) → Owned n s Client (lock_standing l current a r owner seqids seqid o)
+lock_standing_own n s l current a r owner seqids seqid Client (Some status) each = (tt, tt)
+lock_standing_own n s l current a r owner seqids seqid Client None each = lock_to_own n s l current a r owner seqids seqid Client (lock_end a.kind (access_above l r.holder) (last_byte a.offset a.len)) (end_not_before a.kind (access_above l r.holder) a.offset a.len) each
 
-lock_found_own : (n : ℕ) (s : CoreState) (l : NfsLists) (current : Option ℕ) (a : LockArgsItem) (x : KnownLocker) (Client : List ℕ → Type 0) (c : Checked) → ((r : StateidRow) (w : ℕ) (v : Turn) (y : ClientRow) → c ≡ Passed r w v → find (is_client r.client true) l.clients ≡ Some y → Client y.id) → Owned n s Client (lock_found s l current a x c)
+lock_found_own : (n : ℕ) (s : CoreState) (l : NfsLists) (current : Option ℕ) (a : LockArgsItem) (x : KnownLocker) (Client : List ℕ → Type 0) (c : Checked) → ((r : StateidRow) (w : ℕ) (v : SeqidState) (y : ClientRow) → c ≡ Passed r w v → find (is_client r.client true) l.clients ≡ Some y → Client y.id) → Owned n s Client (lock_found s l current a x c)
 lock_found_own n s l current a x Client (Refused status) each = (tt, tt)
 lock_found_own n s l current a x Client (Repeated owner) each = repeat_own n s l current Client (find (is_kept owner) l.kept)
-lock_found_own n s l current a x Client (Passed r owner turn) each = lock_standing_own n s l current a r owner turn x.seqid Client (standing_fault r turn x.stateid.seqid true) (λ y found. each r owner turn y refl found)
+lock_found_own n s l current a x Client (Passed r owner seqids) each = lock_standing_own n s l current a r owner seqids x.seqid Client (standing_fault r seqids x.stateid.seqid true) (λ y found. each r owner seqids y refl found)
 
 known_own : (n : ℕ) (s : CoreState) (l : NfsLists) (current : Option ℕ) (a : LockArgsItem) (x : KnownLocker) → IsGood s → Owned n s (λ id. is_holder s l x.stateid id) (lock_known s l current a x)
 unfolding lock_known
@@ -227,7 +227,7 @@ join_standing_own n s l current a x b r Client None each =
 join_checked_own : (n : ℕ) (s : CoreState) (l : NfsLists) (current : Option ℕ) (a : LockArgsItem) (x : NewLockerItem) (Client : List ℕ → Type 0) (c : Checked) → ((y : ClientRow) → client_in s l x.owner.clientid ≡ Some y → Client y.id) → Owned n s Client (join_checked s l current a x c)
 join_checked_own n s l current a x Client (Refused status) each = (tt, tt)
 join_checked_own n s l current a x Client (Repeated owner) each = repeat_own n s l current Client (find (is_kept owner) l.kept)
-join_checked_own n s l current a x Client (Passed r owner turn) each = join_standing_own n s l current a x (both_of x owner turn) r Client (standing_fault r turn x.open_stateid.seqid true) each
+join_checked_own n s l current a x Client (Passed r owner seqids) each = join_standing_own n s l current a x (both_of x owner seqids) r Client (standing_fault r seqids x.open_stateid.seqid true) each
 
 -- who is found by a clientid is named by it
 in_named : (s : CoreState) (l : NfsLists) (clientid : ℕ) (y : ClientRow) → client_in s l clientid ≡ Some y → is_named s l clientid true y.id
@@ -286,29 +286,29 @@ test_own n s l current a good = named_own n s l a.owner.clientid (λ t m. test_a
 
 -- ---- LOCKU
 
-unlocked_own : (n : ℕ) (s : CoreState) (l : NfsLists) (current : Option ℕ) (a : UnlockArgs) (r : StateidRow) (owner : ℕ) (turn : Turn) (Client : List ℕ → Type 0) (status : NfsStatus) → Owned n s Client (unlocked_as s l current a r owner turn status)
-unlocked_own n s l current a r owner turn Client status =
+unlocked_own : (n : ℕ) (s : CoreState) (l : NfsLists) (current : Option ℕ) (a : UnlockArgs) (r : StateidRow) (owner : ℕ) (seqids : SeqidState) (Client : List ℕ → Type 0) (status : NfsStatus) → Owned n s Client (unlocked_as s l current a r owner seqids status)
+unlocked_own n s l current a r owner seqids Client status =
     elim (cases_Bool (is_ok status)) [
       | inl e ↦ rw e (tt, tt)
       | inr e ↦ rw e (tt, tt)
     ]
 
-unlock_owner_own : (n : ℕ) (s : CoreState) (l : NfsLists) (current : Option ℕ) (a : UnlockArgs) (r : StateidRow) (owner : ℕ) (turn : Turn) (last : ℕ) (Client : List ℕ → Type 0) (o : Option Opener) → a.offset ≤ last → ((x : Opener) → o ≡ Some x → Client x.id) → Owned n s Client (unlock_by_owner l current a r owner turn last o)
-unlock_owner_own n s l current a r owner turn last Client None le each = (tt, tt)
-unlock_owner_own n s l current a r owner turn last Client (Some o) le each = asks_own n s Client o.id (unlock_ask o r.file a.offset last) (λ answer t. unlocked_as t l current a r owner turn (unlock_status answer)) (each o refl) (unlock_fits o r.file a.offset last le) refl (λ answer t. unlocked_own n t l current a r owner turn Client (unlock_status answer))
+unlock_owner_own : (n : ℕ) (s : CoreState) (l : NfsLists) (current : Option ℕ) (a : UnlockArgs) (r : StateidRow) (owner : ℕ) (seqids : SeqidState) (last : ℕ) (Client : List ℕ → Type 0) (o : Option Opener) → a.offset ≤ last → ((x : Opener) → o ≡ Some x → Client x.id) → Owned n s Client (unlock_by_owner l current a r owner seqids last o)
+unlock_owner_own n s l current a r owner seqids last Client None le each = (tt, tt)
+unlock_owner_own n s l current a r owner seqids last Client (Some o) le each = asks_own n s Client o.id (unlock_ask o r.file a.offset last) (λ answer t. unlocked_as t l current a r owner seqids (unlock_status answer)) (each o refl) (unlock_fits o r.file a.offset last le) refl (λ answer t. unlocked_own n t l current a r owner seqids Client (unlock_status answer))
 
-unlock_to_own : (n : ℕ) (s : CoreState) (l : NfsLists) (current : Option ℕ) (a : UnlockArgs) (r : StateidRow) (owner : ℕ) (turn : Turn) (Client : List ℕ → Type 0) (last : Option ℕ) → NotBefore a.offset last → ((c : ClientRow) → find (is_client r.client true) l.clients ≡ Some c → Client c.id) → Owned n s Client (unlock_to l current a r owner turn last)
-unlock_to_own n s l current a r owner turn Client None le each = (tt, tt)
-unlock_to_own n s l current a r owner turn Client (Some last) le each = unlock_owner_own n s l current a r owner turn last Client (opener_by l r.client owner) le (λ x e. opener_is Client l r.client owner x each e)
+unlock_to_own : (n : ℕ) (s : CoreState) (l : NfsLists) (current : Option ℕ) (a : UnlockArgs) (r : StateidRow) (owner : ℕ) (seqids : SeqidState) (Client : List ℕ → Type 0) (last : Option ℕ) → NotBefore a.offset last → ((c : ClientRow) → find (is_client r.client true) l.clients ≡ Some c → Client c.id) → Owned n s Client (unlock_to l current a r owner seqids last)
+unlock_to_own n s l current a r owner seqids Client None le each = (tt, tt)
+unlock_to_own n s l current a r owner seqids Client (Some last) le each = unlock_owner_own n s l current a r owner seqids last Client (opener_by l r.client owner) le (λ x e. opener_is Client l r.client owner x each e)
 
-unlock_standing_own : (n : ℕ) (s : CoreState) (l : NfsLists) (current : Option ℕ) (a : UnlockArgs) (r : StateidRow) (owner : ℕ) (turn : Turn) (Client : List ℕ → Type 0) (o : Option NfsStatus) → ((c : ClientRow) → find (is_client r.client true) l.clients ≡ Some c → Client c.id) → Owned n s Client (unlock_standing l current a r owner turn o)
-unlock_standing_own n s l current a r owner turn Client (Some status) each = (tt, tt)
-unlock_standing_own n s l current a r owner turn Client None each = unlock_to_own n s l current a r owner turn Client (last_byte a.offset a.len) (last_not_before a.offset a.len) each
+unlock_standing_own : (n : ℕ) (s : CoreState) (l : NfsLists) (current : Option ℕ) (a : UnlockArgs) (r : StateidRow) (owner : ℕ) (seqids : SeqidState) (Client : List ℕ → Type 0) (o : Option NfsStatus) → ((c : ClientRow) → find (is_client r.client true) l.clients ≡ Some c → Client c.id) → Owned n s Client (unlock_standing l current a r owner seqids o)
+unlock_standing_own n s l current a r owner seqids Client (Some status) each = (tt, tt)
+unlock_standing_own n s l current a r owner seqids Client None each = unlock_to_own n s l current a r owner seqids Client (last_byte a.offset a.len) (last_not_before a.offset a.len) each
 
-unlock_found_own : (n : ℕ) (s : CoreState) (l : NfsLists) (current : Option ℕ) (a : UnlockArgs) (Client : List ℕ → Type 0) (c : Checked) → ((r : StateidRow) (w : ℕ) (v : Turn) (y : ClientRow) → c ≡ Passed r w v → find (is_client r.client true) l.clients ≡ Some y → Client y.id) → Owned n s Client (unlock_found s l current a c)
+unlock_found_own : (n : ℕ) (s : CoreState) (l : NfsLists) (current : Option ℕ) (a : UnlockArgs) (Client : List ℕ → Type 0) (c : Checked) → ((r : StateidRow) (w : ℕ) (v : SeqidState) (y : ClientRow) → c ≡ Passed r w v → find (is_client r.client true) l.clients ≡ Some y → Client y.id) → Owned n s Client (unlock_found s l current a c)
 unlock_found_own n s l current a Client (Refused status) each = (tt, tt)
 unlock_found_own n s l current a Client (Repeated owner) each = repeat_own n s l current Client (find (is_kept owner) l.kept)
-unlock_found_own n s l current a Client (Passed r owner turn) each = unlock_standing_own n s l current a r owner turn Client (standing_fault r turn a.stateid.seqid true) (λ y found. each r owner turn y refl found)
+unlock_found_own n s l current a Client (Passed r owner seqids) each = unlock_standing_own n s l current a r owner seqids Client (standing_fault r seqids a.stateid.seqid true) (λ y found. each r owner seqids y refl found)
 
 pub unlock_own : (n : ℕ) (s : CoreState) (l : NfsLists) (current : Option ℕ) (a : UnlockArgs) → IsGood s → Owned n s (Names s l (LockU a)) (unlock s l current a)
 unfolding unlock

@@ -12,14 +12,14 @@ use Rattle.xl_nfs_state.proofs.SoundLaws.{fresh_number, rising_changed}
 use Rattle.xl_nfs_state.specs.Alike.{owner_names_are}
 use Rattle.xl_nfs_state.specs.Filed.{changed}
 use Rattle.xl_nfs_state.specs.Keys.{owner_name, same_kind, same_owner_name}
-use Rattle.xl_nfs_state.specs.Rows.{with_turn}
+use Rattle.xl_nfs_state.specs.Rows.{with_seqids}
 use Rattle.xl_nfs_state.specs.State.{NfsLists, IsRising, hangs_on, is_kept, is_owner, is_owner_named, is_whose, next_owner, with_stateids, without, without_owner}
 use Rattle.xl_nfs_state.specs.declared.client.ClientRow.{ClientRow}
 use Rattle.xl_nfs_state.specs.declared.kept.KeptRow.{KeptRow}
 use Rattle.xl_nfs_state.specs.declared.owner.OwnerKind.TheVariants as kinds
 use Rattle.xl_nfs_state.specs.declared.owner.OwnerName.{OwnerName}
 use Rattle.xl_nfs_state.specs.declared.owner.OwnerRow.{OwnerRow}
-use Rattle.xl_nfs_state.specs.declared.owner.Turn.{Turn}
+use Rattle.xl_nfs_state.specs.declared.owner.SeqidState.{SeqidState}
 use Rattle.xl_nfs_state.specs.declared.stateid.StateidRow.{StateidRow}
 use Rattle.xl_nfs_state.specs.declared.stateid.Whose.TheVariants as whose
 use Rattle.xl_core.specs.Decide.{ask}
@@ -28,15 +28,15 @@ use Rattle.xl_core.specs.declared.ask.Answer.{Answer}
 use Rattle.xl_nfs_laws.proofs.OpenSeqidLaws.{gone_kept, kept_apart, same_rows}
 use Rattle.xl_nfs_laws.proofs.OpenOrderLaws.{passes, rising_found}
 use Rattle.xl_nfs_laws.proofs.KeptResultLaws.{counted_kept, remembered_kept}
-use Rattle.xl_nfs_laws.proofs.OpenLaws.{counted_turn, kept_owners}
+use Rattle.xl_nfs_laws.proofs.OpenLaws.{counted_seqids, kept_owners}
 use Rattle.xl_nfs_laws.proofs.FirstSeqidLaws.{differs, same_come, seated_come}
-use Rattle.xl_nfs_opens.specs.Closing.{next_turn, state_told}
+use Rattle.xl_nfs_opens.specs.Closing.{next_seqids, state_told}
 use Rattle.xl_nfs_laws.specs.OpenLaws.{HasCome}
 use Rattle.xl_nfs_opens.specs.Opens.{all_rooms, is_granted, stood}
 use Rattle.xl_nfs_opens.specs.Plans.{carried, status_of}
 use Rattle.xl_nfs_opens.specs.Renewing.{stateid_of}
 use Rattle.xl_nfs_opens.specs.Results.{spelled}
-use Rattle.xl_nfs_opens.specs.Seqids.{advances, is_opener, is_room_for, number_by, opener_number, remembered, seated, seated_by, seated_new, turned}
+use Rattle.xl_nfs_opens.specs.Seqids.{advances, is_opener, is_room_for, number_by, opener_number, remembered, seated, seated_by, seated_new, seqid_set}
 use Rattle.xl_nfs_opens.specs.declared.opener.Opener.{Opener}
 use Rattle.xl_nfs_opens.specs.declared.told.Told.{Told}
 use Rattle.xl_nfs_opens.specs.declared.told.Told.TheVariants.{Ended, State}
@@ -46,23 +46,23 @@ use Rattle.xl_nfs_locks.specs.FirstLocks.{both_refused, can_enter, counted_both,
 use Rattle.xl_nfs_locks.specs.Ranges.{lock_ask}
 use Rattle.xl_nfs_locks.specs.Releases.{holds_any, release_of, released, without_found}
 use Rattle.xl_nfs_locks.specs.declared.joining.BothOwners.{BothOwners}
-use Rattle.xl_nfs_laws.proofs.LockOrderLaws.{counted_owners, next_turned}
+use Rattle.xl_nfs_laws.proofs.LockOrderLaws.{counted_owners, next_seqid_set}
 
 -- ---- the two owners are apart
 
 -- a request of another owner leaves what is found by a name
-pub unnamed_turned : (p : OwnerRow → Bool) (turn : Turn) (number : ℕ) (os : List OwnerRow) (w : OwnerRow) → ((x : OwnerRow) → p (with_turn turn x) ≡ p x) → find (is_owner number) os ≡ Some w → p w ≡ false → find p (changed (is_owner number) (with_turn turn) os) ≡ find p os
-unnamed_turned p turn number [] w same found other = refl
-unnamed_turned p turn number (x ∷ os) w same found other =
+pub unnamed_seqid_set : (p : OwnerRow → Bool) (seqids : SeqidState) (number : ℕ) (os : List OwnerRow) (w : OwnerRow) → ((x : OwnerRow) → p (with_seqids seqids x) ≡ p x) → find (is_owner number) os ≡ Some w → p w ≡ false → find p (changed (is_owner number) (with_seqids seqids) os) ≡ find p os
+unnamed_seqid_set p seqids number [] w same found other = refl
+unnamed_seqid_set p seqids number (x ∷ os) w same found other =
     elim (cases_Bool (number == x.number)) [
       | inl e ↦ (
           let f : Some x ≡ Some w = rw e at found in
           let no_x : p x ≡ false = ap p (same_Some x w f) ∙ other in
-          let no_turned : p (with_turn turn x) ≡ false = same x ∙ no_x in
-          rw e (rw no_turned (rw no_x refl)))
+          let no_seqid_set : p (with_seqids seqids x) ≡ false = same x ∙ no_x in
+          rw e (rw no_seqid_set (rw no_x refl)))
       | inr e ↦ rw e (elim (cases_Bool (p x)) [
         | inl d ↦ rw d refl
-        | inr d ↦ rw d (unnamed_turned p turn number os w same (rw e at found) other)
+        | inr d ↦ rw d (unnamed_seqid_set p seqids number os w same (rw e at found) other)
       ])
     ]
 
@@ -90,36 +90,36 @@ other_kind o w opens locks =
 
 -- ---- what is kept for others
 
-new_kept : (o : Opener) (turn : Turn) (l : NfsLists) (next : Option ℕ) → (seated_new o turn l next).kept ≡ l.kept
-new_kept o turn l None = refl
-new_kept o turn l (Some number) = refl
+new_kept : (o : Opener) (seqids : SeqidState) (l : NfsLists) (next : Option ℕ) → (seated_new o seqids l next).kept ≡ l.kept
+new_kept o seqids l None = refl
+new_kept o seqids l (Some number) = refl
 
-seated_kept : (o : Opener) (turn : Turn) (l : NfsLists) → (seated o turn l).kept ≡ l.kept
+seated_kept : (o : Opener) (seqids : SeqidState) (l : NfsLists) → (seated o seqids l).kept ≡ l.kept
 unfolding seated
-seated_kept o turn l = by (find (is_opener o) l.owners)
+seated_kept o seqids l = by (find (is_opener o) l.owners)
   where
-    by : (x : Option OwnerRow) → (seated_by o turn l x).kept ≡ l.kept
-    by None = new_kept o turn l (next_owner l.owners)
-    by (Some r) = gone_kept r.turn.closed (turned r.number turn l)
+    by : (x : Option OwnerRow) → (seated_by o seqids l x).kept ≡ l.kept
+    by None = new_kept o seqids l (next_owner l.owners)
+    by (Some r) = gone_kept r.seqids.closed (seqid_set r.number seqids l)
 
-remembered_apart : (i : ℕ) (o : Opener) (turn : Turn) (bytes : List ℕ) (l : NfsLists) → is_room_for o l ≡ true → (i ≡ opener_number o l → ⊥) → find (is_kept i) (remembered o turn bytes l).kept ≡ find (is_kept i) l.kept
+remembered_apart : (i : ℕ) (o : Opener) (seqids : SeqidState) (bytes : List ℕ) (l : NfsLists) → is_room_for o l ≡ true → (i ≡ opener_number o l → ⊥) → find (is_kept i) (remembered o seqids bytes l).kept ≡ find (is_kept i) l.kept
 unfolding remembered
-remembered_apart i o turn bytes l room other = rw room (kept_apart i (opener_number o l) bytes (seated o turn l) other ∙ ap (λ (ks : List KeptRow). find (is_kept i) ks) (seated_kept o turn l))
+remembered_apart i o seqids bytes l room other = rw room (kept_apart i (opener_number o l) bytes (seated o seqids l) other ∙ ap (λ (ks : List KeptRow). find (is_kept i) ks) (seated_kept o seqids l))
 
 -- ---- both count
 
-remembered_come : (o : Opener) (turn : Turn) (bytes : List ℕ) (l : NfsLists) → IsRising l.owners → is_room_for o l ≡ true → HasCome o turn l (remembered o turn bytes l)
+remembered_come : (o : Opener) (seqids : SeqidState) (bytes : List ℕ) (l : NfsLists) → IsRising l.owners → is_room_for o l ≡ true → HasCome o seqids l (remembered o seqids bytes l)
 unfolding remembered
-remembered_come o turn bytes l rising room = rw room (same_come o turn l _ (kept_owners (opener_number o l) bytes (seated o turn l)) (seated_come o turn l rising room))
+remembered_come o seqids bytes l rising room = rw room (same_come o seqids l _ (kept_owners (opener_number o l) bytes (seated o seqids l)) (seated_come o seqids l rising room))
 
 both_come : (b : BothOwners) (w : OwnerRow) (o : Opener) (bytes : List ℕ) (l : NfsLists) → IsRising l.owners → find (is_owner b.number) l.owners ≡ Some w → is_opener o w ≡ false → is_room_for o l ≡ true → HaveBothCome b o bytes l (counted_both b o bytes l)
 both_come b w o bytes l rising found other room =
-    let first : Turn = next_turn 12 b.open_seqid b.turn.confirmed None in
-    let second : Turn = next_turn 12 b.lock_seqid true None in
+    let first : SeqidState = next_seqids 12 b.open_seqid b.seqids.confirmed None in
+    let second : SeqidState = next_seqids 12 b.lock_seqid true None in
     let k : NfsLists = counted_open b bytes l in
-    let rows : k.owners ≡ changed (is_owner b.number) (with_turn first) l.owners = counted_owners b.number b.turn.closed first bytes l in
-    let named : find (is_opener o) k.owners ≡ find (is_opener o) l.owners = ap (λ (os : List OwnerRow). find (is_opener o) os) rows ∙ unnamed_turned (is_opener o) first b.number l.owners w (λ x. refl) found other in
-    let next : next_owner k.owners ≡ next_owner l.owners = ap (λ (os : List OwnerRow). next_owner os) rows ∙ next_turned (is_owner b.number) first l.owners in
+    let rows : k.owners ≡ changed (is_owner b.number) (with_seqids first) l.owners = counted_owners b.number b.seqids.closed first bytes l in
+    let named : find (is_opener o) k.owners ≡ find (is_opener o) l.owners = ap (λ (os : List OwnerRow). find (is_opener o) os) rows ∙ unnamed_seqid_set (is_opener o) first b.number l.owners w (λ x. refl) found other in
+    let next : next_owner k.owners ≡ next_owner l.owners = ap (λ (os : List OwnerRow). next_owner os) rows ∙ next_seqid_set (is_owner b.number) first l.owners in
     let number : opener_number o k ≡ opener_number o l = (λ i. number_by (named i) (next i)) in
     let room_then : is_room_for o k ≡ true = (λ i. is_some (named i) || is_some (next i)) ∙ room in
     let rising_then : IsRising k.owners = subst IsRising (sym rows) (rising_changed (is_owner b.number) first l.owners rising) in
@@ -127,11 +127,11 @@ both_come b w o bytes l rising found other room =
     let not_lock : b.number ≡ opener_number o k → ⊥ = λ e. apart o b.number w l rising found other room (e ∙ number) in
     record {
       open_owner =
-          ap (λ (x : Option OwnerRow). option_map (λ (y : OwnerRow). y.turn) x) (come.others b.number not_lock ∙ counted_turn b.number b.number b.turn.closed first bytes l ∙ ap (λ (x : Option OwnerRow). option_map (λ (y : OwnerRow). if b.number == b.number then with_turn first y else y) x) found)
+          ap (λ (x : Option OwnerRow). option_map (λ (y : OwnerRow). y.seqids) x) (come.others b.number not_lock ∙ counted_seqids b.number b.number b.seqids.closed first bytes l ∙ ap (λ (x : Option OwnerRow). option_map (λ (y : OwnerRow). if b.number == b.number then with_seqids first y else y) x) found)
           ∙ rw (eq-eqb b.number b.number refl) refl;
       lock_owner = come.own;
-      others = λ m no_open no_lock. come.others m (λ e. no_lock (e ∙ number)) ∙ counted_turn b.number m b.turn.closed first bytes l ∙ rw (differs m b.number no_open) (same_rows (find (is_owner m) l.owners));
-      open_kept = remembered_apart b.number o second bytes k room_then not_lock ∙ counted_kept b.number b.turn.closed first bytes l (ap is_some found);
+      others = λ m no_open no_lock. come.others m (λ e. no_lock (e ∙ number)) ∙ counted_seqids b.number m b.seqids.closed first bytes l ∙ rw (differs m b.number no_open) (same_rows (find (is_owner m) l.owners));
+      open_kept = remembered_apart b.number o second bytes k room_then not_lock ∙ counted_kept b.number b.seqids.closed first bytes l (ap is_some found);
       lock_kept = subst (λ (m : ℕ). find (is_kept m) (remembered o second bytes k).kept ≡ Some (record { owner = m; result = bytes })) number (remembered_kept o second bytes k room_then);
     }
 
@@ -148,8 +148,8 @@ entered_same r l =
 
 both_same : (b : BothOwners) (o : Opener) (bytes : List ℕ) (old m new : NfsLists) → new.owners ≡ m.owners → new.kept ≡ m.kept → HaveBothCome b o bytes old m → HaveBothCome b o bytes old new
 both_same b o bytes old m new rows kept come = record {
-  open_owner = ap (λ (os : List OwnerRow). option_map (λ (x : OwnerRow). x.turn) (find (is_owner b.number) os)) rows ∙ come.open_owner;
-  lock_owner = ap (λ (os : List OwnerRow). option_map (λ (x : OwnerRow). x.turn) (find (is_opener o) os)) rows ∙ come.lock_owner;
+  open_owner = ap (λ (os : List OwnerRow). option_map (λ (x : OwnerRow). x.seqids) (find (is_owner b.number) os)) rows ∙ come.open_owner;
+  lock_owner = ap (λ (os : List OwnerRow). option_map (λ (x : OwnerRow). x.seqids) (find (is_opener o) os)) rows ∙ come.lock_owner;
   others = λ number no_open no_lock. ap (λ (os : List OwnerRow). find (is_owner number) os) rows ∙ come.others number no_open no_lock;
   open_kept = ap (λ (ks : List KeptRow). find (is_kept b.number) ks) kept ∙ come.open_kept;
   lock_kept = ap (λ (ks : List KeptRow). find (is_kept (opener_number o old)) ks) kept ∙ come.lock_kept;

@@ -12,7 +12,7 @@ use Rattle.xl_nfs.specs.declared.status.NfsStatus.TheVariants as statuses
 use Rattle.xl_nfs_state.specs.State.{NfsLists, is_owner, is_stateid}
 use Rattle.xl_nfs_state.specs.Verdict.{next_seqid, verdict}
 use Rattle.xl_nfs_state.specs.declared.owner.OwnerRow.{OwnerRow}
-use Rattle.xl_nfs_state.specs.declared.owner.Turn.{Turn}
+use Rattle.xl_nfs_state.specs.declared.owner.SeqidState.{SeqidState}
 use Rattle.xl_nfs_state.specs.declared.stateid.Holder.{Holder}
 use Rattle.xl_nfs_state.specs.declared.stateid.Holder.TheVariants as holders
 use Rattle.xl_nfs_state.specs.declared.stateid.StateidRow.{StateidRow}
@@ -30,46 +30,46 @@ use Rattle.xl_nfs_laws.specs.LockStateids.{IsLocksOf, IsNextOn}
 
 -- ---- what is found of it
 
-row_known : (l : NfsLists) (op seqid : ℕ) (r : StateidRow) (w under opener : ℕ) (o : OwnerRow) → r.holder ≡ holders.Lock w under opener → find (is_owner w) l.owners ≡ Some o → row_found l r.file op seqid (Some r) ≡ seqid_checked r w o.turn (verdict (Some o.turn) op seqid)
+row_known : (l : NfsLists) (op seqid : ℕ) (r : StateidRow) (w under opener : ℕ) (o : OwnerRow) → r.holder ≡ holders.Lock w under opener → find (is_owner w) l.owners ≡ Some o → row_found l r.file op seqid (Some r) ≡ seqid_checked r w o.seqids (verdict (Some o.seqids) op seqid)
 row_known l op seqid r w under opener o holds owned = rw (eq-eqb r.file r.file refl) (ap (λ (h : Holder). holder_found l r op seqid h) holds ∙ ap (λ (x : Option OwnerRow). owner_checked r op seqid w x) owned)
 
 -- it is judged by its owner's seqid
-known : (s : CoreState) (l : NfsLists) (op seqid : ℕ) (stateid : Stateid) (r : StateidRow) (w : ℕ) (o : OwnerRow) → IsLocksOf s l stateid r w o → locks_found s l (Some r.file) op seqid stateid ≡ seqid_checked r w o.turn (verdict (Some o.turn) op seqid)
+known : (s : CoreState) (l : NfsLists) (op seqid : ℕ) (stateid : Stateid) (r : StateidRow) (w : ℕ) (o : OwnerRow) → IsLocksOf s l stateid r w o → locks_found s l (Some r.file) op seqid stateid ≡ seqid_checked r w o.seqids (verdict (Some o.seqids) op seqid)
 unfolding locks_found
 known s l op seqid stateid r w o is =
     ap (λ (x : Option ℕ). number_found l r.file op seqid x) is.number
     ∙ ap (λ (x : Option StateidRow). row_found l r.file op seqid x) is.found
     ∙ row_known l op seqid r w is.under is.opener o is.holder is.owner
 
-next_passes : (s : CoreState) (l : NfsLists) (op seqid : ℕ) (stateid : Stateid) (r : StateidRow) (w : ℕ) (o : OwnerRow) → IsLocksOf s l stateid r w o → seqid ≡ next_seqid o.turn.seqid → r.standing.closed ≡ false → locks_found s l (Some r.file) op seqid stateid ≡ Passed r w o.turn
-next_passes s l op seqid stateid r w o is next stands = known s l op seqid stateid r w o is ∙ rw (eq-eqb seqid (next_seqid o.turn.seqid) next) (rw stands refl)
+next_passes : (s : CoreState) (l : NfsLists) (op seqid : ℕ) (stateid : Stateid) (r : StateidRow) (w : ℕ) (o : OwnerRow) → IsLocksOf s l stateid r w o → seqid ≡ next_seqid o.seqids.seqid → r.standing.closed ≡ false → locks_found s l (Some r.file) op seqid stateid ≡ Passed r w o.seqids
+next_passes s l op seqid stateid r w o is next stands = known s l op seqid stateid r w o is ∙ rw (eq-eqb seqid (next_seqid o.seqids.seqid) next) (rw stands refl)
 
-pub last_repeated : (s : CoreState) (l : NfsLists) (op seqid : ℕ) (stateid : Stateid) (r : StateidRow) (w : ℕ) (o : OwnerRow) → IsLocksOf s l stateid r w o → seqid ≡ o.turn.seqid → op ≡ o.turn.op → seqid < 2 ^ 32 → locks_found s l (Some r.file) op seqid stateid ≡ Repeated w
+pub last_repeated : (s : CoreState) (l : NfsLists) (op seqid : ℕ) (stateid : Stateid) (r : StateidRow) (w : ℕ) (o : OwnerRow) → IsLocksOf s l stateid r w o → seqid ≡ o.seqids.seqid → op ≡ o.seqids.op → seqid < 2 ^ 32 → locks_found s l (Some r.file) op seqid stateid ≡ Repeated w
 last_repeated s l op seqid stateid r w o is last same le =
     known s l op seqid stateid r w o is
-    ∙ rw (differs seqid (next_seqid o.turn.seqid) (λ e. omega (arith, e, last, le))) (rw (eq-eqb seqid o.turn.seqid last) (rw (eq-eqb op o.turn.op same) refl))
+    ∙ rw (differs seqid (next_seqid o.seqids.seqid) (λ e. omega (arith, e, last, le))) (rw (eq-eqb seqid o.seqids.seqid last) (rw (eq-eqb op o.seqids.op same) refl))
 
-pub others_refused : (s : CoreState) (l : NfsLists) (op seqid : ℕ) (stateid : Stateid) (r : StateidRow) (w : ℕ) (o : OwnerRow) → IsLocksOf s l stateid r w o → (seqid ≡ next_seqid o.turn.seqid → ⊥) → (seqid ≡ o.turn.seqid → op ≡ o.turn.op → ⊥) → r.standing.closed ≡ false → locks_found s l (Some r.file) op seqid stateid ≡ Refused statuses.BadSeqid
+pub others_refused : (s : CoreState) (l : NfsLists) (op seqid : ℕ) (stateid : Stateid) (r : StateidRow) (w : ℕ) (o : OwnerRow) → IsLocksOf s l stateid r w o → (seqid ≡ next_seqid o.seqids.seqid → ⊥) → (seqid ≡ o.seqids.seqid → op ≡ o.seqids.op → ⊥) → r.standing.closed ≡ false → locks_found s l (Some r.file) op seqid stateid ≡ Refused statuses.BadSeqid
 others_refused s l op seqid stateid r w o is next last stands =
     known s l op seqid stateid r w o is
-    ∙ rw (differs seqid (next_seqid o.turn.seqid) next) (rw (not_last seqid o.turn.seqid op o.turn.op last) (rw stands refl))
+    ∙ rw (differs seqid (next_seqid o.seqids.seqid) next) (rw (not_last seqid o.seqids.seqid op o.seqids.op last) (rw stands refl))
 
 -- ---- what passes
 
 abbrev pub IfNext : CoreState → NfsLists → Option ℕ → ℕ → Stateid → Checked → Type 0
-IfNext s l current seqid stateid (Passed r w turn) = IsNextOn s l current seqid stateid r w turn
+IfNext s l current seqid stateid (Passed r w seqids) = IsNextOn s l current seqid stateid r w seqids
 IfNext s l current seqid stateid (Refused status) = Unit {0}
 IfNext s l current seqid stateid (Repeated owner) = Unit {0}
 
-live_next : (s : CoreState) (l : NfsLists) (seqid : ℕ) (stateid : Stateid) (r : StateidRow) (w : ℕ) (o : OwnerRow) (b : Bool) → r.standing.closed ≡ b → IsLocksOf s l stateid r w o → seqid ≡ next_seqid o.turn.seqid → IfNext s l (Some r.file) seqid stateid (if b then Refused statuses.BadStateid else Passed r w o.turn)
+live_next : (s : CoreState) (l : NfsLists) (seqid : ℕ) (stateid : Stateid) (r : StateidRow) (w : ℕ) (o : OwnerRow) (b : Bool) → r.standing.closed ≡ b → IsLocksOf s l stateid r w o → seqid ≡ next_seqid o.seqids.seqid → IfNext s l (Some r.file) seqid stateid (if b then Refused statuses.BadStateid else Passed r w o.seqids)
 live_next s l seqid stateid r w o true e is next = tt
-live_next s l seqid stateid r w o false e is next = record { row = o; locks = is; file = refl; live = e; turn_is = refl; seqid_is = next }
+live_next s l seqid stateid r w o false e is next = record { row = o; locks = is; file = refl; live = e; seqids_is = refl; seqid_is = next }
 
-seqid_next : (s : CoreState) (l : NfsLists) (op seqid : ℕ) (stateid : Stateid) (r : StateidRow) (w : ℕ) (o : OwnerRow) → IsLocksOf s l stateid r w o → IfNext s l (Some r.file) seqid stateid (seqid_checked r w o.turn (verdict (Some o.turn) op seqid))
+seqid_next : (s : CoreState) (l : NfsLists) (op seqid : ℕ) (stateid : Stateid) (r : StateidRow) (w : ℕ) (o : OwnerRow) → IsLocksOf s l stateid r w o → IfNext s l (Some r.file) seqid stateid (seqid_checked r w o.seqids (verdict (Some o.seqids) op seqid))
 seqid_next s l op seqid stateid r w o is =
-    elim (cases_Bool (seqid == next_seqid o.turn.seqid)) [
-      | inl e ↦ rw e (live_next s l seqid stateid r w o r.standing.closed refl is (eqb-true seqid (next_seqid o.turn.seqid) e))
-      | inr e ↦ rw e (elim (cases_Bool ((seqid == o.turn.seqid) && (op == o.turn.op))) [
+    elim (cases_Bool (seqid == next_seqid o.seqids.seqid)) [
+      | inl e ↦ rw e (live_next s l seqid stateid r w o r.standing.closed refl is (eqb-true seqid (next_seqid o.seqids.seqid) e))
+      | inr e ↦ rw e (elim (cases_Bool ((seqid == o.seqids.seqid) && (op == o.seqids.op))) [
         | inl d ↦ rw d tt
         | inr d ↦ rw d tt
       ])
@@ -102,13 +102,13 @@ unfolding locks_found
 found_next s l None op seqid stateid = tt
 found_next s l (Some at) op seqid stateid = number_next s l at op seqid stateid (number_of s stateid.other) refl
 
-pub passed_next : (s : CoreState) (l : NfsLists) (current : Option ℕ) (op seqid : ℕ) (stateid : Stateid) (r : StateidRow) (w : ℕ) (turn : Turn) → locks_found s l current op seqid stateid ≡ Passed r w turn → IsNextOn s l current seqid stateid r w turn
-passed_next s l current op seqid stateid r w turn e = subst (λ (c : Checked). IfNext s l current seqid stateid c) e (found_next s l current op seqid stateid)
+pub passed_next : (s : CoreState) (l : NfsLists) (current : Option ℕ) (op seqid : ℕ) (stateid : Stateid) (r : StateidRow) (w : ℕ) (seqids : SeqidState) → locks_found s l current op seqid stateid ≡ Passed r w seqids → IsNextOn s l current seqid stateid r w seqids
+passed_next s l current op seqid stateid r w seqids e = subst (λ (c : Checked). IfNext s l current seqid stateid c) e (found_next s l current op seqid stateid)
 
-pub passes_exactly : (s : CoreState) (l : NfsLists) (current : Option ℕ) (op seqid : ℕ) (stateid : Stateid) (r : StateidRow) (w : ℕ) (turn : Turn) → (locks_found s l current op seqid stateid ≡ Passed r w turn) ↔ IsNextOn s l current seqid stateid r w turn
-passes_exactly s l current op seqid stateid r w turn = (
-  passed_next s l current op seqid stateid r w turn,
-  λ is. ap (λ (x : Option ℕ). locks_found s l x op seqid stateid) is.file ∙ next_passes s l op seqid stateid r w is.row is.locks is.seqid_is is.live ∙ ap (λ (t : Turn). Passed r w t) (sym is.turn_is),
+pub passes_exactly : (s : CoreState) (l : NfsLists) (current : Option ℕ) (op seqid : ℕ) (stateid : Stateid) (r : StateidRow) (w : ℕ) (seqids : SeqidState) → (locks_found s l current op seqid stateid ≡ Passed r w seqids) ↔ IsNextOn s l current seqid stateid r w seqids
+passes_exactly s l current op seqid stateid r w seqids = (
+  passed_next s l current op seqid stateid r w seqids,
+  λ is. ap (λ (x : Option ℕ). locks_found s l x op seqid stateid) is.file ∙ next_passes s l op seqid stateid r w is.row is.locks is.seqid_is is.live ∙ ap (λ (t : SeqidState). Passed r w t) (sym is.seqids_is),
 )
 
 -- ---- what is refused doesn't count

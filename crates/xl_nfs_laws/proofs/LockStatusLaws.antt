@@ -15,7 +15,7 @@ use Rattle.xl_nfs.specs.declared.locks.UnlockArgs.{UnlockArgs}
 use Rattle.xl_nfs.specs.declared.status.NfsStatus.{NfsStatus}
 use Rattle.xl_nfs.specs.declared.status.NfsStatus.TheVariants as statuses
 use Rattle.xl_nfs_state.specs.State.{NfsLists}
-use Rattle.xl_nfs_state.specs.declared.owner.Turn.{Turn}
+use Rattle.xl_nfs_state.specs.declared.owner.SeqidState.{SeqidState}
 use Rattle.xl_nfs_state.specs.declared.stateid.StateidRow.{StateidRow}
 use Rattle.xl_spans.specs.Spans.{within, mode_at}
 use Rattle.xl_spans.specs.declared.span.Mode.{Mode}
@@ -91,26 +91,26 @@ exactly n s t l o file kind reclaim first last status =
       λ told. back w t l a claim answer (λ x due. (ask_due n all_rooms s a what x refl).1 due) status told,
     )
 
-known_told : (n : ℕ) (t : CoreState) (l : NfsLists) (current : Option ℕ) (r : StateidRow) (owner : ℕ) (turn : Turn) (seqid : ℕ) (reclaim : Bool) (answer : Answer) → status_of (carried n t l current (lock_answered l current r owner turn seqid reclaim answer t)).0 ≡ status_of (lock_told t l reclaim answer)
-known_told n t l current r owner turn seqid reclaim (answers.Granted c) = refl
-known_told n t l current r owner turn seqid reclaim (answers.Conflict c) = refl
-known_told n t l current r owner turn seqid reclaim (answers.Queued id) = refl
-known_told n t l current r owner turn seqid reclaim (answers.Recall c) = refl
-known_told n t l current r owner turn seqid reclaim (answers.Grace until) = refl
-known_told n t l current r owner turn seqid reclaim (answers.NoGrace clock) = refl
-known_told n t l current r owner turn seqid reclaim answers.NotRecorded = refl
-known_told n t l current r owner turn seqid reclaim (answers.Full limit) = refl
-known_told n t l current r owner turn seqid reclaim answers.NotHeld = refl
-known_told n t l current r owner turn seqid reclaim answers.StoreFailed = refl
+known_told : (n : ℕ) (t : CoreState) (l : NfsLists) (current : Option ℕ) (r : StateidRow) (owner : ℕ) (seqids : SeqidState) (seqid : ℕ) (reclaim : Bool) (answer : Answer) → status_of (carried n t l current (lock_answered l current r owner seqids seqid reclaim answer t)).0 ≡ status_of (lock_told t l reclaim answer)
+known_told n t l current r owner seqids seqid reclaim (answers.Granted c) = refl
+known_told n t l current r owner seqids seqid reclaim (answers.Conflict c) = refl
+known_told n t l current r owner seqids seqid reclaim (answers.Queued id) = refl
+known_told n t l current r owner seqids seqid reclaim (answers.Recall c) = refl
+known_told n t l current r owner seqids seqid reclaim (answers.Grace until) = refl
+known_told n t l current r owner seqids seqid reclaim (answers.NoGrace clock) = refl
+known_told n t l current r owner seqids seqid reclaim answers.NotRecorded = refl
+known_told n t l current r owner seqids seqid reclaim (answers.Full limit) = refl
+known_told n t l current r owner seqids seqid reclaim answers.NotHeld = refl
+known_told n t l current r owner seqids seqid reclaim answers.StoreFailed = refl
 
 by_status : {X : Type 0} (told is status : NfsStatus) → told ≡ is → ((is ≡ status) ↔ X) → ((told ≡ status) ↔ X)
 by_status told is status e exact = (λ d. exact.0 (sym e ∙ d), λ x. e ∙ exact.1 x)
 
-pub known_exactly : (n : ℕ) (s : CoreState) (l : NfsLists) (current : Option ℕ) (a : LockArgsItem) (r : StateidRow) (owner : ℕ) (turn : Turn) (seqid last : ℕ) (o : Opener) (status : NfsStatus)
-    → (status_of (carried n s l current (lock_by_owner l current a r owner turn seqid last (Some o))).0 ≡ status) ↔ IsLockTold (lock_way s o r.file a.kind a.reclaim a.offset last) (lock_ask o r.file a.kind a.reclaim a.offset last) (lock_claim s o r.file a.kind a.offset last) status
-known_exactly n s l current a r owner turn seqid last o status =
+pub known_exactly : (n : ℕ) (s : CoreState) (l : NfsLists) (current : Option ℕ) (a : LockArgsItem) (r : StateidRow) (owner : ℕ) (seqids : SeqidState) (seqid last : ℕ) (o : Opener) (status : NfsStatus)
+    → (status_of (carried n s l current (lock_by_owner l current a r owner seqids seqid last (Some o))).0 ≡ status) ↔ IsLockTold (lock_way s o r.file a.kind a.reclaim a.offset last) (lock_ask o r.file a.kind a.reclaim a.offset last) (lock_claim s o r.file a.kind a.offset last) status
+known_exactly n s l current a r owner seqids seqid last o status =
     let x = ask n all_rooms s (lock_ask o r.file a.kind a.reclaim a.offset last) in
-    by_status _ _ status (known_told n x.2 l current r owner turn seqid a.reclaim x.0) (exactly n s x.2 l o r.file a.kind a.reclaim a.offset last status)
+    by_status _ _ status (known_told n x.2 l current r owner seqids seqid a.reclaim x.0) (exactly n s x.2 l o r.file a.kind a.reclaim a.offset last status)
 
 joined_told : (n : ℕ) (t : CoreState) (l : NfsLists) (current : Option ℕ) (b : BothOwners) (o : Opener) (r : StateidRow) (q : Option StateidRow) → status_of (carried n t l current (joined_by t l current b o r q)).0 ≡ statuses.Ok
 joined_told n t l current b o r None = refl
@@ -161,17 +161,17 @@ asked_denied n s l o file kind reclaim first last h good le fails e =
     let x = ask n all_rooms s a in
     told_denied (lock_way s o file kind reclaim first last) x.2 l a (lock_claim s o file kind first last) reclaim x.0 h ((ask_due n all_rooms s a (whats.Range (Bytes first last) (is_exclusive kind)) x.0 refl).0 refl) (refused_stays n s o file kind reclaim first last good le fails) e
 
-known_is : (n : ℕ) (t : CoreState) (l : NfsLists) (current : Option ℕ) (r : StateidRow) (owner : ℕ) (turn : Turn) (seqid : ℕ) (reclaim : Bool) (answer : Answer) (h : HeldLock) → (carried n t l current (lock_answered l current r owner turn seqid reclaim answer t)).0 ≡ Denied h → (is_granted answer ≡ false) × (lock_told t l reclaim answer ≡ Denied h)
-known_is n t l current r owner turn seqid reclaim answer h e =
+known_is : (n : ℕ) (t : CoreState) (l : NfsLists) (current : Option ℕ) (r : StateidRow) (owner : ℕ) (seqids : SeqidState) (seqid : ℕ) (reclaim : Bool) (answer : Answer) (h : HeldLock) → (carried n t l current (lock_answered l current r owner seqids seqid reclaim answer t)).0 ≡ Denied h → (is_granted answer ≡ false) × (lock_told t l reclaim answer ≡ Denied h)
+known_is n t l current r owner seqids seqid reclaim answer h e =
     elim (cases_Bool (is_granted answer)) [
       | inl grants ↦ (let fails : State _ ≡ Denied h = rw grants at e in absurd cc)
       | inr fails ↦ (fails, rw fails at e)
     ]
 
-pub known_denied : (n : ℕ) (s : CoreState) (l : NfsLists) (current : Option ℕ) (a : LockArgsItem) (r : StateidRow) (owner : ℕ) (turn : Turn) (seqid last : ℕ) (o : Opener) (h : HeldLock) → IsGood s → a.offset ≤ last → (carried n s l current (lock_by_owner l current a r owner turn seqid last (Some o))).0 ≡ Denied h → IsDenial (lock_way s o r.file a.kind a.reclaim a.offset last) l (lock_claim s o r.file a.kind a.offset last) h
-known_denied n s l current a r owner turn seqid last o h good le e =
+pub known_denied : (n : ℕ) (s : CoreState) (l : NfsLists) (current : Option ℕ) (a : LockArgsItem) (r : StateidRow) (owner : ℕ) (seqids : SeqidState) (seqid last : ℕ) (o : Opener) (h : HeldLock) → IsGood s → a.offset ≤ last → (carried n s l current (lock_by_owner l current a r owner seqids seqid last (Some o))).0 ≡ Denied h → IsDenial (lock_way s o r.file a.kind a.reclaim a.offset last) l (lock_claim s o r.file a.kind a.offset last) h
+known_denied n s l current a r owner seqids seqid last o h good le e =
     let x = ask n all_rooms s (lock_ask o r.file a.kind a.reclaim a.offset last) in
-    let is = known_is n x.2 l current r owner turn seqid a.reclaim x.0 h e in
+    let is = known_is n x.2 l current r owner seqids seqid a.reclaim x.0 h e in
     asked_denied n s l o r.file a.kind a.reclaim a.offset last h good le is.0 is.1
 
 joined_no : (n : ℕ) (t : CoreState) (l : NfsLists) (current : Option ℕ) (b : BothOwners) (o : Opener) (r : StateidRow) (q : Option StateidRow) (h : HeldLock) → (carried n t l current (joined_by t l current b o r q)).0 ≡ Denied h → ⊥
@@ -306,24 +306,24 @@ freed n s o file first last good le answers.NotRecorded e ok = absurd (true≢fa
 freed n s o file first last good le (answers.Full limit) e ok = absurd (true≢false (sym ok))
 freed n s o file first last good le answers.StoreFailed e ok = absurd (true≢false (sym ok))
 
-unlocked_ok : (n : ℕ) (t : CoreState) (l : NfsLists) (current : Option ℕ) (a : UnlockArgs) (r : StateidRow) (owner : ℕ) (turn : Turn) (status : NfsStatus) → (is_ok (status_of (carried n t l current (unlocked_as t l current a r owner turn status)).0) ≡ is_ok status) × ((carried n t l current (unlocked_as t l current a r owner turn status)).4 ≡ t)
-unlocked_ok n t l current a r owner turn status =
+unlocked_ok : (n : ℕ) (t : CoreState) (l : NfsLists) (current : Option ℕ) (a : UnlockArgs) (r : StateidRow) (owner : ℕ) (seqids : SeqidState) (status : NfsStatus) → (is_ok (status_of (carried n t l current (unlocked_as t l current a r owner seqids status)).0) ≡ is_ok status) × ((carried n t l current (unlocked_as t l current a r owner seqids status)).4 ≡ t)
+unlocked_ok n t l current a r owner seqids status =
     elim (cases_Bool (is_ok status)) [
       | inl e ↦ rw e (refl, refl)
       | inr e ↦ rw e (e, refl)
     ]
 
-pub unlock_frees : (n : ℕ) (s : CoreState) (l : NfsLists) (current : Option ℕ) (a : UnlockArgs) (r : StateidRow) (owner : ℕ) (turn : Turn) (last : ℕ) (o : Opener) → IsGood s → a.offset ≤ last → is_ok (status_of (carried n s l current (unlock_by_owner l current a r owner turn last (Some o))).0) ≡ true
-    → AreFree o r.file a.offset last s (carried n s l current (unlock_by_owner l current a r owner turn last (Some o))).4
-unlock_frees n s l current a r owner turn last o good le ok =
+pub unlock_frees : (n : ℕ) (s : CoreState) (l : NfsLists) (current : Option ℕ) (a : UnlockArgs) (r : StateidRow) (owner : ℕ) (seqids : SeqidState) (last : ℕ) (o : Opener) → IsGood s → a.offset ≤ last → is_ok (status_of (carried n s l current (unlock_by_owner l current a r owner seqids last (Some o))).0) ≡ true
+    → AreFree o r.file a.offset last s (carried n s l current (unlock_by_owner l current a r owner seqids last (Some o))).4
+unlock_frees n s l current a r owner seqids last o good le ok =
     let x = ask n all_rooms s (unlock_ask o r.file a.offset last) in
-    let by = unlocked_ok n x.2 l current a r owner turn (unlock_status x.0) in
+    let by = unlocked_ok n x.2 l current a r owner seqids (unlock_status x.0) in
     subst (λ (t : CoreState). AreFree o r.file a.offset last s t) (sym by.1) (freed n s o r.file a.offset last good le x.0 refl (sym by.0 ∙ ok))
 
-pub unlock_refused : (n : ℕ) (s : CoreState) (l : NfsLists) (current : Option ℕ) (a : UnlockArgs) (r : StateidRow) (owner : ℕ) (turn : Turn) (last : ℕ) (o : Opener) → IsGood s → a.offset ≤ last → is_ok (status_of (carried n s l current (unlock_by_owner l current a r owner turn last (Some o))).0) ≡ false
-    → (carried n s l current (unlock_by_owner l current a r owner turn last (Some o))).4 ≡ s
-unlock_refused n s l current a r owner turn last o good le fails =
+pub unlock_refused : (n : ℕ) (s : CoreState) (l : NfsLists) (current : Option ℕ) (a : UnlockArgs) (r : StateidRow) (owner : ℕ) (seqids : SeqidState) (last : ℕ) (o : Opener) → IsGood s → a.offset ≤ last → is_ok (status_of (carried n s l current (unlock_by_owner l current a r owner seqids last (Some o))).0) ≡ false
+    → (carried n s l current (unlock_by_owner l current a r owner seqids last (Some o))).4 ≡ s
+unlock_refused n s l current a r owner seqids last o good le fails =
     let x = ask n all_rooms s (unlock_ask o r.file a.offset last) in
-    let by = unlocked_ok n x.2 l current a r owner turn (unlock_status x.0) in
+    let by = unlocked_ok n x.2 l current a r owner seqids (unlock_status x.0) in
     let not_ok : is_ok (unlock_status x.0) ≡ false = sym by.0 ∙ fails in
     by.1 ∙ unlock_stays n s o r.file a.offset last good le x.0 refl (λ c e. true≢false (sym (ap (λ (y : Answer). is_ok (unlock_status y)) e) ∙ not_ok))

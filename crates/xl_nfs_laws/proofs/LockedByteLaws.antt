@@ -12,7 +12,7 @@ use Rattle.xl_nfs.specs.Locks.{LockArgsItem}
 use Rattle.xl_nfs.specs.Outcomes.{is_ok}
 use Rattle.xl_nfs.specs.declared.basics.LockType.{LockType}
 use Rattle.xl_nfs_state.specs.State.{NfsLists}
-use Rattle.xl_nfs_state.specs.declared.owner.Turn.{Turn}
+use Rattle.xl_nfs_state.specs.declared.owner.SeqidState.{SeqidState}
 use Rattle.xl_nfs_state.specs.declared.stateid.StateidRow.{StateidRow}
 use Rattle.xl_spans.specs.Spans.{within}
 use Rattle.xl_table.proofs.WriteBack.{is_of-true}
@@ -112,25 +112,25 @@ told_no s l reclaim answers.NotHeld fails = refl
 told_no s l reclaim answers.StoreFailed fails = refl
 
 -- how it is answered, by an owner with a stateid
-known_ok : (n : ℕ) (s : CoreState) (l : NfsLists) (current : Option ℕ) (r : StateidRow) (owner : ℕ) (turn : Turn) (seqid : ℕ) (reclaim : Bool) (answer : Answer) → (is_ok (status_of (carried n s l current (lock_answered l current r owner turn seqid reclaim answer s)).0) ≡ is_granted answer) × ((carried n s l current (lock_answered l current r owner turn seqid reclaim answer s)).4 ≡ s)
-known_ok n s l current r owner turn seqid reclaim answer =
+known_ok : (n : ℕ) (s : CoreState) (l : NfsLists) (current : Option ℕ) (r : StateidRow) (owner : ℕ) (seqids : SeqidState) (seqid : ℕ) (reclaim : Bool) (answer : Answer) → (is_ok (status_of (carried n s l current (lock_answered l current r owner seqids seqid reclaim answer s)).0) ≡ is_granted answer) × ((carried n s l current (lock_answered l current r owner seqids seqid reclaim answer s)).4 ≡ s)
+known_ok n s l current r owner seqids seqid reclaim answer =
     elim (cases_Bool (is_granted answer)) [
       | inl e ↦ rw e (refl, refl)
       | inr e ↦ rw e (told_no s l reclaim answer e, refl)
     ]
 
-pub known_locked : (n : ℕ) (s : CoreState) (l : NfsLists) (current : Option ℕ) (a : LockArgsItem) (r : StateidRow) (owner : ℕ) (turn : Turn) (seqid last : ℕ) (o : Opener) → IsGood s → a.offset ≤ last → is_ok (status_of (carried n s l current (lock_by_owner l current a r owner turn seqid last (Some o))).0) ≡ true
-    → AreLocked o r.file a.kind a.offset last s (carried n s l current (lock_by_owner l current a r owner turn seqid last (Some o))).4
-known_locked n s l current a r owner turn seqid last o good le ok =
+pub known_locked : (n : ℕ) (s : CoreState) (l : NfsLists) (current : Option ℕ) (a : LockArgsItem) (r : StateidRow) (owner : ℕ) (seqids : SeqidState) (seqid last : ℕ) (o : Opener) → IsGood s → a.offset ≤ last → is_ok (status_of (carried n s l current (lock_by_owner l current a r owner seqids seqid last (Some o))).0) ≡ true
+    → AreLocked o r.file a.kind a.offset last s (carried n s l current (lock_by_owner l current a r owner seqids seqid last (Some o))).4
+known_locked n s l current a r owner seqids seqid last o good le ok =
     let x = ask n all_rooms s (lock_ask o r.file a.kind a.reclaim a.offset last) in
-    let by = known_ok n x.2 l current r owner turn seqid a.reclaim x.0 in
+    let by = known_ok n x.2 l current r owner seqids seqid a.reclaim x.0 in
     subst (λ (t : CoreState). AreLocked o r.file a.kind a.offset last s t) (sym by.1) (asked_locked n s o r.file a.kind a.reclaim a.offset last good le (sym by.0 ∙ ok))
 
-pub known_refused : (n : ℕ) (s : CoreState) (l : NfsLists) (current : Option ℕ) (a : LockArgsItem) (r : StateidRow) (owner : ℕ) (turn : Turn) (seqid last : ℕ) (o : Opener) → IsGood s → a.offset ≤ last → is_ok (status_of (carried n s l current (lock_by_owner l current a r owner turn seqid last (Some o))).0) ≡ false
-    → (carried n s l current (lock_by_owner l current a r owner turn seqid last (Some o))).4 ≡ lock_way s o r.file a.kind a.reclaim a.offset last
-known_refused n s l current a r owner turn seqid last o good le fails =
+pub known_refused : (n : ℕ) (s : CoreState) (l : NfsLists) (current : Option ℕ) (a : LockArgsItem) (r : StateidRow) (owner : ℕ) (seqids : SeqidState) (seqid last : ℕ) (o : Opener) → IsGood s → a.offset ≤ last → is_ok (status_of (carried n s l current (lock_by_owner l current a r owner seqids seqid last (Some o))).0) ≡ false
+    → (carried n s l current (lock_by_owner l current a r owner seqids seqid last (Some o))).4 ≡ lock_way s o r.file a.kind a.reclaim a.offset last
+known_refused n s l current a r owner seqids seqid last o good le fails =
     let x = ask n all_rooms s (lock_ask o r.file a.kind a.reclaim a.offset last) in
-    let by = known_ok n x.2 l current r owner turn seqid a.reclaim x.0 in
+    let by = known_ok n x.2 l current r owner seqids seqid a.reclaim x.0 in
     by.1 ∙ refused_stays n s o r.file a.kind a.reclaim a.offset last good le (sym by.0 ∙ fails)
 
 -- and under an open: a number may be drawn, which no claim has

@@ -48,7 +48,7 @@ use Rattle.xl_core.specs.State.{CoreState, drawn}
 use Rattle.xl_nfs_laws.specs.Delegated.{AreSet, AreTied, IsShut, delegation_held, delegation_kept, delegation_numbered, is_open_still, number_confirmed, written_by}
 use Rattle.xl_nfs_opens.specs.Closing.{Returning, cache_of, cache_of_client, deleg_return, return_done, returned}
 use Rattle.xl_core.specs.Ids.{number_in}
-use Rattle.xl_nfs_opens.specs.Opens.{all_rooms, answer_status, answered, cache_by, cache_held, claim_client, client_in, delegated, delegation_in, draws_for, either_bits, entered, freed, given_up, gives, gives_all, granted_by, granted_more, granted_new, granted_wish, has_none, has_room, is_granted, judged, kind_for, open_as, open_at, open_by, open_claimed, open_file, open_held, open_judged, open_of, open_row, open_turn, opened_file, opener_of, reclaims, refused_lists, repeated, share_ask, share_held, stood, unless_held, wish_of}
+use Rattle.xl_nfs_opens.specs.Opens.{all_rooms, answer_status, answered, cache_by, cache_held, claim_client, client_in, delegated, delegation_in, draws_for, either_bits, entered, freed, given_up, gives, gives_all, granted_by, granted_more, granted_new, granted_wish, has_none, has_room, is_granted, judged, kind_for, open_as, open_at, open_by, open_claimed, open_file, open_held, open_judged, open_of, open_row, open_seqids, opened_file, opener_of, reclaims, refused_lists, repeated, share_ask, share_held, stood, unless_held, wish_of}
 use Rattle.xl_nfs_opens.specs.Plans.{Plan, Behind, carried}
 use Rattle.xl_nfs_laws.specs.Orderly.{IsOrderly, are_apart}
 use Rattle.xl_nfs_opens.specs.Renewing.{renewals, renewals_by, renewed_for, renewing, state_client}
@@ -120,12 +120,12 @@ new_tied : (n : ℕ) (t : CoreState) (l : NfsLists) (current : Option ℕ) (o : 
 new_tied n t l current o a file confirmed write good set owes =
     let u = drawn t in
     let row = open_row (t.counter + 1) o (opener_number o l) file a in
-    let there : NfsLists = seated o (open_turn a confirmed) l in
+    let there : NfsLists = seated o (open_seqids a confirmed) l in
     let m : NfsLists = entered row there in
-    let one = seated_still t.counter o (open_turn a confirmed) l refl set in
+    let one = seated_still t.counter o (open_seqids a confirmed) l refl set in
     let two = entered_still t.counter row there (omega arith) refl one.set in
     let still : AreStill u.counter l m = subst (λ (k : ℕ). AreStill k l m) (sym (drawn_number t)) (still_then t.counter (t.counter + 1) l there m one two) in
-    let given = delegated_given t u l m o file write still (entered_clients row there ∙ seated_clients o (open_turn a confirmed) l) owes in
+    let given = delegated_given t u l m o file write still (entered_clients row there ∙ seated_clients o (open_seqids a confirmed) l) owes in
     let quiet = all_quiet n t (Draws ∷ draws_for write) good (tt, draws_fit n u write) (tt, draws_quiet write) in
     given_tied t (all_done n t (Draws ∷ draws_for write)) (u.counter + draws (draws_for write)) (delegated u o file write m) _ given quiet (draws_rise n u write)
     (λ after. kept_still (u.counter + draws (draws_for write)) (opener_number o l) _ (delegated u o file write m) after)
@@ -133,10 +133,10 @@ new_tied n t l current o a file confirmed write good set owes =
 more_tied : (n : ℕ) (t : CoreState) (l : NfsLists) (current : Option ℕ) (o : Opener) (a : OpenArgsItem) (file : ℕ) (confirmed : Bool) (write : Option Bool) (r : StateidRow) → IsGood t → AreSet t.counter l → Owes t l o file write → (let d = carried n t l current (granted_more t l o a file confirmed write r) in AreTied d.4 d.3)
 more_tied n t l current o a file confirmed write r good set owes =
     let after : NfsLists = stood r.number r (either_bits r.standing.access a.access) (either_bits r.standing.deny a.deny) false l in
-    let m : NfsLists = seated o (open_turn a confirmed) after in
+    let m : NfsLists = seated o (open_seqids a confirmed) after in
     let one = stood_still t.counter r.number r (either_bits r.standing.access a.access) (either_bits r.standing.deny a.deny) false l set in
-    let still : AreStill t.counter l m = still_then t.counter t.counter l after m one (seated_still t.counter o (open_turn a confirmed) after refl one.set) in
-    let given = delegated_given t t l m o file write still (seated_clients o (open_turn a confirmed) after) owes in
+    let still : AreStill t.counter l m = still_then t.counter t.counter l after m one (seated_still t.counter o (open_seqids a confirmed) after refl one.set) in
+    let given = delegated_given t t l m o file write still (seated_clients o (open_seqids a confirmed) after) owes in
     let quiet = all_quiet n t (draws_for write) good (draws_fit n t write) (draws_quiet write) in
     given_tied t (all_done n t (draws_for write)) (t.counter + draws (draws_for write)) (delegated t o file write m) _ given quiet (draws_rise n t write)
     (λ set. kept_still (t.counter + draws (draws_for write)) (opener_number o l) _ (delegated t o file write m) set)
@@ -307,9 +307,9 @@ placed_one ss q r client file apart there too on also =
 less_set : (last : ℕ) (drops : StateidRow → Bool) (l : NfsLists) → AreSet last l → AreSet last (with_stateids l (without drops l.stateids))
 less_set last drops l set = record {
   given = less_given last drops l set.given;
-  shut = all_weaker (λ (o : OwnerRow). IsShut last l.stateids o.turn.closed) (λ (o : OwnerRow). IsShut last (without drops l.stateids) o.turn.closed) l.owners (λ o h. record {
+  shut = all_weaker (λ (o : OwnerRow). IsShut last l.stateids o.seqids.closed) (λ (o : OwnerRow). IsShut last (without drops l.stateids) o.seqids.closed) l.owners (λ o h. record {
     given = h.given;
-    other = all_left (λ (r : StateidRow). is_open_still o.turn.closed r ≡ true) (λ (r : StateidRow). is_open_still o.turn.closed r ≡ true) drops l.stateids (λ r left e. e) h.other;
+    other = all_left (λ (r : StateidRow). is_open_still o.seqids.closed r ≡ true) (λ (r : StateidRow). is_open_still o.seqids.closed r ≡ true) drops l.stateids (λ r left e. e) h.other;
   }) set.shut;
   clients = set.clients;
 }

@@ -18,7 +18,7 @@ use Rattle.xl_nfs_state.specs.Verdict.{next_seqid}
 use Rattle.xl_nfs_state.specs.declared.client.ClientRow.{ClientRow}
 use Rattle.xl_nfs_state.specs.declared.kept.KeptRow.{KeptRow}
 use Rattle.xl_nfs_state.specs.declared.owner.OwnerRow.{OwnerRow}
-use Rattle.xl_nfs_state.specs.declared.owner.Turn.{Turn}
+use Rattle.xl_nfs_state.specs.declared.owner.SeqidState.{SeqidState}
 use Rattle.xl_nfs_state.specs.declared.stateid.Standing.{Standing}
 use Rattle.xl_nfs_state.specs.declared.stateid.StateidRow.{StateidRow}
 use Rattle.xl_nfs_state.specs.declared.stateid.Whose.TheVariants as whose
@@ -29,16 +29,16 @@ use Rattle.xl_core.specs.Deeds.{Deed, Asks, GivesBack, Weakens, Acks, Cancels, E
 use Rattle.xl_core.specs.Good.{IsGood}
 use Rattle.xl_core.specs.State.{CoreState, drawn}
 use Rattle.xl_core.specs.declared.ask.Answer.{Answer}
-use Rattle.xl_nfs_opens.specs.Closing.{checked, close, close_by, close_done, confirm_by, cache_of, confirm_done, Returning, returned, return_done, deleg_return, done_lists, failed_lists, locks_gone, next_turn, open_confirm, share_of_open, standing_fault, state_told}
+use Rattle.xl_nfs_opens.specs.Closing.{checked, close, close_by, close_done, confirm_by, cache_of, confirm_done, Returning, returned, return_done, deleg_return, done_lists, failed_lists, locks_gone, next_seqids, open_confirm, share_of_open, standing_fault, state_told}
 use Rattle.xl_nfs_opens.specs.Downgrades.{downgrade_by, downgrade_done, downgrade_fault, open_downgrade, weakens}
 use Rattle.xl_core.specs.Ids.{number_in}
 use Rattle.xl_nfs_laws.specs.StateidNumbers.{AreGivenOut, StayGivenOut}
-use Rattle.xl_nfs_opens.specs.Opens.{freed, answer_status, answered, can_enter, can_stand, claim_client, client_in, delegated, delegated_in, delegation_row, delegation_told, drawn_for, draws_for, either_bits, entered, gives, granted_by, granted_new, granted_wish, has_room, is_granted, judged, open_as, open_at, open_by, open_claimed, open_file, open_held, open_judged, open_of, open_row, open_turn, opened_file, opened_told, opener_of, reclaims, refused, refused_lists, repeated, rights_of, stood, wish_of}
+use Rattle.xl_nfs_opens.specs.Opens.{freed, answer_status, answered, can_enter, can_stand, claim_client, client_in, delegated, delegated_in, delegation_row, delegation_told, drawn_for, draws_for, either_bits, entered, gives, granted_by, granted_new, granted_wish, has_room, is_granted, judged, open_as, open_at, open_by, open_claimed, open_file, open_held, open_judged, open_of, open_row, open_seqids, opened_file, opened_told, opener_of, reclaims, refused, refused_lists, repeated, rights_of, stood, wish_of}
 use Rattle.xl_nfs_opens.specs.Owners.{IsBy, AreBy}
 use Rattle.xl_nfs_opens.specs.Plans.{Plan, Fails, Does, Behind, Asking, carried, deeds_of}
 use Rattle.xl_nfs_opens.specs.Renewing.{renewed_for, renewed_if, state_client}
 use Rattle.xl_nfs_opens.specs.Results.{spelled}
-use Rattle.xl_nfs_opens.specs.Seqids.{advances, closed_gone, counted, is_opener, is_room_for, kept_for, opener_number, remembered, seated, seated_by, seated_new, turned}
+use Rattle.xl_nfs_opens.specs.Seqids.{advances, closed_gone, counted, is_opener, is_room_for, kept_for, opener_number, remembered, seated, seated_by, seated_new, seqid_set}
 use Rattle.xl_nfs_opens.specs.declared.opener.Checked.{Checked}
 use Rattle.xl_nfs_opens.specs.declared.opener.Checked.TheVariants.{Refused, Repeated, Passed}
 use Rattle.xl_nfs_opens.specs.declared.opener.Judged.{Judged}
@@ -71,45 +71,45 @@ gone_given last (Some number) l given = less_given last (is_whose (whose.Stateid
 pub kept_given : (last owner : ℕ) (bytes : List ℕ) (l : NfsLists) → AreGivenOut last l → AreGivenOut last (kept_for owner bytes l)
 kept_given last owner bytes l given = same_given last l (kept_for owner bytes l) (kept_stateids owner bytes l) given
 
-pub counted_given : (last owner : ℕ) (closed : Option ℕ) (turn : Turn) (bytes : List ℕ) (l : NfsLists) → AreGivenOut last l → AreGivenOut last (counted owner closed turn bytes l)
+pub counted_given : (last owner : ℕ) (closed : Option ℕ) (seqids : SeqidState) (bytes : List ℕ) (l : NfsLists) → AreGivenOut last l → AreGivenOut last (counted owner closed seqids bytes l)
 unfolding counted
-counted_given last owner closed turn bytes l given = kept_given last owner bytes (closed_gone closed (turned owner turn l)) (gone_given last closed (turned owner turn l) given)
+counted_given last owner closed seqids bytes l given = kept_given last owner bytes (closed_gone closed (seqid_set owner seqids l)) (gone_given last closed (seqid_set owner seqids l) given)
 
 pub stood_given : (last number : ℕ) (r : StateidRow) (access deny : ℕ) (closed : Bool) (l : NfsLists) → AreGivenOut last l → AreGivenOut last (stood number r access deny closed l)
 stood_given last number r access deny closed l given =
     let to : Standing = record { seqid = next_seqid r.standing.seqid; access = access; deny = deny; closed = closed } in
     all_changed (λ (q : StateidRow). q.number ≤ last) (λ (q : StateidRow). q.number ≤ last) (is_stateid number) (with_standing to) l.stateids (λ q h. h) (λ q h. h) given
 
-pub seated_given : (last : ℕ) (o : Opener) (turn : Turn) (l : NfsLists) → AreGivenOut last l → AreGivenOut last (seated o turn l)
+pub seated_given : (last : ℕ) (o : Opener) (seqids : SeqidState) (l : NfsLists) → AreGivenOut last l → AreGivenOut last (seated o seqids l)
 unfolding seated
-seated_given last o turn l given = by (find (is_opener o) l.owners)
+seated_given last o seqids l given = by (find (is_opener o) l.owners)
   where
-    new : (next : Option ℕ) → AreGivenOut last (seated_new o turn l next)
+    new : (next : Option ℕ) → AreGivenOut last (seated_new o seqids l next)
     new None = given
     new (Some number) = given
 
-    by : (x : Option OwnerRow) → AreGivenOut last (seated_by o turn l x)
+    by : (x : Option OwnerRow) → AreGivenOut last (seated_by o seqids l x)
     by None = new (next_owner l.owners)
-    by (Some r) = gone_given last r.turn.closed (turned r.number turn l) given
+    by (Some r) = gone_given last r.seqids.closed (seqid_set r.number seqids l) given
 
-pub remembered_given : (last : ℕ) (o : Opener) (turn : Turn) (bytes : List ℕ) (l : NfsLists) → AreGivenOut last l → AreGivenOut last (remembered o turn bytes l)
+pub remembered_given : (last : ℕ) (o : Opener) (seqids : SeqidState) (bytes : List ℕ) (l : NfsLists) → AreGivenOut last l → AreGivenOut last (remembered o seqids bytes l)
 unfolding remembered
-remembered_given last o turn bytes l given =
+remembered_given last o seqids bytes l given =
     elim (cases_Bool (is_room_for o l)) [
-      | inl e ↦ rw e (kept_given last (opener_number o l) bytes (seated o turn l) (seated_given last o turn l given))
+      | inl e ↦ rw e (kept_given last (opener_number o l) bytes (seated o seqids l) (seated_given last o seqids l given))
       | inr e ↦ rw e given
     ]
 
-pub failed_given : (last : ℕ) (l : NfsLists) (owner : ℕ) (turn : Turn) (op seqid : ℕ) (status : NfsStatus) → AreGivenOut last l → AreGivenOut last (failed_lists l owner turn op seqid status)
-failed_given last l owner turn op seqid status given =
+pub failed_given : (last : ℕ) (l : NfsLists) (owner : ℕ) (seqids : SeqidState) (op seqid : ℕ) (status : NfsStatus) → AreGivenOut last l → AreGivenOut last (failed_lists l owner seqids op seqid status)
+failed_given last l owner seqids op seqid status given =
     elim (cases_Bool (advances status)) [
-      | inl e ↦ rw e (counted_given last owner turn.closed (next_turn op seqid turn.confirmed None) (spelled op (Ended status)) l given)
+      | inl e ↦ rw e (counted_given last owner seqids.closed (next_seqids op seqid seqids.confirmed None) (spelled op (Ended status)) l given)
       | inr e ↦ rw e given
     ]
 
-pub done_given : (last : ℕ) (s : CoreState) (l : NfsLists) (r : StateidRow) (owner : ℕ) (turn : Turn) (op seqid : ℕ) (confirmed : Bool) (closing : Option ℕ) (access deny : ℕ) (closed : Bool) → AreGivenOut last l → AreGivenOut last (done_lists s l r owner turn op seqid confirmed closing access deny closed)
-done_given last s l r owner turn op seqid confirmed closing access deny closed given =
-    counted_given last owner turn.closed (next_turn op seqid confirmed closing) (spelled op (state_told s r)) (stood r.number r access deny closed l) (stood_given last r.number r access deny closed l given)
+pub done_given : (last : ℕ) (s : CoreState) (l : NfsLists) (r : StateidRow) (owner : ℕ) (seqids : SeqidState) (op seqid : ℕ) (confirmed : Bool) (closing : Option ℕ) (access deny : ℕ) (closed : Bool) → AreGivenOut last l → AreGivenOut last (done_lists s l r owner seqids op seqid confirmed closing access deny closed)
+done_given last s l r owner seqids op seqid confirmed closing access deny closed given =
+    counted_given last owner seqids.closed (next_seqids op seqid confirmed closing) (spelled op (state_told s r)) (stood r.number r access deny closed l) (stood_given last r.number r access deny closed l given)
 
 pub renewed_given : (last : ℕ) (s : CoreState) (l : NfsLists) (client : Option ℕ) → AreGivenOut last l → AreGivenOut last (renewed_for s l client)
 renewed_given last s l None given = given
@@ -122,7 +122,7 @@ renewed_given last s l (Some number) given = by (find (is_client number true) l.
 refused_given : (last : ℕ) (o : Opener) (a : OpenArgsItem) (confirmed : Bool) (status : NfsStatus) (l : NfsLists) → AreGivenOut last l → AreGivenOut last (refused_lists o a confirmed status l)
 refused_given last o a confirmed status l given =
     elim (cases_Bool (advances status)) [
-      | inl e ↦ rw e (remembered_given last o (open_turn a confirmed) (spelled 18 (Ended status)) l given)
+      | inl e ↦ rw e (remembered_given last o (open_seqids a confirmed) (spelled 18 (Ended status)) l given)
       | inr e ↦ rw e given
     ]
 
@@ -222,18 +222,18 @@ delegated_given last s o file (Some write) l le given =
 granted_few : (s : CoreState) (l : NfsLists) (o : Opener) (a : OpenArgsItem) (file : ℕ) (confirmed : Bool) (write : Option Bool) (x : Option StateidRow) → AreGivenOut s.counter l → AreFew s.counter (granted_by s l o a file confirmed write x)
 granted_few s l o a file confirmed write None given =
     let next : ℕ = s.counter + draws (Draws ∷ draws_for write) in
-    let there : NfsLists = seated o (open_turn a confirmed) l in
+    let there : NfsLists = seated o (open_seqids a confirmed) l in
     let row : StateidRow = open_row (s.counter + 1) o (opener_number o l) file a in
     kept_given next (opener_number o l) (spelled 18 (opened_told (drawn_for write (drawn s)) (s.counter + 1) 1 confirmed (delegation_told (drawn s) write))) (delegated (drawn s) o file write (entered row there))
     (delegated_given next (drawn s) o file write (entered row there) (omega (arith, drawn_number s))
-    (entered_given next row there (omega arith) (seated_given next o (open_turn a confirmed) l (does_few s.counter (Draws ∷ draws_for write) l given))))
+    (entered_given next row there (omega arith) (seated_given next o (open_seqids a confirmed) l (does_few s.counter (Draws ∷ draws_for write) l given))))
 granted_few s l o a file confirmed write (Some r) given =
     let next : ℕ = s.counter + draws (draws_for write) in
     let after : NfsLists = stood r.number r (either_bits r.standing.access a.access) (either_bits r.standing.deny a.deny) false l in
-    let there : NfsLists = seated o (open_turn a confirmed) after in
+    let there : NfsLists = seated o (open_seqids a confirmed) after in
     kept_given next (opener_number o l) (spelled 18 (opened_told (drawn_for write s) r.number (next_seqid r.standing.seqid) confirmed (delegation_told s write))) (delegated s o file write there)
     (delegated_given next s o file write there (omega arith)
-    (does_few s.counter (draws_for write) there (seated_given s.counter o (open_turn a confirmed) after (stood_given s.counter r.number r (either_bits r.standing.access a.access) (either_bits r.standing.deny a.deny) false l given))))
+    (does_few s.counter (draws_for write) there (seated_given s.counter o (open_seqids a confirmed) after (stood_given s.counter r.number r (either_bits r.standing.access a.access) (either_bits r.standing.deny a.deny) false l given))))
 
 refused_few : (last : ℕ) (l : NfsLists) (current : Option ℕ) (o : Opener) (a : OpenArgsItem) (confirmed : Bool) (status : NfsStatus) → AreGivenOut last l → AreFew last (refused l current o a confirmed status)
 refused_few last l current o a confirmed status given = does_few last [] (refused_lists o a confirmed status l) (refused_given last o a confirmed status l given)
@@ -292,14 +292,14 @@ open_few files others s l current a given =
 
 -- ---- OPEN_CONFIRM, OPEN_DOWNGRADE, CLOSE, DELEGRETURN
 
-confirm_done_few : (last : ℕ) (s : CoreState) (l : NfsLists) (current : Option ℕ) (a : OpenConfirmArgs) (r : StateidRow) (owner : ℕ) (turn : Turn) (x : Option NfsStatus) → AreGivenOut last l → AreFew last (confirm_done s l current a r owner turn x)
-confirm_done_few last s l current a r owner turn (Some status) given = does_few last [] (failed_lists l owner turn 20 a.seqid status) (failed_given last l owner turn 20 a.seqid status given)
-confirm_done_few last s l current a r owner turn None given = does_few last [] (done_lists s l r owner turn 20 a.seqid true None r.standing.access r.standing.deny false) (done_given last s l r owner turn 20 a.seqid true None r.standing.access r.standing.deny false given)
+confirm_done_few : (last : ℕ) (s : CoreState) (l : NfsLists) (current : Option ℕ) (a : OpenConfirmArgs) (r : StateidRow) (owner : ℕ) (seqids : SeqidState) (x : Option NfsStatus) → AreGivenOut last l → AreFew last (confirm_done s l current a r owner seqids x)
+confirm_done_few last s l current a r owner seqids (Some status) given = does_few last [] (failed_lists l owner seqids 20 a.seqid status) (failed_given last l owner seqids 20 a.seqid status given)
+confirm_done_few last s l current a r owner seqids None given = does_few last [] (done_lists s l r owner seqids 20 a.seqid true None r.standing.access r.standing.deny false) (done_given last s l r owner seqids 20 a.seqid true None r.standing.access r.standing.deny false given)
 
 confirm_by_few : (last : ℕ) (s : CoreState) (l : NfsLists) (current : Option ℕ) (a : OpenConfirmArgs) (c : Checked) → AreGivenOut last l → AreFew last (confirm_by s l current a c)
 confirm_by_few last s l current a (Refused status) given = does_few last [] l given
 confirm_by_few last s l current a (Repeated owner) given = repeat_few last s l current (find (is_kept owner) l.kept) given
-confirm_by_few last s l current a (Passed r owner turn) given = confirm_done_few last s l current a r owner turn (standing_fault r turn a.stateid.seqid false) given
+confirm_by_few last s l current a (Passed r owner seqids) given = confirm_done_few last s l current a r owner seqids (standing_fault r seqids a.stateid.seqid false) given
 
 pub confirm_few : (s : CoreState) (l : NfsLists) (current : Option ℕ) (a : OpenConfirmArgs) → AreGivenOut s.counter l → AreFew s.counter (open_confirm s l current a)
 unfolding open_confirm
@@ -308,14 +308,14 @@ confirm_few s l current a given =
     let once : AreGivenOut s.counter m = renewed_given s.counter s l (state_client s l a.stateid) given in
     (once, λ t le. confirm_by_few t.counter t m current a (checked t m current 20 a.seqid a.stateid) (later_on s.counter t.counter m le once))
 
-downgrade_done_few : (last : ℕ) (s : CoreState) (l : NfsLists) (current : Option ℕ) (a : OpenDowngradeArgs) (r : StateidRow) (owner : ℕ) (turn : Turn) (x : Option NfsStatus) → AreGivenOut last l → AreFew last (downgrade_done s l current a r owner turn x)
-downgrade_done_few last s l current a r owner turn (Some status) given = does_few last [] (failed_lists l owner turn 21 a.seqid status) (failed_given last l owner turn 21 a.seqid status given)
-downgrade_done_few last s l current a r owner turn None given = does_few last (weakens (share_of_open s l r owner) (rights_of a.access) (rights_of a.deny)) (done_lists s l r owner turn 21 a.seqid turn.confirmed None a.access a.deny false) (done_given last s l r owner turn 21 a.seqid turn.confirmed None a.access a.deny false given)
+downgrade_done_few : (last : ℕ) (s : CoreState) (l : NfsLists) (current : Option ℕ) (a : OpenDowngradeArgs) (r : StateidRow) (owner : ℕ) (seqids : SeqidState) (x : Option NfsStatus) → AreGivenOut last l → AreFew last (downgrade_done s l current a r owner seqids x)
+downgrade_done_few last s l current a r owner seqids (Some status) given = does_few last [] (failed_lists l owner seqids 21 a.seqid status) (failed_given last l owner seqids 21 a.seqid status given)
+downgrade_done_few last s l current a r owner seqids None given = does_few last (weakens (share_of_open s l r owner) (rights_of a.access) (rights_of a.deny)) (done_lists s l r owner seqids 21 a.seqid seqids.confirmed None a.access a.deny false) (done_given last s l r owner seqids 21 a.seqid seqids.confirmed None a.access a.deny false given)
 
 downgrade_by_few : (last : ℕ) (s : CoreState) (l : NfsLists) (current : Option ℕ) (a : OpenDowngradeArgs) (c : Checked) → AreGivenOut last l → AreFew last (downgrade_by s l current a c)
 downgrade_by_few last s l current a (Refused status) given = does_few last [] l given
 downgrade_by_few last s l current a (Repeated owner) given = repeat_few last s l current (find (is_kept owner) l.kept) given
-downgrade_by_few last s l current a (Passed r owner turn) given = downgrade_done_few last s l current a r owner turn (downgrade_fault r turn a) given
+downgrade_by_few last s l current a (Passed r owner seqids) given = downgrade_done_few last s l current a r owner seqids (downgrade_fault r seqids a) given
 
 pub downgrade_few : (s : CoreState) (l : NfsLists) (current : Option ℕ) (a : OpenDowngradeArgs) → AreGivenOut s.counter l → AreFew s.counter (open_downgrade s l current a)
 unfolding open_downgrade
@@ -324,21 +324,21 @@ downgrade_few s l current a given =
     let once : AreGivenOut s.counter m = renewed_given s.counter s l (state_client s l a.stateid) given in
     (once, λ t le. downgrade_by_few t.counter t m current a (checked t m current 21 a.seqid a.stateid) (later_on s.counter t.counter m le once))
 
-close_done_few : (last : ℕ) (s : CoreState) (l : NfsLists) (current : Option ℕ) (a : CloseArgs) (r : StateidRow) (owner : ℕ) (turn : Turn) (x : Option NfsStatus) → AreGivenOut last l → AreFew last (close_done s l current a r owner turn x)
-close_done_few last s l current a r owner turn (Some status) given = does_few last [] (failed_lists l owner turn 4 a.seqid status) (failed_given last l owner turn 4 a.seqid status given)
-close_done_few last s l current a r owner turn None given = (
+close_done_few : (last : ℕ) (s : CoreState) (l : NfsLists) (current : Option ℕ) (a : CloseArgs) (r : StateidRow) (owner : ℕ) (seqids : SeqidState) (x : Option NfsStatus) → AreGivenOut last l → AreFew last (close_done s l current a r owner seqids x)
+close_done_few last s l current a r owner seqids (Some status) given = does_few last [] (failed_lists l owner seqids 4 a.seqid status) (failed_given last l owner seqids 4 a.seqid status given)
+close_done_few last s l current a r owner seqids None given = (
   given,
   λ t le.
-      (let after : NfsLists = done_lists t l r owner turn 4 a.seqid turn.confirmed (Some r.number) r.standing.access r.standing.deny true in
+      (let after : NfsLists = done_lists t l r owner seqids 4 a.seqid seqids.confirmed (Some r.number) r.standing.access r.standing.deny true in
       does_few t.counter (gives (share_of_open t l r owner)) (locks_gone r.number after)
       (less_given t.counter (is_whose (whose.Under r.number)) after
-      (done_given t.counter t l r owner turn 4 a.seqid turn.confirmed (Some r.number) r.standing.access r.standing.deny true (later_on last t.counter l le given)))),
+      (done_given t.counter t l r owner seqids 4 a.seqid seqids.confirmed (Some r.number) r.standing.access r.standing.deny true (later_on last t.counter l le given)))),
 )
 
 close_by_few : (last : ℕ) (s : CoreState) (l : NfsLists) (current : Option ℕ) (a : CloseArgs) (c : Checked) → AreGivenOut last l → AreFew last (close_by s l current a c)
 close_by_few last s l current a (Refused status) given = does_few last [] l given
 close_by_few last s l current a (Repeated owner) given = repeat_few last s l current (find (is_kept owner) l.kept) given
-close_by_few last s l current a (Passed r owner turn) given = close_done_few last s l current a r owner turn (standing_fault r turn a.stateid.seqid true) given
+close_by_few last s l current a (Passed r owner seqids) given = close_done_few last s l current a r owner seqids (standing_fault r seqids a.stateid.seqid true) given
 
 pub close_few : (s : CoreState) (l : NfsLists) (current : Option ℕ) (a : CloseArgs) → AreGivenOut s.counter l → AreFew s.counter (close s l current a)
 unfolding close
@@ -417,9 +417,9 @@ delegated_alone s o file (Some write) l P each all =
 
 pub new_alone : (n : ℕ) (s : CoreState) (l : NfsLists) (current : Option ℕ) (o : Opener) (a : OpenArgsItem) (file : ℕ) (confirmed : Bool) (write : Option Bool) (r : StateidRow) → AreGivenOut s.counter l → IsIn r (carried n s l current (granted_new s l o a file confirmed write)).3.stateids → r.number ≡ s.counter + 1 → r ≡ open_row (s.counter + 1) o (opener_number o l) file a
 new_alone n s l current o a file confirmed write r given here same =
-    let there : NfsLists = seated o (open_turn a confirmed) l in
+    let there : NfsLists = seated o (open_seqids a confirmed) l in
     let row : StateidRow = open_row (s.counter + 1) o (opener_number o l) file a in
     let whole : NfsLists = delegated (drawn s) o file write (entered row there) in
     let Alone : StateidRow → Type 0 = λ q. q.number ≡ s.counter + 1 → q ≡ row in
-    let all : AllByRecursion Alone whole.stateids = delegated_alone (drawn s) o file write (entered row there) Alone (λ q e f. absurd (omega (arith, e, f, drawn_number s))) (entered_alone s.counter row there (seated_given s.counter o (open_turn a confirmed) l given)) in
+    let all : AllByRecursion Alone whole.stateids = delegated_alone (drawn s) o file write (entered row there) Alone (λ q e f. absurd (omega (arith, e, f, drawn_number s))) (entered_alone s.counter row there (seated_given s.counter o (open_seqids a confirmed) l given)) in
     all_in Alone r whole.stateids all (subst (λ (ss : List StateidRow). IsIn r ss) (kept_stateids (opener_number o l) (spelled 18 (opened_told (drawn_for write (drawn s)) (s.counter + 1) 1 confirmed (delegation_told (drawn s) write))) whole) here) same

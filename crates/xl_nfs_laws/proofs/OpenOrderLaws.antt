@@ -18,7 +18,7 @@ use Rattle.xl_nfs_state.proofs.SoundLaws.{fresh_number}
 use Rattle.xl_nfs_state.specs.Alike.{kinds_are}
 use Rattle.xl_nfs_state.specs.Filed.{changed}
 use Rattle.xl_nfs_state.specs.Keys.{place_of, same_kind, same_place}
-use Rattle.xl_nfs_state.specs.Rows.{with_standing, with_turn}
+use Rattle.xl_nfs_state.specs.Rows.{with_standing, with_seqids}
 use Rattle.xl_nfs_state.specs.State.{NfsLists, IsRising, can_hang, is_client, is_kept, is_owner, is_stateid, is_whose, next_owner, owned_on, with_stateids, without, without_owner}
 use Rattle.xl_nfs_state.specs.Verdict.{next_seqid}
 use Rattle.xl_nfs_state.specs.declared.client.ClientRow.{ClientRow}
@@ -26,7 +26,7 @@ use Rattle.xl_nfs_state.specs.declared.kept.KeptRow.{KeptRow}
 use Rattle.xl_nfs_state.specs.declared.owner.OwnerKind.{OwnerKind}
 use Rattle.xl_nfs_state.specs.declared.owner.OwnerKind.TheVariants as kinds
 use Rattle.xl_nfs_state.specs.declared.owner.OwnerRow.{OwnerRow}
-use Rattle.xl_nfs_state.specs.declared.owner.Turn.{Turn}
+use Rattle.xl_nfs_state.specs.declared.owner.SeqidState.{SeqidState}
 use Rattle.xl_nfs_state.specs.declared.stateid.Holder.{Holder}
 use Rattle.xl_nfs_state.specs.declared.stateid.Holder.TheVariants as holders
 use Rattle.xl_nfs_state.specs.declared.stateid.Standing.{Standing}
@@ -36,15 +36,15 @@ use Rattle.xl_core.specs.Deeds.{all_done}
 use Rattle.xl_core.specs.Decide.{ask}
 use Rattle.xl_core.specs.State.{CoreState, drawn}
 use Rattle.xl_core.specs.declared.ask.Answer.{Answer}
-use Rattle.xl_nfs_opens.specs.Closing.{checked, close, close_by, close_done, confirm_by, confirm_done, Returning, returned, return_done, deleg_return, done_lists, failed_lists, next_turn, open_confirm, standing_fault, state_told}
+use Rattle.xl_nfs_opens.specs.Closing.{checked, close, close_by, close_done, confirm_by, confirm_done, Returning, returned, return_done, deleg_return, done_lists, failed_lists, next_seqids, open_confirm, standing_fault, state_told}
 use Rattle.xl_nfs_opens.specs.Downgrades.{downgrade_by, downgrade_done, downgrade_fault, open_downgrade}
-use Rattle.xl_nfs_opens.specs.Opens.{answer_status, answered, can_enter, can_stand, delegated, delegated_in, delegation_row, delegation_told, drawn_for, granted_wish, wish_of, either_bits, entered, granted_by, has_room, is_granted, judged, live, open_as, open_at, open_by, open_claimed, open_file, open_held, open_judged, open_of, open_row, open_turn, opened_file, opened_told, opener_of, claim_client, client_in, reclaims, refused_lists, repeated, stood}
+use Rattle.xl_nfs_opens.specs.Opens.{answer_status, answered, can_enter, can_stand, delegated, delegated_in, delegation_row, delegation_told, drawn_for, granted_wish, wish_of, either_bits, entered, granted_by, has_room, is_granted, judged, live, open_as, open_at, open_by, open_claimed, open_file, open_held, open_judged, open_of, open_row, open_seqids, opened_file, opened_told, opener_of, claim_client, client_in, reclaims, refused_lists, repeated, stood}
 use Rattle.xl_nfs_laws.specs.Orderly.{are_apart, closes, IsHeldBy, IsOrderly, IsOwnedBy}
 use Rattle.xl_core.specs.Ids.{number_in}
 use Rattle.xl_nfs_opens.specs.Plans.{Plan, Fails, Does, Behind, Asking, carried}
 use Rattle.xl_nfs_opens.specs.Renewing.{renewed_for, renewed_if, state_client}
 use Rattle.xl_nfs_opens.specs.Results.{spelled}
-use Rattle.xl_nfs_opens.specs.Seqids.{advances, closed_gone, counted, is_opener, is_room_for, kept_for, new_owner, number_by, opener_number, remembered, seated, seated_by, seated_new, turned}
+use Rattle.xl_nfs_opens.specs.Seqids.{advances, closed_gone, counted, is_opener, is_room_for, kept_for, new_owner, number_by, opener_number, remembered, seated, seated_by, seated_new, seqid_set}
 use Rattle.xl_nfs_opens.specs.declared.opener.Checked.{Checked}
 use Rattle.xl_nfs_opens.specs.declared.opener.Checked.TheVariants.{Refused, Repeated, Passed}
 use Rattle.xl_nfs_opens.specs.declared.opener.Judged.{Judged}
@@ -53,8 +53,8 @@ use Rattle.xl_nfs_opens.specs.declared.opener.Opener.{Opener}
 use Rattle.xl_nfs_opens.specs.declared.told.Told.TheVariants.{Ended}
 use Rattle.xl_nfs_laws.proofs.EnteredOpenLaws.{kept_stateids}
 use Rattle.xl_nfs_laws.proofs.KeptResultLaws.{gone_owners}
-use Rattle.xl_nfs_laws.proofs.OpenLaws.{kept_owners, turned_at}
-use Rattle.xl_nfs_laws.proofs.ListOrderLaws.{all_marked, apart_changed, held_on, IsLeft, left_as_it_was, left_closed, left_live, owner_comes, owner_goes, stateids_go, turn_orderly}
+use Rattle.xl_nfs_laws.proofs.OpenLaws.{kept_owners, seqid_set_at}
+use Rattle.xl_nfs_laws.proofs.ListOrderLaws.{all_marked, apart_changed, held_on, IsLeft, left_as_it_was, left_closed, left_live, owner_comes, owner_goes, stateids_go, seqids_orderly}
 use Rattle.xl_nfs_opens.proofs.OwnerLaws.{number_gone}
 use Rattle.xl_nfs_laws.proofs.PassedCheckLaws.{IfPassed, IsPassed, checked_passed}
 use Rattle.xl_nfs_laws.proofs.FirstSeqidLaws.{behind, is_own}
@@ -97,37 +97,37 @@ stood_orderly l r access deny found live orderly =
     }
 
 -- it counts, and closes nothing
-pub counted_orderly : (l : NfsLists) (owner : ℕ) (o : OwnerRow) (closed : Option ℕ) (next : Turn) (bytes : List ℕ) → find (is_owner owner) l.owners ≡ Some o → closed ≡ o.turn.closed → next.closed ≡ None → IsOrderly l → IsOrderly (counted owner closed next bytes l)
+pub counted_orderly : (l : NfsLists) (owner : ℕ) (o : OwnerRow) (closed : Option ℕ) (next : SeqidState) (bytes : List ℕ) → find (is_owner owner) l.owners ≡ Some o → closed ≡ o.seqids.closed → next.closed ≡ None → IsOrderly l → IsOrderly (counted owner closed next bytes l)
 unfolding counted
 counted_orderly l owner o closed next bytes found same none orderly =
-    kept_orderly owner bytes _ (turn_orderly l owner o next closed l.stateids same orderly orderly.apart (all_weaker _ _ l.stateids (λ r held. left_as_it_was l.owners owner o next r found (ap (λ (x : Option ℕ). closes x r.number) none) held) orderly.held))
+    kept_orderly owner bytes _ (seqids_orderly l owner o next closed l.stateids same orderly orderly.apart (all_weaker _ _ l.stateids (λ r held. left_as_it_was l.owners owner o next r found (ap (λ (x : Option ℕ). closes x r.number) none) held) orderly.held))
 
 -- it failed, and counts or not
-pub failed_orderly : (l : NfsLists) (owner : ℕ) (o : OwnerRow) (turn : Turn) (op seqid : ℕ) (status : NfsStatus) → find (is_owner owner) l.owners ≡ Some o → turn ≡ o.turn → IsOrderly l → IsOrderly (failed_lists l owner turn op seqid status)
-failed_orderly l owner o turn op seqid status found same orderly =
+pub failed_orderly : (l : NfsLists) (owner : ℕ) (o : OwnerRow) (seqids : SeqidState) (op seqid : ℕ) (status : NfsStatus) → find (is_owner owner) l.owners ≡ Some o → seqids ≡ o.seqids → IsOrderly l → IsOrderly (failed_lists l owner seqids op seqid status)
+failed_orderly l owner o seqids op seqid status found same orderly =
     elim (cases_Bool (advances status)) [
-      | inl e ↦ rw e (counted_orderly l owner o turn.closed (next_turn op seqid turn.confirmed None) (spelled op (Ended status)) found (ap (λ (t : Turn). t.closed) same) refl orderly)
+      | inl e ↦ rw e (counted_orderly l owner o seqids.closed (next_seqids op seqid seqids.confirmed None) (spelled op (Ended status)) found (ap (λ (t : SeqidState). t.closed) same) refl orderly)
       | inr e ↦ rw e orderly
     ]
 
 -- it was done, and the open has other rights, or others stand for its owner
-pub done_orderly : (s : CoreState) (l : NfsLists) (r : StateidRow) (owner : ℕ) (turn : Turn) (op seqid : ℕ) (confirmed : Bool) (access deny : ℕ) → IsPassed l r owner turn → IsOrderly l → IsOrderly (done_lists s l r owner turn op seqid confirmed None access deny false)
+pub done_orderly : (s : CoreState) (l : NfsLists) (r : StateidRow) (owner : ℕ) (seqids : SeqidState) (op seqid : ℕ) (confirmed : Bool) (access deny : ℕ) → IsPassed l r owner seqids → IsOrderly l → IsOrderly (done_lists s l r owner seqids op seqid confirmed None access deny false)
 unfolding counted
-done_orderly s l r owner turn op seqid confirmed access deny passed orderly =
+done_orderly s l r owner seqids op seqid confirmed access deny passed orderly =
     let to : Standing = record { seqid = next_seqid r.standing.seqid; access = access; deny = deny; closed = false } in
-    let next = next_turn op seqid confirmed None in
-    kept_orderly owner (spelled op (state_told s r)) _ (turn_orderly l owner passed.row next turn.closed (changed (is_stateid r.number) (with_standing to) l.stateids) (ap (λ (t : Turn). t.closed) passed.turn_is) orderly (apart_changed r.number to l.stateids orderly.apart)
+    let next = next_seqids op seqid confirmed None in
+    kept_orderly owner (spelled op (state_told s r)) _ (seqids_orderly l owner passed.row next seqids.closed (changed (is_stateid r.number) (with_standing to) l.stateids) (ap (λ (t : SeqidState). t.closed) passed.seqids_is) orderly (apart_changed r.number to l.stateids orderly.apart)
     (all_marked (λ q. IsHeldBy l.owners q q.holder) (IsLeft l.owners owner passed.row next) r.number (with_standing to) l.stateids r passed.found orderly.apart
     (λ x other held. left_as_it_was l.owners owner passed.row next x passed.owned refl held)
     (λ held. left_live l.owners owner passed.row next to r refl passed.live refl held) orderly.held))
 
 -- it was closed
-pub closed_orderly : (s : CoreState) (l : NfsLists) (r : StateidRow) (owner : ℕ) (turn : Turn) (op seqid : ℕ) (confirmed : Bool) (access deny : ℕ) → IsPassed l r owner turn → IsOrderly l → IsOrderly (done_lists s l r owner turn op seqid confirmed (Some r.number) access deny true)
+pub closed_orderly : (s : CoreState) (l : NfsLists) (r : StateidRow) (owner : ℕ) (seqids : SeqidState) (op seqid : ℕ) (confirmed : Bool) (access deny : ℕ) → IsPassed l r owner seqids → IsOrderly l → IsOrderly (done_lists s l r owner seqids op seqid confirmed (Some r.number) access deny true)
 unfolding counted
-closed_orderly s l r owner turn op seqid confirmed access deny passed orderly =
+closed_orderly s l r owner seqids op seqid confirmed access deny passed orderly =
     let to : Standing = record { seqid = next_seqid r.standing.seqid; access = access; deny = deny; closed = true } in
-    let next = next_turn op seqid confirmed (Some r.number) in
-    kept_orderly owner (spelled op (state_told s r)) _ (turn_orderly l owner passed.row next turn.closed (changed (is_stateid r.number) (with_standing to) l.stateids) (ap (λ (t : Turn). t.closed) passed.turn_is) orderly (apart_changed r.number to l.stateids orderly.apart)
+    let next = next_seqids op seqid confirmed (Some r.number) in
+    kept_orderly owner (spelled op (state_told s r)) _ (seqids_orderly l owner passed.row next seqids.closed (changed (is_stateid r.number) (with_standing to) l.stateids) (ap (λ (t : SeqidState). t.closed) passed.seqids_is) orderly (apart_changed r.number to l.stateids orderly.apart)
     (all_marked (λ q. IsHeldBy l.owners q q.holder) (IsLeft l.owners owner passed.row next) r.number (with_standing to) l.stateids r passed.found orderly.apart
     (λ x other held. left_as_it_was l.owners owner passed.row next x passed.owned other held)
     (λ held. left_closed l.owners owner passed.row next to r refl refl (passed.holder) held) orderly.held))
@@ -146,25 +146,25 @@ rising_found p (y ∷ os) x rising found =
           rw (false_from_ne_true (x.number == y.number) (λ d. omega (arith, eqb-true x.number y.number d, above))) (rising_found p os x rising.1 rest)
     ]
 
-pub seated_orderly : (o : Opener) (turn : Turn) (l : NfsLists) → turn.closed ≡ None → IsOrderly l → IsOrderly (seated o turn l)
+pub seated_orderly : (o : Opener) (seqids : SeqidState) (l : NfsLists) → seqids.closed ≡ None → IsOrderly l → IsOrderly (seated o seqids l)
 unfolding seated
-seated_orderly o turn l none orderly = by (find (is_opener o) l.owners) refl
+seated_orderly o seqids l none orderly = by (find (is_opener o) l.owners) refl
   where
-    new : (next : Option ℕ) → next_owner l.owners ≡ next → IsOrderly (seated_new o turn l next)
+    new : (next : Option ℕ) → next_owner l.owners ≡ next → IsOrderly (seated_new o seqids l next)
     new None e = orderly
-    new (Some number) e = owner_comes l (new_owner o turn number) e orderly
+    new (Some number) e = owner_comes l (new_owner o seqids number) e orderly
 
-    by : (x : Option OwnerRow) → find (is_opener o) l.owners ≡ x → IsOrderly (seated_by o turn l x)
+    by : (x : Option OwnerRow) → find (is_opener o) l.owners ≡ x → IsOrderly (seated_by o seqids l x)
     by None e = new (next_owner l.owners) refl
-    by (Some r) e = turn_orderly l r.number r turn r.turn.closed l.stateids refl orderly orderly.apart (all_weaker _ _ l.stateids (λ q held. left_as_it_was l.owners r.number r turn q (rising_found (is_opener o) l.owners r orderly.rising e) (ap (λ (x : Option ℕ). closes x q.number) none) held) orderly.held)
+    by (Some r) e = seqids_orderly l r.number r seqids r.seqids.closed l.stateids refl orderly orderly.apart (all_weaker _ _ l.stateids (λ q held. left_as_it_was l.owners r.number r seqids q (rising_found (is_opener o) l.owners r orderly.rising e) (ap (λ (x : Option ℕ). closes x q.number) none) held) orderly.held)
 
 -- the owner's row then
-pub record IsSeated (o : Opener) (turn : Turn) (l new : NfsLists) : Type 0 where
+pub record IsSeated (o : Opener) (seqids : SeqidState) (l new : NfsLists) : Type 0 where
   pub row : OwnerRow
   pub number : row.number ≡ opener_number o l
   pub found : find (is_owner row.number) new.owners ≡ Some row
   pub named : find (is_opener o) new.owners ≡ Some row
-  pub turn_is : row.turn ≡ turn
+  pub seqids_is : row.seqids ≡ seqids
   pub client : row.name.client ≡ o.client
   pub kind : row.name.kind ≡ o.kind
 
@@ -176,15 +176,15 @@ passes p (y ∷ os) x found =
       | inr e ↦ passes p os x (rw e at found)
     ]
 
-named_turned : (o : Opener) (turn : Turn) (os : List OwnerRow) (r : OwnerRow) → IsRising os → find (is_opener o) os ≡ Some r → find (is_opener o) (changed (is_owner r.number) (with_turn turn) os) ≡ Some (with_turn turn r)
-named_turned o turn [] r rising found = absurd (true≢false (ap is_some (sym found)))
-named_turned o turn (x ∷ os) r rising found =
+named_seqid_set : (o : Opener) (seqids : SeqidState) (os : List OwnerRow) (r : OwnerRow) → IsRising os → find (is_opener o) os ≡ Some r → find (is_opener o) (changed (is_owner r.number) (with_seqids seqids) os) ≡ Some (with_seqids seqids r)
+named_seqid_set o seqids [] r rising found = absurd (true≢false (ap is_some (sym found)))
+named_seqid_set o seqids (x ∷ os) r rising found =
     elim (cases_Bool (is_opener o x)) [
-      | inl e ↦ (let f : Some x ≡ Some r = rw e at found in rw (eq-eqb r.number x.number (ap (λ (y : OwnerRow). y.number) (sym (same_Some x r f)))) (rw e (ap (λ (y : OwnerRow). Some (with_turn turn y)) (same_Some x r f))))
+      | inl e ↦ (let f : Some x ≡ Some r = rw e at found in rw (eq-eqb r.number x.number (ap (λ (y : OwnerRow). y.number) (sym (same_Some x r f)))) (rw e (ap (λ (y : OwnerRow). Some (with_seqids seqids y)) (same_Some x r f))))
       | inr e ↦
           let rest : find (is_opener o) os ≡ Some r = rw e at found in
           let above : x.number < r.number = behind x (is_opener o) os r rising.0 rest in
-          rw (false_from_ne_true (r.number == x.number) (λ d. omega (arith, eqb-true r.number x.number d, above))) (rw e (named_turned o turn os r rising.1 rest))
+          rw (false_from_ne_true (r.number == x.number) (λ d. omega (arith, eqb-true r.number x.number d, above))) (rw e (named_seqid_set o seqids os r rising.1 rest))
     ]
 
 last_found : (p : OwnerRow → Bool) (os : List OwnerRow) (x : OwnerRow) → find p os ≡ None → p x ≡ true → find p (os ++ x ∷ []) ≡ Some x
@@ -195,31 +195,31 @@ last_found p (y ∷ os) x none is =
       | inr e ↦ rw e (last_found p os x (rw e at none) is)
     ]
 
-pub seat_is : (o : Opener) (turn : Turn) (l : NfsLists) → IsRising l.owners → is_room_for o l ≡ true → IsSeated o turn l (seated o turn l)
+pub seat_is : (o : Opener) (seqids : SeqidState) (l : NfsLists) → IsRising l.owners → is_room_for o l ≡ true → IsSeated o seqids l (seated o seqids l)
 unfolding seated
-seat_is o turn l rising room = by (find (is_opener o) l.owners) (next_owner l.owners) refl refl room
+seat_is o seqids l rising room = by (find (is_opener o) l.owners) (next_owner l.owners) refl refl room
   where
-    by : (x : Option OwnerRow) (next : Option ℕ) → find (is_opener o) l.owners ≡ x → next_owner l.owners ≡ next → (is_some x || is_some next) ≡ true → IsSeated o turn l (seated_by o turn l x)
+    by : (x : Option OwnerRow) (next : Option ℕ) → find (is_opener o) l.owners ≡ x → next_owner l.owners ≡ next → (is_some x || is_some next) ≡ true → IsSeated o seqids l (seated_by o seqids l x)
     by (Some r) next e f is =
-        let after : NfsLists = turned r.number turn l in
-        let same : (closed_gone r.turn.closed after).owners ≡ after.owners = gone_owners r.turn.closed after in
+        let after : NfsLists = seqid_set r.number seqids l in
+        let same : (closed_gone r.seqids.closed after).owners ≡ after.owners = gone_owners r.seqids.closed after in
         let parts = and_parts (o.client == r.name.client) _ (passes (is_opener o) l.owners r e) in
         record {
-          row = with_turn turn r;
+          row = with_seqids seqids r;
           number = ap (λ (x : Option OwnerRow). number_by x (next_owner l.owners)) (sym e);
-          found = ap (λ (os : List OwnerRow). find (is_owner r.number) os) same ∙ turned_at r.number r.number turn l.owners ∙ ap (λ (x : Option OwnerRow). option_map (λ (y : OwnerRow). if r.number == r.number then with_turn turn y else y) x) (rising_found (is_opener o) l.owners r rising e) ∙ rw (eq-eqb r.number r.number refl) refl;
-          named = ap (λ (os : List OwnerRow). find (is_opener o) os) same ∙ named_turned o turn l.owners r rising e;
-          turn_is = refl;
+          found = ap (λ (os : List OwnerRow). find (is_owner r.number) os) same ∙ seqid_set_at r.number r.number seqids l.owners ∙ ap (λ (x : Option OwnerRow). option_map (λ (y : OwnerRow). if r.number == r.number then with_seqids seqids y else y) x) (rising_found (is_opener o) l.owners r rising e) ∙ rw (eq-eqb r.number r.number refl) refl;
+          named = ap (λ (os : List OwnerRow). find (is_opener o) os) same ∙ named_seqid_set o seqids l.owners r rising e;
+          seqids_is = refl;
           client = sym (eqb-true o.client r.name.client parts.0);
           kind = sym (kinds_are o.kind r.name.kind (and_parts (same_kind o.kind r.name.kind) _ parts.1).0);
         }
     by None (Some number) e f is =
-        subst (λ (next : Option ℕ). IsSeated o turn l (seated_new o turn l next)) (sym f) (record {
-          row = new_owner o turn number;
+        subst (λ (next : Option ℕ). IsSeated o seqids l (seated_new o seqids l next)) (sym f) (record {
+          row = new_owner o seqids number;
           number = ap (λ (x : Option OwnerRow). number_by x (Some number)) (sym e) ∙ ap (λ (next : Option ℕ). number_by (find (is_opener o) l.owners) next) (sym f);
-          found = last_found (is_owner number) l.owners (new_owner o turn number) (fresh_number l.owners number rising f) (eq-eqb number number refl);
-          named = last_found (is_opener o) l.owners (new_owner o turn number) e (is_own o turn number);
-          turn_is = refl;
+          found = last_found (is_owner number) l.owners (new_owner o seqids number) (fresh_number l.owners number rising f) (eq-eqb number number refl);
+          named = last_found (is_opener o) l.owners (new_owner o seqids number) e (is_own o seqids number);
+          seqids_is = refl;
           client = refl;
           kind = refl;
         })
@@ -303,27 +303,27 @@ had_is o file l r orderly e = by (find (is_opener o) l.owners) refl e
 -- ---- OPEN
 
 -- a request of an owner that may be new counts
-pub remembered_orderly : (o : Opener) (turn : Turn) (bytes : List ℕ) (l : NfsLists) → turn.closed ≡ None → IsOrderly l → IsOrderly (remembered o turn bytes l)
+pub remembered_orderly : (o : Opener) (seqids : SeqidState) (bytes : List ℕ) (l : NfsLists) → seqids.closed ≡ None → IsOrderly l → IsOrderly (remembered o seqids bytes l)
 unfolding remembered
-remembered_orderly o turn bytes l none orderly =
+remembered_orderly o seqids bytes l none orderly =
     elim (cases_Bool (is_room_for o l)) [
-      | inl d ↦ rw d (kept_orderly (opener_number o l) bytes _ (seated_orderly o turn l none orderly))
+      | inl d ↦ rw d (kept_orderly (opener_number o l) bytes _ (seated_orderly o seqids l none orderly))
       | inr d ↦ rw d orderly
     ]
 
 pub refused_orderly : (o : Opener) (a : OpenArgsItem) (confirmed : Bool) (status : NfsStatus) (l : NfsLists) → IsOrderly l → IsOrderly (refused_lists o a confirmed status l)
 refused_orderly o a confirmed status l orderly =
     elim (cases_Bool (advances status)) [
-      | inl e ↦ rw e (remembered_orderly o (open_turn a confirmed) (spelled 18 (Ended status)) l refl orderly)
+      | inl e ↦ rw e (remembered_orderly o (open_seqids a confirmed) (spelled 18 (Ended status)) l refl orderly)
       | inr e ↦ rw e orderly
     ]
 
 -- a new open is its owner's
-pub owned_new : (s : CoreState) (o : Opener) (a : OpenArgsItem) (file : ℕ) (confirmed : Bool) (l : NfsLists) → o.kind ≡ kinds.Open → IsRising l.owners → is_room_for o l ≡ true → IsOwnedBy (open_row (s.counter + 1) o (opener_number o l) file a) kinds.Open (find (is_owner (opener_number o l)) (seated o (open_turn a confirmed) l).owners)
+pub owned_new : (s : CoreState) (o : Opener) (a : OpenArgsItem) (file : ℕ) (confirmed : Bool) (l : NfsLists) → o.kind ≡ kinds.Open → IsRising l.owners → is_room_for o l ≡ true → IsOwnedBy (open_row (s.counter + 1) o (opener_number o l) file a) kinds.Open (find (is_owner (opener_number o l)) (seated o (open_seqids a confirmed) l).owners)
 owned_new s o a file confirmed l kind rising room =
-    let is = seat_is o (open_turn a confirmed) l rising room in
-    subst (λ (x : Option OwnerRow). IsOwnedBy (open_row (s.counter + 1) o (opener_number o l) file a) kinds.Open x) (sym (ap (λ (m : ℕ). find (is_owner m) (seated o (open_turn a confirmed) l).owners) (sym is.number) ∙ is.found))
-    (is.client, is.kind ∙ kind, sym (ap (λ (t : Turn). closes t.closed (s.counter + 1)) is.turn_is))
+    let is = seat_is o (open_seqids a confirmed) l rising room in
+    subst (λ (x : Option OwnerRow). IsOwnedBy (open_row (s.counter + 1) o (opener_number o l) file a) kinds.Open x) (sym (ap (λ (m : ℕ). find (is_owner m) (seated o (open_seqids a confirmed) l).owners) (sym is.number) ∙ is.found))
+    (is.client, is.kind ∙ kind, sym (ap (λ (t : SeqidState). closes t.closed (s.counter + 1)) is.seqids_is))
 
 -- whatever it comes to, owners and stateids are orderly
 abbrev pub Keeps : Plan → Type 0
@@ -355,11 +355,11 @@ delegated_orderly s o file (Some write) l orderly =
 granted_keeps : (s : CoreState) (l : NfsLists) (o : Opener) (a : OpenArgsItem) (file : ℕ) (confirmed : Bool) (write : Option Bool) (x : Option StateidRow) → open_held l o file ≡ x → o.kind ≡ kinds.Open → is_room_for o l ≡ true → IsOrderly l → Keeps (granted_by s l o a file confirmed write x)
 granted_keeps s l o a file confirmed write None e kind room orderly =
     kept_orderly (opener_number o l) (spelled 18 (opened_told (drawn_for write (drawn s)) (s.counter + 1) 1 confirmed (delegation_told (drawn s) write))) _
-    (delegated_orderly (drawn s) o file write _ (entered_orderly (open_row (s.counter + 1) o (opener_number o l) file a) (opener_number o l) (seated o (open_turn a confirmed) l) refl (owned_new s o a file confirmed l kind orderly.rising room) (seated_orderly o (open_turn a confirmed) l refl orderly)))
+    (delegated_orderly (drawn s) o file write _ (entered_orderly (open_row (s.counter + 1) o (opener_number o l) file a) (opener_number o l) (seated o (open_seqids a confirmed) l) refl (owned_new s o a file confirmed l kind orderly.rising room) (seated_orderly o (open_seqids a confirmed) l refl orderly)))
 granted_keeps s l o a file confirmed write (Some r) e kind room orderly =
     let had = had_is o file l r orderly e in
     kept_orderly (opener_number o l) (spelled 18 (opened_told (drawn_for write s) r.number (next_seqid r.standing.seqid) confirmed (delegation_told s write))) _
-    (delegated_orderly s o file write _ (seated_orderly o (open_turn a confirmed) _ refl (stood_orderly l r (either_bits r.standing.access a.access) (either_bits r.standing.deny a.deny) had.found had.live orderly)))
+    (delegated_orderly s o file write _ (seated_orderly o (open_seqids a confirmed) _ refl (stood_orderly l r (either_bits r.standing.access a.access) (either_bits r.standing.deny a.deny) had.found had.live orderly)))
 
 answered_keeps : (l : NfsLists) (current : Option ℕ) (o : Opener) (a : OpenArgsItem) (file : ℕ) (confirmed : Bool) (wish : Option Bool) (answer : Answer) (s : CoreState) → o.kind ≡ kinds.Open → is_room_for o l ≡ true → IsOrderly l → Keeps (answered l current o a file confirmed wish answer s)
 answered_keeps l current o a file confirmed wish answer s kind room orderly =
@@ -407,14 +407,14 @@ open_keeps files others s l current a orderly =
 
 -- ---- OPEN_CONFIRM, OPEN_DOWNGRADE, CLOSE, DELEGRETURN
 
-confirm_done_keeps : (s : CoreState) (l : NfsLists) (current : Option ℕ) (a : OpenConfirmArgs) (r : StateidRow) (owner : ℕ) (turn : Turn) (x : Option NfsStatus) → IsPassed l r owner turn → IsOrderly l → Keeps (confirm_done s l current a r owner turn x)
-confirm_done_keeps s l current a r owner turn (Some status) passed orderly = failed_orderly l owner passed.row turn 20 a.seqid status passed.owned passed.turn_is orderly
-confirm_done_keeps s l current a r owner turn None passed orderly = done_orderly s l r owner turn 20 a.seqid true r.standing.access r.standing.deny passed orderly
+confirm_done_keeps : (s : CoreState) (l : NfsLists) (current : Option ℕ) (a : OpenConfirmArgs) (r : StateidRow) (owner : ℕ) (seqids : SeqidState) (x : Option NfsStatus) → IsPassed l r owner seqids → IsOrderly l → Keeps (confirm_done s l current a r owner seqids x)
+confirm_done_keeps s l current a r owner seqids (Some status) passed orderly = failed_orderly l owner passed.row seqids 20 a.seqid status passed.owned passed.seqids_is orderly
+confirm_done_keeps s l current a r owner seqids None passed orderly = done_orderly s l r owner seqids 20 a.seqid true r.standing.access r.standing.deny passed orderly
 
 confirm_by_keeps : (s : CoreState) (l : NfsLists) (current : Option ℕ) (a : OpenConfirmArgs) (c : Checked) → IfPassed l c → IsOrderly l → Keeps (confirm_by s l current a c)
 confirm_by_keeps s l current a (Refused status) passed orderly = orderly
 confirm_by_keeps s l current a (Repeated owner) passed orderly = repeat_keeps s l current (find (is_kept owner) l.kept) orderly
-confirm_by_keeps s l current a (Passed r owner turn) passed orderly = confirm_done_keeps s l current a r owner turn (standing_fault r turn a.stateid.seqid false) passed orderly
+confirm_by_keeps s l current a (Passed r owner seqids) passed orderly = confirm_done_keeps s l current a r owner seqids (standing_fault r seqids a.stateid.seqid false) passed orderly
 
 pub confirm_keeps : (s : CoreState) (l : NfsLists) (current : Option ℕ) (a : OpenConfirmArgs) → IsOrderly l → Keeps (open_confirm s l current a)
 unfolding open_confirm
@@ -423,14 +423,14 @@ confirm_keeps s l current a orderly =
     let once : IsOrderly m = renewed_orderly s l (state_client s l a.stateid) orderly in
     (once, λ t. confirm_by_keeps t m current a (checked t m current 20 a.seqid a.stateid) (checked_passed t m current 20 a.seqid a.stateid) once)
 
-downgrade_done_keeps : (s : CoreState) (l : NfsLists) (current : Option ℕ) (a : OpenDowngradeArgs) (r : StateidRow) (owner : ℕ) (turn : Turn) (x : Option NfsStatus) → IsPassed l r owner turn → IsOrderly l → Keeps (downgrade_done s l current a r owner turn x)
-downgrade_done_keeps s l current a r owner turn (Some status) passed orderly = failed_orderly l owner passed.row turn 21 a.seqid status passed.owned passed.turn_is orderly
-downgrade_done_keeps s l current a r owner turn None passed orderly = done_orderly s l r owner turn 21 a.seqid turn.confirmed a.access a.deny passed orderly
+downgrade_done_keeps : (s : CoreState) (l : NfsLists) (current : Option ℕ) (a : OpenDowngradeArgs) (r : StateidRow) (owner : ℕ) (seqids : SeqidState) (x : Option NfsStatus) → IsPassed l r owner seqids → IsOrderly l → Keeps (downgrade_done s l current a r owner seqids x)
+downgrade_done_keeps s l current a r owner seqids (Some status) passed orderly = failed_orderly l owner passed.row seqids 21 a.seqid status passed.owned passed.seqids_is orderly
+downgrade_done_keeps s l current a r owner seqids None passed orderly = done_orderly s l r owner seqids 21 a.seqid seqids.confirmed a.access a.deny passed orderly
 
 downgrade_by_keeps : (s : CoreState) (l : NfsLists) (current : Option ℕ) (a : OpenDowngradeArgs) (c : Checked) → IfPassed l c → IsOrderly l → Keeps (downgrade_by s l current a c)
 downgrade_by_keeps s l current a (Refused status) passed orderly = orderly
 downgrade_by_keeps s l current a (Repeated owner) passed orderly = repeat_keeps s l current (find (is_kept owner) l.kept) orderly
-downgrade_by_keeps s l current a (Passed r owner turn) passed orderly = downgrade_done_keeps s l current a r owner turn (downgrade_fault r turn a) passed orderly
+downgrade_by_keeps s l current a (Passed r owner seqids) passed orderly = downgrade_done_keeps s l current a r owner seqids (downgrade_fault r seqids a) passed orderly
 
 pub downgrade_keeps : (s : CoreState) (l : NfsLists) (current : Option ℕ) (a : OpenDowngradeArgs) → IsOrderly l → Keeps (open_downgrade s l current a)
 unfolding open_downgrade
@@ -439,14 +439,14 @@ downgrade_keeps s l current a orderly =
     let once : IsOrderly m = renewed_orderly s l (state_client s l a.stateid) orderly in
     (once, λ t. downgrade_by_keeps t m current a (checked t m current 21 a.seqid a.stateid) (checked_passed t m current 21 a.seqid a.stateid) once)
 
-close_done_keeps : (s : CoreState) (l : NfsLists) (current : Option ℕ) (a : CloseArgs) (r : StateidRow) (owner : ℕ) (turn : Turn) (x : Option NfsStatus) → IsPassed l r owner turn → IsOrderly l → Keeps (close_done s l current a r owner turn x)
-close_done_keeps s l current a r owner turn (Some status) passed orderly = failed_orderly l owner passed.row turn 4 a.seqid status passed.owned passed.turn_is orderly
-close_done_keeps s l current a r owner turn None passed orderly = (orderly, λ t. stateids_go _ (is_whose (whose.Under r.number)) (closed_orderly t l r owner turn 4 a.seqid turn.confirmed r.standing.access r.standing.deny passed orderly))
+close_done_keeps : (s : CoreState) (l : NfsLists) (current : Option ℕ) (a : CloseArgs) (r : StateidRow) (owner : ℕ) (seqids : SeqidState) (x : Option NfsStatus) → IsPassed l r owner seqids → IsOrderly l → Keeps (close_done s l current a r owner seqids x)
+close_done_keeps s l current a r owner seqids (Some status) passed orderly = failed_orderly l owner passed.row seqids 4 a.seqid status passed.owned passed.seqids_is orderly
+close_done_keeps s l current a r owner seqids None passed orderly = (orderly, λ t. stateids_go _ (is_whose (whose.Under r.number)) (closed_orderly t l r owner seqids 4 a.seqid seqids.confirmed r.standing.access r.standing.deny passed orderly))
 
 close_by_keeps : (s : CoreState) (l : NfsLists) (current : Option ℕ) (a : CloseArgs) (c : Checked) → IfPassed l c → IsOrderly l → Keeps (close_by s l current a c)
 close_by_keeps s l current a (Refused status) passed orderly = orderly
 close_by_keeps s l current a (Repeated owner) passed orderly = repeat_keeps s l current (find (is_kept owner) l.kept) orderly
-close_by_keeps s l current a (Passed r owner turn) passed orderly = close_done_keeps s l current a r owner turn (standing_fault r turn a.stateid.seqid true) passed orderly
+close_by_keeps s l current a (Passed r owner seqids) passed orderly = close_done_keeps s l current a r owner seqids (standing_fault r seqids a.stateid.seqid true) passed orderly
 
 pub close_keeps : (s : CoreState) (l : NfsLists) (current : Option ℕ) (a : CloseArgs) → IsOrderly l → Keeps (close s l current a)
 unfolding close

@@ -270,9 +270,9 @@ module _ (last : ℕ) (l : NfsLists) (o : ClientRow) (here : IsIn o l.clients) (
   left_set : AreSet last left
   left_set = record {
     given = all_left (λ (r : StateidRow). r.number ≤ last) (λ (r : StateidRow). r.number ≤ last) (λ r. o.number == r.client) l.stateids (λ r stays h. h) set.given;
-    shut = all_left (λ (x : OwnerRow). IsShut last l.stateids x.turn.closed) (λ (x : OwnerRow). IsShut last left.stateids x.turn.closed) (λ x. o.number == x.name.client) l.owners (λ x stays h. record {
+    shut = all_left (λ (x : OwnerRow). IsShut last l.stateids x.seqids.closed) (λ (x : OwnerRow). IsShut last left.stateids x.seqids.closed) (λ x. o.number == x.name.client) l.owners (λ x stays h. record {
       given = h.given;
-      other = all_left (λ (r : StateidRow). is_open_still x.turn.closed r ≡ true) (λ (r : StateidRow). is_open_still x.turn.closed r ≡ true) (λ r. o.number == r.client) l.stateids (λ r stays h. h) h.other;
+      other = all_left (λ (r : StateidRow). is_open_still x.seqids.closed r ≡ true) (λ (r : StateidRow). is_open_still x.seqids.closed r ≡ true) (λ r. o.number == r.client) l.stateids (λ r stays h. h) h.other;
     }) set.shut;
     clients = record {
       apart = pairwise_filter clients_apart (λ (r : ClientRow). not (is_client o.number true r)) l.clients set.clients.apart;
@@ -369,9 +369,9 @@ module _ (last : ℕ) (l : NfsLists) (row : ClientRow) (sure : row.confirmed ≡
       let cs : List ClientRow = without (is_client row.number true) l.clients in
       record {
         given = all_left (λ (r : StateidRow). r.number ≤ last) (λ (r : StateidRow). r.number ≤ last) (λ r. row.number == r.client) l.stateids (λ r stays h. h) set.given;
-        shut = all_left (λ (x : OwnerRow). IsShut last l.stateids x.turn.closed) (λ (x : OwnerRow). IsShut last come_lists.stateids x.turn.closed) (λ x. row.number == x.name.client) l.owners (λ x stays h. record {
+        shut = all_left (λ (x : OwnerRow). IsShut last l.stateids x.seqids.closed) (λ (x : OwnerRow). IsShut last come_lists.stateids x.seqids.closed) (λ x. row.number == x.name.client) l.owners (λ x stays h. record {
           given = h.given;
-          other = all_left (λ (r : StateidRow). is_open_still x.turn.closed r ≡ true) (λ (r : StateidRow). is_open_still x.turn.closed r ≡ true) (λ r. row.number == r.client) l.stateids (λ r stays h. h) h.other;
+          other = all_left (λ (r : StateidRow). is_open_still x.seqids.closed r ≡ true) (λ (r : StateidRow). is_open_still x.seqids.closed r ≡ true) (λ r. row.number == r.client) l.stateids (λ r stays h. h) h.other;
         }) set.shut;
         clients = record {
           apart = pairwise_append clients_apart cs (row ∷ []) (pairwise_filter clients_apart (λ (r : ClientRow). not (is_client row.number true r)) l.clients set.clients.apart) (tt, tt) (λ x y here there. elim there [ inl same ↦ subst (λ (r : ClientRow). clients_apart x r ≡ true) same (apart x (in_filter_from (λ (r : ClientRow). not (is_client row.number true r)) x l.clients here).0) | inr nowhere ↦ absurd nowhere ]);

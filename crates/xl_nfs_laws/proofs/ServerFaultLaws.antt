@@ -16,7 +16,7 @@ use Rattle.xl_nfs_state.proofs.SoundLaws.{client_renewed}
 use Rattle.xl_nfs_state.specs.State.{NfsLists, IsSound, is_client, is_kept}
 use Rattle.xl_nfs_state.specs.declared.client.ClientRow.{ClientRow}
 use Rattle.xl_nfs_state.specs.declared.kept.KeptRow.{KeptRow}
-use Rattle.xl_nfs_state.specs.declared.owner.Turn.{Turn}
+use Rattle.xl_nfs_state.specs.declared.owner.SeqidState.{SeqidState}
 use Rattle.xl_nfs_state.specs.declared.stateid.StateidRow.{StateidRow}
 use Rattle.xl_core.proofs.DeedLists.{deeds_good}
 use Rattle.xl_core.proofs.WayAsks.{ask_unlock}
@@ -77,14 +77,14 @@ ended status other = λ d. (let same : status ≡ statuses.ServerFault = cc in o
 uncounted : (status : NfsStatus) → advances status ≡ false → Sound (Ended status)
 uncounted status not = ended status (λ same. true≢false (sym (ap advances same) ∙ not))
 
-standing_other : (r : StateidRow) (turn : Turn) (seqid : ℕ) (confirmed : Bool) → OtherIf (standing_fault r turn seqid confirmed)
+standing_other : (r : StateidRow) (seqids : SeqidState) (seqid : ℕ) (confirmed : Bool) → OtherIf (standing_fault r seqids seqid confirmed)
 unfolding standing_fault
-standing_other r turn seqid confirmed =
+standing_other r seqids seqid confirmed =
     elim (cases_Bool (nat_lt seqid r.standing.seqid)) [
       | inl e ↦ rw e (λ d. cc)
       | inr e ↦ rw e (elim (cases_Bool (nat_lt r.standing.seqid seqid)) [
         | inl f ↦ rw f (λ d. cc)
-        | inr f ↦ rw f (elim (cases_Bool (beq turn.confirmed confirmed)) [
+        | inr f ↦ rw f (elim (cases_Bool (beq seqids.confirmed confirmed)) [
           | inl g ↦ rw g tt
           | inr g ↦ rw g (λ d. cc)
         ])
@@ -126,24 +126,24 @@ renewed_good n s l client good = deeds_good n s (renewals l client) good (renewa
 
 -- ---- LOCK by a lock's stateid
 
-lock_by_sound : (n : ℕ) (s : CoreState) (l : NfsLists) (current : Option ℕ) (a : LockArgsItem) (r : StateidRow) (owner : ℕ) (turn : Turn) (seqid last : ℕ) (x : Opener) (by : Option Opener) → by ≡ Some x → Sound (carried n s l current (lock_by_owner l current a r owner turn seqid last by)).0
-lock_by_sound n s l current a r owner turn seqid last x None e = absurd (true≢false (ap is_some (sym e)))
-lock_by_sound n s l current a r owner turn seqid last x (Some y) e = λ d. (known_exactly n s l current a r owner turn seqid last y statuses.ServerFault).0 (ap status_of d)
+lock_by_sound : (n : ℕ) (s : CoreState) (l : NfsLists) (current : Option ℕ) (a : LockArgsItem) (r : StateidRow) (owner : ℕ) (seqids : SeqidState) (seqid last : ℕ) (x : Opener) (by : Option Opener) → by ≡ Some x → Sound (carried n s l current (lock_by_owner l current a r owner seqids seqid last by)).0
+lock_by_sound n s l current a r owner seqids seqid last x None e = absurd (true≢false (ap is_some (sym e)))
+lock_by_sound n s l current a r owner seqids seqid last x (Some y) e = λ d. (known_exactly n s l current a r owner seqids seqid last y statuses.ServerFault).0 (ap status_of d)
 
-lock_to_sound : (n : ℕ) (s : CoreState) (l : NfsLists) (current : Option ℕ) (a : LockArgsItem) (r : StateidRow) (owner : ℕ) (turn : Turn) (seqid : ℕ) (last : Result ℕ NfsStatus) (x : Opener) → OtherOr last → opener_by l r.client owner ≡ Some x → Sound (carried n s l current (lock_to l current a r owner turn seqid last)).0
-lock_to_sound n s l current a r owner turn seqid (Err status) x other by = ended status other
-lock_to_sound n s l current a r owner turn seqid (Ok last) x other by = lock_by_sound n s l current a r owner turn seqid last x (opener_by l r.client owner) by
+lock_to_sound : (n : ℕ) (s : CoreState) (l : NfsLists) (current : Option ℕ) (a : LockArgsItem) (r : StateidRow) (owner : ℕ) (seqids : SeqidState) (seqid : ℕ) (last : Result ℕ NfsStatus) (x : Opener) → OtherOr last → opener_by l r.client owner ≡ Some x → Sound (carried n s l current (lock_to l current a r owner seqids seqid last)).0
+lock_to_sound n s l current a r owner seqids seqid (Err status) x other by = ended status other
+lock_to_sound n s l current a r owner seqids seqid (Ok last) x other by = lock_by_sound n s l current a r owner seqids seqid last x (opener_by l r.client owner) by
 
-lock_standing_sound : (n : ℕ) (s : CoreState) (l : NfsLists) (current : Option ℕ) (a : LockArgsItem) (r : StateidRow) (owner : ℕ) (turn : Turn) (seqid : ℕ) (fault : Option NfsStatus) (x : Opener) → OtherIf fault → opener_by l r.client owner ≡ Some x → Sound (carried n s l current (lock_standing l current a r owner turn seqid fault)).0
-lock_standing_sound n s l current a r owner turn seqid (Some status) x other by = ended status other
-lock_standing_sound n s l current a r owner turn seqid None x other by = lock_to_sound n s l current a r owner turn seqid (lock_end a.kind (access_above l r.holder) (last_byte a.offset a.len)) x (end_other a.kind (access_above l r.holder) (last_byte a.offset a.len)) by
+lock_standing_sound : (n : ℕ) (s : CoreState) (l : NfsLists) (current : Option ℕ) (a : LockArgsItem) (r : StateidRow) (owner : ℕ) (seqids : SeqidState) (seqid : ℕ) (fault : Option NfsStatus) (x : Opener) → OtherIf fault → opener_by l r.client owner ≡ Some x → Sound (carried n s l current (lock_standing l current a r owner seqids seqid fault)).0
+lock_standing_sound n s l current a r owner seqids seqid (Some status) x other by = ended status other
+lock_standing_sound n s l current a r owner seqids seqid None x other by = lock_to_sound n s l current a r owner seqids seqid (lock_end a.kind (access_above l r.holder) (last_byte a.offset a.len)) x (end_other a.kind (access_above l r.holder) (last_byte a.offset a.len)) by
 
 lock_found_sound : (n : ℕ) (s : CoreState) (l : NfsLists) (current : Option ℕ) (a : LockArgsItem) (x : KnownLocker) (c : Checked) → IsSound l → IfRefused c → IfNext s l current x.seqid x.stateid c → Sound (carried n s l current (lock_found s l current a x c)).0
 lock_found_sound n s l current a x (Refused status) sound not next = uncounted status not
 lock_found_sound n s l current a x (Repeated owner) sound not next = repeat_sound n s l current (find (is_kept owner) l.kept)
-lock_found_sound n s l current a x (Passed r owner turn) sound not next =
+lock_found_sound n s l current a x (Passed r owner seqids) sound not next =
     let by = opener_there l r owner next.row sound next.locks.found next.locks.owner in
-    lock_standing_sound n s l current a r owner turn x.seqid (standing_fault r turn x.stateid.seqid true) by.0 (standing_other r turn x.stateid.seqid true) by.1
+    lock_standing_sound n s l current a r owner seqids x.seqid (standing_fault r seqids x.stateid.seqid true) by.0 (standing_other r seqids x.stateid.seqid true) by.1
 
 known_sound : (n : ℕ) (s : CoreState) (l : NfsLists) (current : Option ℕ) (a : LockArgsItem) (x : KnownLocker) → IsSound l → Sound (carried n s l current (lock_known s l current a x)).0
 unfolding lock_known
@@ -183,7 +183,7 @@ join_standing_sound n s l current a x b r None other = join_of_sound n s l curre
 join_checked_sound : (n : ℕ) (s : CoreState) (l : NfsLists) (current : Option ℕ) (a : LockArgsItem) (x : NewLockerItem) (c : Checked) → ((status : NfsStatus) → c ≡ Refused status → advances status ≡ false) → Sound (carried n s l current (join_checked s l current a x c)).0
 join_checked_sound n s l current a x (Refused status) not = uncounted status (not status refl)
 join_checked_sound n s l current a x (Repeated owner) not = repeat_sound n s l current (find (is_kept owner) l.kept)
-join_checked_sound n s l current a x (Passed r owner turn) not = join_standing_sound n s l current a x (both_of x owner turn) r (standing_fault r turn x.open_stateid.seqid true) (standing_other r turn x.open_stateid.seqid true)
+join_checked_sound n s l current a x (Passed r owner seqids) not = join_standing_sound n s l current a x (both_of x owner seqids) r (standing_fault r seqids x.open_stateid.seqid true) (standing_other r seqids x.open_stateid.seqid true)
 
 first_sound : (n : ℕ) (s : CoreState) (l : NfsLists) (current : Option ℕ) (a : LockArgsItem) (x : NewLockerItem) → Sound (carried n s l current (lock_new s l current a x)).0
 unfolding lock_new lock_named
@@ -218,35 +218,35 @@ unlock_other s claim first last (answers.NoGrace clock) due = absurd due
 unlock_other s claim first last answers.NotRecorded due = absurd due
 unlock_other s claim first last answers.StoreFailed due = absurd due
 
-unlocked_sound : (n : ℕ) (s : CoreState) (l : NfsLists) (current : Option ℕ) (a : UnlockArgs) (r : StateidRow) (owner : ℕ) (turn : Turn) (status : NfsStatus) → Other status → Sound (carried n s l current (unlocked_as s l current a r owner turn status)).0
-unlocked_sound n s l current a r owner turn status other =
+unlocked_sound : (n : ℕ) (s : CoreState) (l : NfsLists) (current : Option ℕ) (a : UnlockArgs) (r : StateidRow) (owner : ℕ) (seqids : SeqidState) (status : NfsStatus) → Other status → Sound (carried n s l current (unlocked_as s l current a r owner seqids status)).0
+unlocked_sound n s l current a r owner seqids status other =
     elim (cases_Bool (is_ok status)) [
       | inl e ↦ rw e (λ d. cc)
       | inr e ↦ rw e (ended status other)
     ]
 
-unlock_by_sound : (n : ℕ) (s : CoreState) (l : NfsLists) (current : Option ℕ) (a : UnlockArgs) (r : StateidRow) (owner : ℕ) (turn : Turn) (last : ℕ) (x : Opener) (by : Option Opener) → IsGood s → a.offset ≤ last → by ≡ Some x → Sound (carried n s l current (unlock_by_owner l current a r owner turn last by)).0
-unlock_by_sound n s l current a r owner turn last x None good le e = absurd (true≢false (ap is_some (sym e)))
-unlock_by_sound n s l current a r owner turn last x (Some y) good le e =
+unlock_by_sound : (n : ℕ) (s : CoreState) (l : NfsLists) (current : Option ℕ) (a : UnlockArgs) (r : StateidRow) (owner : ℕ) (seqids : SeqidState) (last : ℕ) (x : Opener) (by : Option Opener) → IsGood s → a.offset ≤ last → by ≡ Some x → Sound (carried n s l current (unlock_by_owner l current a r owner seqids last by)).0
+unlock_by_sound n s l current a r owner seqids last x None good le e = absurd (true≢false (ap is_some (sym e)))
+unlock_by_sound n s l current a r owner seqids last x (Some y) good le e =
     let q = unlock_ask y r.file a.offset last in
     let z = ask n all_rooms s q in
     let due = (ask_unlock n all_rooms s q a.offset last z.0 refl (unlock_fits y r.file a.offset last le).party refl le good).0 refl in
-    unlocked_sound n z.2 l current a r owner turn (unlock_status z.0) (unlock_other s (unlock_claim s y r.file a.offset last) a.offset last z.0 due)
+    unlocked_sound n z.2 l current a r owner seqids (unlock_status z.0) (unlock_other s (unlock_claim s y r.file a.offset last) a.offset last z.0 due)
 
-unlock_to_sound : (n : ℕ) (s : CoreState) (l : NfsLists) (current : Option ℕ) (a : UnlockArgs) (r : StateidRow) (owner : ℕ) (turn : Turn) (last : Option ℕ) (x : Opener) → IsGood s → NotBefore a.offset last → opener_by l r.client owner ≡ Some x → Sound (carried n s l current (unlock_to l current a r owner turn last)).0
-unlock_to_sound n s l current a r owner turn None x good le by = λ d. cc
-unlock_to_sound n s l current a r owner turn (Some last) x good le by = unlock_by_sound n s l current a r owner turn last x (opener_by l r.client owner) good le by
+unlock_to_sound : (n : ℕ) (s : CoreState) (l : NfsLists) (current : Option ℕ) (a : UnlockArgs) (r : StateidRow) (owner : ℕ) (seqids : SeqidState) (last : Option ℕ) (x : Opener) → IsGood s → NotBefore a.offset last → opener_by l r.client owner ≡ Some x → Sound (carried n s l current (unlock_to l current a r owner seqids last)).0
+unlock_to_sound n s l current a r owner seqids None x good le by = λ d. cc
+unlock_to_sound n s l current a r owner seqids (Some last) x good le by = unlock_by_sound n s l current a r owner seqids last x (opener_by l r.client owner) good le by
 
-unlock_standing_sound : (n : ℕ) (s : CoreState) (l : NfsLists) (current : Option ℕ) (a : UnlockArgs) (r : StateidRow) (owner : ℕ) (turn : Turn) (fault : Option NfsStatus) (x : Opener) → IsGood s → OtherIf fault → opener_by l r.client owner ≡ Some x → Sound (carried n s l current (unlock_standing l current a r owner turn fault)).0
-unlock_standing_sound n s l current a r owner turn (Some status) x good other by = ended status other
-unlock_standing_sound n s l current a r owner turn None x good other by = unlock_to_sound n s l current a r owner turn (last_byte a.offset a.len) x good (last_not_before a.offset a.len) by
+unlock_standing_sound : (n : ℕ) (s : CoreState) (l : NfsLists) (current : Option ℕ) (a : UnlockArgs) (r : StateidRow) (owner : ℕ) (seqids : SeqidState) (fault : Option NfsStatus) (x : Opener) → IsGood s → OtherIf fault → opener_by l r.client owner ≡ Some x → Sound (carried n s l current (unlock_standing l current a r owner seqids fault)).0
+unlock_standing_sound n s l current a r owner seqids (Some status) x good other by = ended status other
+unlock_standing_sound n s l current a r owner seqids None x good other by = unlock_to_sound n s l current a r owner seqids (last_byte a.offset a.len) x good (last_not_before a.offset a.len) by
 
 unlock_found_sound : (n : ℕ) (s : CoreState) (l : NfsLists) (current : Option ℕ) (a : UnlockArgs) (c : Checked) → IsGood s → IsSound l → IfRefused c → IfNext s l current a.seqid a.stateid c → Sound (carried n s l current (unlock_found s l current a c)).0
 unlock_found_sound n s l current a (Refused status) good sound not next = uncounted status not
 unlock_found_sound n s l current a (Repeated owner) good sound not next = repeat_sound n s l current (find (is_kept owner) l.kept)
-unlock_found_sound n s l current a (Passed r owner turn) good sound not next =
+unlock_found_sound n s l current a (Passed r owner seqids) good sound not next =
     let by = opener_there l r owner next.row sound next.locks.found next.locks.owner in
-    unlock_standing_sound n s l current a r owner turn (standing_fault r turn a.stateid.seqid true) by.0 good (standing_other r turn a.stateid.seqid true) by.1
+    unlock_standing_sound n s l current a r owner seqids (standing_fault r seqids a.stateid.seqid true) by.0 good (standing_other r seqids a.stateid.seqid true) by.1
 
 pub unlock_sound : (n : ℕ) (s : CoreState) (l : NfsLists) (current : Option ℕ) (a : UnlockArgs) → IsGood s → IsSound l → (carried n s l current (unlock s l current a)).0 ≡ Ended statuses.ServerFault → ⊥
 unfolding unlock

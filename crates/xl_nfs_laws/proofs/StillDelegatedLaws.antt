@@ -11,12 +11,12 @@ use Rattle.xl_base.specs.declared.event.Moment.{Moment}
 use Rattle.xl_nfs_state.proofs.AnyLaws.{all_changed, all_left}
 use Rattle.xl_nfs_state.specs.Filed.{changed}
 use Rattle.xl_nfs_state.specs.Keys.{held_at as place_at, same_place}
-use Rattle.xl_nfs_state.specs.Rows.{with_standing, with_time, with_turn}
+use Rattle.xl_nfs_state.specs.Rows.{with_standing, with_time, with_seqids}
 use Rattle.xl_nfs_state.specs.State.{NfsLists, delegated_on, hangs_on, is_client, is_client_named, is_kept, is_owner, is_stateid, is_under, is_whose, next_owner, with_clients, with_stateids, without, without_owner}
 use Rattle.xl_nfs_state.specs.Verdict.{next_seqid}
 use Rattle.xl_nfs_state.specs.declared.client.ClientRow.{ClientRow}
 use Rattle.xl_nfs_state.specs.declared.owner.OwnerRow.{OwnerRow}
-use Rattle.xl_nfs_state.specs.declared.owner.Turn.{Turn}
+use Rattle.xl_nfs_state.specs.declared.owner.SeqidState.{SeqidState}
 use Rattle.xl_nfs_state.specs.declared.stateid.Holder.{Holder}
 use Rattle.xl_nfs_state.specs.declared.stateid.Holder.TheVariants as holders
 use Rattle.xl_nfs_state.specs.declared.stateid.Place.TheVariants.{Delegated}
@@ -25,13 +25,13 @@ use Rattle.xl_nfs_state.specs.declared.stateid.StateidRow.{StateidRow}
 use Rattle.xl_nfs_state.specs.declared.stateid.Whose.TheVariants as whose
 use Rattle.xl_core.proofs.DeedLeaves.{found_in}
 use Rattle.xl_core.specs.State.{CoreState}
-use Rattle.xl_nfs_opens.specs.Closing.{locks_gone, next_turn, failed_lists}
+use Rattle.xl_nfs_opens.specs.Closing.{locks_gone, next_seqids, failed_lists}
 use Rattle.xl_nfs_laws.specs.Delegated.{AreClients, AreSet, AreShut, IsShut, clients_apart, is_one_client, delegation_kept, delegation_numbered, is_open_still, number_confirmed, written_by}
 use Rattle.xl_nfs_opens.specs.Leases.{lease_end, renewed}
-use Rattle.xl_nfs_opens.specs.Opens.{can_enter, entered, freed, open_turn, refused_lists, stood}
+use Rattle.xl_nfs_opens.specs.Opens.{can_enter, entered, freed, open_seqids, refused_lists, stood}
 use Rattle.xl_nfs_opens.specs.Renewing.{renewed_for, renewed_if}
 use Rattle.xl_nfs_opens.specs.Results.{spelled}
-use Rattle.xl_nfs_opens.specs.Seqids.{advances, closed_gone, counted, is_opener, is_room_for, kept_for, opener_number, remembered, seated, seated_by, seated_new, turned}
+use Rattle.xl_nfs_opens.specs.Seqids.{advances, closed_gone, counted, is_opener, is_room_for, kept_for, opener_number, remembered, seated, seated_by, seated_new, seqid_set}
 use Rattle.xl_nfs_opens.specs.declared.opener.Opener.{Opener}
 use Rattle.xl_nfs_opens.specs.declared.told.Told.TheVariants.{Ended}
 use Rattle.xl_nfs.specs.Opens.{OpenArgsItem}
@@ -101,7 +101,7 @@ later_clients a b cs le clients = record {
 pub later_set : (a b : ℕ) (l : NfsLists) → a ≤ b → AreSet a l → AreSet b l
 later_set a b l le set = record {
   given = later_on a b l le set.given;
-  shut = all_weaker (λ (o : OwnerRow). IsShut a l.stateids o.turn.closed) (λ (o : OwnerRow). IsShut b l.stateids o.turn.closed) l.owners (λ o h. record { given = up o.turn.closed h.given; other = h.other }) set.shut;
+  shut = all_weaker (λ (o : OwnerRow). IsShut a l.stateids o.seqids.closed) (λ (o : OwnerRow). IsShut b l.stateids o.seqids.closed) l.owners (λ o h. record { given = up o.seqids.closed h.given; other = h.other }) set.shut;
   clients = later_clients a b l.clients le set.clients;
 }
   where
@@ -136,9 +136,9 @@ pub less_still : (last : ℕ) (drops : StateidRow → Bool) (l : NfsLists) → (
 less_still last drops l stays set = record {
   set = record {
     given = less_given last drops l set.given;
-    shut = all_weaker (λ (o : OwnerRow). IsShut last l.stateids o.turn.closed) (λ (o : OwnerRow). IsShut last (without drops l.stateids) o.turn.closed) l.owners (λ o h. record {
+    shut = all_weaker (λ (o : OwnerRow). IsShut last l.stateids o.seqids.closed) (λ (o : OwnerRow). IsShut last (without drops l.stateids) o.seqids.closed) l.owners (λ o h. record {
       given = h.given;
-      other = all_left (λ (r : StateidRow). is_open_still o.turn.closed r ≡ true) (λ (r : StateidRow). is_open_still o.turn.closed r ≡ true) drops l.stateids (λ r left e. e) h.other;
+      other = all_left (λ (r : StateidRow). is_open_still o.seqids.closed r ≡ true) (λ (r : StateidRow). is_open_still o.seqids.closed r ≡ true) drops l.stateids (λ r left e. e) h.other;
     }) set.shut;
     clients = set.clients;
   };
@@ -192,7 +192,7 @@ owner_still last number l set =
     record {
       set = record {
         given = less.set.given;
-        shut = all_left (λ (o : OwnerRow). IsShut last m.stateids o.turn.closed) (λ (o : OwnerRow). IsShut last m.stateids o.turn.closed) (is_owner number) l.owners (λ o left h. h) less.set.shut;
+        shut = all_left (λ (o : OwnerRow). IsShut last m.stateids o.seqids.closed) (λ (o : OwnerRow). IsShut last m.stateids o.seqids.closed) (is_owner number) l.owners (λ o left h. h) less.set.shut;
         clients = less.set.clients;
       };
       rows = less.rows;
@@ -206,9 +206,9 @@ pub comes_still : (last : ℕ) (r : StateidRow) (l : NfsLists) → r.number ≤ 
 comes_still last r l le none set = record {
   set = record {
     given = all_append (λ (q : StateidRow). q.number ≤ last) l.stateids (r ∷ []) set.given (le, tt);
-    shut = all_weaker (λ (o : OwnerRow). IsShut last l.stateids o.turn.closed) (λ (o : OwnerRow). IsShut last (l.stateids ++ r ∷ []) o.turn.closed) l.owners (λ o h. record {
+    shut = all_weaker (λ (o : OwnerRow). IsShut last l.stateids o.seqids.closed) (λ (o : OwnerRow). IsShut last (l.stateids ++ r ∷ []) o.seqids.closed) l.owners (λ o h. record {
       given = h.given;
-      other = all_append (λ (q : StateidRow). is_open_still o.turn.closed q ≡ true) l.stateids (r ∷ []) h.other (rw none refl, tt);
+      other = all_append (λ (q : StateidRow). is_open_still o.seqids.closed q ≡ true) l.stateids (r ∷ []) h.other (rw none refl, tt);
     }) set.shut;
     clients = set.clients;
   };
@@ -248,9 +248,9 @@ stood_still last number r access deny closed l set =
     record {
       set = record {
         given = all_changed (λ (q : StateidRow). q.number ≤ last) (λ (q : StateidRow). q.number ≤ last) (is_stateid number) (with_standing to) l.stateids (λ q h. h) (λ q h. h) set.given;
-        shut = all_weaker (λ (o : OwnerRow). IsShut last l.stateids o.turn.closed) (λ (o : OwnerRow). IsShut last (changed (is_stateid number) (with_standing to) l.stateids) o.turn.closed) l.owners (λ o h. record {
+        shut = all_weaker (λ (o : OwnerRow). IsShut last l.stateids o.seqids.closed) (λ (o : OwnerRow). IsShut last (changed (is_stateid number) (with_standing to) l.stateids) o.seqids.closed) l.owners (λ o h. record {
           given = h.given;
-          other = all_changed (λ (q : StateidRow). is_open_still o.turn.closed q ≡ true) (λ (q : StateidRow). is_open_still o.turn.closed q ≡ true) (is_stateid number) (with_standing to) l.stateids (λ q e. e) (λ q e. e) h.other;
+          other = all_changed (λ (q : StateidRow). is_open_still o.seqids.closed q ≡ true) (λ (q : StateidRow). is_open_still o.seqids.closed q ≡ true) (is_stateid number) (with_standing to) l.stateids (λ q e. e) (λ q e. e) h.other;
         }) set.shut;
         clients = set.clients;
       };
@@ -260,11 +260,11 @@ stood_still last number r access deny closed l set =
 
 -- ---- owners
 
-pub turned_still : (last owner : ℕ) (turn : Turn) (l : NfsLists) → IsShut last l.stateids turn.closed → AreSet last l → AreStill last l (turned owner turn l)
-turned_still last owner turn l shut set = record {
+pub seqid_set_still : (last owner : ℕ) (seqids : SeqidState) (l : NfsLists) → IsShut last l.stateids seqids.closed → AreSet last l → AreStill last l (seqid_set owner seqids l)
+seqid_set_still last owner seqids l shut set = record {
   set = record {
     given = set.given;
-    shut = all_changed (λ (o : OwnerRow). IsShut last l.stateids o.turn.closed) (λ (o : OwnerRow). IsShut last l.stateids o.turn.closed) (is_owner owner) (with_turn turn) l.owners (λ o h. h) (λ o h. shut) set.shut;
+    shut = all_changed (λ (o : OwnerRow). IsShut last l.stateids o.seqids.closed) (λ (o : OwnerRow). IsShut last l.stateids o.seqids.closed) (is_owner owner) (with_seqids seqids) l.owners (λ o h. h) (λ o h. shut) set.shut;
     clients = set.clients;
   };
   rows = λ file number. refl;
@@ -293,64 +293,64 @@ kept_still last owner bytes l set =
     same_still last l (kept_for owner bytes l) (kept_stateids owner bytes l) others.0 others.1 set
 
 -- a request of the owner, which stood so, counted
-pub counted_still : (last owner : ℕ) (closed : Option ℕ) (turn : Turn) (bytes : List ℕ) (l : NfsLists) → IsShut last l.stateids closed → IsShut last l.stateids turn.closed → AreSet last l → AreStill last l (counted owner closed turn bytes l)
+pub counted_still : (last owner : ℕ) (closed : Option ℕ) (seqids : SeqidState) (bytes : List ℕ) (l : NfsLists) → IsShut last l.stateids closed → IsShut last l.stateids seqids.closed → AreSet last l → AreStill last l (counted owner closed seqids bytes l)
 unfolding counted
-counted_still last owner closed turn bytes l was shut set =
-    let a : NfsLists = turned owner turn l in
-    let one = turned_still last owner turn l shut set in
+counted_still last owner closed seqids bytes l was shut set =
+    let a : NfsLists = seqid_set owner seqids l in
+    let one = seqid_set_still last owner seqids l shut set in
     let two = gone_still last closed a was one.set in
     let b : NfsLists = closed_gone closed a in
     still_then last last l b (kept_for owner bytes b) (still_then last last l a b one two) (kept_still last owner bytes b two.set)
 
 -- that of an owner that is found
-pub owner_shut : (last : ℕ) (l : NfsLists) (p : OwnerRow → Bool) (o : OwnerRow) → find p l.owners ≡ Some o → AreSet last l → IsShut last l.stateids o.turn.closed
-owner_shut last l p o found set = all_in (λ (x : OwnerRow). IsShut last l.stateids x.turn.closed) o l.owners set.shut (found_in p l.owners o found).0
+pub owner_shut : (last : ℕ) (l : NfsLists) (p : OwnerRow → Bool) (o : OwnerRow) → find p l.owners ≡ Some o → AreSet last l → IsShut last l.stateids o.seqids.closed
+owner_shut last l p o found set = all_in (λ (x : OwnerRow). IsShut last l.stateids x.seqids.closed) o l.owners set.shut (found_in p l.owners o found).0
 
-pub seated_still : (last : ℕ) (o : Opener) (turn : Turn) (l : NfsLists) → turn.closed ≡ None → AreSet last l → AreStill last l (seated o turn l)
+pub seated_still : (last : ℕ) (o : Opener) (seqids : SeqidState) (l : NfsLists) → seqids.closed ≡ None → AreSet last l → AreStill last l (seated o seqids l)
 unfolding seated
-seated_still last o turn l none set = by (find (is_opener o) l.owners) refl
+seated_still last o seqids l none set = by (find (is_opener o) l.owners) refl
   where
-    new : (next : Option ℕ) → AreStill last l (seated_new o turn l next)
+    new : (next : Option ℕ) → AreStill last l (seated_new o seqids l next)
     new None = still_self last l set
     new (Some number) = record {
       set = record {
         given = set.given;
-        shut = all_append (λ (x : OwnerRow). IsShut last l.stateids x.turn.closed) l.owners _ set.shut (none_shut last l.stateids turn.closed none, tt);
+        shut = all_append (λ (x : OwnerRow). IsShut last l.stateids x.seqids.closed) l.owners _ set.shut (none_shut last l.stateids seqids.closed none, tt);
         clients = set.clients;
       };
       rows = λ file client. refl;
       names = λ id. refl;
     }
 
-    by : (x : Option OwnerRow) → find (is_opener o) l.owners ≡ x → AreStill last l (seated_by o turn l x)
+    by : (x : Option OwnerRow) → find (is_opener o) l.owners ≡ x → AreStill last l (seated_by o seqids l x)
     by None e = new (next_owner l.owners)
     by (Some r) e =
-        let a : NfsLists = turned r.number turn l in
-        let one = turned_still last r.number turn l (none_shut last l.stateids turn.closed none) set in
-        still_then last last l a (closed_gone r.turn.closed a) one (gone_still last r.turn.closed a (owner_shut last l (is_opener o) r e set) one.set)
+        let a : NfsLists = seqid_set r.number seqids l in
+        let one = seqid_set_still last r.number seqids l (none_shut last l.stateids seqids.closed none) set in
+        still_then last last l a (closed_gone r.seqids.closed a) one (gone_still last r.seqids.closed a (owner_shut last l (is_opener o) r e set) one.set)
 
-pub remembered_still : (last : ℕ) (o : Opener) (turn : Turn) (bytes : List ℕ) (l : NfsLists) → turn.closed ≡ None → AreSet last l → AreStill last l (remembered o turn bytes l)
+pub remembered_still : (last : ℕ) (o : Opener) (seqids : SeqidState) (bytes : List ℕ) (l : NfsLists) → seqids.closed ≡ None → AreSet last l → AreStill last l (remembered o seqids bytes l)
 unfolding remembered
-remembered_still last o turn bytes l none set =
-    let seat = seated_still last o turn l none set in
+remembered_still last o seqids bytes l none set =
+    let seat = seated_still last o seqids l none set in
     elim (cases_Bool (is_room_for o l)) [
-      | inl e ↦ rw e (still_then last last l (seated o turn l) (kept_for (opener_number o l) bytes (seated o turn l)) seat (kept_still last (opener_number o l) bytes (seated o turn l) seat.set))
+      | inl e ↦ rw e (still_then last last l (seated o seqids l) (kept_for (opener_number o l) bytes (seated o seqids l)) seat (kept_still last (opener_number o l) bytes (seated o seqids l) seat.set))
       | inr e ↦ rw e (still_self last l set)
     ]
 
 pub refused_still : (last : ℕ) (o : Opener) (a : OpenArgsItem) (confirmed : Bool) (status : NfsStatus) (l : NfsLists) → AreSet last l → AreStill last l (refused_lists o a confirmed status l)
 refused_still last o a confirmed status l set =
     elim (cases_Bool (advances status)) [
-      | inl e ↦ rw e (remembered_still last o (open_turn a confirmed) (spelled 18 (Ended status)) l refl set)
+      | inl e ↦ rw e (remembered_still last o (open_seqids a confirmed) (spelled 18 (Ended status)) l refl set)
       | inr e ↦ rw e (still_self last l set)
     ]
 
 -- ---- requests on opens
 
-pub failed_still : (last : ℕ) (l : NfsLists) (owner : ℕ) (turn : Turn) (op seqid : ℕ) (status : NfsStatus) → IsShut last l.stateids turn.closed → AreSet last l → AreStill last l (failed_lists l owner turn op seqid status)
-failed_still last l owner turn op seqid status was set =
+pub failed_still : (last : ℕ) (l : NfsLists) (owner : ℕ) (seqids : SeqidState) (op seqid : ℕ) (status : NfsStatus) → IsShut last l.stateids seqids.closed → AreSet last l → AreStill last l (failed_lists l owner seqids op seqid status)
+failed_still last l owner seqids op seqid status was set =
     elim (cases_Bool (advances status)) [
-      | inl e ↦ rw e (counted_still last owner turn.closed (next_turn op seqid turn.confirmed None) (spelled op (Ended status)) l was (none_shut last l.stateids None refl) set)
+      | inl e ↦ rw e (counted_still last owner seqids.closed (next_seqids op seqid seqids.confirmed None) (spelled op (Ended status)) l was (none_shut last l.stateids None refl) set)
       | inr e ↦ rw e (still_self last l set)
     ]
 

@@ -26,7 +26,7 @@ use Rattle.xl_nfs_state.specs.State.{NfsLists, delegated_on, is_client, is_kept,
 use Rattle.xl_nfs_state.specs.declared.client.ClientRow.{ClientRow}
 use Rattle.xl_nfs_state.specs.declared.kept.KeptRow.{KeptRow}
 use Rattle.xl_nfs_state.specs.declared.owner.OwnerRow.{OwnerRow}
-use Rattle.xl_nfs_state.specs.declared.owner.Turn.{Turn}
+use Rattle.xl_nfs_state.specs.declared.owner.SeqidState.{SeqidState}
 use Rattle.xl_nfs_state.specs.declared.stateid.Holder.{Holder}
 use Rattle.xl_nfs_state.specs.declared.stateid.Holder.TheVariants as holders
 use Rattle.xl_nfs_state.specs.declared.stateid.StateidRow.{StateidRow}
@@ -47,12 +47,12 @@ use Rattle.xl_core.specs.declared.ask.Answer.{Answer}
 use Rattle.xl_core.specs.declared.ask.Effect.{Effect}
 use Rattle.xl_nfs_opens.specs.Closing.{Returning, cache_of_client, holder_returned, number_returned, return_done, returned, returned_status, row_returned, seqid_returned}
 use Rattle.xl_nfs_laws.specs.StateidNumbers.{AreGivenOut}
-use Rattle.xl_nfs_opens.specs.Opens.{all_rooms, answered, by_delegation, check_bits, check_claim, check_how, file_of_claim, is_delegation, is_stateid_of, named_file, or_else, cache_by, cache_held, delegation_in, can_enter, can_stand, client_in, delegated, delegated_in, delegation_row, delegation_told, either_bits, entered, freed, gives, gives_all, granted_by, granted_more, granted_new, granted_wish, has_room, is_granted, judged, open_as, open_by, open_held, open_judged, open_row, open_turn, opened_file, opened_told, opener_of, reclaims, repeated, share_ask, stood, wish_of, unless_held, kind_for, type_claimed, wished_kinds, has_program, rights_of, has_none}
+use Rattle.xl_nfs_opens.specs.Opens.{all_rooms, answered, by_delegation, check_bits, check_claim, check_how, file_of_claim, is_delegation, is_stateid_of, named_file, or_else, cache_by, cache_held, delegation_in, can_enter, can_stand, client_in, delegated, delegated_in, delegation_row, delegation_told, either_bits, entered, freed, gives, gives_all, granted_by, granted_more, granted_new, granted_wish, has_room, is_granted, judged, open_as, open_by, open_held, open_judged, open_row, open_seqids, opened_file, opened_told, opener_of, reclaims, repeated, share_ask, stood, wish_of, unless_held, kind_for, type_claimed, wished_kinds, has_program, rights_of, has_none}
 use Rattle.xl_nfs_laws.specs.Orderly.{IsDelegated, IsReturned}
 use Rattle.xl_nfs_opens.specs.Plans.{Outcome, carried, status_of, told_behind}
 use Rattle.xl_nfs_opens.specs.Renewing.{number_of, same_stateid, stateid_of}
 use Rattle.xl_nfs_opens.specs.Results.{spelled}
-use Rattle.xl_nfs_opens.specs.Seqids.{closed_gone, is_opener, opener_number, seated, seated_by, seated_new, turned}
+use Rattle.xl_nfs_opens.specs.Seqids.{closed_gone, is_opener, opener_number, seated, seated_by, seated_new, seqid_set}
 use Rattle.xl_nfs_opens.specs.declared.opener.Judged.{Judged}
 use Rattle.xl_nfs_opens.specs.declared.opener.Judged.TheVariants as judgements
 use Rattle.xl_nfs_opens.specs.declared.opener.Opener.{Opener}
@@ -100,15 +100,15 @@ none_closed : (client file : ℕ) (closed : Option ℕ) (l : NfsLists) → HasNo
 none_closed client file None l none = none
 none_closed client file (Some number) l none = none_left (delegated_on client file) (is_whose (whose.Stateid number)) l.stateids none
 
-none_seated : (client file : ℕ) (o : Opener) (turn : Turn) (l : NfsLists) → HasNone client file l → HasNone client file (seated o turn l)
+none_seated : (client file : ℕ) (o : Opener) (seqids : SeqidState) (l : NfsLists) → HasNone client file l → HasNone client file (seated o seqids l)
 unfolding seated
-none_seated client file o turn l none = by (find (is_opener o) l.owners) (next_owner l.owners)
+none_seated client file o seqids l none = by (find (is_opener o) l.owners) (next_owner l.owners)
   where
-    by : (x : Option OwnerRow) (next : Option ℕ) → HasNone client file (seated_by o turn l x)
-    by (Some r) next = none_closed client file r.turn.closed (turned r.number turn l) none
+    by : (x : Option OwnerRow) (next : Option ℕ) → HasNone client file (seated_by o seqids l x)
+    by (Some r) next = none_closed client file r.seqids.closed (seqid_set r.number seqids l) none
     by None next = new (next_owner l.owners)
       where
-        new : (n : Option ℕ) → HasNone client file (seated_new o turn l n)
+        new : (n : Option ℕ) → HasNone client file (seated_new o seqids l n)
         new None = none
         new (Some number) = none
 
@@ -166,16 +166,16 @@ new_delegated n s l current o a file confirmed None given write out none client 
 new_delegated n s l current o a file confirmed (Some w) given write out none client held = λ stateid flags told.
     let u = drawn s in
     let row = open_row (s.counter + 1) o (opener_number o l) file a in
-    let there : NfsLists = seated o (open_turn a confirmed) l in
+    let there : NfsLists = seated o (open_seqids a confirmed) l in
     let m : NfsLists = entered row there in
     let whole : NfsLists = delegated u o file (Some w) m in
     let said : (stateid_of (drawn u) (u.counter + 1) 1, w) ≡ (given, write) = same_given (stateid_of (drawn u) (u.counter + 1) 1, w) (given, write) (ap given_in told) in
-    let numbered : AreGivenOut u.counter m = entered_given u.counter row there (omega (arith, drawn_number s)) (seated_given u.counter o (open_turn a confirmed) l (later_on s.counter u.counter l (omega (arith, drawn_number s)) out)) in
-    let clients : m.clients ≡ l.clients = entered_clients row there ∙ seated_clients o (open_turn a confirmed) l in
+    let numbered : AreGivenOut u.counter m = entered_given u.counter row there (omega (arith, drawn_number s)) (seated_given u.counter o (open_seqids a confirmed) l (later_on s.counter u.counter l (omega (arith, drawn_number s)) out)) in
+    let clients : m.clients ≡ l.clients = entered_clients row there ∙ seated_clients o (open_seqids a confirmed) l in
     record {
       row = delegation_row (u.counter + 1) o file w;
       found = ap (λ (ss : List StateidRow). find (is_stateid (u.counter + 1)) ss) (kept_stateids (opener_number o l) (spelled 18 (opened_told (drawn u) (s.counter + 1) 1 confirmed (delegation_told u (Some w)))) whole)
-          ∙ delegation_there u o file w m numbered (none_entered o.client file (s.counter + 1) (opener_number o l) file o a there (none_seated o.client file o (open_turn a confirmed) l none)) (ap (λ (cs : List ClientRow). is_some (find (is_client o.client true) cs)) clients ∙ client);
+          ∙ delegation_there u o file w m numbered (none_entered o.client file (s.counter + 1) (opener_number o l) file o a there (none_seated o.client file o (open_seqids a confirmed) l none)) (ap (λ (cs : List ClientRow). is_some (find (is_client o.client true) cs)) clients ∙ client);
       named = sym (ap (λ (x : Stateid × Bool). x.0) said);
       client = refl;
       file = refl;
@@ -191,14 +191,14 @@ more_delegated : (n : ℕ) (s : CoreState) (l : NfsLists) (current : Option ℕ)
 more_delegated n s l current o a file confirmed None r given write out none client held = λ stateid flags told. absurd (true≢false (ap is_some (sym (ap given_in told))))
 more_delegated n s l current o a file confirmed (Some w) r given write out none client held = λ stateid flags told.
     let after : NfsLists = stood r.number r (either_bits r.standing.access a.access) (either_bits r.standing.deny a.deny) false l in
-    let m : NfsLists = seated o (open_turn a confirmed) after in
+    let m : NfsLists = seated o (open_seqids a confirmed) after in
     let whole : NfsLists = delegated s o file (Some w) m in
     let said : (stateid_of (drawn s) (s.counter + 1) 1, w) ≡ (given, write) = same_given (stateid_of (drawn s) (s.counter + 1) 1, w) (given, write) (ap given_in told) in
-    let numbered : AreGivenOut s.counter m = seated_given s.counter o (open_turn a confirmed) after (stood_given s.counter r.number r (either_bits r.standing.access a.access) (either_bits r.standing.deny a.deny) false l out) in
+    let numbered : AreGivenOut s.counter m = seated_given s.counter o (open_seqids a confirmed) after (stood_given s.counter r.number r (either_bits r.standing.access a.access) (either_bits r.standing.deny a.deny) false l out) in
     record {
       row = delegation_row (s.counter + 1) o file w;
       found = ap (λ (ss : List StateidRow). find (is_stateid (s.counter + 1)) ss) (kept_stateids (opener_number o l) (spelled 18 (opened_told (drawn s) r.number _ confirmed (delegation_told s (Some w)))) whole)
-          ∙ delegation_there s o file w m numbered (none_seated o.client file o (open_turn a confirmed) after (none_stood o.client file r.number r (either_bits r.standing.access a.access) (either_bits r.standing.deny a.deny) l none)) (ap (λ (cs : List ClientRow). is_some (find (is_client o.client true) cs)) (seated_clients o (open_turn a confirmed) after) ∙ client);
+          ∙ delegation_there s o file w m numbered (none_seated o.client file o (open_seqids a confirmed) after (none_stood o.client file r.number r (either_bits r.standing.access a.access) (either_bits r.standing.deny a.deny) l none)) (ap (λ (cs : List ClientRow). is_some (find (is_client o.client true) cs)) (seated_clients o (open_seqids a confirmed) after) ∙ client);
       named = sym (ap (λ (x : Stateid × Bool). x.0) said);
       client = refl;
       file = refl;

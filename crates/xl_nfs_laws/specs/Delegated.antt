@@ -70,7 +70,7 @@ pub record IsShut (last : ℕ) (stateids : List StateidRow) (closed : Option ℕ
   pub other : AllByRecursion (λ r. is_open_still closed r ≡ true) stateids
 
 abbrev pub AreShut : ℕ → List StateidRow → List OwnerRow → Type 0
-AreShut last stateids owners = AllByRecursion (λ o. IsShut last stateids o.turn.closed) owners
+AreShut last stateids owners = AllByRecursion (λ o. IsShut last stateids o.seqids.closed) owners
 
 -- what holds of the lists themselves, where this number was given out last
 pub record AreSet (last : ℕ) (l : NfsLists) : Type 0 where

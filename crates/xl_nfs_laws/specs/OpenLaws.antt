@@ -5,7 +5,7 @@ use Rattle.xl_nfs.specs.Opens.{OpenArgsItem}
 use Rattle.xl_nfs.specs.declared.basics.Stateid.{Stateid}
 use Rattle.xl_nfs_state.specs.State.{NfsLists, is_owner, is_stateid}
 use Rattle.xl_nfs_state.specs.declared.owner.OwnerRow.{OwnerRow}
-use Rattle.xl_nfs_state.specs.declared.owner.Turn.{Turn}
+use Rattle.xl_nfs_state.specs.declared.owner.SeqidState.{SeqidState}
 use Rattle.xl_nfs_state.specs.declared.stateid.Holder.TheVariants as holders
 use Rattle.xl_nfs_state.specs.declared.stateid.StateidRow.{StateidRow}
 use Rattle.xl_matrix.specs.Rights.{rights_lie_within}
@@ -20,7 +20,7 @@ use Rattle.xl_core.specs.Decide.{way}
 use Rattle.xl_core.specs.State.{CoreState}
 use Rattle.xl_core.specs.declared.ask.Answer.TheVariants as answers
 use Rattle.xl_core.specs.declared.ask.Ask.{Ask}
-use Rattle.xl_nfs_opens.specs.Opens.{all_rooms, can_enter, freed, open_row, open_turn, rights_of, share_ask}
+use Rattle.xl_nfs_opens.specs.Opens.{all_rooms, can_enter, freed, open_row, open_seqids, rights_of, share_ask}
 use Rattle.xl_nfs_opens.specs.Plans.{Outcome}
 use Rattle.xl_nfs_opens.specs.Renewing.{number_of as number_in_other}
 use Rattle.xl_nfs_opens.specs.Seqids.{is_opener, opener_number, seated}
@@ -35,7 +35,7 @@ IsRepeated bytes l s r = (r.0 ≡ Kept bytes) × (r.3 ≡ l) × (r.4 ≡ s)
 
 -- the open of the next number can come once its owner is seated
 abbrev pub can_come : CoreState → NfsLists → Opener → OpenArgsItem → ℕ → Bool → Bool
-can_come s l o a file confirmed = can_enter (open_row (s.counter + 1) o (opener_number o l) file a) (freed (s.counter + 1) (seated o (open_turn a confirmed) l))
+can_come s l o a file confirmed = can_enter (open_row (s.counter + 1) o (opener_number o l) file a) (freed (s.counter + 1) (seated o (open_seqids a confirmed) l))
 
 -- the stateid is of this start, and of this open, which is of the owner of number w
 pub record IsOpenOf (s : CoreState) (l : NfsLists) (stateid : Stateid) (r : StateidRow) (w : ℕ) (o : OwnerRow) : Type 0 where
@@ -45,8 +45,8 @@ pub record IsOpenOf (s : CoreState) (l : NfsLists) (stateid : Stateid) (r : Stat
   pub owner : find (is_owner w) l.owners ≡ Some o
 
 -- the owner's requests have come this far, and those of others as far as before
-pub record HasCome (o : Opener) (turn : Turn) (old new : NfsLists) : Type 0 where
-  pub own : option_map (λ (x : OwnerRow). x.turn) (find (is_opener o) new.owners) ≡ Some turn
+pub record HasCome (o : Opener) (seqids : SeqidState) (old new : NfsLists) : Type 0 where
+  pub own : option_map (λ (x : OwnerRow). x.seqids) (find (is_opener o) new.owners) ≡ Some seqids
   pub others : (number : ℕ) → (number ≡ opener_number o old → ⊥) → find (is_owner number) new.owners ≡ find (is_owner number) old.owners
 
 -- the share that an OPEN of this file asks for

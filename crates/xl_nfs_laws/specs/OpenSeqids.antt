@@ -3,32 +3,32 @@ use Rattle.std.specs.Prelude.{◌≡◌, ℕ, Bool, true, ◌||◌, if◌then◌
 use Rattle.std.specs.List.{find}
 use Rattle.xl_nfs.specs.Outcomes.{is_ok}
 use Rattle.xl_nfs.specs.declared.status.NfsStatus.{NfsStatus}
-use Rattle.xl_nfs_state.specs.Rows.{with_turn}
+use Rattle.xl_nfs_state.specs.Rows.{with_seqids}
 use Rattle.xl_nfs_state.specs.State.{NfsLists, is_kept, is_owner}
 use Rattle.xl_nfs_state.specs.Verdict.{next_seqid}
 use Rattle.xl_nfs_state.specs.declared.owner.OwnerRow.{OwnerRow}
-use Rattle.xl_nfs_state.specs.declared.owner.Turn.{Turn}
+use Rattle.xl_nfs_state.specs.declared.owner.SeqidState.{SeqidState}
 use Rattle.xl_core.specs.State.{CoreState}
-use Rattle.xl_nfs_opens.specs.Closing.{next_turn}
+use Rattle.xl_nfs_opens.specs.Closing.{next_seqids}
 use Rattle.xl_nfs_opens.specs.Plans.{Outcome, status_of}
 use Rattle.xl_nfs_opens.specs.Results.{spelled}
 use Rattle.xl_nfs_opens.specs.Seqids.{advances}
 
--- The owner of this number, which stood so before, has this turn, and these bytes are kept for it. Each other owner stands as
+-- The requests of this owner, which stood so before, have come this far, and these bytes are kept for it. Each other owner stands as
 -- it did, and what is kept for it is as it was.
-pub record HasAdvanced (owner : ℕ) (was : OwnerRow) (turn : Turn) (bytes : List ℕ) (old new : NfsLists) : Type 0 where
-  pub own : find (is_owner owner) new.owners ≡ Some (with_turn turn was)
+pub record HasAdvanced (owner : ℕ) (was : OwnerRow) (seqids : SeqidState) (bytes : List ℕ) (old new : NfsLists) : Type 0 where
+  pub own : find (is_owner owner) new.owners ≡ Some (with_seqids seqids was)
   pub kept : find (is_kept owner) new.kept ≡ Some (record { owner = owner; result = bytes })
   pub others : (number : ℕ) → (number ≡ owner → ⊥) → find (is_owner number) new.owners ≡ find (is_owner number) old.owners
   pub others_kept : (number : ℕ) → (number ≡ owner → ⊥) → find (is_kept number) new.kept ≡ find (is_kept number) old.kept
 
--- the turn of an owner that stood so once a request by the seqid after its last counted
-abbrev pub turn_after : OwnerRow → ℕ → Bool → Option ℕ → Turn
-turn_after was op confirmed closed = next_turn op (next_seqid was.turn.seqid) confirmed closed
+-- how far the requests of an owner that stood so have come once one by the seqid after its last counted
+abbrev pub seqids_after : OwnerRow → ℕ → Bool → Option ℕ → SeqidState
+seqids_after was op confirmed closed = next_seqids op (next_seqid was.seqids.seqid) confirmed closed
 
--- where the operation ends so that it counts, the owner has this turn, and what was told is kept
-abbrev pub CountsFor : ℕ → OwnerRow → Turn → ℕ → NfsLists → Outcome → Type 0
-CountsFor owner was turn op l r = advances (status_of r.0) ≡ true → HasAdvanced owner was turn (spelled op r.0) l r.3
+-- where the operation ends so that it counts, the owner's requests have come this far, and what was told is kept
+abbrev pub CountsFor : ℕ → OwnerRow → SeqidState → ℕ → NfsLists → Outcome → Type 0
+CountsFor owner was seqids op l r = advances (status_of r.0) ≡ true → HasAdvanced owner was seqids (spelled op r.0) l r.3
 
 -- nothing is remembered of it, and the core stays
 abbrev pub IsAlone : NfsLists → CoreState → Outcome → Type 0

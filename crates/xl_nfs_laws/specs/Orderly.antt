@@ -29,7 +29,7 @@ closes (Some closed) number = closed == number
 -- request closed it.
 abbrev pub IsOwnedBy : StateidRow → OwnerKind → Option OwnerRow → Type 0
 IsOwnedBy r kind None = ⊥
-IsOwnedBy r kind (Some o) = (o.name.client ≡ r.client) × (o.name.kind ≡ kind) × (r.standing.closed ≡ closes o.turn.closed r.number)
+IsOwnedBy r kind (Some o) = (o.name.client ≡ r.client) × (o.name.kind ≡ kind) × (r.standing.closed ≡ closes o.seqids.closed r.number)
 
 abbrev pub IsHeldBy : List OwnerRow → StateidRow → Holder → Type 0
 IsHeldBy owners r (holders.Open owner) = IsOwnedBy r kinds.Open (find (is_owner owner) owners)

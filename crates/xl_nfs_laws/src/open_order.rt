@@ -13,7 +13,7 @@ ghost use Rattle.xl_nfs.specs.declared.opens.OpenConfirmArgs.{OpenConfirmArgs};
 ghost use Rattle.xl_nfs.specs.declared.opens.OpenDowngradeArgs.{OpenDowngradeArgs};
 ghost use Rattle.xl_nfs_state.specs.State.{NfsLists, is_stateid, no_lists};
 ghost use Rattle.xl_nfs_state.specs.declared.client.ClientRow.{ClientRow};
-ghost use Rattle.xl_nfs_state.specs.declared.owner.Turn.{Turn as OwnerTurn};
+ghost use Rattle.xl_nfs_state.specs.declared.owner.SeqidState.{SeqidState as OwnerSeqids};
 ghost use Rattle.xl_nfs_state.specs.declared.stateid.Holder.TheVariants.{Open as OfOpen};
 ghost use Rattle.xl_nfs_state.specs.declared.stateid.StateidRow.{StateidRow};
 ghost use Rattle.xl_table.specs.Relock.{shares_of};
@@ -48,6 +48,6 @@ pub fn told_opens_are_known()
 
 /// A CLOSE that is done marks its open closed, and leaves its owner no share on the file (RFC 7530 9.9, 16.2).
 pub fn a_close_ends_its_open()
-    ensures marked { (n : ℕ) (s : CoreState) (l : NfsLists) (current : Option ℕ) (a : CloseArgs) (r : StateidRow) (owner by : ℕ) (turn : OwnerTurn) → IsOrderly l → checked s l current 4 a.seqid a.stateid ≡ Passed r owner turn → r.holder ≡ OfOpen by → option_map (λ (x : StateidRow). x.standing.closed) (find (is_stateid r.number) (carried n s l current (close_done s l current a r owner turn None)).3.stateids) ≡ Some true }
-    ensures share { (n : ℕ) (s : CoreState) (l : NfsLists) (current : Option ℕ) (a : CloseArgs) (r : StateidRow) (owner number : ℕ) (turn : OwnerTurn) (o : OpenOwner) → IsGood s → opener_by l r.client owner ≡ Some o → number_of (NfsShare o.id o.owner) (carried n s l current (close_done s l current a r owner turn None)).4.names ≡ Some number → shares_of r.file (Name Nfs number) (carried n s l current (close_done s l current a r owner turn None)).4.claims ≡ [] }
+    ensures marked { (n : ℕ) (s : CoreState) (l : NfsLists) (current : Option ℕ) (a : CloseArgs) (r : StateidRow) (owner by : ℕ) (seqids : OwnerSeqids) → IsOrderly l → checked s l current 4 a.seqid a.stateid ≡ Passed r owner seqids → r.holder ≡ OfOpen by → option_map (λ (x : StateidRow). x.standing.closed) (find (is_stateid r.number) (carried n s l current (close_done s l current a r owner seqids None)).3.stateids) ≡ Some true }
+    ensures share { (n : ℕ) (s : CoreState) (l : NfsLists) (current : Option ℕ) (a : CloseArgs) (r : StateidRow) (owner number : ℕ) (seqids : OwnerSeqids) (o : OpenOwner) → IsGood s → opener_by l r.client owner ≡ Some o → number_of (NfsShare o.id o.owner) (carried n s l current (close_done s l current a r owner seqids None)).4.names ≡ Some number → shares_of r.file (Name Nfs number) (carried n s l current (close_done s l current a r owner seqids None)).4.claims ≡ [] }
 {}

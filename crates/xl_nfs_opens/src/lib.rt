@@ -23,7 +23,7 @@ mod told;
 
 pub use asks::{range_ask, unlock_ask};
 pub use closing::{
-    check, check_owner, close, deleg_return, fail, finish, next_turn, open_confirm, opener_by,
+    check, check_owner, close, deleg_return, fail, finish, next_seqids, open_confirm, opener_by,
     standing_fault, state_told,
 };
 pub use delegating::party_of;
