@@ -13,7 +13,7 @@ mod seqid;
 mod state;
 mod stateid;
 
-pub use bytes::{MOST_RESULT_BYTES, ResultBytes};
+pub use bytes::ResultBytes;
 pub use client::{Callback, ClientDetails, ClientRow};
 pub use kept::KeptRow;
 pub use owner::{OwnerKind, OwnerName, OwnerNamed, OwnerRow, SeqidState};

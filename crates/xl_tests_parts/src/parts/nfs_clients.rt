@@ -6,8 +6,8 @@ use super::next;
 use std::alloc::{AllocError, Global};
 use xl_base::{Moment, Sequence};
 use xl_nfs_state::{
-    Callback, ClientDetails, ClientRow, KeptRow, MOST_CLIENTS, MOST_RESULT_BYTES, NfsState,
-    OwnerKind, OwnerName, OwnerNamed, OwnerRow, ResultBytes, SeqidState, SeqidVerdict, verdict,
+    Callback, ClientDetails, ClientRow, KeptRow, MOST_CLIENTS, NfsState, OwnerKind, OwnerName,
+    OwnerNamed, OwnerRow, ResultBytes, SeqidState, SeqidVerdict, verdict,
 };
 
 /// The operation and seqid of the last request (a dash for a new owner), those of the request, and the verdict.
@@ -303,7 +303,7 @@ fn drops_owner(state: &mut NfsState, number: u64) -> bool {
 
 /// Keeps a result for the owner, anew or in place of the one before.
 pub fn keeps(alloc: Global, state: &mut NfsState, owner: u64, bytes: &[u8]) -> bool {
-    if bytes.len() > MOST_RESULT_BYTES {
+    if bytes.len() > 1_064 {
         return false;
     }
     let Ok(copy) = Sequence::from_slice(alloc, bytes) else {
