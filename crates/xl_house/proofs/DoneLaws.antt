@@ -33,7 +33,7 @@ use Rattle.xl_front_nlm.proofs.OwnLaws.{step_own}
 use Rattle.xl_front_nlm.specs.Answers.{refuses, refused_grant, refusal_deeds, nlm_called}
 use Rattle.xl_front_nlm.specs.FrontNlm.{nlm_step}
 use Rattle.xl_front_nlm.specs.Grants.{news, drawn_for, shown, shown_deeds}
-use Rattle.xl_house.specs.declared.parts.Fronts.{Fronts}
+use Rattle.xl_house.specs.declared.layers.Fronts.{Fronts}
 use Rattle.xl_front_nlm.specs.declared.grant.Grant.{Grant}
 use Rattle.xl_front_nfs.specs.FrontNfs.{nfs_step}
 use Rattle.xl_nfs_laws.proofs.RequestDeedLaws as nfs

@@ -26,7 +26,7 @@ use Rattle.xl_programs.specs.declared.program.Program.{Program}
 use Rattle.xl_nfs_opens.specs.Short as nfs
 use Rattle.xl_front_smb.specs.Short as smb
 use Rattle.xl_smb_locks.specs.Short.{LeasesCome}
-use Rattle.xl_house.specs.declared.parts.Fronts.{Fronts}
+use Rattle.xl_house.specs.declared.layers.Fronts.{Fronts}
 use Rattle.xl_house.specs.Machine.{Sent, grants, program_heard, record_heard, packet_heard, heard_by}
 use Rattle.xl_house.specs.Shown.{IsReadyFor, LeavesBy}
 use Rattle.xl_house.proofs.Stores.{goes_on_self, goes_further}

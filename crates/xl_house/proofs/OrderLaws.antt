@@ -41,7 +41,7 @@ use Rattle.xl_front_nlm.specs.State.{FrontState}
 use Rattle.xl_front_smb.specs.Ending.{smb_end}
 use Rattle.xl_front_smb.specs.FrontSmb.{smb_shown, smb_step}
 use Rattle.xl_smb_laws.proofs.WaitConnectionLaws as smb_waits
-use Rattle.xl_house.specs.declared.parts.Fronts.{Fronts}
+use Rattle.xl_house.specs.declared.layers.Fronts.{Fronts}
 use Rattle.xl_front_nlm.specs.declared.grant.Grant.{Grant}
 use Rattle.xl_house.proofs.MachineLaws.{next_place}
 use Rattle.xl_house.specs.Journals.{is_restart, IsLegal, IsOrderly, IsTimely, opened_after}

@@ -26,7 +26,7 @@ use Rattle.xl_front_smb.specs.Checks.{is_open_on}
 use Rattle.xl_front_smb.specs.Laws.{IsLeased}
 use Rattle.xl_house.specs.Lawful.{Law}
 use Rattle.xl_house.specs.Machine.{Whole, all_shown, framed, heard, rooms_of}
-use Rattle.xl_house.specs.declared.parts.Fronts.{Fronts}
+use Rattle.xl_house.specs.declared.layers.Fronts.{Fronts}
 
 -- each request that waits in SMB's lists is a waiter of the core, and each waiter of an SMB open has its request there
 pub record IsAwaiting (s : Whole) : Type 0 where

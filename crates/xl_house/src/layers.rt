@@ -55,7 +55,7 @@ impl Fronts {
 
 /// The fronts and the core.
 #[derive(Drop)]
-pub(crate) struct Parts {
+pub(crate) struct Layers {
     /// The fronts.
     pub front: Fronts,
     /// The core.

@@ -5,7 +5,7 @@ use xl_core::Core;
 
 /// The front of NLM and the core, which travel together.
 #[derive(Drop)]
-pub struct NlmParts<'a> {
+pub struct NlmLayers<'a> {
     /// What the front keeps.
     pub front: &'a mut Front,
     /// The core.
