@@ -36,7 +36,7 @@ use Rattle.xl_house.specs.Lawful.{may_do}
 use Rattle.xl_house.specs.Machine.{Sent, Whole, after_turn, all_shown, begun_by, ended_by, heard, heard_by, kind_of, most_connections, nfs_opens, program_heard, record_heard, rooms_of, settled, settled_for, showing, smb_opens}
 use Rattle.xl_house.specs.declared.layers.Fronts.{Fronts}
 use Rattle.xl_smb_laws.specs.WaitingRequests.{is_open_ask}
-use Rattle.xl_house.proofs.AwaitingLaws.{Others, Stand, ToTell, begin_stands, deeds_tell, end_tells, message_tells, none_tells, one_tells, quiet_tell, same_stand}
+use Rattle.xl_house.proofs.PairedWaiterLaws.{Others, Stand, ToTell, begin_stands, deeds_tell, end_tells, message_tells, none_tells, one_tells, quiet_tell, same_stand}
 use Rattle.xl_house.proofs.DoneLaws.{own_may}
 use Rattle.xl_house.proofs.LawfulLaws.{begun_waits}
 use Rattle.xl_house.proofs.MachineLaws.{heard_good}

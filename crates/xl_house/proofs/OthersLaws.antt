@@ -20,7 +20,7 @@ use Rattle.xl_front_nlm.specs.State.{FrontState}
 use Rattle.xl_front_nlm.specs.declared.grant.Grant.{Grant}
 use Rattle.xl_nfs_opens.specs.Owners.{AreBy, IsBy}
 use Rattle.xl_smb_laws.specs.WaitingRequests.{is_open_ask}
-use Rattle.xl_house.proofs.AwaitingLaws.{Others, asked_named, some_named}
+use Rattle.xl_house.proofs.PairedWaiterLaws.{Others, asked_named, some_named}
 
 -- a caller of NLM is no lease
 caller_plain : (call : calls.CallItem) (client : Name) → client_of call ≡ Some client → is_lease client ≡ false

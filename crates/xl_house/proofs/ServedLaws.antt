@@ -46,7 +46,7 @@ use Rattle.xl_house.specs.Lawful.{Always, Law}
 use Rattle.xl_house.specs.Machine.{Whole, after_turn, all_shown, begin, framed, heard, rooms_of, settled, settled_for, step}
 use Rattle.xl_house.specs.declared.layers.Fronts.{Fronts}
 use Rattle.xl_house.proofs.AwaitedLaws.{Ready, heard_stand, settled_stand, shown_stand, turn_tells}
-use Rattle.xl_house.proofs.AwaitingLaws.{Stand, same_stand}
+use Rattle.xl_house.proofs.PairedWaiterLaws.{Stand, same_stand}
 use Rattle.xl_house.proofs.LawfulLaws.{begun_waits}
 use Rattle.xl_house.proofs.MachineLaws.{heard_good}
 use Rattle.xl_house.proofs.SettleLaws.{turned_good}

@@ -15,7 +15,7 @@ use Rattle.xl_nfs.specs.declared.locks.KnownLocker.{KnownLocker}
 use Rattle.xl_nfs.specs.declared.locks.UnlockArgs.{UnlockArgs}
 use Rattle.xl_nfs.specs.declared.status.NfsStatus.{NfsStatus}
 use Rattle.xl_nfs.specs.declared.status.NfsStatus.TheVariants as statuses
-use Rattle.xl_nfs_state.proofs.KeptLaws.{some_found}
+use Rattle.xl_nfs_state.proofs.ResultMapLaws.{some_found}
 use Rattle.xl_nfs_state.specs.State.{NfsLists, IsSound, hangs, has_client, holder_hangs, is_client, is_kept, is_owner, is_stateid, owned_on}
 use Rattle.xl_nfs_state.specs.Verdict.{next_seqid, verdict}
 use Rattle.xl_nfs_state.specs.declared.client.ClientRow.{ClientRow}

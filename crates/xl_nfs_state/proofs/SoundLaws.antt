@@ -8,7 +8,7 @@ use Rattle.std.proofs.lemmas.Option.{same_Some}
 use Rattle.std.proofs.lemmas.List.{length-append}
 use Rattle.xl_base.specs.declared.event.Moment.{Moment}
 use Rattle.xl_base.proofs.Members.{all_append, all_weaker}
-use Rattle.xl_nfs_state.proofs.KeptLaws.{some_found}
+use Rattle.xl_nfs_state.proofs.ResultMapLaws.{some_found}
 use Rattle.xl_nfs_state.proofs.AnyLaws.{any_more, any_left, any_changed, all_left, all_changed}
 use Rattle.xl_nfs_state.specs.Filed.{changed}
 use Rattle.xl_nfs_state.specs.Keys.{same_kind}

@@ -38,7 +38,7 @@ use Rattle.xl_core.specs.declared.ask.Answer.{Answer}
 use Rattle.xl_core.specs.declared.ask.Answer.TheVariants as answers
 use Rattle.xl_core.specs.declared.ask.Effect.{Effect}
 use Rattle.xl_core.specs.declared.ask.Effect.TheVariants as effects
-use Rattle.xl_smb_locks.proofs.ToldLaws.{granted_stands, granted_told}
+use Rattle.xl_smb_locks.proofs.NoticeLaws.{granted_stands, granted_told}
 use Rattle.xl_smb_locks.specs.Finals.{final_outs, holder_stands, may_stand, opened_reply}
 use Rattle.xl_core.specs.Ids.{id_of}
 use Rattle.xl_smb_locks.specs.Levels.{caching}
