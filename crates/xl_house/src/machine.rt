@@ -124,7 +124,7 @@ fn refuse(
 {
     let bytes = refusal(alloc, xid, verdict)?;
     let sent = sent_to(alloc, number, bytes)?;
-    let mut outs = room_for(alloc, sent.len())?;
+    let mut outs = Sequence::from_vec(room_for(alloc, sent.len())?);
     send_all(alloc, Kind::Rpc, sent, &mut outs)?;
     Ok(outs)
 }

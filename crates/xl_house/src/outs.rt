@@ -1,5 +1,5 @@
 //! What is sent, in its frames.
-ghost use Rattle.std.specs.Prelude.{◌≡◌, ◌++◌, [], map, OnOk, IfOk};
+ghost use Rattle.std.specs.Prelude.{◌≡◌, ◌≤◌, ◌++◌, [], map, vec_capacity, OnOk, IfOk};
 ghost use Rattle.std.specs.List.{AllByRecursion};
 ghost use Rattle.xl_front_nlm.specs.Short.{IsReady, Leaves};
 ghost use Rattle.xl_programs.specs.Sent.{FitsFrame};
@@ -30,10 +30,11 @@ fn framed(alloc: Global, kind: Kind, out: Out) -> Result<Out, AllocError>
 
 /// An empty list with room for so many outs. A list that grows by itself takes room for four at once, and the journal keeps
 /// each.
-pub(crate) fn room_for(alloc: Global, many: usize) -> Result<Sequence<Out>, AllocError>
-    ensures { IfOk result (λ outs. outs ≡ []) }
+pub(crate) fn room_for(alloc: Global, many: usize) -> Result<Vec<Out>, AllocError>
+    ensures empty { IfOk result (λ outs. outs.items ≡ []) }
+    ensures room { IfOk result (λ outs. many ≤ vec_capacity outs) }
 {
-    Ok(Sequence::from_vec(Vec::with_capacity(alloc, many)?))
+    Vec::with_capacity(alloc, many)
 }
 
 /// Adds these in their frames.
@@ -146,7 +147,7 @@ pub(crate) fn sent_with(
     ensures sent { IfOk result (λ outs. front_done kind exports.now (reply, effects, layers.old.front, layers.old.core) ≡ (outs, layers.new.front, layers.new.core)) }
     ensures leaves { OnOk result (LeavesBy (grants effects) layers.old.core layers.new.core) }
 {
-    let mut outs = room_for(alloc, reply.len())?;
+    let mut outs = Sequence::from_vec(room_for(alloc, reply.len())?);
     show_all(alloc, exports, layers, effects.as_slice(), &mut outs)?;
     send_all(alloc, kind, reply, &mut outs)?;
     Ok(outs)
