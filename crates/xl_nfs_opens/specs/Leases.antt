@@ -9,7 +9,7 @@ use Rattle.xl_core.specs.State.{CoreState}
 
 -- ---- clientids
 
--- the clientid of the client of this number: the epoch of this start, and the number
+-- the clientid of the client of this number: the epoch of this start, and the number (NFS-11)
 abbrev pub clientid_of : CoreState → ℕ → ℕ
 clientid_of s number = s.stable.epoch * 2 ^ 32 + number
 
