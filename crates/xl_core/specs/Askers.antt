@@ -54,7 +54,7 @@ asking_party a names = party_in a.party (who_entered a.owner names)
 abbrev pub both_entered : Ask → List Name → List Name
 both_entered a names = who_entered a.party (who_entered a.owner names)
 
--- how many names come with this one
+-- how many names come with this one (CORE-9)
 abbrev pub coming : Who → List Name → ℕ
 coming (Named name) names = if is_kept name names then 0 else 1
 coming (Open number) names = 0
@@ -87,7 +87,7 @@ asked_claims a whats names = map (λ what. asked_claim a what names) whats
 
 -- ---- an ask that enters no name
 
--- what stands for the number of a name that has none
+-- what stands for the number of a name that has none (CORE-9)
 abbrev pub no_number : ℕ
 no_number = 4294967295
 
@@ -103,7 +103,7 @@ abbrev pub known_party : Who → List Name → Party
 known_party (Named name) names = parties.Name (protocol_of name) (number_or (number_of name names))
 known_party (Open number) names = parties.Open number
 
--- the claim on a range that a test or an unlock is for
+-- the claim on a range that a test or an unlock is for (CORE-9)
 abbrev pub known_claim : Ask → Extent → Bool → List Name → Claim
 known_claim a extent exclusive names =
     record { file = a.file; owner = known_owner a.owner names; party = known_party a.party names; what = whats.Range extent exclusive }
@@ -171,7 +171,7 @@ IsOrdered (Bytes first last) = first ≤ last
 IsOrdered (Empty offset) = Unit {0}
 
 -- Of several ranges all are an SMB open's, and the ask waits for answers to breaks alone: a request with several locks of which
--- one may wait for what is held is refused before (MS-SMB2 3.3.5.14.2).
+-- one may wait for what is held is refused before (MS-SMB2 3.3.5.14.2) (CORE-14).
 abbrev pub AreMore : Who → Bool → List (Extent × Bool) → Type 0
 AreMore who blocking [] = Unit {0}
 AreMore who blocking (range ∷ ranges) = (is_named who ≡ false) × (blocking ≡ false) × IsOrdered range.0 × AreMore who blocking ranges
@@ -185,17 +185,18 @@ IsFitAct who blocking (Test extent exclusive) = IsRealExtent extent
 IsFitAct who blocking (Unlock extent) = IsOrdered extent
 IsFitAct who blocking Wish = Unit {0}
 
--- such a party may have a cache of this kind
+-- such a party may have a cache of this kind (CACHE-1)
 abbrev pub may_have : Who → CacheKind → Bool
 may_have (Named name) kind = is_kind_of (parties.Name (protocol_of name) no_number) kind
 may_have (Open number) kind = is_kind_of (parties.Open number) kind
 
 -- it may wish for one, where it waits or not: an NFSv4 client that wishes for a delegation never waits (RFC 7530 16.16.5)
+-- (CACHE-10)
 abbrev pub may_wish_for : Who → Bool → CacheKind → Bool
 may_wish_for who waits kind = may_have who kind && not (waits && is_delegation kind)
 
 -- A wish is for kinds that the party may have. It comes with a share, or by itself, for one kind at least, and is no reclaim
--- then; else there is none.
+-- then; else there is none (CACHE-10).
 abbrev pub IsFitWish : Who → Bool → Bool → Act → List CacheKind → Type 0
 IsFitWish party waits reclaim (Share access deny) kinds = AllByRecursion (λ kind. may_wish_for party waits kind ≡ true) kinds
 IsFitWish party waits reclaim (Ranges ranges) kinds = kinds ≡ []
@@ -205,7 +206,7 @@ IsFitWish party waits reclaim Wish [] = ⊥
 IsFitWish party waits reclaim Wish (kind ∷ kinds) = (reclaim ≡ false) × AllByRecursion (λ other. may_wish_for party waits other ≡ true) (kind ∷ kinds)
 
 -- Which asks the core takes: a client's by its name for a share, one range with bytes, a test, an unlock or a cache; and an SMB
--- open's, which is its own party or under a lease, for a share, for ranges, for the unlock of one, or for a cache.
+-- open's, which is its own party or under a lease, for a share, for ranges, for the unlock of one, or for a cache (CORE-13).
 pub record IsFit (a : Ask) : Type 0 where
   pub act : IsFitAct a.owner a.blocking a.act
   pub own : may_ask a.owner a.act ≡ true

@@ -10,7 +10,7 @@ use Rattle.xl_table.specs.Held.{is_range}
 use Rattle.xl_wait.specs.declared.waiter.Waiter.{Waiter}
 use Rattle.xl_core.specs.State.{CoreState}
 
--- what blocks for good an ask that came behind these waiters: shares and ranges that no break moves
+-- what blocks for good an ask that came behind these waiters: shares and ranges that no break moves (CORE-10)
 unfoldable pub blockers : List Waiter → CoreState → Claim → List Claim
 blockers earlier s ask = filter (is_final ask s.claims) s.claims
 
@@ -22,7 +22,7 @@ abbrev pub first_broken : List (Claim × Option CacheKind) → Option Claim
 first_broken [] = None
 first_broken (begun ∷ breaks) = Some begun.0
 
--- the cache that a plan waits for, or else the first that it breaks
+-- the cache that a plan waits for, or else the first that it breaks (CACHE-3)
 abbrev pub cache_by : Option Claim → List (Claim × Option CacheKind) → Option Claim
 cache_by (Some c) breaks = Some c
 cache_by None breaks = first_broken breaks
@@ -38,6 +38,6 @@ cache_in p = cache_by p.awaited p.breaks
 unfoldable pub cache_against : List Claim → Claim → Option Claim
 cache_against held ask = cache_in (planned ask held)
 
--- what a test is told of: ranges alone
+-- what a test is told of: ranges alone (CORE-4)
 unfoldable pub test_blockers : CoreState → Claim → List Claim
 test_blockers s ask = filter (λ held. is_range held.what) (filter (λ held. blocks ask held) s.claims)

@@ -20,7 +20,7 @@ use Rattle.xl_core.specs.declared.ask.Effect.{Effect}
 
 -- ---- an answer
 
--- a break of it runs, which leaves this much or more
+-- a break of it runs, which leaves this much or more (CACHE-4)
 abbrev pub may_be_left : What → Option CacheKind → Bool
 may_be_left (Cache kind (Some running)) to = rest_lies_within to running.target
 may_be_left _ to = false
@@ -30,7 +30,7 @@ abbrev pub with_rest : Claim → Option CacheKind → List Claim → List Claim
 with_rest cache None held = removed cache held
 with_rest cache (Some kind) held = changed cache (Cache kind None) held
 
--- The party answered the break: this much is left of its cache (MS-SMB2 3.3.5.22). There is nothing to tell.
+-- The party answered the break: this much is left of its cache (MS-SMB2 3.3.5.22). There is nothing to tell (CACHE-4).
 unfoldable pub ack : CoreState → Claim → Option CacheKind → List Effect × CoreState
 ack s cache to = ([], record s { claims = with_rest cache to s.claims })
 
@@ -45,7 +45,7 @@ deadline_of _ = 0
 abbrev pub before_by : ℕ × ℕ → ℕ × ℕ → Bool → Bool
 before_by a b text = if a.0 == b.0 then (if a.1 == b.1 then text else nat_lt a.1 b.1) else nat_lt a.0 b.0
 
--- the first is due before the second: by the deadline, then the file, then the text of the party
+-- the first is due before the second: by the deadline, then the file, then the text of the party (CACHE-5)
 abbrev pub due_before : List Name → Claim → Claim → Bool
 due_before names a b =
     before_by (deadline_of a.what, a.file) (deadline_of b.what, b.file) (is_lt (slice_cmp nat_cmp (party_text names a.party) (party_text names b.party)))
@@ -59,7 +59,7 @@ abbrev pub earliest_from : List Name → Option Claim → List Claim → Option 
 earliest_from names first [] = first
 earliest_from names first (c ∷ cs) = earliest_from names (earlier_due names first c) cs
 
--- of the caches whose deadline has come the one that is due first
+-- of the caches whose deadline has come the one that is due first (TABLE-21)
 unfoldable pub first_due : CoreState → Option Claim
 first_due s = earliest_from s.names None (filter (is_due s.clock) s.claims)
 

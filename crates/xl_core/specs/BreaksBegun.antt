@@ -33,7 +33,7 @@ once_begun deadline c None = Some c
 once_begun deadline c (Some begun) = if is_slow begun then Some (with_break c c.what begun.1 deadline) else None
 
 -- the claims once the breaks begin that the ask begins, with their answers due then (MS-SMB2 3.3.4.6, 3.3.4.7; RFC 7530
--- 10.4.4)
+-- 10.4.4) (CACHE-2)
 unfoldable pub once_broken : Moment → Claim → List Claim → List Claim
 once_broken deadline ask held = filter_map (λ c. once_begun deadline c (break_of ask (blocking_shares ask held) c)) held
 
@@ -51,7 +51,7 @@ others_of held = filter (λ c. not (is_cache c.what)) held
 
 -- ---- what is told
 
--- of two breaks on a file the first is told first: by the text of the party
+-- of two breaks on a file the first is told first: by the text of the party (CACHE-6)
 abbrev pub told_before : List Name → Claim × Option CacheKind → Claim × Option CacheKind → Bool
 told_before names a b = comes_before (party_text names a.0.party) (party_text names b.0.party)
 
@@ -85,12 +85,12 @@ abbrev pub begun_told : ℕ → List (Claim × Option CacheKind) → List Effect
 begun_told last [] = []
 begun_told last (b ∷ bs) = effects.Begun b.0 b.1 (call_of last b) ∷ begun_told (last_of last (call_of last b)) bs
 
--- the breaks that the ask begins, in the order in which they are told
+-- the breaks that the ask begins, in the order in which they are told (CACHE-6)
 abbrev pub breaks_in_order : Claim → CoreState → List (Claim × Option CacheKind)
 breaks_in_order ask s = sorted (told_before s.names) (planned ask s.claims).breaks
 
 -- The breaks begin that the ask begins, and that is told; the answer to each is due within the break time, and each recall
--- has drawn a number.
+-- has drawn a number (CACHE-6).
 unfoldable pub breaks_begun : Claim → CoreState → List Effect × CoreState
 breaks_begun ask s = (
   begun_told s.counter (breaks_in_order ask s),

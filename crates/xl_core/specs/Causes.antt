@@ -35,18 +35,18 @@ use Rattle.xl_core.specs.Settle.{way_again}
 use Rattle.xl_core.specs.Wishes.{wish_for}
 use Rattle.xl_wait.specs.Waiting.{cancelled}
 
--- the limits of an ask's grant, and of its wait
+-- the limits of an ask's grant, and of its wait (CORE-5)
 abbrev pub limits_of_grant : Rooms → CoreState → Ask → Claim → List (ℕ × Bool)
 limits_of_grant left s a claim = grant_limits left a.rows (length (granted_claims claim s.claims)) (length (both_entered a s.names))
 
--- the limits that the ask's wait would meet
+-- the limits that the ask's wait would meet (CORE-5)
 abbrev pub limits_of_wait : Rooms → CoreState → Ask → List (ℕ × Bool)
 limits_of_wait left s a = wait_limits left a.rows (length s.waiters) (length (both_entered a s.names))
 
 -- ---- why an ask is answered so
 
 -- who asks waits: for what blocks the claim for good where it waits for that, else for a cache in its way where it awaits the
--- answer to its break
+-- answer to its break (CORE-3)
 abbrev pub may_wait : List Claim → Ask → Claim → Bool
 may_wait held a claim = if is_stopped held claim then a.blocking else a.awaits
 
@@ -83,7 +83,7 @@ abbrev pub IsWishDue : Rooms → CoreState → Ask → List CacheKind → Answer
 IsWishDue left s a [] answer = Unit {0}
 IsWishDue left s a (kind ∷ kinds) answer = IsWishBy (wish_limits left a.rows (length (both_entered a s.names))) (asked_claim a (Cache kind None) s.names) answer
 
--- Why a test is: a reclaim comes too late; else the least of the held ranges that block it is told, if there is one.
+-- Why a test is: a reclaim comes too late; else the least of the held ranges that block it is told, if there is one (CORE-4).
 abbrev pub IsTestDue : CoreState → Ask → Claim → Answer → Type 0
 IsTestDue s a claim (Granted c) = (c ≡ claim) × (a.reclaim ≡ false) × (list_any (stands_against claim) s.claims ≡ false)
 IsTestDue s a claim (Conflict c) = (a.reclaim ≡ false) × (least s.names (test_blockers s claim) ≡ Some c) × IsIn c s.claims × (stands_against claim c ≡ true)
@@ -102,14 +102,14 @@ HasByte s file owner first last = (byte : ℕ) × (within first last byte ≡ tr
 abbrev pub left_by_unlock : CoreState → Claim → ℕ → ℕ → ℕ
 left_by_unlock s claim first last = length (relocked_in claim.file claim.owner claim.party first last None s.claims)
 
--- Why an unlock is. One that cuts a range in two adds a claim, for which there may be no room.
+-- Why an unlock is. One that cuts a range in two adds a claim, for which there may be no room (TABLE-9).
 abbrev pub IsUnlockDue : CoreState → Claim → ℕ → ℕ → Answer → Type 0
 IsUnlockDue s claim first last (Granted c) = (c ≡ claim) × HasByte s claim.file claim.owner first last × (left_by_unlock s claim first last ≤ most_claims)
 IsUnlockDue s claim first last (Full limit) = (limit ≡ most_claims) × HasByte s claim.file claim.owner first last × (most_claims < left_by_unlock s claim first last)
 IsUnlockDue s claim first last NotHeld = HasNoByte s claim.file claim.owner first last
 IsUnlockDue s claim first last _ = ⊥
 
--- Why an unlock by an SMB open is: it has an element of just this range, or none.
+-- Why an unlock by an SMB open is: it has an element of just this range, or none (EXACT-2).
 abbrev pub IsElementDue : CoreState → Claim → Extent → Answer → Type 0
 IsElementDue s claim extent (Granted c) = (c ≡ claim) × (is_some (element_held claim extent s.claims) ≡ true)
 IsElementDue s claim extent NotHeld = element_held claim extent s.claims ≡ None
@@ -117,7 +117,7 @@ IsElementDue s claim extent _ = ⊥
 
 -- Why an ask for several ranges of which none waits is: each is judged where those before it are held. The first that
 -- something held blocks for good is told of the least that does; the first that a cache keeps off, of that; the first that
--- passes a limit, of the least limit. Where there is no such all are granted. So many names are kept then.
+-- passes a limit, of the least limit. Where there is no such all are granted. So many names are kept then (CORE-14).
 abbrev pub IsEachDue : Rooms → Rooms → ℕ → Claim → List Claim → CoreState → Answer → Type 0
 IsEachDue left rows kept first [] s answer = answer ≡ Granted first
 IsEachDue left rows kept first (c ∷ cs) s answer =
@@ -141,7 +141,7 @@ pub data IsServed (left : Rooms) (s : CoreState) (w : Waiter) (claim : Claim) (t
 
 -- The first waiter that isn't held up has its turn: the breaks begin that it begins, which is told, and then it is judged. Its
 -- names are kept already. What it is granted it has then, and the cache that its wish gets. Beside caches only what the owners of
--- what it asks for have on its file changes, and beside those whose breaks began no cache but its party's there.
+-- what it asks for have on its file changes, and beside those whose breaks began no cache but its party's there (CORE-11).
 pub record IsTurn (left : Rooms) (s : CoreState) (effects : List Effect) (new : CoreState) : Type 0 where
   pub before : List Waiter
   pub waiter : Waiter

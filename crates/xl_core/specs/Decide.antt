@@ -41,7 +41,7 @@ plea_of left s a =
     let kept = length (both_entered a s.names) in
     record { blocking = a.blocking; awaits = a.awaits; reclaim = a.reclaim; rows = a.rows; kept = kept; crowded = first_passed (wait_limits left a.rows (length s.waiters) kept) }
 
--- one who waits counts among the hosts from then on
+-- one who waits counts among the hosts from then on (CORE-6)
 abbrev pub waiting_rows : Rooms → Rooms
 waiting_rows rows = record { hosts = 0; owners = rows.owners; opens = rows.opens }
 
@@ -63,7 +63,7 @@ answered a claims first Gets told s = (Granted first, told, named a s)
 answered a claims first Waits told s = (Queued (s.counter + 1), told, waiting a claims s)
 answered a claims first (Told answer) told s = (answer, told, s)
 
--- an ask for no range at all asks for nothing that is held
+-- an ask for no range at all asks for nothing that is held (CORE-13)
 unfoldable pub claims_asked : ℕ → Rooms → CoreState → Ask → List Claim → Answered
 claims_asked n left s a [] = (NotHeld, [], s)
 claims_asked n left s a (c ∷ cs) = let r = judged n s.waiters left (plea_of left s a) (c ∷ cs) s in answered a (c ∷ cs) c r.0 r.1 r.2
@@ -75,7 +75,7 @@ abbrev pub test_answered : Claim → Option Claim → Answer
 test_answered claim None = Granted claim
 test_answered claim (Some c) = Conflict c
 
--- a test is told what a lock of this claim would meet, and changes nothing
+-- a test is told what a lock of this claim would meet, and changes nothing (CORE-4)
 unfoldable pub tested : CoreState → Ask → Claim → Answer
 tested s a claim = if a.reclaim then NoGrace s.clock else test_answered claim (least s.names (test_blockers s claim))
 
@@ -86,6 +86,7 @@ abbrev pub unlocked_claims : Claim → ℕ → ℕ → List Claim → List Claim
 unlocked_claims c first last held = relocked_in c.file c.owner c.party first last None held
 
 -- the owner's bytes of the range are given up: not held where it has none, full where there is no room to cut a range in two
+-- (TABLE-9)
 abbrev pub unlocked_bytes : CoreState → Claim → ℕ → ℕ → Answered
 unlocked_bytes s claim first last =
     if not (holds_byte claim.file claim.owner first last s.claims) then (NotHeld, [], s)
@@ -97,7 +98,7 @@ abbrev pub freed : CoreState → Claim → Option Claim → Answered
 freed s claim None = (NotHeld, [], s)
 freed s claim (Some c) = (Granted claim, [], record s { claims = removed c s.claims })
 
--- one element of an SMB open of just this range is given up, exclusive before shared (MS-FSA 2.1.5.9)
+-- one element of an SMB open of just this range is given up, exclusive before shared (MS-FSA 2.1.5.9) (EXACT-2)
 abbrev pub unlocked_one : CoreState → Claim → Extent → Answered
 unlocked_one s claim extent = freed s claim (element_held claim extent s.claims)
 
@@ -113,7 +114,7 @@ wish_by s a claim None = (Granted claim, [], named a s)
 wish_by s a claim (Some limit) = (Full limit, [], s)
 
 -- a wish by itself is granted, with its first choice, where it passes no limit: which cache it gets, if any, is seen then. It
--- never waits, and breaks nothing.
+-- never waits, and breaks nothing (CACHE-10).
 unfoldable pub wish_asked : Rooms → CoreState → Ask → List CacheKind → Answered
 wish_asked left s a [] = (NotHeld, [], s)
 wish_asked left s a (kind ∷ kinds) = wish_by s a (asked_claim a (Cache kind None) s.names) (first_passed (wish_limits left a.rows (length (both_entered a s.names))))
@@ -144,7 +145,7 @@ behind_way told r = (r.0, told ++ r.1, r.2)
 unfoldable pub before_wish : ℕ → Rooms → CoreState → Ask → Answered
 before_wish n left s a = behind_way (way left s a).0 (decided n left (way left s a).1 a)
 
--- a wish comes with a share, or by itself
+-- a wish comes with a share, or by itself (CACHE-10)
 abbrev pub does_wish : Act → Bool
 does_wish (Share access deny) = true
 does_wish (Ranges ranges) = false
@@ -152,7 +153,7 @@ does_wish (Test extent exclusive) = false
 does_wish (Unlock extent) = false
 does_wish Wish = true
 
--- the state once the wish is granted of an ask that is answered so
+-- the state once the wish is granted of an ask that is answered so (CACHE-10)
 abbrev pub wish_after : Ask → Answer → CoreState → CoreState
 wish_after a answer s = if does_wish a.act then wish_for a.wish answer s else s
 

@@ -37,7 +37,7 @@ use Rattle.xl_core.specs.declared.ask.Effect.TheVariants.{Served}
 -- an ask, with the room left in the fronts' tables; a claim given back; a share made weaker, to this access and deny; the
 -- break of this cache answered, so that this much is left of it; the waiter of this number taken out; a party ended; a
 -- turn; a number given out; the clock read; the break of this cache over without an answer; the lease of the NFSv4 client
--- of this id string renewed; such a client expired; an SMB open closed, with which the caches of this party go
+-- of this id string renewed; such a client expired; an SMB open closed, with which the caches of this party go (CORE-7)
 pub data Deed : Type 0 where
   Asks : Rooms → Ask → Deed
   GivesBack : Claim → Deed
@@ -111,7 +111,7 @@ answers_of n s (d ∷ ds) = with_answer (given n s d).0 (answers_of n (done n s 
 -- an ask that is fit; a share or a cache that is held, given back; a share that is held, which comes to have no more than it
 -- has; a cache that is held and whose break runs, of which no more is left than the break leaves; a waiter who stands; of the
 -- caches whose deadline has come the one that is due first; and of the clients whose lease has ended the one whose id string
--- stands first. Ranges are unlocked by an ask.
+-- stands first. Ranges are unlocked by an ask (CORE-7).
 abbrev pub IsFitDeed : CoreState → Deed → Type 0
 IsFitDeed s (Asks left a) = IsFit a
 IsFitDeed s (GivesBack claim) = IsIn claim s.claims × (is_range claim.what ≡ false)

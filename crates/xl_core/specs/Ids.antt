@@ -2,7 +2,7 @@
 use Rattle.std.specs.Prelude.{ℕ, ◌+◌, ◌*◌, ◌/◌, ◌%◌, ◌^◌, ◌==◌, if◌then◌else◌, Option, Some, None}
 use Rattle.xl_core.specs.State.{CoreState}
 
--- the id with this number
+-- the id with this number (NFS-11, SMB-12)
 abbrev pub id_of : CoreState → ℕ → ℕ
 id_of s number = s.stable.epoch * 2 ^ 32 + number
 

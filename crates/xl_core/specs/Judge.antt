@@ -53,11 +53,11 @@ held_with claims s = record s { claims = all_granted claims s.claims }
 
 -- ---- the steps
 
--- no grace runs, so a reclaim comes too late
+-- no grace runs, so a reclaim comes too late (CORE-1)
 unfoldable pub check_grace : Plea → Step
 check_grace p s = if p.reclaim then (Some (Told (NoGrace s.clock)), [], s) else (None, [], s)
 
--- who is stopped waits, where it may and its wait passes no limit
+-- who is stopped waits, where it may and its wait passes no limit (CORE-3)
 abbrev pub waits : Option ℕ → Ruling
 waits None = Waits
 waits (Some limit) = Told (Full limit)
@@ -71,11 +71,12 @@ abbrev pub held_by : Plea → Option Claim → Step
 held_by p None s = (None, [], s)
 held_by p (Some c) s = (Some (stopped p c), [], s)
 
--- what is held against the claim, where those before it are held too, and no break moves it
+-- what is held against the claim, where those before it are held too, and no break moves it (CORE-1)
 unfoldable pub check_held : List Waiter → Plea → List Claim → Claim → Step
 check_held earlier p before c s = held_by p (least s.names (blockers earlier (held_with before s) c)) s
 
 -- what comes of a claim that a cache keeps off: a wait for the answer to its break, where it awaits that, else it is told
+-- (CORE-3)
 abbrev pub kept_off : Plea → Claim → Ruling
 kept_off p c = if p.awaits then waits p.crowded else Told (Recall c)
 
@@ -93,11 +94,11 @@ abbrev pub room_by : Option ℕ → Step
 room_by None s = (None, [], s)
 room_by (Some limit) s = (Some (Told (Full limit)), [], s)
 
--- the least limit that the claim passes, where those before it are held too
+-- the least limit that the claim passes, where those before it are held too (CORE-5)
 unfoldable pub check_room : Rooms → Plea → List Claim → Claim → Step
 check_room left p before c s = room_by (first_passed (grant_limits left p.rows (length (granted_claims c (held_with before s).claims)) p.kept)) s
 
--- no record is kept yet, so no store is made
+-- no record is kept yet, so no store is made (CORE-16)
 unfoldable pub record_name : ℕ → Plea → Step
 record_name n p s = (None, [], s)
 
@@ -111,7 +112,7 @@ enter_all asked s = (Gets, [], held_with asked s)
 abbrev pub does_wait : Plea → List Claim → Claim → Bool
 does_wait p held c = is_blocked held c && (if is_stopped held c then p.blocking else p.awaits)
 
--- of several claims the first alone may wait (MS-SMB2 3.3.5.14.2)
+-- of several claims the first alone may wait (MS-SMB2 3.3.5.14.2) (CORE-14)
 abbrev pub at_once : Plea → Plea
 at_once p = record p { blocking = false; awaits = false }
 
@@ -122,7 +123,7 @@ each earlier left p before (c ∷ cs) rest =
     after (check_held earlier p before c) (after (check_caches p before c) (after (check_room left p before c) (each earlier left (at_once p) (before ++ c ∷ []) cs rest)))
 
 -- What comes of a plea for these claims, behind these waiters, where this room is left in the fronts' tables and n stores
--- succeed in the step: all of them are granted, or none.
+-- succeed in the step: all of them are granted, or none (CORE-1).
 unfoldable pub judged : ℕ → List Waiter → Rooms → Plea → List Claim → CoreState → Ruled
 judged n earlier left p asked = after (check_grace p) (each earlier left p [] asked (after (record_name n p) (enter_all asked)))
 
@@ -142,6 +143,7 @@ unless (Some ruling) later = ruling
 unless None later = later
 
 -- the ruling on these, each where those before it are held: that on the first that is stopped; they are had where none is
+-- (CORE-14)
 abbrev pub row : Rooms → Plea → List Claim → CoreState → Ruling
 row left p [] s = Gets
 row left p (c ∷ cs) s = unless (stop_of left p c s) (row left (at_once p) cs (held_with (c ∷ []) s))

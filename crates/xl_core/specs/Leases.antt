@@ -8,7 +8,7 @@ use Rattle.xl_base.specs.declared.event.Moment.{Moment}
 abbrev pub Lease : Type 0
 Lease = List ℕ × Moment
 
--- the moment so many milliseconds later; sums stop at the last moment that there is
+-- the moment so many milliseconds later; sums stop at the last moment that there is (HOUSE-7)
 abbrev pub moment_after : Moment → ℕ → Moment
 moment_after now milliseconds = record { 0 = min (now.0 + milliseconds) (2 ^ 64 - 1) }
 
@@ -26,7 +26,7 @@ unfoldable pub without_lease : List ℕ → List Lease → List Lease
 without_lease client [] = []
 without_lease client (l ∷ ls) = if bytes_eq client l.0 then ls else l ∷ without_lease client ls
 
--- the lease ends at this moment, or ended before
+-- the lease ends at this moment, or ended before (HOUSE-7)
 abbrev pub has_ended : Moment → Lease → Bool
 has_ended now l = nat_le l.1.0 now.0
 
@@ -48,6 +48,6 @@ abbrev pub first_among : Moment → Option (List ℕ) → List Lease → Option 
 first_among now first [] = first
 first_among now first (l ∷ ls) = first_among now (first_with now first (Some l)) ls
 
--- of the clients whose lease has ended the one whose id string stands first
+-- of the clients whose lease has ended the one whose id string stands first (HOUSE-8)
 unfoldable pub first_ended : Moment → List Lease → Option (List ℕ)
 first_ended now leases = first_among now None leases

@@ -10,18 +10,18 @@ abbrev pub most_hosts : ℕ
 most_hosts = 256
 
 -- each limit of a grant, the lesser first, and whether it is passed: so many rows are left and come, so many claims are
--- held afterwards, and so many names are kept
+-- held afterwards, and so many names are kept (CORE-5)
 abbrev pub grant_limits : Rooms → Rooms → ℕ → ℕ → List (ℕ × Bool)
 grant_limits left rows held kept =
     (most_hosts, nat_lt left.hosts rows.hosts) ∷ (most_opens, nat_lt left.opens rows.opens) ∷ (most_owners, nat_lt left.owners rows.owners)
     ∷ (most_claims, nat_lt most_claims held) ∷ (most_names, nat_lt most_names kept) ∷ []
 
--- each limit of a wait, where so many wait already
+-- each limit of a wait, where so many wait already (CORE-5)
 abbrev pub wait_limits : Rooms → Rooms → ℕ → ℕ → List (ℕ × Bool)
 wait_limits left rows waiting kept =
     (most_hosts, nat_lt left.hosts rows.hosts) ∷ (most_waiters, nat_le most_waiters waiting) ∷ (most_names, nat_lt most_names kept) ∷ []
 
--- each limit of a wish by itself: so many claims may be held afterwards as are, and then it gets no cache
+-- each limit of a wish by itself: so many claims may be held afterwards as are, and then it gets no cache (CACHE-10)
 abbrev pub wish_limits : Rooms → Rooms → ℕ → List (ℕ × Bool)
 wish_limits left rows kept =
     (most_hosts, nat_lt left.hosts rows.hosts) ∷ (most_opens, nat_lt left.opens rows.opens) ∷ (most_owners, nat_lt left.owners rows.owners) ∷ (most_names, nat_lt most_names kept) ∷ []

@@ -43,7 +43,7 @@ use Rattle.xl_core.specs.declared.ask.Effect.TheVariants.{Served}
 -- ---- places
 
 -- a byte of a file as its POSIX owner may have it locked; an owner's share of a file; the ranges of an SMB open on a file,
--- which stand one by one; a party's cache of a file
+-- which stand one by one; a party's cache of a file (CORE-8)
 pub data Place : Type 0 where
   ByteOf : ℕ → Owner → ℕ → Place
   ShareOf : ℕ → Owner → Place
@@ -95,7 +95,7 @@ abbrev pub entered_by : List What → Option (List What)
 entered_by [] = None
 entered_by (what ∷ rest) = Some (what ∷ rest)
 
--- a share as it is held once it is entered among these: united with its owner's where it is NFSv4's
+-- a share as it is held once it is entered among these: united with its owner's where it is NFSv4's (CORE-15)
 abbrev pub held_as : List Claim → Claim → What → What
 held_as held c (whats.Share access deny) = united_by c.owner (whats.Share access deny) (old_shares c.file c.owner held)
 held_as held c what = what

@@ -33,7 +33,7 @@ use Rattle.xl_core.specs.declared.judge.Ruling.TheVariants.{Gets, Waits, Told}
 
 -- ---- whose turn comes
 
--- what a waiter pleads: its names are kept already, it waits for answers, and its wait passes no limit
+-- what a waiter pleads: its names are kept already, it waits for answers, and its wait passes no limit (CORE-1)
 unfoldable pub plea_again : CoreState → Waiter → Plea
 plea_again s w = record { blocking = w.blocking; awaits = true; reclaim = false; rows = w.rows; kept = length s.names; crowded = None }
 
@@ -80,7 +80,7 @@ abbrev pub first_turn : ℕ → Rooms → CoreState → List Waiter → List Wai
 first_turn n left s earlier [] = None
 first_turn n left s earlier (w ∷ ws) = turn_or w (again n left s earlier w) (first_turn n left s (earlier ++ w ∷ []) ws)
 
--- One turn: the first waiter is served that doesn't wait on with nothing begun. None where there is no such.
+-- One turn: the first waiter is served that doesn't wait on with nothing begun. None where there is no such (CORE-11).
 unfoldable pub settle : ℕ → Rooms → CoreState → Option (List Effect × CoreState)
 settle n left s = first_turn n left s [] s.waiters
 
@@ -135,11 +135,11 @@ abbrev pub all_told : List ℕ → List Effect
 all_told [] = []
 all_told (id ∷ ids) = Cancelled id ∷ all_told ids
 
--- one waiter is taken out; no claim changes
+-- one waiter is taken out; no claim changes (TABLE-22)
 unfoldable pub cancel : CoreState → ℕ → List Effect × CoreState
 cancel s id = (Cancelled id ∷ [], record s { waiters = cancelled id s.waiters })
 
--- one claim is taken out
+-- one claim is taken out (CORE-15)
 unfoldable pub give_back : CoreState → Claim → List Effect × CoreState
 give_back s claim = ([], record s { claims = removed claim s.claims })
 
@@ -159,7 +159,7 @@ departed s leaver = (
   record s { claims = filter (λ c. not (goes leaver c)) s.claims; waiters = filter (λ w. not (waits_with leaver w)) s.waiters },
 )
 
--- all claims and waiters of a party are taken out; its name stays
+-- all claims and waiters of a party are taken out; its name stays (CORE-9)
 unfoldable pub end_party : CoreState → Party → List Effect × CoreState
 end_party s party = departed s (leavers.Party party)
 

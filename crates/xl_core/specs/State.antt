@@ -31,11 +31,11 @@ started stable clock times = record { claims = []; waiters = []; names = []; sta
 unfoldable pub step_begun : CoreState → CoreState
 step_begun s = record s { made = 0; failed = false }
 
--- the state once the next number is given out
+-- the state once the next number is given out (CORE-12)
 unfoldable pub drawn : CoreState → CoreState
 drawn s = record s { counter = s.counter + 1 }
 
--- as far as the state tells, n stores succeed in this step
+-- as far as the state tells, n stores succeed in this step (CORE-16)
 pub record MayBe (n : ℕ) (s : CoreState) : Type 0 where
   pub enough : s.made ≤ n
   pub spent : s.failed ≡ true → s.made ≡ n

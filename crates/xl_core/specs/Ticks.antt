@@ -14,7 +14,7 @@ use Rattle.xl_core.specs.Settle.{end_party}
 use Rattle.xl_core.specs.declared.ask.Effect.{Effect}
 use Rattle.xl_core.specs.declared.ask.Effect.TheVariants.{Expired}
 
--- the clock reads this moment, where that is later; it never goes back
+-- the clock reads this moment, where that is later; it never goes back (HOUSE-7)
 unfoldable pub advanced : CoreState → Moment → CoreState
 advanced s now = record s { clock = later s.clock now }
 
@@ -31,7 +31,7 @@ end_some s (Some party) = end_party s party
 abbrev pub unleased : List ℕ → List Effect × CoreState → List Effect × CoreState
 unleased client r = (r.0 ++ Expired client ∷ [], record r.1 { leases = without_lease client r.1.leases })
 
--- the client of this id string expires: all that it has and its lease go; its name stays
+-- the client of this id string expires: all that it has and its lease go; its name stays (HOUSE-8)
 unfoldable pub expire : CoreState → List ℕ → List Effect × CoreState
 expire s client = unleased client (end_some s (party_named s.names (NfsParty client)))
 
@@ -48,7 +48,7 @@ abbrev pub expired_for : ℕ → CoreState → List Effect × CoreState
 expired_for zero s = ([], s)
 expired_for (suc fuel) s = expired_then (expired_for fuel) s (first_ended s.clock s.leases)
 
--- what comes of a cache whose deadline has passed, by whose delegation it is
+-- what comes of a cache whose deadline has passed, by whose delegation it is (CACHE-5)
 abbrev pub lapsed_by : CoreState → Claim → Option (List ℕ) → List Effect × CoreState
 lapsed_by s cache None = ([], record s { claims = removed cache s.claims })
 lapsed_by s cache (Some client) = expire s client
@@ -72,6 +72,6 @@ unfoldable pub expire_all : CoreState → List Effect × CoreState
 expire_all s = expired_for (length s.leases) s
 
 -- The clock reads this moment, where that is later; then each break is over whose deadline has come; then each client
--- expires whose lease has ended.
+-- expires whose lease has ended (CACHE-5).
 unfoldable pub tick : CoreState → Moment → List Effect × CoreState
 tick s now = let r = lapsed_for (length s.claims) (advanced s now) in behind_told r.0 (expire_all r.1)

@@ -101,6 +101,6 @@ abbrev pub IsHeldUp : Unsettled → List Claim → Waiter → List Claim → Typ
 IsHeldUp unsettled held w [] = Unit {0}
 IsHeldUp unsettled held w (c ∷ cs) = is_among unsettled c.file ≡ false → is_held_up held w c ≡ true
 
--- who isn't held up waits on one of these files
+-- who isn't held up waits on one of these files (TABLE-17)
 abbrev pub AreHeldUp : Unsettled → CoreState → Type 0
 AreHeldUp unsettled s = AllByRecursion (λ w. IsHeldUp unsettled s.claims w w.asked) s.waiters

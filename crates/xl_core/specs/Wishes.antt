@@ -15,13 +15,13 @@ use Rattle.xl_core.specs.State.{CoreState}
 use Rattle.xl_core.specs.declared.ask.Answer.{Answer}
 use Rattle.xl_core.specs.declared.ask.Answer.TheVariants.{Granted}
 
--- there is room for the party's cache: it has this one on the file, or the table has room for one claim more
+-- there is room for the party's cache: it has this one on the file, or the table has room for one claim more (CACHE-9)
 abbrev pub has_room : Option Claim → List Claim → Bool
 has_room (Some own) held = true
 has_room None held = nat_lt (length held) most_claims
 
 -- The kind that the party is to have on the file from now on. A wish breaks nothing: it gets none where that takes a
--- break, nor where someone waits on the file or there is no room.
+-- break, nor where someone waits on the file or there is no room (CACHE-8, CACHE-9).
 unfoldable pub wished_kind : Wish → CoreState → Option CacheKind
 wished_kind wanted s = if waits_on wanted.file s.waiters then None else if has_room (find (is_its_cache wanted) s.claims) s.claims then granted_kind wanted s.claims else None
 

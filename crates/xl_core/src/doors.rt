@@ -26,12 +26,12 @@ use xl_names::Names;
 use xl_table::{Leaver, Table};
 use xl_wait::{Queue, Rooms};
 
-/// The claims that are held, those who wait, and the names of both. A contract sees them as flat lists. A call that
-/// finds no memory leaves it spent: nothing is known of it then.
+/// The claims that are held, those who wait, and the names of both. A contract sees them as flat lists. If a call runs out
+/// of memory, nothing is known of the core afterwards.
 #[derive(Drop)]
 pub struct Core {
     parts: Parts,
-    /// The files on which someone may wait whom nothing blocks; no contract sees it.
+    /// The files on which someone may wait who isn't blocked any more; no contract sees it.
     unsettled: Unsettled,
 }
 
@@ -48,8 +48,7 @@ impl Model for Core {
 }
 
 impl Core {
-    /// The core at a start: nothing is held, nobody waits, no lease runs, and this is the record as it is stored. It takes
-    /// no memory.
+    /// The core at a start, with the record as it is stored: nothing is held, nobody waits, no lease runs. It takes no memory.
     #[tactic(auto, using(crate::proofs::GoodLaws::started_good))]
     pub fn new(alloc: Global, stable: Record, clock: Moment, times: Times) -> Core
         ensures state { result ≡ started stable clock times }
@@ -100,7 +99,7 @@ impl Core {
         self.parts.clock
     }
 
-    /// The last number that was given out; they count from 1. 0 where none was.
+    /// The last number that was given out, 0 if none was. Numbers count from 1.
     pub fn counter(&self) -> u32
         ensures { result ≡ self.now.counter }
     {
@@ -121,7 +120,7 @@ impl Core {
         &self.parts.stable
     }
 
-    /// Begins a step: none of its stores was made, and none failed. It takes no memory.
+    /// Begins a step: from now on its stores are counted, and none has failed. It takes no memory.
     #[tactic(auto, using(crate::proofs::GoodLaws::begun_good))]
     pub fn begin_step(&mut self)
         ensures state { self.new ≡ step_begun self.old }
@@ -130,7 +129,7 @@ impl Core {
         begin_step(&mut self.parts);
     }
 
-    /// Answers an ask, where this room is left in the tables of the fronts, and tells what happened besides. At least
+    /// Answers an ask, and tells what else happened. `left` is the room that is left in the tables of the fronts. At least
     /// 65,536 numbers must be left to give out. No ask stores the record yet.
     #[tactic(auto, using(crate::proofs::DoorLaws::ask_keeps))]
     pub fn ask<K: Keeper>(
@@ -152,9 +151,9 @@ impl Core {
         Ok(answered)
     }
 
-    /// One turn, of the first waiter that isn't held up: begins the breaks that it begins, serves it where nothing that it
-    /// waits for stands in its way then, and tells so. None comes exactly where each of them is held up; then nothing changed.
-    /// At least 65,536 numbers must be left to give out.
+    /// Takes one turn, that of the first waiter that isn't held up: begins the breaks that its ask begins, serves the waiter if
+    /// nothing that it waits for is in its way then, and tells what happened. None comes exactly if every waiter is held up;
+    /// then nothing changed. At least 65,536 numbers must be left to give out.
     #[tactic(auto, using(crate::proofs::DoorLaws::settle_keeps))]
     pub fn settle<K: Keeper>(
         &mut self,
@@ -174,7 +173,7 @@ impl Core {
         Ok(turn)
     }
 
-    /// Takes out the waiter of this number, and tells so. No claim changes.
+    /// Takes out the waiter with this number, and tells that it waits no more. No claim changes.
     #[tactic(auto, using(crate::proofs::GoodLaws::cancel_good))]
     pub fn cancel(&mut self, alloc: Global, waiter: u32) -> Result<Sequence<Effect>, AllocError>
         requires waits { is_waiting waiter self.old.waiters ≡ true }
@@ -185,7 +184,7 @@ impl Core {
         calls::cancel(alloc, &mut self.parts, &mut self.unsettled, waiter)
     }
 
-    /// Takes out one claim, which is held: what its owner gives back. There is nothing to tell.
+    /// Takes out one held claim, which its owner gives back. There is nothing to tell.
     #[tactic(auto, using(crate::proofs::GoodLaws::give_back_good))]
     pub fn give_back(&mut self, alloc: Global, claim: &Claim) -> Sequence<Effect>
         requires held { IsIn claim.now self.old.claims }
@@ -196,8 +195,8 @@ impl Core {
         calls::give_back(alloc, &mut self.parts, &mut self.unsettled, claim)
     }
 
-    /// Makes a share that is held weaker: from then on it has this access and deny, which lie within what it had (RFC 7530
-    /// 16.19, OPEN_DOWNGRADE). There is nothing to tell. It takes no memory.
+    /// Makes a held share weaker: from now on it has this access and deny, which lie within those that it had (RFC 7530 16.19,
+    /// OPEN_DOWNGRADE). There is nothing to tell. It takes no memory.
     #[tactic(auto, using(crate::proofs::WeakenLaws::weaken_good))]
     pub fn weaken(
         &mut self,
@@ -222,8 +221,8 @@ impl Core {
         )
     }
 
-    /// Takes the answer to the break of a cache that is held: this much of it is left, or nothing, which lies within what the
-    /// break leaves (MS-SMB2 3.3.5.22). There is nothing to tell. It takes no memory.
+    /// Takes the answer to the break of a held cache: this much of the cache is left, or nothing, and no more than the break
+    /// leaves (MS-SMB2 3.3.5.22). There is nothing to tell. It takes no memory.
     #[tactic(auto, using(crate::proofs::BreakAnswerLaws::ack_good))]
     pub fn ack(&mut self, alloc: Global, cache: &Claim, to: Option<CacheKind>) -> Sequence<Effect>
         requires held { IsIn cache.now self.old.claims }
@@ -247,7 +246,7 @@ impl Core {
         draw(&mut self.parts)
     }
 
-    /// Takes out all claims and waiters of a party, and tells of the waiters. Its name stays.
+    /// Takes out all claims and waiters of a party, and tells of the waiters. The party's name stays.
     #[tactic(auto, unfolding(crate::specs::Settle::end_party), using(crate::proofs::GoodLaws::departed_good))]
     pub fn end_party(&mut self, alloc: Global, party: Party) -> Result<Sequence<Effect>, AllocError>
         requires good { IsGood self.old }
@@ -259,8 +258,8 @@ impl Core {
         Ok(effects)
     }
 
-    /// Closes the SMB open of this number: takes out its share, its ranges and its waiters, and tells of the waiters; and the
-    /// caches of a party that go with it, its own or those of the lease that it was the last open of (MS-SMB2 3.3.4.17).
+    /// Closes the SMB open with this number: takes out its share, its ranges and its waiters, and tells of the waiters. If a
+    /// party is given, its caches go too: the open itself, or the lease whose last open it is (MS-SMB2 3.3.4.17).
     #[tactic(auto, unfolding(crate::specs::Settle::close_open), using(crate::proofs::GoodLaws::departed_good))]
     pub fn close_open(
         &mut self,
@@ -277,8 +276,8 @@ impl Core {
         Ok(effects)
     }
 
-    /// The lease of the NFSv4 client of this id string runs for its whole length from now on (RFC 7530 9.5), also where it
-    /// had none. There is nothing to tell.
+    /// Renews the lease of the NFSv4 client with this id string: it runs for its whole length from now on (RFC 7530 9.5), also
+    /// if the client had none. There is nothing to tell.
     #[tactic(auto, using(crate::proofs::GoodLaws::renew_good))]
     pub fn renew(&mut self, alloc: Global, client: &[u8]) -> Result<Sequence<Effect>, AllocError>
         requires good { IsGood self.old }
@@ -288,11 +287,11 @@ impl Core {
         calls::renew(alloc, &mut self.parts, &mut self.unsettled, client)
     }
 
-    /// The clock reads this moment, where that is later than what it read. Then each break is over whose deadline has come
-    /// by then, by the deadlines, of equal ones by the file and the text of the party: an SMB cache goes (MS-SMB2 3.3.6.1),
-    /// and the client of a delegation expires (RFC 7530 10.4.6). Then each client whose lease has ended expires, in the
-    /// order of the id strings by bytes. Of a client that expires all goes, and that is told. No expiry stores the record
-    /// yet.
+    /// Sets the clock to this moment, if that is later than what it shows. Then each break whose deadline has come is over, in
+    /// the order of the deadlines, those of one deadline by the file and the text of the party: an SMB cache goes (MS-SMB2
+    /// 3.3.6.1), and the client of a delegation expires (RFC 7530 10.4.6). Then each client whose lease has ended expires, in
+    /// the order of their id strings by bytes. A client that expires loses all that it has, and that is told. No expiry stores
+    /// the record yet.
     #[tactic(auto, using(crate::proofs::GoodLaws::tick_good))]
     pub fn tick<K: Keeper>(
         &mut self,

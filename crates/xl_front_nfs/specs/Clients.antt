@@ -44,11 +44,11 @@ abbrev pub without_found : NfsLists → Option ClientRow → NfsLists
 without_found l None = l
 without_found l (Some r) = without_number r.number l
 
--- the lists without the unconfirmed record of this id string
+-- the lists without the unconfirmed record of this id string (NFS-11)
 abbrev pub without_named : List ℕ → NfsLists → NfsLists
 without_named id l = without_found l (find (is_client_named id false) l.clients)
 
--- the number that the client has already, where its confirmed record has the verifier
+-- the number that the client has already, where its confirmed record has the verifier (NFS-11)
 abbrev pub number_kept : List ℕ → Option ClientRow → Option ℕ
 number_kept verifier None = None
 number_kept verifier (Some r) = if bytes_eq r.details.verifier verifier then Some r.number else None
@@ -100,7 +100,7 @@ abbrev pub set_beside : CoreState → NfsLists → Option ℕ → SetClientIdArg
 set_beside s l current a = set_by s l current a (number_kept a.verifier (find (is_client_named a.id true) l.clients))
 
 -- An unconfirmed record of the same id string makes room. The clientid is that of the confirmed record with the id string
--- and the verifier, else a new one; what confirms it is a new number.
+-- and the verifier, else a new one; what confirms it is a new number (NFS-11).
 unfoldable pub set_client_id : CoreState → NfsLists → Option ℕ → SetClientIdArgsItem → Plan
 set_client_id s l current a = set_beside s (without_named a.id l) current a
 
@@ -119,11 +119,11 @@ confirmed_row time number r = with_time time (record { number = number; confirme
 abbrev pub come : Moment → NfsLists → ℕ → ClientRow → NfsLists
 come time l number r = with_row (without_client number l) (confirmed_row time number r)
 
--- the same client again: it keeps what it has, but for what its record says
+-- the same client again: it keeps what it has, but for what its record says (NFS-12)
 abbrev pub come_again : Moment → NfsLists → ℕ → ClientRow → NfsLists
 come_again time l number r = with_clients l (changed (is_client number true) (with_details (confirmed_row time number r).details) l.clients)
 
--- of another client of the same id string all goes
+-- of another client of the same id string all goes (NFS-12)
 abbrev pub confirm_over : CoreState → NfsLists → Option ℕ → ℕ → ClientRow → Option ClientRow → Plan
 confirm_over s l current number r None = Does (Renews r.id ∷ []) (come (lease_end s) l number r) current (Ended Ok)
 confirm_over s l current number r (Some o) =
@@ -133,7 +133,7 @@ confirm_over s l current number r (Some o) =
 abbrev pub confirm_beside : CoreState → NfsLists → Option ℕ → ℕ → ClientRow → Plan
 confirm_beside s l current number r = confirm_over s l current number r (find (is_client_named r.id true) l.clients)
 
--- a confirmed client is named, and its lease runs, whether this verifier is the one that confirmed it or not
+-- a confirmed client is named, and its lease runs, whether this verifier is the one that confirmed it or not (NFS-13)
 abbrev pub confirm_held : CoreState → NfsLists → Option ℕ → ℕ → List ℕ → Option ClientRow → Plan
 confirm_held s l current number verifier None = Fails StaleClientId
 confirm_held s l current number verifier (Some r) =
@@ -144,7 +144,7 @@ abbrev pub confirmed_by : List ℕ → Option ClientRow → Option ClientRow
 confirmed_by verifier None = None
 confirmed_by verifier (Some r) = if bytes_eq r.details.confirm verifier then Some r else None
 
--- an unconfirmed record that is confirmed becomes the confirmed one
+-- an unconfirmed record that is confirmed becomes the confirmed one (NFS-12)
 abbrev pub confirm_found : CoreState → NfsLists → Option ℕ → ℕ → List ℕ → Option ClientRow → Plan
 confirm_found s l current number verifier None = confirm_held s l current number verifier (find (is_client number true) l.clients)
 confirm_found s l current number verifier (Some r) = confirm_beside s (without_number number l) current number r

@@ -27,11 +27,11 @@ pub data Called : Type 0 where
   Refused : List ℕ → NfsStatus → Called
   Compound : List ℕ → List Step → Called
 
--- bytes behind NULL are garbage
+-- bytes behind NULL are garbage (NFS-8)
 abbrev pub null_in : List ℕ → Called
 null_in bytes = if length bytes == 0 then Null else Garbage
 
--- how many operations a COMPOUND has at most
+-- how many operations a COMPOUND has at most (NFS-8)
 abbrev pub most_ops : ℕ
 most_ops = 64
 
@@ -39,7 +39,7 @@ most_ops = 64
 abbrev pub most_drawn : ℕ
 most_drawn = 4 * most_ops
 
--- the minor version is judged before the count; what stands behind the last operation is not read
+-- the minor version is judged before the count; what stands behind the last operation is not read (NFS-8)
 abbrev pub compound_in : Result (CompoundHeadItem × List ℕ) RpcBad → Called
 compound_in (Err fault) = Garbage
 compound_in (Ok (head, bytes)) =

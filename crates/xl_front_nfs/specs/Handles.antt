@@ -15,7 +15,7 @@ abbrev pub put_file : ℕ → NfsLists → Option ℕ → Plan
 put_file count l None = Fails BadHandle
 put_file count l (Some file) = if nat_le file count then Does [] l (Some file) (Ended Ok) else Fails Stale
 
--- PUTFH (16.20), where so many files are exported
+-- PUTFH (16.20), where so many files are exported (NFS-10)
 unfoldable pub put_fh : ℕ → NfsLists → List ℕ → Plan
 put_fh count l fh = put_file count l (file_at fh)
 
@@ -28,7 +28,7 @@ abbrev pub found_file : NfsLists → Option ℕ → Plan
 found_file l None = Fails NoEnt
 found_file l (Some file) = Does [] l (Some file) (Ended Ok)
 
--- LOOKUP (16.13): the root is the one directory
+-- LOOKUP (16.13): the root is the one directory (NFS-10)
 unfoldable pub look_up : List (List ℕ) → NfsLists → Option ℕ → List ℕ → Plan
 look_up files l None name = Fails NoFileHandle
 look_up files l (Some file) name =

@@ -21,7 +21,7 @@ abbrev pub client_by : NfsLists → Option (List ℕ) → Option ClientRow
 client_by l None = None
 client_by l (Some id) = find (is_client_named id true) l.clients
 
--- the call of this number asks the client, where it is called back now, for this delegation of the file
+-- the call of this number asks the client, where it is called back now, for this delegation of the file (NFS-17)
 abbrev pub recall_out : CoreState → ℕ → ℕ → ClientRow → StateidRow → Out
 recall_out s number file c r = record {
   dest = Back number;
@@ -29,7 +29,7 @@ recall_out s number file c r = record {
   bytes = recall_record number c.details.callback.program c.details.callback.ident (stateid_of s r.number r.standing.seqid) file;
 }
 
--- a delegation that came after the break is another one: what was recalled was returned already
+-- a delegation that came after the break is another one: what was recalled was returned already (NFS-17)
 abbrev pub recalled_as : CoreState → ℕ → ℕ → ClientRow → Option StateidRow → List Out
 recalled_as s number file c None = []
 recalled_as s number file c (Some r) = if nat_lt r.number number then recall_out s number file c r ∷ [] else []
@@ -39,7 +39,7 @@ recalled_from s l number file None = []
 recalled_from s l number file (Some c) = recalled_as s number file c (find (delegated_on c.number file) l.stateids)
 
 -- What is sent where the core tells this: the break of a delegation, which has a call's number, asks its client for it; nothing
--- else is sent.
+-- else is sent (NFS-17).
 unfoldable pub recalls : FrontNfs → CoreState → Effect → List Out
 recalls f s (Begun cache to (Some number)) = recalled_from s f.state number cache.file (client_by f.state (client_of s.names cache.party))
 recalls f s _ = []

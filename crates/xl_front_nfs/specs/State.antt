@@ -18,7 +18,7 @@ empty_nfs_front = record { state = no_lists }
 
 -- ---- time
 
--- at this moment the unconfirmed records go whose time has come
+-- at this moment the unconfirmed records go whose time has come (NFS-13)
 unfoldable pub nfs_tick : FrontNfs → Moment → FrontNfs
 nfs_tick f now = record { state = with_clients f.state (without (is_due now) f.state.clients) }
 
@@ -31,6 +31,6 @@ abbrev pub lists_shown : NfsLists → Effect → NfsLists
 lists_shown l (Expired id) = forgotten l (find (is_client_named id true) l.clients)
 lists_shown l _ = l
 
--- A client that expired is forgotten, with all that is its; no other effect changes anything. Nothing is sent.
+-- A client that expired is forgotten, with all that is its; no other effect changes anything. Nothing is sent (STATE-6).
 unfoldable pub nfs_shown : FrontNfs → Effect → FrontNfs
 nfs_shown f effect = record { state = lists_shown f.state effect }

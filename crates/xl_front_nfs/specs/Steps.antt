@@ -27,7 +27,7 @@ use Rattle.xl_front_nfs.specs.State.{FrontNfs}
 -- ---- the table
 
 -- What each operation does, where these files are exported, and beside so many opens of other protocols. The others are
--- not served, and their arguments aren't read.
+-- not served, and their arguments aren't read (NFS-9).
 unfoldable pub planned : List (List ℕ) → ℕ → CoreState → NfsLists → Option ℕ → OpItem → Plan
 planned files others s l current PutRootFh = put_root_fh l
 planned files others s l current (PutFh fh) = put_fh (length files) l fh
@@ -50,7 +50,7 @@ planned files others s l current (NotSupported number) = Fails statuses.NotSupp
 
 -- ---- the operations of a request
 
--- an operation; one whose arguments can't be read, by its number; and the end of the bytes before a number
+-- an operation; one whose arguments can't be read, by its number; and the end of the bytes before a number (NFS-9)
 pub data Step : Type 0 where
   Runs : OpItem → Step
   Garbled : ℕ → Step
@@ -101,7 +101,7 @@ plan_of files others c s Cut = Fails statuses.BadXdr
 abbrev pub done_by : ℕ → Course → CoreState → ℕ → Plan → Ran Course
 done_by n c s number plan = noted c number (carried n s c.lists c.current plan)
 
--- one step; an operation without a number has no result
+-- one step; an operation without a number has no result (NFS-9)
 unfoldable pub ran : List (List ℕ) → ℕ → ℕ → Course → CoreState → Step → Ran Course
 ran files others n c s (Runs op) = done_by n c s (op_number op) (plan_of files others c s (Runs op))
 ran files others n c s (Garbled number) = done_by n c s number (plan_of files others c s (Garbled number))

@@ -11,7 +11,7 @@ use Rattle.xl_front_nlm.specs.declared.outcome.Outcome.TheVariants.{NoFile, TooB
 abbrev pub exported : ℕ → List ℕ → Option ℕ
 exported count fh = option_and_then (λ file. if nat_le 1 file && nat_le file count then Some file else None) (file_at fh)
 
--- the last byte of a range; a length of 0 reaches the last byte that there is, and none passes it
+-- the last byte of a range; a length of 0 reaches the last byte that there is, and none passes it (NLM-4)
 abbrev pub last_of : ℕ → ℕ → Option ℕ
 last_of offset len =
     if len == 0 then (if nat_lt offset (2 ^ 64) then Some (2 ^ 64 - 1) else None)
@@ -30,6 +30,6 @@ abbrev pub aimed_in : LockItem → Option ℕ → Result Aim Outcome
 aimed_in l None = Err NoFile
 aimed_in l (Some file) = aimed_at l file (last_of l.l_offset l.l_len)
 
--- the bytes that a lock names, or why it names none: no exported file has its handle, or they pass the last byte
+-- the bytes that a lock names, or why it names none: no exported file has its handle, or they pass the last byte (NLM-4)
 unfoldable pub aimed : ℕ → LockItem → Result Aim Outcome
 aimed count l = aimed_in l (exported count l.fh)

@@ -31,12 +31,12 @@ abbrev pub refuses_with : Result (ReplyItem × List ℕ) RpcBad → Bool
 refuses_with (Ok (ResAnswer r, rest)) = not (is_granted r.stat)
 refuses_with _ = false
 
--- xid and cookie are not compared, and what stands behind the status is not looked at
+-- xid and cookie are not compared, and what stands behind the status is not looked at (NLM-11)
 abbrev pub refuses_by : Result ((ℕ × Verdict) × List ℕ) RpcBad → Bool
 refuses_by (Ok ((xid, Success), body)) = refuses_with (results_at 5 body)
 refuses_by _ = false
 
--- a reply that says that the client doesn't want the lock; no reply, a denied one and one that can't be read don't
+-- a reply that says that the client doesn't want the lock; no reply, a denied one and one that can't be read don't (NLM-11)
 unfoldable pub refuses : Option (List ℕ) → Bool
 refuses (Some bytes) = refuses_by (reply_at bytes)
 refuses None = false
@@ -53,7 +53,7 @@ refusal_deeds hosts None = []
 refusal_deeds hosts (Some grant) = Asks (rooms hosts) (refusal_ask grant) ∷ []
 
 -- What the end of the server's call of this number does to the core, with its reply or without one: a refusal unlocks the
--- range that the call told, at this time and whatever its owner locked since; all else does nothing.
+-- range that the call told, at this time and whatever its owner locked since; all else does nothing (NLM-11).
 abbrev pub called_deeds : FrontState → CoreState → ℕ → Option (List ℕ) → List Deed
 called_deeds f s number reply = refusal_deeds f.hosts (refused_grant s (refuses reply) (find (λ c. c.number == number) f.calls))
 

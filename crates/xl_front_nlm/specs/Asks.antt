@@ -16,7 +16,7 @@ use Rattle.xl_front_nlm.specs.declared.aim.Aim.{Aim}
 use Rattle.xl_front_nlm.specs.declared.grant.Grant.{Grant}
 
 -- An ask of NLM: the party is the caller, a late answer is told by a call of its own, no cache is wished for, and callers
--- aren't recorded yet.
+-- aren't recorded yet (NLM-15).
 abbrev pub ask_of : Name → List ℕ → ℕ → Act → Bool → Bool → Rooms → Ask
 ask_of owner caller file act blocking reclaim rows = record {
   file = file;
@@ -53,14 +53,14 @@ refusal_ask g = ask_of (NlmRange g.caller g.svid g.oh) g.caller g.file (acts.Unl
 
 -- ---- shares
 
--- the access of a share, or what it denies to others (fsh4_access, fsh4_mode); NLM knows no deleting
+-- the access of a share, or what it denies to others (fsh4_access, fsh4_mode); NLM knows no deleting (NLM-12)
 abbrev pub rights_of : Rights → Rwd
 rights_of r = record { r = r.read; w = r.write; d = false }
 
--- the owner of a share
+-- the owner of a share (NLM-12)
 abbrev pub share_owner : ShareArgsItem → Name
 share_owner a = NlmShare a.caller_name a.oh
 
--- a share never waits; its mode is what it denies
+-- a share never waits; its mode is what it denies (NLM-12)
 abbrev pub share_ask : Rooms → ShareArgsItem → ℕ → Ask
 share_ask rows a file = ask_of (share_owner a) a.caller_name file (acts.Share (rights_of a.access) (rights_of a.mode)) false a.reclaim rows

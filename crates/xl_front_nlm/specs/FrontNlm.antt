@@ -23,7 +23,7 @@ use Rattle.xl_front_nlm.specs.declared.outcome.Outcome.{Outcome}
 
 -- ---- the call that a request is
 
--- bytes behind the arguments are garbage
+-- bytes behind the arguments are garbage (RPC-4)
 abbrev pub whole_call : Result (CallItem × List ℕ) RpcBad → Option CallItem
 whole_call (Err fault) = None
 whole_call (Ok call) = if length call.1 == 0 then Some call.0 else None

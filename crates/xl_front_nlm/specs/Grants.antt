@@ -52,7 +52,7 @@ lock_of g = record { caller_name = g.caller; fh = handle g.file; oh = g.oh; svid
 
 -- ---- to whom
 
--- the address of a caller: the first that is given for it
+-- the address of a caller: the first that is given for it (NLM-10)
 unfoldable pub address_of : List (List ℕ × List ℕ) → List ℕ → Option (List ℕ)
 address_of addresses caller = option_map (λ entry. entry.1) (find (λ entry. bytes_eq entry.0 caller) addresses)
 
@@ -71,12 +71,12 @@ addressed exports None = None
 addressed exports (Some g) = with_address g (address_of exports.addresses g.caller)
 
 -- what there is to tell of an effect, and to whom: a grant of one who waited. One who waited and found no room is told
--- nothing, and so is one who was cancelled.
+-- nothing, and so is one who was cancelled (NLM-10).
 abbrev pub news : Exports → CoreState → Effect → Option (Claim × Grant × List ℕ)
 news exports s (Served id (Granted claim)) = option_map (λ told. (claim, told.0, told.1)) (addressed exports (grant_of s.names claim))
 news exports s _ = None
 
--- the call takes the next number, and awaits its answer from then on
+-- the call takes the next number, and awaits its answer from then on (NLM-10)
 abbrev pub told_by : FrontState → CoreState → Option (Claim × Grant × List ℕ) → List Out × FrontState × CoreState
 told_by f s None = ([], f, s)
 told_by f s (Some told) = (call_of (s.counter + 1) told.2 told.1 ∷ [], awaited f (record { number = s.counter + 1; claim = told.0 }), drawn s)

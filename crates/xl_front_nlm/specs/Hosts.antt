@@ -7,7 +7,7 @@ use Rattle.xl_core.specs.Limits.{most_hosts, most_opens, most_owners}
 use Rattle.xl_core.specs.declared.ask.Answer.{Answer}
 use Rattle.xl_core.specs.declared.ask.Answer.TheVariants.{Granted, Queued}
 
--- the caller is a host already
+-- the caller is a host already (NLM-17)
 abbrev pub is_host : List ℕ → List (List ℕ) → Bool
 is_host caller hosts = list_any (bytes_eq caller) hosts
 
@@ -31,7 +31,7 @@ rooms hosts = record { hosts = most_hosts - length hosts; owners = most_owners; 
 abbrev pub host_rows : List ℕ → List (List ℕ) → Rooms
 host_rows caller hosts = record { hosts = if is_host caller hosts then 0 else 1; owners = 0; opens = 0 }
 
--- a grant and a wait make the caller a host
+-- a grant and a wait make the caller a host (NLM-17)
 abbrev pub makes_host : Answer → Bool
 makes_host (Granted c) = true
 makes_host (Queued id) = true

@@ -19,7 +19,7 @@ use Rattle.xl_front_nlm.specs.declared.outcome.Outcome.TheVariants.{NoFile, TooB
 
 -- ---- all calls but TEST
 
--- the map of the core's answers
+-- the map of the core's answers (NLM-14)
 abbrev pub answer_status : Answer → NlmStatus
 answer_status (answers.Granted c) = stats.Granted
 answer_status (answers.Conflict c) = stats.Denied
@@ -44,7 +44,7 @@ status_of Nothing = stats.Granted
 
 -- ---- TEST
 
--- denied where something held blocks the range; nothing is granted in grace
+-- denied where something held blocks the range; nothing is granted in grace (NLM-14)
 abbrev pub test_answer_status : Answer → NlmStatus
 test_answer_status (answers.Conflict c) = stats.Denied
 test_answer_status (answers.Grace until) = stats.DeniedGracePeriod
@@ -72,7 +72,7 @@ abbrev pub holder_by : ℤ × List ℕ → What → HolderItem
 holder_by who (Range (Bytes first last) exclusive) = record { exclusive = exclusive; svid = who.0; oh = who.1; l_offset = first; l_len = length_of first last }
 holder_by who _ = record { exclusive = false; svid = who.0; oh = who.1; l_offset = 0; l_len = length_of 0 0 }
 
--- a held range as TEST tells it
+-- a held range as TEST tells it (NLM-19)
 abbrev pub holder_of : List Name → Claim → HolderItem
 holder_of names c = holder_by (owner_parts names c.owner) c.what
 
@@ -91,7 +91,7 @@ test_result cookie names outcome = record { cookie = cookie; stat = test_status 
 abbrev pub res_of : List ℕ → Outcome → ReplyItem
 res_of cookie outcome = ResAnswer (record { cookie = cookie; stat = status_of outcome })
 
--- the sequence is not used
+-- the sequence is not used (NLM-2)
 abbrev pub share_res_of : List ℕ → Outcome → ReplyItem
 share_res_of cookie outcome = ShareAnswer (record { cookie = cookie; stat = status_of outcome; sequence = pos 0 })
 

@@ -41,13 +41,14 @@ abbrev pub if_found : {A : Type 0} → Outcome → (A → Deed) → Option A →
 if_found none does None = Tells none
 if_found none does (Some found) = Does (does found)
 
--- one who asks for the same again waits on, whether it blocks or not, and also where it reclaims
+-- one who asks for the same again waits on, whether it blocks or not, and also where it reclaims (NLM-5)
 abbrev pub lock_plan : List (List ℕ) → CoreState → LockArgsItem → Aim → Plan
 lock_plan hosts s a at = if does_wait s a at then Tells Waits else Does (Asks (rooms hosts) (lock_ask (host_rows a.lock.caller_name hosts) a at))
 
 -- What each call does, where so many files are exported. TEST, LOCK, UNLOCK and SHARE ask. CANCEL takes out the waiter of
 -- the same owner, file, range and mode, whether it was said to block or not. UNSHARE gives back the owner's share on the
--- file. FREE_ALL ends its caller as a party. NM_LOCK does what LOCK does, as callers aren't recorded yet.
+-- file. FREE_ALL ends its caller as a party. NM_LOCK does what LOCK does, as callers aren't recorded yet
+-- (NLM-6, NLM-9, NLM-12, NLM-13).
 unfoldable pub planned : ℕ → List (List ℕ) → CoreState → CallItem → Plan
 planned count hosts s (Test a) = at_bytes (λ at. Does (Asks (rooms hosts) (test_ask a at))) (aimed count a.lock)
 planned count hosts s (Lock a) = at_bytes (λ at. lock_plan hosts s a at) (aimed count a.lock)

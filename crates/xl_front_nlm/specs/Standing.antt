@@ -35,7 +35,7 @@ abbrev pub waiter_by : List Waiter → Aim → Bool → Option ℕ → Option �
 waiter_by waiters at exclusive None = None
 waiter_by waiters at exclusive (Some number) = option_map (λ w. w.id) (find (waits_for (owners.Name Nlm number) at exclusive) waiters)
 
--- the number of the first waiter of the same owner, file, range and mode
+-- the number of the first waiter of the same owner, file, range and mode (NLM-9)
 abbrev pub waiter_for : CoreState → LockItem → Bool → Aim → Option ℕ
 waiter_for s l exclusive at = waiter_by s.waiters at exclusive (number_of (owner_of l) s.names)
 
@@ -48,6 +48,6 @@ abbrev pub share_by : List Claim → ℕ → Option ℕ → Option Claim
 share_by claims file None = None
 share_by claims file (Some number) = find (is_share_of file (owners.Name Nlm number)) claims
 
--- the owner's share on the file; it has one at most
+-- the owner's share on the file; it has one at most (NLM-12)
 abbrev pub share_held : CoreState → ShareArgsItem → ℕ → Option Claim
 share_held s a file = share_by s.claims file (number_of (share_owner a) s.names)

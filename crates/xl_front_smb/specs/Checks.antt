@@ -22,7 +22,7 @@ kept_if test (Some number) = if test number then Some number else None
 
 -- ---- what a request names
 
--- the session, where it is on the connection that the request came by
+-- the session, where it is on the connection that the request came by (SMB-11)
 abbrev pub session_named : CoreState → Lists → ℕ → ℕ → Option ℕ
 session_named s l conn id = kept_if (λ number. is_session_on conn (session_of number l)) (number_in s id)
 
@@ -38,11 +38,11 @@ abbrev pub is_open_on : ℕ → Option Open → Bool
 is_open_on conn None = false
 is_open_on conn (Some row) = covers_holder (scope.Connection conn) row.holder
 
--- the number in both halves of a FileId, where they are one
+-- the number in both halves of a FileId, where they are one (SMB-12)
 abbrev pub file_number : CoreState → FileId → Option ℕ
 file_number s id = if id.persistent == id.volatile then number_in s id.volatile else None
 
--- the open, where it stands under the connection
+-- the open, where it stands under the connection (SMB-11)
 abbrev pub open_named : CoreState → Lists → ℕ → FileId → Option ℕ
 open_named s l conn id = kept_if (λ number. is_open_on conn (open_of number l)) (file_number s id)
 

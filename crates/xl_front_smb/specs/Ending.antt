@@ -23,7 +23,7 @@ use Rattle.xl_front_smb.specs.State.{FrontSmb}
 abbrev pub numbers_under : Scope → Lists → List ℕ
 numbers_under under l = opens_under under l ++ creates_under under l
 
--- the party whose caches go with the open: its own, or the lease's that it is the last open of
+-- the party whose caches go with the open: its own, or the lease's that it is the last open of (SMB-28)
 abbrev pub going_by : List Name → Lists → ℕ → Option Open → Option Party
 going_by names l number None = None
 going_by names l number (Some row) = if is_last_open number l then Some (party_of names number row) else None
@@ -76,11 +76,12 @@ sessions_gone (number ∷ numbers) l = sessions_gone numbers (session_gone numbe
 unfoldable pub connection_gone : ℕ → Lists → Lists
 connection_gone conn l = connection_dropped conn (sessions_gone (sessions_on conn l) l)
 
--- the requests that wait and came by a connection are forgotten
+-- the requests that wait and came by a connection are forgotten (HOUSE-4)
 abbrev pub requests_gone : ℕ → Lists → Lists
 requests_gone conn l = record l { waiting = filter (λ e. not (e.1.place.connection == conn)) l.waiting }
 
 -- what is sent to those of whom these effects tell that they wait no more, in order of arrival, and the lists without them
+-- (SMB-27)
 abbrev pub all_dismissed : List Effect → Lists → List Out × Lists
 all_dismissed told l = dismissed told (keys_of l.waiting) l
 
@@ -92,7 +93,7 @@ requests_dropped (number ∷ numbers) l = requests_dropped numbers (waiting_drop
 -- ---- the end of a connection
 
 -- What the end of a connection does to the core: each open under it ends, in the order in which they came, and then each that a
--- request under it waits to make.
+-- request under it waits to make (HOUSE-4).
 unfoldable pub smb_end_deeds : FrontSmb → CoreState → ℕ → List Deed
 smb_end_deeds f s conn = ends (leavers_under s.names (scope.Connection conn) f.state)
 

@@ -47,11 +47,11 @@ use Rattle.xl_front_smb.specs.declared.told.Told.TheVariants.{Failed, Acknowledg
 abbrev pub asks_any : ℕ → ℕ → Bool
 asks_any bits desired = not (bit_and desired bits == 0)
 
--- GENERIC_ALL and MAXIMUM_ALLOWED
+-- GENERIC_ALL and MAXIMUM_ALLOWED (SMB-16)
 abbrev pub all_bits : ℕ
 all_bits = 0x10000000 + 0x02000000
 
--- FILE_READ_DATA, FILE_EXECUTE, GENERIC_READ and GENERIC_EXECUTE are for reading
+-- FILE_READ_DATA, FILE_EXECUTE, GENERIC_READ and GENERIC_EXECUTE are for reading (SMB-16)
 abbrev pub read_bits : ℕ
 read_bits = 0x1 + 0x20 + 0x80000000 + 0x20000000 + all_bits
 
@@ -70,7 +70,7 @@ access_of desired = record { r = asks_any read_bits desired; w = asks_any write_
 abbrev pub is_none : Rwd → Bool
 is_none a = not (a.r || (a.w || a.d))
 
--- what isn't shared is denied; an open for none of the three denies nothing
+-- what isn't shared is denied; an open for none of the three denies nothing (SMB-16)
 unfoldable pub deny_of : Rwd → ℕ → Rwd
 deny_of access share =
     if is_none access then record { r = false; w = false; d = false }
@@ -78,14 +78,14 @@ deny_of access share =
 
 -- ---- CREATE
 
--- the lease that is asked for, by the level 0xFF and a context that carries it (3.3.5.9.8)
+-- the lease that is asked for, by the level 0xFF and a context that carries it (3.3.5.9.8) (SMB-19)
 abbrev pub lease_asked : CreateCallItem → Option Lease
 lease_asked c = if c.oplock_level == 0xFF then lease_of c.contexts else None
 
 abbrev pub key_asked : CreateCallItem → Option (List ℕ)
 key_asked c = option_map (λ lease. lease.key) (lease_asked c)
 
--- the caches wished for: a lease's by its state, or an oplock's by its level
+-- the caches wished for: a lease's by its state, or an oplock's by its level (SMB-18, SMB-19)
 abbrev pub choices_by : ℕ → Option Lease → List CacheKind
 choices_by level None = oplock_choices level
 choices_by level (Some lease) = lease_choices lease.state
@@ -128,14 +128,14 @@ abbrev pub open_as : CoreState → ℕ → Lists → SmbHead → List ℕ → Pl
 open_as s others l h client place c file number =
     Opens (rooms_left others l) (open_ask place.connection number (open_row file client place c) c) number (open_row file client place c) (id_of s number) (create_row h place number (open_row file client place c))
 
--- there is room for an open, and none has this number yet
+-- there is room for an open, and none has this number yet (SMB-14)
 abbrev pub has_room_for_open : ℕ → Lists → ℕ → Bool
 has_room_for_open others l number = nat_lt (all_opens others l) most_opens && not (is_some (open_of number l))
 
 abbrev pub open_file : CoreState → ℕ → Lists → SmbHead → List ℕ → Place → CreateCallItem → ℕ → Plan
 open_file s others l h client place c file = if has_room_for_open others l (s.counter + 1) then open_as s others l h client place c file (s.counter + 1) else Fails InsufficientResources
 
--- the lease's key is in use on another file, also where only a CREATE that waits has it
+-- the lease's key is in use on another file, also where only a CREATE that waits has it (SMB-19)
 abbrev pub is_other : ℕ → Option ℕ → Bool
 is_other file None = false
 is_other file (Some used) = not (used == file)
@@ -150,12 +150,12 @@ lease_key client asked = option_map (λ key. record { client = client; key = key
 abbrev pub open_keyed : CoreState → ℕ → Lists → SmbHead → List ℕ → Place → CreateCallItem → ℕ → Plan
 open_keyed s others l h client place c file = if is_key_elsewhere file (lease_key client (key_asked c)) l then Fails InvalidParameter else open_file s others l h client place c file
 
--- files are only opened: FILE_CREATE, 2, meets the one that is there
+-- files are only opened: FILE_CREATE, 2, meets the one that is there (SMB-16)
 abbrev pub open_found : CoreState → ℕ → Lists → SmbHead → List ℕ → Place → CreateCallItem → Option ℕ → Plan
 open_found s others l h client place c None = Fails ObjectNameNotFound
 open_found s others l h client place c (Some file) = if c.disposition == 2 then Fails ObjectNameCollision else open_keyed s others l h client place c file
 
--- FILE_SUPERSEDE, FILE_OVERWRITE and FILE_OVERWRITE_IF change what the file holds
+-- FILE_SUPERSEDE, FILE_OVERWRITE and FILE_OVERWRITE_IF change what the file holds (SMB-16)
 abbrev pub overwrites : ℕ → Bool
 overwrites disposition = disposition == 0 || (disposition == 4 || disposition == 5)
 
@@ -192,7 +192,7 @@ leaves_less None = false
 leaves_less (Some running) = not (rest_lies_within (Some R) running.target)
 
 -- the level isn't one to go down to: it is above II, or it is II where the oplock is no more than that already, or where its
--- break leaves less
+-- break leaves less (SMB-20)
 abbrev pub is_refused : ℕ → CacheKind → Option Break → Bool
 is_refused level kind running = nat_lt 1 level || ((level == 1) && (is_read kind || leaves_less running))
 
@@ -200,7 +200,7 @@ is_refused level kind running = nat_lt 1 level || ((level == 1) && (is_read kind
 abbrev pub left_at : ℕ → Option CacheKind
 left_at level = if level == 0 then None else Some R
 
--- where a break runs it is answered, so that nothing is left
+-- where a break runs it is answered, so that nothing is left (SMB-20)
 abbrev pub refused_ack : Lists → Claim → Option Break → Plan
 refused_ack l cache None = Fails InvalidOplockProtocol
 refused_ack l cache (Some running) = Does (Acks cache None ∷ []) l (Failed InvalidOplockProtocol)
@@ -227,7 +227,7 @@ ack_open s l level number (Some row) = ack_of l (id_of s number) level (oplock_o
 abbrev pub ack_level : CoreState → Lists → ℕ → ℕ → Plan
 ack_level s l level number = if level == 0xFF then Fails InvalidParameter else ack_open s l level number (open_of number l)
 
--- none, 0, reading, 1, or reading and the handle, 3, where the break leaves as much
+-- none, 0, reading, 1, or reading and the handle, 3, where the break leaves as much (SMB-21)
 abbrev pub may_keep : ℕ → Break → Bool
 may_keep state running = (state == 0 || (state == 1 || state == 3)) && rest_lies_within (kind_of_state state) running.target
 
@@ -246,7 +246,7 @@ abbrev pub ack_cache : Lists → Lease → Option Claim → Plan
 ack_cache l lease None = Fails Unsuccessful
 ack_cache l lease (Some cache) = ack_lease_by l lease cache cache.what
 
--- the lease is there; a key that only a CREATE has that waits is of none
+-- the lease is there; a key that only a CREATE has that waits is of none (SMB-21)
 abbrev pub ack_lease : CoreState → Lists → List ℕ → Lease → Option LeaseRow → Plan
 ack_lease s l client lease None = Fails ObjectNameNotFound
 ack_lease s l client lease (Some row) = ack_cache l lease (cache_of row.file (lease_party s.names client lease.key) s.claims)

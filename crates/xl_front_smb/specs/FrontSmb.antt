@@ -23,7 +23,7 @@ abbrev pub sent_by : ℕ → Option (List ℕ) → List Out
 sent_by conn None = []
 sent_by conn (Some bytes) = sent_to conn bytes
 
--- the header of a request; what has none, and what is a reply by flag 1, is no request, and meets with silence
+-- the header of a request; what has none, and what is a reply by flag 1, is no request, and meets with silence (SMB-9)
 abbrev pub head_heard : Result SmbHead SmbBad → Option SmbHead
 head_heard (Err fault) = None
 head_heard (Ok h) = if is_set 1 h.flags then None else Some h
@@ -59,7 +59,7 @@ finals_for exports others f s conn bytes answers told None = []
 finals_for exports others f s conn bytes answers told (Some h) = (all_dismissed told (lists_by f.state (plan_for exports others f s conn bytes h) answers)).0
 
 -- All that is sent for it: the final replies to those whom it cancels, and its own reply. A function of the message, of the
--- state that it meets, of what its deeds are answered and tell of, and of the state that they leave.
+-- state that it meets, of what its deeds are answered and tell of, and of the state that they leave (HOUSE-1).
 unfoldable pub smb_replies : Exports → ℕ → FrontSmb → CoreState → ℕ → List ℕ → List Answer → List Effect → CoreState → List Out
 smb_replies exports others f s conn bytes answers told t = finals_for exports others f s conn bytes answers told (head_heard (head_of bytes)) ++ sent_by conn (smb_reply exports others f s conn bytes answers t)
 

@@ -51,7 +51,7 @@ abbrev pub lock_by : ℕ → Waiting → ℕ → Open → List LockElement → O
 lock_by conn kept number row es (Some status) = Fails status
 lock_by conn kept number row es None = Locks (lock_ask conn number row es) kept
 
--- 1 to 64 ranges: all are unlocked, or all are locked
+-- 1 to 64 ranges: all are unlocked, or all are locked (SMB-22)
 abbrev pub lock_on : CoreState → Lists → ℕ → SmbHead → ℕ → Place → List LockElement → Open → Plan
 lock_on s l conn h number place es row =
     if not (is_count (length es)) then Fails InvalidParameter
@@ -74,12 +74,12 @@ abbrev pub came_by : ℕ → Option Waiting → Bool
 came_by conn None = false
 came_by conn (Some row) = row.place.connection == conn
 
--- the request that is named: by its AsyncId, which is a number, or as the first of this MessageId
+-- the request that is named: by its AsyncId, which is a number, or as the first of this MessageId (SMB-26)
 abbrev pub request_named : ℕ → Lists → ℕ → Route → Option ℕ
 request_named conn l message (Async id) = if nat_lt id (2 ^ 32) && came_by conn (waiting_of id l) then Some id else None
 request_named conn l message (Tree tree) = waiting_by_message conn message l
 
--- it waits no more, where it still does; nothing is told but its final reply
+-- it waits no more, where it still does; nothing is told but its final reply (SMB-26)
 abbrev pub cancel_named : CoreState → Lists → Option ℕ → Plan
 cancel_named s l None = Does [] l Nothing
 cancel_named s l (Some id) = if is_waiting id s.waiters then Does (Cancels id ∷ []) l Nothing else Does [] l Nothing

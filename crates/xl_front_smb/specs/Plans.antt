@@ -41,7 +41,7 @@ deeds_of (Locks a row) = Asks no_rows a ∷ []
 -- ---- what an answer makes of it
 
 -- there is room for a request that waits under this number, and none waits under it yet: so it is, as each that waits is a
--- waiter of the core, which has room for as many and numbers of their own for them
+-- waiter of the core, which has room for as many and numbers of their own for them (SMB-25)
 abbrev pub has_room_to_wait : Lists → ℕ → Bool
 has_room_to_wait l id = nat_lt (length l.waiting) most_waiting && not (is_some (waiting_of id l))
 

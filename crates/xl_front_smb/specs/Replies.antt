@@ -19,17 +19,17 @@ use Rattle.xl_front_smb.specs.declared.told.Told.TheVariants as told
 
 -- ---- the header: that of the request, as a reply
 
--- the credits that were asked for, at least 1 and at most 512 (3.3.1.2)
+-- the credits that were asked for, at least 1 and at most 512 (3.3.1.2) (SMB-13)
 unfoldable pub credits_for : ℕ → ℕ
 credits_for asked = min 512 (max 1 asked)
 
--- the tree connect that a request names; one of the asynchronous form names none
+-- the tree connect that a request names; one of the asynchronous form names none (SMB-11)
 abbrev pub tree_id : Route → ℕ
 tree_id (Tree id) = id
 tree_id (Async id) = 0
 
 -- CreditCharge, command, number, tree connect and session are those of the request, but for the session that is set up and
--- the share that is connected to
+-- the share that is connected to (SMB-13)
 unfoldable pub reply_head : SmbHead → ℕ → ℕ → ℕ → SmbHead
 reply_head h status tree session = record {
   credit_charge = h.credit_charge;
@@ -44,7 +44,7 @@ reply_head h status tree session = record {
   signature = zeros 16;
 }
 
--- STATUS_PENDING names the AsyncId in the place of the tree connect
+-- STATUS_PENDING names the AsyncId in the place of the tree connect (SMB-25)
 unfoldable pub pending_head : SmbHead → ℕ → SmbHead
 pending_head h id = record {
   credit_charge = h.credit_charge;
@@ -72,7 +72,7 @@ head_by h _ = reply_head h 0 (tree_id h.route) h.session_id
 abbrev pub negotiated : NegotiateReplyItem
 negotiated = record { security_mode = 1; dialect = 0x0210; server_guid = zeros 16; capabilities = 2; max_transact = 65536; max_read = 65536; max_write = 65536; system_time = 0; start_time = 0; buffer = [] }
 
--- a guest's session
+-- a guest's session (SMB-14)
 abbrev pub set_up : SetupReplyItem
 set_up = record { flags = 1; buffer = [] }
 
@@ -110,7 +110,7 @@ abbrev pub spelled : SmbHead → Option ReplyItem → Option (List ℕ)
 spelled h None = None
 spelled h (Some body) = Some (spelling (Reply h body))
 
--- a CANCEL gets no reply, whatever becomes of it (3.3.5.16)
+-- a CANCEL gets no reply, whatever becomes of it (3.3.5.16) (SMB-9)
 unfoldable pub reply_of : SmbHead → Told → Option (List ℕ)
 reply_of h t = if h.command == 12 then None else spelled (head_by h t) (body_of t)
 

@@ -30,17 +30,17 @@ commanded s files others l conn h (OplockBreak b) client = acknowledge s l conn 
 commanded s files others l conn h (Negotiate c) client = Fails InvalidParameter
 commanded s files others l conn h Other client = Fails NotSupported
 
--- NEGOTIATE comes first, and once
+-- NEGOTIATE comes first, and once (SMB-10)
 unfoldable pub planned : CoreState → List (List ℕ) → ℕ → Lists → ℕ → SmbHead → CallItem → Plan
 planned s files others l conn h (Negotiate c) = negotiate l conn c
 planned s files others l conn h call = negotiated_by (commanded s files others l conn h call) (client_of conn l)
 
--- a body whose size or whose parts are wrong is not in order
+-- a body whose size or whose parts are wrong is not in order (SMB-10)
 abbrev pub read_as : CoreState → List (List ℕ) → ℕ → Lists → ℕ → Result MessageItem SmbBad → Plan
 read_as s files others l conn (Ok (Call h call)) = planned s files others l conn h call
 read_as s files others l conn _ = Fails InvalidParameter
 
--- A request of this header: it stands alone in its frame, its command has a number up to 18, and is served.
+-- A request of this header: it stands alone in its frame, its command has a number up to 18, and is served (SMB-10).
 unfoldable pub requested : CoreState → List (List ℕ) → ℕ → Lists → ℕ → List ℕ → SmbHead → Plan
 requested s files others l conn bytes h =
     if not (h.next_command == 0) then Fails InvalidParameter

@@ -32,14 +32,14 @@ negotiate l conn c =
 abbrev pub set_up_as : CoreState → Lists → ℕ → ℕ → Plan
 set_up_as s l conn number = Does (Draws ∷ []) (session_added number (record { connection = conn }) l) (SetUp (id_of s number))
 
--- there is room for a session on the connection, and none has this number yet
+-- there is room for a session on the connection, and none has this number yet (SMB-14)
 abbrev pub has_room_for_session : Lists → ℕ → ℕ → Bool
 has_room_for_session l conn number = nat_lt (length (sessions_on conn l)) most_sessions && not (is_some (session_of number l))
 
 abbrev pub set_up : CoreState → Lists → ℕ → Plan
 set_up s l conn = if has_room_for_session l conn (s.counter + 1) then set_up_as s l conn (s.counter + 1) else Fails InsufficientResources
 
--- SESSION_SETUP: a new session, or one that is there already, whatever its buffer says
+-- SESSION_SETUP: a new session, or one that is there already, whatever its buffer says (SMB-14)
 unfoldable pub session_setup : CoreState → Lists → ℕ → SmbHead → Plan
 session_setup s l conn h =
     if h.session_id == 0 then set_up s l conn
@@ -54,7 +54,7 @@ logoff s l conn h =
 abbrev pub connect_as : Lists → ℕ → ℕ → ℕ → Plan
 connect_as l conn session number = Does (Draws ∷ []) (tree_added number (record { connection = conn; session = session }) l) (Connected number)
 
--- there is room for a tree connect on the connection, and none has this number yet
+-- there is room for a tree connect on the connection, and none has this number yet (SMB-14)
 abbrev pub has_room_for_tree : Lists → ℕ → ℕ → Bool
 has_room_for_tree l conn number = nat_lt (length (trees_on conn l)) most_trees && not (is_some (tree_of number l))
 
@@ -64,7 +64,7 @@ connect s l conn path session =
     else if not (is_share path) then Fails BadNetworkName
     else connect_as l conn session (s.counter + 1)
 
--- TREE_CONNECT: in a session, to the one share
+-- TREE_CONNECT: in a session, to the one share (SMB-14)
 unfoldable pub tree_connect : CoreState → Lists → ℕ → SmbHead → List ℕ → Plan
 tree_connect s l conn h path = in_session (connect s l conn path) (session_named s l conn h.session_id)
 

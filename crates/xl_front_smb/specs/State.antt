@@ -20,6 +20,6 @@ abbrev pub connection_begun : Lists → ℕ → Lists
 connection_begun l number = if is_some (connection_of number l) || nat_le most_connections (length l.connections) then l else connection_added number (record { client = None }) l
 
 -- A connection of this number opens, on which nobody has negotiated yet; one that is there already, and one beyond 64,
--- changes nothing.
+-- changes nothing (HOUSE-3).
 unfoldable pub smb_begin : FrontSmb → ℕ → FrontSmb
 smb_begin f number = record { state = connection_begun f.state number }

@@ -2,11 +2,11 @@
 use Rattle.std.specs.Prelude.{ℕ, ◌+◌, ◌^◌, Bool, true, false, ◌&&◌, ◌==◌, nat_le, nat_lt, if◌then◌else◌, List, [], ◌∷◌, Option, Some, None, position}
 use Rattle.std.specs.Option.{option_and_then}
 
--- an ASCII capital made small
+-- an ASCII capital made small (SMB-15)
 abbrev pub small : ℕ → ℕ
 small byte = if nat_le 65 byte && nat_le byte 90 then byte + 32 else byte
 
--- a unit is this byte, in any case; one above 127 is none
+-- a unit is this byte, in any case; one above 127 is none (SMB-15)
 abbrev pub is_unit : ℕ → ℕ → ℕ → Bool
 is_unit low high byte = (high == 0) && (nat_lt low 128 && (small low == byte))
 
@@ -24,11 +24,11 @@ abbrev pub part_behind : List ℕ → List ℕ → List ℕ
 part_behind part (low ∷ high ∷ more) = if is_backslash low high then part_behind more more else part_behind part more
 part_behind part _ = part
 
--- the last part of a path; a path without a backslash is its own
+-- the last part of a path; a path without a backslash is its own (SMB-15)
 unfoldable pub last_part : List ℕ → List ℕ
 last_part path = part_behind path path
 
--- the path's last part is the name of the share, `xl`
+-- the path's last part is the name of the share, `xl` (SMB-15)
 unfoldable pub is_share : List ℕ → Bool
 is_share path = spells (last_part path) (120 ∷ 108 ∷ [])
 

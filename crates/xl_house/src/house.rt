@@ -36,8 +36,12 @@ fn times_of(exports: &Exports) -> Times
     }
 }
 
-/// The machine with its journal, and the keeper of its record. Each step is one entry. A step that finds no memory, or
-/// a full journal, halts the house for good.
+/// A lock server as a value: the machine, its journal, and the keeper of its record. `House::start` makes one; each call of
+/// `House::step` takes one event and enters it in the journal with all that is to be sent for it, which `House::outs_from`
+/// lends. If a step runs out of memory, or meets a full journal, the house halts for good.
+///
+/// A house reads no socket and no clock: its caller opens connections, cuts their bytes into messages, tells the time, and
+/// sends the outs (docs/EMBEDDING.md).
 #[derive(Drop)]
 pub struct House<K: Keeper> {
     head: Head,
@@ -69,7 +73,7 @@ impl<K: Keeper> Model for House<K> {
     } };
 }
 
-/// Acts on one event and enters it, at this place. A full journal leaves all as it was.
+/// Acts on one event and enters it at the next place. A full journal leaves everything as it was.
 fn act_and_enter<K: Keeper>(
     alloc: Global,
     exports: &Exports,
@@ -117,7 +121,7 @@ fn act_and_enter<K: Keeper>(
     Ok(place)
 }
 
-/// A machine that steps no more is let go, part by part.
+/// Frees a machine that steps no more, part by part.
 fn retire(machine: Machine) {
     let Machine {
         place: _,
@@ -134,7 +138,7 @@ fn retire(machine: Machine) {
 }
 
 impl<K: Keeper> House<K> {
-    /// The house that begins from this head, with its record as the keeper holds it now. It takes no memory.
+    /// The house that begins from this head, with the record that the keeper holds now. It takes no memory.
     pub(crate) fn begin(alloc: Global, head: Head, stable: Record, keeper: K) -> House<K>
         requires raised { stable ≡ raised head.«record» }
         requires holds { Holds (K.held keeper) stable }
@@ -157,10 +161,12 @@ impl<K: Keeper> House<K> {
         }
     }
 
-    /// One event that is no restart, entered with what it did at the place that is answered. After an error the journal
-    /// is as it was, and each later step answers the same error: JournalFull exactly where the journal has 1,048,576
-    /// entries. No step stores the record yet. What a turn of the step grants to an SMB open was waited for by a request of
-    /// that open, which is there then: a CREATE that waited and is granted has its open.
+    /// Steps one event, which is not Restart, and returns its place in the journal: the number of entries before it. The new
+    /// entry has all that is to be sent for the event, in order (`outs_from`).
+    ///
+    /// After an error the journal is as it was, and each later step returns the same error. JournalFull comes exactly if the
+    /// journal has 1,048,576 entries. No step stores the record yet. If the step grants what a CREATE or a LOCK of SMB waited
+    /// for, the open is there afterwards (`served`).
     #[tactic(auto, using(crate::proofs::JournalLaws::legal_next, crate::proofs::JournalLaws::stands_next))]
     pub fn step(&mut self, alloc: Global, event: Event) -> Result<u64, Halt>
         requires goes_on { is_restart event ≡ false }
@@ -192,21 +198,22 @@ impl<K: Keeper> House<K> {
         }
     }
 
-    /// The halt that stopped the house, if one did.
+    /// Why the house halted, if it did.
     pub fn halt(&self) -> Option<Halt>
         ensures { result ≡ self.now.halt }
     {
         self.halt
     }
 
-    /// Whether the house found no memory in a step: what is held is spent then.
+    /// Whether the house ran out of memory in a step. Its claims and names are lost then; its journal is not.
     pub fn is_spoiled(&self) -> bool
         ensures { result ≡ is_spoiled self.now.halt }
     {
         matches!(self.halt, Some(Halt::NoMemory))
     }
 
-    /// The entries from this place on, which isn't past the last.
+    /// The entries of the journal from this place on, each with its outs. With the place that `step` returned it is the one
+    /// entry of that step.
     pub fn outs_from(&self, place: u64) -> &[Entry]
         requires { place ≤ length self.now.entries }
         ensures { result.now ≡ drop place self.now.entries }
@@ -215,7 +222,7 @@ impl<K: Keeper> House<K> {
         &entries[place as usize..]
     }
 
-    /// The claims that are held, in the table's order. A house that found no memory has none to tell.
+    /// A copy of the claims that are held, in the table's order. A house that ran out of memory in a step has none to tell.
     pub fn dump(&self, alloc: Global) -> Result<Vec<Claim>, AllocError>
         requires { is_spoiled self.now.halt ≡ false }
         ensures { IfOk result (λ v. v.items ≡ (replay (begin self.now.head) self.now.entries).core.claims) }
@@ -223,7 +230,7 @@ impl<K: Keeper> House<K> {
         self.machine.layers.core.table().claims(alloc)
     }
 
-    /// The names that are kept. A house that found no memory has none to tell.
+    /// The names that are kept, which claims name by number. A house that ran out of memory in a step has none to tell.
     pub fn names(&self) -> &Names
         requires { is_spoiled self.now.halt ≡ false }
         ensures { result.now ≡ (replay (begin self.now.head) self.now.entries).core.names }
@@ -231,15 +238,23 @@ impl<K: Keeper> House<K> {
         self.machine.layers.core.names()
     }
 
-    /// The journal, and the keeper. The journal is legal: each entry has the stores and the outs that the machine's step
-    /// gives at its place. At each free moment any two claims may be held together, and nobody is forgotten. In each
-    /// entry what is held at each place is what the entry's deeds made of it, and so are the leases, who waits is who waited
-    /// but for those whom they queued, took out, ended or served, a cache of which a break runs stands until its party answers
-    /// or gives it back, ends or expires, or the deadline passes, what nothing stands against was granted, what was due by a
-    /// reading of the clock is done, the deeds are those that its event may cause, and what is sent is what the fronts say of
-    /// the answers; each request of SMB that waits is awaited, each waiter of an SMB open has its request, and what is granted
-    /// to an SMB open that waited has its open then. No out to a connection stands before its opening or after its end. It has
-    /// at most 1,048,576 entries. The keeper holds the machine's record.
+    /// Ends the house, and returns its journal and its keeper. The journal has these properties, by the name of the clause:
+    ///
+    /// - legal: each entry has the stores and the outs that the machine's step gives at its place;
+    /// - free: before the first entry and after each, any two held claims may be held together, and nobody who waits could be
+    ///   served;
+    /// - lawful: each entry leaves at each place, and of each lease, what its deeds made of it;
+    /// - waiting: those who waited go on to wait, except those whom the entry served, cancelled or ended;
+    /// - kept_until_answered: while the break of a cache runs, the cache stands at its full kind, until its party answers, gives
+    ///   it back, ends or expires, or the deadline passes;
+    /// - complete: what nothing held stands against was granted, and what was due by a reading of the clock was done;
+    /// - caused: the deeds are those that the event may cause;
+    /// - told: what is sent follows from the deeds and their answers;
+    /// - served: each request of SMB that waits has its waiter and each waiter its request, and a granted one has its open;
+    /// - orderly: nothing is sent to a connection before its opening or after its end;
+    /// - most: it has at most 1,048,576 entries.
+    ///
+    /// The keeper holds the machine's record, unless memory ran out in a step.
     pub fn end(self) -> (Journal, K)
         ensures journal { (result.0.head ≡ self.head) × (result.0.entries ≡ self.entries) }
         ensures keeper { result.1 ≡ self.keeper }

@@ -22,7 +22,7 @@ pub struct Ended<K: Keeper> {
     pub keeper: K,
 }
 
-/// The record that the keeper holds; where it can't be loaded, the empty one, and why.
+/// The record that the keeper holds. If it can't be loaded, the empty one and the reason.
 fn load<K: Keeper>(alloc: Global, keeper: &mut K) -> (Record, Option<Halt>)
     ensures loaded { result.1 ≡ None → Holds (K.held keeper.old) result.0 }
     ensures none { IfSome result.1 (λ halt. result.0 ≡ no_record) }
@@ -66,11 +66,14 @@ fn raise<K: Keeper>(alloc: Global, keeper: &mut K, loaded: &Record) -> Result<Re
 }
 
 impl<K: Keeper> House<K> {
-    /// A house at its start, over these exports and at this moment: the keeper's record is loaded, and stored with its
-    /// epoch raised; no other is stored, and none is where the load failed. StartStore comes only where the load or the
-    /// store failed, and the keeper's count of faults rose to its number; the keeper holds then what it held. Where
-    /// memory ran out no call of the keeper failed and nothing was given to it. The journal begins from the loaded
-    /// record; where none was loaded, from the empty one.
+    /// Starts a house over these exports, with the clock at this moment. It loads the keeper's record, and stores it with its
+    /// epoch raised, so that what earlier starts gave out is known to be theirs. It stores nothing else, and nothing if the
+    /// load failed. Nothing is held at a start.
+    ///
+    /// StartStore comes only if the load or the store failed: its number is the keeper's count of faults, which rose, and the
+    /// keeper holds what it held before. NoMemory comes if memory runs out: no call of the keeper failed then, and nothing was
+    /// given to it. The error hands the keeper back, and a journal without entries, which begins from the record that was
+    /// loaded, or from the empty one if none was.
     pub fn start(
         alloc: Global,
         exports: Exports,

@@ -29,7 +29,7 @@ abbrev pub row_meant : NfsLists → List ℕ → ℕ → Option ClientRow
 row_meant l verifier number = else_row (confirmed_by verifier (find (is_client number false) l.clients)) (find (is_client number true) l.clients)
 
 -- The operation is to renew the lease of the client of this id string: of each confirmed client that it names by a clientid or by a
--- live stateid, and SETCLIENTID_CONFIRM of the one whose record it means (RFC 7530 9.5).
+-- live stateid, and SETCLIENTID_CONFIRM of the one whose record it means (RFC 7530 9.5) (NFS-13).
 abbrev pub IsToRenew : CoreState → NfsLists → OpItem → List ℕ → Type 0
 IsToRenew s l (SetClientIdConfirm a) id = option_map (λ r. r.id) (option_and_then (λ number. row_meant l a.verifier number) (number_in s a.clientid)) ≡ Some id
 IsToRenew s l op id = Names s l op id

@@ -30,13 +30,13 @@ abbrev pub clientid_by : CoreState → Option ClientRow → ℕ
 clientid_by s None = 0
 clientid_by s (Some c) = id_of s c.number
 
--- the clientid and the bytes of an NFSv4 lock owner, which has 1,024 of these at most; of an owner of NLM 0 and `nlm`
+-- the clientid and the bytes of an NFSv4 lock owner, which has 1,024 of these at most; of an owner of NLM 0 and `nlm` (NFS-28)
 abbrev pub named_parts : CoreState → NfsLists → Option Name → ℕ × List ℕ
 named_parts s l (Some (NfsRange id owner)) =
     if nat_le (length owner) most_text_bytes then (clientid_by s (find (is_client_named id true) l.clients), owner) else (0, codes "nlm")
 named_parts s l _ = (0, codes "nlm")
 
--- the same of who holds a lock; of an SMB open 0 and `smb`
+-- the same of who holds a lock; of an SMB open 0 and `smb` (NFS-28)
 abbrev pub holder_parts : CoreState → NfsLists → Owner → ℕ × List ℕ
 holder_parts s l (owners.Name protocol number) = named_parts s l (slice_get s.names number)
 holder_parts s l (owners.Open number) = (0, codes "smb")

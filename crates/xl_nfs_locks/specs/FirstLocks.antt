@@ -41,7 +41,7 @@ use Rattle.xl_nfs_opens.specs.declared.told.Told.TheVariants.{Ended, State, Kept
 
 -- ---- with whose seqids it counts (9.1.8)
 
--- the open's owner has come this far with it, and the result is kept for it
+-- the open's owner has come this far with it, and the result is kept for it (NFS-24)
 abbrev pub counted_open : BothOwners → List ℕ → NfsLists → NfsLists
 counted_open b bytes l = counted b.number b.seqids.closed (next_seqids 12 b.open_seqid b.seqids.confirmed None) bytes l
 
@@ -49,7 +49,7 @@ counted_open b bytes l = counted b.number b.seqids.closed (next_seqids 12 b.open
 abbrev pub counted_both : BothOwners → Opener → List ℕ → NfsLists → NfsLists
 counted_both b o bytes l = remembered o (next_seqids 12 b.lock_seqid true None) bytes (counted_open b bytes l)
 
--- it was refused, and counts with both where its status does
+-- it was refused, and counts with both where its status does (NFS-24)
 abbrev pub both_refused : NfsLists → Option ℕ → BothOwners → Opener → Told → Plan
 both_refused l current b o told = Does [] (if advances (status_of told) then counted_both b o (spelled 12 told) l else l) current told
 
@@ -85,7 +85,7 @@ joined_new s l current b o r =
     let m = counted_both b o (spelled 12 told) l in
     Does (Draws ∷ []) (entered (lock_row (s.counter + 1) r b.number (opener_number o m)) m) current told
 
--- the owner has one under the open: its seqid is the next
+-- the owner has one under the open: its seqid is the next (NFS-26)
 abbrev pub joined_more : CoreState → NfsLists → Option ℕ → BothOwners → Opener → StateidRow → Plan
 joined_more s l current b o q = Does [] (counted_both b o (spelled 12 (state_told s q)) (stood q.number q 0 0 false l)) current (state_told s q)
 
@@ -115,7 +115,7 @@ by_verdict w q verdicts.Repeat = Again w.number
 by_verdict w q (verdicts.Bad last) = Bad
 by_verdict w q _ = Joins q
 
--- an owner has its locks on a file under one open
+-- an owner has its locks on a file under one open (NFS-26)
 abbrev pub fits_under : ℕ → Option StateidRow → Bool
 fits_under number None = true
 fits_under number (Some q) = is_under number q.holder
@@ -127,11 +127,11 @@ abbrev pub by_row : NfsLists → StateidRow → ℕ → Option OwnerRow → Join
 by_row l r seqid None = Joins None
 by_row l r seqid (Some w) = by_owner r w seqid (live (find (owned_on w.number r.file) l.stateids))
 
--- what the lock owner's seqid says, and what it has under the open; a new owner may begin anywhere
+-- what the lock owner's seqid says, and what it has under the open; a new owner may begin anywhere (NFS-24)
 unfoldable pub found_joined : NfsLists → StateidRow → Opener → ℕ → Joined
 found_joined l r o seqid = by_row l r seqid (find (is_opener o) l.owners)
 
--- its last LOCK comes again: the kept result is the answer, with which the open's owner counts
+-- its last LOCK comes again: the kept result is the answer, with which the open's owner counts (NFS-25)
 abbrev pub join_again : NfsLists → Option ℕ → BothOwners → Option KeptRow → Plan
 join_again l current b None = Does [] l current (Ended statuses.BadSeqid)
 join_again l current b (Some k) = Does [] (counted_open b k.result l) current (Kept k.result)
@@ -146,7 +146,7 @@ join_as l current a b o r (Joins q) = join_in l current a b o r q
 abbrev pub join_by : NfsLists → Option ℕ → LockArgsItem → NewLockerItem → BothOwners → StateidRow → Opener → Plan
 join_by l current a x b r o = join_as l current a b o r (found_joined l r o x.lock_seqid)
 
--- the lock owner, where it is of the open's client
+-- the lock owner, where it is of the open's client (NFS-24)
 abbrev pub locker_under : StateidRow → List ℕ → Option ClientRow → Option Opener
 locker_under r owner None = None
 locker_under r owner (Some c) = if c.number == r.client then Some (locker_of c owner) else None

@@ -10,7 +10,7 @@ use Rattle.xl_nfs_opens.specs.Opens.{rights_of}
 use Rattle.xl_nfs_opens.specs.declared.opener.Opener.{Opener}
 
 -- the last byte of a range: a length of 0 names none, nor does an offset past the last, and no other length but all ones
--- passes it
+-- passes it (NFS-27)
 unfoldable pub last_byte : ℕ → ℕ → Option ℕ
 last_byte offset len =
     if (len == 0) || nat_lt all_ones offset then None
@@ -18,17 +18,17 @@ last_byte offset len =
     else if nat_le (offset + len) all_ones then Some (offset + len - 1)
     else None
 
--- the length by which a range is told
+-- the length by which a range is told (NFS-27)
 abbrev pub length_of : ℕ → ℕ → ℕ
 length_of first last = if last == all_ones then all_ones else last + 1 - first
 
--- WRITE_LT and WRITEW_LT are exclusive
+-- WRITE_LT and WRITEW_LT are exclusive (NFS-27)
 abbrev pub is_exclusive : LockType → Bool
 is_exclusive types.Write = true
 is_exclusive types.WriteWaiting = true
 is_exclusive _ = false
 
--- an open for reading has shared locks, one for writing exclusive ones
+-- an open for reading has shared locks, one for writing exclusive ones (NFS-27)
 abbrev pub may_lock : LockType → ℕ → Bool
 may_lock kind access = if is_exclusive kind then (rights_of access).w else (rights_of access).r
 

@@ -23,7 +23,7 @@ abbrev pub holds_by : CoreState → Option ℕ → Bool
 holds_by s None = false
 holds_by s (Some number) = holds_range (owners.Name Nfs number) s.claims
 
--- the lock owner of this client holds a range, on any file
+-- the lock owner of this client holds a range, on any file (NFS-30)
 unfoldable pub holds_any : CoreState → List ℕ → List ℕ → Bool
 holds_any s id owner = holds_by s (number_of (NfsRange id owner) s.names)
 
@@ -31,7 +31,7 @@ abbrev pub without_found : NfsLists → Option OwnerRow → NfsLists
 without_found l None = l
 without_found l (Some r) = without_owner r.number l
 
--- the lists without the lock owner: its stateids, its seqid and its kept result go
+-- the lists without the lock owner: its stateids, its seqid and its kept result go (NFS-30)
 unfoldable pub released : ℕ → List ℕ → NfsLists → NfsLists
 released client owner l = without_found l (find (is_owner_named client Locks owner) l.owners)
 

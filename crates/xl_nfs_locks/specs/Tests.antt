@@ -32,7 +32,7 @@ abbrev pub test_of : NfsLists → Option ℕ → LockTestArgsItem → ℕ → Op
 test_of l current a file None = Does [] l current (Ended statuses.StaleClientId)
 test_of l current a file (Some c) = test_to l current a file (locker_of c a.owner.owner) (last_byte a.offset a.len)
 
--- locks are on files, not on the root
+-- locks are on files, not on the root (NFS-10)
 abbrev pub test_at : CoreState → NfsLists → LockTestArgsItem → Option ℕ → Plan
 test_at s l a None = Does [] l None (Ended statuses.NoFileHandle)
 test_at s l a (Some at) = if at == 0 then Does [] l (Some at) (Ended statuses.IsDir) else test_of l (Some at) a at (client_in s l a.owner.clientid)

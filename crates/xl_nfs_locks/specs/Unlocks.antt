@@ -23,7 +23,7 @@ use Rattle.xl_nfs_opens.specs.declared.opener.Checked.TheVariants.{Refused, Repe
 use Rattle.xl_nfs_opens.specs.declared.opener.Opener.{Opener}
 use Rattle.xl_nfs_opens.specs.declared.told.Told.TheVariants.{Ended}
 
--- bytes that aren't held are unlocked already
+-- bytes that aren't held are unlocked already (NFS-29)
 abbrev pub unlock_status : Answer → NfsStatus
 unlock_status (answers.Granted c) = statuses.Ok
 unlock_status answers.NotHeld = statuses.Ok

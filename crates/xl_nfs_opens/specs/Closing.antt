@@ -36,7 +36,7 @@ use Rattle.xl_nfs_opens.specs.declared.told.Told.TheVariants.{Ended, State}
 
 -- ---- the check of a stateid
 
--- by the owner's seqid; an open that was closed is known to the repeat of its CLOSE alone
+-- by the owner's seqid; an open that was closed is known to the repeat of its CLOSE alone (NFS-22)
 abbrev pub seqid_checked : StateidRow → ℕ → SeqidState → SeqidVerdict → Checked
 seqid_checked r owner seqids verdicts.Repeat = Repeated owner
 seqid_checked r owner seqids verdicts.Next = if r.standing.closed then Refused statuses.BadStateid else Passed r owner seqids
@@ -148,7 +148,7 @@ abbrev pub gives_up : ℕ → Option Opener → List Deed
 gives_up file None = []
 gives_up file (Some o) = Asks all_rooms (unlock_ask o file 0 all_ones) ∷ []
 
--- so does each owner of these locks, which are under the open
+-- so does each owner of these locks, which are under the open (NFS-31)
 abbrev pub ends_locks : NfsLists → StateidRow → List StateidRow → List Deed
 ends_locks l r [] = []
 ends_locks l r (q ∷ qs) = gives_up r.file (opener_by l r.client (lock_owner q.holder)) ++ ends_locks l r qs
@@ -167,7 +167,7 @@ abbrev pub share_closed : CoreState → NfsLists → Option ℕ → CloseArgs �
 share_closed s l current a r owner seqids =
     Does (gives (share_of_open s l r owner)) (locks_gone r.number (done_lists s l r owner seqids 4 a.seqid seqids.confirmed (Some r.number) r.standing.access r.standing.deny true)) current (state_told s r)
 
--- the locks under it end before its share
+-- the locks under it end before its share (NFS-31)
 abbrev pub close_done : CoreState → NfsLists → Option ℕ → CloseArgs → StateidRow → ℕ → SeqidState → Option NfsStatus → Plan
 close_done s l current a r owner seqids (Some status) = failed l current owner seqids 4 a.seqid status
 close_done s l current a r owner seqids None = Behind (ends_locks l r (locks_under l r.number)) l (λ t. share_closed t l current a r owner seqids)
@@ -222,7 +222,7 @@ cache_of_client s file (Some c) = cache_held s c.id file
 abbrev pub cache_of : CoreState → NfsLists → StateidRow → Option Claim
 cache_of s l r = cache_of_client s r.file (find (is_client r.client true) l.clients)
 
--- the cache is given back, and the stateid goes
+-- the cache is given back, and the stateid goes (NFS-17)
 abbrev pub return_done : CoreState → NfsLists → Option ℕ → Returning → Plan
 return_done s l current (Err status) = Does [] l current (Ended status)
 return_done s l current (Ok r) = Does (gives (cache_of s l r)) (freed r.number l) current (Ended statuses.Ok)

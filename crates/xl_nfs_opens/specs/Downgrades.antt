@@ -25,7 +25,7 @@ abbrev pub weakens : Option Claim → Rwd → Rwd → List Deed
 weakens None access deny = []
 weakens (Some claim) access deny = if share_has claim.what access deny then Weakens claim access deny ∷ [] else []
 
--- the stateid is as it should be, and both lie within what the open has
+-- the stateid is as it should be, and both lie within what the open has (NFS-23)
 abbrev pub range_fault : StateidRow → OpenDowngradeArgs → Option NfsStatus
 range_fault r a = if can_weaken r a.access a.deny then None else Some Inval
 

@@ -81,6 +81,7 @@ either_bits a b = bits_of (either_right (rights_of a) (rights_of b)).r (either_r
 -- ---- what is opened
 
 -- a claim by a name is made in the root, and one of a file that was open before a restart at the file; no delegation from before a client's restart is kept
+-- (NFS-15)
 abbrev pub check_claim : ℕ → OpenClaimItem → Option NfsStatus
 check_claim at (Null name) = if at == 0 then None else Some statuses.NotDir
 check_claim at (Previous type) = if at == 0 then Some statuses.IsDir else None
@@ -91,7 +92,7 @@ check_claim at (DelegatePrevious name) = Some statuses.NotSupp
 abbrev pub check_bits : OpenArgsItem → Option NfsStatus
 check_bits a = if nat_le 1 a.access && (nat_le a.access 3 && nat_le a.deny 3) then None else Some statuses.Inval
 
--- no file is made: an unchecked creation opens what is there
+-- no file is made: an unchecked creation opens what is there (NFS-15)
 abbrev pub check_how : OpenHowItem → Option NfsStatus
 check_how NoCreate = None
 check_how (Create (Unchecked a)) = None
@@ -110,7 +111,7 @@ abbrev pub is_stateid_of : CoreState → Stateid → Option StateidRow → Bool
 is_stateid_of s stateid None = false
 is_stateid_of s stateid (Some r) = same_stateid stateid (stateid_of s r.number r.standing.seqid)
 
--- the stateid is that of the client's delegation on the file
+-- the stateid is that of the client's delegation on the file (NFS-16)
 abbrev pub is_delegation : CoreState → NfsLists → ℕ → ℕ → Stateid → Bool
 is_delegation s l client file stateid = is_stateid_of s stateid (find (delegated_on client file) l.stateids)
 
@@ -145,7 +146,7 @@ abbrev pub judged_by : ℕ → Option OwnerRow → Judged
 judged_by seqid None = judgements.New
 judged_by seqid (Some r) = judged_row r (verdict (Some r.seqids) 18 seqid)
 
--- what the owner's seqid says; one that was never confirmed and doesn't repeat is new
+-- what the owner's seqid says; one that was never confirmed and doesn't repeat is new (NFS-18)
 unfoldable pub judged : NfsLists → Opener → ℕ → Judged
 judged l o seqid = judged_by seqid (find (is_opener o) l.owners)
 
@@ -163,7 +164,7 @@ handle_by s l current (Ok (OpenAnswer (Ok r), rest)) = opened_by l current (numb
 handle_by s l current read = current
 
 -- an OPEN that was OK makes its file the current one, also when it comes again; a longer result is that of a lock that was
--- denied
+-- denied (NFS-19)
 unfoldable pub handle_again : CoreState → NfsLists → Option ℕ → List ℕ → Option ℕ
 handle_again s l current bytes = if is_short bytes then handle_by s l current (nfs_result.at bytes) else current
 
@@ -178,7 +179,7 @@ abbrev pub share_by : List Claim → ℕ → Option ℕ → Option Claim
 share_by claims file None = None
 share_by claims file (Some number) = find (is_share_of file (owners.Name Nfs number)) claims
 
--- the owner's share on the file; it has one at most
+-- the owner's share on the file; it has one at most (NFS-32)
 unfoldable pub share_held : CoreState → Opener → ℕ → Option Claim
 share_held s o file = share_by s.claims file (number_of (NfsShare o.id o.owner) s.names)
 
@@ -220,7 +221,7 @@ type_claimed types.Write = Some true
 
 -- Whether the delegation is for writing that a claim may get, where it may. A file that is claimed by its name: of a confirmed owner
 -- whose client can be called back, for writing where the access has that, else for reading. A file that was open before a
--- restart: what is claimed with it, by any owner and of any client (RFC 7530 9.6.2, 10.2.1).
+-- restart: what is claimed with it, by any owner and of any client (RFC 7530 9.6.2, 10.2.1) (NFS-16).
 abbrev pub kind_for : Option ClientRow → OpenArgsItem → Bool → OpenClaimItem → Option Bool
 kind_for client a confirmed (Null name) = if confirmed && has_program client then Some (rights_of a.access).w else None
 kind_for client a confirmed (Previous type) = type_claimed type
@@ -240,7 +241,7 @@ cache_held s id file = cache_by s.claims file (party_named s.names (NfsParty id)
 abbrev pub has_none : CoreState → NfsLists → Opener → ℕ → Bool
 has_none s l o file = not (is_some (cache_held s o.id file)) && not (is_some (find (delegated_on o.client file) l.stateids))
 
--- nothing is wished for where the client has one there
+-- nothing is wished for where the client has one there (NFS-16)
 abbrev pub unless_held : CoreState → NfsLists → Opener → ℕ → Option Bool → Option Bool
 unless_held s l o file None = None
 unless_held s l o file (Some write) = if has_none s l o file then Some write else None
@@ -254,7 +255,7 @@ wished_kinds None = []
 wished_kinds (Some write) = (if write then cache_kinds.WriteDeleg else cache_kinds.ReadDeleg) ∷ []
 
 -- The share of an owner, which never waits, with this wish. The rows that it adds are counted before; clients aren't recorded
--- yet.
+-- yet (CORE-6).
 unfoldable pub share_ask : Option Bool → Opener → OpenArgsItem → ℕ → Ask
 share_ask wish o a file = record {
   file = file;
@@ -304,7 +305,7 @@ answer_status reclaim answers.StoreFailed = statuses.ServerFault
 
 -- ---- what is remembered
 
--- the owner's requests have come this far; a reclaim confirms its owner
+-- the owner's requests have come this far; a reclaim confirms its owner (NFS-18)
 abbrev pub open_seqids : OpenArgsItem → Bool → SeqidState
 open_seqids a confirmed = record { seqid = a.seqid; op = 18; confirmed = confirmed; closed = None }
 
@@ -323,7 +324,7 @@ live (Some r) = if r.standing.closed then None else Some r
 abbrev pub open_held : NfsLists → Opener → ℕ → Option StateidRow
 open_held l o file = live (option_and_then (λ r. find (owned_on r.number file) l.stateids) (find (is_opener o) l.owners))
 
--- there is room for the owner and for the open, beside so many opens of others
+-- there is room for the owner and for the open, beside so many opens of others (NFS-20)
 abbrev pub has_room : ℕ → NfsLists → Opener → ℕ → Bool
 has_room others l o file = is_room_for o l && (is_some (open_held l o file) || nat_lt (opens l.stateids + others) most_opens)
 
@@ -370,7 +371,7 @@ can_stand r l = not (is_some (find (is_stateid r.number) l.stateids)) && (not (i
 unfoldable pub delegated_in : StateidRow → NfsLists → NfsLists
 delegated_in r l = if can_stand r l then with_stateids l (l.stateids ++ r ∷ []) else l
 
--- where one is granted, under the next number
+-- where one is granted, under the next number (NFS-16)
 abbrev pub delegated : CoreState → Opener → ℕ → Option Bool → NfsLists → NfsLists
 delegated s o file None l = l
 delegated s o file (Some write) l = delegated_in (delegation_row (s.counter + 1) o file write) l
@@ -401,7 +402,7 @@ flags_of confirmed = if confirmed then 0 else 2
 abbrev pub opened_told : CoreState → ℕ → ℕ → Bool → Option (Stateid × Bool) → Told
 opened_told s number seqid confirmed delegation = Opened (stateid_of s number seqid) (flags_of confirmed) delegation
 
--- the owner has no open on the file: a new one takes the next number, and a delegation the one behind it
+-- the owner has no open on the file: a new one takes the next number, and a delegation the one behind it (NFS-20)
 abbrev pub granted_new : CoreState → NfsLists → Opener → OpenArgsItem → ℕ → Bool → Option Bool → Plan
 granted_new s l o a file confirmed write =
     let number = opener_number o l in
@@ -476,6 +477,6 @@ claim_client s l _ = None
 unfoldable pub open_claimed : List (List ℕ) → ℕ → CoreState → NfsLists → Option ℕ → OpenArgsItem → Plan
 open_claimed files others s l current a = renewing s l (claim_client s l a.claim) (λ t m. open_at files others t m a current)
 
--- OPEN: the client, and that of the delegation by which a file is claimed, are renewed before
+-- OPEN: the client, and that of the delegation by which a file is claimed, are renewed before (NFS-15)
 unfoldable pub open_file : List (List ℕ) → ℕ → CoreState → NfsLists → Option ℕ → OpenArgsItem → Plan
 open_file files others s l current a = renewing s l (number_in s a.owner.clientid) (λ t m. open_claimed files others t m current a)

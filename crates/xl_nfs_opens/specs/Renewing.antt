@@ -13,7 +13,7 @@ use Rattle.xl_nfs_opens.specs.Plans.{Plan, Behind}
 
 -- ---- stateids (RFC 7530 9.1.4)
 
--- the stateid of this number and seqid: its `other` is the epoch of this start and the number
+-- the stateid of this number and seqid: its `other` is the epoch of this start and the number (NFS-21)
 unfoldable pub stateid_of : CoreState → ℕ → ℕ → Stateid
 stateid_of s number seqid = record { seqid = seqid; other = to_be_bytes w32 s.stable.epoch ++ to_be_bytes w64 number }
 
@@ -35,7 +35,7 @@ abbrev pub state_numbered : NfsLists → Option ℕ → Option ℕ
 state_numbered l None = None
 state_numbered l (Some number) = client_if_live (find (is_stateid number) l.stateids)
 
--- the number of the client that a live stateid names; its seqid is not looked at
+-- the number of the client that a live stateid names; its seqid is not looked at (NFS-13)
 abbrev pub state_client : CoreState → NfsLists → Stateid → Option ℕ
 state_client s l stateid = state_numbered l (number_of s stateid.other)
 
@@ -43,7 +43,7 @@ abbrev pub renewals_by : Option ClientRow → List Deed
 renewals_by None = []
 renewals_by (Some r) = Renews r.id ∷ []
 
--- the lease of the client of this number, where it is confirmed, is renewed
+-- the lease of the client of this number, where it is confirmed, is renewed (NFS-13)
 abbrev pub renewals : NfsLists → Option ℕ → List Deed
 renewals l None = []
 renewals l (Some number) = renewals_by (find (is_client number true) l.clients)

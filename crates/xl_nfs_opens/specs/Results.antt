@@ -42,7 +42,7 @@ delegation_item (Some given) =
     if given.1 then WriteDelegated (record { stateid = given.0; recall = false; limit = 2 ^ 64 - 1; permissions = no_permissions })
     else ReadDelegated (record { stateid = given.0; recall = false; permissions = no_permissions })
 
--- OPEN gives this stateid, and this delegation: the directory didn't change, and no attribute was set
+-- OPEN gives this stateid, and this delegation: the directory didn't change, and no attribute was set (NFS-16)
 abbrev pub open_result_of : Stateid → ℕ → Option (Stateid × Bool) → OpenResultItem
 open_result_of stateid flags delegation = record {
   stateid = stateid;

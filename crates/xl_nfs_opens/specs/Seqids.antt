@@ -16,7 +16,7 @@ use Rattle.xl_nfs_opens.specs.declared.opener.Opener.{Opener}
 
 -- ---- what counts
 
--- a request that ends so counts: its owner's seqid advances, and the result is kept
+-- a request that ends so counts: its owner's seqid advances, and the result is kept (NFS-14)
 abbrev pub advances : NfsStatus → Bool
 advances statuses.StaleClientId = false
 advances statuses.StaleStateid = false
@@ -48,7 +48,7 @@ abbrev pub seqid_set : ℕ → SeqidState → NfsLists → NfsLists
 seqid_set owner seqids l = with_owners l (changed (is_owner owner) (with_seqids seqids) l.owners)
 
 -- A request of the owner of this number counted: its requests have come this far, what an earlier one closed is known no
--- more, and its result is kept.
+-- more, and its result is kept (NFS-14).
 unfoldable pub counted : ℕ → Option ℕ → SeqidState → List ℕ → NfsLists → NfsLists
 counted owner closed seqids bytes l = kept_for owner bytes (closed_gone closed (seqid_set owner seqids l))
 
@@ -84,7 +84,7 @@ seated_by o seqids l (Some r) = closed_gone r.seqids.closed (seqid_set r.number 
 unfoldable pub seated : Opener → SeqidState → NfsLists → NfsLists
 seated o seqids l = seated_by o seqids l (find (is_opener o) l.owners)
 
--- a request of the owner counted; where there is no room for a new owner nothing is kept of it
+-- a request of the owner counted; where there is no room for a new owner nothing is kept of it (NFS-14)
 unfoldable pub remembered : Opener → SeqidState → List ℕ → NfsLists → NfsLists
 remembered o seqids bytes l = if is_room_for o l then kept_for (opener_number o l) bytes (seated o seqids l) else l
 
@@ -102,7 +102,7 @@ most_short = 104
 abbrev pub is_short : List ℕ → Bool
 is_short bytes = nat_le (length bytes) most_short
 
--- how the operation ended whose result these bytes are: a longer one is that of a lock that was denied
+-- how the operation ended whose result these bytes are: a longer one is that of a lock that was denied (NFS-14)
 unfoldable pub kept_status : List ℕ → NfsStatus
 kept_status bytes = if is_short bytes then read_status (nfs_result.at bytes) else statuses.Denied
 

@@ -44,7 +44,7 @@ with_kept l kept = record { clients = l.clients; owners = l.owners; stateids = l
 
 -- The rows that are meant.
 
--- the record of this number, confirmed or not
+-- the record of this number, confirmed or not (STATE-1)
 abbrev pub is_client : ℕ → Bool → ClientRow → Bool
 is_client number confirmed r = same_client_key (record { number = number; confirmed = confirmed }) (client_key r)
 
@@ -62,7 +62,7 @@ is_owner_named client kind bytes o = same_owner_name (record { client = client; 
 abbrev pub is_stateid : ℕ → StateidRow → Bool
 is_stateid number s = number == s.number
 
--- what the owner has on the file, and the client's delegation there
+-- what the owner has on the file, and the client's delegation there (STATE-5)
 abbrev pub owned_on : ℕ → ℕ → StateidRow → Bool
 owned_on owner file s = same_place (Owned owner file) (place_of s)
 
@@ -86,7 +86,7 @@ is_open (Open owner) = true
 is_open (Lock owner under opener) = false
 is_open (Delegation write) = false
 
--- an open that wasn't closed
+-- an open that wasn't closed (STATE-4)
 abbrev pub is_live : StateidRow → Bool
 is_live s = is_open s.holder && not s.standing.closed
 
@@ -100,7 +100,7 @@ last_number [] = 0
 last_number (o ∷ []) = o.number
 last_number (o ∷ p ∷ os) = last_number (p ∷ os)
 
--- the number that a new owner takes; None where there is no room, or no further number
+-- the number that a new owner takes; None where there is no room, or no further number (STATE-2)
 abbrev pub next_owner : List OwnerRow → Option ℕ
 next_owner os = if nat_lt (length os) most_owners && nat_lt (last_number os + 1) (2 ^ 64) then Some (last_number os + 1) else None
 
@@ -203,7 +203,7 @@ is_whose (whose.ClientFile client file) s = client == s.client && file == s.file
 
 -- All that belongs to an owner, and to a client.
 
--- without the owner, what hangs on it and its kept result
+-- without the owner, what hangs on it and its kept result (STATE-6)
 abbrev pub without_owner : ℕ → NfsLists → NfsLists
 without_owner number l =
     record {
@@ -226,7 +226,7 @@ without_owners client l =
       kept = filter (λ k. list_any (is_owner k.owner) (other_owners client l.owners)) l.kept;
     }
 
--- without the confirmed record of this number, and all that is the client's
+-- without the confirmed record of this number, and all that is the client's (STATE-6)
 abbrev pub without_client : ℕ → NfsLists → NfsLists
 without_client client l =
     record {
@@ -250,6 +250,6 @@ is_ended now r = r.confirmed && not (nat_lt now.0 r.details.time.0)
 abbrev pub id_below : ClientRow → ClientRow → Bool
 id_below a b = is_lt (slice_cmp nat_cmp a.id b.id)
 
--- the numbers of the clients whose lease has ended, in the order of their id strings
+-- the numbers of the clients whose lease has ended, in the order of their id strings (STATE-7)
 abbrev pub ended : Moment → List ClientRow → List ℕ
 ended now clients = map (λ r. r.number) (sorted id_below (filter (is_ended now) clients))

@@ -4,12 +4,12 @@ use Rattle.xl_nfs_state.specs.declared.owner.SeqidState.{SeqidState}
 use Rattle.xl_nfs_state.specs.declared.seqid.SeqidVerdict.{SeqidVerdict}
 use Rattle.xl_nfs_state.specs.declared.seqid.SeqidVerdict.TheVariants.{New, Next, Repeat, Bad}
 
--- the seqid after this one: after 2^32 - 1 comes 0
+-- the seqid after this one: after 2^32 - 1 comes 0 (STATE-3)
 abbrev pub next_seqid : ℕ → ℕ
 next_seqid seqid = (seqid + 1) % 2 ^ 32
 
 -- An owner that isn't there may begin anywhere. Else the seqid after the last is next; the last itself is a repeat, where
--- the operation is the last one's too; and any other is bad.
+-- the operation is the last one's too; and any other is bad (STATE-3).
 abbrev pub verdict : Option SeqidState → ℕ → ℕ → SeqidVerdict
 verdict None op seqid = New
 verdict (Some seqids) op seqid =

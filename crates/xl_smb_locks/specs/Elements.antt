@@ -14,7 +14,7 @@ use Rattle.xl_smb_locks.specs.declared.status.SmbStatus.TheVariants.{InvalidPara
 abbrev pub last_byte : ℕ
 last_byte = 2 ^ 64 - 1
 
--- it reaches past the last byte that there is; a range without bytes never does
+-- it reaches past the last byte that there is; a range without bytes never does (EXACT-5)
 abbrev pub wraps : LockElement → Bool
 wraps e = not (e.length == 0) && (nat_lt last_byte e.length || nat_lt last_byte (e.offset + (e.length - 1)))
 
@@ -43,11 +43,11 @@ may_wait e = not (is_set 0x10 e.flags)
 
 -- ---- a request
 
--- there are 1 to 64 ranges
+-- there are 1 to 64 ranges (SMB-22)
 abbrev pub is_count : ℕ → Bool
 is_count count = not (count == 0) && nat_lt count 65
 
--- the first range says whether all are unlocks or all are locks
+-- the first range says whether all are unlocks or all are locks (SMB-22)
 abbrev pub unlocks_first : List LockElement → Bool
 unlocks_first [] = false
 unlocks_first (e ∷ es) = is_unlock e
@@ -55,12 +55,12 @@ unlocks_first (e ∷ es) = is_unlock e
 abbrev pub any_waits : List LockElement → Bool
 any_waits es = list_any may_wait es
 
--- why an unlock is refused before it is asked for, if it is
+-- why an unlock is refused before it is asked for, if it is (SMB-23)
 unfoldable pub unlock_fault : LockElement → Option SmbStatus
 unlock_fault e = if is_locking e then Some InvalidParameter else if wraps e then Some InvalidLockRange else None
 
 -- why locks are refused before they are asked for, if they are: each is just a lock, several don't wait, and none reaches
--- past the last byte
+-- past the last byte (SMB-24)
 unfoldable pub lock_fault : List LockElement → Option SmbStatus
 lock_fault es =
     if list_any (λ e. not (is_lock e)) es then Some InvalidParameter

@@ -33,6 +33,7 @@ use Rattle.xl_smb_locks.specs.declared.status.SmbStatus.TheVariants.{SharingViol
 -- ---- final replies
 
 -- the header repeats what is kept of the request, names the AsyncId, and grants no credits: those came with STATUS_PENDING
+-- (SMB-25)
 unfoldable pub final_head : ℕ → ℕ → Header → ℕ → SmbHead
 final_head id command h status = record {
   credit_charge = h.credit_charge;
@@ -105,7 +106,7 @@ holder_stands (holder.Tree place) client l = has_place place client l
 holder_stands (holder.Nobody until) client l = false
 
 -- the open may stand under its number: as its tree connect does until the request ends, and as the core grants it only where
--- there is room, it may
+-- there is room, it may (SMB-17)
 abbrev pub may_stand : ℕ → Open → Lists → Bool
 may_stand number made l = nat_lt (length l.opens) most_opens && (not (is_some (open_of number l)) && holder_stands made.holder made.client l)
 
@@ -133,7 +134,8 @@ request_served s id answer l = served_with s id answer (waiting_of id l) l
 -- ---- an effect
 
 -- What is sent for an effect of the core, in the state that is left, and the lists then: the notice of a break to who holds the
--- open, or the lowest open of the lease, or the final reply to the request that was served, or that waits no more.
+-- open, or the lowest open of the lease, or the final reply to the request that was served, or that waits no more
+-- (SMB-20, SMB-21).
 unfoldable pub told_of : CoreState → Effect → Lists → List Out × Lists
 told_of s (effects.Begun cache to call) l = (noticed s cache.party cache.what to l, l)
 told_of s (effects.Served id answer) l = request_served s id answer l
@@ -153,7 +155,7 @@ is_cancelled id es = list_any (cancels id) es
 abbrev pub and_sent : List Out × Lists → (Lists → List Out × Lists) → List Out × Lists
 and_sent first rest = (first.0 ++ (rest first.1).0, (rest first.1).1)
 
--- What is sent to those of these requests of which the core told so, in their order, and the lists without them.
+-- What is sent to those of these requests of which the core told so, in their order, and the lists without them (SMB-27).
 abbrev pub dismissed : List Effect → List ℕ → Lists → List Out × Lists
 dismissed told [] l = ([], l)
 dismissed told (id ∷ ids) l = if is_cancelled id told then and_sent (request_ended id Cancelled l) (dismissed told ids) else dismissed told ids l

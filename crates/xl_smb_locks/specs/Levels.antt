@@ -101,6 +101,7 @@ abbrev pub lease_holding : List ℕ → List What → Lease
 lease_holding key held = record { key = key; state = state_of (first_kind held); flags = first_flags held; duration = 0 }
 
 -- what the open of this number is told of its cache: the level of its oplock, or the lease that it is under, as it stands
+-- (SMB-18, SMB-19)
 unfoldable pub cache_told : CoreState → ℕ → Open → Option (List ℕ) → Caching
 cache_told s number row None = Level (level_held s row.file number)
 cache_told s number row (Some key) = Leased (lease_holding key (held_at s (CacheOf row.file (party_of s.names number row))))
@@ -117,7 +118,7 @@ file_id id = record { persistent = id; volatile = id }
 abbrev pub file_of : ℕ → FileStatus
 file_of attributes = record { created = 0; accessed = 0; written = 0; changed = 0; allocated = 0; end_of_file = 0; attributes = attributes }
 
--- a lease's level is 0xFF, and a context carries it
+-- a lease's level is 0xFF, and a context carries it (SMB-19)
 abbrev pub level_told : Caching → ℕ
 level_told (Level level) = level
 level_told (Leased lease) = 0xFF
@@ -132,11 +133,11 @@ opened id told = record { oplock_level = level_told told; action = 1; status = f
 
 -- ---- a break that began is told to who holds the open, that of a lease to who holds the lowest of its opens
 
--- the level that it leaves
+-- the level that it leaves (SMB-20)
 abbrev pub notice_of : ℕ → Option CacheKind → List ℕ
 notice_of id to = spelling (Told (notice.Oplock (level_of to) (file_id id)))
 
--- what the lease of this key held, and what it may keep; 1 where the break takes effect only once it is answered
+-- what the lease of this key held, and what it may keep; 1 where the break takes effect only once it is answered (SMB-21)
 abbrev pub lease_notice_of : List ℕ → What → Option CacheKind → List ℕ
 lease_notice_of key held to = spelling (Told (notice.Lease (record { flags = if needs_answer_by held to then 1 else 0; key = key; current = state_of (kind_by held); new = state_of to })))
 
@@ -148,7 +149,7 @@ abbrev pub noticed_to : List ℕ → Option Open → List Out
 noticed_to told None = []
 noticed_to told (Some row) = noticed_by told row.holder
 
--- the open that hears of breaks of the lease
+-- the open that hears of breaks of the lease (SMB-21)
 abbrev pub hearer_of : LeaseKey → Lists → Option Open
 hearer_of key l = option_and_then (λ number. open_of number l) (lowest_open key l)
 

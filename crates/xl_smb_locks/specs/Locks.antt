@@ -23,7 +23,7 @@ use Rattle.xl_smb_locks.specs.declared.status.SmbStatus.TheVariants.{LockNotGran
 
 -- ---- what the core is asked
 
--- an ask of the open of this number; it waits for answers to breaks in any case (MS-SMB2 3.3.5.14)
+-- an ask of the open of this number; it waits for answers to breaks in any case (MS-SMB2 3.3.5.14) (CORE-3)
 abbrev pub range_ask : Option ℕ → ℕ → Open → Act → Bool → Ask
 range_ask conn number row act blocking = record {
   file = row.file;
@@ -47,7 +47,7 @@ abbrev pub range_of : LockElement → Extent × Bool
 range_of e = (extent_of e, is_exclusive e)
 
 -- all ranges are locked in order, or none; where a cache keeps the first off they wait for the answer to its break, one that may
--- wait does where something stands against it for good, and who waits is told by this connection
+-- wait does where something stands against it for good, and who waits is told by this connection (SMB-24)
 unfoldable pub lock_ask : ℕ → ℕ → Open → List LockElement → Ask
 lock_ask conn number row es = range_ask (Some conn) number row (acts.Ranges (map range_of es)) (any_waits es)
 
@@ -66,7 +66,7 @@ abbrev pub unlock_next : Option SmbStatus → List Deed × Locking → List Deed
 unlock_next None next = next
 unlock_next (Some status) next = ([], Failed status)
 
--- what the unlocks do, and what they come to
+-- what the unlocks do, and what they come to (SMB-23)
 abbrev pub unlocks : CoreState → ℕ → Open → List LockElement → List Deed × Locking
 unlocks s number row [] = ([], Done)
 unlocks s number row (e ∷ es) =

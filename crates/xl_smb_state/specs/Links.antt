@@ -14,7 +14,7 @@ use Rattle.xl_smb_state.specs.declared.row.LeaseKey.{LeaseKey}
 use Rattle.xl_smb_state.specs.declared.row.Lease.{Lease}
 use Rattle.xl_smb_state.specs.State.{Lists, nothing, same_lease, is_empty, client_of, session_of, sessions_on, tree_of, trees_on, open_of, is_key}
 
--- most rows of a list, and most sessions and tree connects of one connection
+-- most rows of a list, and most sessions and tree connects of one connection (STATE-10)
 abbrev pub most_sessions : ℕ
 most_sessions = 16
 
@@ -75,7 +75,7 @@ only_opens opens = record nothing { opens = opens }
 abbrev pub ListsOnly : LeaseKey → ℕ → LeaseKey × Lease → Type 0
 ListsOnly key number e = (same_lease key e.0 ≡ false → list_any (nat_eq number) e.1.opens ≡ false) × (is_empty e.1.opens ≡ false)
 
--- the row is of the open's file and client, and under the same lease
+-- the row is of the open's file and client, and under the same lease (STATE-9)
 abbrev pub KeepsLease : Option Open → Open → Type 0
 KeepsLease None row = ⊥
 KeepsLease (Some old) row = (row.file ≡ old.file) × (row.client ≡ old.client) × (row.lease ≡ old.lease)

@@ -121,7 +121,7 @@ covers (scope.Connection number) place = place.connection == number
 covers (scope.Session number) place = place.session == number
 covers (scope.Tree number) place = place.tree == number
 
--- what somebody holds lies under it; what nobody holds lies under nothing
+-- what somebody holds lies under it; what nobody holds lies under nothing (STATE-11)
 abbrev pub covers_holder : Scope → Holder → Bool
 covers_holder under (holder.Tree place) = covers under place
 covers_holder under (holder.Nobody until) = false
@@ -166,7 +166,7 @@ left_row number row = record { file = row.file; opens = without number row.opens
 abbrev pub kept_lease : ℕ → LeaseKey × Lease → Option (LeaseKey × Lease)
 kept_lease number e = if is_empty (without number e.1.opens) then None else Some (e.0, left_row number e.1)
 
--- the open leaves its lease, which goes with its last open
+-- the open leaves its lease, which goes with its last open (STATE-12)
 abbrev pub lease_left : ℕ → Lists → Lists
 lease_left number s = record s { leases = filter_map (kept_lease number) s.leases }
 
@@ -201,7 +201,7 @@ abbrev pub key_of : Option Open → Option LeaseKey
 key_of None = None
 key_of (Some row) = option_map (λ key. record { client = row.client; key = key }) row.lease
 
--- the lowest of the opens of a lease that somebody holds, which breaks of the lease are told to
+-- the lowest of the opens of a lease that somebody holds, which breaks of the lease are told to (STATE-12)
 abbrev pub lowest_open : LeaseKey → Lists → Option ℕ
 lowest_open key s = option_and_then (λ r. lowest (filter (λ n. is_held (open_of n s)) r.opens)) (lease_of key s)
 
@@ -275,7 +275,7 @@ creates_under under s = made_in under s.waiting
 abbrev pub is_message : ℕ → ℕ → Waiting → Bool
 is_message connection message row = row.place.connection == connection && row.header.message_id == message
 
--- the first such request
+-- the first such request (STATE-13)
 abbrev pub waiting_by_message : ℕ → ℕ → Lists → Option ℕ
 waiting_by_message connection message s = option_map (λ e. e.0) (find (λ e. is_message connection message e.1) s.waiting)
 
@@ -299,6 +299,6 @@ waiting_file key [] = None
 waiting_file key (e ∷ es) = or_else (file_for key e.1.request) (waiting_file key es)
 
 -- the file on which a lease key is in use: that of its lease, or else that of the first open which waits to be made
--- under it
+-- under it (STATE-12)
 abbrev pub key_file : LeaseKey → Lists → Option ℕ
 key_file key s = or_else (option_map (λ r. r.file) (lease_of key s)) (waiting_file key s.waiting)

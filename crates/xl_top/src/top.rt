@@ -36,7 +36,7 @@ pub struct Done {
     pub status: u8,
     /// At status 4 the number of the first such line, counted from 1; else 0.
     pub line: u64,
-    /// What was stepped.
+    /// The events that were stepped, each with what was sent for it.
     pub journal: Journal,
 }
 
@@ -56,7 +56,7 @@ fn chunk(alloc: Global) -> Result<Vec<u8>, AllocError>
     vec![in alloc; 0u8; CHUNK]
 }
 
-/// Reads once, and adds what it gave to the text. False says that nothing is left.
+/// Reads once, and adds the bytes to the text. False says that nothing is left.
 #[tactic(auto, using(crate::proofs::ReadLaws::took_more))]
 fn read_more<I: Source>(
     input: &mut I,
@@ -103,7 +103,7 @@ fn read_all<I: Source>(alloc: Global, input: &mut I) -> Result<Vec<u8>, Unread>
     Ok(text)
 }
 
-/// Steps the events in order. An error leaves the house halted, with a beginning of their entries.
+/// Steps the events in order. After an error the house is halted, and its journal has the entries of the first of them.
 #[tactic(auto, using(xl_house::proofs::JournalLaws::stepped, xl_house::proofs::JournalLaws::front, xl_house::proofs::JournalLaws::some_left))]
 fn step_all(alloc: Global, house: &mut House<SureKeeper>, events: Vec<Event>) -> Result<(), Halt>
     requires goes { house.old.halt ≡ None }
@@ -185,8 +185,7 @@ fn idle(alloc: Global, status: u8, line: u64) -> Done
     }
 }
 
-/// A house that stepped the events of a capture, and how the last step ended. None comes for want of memory at the
-/// start.
+/// A house that stepped the events of a capture, and how the last step ended. None comes if memory runs out at the start.
 #[tactic(auto, using(crate::proofs::JobLaws::begins))]
 fn step_capture(alloc: Global, capture: Capture) -> Option<(House<SureKeeper>, Result<(), Halt>)>
     requires { AreSteps capture.events }
@@ -466,13 +465,17 @@ fn make<O: Sink>(alloc: Global, seed: u32, count: u32, out: &mut O) -> Done
     }
 }
 
-/// Does what the words ask for, from the input to the output.
+/// Does the job that the words name. `replay` reads a capture and writes the transcript of its replay, `show` reads messages
+/// and writes a line on each, `make` makes calls from a number and writes a summary of them.
+///
+/// The journal that comes back has each event that was stepped, with what was sent for it. The clauses from `legal` to
+/// `served` hold for it whatever the input is, and at every status.
 #[tactic(auto, using(xl_house::proofs::MachineLaws::begun_free, xl_house::proofs::LawfulLaws::always_lawful, xl_house::proofs::LawfulLaws::always_waiting, xl_house::proofs::LawfulLaws::always_kept, xl_house::proofs::LawfulLaws::always_complete, xl_house::proofs::LawfulLaws::always_caused, xl_house::proofs::LawfulLaws::always_told))]
 pub fn run<I: Source, O: Sink>(alloc: Global, words: &[String], input: &mut I, out: &mut O) -> Done
     ensures known { is_status result.status ≡ true }
 
-    // The words ask for no job just at 1, unless memory runs out. At 2 and nowhere else the source failed; at 3 the sink
-    // did, which beside that may have failed at 7 alone.
+    // The status is 1 exactly if the words name no job, unless memory runs out. The source failed exactly if the status is 2.
+    // The sink failed if it is 3; it may have failed if it is 7, and did not at any other status.
     ensures words { (result.status ≡ 1 → job (map string_bytes words.now) ≡ None) × (job (map string_bytes words.now) ≡ None → result.status ≢ 6 → result.status ≡ 1) }
     ensures read { result.status ≡ 2 → Rose (I.faults input.old) (I.faults input.new) }
     ensures read_still { result.status ≢ 2 → I.faults input.new ≡ I.faults input.old }
@@ -481,12 +484,12 @@ pub fn run<I: Source, O: Sink>(alloc: Global, words: &[String], input: &mut I, o
     ensures line { result.status ≢ 4 → result.line ≡ 0 }
     ensures ended { is_reader (job (map string_bytes words.now)) ≡ true → result.status ≡ 0 → Ended (I.left input.new) }
     ensures idle { is_idle result.status ≡ true → (result.journal ≡ no_journal) × (O.held out.new ≡ O.held out.old) }
-    // Where the words ask for no job, nothing is read, stepped or written, also where memory ran out.
+    // If the words name no job, nothing is read, stepped or written, also if memory runs out.
     ensures untouched { job (map string_bytes words.now) ≡ None → (result.journal ≡ no_journal) × (input.new ≡ input.old) × (out.new ≡ out.old) }
 
-    // Of a replay, what was read is a capture at 0, 3 and 7, and isn't one at 4, whose line is the first that is bad. What
-    // was written: all of the transcript at 0, and at 7 unless the sink failed; a beginning at 3, 6 and 7; nothing at 1, 2
-    // and 4.
+    // A replay read a capture if the status is 0, 3 or 7. At 4 the text is no capture, and the line is the first bad one. The
+    // whole transcript was written at 0, and at 7 unless the sink failed. A beginning of it was written at 3, 6 and 7, and
+    // nothing at 1, 2 and 4.
     ensures replayed { job (map string_bytes words.now) ≡ Some Job.Replay → (all : List ℕ) → I.left input.old ≡ Some all → result.status ≡ 0 → IsReplayed (captured (capped all)) result.journal }
     ensures unwritten { job (map string_bytes words.now) ≡ Some Job.Replay → (all : List ℕ) → I.left input.old ≡ Some all → result.status ≡ 3 → IsReplayed (captured (capped all)) result.journal }
     ensures full { job (map string_bytes words.now) ≡ Some Job.Replay → (all : List ℕ) → I.left input.old ≡ Some all → result.status ≡ 7 → IsCutAt most_entries (captured (capped all)) result.journal }
@@ -496,16 +499,16 @@ pub fn run<I: Source, O: Sink>(alloc: Global, words: &[String], input: &mut I, o
     ensures written_full { result.status ≡ 7 → (Rose (O.faults out.old) (O.faults out.new) → ⊥) → Added (O.held out.old) (whole_transcript result.journal) (O.held out.new) }
     ensures began { job (map string_bytes words.now) ≡ Some Job.Replay → Began (O.held out.old) (whole_transcript result.journal) (O.held out.new) }
 
-    // Of messages that are shown, the lines on them were written at 0, a beginning at 3, nothing else. At 4 the line is the
-    // first that is bad.
+    // `show` wrote all lines on the messages at 0, a beginning of them at 3, and nothing at any other status. At 4 the line is
+    // the first bad one.
     ensures shown { job (map string_bytes words.now) ≡ Some Job.Show → (all : List ℕ) → I.left input.old ≡ Some all → result.status ≡ 0 → AddsShown (O.held out.old) (shown (capped all)) (O.held out.new) }
     ensures shown_part { job (map string_bytes words.now) ≡ Some Job.Show → (all : List ℕ) → I.left input.old ≡ Some all → result.status ≡ 3 → BeginsShown (O.held out.old) (shown (capped all)) (O.held out.new) }
     ensures shown_bad { job (map string_bytes words.now) ≡ Some Job.Show → (all : List ℕ) → I.left input.old ≡ Some all → result.status ≡ 4 → shown (capped all) ≡ Err result.line }
     ensures shown_alone { job (map string_bytes words.now) ≡ Some Job.Show → (is_show result.status ≡ true) × (result.journal ≡ no_journal) × (result.status ≡ 6 → O.held out.new ≡ O.held out.old) }
 
-    // Of calls that are made, the journal is that of the calls at 0 and 3, and a beginning of it at 6; what was written: the
-    // summary of the journal at 0, a beginning of it at 3 and 6. Nothing is read. The opening and each call have an entry,
-    // and each call was granted or denied.
+    // `make` stepped all its calls at 0 and 3, and the first of them at 6. It wrote the summary of its journal at 0, and a
+    // beginning of that at 3 and 6. It reads nothing. The journal has an entry for the opening and one for each call, and each
+    // call was granted or denied.
     ensures made { (seed count : ℕ) → job (map string_bytes words.now) ≡ Some (Job.Make seed count) → result.status ≡ 0 → result.journal ≡ made_journal seed count }
     ensures made_unwritten { (seed count : ℕ) → job (map string_bytes words.now) ≡ Some (Job.Make seed count) → result.status ≡ 3 → result.journal ≡ made_journal seed count }
     ensures made_part { (seed count : ℕ) → job (map string_bytes words.now) ≡ Some (Job.Make seed count) → result.status ≡ 6 → IsMadePart seed count result.journal }
@@ -514,20 +517,24 @@ pub fn run<I: Source, O: Sink>(alloc: Global, words: &[String], input: &mut I, o
     ensures numbers { (seed count : ℕ) → job (map string_bytes words.now) ≡ Some (Job.Make seed count) → result.status ≡ 0 → (length result.journal.entries ≡ count + 1) × (granted result.journal.entries + denied result.journal.entries ≡ count) }
     ensures made_alone { (seed count : ℕ) → job (map string_bytes words.now) ≡ Some (Job.Make seed count) → (is_made result.status ≡ true) × (I.left input.new ≡ I.left input.old) }
 
-    // The journal is the machine's, and nothing is sent to a connection before its opening or after its end.
+    // Each entry is what the machine's step gives. Nothing is sent to a connection before its opening or after its end.
     ensures legal { IsLegal (begin result.journal.head) result.journal.entries }
     ensures orderly { IsOrderly [] 0 result.journal.entries }
     ensures most { length result.journal.entries ≤ most_entries }
 
-    // At every free moment the claims are pairwise compatible, each owner's ranges are sorted maximal runs, and nobody
-    // who waits could be served.
+    // Before the first event and after each, any two held claims may be held together, each owner's ranges are sorted maximal
+    // runs, and nobody who waits could be served.
     ensures free { AlwaysFree (begin result.journal.head) result.journal.entries }
 
-    // Each byte of each owner, and its share of each file, stands as it stood before an entry, but for what its owner did in
-    // it, was granted after a wait, or lost with its lease or its connection; and each lease, but where its client is renewed or
-    // expires. A cache of which a break runs stands, at its full kind, and nothing that it guards against, until its party
-    // answers or gives it back, ends or expires, or the deadline passes. What nothing stands against is granted; what is blocked
-    // is refused, or waits. By a reading of the clock breaks are over and clients expire that are due.
+    // lawful: an event changes an owner's bytes and shares only by what the owner did in it, was granted after a wait, or lost
+    // with its lease or its connection; it changes a lease only by a renewal or the client's expiry.
+    // waiting: those who waited go on to wait in their order, except those whom the event served, cancelled or ended.
+    // kept_until_answered: while the break of a cache runs, the cache stands at its full kind, and nothing is granted that it
+    // guards against, until its party answers, gives it back, ends or expires, or the deadline passes.
+    // complete: a lock or a share is granted if nothing held stands against it and no limit is passed; if something does, it is
+    // refused or waits. A reading of the clock ends each break and lets each client expire that is due by then.
+    // caused: an event does only what such an event may do, and only for the clients that it names.
+    // told: what is sent follows from what the event did and what it was answered.
     ensures lawful { Always IsLawful (begin result.journal.head) result.journal.entries }
     ensures waiting { Always IsWaiting (begin result.journal.head) result.journal.entries }
     ensures kept_until_answered { Always IsKept (begin result.journal.head) result.journal.entries }
@@ -535,8 +542,8 @@ pub fn run<I: Source, O: Sink>(alloc: Global, words: &[String], input: &mut I, o
     ensures caused { Always IsCaused (begin result.journal.head) result.journal.entries }
     ensures told { Always IsTold (begin result.journal.head) result.journal.entries }
 
-    // Each request of SMB that waits is awaited, and each waiter of an SMB open has its request. What is granted to an SMB open
-    // that waited has its open then, and the request is told that it succeeded.
+    // Each request of SMB that waits has a waiter in the core, and each waiter of an SMB open has its request. If a CREATE or a
+    // LOCK that waited is granted, its open is there, and its final reply says that it succeeded.
     ensures served { Always IsServed (begin result.journal.head) result.journal.entries }
 {
     match parse(alloc, words) {
