@@ -29,7 +29,7 @@ def add_arguments(parser):
     parser.add_argument("pcap", metavar="SESSION", help="the file of packets")
     server = "only calls to this server, ADDRESS or ADDRESS:PORT of IPv4; may stand several times"
     parser.add_argument("--server", action="append", type=server_of, default=[], metavar="ADDRESS", help=server)
-    times = "also a line T where time passed, in milliseconds since the first call; the program doesn't read these yet"
+    times = "also a line T if time passed, in milliseconds since the first call: leases and breaks end by these alone"
     parser.add_argument("--times", action="store_true", help=times)
     with_smb = "also connections to port 445, as O smb"
     parser.add_argument("--smb", action="store_true", help=with_smb)

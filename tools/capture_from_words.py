@@ -18,7 +18,8 @@ reads the file WORDS, or standard input where none is named, and writes a captur
     answer CALL STATUS            the caller answers the server's call of that number: granted, denied, ..
     answer CALL BYTES             it answers these bytes
     no_answer CALL                it doesn't
-    F .. H .. O .. B .. E .. C .. T .. R .. L .. K .. N ..   a line of the capture, as it stands
+    F .. H .. L .. O .. B .. E .. C .. T ..   a line of the capture, as it stands
+    K .. N .. R .. !n             lines on restarts and the record, which the program doesn't read yet: only with --later
 
 FILE is an exported file's name, `/` the root, `0x..` any other handle. LENGTH is a number of bytes or `end`. x is an
 exclusive lock, s a shared one. ACCESS and DENY are r, w, rw or -. A name (CALLER, oh, cookie) is a word, `0x..` its bytes
