@@ -5,5 +5,6 @@ pub mod Limits
 pub mod Lists
 pub mod Memory
 pub mod Outside
+pub mod RecordFile
 pub mod Results
 pub mod Stable
