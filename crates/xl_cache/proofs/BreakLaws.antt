@@ -23,9 +23,9 @@ use Rattle.xl_matrix.specs.Blocks.{is_share, is_range, is_cache, is_own, is_met,
 use Rattle.xl_matrix.proofs.EqualLaws.{same_parties-true, same_claims-self}
 use Rattle.xl_cache.specs.declared.need.Need.{Need}
 use Rattle.xl_cache.specs.Targets.{loses_handle, target_of}
-use Rattle.xl_cache.specs.Planning.{keeps_handle_by, is_running, with_kind, keeps_open, is_covered, is_final, blocking_shares, covers, is_in_the_way, need_of, break_by, break_of, needs_answer_by, is_slow, recalled_by, is_ended, left_by, planned, is_obstacle, FitsWhenBroken, is_less}
+use Rattle.xl_cache.specs.BreakPlans.{keeps_handle_by, is_running, with_kind, keeps_open, is_covered, is_final, blocking_shares, covers, is_in_the_way, need_of, break_by, break_of, needs_answer_by, is_slow, recalled_by, is_ended, left_by, planned, is_obstacle, FitsWhenBroken, is_less}
 use Rattle.xl_cache.proofs.TargetLaws.{rest_by}
-use Rattle.xl_cache.proofs.PlanLaws.{no_wait, obstacle_breaks, names_all}
+use Rattle.xl_cache.proofs.BreakPlanLaws.{no_wait, obstacle_breaks, names_all}
 
 -- ---- what is left
 

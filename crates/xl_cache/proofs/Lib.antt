@@ -1,6 +1,6 @@
 pub mod TargetLaws
 pub mod LevelLaws
-pub mod PlanLaws
+pub mod BreakPlanLaws
 pub mod BreakLaws
 pub mod WishLaws
 pub mod PartyLaws

@@ -9,7 +9,7 @@ use Rattle.xl_matrix.specs.declared.claim.CacheKind.TheVariants.{R, RH, RW, RWH,
 use Rattle.xl_matrix.specs.Kinds.{kind_lies_within}
 use Rattle.xl_cache.specs.declared.need.Need.{Need}
 use Rattle.xl_cache.specs.Targets.{is_delegation, loses_handle, target_of}
-use Rattle.xl_cache.specs.Planning.{is_oplock}
+use Rattle.xl_cache.specs.BreakPlans.{is_oplock}
 use Rattle.xl_cache.specs.Parties.{is_kind_of, is_rest_of}
 use Rattle.xl_cache.specs.Wishing.{joined}
 

@@ -1,5 +1,5 @@
 pub mod Targets
-pub mod Planning
+pub mod BreakPlans
 pub mod Parties
 pub mod Wishing
 pub mod Levels

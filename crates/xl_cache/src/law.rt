@@ -6,7 +6,7 @@ ghost use Rattle.xl_cache.specs.declared.need.Need.{Need};
 ghost use Rattle.xl_cache.specs.Targets.{is_delegation, target_of, rest_lies_within, together};
 ghost use Rattle.xl_cache.specs.Levels.{state_of, kind_of_state};
 ghost use Rattle.xl_cache.specs.Parties.{is_kind_of, is_rest_of};
-ghost use Rattle.xl_cache.specs.Planning.{is_oplock};
+ghost use Rattle.xl_cache.specs.BreakPlans.{is_oplock};
 ghost use Rattle.xl_cache.specs.Wishing.{joined};
 
 /// Several reasons leave what all leave: what may stay of a cache after a break for two reasons is what may stay after

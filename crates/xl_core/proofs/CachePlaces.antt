@@ -15,7 +15,7 @@ use Rattle.xl_table.specs.Held.{is_share, is_range, is_cache, is_of, with_span, 
 use Rattle.xl_table.specs.Order.{key, goes_first}
 use Rattle.xl_table.proofs.FlatLaws.{pairwise_removed, pairwise_others}
 use Rattle.xl_table.proofs.OrderLaws.{no_later-on}
-use Rattle.xl_core.specs.Breaks.{with_rest}
+use Rattle.xl_core.specs.BreakAnswers.{with_rest}
 use Rattle.xl_core.specs.Good.{is_single_by, is_single, caches_of}
 use Rattle.xl_core.specs.Places.{Place, ByteOf, ShareOf, RangesOf, CacheOf, is_cache_on, byte_held, share_held, held_in, is_at, part_by, part_of, entered_by, cleared_by, cleared_at, acked_at, else_was}
 use Rattle.xl_spans.specs.Spans.{mode_at}

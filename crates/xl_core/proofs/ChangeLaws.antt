@@ -21,7 +21,7 @@ use Rattle.xl_table.proofs.ShareLaws.{not_united, shares_of-shared, shares_of-sh
 use Rattle.xl_table.proofs.WriteBack.{spans_of-relocked, spans_of-relocked_apart, is_of-true}
 use Rattle.xl_wait.specs.declared.waiter.Rooms.{Rooms}
 use Rattle.xl_core.specs.State.{CoreState}
-use Rattle.xl_core.specs.Asking.{asker, asking_party, both_entered, range_what, asked_whats, asked_what, asked_claim, asked_claims, known_claim, is_client, is_named}
+use Rattle.xl_core.specs.Askers.{asker, asking_party, both_entered, range_what, asked_whats, asked_what, asked_claim, asked_claims, known_claim, is_client, is_named}
 use Rattle.xl_core.specs.Blockers.{test_blockers}
 use Rattle.xl_core.specs.Causes.{may_wait, asks_share, left_by_unlock, IsOwn}
 use Rattle.xl_core.specs.Decide.{Answered, waiter_of, waiting, named, claims_asked, test_answered, tested, unlocked_claims, unlocked, wish_by, wish_asked, acted, decided, unlocked_one, unlocked_bytes, freed}

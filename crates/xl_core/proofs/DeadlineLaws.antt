@@ -2,7 +2,7 @@
 use Rattle.std.proofs.Common.{◌≡◌, [], ◌∷◌, refl}
 use Rattle.xl_base.specs.Stable.{Stable}
 use Rattle.xl_matrix.specs.Equal.{same_what, same_claims}
-use Rattle.xl_core.specs.Breaks.{first_due}
+use Rattle.xl_core.specs.BreakAnswers.{first_due}
 use Rattle.xl_core.specs.Leases.{without_lease, first_ended}
 use Rattle.xl_core.specs.Settle.{waits_for, numbers_with, end_party}
 use Rattle.xl_core.specs.Smallest.{broken_oplock, its_share, broken_delegation, with_claims}

@@ -5,9 +5,9 @@ use Rattle.std.proofs.lemmas.Bool.{cases_Bool, both_ways, and_parts, and_from, o
 use Rattle.xl_base.specs.Lists.{IsIn}
 use Rattle.xl_base.proofs.Members.{in_filter_from}
 use Rattle.xl_base.proofs.Searches.{any_found, any_none, none_passes as none_pass}
-use Rattle.xl_cache.specs.Planning.{is_running, keeps_open, is_covered, is_final, blocking_shares, covers, is_in_the_way, broken_claim, is_obstacle, planned}
+use Rattle.xl_cache.specs.BreakPlans.{is_running, keeps_open, is_covered, is_final, blocking_shares, covers, is_in_the_way, broken_claim, is_obstacle, planned}
 use Rattle.xl_cache.proofs.BreakLaws.{keeper_in_the_way}
-use Rattle.xl_cache.proofs.PlanLaws.{names_all, names_only}
+use Rattle.xl_cache.proofs.BreakPlanLaws.{names_all, names_only}
 use Rattle.xl_matrix.specs.Equal.{same_parties}
 use Rattle.xl_matrix.specs.declared.claim.CacheKind.{CacheKind}
 use Rattle.xl_matrix.specs.declared.claim.Claim.{Claim}

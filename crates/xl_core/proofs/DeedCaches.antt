@@ -5,7 +5,7 @@ use Rattle.xl_base.specs.Lists.{IsIn, Pairwise}
 use Rattle.xl_base.proofs.Members.{in_filter, in_filter_from}
 use Rattle.xl_base.specs.declared.event.Moment.{Moment}
 use Rattle.xl_base.specs.declared.name.Party.{Party}
-use Rattle.xl_cache.specs.Planning.{is_running}
+use Rattle.xl_cache.specs.BreakPlans.{is_running}
 use Rattle.xl_matrix.specs.Equal.{same_parties}
 use Rattle.xl_matrix.specs.declared.claim.CacheKind.{CacheKind}
 use Rattle.xl_matrix.specs.declared.claim.Claim.{Claim}
@@ -18,15 +18,15 @@ use Rattle.xl_table.specs.Held.{is_cache}
 use Rattle.xl_wait.specs.declared.waiter.Rooms.{Rooms}
 use Rattle.xl_wait.specs.declared.waiter.Waiter.{Waiter}
 use Rattle.xl_core.specs.State.{CoreState, drawn}
-use Rattle.xl_core.specs.Asking.{party_named, asked_whats, asked_claims, IsFit}
-use Rattle.xl_core.specs.Begin.{breaks_begun}
+use Rattle.xl_core.specs.Askers.{party_named, asked_whats, asked_claims, IsFit}
+use Rattle.xl_core.specs.BreaksBegun.{breaks_begun}
 use Rattle.xl_core.specs.Decide.{Answered, plea_of, way, before_wish, does_wish, ask}
 use Rattle.xl_core.specs.Frames.{serves_none}
 use Rattle.xl_core.specs.Leases.{moment_after}
 use Rattle.xl_core.specs.Ways.{made_way}
 use Rattle.xl_core.specs.Wishes.{wish_of, wish_for, caches_wished}
 use Rattle.xl_core.specs.declared.judge.Plea.{Plea}
-use Rattle.xl_core.specs.Breaks.{with_rest, ack, client_of}
+use Rattle.xl_core.specs.BreakAnswers.{with_rest, ack, client_of}
 use Rattle.xl_core.specs.Ticks.{advanced, renew, end_some, unleased, expire, lapsed_by, lapse}
 use Rattle.xl_core.specs.Deeds.{Deed, Asks, GivesBack, Weakens, Acks, Cancels, Ends, Serves, Draws, Advances, Lapses, Renews, Expires, Closes, turned, done, all_done, IsFitDeed, AreFit, wish_by_number, asked_by, once_served, caches_served, caches_asked, caches_without_party, caches_without, caches_after, all_caches_after, is_lapsed, ends_break, any_ends_break}
 use Rattle.xl_core.specs.Good.{IsGood, are_apart, caches_of, holds_up}
@@ -41,14 +41,14 @@ use Rattle.xl_core.specs.declared.ask.Effect.TheVariants.{Begun, Served, Cancell
 use Rattle.xl_core.proofs.CacheLaws.{all_granted_caches, stayed_caches}
 use Rattle.xl_core.proofs.CachePlaces.{caches_removed, caches_rest, stays_rest}
 use Rattle.xl_core.proofs.ChangeLaws.{decided_caches}
-use Rattle.xl_core.proofs.BeginLaws.{running_stand}
+use Rattle.xl_core.proofs.AskBreaksLaws.{running_stand}
 use Rattle.xl_core.proofs.GoodLaws.{Turned, IsMoved, Answers, Rests, IsFirst, each_turn, asked_way_good, before_good, once_answered, served_good}
 use Rattle.xl_core.proofs.WayDeeds.{next_is, next_none}
 use Rattle.xl_core.proofs.WayLaws.{NoWay, Begins, way_is, way_serves, way_waiters}
 use Rattle.xl_core.proofs.DeedLaws.{asked_there, wished_there, deed_good}
 use Rattle.xl_core.proofs.SettleLaws.{none_settled, once_cases}
 use Rattle.xl_core.proofs.WeakenLaws.{weakened_caches}
-use Rattle.xl_core.proofs.WishFor.{wish_for_caches}
+use Rattle.xl_core.proofs.AskWishLaws.{wish_for_caches}
 use Rattle.xl_core.proofs.WishLaws.{running_stays}
 
 given_caches : (s : CoreState) (claim : Claim) → caches_of (give_back s claim).1.claims ≡ removed claim (caches_of s.claims)

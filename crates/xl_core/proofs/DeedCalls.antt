@@ -13,7 +13,7 @@ use Rattle.xl_spans.specs.Spans.{relocked}
 use Rattle.xl_table.specs.Held.{spans_of, is_of, is_range, may_own}
 use Rattle.xl_wait.specs.declared.waiter.Rooms.{Rooms}
 use Rattle.xl_core.specs.State.{CoreState}
-use Rattle.xl_core.specs.Asking.{asked_what, asked_claim, asked_claims, known_claim, IsFit, IsFitAct, is_named, range_what, known_owner, both_entered, may_hold_all, may_ask}
+use Rattle.xl_core.specs.Askers.{asked_what, asked_claim, asked_claims, known_claim, IsFit, IsFitAct, is_named, range_what, known_owner, both_entered, may_hold_all, may_ask}
 use Rattle.xl_core.specs.Causes.{left_by_unlock}
 use Rattle.xl_core.specs.Deeds.{queue_with, KeepNames}
 use Rattle.xl_core.specs.Decide.{Answered, unlocked_claims, decided, named, claims_asked, plea_of, freed, unlocked_one, unlocked}

@@ -8,7 +8,7 @@ use Rattle.xl_base.specs.declared.name.Protocol.{Protocol}
 use Rattle.xl_names.proofs.NameLaws.{number_at, name_at}
 use Rattle.xl_names.specs.Names.{protocol_of, number_of, AreDistinct}
 use Rattle.xl_names.specs.declared.name.Name.{Name}
-use Rattle.xl_core.specs.Asking.{client_of, party_named}
+use Rattle.xl_core.specs.Askers.{client_of, party_named}
 use Rattle.xl_core.specs.Good.{are_kept}
 use Rattle.xl_core.proofs.KnownLaws.{kept_named}
 

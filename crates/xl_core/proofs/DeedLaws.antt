@@ -30,10 +30,10 @@ use Rattle.xl_wait.specs.Waiting.{cancelled}
 use Rattle.xl_wait.specs.declared.waiter.Rooms.{Rooms}
 use Rattle.xl_wait.specs.declared.waiter.Waiter.{Waiter}
 use Rattle.xl_core.specs.State.{CoreState, drawn}
-use Rattle.xl_core.specs.Asking.{asked_what, asked_whats, asked_claim, known_claim, IsFit, IsFitAct, known_owner, range_what, asked_claims, both_entered}
+use Rattle.xl_core.specs.Askers.{asked_what, asked_whats, asked_claim, known_claim, IsFit, IsFitAct, known_owner, range_what, asked_claims, both_entered}
 use Rattle.xl_core.specs.Causes.{IsTurn, held_once}
-use Rattle.xl_core.specs.Asking.{party_named}
-use Rattle.xl_core.specs.Breaks.{may_be_left, ack, first_due, client_of}
+use Rattle.xl_core.specs.Askers.{party_named}
+use Rattle.xl_core.specs.BreakAnswers.{may_be_left, ack, first_due, client_of}
 use Rattle.xl_core.specs.Ticks.{advanced, renew, end_some, unleased, expire, lapsed_by, lapse}
 use Rattle.xl_names.specs.declared.name.Name.TheVariants.{NfsParty}
 use Rattle.xl_base.specs.declared.event.Moment.{Moment}
@@ -43,7 +43,7 @@ use Rattle.xl_core.specs.Limits.{wish_limits, first_passed}
 use Rattle.xl_core.specs.Wishes.{wish_granted, wish_of, wish_for}
 use Rattle.xl_cache.specs.declared.wish.Wish.{Wish}
 use Rattle.xl_core.proofs.WishLaws.{wish_cache, wish_spans, wish_shares, wish_elements}
-use Rattle.xl_core.proofs.WishFor.{wish_claims, after_claims}
+use Rattle.xl_core.proofs.AskWishLaws.{wish_claims, after_claims}
 use Rattle.xl_core.specs.Frames.{serves_none}
 use Rattle.xl_core.specs.declared.ask.Effect.TheVariants.{Begun, Served, Cancelled, Expired}
 use Rattle.xl_core.proofs.WayAsks.{ask_way_names, ask_way_waiters}
@@ -66,7 +66,7 @@ use Rattle.xl_core.proofs.ChangeLaws.{spans_apart, shares_apart, granted_share, 
 use Rattle.xl_core.proofs.DeedCalls.{Clears, decided_enters, decided_keeps_claims, decided_clears, answer_is_due, decided_queue, decided_names, Releases, decided_releases, ranges_enter, no_empty}
 use Rattle.xl_core.proofs.DeedLeaves.{spans_of-given, shares_of-given_apart, shares_of-given, none_gone, all_gone}
 use Rattle.xl_core.proofs.GoodLaws.{before_good, once_answered, served_good, ask_good, asked_way_good, again_named, IsMoved, Answers, Rests, settle_good, cancel_good, give_back_good, drawn_good, end_party_good, close_open_good, advanced_good, renew_good, expire_good, lapse_good, IsFirst, each_turn, good_claims}
-use Rattle.xl_core.proofs.BreakLaws.{is_cache_left, ack_good}
+use Rattle.xl_core.proofs.BreakAnswerLaws.{is_cache_left, ack_good}
 use Rattle.xl_core.proofs.CacheLaws.{removed_caches, granted_caches}
 use Rattle.xl_core.proofs.CachePlaces.{held_of_caches, rest_of_made}
 use Rattle.xl_core.proofs.DueLaws.{due_is}

@@ -8,7 +8,7 @@ use Rattle.xl_matrix.specs.Owners.{posix}
 use Rattle.xl_table.specs.Held.{has_one_party, IsGrantable, IsShareOrLock, is_range, mode_of, IsKept}
 use Rattle.xl_wait.specs.declared.waiter.Rooms.{Rooms}
 use Rattle.xl_core.specs.State.{CoreState}
-use Rattle.xl_core.specs.Asking.{is_client, may_hold, asked_claim, known_claim, IsFit, range_what, asked_claims, may_hold_all, IsFitAct}
+use Rattle.xl_core.specs.Askers.{is_client, may_hold, asked_claim, known_claim, IsFit, range_what, asked_claims, may_hold_all, IsFitAct}
 use Rattle.xl_core.specs.Decide.{ask}
 use Rattle.xl_core.specs.Good.{IsGood, IsPled}
 use Rattle.xl_core.specs.Settle.{settle, first_called}
@@ -23,7 +23,7 @@ use Rattle.xl_core.proofs.KnownLaws.{asked_known}
 use Rattle.xl_core.proofs.TurnLaws.{called_known}
 use Rattle.xl_core.specs.Judge.{IsRow, held_with, stop_left, gets, row, row_left, are_of_one_party}
 use Rattle.xl_core.specs.declared.ask.Act.TheVariants.{Ranges}
-use Rattle.xl_core.proofs.AskedLaws.{ranges_pled}
+use Rattle.xl_core.proofs.RequestLaws.{ranges_pled}
 use Rattle.std.proofs.lemmas.Bool.{both_ways, or_right}
 use Rattle.std.proofs.Math.Seq.{take-length}
 use Rattle.xl_core.specs.declared.judge.Ruling.{Ruling}

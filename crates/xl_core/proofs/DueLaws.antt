@@ -21,8 +21,8 @@ use Rattle.xl_names.specs.declared.name.Name.TheVariants.{NlmRange, NlmShare, Nl
 use Rattle.xl_table.specs.Flat.{removed, due_by, is_due}
 use Rattle.xl_table.specs.Held.{is_cache}
 use Rattle.xl_core.specs.State.{CoreState}
-use Rattle.xl_core.specs.Asking.{party_named}
-use Rattle.xl_core.specs.Breaks.{due_before, earlier, earliest_from, first_due, id_of, client_of}
+use Rattle.xl_core.specs.Askers.{party_named}
+use Rattle.xl_core.specs.BreakAnswers.{due_before, earlier_due, earliest_from, first_due, id_of, client_of}
 use Rattle.xl_core.specs.Good.{IsGood}
 use Rattle.xl_core.specs.Leases.{first_ended}
 use Rattle.xl_core.specs.Settle.{end_party}
@@ -35,12 +35,12 @@ use Rattle.xl_core.proofs.GoodLaws.{lapse_good, advanced_good}
 earliest_in : (names : List Name) (first : Option Claim) (cs : List Claim) (c : Claim) → earliest_from names first cs ≡ Some c → (first ≡ Some c) ⊎ IsIn c cs
 earliest_in names first [] c e = inl e
 earliest_in names first (d ∷ ds) c e =
-    elim (earliest_in names (earlier names first d) ds c e) [
+    elim (earliest_in names (earlier_due names first d) ds c e) [
       | inl one ↦ by first one
       | inr later ↦ inr (inr later)
     ]
   where
-    by : (o : Option Claim) → earlier names o d ≡ Some c → (o ≡ Some c) ⊎ IsIn c (d ∷ ds)
+    by : (o : Option Claim) → earlier_due names o d ≡ Some c → (o ≡ Some c) ⊎ IsIn c (d ∷ ds)
     by None one = inr (inl (same_Some d c one))
     by (Some before) one =
         elim (cases_Bool (due_before names d before)) [

@@ -12,15 +12,15 @@ use Rattle.xl_wait.specs.Waiting.{is_waiting, cancelled}
 use Rattle.xl_wait.specs.declared.waiter.Rooms.{Rooms}
 use Rattle.xl_wait.specs.declared.waiter.Waiter.{Waiter}
 use Rattle.xl_core.specs.State.{CoreState, GoesOn, MayBe, drawn}
-use Rattle.xl_core.specs.Asking.{party_named, both_entered, asked_whats, asked_claims, is_client}
+use Rattle.xl_core.specs.Askers.{party_named, both_entered, asked_whats, asked_claims, is_client}
 use Rattle.xl_core.specs.Decide.{Answered, plea_of, waiter_of, decided, way, before_wish, wish_after, ask}
 use Rattle.xl_core.specs.Wishes.{wish_for}
-use Rattle.xl_cache.specs.Planning.{planned}
+use Rattle.xl_cache.specs.BreakPlans.{planned}
 use Rattle.xl_core.specs.Ways.{made_way}
-use Rattle.xl_core.specs.Begin.{is_recall, recalls, begun_told, told_before, breaks_in_order, breaks_begun}
+use Rattle.xl_core.specs.BreaksBegun.{is_recall, recalls, begun_told, told_before, breaks_in_order, breaks_begun}
 use Rattle.xl_core.specs.declared.judge.Plea.{Plea}
-use Rattle.xl_core.proofs.BreakingLaws.{recalls_sorted}
-use Rattle.xl_core.proofs.BegunLaws.{begun_leave}
+use Rattle.xl_core.proofs.BreaksInOrderLaws.{recalls_sorted}
+use Rattle.xl_core.proofs.BreaksBegunLaws.{begun_leave}
 use Rattle.xl_core.proofs.WayLaws.{NoWay, Begins, way_is, way_names, way_waiters}
 use Rattle.xl_core.specs.Frames.{who_left, who_expired, all_unleased, calls_in, serves_none, AllLeave, IsFrame, IsRenewed, IsTicked, drawn_by, asks_to_hold, names_after, come_by}
 use Rattle.xl_core.specs.Good.{are_apart, IsGood}
@@ -36,10 +36,10 @@ use Rattle.xl_core.specs.declared.ask.Effect.TheVariants.{Begun, Served, Cancell
 use Rattle.xl_base.specs.declared.event.Moment.{Moment}
 use Rattle.xl_names.specs.declared.name.Name.TheVariants.{NfsParty}
 use Rattle.xl_core.specs.Leases.{Lease, later, without_lease, first_ended}
-use Rattle.xl_core.specs.Breaks.{ack, first_due, client_of}
+use Rattle.xl_core.specs.BreakAnswers.{ack, first_due, client_of}
 use Rattle.xl_core.specs.Ticks.{advanced, renew, end_some, unleased, expire, behind_told, expired_then, expired_for, expire_all, lapsed_by, lapse, lapsed_then, lapsed_for, tick}
 use Rattle.xl_core.proofs.ChangeLaws.{AskWay, Stays, Tests, Holds, Waits, Frees, Gives, decided_way}
-use Rattle.xl_core.proofs.WishFor.{wish_claims, after_claims}
+use Rattle.xl_core.proofs.AskWishLaws.{wish_claims, after_claims}
 use Rattle.xl_core.proofs.GoodLaws.{once_answered, fewer_cancelled, Turned, IsMoved, Answers, Rests, IsFirst, each_turn, asked_way_good, advanced_good, expire_good, lapse_good, lapsed_good}
 use Rattle.xl_core.proofs.RowLaws.{is_refusal}
 use Rattle.xl_core.proofs.SettleLaws.{apart_ids, all_out}

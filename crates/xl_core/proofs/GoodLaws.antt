@@ -38,12 +38,12 @@ use Rattle.xl_wait.specs.declared.waiter.Rooms.{Rooms}
 use Rattle.xl_wait.specs.declared.waiter.Waiter.{Waiter}
 use Rattle.xl_core.specs.State.{CoreState, started, step_begun, drawn}
 use Rattle.xl_core.specs.Leases.{Lease, moment_after, later, with_lease, without_lease, first_ended}
-use Rattle.xl_core.specs.Breaks.{first_due, client_of}
+use Rattle.xl_core.specs.BreakAnswers.{first_due, client_of}
 use Rattle.xl_core.specs.Ticks.{advanced, renew, end_some, unleased, expire, expired_then, expired_for, expire_all, lapsed_by, lapse, lapsed_then, lapsed_for, tick}
-use Rattle.xl_core.specs.Asking.{party_named, who_entered, asking_party, may_have, may_wish_for, IsFitWish, IsOrdered, range_what, known_owner}
+use Rattle.xl_core.specs.Askers.{party_named, who_entered, asking_party, may_have, may_wish_for, IsFitWish, IsOrdered, range_what, known_owner}
 use Rattle.xl_core.specs.declared.lease.Times.{Times}
 use Rattle.xl_names.specs.declared.name.Name.TheVariants.{NfsParty}
-use Rattle.xl_core.specs.Asking.{both_entered, asked_whats, asked_claim, asked_claims, known_claim, is_client, may_ask, IsFitAct, IsFit}
+use Rattle.xl_core.specs.Askers.{both_entered, asked_whats, asked_claim, asked_claims, known_claim, is_client, may_ask, IsFitAct, IsFit}
 use Rattle.xl_core.specs.Causes.{limits_of_wait, may_wait, left_by_unlock, IsEachDue, held_once}
 use Rattle.xl_core.specs.Decide.{Answered, plea_of, waiter_of, waiting, named, answered, claims_asked, unlocked_claims, unlocked_bytes, unlocked, wish_by, wish_asked, acted, decided, way, before_wish, does_wish, ask, freed, unlocked_one}
 use Rattle.xl_core.specs.Good.{are_kept, IsKnown, IsHeld, is_single, are_apart, IsPled, IsWished, IsWaiter, IsGood, is_held_up, holds_up}
@@ -51,7 +51,7 @@ use Rattle.xl_core.specs.Blockers.{is_stopped, all_run}
 use Rattle.xl_core.specs.Ways.{made_way}
 use Rattle.xl_core.specs.Wishes.{wish_for}
 use Rattle.xl_core.specs.declared.ask.Who.{Who}
-use Rattle.xl_core.proofs.WishFor.{refused_wish, MayWish, wish_for_good, after_good, same_kinds}
+use Rattle.xl_core.proofs.AskWishLaws.{refused_wish, MayWish, wish_for_good, after_good, same_kinds}
 use Rattle.xl_core.specs.Judge.{Ruled, all_granted, held_with, does_wait, judged, row, row_left}
 use Rattle.xl_core.specs.Limits.{most_waiters, wish_limits, first_passed}
 use Rattle.xl_core.specs.Settle.{plea_again, rests, all_of, turned, way_again, again, turn_or, first_turn, settle, waits_with, cancel, give_back, departed, end_party, close_open}
@@ -65,7 +65,7 @@ use Rattle.xl_core.specs.declared.ask.Effect.TheVariants.{Served}
 use Rattle.xl_core.specs.declared.judge.Plea.{Plea}
 use Rattle.xl_core.specs.declared.judge.Ruling.{Ruling}
 use Rattle.xl_core.specs.declared.judge.Ruling.TheVariants.{Gets, Waits, Told}
-use Rattle.xl_core.proofs.AskedLaws.{ranges_pled}
+use Rattle.xl_core.proofs.RequestLaws.{ranges_pled}
 use Rattle.xl_core.proofs.CauseLaws.{left_so, real_range, own_ranges, fit_ranges, tells, row_due}
 pub use Rattle.xl_core.proofs.StateLaws.{good_claims, good_from}
 use Rattle.xl_core.proofs.ClaimLaws.{AreGood, relocked_good, granted_good}

@@ -14,7 +14,7 @@ use Rattle.xl_table.specs.Relock.{granted_claims, relocked_in, unranged}
 use Rattle.xl_wait.specs.declared.waiter.Rooms.{Rooms}
 use Rattle.xl_wait.specs.declared.waiter.Waiter.{Waiter}
 use Rattle.xl_core.specs.State.{CoreState, started}
-use Rattle.xl_core.specs.Asking.{asker, asked_claim}
+use Rattle.xl_core.specs.Askers.{asker, asked_claim}
 use Rattle.xl_core.specs.Causes.{limits_of_grant}
 use Rattle.xl_core.specs.Deeds.{Asks, queue_with, queue_after}
 use Rattle.xl_core.specs.Decide.{ask}

@@ -23,7 +23,7 @@ use Rattle.xl_names.specs.declared.name.Name.{Name}
 use Rattle.xl_names.specs.declared.name.Name.TheVariants.{NlmRange, NlmShare, NlmParty, NfsRange, NfsShare, NfsParty, SmbLease}
 use Rattle.xl_names.proofs.NameLaws.{same_name_is, same_name_self, kept_from_number, number_at, name_at, number_entered, distinct_entered}
 use Rattle.xl_wait.specs.declared.waiter.Waiter.{Waiter}
-use Rattle.xl_core.specs.Asking.{owner_in, party_in, who_entered, asker, asking_party, both_entered, coming, asked_claim, asked_claims, no_number, number_or, known_owner, known_party, client_of, is_name, is_lease, is_client, is_named, may_hold}
+use Rattle.xl_core.specs.Askers.{owner_in, party_in, who_entered, asker, asking_party, both_entered, coming, asked_claim, asked_claims, no_number, number_or, known_owner, known_party, client_of, is_name, is_lease, is_client, is_named, may_hold}
 use Rattle.xl_table.specs.Held.{IsShareOrLock, may_own}
 use Rattle.xl_core.specs.Good.{agree, is_lease_of, are_kept, IsKnown, IsHeld, IsWaiter}
 use Rattle.xl_core.specs.declared.ask.Ask.{Ask}

@@ -9,7 +9,7 @@ use Rattle.xl_base.specs.declared.name.Party.{Party}
 use Rattle.xl_base.specs.declared.name.Party.TheVariants as parties
 use Rattle.xl_base.specs.declared.name.Protocol.TheVariants.{Nlm, Nfs, Smb}
 use Rattle.xl_cache.specs.Parties.{is_kind_of, is_cache_of}
-use Rattle.xl_cache.specs.Planning.{is_in_the_way, blocking_shares, need_of, break_by, break_of, planned, is_slow}
+use Rattle.xl_cache.specs.BreakPlans.{is_in_the_way, blocking_shares, need_of, break_by, break_of, planned, is_slow}
 use Rattle.xl_cache.specs.Targets.{is_delegation, loses_handle, target_of, rest_lies_within}
 use Rattle.xl_cache.specs.declared.need.Need.{Need}
 use Rattle.xl_matrix.specs.Equal.{same_parties, same_claims}
@@ -27,10 +27,10 @@ use Rattle.xl_table.specs.Held.{is_cache}
 use Rattle.xl_wait.specs.Waiting.{cancelled}
 use Rattle.xl_wait.specs.declared.waiter.Rooms.{Rooms}
 use Rattle.xl_wait.specs.declared.waiter.Waiter.{Waiter}
-use Rattle.xl_core.specs.Asking.{party_named, asked_whats, asked_claims, IsFit}
-use Rattle.xl_core.specs.Begin.{with_break, once_begun, once_broken, is_recalled, recalls, breaks_begun}
+use Rattle.xl_core.specs.Askers.{party_named, asked_whats, asked_claims, IsFit}
+use Rattle.xl_core.specs.BreaksBegun.{with_break, once_begun, once_broken, is_recalled, recalls, breaks_begun}
 use Rattle.xl_core.specs.Blockers.{is_stopped}
-use Rattle.xl_core.specs.Breaks.{may_be_left, with_rest, ack, first_due, client_of}
+use Rattle.xl_core.specs.BreakAnswers.{may_be_left, with_rest, ack, first_due, client_of}
 use Rattle.xl_core.specs.Causes.{may_wait}
 use Rattle.xl_core.specs.Decide.{Answered, plea_of, waiter_of, decided, way, before_wish, does_wish, wish_after, ask}
 use Rattle.xl_core.specs.Wishes.{wished_kind, wish_granted, wish_of, wish_for}
@@ -54,7 +54,7 @@ use Rattle.xl_core.specs.declared.ask.Effect.TheVariants.{Served}
 use Rattle.xl_core.specs.declared.judge.Plea.{Plea}
 use Rattle.xl_core.proofs.CacheLaws.{all_granted_caches}
 use Rattle.xl_core.proofs.ChangeLaws.{AskWay, Stays, Tests, Holds, Waits, Frees, Gives, decided_way, decided_caches}
-use Rattle.xl_core.proofs.WishFor.{wish_claims, empty_wish, ungranted_wish, ungranted_after, wish_for_left}
+use Rattle.xl_core.proofs.AskWishLaws.{wish_claims, empty_wish, ungranted_wish, ungranted_after, wish_for_left}
 use Rattle.xl_core.proofs.GoodLaws.{once_answered, fewer_cancelled, fewer_filtered, Turned, IsMoved, Answers, Rests, IsFirst, each_turn, asked_way_good}
 use Rattle.xl_core.proofs.SettleLaws.{once_cases, waiters_left}
 use Rattle.xl_core.proofs.FrameLaws.{told_both, way_leaves}

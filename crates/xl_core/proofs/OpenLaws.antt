@@ -13,7 +13,7 @@ use Rattle.xl_table.specs.Relock.{is_range_of, granted_claims}
 use Rattle.xl_table.proofs.ShareLaws.{is_own}
 use Rattle.xl_wait.specs.declared.waiter.Rooms.{Rooms}
 use Rattle.xl_core.specs.State.{CoreState}
-use Rattle.xl_core.specs.Asking.{range_what, asker, asked_claim, asked_claims, both_entered, known_claim, known_owner, IsFit, IsFitAct}
+use Rattle.xl_core.specs.Askers.{range_what, asker, asked_claim, asked_claims, both_entered, known_claim, known_owner, IsFit, IsFitAct}
 use Rattle.xl_core.specs.Causes.{IsElementDue}
 use Rattle.xl_core.specs.Decide.{plea_of, decided}
 use Rattle.xl_core.specs.Good.{IsKnown, IsGood}

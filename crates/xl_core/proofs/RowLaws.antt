@@ -20,7 +20,7 @@ use Rattle.xl_core.specs.declared.ask.Effect.{Effect}
 use Rattle.xl_core.specs.declared.judge.Plea.{Plea}
 use Rattle.xl_core.specs.declared.judge.Ruling.{Ruling}
 use Rattle.xl_core.specs.declared.judge.Ruling.TheVariants.{Gets, Waits, Told}
-use Rattle.xl_core.proofs.BreakingLaws.{all_final}
+use Rattle.xl_core.proofs.BreaksInOrderLaws.{all_final}
 use Rattle.xl_core.proofs.DecideLaws.{blockers_none, none_blockers, some_stops, stopped_blocked, cache_blocked, free_unless, free_moves, free_clear}
 
 -- ---- a row

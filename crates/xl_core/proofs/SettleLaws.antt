@@ -10,7 +10,7 @@ use Rattle.xl_matrix.specs.Equal.{same_parties}
 use Rattle.xl_matrix.specs.declared.claim.Claim.{Claim}
 use Rattle.xl_names.specs.declared.name.Name.{Name}
 use Rattle.xl_table.specs.Flat.{removed}
-use Rattle.xl_cache.specs.Planning.{is_running}
+use Rattle.xl_cache.specs.BreakPlans.{is_running}
 use Rattle.xl_base.specs.declared.name.Owner.{Owner}
 use Rattle.xl_table.specs.Held.{spans_of, is_cache, is_share}
 use Rattle.xl_table.specs.Relock.{shares_of}
@@ -19,7 +19,7 @@ use Rattle.xl_wait.specs.declared.waiter.Rooms.{Rooms}
 use Rattle.xl_wait.specs.declared.waiter.Waiter.{Waiter}
 use Rattle.xl_core.specs.declared.ask.Effect.{Effect}
 use Rattle.xl_core.specs.State.{CoreState}
-use Rattle.xl_core.specs.Begin.{idle_caches, breaks_begun}
+use Rattle.xl_core.specs.BreaksBegun.{idle_caches, breaks_begun}
 use Rattle.xl_core.specs.Causes.{IsEachDue, held_once, IsServed, Answered, WaitsOn, IsTurn}
 use Rattle.xl_core.specs.Good.{are_apart, caches_of, caches_beside, caches_but, IsKnown, IsPled, IsGood, IsWaiter, is_held_up, holds_up, IsSettled}
 use Rattle.xl_core.specs.Judge.{Ruled, all_granted}
@@ -32,10 +32,10 @@ use Rattle.xl_core.specs.declared.ask.Answer.TheVariants.{Granted, Queued, Confl
 use Rattle.xl_core.proofs.CacheLaws.{all_granted_caches}
 use Rattle.xl_core.proofs.ChangeLaws.{all_spans_left, all_shares_left}
 use Rattle.xl_core.specs.declared.ask.Effect.TheVariants.{Served}
-use Rattle.xl_core.proofs.BegunLaws.{begun_spans, begun_shares}
+use Rattle.xl_core.proofs.BreaksBegunLaws.{begun_spans, begun_shares}
 use Rattle.xl_core.specs.Wishes.{wish_for}
 use Rattle.xl_core.proofs.WishLaws.{wish_spans, wish_shares}
-use Rattle.xl_core.proofs.WishFor.{wish_keeps, wish_claims, empty_wish, wish_for_idle, wish_beside_at}
+use Rattle.xl_core.proofs.AskWishLaws.{wish_keeps, wish_claims, empty_wish, wish_for_idle, wish_beside_at}
 use Rattle.xl_core.proofs.GoodLaws.{once_answered, Turned, IsMoved, Answers, Rests, IsFirst, each_turn}
 use Rattle.xl_core.proofs.WayLaws.{way_keeps, begun_names, begun_waiters, way_idle}
 use Rattle.xl_core.proofs.TurnLaws.{up_rests, rests_held, move_first}

@@ -1,5 +1,5 @@
 -- A test foretells the lock.
-use Rattle.xl_cache.specs.Planning.{is_covered, is_final}
+use Rattle.xl_cache.specs.BreakPlans.{is_covered, is_final}
 use Rattle.std.proofs.Common.{◌≡◌, ℕ, ◌<◌, ◌≤◌, Bool, true, false, not, ◌&&◌, ◌||◌, ◌==◌, eqb, List, [], ◌∷◌, length, Option, Some, None, inl, inr, refl, sym, ap, ◌∙◌, ◌↔◌, arith, slice_get}
 use Rattle.std.specs.List.{list_any}
 use Rattle.std.proofs.lemmas.Bool.{both_ways, and_parts, and_right, ne_eqb, cases_lt, not-true}
@@ -28,7 +28,7 @@ use Rattle.xl_table.specs.Least.{least}
 use Rattle.xl_table.proofs.LeastLaws.{one_passes}
 use Rattle.xl_wait.specs.declared.waiter.Rooms.{Rooms}
 use Rattle.xl_core.specs.State.{CoreState}
-use Rattle.xl_core.specs.Asking.{asked_claim, asked_what, known_claim, known_owner, number_or, no_number, is_client, is_named, owner_in}
+use Rattle.xl_core.specs.Askers.{asked_claim, asked_what, known_claim, known_owner, number_or, no_number, is_client, is_named, owner_in}
 use Rattle.xl_core.specs.Blockers.{test_blockers, is_stopped}
 use Rattle.xl_core.specs.Causes.{stands_against, IsSameAsker, IsConflict}
 use Rattle.xl_core.specs.Decide.{decided}

@@ -8,9 +8,9 @@ use Rattle.xl_base.specs.declared.event.Moment.{Moment}
 use Rattle.xl_base.specs.declared.name.Party.{Party}
 use Rattle.xl_names.specs.declared.name.Name.TheVariants.{NfsParty}
 use Rattle.xl_core.specs.State.{CoreState}
-use Rattle.xl_core.specs.Asking.{party_named}
+use Rattle.xl_core.specs.Askers.{party_named}
 use Rattle.xl_matrix.specs.declared.claim.Claim.{Claim}
-use Rattle.xl_core.specs.Breaks.{first_due}
+use Rattle.xl_core.specs.BreakAnswers.{first_due}
 use Rattle.xl_core.specs.Deeds.{Deed, all_done, all_told_of, expiry_then, expiries, expiries_of, lapse_then, lapses, tick_deeds, AreFit}
 use Rattle.xl_core.proofs.DeedLists.{done_append, told_append, fit_append}
 use Rattle.xl_core.specs.Leases.{Lease, without_lease, has_ended, comes_before, first_of, first_among, first_ended}

@@ -10,9 +10,9 @@ use Rattle.xl_wait.specs.declared.waiter.Rooms.{Rooms}
 use Rattle.xl_wait.specs.declared.waiter.Waiter.{Waiter}
 use Rattle.xl_core.specs.State.{CoreState}
 use Rattle.xl_core.specs.Blockers.{is_stopped, all_run}
-use Rattle.xl_core.specs.Begin.{breaks_begun}
+use Rattle.xl_core.specs.BreaksBegun.{breaks_begun}
 use Rattle.xl_core.specs.Ways.{made_way}
-use Rattle.xl_cache.specs.Planning.{planned, recalled_by}
+use Rattle.xl_cache.specs.BreakPlans.{planned, recalled_by}
 use Rattle.xl_core.specs.Good.{IsKnown, IsPled, IsWaiter, IsGood, is_held_up, holds_up}
 use Rattle.xl_core.specs.Judge.{Ruled, stopped, kept_off, does_wait, judged}
 use Rattle.xl_core.specs.Settle.{plea_again, rests, turned, ruled_behind, way_again, again, turn_or, first_turn, called_of, first_called}

@@ -21,16 +21,16 @@ use Rattle.xl_table.specs.Relock.{shares_of, old_shares, is_share_of, with_share
 use Rattle.xl_wait.specs.declared.waiter.Rooms.{Rooms}
 use Rattle.xl_wait.specs.declared.waiter.Waiter.{Waiter}
 use Rattle.xl_core.specs.State.{CoreState}
-use Rattle.xl_core.specs.Asking.{alone, asker, asking_party, asked_whats, asked_what, asked_claim, asked_claims, known_claim, is_client, is_named}
-use Rattle.xl_core.specs.Begin.{with_break, once_broken, breaks_begun}
+use Rattle.xl_core.specs.Askers.{alone, asker, asking_party, asked_whats, asked_what, asked_claim, asked_claims, known_claim, is_client, is_named}
+use Rattle.xl_core.specs.BreaksBegun.{with_break, once_broken, breaks_begun}
 use Rattle.xl_core.specs.Frames.{calls_in, drawn_by}
 use Rattle.xl_core.specs.Leases.{moment_after}
-use Rattle.xl_cache.specs.Planning.{is_running}
+use Rattle.xl_cache.specs.BreakPlans.{is_running}
 use Rattle.xl_core.specs.Blockers.{is_stopped, all_run, test_blockers}
 use Rattle.xl_core.specs.Causes.{IsWishDue, IsSameAsker, IsConflict, IsClaimDue, IsTestDue, IsUnlockDue, IsOwn, limits_of_grant}
 use Rattle.xl_core.specs.Decide.{Answered, test_answered, tested, plea_of, waiter_of, decided, way, before_wish, does_wish, wish_after, with_wish, ask}
 use Rattle.xl_core.specs.Wishes.{wish_granted, wish_of, wish_for}
-use Rattle.xl_core.proofs.WishFor.{ungranted_wish, after_keeps, after_claims, ungranted_after, empty_after, wish_beside_at}
+use Rattle.xl_core.proofs.AskWishLaws.{ungranted_wish, after_keeps, after_claims, ungranted_after, empty_after, wish_beside_at}
 use Rattle.xl_core.proofs.WishLaws.{wish_spans, wish_shares}
 use Rattle.xl_core.specs.Good.{IsGood, caches_of, caches_beside}
 use Rattle.xl_core.specs.Limits.{IsRoom}
@@ -40,7 +40,7 @@ use Rattle.xl_core.specs.declared.ask.Answer.{Answer}
 use Rattle.xl_core.specs.declared.ask.Answer.TheVariants as answers
 use Rattle.xl_core.specs.declared.ask.Ask.{Ask}
 use Rattle.xl_core.specs.declared.ask.Effect.{Effect}
-use Rattle.xl_core.proofs.BegunLaws.{broken_cache, broken_is_cache, filter_broken, begun_spans}
+use Rattle.xl_core.proofs.BreaksBegunLaws.{broken_cache, broken_is_cache, filter_broken, begun_spans}
 use Rattle.xl_core.proofs.CauseLaws.{wish_due, lock_due, lock_free, test_is, test_due, unlock_due, test_leaves}
 use Rattle.xl_core.proofs.ChangeLaws.{decided_own, decided_held, decided_shares, decided_shared, decided_left, decided_waits}
 use Rattle.xl_core.proofs.FrameLaws.{ask_frame}

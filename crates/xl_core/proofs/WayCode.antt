@@ -1,20 +1,20 @@
 -- How the way is made: where no cache stands on the file none is.
 use Rattle.std.proofs.Common.{◌≡◌, ℕ, ◌+◌, ◌≤◌, Bool, true, false, ◌&&◌, ◌==◌, List, [], ◌∷◌, map, Some, refl, sym, ap, subst, ◌∙◌, arith}
 use Rattle.std.specs.List.{AllByRecursion, list_any}
-use Rattle.xl_cache.specs.Planning.{is_final, planned}
+use Rattle.xl_cache.specs.BreakPlans.{is_final, planned}
 use Rattle.xl_table.specs.Flat.{blocks, is_blocked}
 use Rattle.xl_core.specs.Blockers.{is_stopped}
-use Rattle.xl_core.proofs.BreakingLaws.{all_final}
-use Rattle.xl_core.proofs.WatchLaws.{is_filled, any_of, asked_there}
+use Rattle.xl_core.proofs.BreaksInOrderLaws.{all_final}
+use Rattle.xl_core.proofs.HeldUpLaws.{is_filled, any_of, asked_there}
 use Rattle.xl_matrix.specs.declared.claim.Claim.{Claim}
 use Rattle.xl_table.specs.Held.{is_cache}
-use Rattle.xl_core.specs.Begin.{recalls, breaks_begun}
+use Rattle.xl_core.specs.BreaksBegun.{recalls, breaks_begun}
 use Rattle.xl_core.specs.Good.{IsGood}
 use Rattle.xl_core.specs.State.{CoreState}
 use Rattle.xl_core.specs.Ways.{made_way}
 use Rattle.xl_core.specs.declared.ask.Effect.{Effect}
 use Rattle.xl_core.specs.declared.judge.Plea.{Plea}
-use Rattle.xl_core.proofs.BegunLaws.{none_begun_there, recalls_few}
+use Rattle.xl_core.proofs.BreaksBegunLaws.{none_begun_there, recalls_few}
 use Rattle.xl_names.specs.declared.name.Name.{Name}
 use Rattle.xl_base.proofs.Members.{all_weaker}
 use Rattle.xl_table.specs.Held.{has_one_party}
@@ -25,7 +25,7 @@ use Rattle.xl_core.specs.declared.parts.Parts.{Parts}
 use Rattle.xl_core.specs.declared.settling.Called.{Called}
 use Rattle.xl_matrix.specs.declared.claim.Extent.{Extent}
 use Rattle.xl_wait.specs.declared.waiter.Rooms.{Rooms}
-use Rattle.xl_core.specs.Asking.{range_what, asked_whats, asked_claims}
+use Rattle.xl_core.specs.Askers.{range_what, asked_whats, asked_claims}
 use Rattle.xl_core.specs.Decide.{plea_of, way}
 use Rattle.xl_core.specs.declared.ask.Ask.{Ask}
 use Rattle.xl_core.proofs.GoodLaws.{known_one_party, ranges_no_cache, asked_way_good}

@@ -8,7 +8,7 @@ use Rattle.xl_matrix.specs.declared.claim.What.{What}
 use Rattle.xl_spans.specs.Spans.{mode_at}
 use Rattle.xl_spans.specs.declared.span.Span.{Span}
 use Rattle.xl_wait.specs.declared.waiter.Waiter.{Waiter}
-use Rattle.xl_core.specs.Begin.{breaks_begun}
+use Rattle.xl_core.specs.BreaksBegun.{breaks_begun}
 use Rattle.xl_core.specs.Good.{holds_up, IsGood}
 use Rattle.xl_core.specs.Places.{Place, ByteOf, ShareOf, RangesOf, CacheOf, byte_held, share_held, held_at, then_entered, broken_at, else_was}
 use Rattle.xl_core.specs.Settle.{way_again, called_of, first_called, next_way, way_called}
@@ -16,7 +16,7 @@ use Rattle.xl_core.specs.State.{CoreState}
 use Rattle.xl_core.specs.Ways.{made_way}
 use Rattle.xl_core.specs.declared.ask.Effect.{Effect}
 use Rattle.xl_core.specs.declared.judge.Plea.{Plea}
-use Rattle.xl_core.proofs.BegunLaws.{begun_cache, begun_spans, begun_shares, begun_elements}
+use Rattle.xl_core.proofs.BreaksBegunLaws.{begun_cache, begun_spans, begun_shares, begun_elements}
 use Rattle.xl_core.proofs.WayLaws.{NoWay, Begins, way_is}
 
 -- what comes later stands, else what came first

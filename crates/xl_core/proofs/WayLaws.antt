@@ -3,8 +3,8 @@ use Rattle.std.proofs.Common.{◌≡◌, ℕ, ◌+◌, ◌≤◌, Bool, true, fa
 use Rattle.std.specs.List.{AllByRecursion}
 use Rattle.std.proofs.lemmas.Bool.{cases_Bool, both_ways}
 use Rattle.xl_base.specs.Lists.{IsIn, sorted}
-use Rattle.xl_cache.specs.Planning.{is_obstacle, is_running, planned, recalled_by}
-use Rattle.xl_cache.proofs.PlanLaws.{names_only}
+use Rattle.xl_cache.specs.BreakPlans.{is_obstacle, is_running, planned, recalled_by}
+use Rattle.xl_cache.proofs.BreakPlanLaws.{names_only}
 use Rattle.xl_matrix.specs.declared.claim.CacheKind.{CacheKind}
 use Rattle.xl_matrix.specs.declared.claim.Claim.{Claim}
 use Rattle.xl_matrix.specs.declared.claim.What.{What}
@@ -13,7 +13,7 @@ use Rattle.xl_names.specs.declared.name.Name.{Name}
 use Rattle.xl_table.specs.Flat.{is_blocked}
 use Rattle.xl_table.specs.Held.{is_cache, IsShareOrLock}
 use Rattle.xl_core.specs.State.{CoreState}
-use Rattle.xl_core.specs.Begin.{once_broken, idle_caches, told_before, begun_told, breaks_begun}
+use Rattle.xl_core.specs.BreaksBegun.{once_broken, idle_caches, told_before, begun_told, breaks_begun}
 use Rattle.xl_core.specs.Leases.{moment_after}
 use Rattle.xl_core.specs.Blockers.{is_stopped, first_broken, all_run}
 use Rattle.xl_core.specs.Frames.{serves_none}
@@ -21,9 +21,9 @@ use Rattle.xl_core.specs.Good.{IsGood, IsKnown}
 use Rattle.xl_core.specs.Ways.{begins, made_way}
 use Rattle.xl_core.specs.declared.ask.Effect.{Effect}
 use Rattle.xl_core.specs.declared.judge.Plea.{Plea}
-use Rattle.xl_core.proofs.BeginLaws.{none_begins_again, fewer_idle}
-use Rattle.xl_core.proofs.BegunLaws.{none_begun, breaks_good, begun_serve}
-use Rattle.xl_core.proofs.BreakingLaws.{length_sorted}
+use Rattle.xl_core.proofs.AskBreaksLaws.{none_begins_again, fewer_idle}
+use Rattle.xl_core.proofs.BreaksBegunLaws.{none_begun, breaks_good, begun_serve}
+use Rattle.xl_core.proofs.BreaksInOrderLaws.{length_sorted}
 use Rattle.xl_core.proofs.DecideLaws.{obstacle_blocks}
 
 -- ---- no break, or those of the first claim

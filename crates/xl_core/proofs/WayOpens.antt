@@ -6,7 +6,7 @@ use Rattle.xl_matrix.specs.declared.claim.Extent.{Extent}
 use Rattle.xl_matrix.specs.declared.claim.What.{What}
 use Rattle.xl_table.specs.Elements.{elements_of, unlocked_elements}
 use Rattle.xl_wait.specs.declared.waiter.Rooms.{Rooms}
-use Rattle.xl_core.specs.Asking.{range_what, asked_whats, known_claim, IsFit}
+use Rattle.xl_core.specs.Askers.{range_what, asked_whats, known_claim, IsFit}
 use Rattle.xl_core.specs.Causes.{IsElementDue}
 use Rattle.xl_core.specs.Decide.{Answered, decided, way, before_wish, does_wish, ask}
 use Rattle.xl_core.specs.Good.{IsGood}
@@ -16,12 +16,12 @@ use Rattle.xl_core.specs.declared.ask.Answer.{Answer}
 use Rattle.xl_core.specs.declared.ask.Answer.TheVariants as answers
 use Rattle.xl_core.specs.declared.ask.Ask.{Ask}
 use Rattle.xl_core.specs.declared.ask.Who.TheVariants as who
-use Rattle.xl_core.proofs.BegunLaws.{begun_elements}
+use Rattle.xl_core.proofs.BreaksBegunLaws.{begun_elements}
 use Rattle.xl_core.proofs.DeedCalls.{decided_keeps_claims}
 use Rattle.xl_core.proofs.GoodLaws.{asked_way_good}
 use Rattle.xl_core.proofs.OpenLaws.{ranges_locked, range_unlocked, range_due}
 use Rattle.xl_core.proofs.WayAsks.{ask_way_keeps, ask_way_none, ask_there, no_wish_after}
-use Rattle.xl_core.proofs.WishFor.{ungranted_after}
+use Rattle.xl_core.proofs.AskWishLaws.{ungranted_after}
 
 pub ask_locked : (n : ℕ) (left : Rooms) (s : CoreState) (a : Ask) (ranges : List (Extent × Bool)) (number : ℕ) (c : Claim) → IsGood s → IsFit a → a.owner ≡ who.Open number → a.act ≡ acts.Ranges ranges → (ask n left s a).0 ≡ answers.Granted c
     → elements_of a.file (owners.Open number) (ask n left s a).2.claims ≡ elements_of a.file (owners.Open number) s.claims ++ map range_what ranges

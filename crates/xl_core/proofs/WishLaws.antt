@@ -10,7 +10,7 @@ use Rattle.xl_base.proofs.Searches.{find_in, none_found, in_filter_map_from}
 use Rattle.xl_base.specs.declared.name.Owner.{Owner}
 use Rattle.xl_base.specs.declared.name.Party.{Party}
 use Rattle.xl_cache.specs.Parties.{is_kind_of, is_cache_of}
-use Rattle.xl_cache.specs.Planning.{is_running}
+use Rattle.xl_cache.specs.BreakPlans.{is_running}
 use Rattle.xl_cache.specs.Wishing.{wished_claim, may_stand, best_of, joined, is_its_cache, may_replace, best_join_of, raised_by, granted_beside, granted_kind}
 use Rattle.xl_cache.specs.declared.wish.Wish.{Wish}
 use Rattle.xl_cache.proofs.PartyLaws.{joined_kind}
@@ -31,12 +31,12 @@ use Rattle.xl_table.specs.Relock.{most_claims, shares_of}
 use Rattle.xl_table.proofs.FlatLaws.{all_removed, pairwise_others}
 use Rattle.xl_table.proofs.InsertLaws.{sound_inserted_other, sound_changed_other}
 use Rattle.xl_wait.specs.Waiting.{waits_on}
-use Rattle.xl_core.specs.Begin.{is_idle, idle_caches, others_of, is_recalled, idle_delegations}
+use Rattle.xl_core.specs.BreaksBegun.{is_idle, idle_caches, others_of, is_recalled, idle_delegations}
 use Rattle.xl_core.specs.Good.{are_kept, IsHeldBy, IsHeld, is_single, IsGood, holding}
 use Rattle.xl_core.specs.Places.{CacheOf, is_cache_on, held_in, else_was}
 use Rattle.xl_core.specs.State.{CoreState}
 use Rattle.xl_core.specs.Wishes.{has_room, wished_kind, cached, once_wished, wish_granted, wish_of, wished_at}
-use Rattle.xl_core.proofs.BegunLaws.{same_others, no_two}
+use Rattle.xl_core.proofs.BreaksBegunLaws.{same_others, no_two}
 use Rattle.xl_core.proofs.CachePlaces.{IsSameButCaches, stays_beside, stays_rest}
 use Rattle.xl_core.proofs.ClaimLaws.{is_single-sym}
 use Rattle.xl_core.proofs.HeldCaches.{cache_entered, cache_changed}

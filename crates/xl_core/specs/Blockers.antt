@@ -1,8 +1,8 @@
 -- Which held claims stand against an ask: shares and ranges, and caches, whose breaks may make way.
 use Rattle.std.specs.Prelude.{Bool, not, List, [], ◌∷◌, Option, Some, None, is_some}
 use Rattle.std.specs.List.{filter, list_any}
-use Rattle.xl_cache.specs.Planning.{is_final, planned}
-use Rattle.xl_cache.specs.declared.planner.Plan.{Plan}
+use Rattle.xl_cache.specs.BreakPlans.{is_final, planned}
+use Rattle.xl_cache.specs.declared.break_plan.BreakPlan.{BreakPlan}
 use Rattle.xl_matrix.specs.declared.claim.CacheKind.{CacheKind}
 use Rattle.xl_matrix.specs.declared.claim.Claim.{Claim}
 use Rattle.xl_table.specs.Flat.{blocks}
@@ -31,7 +31,7 @@ cache_by None breaks = first_broken breaks
 abbrev pub all_run : List Claim → Claim → Bool
 all_run held ask = not (is_some (first_broken (planned ask held).breaks))
 
-abbrev pub cache_in : Plan → Option Claim
+abbrev pub cache_in : BreakPlan → Option Claim
 cache_in p = cache_by p.awaited p.breaks
 
 -- a cache that blocks the ask, or covers a share that does; one whose break runs, if there is one

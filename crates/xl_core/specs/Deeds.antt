@@ -14,14 +14,14 @@ use Rattle.xl_wait.specs.Waiting.{is_waiting, cancelled}
 use Rattle.xl_wait.specs.declared.waiter.Rooms.{Rooms}
 use Rattle.xl_wait.specs.declared.waiter.Waiter.{Waiter}
 use Rattle.xl_core.specs.State.{CoreState, drawn}
-use Rattle.xl_core.specs.Asking.{party_named, asked_whats, asked_claims, IsFit}
+use Rattle.xl_core.specs.Askers.{party_named, asked_whats, asked_claims, IsFit}
 use Rattle.xl_core.specs.Causes.{held_once}
 use Rattle.xl_core.specs.Decide.{waiter_of, way, before_wish, does_wish, ask}
 use Rattle.xl_core.specs.Wishes.{caches_wished}
 use Rattle.xl_table.specs.Flat.{removed}
 use Rattle.xl_table.specs.Held.{is_range}
 use Rattle.xl_table.specs.Leaving.{is_of_some}
-use Rattle.xl_core.specs.Breaks.{may_be_left, with_rest, ack, first_due, client_of}
+use Rattle.xl_core.specs.BreakAnswers.{may_be_left, with_rest, ack, first_due, client_of}
 use Rattle.xl_core.specs.Leases.{first_ended}
 use Rattle.xl_core.specs.Good.{caches_of}
 use Rattle.xl_core.specs.Settle.{next_way, settle, waits_for, waits_as, cancel, give_back, share_has, weaken, end_party, close_open}

@@ -7,11 +7,11 @@ use Rattle.xl_matrix.specs.declared.claim.Extent.TheVariants as extents
 use Rattle.xl_matrix.specs.declared.claim.What.{What}
 use Rattle.xl_wait.specs.declared.waiter.Rooms.{Rooms}
 use Rattle.xl_core.specs.State.{CoreState}
-use Rattle.xl_core.specs.Asking.{range_what, both_entered, asked_what, asked_claim, asked_claims, known_claim}
+use Rattle.xl_core.specs.Askers.{range_what, both_entered, asked_what, asked_claim, asked_claims, known_claim}
 use Rattle.xl_core.specs.Limits.{IsRoom}
 use Rattle.xl_core.specs.Causes.{limits_of_grant, IsClaimDue, IsWishDue, IsTestDue, IsUnlockDue, IsElementDue, IsEachDue, IsTurn}
 use Rattle.xl_core.specs.Decide.{way, ask}
-use Rattle.xl_core.specs.Breaks.{first_due}
+use Rattle.xl_core.specs.BreakAnswers.{first_due}
 use Rattle.xl_core.specs.Deeds.{Deed, Asks, Serves, Lapses, Expires, done}
 use Rattle.xl_core.specs.Leases.{first_ended}
 use Rattle.xl_table.specs.Flat.{is_blocked}

@@ -6,7 +6,7 @@ use Rattle.xl_wait.specs.declared.waiter.Waiter.{Waiter}
 use Rattle.xl_base.specs.declared.event.Moment.{Moment}
 use Rattle.xl_core.specs.State.{CoreState}
 use Rattle.xl_core.specs.Leases.{Lease, moment_after, later, with_lease, without_lease}
-use Rattle.xl_core.specs.Asking.{both_entered, asked_whats, asked_claims}
+use Rattle.xl_core.specs.Askers.{both_entered, asked_whats, asked_claims}
 use Rattle.xl_core.specs.Decide.{waiter_of}
 use Rattle.xl_core.specs.Settle.{all_cancelled}
 use Rattle.xl_core.specs.declared.ask.Act.{Act}

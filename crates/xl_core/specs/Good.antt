@@ -24,7 +24,7 @@ use Rattle.xl_table.specs.Flat.{is_blocked}
 use Rattle.xl_table.specs.Held.{is_share, is_cache, may_own, IsKept, IsGrantable, IsShareOrLock}
 use Rattle.xl_wait.specs.declared.waiter.Waiter.{Waiter}
 use Rattle.xl_core.specs.State.{CoreState}
-use Rattle.xl_core.specs.Asking.{client_of, is_name, is_lease}
+use Rattle.xl_core.specs.Askers.{client_of, is_name, is_lease}
 use Rattle.xl_core.specs.Blockers.{is_stopped, all_run}
 use Rattle.xl_core.specs.Judge.{IsRow}
 use Rattle.xl_core.specs.Limits.{most_waiters}

@@ -4,7 +4,7 @@ use Rattle.std.specs.List.{filter}
 use Rattle.xl_matrix.specs.declared.claim.Claim.{Claim}
 use Rattle.xl_matrix.specs.declared.claim.What.{What}
 use Rattle.xl_matrix.specs.declared.claim.What.TheVariants.{Cache}
-use Rattle.xl_core.specs.Begin.{is_recalled}
+use Rattle.xl_core.specs.BreaksBegun.{is_recalled}
 use Rattle.xl_core.specs.State.{CoreState}
 
 -- a break of the cache may still begin: none runs, or the one that runs leaves something

@@ -23,13 +23,13 @@ use Rattle.xl_names.specs.declared.name.Name.TheVariants.{NfsParty}
 use Rattle.xl_cache.specs.declared.wish.Wish.{Wish}
 use Rattle.xl_wait.specs.declared.waiter.Rooms.{Rooms}
 use Rattle.xl_core.specs.State.{CoreState}
-use Rattle.xl_core.specs.Begin.{begun_at}
+use Rattle.xl_core.specs.BreaksBegun.{begun_at}
 use Rattle.xl_core.specs.Decide.{way, before_wish, does_wish, ask}
 use Rattle.xl_core.specs.Wishes.{wished_kind, wish_of, wished_at}
 use Rattle.xl_core.specs.Leases.{moment_after}
 use Rattle.xl_core.specs.Settle.{next_way}
-use Rattle.xl_core.specs.Asking.{party_named, range_what}
-use Rattle.xl_core.specs.Breaks.{client_of}
+use Rattle.xl_core.specs.Askers.{party_named, range_what}
+use Rattle.xl_core.specs.BreakAnswers.{client_of}
 use Rattle.xl_core.specs.Deeds.{wish_by_number, asked_by, once_served, Deed, Asks, GivesBack, Weakens, Acks, Ends, Serves, Lapses, Expires, Closes, given, done}
 use Rattle.xl_table.specs.Relock.{is_exclusive, is_range_of, shares_of, old_shares, united_by, granted_claims}
 use Rattle.xl_core.specs.declared.ask.Act.{Act}

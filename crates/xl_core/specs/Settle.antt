@@ -17,7 +17,7 @@ use Rattle.xl_wait.specs.Waiting.{cancelled}
 use Rattle.xl_wait.specs.declared.waiter.Rooms.{Rooms}
 use Rattle.xl_wait.specs.declared.waiter.Waiter.{Waiter}
 use Rattle.xl_core.specs.State.{CoreState}
-use Rattle.xl_core.specs.Begin.{idle_caches}
+use Rattle.xl_core.specs.BreaksBegun.{idle_caches}
 use Rattle.xl_core.specs.Good.{holds_up}
 use Rattle.xl_core.specs.Judge.{Ruled, judged}
 use Rattle.xl_core.specs.Ways.{made_way}

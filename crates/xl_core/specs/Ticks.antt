@@ -7,8 +7,8 @@ use Rattle.xl_matrix.specs.declared.claim.Claim.{Claim}
 use Rattle.xl_names.specs.declared.name.Name.TheVariants.{NfsParty}
 use Rattle.xl_table.specs.Flat.{removed}
 use Rattle.xl_core.specs.State.{CoreState}
-use Rattle.xl_core.specs.Asking.{party_named}
-use Rattle.xl_core.specs.Breaks.{first_due, client_of}
+use Rattle.xl_core.specs.Askers.{party_named}
+use Rattle.xl_core.specs.BreakAnswers.{first_due, client_of}
 use Rattle.xl_core.specs.Leases.{moment_after, later, with_lease, without_lease, first_ended}
 use Rattle.xl_core.specs.Settle.{end_party}
 use Rattle.xl_core.specs.declared.ask.Effect.{Effect}

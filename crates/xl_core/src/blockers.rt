@@ -5,10 +5,10 @@ ghost use Rattle.xl_wait.specs.declared.waiter.Waiter.{Waiter};
 ghost use Rattle.xl_core.specs.Blockers.{blockers, is_stopped, first_broken, all_run, cache_in, cache_against};
 ghost use Rattle.xl_core.specs.Whole.{state_of};
 
-use crate::breaking::{final_blockers, plan_for};
+use crate::breaks::{final_blockers, plan_for};
 use crate::parts::Parts;
 use std::alloc::{AllocError, Global};
-use xl_cache::Plan;
+use xl_cache::BreakPlan;
 use xl_matrix::{CacheKind, Claim};
 use xl_table::least_of;
 
@@ -50,7 +50,7 @@ pub(crate) fn all_run(alloc: Global, parts: &Parts, claim: &Claim) -> Result<boo
 }
 
 /// The cache that a plan waits for, or else the first that it breaks.
-fn cache_in(plan: &Plan) -> Option<Claim>
+fn cache_in(plan: &BreakPlan) -> Option<Claim>
     ensures { result ≡ cache_in plan.now }
 {
     match plan.awaited {

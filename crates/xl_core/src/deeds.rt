@@ -2,7 +2,7 @@
 //! do nothing; what they ensure holds of every state and every list of such calls.
 ghost use Rattle.std.specs.Prelude.{◌≡◌, ℕ, Bool, true, false, List, [], ◌∷◌, None};
 ghost use Rattle.xl_base.specs.Lists.{IsIn};
-ghost use Rattle.xl_cache.specs.Planning.{is_running};
+ghost use Rattle.xl_cache.specs.BreakPlans.{is_running};
 ghost use Rattle.xl_matrix.specs.declared.claim.Claim.{Claim};
 ghost use Rattle.xl_base.specs.Stable.{Stable};
 ghost use Rattle.xl_base.specs.declared.event.Moment.{Moment};
@@ -16,7 +16,7 @@ ghost use Rattle.xl_core.specs.declared.ask.Act.{Act};
 ghost use Rattle.xl_core.specs.declared.ask.Ask.{Ask};
 ghost use Rattle.xl_core.specs.declared.lease.Times.{Times};
 ghost use Rattle.xl_core.specs.Leases.{first_ended};
-ghost use Rattle.xl_core.specs.Breaks.{first_due};
+ghost use Rattle.xl_core.specs.BreakAnswers.{first_due};
 ghost use Rattle.xl_core.specs.Ticks.{tick};
 ghost use Rattle.xl_core.specs.Deeds.{Deed, Asks, all_done, all_told_of, tick_deeds, AreFit, queue_after, all_caches_after, any_ends_break, KeepNames};
 ghost use Rattle.xl_core.specs.Dues.{AreDue};

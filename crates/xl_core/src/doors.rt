@@ -4,19 +4,19 @@ ghost use Rattle.xl_base.specs.Limits.{numbers_left};
 ghost use Rattle.xl_base.specs.Lists.{IsIn};
 ghost use Rattle.xl_wait.specs.Waiting.{is_waiting};
 ghost use Rattle.xl_core.specs.State.{started, step_begun, drawn, MayBe, GoesOn};
-ghost use Rattle.xl_core.specs.Asking.{IsFit};
+ghost use Rattle.xl_core.specs.Askers.{IsFit};
 ghost use Rattle.xl_core.specs.Good.{IsGood};
 ghost use Rattle.xl_core.specs.Decide.{ask};
 ghost use Rattle.xl_core.specs.Settle.{settle, cancel, give_back, share_has, weaken, end_party, close_open};
-ghost use Rattle.xl_core.specs.Breaks.{may_be_left, ack};
+ghost use Rattle.xl_core.specs.BreakAnswers.{may_be_left, ack};
 ghost use Rattle.xl_core.specs.Ticks.{renew, tick};
 ghost use Rattle.xl_core.specs.Whole.{state_of};
 
 use crate::ask::{Answer, Ask, Effect};
 use crate::lease::Times;
 use crate::parts::Parts;
-use crate::watch::Unsettled;
-use crate::{ticking, unsettled};
+use crate::unsettled::Unsettled;
+use crate::{calls, ticking};
 use indexmap::IndexMap;
 use std::alloc::{AllocError, Global};
 use std::marker::Model;
@@ -37,7 +37,7 @@ pub struct Core {
 
 impl Model for Core {
     ghost use Rattle.xl_core.specs.State.{CoreState};
-    ghost use Rattle.xl_core.specs.Watch.{AreHeldUp};
+    ghost use Rattle.xl_core.specs.Unsettled.{AreHeldUp};
     ghost use Rattle.xl_core.specs.Whole.{state_of};
 
     ghost Value = { CoreState };
@@ -147,13 +147,7 @@ impl Core {
         ensures good { OnOk result (IsGood self.new) }
         ensures keeper { _keeper.new ≡ _keeper.old }
     {
-        let answered = unsettled::answer(
-            alloc,
-            &mut self.parts,
-            &mut self.unsettled,
-            left,
-            request,
-        )?;
+        let answered = calls::answer(alloc, &mut self.parts, &mut self.unsettled, left, request)?;
         Ok(answered)
     }
 
@@ -175,7 +169,7 @@ impl Core {
         ensures good { OnOk result (IsGood self.new) }
         ensures keeper { _keeper.new ≡ _keeper.old }
     {
-        let turn = unsettled::settle(alloc, &mut self.parts, &mut self.unsettled, left)?;
+        let turn = calls::settle(alloc, &mut self.parts, &mut self.unsettled, left)?;
         Ok(turn)
     }
 
@@ -187,7 +181,7 @@ impl Core {
         ensures state { IfOk result (λ effects. cancel self.old waiter ≡ (effects, self.new)) }
         ensures good { OnOk result (IsGood self.new) }
     {
-        unsettled::cancel(alloc, &mut self.parts, &mut self.unsettled, waiter)
+        calls::cancel(alloc, &mut self.parts, &mut self.unsettled, waiter)
     }
 
     /// Takes out one held claim, which its owner gives back. There is nothing to tell.
@@ -198,7 +192,7 @@ impl Core {
         ensures state { give_back self.old claim.now ≡ (result, self.new) }
         ensures good { IsGood self.new }
     {
-        unsettled::give_back(alloc, &mut self.parts, &mut self.unsettled, claim)
+        calls::give_back(alloc, &mut self.parts, &mut self.unsettled, claim)
     }
 
     /// Makes a held share weaker: from now on it has this access and deny, which lie within those that it had (RFC 7530 16.19,
@@ -217,7 +211,7 @@ impl Core {
         ensures state { weaken self.old share.now access deny ≡ (result, self.new) }
         ensures good { IsGood self.new }
     {
-        unsettled::weaken(
+        calls::weaken(
             alloc,
             &mut self.parts,
             &mut self.unsettled,
@@ -229,7 +223,7 @@ impl Core {
 
     /// Takes the answer to the break of a held cache: this much of the cache is left, or nothing, and no more than the break
     /// leaves (MS-SMB2 3.3.5.22). There is nothing to tell. It takes no memory.
-    #[tactic(auto, using(crate::proofs::BreakLaws::ack_good))]
+    #[tactic(auto, using(crate::proofs::BreakAnswerLaws::ack_good))]
     pub fn ack(&mut self, alloc: Global, cache: &Claim, to: Option<CacheKind>) -> Sequence<Effect>
         requires held { IsIn cache.now self.old.claims }
         requires runs { may_be_left cache.now.what to ≡ true }
@@ -237,11 +231,11 @@ impl Core {
         ensures state { ack self.old cache.now to ≡ (result, self.new) }
         ensures good { IsGood self.new }
     {
-        unsettled::ack(alloc, &mut self.parts, &mut self.unsettled, cache, to)
+        calls::ack(alloc, &mut self.parts, &mut self.unsettled, cache, to)
     }
 
     /// Gives out the next number. At least 65,536 numbers must be left to give out. It takes no memory.
-    #[tactic(auto, using(crate::proofs::GoodLaws::drawn_good, crate::proofs::WatchLaws::drawn_up))]
+    #[tactic(auto, using(crate::proofs::GoodLaws::drawn_good, crate::proofs::HeldUpLaws::drawn_up))]
     pub fn draw(&mut self) -> u32
         requires good { IsGood self.old }
         requires numbers { self.old.counter + numbers_left < 2 ^ 32 }
@@ -260,7 +254,7 @@ impl Core {
         ensures good { OnOk result (IsGood self.new) }
     {
         let leaver = Leaver::Party(party);
-        let effects = unsettled::leave(alloc, &mut self.parts, &mut self.unsettled, leaver)?;
+        let effects = calls::leave(alloc, &mut self.parts, &mut self.unsettled, leaver)?;
         Ok(effects)
     }
 
@@ -278,7 +272,7 @@ impl Core {
         ensures good { OnOk result (IsGood self.new) }
     {
         let leaver = Leaver::Open(number, party);
-        let effects = unsettled::leave(alloc, &mut self.parts, &mut self.unsettled, leaver)?;
+        let effects = calls::leave(alloc, &mut self.parts, &mut self.unsettled, leaver)?;
         Ok(effects)
     }
 
@@ -290,7 +284,7 @@ impl Core {
         ensures state { IfOk result (λ effects. renew self.old client.now ≡ (effects, self.new)) }
         ensures good { OnOk result (IsGood self.new) }
     {
-        unsettled::renew(alloc, &mut self.parts, &mut self.unsettled, client)
+        calls::renew(alloc, &mut self.parts, &mut self.unsettled, client)
     }
 
     /// Sets the clock to this moment, if that is later than what it shows. Then each break whose deadline has come is over, in

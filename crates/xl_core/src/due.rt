@@ -3,7 +3,7 @@ ghost use Rattle.std.specs.Prelude.{◌≡◌, None, IfOk};
 ghost use Rattle.std.specs.Ordering.{nat_cmp, is_lt};
 ghost use Rattle.std.specs.Cmp.Lexicographic.{slice_cmp};
 ghost use Rattle.xl_names.specs.Texts.{party_text};
-ghost use Rattle.xl_core.specs.Breaks.{deadline_of, due_before, earlier, earliest_from, first_due};
+ghost use Rattle.xl_core.specs.BreakAnswers.{deadline_of, due_before, earlier_due, earliest_from, first_due};
 ghost use Rattle.xl_core.specs.Whole.{state_of};
 
 use crate::parts::Parts;
@@ -46,7 +46,7 @@ fn due_before(alloc: Global, names: &Names, a: &Claim, b: &Claim) -> Result<bool
 }
 
 /// The earlier of the first so far and one more.
-fn earlier(
+fn earlier_due(
     alloc: Global,
     names: &Names,
     first: Option<Claim>,
@@ -68,13 +68,13 @@ fn earliest(alloc: Global, names: &Names, claims: &[Claim]) -> Result<Option<Cla
 {
     let mut first = None;
     for claim in claims {
-        first = earlier(alloc, names, first, claim)?;
+        first = earlier_due(alloc, names, first, claim)?;
     }
     Ok(first)
 }
 
 /// Of the caches whose deadline has come the one that is due first.
-#[tactic(auto, unfolding(crate::specs::Breaks::first_due))]
+#[tactic(auto, unfolding(crate::specs::BreakAnswers::first_due))]
 pub(crate) fn first_due(alloc: Global, parts: &Parts) -> Result<Option<Claim>, AllocError>
     ensures { IfOk result (λ c. c ≡ first_due (state_of parts.now)) }
 {

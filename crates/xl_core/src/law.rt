@@ -26,7 +26,7 @@ ghost use Rattle.xl_wait.specs.Waiting.{is_waiting, cancelled};
 ghost use Rattle.xl_wait.specs.declared.waiter.Rooms.{Rooms};
 ghost use Rattle.xl_wait.specs.declared.waiter.Waiter.{Waiter};
 ghost use Rattle.xl_core.specs.State.{CoreState, started, step_begun, drawn};
-ghost use Rattle.xl_core.specs.Asking.{asker, asked_whats, asked_what, asked_claim, asked_claims, known_claim, is_named, IsFit};
+ghost use Rattle.xl_core.specs.Askers.{asker, asked_whats, asked_what, asked_claim, asked_claims, known_claim, is_named, IsFit};
 ghost use Rattle.xl_core.specs.Causes.{IsSameAsker, IsConflict, limits_of_grant, IsClaimDue, IsTestDue, IsUnlockDue, IsWishDue, IsTurn, IsOwn};
 ghost use Rattle.xl_core.specs.Decide.{waiter_of, way, ask};
 ghost use Rattle.xl_core.specs.Frames.{calls_in, drawn_by, names_after, come_by, who_left, serves_none, IsFrame, IsRenewed, IsTicked};
@@ -37,9 +37,9 @@ ghost use Rattle.xl_table.specs.Leaving.{goes};
 ghost use Rattle.xl_table.specs.declared.leaver.Leaver.TheVariants as Leaver;
 ghost use Rattle.xl_core.specs.declared.ask.Act.{Act};
 ghost use Rattle.xl_core.specs.declared.ask.Answer.{Answer};
-ghost use Rattle.xl_cache.specs.Planning.{is_running, is_obstacle, planned, is_slow};
-ghost use Rattle.xl_core.specs.Begin.{with_break, once_broken, idle_caches};
-ghost use Rattle.xl_core.specs.Breaks.{may_be_left, ack};
+ghost use Rattle.xl_cache.specs.BreakPlans.{is_running, is_obstacle, planned, is_slow};
+ghost use Rattle.xl_core.specs.BreaksBegun.{with_break, once_broken, idle_caches};
+ghost use Rattle.xl_core.specs.BreakAnswers.{may_be_left, ack};
 ghost use Rattle.xl_core.specs.Numbers.{numbers_of};
 ghost use Rattle.xl_core.specs.Ticks.{renew, expire, lapse, tick};
 ghost use Rattle.xl_core.specs.declared.ask.Ask.{Ask};
@@ -78,7 +78,7 @@ pub fn caches_may_be_held()
 /// full kind until its break is answered, or is gone where that needs no answer. What is not in the ask's way stands as it
 /// is, and so does a cache whose break runs already. Then none is left to begin: each cache in the way is gone, or its break
 /// runs; and so many caches fewer are left whose break may begin as breaks began.
-#[tactic(auto, using(crate::proofs::BeginLaws::broken_good, crate::proofs::BeginLaws::broken_stand, crate::proofs::BeginLaws::apart_stand, crate::proofs::BeginLaws::running_stand, crate::proofs::BeginLaws::none_begins_again, crate::proofs::BeginLaws::fewer_idle))]
+#[tactic(auto, using(crate::proofs::AskBreaksLaws::broken_good, crate::proofs::AskBreaksLaws::broken_stand, crate::proofs::AskBreaksLaws::apart_stand, crate::proofs::AskBreaksLaws::running_stand, crate::proofs::AskBreaksLaws::none_begins_again, crate::proofs::AskBreaksLaws::fewer_idle))]
 pub fn breaks_may_begin()
     ensures good { (deadline : Moment) (s : CoreState) (ask : Claim) → IsGood s → is_cache ask.what ≡ false → IsGood (holding s (once_broken deadline ask s.claims)) }
     ensures broken { (deadline : Moment) (ask : Claim) (held : List Claim) (b : Claim × Option CacheKind) → IsIn b (planned ask held).breaks → is_slow b ≡ true → IsIn (with_break b.0 b.0.what b.1 deadline) (once_broken deadline ask held) }

@@ -5,7 +5,7 @@ ghost use Rattle.xl_matrix.specs.Equal.{same_owners, same_parties};
 ghost use Rattle.xl_wait.specs.Waiting.{cancelled};
 ghost use Rattle.xl_core.specs.Good.{IsGood};
 ghost use Rattle.xl_base.specs.Lists.{IsIn};
-ghost use Rattle.xl_core.specs.Breaks.{ack};
+ghost use Rattle.xl_core.specs.BreakAnswers.{ack};
 ghost use Rattle.xl_core.specs.Settle.{waits_for, waits_as, waits_with, numbers_with, all_told, all_cancelled, cancel, give_back, weaken, departed};
 ghost use Rattle.xl_core.specs.Whole.{state_of};
 
@@ -59,7 +59,7 @@ pub(crate) fn weaken(
 }
 
 /// Leaves this much of a cache.
-#[tactic(auto, unfolding(crate::specs::Breaks::ack), using(crate::proofs::BreakLaws::acked_sound))]
+#[tactic(auto, unfolding(crate::specs::BreakAnswers::ack), using(crate::proofs::BreakAnswerLaws::acked_sound))]
 pub(crate) fn ack(
     alloc: Global,
     parts: &mut Parts,

@@ -3,14 +3,16 @@
 #![tactic(auto)]
 
 mod ask;
-mod asking;
-pub mod begun;
+mod askers;
 mod blockers;
-mod breaking;
+pub mod break_laws;
+mod breaks;
+mod calls;
 mod decide;
 pub mod deeds;
 mod doors;
 mod due;
+mod ids;
 mod judge;
 pub mod law;
 mod lease;
@@ -21,12 +23,12 @@ mod parts;
 mod settling;
 mod ticking;
 mod unsettled;
-mod watch;
 mod ways;
-pub mod wished;
-mod wishing;
+pub mod wish_laws;
+mod wishes;
 
 pub use ask::{Act, Answer, Ask, Effect, Who};
 pub use doors::Core;
+pub use ids::{id_of, number_in};
 pub use lease::Times;
-pub use limits::{MOST_HOSTS, MOST_OPENS, MOST_OWNERS, NUMBERS};
+pub use limits::{MOST_HOSTS, MOST_OPENS, MOST_OWNERS};

@@ -16,9 +16,6 @@ pub const MOST_OPENS: u32 = xl_base::MOST_OPENS as u32;
 /// How many NFSv4 owners are kept.
 pub const MOST_OWNERS: u32 = xl_base::MOST_OWNERS as u32;
 
-/// One more than the greatest number that is given out: what the epoch counts in a clientid and in the ids of SMB.
-pub const NUMBERS: u64 = 1 << 32;
-
 /// The first of these limits that is passed.
 fn first_passed(limits: &[(u32, bool)]) -> Option<u32>
     ensures { result ≡ first_passed limits.now }

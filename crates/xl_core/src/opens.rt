@@ -6,7 +6,7 @@ ghost use Rattle.xl_matrix.specs.declared.claim.Extent.{Extent};
 ghost use Rattle.xl_table.specs.Elements.{elements_of, unlocked_elements};
 ghost use Rattle.xl_wait.specs.declared.waiter.Rooms.{Rooms};
 ghost use Rattle.xl_core.specs.State.{CoreState};
-ghost use Rattle.xl_core.specs.Asking.{range_what, known_claim, IsFit};
+ghost use Rattle.xl_core.specs.Askers.{range_what, known_claim, IsFit};
 ghost use Rattle.xl_core.specs.Causes.{IsElementDue};
 ghost use Rattle.xl_core.specs.Decide.{way, ask};
 ghost use Rattle.xl_core.specs.Good.{IsGood};

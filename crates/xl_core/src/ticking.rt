@@ -1,22 +1,22 @@
 //! What the clock does.
 ghost use Rattle.std.specs.Prelude.{◌≡◌, ℕ, ◌++◌, [], ◌∷◌, length, option_map, IfOk, OnOk};
-ghost use Rattle.xl_core.specs.Breaks.{client_of};
+ghost use Rattle.xl_core.specs.BreakAnswers.{client_of};
 ghost use Rattle.xl_names.specs.declared.name.Name.TheVariants.{NfsParty};
-ghost use Rattle.xl_core.specs.Asking.{party_named};
+ghost use Rattle.xl_core.specs.Askers.{party_named};
 ghost use Rattle.xl_core.specs.Leases.{first_ended};
 ghost use Rattle.xl_core.specs.Good.{IsGood};
 ghost use Rattle.xl_core.specs.Ticks.{advanced, renew, end_some, expire, expired_for, expire_all, lapse, lapsed_for, tick};
-ghost use Rattle.xl_core.specs.Watch.{AreHeldUp};
-ghost use Rattle.xl_core.specs.declared.watch.Unsettled.{Unsettled};
+ghost use Rattle.xl_core.specs.Unsettled.{AreHeldUp};
+ghost use Rattle.xl_core.specs.declared.unsettled.Unsettled.{Unsettled};
 ghost use Rattle.xl_core.specs.Whole.{state_of};
 
 use crate::ask::Effect;
+use crate::calls::leave;
 use crate::due::first_due;
 use crate::lease;
 use crate::lease::{drop_lease, later, moment_after, put_lease};
 use crate::parts::Parts;
-use crate::unsettled::leave;
-use crate::watch::{Unsettled, note};
+use crate::unsettled::{Unsettled, note};
 use std::alloc::{AllocError, Global};
 use xl_base::{Moment, Party, Protocol, Sequence};
 use xl_matrix::Claim;
@@ -24,7 +24,7 @@ use xl_names::{Name, Names};
 use xl_table::Leaver;
 
 /// The clock reads this moment, where that is later.
-#[tactic(auto, unfolding(crate::specs::Ticks::advanced), using(crate::proofs::GoodLaws::advanced_good, crate::proofs::NoteLaws::advanced_up))]
+#[tactic(auto, unfolding(crate::specs::Ticks::advanced), using(crate::proofs::GoodLaws::advanced_good, crate::proofs::UnsettledLaws::advanced_up))]
 fn advance(parts: &mut Parts, now: Moment)
     requires good { IsGood (state_of parts.old) }
     ensures state { state_of parts.new ≡ advanced (state_of parts.old) now }

@@ -1,194 +1,134 @@
-//! What is done to the core, and the files that it leaves unsettled.
-ghost use Rattle.std.specs.Prelude.{◌≡◌, ℕ, ◌+◌, ◌<◌, ◌^◌, if◌then◌else◌, [], Ok, None, option_map, IfOk};
-ghost use Rattle.xl_base.specs.Limits.{numbers_left};
-ghost use Rattle.xl_base.specs.Lists.{IsIn};
-ghost use Rattle.xl_core.specs.Asking.{IsFit};
-ghost use Rattle.xl_core.specs.Breaks.{ack};
-ghost use Rattle.xl_core.specs.Decide.{ask};
-ghost use Rattle.xl_core.specs.Good.{IsGood};
-ghost use Rattle.xl_core.specs.Settle.{settle, cancel, give_back, weaken, departed};
-ghost use Rattle.xl_core.specs.Ticks.{renew};
-ghost use Rattle.xl_core.specs.Watch.{AreHeldUp};
-ghost use Rattle.xl_core.specs.Whole.{state_of};
-ghost use Rattle.xl_core.specs.declared.watch.Unsettled.TheVariants.{Files};
+//! The files on which someone may wait whom nothing blocks, so that not all who wait are looked at after each change.
+ghost use Rattle.std.specs.Prelude.{◌≡◌, ◌==◌, [], ◌∷◌, true, false, IfSome};
+ghost use Rattle.xl_core.specs.Unsettled.{is_among, is_none, only_file, may_free, may_change, IsWider, Notes, NotesLeft};
+ghost use Rattle.xl_core.specs.declared.unsettled.Unsettled.TheVariants.{Files};
 
-use crate::ask::{Answer, Ask, Effect};
-use crate::parts::Parts;
-use crate::watch::{Unsettled, is_none, note, note_asked, note_left};
-use crate::{decide, leaving, settling, ticking};
-use std::alloc::{AllocError, Global};
-use std::mem;
+use crate::ask::{Act, Answer, Ask, Effect};
 use xl_base::Sequence;
-use xl_matrix::{CacheKind, Claim, Rwd};
-use xl_table::Leaver;
-use xl_wait::Rooms;
+use xl_table::{Leaver, Table};
+use xl_wait::Queue;
 
-/// Answers an ask, and tells of the breaks that it begins. Its file is noted, where some began, or where it was granted what
-/// changes it.
-#[tactic(auto, using(crate::proofs::WatchLaws::any_up))]
-pub(crate) fn answer(
-    alloc: Global,
-    parts: &mut Parts,
+/// The files whose claims changed since all who wait were last found blocked, as far as someone waited there.
+#[derive(Drop)]
+pub(crate) enum Unsettled {
+    /// These.
+    Files(Sequence<u32>),
+    /// Any, since memory ran out while one was noted.
+    All,
+}
+
+/// Whether the file is one of these.
+#[tactic(auto, using(crate::proofs::UnsettledLaws::among_files))]
+pub(crate) fn is_among(unsettled: &Unsettled, file: u32) -> bool
+    ensures { result ≡ is_among unsettled.now file }
+{
+    match unsettled {
+        Unsettled::Files(files) => files.as_slice().contains(&file),
+        Unsettled::All => true,
+    }
+}
+
+/// Whether there is none of them.
+pub(crate) fn is_none(unsettled: &Unsettled) -> bool
+    ensures { result ≡ is_none unsettled.now }
+{
+    match unsettled {
+        Unsettled::Files(files) => files.is_empty(),
+        Unsettled::All => false,
+    }
+}
+
+/// The file of a list, where it has one alone.
+fn one_of(files: &[u32]) -> Option<u32>
+    ensures { result ≡ only_file (Files files.now) }
+{
+    match files {
+        [] => None,
+        [file] => Some(*file),
+        [_, _, ..] => None,
+    }
+}
+
+/// The file, where there is one alone.
+#[tactic(auto, using(crate::proofs::UnsettledLaws::only_is))]
+pub(crate) fn only_file(unsettled: &Unsettled) -> Option<u32>
+    ensures value { result ≡ only_file unsettled.now }
+    ensures found { IfSome result (λ file. unsettled.now ≡ Files (file ∷ [])) }
+{
+    match unsettled {
+        Unsettled::Files(files) => one_of(files.as_slice()),
+        Unsettled::All => None,
+    }
+}
+
+/// The file is one of them too, which takes memory; where that is wanting they are all.
+#[tactic(auto, using(crate::proofs::UnsettledLaws::added_wider, crate::proofs::UnsettledLaws::added_own, crate::proofs::UnsettledLaws::all_wider))]
+fn add(unsettled: &mut Unsettled, file: u32)
+    ensures wider { IsWider unsettled.old unsettled.new }
+    ensures own { is_among unsettled.new file ≡ true }
+{
+    if let Unsettled::Files(files) = unsettled {
+        if files.push(file).is_err() {
+            *unsettled = Unsettled::All;
+        }
+    }
+}
+
+/// Notes a file: it is one of them from then on, where someone waits on it.
+pub(crate) fn note(queue: &Queue, unsettled: &mut Unsettled, file: u32)
+    ensures { Notes unsettled.old unsettled.new file queue.now }
+{
+    if queue.waits_on(file) && !is_among(unsettled, file) {
+        add(unsettled, file);
+    }
+}
+
+/// Notes each file from which claims go with who leaves.
+#[tactic(auto, using(xl_table::proofs::LeavingLaws::fewer_left))]
+pub(crate) fn note_left(table: &Table, queue: &Queue, unsettled: &mut Unsettled, leaver: Leaver)
+    ensures { NotesLeft unsettled.old unsettled.new leaver table.now queue.now }
+{
+    let mut past = None;
+    'files: while let Some(file) = table.next_left(leaver, past) {
+        note(queue, unsettled, file);
+        past = Some(file);
+    }
+}
+
+/// Whether an ask that is answered so may have changed what is held on its file.
+fn may_free(act: &Act, answer: Answer) -> bool
+    ensures { result ≡ may_free act.now answer }
+{
+    match (act, answer) {
+        (Act::Test(_, _), _) => false,
+        (_, Answer::Granted(_)) => true,
+        _ => false,
+    }
+}
+
+/// The same of one that told of these breaks that began.
+fn may_change(request: &Ask, answer: Answer, told: &[Effect]) -> bool
+    ensures { result ≡ may_change request.now answer told.now }
+{
+    match told {
+        [] => may_free(&request.act, answer),
+        [_, ..] => true,
+    }
+}
+
+/// Notes the file of an ask that was answered so, and told of these breaks that began, where it may have changed what is held
+/// there.
+pub(crate) fn note_asked(
+    queue: &Queue,
     unsettled: &mut Unsettled,
-    left: &Rooms,
     request: &Ask,
-) -> Result<(Answer, Sequence<Effect>), AllocError>
-    requires fit { IsFit request.now }
-    requires good { IsGood (state_of parts.old) }
-    requires numbers { parts.old.counter + numbers_left < 2 ^ 32 }
-    requires held_up { AreHeldUp unsettled.old (state_of parts.old) }
-    ensures answer { (n : ℕ) → IfOk result (λ r. ask n left.now (state_of parts.old) request.now ≡ (r.0, r.1, state_of parts.new)) }
-    ensures made { parts.new.made ≡ parts.old.made }
-    ensures failed { parts.new.failed ≡ parts.old.failed }
-    ensures held_up { AreHeldUp unsettled.new (state_of parts.new) }
+    answer: Answer,
+    told: &[Effect],
+)
+    ensures changed { may_change request.now answer told.now ≡ true → Notes unsettled.old unsettled.new request.now.file queue.now }
+    ensures same { may_change request.now answer told.now ≡ false → unsettled.new ≡ unsettled.old }
 {
-    let before = mem::replace(unsettled, Unsettled::All);
-    let (answer, told) = decide::answer(alloc, parts, left, request)?;
-    *unsettled = before;
-    note_asked(&parts.queue, unsettled, request, answer, told.as_slice());
-    Ok((answer, told))
-}
-
-/// The unsettled files after a turn: where there was none there are none.
-fn left_by_turn(alloc: Global, had_turn: bool, before: Unsettled) -> Unsettled
-    ensures { result ≡ (if had_turn then before else Files []) }
-{
-    if had_turn {
-        before
-    } else {
-        Unsettled::Files(Sequence::new(alloc))
+    if may_change(request, answer, told) {
+        note(queue, unsettled, request.file);
     }
-}
-
-/// One turn, where a waiter has one. It is looked for among those alone who wait on an unsettled file.
-pub(crate) fn settle(
-    alloc: Global,
-    parts: &mut Parts,
-    unsettled: &mut Unsettled,
-    left: &Rooms,
-) -> Result<Option<Sequence<Effect>>, AllocError>
-    requires good { IsGood (state_of parts.old) }
-    requires numbers { parts.old.counter + numbers_left < 2 ^ 32 }
-    requires held_up { AreHeldUp unsettled.old (state_of parts.old) }
-    ensures turn { (n : ℕ) → IfOk result (λ r. settle n left.now (state_of parts.old) ≡ option_map (λ effects. (effects, state_of parts.new)) r) }
-    ensures none { result ≡ Ok None → parts.new ≡ parts.old }
-    ensures made { parts.new.made ≡ parts.old.made }
-    ensures failed { parts.new.failed ≡ parts.old.failed }
-    ensures held_up { AreHeldUp unsettled.new (state_of parts.new) }
-{
-    if is_none(unsettled) {
-        return Ok(None);
-    }
-    let before = mem::replace(unsettled, Unsettled::All);
-    let turn = settling::settle(alloc, parts, &before, left)?;
-    *unsettled = left_by_turn(alloc, turn.is_some(), before);
-    Ok(turn)
-}
-
-/// Takes one waiter out.
-#[tactic(auto, using(crate::proofs::WatchLaws::any_up))]
-pub(crate) fn cancel(
-    alloc: Global,
-    parts: &mut Parts,
-    unsettled: &mut Unsettled,
-    id: u32,
-) -> Result<Sequence<Effect>, AllocError>
-    requires held_up { AreHeldUp unsettled.old (state_of parts.old) }
-    ensures state { IfOk result (λ effects. cancel (state_of parts.old) id ≡ (effects, state_of parts.new)) }
-    ensures held_up { AreHeldUp unsettled.new (state_of parts.new) }
-{
-    let before = mem::replace(unsettled, Unsettled::All);
-    let effects = leaving::cancel(alloc, parts, id)?;
-    *unsettled = before;
-    Ok(effects)
-}
-
-/// Takes one claim out, and notes its file.
-pub(crate) fn give_back(
-    alloc: Global,
-    parts: &mut Parts,
-    unsettled: &mut Unsettled,
-    claim: &Claim,
-) -> Sequence<Effect>
-    requires held_up { AreHeldUp unsettled.old (state_of parts.old) }
-    ensures state { give_back (state_of parts.old) claim.now ≡ (result, state_of parts.new) }
-    ensures held_up { AreHeldUp unsettled.new (state_of parts.new) }
-{
-    note(&parts.queue, unsettled, claim.file);
-    leaving::give_back(alloc, parts, claim)
-}
-
-/// Gives a share this access and deny in place of its own, and notes its file.
-pub(crate) fn weaken(
-    alloc: Global,
-    parts: &mut Parts,
-    unsettled: &mut Unsettled,
-    share: &Claim,
-    access: Rwd,
-    deny: Rwd,
-) -> Sequence<Effect>
-    requires held { IsIn share.now parts.old.table }
-    requires good { IsGood (state_of parts.old) }
-    requires held_up { AreHeldUp unsettled.old (state_of parts.old) }
-    ensures state { weaken (state_of parts.old) share.now access deny ≡ (result, state_of parts.new) }
-    ensures held_up { AreHeldUp unsettled.new (state_of parts.new) }
-{
-    note(&parts.queue, unsettled, share.file);
-    leaving::weaken(alloc, parts, share, access, deny)
-}
-
-/// Leaves this much of a cache, and notes its file.
-pub(crate) fn ack(
-    alloc: Global,
-    parts: &mut Parts,
-    unsettled: &mut Unsettled,
-    cache: &Claim,
-    to: Option<CacheKind>,
-) -> Sequence<Effect>
-    requires held { IsIn cache.now parts.old.table }
-    requires good { IsGood (state_of parts.old) }
-    requires held_up { AreHeldUp unsettled.old (state_of parts.old) }
-    ensures state { ack (state_of parts.old) cache.now to ≡ (result, state_of parts.new) }
-    ensures held_up { AreHeldUp unsettled.new (state_of parts.new) }
-{
-    note(&parts.queue, unsettled, cache.file);
-    leaving::ack(alloc, parts, cache, to)
-}
-
-/// Takes out the claims and the waiters that go with who leaves, and notes the files of these claims.
-#[tactic(auto, using(crate::proofs::WatchLaws::any_up))]
-pub(crate) fn leave(
-    alloc: Global,
-    parts: &mut Parts,
-    unsettled: &mut Unsettled,
-    leaver: Leaver,
-) -> Result<Sequence<Effect>, AllocError>
-    requires good { IsGood (state_of parts.old) }
-    requires held_up { AreHeldUp unsettled.old (state_of parts.old) }
-    ensures state { IfOk result (λ effects. departed (state_of parts.old) leaver ≡ (effects, state_of parts.new)) }
-    ensures held_up { AreHeldUp unsettled.new (state_of parts.new) }
-{
-    let mut before = mem::replace(unsettled, Unsettled::All);
-    note_left(&parts.table, &parts.queue, &mut before, leaver);
-    let effects = leaving::leave(alloc, parts, leaver)?;
-    *unsettled = before;
-    Ok(effects)
-}
-
-/// Renews a client's lease.
-#[tactic(auto, using(crate::proofs::WatchLaws::any_up))]
-pub(crate) fn renew(
-    alloc: Global,
-    parts: &mut Parts,
-    unsettled: &mut Unsettled,
-    client: &[u8],
-) -> Result<Sequence<Effect>, AllocError>
-    requires held_up { AreHeldUp unsettled.old (state_of parts.old) }
-    ensures state { IfOk result (λ effects. renew (state_of parts.old) client.now ≡ (effects, state_of parts.new)) }
-    ensures held_up { AreHeldUp unsettled.new (state_of parts.new) }
-{
-    let before = mem::replace(unsettled, Unsettled::All);
-    let effects = ticking::renew(alloc, parts, client)?;
-    *unsettled = before;
-    Ok(effects)
 }

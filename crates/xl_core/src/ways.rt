@@ -4,19 +4,19 @@ ghost use Rattle.std.specs.List.{AllByRecursion};
 ghost use Rattle.xl_base.specs.Limits.{numbers_left};
 ghost use Rattle.xl_table.specs.Held.{is_cache};
 ghost use Rattle.xl_table.specs.Relock.{most_claims};
-ghost use Rattle.xl_cache.specs.Planning.{planned};
+ghost use Rattle.xl_cache.specs.BreakPlans.{planned};
 ghost use Rattle.xl_core.specs.Good.{IsGood};
 ghost use Rattle.xl_core.specs.Ways.{begins, made_way};
 ghost use Rattle.xl_core.specs.Whole.{state_of};
 
 use crate::ask::Effect;
 use crate::blockers::is_stopped;
-use crate::breaking::{begin_breaks, plan_for};
+use crate::breaks::{begin_breaks, plan_for};
 use crate::judge::Plea;
 use crate::parts::Parts;
 use std::alloc::{AllocError, Global};
 use xl_base::Sequence;
-use xl_cache::{Plan, recalled};
+use xl_cache::{BreakPlan, recalled};
 use xl_matrix::Claim;
 
 /// Whether one that pleads so for this claim begins breaks, by its plan.
@@ -25,7 +25,7 @@ fn begins(
     parts: &Parts,
     plea: &Plea,
     claim: &Claim,
-    plan: &Plan,
+    plan: &BreakPlan,
 ) -> Result<bool, AllocError>
     requires plan { planned claim.now parts.now.table ≡ plan.now }
     ensures { IfOk result (λ b. b ≡ begins plea.now claim.now parts.now.table) }

@@ -5,11 +5,3 @@ pub mod PlanLaws
 pub mod CourseLaws
 pub mod ReplyLaws
 pub mod StepLaws
-pub mod DoesLaws
-pub mod RenewedLaws
-pub mod OwnLaws
-pub mod HandleLaws
-pub mod OrderlyLaws
-pub mod TiedLaws
-pub mod NumberLaws
-pub mod RecallLaws

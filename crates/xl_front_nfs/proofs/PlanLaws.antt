@@ -17,7 +17,7 @@ use Rattle.xl_nfs_locks.specs.Releases.{release}
 use Rattle.xl_nfs_locks.specs.Tests.{lock_test}
 use Rattle.xl_nfs_locks.specs.Unlocks.{unlock}
 use Rattle.xl_nfs_locks.proofs.EndLaws.{lock_ends, test_ends, unlock_ends, release_ends}
-use Rattle.xl_nfs_opens.specs.Leases.{number_in}
+use Rattle.xl_core.specs.Ids.{number_in}
 use Rattle.xl_front_nfs.specs.Handles.{put_root_fh, put_file, put_fh, get_fh, found_file, look_up}
 use Rattle.xl_nfs_opens.specs.Files.{file_named}
 use Rattle.xl_nfs_opens.specs.Closing.{open_confirm, close, deleg_return}

@@ -13,10 +13,11 @@ use Rattle.xl_nfs_state.specs.Rows.{with_details, with_time}
 use Rattle.xl_nfs_state.specs.State.{NfsLists, with_clients, without, without_client, is_client, is_client_named, most_clients}
 use Rattle.xl_nfs_state.specs.declared.client.ClientDetails.{ClientDetails}
 use Rattle.xl_nfs_state.specs.declared.client.ClientRow.{ClientRow}
-use Rattle.xl_core.specs.Asking.{party_named}
+use Rattle.xl_core.specs.Askers.{party_named}
 use Rattle.xl_core.specs.Deeds.{Deed, Draws, Ends, Renews}
 use Rattle.xl_core.specs.State.{CoreState}
-use Rattle.xl_nfs_opens.specs.Leases.{clientid_of, number_in, lease_end, renewed}
+use Rattle.xl_core.specs.Ids.{id_of, number_in}
+use Rattle.xl_nfs_opens.specs.Leases.{lease_end, renewed}
 use Rattle.xl_nfs_opens.specs.Plans.{Plan, Fails, Does}
 use Rattle.xl_nfs_opens.specs.declared.told.Told.TheVariants.{Ended, Client}
 
@@ -74,7 +75,7 @@ abbrev pub with_row : NfsLists → ClientRow → NfsLists
 with_row l row = with_clients l (l.clients ++ row ∷ [])
 
 abbrev pub confirm_of : CoreState → ℕ → ℕ → ClientConfirm
-confirm_of s number confirm = record { clientid = clientid_of s number; verifier = to_be_bytes w64 confirm }
+confirm_of s number confirm = record { clientid = id_of s number; verifier = to_be_bytes w64 confirm }
 
 -- the client's number, and the one that confirms it
 abbrev pub numbers : ℕ → Option ℕ → ℕ × ℕ

@@ -5,5 +5,3 @@ pub mod Clients
 pub mod Steps
 pub mod Courses
 pub mod FrontNfs
-pub mod Theirs
-pub mod Requests

@@ -7,7 +7,7 @@ use Rattle.xl_nfs.specs.Callbacks.{recall_record}
 use Rattle.xl_nfs_state.specs.State.{NfsLists, delegated_on, is_client_named}
 use Rattle.xl_nfs_state.specs.declared.client.ClientRow.{ClientRow}
 use Rattle.xl_nfs_state.specs.declared.stateid.StateidRow.{StateidRow}
-use Rattle.xl_core.specs.Breaks.{client_of}
+use Rattle.xl_core.specs.BreakAnswers.{client_of}
 use Rattle.xl_matrix.specs.declared.claim.CacheKind.{CacheKind}
 use Rattle.xl_matrix.specs.declared.claim.Claim.{Claim}
 use Rattle.xl_core.specs.State.{CoreState}

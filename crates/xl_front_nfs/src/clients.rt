@@ -6,9 +6,9 @@ ghost use Rattle.xl_nfs_opens.specs.Short.{IsReady, Leaves};
 
 use std::alloc::{AllocError, Global};
 use xl_base::Sequence;
-use xl_core::Core;
+use xl_core::{Core, number_in};
 use xl_nfs::NfsStatus;
-use xl_nfs_opens::{Done, Told, ended_as, lease_end, number_in, renewed};
+use xl_nfs_opens::{Done, Told, ended_as, lease_end, renewed};
 use xl_nfs_state::NfsState;
 
 /// RENEW.

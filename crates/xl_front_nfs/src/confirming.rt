@@ -4,7 +4,7 @@ ghost use Rattle.std.specs.List.{find};
 ghost use Rattle.xl_names.specs.declared.name.Name.TheVariants.{NfsParty};
 ghost use Rattle.xl_nfs.specs.declared.status.NfsStatus.TheVariants.{Ok, StaleClientId};
 ghost use Rattle.xl_nfs_state.specs.State.{is_client, is_client_named, most_clients};
-ghost use Rattle.xl_core.specs.Asking.{party_named};
+ghost use Rattle.xl_core.specs.Askers.{party_named};
 ghost use Rattle.xl_core.specs.Deeds.{all_done, all_told_of, Renews};
 ghost use Rattle.xl_front_nfs.specs.Clients.{ends, come, come_again, confirm_beside, confirm_held, confirmed_by, confirm_found, set_client_id_confirm};
 ghost use Rattle.xl_nfs_opens.specs.Plans.{carried};
@@ -14,9 +14,9 @@ use crate::ending::ended;
 use crate::rows::{confirmed_by, drop_number, enter, forget, number_named};
 use std::alloc::{AllocError, Global};
 use xl_base::{Moment, Sequence};
-use xl_core::{Core, Effect};
+use xl_core::{Core, Effect, number_in};
 use xl_nfs::{ClientConfirm, NfsStatus};
-use xl_nfs_opens::{Done, Told, ended_as, lease_end, number_in, renewed};
+use xl_nfs_opens::{Done, Told, ended_as, lease_end, renewed};
 use xl_nfs_state::{ClientRow, NfsState};
 
 /// The client comes under this number, where there is room and none has its id string.

@@ -1,7 +1,7 @@
 //! Clients that end.
 ghost use Rattle.std.specs.Prelude.{◌≡◌, ℕ, OnOk, IfOk};
 ghost use Rattle.xl_names.specs.declared.name.Name.TheVariants.{NfsParty};
-ghost use Rattle.xl_core.specs.Asking.{party_named};
+ghost use Rattle.xl_core.specs.Askers.{party_named};
 ghost use Rattle.xl_core.specs.Deeds.{all_done, all_told_of};
 ghost use Rattle.xl_core.specs.Settle.{end_party};
 ghost use Rattle.xl_front_nfs.specs.Clients.{ends};

@@ -2,7 +2,7 @@
 ghost use Rattle.std.specs.Prelude.{◌≡◌, IfOk, option_copied};
 ghost use Rattle.std.specs.List.{AllByRecursion};
 ghost use Rattle.xl_programs.specs.Sent.{FitsFrame};
-ghost use Rattle.xl_core.specs.Breaks.{client_of, id_of};
+ghost use Rattle.xl_core.specs.BreakAnswers.{client_of, id_of};
 ghost use Rattle.xl_front_nfs.specs.Recalls.{client_by, recall_out, recalled_as, recalled_from, recalls};
 
 use crate::front::NfsFront;

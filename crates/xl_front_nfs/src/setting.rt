@@ -11,9 +11,9 @@ ghost use Rattle.xl_nfs_opens.specs.Short.{IsReady, Leaves};
 use crate::rows::{drop_named, drop_number, enter, has_room};
 use std::alloc::{AllocError, Global};
 use xl_base::{Moment, Sequence};
-use xl_core::Core;
+use xl_core::{Core, id_of};
 use xl_nfs::{ClientConfirm, NfsStatus, SetClientIdArgs};
-use xl_nfs_opens::{Done, Told, clientid_of, drawn, ended_as, lease_end};
+use xl_nfs_opens::{Done, Told, drawn, ended_as, lease_end};
 use xl_nfs_state::{Callback, ClientDetails, ClientRow, NfsState};
 
 /// The number that the client has already, where its confirmed record has the verifier.
@@ -95,7 +95,7 @@ fn confirm_of(core: &Core, number: u32, confirm: u32) -> ClientConfirm
     ensures { result ≡ confirm_of core.now number confirm }
 {
     ClientConfirm {
-        clientid: clientid_of(core, number),
+        clientid: id_of(core, number),
         verifier: u64::from(confirm).to_be_bytes(),
     }
 }

@@ -7,7 +7,7 @@ use Rattle.xl_wait.specs.Waiting.{is_waiting}
 use Rattle.xl_wait.specs.declared.waiter.Rooms.{Rooms}
 use Rattle.xl_core.specs.State.{CoreState, GoesOn, drawn}
 use Rattle.xl_core.specs.Settle.{cancel, give_back, end_party}
-use Rattle.xl_core.specs.Asking.{IsFit}
+use Rattle.xl_core.specs.Askers.{IsFit}
 use Rattle.xl_core.specs.Decide.{ask}
 use Rattle.xl_core.specs.Frames.{IsFrame}
 use Rattle.xl_core.specs.Good.{IsGood}

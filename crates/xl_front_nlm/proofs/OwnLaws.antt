@@ -23,8 +23,8 @@ use Rattle.xl_core.proofs.DeedClients.{party_of_owner}
 use Rattle.xl_core.proofs.DeedLeaves.{found_in}
 use Rattle.xl_core.proofs.TurnLaws.{waiter_known}
 use Rattle.xl_table.proofs.WriteBack.{is_of-true}
-use Rattle.xl_core.specs.Asking.{client_of as belongs_to}
-use Rattle.xl_core.specs.Asking.{party_named}
+use Rattle.xl_core.specs.Askers.{client_of as belongs_to}
+use Rattle.xl_core.specs.Askers.{party_named}
 use Rattle.xl_core.specs.Clients.{IsOf, AreOf, AreOfSome}
 use Rattle.xl_core.specs.Deeds.{Deed, GivesBack, Cancels, Ends}
 use Rattle.xl_core.specs.Good.{are_kept, IsHeld, IsGood}

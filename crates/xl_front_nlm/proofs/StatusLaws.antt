@@ -11,7 +11,7 @@ use Rattle.xl_nlm.specs.declared.item.NlmStatus.TheVariants as stats
 use Rattle.xl_table.specs.Relock.{most_claims}
 use Rattle.xl_wait.specs.declared.waiter.Rooms.{Rooms}
 use Rattle.xl_core.proofs.WayAsks.{ask_due, ask_test, ask_unlock}
-use Rattle.xl_core.specs.Asking.{asked_what, asked_claim, known_claim}
+use Rattle.xl_core.specs.Askers.{asked_what, asked_claim, known_claim}
 use Rattle.xl_core.specs.Causes.{IsClaimDue, IsTestDue, IsUnlockDue}
 use Rattle.xl_core.specs.Decide.{way, ask}
 use Rattle.xl_core.specs.Deeds.{Cancels, GivesBack}

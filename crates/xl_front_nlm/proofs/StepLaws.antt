@@ -10,7 +10,7 @@ use Rattle.xl_names.specs.declared.name.Name.{Name}
 use Rattle.xl_wait.specs.declared.waiter.Rooms.{Rooms}
 use Rattle.xl_table.specs.Relock.{granted_claims}
 use Rattle.xl_core.specs.State.{CoreState}
-use Rattle.xl_core.specs.Asking.{who_entered, both_entered, asked_claim, IsFit}
+use Rattle.xl_core.specs.Askers.{who_entered, both_entered, asked_claim, IsFit}
 use Rattle.xl_core.specs.Causes.{IsClaimDue}
 use Rattle.xl_core.specs.Decide.{way, ask}
 use Rattle.xl_core.specs.Frames.{asks_to_hold, names_after}

@@ -1,7 +1,7 @@
 pub mod Short
 pub mod Hosts
 pub mod State
-pub mod Parts
+pub mod Layers
 pub mod Aims
 pub mod Asks
 pub mod Standing

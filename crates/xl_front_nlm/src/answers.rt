@@ -3,7 +3,7 @@ ghost use Rattle.std.specs.Prelude.{◌≡◌, ℕ, ◌≤◌, List, Some, optio
 ghost use Rattle.xl_core.specs.State.{MayBe};
 ghost use Rattle.xl_front_nlm.specs.Answers.{is_granted, refuses_with, refuses_by, refuses, refused_grant, given_up, nlm_called};
 ghost use Rattle.xl_front_nlm.specs.Hosts.{rooms};
-ghost use Rattle.xl_front_nlm.specs.Parts.{core_of, front_of};
+ghost use Rattle.xl_front_nlm.specs.Layers.{core_of, front_of};
 ghost use Rattle.xl_front_nlm.specs.Short.{AreShort, IsShortGrant, IsReady, Leaves};
 ghost use Rattle.xl_nlm.specs.Replies.{results_at};
 ghost use Rattle.xl_rpc.specs.Replies.{reply_at};
@@ -12,7 +12,7 @@ use crate::asks::refusal_ask;
 use crate::call::GrantedCall;
 use crate::deeds::asked;
 use crate::grant::{Grant, grant_of};
-use crate::parts::NlmParts;
+use crate::layers::NlmLayers;
 use std::alloc::{AllocError, Global};
 use xl_base::{Keeper, Sequence};
 use xl_core::{Core, Effect};
@@ -105,18 +105,18 @@ fn give_up<K: Keeper>(
 #[tactic(auto, unfolding(crate::specs::Answers::nlm_called), using(crate::proofs::StepLaws::leaves_self))]
 pub fn nlm_called<K: Keeper>(
     alloc: Global,
-    parts: NlmParts,
+    layers: NlmLayers,
     keeper: &mut K,
     number: u64,
     reply: Option<&[u8]>,
 ) -> Result<Sequence<Effect>, AllocError>
-    requires ready { IsReady parts.core.now }
-    ensures state { (n : ℕ) → IfOk result (λ effects. MayBe n (core_of parts.exit) → nlm_called n parts.entry.front.now parts.entry.core.now number (option_map (λ bytes. bytes.now) reply.entry) ≡ (effects, front_of parts.exit, core_of parts.exit)) }
-    ensures leaves { OnOk result (Leaves parts.entry.core.now (core_of parts.exit)) }
-    ensures hosts { (front_of parts.exit).hosts ≡ parts.entry.front.now.hosts }
+    requires ready { IsReady layers.core.now }
+    ensures state { (n : ℕ) → IfOk result (λ effects. MayBe n (core_of layers.exit) → nlm_called n layers.entry.front.now layers.entry.core.now number (option_map (λ bytes. bytes.now) reply.entry) ≡ (effects, front_of layers.exit, core_of layers.exit)) }
+    ensures leaves { OnOk result (Leaves layers.entry.core.now (core_of layers.exit)) }
+    ensures hosts { (front_of layers.exit).hosts ≡ layers.entry.front.now.hosts }
     ensures keeper { keeper.new ≡ keeper.old }
 {
-    let NlmParts { front, core } = parts;
+    let NlmLayers { front, core } = layers;
     let refused = refuses(reply);
     let Some(call) = front.take(number) else {
         return Ok(Sequence::new(alloc));

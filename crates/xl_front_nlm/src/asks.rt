@@ -1,7 +1,7 @@
 //! What the core is asked for a call.
 ghost use Rattle.std.specs.Prelude.{◌≡◌, ◌≤◌, false, IfOk};
 ghost use Rattle.xl_nlm.specs.Items.{shown_lock, shown_test_args, shown_lock_args, shown_unlock_args, shown_share_args};
-ghost use Rattle.xl_core.specs.Asking.{IsFit};
+ghost use Rattle.xl_core.specs.Askers.{IsFit};
 ghost use Rattle.xl_front_nlm.specs.Asks.{owner_of, ask_of, test_ask, lock_ask, unlock_ask, refusal_ask, rights_of, share_owner, share_ask};
 
 use crate::aim::Aim;

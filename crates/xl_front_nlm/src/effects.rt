@@ -5,12 +5,12 @@ ghost use Rattle.xl_programs.specs.Sent.{FitsFrame};
 ghost use Rattle.xl_core.specs.Good.{IsGood, IsRangeBy};
 ghost use Rattle.xl_core.specs.State.{GoesOn};
 ghost use Rattle.xl_front_nlm.specs.Grants.{grant_of, addressed, told_by, shown};
-ghost use Rattle.xl_front_nlm.specs.Parts.{core_of, front_of};
+ghost use Rattle.xl_front_nlm.specs.Layers.{core_of, front_of};
 ghost use Rattle.xl_front_nlm.specs.Short.{IsShortGrant, IsReady, Leaves};
 
 use crate::call::GrantedCall;
 use crate::grant::{Grant, address_of, call_of, grant_of};
-use crate::parts::NlmParts;
+use crate::layers::NlmLayers;
 use std::alloc::{AllocError, Global};
 use xl_base::{Exports, Out, Sequence};
 use xl_core::{Answer, Effect};
@@ -20,20 +20,20 @@ use xl_matrix::Claim;
 #[tactic(auto, unfolding(xl_core::specs::State::drawn))]
 fn tell(
     alloc: Global,
-    parts: NlmParts,
+    layers: NlmLayers,
     claim: &Claim,
     grant: &Grant,
     to: &[u8],
 ) -> Result<Sequence<Out>, AllocError>
     requires range { IsRangeBy claim.now.what }
     requires small { IsShortGrant grant.now }
-    requires ready { IsReady parts.core.now }
-    ensures state { IfOk result (λ outs. told_by parts.entry.front.now parts.entry.core.now (Some (claim.now, grant.now, to.now)) ≡ (outs, front_of parts.exit, core_of parts.exit)) }
-    ensures leaves { OnOk result (Leaves parts.entry.core.now (core_of parts.exit)) }
+    requires ready { IsReady layers.core.now }
+    ensures state { IfOk result (λ outs. told_by layers.entry.front.now layers.entry.core.now (Some (claim.now, grant.now, to.now)) ≡ (outs, front_of layers.exit, core_of layers.exit)) }
+    ensures leaves { OnOk result (Leaves layers.entry.core.now (core_of layers.exit)) }
     ensures little { IfOk result (λ outs. AllByRecursion FitsFrame outs) }
 {
-    let number = parts.core.draw();
-    parts.front.await_answer(GrantedCall {
+    let number = layers.core.draw();
+    layers.front.await_answer(GrantedCall {
         number,
         claim: *claim,
     })?;
@@ -47,21 +47,21 @@ fn tell(
 fn tell_grant(
     alloc: Global,
     exports: &Exports,
-    parts: NlmParts,
+    layers: NlmLayers,
     claim: &Claim,
 ) -> Result<Sequence<Out>, AllocError>
-    requires ready { IsReady parts.core.now }
-    ensures state { IfOk result (λ outs. told_by parts.entry.front.now parts.entry.core.now (option_map (λ told. (claim.now, told.0, told.1)) (addressed exports.now (grant_of parts.entry.core.now.names claim.now))) ≡ (outs, front_of parts.exit, core_of parts.exit)) }
-    ensures leaves { OnOk result (Leaves parts.entry.core.now (core_of parts.exit)) }
+    requires ready { IsReady layers.core.now }
+    ensures state { IfOk result (λ outs. told_by layers.entry.front.now layers.entry.core.now (option_map (λ told. (claim.now, told.0, told.1)) (addressed exports.now (grant_of layers.entry.core.now.names claim.now))) ≡ (outs, front_of layers.exit, core_of layers.exit)) }
+    ensures leaves { OnOk result (Leaves layers.entry.core.now (core_of layers.exit)) }
     ensures little { IfOk result (λ outs. AllByRecursion FitsFrame outs) }
 {
-    let Some(grant) = grant_of(alloc, parts.core.names(), claim)? else {
+    let Some(grant) = grant_of(alloc, layers.core.names(), claim)? else {
         return Ok(Sequence::new(alloc));
     };
     let Some(to) = address_of(exports.addresses.as_slice(), grant.caller.as_slice()) else {
         return Ok(Sequence::new(alloc));
     };
-    tell(alloc, parts, claim, &grant, to)
+    tell(alloc, layers, claim, &grant, to)
 }
 
 /// What is sent for an effect of the core. Who waited for a lock and was granted it is told by a call of GRANTED (XNFS
@@ -73,16 +73,16 @@ fn tell_grant(
 pub fn shown(
     alloc: Global,
     exports: &Exports,
-    parts: NlmParts,
+    layers: NlmLayers,
     effect: &Effect,
 ) -> Result<Sequence<Out>, AllocError>
-    requires ready { IsReady parts.core.now }
-    ensures state { IfOk result (λ outs. shown exports.now parts.entry.front.now parts.entry.core.now effect.now ≡ (outs, front_of parts.exit, core_of parts.exit)) }
-    ensures leaves { OnOk result (Leaves parts.entry.core.now (core_of parts.exit)) }
+    requires ready { IsReady layers.core.now }
+    ensures state { IfOk result (λ outs. shown exports.now layers.entry.front.now layers.entry.core.now effect.now ≡ (outs, front_of layers.exit, core_of layers.exit)) }
+    ensures leaves { OnOk result (Leaves layers.entry.core.now (core_of layers.exit)) }
     ensures little { IfOk result (λ outs. AllByRecursion FitsFrame outs) }
 {
     match effect {
-        Effect::Served(_, Answer::Granted(claim)) => tell_grant(alloc, exports, parts, claim),
+        Effect::Served(_, Answer::Granted(claim)) => tell_grant(alloc, exports, layers, claim),
         _ => Ok(Sequence::new(alloc)),
     }
 }

@@ -8,13 +8,13 @@ ghost use Rattle.xl_core.specs.State.{MayBe};
 ghost use Rattle.xl_front_nlm.specs.Hosts.{HasHostRoom};
 ghost use Rattle.xl_front_nlm.specs.Plans.{shown_plan};
 ghost use Rattle.xl_front_nlm.specs.Serving.{planned, outcome_of, host_of, hosted, served};
-ghost use Rattle.xl_front_nlm.specs.Parts.{core_of, front_of};
+ghost use Rattle.xl_front_nlm.specs.Layers.{core_of, front_of};
 ghost use Rattle.xl_front_nlm.specs.Short.{IsReady, Leaves};
 
 use crate::deeds::carry_out;
 use crate::front::Front;
+use crate::layers::NlmLayers;
 use crate::outcome::Outcome;
-use crate::parts::NlmParts;
 use crate::plan::{Context, Deed, Plan};
 use crate::{ranges, shares};
 use std::alloc::{AllocError, Global};
@@ -106,17 +106,17 @@ fn outcome_of(answer: Option<Answer>) -> Outcome
 pub(crate) fn serve<K: Keeper>(
     alloc: Global,
     count: usize,
-    parts: NlmParts,
+    layers: NlmLayers,
     keeper: &mut K,
     call: &NlmCall,
 ) -> Result<(Outcome, Sequence<Effect>), AllocError>
     requires fits { CallFits (shown_call call.now) }
-    requires ready { IsReady parts.core.now }
-    ensures done { (n : ℕ) → IfOk result (λ r. MayBe n (core_of parts.exit) → served n count parts.entry.front.now parts.entry.core.now (shown_call call.now) ≡ (r.0, r.1, front_of parts.exit, core_of parts.exit)) }
-    ensures leaves { OnOk result (Leaves parts.entry.core.now (core_of parts.exit)) }
+    requires ready { IsReady layers.core.now }
+    ensures done { (n : ℕ) → IfOk result (λ r. MayBe n (core_of layers.exit) → served n count layers.entry.front.now layers.entry.core.now (shown_call call.now) ≡ (r.0, r.1, front_of layers.exit, core_of layers.exit)) }
+    ensures leaves { OnOk result (Leaves layers.entry.core.now (core_of layers.exit)) }
     ensures keeper { keeper.new ≡ keeper.old }
 {
-    let NlmParts { front, core } = parts;
+    let NlmLayers { front, core } = layers;
     let deed = match planned(alloc, &Context { count, front, core }, call)? {
         Plan::Tells(outcome) => return Ok((outcome, Sequence::new(alloc))),
         Plan::Does(deed) => deed,

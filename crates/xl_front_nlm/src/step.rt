@@ -11,10 +11,10 @@ ghost use Rattle.xl_rpc.specs.Replies.{reply};
 ghost use Rattle.xl_rpc.specs.declared.reply.Verdict.TheVariants.{Success, GarbageArgs};
 ghost use Rattle.xl_core.specs.State.{MayBe};
 ghost use Rattle.xl_front_nlm.specs.FrontNlm.{call_in, replied, nlm_step};
-ghost use Rattle.xl_front_nlm.specs.Parts.{core_of, front_of};
+ghost use Rattle.xl_front_nlm.specs.Layers.{core_of, front_of};
 ghost use Rattle.xl_front_nlm.specs.Short.{IsReady, Leaves};
 
-use crate::parts::NlmParts;
+use crate::layers::NlmLayers;
 use crate::procedures::serve;
 use crate::results::reply_of;
 use std::alloc::{AllocError, Global};
@@ -69,22 +69,22 @@ fn garbage(alloc: Global, xid: u32) -> Result<(Vec<u8>, Sequence<Effect>), Alloc
 fn replied<K: Keeper>(
     alloc: Global,
     count: usize,
-    parts: NlmParts,
+    layers: NlmLayers,
     keeper: &mut K,
     request: &Request,
 ) -> Result<(Vec<u8>, Sequence<Effect>), AllocError>
     requires known { serves Program.Nlm request.now.procedure ≡ true }
-    requires ready { IsReady parts.core.now }
-    ensures done { (n : ℕ) → IfOk result (λ r. MayBe n (core_of parts.exit) → replied n count parts.entry.front.now parts.entry.core.now request.now.xid (call_in (shown_request request.now)) ≡ (r.0.items, r.1, front_of parts.exit, core_of parts.exit)) }
-    ensures leaves { OnOk result (Leaves parts.entry.core.now (core_of parts.exit)) }
+    requires ready { IsReady layers.core.now }
+    ensures done { (n : ℕ) → IfOk result (λ r. MayBe n (core_of layers.exit) → replied n count layers.entry.front.now layers.entry.core.now request.now.xid (call_in (shown_request request.now)) ≡ (r.0.items, r.1, front_of layers.exit, core_of layers.exit)) }
+    ensures leaves { OnOk result (Leaves layers.entry.core.now (core_of layers.exit)) }
     ensures keeper { keeper.new ≡ keeper.old }
     ensures little { IfOk result (λ r. length r.0.items ≤ most_message_bytes) }
 {
     let Some(call) = call_in(request) else {
         return garbage(alloc, request.xid);
     };
-    let NlmParts { front, core } = parts;
-    let (outcome, effects) = serve(alloc, count, NlmParts { front, core }, keeper, &call)?;
+    let NlmLayers { front, core } = layers;
+    let (outcome, effects) = serve(alloc, count, NlmLayers { front, core }, keeper, &call)?;
     let told = reply_of(core.names(), &call, outcome);
     let reply = with_results(alloc, request.xid, &told)?;
     Ok((reply, effects))
@@ -100,19 +100,19 @@ fn replied<K: Keeper>(
 pub fn nlm_step<K: Keeper>(
     alloc: Global,
     exports: &Exports,
-    parts: NlmParts,
+    layers: NlmLayers,
     keeper: &mut K,
     conn: u64,
     request: &Request,
 ) -> Result<(Sequence<Out>, Sequence<Effect>), AllocError>
     requires known { serves Program.Nlm request.now.procedure ≡ true }
-    requires ready { IsReady parts.core.now }
-    ensures state { (n : ℕ) → IfOk result (λ r. MayBe n (core_of parts.exit) → nlm_step n exports.now parts.entry.front.now parts.entry.core.now conn (shown_request request.now) ≡ (r.0, r.1, front_of parts.exit, core_of parts.exit)) }
-    ensures leaves { OnOk result (Leaves parts.entry.core.now (core_of parts.exit)) }
+    requires ready { IsReady layers.core.now }
+    ensures state { (n : ℕ) → IfOk result (λ r. MayBe n (core_of layers.exit) → nlm_step n exports.now layers.entry.front.now layers.entry.core.now conn (shown_request request.now) ≡ (r.0, r.1, front_of layers.exit, core_of layers.exit)) }
+    ensures leaves { OnOk result (Leaves layers.entry.core.now (core_of layers.exit)) }
     ensures little { IfOk result (λ r. AllByRecursion FitsFrame r.0) }
     ensures keeper { keeper.new ≡ keeper.old }
 {
     let count = exports.files.len();
-    let (reply, effects) = replied(alloc, count, parts, keeper, request)?;
+    let (reply, effects) = replied(alloc, count, layers, keeper, request)?;
     Ok((sent_to(alloc, conn, reply)?, effects))
 }

@@ -17,7 +17,7 @@ use Rattle.xl_matrix.specs.declared.claim.What.{What}
 use Rattle.xl_matrix.specs.declared.claim.What.TheVariants as whats
 use Rattle.xl_smb_state.proofs.RowLaws.{none_some, same_Some}
 use Rattle.xl_smb_state.specs.State.{Lists, open_of}
-use Rattle.xl_core.specs.Breaks.{may_be_left, ack}
+use Rattle.xl_core.specs.BreakAnswers.{may_be_left, ack}
 use Rattle.xl_core.specs.Deeds.{Acks}
 use Rattle.xl_core.specs.Good.{IsGood}
 use Rattle.xl_core.specs.Places.{is_cache_on}
@@ -26,7 +26,8 @@ use Rattle.xl_core.specs.declared.ask.Effect.{Effect}
 use Rattle.xl_core.proofs.FrameLaws.{ack_frame}
 use Rattle.xl_core.proofs.NumberLaws.{ack_numbers}
 use Rattle.xl_smb_locks.proofs.LeaveLaws.{frame_leaves}
-use Rattle.xl_smb_locks.specs.Levels.{cache_of, oplock_of, id_of}
+use Rattle.xl_core.specs.Ids.{id_of}
+use Rattle.xl_smb_locks.specs.Levels.{cache_of, oplock_of}
 use Rattle.xl_smb_locks.specs.Short.{Leaves}
 use Rattle.xl_front_smb.specs.Files.{is_read, leaves_less, is_refused, left_at, may_keep, ack_by, ack_lease_by, ack_of, ack_open, lease_left, refused_ack, taken_ack}
 use Rattle.xl_front_smb.specs.Plans.{Does, Fails, carried, Outcome}

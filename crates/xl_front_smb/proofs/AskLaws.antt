@@ -21,7 +21,7 @@ use Rattle.xl_core.proofs.ChangeLaws.{AskWay, Stays, Tests, Holds, Waits, Frees,
 use Rattle.xl_core.proofs.FrameLaws.{made_way_frame}
 use Rattle.xl_core.proofs.GoodLaws.{asked_way_good}
 use Rattle.xl_core.proofs.RowLaws.{is_refusal}
-use Rattle.xl_core.specs.Asking.{IsFit, asked_claims, asked_whats, is_client, may_wish_for}
+use Rattle.xl_core.specs.Askers.{IsFit, asked_claims, asked_whats, is_client, may_wish_for}
 use Rattle.xl_core.specs.Decide.{Answered, ask, before_wish, decided, plea_of, way}
 use Rattle.xl_core.specs.Good.{IsGood}
 use Rattle.xl_core.specs.State.{CoreState}

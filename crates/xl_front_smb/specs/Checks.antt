@@ -1,5 +1,5 @@
 -- What a request names, and the checks before a command (MS-SMB2 3.3.5.2).
-use Rattle.std.specs.Prelude.{ℕ, ◌/◌, ◌%◌, ◌^◌, Bool, false, not, ◌==◌, if◌then◌else◌, List, Option, Some, None, is_some}
+use Rattle.std.specs.Prelude.{ℕ, Bool, false, not, ◌==◌, if◌then◌else◌, List, Option, Some, None, is_some}
 use Rattle.xl_smb.specs.declared.file.FileId.{FileId}
 use Rattle.xl_smb.specs.declared.head.SmbHead.{SmbHead}
 use Rattle.xl_smb_state.specs.Links.{has_place}
@@ -8,18 +8,12 @@ use Rattle.xl_smb_state.specs.declared.row.Connection.{Connection}
 use Rattle.xl_smb_state.specs.declared.row.Open.{Open}
 use Rattle.xl_smb_state.specs.declared.row.Place.{Place}
 use Rattle.xl_smb_state.specs.declared.row.Scope.TheVariants as scope
+pub use Rattle.xl_core.specs.Ids.{id_of, number_in}
 use Rattle.xl_core.specs.State.{CoreState}
 use Rattle.xl_front_smb.specs.Owners.{is_session_on}
 use Rattle.xl_front_smb.specs.Plans.{Plan, Fails}
 use Rattle.xl_front_smb.specs.Replies.{tree_id}
-pub use Rattle.xl_smb_locks.specs.Levels.{id_of}
 use Rattle.xl_smb_locks.specs.declared.status.SmbStatus.TheVariants.{InvalidParameter, NetworkNameDeleted, FileClosed, UserSessionDeleted}
-
--- ---- the ids of sessions and opens: the epoch of this start, and the number
-
--- the number in an id, where it is of this start
-abbrev pub number_in : CoreState → ℕ → Option ℕ
-number_in s id = if id / 2 ^ 32 == s.stable.epoch then Some (id % 2 ^ 32) else None
 
 -- the number, where it passes
 abbrev pub kept_if : (ℕ → Bool) → Option ℕ → Option ℕ

@@ -23,9 +23,9 @@ use Rattle.xl_table.specs.declared.leaver.Leaver.TheVariants as leavers
 use Rattle.xl_wait.specs.declared.waiter.Rooms.{Rooms}
 use Rattle.xl_wait.specs.declared.waiter.Waiter.{Waiter}
 use Rattle.xl_core.specs.Causes.{IsClaimDue}
-use Rattle.xl_core.specs.Begin.{others_of}
+use Rattle.xl_core.specs.BreaksBegun.{others_of}
 use Rattle.xl_core.specs.Decide.{way}
-use Rattle.xl_core.specs.Asking.{party_in}
+use Rattle.xl_core.specs.Askers.{party_in}
 use Rattle.xl_core.specs.Settle.{waits_as}
 use Rattle.xl_core.specs.State.{CoreState, drawn}
 use Rattle.xl_core.specs.declared.ask.Answer.TheVariants as answers

@@ -12,5 +12,3 @@ pub mod Locks
 pub mod Requests
 pub mod FrontSmb
 pub mod Laws
-pub mod LockLaws
-pub mod Awaits

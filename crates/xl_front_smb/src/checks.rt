@@ -6,9 +6,8 @@ ghost use Rattle.xl_smb_state.specs.declared.row.Holder.TheVariants as holder;
 ghost use Rattle.xl_front_smb.specs.Checks.{session_named, tree_named, is_open_on, file_number, open_named, is_fresh};
 ghost use Rattle.xl_front_smb.specs.Owners.{is_session_on};
 
-use crate::ids::number_in;
 use crate::replies::tree_id;
-use xl_core::Core;
+use xl_core::{Core, number_in};
 use xl_smb::{FileId, SmbHead};
 use xl_smb_state::{Connection, Holder, Open, Place, Session, SmbState};
 

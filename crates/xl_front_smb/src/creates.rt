@@ -21,10 +21,10 @@ use crate::told::Told;
 use std::alloc::{AllocError, Global};
 use xl_base::{Keeper, Sequence};
 use xl_cache::{CacheKind, wish_of_lease, wish_of_oplock};
-use xl_core::{Act, Answer, Ask, Core, Who};
+use xl_core::{Act, Answer, Ask, Core, Who, id_of};
 use xl_matrix::Rwd;
 use xl_smb::{CreateCall, Lease, SmbHead};
-use xl_smb_locks::{SmbStatus, asked, caching_of, id_of, party_for};
+use xl_smb_locks::{SmbStatus, asked, caching_of, party_for};
 use xl_smb_state::{Holder, LeaseKey, OPENS, Open, Place, Request, SmbState, Waiting};
 use xl_wait::Rooms;
 

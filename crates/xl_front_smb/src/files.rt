@@ -4,7 +4,7 @@ ghost use Rattle.xl_base.specs.Lists.{IsIn};
 ghost use Rattle.xl_matrix.specs.declared.claim.What.TheVariants.{Cache};
 ghost use Rattle.xl_smb.specs.declared.command.Command.TheVariants as command;
 ghost use Rattle.xl_smb_state.specs.State.{Lists, open_of, lease_of};
-ghost use Rattle.xl_core.specs.Breaks.{may_be_left};
+ghost use Rattle.xl_core.specs.BreakAnswers.{may_be_left};
 ghost use Rattle.xl_core.specs.Deeds.{Acks};
 ghost use Rattle.xl_core.specs.State.{CoreState};
 ghost use Rattle.xl_front_smb.specs.Files.{close_open, close, is_read, leaves_less, is_refused, left_at, ack_by, ack_of, ack_open, may_keep, lease_left, ack_lease_by, ack_lease, break_by, acknowledge};
@@ -20,10 +20,10 @@ use crate::told::Told;
 use std::alloc::{AllocError, Global};
 use xl_base::Sequence;
 use xl_cache::{kind_in_lease, oplock_level, rest_within};
-use xl_core::Core;
+use xl_core::{Core, id_of};
 use xl_matrix::{CacheKind, Claim, What};
 use xl_smb::{Break, FileId, Lease, SmbHead};
-use xl_smb_locks::{SmbStatus, cache_of, id_of, lease_party, oplock_of};
+use xl_smb_locks::{SmbStatus, cache_of, lease_party, oplock_of};
 use xl_smb_state::{LeaseKey, SmbState};
 
 /// An open ends with all that it holds.

@@ -1,15 +1,11 @@
 //! The SMB front: what the messages of SMB 2.1 connections are answered (MS-SMB2 3.3.5, dialect 0x0210), over the core.
 #![tactic(auto)]
 
-pub mod awaiting;
-pub mod cancelling;
 mod checks;
 mod creates;
 mod ending;
 mod files;
 mod front;
-mod ids;
-pub mod law;
 mod locks;
 mod numbers;
 mod outcome;

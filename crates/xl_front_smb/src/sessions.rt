@@ -18,10 +18,10 @@ use crate::outcome::{Done, failed, told};
 use crate::texts::is_share;
 use crate::told::Told;
 use std::alloc::{AllocError, Global};
-use xl_core::Core;
+use xl_core::{Core, id_of};
 use xl_smb::{NegotiateCall, SmbHead};
-use xl_smb_locks::{SmbStatus, id_of};
-use xl_smb_state::{Connection, Place, SESSIONS, Scope, Session, SmbState, TREES, Tree};
+use xl_smb_locks::SmbStatus;
+use xl_smb_state::{Connection, Place, Scope, Session, SmbState, Tree};
 
 /// The number of SMB 2.1.
 const DIALECT: u16 = 0x0210;
@@ -57,8 +57,8 @@ fn has_room_for_session(
 ) -> Result<bool, AllocError>
     ensures { IfOk result (λ room. room ≡ has_room_for_session state.now conn number) }
 {
-    let sessions = state.sessions_on(alloc, conn)?;
-    Ok(sessions.len() < SESSIONS && state.find_session(number).is_none())
+    let has_room = state.has_session_room(alloc, conn)?;
+    Ok(has_room && state.find_session(number).is_none())
 }
 
 /// A new session.
@@ -158,8 +158,8 @@ fn has_room_for_tree(
 ) -> Result<bool, AllocError>
     ensures { IfOk result (λ room. room ≡ has_room_for_tree state.now conn number) }
 {
-    let trees = state.trees_on(alloc, conn)?;
-    Ok(trees.len() < TREES && state.find_tree(number).is_none())
+    let has_room = state.has_tree_room(alloc, conn)?;
+    Ok(has_room && state.find_tree(number).is_none())
 }
 
 /// A new tree connect of a session.

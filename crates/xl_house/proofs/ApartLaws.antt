@@ -32,7 +32,7 @@ use Rattle.xl_front_smb.specs.Ending.{all_ended, leavers_under, smb_end}
 use Rattle.xl_front_smb.specs.FrontSmb.{head_heard, plan_for, smb_shown, smb_step, stepped}
 use Rattle.xl_front_smb.specs.Plans.{Plan, Fails, Does, Opens, Locks, carried, has_room_to_wait, lists_as, opened_lists, with_waiting}
 use Rattle.xl_front_smb.specs.State.{FrontSmb, smb_begin}
-use Rattle.xl_front_smb.proofs.AwaitLaws.{Sorts, ended_rows, gone_lists, gone_rows, requested_sorts, served_rows, still_distinct}
+use Rattle.xl_smb_laws.proofs.AwaitedRequestLaws.{Sorts, ended_rows, gone_lists, gone_rows, requested_sorts, served_rows, still_distinct}
 
 -- no two have one number
 abbrev pub AreApart : Lists → Type 0

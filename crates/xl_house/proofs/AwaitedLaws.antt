@@ -26,17 +26,17 @@ use Rattle.xl_core.specs.declared.ask.Effect.{Effect}
 use Rattle.xl_front_nlm.proofs.AnswerLaws.{answer_does, answer_takes, answer_tells}
 use Rattle.xl_front_nlm.proofs.DoesLaws as nlm
 use Rattle.xl_front_nlm.specs.FrontNlm.{nlm_deeds}
-use Rattle.xl_front_nfs.proofs.DoesLaws as nfs
-use Rattle.xl_front_nfs.proofs.OwnLaws as nfs_own
+use Rattle.xl_nfs_laws.proofs.RequestDeedLaws as nfs
+use Rattle.xl_nfs_laws.proofs.RequestOwn as nfs_own
 use Rattle.xl_front_nfs.specs.FrontNfs.{nfs_deeds}
 use Rattle.xl_house.specs.Awaited.{IsAwaiting}
 use Rattle.xl_house.specs.Done.{end_given, given_by, message_given, own_deeds, program_given, record_given}
 use Rattle.xl_house.specs.Free.{IsFree}
 use Rattle.xl_house.specs.Lawful.{may_do}
 use Rattle.xl_house.specs.Machine.{Sent, Whole, after_turn, all_shown, begun_by, ended_by, heard, heard_by, kind_of, most_connections, nfs_opens, program_heard, record_heard, rooms_of, settled, settled_for, showing, smb_opens}
-use Rattle.xl_house.specs.declared.parts.Fronts.{Fronts}
-use Rattle.xl_front_smb.specs.Awaits.{is_open_ask}
-use Rattle.xl_house.proofs.AwaitingLaws.{Others, Stand, ToTell, begin_stands, deeds_tell, end_tells, message_tells, none_tells, one_tells, quiet_tell, same_stand}
+use Rattle.xl_house.specs.declared.layers.Fronts.{Fronts}
+use Rattle.xl_smb_laws.specs.WaitingRequests.{is_open_ask}
+use Rattle.xl_house.proofs.PairedWaiterLaws.{Others, Stand, ToTell, begin_stands, deeds_tell, end_tells, message_tells, none_tells, one_tells, quiet_tell, same_stand}
 use Rattle.xl_house.proofs.DoneLaws.{own_may}
 use Rattle.xl_house.proofs.LawfulLaws.{begun_waits}
 use Rattle.xl_house.proofs.MachineLaws.{heard_good}

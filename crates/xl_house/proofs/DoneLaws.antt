@@ -22,7 +22,7 @@ use Rattle.xl_core.specs.declared.ask.Effect.{Effect}
 use Rattle.xl_base.specs.declared.event.Moment.{Moment}
 use Rattle.std.proofs.lemmas.Bool.{eq-eqb}
 use Rattle.xl_core.specs.Leases.{first_ended}
-use Rattle.xl_core.specs.Breaks.{first_due}
+use Rattle.xl_core.specs.BreakAnswers.{first_due}
 use Rattle.xl_core.specs.Ticks.{advanced, expire, lapse, lapsed_for}
 use Rattle.xl_core.proofs.TickLaws.{tick_done, tick_fits}
 use Rattle.xl_core.proofs.DeedLists.{done_append, fit_append}
@@ -33,14 +33,14 @@ use Rattle.xl_front_nlm.proofs.OwnLaws.{step_own}
 use Rattle.xl_front_nlm.specs.Answers.{refuses, refused_grant, refusal_deeds, nlm_called}
 use Rattle.xl_front_nlm.specs.FrontNlm.{nlm_step}
 use Rattle.xl_front_nlm.specs.Grants.{news, drawn_for, shown, shown_deeds}
-use Rattle.xl_house.specs.declared.parts.Fronts.{Fronts}
+use Rattle.xl_house.specs.declared.layers.Fronts.{Fronts}
 use Rattle.xl_front_nlm.specs.declared.grant.Grant.{Grant}
 use Rattle.xl_front_nfs.specs.FrontNfs.{nfs_step}
-use Rattle.xl_front_nfs.proofs.DoesLaws as nfs
-use Rattle.xl_front_nfs.proofs.OwnLaws as nfs_own
+use Rattle.xl_nfs_laws.proofs.RequestDeedLaws as nfs
+use Rattle.xl_nfs_laws.proofs.RequestOwn as nfs_own
 use Rattle.xl_front_smb.specs.FrontSmb.{smb_step}
-use Rattle.xl_front_smb.proofs.DoesLaws as smb
-use Rattle.xl_front_smb.proofs.OwnLaws as smb_own
+use Rattle.xl_smb_laws.proofs.RequestDeedLaws as smb
+use Rattle.xl_smb_laws.proofs.RequestOwn as smb_own
 use Rattle.xl_house.specs.Done.{program_deeds, program_owns, program_reply, record_deeds, record_owns, message_deeds, message_owns, record_replies, message_replies, end_deeds, end_owns, AreRefusals, own_deeds, own_replies, told_deeds, turn_deeds, turns_for, turns, given_of, program_given, record_given, message_given, end_given, given_by, behind_own, deeds, messages}
 use Rattle.xl_house.specs.Journals.{is_restart}
 use Rattle.xl_house.specs.Lawful.{may_do, may_follow, IsOwnersBy}

@@ -11,7 +11,7 @@ use Rattle.xl_base.specs.declared.name.Protocol.TheVariants.{Nfs}
 use Rattle.xl_names.specs.Names.{protocol_of}
 use Rattle.xl_names.specs.declared.name.Name.{Name}
 use Rattle.xl_names.specs.declared.name.Name.TheVariants.{NlmRange}
-use Rattle.xl_core.specs.Asking.{is_lease}
+use Rattle.xl_core.specs.Askers.{is_lease}
 use Rattle.xl_core.proofs.FrameLaws.{tick_frame}
 use Rattle.xl_core.proofs.GoodLaws.{begun_good, tick_good}
 use Rattle.xl_core.proofs.NumberLaws.{tick_numbers}
@@ -26,7 +26,7 @@ use Rattle.xl_programs.specs.declared.program.Program.{Program}
 use Rattle.xl_nfs_opens.specs.Short as nfs
 use Rattle.xl_front_smb.specs.Short as smb
 use Rattle.xl_smb_locks.specs.Short.{LeasesCome}
-use Rattle.xl_house.specs.declared.parts.Fronts.{Fronts}
+use Rattle.xl_house.specs.declared.layers.Fronts.{Fronts}
 use Rattle.xl_house.specs.Machine.{Sent, grants, program_heard, record_heard, packet_heard, heard_by}
 use Rattle.xl_house.specs.Shown.{IsReadyFor, LeavesBy}
 use Rattle.xl_house.proofs.Stores.{goes_on_self, goes_further}

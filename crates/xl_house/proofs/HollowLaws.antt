@@ -20,7 +20,7 @@ use Rattle.xl_smb_state.specs.declared.row.Open.{Open}
 use Rattle.xl_smb_state.specs.declared.row.Request.{Request}
 use Rattle.xl_smb_state.specs.declared.row.Request.TheVariants as request
 use Rattle.xl_smb_state.specs.declared.row.Waiting.{Waiting}
-use Rattle.xl_cache.specs.Planning.{is_running}
+use Rattle.xl_cache.specs.BreakPlans.{is_running}
 use Rattle.xl_matrix.specs.declared.claim.Claim.{Claim}
 use Rattle.xl_matrix.specs.declared.claim.Extent.{Extent}
 use Rattle.xl_wait.specs.declared.waiter.Rooms.{Rooms}
@@ -40,7 +40,7 @@ use Rattle.xl_core.specs.Settle.{settle, turns_left, waits_as}
 use Rattle.xl_core.specs.declared.ask.Answer.TheVariants.{Granted}
 use Rattle.xl_core.specs.declared.ask.Effect.{Effect}
 use Rattle.xl_core.specs.declared.ask.Effect.TheVariants.{Served}
-use Rattle.xl_front_smb.specs.Awaits.{IsKept as HasRequest}
+use Rattle.xl_smb_laws.specs.WaitingRequests.{IsKept as HasRequest}
 use Rattle.xl_front_smb.specs.Checks.{is_open_on}
 use Rattle.xl_house.specs.Awaited.{IsServed, OpenStands, turn_serves, turns_serve}
 use Rattle.xl_house.specs.Done.{deeds}
@@ -48,7 +48,7 @@ use Rattle.xl_house.specs.Free.{IsFree}
 use Rattle.xl_house.specs.Lawful.{found, IsLawful, IsWaiting, IsKept, IsComplete}
 use Rattle.xl_house.specs.Machine.{Whole, heard, rooms_of}
 use Rattle.xl_house.specs.Timed.{leases_after}
-use Rattle.xl_house.specs.declared.parts.Fronts.{Fronts}
+use Rattle.xl_house.specs.declared.layers.Fronts.{Fronts}
 use Rattle.xl_house.proofs.LawfulLaws.{begun_waits}
 use Rattle.xl_house.proofs.MachineLaws.{heard_good}
 use Rattle.xl_house.proofs.ServedLaws.{awaiting_by}

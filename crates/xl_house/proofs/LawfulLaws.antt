@@ -9,7 +9,7 @@ use Rattle.xl_base.specs.declared.event.Event.TheVariants.{Open, Message, End, C
 use Rattle.xl_base.specs.declared.event.Moment.{Moment}
 use Rattle.xl_base.specs.declared.journal.Entry.{Entry}
 use Rattle.xl_base.specs.declared.journal.Head.{Head}
-use Rattle.xl_cache.specs.Planning.{is_running}
+use Rattle.xl_cache.specs.BreakPlans.{is_running}
 use Rattle.xl_matrix.proofs.SideLaws.{compat-sym}
 use Rattle.xl_matrix.specs.Matrix.{compat}
 use Rattle.xl_matrix.specs.declared.claim.Claim.{Claim}
@@ -19,7 +19,7 @@ use Rattle.xl_table.specs.Held.{is_cache}
 use Rattle.xl_wait.specs.declared.waiter.Waiter.{Waiter}
 use Rattle.xl_names.specs.declared.name.Name.{Name}
 use Rattle.xl_core.specs.State.{CoreState, step_begun}
-use Rattle.xl_core.specs.Breaks.{first_due}
+use Rattle.xl_core.specs.BreakAnswers.{first_due}
 use Rattle.xl_core.specs.Deeds.{all_done, queue_after, any_ends_break, KeepNames}
 use Rattle.xl_core.specs.Dues.{AreDue}
 use Rattle.xl_core.specs.Leases.{first_ended}

@@ -9,8 +9,8 @@ use Rattle.xl_smb_state.specs.State.{Lists, come_under, grown_row, joined, key_o
 use Rattle.xl_smb_state.specs.declared.row.Lease.{Lease}
 use Rattle.xl_smb_state.specs.declared.row.LeaseKey.{LeaseKey}
 use Rattle.xl_smb_state.specs.declared.row.Open.{Open}
-use Rattle.xl_front_smb.proofs.AwaitLaws.{any_left}
-use Rattle.xl_front_smb.proofs.KeyLaws.{leased_with}
+use Rattle.xl_smb_laws.proofs.AwaitedRequestLaws.{any_left}
+use Rattle.xl_smb_laws.proofs.LeaseKeyLaws.{leased_with}
 use Rattle.xl_front_smb.specs.Laws.{IsLeased}
 use Rattle.xl_house.proofs.OpensLaws.{StaysSo}
 

@@ -10,7 +10,7 @@ pub mod MachineLaws
 pub mod TimedLaws
 pub mod LawfulLaws
 pub mod ApartLaws
-pub mod AwaitingLaws
+pub mod PairedWaiterLaws
 pub mod OthersLaws
 pub mod OpensLaws
 pub mod LeasedLaws

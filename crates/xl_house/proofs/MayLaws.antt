@@ -9,8 +9,8 @@ use Rattle.xl_names.specs.declared.name.Name.{Name}
 use Rattle.xl_programs.specs.Programs.{RequestItem}
 use Rattle.xl_wait.specs.declared.waiter.Rooms.{Rooms}
 use Rattle.xl_core.specs.State.{CoreState}
-use Rattle.xl_core.specs.Asking.{asked_whats, asked_claims, is_client}
-use Rattle.xl_core.specs.Breaks.{ack}
+use Rattle.xl_core.specs.Askers.{asked_whats, asked_claims, is_client}
+use Rattle.xl_core.specs.BreakAnswers.{ack}
 use Rattle.xl_core.specs.Clients.{IsOf, AreOf, AreOfSome}
 use Rattle.xl_core.specs.Decide.{plea_of, way, ask}
 use Rattle.xl_core.specs.Deeds.{Deed, Asks, GivesBack, Weakens, Acks, Cancels, Ends, Closes, Serves, Draws, Advances, Renews, Expires, given, done, all_told_of, IsFitDeed, AreFit}
@@ -27,7 +27,7 @@ use Rattle.xl_core.proofs.WayLaws.{way_serves}
 use Rattle.xl_front_nfs.specs.FrontNfs.{nfs_deeds}
 use Rattle.xl_nfs_opens.specs.Owners.{IsBy, AreBy}
 use Rattle.xl_front_nfs.specs.State.{FrontNfs}
-use Rattle.xl_front_nfs.proofs.OwnLaws.{request_by}
+use Rattle.xl_nfs_laws.proofs.RequestOwn.{request_by}
 use Rattle.xl_front_nlm.specs.FrontNlm.{nlm_client, nlm_deeds}
 use Rattle.xl_front_nlm.specs.State.{FrontState}
 use Rattle.xl_front_nlm.proofs.OwnLaws.{step_own}
@@ -35,7 +35,7 @@ use Rattle.xl_front_smb.specs.Ending.{smb_end_deeds}
 use Rattle.xl_front_smb.specs.FrontSmb.{smb_deeds}
 use Rattle.xl_front_smb.specs.Owners.{IsOwn, is_end}
 use Rattle.xl_front_smb.specs.State.{FrontSmb}
-use Rattle.xl_front_smb.proofs.OwnLaws as smb
+use Rattle.xl_smb_laws.proofs.RequestOwn as smb
 use Rattle.xl_smb_state.specs.State.{Lists}
 use Rattle.xl_house.specs.Lawful.{may_do}
 use Rattle.xl_house.specs.Machine.{is_grant, grants}

@@ -27,7 +27,7 @@ use Rattle.xl_smb_locks.specs.Finals.{final_outs, locked_reply, may_stand, open_
 use Rattle.xl_smb_locks.specs.Levels.{cache_told, caching, level_held}
 use Rattle.xl_smb_locks.specs.declared.status.SmbStatus.{SmbStatus}
 use Rattle.xl_smb_locks.specs.declared.status.SmbStatus.TheVariants as statuses
-use Rattle.xl_front_smb.proofs.AwaitLaws.{ended_rows}
+use Rattle.xl_smb_laws.proofs.AwaitedRequestLaws.{ended_rows}
 use Rattle.xl_front_smb.proofs.EndLaws.{ended_keeps}
 use Rattle.xl_front_smb.specs.Checks.{is_open_on}
 use Rattle.xl_front_smb.specs.FrontSmb.{smb_shown}

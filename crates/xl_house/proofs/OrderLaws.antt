@@ -26,22 +26,22 @@ use Rattle.xl_core.specs.Ticks.{tick}
 use Rattle.xl_core.specs.declared.ask.Effect.{Effect}
 use Rattle.xl_core.specs.declared.ask.Effect.TheVariants.{Begun, Served, Cancelled, Expired}
 use Rattle.xl_front_nlm.specs.Answers.{nlm_called}
-use Rattle.xl_front_nfs.proofs.DoesLaws as nfs
+use Rattle.xl_nfs_laws.proofs.RequestDeedLaws as nfs
 use Rattle.xl_front_nfs.specs.FrontNfs.{nfs_step}
 use Rattle.xl_front_nfs.specs.Recalls.{client_by, recall_out, recalled_as, recalled_from, recalls}
 use Rattle.xl_front_nfs.specs.State.{FrontNfs}
 use Rattle.xl_nfs_state.specs.State.{NfsLists, delegated_on}
 use Rattle.xl_nfs_state.specs.declared.client.ClientRow.{ClientRow}
 use Rattle.xl_nfs_state.specs.declared.stateid.StateidRow.{StateidRow}
-use Rattle.xl_core.specs.Breaks.{client_of}
+use Rattle.xl_core.specs.BreakAnswers.{client_of}
 use Rattle.xl_front_nlm.proofs.DoesLaws as nlm
 use Rattle.xl_front_nlm.specs.FrontNlm.{nlm_step}
 use Rattle.xl_front_nlm.specs.Grants.{news, told_by, shown}
 use Rattle.xl_front_nlm.specs.State.{FrontState}
 use Rattle.xl_front_smb.specs.Ending.{smb_end}
 use Rattle.xl_front_smb.specs.FrontSmb.{smb_shown, smb_step}
-use Rattle.xl_front_smb.proofs.WaitLaws as smb_waits
-use Rattle.xl_house.specs.declared.parts.Fronts.{Fronts}
+use Rattle.xl_smb_laws.proofs.WaitConnectionLaws as smb_waits
+use Rattle.xl_house.specs.declared.layers.Fronts.{Fronts}
 use Rattle.xl_front_nlm.specs.declared.grant.Grant.{Grant}
 use Rattle.xl_house.proofs.MachineLaws.{next_place}
 use Rattle.xl_house.specs.Journals.{is_restart, IsLegal, IsOrderly, IsTimely, opened_after}

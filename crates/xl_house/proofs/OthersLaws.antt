@@ -7,7 +7,7 @@ use Rattle.xl_names.specs.declared.name.Name.TheVariants.{NfsParty}
 use Rattle.xl_nlm.specs.Items as calls
 use Rattle.xl_programs.specs.Programs.{RequestItem}
 use Rattle.xl_smb_state.proofs.RowLaws.{none_some, same_Some}
-use Rattle.xl_core.specs.Asking.{is_lease}
+use Rattle.xl_core.specs.Askers.{is_lease}
 use Rattle.xl_core.specs.Deeds.{AreFit, Deed, Asks, GivesBack, Weakens, Acks, Cancels, Ends, Serves, Draws, Advances, Lapses, Renews, Expires, Closes, IsFitDeed, done}
 use Rattle.xl_core.specs.Good.{IsGood}
 use Rattle.xl_core.specs.State.{CoreState}
@@ -19,8 +19,8 @@ use Rattle.xl_front_nlm.specs.Serving.{client_of}
 use Rattle.xl_front_nlm.specs.State.{FrontState}
 use Rattle.xl_front_nlm.specs.declared.grant.Grant.{Grant}
 use Rattle.xl_nfs_opens.specs.Owners.{AreBy, IsBy}
-use Rattle.xl_front_smb.specs.Awaits.{is_open_ask}
-use Rattle.xl_house.proofs.AwaitingLaws.{Others, asked_named, some_named}
+use Rattle.xl_smb_laws.specs.WaitingRequests.{is_open_ask}
+use Rattle.xl_house.proofs.PairedWaiterLaws.{Others, asked_named, some_named}
 
 -- a caller of NLM is no lease
 caller_plain : (call : calls.CallItem) (client : Name) → client_of call ≡ Some client → is_lease client ≡ false

@@ -22,8 +22,8 @@ use Rattle.xl_core.specs.Numbers.{numbers_of}
 use Rattle.xl_core.specs.Settle.{settle}
 use Rattle.xl_front_nfs.specs.FrontNfs.{nfs_deeds, nfs_step}
 use Rattle.xl_front_nfs.specs.State.{FrontNfs}
-use Rattle.xl_front_nfs.proofs.DoesLaws as nfs
-use Rattle.xl_front_nfs.proofs.OwnLaws.{request_takes}
+use Rattle.xl_nfs_laws.proofs.RequestDeedLaws as nfs
+use Rattle.xl_nfs_laws.proofs.RequestOwn.{request_takes}
 use Rattle.xl_front_nlm.proofs.AnswerLaws.{answer_tells, answer_takes}
 use Rattle.xl_front_nlm.proofs.DoesLaws.{step_tells, step_takes}
 use Rattle.xl_front_nlm.specs.Answers.{refuses, refused_grant, refusal_deeds, nlm_called}
@@ -36,8 +36,8 @@ use Rattle.xl_front_nlm.specs.declared.grant.Grant.{Grant}
 use Rattle.xl_front_smb.specs.Ending.{smb_end_deeds, smb_end}
 use Rattle.xl_front_smb.specs.FrontSmb.{smb_deeds, smb_step}
 use Rattle.xl_front_smb.specs.State.{FrontSmb}
-use Rattle.xl_front_smb.proofs.DoesLaws as smb
-use Rattle.xl_front_smb.proofs.OwnLaws as smb_own
+use Rattle.xl_smb_laws.proofs.RequestDeedLaws as smb
+use Rattle.xl_smb_laws.proofs.RequestOwn as smb_own
 use Rattle.xl_house.specs.Machine.{is_grant, grants}
 use Rattle.xl_house.proofs.MayLaws.{nlm_may, nfs_may, smb_may, last_may, unserved_quiet, both_quiet, asked_quiet, may_quiet, end_quiet}
 use Rattle.xl_house.proofs.Stores.{may_be_made}

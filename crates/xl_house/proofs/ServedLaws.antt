@@ -30,11 +30,12 @@ use Rattle.xl_core.specs.declared.ask.Answer.TheVariants as answers
 use Rattle.xl_core.specs.declared.ask.Effect.{Effect}
 use Rattle.xl_core.specs.declared.ask.Effect.TheVariants as effects
 use Rattle.xl_smb_locks.specs.Finals.{final_outs, locked_reply, opened_reply}
-use Rattle.xl_smb_locks.specs.Levels.{caching, id_of}
+use Rattle.xl_core.specs.Ids.{id_of}
+use Rattle.xl_smb_locks.specs.Levels.{caching}
 use Rattle.xl_smb_locks.specs.declared.levels.Caching.{Caching}
-use Rattle.xl_front_smb.proofs.AwaitLaws.{row_in}
-use Rattle.xl_front_smb.proofs.StandLaws.{granted_lease, granted_reply, granted_row, granted_share, served_grant, turn_of}
-use Rattle.xl_front_smb.specs.Awaits.{IsAwaited, IsGranted, IsKept, IsUnder}
+use Rattle.xl_smb_laws.proofs.AwaitedRequestLaws.{row_in}
+use Rattle.xl_smb_laws.proofs.GrantedCreateLaws.{granted_lease, granted_reply, granted_row, granted_share, served_grant, turn_of}
+use Rattle.xl_smb_laws.specs.WaitingRequests.{IsAwaited, IsGranted, IsKept, IsUnder}
 use Rattle.xl_front_smb.specs.Checks.{is_open_on}
 use Rattle.xl_front_smb.specs.FrontSmb.{smb_shown}
 use Rattle.xl_front_smb.specs.Laws.{IsLeased}
@@ -43,9 +44,9 @@ use Rattle.xl_house.specs.Free.{IsFree}
 use Rattle.xl_house.specs.Journals.{replay}
 use Rattle.xl_house.specs.Lawful.{Always, Law}
 use Rattle.xl_house.specs.Machine.{Whole, after_turn, all_shown, begin, framed, heard, rooms_of, settled, settled_for, step}
-use Rattle.xl_house.specs.declared.parts.Fronts.{Fronts}
+use Rattle.xl_house.specs.declared.layers.Fronts.{Fronts}
 use Rattle.xl_house.proofs.AwaitedLaws.{Ready, heard_stand, settled_stand, shown_stand, turn_tells}
-use Rattle.xl_house.proofs.AwaitingLaws.{Stand, same_stand}
+use Rattle.xl_house.proofs.PairedWaiterLaws.{Stand, same_stand}
 use Rattle.xl_house.proofs.LawfulLaws.{begun_waits}
 use Rattle.xl_house.proofs.MachineLaws.{heard_good}
 use Rattle.xl_house.proofs.SettleLaws.{turned_good}

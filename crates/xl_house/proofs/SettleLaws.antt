@@ -14,7 +14,7 @@ use Rattle.xl_house.proofs.QuietLaws.{turn_pays}
 use Rattle.xl_house.proofs.Stores.{may_be_made, may_be_before, goes_on_self, goes_further}
 use Rattle.xl_house.proofs.ShownLaws.{all_shown_is, all_shown_good, shown_numbers, shown_names, told_turns}
 use Rattle.xl_base.specs.declared.journal.Exports.{Exports}
-use Rattle.xl_house.specs.declared.parts.Fronts.{Fronts}
+use Rattle.xl_house.specs.declared.layers.Fronts.{Fronts}
 use Rattle.xl_names.specs.declared.name.Name.{Name}
 use Rattle.xl_core.proofs.GoodLaws.{settle_good}
 use Rattle.xl_front_nlm.specs.Short.{AreShort}

@@ -16,7 +16,7 @@ use Rattle.xl_core.specs.declared.ask.Effect.TheVariants.{Begun, Served, Cancell
 use Rattle.xl_core.proofs.GoodLaws.{drawn_good}
 use Rattle.xl_front_nlm.specs.Grants.{news, told_by, shown}
 use Rattle.xl_front_nlm.specs.State.{FrontState}
-use Rattle.xl_house.specs.declared.parts.Fronts.{Fronts}
+use Rattle.xl_house.specs.declared.layers.Fronts.{Fronts}
 use Rattle.xl_front_nlm.specs.declared.grant.Grant.{Grant}
 use Rattle.xl_house.specs.Machine.{Sent, is_grant, grants, behind, showing, all_shown}
 use Rattle.xl_names.specs.declared.name.Name.{Name}

@@ -9,7 +9,7 @@ use Rattle.xl_core.specs.Decide.{ask}
 use Rattle.xl_core.specs.Good.{IsGood}
 use Rattle.xl_base.specs.declared.event.Moment.{Moment}
 use Rattle.xl_core.specs.Settle.{settle, cancel, close_open, give_back, weaken, end_party}
-use Rattle.xl_core.specs.Breaks.{ack}
+use Rattle.xl_core.specs.BreakAnswers.{ack}
 use Rattle.xl_core.specs.Ticks.{advanced, expire, lapse}
 use Rattle.xl_core.specs.declared.ask.Effect.{Effect}
 use Rattle.xl_core.proofs.DeedLaws.{deed_good}

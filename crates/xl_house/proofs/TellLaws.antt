@@ -13,7 +13,7 @@ use Rattle.xl_front_nlm.specs.Grants.{shown}
 use Rattle.xl_front_nfs.specs.Recalls.{recalls}
 use Rattle.xl_front_smb.specs.FrontSmb.{smb_shown}
 use Rattle.xl_house.specs.Machine.{after_turn, all_shown, framed, rooms_of, settled_for, showing}
-use Rattle.xl_house.specs.declared.parts.Fronts.{Fronts}
+use Rattle.xl_house.specs.declared.layers.Fronts.{Fronts}
 use Rattle.xl_house.proofs.OpensLaws.{StaysSo, begun_shows, expired_shows, shown_so}
 
 -- ---- what is so of opens stays

@@ -19,13 +19,14 @@ use Rattle.xl_core.specs.declared.ask.Answer.TheVariants.{Granted}
 use Rattle.xl_core.specs.declared.ask.Effect.{Effect}
 use Rattle.xl_core.specs.declared.ask.Effect.TheVariants.{Served}
 use Rattle.xl_smb_locks.specs.Finals.{final_outs, locked_reply, opened_reply}
-use Rattle.xl_smb_locks.specs.Levels.{caching, id_of}
-use Rattle.xl_front_smb.specs.Awaits.{AreAwaited, AreKept}
+use Rattle.xl_core.specs.Ids.{id_of}
+use Rattle.xl_smb_locks.specs.Levels.{caching}
+use Rattle.xl_smb_laws.specs.WaitingRequests.{AreAwaited, AreKept}
 use Rattle.xl_front_smb.specs.Checks.{is_open_on}
 use Rattle.xl_front_smb.specs.Laws.{IsLeased}
 use Rattle.xl_house.specs.Lawful.{Law}
 use Rattle.xl_house.specs.Machine.{Whole, all_shown, framed, heard, rooms_of}
-use Rattle.xl_house.specs.declared.parts.Fronts.{Fronts}
+use Rattle.xl_house.specs.declared.layers.Fronts.{Fronts}
 
 -- each request that waits in SMB's lists is a waiter of the core, and each waiter of an SMB open has its request there
 pub record IsAwaiting (s : Whole) : Type 0 where

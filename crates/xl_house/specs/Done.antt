@@ -28,9 +28,9 @@ use Rattle.xl_front_nlm.specs.FrontNlm.{nlm_client, nlm_deeds, nlm_reply, nlm_st
 use Rattle.xl_front_nlm.specs.Grants.{shown, shown_deeds}
 use Rattle.xl_front_nlm.specs.State.{FrontState}
 use Rattle.xl_front_nlm.specs.declared.grant.Grant.{Grant}
-use Rattle.xl_house.specs.declared.parts.Fronts.{Fronts}
+use Rattle.xl_house.specs.declared.layers.Fronts.{Fronts}
 use Rattle.xl_front_nfs.specs.FrontNfs.{nfs_deeds, nfs_reply, nfs_step}
-use Rattle.xl_front_nfs.specs.Theirs.{AreTheirs}
+use Rattle.xl_nfs_laws.specs.RequestOwners.{AreTheirs}
 use Rattle.xl_front_smb.specs.Ending.{smb_end, smb_end_deeds}
 use Rattle.xl_front_smb.specs.FrontSmb.{smb_deeds, smb_replies, smb_step}
 use Rattle.xl_front_smb.specs.Owners.{AreOwn}

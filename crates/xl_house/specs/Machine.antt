@@ -37,7 +37,7 @@ use Rattle.xl_nfs_state.specs.State.{opens}
 use Rattle.xl_front_smb.specs.Ending.{smb_end}
 use Rattle.xl_front_smb.specs.FrontSmb.{smb_shown, smb_step}
 use Rattle.xl_front_smb.specs.State.{FrontSmb, empty_smb_front, opens_held, smb_begin}
-use Rattle.xl_house.specs.declared.parts.Fronts.{Fronts}
+use Rattle.xl_house.specs.declared.layers.Fronts.{Fronts}
 use Rattle.xl_house.specs.declared.connections.Connection.{Connection}
 
 -- the state between two events: what is exported, the place of the next event, the open connections, the fronts, and the

@@ -4,7 +4,7 @@ use Rattle.xl_base.specs.declared.event.Event.{Event}
 use Rattle.xl_base.specs.declared.event.Event.TheVariants.{Tick}
 use Rattle.xl_base.specs.declared.event.Moment.{Moment}
 use Rattle.xl_core.specs.State.{CoreState}
-use Rattle.xl_core.specs.Breaks.{client_of}
+use Rattle.xl_core.specs.BreakAnswers.{client_of}
 use Rattle.xl_core.specs.Deeds.{Deed, Lapses, Renews, Expires, done}
 use Rattle.xl_core.specs.Leases.{Lease, moment_after, later, with_lease, without_lease}
 

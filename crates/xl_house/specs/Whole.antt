@@ -5,4 +5,4 @@ use Rattle.xl_house.specs.declared.machine.Machine.{Machine}
 
 -- beside what is exported
 abbrev pub whole_of : Exports → Machine → Whole
-whole_of exports m = record { exports = exports; place = m.place; connections = m.connections.items; front = m.parts.front; core = m.parts.core }
+whole_of exports m = record { exports = exports; place = m.place; connections = m.connections.items; front = m.layers.front; core = m.layers.core }

@@ -13,8 +13,8 @@ ghost use Rattle.xl_house.specs.Lawful.{Always, IsLawful, IsWaiting, IsKept, IsC
 ghost use Rattle.xl_house.specs.Machine.{times_of, begin, step};
 ghost use Rattle.xl_house.specs.Whole.{whole_of};
 
+use crate::layers::{Fronts, Layers};
 use crate::machine::{Machine, act};
-use crate::parts::{Fronts, Parts};
 use std::alloc::{AllocError, Global};
 use std::marker::Model;
 use xl_base::{Entry, Event, Exports, Halt, Head, Journal, Keeper, Record, Sequence};
@@ -66,7 +66,7 @@ impl<K: Keeper> Model for House<K> {
 
     ghost invariant = { λ h. record {
       stands : is_spoiled h.halt ≡ false → Stands (begin h.head) h.entries (whole_of h.head.exports h.machine);
-      holds : is_spoiled h.halt ≡ false → Holds (K.held h.keeper) h.machine.parts.core.stable;
+      holds : is_spoiled h.halt ≡ false → Holds (K.held h.keeper) h.machine.layers.core.stable;
       few : length h.entries ≤ most_entries;
       legal : IsLegal (begin h.head) h.entries;
       served : Always IsServed (begin h.head) h.entries;
@@ -85,24 +85,24 @@ fn act_and_enter<K: Keeper>(
     requires place { machine.old.place ≡ length entries.old }
     requires few { length entries.old ≤ most_entries }
     requires free { IsFree (whole_of exports.now machine.old) }
-    requires numbers { numbers_of machine.old.parts.core ≤ most_numbers * length entries.old }
-    requires short { AreShort machine.old.parts.core.names }
+    requires numbers { numbers_of machine.old.layers.core ≤ most_numbers * length entries.old }
+    requires short { AreShort machine.old.layers.core.names }
     requires goes_on { is_restart event ≡ false }
     ensures place { IfOk result (λ place. place ≡ length entries.old) }
     ensures few { length entries.new ≤ most_entries }
-    ensures short { OnOk result (AreShort machine.new.parts.core.names) }
-    ensures numbers { OnOk result (numbers_of machine.new.parts.core ≤ numbers_of machine.old.parts.core + most_numbers) }
+    ensures short { OnOk result (AreShort machine.new.layers.core.names) }
+    ensures numbers { OnOk result (numbers_of machine.new.layers.core ≤ numbers_of machine.old.layers.core + most_numbers) }
     ensures entered { OnOk result (entries.new ≡ entries.old ++ entry 0 (whole_of exports.now machine.old) event ∷ []) }
     ensures next { OnOk result (whole_of exports.now machine.new ≡ (step 0 (whole_of exports.now machine.old) event).next) }
     ensures err { OnErr result (entries.new ≡ entries.old) }
     ensures full { (count : ℕ) → (result ≡ Err (Halt.JournalFull count)) ↔ ((count ≡ length entries.old) × (length entries.old ≡ most_entries)) }
     ensures started { (count : ℕ) → result ≡ Err (Halt.StartStore count) → ⊥ }
     ensures kept { IfErr result (λ halt. is_spoiled (Some halt) ≡ false → machine.new ≡ machine.old) }
-    ensures sound { IsSound machine.old.parts.front.smb.state }
-    ensures distinct { AreDistinct machine.old.parts.front.smb.state }
+    ensures sound { IsSound machine.old.layers.front.smb.state }
+    ensures distinct { AreDistinct machine.old.layers.front.smb.state }
     ensures keeper { keeper.new ≡ keeper.old }
 {
-    machine.parts.front.smb.state().links();
+    machine.layers.front.smb.state().links();
     if entries.len() == MOST_ENTRIES {
         return Err(Halt::JournalFull(entries.len() as u64));
     }
@@ -126,7 +126,7 @@ fn retire(machine: Machine) {
     let Machine {
         place: _,
         connections: _,
-        parts: Parts {
+        layers: Layers {
             front: Fronts { nlm, nfs, smb },
             core,
         },
@@ -151,7 +151,7 @@ impl<K: Keeper> House<K> {
             machine: Machine {
                 place: 0,
                 connections: Vec::new(alloc),
-                parts: Parts {
+                layers: Layers {
                     front: Fronts::new(alloc),
                     core,
                 },
@@ -227,7 +227,7 @@ impl<K: Keeper> House<K> {
         requires { is_spoiled self.now.halt ≡ false }
         ensures { IfOk result (λ v. v.items ≡ (replay (begin self.now.head) self.now.entries).core.claims) }
     {
-        self.machine.parts.core.table().claims(alloc)
+        self.machine.layers.core.table().claims(alloc)
     }
 
     /// The names that are kept, which claims name by number. A house that ran out of memory in a step has none to tell.
@@ -235,7 +235,7 @@ impl<K: Keeper> House<K> {
         requires { is_spoiled self.now.halt ≡ false }
         ensures { result.now ≡ (replay (begin self.now.head) self.now.entries).core.names }
     {
-        self.machine.parts.core.names()
+        self.machine.layers.core.names()
     }
 
     /// Ends the house, and returns its journal and its keeper. The journal has these properties, by the name of the clause:

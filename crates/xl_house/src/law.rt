@@ -7,7 +7,7 @@ ghost use Rattle.xl_base.specs.declared.event.Moment.{Moment};
 ghost use Rattle.xl_base.specs.declared.event.Out.{Out};
 ghost use Rattle.xl_base.specs.declared.journal.Entry.{Entry};
 ghost use Rattle.xl_base.specs.declared.name.Owner.{Owner};
-ghost use Rattle.xl_cache.specs.Planning.{is_running};
+ghost use Rattle.xl_cache.specs.BreakPlans.{is_running};
 ghost use Rattle.xl_matrix.specs.declared.claim.Claim.{Claim};
 ghost use Rattle.xl_matrix.specs.declared.claim.Extent.{Extent};
 ghost use Rattle.xl_wait.specs.declared.waiter.Rooms.{Rooms};

@@ -4,9 +4,9 @@
 mod connections;
 mod house;
 pub mod law;
+mod layers;
 mod machine;
 mod outs;
-mod parts;
 mod settling;
 mod start;
 

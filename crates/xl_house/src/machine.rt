@@ -18,13 +18,13 @@ ghost use Rattle.xl_house.specs.Shown.{IsReadyFor, LeavesBy};
 ghost use Rattle.xl_house.specs.Whole.{whole_of};
 
 use crate::connections::{Connection, end, has_room, kind_of, open};
+use crate::layers::{Fronts, Layers};
 use crate::outs::{room_for, send_all, sent_for, sent_with};
-use crate::parts::{Fronts, Parts};
 use crate::settling::settle;
 use std::alloc::{AllocError, Global};
 use xl_base::{Event, Exports, Keeper, Kind, Moment, Out, Sequence};
 use xl_front_nfs::{nfs_step, nfs_tick};
-use xl_front_nlm::{NlmParts, nlm_called, nlm_step};
+use xl_front_nlm::{NlmLayers, nlm_called, nlm_step};
 use xl_front_smb::{smb_begin, smb_end, smb_step};
 use xl_programs::{Incoming, Program, Request, read_incoming, refusal, sent_to};
 use xl_rpc::Verdict;
@@ -37,7 +37,7 @@ pub(crate) struct Machine {
     /// The connections that are open.
     pub connections: Vec<Connection>,
     /// The fronts and the core.
-    pub parts: Parts,
+    pub layers: Layers,
 }
 
 /// Opens or ends a connection where the event at this place does.
@@ -57,29 +57,29 @@ fn connect(connections: &mut Vec<Connection>, place: u64, event: &Event) -> Resu
 fn hear_nlm<K: Keeper>(
     alloc: Global,
     exports: &Exports,
-    parts: &mut Parts,
+    layers: &mut Layers,
     keeper: &mut K,
     number: u64,
     request: &Request,
 ) -> Result<Sequence<Out>, AllocError>
     requires known { serves Program.Nlm request.now.procedure ≡ true }
-    requires ready { IsReadyFor most_numbers parts.old.core }
-    ensures heard { (n : ℕ) → IfOk result (λ outs. MayBe n parts.new.core → front_done Kind.Rpc exports.now (with_nlm parts.old.front (nlm_step n exports.now parts.old.front.nlm parts.old.core number (shown_request request.now))) ≡ (outs, parts.new.front, parts.new.core)) }
-    ensures leaves { OnOk result (LeavesBy most_numbers parts.old.core parts.new.core) }
+    requires ready { IsReadyFor most_numbers layers.old.core }
+    ensures heard { (n : ℕ) → IfOk result (λ outs. MayBe n layers.new.core → front_done Kind.Rpc exports.now (with_nlm layers.old.front (nlm_step n exports.now layers.old.front.nlm layers.old.core number (shown_request request.now))) ≡ (outs, layers.new.front, layers.new.core)) }
+    ensures leaves { OnOk result (LeavesBy most_numbers layers.old.core layers.new.core) }
     ensures keeper { keeper.new ≡ keeper.old }
 {
     let (reply, effects) = nlm_step(
         alloc,
         exports,
-        NlmParts {
-            front: &mut parts.front.nlm,
-            core: &mut parts.core,
+        NlmLayers {
+            front: &mut layers.front.nlm,
+            core: &mut layers.core,
         },
         keeper,
         number,
         request,
     )?;
-    let outs = sent_with(alloc, exports, Kind::Rpc, parts, reply, effects)?;
+    let outs = sent_with(alloc, exports, Kind::Rpc, layers, reply, effects)?;
     Ok(outs)
 }
 
@@ -87,29 +87,29 @@ fn hear_nlm<K: Keeper>(
 fn hear_nfs<K: Keeper>(
     alloc: Global,
     exports: &Exports,
-    parts: &mut Parts,
+    layers: &mut Layers,
     keeper: &mut K,
     number: u64,
     request: &Request,
 ) -> Result<Sequence<Out>, AllocError>
     requires known { serves Program.Nfs request.now.procedure ≡ true }
-    requires ready { IsReadyFor most_numbers parts.old.core }
-    ensures heard { (n : ℕ) → IfOk result (λ outs. MayBe n parts.new.core → front_done Kind.Rpc exports.now (with_nfs parts.old.front (nfs_step n exports.now (smb_opens parts.old.front) parts.old.front.nfs parts.old.core number (shown_request request.now))) ≡ (outs, parts.new.front, parts.new.core)) }
-    ensures leaves { OnOk result (LeavesBy most_numbers parts.old.core parts.new.core) }
+    requires ready { IsReadyFor most_numbers layers.old.core }
+    ensures heard { (n : ℕ) → IfOk result (λ outs. MayBe n layers.new.core → front_done Kind.Rpc exports.now (with_nfs layers.old.front (nfs_step n exports.now (smb_opens layers.old.front) layers.old.front.nfs layers.old.core number (shown_request request.now))) ≡ (outs, layers.new.front, layers.new.core)) }
+    ensures leaves { OnOk result (LeavesBy most_numbers layers.old.core layers.new.core) }
     ensures keeper { keeper.new ≡ keeper.old }
 {
-    let others = parts.front.smb.opens_held();
+    let others = layers.front.smb.opens_held();
     let (reply, effects) = nfs_step(
         alloc,
         exports,
         others,
-        &mut parts.front.nfs,
-        &mut parts.core,
+        &mut layers.front.nfs,
+        &mut layers.core,
         keeper,
         number,
         request,
     )?;
-    let outs = sent_with(alloc, exports, Kind::Rpc, parts, reply, effects)?;
+    let outs = sent_with(alloc, exports, Kind::Rpc, layers, reply, effects)?;
     Ok(outs)
 }
 
@@ -124,7 +124,7 @@ fn refuse(
 {
     let bytes = refusal(alloc, xid, verdict)?;
     let sent = sent_to(alloc, number, bytes)?;
-    let mut outs = room_for(alloc, sent.len())?;
+    let mut outs = Sequence::from_vec(room_for(alloc, sent.len())?);
     send_all(alloc, Kind::Rpc, sent, &mut outs)?;
     Ok(outs)
 }
@@ -134,20 +134,20 @@ fn refuse(
 fn hear_record<K: Keeper>(
     alloc: Global,
     exports: &Exports,
-    parts: &mut Parts,
+    layers: &mut Layers,
     keeper: &mut K,
     number: u64,
     bytes: &[u8],
 ) -> Result<Sequence<Out>, AllocError>
-    requires ready { IsReadyFor most_numbers parts.old.core }
-    ensures heard { (n : ℕ) → IfOk result (λ outs. MayBe n parts.new.core → record_heard n exports.now parts.old.front parts.old.core number (incoming_at bytes.now) ≡ (outs, parts.new.front, parts.new.core)) }
-    ensures leaves { OnOk result (LeavesBy most_numbers parts.old.core parts.new.core) }
+    requires ready { IsReadyFor most_numbers layers.old.core }
+    ensures heard { (n : ℕ) → IfOk result (λ outs. MayBe n layers.new.core → record_heard n exports.now layers.old.front layers.old.core number (incoming_at bytes.now) ≡ (outs, layers.new.front, layers.new.core)) }
+    ensures leaves { OnOk result (LeavesBy most_numbers layers.old.core layers.new.core) }
     ensures keeper { keeper.new ≡ keeper.old }
 {
     match read_incoming(bytes) {
         Incoming::Asked(request) => match request.program {
-            Program::Nlm => hear_nlm(alloc, exports, parts, keeper, number, &request),
-            Program::Nfs => hear_nfs(alloc, exports, parts, keeper, number, &request),
+            Program::Nlm => hear_nlm(alloc, exports, layers, keeper, number, &request),
+            Program::Nfs => hear_nfs(alloc, exports, layers, keeper, number, &request),
         },
         Incoming::Refused(xid, verdict) => refuse(alloc, number, xid, verdict),
         Incoming::Unanswered => Ok(Sequence::new(alloc)),
@@ -158,28 +158,28 @@ fn hear_record<K: Keeper>(
 fn hear_packet<K: Keeper>(
     alloc: Global,
     exports: &Exports,
-    parts: &mut Parts,
+    layers: &mut Layers,
     keeper: &mut K,
     number: u64,
     bytes: &[u8],
 ) -> Result<Sequence<Out>, AllocError>
-    requires ready { IsReadyFor most_numbers parts.old.core }
-    ensures heard { (n : ℕ) → IfOk result (λ outs. MayBe n parts.new.core → packet_heard n exports.now parts.old.front parts.old.core number bytes.now ≡ (outs, parts.new.front, parts.new.core)) }
-    ensures leaves { OnOk result (LeavesBy most_numbers parts.old.core parts.new.core) }
+    requires ready { IsReadyFor most_numbers layers.old.core }
+    ensures heard { (n : ℕ) → IfOk result (λ outs. MayBe n layers.new.core → packet_heard n exports.now layers.old.front layers.old.core number bytes.now ≡ (outs, layers.new.front, layers.new.core)) }
+    ensures leaves { OnOk result (LeavesBy most_numbers layers.old.core layers.new.core) }
     ensures keeper { keeper.new ≡ keeper.old }
 {
-    let others = parts.front.nfs_opens();
+    let others = layers.front.nfs_opens();
     let (reply, effects) = smb_step(
         alloc,
         exports,
-        &mut parts.front.smb,
-        &mut parts.core,
+        &mut layers.front.smb,
+        &mut layers.core,
         keeper,
         number,
         bytes,
         others,
     )?;
-    let outs = sent_with(alloc, exports, Kind::Smb, parts, reply, effects)?;
+    let outs = sent_with(alloc, exports, Kind::Smb, layers, reply, effects)?;
     Ok(outs)
 }
 
@@ -188,23 +188,23 @@ fn hear_packet<K: Keeper>(
 fn hear<K: Keeper>(
     alloc: Global,
     exports: &Exports,
-    parts: &mut Parts,
+    layers: &mut Layers,
     keeper: &mut K,
     kind: Option<Kind>,
     number: u64,
     bytes: &[u8],
 ) -> Result<Sequence<Out>, AllocError>
-    requires ready { IsReadyFor most_numbers parts.old.core }
-    ensures heard { (n : ℕ) → IfOk result (λ outs. MayBe n parts.new.core → heard_by n exports.now parts.old.front parts.old.core kind number bytes.now ≡ (outs, parts.new.front, parts.new.core)) }
-    ensures leaves { OnOk result (LeavesBy most_numbers parts.old.core parts.new.core) }
+    requires ready { IsReadyFor most_numbers layers.old.core }
+    ensures heard { (n : ℕ) → IfOk result (λ outs. MayBe n layers.new.core → heard_by n exports.now layers.old.front layers.old.core kind number bytes.now ≡ (outs, layers.new.front, layers.new.core)) }
+    ensures leaves { OnOk result (LeavesBy most_numbers layers.old.core layers.new.core) }
     ensures keeper { keeper.new ≡ keeper.old }
 {
     let Some(kind) = kind else {
         return Ok(Sequence::new(alloc));
     };
     match kind {
-        Kind::Rpc => hear_record(alloc, exports, parts, keeper, number, bytes),
-        Kind::Smb => hear_packet(alloc, exports, parts, keeper, number, bytes),
+        Kind::Rpc => hear_record(alloc, exports, layers, keeper, number, bytes),
+        Kind::Smb => hear_packet(alloc, exports, layers, keeper, number, bytes),
     }
 }
 
@@ -230,15 +230,15 @@ fn begin(
 fn hear_last(
     alloc: Global,
     exports: &Exports,
-    parts: &mut Parts,
+    layers: &mut Layers,
     number: u64,
 ) -> Result<Sequence<Out>, AllocError>
-    requires ready { IsReadyFor most_numbers parts.old.core }
-    ensures heard { IfOk result (λ outs. ended_by exports.now parts.old.front parts.old.core (Some Kind.Smb) number ≡ (outs, parts.new.front, parts.new.core)) }
-    ensures leaves { OnOk result (LeavesBy most_numbers parts.old.core parts.new.core) }
+    requires ready { IsReadyFor most_numbers layers.old.core }
+    ensures heard { IfOk result (λ outs. ended_by exports.now layers.old.front layers.old.core (Some Kind.Smb) number ≡ (outs, layers.new.front, layers.new.core)) }
+    ensures leaves { OnOk result (LeavesBy most_numbers layers.old.core layers.new.core) }
 {
-    let effects = smb_end(alloc, &mut parts.front.smb, &mut parts.core, number)?;
-    let outs = sent_for(alloc, exports, parts, effects)?;
+    let effects = smb_end(alloc, &mut layers.front.smb, &mut layers.core, number)?;
+    let outs = sent_for(alloc, exports, layers, effects)?;
     Ok(outs)
 }
 
@@ -247,16 +247,16 @@ fn hear_last(
 fn hear_end(
     alloc: Global,
     exports: &Exports,
-    parts: &mut Parts,
+    layers: &mut Layers,
     kind: Option<Kind>,
     number: u64,
 ) -> Result<Sequence<Out>, AllocError>
-    requires ready { IsReadyFor most_numbers parts.old.core }
-    ensures heard { IfOk result (λ outs. ended_by exports.now parts.old.front parts.old.core kind number ≡ (outs, parts.new.front, parts.new.core)) }
-    ensures leaves { OnOk result (LeavesBy most_numbers parts.old.core parts.new.core) }
+    requires ready { IsReadyFor most_numbers layers.old.core }
+    ensures heard { IfOk result (λ outs. ended_by exports.now layers.old.front layers.old.core kind number ≡ (outs, layers.new.front, layers.new.core)) }
+    ensures leaves { OnOk result (LeavesBy most_numbers layers.old.core layers.new.core) }
 {
     match kind {
-        Some(Kind::Smb) => hear_last(alloc, exports, parts, number),
+        Some(Kind::Smb) => hear_last(alloc, exports, layers, number),
         Some(Kind::Rpc) => Ok(Sequence::new(alloc)),
         None => Ok(Sequence::new(alloc)),
     }
@@ -276,27 +276,27 @@ fn bytes_of(reply: &Option<Sequence<u8>>) -> Option<&[u8]>
 fn hear_answer<K: Keeper>(
     alloc: Global,
     exports: &Exports,
-    parts: &mut Parts,
+    layers: &mut Layers,
     keeper: &mut K,
     call: u64,
     reply: &Option<Sequence<u8>>,
 ) -> Result<Sequence<Out>, AllocError>
-    requires ready { IsReadyFor most_numbers parts.old.core }
-    ensures heard { (n : ℕ) → IfOk result (λ outs. MayBe n parts.new.core → called_done exports.now (after_call parts.old.front (nlm_called n parts.old.front.nlm parts.old.core call reply.now)) ≡ (outs, parts.new.front, parts.new.core)) }
-    ensures leaves { OnOk result (LeavesBy most_numbers parts.old.core parts.new.core) }
+    requires ready { IsReadyFor most_numbers layers.old.core }
+    ensures heard { (n : ℕ) → IfOk result (λ outs. MayBe n layers.new.core → called_done exports.now (after_call layers.old.front (nlm_called n layers.old.front.nlm layers.old.core call reply.now)) ≡ (outs, layers.new.front, layers.new.core)) }
+    ensures leaves { OnOk result (LeavesBy most_numbers layers.old.core layers.new.core) }
     ensures keeper { keeper.new ≡ keeper.old }
 {
     let effects = nlm_called(
         alloc,
-        NlmParts {
-            front: &mut parts.front.nlm,
-            core: &mut parts.core,
+        NlmLayers {
+            front: &mut layers.front.nlm,
+            core: &mut layers.core,
         },
         keeper,
         call,
         bytes_of(reply),
     )?;
-    let outs = sent_for(alloc, exports, parts, effects)?;
+    let outs = sent_for(alloc, exports, layers, effects)?;
     Ok(outs)
 }
 
@@ -304,18 +304,18 @@ fn hear_answer<K: Keeper>(
 fn hear_tick<K: Keeper>(
     alloc: Global,
     exports: &Exports,
-    parts: &mut Parts,
+    layers: &mut Layers,
     keeper: &mut K,
     now: Moment,
 ) -> Result<Sequence<Out>, AllocError>
-    requires ready { IsReadyFor most_numbers parts.old.core }
-    ensures heard { IfOk result (λ outs. ticked_done exports.now parts.old.front (tick parts.old.core now) ≡ (outs, parts.new.front, parts.new.core)) }
-    ensures leaves { OnOk result (LeavesBy most_numbers parts.old.core parts.new.core) }
+    requires ready { IsReadyFor most_numbers layers.old.core }
+    ensures heard { IfOk result (λ outs. ticked_done exports.now layers.old.front (tick layers.old.core now) ≡ (outs, layers.new.front, layers.new.core)) }
+    ensures leaves { OnOk result (LeavesBy most_numbers layers.old.core layers.new.core) }
     ensures keeper { keeper.new ≡ keeper.old }
 {
-    let effects = parts.core.tick(alloc, keeper, now)?;
-    nfs_tick(&mut parts.front.nfs, parts.core.clock());
-    let outs = sent_for(alloc, exports, parts, effects)?;
+    let effects = layers.core.tick(alloc, keeper, now)?;
+    nfs_tick(&mut layers.front.nfs, layers.core.clock());
+    let outs = sent_for(alloc, exports, layers, effects)?;
     Ok(outs)
 }
 
@@ -328,18 +328,18 @@ fn hear_event<K: Keeper>(
     keeper: &mut K,
     event: &Event,
 ) -> Result<Sequence<Out>, AllocError>
-    requires ready { IsReadyFor most_numbers machine.old.parts.core }
-    ensures heard { (n : ℕ) → IfOk result (λ outs. MayBe n machine.new.parts.core → heard n (whole_of exports.now machine.old) event.now ≡ (outs, machine.new.parts.front, machine.new.parts.core)) }
-    ensures leaves { OnOk result (LeavesBy most_numbers (step_begun machine.old.parts.core) machine.new.parts.core) }
+    requires ready { IsReadyFor most_numbers machine.old.layers.core }
+    ensures heard { (n : ℕ) → IfOk result (λ outs. MayBe n machine.new.layers.core → heard n (whole_of exports.now machine.old) event.now ≡ (outs, machine.new.layers.front, machine.new.layers.core)) }
+    ensures leaves { OnOk result (LeavesBy most_numbers (step_begun machine.old.layers.core) machine.new.layers.core) }
     ensures place { machine.new.place ≡ machine.old.place }
     ensures connections { machine.new.connections.items ≡ machine.old.connections.items }
     ensures keeper { keeper.new ≡ keeper.old }
 {
-    machine.parts.core.begin_step();
+    machine.layers.core.begin_step();
     match event {
         Event::Open(kind) => {
             begin(
-                &mut machine.parts.front,
+                &mut machine.layers.front,
                 &machine.connections,
                 machine.place,
                 *kind,
@@ -351,7 +351,7 @@ fn hear_event<K: Keeper>(
             hear(
                 alloc,
                 exports,
-                &mut machine.parts,
+                &mut machine.layers,
                 keeper,
                 kind,
                 *number,
@@ -360,12 +360,12 @@ fn hear_event<K: Keeper>(
         }
         Event::End(number) => {
             let kind = kind_of(&machine.connections, *number);
-            hear_end(alloc, exports, &mut machine.parts, kind, *number)
+            hear_end(alloc, exports, &mut machine.layers, kind, *number)
         }
         Event::Called(call, reply) => {
-            hear_answer(alloc, exports, &mut machine.parts, keeper, *call, reply)
+            hear_answer(alloc, exports, &mut machine.layers, keeper, *call, reply)
         }
-        Event::Tick(now) => hear_tick(alloc, exports, &mut machine.parts, keeper, *now),
+        Event::Tick(now) => hear_tick(alloc, exports, &mut machine.layers, keeper, *now),
         Event::Restart => Ok(Sequence::new(alloc)),
     }
 }
@@ -379,17 +379,17 @@ pub(crate) fn act<K: Keeper>(
     event: &Event,
 ) -> Result<Sequence<Out>, AllocError>
     requires place { machine.old.place < 2 ^ 63 }
-    requires ready { IsReadyFor most_numbers machine.old.parts.core }
+    requires ready { IsReadyFor most_numbers machine.old.layers.core }
     requires goes_on { is_restart event.now ≡ false }
     ensures step { IfOk result (λ outs. step 0 (whole_of exports.now machine.old) event.now ≡ record { next = whole_of exports.now machine.new; made = 0; outs = outs }) }
-    ensures short { OnOk result (AreShort machine.new.parts.core.names) }
-    ensures numbers { OnOk result (numbers_of machine.new.parts.core ≤ numbers_of machine.old.parts.core + most_numbers) }
+    ensures short { OnOk result (AreShort machine.new.layers.core.names) }
+    ensures numbers { OnOk result (numbers_of machine.new.layers.core ≤ numbers_of machine.old.layers.core + most_numbers) }
     ensures keeper { keeper.new ≡ keeper.old }
 {
     let mut outs = hear_event(alloc, exports, machine, keeper, event)?;
-    settle(alloc, exports, &mut machine.parts, keeper, &mut outs)?;
+    settle(alloc, exports, &mut machine.layers, keeper, &mut outs)?;
     connect(&mut machine.connections, machine.place, event)?;
-    machine.parts.core.begin_step();
+    machine.layers.core.begin_step();
     machine.place += 1;
     Ok(outs)
 }

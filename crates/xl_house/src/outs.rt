@@ -1,18 +1,18 @@
 //! What is sent, in its frames.
-ghost use Rattle.std.specs.Prelude.{◌≡◌, ◌++◌, [], map, OnOk, IfOk};
+ghost use Rattle.std.specs.Prelude.{◌≡◌, ◌≤◌, ◌++◌, [], map, vec_capacity, OnOk, IfOk};
 ghost use Rattle.std.specs.List.{AllByRecursion};
 ghost use Rattle.xl_front_nlm.specs.Short.{IsReady, Leaves};
 ghost use Rattle.xl_programs.specs.Sent.{FitsFrame};
 ghost use Rattle.xl_house.specs.Machine.{showing, framed, front_done, grants, behind, all_shown};
 ghost use Rattle.xl_house.specs.Shown.{IsReadyFor, LeavesBy};
 
-use crate::parts::Parts;
+use crate::layers::Layers;
 use std::alloc::{AllocError, Global};
 use xl_base::{Dest, Exports, Kind, Out, Sequence};
 use xl_core::Effect;
 use xl_frame::wrap;
 use xl_front_nfs::{nfs_shown, recalls};
-use xl_front_nlm::{NlmParts, shown};
+use xl_front_nlm::{NlmLayers, shown};
 use xl_front_smb::smb_shown;
 
 /// An out in its frame, where it goes to a connection of this kind; a call has none.
@@ -30,10 +30,11 @@ fn framed(alloc: Global, kind: Kind, out: Out) -> Result<Out, AllocError>
 
 /// An empty list with room for so many outs. A list that grows by itself takes room for four at once, and the journal keeps
 /// each.
-pub(crate) fn room_for(alloc: Global, many: usize) -> Result<Sequence<Out>, AllocError>
-    ensures { IfOk result (λ outs. outs ≡ []) }
+pub(crate) fn room_for(alloc: Global, many: usize) -> Result<Vec<Out>, AllocError>
+    ensures empty { IfOk result (λ outs. outs.items ≡ []) }
+    ensures room { IfOk result (λ outs. many ≤ vec_capacity outs) }
 {
-    Ok(Sequence::from_vec(Vec::with_capacity(alloc, many)?))
+    Vec::with_capacity(alloc, many)
 }
 
 /// Adds these in their frames.
@@ -56,23 +57,23 @@ pub(crate) fn send_all(
 fn show(
     alloc: Global,
     exports: &Exports,
-    parts: &mut Parts,
+    layers: &mut Layers,
     effect: &Effect,
     outs: &mut Sequence<Out>,
 ) -> Result<(), AllocError>
-    requires ready { IsReady parts.old.core }
-    ensures state { OnOk result (behind outs.old (showing exports.now parts.old.front parts.old.core effect.now) ≡ (outs.new, parts.new.front, parts.new.core)) }
-    ensures leaves { OnOk result (Leaves parts.old.core parts.new.core) }
+    requires ready { IsReady layers.old.core }
+    ensures state { OnOk result (behind outs.old (showing exports.now layers.old.front layers.old.core effect.now) ≡ (outs.new, layers.new.front, layers.new.core)) }
+    ensures leaves { OnOk result (Leaves layers.old.core layers.new.core) }
 {
-    let asked_back = recalls(alloc, &parts.front.nfs, &parts.core, effect)?;
-    nfs_shown(&mut parts.front.nfs, effect);
-    let finals = smb_shown(alloc, &mut parts.front.smb, &parts.core, effect)?;
+    let asked_back = recalls(alloc, &layers.front.nfs, &layers.core, effect)?;
+    nfs_shown(&mut layers.front.nfs, effect);
+    let finals = smb_shown(alloc, &mut layers.front.smb, &layers.core, effect)?;
     let calls = shown(
         alloc,
         exports,
-        NlmParts {
-            front: &mut parts.front.nlm,
-            core: &mut parts.core,
+        NlmLayers {
+            front: &mut layers.front.nlm,
+            core: &mut layers.core,
         },
         effect,
     )?;
@@ -86,15 +87,15 @@ fn show(
 fn show_each(
     alloc: Global,
     exports: &Exports,
-    parts: &mut Parts,
+    layers: &mut Layers,
     effects: &[Effect],
     outs: &mut Sequence<Out>,
 ) -> Result<(), AllocError>
-    requires ready { IsReadyFor (grants effects.now) parts.old.core }
-    ensures { OnOk result (behind outs.old (all_shown exports.now parts.old.front parts.old.core effects.now) ≡ (outs.new, parts.new.front, parts.new.core)) }
+    requires ready { IsReadyFor (grants effects.now) layers.old.core }
+    ensures { OnOk result (behind outs.old (all_shown exports.now layers.old.front layers.old.core effects.now) ≡ (outs.new, layers.new.front, layers.new.core)) }
 {
     for effect in effects {
-        show(alloc, exports, parts, effect, outs)?;
+        show(alloc, exports, layers, effect, outs)?;
     }
     Ok(())
 }
@@ -104,15 +105,15 @@ fn show_each(
 pub(crate) fn show_all(
     alloc: Global,
     exports: &Exports,
-    parts: &mut Parts,
+    layers: &mut Layers,
     effects: &[Effect],
     outs: &mut Sequence<Out>,
 ) -> Result<(), AllocError>
-    requires ready { IsReadyFor (grants effects.now) parts.old.core }
-    ensures sent { OnOk result (behind outs.old (all_shown exports.now parts.old.front parts.old.core effects.now) ≡ (outs.new, parts.new.front, parts.new.core)) }
-    ensures leaves { OnOk result (LeavesBy (grants effects.now) parts.old.core parts.new.core) }
+    requires ready { IsReadyFor (grants effects.now) layers.old.core }
+    ensures sent { OnOk result (behind outs.old (all_shown exports.now layers.old.front layers.old.core effects.now) ≡ (outs.new, layers.new.front, layers.new.core)) }
+    ensures leaves { OnOk result (LeavesBy (grants effects.now) layers.old.core layers.new.core) }
 {
-    show_each(alloc, exports, parts, effects, outs)?;
+    show_each(alloc, exports, layers, effects, outs)?;
     Ok(())
 }
 
@@ -120,15 +121,15 @@ pub(crate) fn show_all(
 pub(crate) fn sent_for(
     alloc: Global,
     exports: &Exports,
-    parts: &mut Parts,
+    layers: &mut Layers,
     effects: Sequence<Effect>,
 ) -> Result<Sequence<Out>, AllocError>
-    requires ready { IsReadyFor (grants effects) parts.old.core }
-    ensures sent { IfOk result (λ outs. all_shown exports.now parts.old.front parts.old.core effects ≡ (outs, parts.new.front, parts.new.core)) }
-    ensures leaves { OnOk result (LeavesBy (grants effects) parts.old.core parts.new.core) }
+    requires ready { IsReadyFor (grants effects) layers.old.core }
+    ensures sent { IfOk result (λ outs. all_shown exports.now layers.old.front layers.old.core effects ≡ (outs, layers.new.front, layers.new.core)) }
+    ensures leaves { OnOk result (LeavesBy (grants effects) layers.old.core layers.new.core) }
 {
     let mut outs = Sequence::new(alloc);
-    show_all(alloc, exports, parts, effects.as_slice(), &mut outs)?;
+    show_all(alloc, exports, layers, effects.as_slice(), &mut outs)?;
     Ok(outs)
 }
 
@@ -137,17 +138,17 @@ pub(crate) fn sent_with(
     alloc: Global,
     exports: &Exports,
     kind: Kind,
-    parts: &mut Parts,
+    layers: &mut Layers,
     reply: Sequence<Out>,
     effects: Sequence<Effect>,
 ) -> Result<Sequence<Out>, AllocError>
     requires fits { AllByRecursion FitsFrame reply }
-    requires ready { IsReadyFor (grants effects) parts.old.core }
-    ensures sent { IfOk result (λ outs. front_done kind exports.now (reply, effects, parts.old.front, parts.old.core) ≡ (outs, parts.new.front, parts.new.core)) }
-    ensures leaves { OnOk result (LeavesBy (grants effects) parts.old.core parts.new.core) }
+    requires ready { IsReadyFor (grants effects) layers.old.core }
+    ensures sent { IfOk result (λ outs. front_done kind exports.now (reply, effects, layers.old.front, layers.old.core) ≡ (outs, layers.new.front, layers.new.core)) }
+    ensures leaves { OnOk result (LeavesBy (grants effects) layers.old.core layers.new.core) }
 {
-    let mut outs = room_for(alloc, reply.len())?;
-    show_all(alloc, exports, parts, effects.as_slice(), &mut outs)?;
+    let mut outs = Sequence::from_vec(room_for(alloc, reply.len())?);
+    show_all(alloc, exports, layers, effects.as_slice(), &mut outs)?;
     send_all(alloc, kind, reply, &mut outs)?;
     Ok(outs)
 }

@@ -5,8 +5,8 @@ ghost use Rattle.xl_core.specs.State.{MayBe};
 ghost use Rattle.xl_house.specs.Machine.{behind, settled};
 ghost use Rattle.xl_house.specs.Shown.{IsReadyFor, LeavesBy};
 
+use crate::layers::Layers;
 use crate::outs::show_all;
-use crate::parts::Parts;
 use std::alloc::{AllocError, Global};
 use xl_base::{Exports, Keeper, Out, Sequence};
 
@@ -14,18 +14,18 @@ use xl_base::{Exports, Keeper, Out, Sequence};
 pub(crate) fn settle<K: Keeper>(
     alloc: Global,
     exports: &Exports,
-    parts: &mut Parts,
+    layers: &mut Layers,
     keeper: &mut K,
     outs: &mut Sequence<Out>,
 ) -> Result<(), AllocError>
-    requires ready { IsReadyFor 0 parts.old.core }
-    ensures state { (n : ℕ) → OnOk result (MayBe n parts.new.core → behind outs.old (settled n exports.now parts.old.front parts.old.core) ≡ (outs.new, parts.new.front, parts.new.core)) }
-    ensures leaves { OnOk result (LeavesBy 0 parts.old.core parts.new.core) }
-    ensures settled { OnOk result (IsSettled parts.new.core) }
+    requires ready { IsReadyFor 0 layers.old.core }
+    ensures state { (n : ℕ) → OnOk result (MayBe n layers.new.core → behind outs.old (settled n exports.now layers.old.front layers.old.core) ≡ (outs.new, layers.new.front, layers.new.core)) }
+    ensures leaves { OnOk result (LeavesBy 0 layers.old.core layers.new.core) }
+    ensures settled { OnOk result (IsSettled layers.new.core) }
     ensures keeper { keeper.new ≡ keeper.old }
 {
-    'turns: while let Some(effects) = parts.core.settle(alloc, keeper, &parts.front.rooms())? {
-        show_all(alloc, exports, parts, effects.as_slice(), outs)?;
+    'turns: while let Some(effects) = layers.core.settle(alloc, keeper, &layers.front.rooms())? {
+        show_all(alloc, exports, layers, effects.as_slice(), outs)?;
     }
     Ok(())
 }

@@ -160,8 +160,8 @@ has_run index cs n b test is = test ∙ ap (λ (k : ℕ). nat_lt 0 k) (is.dated 
 pub count_run : (index : Index) (cs : List Claim) (n k : ℕ) → k ≡ passing (λ m. nat_le m n) index.deadlines.items → IsIndexOf index cs → k ≡ running (λ m. nat_le m n) cs
 count_run index cs n k count is = count ∙ is.dated (λ m. nat_le m n)
 
-pub next_stands : (index : Index) (next : Option ℕ) (who : ℕ) (past : Option ℕ) → ((cs : List Claim) → ((at : Stand) → many_at index.stands at ≡ total (bears at) cs) → IsNext next who past cs) → (cs : List Claim) → IsIndexOf index cs → IsNext next who past cs
-next_stands index next who past law cs is = law cs is.standing
+pub next_stands : (index : Index) (next : Option ℕ) (who : ℕ) (past : Option ℕ) → ((cs : List Claim) → AreTold index.stands → ((at : Stand) → many_at index.stands at ≡ total (bears at) cs) → IsNext next who past cs) → (cs : List Claim) → IsIndexOf index cs → IsNext next who past cs
+next_stands index next who past law cs is = law cs is.told is.standing
 
 pub index_of_none : (index : Index) → index.count ≡ 0 → index.deadlines.items ≡ [] → index.stands.entries ≡ [] → IsIndexOf index []
 index_of_none index count moments stands =

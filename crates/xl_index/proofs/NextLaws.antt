@@ -1,10 +1,11 @@
 -- The first file past one on which someone stands.
-use Rattle.std.proofs.Common.{◌≡◌, ◌≢◌, ℕ, ◌<◌, ◌≤◌, Bool, true, false, ◌==◌, ◌&&◌, nat_lt, List, [], ◌∷◌, Option, Some, None, IsSome, is_some, refl, sym, ap, ◌∙◌, inl, inr, arith}
+use Rattle.std.proofs.Common.{◌≡◌, ◌≢◌, ℕ, zero, suc, ◌<◌, ◌≤◌, Bool, true, false, ◌==◌, ◌&&◌, ◌||◌, nat_lt, List, [], ◌∷◌, Option, Some, None, IsSome, is_some, refl, sym, ap, subst, ◌∙◌, inl, inr, arith}
 use Rattle.std.proofs.lemmas.Bool.{cases_Bool, both_ways, eqb-true, eq-eqb, false_from_ne_true}
 use Rattle.std.proofs.lemmas.Bool.Decides.{nat_tests}
 use Rattle.std.specs.BTreeMap.{BTreeMap, get}
 use Rattle.std.specs.BTreeMap.Range.{IsLeBy, IsLtBy, IsFromStart, IsRangeOf}
 use Rattle.std.specs.declared.ops.Bound.TheVariants.{Unbounded}
+use Rattle.std.specs.List.{list_any}
 use Rattle.std.specs.Option.{unwrap_or}
 use Rattle.xl_base.specs.Lists.{IsIn}
 use Rattle.xl_base.proofs.Members.{all_from}
@@ -12,7 +13,7 @@ use Rattle.xl_base.specs.declared.name.Owner.{Owner}
 use Rattle.xl_base.specs.declared.name.Owner.TheVariants as owners
 use Rattle.xl_matrix.specs.declared.claim.Claim.{Claim}
 use Rattle.xl_index.specs.Totals.{one, total}
-use Rattle.xl_index.specs.Stands.{who_of, who_opens, stand_cmp, is_here, owned_here, owned_by, bears, many_at, is_by, is_past, is_ahead, first_past, IsNext}
+use Rattle.xl_index.specs.Stands.{who_of, who_opens, stand_cmp, is_here, owned_here, owned_by, bears, many_at, is_by, is_past, is_ahead, any_on, first_past, AreTold, IsNext}
 use Rattle.xl_index.specs.declared.stands.Stand.{Stand}
 use Rattle.xl_index.proofs.TotalLaws.{total_in}
 
@@ -92,9 +93,52 @@ behind_first stands who past e rest is cs standing c h there =
     let parts = both (is_by who c) (is_past past c.file) there in
     is.2 (record { who = who; file = c.file }) (ahead who past c.file parts.1, tt) (kept_there stands cs standing who c h parts.0)
 
-pub next_found : (stands : BTreeMap Stand ℕ) (who : ℕ) (past : Option ℕ) (e : Stand × ℕ) (rest : List (Stand × ℕ)) → IsRest stands who past (e ∷ rest) → e.0.who ≡ who → (cs : List Claim) → ((at : Stand) → many_at stands at ≡ total (bears at) cs) → IsNext (Some e.0.file) who past cs
-next_found stands who past e rest is same cs standing =
-    (ahead_file who past e.0 same is.1.0.0, all_from (λ c. (is_ahead who past c && nat_lt c.file e.0.file) ≡ false) cs missed)
+-- ---- a stand that is kept has a claim
+
+one_apart : (at : Stand) (own file : ℕ) → ((own == at.who) && (file == at.file)) ≡ false → one (is_here at own file) ≡ 0
+one_apart at own file apart =
+    elim (cases_Bool (is_here at own file)) [
+      | inl here ↦
+          let parts = both (at.who == own) (at.file == file) here in
+          absurd (both_ways ((own == at.who) && (file == at.file)) apart (rw (eq-eqb own at.who (sym (eqb-true at.who own parts.0)), eq-eqb file at.file (sym (eqb-true at.file file parts.1))) refl))
+      | inr off ↦ rw off refl
+    ]
+
+owned_apart : (at : Stand) (file : ℕ) (owner : Owner) → (owned_by at.who owner && (file == at.file)) ≡ false → owned_here at file owner ≡ 0
+owned_apart at file (owners.Open number) apart = one_apart at (who_opens number) file apart
+owned_apart at file (owners.Name protocol number) apart = refl
+
+neither : (a b c : Bool) → ((a || b) && c) ≡ false → ((a && c) ≡ false) × ((b && c) ≡ false)
+neither false b c h = (refl, h)
+neither true false c h = (h, refl)
+neither true true c h = (h, h)
+
+none_told : (at : Stand) (c : Claim) → (is_by at.who c && (c.file == at.file)) ≡ false → bears at c ≡ 0
+none_told at c apart =
+    let parts = neither (who_of c.party == at.who) (owned_by at.who c.owner) (c.file == at.file) apart in
+    omega (arith, one_apart at (who_of c.party) c.file parts.0, owned_apart at c.file c.owner parts.1)
+
+told_on : (at : Stand) (cs : List Claim) → 0 < total (bears at) cs → any_on (is_by at.who) at.file cs ≡ true
+told_on at [] h = absurd (omega (arith, h))
+told_on at (c ∷ cs) h =
+    elim (cases_Bool (is_by at.who c && (c.file == at.file))) [
+      | inl on ↦ rw on refl
+      | inr off ↦ rw off (told_on at cs (omega (arith, h, none_told at c off)))
+    ]
+
+some_told : (o : Option ℕ) (n : ℕ) → o ≡ Some n → o ≢ Some 0 → 0 < unwrap_or o 0
+some_told o zero is told = absurd (told is)
+some_told o (suc n) is told = omega (arith, ap (λ (p : Option ℕ). unwrap_or p 0) is)
+
+-- ---- the first entry
+
+pub next_found : (stands : BTreeMap Stand ℕ) (who : ℕ) (past : Option ℕ) (e : Stand × ℕ) (rest : List (Stand × ℕ)) → IsRest stands who past (e ∷ rest) → e.0.who ≡ who → (cs : List Claim) → AreTold stands → ((at : Stand) → many_at stands at ≡ total (bears at) cs) → IsNext (Some e.0.file) who past cs
+next_found stands who past e rest is same cs told standing = (
+  ahead_file who past e.0 same is.1.0.0,
+  all_from (λ c. (is_ahead who past c && nat_lt c.file e.0.file) ≡ false) cs missed,
+  subst (λ (own : ℕ). any_on (is_by own) e.0.file cs ≡ true) same
+      (told_on e.0 cs (omega (arith, standing e.0, some_told (get stand_cmp stands e.0) e.1 is.1.1 (told e.0)))),
+)
   where
     missed : (c : Claim) → IsIn c cs → (is_ahead who past c && nat_lt c.file e.0.file) ≡ false
     missed c h =

@@ -1,7 +1,7 @@
 -- On which files someone stands: a party with all that it has, an SMB open with what it owns.
 use Rattle.std.specs.Prelude.{◌≡◌, ◌≢◌, ℕ, ◌+◌, ◌*◌, Bool, true, false, ◌==◌, ◌&&◌, ◌||◌, nat_lt, List, Option, Some, None}
 use Rattle.std.specs.BTreeMap.{BTreeMap, get}
-use Rattle.std.specs.List.{AllByRecursion}
+use Rattle.std.specs.List.{AllByRecursion, list_any}
 use Rattle.std.specs.Option.{unwrap_or}
 use Rattle.std.specs.declared.cmp.Ordering.{Ordering}
 use Rattle.std.specs.declared.ops.Bound.{Bound}
@@ -76,9 +76,13 @@ is_past (Some past) file = nat_lt past file
 abbrev pub is_ahead : ℕ → Option ℕ → Claim → Bool
 is_ahead who past c = is_by who c && is_past past c.file
 
--- the first file past one on which someone stands: none of its claims is on one between; or on any
+-- some of these claims are on this file
+abbrev pub any_on : (Claim → Bool) → ℕ → List Claim → Bool
+any_on these file cs = list_any (λ c. these c && (c.file == file)) cs
+
+-- the first file past one on which someone stands: some of its claims are on it, and none is on one between; or none on any
 abbrev pub IsNext : Option ℕ → ℕ → Option ℕ → List Claim → Type 0
-IsNext (Some file) who past cs = (is_past past file ≡ true) × AllByRecursion (λ c. (is_ahead who past c && nat_lt c.file file) ≡ false) cs
+IsNext (Some file) who past cs = (is_past past file ≡ true) × AllByRecursion (λ c. (is_ahead who past c && nat_lt c.file file) ≡ false) cs × (any_on (is_by who) file cs ≡ true)
 IsNext None who past cs = AllByRecursion (λ c. is_ahead who past c ≡ false) cs
 
 -- where the stands past a file begin

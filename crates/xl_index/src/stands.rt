@@ -187,7 +187,7 @@ fn first_past(who: u64, past: Option<u32>) -> Bound<Stand>
 
 /// The first file on which someone stands, or the first past this one.
 pub(crate) fn next_file(stands: &Stands, who: u64, past: Option<u32>) -> Option<u32>
-    ensures { (cs : List Claim) → ((at : Stand) → many_at stands.now at ≡ total (bears at) cs) → IsNext result who past cs }
+    ensures { (cs : List Claim) → AreTold stands.now → ((at : Stand) → many_at stands.now at ≡ total (bears at) cs) → IsNext result who past cs }
 {
     let first = first_past(who, past);
     match stands.range((first, Bound::Unbounded)).next() {

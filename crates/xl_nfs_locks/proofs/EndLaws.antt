@@ -14,7 +14,7 @@ use Rattle.xl_nfs.specs.declared.status.NfsStatus.TheVariants as statuses
 use Rattle.xl_nfs_state.specs.State.{NfsLists, is_kept, is_owner, is_stateid}
 use Rattle.xl_nfs_state.specs.declared.client.ClientRow.{ClientRow}
 use Rattle.xl_nfs_state.specs.declared.kept.KeptRow.{KeptRow}
-use Rattle.xl_nfs_state.specs.declared.owner.Turn.{Turn}
+use Rattle.xl_nfs_state.specs.declared.owner.SeqidState.{SeqidState}
 use Rattle.xl_nfs_state.specs.declared.stateid.Holder.{Holder}
 use Rattle.xl_nfs_state.specs.declared.stateid.Holder.TheVariants as holders
 use Rattle.xl_nfs_state.specs.declared.stateid.StateidRow.{StateidRow}
@@ -32,7 +32,7 @@ use Rattle.xl_nfs_locks.specs.declared.joining.BothOwners.{BothOwners}
 use Rattle.xl_nfs_locks.specs.declared.joining.Joined.{Joined}
 use Rattle.xl_nfs_locks.specs.declared.joining.Joined.TheVariants.{Bad, Again, Joins}
 use Rattle.xl_nfs_opens.specs.Closing.{checked, standing_fault, opener_by}
-use Rattle.xl_nfs_opens.specs.Leases.{number_in}
+use Rattle.xl_core.specs.Ids.{number_in}
 use Rattle.xl_nfs_opens.specs.Opens.{client_in, is_granted}
 use Rattle.xl_nfs_opens.specs.Renewing.{number_of, state_client, renewed_for}
 use Rattle.xl_nfs_opens.specs.Results.{ToldFits}
@@ -70,29 +70,29 @@ found_fault s l (Some at) op seqid stateid = number_fault l at op seqid (number_
 
 -- ---- LOCK by a known owner
 
-lock_answered_ends : (l : NfsLists) (current : Option ℕ) (r : StateidRow) (owner : ℕ) (turn : Turn) (seqid : ℕ) (reclaim : Bool) (answer : Answer) (s : CoreState) → Ends 12 current (lock_answered l current r owner turn seqid reclaim answer s)
-lock_answered_ends l current r owner turn seqid reclaim answer s =
+lock_answered_ends : (l : NfsLists) (current : Option ℕ) (r : StateidRow) (owner : ℕ) (seqids : SeqidState) (seqid : ℕ) (reclaim : Bool) (answer : Answer) (s : CoreState) → Ends 12 current (lock_answered l current r owner seqids seqid reclaim answer s)
+lock_answered_ends l current r owner seqids seqid reclaim answer s =
     elim (cases_Bool (is_granted answer)) [
       | inl e ↦ rw e (tt, λ _. refl)
       | inr e ↦ rw e (told_by 12 (omega arith) s l reclaim answer e, λ _. refl)
     ]
 
-lock_owner_ends : (l : NfsLists) (current : Option ℕ) (a : LockArgsItem) (r : StateidRow) (owner : ℕ) (turn : Turn) (seqid last : ℕ) (o : Option Opener) → Ends 12 current (lock_by_owner l current a r owner turn seqid last o)
-lock_owner_ends l current a r owner turn seqid last None = ended 12 (omega arith) current statuses.ServerFault (fault statuses.ServerFault refl refl)
-lock_owner_ends l current a r owner turn seqid last (Some o) = λ answer t. lock_answered_ends l current r owner turn seqid a.reclaim answer t
+lock_owner_ends : (l : NfsLists) (current : Option ℕ) (a : LockArgsItem) (r : StateidRow) (owner : ℕ) (seqids : SeqidState) (seqid last : ℕ) (o : Option Opener) → Ends 12 current (lock_by_owner l current a r owner seqids seqid last o)
+lock_owner_ends l current a r owner seqids seqid last None = ended 12 (omega arith) current statuses.ServerFault (fault statuses.ServerFault refl refl)
+lock_owner_ends l current a r owner seqids seqid last (Some o) = λ answer t. lock_answered_ends l current r owner seqids seqid a.reclaim answer t
 
-lock_to_ends : (l : NfsLists) (current : Option ℕ) (a : LockArgsItem) (r : StateidRow) (owner : ℕ) (turn : Turn) (seqid : ℕ) (o : Result ℕ NfsStatus) → OrFault o → Ends 12 current (lock_to l current a r owner turn seqid o)
-lock_to_ends l current a r owner turn seqid (Err status) f = ended 12 (omega arith) current status f
-lock_to_ends l current a r owner turn seqid (Ok last) f = lock_owner_ends l current a r owner turn seqid last (opener_by l r.client owner)
+lock_to_ends : (l : NfsLists) (current : Option ℕ) (a : LockArgsItem) (r : StateidRow) (owner : ℕ) (seqids : SeqidState) (seqid : ℕ) (o : Result ℕ NfsStatus) → OrFault o → Ends 12 current (lock_to l current a r owner seqids seqid o)
+lock_to_ends l current a r owner seqids seqid (Err status) f = ended 12 (omega arith) current status f
+lock_to_ends l current a r owner seqids seqid (Ok last) f = lock_owner_ends l current a r owner seqids seqid last (opener_by l r.client owner)
 
-lock_standing_ends : (l : NfsLists) (current : Option ℕ) (a : LockArgsItem) (r : StateidRow) (owner : ℕ) (turn : Turn) (seqid : ℕ) (o : Option NfsStatus) → IfFault o → Ends 12 current (lock_standing l current a r owner turn seqid o)
-lock_standing_ends l current a r owner turn seqid (Some status) f = ended 12 (omega arith) current status f
-lock_standing_ends l current a r owner turn seqid None f = lock_to_ends l current a r owner turn seqid (lock_end a.kind (access_above l r.holder) (last_byte a.offset a.len)) (end_fault a.kind (access_above l r.holder) (last_byte a.offset a.len))
+lock_standing_ends : (l : NfsLists) (current : Option ℕ) (a : LockArgsItem) (r : StateidRow) (owner : ℕ) (seqids : SeqidState) (seqid : ℕ) (o : Option NfsStatus) → IfFault o → Ends 12 current (lock_standing l current a r owner seqids seqid o)
+lock_standing_ends l current a r owner seqids seqid (Some status) f = ended 12 (omega arith) current status f
+lock_standing_ends l current a r owner seqids seqid None f = lock_to_ends l current a r owner seqids seqid (lock_end a.kind (access_above l r.holder) (last_byte a.offset a.len)) (end_fault a.kind (access_above l r.holder) (last_byte a.offset a.len))
 
 lock_found_ends : (s : CoreState) (l : NfsLists) (current : Option ℕ) (a : LockArgsItem) (x : KnownLocker) (c : Checked) → Refuses c → Ends 12 current (lock_found s l current a x c)
 lock_found_ends s l current a x (Refused status) f = ended 12 (omega arith) current status f
 lock_found_ends s l current a x (Repeated owner) f = repeat_ends 12 (omega arith) s l current (find (is_kept owner) l.kept)
-lock_found_ends s l current a x (Passed r owner turn) f = lock_standing_ends l current a r owner turn x.seqid (standing_fault r turn x.stateid.seqid true) (standing_is_fault r turn x.stateid.seqid true)
+lock_found_ends s l current a x (Passed r owner seqids) f = lock_standing_ends l current a r owner seqids x.seqid (standing_fault r seqids x.stateid.seqid true) (standing_is_fault r seqids x.stateid.seqid true)
 
 known_ends : (s : CoreState) (l : NfsLists) (current : Option ℕ) (a : LockArgsItem) (x : KnownLocker) → Ends 12 current (lock_known s l current a x)
 unfolding lock_known
@@ -139,7 +139,7 @@ join_standing_ends s l current a x b r None f = join_of_ends l current a x b r (
 join_checked_ends : (s : CoreState) (l : NfsLists) (current : Option ℕ) (a : LockArgsItem) (x : NewLockerItem) (c : Checked) → Refuses c → Ends 12 current (join_checked s l current a x c)
 join_checked_ends s l current a x (Refused status) f = ended 12 (omega arith) current status f
 join_checked_ends s l current a x (Repeated owner) f = repeat_ends 12 (omega arith) s l current (find (is_kept owner) l.kept)
-join_checked_ends s l current a x (Passed r owner turn) f = join_standing_ends s l current a x (both_of x owner turn) r (standing_fault r turn x.open_stateid.seqid true) (standing_is_fault r turn x.open_stateid.seqid true)
+join_checked_ends s l current a x (Passed r owner seqids) f = join_standing_ends s l current a x (both_of x owner seqids) r (standing_fault r seqids x.open_stateid.seqid true) (standing_is_fault r seqids x.open_stateid.seqid true)
 
 new_ends : (s : CoreState) (l : NfsLists) (current : Option ℕ) (a : LockArgsItem) (x : NewLockerItem) → Ends 12 current (lock_new s l current a x)
 unfolding lock_new lock_named
@@ -196,29 +196,29 @@ unlock_fault answers.NotRecorded e = fault statuses.ReclaimBad refl refl
 unlock_fault (answers.Full limit) e = fault statuses.Resource refl refl
 unlock_fault answers.StoreFailed e = fault statuses.ServerFault refl refl
 
-unlocked_ends : (s : CoreState) (l : NfsLists) (current : Option ℕ) (a : UnlockArgs) (r : StateidRow) (owner : ℕ) (turn : Turn) (answer : Answer) → Ends 14 current (unlocked_as s l current a r owner turn (unlock_status answer))
-unlocked_ends s l current a r owner turn answer =
+unlocked_ends : (s : CoreState) (l : NfsLists) (current : Option ℕ) (a : UnlockArgs) (r : StateidRow) (owner : ℕ) (seqids : SeqidState) (answer : Answer) → Ends 14 current (unlocked_as s l current a r owner seqids (unlock_status answer))
+unlocked_ends s l current a r owner seqids answer =
     elim (cases_Bool (is_ok (unlock_status answer))) [
       | inl e ↦ rw e (tt, λ _. refl)
       | inr e ↦ rw e (ended 14 (omega arith) current (unlock_status answer) (unlock_fault answer e))
     ]
 
-unlock_owner_ends : (l : NfsLists) (current : Option ℕ) (a : UnlockArgs) (r : StateidRow) (owner : ℕ) (turn : Turn) (last : ℕ) (o : Option Opener) → Ends 14 current (unlock_by_owner l current a r owner turn last o)
-unlock_owner_ends l current a r owner turn last None = ended 14 (omega arith) current statuses.ServerFault (fault statuses.ServerFault refl refl)
-unlock_owner_ends l current a r owner turn last (Some o) = λ answer t. unlocked_ends t l current a r owner turn answer
+unlock_owner_ends : (l : NfsLists) (current : Option ℕ) (a : UnlockArgs) (r : StateidRow) (owner : ℕ) (seqids : SeqidState) (last : ℕ) (o : Option Opener) → Ends 14 current (unlock_by_owner l current a r owner seqids last o)
+unlock_owner_ends l current a r owner seqids last None = ended 14 (omega arith) current statuses.ServerFault (fault statuses.ServerFault refl refl)
+unlock_owner_ends l current a r owner seqids last (Some o) = λ answer t. unlocked_ends t l current a r owner seqids answer
 
-unlock_to_ends : (l : NfsLists) (current : Option ℕ) (a : UnlockArgs) (r : StateidRow) (owner : ℕ) (turn : Turn) (last : Option ℕ) → Ends 14 current (unlock_to l current a r owner turn last)
-unlock_to_ends l current a r owner turn None = ended 14 (omega arith) current statuses.Inval (fault statuses.Inval refl refl)
-unlock_to_ends l current a r owner turn (Some last) = unlock_owner_ends l current a r owner turn last (opener_by l r.client owner)
+unlock_to_ends : (l : NfsLists) (current : Option ℕ) (a : UnlockArgs) (r : StateidRow) (owner : ℕ) (seqids : SeqidState) (last : Option ℕ) → Ends 14 current (unlock_to l current a r owner seqids last)
+unlock_to_ends l current a r owner seqids None = ended 14 (omega arith) current statuses.Inval (fault statuses.Inval refl refl)
+unlock_to_ends l current a r owner seqids (Some last) = unlock_owner_ends l current a r owner seqids last (opener_by l r.client owner)
 
-unlock_standing_ends : (l : NfsLists) (current : Option ℕ) (a : UnlockArgs) (r : StateidRow) (owner : ℕ) (turn : Turn) (o : Option NfsStatus) → IfFault o → Ends 14 current (unlock_standing l current a r owner turn o)
-unlock_standing_ends l current a r owner turn (Some status) f = ended 14 (omega arith) current status f
-unlock_standing_ends l current a r owner turn None f = unlock_to_ends l current a r owner turn (last_byte a.offset a.len)
+unlock_standing_ends : (l : NfsLists) (current : Option ℕ) (a : UnlockArgs) (r : StateidRow) (owner : ℕ) (seqids : SeqidState) (o : Option NfsStatus) → IfFault o → Ends 14 current (unlock_standing l current a r owner seqids o)
+unlock_standing_ends l current a r owner seqids (Some status) f = ended 14 (omega arith) current status f
+unlock_standing_ends l current a r owner seqids None f = unlock_to_ends l current a r owner seqids (last_byte a.offset a.len)
 
 unlock_found_ends : (s : CoreState) (l : NfsLists) (current : Option ℕ) (a : UnlockArgs) (c : Checked) → Refuses c → Ends 14 current (unlock_found s l current a c)
 unlock_found_ends s l current a (Refused status) f = ended 14 (omega arith) current status f
 unlock_found_ends s l current a (Repeated owner) f = repeat_ends 14 (omega arith) s l current (find (is_kept owner) l.kept)
-unlock_found_ends s l current a (Passed r owner turn) f = unlock_standing_ends l current a r owner turn (standing_fault r turn a.stateid.seqid true) (standing_is_fault r turn a.stateid.seqid true)
+unlock_found_ends s l current a (Passed r owner seqids) f = unlock_standing_ends l current a r owner seqids (standing_fault r seqids a.stateid.seqid true) (standing_is_fault r seqids a.stateid.seqid true)
 
 pub unlock_ends : (s : CoreState) (l : NfsLists) (current : Option ℕ) (a : UnlockArgs) → Ends 14 current (unlock s l current a)
 unfolding unlock

@@ -8,17 +8,17 @@ use Rattle.std.specs.List.{find}
 use Rattle.std.specs.Prelude.{IsSome}
 use Rattle.xl_nfs_state.specs.State.{NfsLists, is_client, is_kept, is_owner}
 use Rattle.xl_nfs_state.specs.declared.client.ClientRow.{ClientRow}
-use Rattle.xl_nfs_state.specs.declared.owner.Turn.{Turn}
+use Rattle.xl_nfs_state.specs.declared.owner.SeqidState.{SeqidState}
 use Rattle.xl_nfs_state.specs.declared.stateid.StateidRow.{StateidRow}
 use Rattle.xl_nfs_locks.specs.declared.joining.BothOwners.{BothOwners}
 use Rattle.xl_nfs_locks.specs.FirstLocks.{counted_open, locker_under}
 use Rattle.xl_nfs_locks.specs.Tests.{locker_of}
 use Rattle.xl_nfs_opens.proofs.OpenerLaws.{number_there}
-use Rattle.xl_nfs_opens.specs.Leases.{number_in}
+use Rattle.xl_core.specs.Ids.{number_in}
 use Rattle.xl_nfs_opens.specs.Opens.{client_in}
 use Rattle.xl_nfs_opens.specs.declared.opener.Opener.{Opener}
 use Rattle.xl_core.specs.State.{CoreState}
-use Rattle.xl_nfs_opens.specs.Seqids.{closed_gone, kept_for, turned, counted}
+use Rattle.xl_nfs_opens.specs.Seqids.{closed_gone, kept_for, seqid_set, counted}
 
 -- ---- a request that counts leaves the clients
 
@@ -36,13 +36,13 @@ gone_clients : (closed : Option ℕ) (l : NfsLists) → (closed_gone closed l).c
 gone_clients None l = refl
 gone_clients (Some number) l = refl
 
-counted_clients : (owner : ℕ) (closed : Option ℕ) (turn : Turn) (bytes : List ℕ) (l : NfsLists) → (counted owner closed turn bytes l).clients ≡ l.clients
+counted_clients : (owner : ℕ) (closed : Option ℕ) (seqids : SeqidState) (bytes : List ℕ) (l : NfsLists) → (counted owner closed seqids bytes l).clients ≡ l.clients
 unfolding counted
-counted_clients owner closed turn bytes l = kept_clients owner bytes (closed_gone closed (turned owner turn l)) ∙ gone_clients closed (turned owner turn l)
+counted_clients owner closed seqids bytes l = kept_clients owner bytes (closed_gone closed (seqid_set owner seqids l)) ∙ gone_clients closed (seqid_set owner seqids l)
 
 pub client_stays : (b : BothOwners) (bytes : List ℕ) (l m : NfsLists) (client : ℕ) → m ≡ counted_open b bytes l → IsSome (find (is_client client true) l.clients) → IsSome (find (is_client client true) m.clients)
 client_stays b bytes l m client is there =
-    subst (λ (cs : List ClientRow). IsSome (find (is_client client true) cs)) (sym (ap (λ (x : NfsLists). x.clients) is ∙ counted_clients b.number b.turn.closed _ bytes l)) there
+    subst (λ (cs : List ClientRow). IsSome (find (is_client client true) cs)) (sym (ap (λ (x : NfsLists). x.clients) is ∙ counted_clients b.number b.seqids.closed _ bytes l)) there
 
 -- ---- a lock owner of the open's client is of one that is there
 

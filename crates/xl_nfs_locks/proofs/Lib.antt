@@ -2,14 +2,3 @@ pub mod FoundLaws
 pub mod LockLaws
 pub mod FirstLaws
 pub mod EndLaws
-pub mod LockOwn
-pub mod ByteLaws
-pub mod StatusLaws
-pub mod KeepLaws
-pub mod CloseLaws
-pub mod CountLaws
-pub mod NumberLaws
-pub mod CalmLaws
-pub mod JudgeLaws
-pub mod AdvanceLaws
-pub mod FaultLaws

@@ -5,7 +5,7 @@ use Rattle.xl_nfs.specs.declared.basics.LockType.{LockType}
 use Rattle.xl_nfs.specs.declared.status.NfsStatus.{NfsStatus}
 use Rattle.xl_nfs.specs.declared.status.NfsStatus.TheVariants as statuses
 use Rattle.xl_nfs_state.specs.State.{NfsLists}
-use Rattle.xl_nfs_state.specs.declared.owner.Turn.{Turn}
+use Rattle.xl_nfs_state.specs.declared.owner.SeqidState.{SeqidState}
 use Rattle.xl_nfs_state.specs.declared.stateid.StateidRow.{StateidRow}
 use Rattle.xl_core.specs.State.{CoreState}
 use Rattle.xl_core.specs.declared.ask.Answer.{Answer}
@@ -42,8 +42,8 @@ pub lock_told_fits : (s : CoreState) (l : NfsLists) (reclaim : Bool) (answer : A
 lock_told_fits s l reclaim answer told granted is = subst (λ (t : Told). ToldFits 12 t) (sym is) (told_by 12 (omega arith) s l reclaim answer granted)
 
 -- what is wrong with the stateid
-pub standing_fits : (r : StateidRow) (turn : Turn) (seqid : ℕ) (status : NfsStatus) → Some status ≡ standing_fault r turn seqid true → ToldFits 12 (Ended status)
-standing_fits r turn seqid status is = fault_told 12 (omega arith) status (subst (λ (o : Option NfsStatus). IfFault o) (sym is) (standing_is_fault r turn seqid true))
+pub standing_fits : (r : StateidRow) (seqids : SeqidState) (seqid : ℕ) (status : NfsStatus) → Some status ≡ standing_fault r seqids seqid true → ToldFits 12 (Ended status)
+standing_fits r seqids seqid status is = fault_told 12 (omega arith) status (subst (λ (o : Option NfsStatus). IfFault o) (sym is) (standing_is_fault r seqids seqid true))
 
 abbrev pub OrFault : Result ℕ NfsStatus → Type 0
 OrFault (Ok last) = Unit {0}

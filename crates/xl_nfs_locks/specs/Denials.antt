@@ -20,7 +20,7 @@ use Rattle.xl_core.specs.declared.ask.Answer.{Answer}
 use Rattle.xl_core.specs.declared.ask.Answer.TheVariants as answers
 use Rattle.xl_nfs_locks.specs.Ranges.{length_of}
 use Rattle.xl_nfs_opens.specs.Asks.{all_ones}
-use Rattle.xl_nfs_opens.specs.Leases.{clientid_of}
+use Rattle.xl_core.specs.Ids.{id_of}
 use Rattle.xl_nfs_opens.specs.Opens.{answer_status}
 use Rattle.xl_nfs_opens.specs.declared.told.HeldLock.{HeldLock}
 use Rattle.xl_nfs_opens.specs.declared.told.Told.{Told}
@@ -28,7 +28,7 @@ use Rattle.xl_nfs_opens.specs.declared.told.Told.TheVariants.{Ended, Denied}
 
 abbrev pub clientid_by : CoreState → Option ClientRow → ℕ
 clientid_by s None = 0
-clientid_by s (Some c) = clientid_of s c.number
+clientid_by s (Some c) = id_of s c.number
 
 -- the clientid and the bytes of an NFSv4 lock owner, which has 1,024 of these at most; of an owner of NLM 0 and `nlm` (NFS-28)
 abbrev pub named_parts : CoreState → NfsLists → Option Name → ℕ × List ℕ

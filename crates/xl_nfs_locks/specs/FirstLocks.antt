@@ -10,7 +10,7 @@ use Rattle.xl_nfs_state.specs.Verdict.{verdict}
 use Rattle.xl_nfs_state.specs.declared.client.ClientRow.{ClientRow}
 use Rattle.xl_nfs_state.specs.declared.kept.KeptRow.{KeptRow}
 use Rattle.xl_nfs_state.specs.declared.owner.OwnerRow.{OwnerRow}
-use Rattle.xl_nfs_state.specs.declared.owner.Turn.{Turn}
+use Rattle.xl_nfs_state.specs.declared.owner.SeqidState.{SeqidState}
 use Rattle.xl_nfs_state.specs.declared.seqid.SeqidVerdict.{SeqidVerdict}
 use Rattle.xl_nfs_state.specs.declared.seqid.SeqidVerdict.TheVariants as verdicts
 use Rattle.xl_nfs_state.specs.declared.stateid.Holder.TheVariants as holders
@@ -26,8 +26,8 @@ use Rattle.xl_nfs_locks.specs.Tests.{locker_of}
 use Rattle.xl_nfs_locks.specs.declared.joining.BothOwners.{BothOwners}
 use Rattle.xl_nfs_locks.specs.declared.joining.Joined.{Joined}
 use Rattle.xl_nfs_locks.specs.declared.joining.Joined.TheVariants.{Bad, Again, Joins}
-use Rattle.xl_nfs_opens.specs.Closing.{checked, standing_fault, failed, next_turn, state_told}
-use Rattle.xl_nfs_opens.specs.Leases.{number_in}
+use Rattle.xl_nfs_opens.specs.Closing.{checked, standing_fault, failed, next_seqids, state_told}
+use Rattle.xl_core.specs.Ids.{number_in}
 use Rattle.xl_nfs_opens.specs.Opens.{all_rooms, client_in, is_granted, live, repeated, stood}
 use Rattle.xl_nfs_opens.specs.Plans.{Plan, Does, Asking, status_of}
 use Rattle.xl_nfs_opens.specs.Renewing.{stateid_of, state_client, renewing}
@@ -43,11 +43,11 @@ use Rattle.xl_nfs_opens.specs.declared.told.Told.TheVariants.{Ended, State, Kept
 
 -- the open's owner has come this far with it, and the result is kept for it (NFS-24)
 abbrev pub counted_open : BothOwners → List ℕ → NfsLists → NfsLists
-counted_open b bytes l = counted b.number b.turn.closed (next_turn 12 b.open_seqid b.turn.confirmed None) bytes l
+counted_open b bytes l = counted b.number b.seqids.closed (next_seqids 12 b.open_seqid b.seqids.confirmed None) bytes l
 
 -- so has the lock owner, which comes where it is new
 abbrev pub counted_both : BothOwners → Opener → List ℕ → NfsLists → NfsLists
-counted_both b o bytes l = remembered o (next_turn 12 b.lock_seqid true None) bytes (counted_open b bytes l)
+counted_both b o bytes l = remembered o (next_seqids 12 b.lock_seqid true None) bytes (counted_open b bytes l)
 
 -- it was refused, and counts with both where its status does (NFS-24)
 abbrev pub both_refused : NfsLists → Option ℕ → BothOwners → Opener → Told → Plan
@@ -121,7 +121,7 @@ fits_under number None = true
 fits_under number (Some q) = is_under number q.holder
 
 abbrev pub by_owner : StateidRow → OwnerRow → ℕ → Option StateidRow → Joined
-by_owner r w seqid q = if fits_under r.number q then by_verdict w q (verdict (Some w.turn) 12 seqid) else Bad
+by_owner r w seqid q = if fits_under r.number q then by_verdict w q (verdict (Some w.seqids) 12 seqid) else Bad
 
 abbrev pub by_row : NfsLists → StateidRow → ℕ → Option OwnerRow → Joined
 by_row l r seqid None = Joins None
@@ -152,20 +152,20 @@ locker_under r owner None = None
 locker_under r owner (Some c) = if c.number == r.client then Some (locker_of c owner) else None
 
 abbrev pub join_of : NfsLists → Option ℕ → LockArgsItem → NewLockerItem → BothOwners → StateidRow → Option Opener → Plan
-join_of l current a x b r None = failed l current b.number b.turn 12 b.open_seqid statuses.Inval
+join_of l current a x b r None = failed l current b.number b.seqids 12 b.open_seqid statuses.Inval
 join_of l current a x b r (Some o) = join_by l current a x b r o
 
 abbrev pub join_standing : CoreState → NfsLists → Option ℕ → LockArgsItem → NewLockerItem → BothOwners → StateidRow → Option NfsStatus → Plan
-join_standing s l current a x b r (Some status) = failed l current b.number b.turn 12 b.open_seqid status
+join_standing s l current a x b r (Some status) = failed l current b.number b.seqids 12 b.open_seqid status
 join_standing s l current a x b r None = join_of l current a x b r (locker_under r x.owner.owner (client_in s l x.owner.clientid))
 
-abbrev pub both_of : NewLockerItem → ℕ → Turn → BothOwners
-both_of x owner turn = record { number = owner; turn = turn; open_seqid = x.open_seqid; lock_seqid = x.lock_seqid }
+abbrev pub both_of : NewLockerItem → ℕ → SeqidState → BothOwners
+both_of x owner seqids = record { number = owner; seqids = seqids; open_seqid = x.open_seqid; lock_seqid = x.lock_seqid }
 
 abbrev pub join_checked : CoreState → NfsLists → Option ℕ → LockArgsItem → NewLockerItem → Checked → Plan
 join_checked s l current a x (Refused status) = Does [] l current (Ended status)
 join_checked s l current a x (Repeated owner) = repeated s l current (find (is_kept owner) l.kept)
-join_checked s l current a x (Passed r owner turn) = join_standing s l current a x (both_of x owner turn) r (standing_fault r turn x.open_stateid.seqid true)
+join_checked s l current a x (Passed r owner seqids) = join_standing s l current a x (both_of x owner seqids) r (standing_fault r seqids x.open_stateid.seqid true)
 
 -- behind the renewal of the lock owner's client
 unfoldable pub lock_named : CoreState → NfsLists → Option ℕ → LockArgsItem → NewLockerItem → Plan

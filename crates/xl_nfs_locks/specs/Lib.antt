@@ -6,6 +6,3 @@ pub mod Denials
 pub mod Tests
 pub mod Locks
 pub mod FirstLocks
-pub mod Laws
-pub mod Counting
-pub mod Judging

@@ -7,7 +7,7 @@ use Rattle.xl_nfs.specs.declared.locks.KnownLocker.{KnownLocker}
 use Rattle.xl_nfs.specs.declared.status.NfsStatus.{NfsStatus}
 use Rattle.xl_nfs.specs.declared.status.NfsStatus.TheVariants as statuses
 use Rattle.xl_nfs_state.specs.State.{NfsLists, is_kept, is_stateid}
-use Rattle.xl_nfs_state.specs.declared.owner.Turn.{Turn}
+use Rattle.xl_nfs_state.specs.declared.owner.SeqidState.{SeqidState}
 use Rattle.xl_nfs_state.specs.declared.stateid.Holder.{Holder}
 use Rattle.xl_nfs_state.specs.declared.stateid.Holder.TheVariants as holders
 use Rattle.xl_nfs_state.specs.declared.stateid.StateidRow.{StateidRow}
@@ -16,7 +16,7 @@ use Rattle.xl_core.specs.declared.ask.Answer.{Answer}
 use Rattle.xl_nfs_locks.specs.Checks.{locks_found}
 use Rattle.xl_nfs_locks.specs.Denials.{lock_told}
 use Rattle.xl_nfs_locks.specs.Ranges.{last_byte, lock_ask, may_lock}
-use Rattle.xl_nfs_opens.specs.Closing.{standing_fault, failed, next_turn, done_lists, state_told, opener_by}
+use Rattle.xl_nfs_opens.specs.Closing.{standing_fault, failed, next_seqids, done_lists, state_told, opener_by}
 use Rattle.xl_nfs_opens.specs.Opens.{all_rooms, is_granted, repeated}
 use Rattle.xl_nfs_opens.specs.Plans.{Plan, Does, Asking, status_of}
 use Rattle.xl_nfs_opens.specs.Renewing.{state_client, renewing}
@@ -31,22 +31,22 @@ use Rattle.xl_nfs_opens.specs.declared.told.Told.TheVariants.{Ended}
 -- ---- by the core's answer
 
 -- it was refused, and is kept where its status counts
-abbrev pub refused_lists : NfsLists → ℕ → Turn → ℕ → Told → NfsLists
-refused_lists l owner turn seqid told =
-    if advances (status_of told) then counted owner turn.closed (next_turn 12 seqid turn.confirmed None) (spelled 12 told) l else l
+abbrev pub refused_lists : NfsLists → ℕ → SeqidState → ℕ → Told → NfsLists
+refused_lists l owner seqids seqid told =
+    if advances (status_of told) then counted owner seqids.closed (next_seqids 12 seqid seqids.confirmed None) (spelled 12 told) l else l
 
-abbrev pub lock_refused : NfsLists → Option ℕ → ℕ → Turn → ℕ → Told → Plan
-lock_refused l current owner turn seqid told = Does [] (refused_lists l owner turn seqid told) current told
+abbrev pub lock_refused : NfsLists → Option ℕ → ℕ → SeqidState → ℕ → Told → Plan
+lock_refused l current owner seqids seqid told = Does [] (refused_lists l owner seqids seqid told) current told
 
-abbrev pub lock_answered : NfsLists → Option ℕ → StateidRow → ℕ → Turn → ℕ → Bool → Answer → CoreState → Plan
-lock_answered l current r owner turn seqid reclaim answer s =
-    if is_granted answer then Does [] (done_lists s l r owner turn 12 seqid turn.confirmed None 0 0 false) current (state_told s r)
-    else lock_refused l current owner turn seqid (lock_told s l reclaim answer)
+abbrev pub lock_answered : NfsLists → Option ℕ → StateidRow → ℕ → SeqidState → ℕ → Bool → Answer → CoreState → Plan
+lock_answered l current r owner seqids seqid reclaim answer s =
+    if is_granted answer then Does [] (done_lists s l r owner seqids 12 seqid seqids.confirmed None 0 0 false) current (state_told s r)
+    else lock_refused l current owner seqids seqid (lock_told s l reclaim answer)
 
-abbrev pub lock_by_owner : NfsLists → Option ℕ → LockArgsItem → StateidRow → ℕ → Turn → ℕ → ℕ → Option Opener → Plan
-lock_by_owner l current a r owner turn seqid last None = Does [] l current (Ended statuses.ServerFault)
-lock_by_owner l current a r owner turn seqid last (Some o) =
-    Asking all_rooms (lock_ask o r.file a.kind a.reclaim a.offset last) (lock_answered l current r owner turn seqid a.reclaim)
+abbrev pub lock_by_owner : NfsLists → Option ℕ → LockArgsItem → StateidRow → ℕ → SeqidState → ℕ → ℕ → Option Opener → Plan
+lock_by_owner l current a r owner seqids seqid last None = Does [] l current (Ended statuses.ServerFault)
+lock_by_owner l current a r owner seqids seqid last (Some o) =
+    Asking all_rooms (lock_ask o r.file a.kind a.reclaim a.offset last) (lock_answered l current r owner seqids seqid a.reclaim)
 
 -- ---- the checks in their order
 
@@ -64,18 +64,18 @@ abbrev pub lock_end : LockType → ℕ → Option ℕ → Result ℕ NfsStatus
 lock_end kind access None = Err statuses.Inval
 lock_end kind access (Some last) = if may_lock kind access then Ok last else Err statuses.OpenMode
 
-abbrev pub lock_to : NfsLists → Option ℕ → LockArgsItem → StateidRow → ℕ → Turn → ℕ → Result ℕ NfsStatus → Plan
-lock_to l current a r owner turn seqid (Err status) = failed l current owner turn 12 seqid status
-lock_to l current a r owner turn seqid (Ok last) = lock_by_owner l current a r owner turn seqid last (opener_by l r.client owner)
+abbrev pub lock_to : NfsLists → Option ℕ → LockArgsItem → StateidRow → ℕ → SeqidState → ℕ → Result ℕ NfsStatus → Plan
+lock_to l current a r owner seqids seqid (Err status) = failed l current owner seqids 12 seqid status
+lock_to l current a r owner seqids seqid (Ok last) = lock_by_owner l current a r owner seqids seqid last (opener_by l r.client owner)
 
-abbrev pub lock_standing : NfsLists → Option ℕ → LockArgsItem → StateidRow → ℕ → Turn → ℕ → Option NfsStatus → Plan
-lock_standing l current a r owner turn seqid (Some status) = failed l current owner turn 12 seqid status
-lock_standing l current a r owner turn seqid None = lock_to l current a r owner turn seqid (lock_end a.kind (access_above l r.holder) (last_byte a.offset a.len))
+abbrev pub lock_standing : NfsLists → Option ℕ → LockArgsItem → StateidRow → ℕ → SeqidState → ℕ → Option NfsStatus → Plan
+lock_standing l current a r owner seqids seqid (Some status) = failed l current owner seqids 12 seqid status
+lock_standing l current a r owner seqids seqid None = lock_to l current a r owner seqids seqid (lock_end a.kind (access_above l r.holder) (last_byte a.offset a.len))
 
 abbrev pub lock_found : CoreState → NfsLists → Option ℕ → LockArgsItem → KnownLocker → Checked → Plan
 lock_found s l current a x (Refused status) = Does [] l current (Ended status)
 lock_found s l current a x (Repeated owner) = repeated s l current (find (is_kept owner) l.kept)
-lock_found s l current a x (Passed r owner turn) = lock_standing l current a r owner turn x.seqid (standing_fault r turn x.stateid.seqid true)
+lock_found s l current a x (Passed r owner seqids) = lock_standing l current a r owner seqids x.seqid (standing_fault r seqids x.stateid.seqid true)
 
 -- the client is renewed before
 unfoldable pub lock_known : CoreState → NfsLists → Option ℕ → LockArgsItem → KnownLocker → Plan

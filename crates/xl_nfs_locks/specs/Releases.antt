@@ -13,7 +13,7 @@ use Rattle.xl_nfs_state.specs.declared.owner.OwnerKind.TheVariants.{Lock as Lock
 use Rattle.xl_nfs_state.specs.declared.owner.OwnerRow.{OwnerRow}
 use Rattle.xl_table.specs.Relock.{holds_range}
 use Rattle.xl_core.specs.State.{CoreState}
-use Rattle.xl_nfs_opens.specs.Leases.{number_in}
+use Rattle.xl_core.specs.Ids.{number_in}
 use Rattle.xl_nfs_opens.specs.Opens.{client_in}
 use Rattle.xl_nfs_opens.specs.Plans.{Plan, Does}
 use Rattle.xl_nfs_opens.specs.Renewing.{renewing}

@@ -9,7 +9,7 @@ use Rattle.xl_core.specs.State.{CoreState}
 use Rattle.xl_core.specs.declared.ask.Answer.{Answer}
 use Rattle.xl_nfs_locks.specs.Denials.{lock_told}
 use Rattle.xl_nfs_locks.specs.Ranges.{last_byte, test_ask}
-use Rattle.xl_nfs_opens.specs.Leases.{number_in}
+use Rattle.xl_core.specs.Ids.{number_in}
 use Rattle.xl_nfs_opens.specs.Opens.{all_rooms, client_in, is_granted}
 use Rattle.xl_nfs_opens.specs.Plans.{Plan, Does, Asking}
 use Rattle.xl_nfs_opens.specs.Renewing.{renewing}

@@ -6,7 +6,7 @@ use Rattle.xl_nfs.specs.declared.locks.UnlockArgs.{UnlockArgs}
 use Rattle.xl_nfs.specs.declared.status.NfsStatus.{NfsStatus}
 use Rattle.xl_nfs.specs.declared.status.NfsStatus.TheVariants as statuses
 use Rattle.xl_nfs_state.specs.State.{NfsLists, is_kept}
-use Rattle.xl_nfs_state.specs.declared.owner.Turn.{Turn}
+use Rattle.xl_nfs_state.specs.declared.owner.SeqidState.{SeqidState}
 use Rattle.xl_nfs_state.specs.declared.stateid.StateidRow.{StateidRow}
 use Rattle.xl_core.specs.State.{CoreState}
 use Rattle.xl_core.specs.declared.ask.Answer.{Answer}
@@ -29,27 +29,27 @@ unlock_status (answers.Granted c) = statuses.Ok
 unlock_status answers.NotHeld = statuses.Ok
 unlock_status answer = answer_status false answer
 
-abbrev pub unlocked_as : CoreState → NfsLists → Option ℕ → UnlockArgs → StateidRow → ℕ → Turn → NfsStatus → Plan
-unlocked_as s l current a r owner turn status =
-    if is_ok status then Does [] (done_lists s l r owner turn 14 a.seqid turn.confirmed None 0 0 false) current (state_told s r)
-    else failed l current owner turn 14 a.seqid status
+abbrev pub unlocked_as : CoreState → NfsLists → Option ℕ → UnlockArgs → StateidRow → ℕ → SeqidState → NfsStatus → Plan
+unlocked_as s l current a r owner seqids status =
+    if is_ok status then Does [] (done_lists s l r owner seqids 14 a.seqid seqids.confirmed None 0 0 false) current (state_told s r)
+    else failed l current owner seqids 14 a.seqid status
 
-abbrev pub unlock_by_owner : NfsLists → Option ℕ → UnlockArgs → StateidRow → ℕ → Turn → ℕ → Option Opener → Plan
-unlock_by_owner l current a r owner turn last None = Does [] l current (Ended statuses.ServerFault)
-unlock_by_owner l current a r owner turn last (Some o) = Asking all_rooms (unlock_ask o r.file a.offset last) (λ answer t. unlocked_as t l current a r owner turn (unlock_status answer))
+abbrev pub unlock_by_owner : NfsLists → Option ℕ → UnlockArgs → StateidRow → ℕ → SeqidState → ℕ → Option Opener → Plan
+unlock_by_owner l current a r owner seqids last None = Does [] l current (Ended statuses.ServerFault)
+unlock_by_owner l current a r owner seqids last (Some o) = Asking all_rooms (unlock_ask o r.file a.offset last) (λ answer t. unlocked_as t l current a r owner seqids (unlock_status answer))
 
-abbrev pub unlock_to : NfsLists → Option ℕ → UnlockArgs → StateidRow → ℕ → Turn → Option ℕ → Plan
-unlock_to l current a r owner turn None = failed l current owner turn 14 a.seqid statuses.Inval
-unlock_to l current a r owner turn (Some last) = unlock_by_owner l current a r owner turn last (opener_by l r.client owner)
+abbrev pub unlock_to : NfsLists → Option ℕ → UnlockArgs → StateidRow → ℕ → SeqidState → Option ℕ → Plan
+unlock_to l current a r owner seqids None = failed l current owner seqids 14 a.seqid statuses.Inval
+unlock_to l current a r owner seqids (Some last) = unlock_by_owner l current a r owner seqids last (opener_by l r.client owner)
 
-abbrev pub unlock_standing : NfsLists → Option ℕ → UnlockArgs → StateidRow → ℕ → Turn → Option NfsStatus → Plan
-unlock_standing l current a r owner turn (Some status) = failed l current owner turn 14 a.seqid status
-unlock_standing l current a r owner turn None = unlock_to l current a r owner turn (last_byte a.offset a.len)
+abbrev pub unlock_standing : NfsLists → Option ℕ → UnlockArgs → StateidRow → ℕ → SeqidState → Option NfsStatus → Plan
+unlock_standing l current a r owner seqids (Some status) = failed l current owner seqids 14 a.seqid status
+unlock_standing l current a r owner seqids None = unlock_to l current a r owner seqids (last_byte a.offset a.len)
 
 abbrev pub unlock_found : CoreState → NfsLists → Option ℕ → UnlockArgs → Checked → Plan
 unlock_found s l current a (Refused status) = Does [] l current (Ended status)
 unlock_found s l current a (Repeated owner) = repeated s l current (find (is_kept owner) l.kept)
-unlock_found s l current a (Passed r owner turn) = unlock_standing l current a r owner turn (standing_fault r turn a.stateid.seqid true)
+unlock_found s l current a (Passed r owner seqids) = unlock_standing l current a r owner seqids (standing_fault r seqids a.stateid.seqid true)
 
 -- the client is renewed before
 unfoldable pub unlock : CoreState → NfsLists → Option ℕ → UnlockArgs → Plan

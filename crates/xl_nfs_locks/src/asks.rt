@@ -1,6 +1,6 @@
 //! What the core is asked for a lock owner.
 ghost use Rattle.std.specs.Prelude.{◌≡◌, ◌≤◌, IfOk};
-ghost use Rattle.xl_core.specs.Asking.{IsFit};
+ghost use Rattle.xl_core.specs.Askers.{IsFit};
 ghost use Rattle.xl_nfs_locks.specs.Ranges.{lock_ask, test_ask};
 ghost use Rattle.xl_nfs_opens.specs.Short.{IsNfsAsk};
 

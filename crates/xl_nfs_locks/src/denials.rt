@@ -8,11 +8,11 @@ ghost use Rattle.xl_nfs_locks.specs.Denials.{clientid_by, held_by, held_lock, ho
 use crate::ranges::length_of;
 use std::alloc::{AllocError, Global};
 use xl_base::{Owner, Sequence};
-use xl_core::{Answer, Core};
+use xl_core::{Answer, Core, id_of};
 use xl_matrix::{Claim, Extent, What};
 use xl_names::Name;
 use xl_nfs::{LockType, MOST_TEXT_BYTES, NfsStatus};
-use xl_nfs_opens::{HeldLock, HolderBytes, Told, answer_status, clientid_of};
+use xl_nfs_opens::{HeldLock, HolderBytes, Told, answer_status};
 use xl_nfs_state::NfsState;
 
 /// The clientid of the confirmed client of this id string; of none 0.
@@ -20,7 +20,7 @@ fn clientid_by(state: &NfsState, core: &Core, id: &[u8]) -> u64
     ensures { result ≡ clientid_by core.now (find (is_client_named id.now true) state.now.clients) }
 {
     match state.find_client_named(id, true) {
-        Some(row) => clientid_of(core, row.number),
+        Some(row) => id_of(core, row.number),
         None => 0,
     }
 }

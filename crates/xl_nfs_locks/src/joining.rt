@@ -21,16 +21,16 @@ use crate::locking::{is_granted, lock_end};
 use crate::testing::locker_of;
 use std::alloc::{AllocError, Global};
 use xl_base::{Keeper, Sequence};
-use xl_core::{Answer, Core};
+use xl_core::{Answer, Core, number_in};
 use xl_nfs::{LockArgs, NewLocker, NfsStatus, operation};
 use xl_nfs_opens::{
     Checked, Done, Opener, Told, advances, asked, beside, check, client_in, count, drawn, ended_as,
-    fail, find_opener, held_on, is_room_for, next_turn, number_in, opener_number, remember,
-    renew_for, repeat, result_bytes, stand, standing_fault, state_client, state_told, stateid_of,
+    fail, find_opener, held_on, is_room_for, next_seqids, opener_number, remember, renew_for,
+    repeat, result_bytes, stand, standing_fault, state_client, state_told, stateid_of,
 };
 use xl_nfs_state::{
-    ClientRow, Holder, NfsState, OwnerRow, ResultBytes, SeqidVerdict, Standing, StateidRow, Turn,
-    Whose, verdict,
+    ClientRow, Holder, NfsState, OwnerRow, ResultBytes, SeqidState, SeqidVerdict, Standing,
+    StateidRow, Whose, verdict,
 };
 
 /// With whose seqids such a LOCK counts.
@@ -39,7 +39,7 @@ pub struct BothOwners {
     /// The number of the open's owner.
     pub number: u64,
     /// How far its requests have come.
-    pub turn: Turn,
+    pub seqids: SeqidState,
     /// Its seqid in the request.
     pub open_seqid: u32,
     /// The lock owner's seqid in the request.
@@ -63,8 +63,8 @@ fn count_open(state: &mut NfsState, both: BothOwners, bytes: ResultBytes) -> Res
     ensures { OnOk result (state.new ≡ counted_open both bytes state.old) }
 {
     let op = operation::LOCK;
-    let next = next_turn(op, both.open_seqid, both.turn.confirmed, None);
-    count(state, both.number, both.turn.closed, next, bytes)?;
+    let next = next_seqids(op, both.open_seqid, both.seqids.confirmed, None);
+    count(state, both.number, both.seqids.closed, next, bytes)?;
     Ok(())
 }
 
@@ -85,7 +85,7 @@ fn count_both(
     let op = operation::LOCK;
     let bytes = result_bytes(alloc, op, told)?;
     count_open(state, both, bytes)?;
-    let next = next_turn(op, both.lock_seqid, true, None);
+    let next = next_seqids(op, both.lock_seqid, true, None);
     let kept = result_bytes(alloc, op, told)?;
     remember(alloc, state, locker, next, kept)?;
     Ok(())
@@ -374,7 +374,7 @@ fn by_owner(above: &StateidRow, row: &OwnerRow, seqid: u32, had: Option<StateidR
     if !fits_under(above.number, had) {
         return Joined::Bad;
     }
-    match verdict(Some(row.turn), operation::LOCK, seqid) {
+    match verdict(Some(row.seqids), operation::LOCK, seqid) {
         SeqidVerdict::Repeat => Joined::Again(row.number),
         SeqidVerdict::Bad(_) => Joined::Bad,
         SeqidVerdict::New | SeqidVerdict::Next => Joined::Joins(had),
@@ -484,8 +484,8 @@ fn join_of<K: Keeper>(
     let client = client_in(state, core, given.owner.clientid);
     let Some(locker) = locker_under(alloc, above, given.owner.owner, client)? else {
         let (op, status) = (operation::LOCK, NfsStatus::Inval);
-        let (owner, turn, seqid) = (both.number, both.turn, both.open_seqid);
-        let done = fail(alloc, state, current, owner, turn, op, seqid, status)?;
+        let (owner, seqids, seqid) = (both.number, both.seqids, both.open_seqid);
+        let done = fail(alloc, state, current, owner, seqids, op, seqid, status)?;
         return Ok(done);
     };
     let joined = find_joined(state, above, &locker, given.lock_seqid);
@@ -510,14 +510,14 @@ fn join_passed<K: Keeper>(
 ) -> Result<Done, AllocError>
     requires ready { IsReady 4 core.old }
     requires owner { IsSome (find (is_owner both.number) state.old.owners) }
-    ensures done { (n : ℕ) → IfOk result (λ r. MayBe n core.new → carried n core.old state.old current (join_standing core.old state.old current (shown_lock_args args.now) (shown_new_locker given.now) both above.now (standing_fault above.now both.turn given.now.open_stateid.seqid true)) ≡ (r.0, r.1, r.2, state.new, core.new)) }
+    ensures done { (n : ℕ) → IfOk result (λ r. MayBe n core.new → carried n core.old state.old current (join_standing core.old state.old current (shown_lock_args args.now) (shown_new_locker given.now) both above.now (standing_fault above.now both.seqids given.now.open_stateid.seqid true)) ≡ (r.0, r.1, r.2, state.new, core.new)) }
     ensures leaves { OnOk result (Leaves 4 core.old core.new) }
     ensures keeper { keeper.new ≡ keeper.old }
 {
-    if let Some(status) = standing_fault(above, both.turn, given.open_stateid.seqid, true) {
-        let (owner, turn, seqid) = (both.number, both.turn, both.open_seqid);
+    if let Some(status) = standing_fault(above, both.seqids, given.open_stateid.seqid, true) {
+        let (owner, seqids, seqid) = (both.number, both.seqids, both.open_seqid);
         let op = operation::LOCK;
-        let done = fail(alloc, state, current, owner, turn, op, seqid, status)?;
+        let done = fail(alloc, state, current, owner, seqids, op, seqid, status)?;
         return Ok(done);
     }
     let done = join_of(
@@ -550,10 +550,10 @@ fn join_checked<K: Keeper>(
             let done = repeat(alloc, state, core, current, owner)?;
             Ok(done)
         }
-        Checked::Passed(above, number, turn) => {
+        Checked::Passed(above, number, seqids) => {
             let both = BothOwners {
                 number,
-                turn,
+                seqids,
                 open_seqid: given.open_seqid,
                 lock_seqid: given.lock_seqid,
             };

@@ -1,17 +1,12 @@
 //! Byte-range locks of NFS version 4.0 (RFC 7530 16.10 to 16.12, 16.37) over the core.
 #![tactic(auto)]
 
-pub mod advancing;
 mod asks;
 mod checking;
-pub mod counting;
 mod denials;
 mod joining;
-pub mod law;
 mod locking;
 mod locks;
-pub mod numbers;
-pub mod orderly;
 mod ranges;
 mod releasing;
 mod testing;

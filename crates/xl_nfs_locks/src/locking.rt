@@ -21,10 +21,10 @@ use xl_base::Keeper;
 use xl_core::{Answer, Core};
 use xl_nfs::{KnownLocker, LockArgs, LockType, NfsStatus, operation};
 use xl_nfs_opens::{
-    Checked, Done, Opener, Told, advances, asked, count, ended_as, fail, finish, next_turn,
+    Checked, Done, Opener, Told, advances, asked, count, ended_as, fail, finish, next_seqids,
     opener_by, renew_for, repeat, result_bytes, standing_fault, state_client,
 };
-use xl_nfs_state::{Holder, NfsState, StateidRow, Turn};
+use xl_nfs_state::{Holder, NfsState, SeqidState, StateidRow};
 
 /// It was refused; the result is kept where its status counts.
 fn refuse(
@@ -32,19 +32,19 @@ fn refuse(
     state: &mut NfsState,
     current: Option<u32>,
     owner: u64,
-    turn: Turn,
+    seqids: SeqidState,
     seqid: u32,
     told: Told,
 ) -> Result<(Told, Option<u32>), AllocError>
     requires there { IsSome (find (is_owner owner) state.old.owners) }
     requires fits { ToldFits 12 told }
-    ensures { (n : ℕ) (s : CoreState) → IfOk result (λ r. carried n s state.old current (lock_refused state.old current owner turn seqid told) ≡ (r.0, r.1, [], state.new, s)) }
+    ensures { (n : ℕ) (s : CoreState) → IfOk result (λ r. carried n s state.old current (lock_refused state.old current owner seqids seqid told) ≡ (r.0, r.1, [], state.new, s)) }
 {
     let op = operation::LOCK;
     if advances(told.status()) {
         let bytes = result_bytes(alloc, op, &told)?;
-        let next = next_turn(op, seqid, turn.confirmed, None);
-        count(state, owner, turn.closed, next, bytes)?;
+        let next = next_seqids(op, seqid, seqids.confirmed, None);
+        count(state, owner, seqids.closed, next, bytes)?;
     }
     Ok((told, current))
 }
@@ -65,7 +65,7 @@ fn lock_answered(
     current: Option<u32>,
     row: &StateidRow,
     owner: u64,
-    turn: Turn,
+    seqids: SeqidState,
     seqid: u32,
     reclaim: bool,
     answer: Answer,
@@ -73,22 +73,22 @@ fn lock_answered(
     requires owner { IsSome (find (is_owner owner) state.old.owners) }
     requires there { find (is_stateid row.now.number) state.old.stateids ≡ Some row.now }
     requires open { row.now.standing.closed ≡ false }
-    ensures { (n : ℕ) → IfOk result (λ r. carried n core.now state.old current (lock_answered state.old current row.now owner turn seqid reclaim answer core.now) ≡ (r.0, r.1, [], state.new, core.now)) }
+    ensures { (n : ℕ) → IfOk result (λ r. carried n core.now state.old current (lock_answered state.old current row.now owner seqids seqid reclaim answer core.now) ≡ (r.0, r.1, [], state.new, core.now)) }
 {
     if !is_granted(answer) {
         let told = lock_told(alloc, state, core, reclaim, answer)?;
-        let ended = refuse(alloc, state, current, owner, turn, seqid, told)?;
+        let ended = refuse(alloc, state, current, owner, seqids, seqid, told)?;
         return Ok(ended);
     }
     let op = operation::LOCK;
-    let next = next_turn(op, seqid, turn.confirmed, None);
+    let next = next_seqids(op, seqid, seqids.confirmed, None);
     let told = finish(
         alloc,
         state,
         core,
         row,
         owner,
-        turn.closed,
+        seqids.closed,
         op,
         next,
         (0, 0, false),
@@ -106,7 +106,7 @@ fn lock_bytes<K: Keeper>(
     args: &LockArgs,
     row: &StateidRow,
     owner: u64,
-    turn: Turn,
+    seqids: SeqidState,
     seqid: u32,
     last: u64,
     by: &Opener,
@@ -116,7 +116,7 @@ fn lock_bytes<K: Keeper>(
     requires there { find (is_stateid row.now.number) state.old.stateids ≡ Some row.now }
     requires open { row.now.standing.closed ≡ false }
     requires ends { args.now.offset ≤ last }
-    ensures done { (n : ℕ) → IfOk result (λ r. MayBe n core.new → carried n core.old state.old current (lock_by_owner state.old current (shown_lock_args args.now) row.now owner turn seqid last (Some by.now)) ≡ (r.0, r.1, r.2, state.new, core.new)) }
+    ensures done { (n : ℕ) → IfOk result (λ r. MayBe n core.new → carried n core.old state.old current (lock_by_owner state.old current (shown_lock_args args.now) row.now owner seqids seqid last (Some by.now)) ≡ (r.0, r.1, r.2, state.new, core.new)) }
     ensures leaves { OnOk result (Leaves 2 core.old core.new) }
     ensures keeper { keeper.new ≡ keeper.old }
 {
@@ -124,7 +124,7 @@ fn lock_bytes<K: Keeper>(
     let request = lock_ask(alloc, by, row.file, args.kind, reclaim, args.offset, last)?;
     let (said, effects) = asked(alloc, core, keeper, request)?;
     let (told, handle) = lock_answered(
-        alloc, state, core, current, row, owner, turn, seqid, reclaim, said,
+        alloc, state, core, current, row, owner, seqids, seqid, reclaim, said,
     )?;
     Ok((told, handle, effects))
 }
@@ -168,7 +168,7 @@ fn lock_to<K: Keeper>(
     args: &LockArgs,
     row: &StateidRow,
     owner: u64,
-    turn: Turn,
+    seqids: SeqidState,
     seqid: u32,
     access: u32,
 ) -> Result<Done, AllocError>
@@ -176,14 +176,14 @@ fn lock_to<K: Keeper>(
     requires owner { IsSome (find (is_owner owner) state.old.owners) }
     requires there { find (is_stateid row.now.number) state.old.stateids ≡ Some row.now }
     requires open { row.now.standing.closed ≡ false }
-    ensures done { (n : ℕ) → IfOk result (λ r. MayBe n core.new → carried n core.old state.old current (lock_to state.old current (shown_lock_args args.now) row.now owner turn seqid (lock_end args.now.kind access (last_byte args.now.offset args.now.len))) ≡ (r.0, r.1, r.2, state.new, core.new)) }
+    ensures done { (n : ℕ) → IfOk result (λ r. MayBe n core.new → carried n core.old state.old current (lock_to state.old current (shown_lock_args args.now) row.now owner seqids seqid (lock_end args.now.kind access (last_byte args.now.offset args.now.len))) ≡ (r.0, r.1, r.2, state.new, core.new)) }
     ensures leaves { OnOk result (Leaves 2 core.old core.new) }
     ensures keeper { keeper.new ≡ keeper.old }
 {
     match lock_end(args.kind, access, args.offset, args.len) {
         Err(status) => {
             let op = operation::LOCK;
-            let done = fail(alloc, state, current, owner, turn, op, seqid, status)?;
+            let done = fail(alloc, state, current, owner, seqids, op, seqid, status)?;
             Ok(done)
         }
         Ok(last) => {
@@ -191,7 +191,7 @@ fn lock_to<K: Keeper>(
                 return Ok(ended_as(alloc, NfsStatus::ServerFault, current));
             };
             let granted = lock_bytes(
-                alloc, state, core, keeper, current, args, row, owner, turn, seqid, last, &by,
+                alloc, state, core, keeper, current, args, row, owner, seqids, seqid, last, &by,
             )?;
             Ok(granted)
         }
@@ -210,25 +210,25 @@ fn lock_passed<K: Keeper>(
     known: &KnownLocker,
     row: &StateidRow,
     owner: u64,
-    turn: Turn,
+    seqids: SeqidState,
 ) -> Result<Done, AllocError>
     requires ready { IsReady 2 core.old }
     requires owner { IsSome (find (is_owner owner) state.old.owners) }
     requires there { find (is_stateid row.now.number) state.old.stateids ≡ Some row.now }
     requires open { row.now.standing.closed ≡ false }
-    ensures done { (n : ℕ) → IfOk result (λ r. MayBe n core.new → carried n core.old state.old current (lock_standing state.old current (shown_lock_args args.now) row.now owner turn known.now.seqid (standing_fault row.now turn known.now.stateid.seqid true)) ≡ (r.0, r.1, r.2, state.new, core.new)) }
+    ensures done { (n : ℕ) → IfOk result (λ r. MayBe n core.new → carried n core.old state.old current (lock_standing state.old current (shown_lock_args args.now) row.now owner seqids known.now.seqid (standing_fault row.now seqids known.now.stateid.seqid true)) ≡ (r.0, r.1, r.2, state.new, core.new)) }
     ensures leaves { OnOk result (Leaves 2 core.old core.new) }
     ensures keeper { keeper.new ≡ keeper.old }
 {
     let seqid = known.seqid;
-    if let Some(status) = standing_fault(row, turn, known.stateid.seqid, true) {
+    if let Some(status) = standing_fault(row, seqids, known.stateid.seqid, true) {
         let op = operation::LOCK;
-        let done = fail(alloc, state, current, owner, turn, op, seqid, status)?;
+        let done = fail(alloc, state, current, owner, seqids, op, seqid, status)?;
         return Ok(done);
     }
     let access = access_above(state, row.holder);
     let done = lock_to(
-        alloc, state, core, keeper, current, args, row, owner, turn, seqid, access,
+        alloc, state, core, keeper, current, args, row, owner, seqids, seqid, access,
     )?;
     Ok(done)
 }
@@ -257,8 +257,8 @@ fn lock_found<K: Keeper>(
             let done = repeat(alloc, state, core, current, owner)?;
             Ok(done)
         }
-        Checked::Passed(row, owner, turn) => lock_passed(
-            alloc, state, core, keeper, current, args, known, &row, owner, turn,
+        Checked::Passed(row, owner, seqids) => lock_passed(
+            alloc, state, core, keeper, current, args, known, &row, owner, seqids,
         ),
     }
 }

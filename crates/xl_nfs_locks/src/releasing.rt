@@ -8,10 +8,10 @@ ghost use Rattle.xl_nfs_opens.specs.Short.{IsReady, Leaves};
 
 use std::alloc::{AllocError, Global};
 use xl_base::{Owner, Protocol, Sequence};
-use xl_core::Core;
+use xl_core::{Core, number_in};
 use xl_names::Name;
 use xl_nfs::{NfsStatus, Owner as LockOwner};
-use xl_nfs_opens::{Done, client_in, ended_as, number_in, renew_for};
+use xl_nfs_opens::{Done, client_in, ended_as, renew_for};
 use xl_nfs_state::{NfsState, OwnerKind, OwnerNamed};
 
 fn holds_by(core: &Core, number: Option<u32>) -> bool

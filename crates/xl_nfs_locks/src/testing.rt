@@ -12,9 +12,9 @@ use crate::denials::lock_told;
 use crate::ranges::last_byte;
 use std::alloc::{AllocError, Global};
 use xl_base::{Keeper, Sequence};
-use xl_core::{Answer, Core};
+use xl_core::{Answer, Core, number_in};
 use xl_nfs::{LockTestArgs, NfsStatus};
-use xl_nfs_opens::{Done, Opener, Told, asked, client_in, ended_as, number_in, renew_for};
+use xl_nfs_opens::{Done, Opener, Told, asked, client_in, ended_as, renew_for};
 use xl_nfs_state::{ClientRow, NfsState, OwnerKind};
 
 /// A lock owner of this client.

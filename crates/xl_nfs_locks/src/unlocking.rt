@@ -17,10 +17,10 @@ use xl_base::Keeper;
 use xl_core::{Answer, Core};
 use xl_nfs::{NfsStatus, UnlockArgs, operation};
 use xl_nfs_opens::{
-    Checked, Done, Opener, Told, answer_status, asked, ended_as, fail, finish, next_turn,
+    Checked, Done, Opener, Told, answer_status, asked, ended_as, fail, finish, next_seqids,
     opener_by, renew_for, repeat, standing_fault, state_client, unlock_ask,
 };
-use xl_nfs_state::{NfsState, StateidRow, Turn};
+use xl_nfs_state::{NfsState, SeqidState, StateidRow};
 
 /// How the core's answer is told: bytes that aren't held are unlocked already.
 fn unlock_status(answer: Answer) -> NfsStatus
@@ -49,27 +49,27 @@ fn unlocked_as(
     args: &UnlockArgs,
     row: &StateidRow,
     owner: u64,
-    turn: Turn,
+    seqids: SeqidState,
     status: NfsStatus,
 ) -> Result<(Told, Option<u32>), AllocError>
     requires owner { IsSome (find (is_owner owner) state.old.owners) }
     requires there { find (is_stateid row.now.number) state.old.stateids ≡ Some row.now }
     requires open { row.now.standing.closed ≡ false }
-    ensures { (n : ℕ) → IfOk result (λ r. carried n core.now state.old current (unlocked_as core.now state.old current args.now row.now owner turn status) ≡ (r.0, r.1, [], state.new, core.now)) }
+    ensures { (n : ℕ) → IfOk result (λ r. carried n core.now state.old current (unlocked_as core.now state.old current args.now row.now owner seqids status) ≡ (r.0, r.1, [], state.new, core.now)) }
 {
     let op = operation::LOCKU;
     if !is_ok(status) {
-        let done = fail(alloc, state, current, owner, turn, op, args.seqid, status)?;
+        let done = fail(alloc, state, current, owner, seqids, op, args.seqid, status)?;
         return Ok((done.0, done.1));
     }
-    let next = next_turn(op, args.seqid, turn.confirmed, None);
+    let next = next_seqids(op, args.seqid, seqids.confirmed, None);
     let told = finish(
         alloc,
         state,
         core,
         row,
         owner,
-        turn.closed,
+        seqids.closed,
         op,
         next,
         (0, 0, false),
@@ -87,7 +87,7 @@ fn unlock_bytes<K: Keeper>(
     args: &UnlockArgs,
     row: &StateidRow,
     owner: u64,
-    turn: Turn,
+    seqids: SeqidState,
     last: u64,
     by: &Opener,
 ) -> Result<Done, AllocError>
@@ -96,14 +96,16 @@ fn unlock_bytes<K: Keeper>(
     requires there { find (is_stateid row.now.number) state.old.stateids ≡ Some row.now }
     requires open { row.now.standing.closed ≡ false }
     requires ends { args.now.offset ≤ last }
-    ensures done { (n : ℕ) → IfOk result (λ r. MayBe n core.new → carried n core.old state.old current (unlock_by_owner state.old current args.now row.now owner turn last (Some by.now)) ≡ (r.0, r.1, r.2, state.new, core.new)) }
+    ensures done { (n : ℕ) → IfOk result (λ r. MayBe n core.new → carried n core.old state.old current (unlock_by_owner state.old current args.now row.now owner seqids last (Some by.now)) ≡ (r.0, r.1, r.2, state.new, core.new)) }
     ensures leaves { OnOk result (Leaves 2 core.old core.new) }
     ensures keeper { keeper.new ≡ keeper.old }
 {
     let request = unlock_ask(alloc, by, row.file, args.offset, last)?;
     let (said, effects) = asked(alloc, core, keeper, request)?;
     let status = unlock_status(said);
-    let (told, handle) = unlocked_as(alloc, state, core, current, args, row, owner, turn, status)?;
+    let (told, handle) = unlocked_as(
+        alloc, state, core, current, args, row, owner, seqids, status,
+    )?;
     Ok((told, handle, effects))
 }
 
@@ -118,27 +120,27 @@ fn unlock_to<K: Keeper>(
     args: &UnlockArgs,
     row: &StateidRow,
     owner: u64,
-    turn: Turn,
+    seqids: SeqidState,
 ) -> Result<Done, AllocError>
     requires ready { IsReady 2 core.old }
     requires owner { IsSome (find (is_owner owner) state.old.owners) }
     requires there { find (is_stateid row.now.number) state.old.stateids ≡ Some row.now }
     requires open { row.now.standing.closed ≡ false }
-    ensures done { (n : ℕ) → IfOk result (λ r. MayBe n core.new → carried n core.old state.old current (unlock_to state.old current args.now row.now owner turn (last_byte args.now.offset args.now.len)) ≡ (r.0, r.1, r.2, state.new, core.new)) }
+    ensures done { (n : ℕ) → IfOk result (λ r. MayBe n core.new → carried n core.old state.old current (unlock_to state.old current args.now row.now owner seqids (last_byte args.now.offset args.now.len)) ≡ (r.0, r.1, r.2, state.new, core.new)) }
     ensures leaves { OnOk result (Leaves 2 core.old core.new) }
     ensures keeper { keeper.new ≡ keeper.old }
 {
     let Some(last) = last_byte(args.offset, args.len) else {
         let op = operation::LOCKU;
         let status = NfsStatus::Inval;
-        let done = fail(alloc, state, current, owner, turn, op, args.seqid, status)?;
+        let done = fail(alloc, state, current, owner, seqids, op, args.seqid, status)?;
         return Ok(done);
     };
     let Some(by) = opener_by(alloc, state, row.client, owner)? else {
         return Ok(ended_as(alloc, NfsStatus::ServerFault, current));
     };
     let done = unlock_bytes(
-        alloc, state, core, keeper, current, args, row, owner, turn, last, &by,
+        alloc, state, core, keeper, current, args, row, owner, seqids, last, &by,
     )?;
     Ok(done)
 }
@@ -154,22 +156,24 @@ fn unlock_passed<K: Keeper>(
     args: &UnlockArgs,
     row: &StateidRow,
     owner: u64,
-    turn: Turn,
+    seqids: SeqidState,
 ) -> Result<Done, AllocError>
     requires ready { IsReady 2 core.old }
     requires owner { IsSome (find (is_owner owner) state.old.owners) }
     requires there { find (is_stateid row.now.number) state.old.stateids ≡ Some row.now }
     requires open { row.now.standing.closed ≡ false }
-    ensures done { (n : ℕ) → IfOk result (λ r. MayBe n core.new → carried n core.old state.old current (unlock_standing state.old current args.now row.now owner turn (standing_fault row.now turn args.now.stateid.seqid true)) ≡ (r.0, r.1, r.2, state.new, core.new)) }
+    ensures done { (n : ℕ) → IfOk result (λ r. MayBe n core.new → carried n core.old state.old current (unlock_standing state.old current args.now row.now owner seqids (standing_fault row.now seqids args.now.stateid.seqid true)) ≡ (r.0, r.1, r.2, state.new, core.new)) }
     ensures leaves { OnOk result (Leaves 2 core.old core.new) }
     ensures keeper { keeper.new ≡ keeper.old }
 {
-    if let Some(status) = standing_fault(row, turn, args.stateid.seqid, true) {
+    if let Some(status) = standing_fault(row, seqids, args.stateid.seqid, true) {
         let op = operation::LOCKU;
-        let done = fail(alloc, state, current, owner, turn, op, args.seqid, status)?;
+        let done = fail(alloc, state, current, owner, seqids, op, args.seqid, status)?;
         return Ok(done);
     }
-    let done = unlock_to(alloc, state, core, keeper, current, args, row, owner, turn)?;
+    let done = unlock_to(
+        alloc, state, core, keeper, current, args, row, owner, seqids,
+    )?;
     Ok(done)
 }
 
@@ -196,8 +200,8 @@ fn unlock_found<K: Keeper>(
             let done = repeat(alloc, state, core, current, owner)?;
             Ok(done)
         }
-        Checked::Passed(row, owner, turn) => unlock_passed(
-            alloc, state, core, keeper, current, args, &row, owner, turn,
+        Checked::Passed(row, owner, seqids) => unlock_passed(
+            alloc, state, core, keeper, current, args, &row, owner, seqids,
         ),
     }
 }

@@ -9,7 +9,7 @@ use Rattle.xl_nfs.specs.declared.status.NfsStatus.TheVariants as statuses
 use Rattle.xl_nfs_state.specs.State.{NfsLists, is_owner, is_stateid}
 use Rattle.xl_nfs_state.specs.Verdict.{verdict}
 use Rattle.xl_nfs_state.specs.declared.owner.OwnerRow.{OwnerRow}
-use Rattle.xl_nfs_state.specs.declared.owner.Turn.{Turn}
+use Rattle.xl_nfs_state.specs.declared.owner.SeqidState.{SeqidState}
 use Rattle.xl_nfs_state.specs.declared.seqid.SeqidVerdict.{SeqidVerdict}
 use Rattle.xl_nfs_state.specs.declared.seqid.SeqidVerdict.TheVariants as verdicts
 use Rattle.xl_nfs_state.specs.declared.stateid.Holder.{Holder}
@@ -22,19 +22,19 @@ use Rattle.xl_nfs_opens.specs.declared.opener.Checked.{Checked}
 use Rattle.xl_nfs_opens.specs.declared.opener.Checked.TheVariants.{Refused, Passed}
 use Rattle.xl_nfs_opens.proofs.OwnerLaws.{same_number}
 
-next_there : (l : NfsLists) (r : StateidRow) (owner : ℕ) (turn : Turn) (b : Bool) → r.standing.closed ≡ b → find (is_stateid r.number) l.stateids ≡ Some r → IsSome (find (is_owner owner) l.owners) → IsChecked l (if b then Refused statuses.BadStateid else Passed r owner turn)
-next_there l r owner turn true e found there = tt
-next_there l r owner turn false e found there = (found, (there, e))
+next_there : (l : NfsLists) (r : StateidRow) (owner : ℕ) (seqids : SeqidState) (b : Bool) → r.standing.closed ≡ b → find (is_stateid r.number) l.stateids ≡ Some r → IsSome (find (is_owner owner) l.owners) → IsChecked l (if b then Refused statuses.BadStateid else Passed r owner seqids)
+next_there l r owner seqids true e found there = tt
+next_there l r owner seqids false e found there = (found, (there, e))
 
-seqid_there : (l : NfsLists) (r : StateidRow) (owner : ℕ) (turn : Turn) (v : SeqidVerdict) → find (is_stateid r.number) l.stateids ≡ Some r → IsSome (find (is_owner owner) l.owners) → IsChecked l (seqid_checked r owner turn v)
-seqid_there l r owner turn verdicts.Repeat found there = tt
-seqid_there l r owner turn verdicts.Next found there = next_there l r owner turn r.standing.closed refl found there
-seqid_there l r owner turn verdicts.New found there = tt
-seqid_there l r owner turn (verdicts.Bad last) found there = tt
+seqid_there : (l : NfsLists) (r : StateidRow) (owner : ℕ) (seqids : SeqidState) (v : SeqidVerdict) → find (is_stateid r.number) l.stateids ≡ Some r → IsSome (find (is_owner owner) l.owners) → IsChecked l (seqid_checked r owner seqids v)
+seqid_there l r owner seqids verdicts.Repeat found there = tt
+seqid_there l r owner seqids verdicts.Next found there = next_there l r owner seqids r.standing.closed refl found there
+seqid_there l r owner seqids verdicts.New found there = tt
+seqid_there l r owner seqids (verdicts.Bad last) found there = tt
 
 pub owner_there : (l : NfsLists) (r : StateidRow) (op seqid owner : ℕ) (o : Option OwnerRow) → find (is_stateid r.number) l.stateids ≡ Some r → find (is_owner owner) l.owners ≡ o → IsChecked l (owner_checked r op seqid owner o)
 owner_there l r op seqid owner None found e = tt
-owner_there l r op seqid owner (Some o) found e = seqid_there l r owner o.turn (verdict (Some o.turn) op seqid) found (ap is_some e)
+owner_there l r op seqid owner (Some o) found e = seqid_there l r owner o.seqids (verdict (Some o.seqids) op seqid) found (ap is_some e)
 
 holder_there : (l : NfsLists) (r : StateidRow) (op seqid : ℕ) (h : Holder) → find (is_stateid r.number) l.stateids ≡ Some r → IsChecked l (holder_checked l r op seqid h)
 holder_there l r op seqid (holders.Open owner) found = owner_there l r op seqid owner (find (is_owner owner) l.owners) found refl

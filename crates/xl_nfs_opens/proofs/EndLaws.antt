@@ -28,7 +28,7 @@ use Rattle.xl_nfs_state.specs.Verdict.{verdict}
 use Rattle.xl_nfs_state.specs.declared.client.ClientRow.{ClientRow}
 use Rattle.xl_nfs_state.specs.declared.kept.KeptRow.{KeptRow}
 use Rattle.xl_nfs_state.specs.declared.owner.OwnerRow.{OwnerRow}
-use Rattle.xl_nfs_state.specs.declared.owner.Turn.{Turn}
+use Rattle.xl_nfs_state.specs.declared.owner.SeqidState.{SeqidState}
 use Rattle.xl_nfs_state.specs.declared.seqid.SeqidVerdict.{SeqidVerdict}
 use Rattle.xl_nfs_state.specs.declared.seqid.SeqidVerdict.TheVariants as verdicts
 use Rattle.xl_nfs_state.specs.declared.stateid.Holder.{Holder}
@@ -235,19 +235,19 @@ closed_fault : (b : Bool) → IsFault (if b then statuses.BadStateid else status
 closed_fault true = fault statuses.BadStateid refl refl
 closed_fault false = fault statuses.BadSeqid refl refl
 
-seqid_fault : (r : StateidRow) (owner : ℕ) (turn : Turn) (v : SeqidVerdict) → Refuses (seqid_checked r owner turn v)
-seqid_fault r owner turn verdicts.Repeat = tt
-seqid_fault r owner turn verdicts.Next =
+seqid_fault : (r : StateidRow) (owner : ℕ) (seqids : SeqidState) (v : SeqidVerdict) → Refuses (seqid_checked r owner seqids v)
+seqid_fault r owner seqids verdicts.Repeat = tt
+seqid_fault r owner seqids verdicts.Next =
     elim (cases_Bool r.standing.closed) [
       | inl e ↦ rw e (fault statuses.BadStateid refl refl)
       | inr e ↦ rw e tt
     ]
-seqid_fault r owner turn verdicts.New = closed_fault r.standing.closed
-seqid_fault r owner turn (verdicts.Bad last) = closed_fault r.standing.closed
+seqid_fault r owner seqids verdicts.New = closed_fault r.standing.closed
+seqid_fault r owner seqids (verdicts.Bad last) = closed_fault r.standing.closed
 
 pub owner_fault : (r : StateidRow) (op seqid owner : ℕ) (o : Option OwnerRow) → Refuses (owner_checked r op seqid owner o)
 owner_fault r op seqid owner None = fault statuses.BadStateid refl refl
-owner_fault r op seqid owner (Some o) = seqid_fault r owner o.turn (verdict (Some o.turn) op seqid)
+owner_fault r op seqid owner (Some o) = seqid_fault r owner o.seqids (verdict (Some o.seqids) op seqid)
 
 holder_fault : (l : NfsLists) (r : StateidRow) (op seqid : ℕ) (h : Holder) → Refuses (holder_checked l r op seqid h)
 holder_fault l r op seqid (holders.Open owner) = owner_fault r op seqid owner (find (is_owner owner) l.owners)
@@ -271,28 +271,28 @@ unfolding checked
 checked_fault s l None op seqid stateid = fault statuses.NoFileHandle refl refl
 checked_fault s l (Some at) op seqid stateid = number_fault l at op seqid (number_of s stateid.other)
 
-pub standing_is_fault : (r : StateidRow) (turn : Turn) (seqid : ℕ) (confirmed : Bool) → IfFault (standing_fault r turn seqid confirmed)
+pub standing_is_fault : (r : StateidRow) (seqids : SeqidState) (seqid : ℕ) (confirmed : Bool) → IfFault (standing_fault r seqids seqid confirmed)
 unfolding standing_fault
-standing_is_fault r turn seqid confirmed =
+standing_is_fault r seqids seqid confirmed =
     elim (cases_Bool (nat_lt seqid r.standing.seqid)) [
       | inl e ↦ rw e (fault statuses.OldStateid refl refl)
       | inr e ↦ rw e (elim (cases_Bool (nat_lt r.standing.seqid seqid)) [
         | inl d ↦ rw d (fault statuses.BadStateid refl refl)
-        | inr d ↦ rw d (elim (cases_Bool (beq turn.confirmed confirmed)) [
+        | inr d ↦ rw d (elim (cases_Bool (beq seqids.confirmed confirmed)) [
           | inl b ↦ rw b tt
           | inr b ↦ rw b (fault statuses.BadStateid refl refl)
         ])
       ])
     ]
 
-confirm_done_ends : (s : CoreState) (l : NfsLists) (current : Option ℕ) (a : OpenConfirmArgs) (r : StateidRow) (owner : ℕ) (turn : Turn) (o : Option NfsStatus) → IfFault o → Ends 20 current (confirm_done s l current a r owner turn o)
-confirm_done_ends s l current a r owner turn None f = (tt, λ _. refl)
-confirm_done_ends s l current a r owner turn (Some status) f = ended 20 (omega arith) current status f
+confirm_done_ends : (s : CoreState) (l : NfsLists) (current : Option ℕ) (a : OpenConfirmArgs) (r : StateidRow) (owner : ℕ) (seqids : SeqidState) (o : Option NfsStatus) → IfFault o → Ends 20 current (confirm_done s l current a r owner seqids o)
+confirm_done_ends s l current a r owner seqids None f = (tt, λ _. refl)
+confirm_done_ends s l current a r owner seqids (Some status) f = ended 20 (omega arith) current status f
 
 confirm_by_ends : (s : CoreState) (l : NfsLists) (current : Option ℕ) (a : OpenConfirmArgs) (c : Checked) → Refuses c → Ends 20 current (confirm_by s l current a c)
 confirm_by_ends s l current a (Refused status) f = ended 20 (omega arith) current status f
 confirm_by_ends s l current a (Repeated owner) f = repeat_ends 20 (omega arith) s l current (find (is_kept owner) l.kept)
-confirm_by_ends s l current a (Passed r owner turn) f = confirm_done_ends s l current a r owner turn (standing_fault r turn a.stateid.seqid false) (standing_is_fault r turn a.stateid.seqid false)
+confirm_by_ends s l current a (Passed r owner seqids) f = confirm_done_ends s l current a r owner seqids (standing_fault r seqids a.stateid.seqid false) (standing_is_fault r seqids a.stateid.seqid false)
 
 pub confirm_ends : (s : CoreState) (l : NfsLists) (current : Option ℕ) (a : OpenConfirmArgs) → Ends 20 current (open_confirm s l current a)
 unfolding open_confirm
@@ -309,31 +309,31 @@ first_is_fault : (o later : Option NfsStatus) → IfFault o → IfFault later �
 first_is_fault None later f g = g
 first_is_fault (Some status) later f g = f
 
-downgrade_is_fault : (r : StateidRow) (turn : Turn) (a : OpenDowngradeArgs) → IfFault (downgrade_fault r turn a)
+downgrade_is_fault : (r : StateidRow) (seqids : SeqidState) (a : OpenDowngradeArgs) → IfFault (downgrade_fault r seqids a)
 unfolding downgrade_fault
-downgrade_is_fault r turn a = first_is_fault (standing_fault r turn a.stateid.seqid true) (range_fault r a) (standing_is_fault r turn a.stateid.seqid true) (range_is_fault r a)
+downgrade_is_fault r seqids a = first_is_fault (standing_fault r seqids a.stateid.seqid true) (range_fault r a) (standing_is_fault r seqids a.stateid.seqid true) (range_is_fault r a)
 
-downgrade_done_ends : (s : CoreState) (l : NfsLists) (current : Option ℕ) (a : OpenDowngradeArgs) (r : StateidRow) (owner : ℕ) (turn : Turn) (o : Option NfsStatus) → IfFault o → Ends 21 current (downgrade_done s l current a r owner turn o)
-downgrade_done_ends s l current a r owner turn None f = (tt, λ _. refl)
-downgrade_done_ends s l current a r owner turn (Some status) f = ended 21 (omega arith) current status f
+downgrade_done_ends : (s : CoreState) (l : NfsLists) (current : Option ℕ) (a : OpenDowngradeArgs) (r : StateidRow) (owner : ℕ) (seqids : SeqidState) (o : Option NfsStatus) → IfFault o → Ends 21 current (downgrade_done s l current a r owner seqids o)
+downgrade_done_ends s l current a r owner seqids None f = (tt, λ _. refl)
+downgrade_done_ends s l current a r owner seqids (Some status) f = ended 21 (omega arith) current status f
 
 downgrade_by_ends : (s : CoreState) (l : NfsLists) (current : Option ℕ) (a : OpenDowngradeArgs) (c : Checked) → Refuses c → Ends 21 current (downgrade_by s l current a c)
 downgrade_by_ends s l current a (Refused status) f = ended 21 (omega arith) current status f
 downgrade_by_ends s l current a (Repeated owner) f = repeat_ends 21 (omega arith) s l current (find (is_kept owner) l.kept)
-downgrade_by_ends s l current a (Passed r owner turn) f = downgrade_done_ends s l current a r owner turn (downgrade_fault r turn a) (downgrade_is_fault r turn a)
+downgrade_by_ends s l current a (Passed r owner seqids) f = downgrade_done_ends s l current a r owner seqids (downgrade_fault r seqids a) (downgrade_is_fault r seqids a)
 
 pub downgrade_ends : (s : CoreState) (l : NfsLists) (current : Option ℕ) (a : OpenDowngradeArgs) → Ends 21 current (open_downgrade s l current a)
 unfolding open_downgrade
 downgrade_ends s l current a = λ t. (let m = renewed_for s l (state_client s l a.stateid) in downgrade_by_ends t m current a (checked t m current 21 a.seqid a.stateid) (checked_fault t m current 21 a.seqid a.stateid))
 
-close_done_ends : (s : CoreState) (l : NfsLists) (current : Option ℕ) (a : CloseArgs) (r : StateidRow) (owner : ℕ) (turn : Turn) (o : Option NfsStatus) → IfFault o → Ends 4 current (close_done s l current a r owner turn o)
-close_done_ends s l current a r owner turn None f = λ t. (tt, λ _. refl)
-close_done_ends s l current a r owner turn (Some status) f = ended 4 (omega arith) current status f
+close_done_ends : (s : CoreState) (l : NfsLists) (current : Option ℕ) (a : CloseArgs) (r : StateidRow) (owner : ℕ) (seqids : SeqidState) (o : Option NfsStatus) → IfFault o → Ends 4 current (close_done s l current a r owner seqids o)
+close_done_ends s l current a r owner seqids None f = λ t. (tt, λ _. refl)
+close_done_ends s l current a r owner seqids (Some status) f = ended 4 (omega arith) current status f
 
 close_by_ends : (s : CoreState) (l : NfsLists) (current : Option ℕ) (a : CloseArgs) (c : Checked) → Refuses c → Ends 4 current (close_by s l current a c)
 close_by_ends s l current a (Refused status) f = ended 4 (omega arith) current status f
 close_by_ends s l current a (Repeated owner) f = repeat_ends 4 (omega arith) s l current (find (is_kept owner) l.kept)
-close_by_ends s l current a (Passed r owner turn) f = close_done_ends s l current a r owner turn (standing_fault r turn a.stateid.seqid true) (standing_is_fault r turn a.stateid.seqid true)
+close_by_ends s l current a (Passed r owner seqids) f = close_done_ends s l current a r owner seqids (standing_fault r seqids a.stateid.seqid true) (standing_is_fault r seqids a.stateid.seqid true)
 
 pub close_ends : (s : CoreState) (l : NfsLists) (current : Option ℕ) (a : CloseArgs) → Ends 4 current (close s l current a)
 unfolding close

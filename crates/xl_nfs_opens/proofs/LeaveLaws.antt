@@ -21,11 +21,11 @@ use Rattle.xl_names.specs.Names.{protocol_of, entered, is_kept}
 use Rattle.xl_names.specs.declared.name.Name.{Name}
 use Rattle.xl_matrix.specs.declared.claim.Claim.{Claim}
 use Rattle.xl_wait.specs.declared.waiter.Rooms.{Rooms}
-use Rattle.xl_core.specs.Asking.{who_entered, both_entered, IsFit}
+use Rattle.xl_core.specs.Askers.{who_entered, both_entered, IsFit}
 use Rattle.xl_core.specs.Decide.{ask}
 use Rattle.xl_base.specs.Limits.{numbers_left}
 use Rattle.xl_table.specs.Held.{is_cache}
-use Rattle.xl_core.specs.Begin.{is_recalled}
+use Rattle.xl_core.specs.BreaksBegun.{is_recalled}
 use Rattle.xl_core.specs.Good.{caches_of}
 use Rattle.xl_core.specs.Numbers.{may_be_broken, may_be_recalled, delegations_left, numbers_of}
 use Rattle.xl_core.specs.Frames.{IsFrame, asks_to_hold, names_after}

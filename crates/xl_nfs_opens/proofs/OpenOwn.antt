@@ -32,7 +32,7 @@ use Rattle.xl_nfs_state.specs.Verdict.{verdict}
 use Rattle.xl_nfs_state.specs.declared.client.ClientRow.{ClientRow}
 use Rattle.xl_nfs_state.specs.declared.kept.KeptRow.{KeptRow}
 use Rattle.xl_nfs_state.specs.declared.owner.OwnerRow.{OwnerRow}
-use Rattle.xl_nfs_state.specs.declared.owner.Turn.{Turn}
+use Rattle.xl_nfs_state.specs.declared.owner.SeqidState.{SeqidState}
 use Rattle.xl_nfs_state.specs.declared.seqid.SeqidVerdict.{SeqidVerdict}
 use Rattle.xl_nfs_state.specs.declared.seqid.SeqidVerdict.TheVariants as verdicts
 use Rattle.xl_nfs_state.specs.declared.stateid.Holder.{Holder}
@@ -45,7 +45,7 @@ use Rattle.xl_table.specs.Relock.{is_share_of}
 use Rattle.xl_core.proofs.DeedClients.{party_of_owner}
 use Rattle.xl_core.proofs.DeedLeaves.{share_given, found_in}
 use Rattle.xl_core.proofs.DeedLists.{deeds_good, fit_append}
-use Rattle.xl_core.specs.Asking.{IsFit, party_named}
+use Rattle.xl_core.specs.Askers.{IsFit, party_named}
 use Rattle.xl_core.specs.Settle.{share_has}
 use Rattle.xl_base.specs.Lists.{IsIn}
 use Rattle.xl_matrix.specs.declared.claim.Rwd.{Rwd}
@@ -57,7 +57,8 @@ use Rattle.xl_core.specs.Good.{are_kept, IsHeld, IsGood}
 use Rattle.xl_core.specs.State.{CoreState}
 use Rattle.xl_core.specs.Ticks.{renew}
 use Rattle.xl_core.specs.declared.ask.Answer.{Answer}
-use Rattle.xl_nfs_opens.specs.Leases.{number_in, lease_end}
+use Rattle.xl_core.specs.Ids.{number_in}
+use Rattle.xl_nfs_opens.specs.Leases.{lease_end}
 use Rattle.xl_nfs_opens.specs.Closing.{seqid_checked, owner_checked, holder_checked, row_checked, number_checked, checked, standing_fault, confirm_done, confirm_by, open_confirm, opener_named, opener_by, share_by_opener, share_of_open, Returning, seqid_returned, holder_returned, row_returned, number_returned, returned, cache_of_client, cache_of, return_done, deleg_return}
 use Rattle.xl_nfs_opens.specs.Downgrades.{downgrade_fault, downgrade_done, downgrade_by, open_downgrade, weakens}
 use Rattle.xl_nfs_opens.specs.Opens.{rights_of, share_by, share_held, gives, given_up, gives_all, share_ask, all_rooms, repeated, reclaims, open_held, has_room, granted_wish, wish_of, cache_by, cache_held, granted_by, is_granted, answered, open_on, open_by, open_as, open_judged, opener_of, open_of, client_in, open_at, claim_client, open_claimed, open_file, judged, opened_file}
@@ -285,29 +286,29 @@ open_own n files others s l current a good =
 
 -- ---- what names an open
 
-row_client : (x r : StateidRow) (owner w : ℕ) (turn v : Turn) → Passed x owner turn ≡ Passed r w v → x ≡ r
-row_client x r owner w turn v e = cc
+row_client : (x r : StateidRow) (owner w : ℕ) (seqids v : SeqidState) → Passed x owner seqids ≡ Passed r w v → x ≡ r
+row_client x r owner w seqids v e = cc
 
-pub next_client : (x r : StateidRow) (owner w : ℕ) (turn t : Turn) (b : Bool) → (if b then Refused statuses.BadStateid else Passed x owner turn) ≡ Passed r w t → (if b then None else Some x.client) ≡ Some r.client
-next_client x r owner w turn t true e = absurd cc
-next_client x r owner w turn t false e = ap (λ (y : StateidRow). Some y.client) (row_client x r owner w turn t e)
+pub next_client : (x r : StateidRow) (owner w : ℕ) (seqids t : SeqidState) (b : Bool) → (if b then Refused statuses.BadStateid else Passed x owner seqids) ≡ Passed r w t → (if b then None else Some x.client) ≡ Some r.client
+next_client x r owner w seqids t true e = absurd cc
+next_client x r owner w seqids t false e = ap (λ (y : StateidRow). Some y.client) (row_client x r owner w seqids t e)
 
-seqid_client : (x r : StateidRow) (owner w : ℕ) (turn t : Turn) (v : SeqidVerdict) → seqid_checked x owner turn v ≡ Passed r w t → client_if_live (Some x) ≡ Some r.client
-seqid_client x r owner w turn t verdicts.Repeat e = absurd cc
-seqid_client x r owner w turn t verdicts.Next e = next_client x r owner w turn t x.standing.closed e
-seqid_client x r owner w turn t verdicts.New e = absurd cc
-seqid_client x r owner w turn t (verdicts.Bad last) e = absurd cc
+seqid_client : (x r : StateidRow) (owner w : ℕ) (seqids t : SeqidState) (v : SeqidVerdict) → seqid_checked x owner seqids v ≡ Passed r w t → client_if_live (Some x) ≡ Some r.client
+seqid_client x r owner w seqids t verdicts.Repeat e = absurd cc
+seqid_client x r owner w seqids t verdicts.Next e = next_client x r owner w seqids t x.standing.closed e
+seqid_client x r owner w seqids t verdicts.New e = absurd cc
+seqid_client x r owner w seqids t (verdicts.Bad last) e = absurd cc
 
-pub owner_client : (x r : StateidRow) (op seqid owner w : ℕ) (t : Turn) (o : Option OwnerRow) → owner_checked x op seqid owner o ≡ Passed r w t → client_if_live (Some x) ≡ Some r.client
+pub owner_client : (x r : StateidRow) (op seqid owner w : ℕ) (t : SeqidState) (o : Option OwnerRow) → owner_checked x op seqid owner o ≡ Passed r w t → client_if_live (Some x) ≡ Some r.client
 owner_client x r op seqid owner w t None e = absurd cc
-owner_client x r op seqid owner w t (Some o) e = seqid_client x r owner w o.turn t (verdict (Some o.turn) op seqid) e
+owner_client x r op seqid owner w t (Some o) e = seqid_client x r owner w o.seqids t (verdict (Some o.seqids) op seqid) e
 
-holder_client : (l : NfsLists) (x r : StateidRow) (op seqid w : ℕ) (t : Turn) (h : Holder) → holder_checked l x op seqid h ≡ Passed r w t → client_if_live (Some x) ≡ Some r.client
+holder_client : (l : NfsLists) (x r : StateidRow) (op seqid w : ℕ) (t : SeqidState) (h : Holder) → holder_checked l x op seqid h ≡ Passed r w t → client_if_live (Some x) ≡ Some r.client
 holder_client l x r op seqid w t (holders.Open owner) e = owner_client x r op seqid owner w t (find (is_owner owner) l.owners) e
 holder_client l x r op seqid w t (holders.Lock owner under opener) e = absurd cc
 holder_client l x r op seqid w t (holders.Delegation write) e = absurd cc
 
-found_client : (l : NfsLists) (r : StateidRow) (at op seqid w : ℕ) (t : Turn) (o : Option StateidRow) → row_checked l at op seqid o ≡ Passed r w t → client_if_live o ≡ Some r.client
+found_client : (l : NfsLists) (r : StateidRow) (at op seqid w : ℕ) (t : SeqidState) (o : Option StateidRow) → row_checked l at op seqid o ≡ Passed r w t → client_if_live o ≡ Some r.client
 found_client l r at op seqid w t None e = absurd cc
 found_client l r at op seqid w t (Some x) e =
     elim (cases_Bool (x.file == at)) [
@@ -315,11 +316,11 @@ found_client l r at op seqid w t (Some x) e =
       | inr other ↦ (let no : Refused statuses.BadStateid ≡ Passed r w t = rw other at e in absurd cc)
     ]
 
-number_client : (l : NfsLists) (r : StateidRow) (at op seqid w : ℕ) (t : Turn) (o : Option ℕ) → number_checked l at op seqid o ≡ Passed r w t → state_numbered l o ≡ Some r.client
+number_client : (l : NfsLists) (r : StateidRow) (at op seqid w : ℕ) (t : SeqidState) (o : Option ℕ) → number_checked l at op seqid o ≡ Passed r w t → state_numbered l o ≡ Some r.client
 number_client l r at op seqid w t None e = absurd cc
 number_client l r at op seqid w t (Some number) e = found_client l r at op seqid w t (find (is_stateid number) l.stateids) e
 
-pub checked_client : (s : CoreState) (l : NfsLists) (current : Option ℕ) (op seqid : ℕ) (stateid : Stateid) (r : StateidRow) (w : ℕ) (t : Turn) → checked s l current op seqid stateid ≡ Passed r w t → state_client s l stateid ≡ Some r.client
+pub checked_client : (s : CoreState) (l : NfsLists) (current : Option ℕ) (op seqid : ℕ) (stateid : Stateid) (r : StateidRow) (w : ℕ) (t : SeqidState) → checked s l current op seqid stateid ≡ Passed r w t → state_client s l stateid ≡ Some r.client
 unfolding checked
 checked_client s l None op seqid stateid r w t e = absurd cc
 checked_client s l (Some at) op seqid stateid r w t e = number_client l r at op seqid w t (number_in_other s stateid.other) e
@@ -343,14 +344,14 @@ pub state_own : (n : ℕ) (s : CoreState) (l : NfsLists) (stateid : Stateid) (by
     → ((t : CoreState) → t.stable ≡ s.stable → IsGood t → Owned n t (λ id. is_holder s l stateid id) (by t (renewed_for s l (state_client s l stateid)))) → Owned n s (λ id. is_holder s l stateid id) (renewing s l (state_client s l stateid) by)
 state_own n s l stateid by good each = renewing_own n s l (λ id. is_holder s l stateid id) (state_client s l stateid) by good (λ number r e found. by_number l (state_client s l stateid) number r e found) each
 
-confirm_done_own : (n : ℕ) (s : CoreState) (l : NfsLists) (current : Option ℕ) (a : OpenConfirmArgs) (r : StateidRow) (owner : ℕ) (turn : Turn) (Client : List ℕ → Type 0) (o : Option NfsStatus) → Owned n s Client (confirm_done s l current a r owner turn o)
-confirm_done_own n s l current a r owner turn Client None = (tt, tt)
-confirm_done_own n s l current a r owner turn Client (Some status) = (tt, tt)
+confirm_done_own : (n : ℕ) (s : CoreState) (l : NfsLists) (current : Option ℕ) (a : OpenConfirmArgs) (r : StateidRow) (owner : ℕ) (seqids : SeqidState) (Client : List ℕ → Type 0) (o : Option NfsStatus) → Owned n s Client (confirm_done s l current a r owner seqids o)
+confirm_done_own n s l current a r owner seqids Client None = (tt, tt)
+confirm_done_own n s l current a r owner seqids Client (Some status) = (tt, tt)
 
 confirm_by_own : (n : ℕ) (s : CoreState) (l : NfsLists) (current : Option ℕ) (a : OpenConfirmArgs) (Client : List ℕ → Type 0) (c : Checked) → Owned n s Client (confirm_by s l current a c)
 confirm_by_own n s l current a Client (Refused status) = (tt, tt)
 confirm_by_own n s l current a Client (Repeated owner) = repeat_own n s l current Client (find (is_kept owner) l.kept)
-confirm_by_own n s l current a Client (Passed r owner turn) = confirm_done_own n s l current a r owner turn Client (standing_fault r turn a.stateid.seqid false)
+confirm_by_own n s l current a Client (Passed r owner seqids) = confirm_done_own n s l current a r owner seqids Client (standing_fault r seqids a.stateid.seqid false)
 
 pub confirm_own : (n : ℕ) (s : CoreState) (l : NfsLists) (current : Option ℕ) (a : OpenConfirmArgs) → IsGood s → Owned n s (Names s l (OpenConfirm a)) (open_confirm s l current a)
 unfolding open_confirm
@@ -364,14 +365,14 @@ weakens_own n s Client (Some claim) access deny each =
       | inr e ↦ rw e (tt, tt)
     ]
 
-downgrade_done_own : (n : ℕ) (s : CoreState) (l : NfsLists) (current : Option ℕ) (a : OpenDowngradeArgs) (r : StateidRow) (owner : ℕ) (turn : Turn) (Client : List ℕ → Type 0) (o : Option NfsStatus) → IsGood s → ((c : ClientRow) → find (is_client r.client true) l.clients ≡ Some c → Client c.id) → Owned n s Client (downgrade_done s l current a r owner turn o)
-downgrade_done_own n s l current a r owner turn Client None good each = weakens_own n s Client (share_of_open s l r owner) (rights_of a.access) (rights_of a.deny) (λ claim h. (let one = open_share s l Client r owner claim good each h in (one.0.0, one.1)))
-downgrade_done_own n s l current a r owner turn Client (Some status) good each = (tt, tt)
+downgrade_done_own : (n : ℕ) (s : CoreState) (l : NfsLists) (current : Option ℕ) (a : OpenDowngradeArgs) (r : StateidRow) (owner : ℕ) (seqids : SeqidState) (Client : List ℕ → Type 0) (o : Option NfsStatus) → IsGood s → ((c : ClientRow) → find (is_client r.client true) l.clients ≡ Some c → Client c.id) → Owned n s Client (downgrade_done s l current a r owner seqids o)
+downgrade_done_own n s l current a r owner seqids Client None good each = weakens_own n s Client (share_of_open s l r owner) (rights_of a.access) (rights_of a.deny) (λ claim h. (let one = open_share s l Client r owner claim good each h in (one.0.0, one.1)))
+downgrade_done_own n s l current a r owner seqids Client (Some status) good each = (tt, tt)
 
-downgrade_by_own : (n : ℕ) (s : CoreState) (l : NfsLists) (current : Option ℕ) (a : OpenDowngradeArgs) (Client : List ℕ → Type 0) (c : Checked) → IsGood s → ((r : StateidRow) (w : ℕ) (v : Turn) (x : ClientRow) → c ≡ Passed r w v → find (is_client r.client true) l.clients ≡ Some x → Client x.id) → Owned n s Client (downgrade_by s l current a c)
+downgrade_by_own : (n : ℕ) (s : CoreState) (l : NfsLists) (current : Option ℕ) (a : OpenDowngradeArgs) (Client : List ℕ → Type 0) (c : Checked) → IsGood s → ((r : StateidRow) (w : ℕ) (v : SeqidState) (x : ClientRow) → c ≡ Passed r w v → find (is_client r.client true) l.clients ≡ Some x → Client x.id) → Owned n s Client (downgrade_by s l current a c)
 downgrade_by_own n s l current a Client (Refused status) good each = (tt, tt)
 downgrade_by_own n s l current a Client (Repeated owner) good each = repeat_own n s l current Client (find (is_kept owner) l.kept)
-downgrade_by_own n s l current a Client (Passed r owner turn) good each = downgrade_done_own n s l current a r owner turn Client (downgrade_fault r turn a) good (λ x found. each r owner turn x refl found)
+downgrade_by_own n s l current a Client (Passed r owner seqids) good each = downgrade_done_own n s l current a r owner seqids Client (downgrade_fault r seqids a) good (λ x found. each r owner seqids x refl found)
 
 pub downgrade_own : (n : ℕ) (s : CoreState) (l : NfsLists) (current : Option ℕ) (a : OpenDowngradeArgs) → IsGood s → Owned n s (Names s l (OpenDowngrade a)) (open_downgrade s l current a)
 unfolding open_downgrade

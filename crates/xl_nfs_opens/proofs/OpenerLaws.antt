@@ -11,7 +11,7 @@ use Rattle.xl_nfs.specs.Opens.{OpenArgsItem}
 use Rattle.xl_core.specs.State.{CoreState}
 use Rattle.xl_nfs_state.specs.State.{NfsLists, is_client}
 use Rattle.xl_nfs_state.specs.declared.client.ClientRow.{ClientRow}
-use Rattle.xl_nfs_opens.specs.Leases.{number_in}
+use Rattle.xl_core.specs.Ids.{number_in}
 use Rattle.xl_nfs_opens.specs.Opens.{client_in, opener_of}
 use Rattle.xl_nfs_opens.specs.declared.opener.Opener.{Opener}
 

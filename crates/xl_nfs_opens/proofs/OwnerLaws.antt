@@ -10,7 +10,7 @@ use Rattle.std.specs.Prelude.{IsSome, bytes_eq}
 use Rattle.xl_cache.specs.Parties.{is_kind_of}
 use Rattle.xl_matrix.specs.declared.claim.CacheKind.{CacheKind}
 use Rattle.xl_names.specs.declared.name.Name.TheVariants.{NfsParty}
-use Rattle.xl_core.specs.Asking.{may_wish_for}
+use Rattle.xl_core.specs.Askers.{may_wish_for}
 use Rattle.xl_core.specs.declared.ask.Who.TheVariants.{Named}
 use Rattle.xl_nfs_opens.specs.Opens.{wished_kinds}
 use Rattle.xl_nfs_state.specs.Keys.{stateid_key}

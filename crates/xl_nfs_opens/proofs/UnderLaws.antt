@@ -12,7 +12,7 @@ use Rattle.xl_nfs_state.specs.declared.owner.OwnerRow.{OwnerRow}
 use Rattle.xl_nfs_state.specs.declared.stateid.StateidRow.{StateidRow}
 use Rattle.xl_table.specs.Relock.{holds_byte, most_claims}
 use Rattle.xl_core.proofs.DeedLists.{done_append, fit_append}
-use Rattle.xl_core.specs.Asking.{known_claim, IsFit}
+use Rattle.xl_core.specs.Askers.{known_claim, IsFit}
 use Rattle.xl_core.proofs.CacheLaws.{relocked_caches}
 use Rattle.xl_core.proofs.WayAsks.{ask_there, ask_way_none}
 use Rattle.xl_core.specs.Decide.{ask, decided, unlocked, unlocked_bytes, unlocked_claims}

@@ -13,7 +13,7 @@ use Rattle.xl_nfs_state.specs.State.{NfsLists, with_stateids, without, is_client
 use Rattle.xl_nfs_state.specs.Verdict.{verdict, next_seqid}
 use Rattle.xl_nfs_state.specs.declared.client.ClientRow.{ClientRow}
 use Rattle.xl_nfs_state.specs.declared.owner.OwnerRow.{OwnerRow}
-use Rattle.xl_nfs_state.specs.declared.owner.Turn.{Turn}
+use Rattle.xl_nfs_state.specs.declared.owner.SeqidState.{SeqidState}
 use Rattle.xl_nfs_state.specs.declared.seqid.SeqidVerdict.{SeqidVerdict}
 use Rattle.xl_nfs_state.specs.declared.seqid.SeqidVerdict.TheVariants as verdicts
 use Rattle.xl_nfs_state.specs.declared.stateid.Holder.{Holder}
@@ -37,14 +37,14 @@ use Rattle.xl_nfs_opens.specs.declared.told.Told.TheVariants.{Ended, State}
 -- ---- the check of a stateid
 
 -- by the owner's seqid; an open that was closed is known to the repeat of its CLOSE alone (NFS-22)
-abbrev pub seqid_checked : StateidRow → ℕ → Turn → SeqidVerdict → Checked
-seqid_checked r owner turn verdicts.Repeat = Repeated owner
-seqid_checked r owner turn verdicts.Next = if r.standing.closed then Refused statuses.BadStateid else Passed r owner turn
-seqid_checked r owner turn _ = Refused (if r.standing.closed then statuses.BadStateid else statuses.BadSeqid)
+abbrev pub seqid_checked : StateidRow → ℕ → SeqidState → SeqidVerdict → Checked
+seqid_checked r owner seqids verdicts.Repeat = Repeated owner
+seqid_checked r owner seqids verdicts.Next = if r.standing.closed then Refused statuses.BadStateid else Passed r owner seqids
+seqid_checked r owner seqids _ = Refused (if r.standing.closed then statuses.BadStateid else statuses.BadSeqid)
 
 abbrev pub owner_checked : StateidRow → ℕ → ℕ → ℕ → Option OwnerRow → Checked
 owner_checked r op seqid owner None = Refused statuses.BadStateid
-owner_checked r op seqid owner (Some o) = seqid_checked r owner o.turn (verdict (Some o.turn) op seqid)
+owner_checked r op seqid owner (Some o) = seqid_checked r owner o.seqids (verdict (Some o.seqids) op seqid)
 
 -- it is of an open
 abbrev pub holder_checked : NfsLists → StateidRow → ℕ → ℕ → Holder → Checked
@@ -67,46 +67,46 @@ checked s l None op seqid stateid = Refused statuses.NoFileHandle
 checked s l (Some at) op seqid stateid = number_checked l at op seqid (number_of s stateid.other)
 
 -- the stateid's own seqid, and whether its owner was confirmed, as it has to be, or not
-unfoldable pub standing_fault : StateidRow → Turn → ℕ → Bool → Option NfsStatus
-standing_fault r turn seqid confirmed =
+unfoldable pub standing_fault : StateidRow → SeqidState → ℕ → Bool → Option NfsStatus
+standing_fault r seqids seqid confirmed =
     if nat_lt seqid r.standing.seqid then Some statuses.OldStateid
     else if nat_lt r.standing.seqid seqid then Some statuses.BadStateid
-    else if beq turn.confirmed confirmed then None
+    else if beq seqids.confirmed confirmed then None
     else Some statuses.BadStateid
 
 -- ---- what is remembered of a request on an open
 
 -- the owner's requests have come this far, with this one
-abbrev pub next_turn : ℕ → ℕ → Bool → Option ℕ → Turn
-next_turn op seqid confirmed closed = record { seqid = seqid; op = op; confirmed = confirmed; closed = closed }
+abbrev pub next_seqids : ℕ → ℕ → Bool → Option ℕ → SeqidState
+next_seqids op seqid confirmed closed = record { seqid = seqid; op = op; confirmed = confirmed; closed = closed }
 
 -- it failed so
-abbrev pub failed_lists : NfsLists → ℕ → Turn → ℕ → ℕ → NfsStatus → NfsLists
-failed_lists l owner turn op seqid status =
-    if advances status then counted owner turn.closed (next_turn op seqid turn.confirmed None) (spelled op (Ended status)) l else l
+abbrev pub failed_lists : NfsLists → ℕ → SeqidState → ℕ → ℕ → NfsStatus → NfsLists
+failed_lists l owner seqids op seqid status =
+    if advances status then counted owner seqids.closed (next_seqids op seqid seqids.confirmed None) (spelled op (Ended status)) l else l
 
-abbrev pub failed : NfsLists → Option ℕ → ℕ → Turn → ℕ → ℕ → NfsStatus → Plan
-failed l current owner turn op seqid status = Does [] (failed_lists l owner turn op seqid status) current (Ended status)
+abbrev pub failed : NfsLists → Option ℕ → ℕ → SeqidState → ℕ → ℕ → NfsStatus → Plan
+failed l current owner seqids op seqid status = Does [] (failed_lists l owner seqids op seqid status) current (Ended status)
 
 -- the stateid as it is then
 abbrev pub state_told : CoreState → StateidRow → Told
 state_told s r = State (stateid_of s r.number (next_seqid r.standing.seqid))
 
 -- it was done: the open has these rights from then on, or is closed
-abbrev pub done_lists : CoreState → NfsLists → StateidRow → ℕ → Turn → ℕ → ℕ → Bool → Option ℕ → ℕ → ℕ → Bool → NfsLists
-done_lists s l r owner turn op seqid confirmed closing access deny closed =
-    counted owner turn.closed (next_turn op seqid confirmed closing) (spelled op (state_told s r)) (stood r.number r access deny closed l)
+abbrev pub done_lists : CoreState → NfsLists → StateidRow → ℕ → SeqidState → ℕ → ℕ → Bool → Option ℕ → ℕ → ℕ → Bool → NfsLists
+done_lists s l r owner seqids op seqid confirmed closing access deny closed =
+    counted owner seqids.closed (next_seqids op seqid confirmed closing) (spelled op (state_told s r)) (stood r.number r access deny closed l)
 
 -- ---- OPEN_CONFIRM
 
-abbrev pub confirm_done : CoreState → NfsLists → Option ℕ → OpenConfirmArgs → StateidRow → ℕ → Turn → Option NfsStatus → Plan
-confirm_done s l current a r owner turn (Some status) = failed l current owner turn 20 a.seqid status
-confirm_done s l current a r owner turn None = Does [] (done_lists s l r owner turn 20 a.seqid true None r.standing.access r.standing.deny false) current (state_told s r)
+abbrev pub confirm_done : CoreState → NfsLists → Option ℕ → OpenConfirmArgs → StateidRow → ℕ → SeqidState → Option NfsStatus → Plan
+confirm_done s l current a r owner seqids (Some status) = failed l current owner seqids 20 a.seqid status
+confirm_done s l current a r owner seqids None = Does [] (done_lists s l r owner seqids 20 a.seqid true None r.standing.access r.standing.deny false) current (state_told s r)
 
 abbrev pub confirm_by : CoreState → NfsLists → Option ℕ → OpenConfirmArgs → Checked → Plan
 confirm_by s l current a (Refused status) = Does [] l current (Ended status)
 confirm_by s l current a (Repeated owner) = repeated s l current (find (is_kept owner) l.kept)
-confirm_by s l current a (Passed r owner turn) = confirm_done s l current a r owner turn (standing_fault r turn a.stateid.seqid false)
+confirm_by s l current a (Passed r owner seqids) = confirm_done s l current a r owner seqids (standing_fault r seqids a.stateid.seqid false)
 
 unfoldable pub open_confirm : CoreState → NfsLists → Option ℕ → OpenConfirmArgs → Plan
 open_confirm s l current a = renewing s l (state_client s l a.stateid) (λ t m. confirm_by t m current a (checked t m current 20 a.seqid a.stateid))
@@ -163,19 +163,19 @@ locks_gone number l = with_stateids l (without (is_whose (whose.Under number)) l
 -- ---- CLOSE
 
 -- the share goes, and the stateids of the locks; the open is closed
-abbrev pub share_closed : CoreState → NfsLists → Option ℕ → CloseArgs → StateidRow → ℕ → Turn → Plan
-share_closed s l current a r owner turn =
-    Does (gives (share_of_open s l r owner)) (locks_gone r.number (done_lists s l r owner turn 4 a.seqid turn.confirmed (Some r.number) r.standing.access r.standing.deny true)) current (state_told s r)
+abbrev pub share_closed : CoreState → NfsLists → Option ℕ → CloseArgs → StateidRow → ℕ → SeqidState → Plan
+share_closed s l current a r owner seqids =
+    Does (gives (share_of_open s l r owner)) (locks_gone r.number (done_lists s l r owner seqids 4 a.seqid seqids.confirmed (Some r.number) r.standing.access r.standing.deny true)) current (state_told s r)
 
 -- the locks under it end before its share (NFS-31)
-abbrev pub close_done : CoreState → NfsLists → Option ℕ → CloseArgs → StateidRow → ℕ → Turn → Option NfsStatus → Plan
-close_done s l current a r owner turn (Some status) = failed l current owner turn 4 a.seqid status
-close_done s l current a r owner turn None = Behind (ends_locks l r (locks_under l r.number)) l (λ t. share_closed t l current a r owner turn)
+abbrev pub close_done : CoreState → NfsLists → Option ℕ → CloseArgs → StateidRow → ℕ → SeqidState → Option NfsStatus → Plan
+close_done s l current a r owner seqids (Some status) = failed l current owner seqids 4 a.seqid status
+close_done s l current a r owner seqids None = Behind (ends_locks l r (locks_under l r.number)) l (λ t. share_closed t l current a r owner seqids)
 
 abbrev pub close_by : CoreState → NfsLists → Option ℕ → CloseArgs → Checked → Plan
 close_by s l current a (Refused status) = Does [] l current (Ended status)
 close_by s l current a (Repeated owner) = repeated s l current (find (is_kept owner) l.kept)
-close_by s l current a (Passed r owner turn) = close_done s l current a r owner turn (standing_fault r turn a.stateid.seqid true)
+close_by s l current a (Passed r owner seqids) = close_done s l current a r owner seqids (standing_fault r seqids a.stateid.seqid true)
 
 unfoldable pub close : CoreState → NfsLists → Option ℕ → CloseArgs → Plan
 close s l current a = renewing s l (state_client s l a.stateid) (λ t m. close_by t m current a (checked t m current 4 a.seqid a.stateid))
@@ -232,5 +232,5 @@ deleg_return s l current stateid = renewing s l (state_client s l stateid) (λ t
 
 -- what was found is there: the open, which isn't closed, and its owner
 abbrev pub IsChecked : NfsLists → Checked → Type 0
-IsChecked l (Passed r owner turn) = (find (is_stateid r.number) l.stateids ≡ Some r) × (IsSome (find (is_owner owner) l.owners) × (r.standing.closed ≡ false))
+IsChecked l (Passed r owner seqids) = (find (is_stateid r.number) l.stateids ≡ Some r) × (IsSome (find (is_owner owner) l.owners) × (r.standing.closed ≡ false))
 IsChecked l _ = Unit {0}

@@ -6,7 +6,7 @@ use Rattle.xl_nfs.specs.declared.opens.OpenDowngradeArgs.{OpenDowngradeArgs}
 use Rattle.xl_nfs.specs.declared.status.NfsStatus.{NfsStatus}
 use Rattle.xl_nfs.specs.declared.status.NfsStatus.TheVariants.{Inval}
 use Rattle.xl_nfs_state.specs.State.{NfsLists, is_kept}
-use Rattle.xl_nfs_state.specs.declared.owner.Turn.{Turn}
+use Rattle.xl_nfs_state.specs.declared.owner.SeqidState.{SeqidState}
 use Rattle.xl_nfs_state.specs.declared.stateid.StateidRow.{StateidRow}
 use Rattle.xl_core.specs.Deeds.{Deed, Weakens}
 use Rattle.xl_core.specs.Settle.{share_has}
@@ -33,18 +33,18 @@ abbrev pub first_fault : Option NfsStatus → Option NfsStatus → Option NfsSta
 first_fault None later = later
 first_fault (Some status) later = Some status
 
-unfoldable pub downgrade_fault : StateidRow → Turn → OpenDowngradeArgs → Option NfsStatus
-downgrade_fault r turn a = first_fault (standing_fault r turn a.stateid.seqid true) (range_fault r a)
+unfoldable pub downgrade_fault : StateidRow → SeqidState → OpenDowngradeArgs → Option NfsStatus
+downgrade_fault r seqids a = first_fault (standing_fault r seqids a.stateid.seqid true) (range_fault r a)
 
-abbrev pub downgrade_done : CoreState → NfsLists → Option ℕ → OpenDowngradeArgs → StateidRow → ℕ → Turn → Option NfsStatus → Plan
-downgrade_done s l current a r owner turn (Some status) = failed l current owner turn 21 a.seqid status
-downgrade_done s l current a r owner turn None =
-    Does (weakens (share_of_open s l r owner) (rights_of a.access) (rights_of a.deny)) (done_lists s l r owner turn 21 a.seqid turn.confirmed None a.access a.deny false) current (state_told s r)
+abbrev pub downgrade_done : CoreState → NfsLists → Option ℕ → OpenDowngradeArgs → StateidRow → ℕ → SeqidState → Option NfsStatus → Plan
+downgrade_done s l current a r owner seqids (Some status) = failed l current owner seqids 21 a.seqid status
+downgrade_done s l current a r owner seqids None =
+    Does (weakens (share_of_open s l r owner) (rights_of a.access) (rights_of a.deny)) (done_lists s l r owner seqids 21 a.seqid seqids.confirmed None a.access a.deny false) current (state_told s r)
 
 abbrev pub downgrade_by : CoreState → NfsLists → Option ℕ → OpenDowngradeArgs → Checked → Plan
 downgrade_by s l current a (Refused status) = Does [] l current (Ended status)
 downgrade_by s l current a (Repeated owner) = repeated s l current (find (is_kept owner) l.kept)
-downgrade_by s l current a (Passed r owner turn) = downgrade_done s l current a r owner turn (downgrade_fault r turn a)
+downgrade_by s l current a (Passed r owner seqids) = downgrade_done s l current a r owner seqids (downgrade_fault r seqids a)
 
 unfoldable pub open_downgrade : CoreState → NfsLists → Option ℕ → OpenDowngradeArgs → Plan
 open_downgrade s l current a = renewing s l (state_client s l a.stateid) (λ t m. downgrade_by t m current a (checked t m current 21 a.seqid a.stateid))

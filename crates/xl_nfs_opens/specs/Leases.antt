@@ -1,23 +1,11 @@
--- Clientids and leases (RFC 7530 9.1.1, 9.5).
-use Rattle.std.specs.Prelude.{ℕ, ◌+◌, ◌*◌, ◌/◌, ◌%◌, ◌^◌, true, ◌==◌, if◌then◌else◌, Option, Some, None}
+-- Leases (RFC 7530 9.5).
+use Rattle.std.specs.Prelude.{ℕ, true}
 use Rattle.xl_base.specs.declared.event.Moment.{Moment}
 use Rattle.xl_nfs_state.specs.Filed.{changed}
 use Rattle.xl_nfs_state.specs.Rows.{with_time}
 use Rattle.xl_nfs_state.specs.State.{NfsLists, with_clients, is_client}
 use Rattle.xl_core.specs.Leases.{moment_after}
 use Rattle.xl_core.specs.State.{CoreState}
-
--- ---- clientids
-
--- the clientid of the client of this number: the epoch of this start, and the number (NFS-11)
-abbrev pub clientid_of : CoreState → ℕ → ℕ
-clientid_of s number = s.stable.epoch * 2 ^ 32 + number
-
--- the number in a clientid, where it is of this start
-abbrev pub number_in : CoreState → ℕ → Option ℕ
-number_in s clientid = if clientid / 2 ^ 32 == s.stable.epoch then Some (clientid % 2 ^ 32) else None
-
--- ---- leases
 
 -- when a lease ends that is renewed now, and an unconfirmed record goes that comes now
 abbrev pub lease_end : CoreState → Moment

@@ -9,10 +9,4 @@ pub mod Opens
 pub mod Asks
 pub mod Closing
 pub mod Downgrades
-pub mod Laws
-pub mod Orderly
-pub mod Delegated
-pub mod Numbers
-pub mod Lengths
 pub mod Owners
-pub mod Advancing

@@ -29,7 +29,7 @@ use Rattle.xl_nfs_state.specs.declared.client.ClientRow.{ClientRow}
 use Rattle.xl_nfs_state.specs.declared.kept.KeptRow.{KeptRow}
 use Rattle.xl_nfs_state.specs.declared.owner.OwnerKind.TheVariants as kinds
 use Rattle.xl_nfs_state.specs.declared.owner.OwnerRow.{OwnerRow}
-use Rattle.xl_nfs_state.specs.declared.owner.Turn.{Turn}
+use Rattle.xl_nfs_state.specs.declared.owner.SeqidState.{SeqidState}
 use Rattle.xl_nfs_state.specs.declared.seqid.SeqidVerdict.{SeqidVerdict}
 use Rattle.xl_nfs_state.specs.declared.seqid.SeqidVerdict.TheVariants as verdicts
 use Rattle.xl_nfs_state.specs.declared.stateid.Holder.TheVariants as holders
@@ -38,7 +38,7 @@ use Rattle.xl_nfs_state.specs.declared.stateid.Whose.TheVariants as whose
 use Rattle.xl_table.specs.Relock.{either_right, is_share_of}
 use Rattle.xl_wait.specs.Waiting.{no_rows}
 use Rattle.xl_wait.specs.declared.waiter.Rooms.{Rooms}
-use Rattle.xl_core.specs.Asking.{party_named}
+use Rattle.xl_core.specs.Askers.{party_named}
 use Rattle.xl_core.specs.Deeds.{Deed, GivesBack, Draws}
 use Rattle.xl_core.specs.Limits.{most_hosts, most_owners}
 use Rattle.xl_core.specs.Limits as limits
@@ -51,7 +51,7 @@ use Rattle.xl_core.specs.declared.ask.Answer.TheVariants as answers
 use Rattle.xl_core.specs.declared.ask.Ask.{Ask}
 use Rattle.xl_core.specs.declared.ask.Who.TheVariants.{Named}
 use Rattle.std.specs.List.{filter}
-use Rattle.xl_nfs_opens.specs.Leases.{number_in}
+use Rattle.xl_core.specs.Ids.{number_in}
 use Rattle.xl_nfs_opens.specs.Files.{file_named}
 use Rattle.xl_nfs_opens.specs.Plans.{Plan, Does, Behind, Asking}
 use Rattle.xl_nfs_opens.specs.Renewing.{same_stateid, stateid_of, number_of as number_in_other, state_client, renewing}
@@ -138,13 +138,13 @@ opened_file files s l client at a = or_else (check_claim at a.claim) (or_else (c
 
 abbrev pub judged_row : OwnerRow → SeqidVerdict → Judged
 judged_row r verdicts.Repeat = judgements.Repeats r.number
-judged_row r verdicts.Next = if r.turn.confirmed then judgements.Next else judgements.Anew r.number
+judged_row r verdicts.Next = if r.seqids.confirmed then judgements.Next else judgements.Anew r.number
 judged_row r verdicts.New = judgements.New
-judged_row r (verdicts.Bad last) = if r.turn.confirmed then judgements.Bad else judgements.Anew r.number
+judged_row r (verdicts.Bad last) = if r.seqids.confirmed then judgements.Bad else judgements.Anew r.number
 
 abbrev pub judged_by : ℕ → Option OwnerRow → Judged
 judged_by seqid None = judgements.New
-judged_by seqid (Some r) = judged_row r (verdict (Some r.turn) 18 seqid)
+judged_by seqid (Some r) = judged_row r (verdict (Some r.seqids) 18 seqid)
 
 -- what the owner's seqid says; one that was never confirmed and doesn't repeat is new (NFS-18)
 unfoldable pub judged : NfsLists → Opener → ℕ → Judged
@@ -306,12 +306,12 @@ answer_status reclaim answers.StoreFailed = statuses.ServerFault
 -- ---- what is remembered
 
 -- the owner's requests have come this far; a reclaim confirms its owner (NFS-18)
-abbrev pub open_turn : OpenArgsItem → Bool → Turn
-open_turn a confirmed = record { seqid = a.seqid; op = 18; confirmed = confirmed; closed = None }
+abbrev pub open_seqids : OpenArgsItem → Bool → SeqidState
+open_seqids a confirmed = record { seqid = a.seqid; op = 18; confirmed = confirmed; closed = None }
 
 -- of a request that is refused so
 abbrev pub refused_lists : Opener → OpenArgsItem → Bool → NfsStatus → NfsLists → NfsLists
-refused_lists o a confirmed status l = if advances status then remembered o (open_turn a confirmed) (spelled 18 (Ended status)) l else l
+refused_lists o a confirmed status l = if advances status then remembered o (open_seqids a confirmed) (spelled 18 (Ended status)) l else l
 
 abbrev pub refused : NfsLists → Option ℕ → Opener → OpenArgsItem → Bool → NfsStatus → Plan
 refused l current o a confirmed status = Does [] (refused_lists o a confirmed status l) current (Ended status)
@@ -408,14 +408,14 @@ granted_new s l o a file confirmed write =
     let number = opener_number o l in
     let t = drawn s in
     let told = opened_told (drawn_for write t) (s.counter + 1) 1 confirmed (delegation_told t write) in
-    Does (Draws ∷ draws_for write) (kept_for number (spelled 18 told) (delegated t o file write (entered (open_row (s.counter + 1) o number file a) (seated o (open_turn a confirmed) l)))) (Some file) told
+    Does (Draws ∷ draws_for write) (kept_for number (spelled 18 told) (delegated t o file write (entered (open_row (s.counter + 1) o number file a) (seated o (open_seqids a confirmed) l)))) (Some file) told
 
 -- it has one: that has the rights of both from then on
 abbrev pub granted_more : CoreState → NfsLists → Opener → OpenArgsItem → ℕ → Bool → Option Bool → StateidRow → Plan
 granted_more s l o a file confirmed write r =
     let number = opener_number o l in
     let told = opened_told (drawn_for write s) r.number (next_seqid r.standing.seqid) confirmed (delegation_told s write) in
-    Does (draws_for write) (kept_for number (spelled 18 told) (delegated s o file write (seated o (open_turn a confirmed) (stood r.number r (either_bits r.standing.access a.access) (either_bits r.standing.deny a.deny) false l)))) (Some file) told
+    Does (draws_for write) (kept_for number (spelled 18 told) (delegated s o file write (seated o (open_seqids a confirmed) (stood r.number r (either_bits r.standing.access a.access) (either_bits r.standing.deny a.deny) false l)))) (Some file) told
 
 abbrev pub granted_by : CoreState → NfsLists → Opener → OpenArgsItem → ℕ → Bool → Option Bool → Option StateidRow → Plan
 granted_by s l o a file confirmed write None = granted_new s l o a file confirmed write

@@ -11,7 +11,7 @@ use Rattle.xl_nfs_state.specs.State.{NfsLists, is_client}
 use Rattle.xl_core.specs.Clients.{IsOf}
 use Rattle.xl_core.specs.Deeds.{Deed, Asks, GivesBack, Weakens, Draws, Ends, Renews, done}
 use Rattle.xl_core.specs.State.{CoreState}
-use Rattle.xl_nfs_opens.specs.Leases.{number_in}
+use Rattle.xl_core.specs.Ids.{number_in}
 use Rattle.xl_nfs_opens.specs.Renewing.{state_client}
 
 -- ---- the client that an operation names

@@ -7,10 +7,10 @@ use Rattle.xl_nfs.specs.declared.status.NfsStatus.TheVariants as statuses
 use Rattle.xl_nfs.specs.Outcomes.{is_ok}
 use Rattle.xl_nfs_state.specs.Bytes.{most_result_bytes}
 use Rattle.xl_nfs_state.specs.Filed.{changed}
-use Rattle.xl_nfs_state.specs.Rows.{with_turn, with_result}
+use Rattle.xl_nfs_state.specs.Rows.{with_seqids, with_result}
 use Rattle.xl_nfs_state.specs.State.{NfsLists, with_owners, with_stateids, with_kept, without, is_owner, is_owner_named, is_kept, is_whose, next_owner}
 use Rattle.xl_nfs_state.specs.declared.owner.OwnerRow.{OwnerRow}
-use Rattle.xl_nfs_state.specs.declared.owner.Turn.{Turn}
+use Rattle.xl_nfs_state.specs.declared.owner.SeqidState.{SeqidState}
 use Rattle.xl_nfs_state.specs.declared.stateid.Whose.TheVariants as whose
 use Rattle.xl_nfs_opens.specs.declared.opener.Opener.{Opener}
 
@@ -44,13 +44,13 @@ kept_for owner bytes l =
     else l
 
 -- the owner's requests have come this far
-abbrev pub turned : ℕ → Turn → NfsLists → NfsLists
-turned owner turn l = with_owners l (changed (is_owner owner) (with_turn turn) l.owners)
+abbrev pub seqid_set : ℕ → SeqidState → NfsLists → NfsLists
+seqid_set owner seqids l = with_owners l (changed (is_owner owner) (with_seqids seqids) l.owners)
 
 -- A request of the owner of this number counted: its requests have come this far, what an earlier one closed is known no
 -- more, and its result is kept (NFS-14).
-unfoldable pub counted : ℕ → Option ℕ → Turn → List ℕ → NfsLists → NfsLists
-counted owner closed turn bytes l = kept_for owner bytes (closed_gone closed (turned owner turn l))
+unfoldable pub counted : ℕ → Option ℕ → SeqidState → List ℕ → NfsLists → NfsLists
+counted owner closed seqids bytes l = kept_for owner bytes (closed_gone closed (seqid_set owner seqids l))
 
 -- ---- an owner that may be new
 
@@ -69,24 +69,24 @@ number_by (Some r) next = r.number
 abbrev pub opener_number : Opener → NfsLists → ℕ
 opener_number o l = number_by (find (is_opener o) l.owners) (next_owner l.owners)
 
-abbrev pub new_owner : Opener → Turn → ℕ → OwnerRow
-new_owner o turn number = record { number = number; name = record { client = o.client; kind = o.kind; owner = o.owner }; turn = turn }
+abbrev pub new_owner : Opener → SeqidState → ℕ → OwnerRow
+new_owner o seqids number = record { number = number; name = record { client = o.client; kind = o.kind; owner = o.owner }; seqids = seqids }
 
-abbrev pub seated_new : Opener → Turn → NfsLists → Option ℕ → NfsLists
-seated_new o turn l None = l
-seated_new o turn l (Some number) = with_owners l (l.owners ++ new_owner o turn number ∷ [])
+abbrev pub seated_new : Opener → SeqidState → NfsLists → Option ℕ → NfsLists
+seated_new o seqids l None = l
+seated_new o seqids l (Some number) = with_owners l (l.owners ++ new_owner o seqids number ∷ [])
 
-abbrev pub seated_by : Opener → Turn → NfsLists → Option OwnerRow → NfsLists
-seated_by o turn l None = seated_new o turn l (next_owner l.owners)
-seated_by o turn l (Some r) = closed_gone r.turn.closed (turned r.number turn l)
+abbrev pub seated_by : Opener → SeqidState → NfsLists → Option OwnerRow → NfsLists
+seated_by o seqids l None = seated_new o seqids l (next_owner l.owners)
+seated_by o seqids l (Some r) = closed_gone r.seqids.closed (seqid_set r.number seqids l)
 
 -- the owner's requests have come this far: a new owner comes where there is room for it
-unfoldable pub seated : Opener → Turn → NfsLists → NfsLists
-seated o turn l = seated_by o turn l (find (is_opener o) l.owners)
+unfoldable pub seated : Opener → SeqidState → NfsLists → NfsLists
+seated o seqids l = seated_by o seqids l (find (is_opener o) l.owners)
 
 -- a request of the owner counted; where there is no room for a new owner nothing is kept of it (NFS-14)
-unfoldable pub remembered : Opener → Turn → List ℕ → NfsLists → NfsLists
-remembered o turn bytes l = if is_room_for o l then kept_for (opener_number o l) bytes (seated o turn l) else l
+unfoldable pub remembered : Opener → SeqidState → List ℕ → NfsLists → NfsLists
+remembered o seqids bytes l = if is_room_for o l then kept_for (opener_number o l) bytes (seated o seqids l) else l
 
 -- ---- a result that is kept
 

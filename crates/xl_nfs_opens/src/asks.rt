@@ -1,6 +1,6 @@
 //! What the core is asked for a lock owner.
 ghost use Rattle.std.specs.Prelude.{◌≡◌, ◌≤◌, IfOk, true, false, []};
-ghost use Rattle.xl_core.specs.Asking.{may_ask, IsFit, IsFitAct, IsFitWish};
+ghost use Rattle.xl_core.specs.Askers.{may_ask, IsFit, IsFitAct, IsFitWish};
 ghost use Rattle.xl_core.specs.declared.ask.Who.TheVariants.{Named};
 ghost use Rattle.xl_names.specs.declared.name.Name.TheVariants.{NfsParty, NfsRange};
 ghost use Rattle.xl_nfs_opens.specs.Asks.{range_ask, unlock_ask};

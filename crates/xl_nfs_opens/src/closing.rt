@@ -8,7 +8,7 @@ ghost use Rattle.std.specs.List.{find};
 ghost use Rattle.xl_base.specs.Lists.{IsIn};
 ghost use Rattle.xl_core.specs.State.{CoreState};
 ghost use Rattle.xl_nfs_state.specs.State.{is_owner, is_stateid};
-ghost use Rattle.xl_nfs_opens.specs.Closing.{checked, close, close_by, close_done, share_closed, confirm_by, confirm_done, deleg_return, failed, holder_returned, cache_of, next_turn, open_confirm, opener_by, owner_checked, return_done, returned, row_checked, seqid_checked, share_of_open, standing_fault, state_told, IsChecked};
+ghost use Rattle.xl_nfs_opens.specs.Closing.{checked, close, close_by, close_done, share_closed, confirm_by, confirm_done, deleg_return, failed, holder_returned, cache_of, next_seqids, open_confirm, opener_by, owner_checked, return_done, returned, row_checked, seqid_checked, share_of_open, standing_fault, state_told, IsChecked};
 ghost use Rattle.xl_nfs_opens.specs.Plans.{carried};
 ghost use Rattle.xl_nfs_opens.specs.Results.{spelled, ToldFits};
 ghost use Rattle.xl_nfs_opens.specs.Short.{IsReady, Leaves};
@@ -29,16 +29,16 @@ use xl_base::{Keeper, Sequence};
 use xl_core::Core;
 use xl_matrix::Claim;
 use xl_nfs::{CloseArgs, NfsStatus, OpenConfirmArgs, Stateid, operation};
-use xl_nfs_state::{Holder, NfsState, SeqidVerdict, StateidRow, Turn, Whose, verdict};
+use xl_nfs_state::{Holder, NfsState, SeqidState, SeqidVerdict, StateidRow, Whose, verdict};
 
 /// By the owner's seqid.
-fn check_seqid(row: &StateidRow, op: u32, seqid: u32, owner: u64, turn: Turn) -> Checked
-    ensures { result ≡ seqid_checked row.now owner turn (verdict (Some turn) op seqid) }
+fn check_seqid(row: &StateidRow, op: u32, seqid: u32, owner: u64, seqids: SeqidState) -> Checked
+    ensures { result ≡ seqid_checked row.now owner seqids (verdict (Some seqids) op seqid) }
 {
     let closed = row.standing.closed;
-    match verdict(Some(turn), op, seqid) {
+    match verdict(Some(seqids), op, seqid) {
         SeqidVerdict::Repeat => Checked::Repeated(owner),
-        SeqidVerdict::Next if !closed => Checked::Passed(*row, owner, turn),
+        SeqidVerdict::Next if !closed => Checked::Passed(*row, owner, seqids),
         _ if closed => Checked::Refused(NfsStatus::BadStateid),
         _ => Checked::Refused(NfsStatus::BadSeqid),
     }
@@ -49,7 +49,7 @@ pub fn check_owner(state: &NfsState, row: &StateidRow, op: u32, seqid: u32, owne
     ensures { result ≡ owner_checked row.now op seqid owner (find (is_owner owner) state.now.owners) }
 {
     match state.find_owner(owner) {
-        Some(found) => check_seqid(row, op, seqid, owner, found.turn),
+        Some(found) => check_seqid(row, op, seqid, owner, found.seqids),
         None => Checked::Refused(NfsStatus::BadStateid),
     }
 }
@@ -92,16 +92,16 @@ pub fn check(
 #[tactic(auto, unfolding(crate::specs::Closing::standing_fault))]
 pub fn standing_fault(
     row: &StateidRow,
-    turn: Turn,
+    seqids: SeqidState,
     seqid: u32,
     confirmed: bool,
 ) -> Option<NfsStatus>
-    ensures value { result ≡ standing_fault row.now turn seqid confirmed }
+    ensures value { result ≡ standing_fault row.now seqids seqid confirmed }
     ensures fails { IfSome result (λ status. is_ok status ≡ false) }
 {
     if seqid < row.standing.seqid {
         Some(NfsStatus::OldStateid)
-    } else if row.standing.seqid < seqid || turn.confirmed != confirmed {
+    } else if row.standing.seqid < seqid || seqids.confirmed != confirmed {
         Some(NfsStatus::BadStateid)
     } else {
         None
@@ -109,10 +109,10 @@ pub fn standing_fault(
 }
 
 /// How far the owner's requests have come with this one.
-pub fn next_turn(op: u32, seqid: u32, confirmed: bool, closed: Option<u64>) -> Turn
-    ensures { result ≡ next_turn op seqid confirmed closed }
+pub fn next_seqids(op: u32, seqid: u32, confirmed: bool, closed: Option<u64>) -> SeqidState
+    ensures { result ≡ next_seqids op seqid confirmed closed }
 {
-    Turn {
+    SeqidState {
         seqid,
         op,
         confirmed,
@@ -126,21 +126,21 @@ pub fn fail(
     state: &mut NfsState,
     current: Option<u32>,
     owner: u64,
-    turn: Turn,
+    seqids: SeqidState,
     op: u32,
     seqid: u32,
     status: NfsStatus,
 ) -> Result<Done, AllocError>
     requires there { IsSome (find (is_owner owner) state.old.owners) }
     requires fits { ToldFits op (Told.Ended status) }
-    ensures done { (n : ℕ) (s : CoreState) → IfOk result (λ r. carried n s state.old current (failed state.old current owner turn op seqid status) ≡ (r.0, r.1, r.2, state.new, s)) }
+    ensures done { (n : ℕ) (s : CoreState) → IfOk result (λ r. carried n s state.old current (failed state.old current owner seqids op seqid status) ≡ (r.0, r.1, r.2, state.new, s)) }
     ensures told { IfOk result (λ r. r.0 ≡ Told.Ended status) }
 {
     let told = Told::Ended(status);
     if advances(status) {
         let bytes = result_bytes(alloc, op, &told)?;
-        let next = next_turn(op, seqid, turn.confirmed, None);
-        count(state, owner, turn.closed, next, bytes)?;
+        let next = next_seqids(op, seqid, seqids.confirmed, None);
+        count(state, owner, seqids.closed, next, bytes)?;
     }
     Ok((told, current, Sequence::new(alloc)))
 }
@@ -162,20 +162,20 @@ pub fn finish(
     owner: u64,
     closed_before: Option<u64>,
     op: u32,
-    turn: Turn,
+    seqids: SeqidState,
     standing: (u32, u32, bool),
 ) -> Result<Told, AllocError>
     requires owner { IsSome (find (is_owner owner) state.old.owners) }
     requires there { find (is_stateid row.now.number) state.old.stateids ≡ Some row.now }
     requires open { row.now.standing.closed ≡ false }
     ensures told { IfOk result (λ told. told ≡ state_told core.now row.now) }
-    ensures lists { OnOk result (state.new ≡ counted owner closed_before turn (spelled op (state_told core.now row.now)) (stood row.now.number row.now standing.0 standing.1 standing.2 state.old)) }
+    ensures lists { OnOk result (state.new ≡ counted owner closed_before seqids (spelled op (state_told core.now row.now)) (stood row.now.number row.now standing.0 standing.1 standing.2 state.old)) }
 {
     let (access, deny, closed) = standing;
     let told = state_told(core, row);
     let bytes = result_bytes(alloc, op, &told)?;
     stand(state, row, access, deny, closed);
-    count(state, owner, closed_before, turn, bytes)?;
+    count(state, owner, closed_before, seqids, bytes)?;
     Ok(told)
 }
 
@@ -189,19 +189,19 @@ fn confirm_passed(
     args: &OpenConfirmArgs,
     row: &StateidRow,
     owner: u64,
-    turn: Turn,
+    seqids: SeqidState,
 ) -> Result<Done, AllocError>
     requires owner { IsSome (find (is_owner owner) state.old.owners) }
     requires there { find (is_stateid row.now.number) state.old.stateids ≡ Some row.now }
     requires open { row.now.standing.closed ≡ false }
-    ensures done { (n : ℕ) → IfOk result (λ r. carried n core.now state.old current (confirm_done core.now state.old current args.now row.now owner turn (standing_fault row.now turn args.now.stateid.seqid false)) ≡ (r.0, r.1, r.2, state.new, core.now)) }
+    ensures done { (n : ℕ) → IfOk result (λ r. carried n core.now state.old current (confirm_done core.now state.old current args.now row.now owner seqids (standing_fault row.now seqids args.now.stateid.seqid false)) ≡ (r.0, r.1, r.2, state.new, core.now)) }
 {
     let op = operation::OPEN_CONFIRM;
-    if let Some(status) = standing_fault(row, turn, args.stateid.seqid, false) {
-        let done = fail(alloc, state, current, owner, turn, op, args.seqid, status)?;
+    if let Some(status) = standing_fault(row, seqids, args.stateid.seqid, false) {
+        let done = fail(alloc, state, current, owner, seqids, op, args.seqid, status)?;
         return Ok(done);
     }
-    let next = next_turn(op, args.seqid, true, None);
+    let next = next_seqids(op, args.seqid, true, None);
     let standing = (row.standing.access, row.standing.deny, false);
     let told = finish(
         alloc,
@@ -209,7 +209,7 @@ fn confirm_passed(
         core,
         row,
         owner,
-        turn.closed,
+        seqids.closed,
         op,
         next,
         standing,
@@ -232,8 +232,8 @@ fn confirm_by(
     match found {
         Checked::Refused(status) => Ok(ended_as(alloc, status, current)),
         Checked::Repeated(owner) => repeat(alloc, state, core, current, owner),
-        Checked::Passed(row, owner, turn) => {
-            confirm_passed(alloc, state, core, current, args, &row, owner, turn)
+        Checked::Passed(row, owner, seqids) => {
+            confirm_passed(alloc, state, core, current, args, &row, owner, seqids)
         }
     }
 }
@@ -310,18 +310,18 @@ fn close_share(
     args: &CloseArgs,
     row: &StateidRow,
     owner: u64,
-    turn: Turn,
+    seqids: SeqidState,
 ) -> Result<Done, AllocError>
     requires ready { IsReady 0 core.old }
     requires owner { IsSome (find (is_owner owner) state.old.owners) }
     requires there { find (is_stateid row.now.number) state.old.stateids ≡ Some row.now }
     requires open { row.now.standing.closed ≡ false }
-    ensures done { (n : ℕ) → IfOk result (λ r. carried n core.old state.old current (share_closed core.old state.old current args.now row.now owner turn) ≡ (r.0, r.1, r.2, state.new, core.new)) }
+    ensures done { (n : ℕ) → IfOk result (λ r. carried n core.old state.old current (share_closed core.old state.old current args.now row.now owner seqids) ≡ (r.0, r.1, r.2, state.new, core.new)) }
     ensures leaves { OnOk result (Leaves 0 core.old core.new) }
 {
     let op = operation::CLOSE;
     let share = share_of_open(alloc, state, core, row, owner)?;
-    let next = next_turn(op, args.seqid, turn.confirmed, Some(row.number));
+    let next = next_seqids(op, args.seqid, seqids.confirmed, Some(row.number));
     let standing = (row.standing.access, row.standing.deny, true);
     let told = finish(
         alloc,
@@ -329,7 +329,7 @@ fn close_share(
         core,
         row,
         owner,
-        turn.closed,
+        seqids.closed,
         op,
         next,
         standing,
@@ -350,23 +350,23 @@ fn close_passed<K: Keeper>(
     args: &CloseArgs,
     row: &StateidRow,
     owner: u64,
-    turn: Turn,
+    seqids: SeqidState,
 ) -> Result<Done, AllocError>
     requires ready { IsReady 2 core.old }
     requires owner { IsSome (find (is_owner owner) state.old.owners) }
     requires there { find (is_stateid row.now.number) state.old.stateids ≡ Some row.now }
     requires open { row.now.standing.closed ≡ false }
-    ensures done { (n : ℕ) → IfOk result (λ r. carried n core.old state.old current (close_done core.old state.old current args.now row.now owner turn (standing_fault row.now turn args.now.stateid.seqid true)) ≡ (r.0, r.1, r.2, state.new, core.new)) }
+    ensures done { (n : ℕ) → IfOk result (λ r. carried n core.old state.old current (close_done core.old state.old current args.now row.now owner seqids (standing_fault row.now seqids args.now.stateid.seqid true)) ≡ (r.0, r.1, r.2, state.new, core.new)) }
     ensures leaves { OnOk result (Leaves 0 core.old core.new) }
     ensures keeper { keeper.new ≡ keeper.old }
 {
     let op = operation::CLOSE;
-    if let Some(status) = standing_fault(row, turn, args.stateid.seqid, true) {
-        let done = fail(alloc, state, current, owner, turn, op, args.seqid, status)?;
+    if let Some(status) = standing_fault(row, seqids, args.stateid.seqid, true) {
+        let done = fail(alloc, state, current, owner, seqids, op, args.seqid, status)?;
         return Ok(done);
     }
     end_locks(alloc, state, core, keeper, row)?;
-    let done = close_share(alloc, state, core, current, args, row, owner, turn)?;
+    let done = close_share(alloc, state, core, current, args, row, owner, seqids)?;
     Ok(done)
 }
 
@@ -389,8 +389,10 @@ fn close_by<K: Keeper>(
     match found {
         Checked::Refused(status) => Ok(ended_as(alloc, status, current)),
         Checked::Repeated(owner) => repeat(alloc, state, core, current, owner),
-        Checked::Passed(row, owner, turn) => {
-            close_passed(alloc, state, core, keeper, current, args, &row, owner, turn)
+        Checked::Passed(row, owner, seqids) => {
+            close_passed(
+                alloc, state, core, keeper, current, args, &row, owner, seqids,
+            )
         }
     }
 }

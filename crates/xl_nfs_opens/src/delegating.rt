@@ -6,7 +6,7 @@ ghost use Rattle.xl_matrix.specs.Equal.{same_parties};
 ghost use Rattle.xl_names.specs.declared.name.Name.TheVariants.{NfsParty};
 ghost use Rattle.xl_nfs.specs.Opens.{shown_open_args, shown_open_claim};
 ghost use Rattle.xl_nfs_state.specs.Keys.{place_of, same_place};
-ghost use Rattle.xl_core.specs.Asking.{party_named};
+ghost use Rattle.xl_core.specs.Askers.{party_named};
 ghost use Rattle.xl_nfs_opens.specs.Opens.{cache_by, cache_held, delegation_of, can_stand, delegated, delegated_in, delegation_row, delegation_told, drawn_for, granted_wish, has_none, has_program, kind_for, type_claimed, wish_of, wished_kinds};
 ghost use Rattle.xl_nfs_opens.specs.Short.{IsReady, Leaves};
 

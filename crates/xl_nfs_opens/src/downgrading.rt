@@ -8,7 +8,7 @@ ghost use Rattle.xl_nfs_opens.specs.Downgrades.{downgrade_by, downgrade_done, do
 ghost use Rattle.xl_nfs_opens.specs.Plans.{carried};
 ghost use Rattle.xl_nfs_opens.specs.Short.{IsReady, Leaves};
 
-use crate::closing::{check, fail, finish, next_turn, share_of_open, standing_fault};
+use crate::closing::{check, fail, finish, next_seqids, share_of_open, standing_fault};
 use crate::done::{Done, ended_as};
 use crate::opener::Checked;
 use crate::renewing::{renew_for, state_client};
@@ -19,7 +19,7 @@ use xl_base::Sequence;
 use xl_core::Core;
 use xl_matrix::rights_within;
 use xl_nfs::{NfsStatus, OpenDowngradeArgs, operation};
-use xl_nfs_state::{NfsState, StateidRow, Turn};
+use xl_nfs_state::{NfsState, SeqidState, StateidRow};
 
 /// Whether an access is left, and both lie within what the open has.
 #[tactic(auto, unfolding(crate::specs::Closing::can_weaken))]
@@ -35,11 +35,15 @@ fn can_weaken(row: &StateidRow, access: u32, deny: u32) -> bool
 
 /// What is wrong with the stateid, or with what is asked.
 #[tactic(auto, unfolding(crate::specs::Downgrades::downgrade_fault))]
-fn downgrade_fault(row: &StateidRow, turn: Turn, args: &OpenDowngradeArgs) -> Option<NfsStatus>
-    ensures value { result ≡ downgrade_fault row.now turn args.now }
+fn downgrade_fault(
+    row: &StateidRow,
+    seqids: SeqidState,
+    args: &OpenDowngradeArgs,
+) -> Option<NfsStatus>
+    ensures value { result ≡ downgrade_fault row.now seqids args.now }
     ensures fails { IfSome result (λ status. is_ok status ≡ false) }
 {
-    if let Some(status) = standing_fault(row, turn, args.stateid.seqid, true) {
+    if let Some(status) = standing_fault(row, seqids, args.stateid.seqid, true) {
         return Some(status);
     }
     if can_weaken(row, args.access, args.deny) {
@@ -59,22 +63,22 @@ fn downgrade_passed(
     args: &OpenDowngradeArgs,
     row: &StateidRow,
     owner: u64,
-    turn: Turn,
+    seqids: SeqidState,
 ) -> Result<Done, AllocError>
     requires ready { IsReady 0 core.old }
     requires owner { IsSome (find (is_owner owner) state.old.owners) }
     requires there { find (is_stateid row.now.number) state.old.stateids ≡ Some row.now }
     requires open { row.now.standing.closed ≡ false }
-    ensures done { (n : ℕ) → IfOk result (λ r. carried n core.old state.old current (downgrade_done core.old state.old current args.now row.now owner turn (downgrade_fault row.now turn args.now)) ≡ (r.0, r.1, r.2, state.new, core.new)) }
+    ensures done { (n : ℕ) → IfOk result (λ r. carried n core.old state.old current (downgrade_done core.old state.old current args.now row.now owner seqids (downgrade_fault row.now seqids args.now)) ≡ (r.0, r.1, r.2, state.new, core.new)) }
     ensures leaves { OnOk result (Leaves 0 core.old core.new) }
 {
     let op = operation::OPEN_DOWNGRADE;
-    if let Some(status) = downgrade_fault(row, turn, args) {
-        let done = fail(alloc, state, current, owner, turn, op, args.seqid, status)?;
+    if let Some(status) = downgrade_fault(row, seqids, args) {
+        let done = fail(alloc, state, current, owner, seqids, op, args.seqid, status)?;
         return Ok(done);
     }
     let share = share_of_open(alloc, state, core, row, owner)?;
-    let next = next_turn(op, args.seqid, turn.confirmed, None);
+    let next = next_seqids(op, args.seqid, seqids.confirmed, None);
     let standing = (args.access, args.deny, false);
     let told = finish(
         alloc,
@@ -82,7 +86,7 @@ fn downgrade_passed(
         core,
         row,
         owner,
-        turn.closed,
+        seqids.closed,
         op,
         next,
         standing,
@@ -109,8 +113,8 @@ fn downgrade_by(
     match found {
         Checked::Refused(status) => Ok(ended_as(alloc, status, current)),
         Checked::Repeated(owner) => repeat(alloc, state, core, current, owner),
-        Checked::Passed(row, owner, turn) => {
-            downgrade_passed(alloc, state, core, current, args, &row, owner, turn)
+        Checked::Passed(row, owner, seqids) => {
+            downgrade_passed(alloc, state, core, current, args, &row, owner, seqids)
         }
     }
 }

@@ -3,14 +3,14 @@ ghost use Rattle.std.specs.Prelude.{◌≡◌, ◌+◌, false, true, None, Some,
 ghost use Rattle.std.specs.List.{find};
 ghost use Rattle.xl_nfs.specs.Opens.{shown_open_args};
 ghost use Rattle.xl_nfs_state.specs.State.{is_stateid, owned_on};
-ghost use Rattle.xl_nfs_opens.specs.Opens.{can_enter, either_bits, entered, flags_of, has_room, open_held, open_row, open_turn, stood, bits_of, live};
+ghost use Rattle.xl_nfs_opens.specs.Opens.{can_enter, either_bits, entered, flags_of, has_room, open_held, open_row, open_seqids, stood, bits_of, live};
 
 use crate::opener::Opener;
 use crate::seqids::{find_opener, is_room_for};
 use crate::shares::rights_of;
 use std::alloc::{AllocError, Global};
 use xl_nfs::{OpenArgs, operation};
-use xl_nfs_state::{Holder, MOST_OPENS, NfsState, Standing, StateidRow, Turn, Whose};
+use xl_nfs_state::{Holder, MOST_OPENS, NfsState, SeqidState, Standing, StateidRow, Whose};
 
 fn bits_of(read: bool, write: bool) -> u32
     ensures { result ≡ bits_of read write }
@@ -34,10 +34,10 @@ pub(crate) fn either_bits(a: u32, b: u32) -> u32
 }
 
 /// How far the owner's requests have come with this one.
-pub(crate) fn open_turn(args: &OpenArgs, confirmed: bool) -> Turn
-    ensures { result ≡ open_turn (shown_open_args args.now) confirmed }
+pub(crate) fn open_seqids(args: &OpenArgs, confirmed: bool) -> SeqidState
+    ensures { result ≡ open_seqids (shown_open_args args.now) confirmed }
 {
-    Turn {
+    SeqidState {
         seqid: args.seqid,
         op: operation::OPEN,
         confirmed,

@@ -1,32 +1,14 @@
-//! Clientids and leases.
+//! Leases.
 ghost use Rattle.std.specs.Prelude.{◌≡◌, ℕ, ◌+◌, [], ◌∷◌, OnOk};
 ghost use Rattle.xl_core.specs.Deeds.{all_done, all_told_of, Renews};
 ghost use Rattle.xl_core.specs.State.{drawn};
-ghost use Rattle.xl_nfs_opens.specs.Leases.{clientid_of, number_in, lease_end};
+ghost use Rattle.xl_nfs_opens.specs.Leases.{lease_end};
 ghost use Rattle.xl_nfs_opens.specs.Short.{IsReady, Leaves};
 
 use std::alloc::{AllocError, Global};
 use xl_base::{Moment, Party, Protocol, Sequence};
-use xl_core::{Core, Effect, NUMBERS};
+use xl_core::{Core, Effect};
 use xl_names::Name;
-
-/// The clientid of the client of this number.
-pub fn clientid_of(core: &Core, number: u32) -> u64
-    ensures { result ≡ clientid_of core.now number }
-{
-    u64::from(core.stable().epoch()) * NUMBERS + u64::from(number)
-}
-
-/// The number in a clientid, where it is of this start.
-pub fn number_in(core: &Core, clientid: u64) -> Option<u32>
-    ensures { result ≡ number_in core.now clientid }
-{
-    if clientid / NUMBERS == u64::from(core.stable().epoch()) {
-        Some((clientid % NUMBERS) as u32)
-    } else {
-        None
-    }
-}
 
 /// When a lease ends that is renewed now.
 pub fn lease_end(core: &Core) -> Moment

@@ -2,35 +2,28 @@
 //! OPEN_DOWNGRADE, CLOSE and DELEGRETURN over the core.
 #![tactic(auto)]
 
-pub mod advancing;
 mod aims;
 mod asks;
 mod closing;
 mod delegating;
-pub mod delegations;
 mod done;
 mod downgrading;
 mod ending;
 mod entering;
 mod files;
-pub mod law;
 mod leases;
-pub mod lengths;
-pub mod numbers;
 mod opener;
 mod opening;
-pub mod orderly;
 mod renewing;
 mod repeats;
 mod results;
 mod seqids;
 mod shares;
-pub mod tied;
 mod told;
 
 pub use asks::{range_ask, unlock_ask};
 pub use closing::{
-    check, check_owner, close, deleg_return, fail, finish, next_turn, open_confirm, opener_by,
+    check, check_owner, close, deleg_return, fail, finish, next_seqids, open_confirm, opener_by,
     standing_fault, state_told,
 };
 pub use delegating::party_of;
@@ -38,7 +31,7 @@ pub use done::{Done, beside, ended_as};
 pub use downgrading::open_downgrade;
 pub use entering::{held_on, stand};
 pub use files::file_named;
-pub use leases::{clientid_of, drawn, lease_end, number_in, renewed};
+pub use leases::{drawn, lease_end, renewed};
 pub use opener::{Checked, Opener};
 pub use opening::{answer_status, client_in, open_file};
 pub use renewing::{number_of, renew_for, state_client, stateid_of};

@@ -1,7 +1,7 @@
 //! Owners of opens and of locks, and what their seqids say.
 use xl_base::Sequence;
 use xl_nfs::NfsStatus;
-use xl_nfs_state::{OwnerKind, StateidRow, Turn};
+use xl_nfs_state::{OwnerKind, SeqidState, StateidRow};
 
 /// An owner of opens or of locks (RFC 7530 9.1.5): its client, by the client's number and id string, and its own bytes.
 #[derive(Drop)]
@@ -39,5 +39,5 @@ pub enum Checked {
     /// It is the last request of the owner of this number once more.
     Repeated(u64),
     /// It is of this open, of the owner of this number, whose requests came this far, and the next one of these.
-    Passed(StateidRow, u64, Turn),
+    Passed(StateidRow, u64, SeqidState),
 }

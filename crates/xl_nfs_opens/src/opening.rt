@@ -13,9 +13,9 @@ use crate::aims::opened_file;
 use crate::delegating::{delegate, granted_wish, wish_of};
 use crate::done::{Done, beside, ended_as};
 use crate::entering::{
-    either_bits, enter, flags_of, has_room, open_held, open_row, open_turn, stand,
+    either_bits, enter, flags_of, has_room, open_held, open_row, open_seqids, stand,
 };
-use crate::leases::{drawn, number_in};
+use crate::leases::drawn;
 use crate::opener::{Judged, Opener};
 use crate::renewing::{renew_for, state_client, stateid_of};
 use crate::repeats::{keep_told, repeat};
@@ -25,7 +25,7 @@ use crate::shares::{asked, give_all, reclaims, share_ask};
 use crate::told::Told;
 use std::alloc::{AllocError, Global};
 use xl_base::{Keeper, Sequence};
-use xl_core::{Answer, Core, Effect};
+use xl_core::{Answer, Core, Effect, number_in};
 use xl_nfs::{NfsStatus, OpenArgs, OpenClaim, operation};
 use xl_nfs_state::{
     ClientRow, NfsState, OwnerKind, OwnerRow, SeqidVerdict, StateidRow, Whose, verdict,
@@ -58,11 +58,11 @@ pub fn answer_status(reclaim: bool, answer: Answer) -> NfsStatus
 fn judge_row(row: &OwnerRow, seqid: u32) -> Judged
     ensures { result ≡ judged_by seqid (Some row.now) }
 {
-    match verdict(Some(row.turn), operation::OPEN, seqid) {
+    match verdict(Some(row.seqids), operation::OPEN, seqid) {
         SeqidVerdict::Repeat => Judged::Repeats(row.number),
         SeqidVerdict::New => Judged::New,
-        SeqidVerdict::Next if row.turn.confirmed => Judged::Next,
-        SeqidVerdict::Bad(_) if row.turn.confirmed => Judged::Bad,
+        SeqidVerdict::Next if row.seqids.confirmed => Judged::Next,
+        SeqidVerdict::Bad(_) if row.seqids.confirmed => Judged::Bad,
         SeqidVerdict::Next | SeqidVerdict::Bad(_) => Judged::Anew(row.number),
     }
 }
@@ -96,7 +96,7 @@ fn refuse(
     let told = Told::Ended(status);
     if advances(status) {
         let bytes = result_bytes(alloc, operation::OPEN, &told)?;
-        remember(alloc, state, opener, open_turn(args, confirmed), bytes)?;
+        remember(alloc, state, opener, open_seqids(args, confirmed), bytes)?;
     }
     Ok((told, current))
 }
@@ -120,7 +120,7 @@ fn grant_new(
 {
     let owner = opener_number(state, opener);
     let number = u64::from(drawn(core));
-    seat(alloc, state, opener, open_turn(args, confirmed))?;
+    seat(alloc, state, opener, open_seqids(args, confirmed))?;
     enter(
         alloc,
         state,
@@ -157,7 +157,7 @@ fn grant_more(
     let access = either_bits(row.standing.access, args.access);
     let deny = either_bits(row.standing.deny, args.deny);
     stand(state, row, access, deny, false);
-    seat(alloc, state, opener, open_turn(args, confirmed))?;
+    seat(alloc, state, opener, open_seqids(args, confirmed))?;
     let delegation = delegate(alloc, state, core, opener, file, write)?;
     let seqid = row.standing.seqid.wrapping_add(1);
     let told = Told::Opened(

@@ -8,7 +8,9 @@ use crate::opener::Opener;
 use std::alloc::{AllocError, Global};
 use xl_base::Sequence;
 use xl_nfs::NfsStatus;
-use xl_nfs_state::{KeptRow, NfsState, OwnerName, OwnerNamed, OwnerRow, ResultBytes, Turn, Whose};
+use xl_nfs_state::{
+    KeptRow, NfsState, OwnerName, OwnerNamed, OwnerRow, ResultBytes, SeqidState, Whose,
+};
 
 /// Whether a request that ends so counts: its owner's seqid advances, and the result is kept.
 pub fn advances(status: NfsStatus) -> bool
@@ -75,13 +77,13 @@ pub fn count(
     state: &mut NfsState,
     owner: u64,
     closed: Option<u64>,
-    turn: Turn,
+    seqids: SeqidState,
     bytes: ResultBytes,
 ) -> Result<(), AllocError>
     requires { IsSome (find (is_owner owner) state.old.owners) }
-    ensures { OnOk result (state.new ≡ counted owner closed turn bytes state.old) }
+    ensures { OnOk result (state.new ≡ counted owner closed seqids bytes state.old) }
 {
-    state.change_owner(owner, turn);
+    state.change_owner(owner, seqids);
     drop_closed(state, closed);
     keep_for(state, owner, bytes)?;
     Ok(())
@@ -120,11 +122,11 @@ fn seat_new(
     alloc: Global,
     state: &mut NfsState,
     opener: &Opener,
-    turn: Turn,
+    seqids: SeqidState,
 ) -> Result<(), AllocError>
     requires client { IsSome (find (is_client opener.now.client true) state.old.clients) }
     requires new { find (is_opener opener.now) state.old.owners ≡ None }
-    ensures { OnOk result (state.new ≡ seated_new opener.now turn state.old (next_owner state.old.owners)) }
+    ensures { OnOk result (state.new ≡ seated_new opener.now seqids state.old (next_owner state.old.owners)) }
 {
     let Some(number) = state.next_owner() else {
         return Ok(());
@@ -135,7 +137,14 @@ fn seat_new(
         kind: opener.kind,
         owner,
     };
-    match state.add_owner(alloc, OwnerRow { number, name, turn }) {
+    match state.add_owner(
+        alloc,
+        OwnerRow {
+            number,
+            name,
+            seqids,
+        },
+    ) {
         Ok(()) => Ok(()),
         Err(_) => Err(AllocError),
     }
@@ -147,16 +156,16 @@ pub(crate) fn seat(
     alloc: Global,
     state: &mut NfsState,
     opener: &Opener,
-    turn: Turn,
+    seqids: SeqidState,
 ) -> Result<(), AllocError>
     requires { IsSome (find (is_client opener.now.client true) state.old.clients) }
-    ensures { OnOk result (state.new ≡ seated opener.now turn state.old) }
+    ensures { OnOk result (state.new ≡ seated opener.now seqids state.old) }
 {
     let Some(row) = find_opener(state, opener) else {
-        return seat_new(alloc, state, opener, turn);
+        return seat_new(alloc, state, opener, seqids);
     };
-    let (number, closed) = (row.number, row.turn.closed);
-    state.change_owner(number, turn);
+    let (number, closed) = (row.number, row.seqids.closed);
+    state.change_owner(number, seqids);
     drop_closed(state, closed);
     Ok(())
 }
@@ -167,15 +176,15 @@ pub fn remember(
     alloc: Global,
     state: &mut NfsState,
     opener: &Opener,
-    turn: Turn,
+    seqids: SeqidState,
     bytes: ResultBytes,
 ) -> Result<(), AllocError>
     requires { IsSome (find (is_client opener.now.client true) state.old.clients) }
-    ensures { OnOk result (state.new ≡ remembered opener.now turn bytes state.old) }
+    ensures { OnOk result (state.new ≡ remembered opener.now seqids bytes state.old) }
 {
     if is_room_for(state, opener) {
         let number = opener_number(state, opener);
-        seat(alloc, state, opener, turn)?;
+        seat(alloc, state, opener, seqids)?;
         keep_for(state, number, bytes)?;
     }
     Ok(())

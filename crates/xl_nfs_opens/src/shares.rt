@@ -3,7 +3,7 @@ ghost use Rattle.xl_nfs_opens.specs.Downgrades.{weakens};
 ghost use Rattle.xl_names.specs.declared.name.Name.TheVariants.{NfsShare};
 ghost use Rattle.std.specs.Prelude.{◌≡◌, ℕ, [], IfOk, IfSome, OnOk};
 ghost use Rattle.xl_base.specs.Lists.{IsIn};
-ghost use Rattle.xl_core.specs.Asking.{IsFit};
+ghost use Rattle.xl_core.specs.Askers.{IsFit};
 ghost use Rattle.xl_core.specs.Decide.{ask};
 ghost use Rattle.xl_core.specs.Deeds.{all_done, all_told_of};
 ghost use Rattle.xl_core.specs.Settle.{share_has};

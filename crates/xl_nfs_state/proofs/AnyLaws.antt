@@ -46,11 +46,11 @@ module _ {A : Type 0} where
       ]
 
   pub all_changed : (P Q : A → Type 0) (which : A → Bool) (to : A → A) (xs : List A) → ((x : A) → P x → Q x) → ((x : A) → P x → Q (to x)) → AllByRecursion P xs → AllByRecursion Q (changed which to xs)
-  all_changed P Q which to [] step turn all = tt
-  all_changed P Q which to (x ∷ xs) step turn all =
+  all_changed P Q which to [] step seqids all = tt
+  all_changed P Q which to (x ∷ xs) step seqids all =
       elim (cases_Bool (which x)) [
-        | inl h ↦ rw h (turn x all.0, all_steps xs step all.1)
-        | inr h ↦ rw h (step x all.0, all_changed P Q which to xs step turn all.1)
+        | inl h ↦ rw h (seqids x all.0, all_steps xs step all.1)
+        | inr h ↦ rw h (step x all.0, all_changed P Q which to xs step seqids all.1)
       ]
     where
       all_steps : (ys : List A) → ((x : A) → P x → Q x) → AllByRecursion P ys → AllByRecursion Q ys

@@ -1,5 +1,5 @@
 pub mod AnyLaws
 pub mod FiledLaws
-pub mod KeptLaws
+pub mod ResultMapLaws
 pub mod ListingLaws
 pub mod SoundLaws

@@ -8,11 +8,11 @@ use Rattle.std.proofs.lemmas.Option.{same_Some}
 use Rattle.std.proofs.lemmas.List.{length-append}
 use Rattle.xl_base.specs.declared.event.Moment.{Moment}
 use Rattle.xl_base.proofs.Members.{all_append, all_weaker}
-use Rattle.xl_nfs_state.proofs.KeptLaws.{some_found}
+use Rattle.xl_nfs_state.proofs.ResultMapLaws.{some_found}
 use Rattle.xl_nfs_state.proofs.AnyLaws.{any_more, any_left, any_changed, all_left, all_changed}
 use Rattle.xl_nfs_state.specs.Filed.{changed}
 use Rattle.xl_nfs_state.specs.Keys.{same_kind}
-use Rattle.xl_nfs_state.specs.Rows.{with_details, with_time, with_turn, with_standing, with_result}
+use Rattle.xl_nfs_state.specs.Rows.{with_details, with_time, with_seqids, with_standing, with_result}
 use Rattle.xl_nfs_state.specs.State as st
 use Rattle.xl_nfs_state.specs.State.{NfsLists, IsSound, IsRising, hangs, holder_hangs, has_client, has_owner, has_open, is_client, is_owner, is_kept, is_live, opens, with_clients, with_owners, with_stateids, with_kept, without}
 use Rattle.xl_nfs_state.specs.declared.client.ClientDetails.{ClientDetails}
@@ -21,7 +21,7 @@ use Rattle.xl_nfs_state.specs.declared.kept.KeptRow.{KeptRow}
 use Rattle.xl_nfs_state.specs.declared.owner.OwnerKind.{OwnerKind}
 use Rattle.xl_nfs_state.specs.declared.owner.OwnerKind.TheVariants.{Open as Opens, Lock as Locks}
 use Rattle.xl_nfs_state.specs.declared.owner.OwnerRow.{OwnerRow}
-use Rattle.xl_nfs_state.specs.declared.owner.Turn.{Turn}
+use Rattle.xl_nfs_state.specs.declared.owner.SeqidState.{SeqidState}
 use Rattle.xl_nfs_state.specs.declared.stateid.Holder.{Holder}
 use Rattle.xl_nfs_state.specs.declared.stateid.Holder.TheVariants.{Open, Lock, Delegation}
 use Rattle.xl_nfs_state.specs.declared.stateid.Standing.{Standing}
@@ -188,12 +188,12 @@ rising_left drops (o ∷ os) h =
       | inr stays ↦ rw stays (all_left _ _ drops os (λ p e k. k) h.0, rising_left drops os h.1)
     ]
 
-pub rising_changed : (which : OwnerRow → Bool) (turn : Turn) (os : List OwnerRow) → IsRising os → IsRising (changed which (with_turn turn) os)
-rising_changed which turn [] h = tt
-rising_changed which turn (o ∷ os) h =
+pub rising_changed : (which : OwnerRow → Bool) (seqids : SeqidState) (os : List OwnerRow) → IsRising os → IsRising (changed which (with_seqids seqids) os)
+rising_changed which seqids [] h = tt
+rising_changed which seqids (o ∷ os) h =
     elim (cases_Bool (which o)) [
       | inl e ↦ rw e h
-      | inr e ↦ rw e (all_changed _ _ which (with_turn turn) os (λ p k. k) (λ p k. k) h.0, rising_changed which turn os h.1)
+      | inr e ↦ rw e (all_changed _ _ which (with_seqids seqids) os (λ p k. k) (λ p k. k) h.0, rising_changed which seqids os h.1)
     ]
 
 -- the lists with other owners, where what hung on the old ones hangs on the new ones
@@ -261,13 +261,13 @@ owner_added l row sound next client =
     (λ owner client kind h. any_more (st.fits_owner owner client kind) l.owners (row ∷ []) h)
     (λ owner h. any_more (is_owner owner) l.owners (row ∷ []) h)
 
-pub owner_changed : (l : NfsLists) (which : OwnerRow → Bool) (turn : Turn) → IsSound l → IsSound (with_owners l (changed which (with_turn turn) l.owners))
-owner_changed l which turn sound =
-    owners_stay l (changed which (with_turn turn) l.owners) sound (omega (arith, sound.owners_room, length_changed which (with_turn turn) l.owners))
-    (rising_changed which turn l.owners sound.rising)
-    (all_changed _ _ which (with_turn turn) l.owners (λ o h. h) (λ o h. h) sound.owners)
-    (λ owner client kind h. any_changed (st.fits_owner owner client kind) which (with_turn turn) l.owners (λ o. refl) ∙ h)
-    (λ owner h. any_changed (is_owner owner) which (with_turn turn) l.owners (λ o. refl) ∙ h)
+pub owner_changed : (l : NfsLists) (which : OwnerRow → Bool) (seqids : SeqidState) → IsSound l → IsSound (with_owners l (changed which (with_seqids seqids) l.owners))
+owner_changed l which seqids sound =
+    owners_stay l (changed which (with_seqids seqids) l.owners) sound (omega (arith, sound.owners_room, length_changed which (with_seqids seqids) l.owners))
+    (rising_changed which seqids l.owners sound.rising)
+    (all_changed _ _ which (with_seqids seqids) l.owners (λ o h. h) (λ o h. h) sound.owners)
+    (λ owner client kind h. any_changed (st.fits_owner owner client kind) which (with_seqids seqids) l.owners (λ o. refl) ∙ h)
+    (λ owner h. any_changed (is_owner owner) which (with_seqids seqids) l.owners (λ o. refl) ∙ h)
 
 pub owner_dropped : (l : NfsLists) (number : ℕ) → IsSound l → st.IsIdleOwner number l → IsSound (with_owners l (without (is_owner number) l.owners))
 owner_dropped l number sound idle =

@@ -5,7 +5,7 @@ use Rattle.xl_nfs_state.specs.declared.client.ClientRow.{ClientRow}
 use Rattle.xl_nfs_state.specs.declared.client.ClientDetails.{ClientDetails}
 use Rattle.xl_nfs_state.specs.declared.kept.KeptRow.{KeptRow}
 use Rattle.xl_nfs_state.specs.declared.owner.OwnerRow.{OwnerRow}
-use Rattle.xl_nfs_state.specs.declared.owner.Turn.{Turn}
+use Rattle.xl_nfs_state.specs.declared.owner.SeqidState.{SeqidState}
 use Rattle.xl_nfs_state.specs.declared.stateid.StateidRow.{StateidRow}
 use Rattle.xl_nfs_state.specs.declared.stateid.Standing.{Standing}
 
@@ -15,8 +15,8 @@ with_details details r = record { number = r.number; confirmed = r.confirmed; id
 abbrev pub with_time : Moment → ClientRow → ClientRow
 with_time time r = with_details (record { verifier = r.details.verifier; confirm = r.details.confirm; callback = r.details.callback; time = time }) r
 
-abbrev pub with_turn : Turn → OwnerRow → OwnerRow
-with_turn turn r = record { number = r.number; name = r.name; turn = turn }
+abbrev pub with_seqids : SeqidState → OwnerRow → OwnerRow
+with_seqids seqids r = record { number = r.number; name = r.name; seqids = seqids }
 
 abbrev pub with_standing : Standing → StateidRow → StateidRow
 with_standing standing r = record { number = r.number; client = r.client; file = r.file; holder = r.holder; standing = standing }

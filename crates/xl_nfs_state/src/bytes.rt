@@ -6,10 +6,8 @@ use std::alloc::{AllocError, Global};
 use std::marker::Model;
 use xl_base::Sequence;
 
-/// How many bytes a result that is kept has at most: the length of LOCK's that is denied by an owner of 1,024 bytes.
-pub const MOST_RESULT_BYTES: usize = 1064;
-
-/// The bytes of a result that is kept, 1,064 at most. A contract sees the bytes.
+/// The bytes of a result that is kept, 1,064 at most: as many as LOCK's result has that is denied by an owner of 1,024 bytes.
+/// A contract sees the bytes.
 #[derive(Drop)]
 pub struct ResultBytes {
     bytes: Sequence<u8>,

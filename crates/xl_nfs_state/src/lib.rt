@@ -13,10 +13,10 @@ mod seqid;
 mod state;
 mod stateid;
 
-pub use bytes::{MOST_RESULT_BYTES, ResultBytes};
+pub use bytes::ResultBytes;
 pub use client::{Callback, ClientDetails, ClientRow};
 pub use kept::KeptRow;
-pub use owner::{OwnerKind, OwnerName, OwnerNamed, OwnerRow, Turn};
+pub use owner::{OwnerKind, OwnerName, OwnerNamed, OwnerRow, SeqidState};
 pub use seqid::{SeqidVerdict, accepted_seqids_are_not_next, verdict};
 pub use state::{MOST_CLIENTS, MOST_OPENS, MOST_OWNERS, NfsState, NfsStateErr};
 pub use stateid::{Holder, Standing, StateidRow, Whose};

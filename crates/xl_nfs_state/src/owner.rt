@@ -3,7 +3,7 @@ ghost use Rattle.std.specs.Prelude.{◌≡◌, refl, IfOk};
 ghost use Rattle.std.proofs.Common.{ap, ◌∙◌};
 ghost use Rattle.xl_nfs_state.specs.Alike.{owner_names_are, owner_names_same};
 ghost use Rattle.xl_nfs_state.specs.Keys.{owner_key, owner_name, same_owner_name};
-ghost use Rattle.xl_nfs_state.specs.Rows.{with_turn};
+ghost use Rattle.xl_nfs_state.specs.Rows.{with_seqids};
 
 use crate::filed::{Change, Row};
 use indexmap::Equivalent;
@@ -44,7 +44,7 @@ pub struct OwnerNamed<'a> {
 
 /// How far an owner's requests have come (RFC 7530 9.1.7).
 #[derive(Clone, Copy)]
-pub struct Turn {
+pub struct SeqidState {
     /// The seqid of its last request that counted.
     pub seqid: u32,
     /// The number of that request's operation.
@@ -63,7 +63,7 @@ pub struct OwnerRow {
     /// What its client calls it.
     pub name: OwnerName,
     /// How far its requests have come.
-    pub turn: Turn,
+    pub seqids: SeqidState,
 }
 
 impl<'a> Equivalent<OwnerName> for OwnerNamed<'a> {
@@ -100,11 +100,11 @@ impl Row for OwnerRow {
     }
 }
 
-impl Change<OwnerRow> for Turn {
-    ghost after = { with_turn };
+impl Change<OwnerRow> for SeqidState {
+    ghost after = { with_seqids };
 
     fn change(self, row: &mut OwnerRow) {
-        row.turn = self;
+        row.seqids = self;
     }
 
     ghost keeps_number = { λ c r. refl };

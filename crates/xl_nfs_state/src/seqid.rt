@@ -1,10 +1,10 @@
 //! Seqids of owners (RFC 7530 9.1.7, 9.1.8).
 ghost use Rattle.std.specs.Prelude.{◌≡◌, ◌≢◌, ◌<◌, ◌^◌, ℕ, Some};
-ghost use Rattle.xl_nfs_state.specs.declared.owner.Turn.{Turn as OwnerTurn};
+ghost use Rattle.xl_nfs_state.specs.declared.owner.SeqidState.{SeqidState as OwnerSeqids};
 ghost use Rattle.xl_nfs_state.specs.declared.seqid.SeqidVerdict.TheVariants.{Next, Repeat};
 ghost use Rattle.xl_nfs_state.specs.Verdict.{verdict, accepted};
 
-use crate::owner::Turn;
+use crate::owner::SeqidState;
 
 /// What an owner's seqid says of a request.
 #[derive(Clone, Copy, Debug, PartialEq, Eq)]
@@ -19,12 +19,12 @@ pub enum SeqidVerdict {
     Bad(u32),
 }
 
-impl Turn {
-    /// The turn once a request of this operation and seqid counted: its seqid and operation are the last from then on.
-    pub fn accepted(self, op: u32, seqid: u32) -> Turn
+impl SeqidState {
+    /// The same once a request of this operation and seqid counted: its seqid and operation are the last from then on.
+    pub fn accepted(self, op: u32, seqid: u32) -> SeqidState
         ensures { result ≡ accepted op seqid self }
     {
-        Turn {
+        SeqidState {
             seqid,
             op,
             confirmed: self.confirmed,
@@ -35,23 +35,23 @@ impl Turn {
 
 /// What the seqid says of a request by an owner whose requests have come this far; None where the owner is new. The
 /// seqid after 2^32 - 1 is 0.
-pub fn verdict(turn: Option<Turn>, op: u32, seqid: u32) -> SeqidVerdict
-    ensures { result ≡ verdict turn op seqid }
+pub fn verdict(seqids: Option<SeqidState>, op: u32, seqid: u32) -> SeqidVerdict
+    ensures { result ≡ verdict seqids op seqid }
 {
-    let Some(turn) = turn else {
+    let Some(seqids) = seqids else {
         return SeqidVerdict::New;
     };
-    if seqid == turn.seqid.wrapping_add(1) {
+    if seqid == seqids.seqid.wrapping_add(1) {
         SeqidVerdict::Next
-    } else if seqid == turn.seqid && op == turn.op {
+    } else if seqid == seqids.seqid && op == seqids.op {
         SeqidVerdict::Repeat
     } else {
-        SeqidVerdict::Bad(turn.seqid)
+        SeqidVerdict::Bad(seqids.seqid)
     }
 }
 
 /// A seqid that counted isn't next again; it is a repeat for its own operation.
 pub fn accepted_seqids_are_not_next()
-    ensures next { (turn : OwnerTurn) (op other seqid : ℕ) → seqid < 2 ^ 32 → verdict (Some (accepted op seqid turn)) other seqid ≢ Next }
-    ensures repeat { (turn : OwnerTurn) (op seqid : ℕ) → seqid < 2 ^ 32 → verdict (Some (accepted op seqid turn)) op seqid ≡ Repeat }
+    ensures next { (seqids : OwnerSeqids) (op other seqid : ℕ) → seqid < 2 ^ 32 → verdict (Some (accepted op seqid seqids)) other seqid ≢ Next }
+    ensures repeat { (seqids : OwnerSeqids) (op seqid : ℕ) → seqid < 2 ^ 32 → verdict (Some (accepted op seqid seqids)) op seqid ≡ Repeat }
 {}

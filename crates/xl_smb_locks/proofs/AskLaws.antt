@@ -4,7 +4,7 @@ use Rattle.std.proofs.lemmas.Bool.{cases_Bool, true≢false}
 use Rattle.xl_names.specs.Names.{is_kept}
 use Rattle.xl_names.specs.declared.name.Name.{Name}
 use Rattle.xl_wait.specs.declared.waiter.Rooms.{Rooms}
-use Rattle.xl_core.specs.Asking.{who_entered, both_entered, is_named, is_client}
+use Rattle.xl_core.specs.Askers.{who_entered, both_entered, is_named, is_client}
 use Rattle.xl_core.specs.Decide.{Answered, ask}
 use Rattle.xl_core.specs.Frames.{asks_to_hold, names_after}
 use Rattle.xl_core.specs.Good.{IsGood}

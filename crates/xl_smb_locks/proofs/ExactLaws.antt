@@ -17,7 +17,7 @@ use Rattle.xl_table.specs.Elements.{is_among, without, unlocked_elements}
 use Rattle.xl_matrix.specs.declared.claim.Claim.{Claim}
 use Rattle.xl_table.proofs.ExactLaws.{flag_true, flag_false}
 use Rattle.xl_wait.specs.Waiting.{no_rows}
-use Rattle.xl_core.specs.Asking.{range_what}
+use Rattle.xl_core.specs.Askers.{range_what}
 use Rattle.xl_core.specs.Decide.{ask}
 use Rattle.xl_core.specs.Good.{IsGood}
 use Rattle.xl_core.specs.Places.{RangesOf, held_at}

@@ -10,7 +10,7 @@ use Rattle.xl_matrix.specs.declared.claim.Extent.TheVariants.{Bytes, Empty}
 use Rattle.xl_core.specs.declared.ask.Act.TheVariants as acts
 use Rattle.xl_smb.specs.declared.lock.LockElement.{LockElement}
 use Rattle.xl_smb_state.proofs.RowLaws.{equal_self}
-use Rattle.xl_core.specs.Asking.{is_client, range_what, may_hold, may_hold_all, IsOrdered, AreMore}
+use Rattle.xl_core.specs.Askers.{is_client, range_what, may_hold, may_hold_all, IsOrdered, AreMore}
 use Rattle.xl_smb_state.specs.declared.row.Open.{Open}
 use Rattle.xl_smb_locks.specs.Levels.{party_by, party_for}
 use Rattle.xl_core.specs.declared.ask.Ask.{Ask}

@@ -3,7 +3,7 @@ use Rattle.std.proofs.Common.{◌≡◌, ℕ, ◌+◌, ◌≤◌, true, List, []
 use Rattle.std.specs.List.{AllByRecursion}
 use Rattle.xl_base.specs.declared.name.Party.{Party}
 use Rattle.xl_names.specs.declared.name.Name.{Name}
-use Rattle.xl_core.specs.Asking.{is_lease}
+use Rattle.xl_core.specs.Askers.{is_lease}
 use Rattle.xl_core.specs.Frames.{IsFrame}
 use Rattle.xl_core.specs.Good.{IsGood}
 use Rattle.xl_core.specs.Numbers.{numbers_of}

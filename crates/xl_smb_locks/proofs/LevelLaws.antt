@@ -29,7 +29,7 @@ use Rattle.xl_names.specs.declared.name.Name.{Name}
 use Rattle.xl_smb_state.proofs.RowLaws.{none_some, same_Some}
 use Rattle.xl_smb_state.specs.State.{key_of}
 use Rattle.xl_smb_state.specs.declared.row.LeaseKey.{LeaseKey}
-use Rattle.xl_core.specs.Asking.{known_party}
+use Rattle.xl_core.specs.Askers.{known_party}
 use Rattle.xl_smb_locks.specs.Levels.{cache_of, lease_party, party_by, oplock_of, kind_found, first_kind, flags_found, first_flags, lease_found, lease_holding, party_of, cache_told, caching}
 use Rattle.xl_smb_state.specs.declared.row.Open.{Open}
 use Rattle.xl_smb_locks.specs.declared.levels.Caching.TheVariants.{Leased}

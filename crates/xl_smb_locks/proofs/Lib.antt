@@ -4,7 +4,7 @@ pub mod FitLaws
 pub mod UnlockLaws
 pub mod FinalLaws
 pub mod OnLaws
-pub mod ToldLaws
+pub mod NoticeLaws
 pub mod LevelLaws
 pub mod LockLaws
 mod ExactLaws

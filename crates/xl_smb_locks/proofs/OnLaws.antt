@@ -26,7 +26,8 @@ use Rattle.xl_core.specs.declared.ask.Answer.{Answer}
 use Rattle.xl_core.specs.declared.ask.Effect.{Effect}
 use Rattle.xl_core.specs.declared.ask.Effect.TheVariants as effects
 use Rattle.xl_smb_locks.specs.Finals.{ended_with, request_ended, lock_refusal, open_refusal, locked_outs, may_stand, stood, opened_outs, served_by, served_with, request_served, told_of, is_cancelled, and_sent, dismissed}
-use Rattle.xl_smb_locks.specs.Levels.{id_of, noticed_by, noticed_to, noticed, notice_of, lease_notice_of, noticed_under}
+use Rattle.xl_core.specs.Ids.{id_of}
+use Rattle.xl_smb_locks.specs.Levels.{noticed_by, noticed_to, noticed, notice_of, lease_notice_of, noticed_under}
 use Rattle.xl_smb_locks.proofs.FinalLaws.{stand_new}
 use Rattle.xl_smb_locks.specs.declared.status.SmbStatus.{SmbStatus}
 use Rattle.xl_smb_locks.specs.declared.status.SmbStatus.TheVariants.{Cancelled}

@@ -9,7 +9,7 @@ use Rattle.xl_smb.specs.declared.lock.LockElement.{LockElement}
 use Rattle.xl_wait.specs.Waiting.{no_rows}
 use Rattle.xl_smb_state.specs.declared.row.Open.{Open}
 use Rattle.xl_core.specs.Decide.{Answered, freed, unlocked, decided, way, ask, before_wish}
-use Rattle.xl_core.specs.Asking.{IsFit}
+use Rattle.xl_core.specs.Askers.{IsFit}
 use Rattle.xl_core.specs.Deeds.{Deed, Asks, done, all_done, AreFit}
 use Rattle.xl_core.specs.declared.ask.Ask.{Ask}
 use Rattle.std.specs.List.{AllByRecursion}

@@ -23,7 +23,8 @@ use Rattle.xl_core.specs.declared.ask.Answer.{Answer}
 use Rattle.xl_core.specs.declared.ask.Answer.TheVariants as answers
 use Rattle.xl_core.specs.declared.ask.Effect.{Effect}
 use Rattle.xl_core.specs.declared.ask.Effect.TheVariants as effects
-use Rattle.xl_smb_locks.specs.Levels.{caching, id_of, opened, noticed}
+use Rattle.xl_core.specs.Ids.{id_of}
+use Rattle.xl_smb_locks.specs.Levels.{caching, opened, noticed}
 use Rattle.xl_smb_locks.specs.Statuses.{status_number}
 use Rattle.xl_smb_locks.specs.declared.levels.Caching.{Caching}
 use Rattle.xl_smb_locks.specs.declared.status.SmbStatus.{SmbStatus}

@@ -1,13 +1,13 @@
 -- Oplocks and leases: what an open holds of one, what it is told of it, and how a break is told (MS-SMB2 2.2.13, 2.2.13.2.8,
 -- 2.2.14, 2.2.23, 3.3.4.6, 3.3.4.7).
-use Rattle.std.specs.Prelude.{ℕ, ◌+◌, ◌*◌, ◌^◌, if◌then◌else◌, List, [], ◌∷◌, slice_get, Option, Some, None}
+use Rattle.std.specs.Prelude.{ℕ, if◌then◌else◌, List, [], ◌∷◌, slice_get, Option, Some, None}
 use Rattle.std.specs.List.{find}
 use Rattle.std.specs.Option.{option_and_then}
 use Rattle.xl_base.specs.declared.event.Out.{Out}
 use Rattle.xl_base.specs.declared.name.Party.{Party}
 use Rattle.xl_base.specs.declared.name.Party.TheVariants as parties
 use Rattle.xl_cache.specs.Levels.{state_of, level_of}
-use Rattle.xl_cache.specs.Planning.{needs_answer_by}
+use Rattle.xl_cache.specs.BreakPlans.{needs_answer_by}
 use Rattle.xl_matrix.specs.declared.claim.CacheKind.{CacheKind}
 use Rattle.xl_matrix.specs.declared.claim.Claim.{Claim}
 use Rattle.xl_matrix.specs.declared.claim.What.{What}
@@ -27,7 +27,8 @@ use Rattle.xl_smb_state.specs.declared.row.Holder.{Holder}
 use Rattle.xl_smb_state.specs.declared.row.Holder.TheVariants as holder
 use Rattle.xl_smb_state.specs.declared.row.LeaseKey.{LeaseKey}
 use Rattle.xl_smb_state.specs.declared.row.Open.{Open}
-use Rattle.xl_core.specs.Asking.{known_party}
+use Rattle.xl_core.specs.Askers.{known_party}
+use Rattle.xl_core.specs.Ids.{id_of}
 use Rattle.xl_core.specs.Places.{CacheOf, is_cache_on, held_at}
 use Rattle.xl_core.specs.State.{CoreState}
 use Rattle.xl_core.specs.declared.ask.Who.{Who}
@@ -109,10 +110,6 @@ abbrev pub caching : CoreState → ℕ → Open → Caching
 caching s number row = cache_told s number row row.lease
 
 -- ---- a file that is open
-
--- the id of a session or an open: the epoch of this start, and the number (SMB-12)
-abbrev pub id_of : CoreState → ℕ → ℕ
-id_of s number = s.stable.epoch * 2 ^ 32 + number
 
 abbrev pub file_id : ℕ → FileId
 file_id id = record { persistent = id; volatile = id }

@@ -3,7 +3,7 @@ use Rattle.std.specs.Prelude.{◌≡◌, ℕ, true, false, ◌+◌, ◌<◌, ◌
 use Rattle.std.specs.List.{AllByRecursion}
 use Rattle.xl_base.specs.Limits.{numbers_left}
 use Rattle.xl_names.specs.declared.name.Name.{Name}
-use Rattle.xl_core.specs.Asking.{is_lease, is_named, IsFit}
+use Rattle.xl_core.specs.Askers.{is_lease, is_named, IsFit}
 use Rattle.xl_core.specs.Good.{IsGood}
 use Rattle.xl_core.specs.Numbers.{numbers_of}
 use Rattle.xl_core.specs.State.{CoreState, GoesOn}

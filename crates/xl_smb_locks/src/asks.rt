@@ -1,7 +1,7 @@
 //! What the core is asked for an open's ranges.
 ghost use Rattle.std.specs.Prelude.{◌≡◌, map, None, false, length, ◌≤◌, IfOk};
 ghost use Rattle.std.specs.List.{list_any};
-ghost use Rattle.xl_core.specs.Asking.{may_ask, IsFitAct};
+ghost use Rattle.xl_core.specs.Askers.{may_ask, IsFitAct};
 ghost use Rattle.xl_core.specs.declared.ask.Who.TheVariants as who;
 ghost use Rattle.xl_smb_locks.specs.Elements.{wraps, unlock_fault, lock_fault, any_waits};
 ghost use Rattle.xl_smb_locks.specs.Locks.{range_ask, range_of, unlock_ask, lock_ask};

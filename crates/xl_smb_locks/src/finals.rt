@@ -8,11 +8,11 @@ ghost use Rattle.xl_smb_state.specs.State.{open_of, waiting_of, waiting_dropped}
 ghost use Rattle.xl_smb_locks.specs.Finals.{final_head, command_by, failed_reply, locked_reply, opened_reply, final_outs, failed_outs, request_ended, lock_refusal, open_refusal, locked_outs, holder_stands, may_stand, stood, opened_outs, served_by, request_served, told_of, cancels, is_cancelled, dismissed};
 ghost use Rattle.xl_smb_locks.specs.declared.status.SmbStatus.TheVariants.{Cancelled};
 
-use crate::levels::{Caching, caching_of, contexts_told, id_of, noticed, opened};
+use crate::levels::{Caching, caching_of, contexts_told, noticed, opened};
 use crate::status::SmbStatus;
 use std::alloc::{AllocError, Global};
 use xl_base::{Out, Sequence};
-use xl_core::{Answer, Core, Effect};
+use xl_core::{Answer, Core, Effect, id_of};
 use xl_programs::sent_to;
 use xl_smb::{Command, Route, SmbHead, SmbMessage, SmbReply, write};
 use xl_smb_state::{Header, Holder, OPENS, Open, Request, SmbState, Waiting};

@@ -29,7 +29,8 @@ ghost use Rattle.xl_core.specs.declared.ask.Effect.TheVariants as Effect;
 ghost use Rattle.xl_smb_locks.specs.Elements.{extent_of, is_exclusive, lock_fault};
 ghost use Rattle.xl_smb_locks.specs.Exactly.{what_of, element_of};
 ghost use Rattle.xl_smb_locks.specs.Finals.{failed_reply, final_outs, final_reply, may_stand, opened_reply, told_of, IsFinal};
-ghost use Rattle.xl_smb_locks.specs.Levels.{id_of, caching, lease_party, notice_of, lease_notice_of, party_of};
+ghost use Rattle.xl_core.specs.Ids.{id_of};
+ghost use Rattle.xl_smb_locks.specs.Levels.{caching, lease_party, notice_of, lease_notice_of, party_of};
 ghost use Rattle.xl_smb_locks.specs.declared.status.SmbStatus.TheVariants as SmbStatus;
 ghost use Rattle.xl_smb_locks.specs.Locks.{lock_ask, lock_done};
 ghost use Rattle.xl_smb_locks.specs.declared.locking.Locking.TheVariants as Locking;
@@ -47,7 +48,7 @@ pub fn ranges_are_a_list_of_elements()
 /// A break of an open's oplock is told to the connection that the open is held on, with the level that is to be left of it, and
 /// to nobody else; where there is no such open nobody is told (MS-SMB2 3.3.4.6). A break of a lease is told to the connection of
 /// the lowest of its opens that is held, with what the lease held and what it may keep (MS-SMB2 3.3.4.7).
-#[tactic(auto, using(crate::proofs::ToldLaws::holder_told, crate::proofs::ToldLaws::nobody_told, crate::proofs::ToldLaws::lease_told))]
+#[tactic(auto, using(crate::proofs::NoticeLaws::holder_told, crate::proofs::NoticeLaws::nobody_told, crate::proofs::NoticeLaws::lease_told))]
 pub fn breaks_are_told_to_holders()
     ensures holder { (s : CoreState) (l : Lists) (cache : Claim) (to : Option CacheKind) (call : Option ℕ) (number : ℕ) (row : Open) (place : Place) → cache.party ≡ Party.Open number → open_of number l ≡ Some row → row.holder ≡ Holder.Tree place → told_of s (Effect.Begun cache to call) l ≡ (sent_to place.connection (notice_of (id_of s number) to), l) }
     ensures leased { (s : CoreState) (l : Lists) (cache : Claim) (to : Option CacheKind) (call : Option ℕ) (number lowest : ℕ) (client key : List ℕ) (row : Open) (place : Place) → cache.party ≡ Party.Name Smb number → slice_get s.names number ≡ Some (SmbLease client key) → lowest_open (record { client = client; key = key }) l ≡ Some lowest → open_of lowest l ≡ Some row → row.holder ≡ Holder.Tree place → told_of s (Effect.Begun cache to call) l ≡ (sent_to place.connection (lease_notice_of key cache.what to), l) }

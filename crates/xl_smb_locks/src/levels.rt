@@ -7,13 +7,14 @@ ghost use Rattle.xl_matrix.specs.Equal.{same_parties};
 ghost use Rattle.xl_programs.specs.Sent.{FitsFrame};
 ghost use Rattle.xl_smb.specs.Creates.{shown_create_reply};
 ghost use Rattle.xl_smb.specs.Leases.{are_contexts, lease_context};
-ghost use Rattle.xl_cache.specs.Planning.{needs_answer_by};
-ghost use Rattle.xl_smb_locks.specs.Levels.{party_for, lease_party, party_of, cache_of, oplock_of, kind_by, kind_found, level_held, flags_by, flags_found, lease_found, cache_told, caching, level_told, contexts_told, id_of, file_id, file_of, opened, notice_of, lease_notice_of, noticed_by, noticed_to, hearer_of, noticed_under, noticed};
+ghost use Rattle.xl_cache.specs.BreakPlans.{needs_answer_by};
+ghost use Rattle.xl_core.specs.Ids.{id_of};
+ghost use Rattle.xl_smb_locks.specs.Levels.{party_for, lease_party, party_of, cache_of, oplock_of, kind_by, kind_found, level_held, flags_by, flags_found, lease_found, cache_told, caching, level_told, contexts_told, file_id, file_of, opened, notice_of, lease_notice_of, noticed_by, noticed_to, hearer_of, noticed_under, noticed};
 
 use std::alloc::{AllocError, Global};
 use xl_base::{Out, Party, Protocol, Sequence};
 use xl_cache::{answer_needed, lease_state, oplock_level};
-use xl_core::{Core, Who};
+use xl_core::{Core, Who, id_of};
 use xl_matrix::{CacheKind, Claim, What, same_party};
 use xl_names::Name;
 use xl_programs::sent_to;
@@ -190,13 +191,6 @@ pub fn caching_of(
             Ok(Caching::Level(level))
         }
     }
-}
-
-/// The id of a session or an open: the epoch of this start, and the number.
-pub fn id_of(core: &Core, number: u32) -> u64
-    ensures { result ≡ id_of core.now number }
-{
-    u64::from(core.stable().epoch()) * 0x1_0000_0000 + u64::from(number)
 }
 
 /// The id in both halves of a FileId.

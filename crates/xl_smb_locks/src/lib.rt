@@ -13,7 +13,7 @@ mod unlocking;
 pub use elements::{elements_of, is_count, lock_fault, unlocks_first};
 pub use finals::{dismiss, open_refusal, push_all, tell};
 pub use levels::{
-    Caching, cache_of, caching_of, contexts_told, file_id, file_of, id_of, lease_party, level_held,
+    Caching, cache_of, caching_of, contexts_told, file_id, file_of, lease_party, level_held,
     opened, oplock_of, party_for, party_of,
 };
 pub use locking::{Locking, asked, lock};

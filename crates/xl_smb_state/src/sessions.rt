@@ -1,5 +1,5 @@
 //! Connections, sessions and tree connects.
-ghost use Rattle.std.specs.Prelude.{◌≡◌, nat_eq, ◌<◌, [], None, Some, is_some, true, IsSome, OnOk, OnErr, IfOk, IsTrue, length, option_copied};
+ghost use Rattle.std.specs.Prelude.{◌≡◌, nat_eq, nat_lt, ◌<◌, [], None, Some, is_some, true, IsSome, OnOk, OnErr, IfOk, IsTrue, length, option_copied};
 ghost use Rattle.xl_smb_state.specs.State.{connection_of, client_of, connection_added, connection_changed, connection_dropped, session_of, session_added, session_changed, session_dropped, sessions_on, tree_of, tree_added, tree_changed, tree_dropped, trees_of, trees_on, opens_under};
 ghost use Rattle.xl_smb_state.specs.Links.{most_connections, most_sessions, most_trees, IsSessionLinked, IsTreeLinked, IsHolderLinked, has_place};
 ghost use Rattle.xl_smb_state.specs.declared.row.Holder.TheVariants as holder;
@@ -8,7 +8,7 @@ ghost use Rattle.xl_smb_state.specs.declared.row.Scope.TheVariants as scope;
 use crate::listing::{is_client, is_tree_at, sessions_on, trees_of, trees_on};
 use crate::row::{Connection, Place, Session, Tree};
 use crate::rows::{add, change, remove};
-use crate::state::SmbState;
+use crate::state::{SESSIONS, SmbState, TREES};
 use std::alloc::{AllocError, Global};
 
 impl SmbState {
@@ -93,6 +93,13 @@ impl SmbState {
         sessions_on(alloc, &self.sessions, connection)
     }
 
+    /// Whether a connection has room for one session more.
+    pub fn has_session_room(&self, alloc: Global, connection: u64) -> Result<bool, AllocError>
+        ensures { IfOk result (λ room. room ≡ nat_lt (length (sessions_on connection self.now)) most_sessions) }
+    {
+        Ok(self.sessions_on(alloc, connection)?.len() < SESSIONS)
+    }
+
     /// The tree connect of this number, of whatever session; None exactly where there is none.
     pub fn find_tree(&self, number: u32) -> Option<&Tree>
         ensures { option_copied result ≡ tree_of number self.now }
@@ -144,6 +151,13 @@ impl SmbState {
         ensures { IfOk result (λ v. v.items ≡ trees_on connection self.now) }
     {
         trees_on(alloc, &self.trees, connection)
+    }
+
+    /// Whether a connection has room for one tree connect more.
+    pub fn has_tree_room(&self, alloc: Global, connection: u64) -> Result<bool, AllocError>
+        ensures { IfOk result (λ room. room ≡ nat_lt (length (trees_on connection self.now)) most_trees) }
+    {
+        Ok(self.trees_on(alloc, connection)?.len() < TREES)
     }
 
     /// Whether a tree connect is there at the place, on a connection of the client: what an open needs to be held.

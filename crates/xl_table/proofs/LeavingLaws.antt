@@ -1,6 +1,6 @@
 -- What is done file by file, as far as someone stands there.
 use Rattle.std.proofs.Common.{◌≡◌, ℕ, suc, ◌-◌, ◌<◌, ◌≤◌, length, Bool, true, false, not, ◌==◌, ◌&&◌, ◌||◌, nat_lt, List, [], ◌∷◌, ◌++◌, Option, Some, None, refl, sym, ap, subst, ◌∙◌, inl, inr, arith}
-use Rattle.std.proofs.lemmas.Bool.{cases_Bool, both_ways, eq-eqb, false_from_ne_true}
+use Rattle.std.proofs.lemmas.Bool.{cases_Bool, both_ways, eq-eqb, false_from_ne_true, or_right}
 use Rattle.std.proofs.lemmas.Bool.Decides.{nat_tests}
 use Rattle.std.proofs.lemmas.List.{append_assoc}
 use Rattle.std.proofs.lemmas.List.Elements.{filter-append}
@@ -13,14 +13,14 @@ use Rattle.xl_index.specs.Index.{Has, HasLeft, IsIndexOf}
 use Rattle.xl_index.specs.Totals.{total, AreAlike}
 use Rattle.xl_index.proofs.IndexLaws.{index_alike}
 use Rattle.xl_index.proofs.TotalLaws.{total_append, total_filters}
-use Rattle.xl_index.specs.Stands.{who_of, who_opens, owned_by, is_by, is_past, is_ahead, IsNext}
+use Rattle.xl_index.specs.Stands.{who_of, who_opens, owned_by, is_by, is_past, is_ahead, any_on, IsNext}
 use Rattle.xl_index.specs.declared.index.Index.{Index}
 use Rattle.xl_matrix.proofs.EqualLaws.{same_owners-true, same_parties-true}
 use Rattle.xl_matrix.specs.Blocks.{is_cache}
 use Rattle.xl_matrix.specs.Equal.{same_owners, same_parties}
 use Rattle.xl_matrix.specs.declared.claim.Claim.{Claim}
 use Rattle.xl_table.specs.Files.{here, alone, AreOn}
-use Rattle.xl_table.specs.Leaving.{goes, goes_on, earlier, IsFirst, IsNextLeft}
+use Rattle.xl_table.specs.Leaving.{goes, goes_on, earlier, is_leavers, IsFirst, IsNextLeft}
 use Rattle.xl_table.specs.Order.{goes_first}
 use Rattle.xl_table.specs.declared.leaver.Leaver.{Leaver}
 use Rattle.xl_table.specs.declared.leaver.Leaver.TheVariants as leavers
@@ -437,32 +437,52 @@ before_both n one other h e = grind (arith, nat_tests)
 before_first : (n one other : ℕ) → nat_lt one other ≡ false → nat_lt n other ≡ true → nat_lt n one ≡ true
 before_first n one other h e = grind (arith, nat_tests)
 
-earlier_first : (these one_s other_s : Claim → Bool) (one other past : Option ℕ) (cs : List Claim) → ((c : Claim) → these c ≡ true → (one_s c || other_s c) ≡ true) → IsFirst one one_s past cs → IsFirst other other_s past cs → IsFirst (earlier one other) these past cs
-earlier_first r p q None None past cs some f g =
+any_weaker : (p q : Claim → Bool) → ((c : Claim) → p c ≡ true → q c ≡ true) → (file : ℕ) (cs : List Claim) → any_on p file cs ≡ true → any_on q file cs ≡ true
+any_weaker p q some file [] h = h
+any_weaker p q some file (c ∷ cs) h =
+    elim (cases_Bool (p c && (c.file == file))) [
+      | inl on ↦ rw (weaker (p c) (q c) (c.file == file) (some c) on) refl
+      | inr off ↦ later (q c && (c.file == file)) (any_on q file cs) (any_weaker p q some file cs (rw off at h))
+    ]
+  where
+    weaker : (a b e : Bool) → (a ≡ true → b ≡ true) → (a && e) ≡ true → (b && e) ≡ true
+    weaker true b e some on = rw (some refl) on
+    weaker false b e some on = absurd (both_ways false refl on)
+
+    later : (a b : Bool) → b ≡ true → (a || b) ≡ true
+    later true b h = refl
+    later false b h = h
+
+earlier_first : (these those one_s other_s : Claim → Bool) (one other past : Option ℕ) (cs : List Claim) → ((c : Claim) → these c ≡ true → (one_s c || other_s c) ≡ true) → ((c : Claim) → one_s c ≡ true → those c ≡ true) → ((c : Claim) → other_s c ≡ true → those c ≡ true) → IsFirst one one_s one_s past cs → IsFirst other other_s other_s past cs → IsFirst (earlier one other) these those past cs
+earlier_first r s p q None None past cs some its theirs f g =
     all_two (λ c. (p c && is_past past c.file) ≡ false) (λ c. (q c && is_past past c.file) ≡ false) (λ c. (r c && is_past past c.file) ≡ false) cs
     (λ c a b. never_alone (r c && is_past past c.file)
     (neither (r c) (p c) (q c) (is_past past c.file) true true true (some c) (λ e. e) (λ e. e) (never_both (p c && is_past past c.file) true a) (never_both (q c && is_past past c.file) true b))) f g
-earlier_first r p q None (Some second) past cs some f g = (
+earlier_first r s p q None (Some second) past cs some its theirs f g = (
   g.0,
   all_two (λ c. (p c && is_past past c.file) ≡ false) (λ c. ((q c && is_past past c.file) && nat_lt c.file second) ≡ false) (λ c. ((r c && is_past past c.file) && nat_lt c.file second) ≡ false) cs
       (λ c a b. let lt = nat_lt c.file second in neither (r c) (p c) (q c) (is_past past c.file) lt lt lt (some c) (λ e. e) (λ e. e) (never_both (p c && is_past past c.file) lt a) b) f g.1,
+  any_weaker q s theirs second cs g.2,
 )
-earlier_first r p q (Some first) None past cs some f g = (
+earlier_first r s p q (Some first) None past cs some its theirs f g = (
   f.0,
   all_two (λ c. ((p c && is_past past c.file) && nat_lt c.file first) ≡ false) (λ c. (q c && is_past past c.file) ≡ false) (λ c. ((r c && is_past past c.file) && nat_lt c.file first) ≡ false) cs
       (λ c a b. let lt = nat_lt c.file first in neither (r c) (p c) (q c) (is_past past c.file) lt lt lt (some c) (λ e. e) (λ e. e) a (never_both (q c && is_past past c.file) lt b)) f.1 g,
+  any_weaker p s its first cs f.2,
 )
-earlier_first r p q (Some first) (Some second) past cs some f g =
+earlier_first r s p q (Some first) (Some second) past cs some its theirs f g =
     elim (cases_Bool (nat_lt first second)) [
       | inl e ↦ rw e (
         f.0,
         all_two (λ c. ((p c && is_past past c.file) && nat_lt c.file first) ≡ false) (λ c. ((q c && is_past past c.file) && nat_lt c.file second) ≡ false) (λ c. ((r c && is_past past c.file) && nat_lt c.file first) ≡ false) cs
             (λ c a b. neither (r c) (p c) (q c) (is_past past c.file) (nat_lt c.file first) (nat_lt c.file first) (nat_lt c.file second) (some c) (λ h. h) (λ h. before_both c.file first second e h) a b) f.1 g.1,
+        any_weaker p s its first cs f.2,
       )
       | inr e ↦ rw e (
         g.0,
         all_two (λ c. ((p c && is_past past c.file) && nat_lt c.file first) ≡ false) (λ c. ((q c && is_past past c.file) && nat_lt c.file second) ≡ false) (λ c. ((r c && is_past past c.file) && nat_lt c.file second) ≡ false) cs
             (λ c a b. neither (r c) (p c) (q c) (is_past past c.file) (nat_lt c.file second) (nat_lt c.file first) (nat_lt c.file second) (some c) (λ h. before_first c.file first second e h) (λ h. h) a b) f.1 g.1,
+        any_weaker q s theirs second cs g.2,
       )
     ]
 
@@ -475,21 +495,21 @@ either_of : (b : Bool) → b ≡ true → (b || b) ≡ true
 either_of true e = refl
 either_of false e = e
 
-alone_first : (these those : Claim → Bool) (file past : Option ℕ) (cs : List Claim) → ((c : Claim) → these c ≡ true → those c ≡ true) → IsFirst file those past cs → IsFirst file these past cs
-alone_first these those file past cs some f =
-    subst (λ (o : Option ℕ). IsFirst o these past cs) (same_earlier file) (earlier_first these those those file file past cs (λ c e. either_of (those c) (some c e)) f f)
+alone_first : (these those own : Claim → Bool) (file past : Option ℕ) (cs : List Claim) → ((c : Claim) → these c ≡ true → own c ≡ true) → ((c : Claim) → own c ≡ true → those c ≡ true) → IsFirst file own own past cs → IsFirst file these those past cs
+alone_first these those own file past cs some its f =
+    subst (λ (o : Option ℕ). IsFirst o these those past cs) (same_earlier file) (earlier_first these those own own file file past cs (λ c e. either_of (own c) (some c e)) its its f f)
 
-next_first : (by : ℕ) (file past : Option ℕ) (cs : List Claim) → IsNext file by past cs → IsFirst file (is_by by) past cs
+next_first : (by : ℕ) (file past : Option ℕ) (cs : List Claim) → IsNext file by past cs → IsFirst file (is_by by) (is_by by) past cs
 next_first by None past cs f = f
 next_first by (Some n) past cs f = f
 
 pub party_first : (party : Party) (by : ℕ) (file past : Option ℕ) (cs : List Claim) → by ≡ who_of party → IsNext file by past cs → IsNextLeft file (leavers.Party party) past cs
 party_first party by file past cs is first =
-    alone_first (goes (leavers.Party party)) (is_by by) file past cs (λ c e. subst (λ (n : ℕ). is_by n c ≡ true) (sym is) (party_by party c e)) (next_first by file past cs first)
+    alone_first (goes (leavers.Party party)) (is_leavers (leavers.Party party)) (is_by by) file past cs (λ c e. subst (λ (n : ℕ). is_by n c ≡ true) (sym is) (party_by party c e)) (λ c e. subst (λ (n : ℕ). is_by n c ≡ true) is e) (next_first by file past cs first)
 
 pub open_first : (number by : ℕ) (file past : Option ℕ) (cs : List Claim) → by ≡ who_opens number → IsNext file by past cs → IsNextLeft file (leavers.Open number None) past cs
 open_first number by file past cs is first =
-    alone_first (goes (leavers.Open number None)) (is_by by) file past cs (λ c e. subst (λ (n : ℕ). is_by n c ≡ true) (sym is) (open_goes number None c e (no_cache_goes number c e))) (next_first by file past cs first)
+    alone_first (goes (leavers.Open number None)) (is_leavers (leavers.Open number None)) (is_by by) file past cs (λ c e. subst (λ (n : ℕ). is_by n c ≡ true) (sym is) (open_goes number None c e (no_cache_goes number c e))) (λ c e. subst (λ (n : ℕ). is_by n c ≡ true) is e) (next_first by file past cs first)
 
 either_goes : (number : ℕ) (party : Party) (c : Claim) → goes (leavers.Open number (Some party)) c ≡ true → (is_by (who_opens number) c || is_by (who_of party) c) ≡ true
 either_goes number party c e =
@@ -504,7 +524,9 @@ either_goes number party c e =
 
 pub both_first : (number own by : ℕ) (party : Party) (one other result past : Option ℕ) (cs : List Claim) → own ≡ who_opens number → by ≡ who_of party → IsNext one own past cs → IsNext other by past cs → result ≡ earlier one other → IsNextLeft result (leavers.Open number (Some party)) past cs
 both_first number own by party one other result past cs own_is by_is first second is =
-    subst (λ (o : Option ℕ). IsFirst o (goes (leavers.Open number (Some party))) past cs) (sym is)
-    (earlier_first (goes (leavers.Open number (Some party))) (is_by own) (is_by by) one other past cs
+    subst (λ (o : Option ℕ). IsNextLeft o (leavers.Open number (Some party)) past cs) (sym is)
+    (earlier_first (goes (leavers.Open number (Some party))) (is_leavers (leavers.Open number (Some party))) (is_by own) (is_by by) one other past cs
     (λ c e. subst (λ (n : ℕ). (is_by n c || is_by by c) ≡ true) (sym own_is) (subst (λ (m : ℕ). (is_by (who_opens number) c || is_by m c) ≡ true) (sym by_is) (either_goes number party c e)))
+    (λ c e. rw (subst (λ (n : ℕ). is_by n c ≡ true) own_is e) refl)
+    (λ c e. or_right (is_by (who_opens number) c) (is_by (who_of party) c) (subst (λ (n : ℕ). is_by n c ≡ true) by_is e))
     (next_first own one past cs first) (next_first by other past cs second))

@@ -1,9 +1,9 @@
 -- Who leaves, and what goes with it.
-use Rattle.std.specs.Prelude.{◌≡◌, ℕ, ◌==◌, ◌&&◌, nat_lt, Bool, true, false, if◌then◌else◌, List, Option, Some, None}
+use Rattle.std.specs.Prelude.{◌≡◌, ℕ, ◌==◌, ◌&&◌, ◌||◌, nat_lt, Bool, true, false, if◌then◌else◌, List, Option, Some, None}
 use Rattle.std.specs.List.{AllByRecursion}
 use Rattle.xl_base.specs.declared.name.Owner.TheVariants as owners
 use Rattle.xl_base.specs.declared.name.Party.{Party}
-use Rattle.xl_index.specs.Stands.{is_past}
+use Rattle.xl_index.specs.Stands.{who_of, who_opens, is_by, is_past, any_on}
 use Rattle.xl_matrix.specs.Blocks.{is_cache}
 use Rattle.xl_matrix.specs.Equal.{same_owners, same_parties}
 use Rattle.xl_matrix.specs.declared.claim.Claim.{Claim}
@@ -28,14 +28,21 @@ goes (leavers.Open number party) c = if is_cache c.what then is_of_some party c 
 abbrev pub goes_on : Leaver → ℕ → Claim → Bool
 goes_on who file c = goes who c && (c.file == file)
 
--- the first file past one that has some of these claims: none of them is on one between; or on any past it
-abbrev pub IsFirst : Option ℕ → (Claim → Bool) → Option ℕ → List Claim → Type 0
-IsFirst (Some file) these past cs = (is_past past file ≡ true) × AllByRecursion (λ c. ((these c && is_past past c.file) && nat_lt c.file file) ≡ false) cs
-IsFirst None these past cs = AllByRecursion (λ c. (these c && is_past past c.file) ≡ false) cs
+-- The claim is that of who leaves: of the party, or of the SMB open or the party that goes with it. All that goes is, but not
+-- all of it goes: an SMB open's claims by another party stay where that one leaves alone.
+abbrev pub is_leavers : Leaver → Claim → Bool
+is_leavers (leavers.Party party) c = is_by (who_of party) c
+is_leavers (leavers.Open number None) c = is_by (who_opens number) c
+is_leavers (leavers.Open number (Some party)) c = is_by (who_opens number) c || is_by (who_of party) c
 
--- the first file past one from which something goes
+-- a file past one on which some of those claims are, and none of these is on one between; or none of these is on any past it
+abbrev pub IsFirst : Option ℕ → (Claim → Bool) → (Claim → Bool) → Option ℕ → List Claim → Type 0
+IsFirst (Some file) these those past cs = (is_past past file ≡ true) × AllByRecursion (λ c. ((these c && is_past past c.file) && nat_lt c.file file) ≡ false) cs × (any_on those file cs ≡ true)
+IsFirst None these those past cs = AllByRecursion (λ c. (these c && is_past past c.file) ≡ false) cs
+
+-- the next file past one on which who leaves has something: nothing goes from one between; or from any past it
 abbrev pub IsNextLeft : Option ℕ → Leaver → Option ℕ → List Claim → Type 0
-IsNextLeft file who past cs = IsFirst file (goes who) past cs
+IsNextLeft file who past cs = IsFirst file (goes who) (is_leavers who) past cs
 
 -- the earlier of two files, as far as they are there
 abbrev pub earlier : Option ℕ → Option ℕ → Option ℕ

@@ -12,8 +12,8 @@ use Rattle.xl_matrix.specs.declared.claim.CacheKind.{CacheKind}
 use Rattle.xl_matrix.specs.declared.claim.Claim.{Claim}
 use Rattle.xl_wait.specs.declared.waiter.Rooms.{Rooms}
 use Rattle.xl_core.specs.State.{CoreState, MayBe}
-use Rattle.xl_core.specs.Asking.{IsFit}
-use Rattle.xl_core.specs.Breaks.{may_be_left, ack}
+use Rattle.xl_core.specs.Askers.{IsFit}
+use Rattle.xl_core.specs.BreakAnswers.{may_be_left, ack}
 use Rattle.xl_core.specs.Decide.{Answered, ask}
 use Rattle.xl_core.specs.Frames.{who_left}
 use Rattle.xl_core.specs.Good.{IsGood}

@@ -25,7 +25,7 @@ use Rattle.xl_front_nlm.specs.Results.{reply_of}
 use Rattle.xl_front_nlm.specs.State.{FrontState}
 use Rattle.xl_front_nlm.specs.declared.outcome.Outcome.TheVariants.{Answered}
 use Rattle.xl_house.specs.Journals.{entry, entries_of}
-use Rattle.xl_house.specs.declared.parts.Fronts.{Fronts}
+use Rattle.xl_house.specs.declared.layers.Fronts.{Fronts}
 use Rattle.xl_house.specs.Machine.{Whole, Turn, Sent, framed, heard, heard_by, record_heard, with_nlm, front_done, kind_of, connected, with_connection, settled, settled_turn, turn_of, behind, rooms_of, begin, step}
 use Rattle.xl_house.proofs.JournalLaws.{length-entries_of}
 use Rattle.xl_house.proofs.MachineLaws.{step_is}

@@ -21,7 +21,7 @@ use Rattle.xl_wait.specs.declared.waiter.Rooms.{Rooms}
 use Rattle.xl_table.specs.Held.{mode_of, is_cache}
 use Rattle.xl_table.specs.Relock.{most_claims, granted_claims, holds_byte}
 use Rattle.xl_core.specs.State.{CoreState}
-use Rattle.xl_core.specs.Asking.{IsFit, is_client, both_entered, asked_claim, asker, asking_party, known_claim, number_or}
+use Rattle.xl_core.specs.Askers.{IsFit, is_client, both_entered, asked_claim, asker, asking_party, known_claim, number_or}
 use Rattle.xl_core.specs.Causes.{IsClaimDue, limits_of_grant, left_by_unlock}
 use Rattle.xl_core.specs.Decide.{Answered, decided, way, ask, test_answered, tested}
 use Rattle.xl_core.specs.Blockers.{is_stopped, test_blockers}
@@ -45,7 +45,7 @@ use Rattle.xl_core.proofs.KnownLaws.{asker_kept, both_distinct, get_none, kept_n
 use Rattle.xl_core.proofs.LimitLaws.{grant_found}
 use Rattle.xl_core.proofs.WayAsks.{ask_there}
 use Rattle.xl_core.proofs.WayCode.{no_way_for}
-use Rattle.xl_core.proofs.WishFor.{empty_after}
+use Rattle.xl_core.proofs.AskWishLaws.{empty_after}
 use Rattle.xl_front_nlm.specs.Asks.{ask_of}
 use Rattle.xl_front_nlm.specs.Hosts.{rooms, host_rows}
 use Rattle.xl_top.proofs.GroupLaws.{HasBytes, IsFew, AreFew, owner_at, relocked_few, relocked_room}

@@ -1,14 +1,15 @@
 -- The queues of the files on which some wait, as one comes and as one leaves.
-use Rattle.std.proofs.Common.{◌≡◌, ℕ, zero, suc, ◌+◌, ◌<◌, ◌==◌, Bool, true, false, nat_lt, List, [], ◌∷◌, ◌++◌, map, take, drop, Option, length, get_or, set, refl, sym, ap, subst, ◌∙◌, inl, inr, arith}
-use Rattle.std.proofs.lemmas.Bool.{cases_Bool, eq-eqb}
+use Rattle.std.proofs.Common.{◌≡◌, ◌≢◌, ℕ, zero, suc, ◌+◌, ◌<◌, ◌==◌, ◌||◌, Bool, true, false, nat_lt, List, [], ◌∷◌, ◌++◌, map, take, drop, Option, Some, None, is_some, length, get_or, set, refl, sym, ap, subst, ◌∙◌, inl, inr, arith}
+use Rattle.std.proofs.lemmas.Bool.{cases_Bool, both_ways, eq-eqb}
 use Rattle.std.proofs.lemmas.Bool.Decides.{nat_tests}
 use Rattle.std.proofs.lemmas.List.{map-append, take-map, drop-map}
-use Rattle.std.specs.BTreeMap.{BTreeMap}
+use Rattle.std.proofs.lemmas.Map.Made.{lookup-map_values}
+use Rattle.std.specs.BTreeMap.{BTreeMap, get}
 use Rattle.std.specs.List.{list_any, remove}
 use Rattle.std.specs.Map.{lookup}
-use Rattle.std.specs.Option.{unwrap_or}
+use Rattle.std.specs.Option.{option_map, unwrap_or}
 use Rattle.std.specs.Ordering.{is_eq, nat_cmp}
-use Rattle.xl_wait.specs.Waiting.{first_file, files_of, is_file, waits_on, places_from, places_on, places_in, nearer, closed_up, one_more, AreQueued}
+use Rattle.xl_wait.specs.Waiting.{first_file, files_of, is_file, waits_on, places_from, places_on, places_in, nearer, closed_up, one_more, NoneEmpty, AreQueued}
 use Rattle.xl_wait.specs.declared.waiter.Waiter.{Waiter}
 
 files_entered : (ws : List Waiter) (w : Waiter) → files_of (ws ++ w ∷ []) ≡ files_of ws ++ first_file w.asked ∷ []
@@ -22,6 +23,22 @@ files_left ws i =
 as_many : (ws : List Waiter) → length (files_of ws) ≡ length ws
 as_many [] = refl
 as_many (w ∷ ws) = omega (arith, as_many ws)
+
+-- someone waits on a file exactly where its queue has a place
+positive : (k : ℕ) → nat_lt 0 (suc k) ≡ true
+positive k = grind (arith, nat_tests)
+
+some_from : (n file : ℕ) (fs : List (Option ℕ)) → nat_lt 0 (length (places_from n file fs)) ≡ list_any (is_file file) fs
+some_from n file [] = refl
+some_from n file (f ∷ fs) =
+    elim (cases_Bool (is_file file f)) [
+      | inl e ↦ rw e (positive (length (places_from (n + 1) file fs)))
+      | inr e ↦ rw e (some_from (n + 1) file fs)
+    ]
+
+no_places : (ps : List ℕ) → nat_lt 0 (length ps) ≡ false → ps ≡ []
+no_places [] none = refl
+no_places (p ∷ ps) none = absurd (both_ways (nat_lt 0 (suc (length ps))) none (positive (length ps)))
 
 -- ---- one comes
 
@@ -39,17 +56,22 @@ come_from n file (f ∷ fs) own =
       | inr e ↦ rw e behind
     ]
 
-pub queued_in : (old new : BTreeMap ℕ (List ℕ)) (ws vs : List Waiter) (w : Waiter) (place : ℕ) → AreQueued old (files_of ws) → place ≡ length ws → ((file : ℕ) → places_in new file ≡ places_in old file ++ one_more file (first_file w.asked) place) → vs ≡ ws ++ w ∷ [] → AreQueued new (files_of vs)
-queued_in old new ws vs w place queued at more is file =
-    let here : place ≡ 0 + length (files_of ws) = omega (arith, at, as_many ws) in
-    more file
-    ∙ (λ i. queued file i ++ one_more file (first_file w.asked) (here i))
-    ∙ sym (come_from 0 file (files_of ws) (first_file w.asked))
-    ∙ ap (λ (fs : List (Option ℕ)). places_on file fs) (sym (files_entered ws w) ∙ ap files_of (sym is))
+pub queued_in : (old new : BTreeMap ℕ (List ℕ)) (ws vs : List Waiter) (w : Waiter) (place : ℕ) → AreQueued old (files_of ws) → place ≡ length ws → ((file : ℕ) → places_in new file ≡ places_in old file ++ one_more file (first_file w.asked) place) → (NoneEmpty old → NoneEmpty new) → vs ≡ ws ++ w ∷ [] → AreQueued new (files_of vs)
+queued_in old new ws vs w place queued at more filled is = (places, filled queued.1)
+  where
+    here : place ≡ 0 + length (files_of ws)
+    here = omega (arith, at, as_many ws)
+
+    places : (file : ℕ) → places_in new file ≡ places_on file (files_of vs)
+    places file =
+        more file
+        ∙ (λ i. queued.0 file i ++ one_more file (first_file w.asked) (here i))
+        ∙ sym (come_from 0 file (files_of ws) (first_file w.asked))
+        ∙ ap (λ (fs : List (Option ℕ)). places_on file fs) (sym (files_entered ws w) ∙ ap files_of (sym is))
 
 -- after an error they stand as they stood
-pub queued_still : (old new : BTreeMap ℕ (List ℕ)) (ws vs : List Waiter) → AreQueued old (files_of ws) → ((file : ℕ) → places_in new file ≡ places_in old file) → vs ≡ ws → AreQueued new (files_of vs)
-queued_still old new ws vs queued stay same file = stay file ∙ queued file ∙ ap (λ (us : List Waiter). places_on file (files_of us)) (sym same)
+pub queued_still : (old new : BTreeMap ℕ (List ℕ)) (ws vs : List Waiter) → AreQueued old (files_of ws) → ((file : ℕ) → places_in new file ≡ places_in old file) → (NoneEmpty old → NoneEmpty new) → vs ≡ ws → AreQueued new (files_of vs)
+queued_still old new ws vs queued stay filled same = ((λ file. stay file ∙ queued.0 file ∙ ap (λ (us : List Waiter). places_on file (files_of us)) (sym same)), filled queued.1)
 
 -- ---- one leaves
 
@@ -104,14 +126,39 @@ leave_from n file (suc i) (f ∷ fs) h =
       | inr e ↦ rw e behind
     ]
 
-pub queued_out : (old new : BTreeMap ℕ (List ℕ)) (ws vs : List Waiter) (at : ℕ) → AreQueued old (files_of ws) → at < length ws → ((file : ℕ) → places_in new file ≡ closed_up at (places_in old file)) → vs ≡ remove ws at → AreQueued new (files_of vs)
-queued_out old new ws vs at queued h left is file =
-    let here : at ≡ 0 + at = omega arith in
-    left file
-    ∙ ap (λ (ps : List ℕ). closed_up at ps) (queued file)
-    ∙ ap (λ (k : ℕ). closed_up k (places_on file (files_of ws))) here
-    ∙ sym (leave_from 0 file at (files_of ws) (omega (arith, h, as_many ws)))
-    ∙ ap (λ (fs : List (Option ℕ)). places_on file fs) (sym (files_left ws at) ∙ ap files_of (sym is))
+-- who leaves doesn't change whether someone waits on another file
+still_waits : (file : ℕ) (ws : List Waiter) (at : ℕ) (w : Waiter) → at < length ws → w ≡ get_or ws at w → is_file file (first_file w.asked) ≡ false → waits_on file (remove ws at) ≡ waits_on file ws
+still_waits file [] at w h is off = absurd (omega (arith, h))
+still_waits file (v ∷ vs) zero w h is off =
+    let own : is_file file (first_file v.asked) ≡ false = sym (ap (λ (u : Waiter). is_file file (first_file u.asked)) is) ∙ off in
+    rw own refl
+still_waits file (v ∷ vs) (suc at) w h is off = ap (λ (b : Bool). is_file file (first_file v.asked) || b) (still_waits file vs at w (omega (arith, h)) is off)
+
+was_empty : (o : Option (List ℕ)) (g : List ℕ → List ℕ) → option_map g o ≡ Some [] → unwrap_or o [] ≡ [] → o ≡ Some []
+was_empty None g is none = absurd (both_ways false refl (ap is_some is))
+was_empty (Some ps) g is none = ap (λ (qs : List ℕ). Some qs) none
+
+pub queued_out : (old new : BTreeMap ℕ (List ℕ)) (ws vs : List Waiter) (w : Waiter) (at : ℕ) → AreQueued old (files_of ws) → at < length ws → w ≡ get_or ws at w → ((file : ℕ) → places_in new file ≡ closed_up at (places_in old file))
+    → ((file : ℕ) → get nat_cmp new file ≡ Some [] → (is_file file (first_file w.asked) ≡ false) × (option_map (closed_up at) (get nat_cmp old file) ≡ Some [])) → vs ≡ remove ws at → AreQueued new (files_of vs)
+queued_out old new ws vs w at queued h who left empty is = (places, filled)
+  where
+    here : at ≡ 0 + at
+    here = omega arith
+
+    places : (file : ℕ) → places_in new file ≡ places_on file (files_of vs)
+    places file =
+        left file
+        ∙ ap (λ (ps : List ℕ). closed_up at ps) (queued.0 file)
+        ∙ ap (λ (k : ℕ). closed_up k (places_on file (files_of ws))) here
+        ∙ sym (leave_from 0 file at (files_of ws) (omega (arith, h, as_many ws)))
+        ∙ ap (λ (fs : List (Option ℕ)). places_on file fs) (sym (files_left ws at) ∙ ap files_of (sym is))
+
+    filled : (file : ℕ) → get nat_cmp new file ≢ Some []
+    filled file none =
+        let gone : (is_file file (first_file w.asked) ≡ false) × (option_map (closed_up at) (get nat_cmp old file) ≡ Some []) = empty file none in
+        let after : waits_on file vs ≡ false = sym (some_from 0 file (files_of vs)) ∙ ap (λ (ps : List ℕ). nat_lt 0 (length ps)) (sym (places file) ∙ ap (λ (o : Option (List ℕ)). unwrap_or o []) none) in
+        let before : waits_on file ws ≡ false = sym (still_waits file ws at w h who gone.0) ∙ ap (λ (us : List Waiter). waits_on file us) (sym is) ∙ after in
+        queued.1 file (was_empty (get nat_cmp old file) (closed_up at) gone.1 (queued.0 file ∙ no_places (places_on file (files_of ws)) (some_from 0 file (files_of ws) ∙ before)))
 
 -- something is done to the first i of these, and not to the others
 abbrev pub done_to : (g : ℕ → ℕ) (i : ℕ) (xs : List ℕ) → List ℕ
@@ -138,6 +185,11 @@ mapped : (test : ℕ → Bool) (g : List ℕ → List ℕ) (es : List (ℕ × Li
 mapped test g [] none = sym none
 mapped test g (e ∷ es) none = elim (cases_Bool (test e.0)) [ inl is ↦ rw is refl | inr is ↦ rw is (mapped test g es none) ]
 
+pub closed_each : (old new : BTreeMap ℕ (List ℕ)) (at : ℕ) → new.entries ≡ map (λ e. (e.0, closed_up at e.1)) old.entries → (file : ℕ) → get nat_cmp new file ≡ option_map (closed_up at) (get nat_cmp old file)
+closed_each old new at is file =
+    ap (λ (es : List (ℕ × List ℕ)). lookup (λ q. is_eq (nat_cmp file q)) es) is
+    ∙ lookup-map_values (closed_up at) (λ q. is_eq (nat_cmp file q)) old.entries
+
 pub closed_all : (old new : BTreeMap ℕ (List ℕ)) (at : ℕ) → new.entries ≡ map (λ e. (e.0, closed_up at e.1)) old.entries → (file : ℕ) → places_in new file ≡ closed_up at (places_in old file)
 closed_all old new at is file =
     ap (λ (es : List (ℕ × List ℕ)). unwrap_or (lookup (λ q. is_eq (nat_cmp file q)) es) []) is
@@ -145,16 +197,5 @@ closed_all old new at is file =
 
 -- ---- someone waits
 
-some_from : (n file : ℕ) (fs : List (Option ℕ)) → nat_lt 0 (length (places_from n file fs)) ≡ list_any (is_file file) fs
-some_from n file [] = refl
-some_from n file (f ∷ fs) =
-    elim (cases_Bool (is_file file f)) [
-      | inl e ↦ rw e (positive (length (places_from (n + 1) file fs)))
-      | inr e ↦ rw e (some_from (n + 1) file fs)
-    ]
-  where
-    positive : (k : ℕ) → nat_lt 0 (suc k) ≡ true
-    positive k = grind (arith, nat_tests)
-
 pub some_queued : (queues : BTreeMap ℕ (List ℕ)) (ws : List Waiter) (file : ℕ) → AreQueued queues (files_of ws) → nat_lt 0 (length (places_in queues file)) ≡ waits_on file ws
-some_queued queues ws file queued = ap (λ (ps : List ℕ). nat_lt 0 (length ps)) (queued file) ∙ some_from 0 file (files_of ws)
+some_queued queues ws file queued = ap (λ (ps : List ℕ). nat_lt 0 (length ps)) (queued.0 file) ∙ some_from 0 file (files_of ws)

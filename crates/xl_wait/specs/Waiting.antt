@@ -1,5 +1,5 @@
 -- The list of those who wait, in order of arrival.
-use Rattle.std.specs.Prelude.{◌≡◌, ℕ, ◌+◌, ◌-◌, nat_lt, Bool, true, false, not, ◌==◌, List, [], ◌∷◌, map, Option, Some, None, if◌then◌else◌}
+use Rattle.std.specs.Prelude.{◌≡◌, ◌≢◌, ℕ, ◌+◌, ◌-◌, nat_lt, Bool, true, false, not, ◌==◌, List, [], ◌∷◌, map, Option, Some, None, if◌then◌else◌}
 use Rattle.std.specs.BTreeMap.{BTreeMap, get}
 use Rattle.std.specs.List.{filter, list_any}
 use Rattle.std.specs.Option.{unwrap_or}
@@ -69,9 +69,13 @@ closed_up at places = map (nearer at) (filter (λ p. not (p == at)) places)
 abbrev pub places_in : BTreeMap ℕ (List ℕ) → ℕ → List ℕ
 places_in queues file = unwrap_or (get nat_cmp queues file) []
 
--- the map has each file's queue
+-- no queue of the map is empty
+abbrev pub NoneEmpty : BTreeMap ℕ (List ℕ) → Type 0
+NoneEmpty queues = (file : ℕ) → get nat_cmp queues file ≢ Some []
+
+-- the map has the queue of each file on which someone waits, and no other
 abbrev pub AreQueued : BTreeMap ℕ (List ℕ) → List (Option ℕ) → Type 0
-AreQueued queues fs = (file : ℕ) → places_in queues file ≡ places_on file fs
+AreQueued queues fs = ((file : ℕ) → places_in queues file ≡ places_on file fs) × NoneEmpty queues
 
 -- one more stands at this place in the queue of its file, where it has one
 abbrev pub one_more : ℕ → Option ℕ → ℕ → List ℕ

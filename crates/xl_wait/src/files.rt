@@ -1,6 +1,9 @@
 //! The queue of each file: the places of those who wait on it.
-ghost use Rattle.std.specs.Prelude.{◌≡◌, ℕ, ◌++◌, [], ◌∷◌, map, Some, OnOk, OnErr, IfOk};
-ghost use Rattle.xl_wait.specs.Waiting.{first_file, places_in, one_more, nearer, closed_up};
+ghost use Rattle.std.specs.Prelude.{◌≡◌, ℕ, ◌++◌, [], ◌∷◌, map, false, Some, OnOk, OnErr, IfOk};
+ghost use Rattle.std.specs.BTreeMap.{get};
+ghost use Rattle.std.specs.Option.{option_map};
+ghost use Rattle.std.specs.Ordering.{nat_cmp};
+ghost use Rattle.xl_wait.specs.Waiting.{first_file, is_file, places_in, one_more, nearer, closed_up, NoneEmpty};
 
 use std::alloc::{AllocError, Global};
 use std::collections::BTreeMap;
@@ -44,6 +47,7 @@ fn one_place(alloc: Global, place: usize) -> Result<Sequence<usize>, AllocError>
 fn put_place(alloc: Global, queues: &mut Queues, file: u32, place: usize) -> Result<(), AllocError>
     ensures ok { OnOk result ((f : ℕ) → places_in queues.new f ≡ places_in queues.old f ++ one_more f (Some file) place) }
     ensures err { OnErr result ((f : ℕ) → places_in queues.new f ≡ places_in queues.old f) }
+    ensures filled { NoneEmpty queues.old → NoneEmpty queues.new }
 {
     match queues.get_mut(&file) {
         Some(places) => places.push(place)?,
@@ -63,6 +67,7 @@ pub(crate) fn enter_place(
 ) -> Result<(), AllocError>
     ensures ok { OnOk result ((f : ℕ) → places_in queues.new f ≡ places_in queues.old f ++ one_more f file place) }
     ensures err { OnErr result ((f : ℕ) → places_in queues.new f ≡ places_in queues.old f) }
+    ensures filled { NoneEmpty queues.old → NoneEmpty queues.new }
 {
     match file {
         Some(file) => put_place(alloc, queues, file, place),
@@ -100,7 +105,8 @@ fn close_up(places: Sequence<usize>, at: usize) -> Sequence<usize>
 
 /// Takes a place out of all queues; those behind it are one nearer.
 fn close_all(alloc: Global, queues: &mut Queues, at: usize)
-    ensures { (f : ℕ) → places_in queues.new f ≡ closed_up at (places_in queues.old f) }
+    ensures places { (f : ℕ) → places_in queues.new f ≡ closed_up at (places_in queues.old f) }
+    ensures each { (f : ℕ) → get nat_cmp queues.new f ≡ option_map (closed_up at) (get nat_cmp queues.old f) }
 {
     queues.retain(|_, places| {
         let own = mem::replace(places, Sequence::new(alloc));
@@ -111,7 +117,8 @@ fn close_all(alloc: Global, queues: &mut Queues, at: usize)
 
 /// Takes the queue of this file out of the map, where nobody stands in it.
 fn drop_empty(queues: &mut Queues, file: Option<u32>)
-    ensures { (f : ℕ) → places_in queues.new f ≡ places_in queues.old f }
+    ensures places { (f : ℕ) → places_in queues.new f ≡ places_in queues.old f }
+    ensures empty { (f : ℕ) → get nat_cmp queues.new f ≡ Some [] → (is_file f file ≡ false) × (get nat_cmp queues.old f ≡ Some []) }
 {
     if let Some(file) = file {
         if places_on(queues, file).is_empty() {
@@ -122,7 +129,8 @@ fn drop_empty(queues: &mut Queues, file: Option<u32>)
 
 /// Takes the place of one who waited on this file out of all queues; those behind it are one nearer. It takes no memory.
 pub(crate) fn leave_place(alloc: Global, queues: &mut Queues, file: Option<u32>, at: usize)
-    ensures { (f : ℕ) → places_in queues.new f ≡ closed_up at (places_in queues.old f) }
+    ensures places { (f : ℕ) → places_in queues.new f ≡ closed_up at (places_in queues.old f) }
+    ensures empty { (f : ℕ) → get nat_cmp queues.new f ≡ Some [] → (is_file f file ≡ false) × (option_map (closed_up at) (get nat_cmp queues.old f) ≡ Some []) }
 {
     close_all(alloc, queues, at);
     drop_empty(queues, file);

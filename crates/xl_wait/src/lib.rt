@@ -1,9 +1,9 @@
 //! The queue of those who wait for a claim, in order of arrival.
 #![tactic(auto)]
 
+mod changing;
 mod files;
 mod listing;
-mod parts;
 mod queue;
 mod waiter;
 

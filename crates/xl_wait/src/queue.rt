@@ -5,7 +5,7 @@ ghost use Rattle.xl_wait.specs.declared.queue.QueueErr.TheVariants.{NoMemory};
 
 use crate::files::{Queues, places_on};
 use crate::listing::list_numbers;
-use crate::parts::{enter, take_out};
+use crate::changing::{enter, take_out};
 use crate::waiter::Waiter;
 use std::alloc::{AllocError, AllocFailed, Global};
 use std::collections::BTreeMap;

@@ -1,4 +1,6 @@
 //! One who waits.
+ghost use Rattle.std.specs.Prelude.{◌≡◌};
+ghost use Rattle.xl_wait.specs.Waiting.{no_rows};
 
 use xl_base::Sequence;
 use xl_matrix::{CacheKind, Claim};
@@ -20,6 +22,15 @@ pub const NO_ROWS: Rooms = Rooms {
     owners: 0,
     opens: 0,
 };
+
+impl Default for Rooms {
+    /// No room, or no rows: `NO_ROWS`.
+    fn default() -> Rooms
+        ensures { result ≡ no_rows }
+    {
+        NO_ROWS
+    }
+}
 
 /// One who waits for claims.
 #[derive(Drop)]

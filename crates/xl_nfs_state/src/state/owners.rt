@@ -3,13 +3,13 @@ ghost use Rattle.std.specs.Prelude.{◌≡◌, ◌≤◌, ◌++◌, ◌∷◌, [
 ghost use Rattle.std.specs.List.{AllByRecursion, IsDistinct, find};
 ghost use Rattle.xl_nfs_state.specs.Filed.{changed};
 ghost use Rattle.xl_nfs_state.specs.Keys.{owner_key, owner_name, same_owner_name};
-ghost use Rattle.xl_nfs_state.specs.Rows.{with_turn};
+ghost use Rattle.xl_nfs_state.specs.Rows.{with_seqids};
 ghost use Rattle.xl_nfs_state.specs.State.{IsIdleOwner, has_client, is_client, is_kept, is_owner, hangs_on, is_owner_named, most_owners, last_number, next_owner, with_owners, without};
 
 use super::{NfsState, NfsStateErr};
 use crate::filed::Filed;
 use crate::listing::has_any;
-use crate::owner::{OwnerNamed, OwnerRow, Turn};
+use crate::owner::{OwnerNamed, OwnerRow, SeqidState};
 use crate::picks::OneOwner;
 use crate::stateid::Whose;
 use std::alloc::Global;
@@ -64,11 +64,11 @@ impl NfsState {
     }
 
     /// Sets how far the requests of the owner of this number, which is there, have come.
-    pub fn change_owner(&mut self, number: u64, turn: Turn)
+    pub fn change_owner(&mut self, number: u64, seqids: SeqidState)
         requires { IsSome (find (is_owner number) self.old.owners) }
-        ensures { self.new ≡ with_owners self.old (changed (is_owner number) (with_turn turn) self.old.owners) }
+        ensures { self.new ≡ with_owners self.old (changed (is_owner number) (with_seqids seqids) self.old.owners) }
     {
-        self.owners.change(&number, turn);
+        self.owners.change(&number, seqids);
     }
 
     /// Whether no stateid hangs on the owner of this number, and no result is kept for it. It walks over the stateids.

@@ -1,7 +1,7 @@
 //! The core's calls.
 
 ghost use Rattle.std.specs.Prelude.{◌≡◌};
-ghost use Rattle.xl_core.specs.Asking.{IsFit};
+ghost use Rattle.xl_core.specs.Askers.{IsFit};
 
 use std::alloc::{AllocError, Global};
 use xl_base::{MemoryKeeper, Moment, Party, Record, Sequence};

@@ -1,7 +1,7 @@
 //! Byte ranges of SMB opens, one by one.
 
 ghost use Rattle.std.specs.Prelude.{◌≡◌, ◌+◌, ◌≤◌, ◌∷◌, [], false, true, OnOk, IfOk};
-ghost use Rattle.xl_core.specs.Asking.{IsFit, IsFitAct, IsFitWish, IsOrdered, may_ask, may_hold};
+ghost use Rattle.xl_core.specs.Askers.{IsFit, IsFitAct, IsFitWish, IsOrdered, may_ask, may_hold};
 ghost use Rattle.xl_core.specs.Good.{IsGood};
 ghost use Rattle.xl_core.specs.Numbers.{numbers_of};
 

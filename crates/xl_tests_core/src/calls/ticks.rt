@@ -1,7 +1,7 @@
 //! Readings of the clock (RFC 7530 9.5).
 
 ghost use Rattle.std.specs.Prelude.{◌≡◌, OnOk};
-ghost use Rattle.xl_core.specs.Asking.{IsFit};
+ghost use Rattle.xl_core.specs.Askers.{IsFit};
 ghost use Rattle.xl_core.specs.Good.{IsGood};
 
 use super::asks::TIMES;

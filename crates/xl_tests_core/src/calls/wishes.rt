@@ -4,8 +4,8 @@
 ghost use Rattle.std.specs.Prelude.{◌≡◌, ◌+◌, ◌≤◌, ◌∷◌, [], true, OnOk, IfOk};
 ghost use Rattle.xl_matrix.specs.declared.claim.CacheKind.TheVariants.{R, RWH, WriteDeleg};
 ghost use Rattle.xl_base.specs.Lists.{IsIn};
-ghost use Rattle.xl_core.specs.Asking.{IsFit};
-ghost use Rattle.xl_core.specs.Breaks.{may_be_left};
+ghost use Rattle.xl_core.specs.Askers.{IsFit};
+ghost use Rattle.xl_core.specs.BreakAnswers.{may_be_left};
 ghost use Rattle.xl_core.specs.Good.{IsGood};
 ghost use Rattle.xl_core.specs.Numbers.{numbers_of};
 

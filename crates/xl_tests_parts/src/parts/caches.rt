@@ -6,10 +6,10 @@ use std::alloc::{AllocError, Global};
 use std::str::Split;
 use xl_base::Sequence;
 use xl_cache::{
-    CacheKind, Need, Plan, Wish, answer_needed, best, best_join, guards, is_final_blocker,
+    BreakPlan, CacheKind, Need, Wish, answer_needed, best, best_join, guards, is_final_blocker,
     is_oplock_party, is_share_covered, join, kind_for, kind_in_lease, kinds_go_by_party,
-    lease_kinds_have_states, lease_state, leaves_what_all_leave, oplock_level, plan, recalled,
-    rest_within, target, wish_of_lease, wish_of_oplock,
+    lease_kinds_have_states, lease_state, leaves_what_all_leave, oplock_level, plan_breaks,
+    recalled, rest_within, target, wish_of_lease, wish_of_oplock,
 };
 use xl_matrix::{Claim, What, is_a_cache, is_a_range, is_a_share, is_blocked_by, same_claim};
 
@@ -145,7 +145,7 @@ fn are_breaks(claims: &[Claim], breaks: &[(Claim, Option<CacheKind>)], row: &str
     next(&mut words).is_empty()
 }
 
-fn is_plan(held: &[Claim], plan: &Plan, words: &mut Split<'_, char>) -> bool {
+fn is_plan(held: &[Claim], plan: &BreakPlan, words: &mut Split<'_, char>) -> bool {
     are_breaks(held, plan.breaks.as_slice(), next(words))
         && is_at(held, plan.awaited, next(words))
         && is_at(held, recalled(plan), next(words))
@@ -155,7 +155,7 @@ fn plans(alloc: Global, row: &str) -> Result<bool, AllocError> {
     let mut words = row.split('|');
     let ask = claim_in(next(&mut words));
     let held = claims_in(alloc, next(&mut words))?;
-    let plan = plan(alloc, &ask, &held)?;
+    let plan = plan_breaks(alloc, &ask, &held)?;
     Ok(is_plan(&held, &plan, &mut words))
 }
 

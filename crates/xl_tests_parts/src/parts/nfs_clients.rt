@@ -6,8 +6,8 @@ use super::next;
 use std::alloc::{AllocError, Global};
 use xl_base::{Moment, Sequence};
 use xl_nfs_state::{
-    Callback, ClientDetails, ClientRow, KeptRow, MOST_CLIENTS, MOST_RESULT_BYTES, NfsState,
-    OwnerKind, OwnerName, OwnerNamed, OwnerRow, ResultBytes, SeqidVerdict, Turn, verdict,
+    Callback, ClientDetails, ClientRow, KeptRow, MOST_CLIENTS, NfsState, OwnerKind, OwnerName,
+    OwnerNamed, OwnerRow, ResultBytes, SeqidState, SeqidVerdict, verdict,
 };
 
 /// The operation and seqid of the last request (a dash for a new owner), those of the request, and the verdict.
@@ -33,11 +33,11 @@ fn small(word: &str) -> u32 {
     word.parse().unwrap_or(99)
 }
 
-fn turn(op: &str, seqid: &str) -> Option<Turn> {
+fn seqids(op: &str, seqid: &str) -> Option<SeqidState> {
     if op == "-" {
         return None;
     }
-    Some(Turn {
+    Some(SeqidState {
         seqid: small(seqid),
         op: small(op),
         confirmed: true,
@@ -60,7 +60,7 @@ fn is_verdict(found: SeqidVerdict, word: &str) -> bool {
 fn is_judged(row: &str) -> bool {
     let mut words = row.split(' ');
     let op = next(&mut words);
-    let last = turn(op, next(&mut words));
+    let last = seqids(op, next(&mut words));
     let op = small(next(&mut words));
     let seqid = small(next(&mut words));
     is_verdict(verdict(last, op, seqid), next(&mut words))
@@ -263,13 +263,17 @@ pub fn adds_owner(alloc: Global, state: &mut NfsState, kind: OwnerKind, bytes: &
         kind,
         owner,
     };
-    let turn = Turn {
+    let seqids = SeqidState {
         seqid: 8,
         op: 18,
         confirmed: false,
         closed: None,
     };
-    let row = OwnerRow { number, name, turn };
+    let row = OwnerRow {
+        number,
+        name,
+        seqids,
+    };
     if state.add_owner(alloc, row).is_ok() {
         number
     } else {
@@ -281,9 +285,9 @@ fn advances(state: &mut NfsState, number: u64, op: u32, seqid: u32) -> bool {
     let Some(row) = state.find_owner(number) else {
         return false;
     };
-    let turn = row.turn.accepted(op, seqid);
-    state.change_owner(number, turn);
-    matches!(state.find_owner(number), Some(row) if row.turn.op == op && row.turn.seqid == seqid)
+    let seqids = row.seqids.accepted(op, seqid);
+    state.change_owner(number, seqids);
+    matches!(state.find_owner(number), Some(row) if row.seqids.op == op && row.seqids.seqid == seqid)
 }
 
 fn drops_owner(state: &mut NfsState, number: u64) -> bool {
@@ -299,7 +303,7 @@ fn drops_owner(state: &mut NfsState, number: u64) -> bool {
 
 /// Keeps a result for the owner, anew or in place of the one before.
 pub fn keeps(alloc: Global, state: &mut NfsState, owner: u64, bytes: &[u8]) -> bool {
-    if bytes.len() > MOST_RESULT_BYTES {
+    if bytes.len() > 1_064 {
         return false;
     }
     let Ok(copy) = Sequence::from_slice(alloc, bytes) else {
@@ -351,7 +355,7 @@ fn are_named(state: &NfsState) -> bool {
 
 /// One advances, and the other doesn't.
 fn one_advances(state: &mut NfsState) -> bool {
-    advances(state, 1, 4, 9) && matches!(state.find_owner(2), Some(row) if row.turn.seqid == 8)
+    advances(state, 1, 4, 9) && matches!(state.find_owner(2), Some(row) if row.seqids.seqid == 8)
 }
 
 /// An owner with a kept result isn't dropped, and a later result takes its place.

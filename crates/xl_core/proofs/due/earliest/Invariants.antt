@@ -1,5 +1,5 @@
 use Rattle.std.proofs.Common.{◌≡◌, None, drop}
-use Rattle.xl_core.specs.Breaks.{earliest_from}
+use Rattle.xl_core.specs.BreakAnswers.{earliest_from}
 use Rattle.xl_core.proofs.due.earliest.Given as goal
 
 abbrev pub invariant-loop-claim : goal.invariant-loop-claim

@@ -1,4 +1,4 @@
-use Rattle.xl_core.proofs.BreakLaws.{ack_good}
+use Rattle.xl_core.proofs.BreakAnswerLaws.{ack_good}
 use Rattle.xl_core.proofs.GoodLaws.{started_good, begun_good, ask_good, settle_good, cancel_good, give_back_good, drawn_good, end_party_good, close_open_good, renew_good, tick_good}
 use Rattle.xl_core.proofs.WeakenLaws.{weaken_good}
 use Rattle.xl_core.proofs.law.stays_good.Goals as goal

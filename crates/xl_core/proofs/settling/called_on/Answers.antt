@@ -1,7 +1,7 @@
 use Rattle.std.proofs.Common.{ℕ, List, ap, ◌∙◌}
-use Rattle.xl_core.specs.Watch.{first_free}
+use Rattle.xl_core.specs.Unsettled.{first_free}
 use Rattle.xl_core.specs.Whole.{state_of}
-use Rattle.xl_core.proofs.NoteLaws.{called_on}
+use Rattle.xl_core.proofs.UnsettledLaws.{called_on}
 use Rattle.xl_core.proofs.settling.called_on.Goals as goal
 
 pub returns : goal.returns

@@ -1,7 +1,7 @@
 use Rattle.std.proofs.Common.{◌≡◌, drop}
 use Rattle.std.specs.List.{AllByRecursion}
 use Rattle.xl_core.specs.Settle.{first_called}
-use Rattle.xl_core.specs.Watch.{IsHeldUp}
+use Rattle.xl_core.specs.Unsettled.{IsHeldUp}
 use Rattle.xl_core.specs.Whole.{state_of}
 use Rattle.xl_core.proofs.settling.first_called.Given as goal
 

@@ -1,5 +1,5 @@
 use Rattle.std.proofs.Common.{◌≡◌, drop}
-use Rattle.xl_core.specs.Watch.{first_free}
+use Rattle.xl_core.specs.Unsettled.{first_free}
 use Rattle.xl_core.specs.Whole.{state_of}
 use Rattle.xl_core.proofs.settling.first_free.Given as goal
 

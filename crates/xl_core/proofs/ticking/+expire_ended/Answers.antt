@@ -2,7 +2,7 @@ use Rattle.std.proofs.Common.{◌<◌, arith, rules}
 use Rattle.std.proofs.lemmas.Bool.Decides.{nat_tests}
 use Rattle.xl_core.specs.Whole.{state_of}
 use Rattle.xl_core.proofs.GoodLaws.{expired_is_good}
-use Rattle.xl_core.proofs.NoteLaws.{expired_told}
+use Rattle.xl_core.proofs.UnsettledLaws.{expired_told}
 use Rattle.xl_core.proofs.ticking.+expire_ended.Goals as goal
 
 pub expire_ended-requires : goal.expire_ended-requires

@@ -2,7 +2,7 @@ use Rattle.std.proofs.Common.{◌<◌, arith, rules}
 use Rattle.std.proofs.lemmas.Bool.Decides.{nat_tests}
 use Rattle.xl_core.specs.Whole.{state_of}
 use Rattle.xl_core.proofs.GoodLaws.{lapsed_is_good}
-use Rattle.xl_core.proofs.NoteLaws.{lapsed_told}
+use Rattle.xl_core.proofs.UnsettledLaws.{lapsed_told}
 use Rattle.xl_core.proofs.ticking.+lapse_due.Goals as goal
 
 pub lapse_due-requires : goal.lapse_due-requires

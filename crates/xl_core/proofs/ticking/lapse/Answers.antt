@@ -1,5 +1,5 @@
 use Rattle.xl_core.specs.Whole.{state_of}
-use Rattle.xl_core.proofs.NoteLaws.{removed_noted}
+use Rattle.xl_core.proofs.UnsettledLaws.{removed_noted}
 use Rattle.xl_core.proofs.ticking.lapse.Goals as goal
 
 pub returns-in-None-clause-held_up : goal.returns-in-None-clause-held_up

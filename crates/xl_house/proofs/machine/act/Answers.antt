@@ -11,7 +11,7 @@ settle-requires g c = record { ready = settle_ready _ _ c.requires.ready c.in_ok
 pub returns-clause-step : goal.returns-clause-step
 returns-clause-step g c =
     rw (c.hear_event.ensures.place)
-    (acted_step (whole_of c.args.exports.now c.args.machine.now) c.args.event.now c.in_ok-outs.outs c.hear_event.new.machine.parts.front c.hear_event.new.machine.parts.core c.settle.new.outs c.settle.new.parts.front c.settle.new.parts.core c.begin_step.new.self c.connect.new.connections.items c.requires.goes_on c.requires.ready.good
+    (acted_step (whole_of c.args.exports.now c.args.machine.now) c.args.event.now c.in_ok-outs.outs c.hear_event.new.machine.layers.front c.hear_event.new.machine.layers.core c.settle.new.outs c.settle.new.layers.front c.settle.new.layers.core c.begin_step.new.self c.connect.new.connections.items c.requires.goes_on c.requires.ready.good
     (record {
       heard = λ n may. c.in_ok-outs.ensures.heard n may;
       on = c.in_ok-settle.ensures.leaves.on;

@@ -7,10 +7,10 @@ use Rattle.xl_house.proofs.machine.hear_answer.Goals as goal
 
 pub sent_for-requires : goal.sent_for-requires
 sent_for-requires g c =
-    let quiet = answer_quiet c.args.parts.now.front.nlm c.nlm_called.new.parts.0 c.args.parts.now.core c.nlm_called.new.parts.1.0 c.args.call (option_map (λ bytes. bytes.now) c.bytes_of.result) c.in_ok-effects.effects c.requires.ready.good c.in_ok-effects.ensures.state in
+    let quiet = answer_quiet c.args.layers.now.front.nlm c.nlm_called.new.layers.0 c.args.layers.now.core c.nlm_called.new.layers.1.0 c.args.call (option_map (λ bytes. bytes.now) c.bytes_of.result) c.in_ok-effects.effects c.requires.ready.good c.in_ok-effects.ensures.state in
     record { ready = tell_ready _ _ c.in_ok-effects.effects quiet c.requires.ready c.in_ok-effects.ensures.leaves }
 
 pub returns-clause-leaves : goal.returns-clause-leaves
 returns-clause-leaves g c =
-    let quiet = answer_quiet c.args.parts.now.front.nlm c.nlm_called.new.parts.0 c.args.parts.now.core c.nlm_called.new.parts.1.0 c.args.call (option_map (λ bytes. bytes.now) c.bytes_of.result) c.in_ok-effects.effects c.requires.ready.good c.in_ok-effects.ensures.state in
+    let quiet = answer_quiet c.args.layers.now.front.nlm c.nlm_called.new.layers.0 c.args.layers.now.core c.nlm_called.new.layers.1.0 c.args.call (option_map (λ bytes. bytes.now) c.bytes_of.result) c.in_ok-effects.effects c.requires.ready.good c.in_ok-effects.ensures.state in
     tell_leaves _ _ _ c.in_ok-effects.effects quiet c.in_ok-effects.ensures.leaves c.in_ok-outs.ensures.leaves

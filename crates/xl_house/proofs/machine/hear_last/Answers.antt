@@ -10,10 +10,10 @@ smb_end-requires c = record { ready = record { good = c.requires.ready.good; num
 
 pub sent_for-requires : goal.sent_for-requires
 sent_for-requires c =
-    let quiet = last_quiet c.args.parts.now.front.smb _ c.args.parts.now.core _ c.args.number c.in_ok-effects.effects c.requires.ready.good c.in_ok-effects.ensures.state in
+    let quiet = last_quiet c.args.layers.now.front.smb _ c.args.layers.now.core _ c.args.number c.in_ok-effects.effects c.requires.ready.good c.in_ok-effects.ensures.state in
     record { ready = smb_ready 0 _ _ c.in_ok-effects.effects (omega arith) quiet c.requires.ready c.in_ok-effects.ensures.leaves }
 
 pub returns-clause-leaves : goal.returns-clause-leaves
 returns-clause-leaves c =
-    let quiet = last_quiet c.args.parts.now.front.smb _ c.args.parts.now.core _ c.args.number c.in_ok-effects.effects c.requires.ready.good c.in_ok-effects.ensures.state in
+    let quiet = last_quiet c.args.layers.now.front.smb _ c.args.layers.now.core _ c.args.number c.in_ok-effects.effects c.requires.ready.good c.in_ok-effects.ensures.state in
     smb_leaves 0 _ _ _ c.in_ok-effects.effects (omega arith) quiet c.in_ok-effects.ensures.leaves c.in_ok-outs.ensures.leaves

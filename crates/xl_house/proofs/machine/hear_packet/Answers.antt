@@ -10,10 +10,10 @@ smb_step-requires g c = record { ready = record { good = c.requires.ready.good; 
 
 pub sent_with-requires : goal.sent_with-requires
 sent_with-requires g c =
-    let quiet = smb_quiet c.args.exports.now c.nfs_opens-others.result c.args.parts.now.front.smb _ c.args.parts.now.core _ c.args.number c.args.bytes.now c.in_ok-reply.reply c.in_ok-reply.effects c.requires.ready.good c.in_ok-reply.ensures.state in
+    let quiet = smb_quiet c.args.exports.now c.nfs_opens-others.result c.args.layers.now.front.smb _ c.args.layers.now.core _ c.args.number c.args.bytes.now c.in_ok-reply.reply c.in_ok-reply.effects c.requires.ready.good c.in_ok-reply.ensures.state in
     record { fits = c.in_ok-reply.ensures.little; ready = smb_ready 3 _ _ c.in_ok-reply.effects (omega arith) quiet c.requires.ready c.in_ok-reply.ensures.leaves }
 
 pub returns-clause-leaves : goal.returns-clause-leaves
 returns-clause-leaves g c =
-    let quiet = smb_quiet c.args.exports.now c.nfs_opens-others.result c.args.parts.now.front.smb _ c.args.parts.now.core _ c.args.number c.args.bytes.now c.in_ok-reply.reply c.in_ok-reply.effects c.requires.ready.good c.in_ok-reply.ensures.state in
+    let quiet = smb_quiet c.args.exports.now c.nfs_opens-others.result c.args.layers.now.front.smb _ c.args.layers.now.core _ c.args.number c.args.bytes.now c.in_ok-reply.reply c.in_ok-reply.effects c.requires.ready.good c.in_ok-reply.ensures.state in
     smb_leaves 3 _ _ _ c.in_ok-reply.effects (omega arith) quiet c.in_ok-reply.ensures.leaves c.in_ok-outs.ensures.leaves

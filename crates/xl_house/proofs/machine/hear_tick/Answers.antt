@@ -8,14 +8,14 @@ use Rattle.xl_house.proofs.machine.hear_tick.Goals as goal
 
 pub sent_for-requires : goal.sent_for-requires
 sent_for-requires g c =
-    let old = c.args.parts.now.core in
+    let old = c.args.layers.now.core in
     let ticked = c.in_ok-effects.ensures.state in
     let none : grants c.in_ok-effects.effects ≡ 0 = ap (λ (r : List Effect × CoreState). grants r.0) (sym ticked) ∙ tick_quiet old c.args.now in
     record { ready = tell_ready _ _ c.in_ok-effects.effects none c.requires.ready (tick_leaves old c.tick.new.self c.args.now c.in_ok-effects.effects c.requires.ready ticked) }
 
 pub returns-clause-leaves : goal.returns-clause-leaves
 returns-clause-leaves g c =
-    let old = c.args.parts.now.core in
+    let old = c.args.layers.now.core in
     let ticked = c.in_ok-effects.ensures.state in
     let none : grants c.in_ok-effects.effects ≡ 0 = ap (λ (r : List Effect × CoreState). grants r.0) (sym ticked) ∙ tick_quiet old c.args.now in
     tell_leaves _ _ _ c.in_ok-effects.effects none (tick_leaves old c.tick.new.self c.args.now c.in_ok-effects.effects c.requires.ready ticked) c.in_ok-outs.ensures.leaves

@@ -5,5 +5,5 @@ use Rattle.xl_house.proofs.outs.show_each.Goals as goal
 pub loop-effect-preserved : goal.loop-effect-preserved
 loop-effect-preserved c =
     let invariant = c.loop-effect.invariant in
-    let next = show_next c.args.exports.now c.loop-effect.parts.front c.show.new.parts.front c.loop-effect.parts.core c.show.new.parts.core c.args.effects.now c.loop-effect.effect-index c.effect-item.result c.loop-effect.outs c.show.new.outs c.loop-effect-test.true c.effect-item.is c.in_ok-show.ensures.state in
+    let next = show_next c.args.exports.now c.loop-effect.layers.front c.show.new.layers.front c.loop-effect.layers.core c.show.new.layers.core c.args.effects.now c.loop-effect.effect-index c.effect-item.result c.loop-effect.outs c.show.new.outs c.loop-effect-test.true c.effect-item.is c.in_ok-show.ensures.state in
     (next.0 ∙ invariant.0, (c.in_ok-show.ensures.leaves.good, (c.in_ok-show.ensures.leaves.grows.short, omega (arith, next.1, invariant.1.1.1))))

@@ -6,5 +6,5 @@ use Rattle.xl_house.specs.Machine.{grants, behind, all_shown}
 use Rattle.xl_house.proofs.outs.show_each.Given as goal
 
 abbrev pub invariant-loop-effect : goal.invariant-loop-effect
-invariant-loop-effect l = (behind l.outs (all_shown l.exports l.parts.front l.parts.core (drop l.effect-index l.effects)) ≡ behind l.fn.outs (all_shown l.exports l.fn.parts.front l.fn.parts.core l.effects))
-    × (IsGood l.parts.core × (AreShort l.parts.core.names × (numbers_of l.parts.core + grants (drop l.effect-index l.effects) ≤ numbers_of l.fn.parts.core + grants l.effects)))
+invariant-loop-effect l = (behind l.outs (all_shown l.exports l.layers.front l.layers.core (drop l.effect-index l.effects)) ≡ behind l.fn.outs (all_shown l.exports l.fn.layers.front l.fn.layers.core l.effects))
+    × (IsGood l.layers.core × (AreShort l.layers.core.names × (numbers_of l.layers.core + grants (drop l.effect-index l.effects) ≤ numbers_of l.fn.layers.core + grants l.effects)))

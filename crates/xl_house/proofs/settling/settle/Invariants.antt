@@ -5,7 +5,7 @@ use Rattle.xl_house.proofs.SettleLaws.{IsSettling}
 use Rattle.xl_house.proofs.settling.settle.Given as goal
 
 abbrev pub invariant-turns : goal.invariant-turns
-invariant-turns g l = IsSettling l.exports l.fn.parts.front l.fn.parts.core l.fn.outs l.parts.front l.parts.core l.outs × (IsGood l.parts.core × (l.keeper ≡ l.fn.keeper))
+invariant-turns g l = IsSettling l.exports l.fn.layers.front l.fn.layers.core l.fn.outs l.layers.front l.layers.core l.outs × (IsGood l.layers.core × (l.keeper ≡ l.fn.keeper))
 
 abbrev pub decreases-turns : goal.decreases-turns
-decreases-turns g l = turns_left l.parts.core
+decreases-turns g l = turns_left l.layers.core

@@ -1,7 +1,7 @@
 use Rattle.std.proofs.Common.{◌∙◌, sym, ap}
 use Rattle.xl_nfs.specs.Locks.{shown_lock_args, shown_new_locker}
 use Rattle.xl_nfs_opens.specs.Closing.{checked}
-use Rattle.xl_nfs_opens.specs.Leases.{number_in}
+use Rattle.xl_core.specs.Ids.{number_in}
 use Rattle.xl_nfs_opens.specs.Plans.{carried}
 use Rattle.xl_nfs_opens.specs.declared.opener.Checked.{Checked}
 use Rattle.xl_nfs_opens.proofs.BehindLaws.{renewing_done}

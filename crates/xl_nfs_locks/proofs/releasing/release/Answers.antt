@@ -1,6 +1,6 @@
 use Rattle.xl_nfs_locks.specs.Releases.{release, release_of}
 use Rattle.xl_nfs_opens.proofs.BehindLaws.{renewing_done}
-use Rattle.xl_nfs_opens.specs.Leases.{number_in}
+use Rattle.xl_core.specs.Ids.{number_in}
 use Rattle.xl_nfs_opens.specs.Opens.{client_in}
 use Rattle.xl_nfs_locks.proofs.releasing.release.Goals as goal
 

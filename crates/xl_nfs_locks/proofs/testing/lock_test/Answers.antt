@@ -1,5 +1,5 @@
 use Rattle.xl_nfs.specs.Locks.{shown_lock_test_args}
-use Rattle.xl_nfs_opens.specs.Leases.{number_in}
+use Rattle.xl_core.specs.Ids.{number_in}
 use Rattle.xl_nfs_opens.proofs.BehindLaws.{renewing_done}
 use Rattle.xl_nfs_locks.specs.Tests.{lock_test, test_at}
 use Rattle.xl_nfs_locks.proofs.testing.lock_test.Goals as goal

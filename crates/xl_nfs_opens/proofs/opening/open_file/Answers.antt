@@ -1,5 +1,5 @@
 use Rattle.xl_nfs.specs.Opens.{shown_open_args}
-use Rattle.xl_nfs_opens.specs.Leases.{number_in}
+use Rattle.xl_core.specs.Ids.{number_in}
 use Rattle.xl_nfs_opens.specs.Opens.{open_claimed, open_file}
 use Rattle.xl_nfs_opens.proofs.BehindLaws.{renewing_done}
 use Rattle.xl_nfs_opens.proofs.opening.open_file.Goals as goal

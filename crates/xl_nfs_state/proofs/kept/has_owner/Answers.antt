@@ -1,6 +1,6 @@
 use Rattle.std.proofs.Common.{ap, is_some, ◌∙◌}
 use Rattle.xl_nfs_state.specs.State.{is_owner}
-use Rattle.xl_nfs_state.proofs.KeptLaws.{some_copied, some_found}
+use Rattle.xl_nfs_state.proofs.ResultMapLaws.{some_copied, some_found}
 use Rattle.xl_nfs_state.proofs.kept.has_owner.Goals as goal
 
 pub returns : goal.returns

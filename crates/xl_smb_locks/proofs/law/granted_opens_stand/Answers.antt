@@ -1,4 +1,4 @@
-use Rattle.xl_smb_locks.proofs.ToldLaws.{granted_told, granted_stands}
+use Rattle.xl_smb_locks.proofs.NoticeLaws.{granted_told, granted_stands}
 use Rattle.xl_smb_locks.proofs.law.granted_opens_stand.Goals as goal
 
 pub returns-clause-told : goal.returns-clause-told

@@ -1,4 +1,4 @@
-use Rattle.xl_smb_locks.proofs.ToldLaws.{served_final, cancelled_final}
+use Rattle.xl_smb_locks.proofs.NoticeLaws.{served_final, cancelled_final}
 use Rattle.xl_smb_locks.proofs.law.requests_have_one_final_reply.Goals as goal
 
 pub returns-clause-served : goal.returns-clause-served

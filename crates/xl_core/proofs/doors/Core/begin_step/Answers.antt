@@ -1,8 +1,8 @@
 use Rattle.std.proofs.Common.{sym, subst}
 use Rattle.xl_core.specs.State.{CoreState}
-use Rattle.xl_core.specs.Watch.{AreHeldUp}
+use Rattle.xl_core.specs.Unsettled.{AreHeldUp}
 use Rattle.xl_core.specs.Whole.{state_of}
-use Rattle.xl_core.proofs.WatchLaws.{begun_up}
+use Rattle.xl_core.proofs.HeldUpLaws.{begun_up}
 use Rattle.xl_core.proofs.doors.Core.begin_step.Goals as goal
 
 pub invariant_of-self : goal.invariant_of-self

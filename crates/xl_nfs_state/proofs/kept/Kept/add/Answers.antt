@@ -1,7 +1,7 @@
 use Rattle.std.proofs.Common.{ap, ◌∙◌}
 use Rattle.std.specs.List.{find}
 use Rattle.xl_nfs_state.specs.State.{is_kept}
-use Rattle.xl_nfs_state.proofs.KeptLaws.{kept_added}
+use Rattle.xl_nfs_state.proofs.ResultMapLaws.{kept_added}
 use Rattle.xl_nfs_state.proofs.kept.Kept.add.Goals as goal
 
 pub returns-clause-ok : goal.returns-clause-ok

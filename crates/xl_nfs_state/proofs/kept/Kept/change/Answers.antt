@@ -1,7 +1,7 @@
 use Rattle.std.proofs.Common.{ap, ◌∙◌, is_some}
 use Rattle.std.specs.List.{find}
 use Rattle.xl_nfs_state.specs.State.{is_kept}
-use Rattle.xl_nfs_state.proofs.KeptLaws.{kept_changed}
+use Rattle.xl_nfs_state.proofs.ResultMapLaws.{kept_changed}
 use Rattle.xl_nfs_state.proofs.kept.Kept.change.Goals as goal
 
 pub returns : goal.returns

@@ -1,6 +1,6 @@
 use Rattle.std.proofs.Common.{ap, map, not, ◌==◌, ◌∙◌}
 use Rattle.xl_nfs_state.specs.Rows.{kept_row}
-use Rattle.xl_nfs_state.proofs.KeptLaws.{kept_left}
+use Rattle.xl_nfs_state.proofs.ResultMapLaws.{kept_left}
 use Rattle.xl_nfs_state.proofs.kept.Kept.drop.Goals as goal
 
 pub returns : goal.returns

@@ -1,5 +1,5 @@
 use Rattle.std.proofs.Common.{◌∙◌}
-use Rattle.xl_nfs_state.proofs.KeptLaws.{kept_there}
+use Rattle.xl_nfs_state.proofs.ResultMapLaws.{kept_there}
 use Rattle.xl_nfs_state.proofs.kept.Kept.has.Goals as goal
 
 pub returns : goal.returns

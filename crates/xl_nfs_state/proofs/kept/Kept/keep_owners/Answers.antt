@@ -2,7 +2,7 @@ use Rattle.std.proofs.Common.{ap, map, ◌∙◌}
 use Rattle.std.specs.List.{list_any}
 use Rattle.xl_nfs_state.specs.Rows.{kept_row}
 use Rattle.xl_nfs_state.specs.State.{is_owner}
-use Rattle.xl_nfs_state.proofs.KeptLaws.{kept_left}
+use Rattle.xl_nfs_state.proofs.ResultMapLaws.{kept_left}
 use Rattle.xl_nfs_state.proofs.kept.Kept.keep_owners.Goals as goal
 
 pub returns : goal.returns

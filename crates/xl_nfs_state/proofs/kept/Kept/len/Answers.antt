@@ -1,4 +1,4 @@
-use Rattle.xl_nfs_state.proofs.KeptLaws.{kept_distinct}
+use Rattle.xl_nfs_state.proofs.ResultMapLaws.{kept_distinct}
 use Rattle.xl_nfs_state.proofs.kept.Kept.len.Goals as goal
 
 pub returns-clause-owners : goal.returns-clause-owners

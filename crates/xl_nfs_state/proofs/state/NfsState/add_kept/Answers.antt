@@ -1,7 +1,7 @@
 use Rattle.std.proofs.Common.{is_some, ap, sym, subst, ◌∙◌}
 use Rattle.std.specs.List.{find}
 use Rattle.xl_nfs_state.specs.State.{NfsLists, IsSound, is_owner, with_kept}
-use Rattle.xl_nfs_state.proofs.KeptLaws.{some_found}
+use Rattle.xl_nfs_state.proofs.ResultMapLaws.{some_found}
 use Rattle.xl_nfs_state.proofs.SoundLaws.{kept_added}
 use Rattle.xl_nfs_state.proofs.state.NfsState.add_kept.Goals as goal
 

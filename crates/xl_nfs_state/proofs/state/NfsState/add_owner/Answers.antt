@@ -1,7 +1,7 @@
 use Rattle.std.proofs.Common.{true, is_some, ap, sym, subst, ◌∙◌}
 use Rattle.std.specs.List.{find}
 use Rattle.xl_nfs_state.specs.State.{NfsLists, IsSound, is_client, next_owner, with_owners}
-use Rattle.xl_nfs_state.proofs.KeptLaws.{some_found}
+use Rattle.xl_nfs_state.proofs.ResultMapLaws.{some_found}
 use Rattle.xl_nfs_state.proofs.SoundLaws.{fresh_number, owner_added}
 use Rattle.xl_nfs_state.proofs.state.NfsState.add_owner.Goals as goal
 

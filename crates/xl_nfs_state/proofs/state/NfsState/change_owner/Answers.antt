@@ -7,4 +7,4 @@ pub invariant_of-self : goal.invariant_of-self
 invariant_of-self c =
     let old = c.self.inside in
     let l : NfsLists = record { clients = old.clients; owners = old.owners; stateids = old.stateids; kept = old.kept } in
-    (subst (λ owners. IsSound (with_owners l owners)) (sym c.change.ensures) (owner_changed l (is_owner c.args.number) c.args.turn c.self.invariant.0), c.self.invariant.1)
+    (subst (λ owners. IsSound (with_owners l owners)) (sym c.change.ensures) (owner_changed l (is_owner c.args.number) c.args.seqids c.self.invariant.0), c.self.invariant.1)

@@ -1,6 +1,0 @@
-use Rattle.std.proofs.Common.{◌≡◌, find, drop}
-use Rattle.xl_cache.specs.Planning.{is_slow}
-use Rattle.xl_cache.proofs.planner.first_slow.Given as goal
-
-abbrev pub invariant-breaks : goal.invariant-breaks
-invariant-breaks l = find is_slow (drop l.begun-index l.breaks) ≡ find is_slow l.breaks

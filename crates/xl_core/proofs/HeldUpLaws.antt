@@ -1,0 +1,591 @@
+-- Who is blocked stays so by what changes on other files; so who may have a turn waits on a file that is kept as unsettled.
+use Rattle.xl_cache.specs.declared.break_plan.BreakPlan.{BreakPlan}
+use Rattle.xl_core.proofs.BreaksInOrderLaws.{final_here, planned_here}
+use Rattle.xl_core.proofs.BreaksBegunLaws.{begun_elsewhere}
+use Rattle.xl_core.proofs.WayLaws.{NoWay, Begins, way_is, way_stopped, way_runs, way_quiet, way_waiters}
+use Rattle.xl_core.proofs.WayAsks.{ask_way_names, ask_way_waiters}
+use Rattle.xl_core.proofs.FrameLaws.{decided_quiet}
+use Rattle.xl_core.proofs.LimitLaws.{wait_least}
+use Rattle.xl_core.specs.Limits.{wait_limits, first_passed}
+use Rattle.xl_core.specs.Ways.{made_way}
+use Rattle.xl_core.specs.Frames.{asks_to_hold}
+use Rattle.xl_core.specs.declared.judge.Plea.{Plea}
+use Rattle.xl_cache.specs.BreakPlans.{is_final}
+use Rattle.xl_core.specs.Blockers.{is_stopped, first_broken, all_run}
+use Rattle.std.proofs.Common.{◌≡◌, ℕ, ◌+◌, Bool, true, false, not, ◌&&◌, ◌==◌, inl, inr, List, [], ◌∷◌, ◌++◌, map, length, append-nil, Option, Some, None, IfSome, is_some, if◌then◌else◌, option_map, refl, sym, ap, subst, ◌∙◌}
+use Rattle.std.specs.List.{AllByRecursion, filter, list_any}
+use Rattle.std.proofs.lemmas.Bool.{cases_Bool, both_ways, or_parts, eqb-true, eq-eqb}
+use Rattle.xl_base.specs.Lists.{placed, Pairwise}
+use Rattle.xl_base.proofs.Members.{all_from, all_weaker, all_append}
+use Rattle.xl_base.specs.declared.name.Owner.{Owner}
+use Rattle.xl_base.specs.declared.name.Party.{Party}
+use Rattle.xl_matrix.proofs.EqualLaws.{same_claims-true, eqb-sym}
+use Rattle.xl_matrix.specs.Blocks.{is_own}
+use Rattle.xl_matrix.specs.Equal.{same_claims}
+use Rattle.xl_matrix.specs.Matrix.{compat}
+use Rattle.xl_matrix.specs.declared.claim.CacheKind.{CacheKind}
+use Rattle.xl_matrix.specs.declared.claim.Claim.{Claim}
+use Rattle.xl_matrix.specs.declared.claim.Extent.TheVariants.{Bytes, Empty}
+use Rattle.xl_matrix.specs.declared.claim.Rwd.{Rwd}
+use Rattle.xl_matrix.specs.declared.claim.What.{What}
+use Rattle.xl_matrix.specs.declared.claim.What.TheVariants.{Share, Range, Cache}
+use Rattle.xl_names.specs.declared.name.Name.{Name}
+use Rattle.xl_spans.specs.Spans.{relocked}
+use Rattle.xl_spans.specs.declared.span.Mode.{Mode}
+use Rattle.xl_spans.specs.declared.span.Span.{Span}
+use Rattle.xl_table.proofs.SectionLaws.{any_within}
+use Rattle.xl_table.proofs.WriteBack.{is_of-true}
+use Rattle.xl_table.specs.Flat.{blocks, inserted, removed, with_what, changed, is_blocked}
+use Rattle.xl_table.specs.Held.{is_of, is_range, is_share, mode_of, spans_of}
+use Rattle.xl_table.specs.Order.{goes_first}
+use Rattle.xl_table.specs.Relock.{all_inserted, range_claim, is_range_of, unranged, relocked_in, is_share_of, unshared, united, shared_in, granted_by, granted_claims}
+use Rattle.xl_wait.specs.Waiting.{cancelled}
+use Rattle.xl_wait.specs.declared.waiter.Rooms.{Rooms}
+use Rattle.xl_wait.specs.declared.waiter.Waiter.{Waiter}
+use Rattle.xl_core.specs.State.{CoreState, step_begun, drawn}
+use Rattle.xl_core.specs.Askers.{both_entered, asked_whats, asked_claims, IsFit}
+use Rattle.xl_core.specs.Causes.{IsClaimDue, IsServed, Answered as TurnAnswered, WaitsOn, IsTurn, may_wait, held_once}
+use Rattle.xl_core.specs.Decide.{Answered, plea_of, waiter_of, claims_asked, acted, decided, way, before_wish, does_wish, wish_after, ask}
+use Rattle.xl_core.specs.Wishes.{wish_granted, wish_of, wish_for}
+use Rattle.xl_cache.specs.declared.wish.Wish.{Wish}
+use Rattle.xl_core.proofs.WishLaws.{wish_elsewhere}
+use Rattle.xl_core.proofs.AskWishLaws.{wished_waiters}
+use Rattle.xl_core.specs.Good.{are_apart, IsWaiter, IsGood, IsSettled, is_held_up, holds_up, IsPled}
+use Rattle.xl_core.specs.Judge.{all_granted, held_with}
+use Rattle.xl_core.specs.Settle.{plea_again, way_again, settle, cancel, give_back, weaken}
+use Rattle.xl_core.specs.BreakAnswers.{with_rest, ack}
+use Rattle.xl_core.specs.Ticks.{renew}
+use Rattle.xl_core.specs.Unsettled.{is_among, is_none, with_file, is_granted, may_free, left_by_ask, IsWider, IsHeldUp, AreHeldUp}
+use Rattle.xl_core.specs.declared.ask.Act.{Act}
+use Rattle.xl_core.specs.declared.ask.Act.TheVariants as acts
+use Rattle.xl_core.specs.declared.ask.Answer.{Answer}
+use Rattle.xl_core.specs.declared.ask.Answer.TheVariants as answers
+use Rattle.xl_core.specs.declared.ask.Ask.{Ask}
+use Rattle.xl_core.specs.declared.ask.Effect.{Effect}
+use Rattle.xl_core.specs.declared.unsettled.Unsettled.{Unsettled}
+use Rattle.xl_core.specs.declared.unsettled.Unsettled.TheVariants.{Files, All}
+use Rattle.xl_core.proofs.CauseLaws.{test_leaves, first_due}
+use Rattle.xl_core.proofs.ChangeLaws.{AskWay, Stays, Tests, Holds, Waits, Frees, decided_way, Gives}
+use Rattle.xl_core.proofs.GoodLaws.{cancelled_all, asked_way_good, decided_grants}
+use Rattle.xl_core.proofs.RowLaws.{is_refusal}
+use Rattle.xl_core.proofs.SettleLaws.{settle_rests, settled_is, none_settled, turn_is, once_cases, turn_is_known, without}
+use Rattle.xl_matrix.specs.Owners.{posix}
+
+-- ---- what is held on a file, where another changes
+
+-- the claims on this file
+abbrev pub on_file : ℕ → List Claim → List Claim
+on_file file cs = filter (λ c. c.file == file) cs
+
+-- the file is another
+abbrev pub IsElsewhere : ℕ → ℕ → Type 0
+IsElsewhere file other = (file == other) ≡ false
+
+filter_placed : (p : Claim → Bool) (below : Claim → Claim → Bool) (c : Claim) (cs : List Claim) → p c ≡ false → filter p (placed below c cs) ≡ filter p cs
+filter_placed p below c [] e = rw e refl
+filter_placed p below c (d ∷ ds) e =
+    elim (cases_Bool (below d c)) [
+      | inl earlier ↦ rw earlier (ap (λ (xs : List Claim). if p d then d ∷ xs else xs) (filter_placed p below c ds e))
+      | inr later ↦ rw (later, e) refl
+    ]
+
+there_inserted : (file : ℕ) (c : Claim) (cs : List Claim) → IsElsewhere c.file file → on_file file (inserted c cs) ≡ on_file file cs
+unfolding inserted
+there_inserted file c cs e = filter_placed (λ d. d.file == file) goes_first c cs e
+
+there_all_inserted : (file : ℕ) (ns cs : List Claim) → AllByRecursion (λ c. IsElsewhere c.file file) ns → on_file file (all_inserted ns cs) ≡ on_file file cs
+there_all_inserted file [] cs apart = refl
+there_all_inserted file (n ∷ ns) cs apart = there_all_inserted file ns (inserted n cs) apart.1 ∙ there_inserted file n cs apart.0
+
+left_out : (b : Bool) → not b ≡ false → b ≡ true
+left_out true e = refl
+left_out false e = sym e
+
+first_of_both : (a b : Bool) → (a && b) ≡ true → a ≡ true
+first_of_both true b e = refl
+first_of_both false b e = e
+
+-- what is taken out on another file is not missed here
+there_kept : (file : ℕ) (keep : Claim → Bool) (cs : List Claim) → ((c : Claim) → keep c ≡ false → IsElsewhere c.file file) → on_file file (filter keep cs) ≡ on_file file cs
+there_kept file keep [] apart = refl
+there_kept file keep (c ∷ cs) apart =
+    elim (cases_Bool (keep c)) [
+      | inl stays ↦ rw stays (ap (λ (xs : List Claim). if c.file == file then c ∷ xs else xs) (there_kept file keep cs apart))
+      | inr goes ↦ rw (goes, apart c goes) (there_kept file keep cs apart)
+    ]
+
+there_relocked : (file at : ℕ) (owner : Owner) (party : Party) (first last : ℕ) (mode : Option Mode) (cs : List Claim) → IsElsewhere at file → on_file file (relocked_in at owner party first last mode cs) ≡ on_file file cs
+unfolding relocked_in unranged
+there_relocked file at owner party first last mode cs apart =
+    there_all_inserted file (map (range_claim at owner party) (relocked (spans_of at owner cs) first last mode)) (filter (λ c. not (is_range_of at owner c)) cs) (all (relocked (spans_of at owner cs) first last mode))
+    ∙ there_kept file (λ c. not (is_range_of at owner c)) cs (λ c out. subst (λ (f : ℕ). IsElsewhere f file) (sym (is_of-true at owner c (first_of_both (is_of at owner c) (is_range c.what) (left_out (is_range_of at owner c) out))).0) apart)
+  where
+    all : (ss : List Span) → AllByRecursion (λ c. IsElsewhere c.file file) (map (range_claim at owner party) ss)
+    all [] = tt
+    all (s ∷ ss) = (apart, all ss)
+
+there_shared : (file : ℕ) (c : Claim) (cs : List Claim) → IsElsewhere c.file file → on_file file (shared_in c cs) ≡ on_file file cs
+unfolding shared_in unshared
+there_shared file c cs apart =
+    there_inserted file (united c cs) (filter (λ d. not (is_share_of c.file c.owner d)) cs) apart
+    ∙ there_kept file (λ d. not (is_share_of c.file c.owner d)) cs (λ d out. subst (λ (f : ℕ). IsElsewhere f file) (sym (is_of-true c.file c.owner d (first_of_both (is_of c.file c.owner d) (is_share d.what) (left_out (is_share_of c.file c.owner d) out))).0) apart)
+
+there_by : (file : ℕ) (c : Claim) (w : What) (cs : List Claim) → IsElsewhere c.file file → on_file file (granted_by c w cs) ≡ on_file file cs
+there_by file c (Range (Bytes first last) exclusive) cs apart =
+    elim (cases_Bool (posix c.owner)) [
+      | inl named ↦ rw named (there_relocked file c.file c.owner c.party first last (Some (mode_of exclusive)) cs apart)
+      | inr unnamed ↦ rw unnamed (there_inserted file c cs apart)
+    ]
+there_by file c (Range (Empty offset) exclusive) cs apart = there_inserted file c cs apart
+there_by file c (Share access deny) cs apart = there_shared file c cs apart
+there_by file c (Cache kind running) cs apart = refl
+
+there_granted : (file : ℕ) (c : Claim) (cs : List Claim) → IsElsewhere c.file file → on_file file (granted_claims c cs) ≡ on_file file cs
+unfolding granted_claims
+there_granted file c cs apart = there_by file c c.what cs apart
+
+there_all_granted : (file at : ℕ) (cs held : List Claim) → AllByRecursion (λ c. c.file ≡ at) cs → IsElsewhere at file → on_file file (all_granted cs held) ≡ on_file file held
+there_all_granted file at [] held are apart = refl
+there_all_granted file at (c ∷ cs) held are apart =
+    there_all_granted file at cs (granted_claims c held) are.1 apart ∙ there_granted file c held (subst (λ (f : ℕ). IsElsewhere f file) (sym are.0) apart)
+
+pub there_removed : (file : ℕ) (claim : Claim) (cs : List Claim) → IsElsewhere claim.file file → on_file file (removed claim cs) ≡ on_file file cs
+there_removed file claim [] apart = refl
+there_removed file claim (c ∷ cs) apart =
+    elim (cases_Bool (same_claims c claim)) [
+      | inl same ↦
+          let other : IsElsewhere c.file file = subst (λ (f : ℕ). IsElsewhere f file) (sym (ap (λ (d : Claim). d.file) (same_claims-true c claim same))) apart in
+          rw (same, other) refl
+      | inr other ↦ rw other (ap (λ (xs : List Claim). if c.file == file then c ∷ xs else xs) (there_removed file claim cs apart))
+    ]
+
+there_changed : (file : ℕ) (claim : Claim) (to : What) (cs : List Claim) → IsElsewhere claim.file file → on_file file (changed claim to cs) ≡ on_file file cs
+unfolding changed
+there_changed file claim to cs apart = there_inserted file (with_what claim to) (removed claim cs) apart ∙ there_removed file claim cs apart
+
+-- ---- who is held up is so by what is held on its file
+
+blocks_elsewhere : (ask held : Claim) → (held.file == ask.file) ≡ false → blocks ask held ≡ false
+unfolding blocks compat
+blocks_elsewhere ask held apart =
+    let other : (ask.file == held.file) ≡ false = eqb-sym ask.file held.file ∙ apart in
+    rw other (no_way (not (is_own ask held)))
+  where
+    no_way : (b : Bool) → (b && false) ≡ false
+    no_way true = refl
+    no_way false = refl
+
+abbrev pub is_filled : List Claim → Bool
+is_filled [] = false
+is_filled (c ∷ cs) = true
+
+pub any_of : (p : Claim → Bool) (cs : List Claim) → list_any p cs ≡ is_filled (filter p cs)
+any_of p [] = refl
+any_of p (c ∷ cs) = elim (cases_Bool (p c)) [ inl e ↦ rw e refl | inr e ↦ rw e (any_of p cs) ]
+
+stopped_here : (c : Claim) (held : List Claim) → is_stopped (on_file c.file held) c ≡ is_stopped held c
+stopped_here c held = any_of (is_final c (on_file c.file held)) (on_file c.file held) ∙ ap is_filled (final_here c held) ∙ sym (any_of (is_final c held) held)
+
+run_here : (c : Claim) (held : List Claim) → all_run (on_file c.file held) c ≡ all_run held c
+run_here c held = ap (λ (p : BreakPlan). not (is_some (first_broken p.breaks))) (planned_here c held)
+
+blocked_here : (c : Claim) (held : List Claim) → is_blocked (on_file c.file held) c ≡ is_blocked held c
+blocked_here c held = any_within (blocks c) (λ d. d.file == c.file) held (λ d apart. blocks_elsewhere c d apart)
+
+held_up_here : (w : Waiter) (c : Claim) (held : List Claim) → is_held_up (on_file c.file held) w c ≡ is_held_up held w c
+held_up_here w c held = λ i. blocked_here c held i && (if stopped_here c held i then w.blocking else run_here c held i)
+
+pub held_up_still : (w : Waiter) (c : Claim) (old new : List Claim) → on_file c.file new ≡ on_file c.file old → is_held_up new w c ≡ is_held_up old w c
+held_up_still w c old new e = sym (held_up_here w c new) ∙ ap (λ (cs : List Claim). is_held_up cs w c) e ∙ held_up_here w c old
+
+-- ---- the unsettled files
+
+pub both_apart : (file other : ℕ) (u : Unsettled) → is_among (with_file file u) other ≡ false → (is_among u other ≡ false) × ((file == other) ≡ false)
+both_apart file other (Files files) e = let parts = or_parts (other == file) (list_any (λ f. other == f) files) e in (parts.1, eqb-sym file other ∙ parts.0)
+both_apart file other All e = absurd (both_ways true e refl)
+
+-- who is held up stays so where each other file has what was held there
+abbrev StaysElsewhere : Unsettled → Unsettled → List Claim → List Claim → Type 0
+StaysElsewhere u v old new = (file : ℕ) → is_among v file ≡ false → (is_among u file ≡ false) × (on_file file new ≡ on_file file old)
+
+still_up : (u v : Unsettled) (old new : List Claim) (w : Waiter) (asked : List Claim) → StaysElsewhere u v old new → IsHeldUp u old w asked → IsHeldUp v new w asked
+still_up u v old new w [] on up = up
+still_up u v old new w (c ∷ cs) on up = λ e. let same = on c.file e in held_up_still w c old new same.1 ∙ up same.0
+
+pub all_still_up : (u v : Unsettled) (old new : List Claim) (ws : List Waiter) → StaysElsewhere u v old new → AllByRecursion (λ w. IsHeldUp u old w w.asked) ws → AllByRecursion (λ w. IsHeldUp v new w w.asked) ws
+all_still_up u v old new ws on all = all_weaker (λ (w : Waiter). IsHeldUp u old w w.asked) (λ w. IsHeldUp v new w w.asked) ws (λ w up. still_up u v old new w w.asked on up) all
+
+-- where all files are unsettled nothing is said of anyone
+pub any_up : (s : CoreState) → AreHeldUp All s
+any_up s = all_from (λ (w : Waiter). IsHeldUp All s.claims w w.asked) s.waiters (λ w h. by w w.asked) where
+  by : (w : Waiter) (asked : List Claim) → IsHeldUp All s.claims w asked
+  by w [] = tt
+  by w (c ∷ cs) = λ e. absurd (both_ways true e refl)
+
+-- ---- an ask
+
+pub asked_there : (a : Ask) (whats : List What) (names : List Name) → AllByRecursion (λ c. c.file ≡ a.file) (asked_claims a whats names)
+asked_there a [] names = tt
+asked_there a (w ∷ ws) names = (refl, asked_there a ws names)
+
+-- a refusal grants nothing
+refused_not_given : (answer : Answer) → is_refusal answer ≡ true → is_granted answer ≡ true → ⊥
+refused_not_given (answers.Granted c) refused given = absurd (both_ways false refl refused)
+refused_not_given (answers.Queued number) refused given = absurd (both_ways false refl given)
+refused_not_given (answers.Conflict c) refused given = absurd (both_ways false refl given)
+refused_not_given (answers.Recall c) refused given = absurd (both_ways false refl given)
+refused_not_given (answers.Grace until) refused given = absurd (both_ways false refl given)
+refused_not_given (answers.NoGrace clock) refused given = absurd (both_ways false refl given)
+refused_not_given answers.NotRecorded refused given = absurd (both_ways false refl given)
+refused_not_given (answers.Full limit) refused given = absurd (both_ways false refl given)
+refused_not_given answers.NotHeld refused given = absurd (both_ways false refl given)
+refused_not_given answers.StoreFailed refused given = absurd (both_ways false refl given)
+
+-- what is asked for there is held, or given up, and who waits on other files stays blocked
+way_up : (u : Unsettled) (s : CoreState) (a : Ask) (answer : Answer) (t : CoreState) → AskWay s a (answer, [], t) → is_granted answer ≡ true → AreHeldUp u s → AreHeldUp (with_file a.file u) t
+unfolding held_with
+way_up u s a answer t (Stays other refused e) given all = absurd (refused_not_given other refused (ap (λ (x : Answered). is_granted x.0) (sym e) ∙ given))
+way_up u s a answer t (Tests c holds e) given all = subst (λ (x : Answered). AreHeldUp (with_file a.file u) x.2) (sym e) (all_still_up u (with_file a.file u) s.claims s.claims s.waiters (λ file n. ((both_apart a.file file u n).0, refl)) all)
+way_up u s a answer t (Holds c claims is holds e) given all =
+    let there = subst (λ (cs : List Claim). AllByRecursion (λ d. d.file ≡ a.file) cs) (sym is) (asked_there a (asked_whats a.act) s.names) in
+    subst (λ (x : Answered). AreHeldUp (with_file a.file u) x.2) (sym e)
+    (all_still_up u (with_file a.file u) s.claims (all_granted claims s.claims) s.waiters (λ file n. let apart = both_apart a.file file u n in (apart.0, there_all_granted file a.file claims s.claims there apart.1)) all)
+way_up u s a answer t (Waits c cs may blocked is holds e) given all = absurd (both_ways (is_granted answer) (ap (λ (x : Answered). is_granted x.0) e) given)
+way_up u s a answer t (Frees claim first last holds act at owner e) given all =
+    subst (λ (x : Answered). AreHeldUp (with_file a.file u) x.2) (sym e)
+    (all_still_up u (with_file a.file u) s.claims _ s.waiters
+    (λ file n. let apart = both_apart a.file file u n in (apart.0, there_relocked file claim.file claim.owner claim.party first last None s.claims (subst (λ (f : ℕ). IsElsewhere f file) (sym at) apart.1))) all)
+way_up u s a answer t (Gives claim d holds act at owner range e) given all =
+    subst (λ (x : Answered). AreHeldUp (with_file a.file u) x.2) (sym e)
+    (all_still_up u (with_file a.file u) s.claims _ s.waiters
+    (λ file n. let apart = both_apart a.file file u n in (apart.0, there_removed file d s.claims (subst (λ (f : ℕ). IsElsewhere f file) (sym at) apart.1))) all)
+
+-- where one is told to wait for answers to breaks, all of these run
+abbrev Runs : CoreState → Ask → Answer → Type 0
+Runs s a answer = (id : ℕ) (c : Claim) (cs : List Claim) → answer ≡ answers.Queued id → c ∷ cs ≡ asked_claims a (asked_whats a.act) s.names → asks_to_hold a.act ≡ true → is_blocked s.claims c ≡ true → is_stopped s.claims c ≡ false → all_run s.claims c ≡ true
+
+-- who comes to wait is held up
+comes_up : (u : Unsettled) (s : CoreState) (a : Ask) (c : Claim) (cs : List Claim) → may_wait s.claims a c ≡ true → is_blocked s.claims c ≡ true → (is_stopped s.claims c ≡ false → all_run s.claims c ≡ true) → IsHeldUp u s.claims (waiter_of (s.counter + 1) a (c ∷ cs)) (c ∷ cs)
+comes_up u s a c cs may blocked run = λ e. by (is_blocked s.claims c) (is_stopped s.claims c) a.blocking a.awaits (all_run s.claims c) may blocked run where
+  by : (x y z v r : Bool) → (if y then z else v) ≡ true → x ≡ true → (y ≡ false → r ≡ true) → (x && (if y then z else r)) ≡ true
+  by true true z v r m b run = m
+  by true false z v r m b run = run refl
+  by false y z v r m b run = absurd (both_ways false refl b)
+
+same_up : (u : Unsettled) (s : CoreState) (a : Ask) (answer : Answer) (t : CoreState) → AskWay s a (answer, [], t) → is_granted answer ≡ false → Runs s a answer → AreHeldUp u s → AreHeldUp u t
+same_up u s a answer t (Stays other refused e) given runs all = subst (λ (x : Answered). AreHeldUp u x.2) (sym e) all
+same_up u s a answer t (Tests c holds e) given runs all = subst (λ (x : Answered). AreHeldUp u x.2) (sym e) all
+same_up u s a answer t (Holds c claims of holds e) given runs all = absurd (both_ways (is_granted answer) given (ap (λ (x : Answered). is_granted x.0) e))
+same_up u s a answer t (Gives claim d holds act file owner range e) given runs all = absurd (both_ways (is_granted answer) given (ap (λ (x : Answered). is_granted x.0) e))
+same_up u s a answer t (Waits c cs may blocked is holds e) given runs all =
+    subst (λ (x : Answered). AreHeldUp u x.2) (sym e) (all_append (λ (w : Waiter). IsHeldUp u s.claims w w.asked) s.waiters (waiter_of (s.counter + 1) a (c ∷ cs) ∷ []) all (comes_up u s a c cs may blocked (runs (s.counter + 1) c cs (ap (λ (x : Answered). x.0) e) is holds blocked), tt))
+same_up u s a answer t (Frees claim first last holds act file owner e) given runs all = absurd (both_ways (is_granted answer) given (ap (λ (x : Answered). is_granted x.0) e))
+
+decided_up : (u : Unsettled) (left : Rooms) (s t : CoreState) (a : Ask) (answer : Answer) → decided 0 left s a ≡ (answer, [], t) → IsGood s → IsFit a → Runs s a answer → AreHeldUp u s → AreHeldUp (if may_free a.act answer then with_file a.file u else u) t
+decided_up u left s t a answer e good fit runs all = by a.act refl where
+  way : AskWay s a (answer, [], t)
+  way = subst (AskWay s a) e (decided_way 0 left s a good fit.party)
+
+  given : (b : Bool) → is_granted answer ≡ b → AreHeldUp (if b then with_file a.file u else u) t
+  given true is = way_up u s a answer t way is all
+  given false is = same_up u s a answer t way is runs all
+
+  by : (act : Act) → a.act ≡ act → AreHeldUp (if may_free act answer then with_file a.file u else u) t
+  by (acts.Share access deny) is = given (is_granted answer) refl
+  by (acts.Ranges ranges) is = given (is_granted answer) refl
+  by (acts.Test extent exclusive) is = subst (λ (x : CoreState). AreHeldUp u x) (sym (test_leaves 0 left s a extent exclusive is) ∙ ap (λ (x : Answered). x.2) e) all
+  by (acts.Unlock extent) is = given (is_granted answer) refl
+  by acts.Wish is = given (is_granted answer) refl
+
+-- where it asks to hold something it is judged for just that
+hold_is : (n : ℕ) (left : Rooms) (s : CoreState) (a : Ask) (c : Claim) (cs : List Claim) → c ∷ cs ≡ asked_claims a (asked_whats a.act) s.names → asks_to_hold a.act ≡ true → decided n left s a ≡ claims_asked n left s a (asked_claims a (asked_whats a.act) s.names)
+unfolding decided
+hold_is n left s a c cs some holds = by a.act some holds where
+  by : (act : Act) → c ∷ cs ≡ asked_claims a (asked_whats act) s.names → asks_to_hold act ≡ true → acted n left s a act ≡ claims_asked n left s a (asked_claims a (asked_whats act) s.names)
+  by (acts.Share access deny) some h = refl
+  by (acts.Ranges ranges) some h = refl
+  by (acts.Test extent exclusive) some h = absurd (both_ways false refl h)
+  by (acts.Unlock extent) some h = absurd (both_ways false refl h)
+  by acts.Wish some h = let two : c ∷ cs ≡ [] = some in absurd cc
+
+-- one who is told to wait doesn't come too late, and its wait passes no limit
+plea_waits : (left : Rooms) (s : CoreState) (a : Ask) (claim : Claim) (id : ℕ) → IsClaimDue left s a claim (answers.Queued id) → ((plea_of left s a).reclaim ≡ false) × ((plea_of left s a).crowded ≡ None)
+unfolding plea_of
+plea_waits left s a claim id due = (due.1, wait_least left a.rows (length s.waiters) (length (both_entered a s.names)) None due.4)
+
+same_plea : (left : Rooms) (s t : CoreState) (a : Ask) → t.names ≡ s.names → t.waiters ≡ s.waiters → plea_of left t a ≡ plea_of left s a
+unfolding plea_of
+same_plea left s t a names waiters = λ i. let kept = length (both_entered a (names i)) in record { blocking = a.blocking; awaits = a.awaits; reclaim = a.reclaim; rows = a.rows; kept = kept; crowded = first_passed (wait_limits left a.rows (length (waiters i)) kept) }
+
+-- so where the way of one is made that is told to wait, all breaks run that it waits for
+way_all_run : (left : Rooms) (s : CoreState) (a : Ask) → Runs (way left s a).1 a (decided 0 left (way left s a).1 a).0
+way_all_run left s a id c cs at is holds blocked moves =
+    let t = (way left s a).1 in
+    let names : t.names ≡ s.names = ask_way_names left s a in
+    let due = subst (IsClaimDue left t a c) at (first_due 0 left t a c cs (decided 0 left t a) blocked (hold_is 0 left t a c cs is holds ∙ ap (claims_asked 0 left t a) (sym is))) in
+    let pleads = plea_waits left t a c id due in
+    let same : plea_of left t a ≡ plea_of left s a = same_plea left s t a names (ask_way_waiters left s a) in
+    let asked : asked_claims a (asked_whats a.act) s.names ≡ c ∷ cs = ap (λ (ns : List Name). asked_claims a (asked_whats a.act) ns) (sym names) ∙ sym is in
+    let made : way left s a ≡ made_way (plea_of left s a) (c ∷ cs) s = ap (λ (ds : List Claim). made_way (plea_of left s a) ds s) asked in
+    elim (cases_Bool (is_stopped s.claims c)) [
+      | inl stops ↦
+          let stays : t ≡ s = ap (λ (w : List Effect × CoreState). w.1) (made ∙ way_stopped (plea_of left s a) c cs s stops) in
+          absurd (both_ways (is_stopped t.claims c) moves (subst (λ (x : CoreState). is_stopped x.claims c ≡ true) (sym stays) stops))
+      | inr moved ↦
+          ap (λ (w : List Effect × CoreState). all_run w.1.claims c) made
+          ∙ way_runs (plea_of left s a) c cs s (ap (λ (p : Plea). p.reclaim) (sym same) ∙ pleads.0) (ap (λ (p : Plea). p.crowded) (sym same) ∙ pleads.1) moved
+    ]
+
+-- who waits on a file that isn't among more of them is held up, where all are that don't wait on these
+pub wider_up : (u v : Unsettled) (held : List Claim) (ws : List Waiter) → IsWider u v → AllByRecursion (λ w. IsHeldUp u held w w.asked) ws → AllByRecursion (λ w. IsHeldUp v held w w.asked) ws
+wider_up u v held ws wider all = all_still_up u v held held ws (λ file n. (wider file n, refl)) all
+
+same_file : (f : ℕ) (u : Unsettled) → IsWider (with_file f (with_file f u)) (with_file f u)
+same_file f (Files files) file n = let apart = both_apart f file (Files files) n in rw (eqb-sym file f ∙ apart.1, apart.0) refl
+same_file f All file n = n
+
+-- what an ask begins it begins on its own file
+way_elsewhere : (left : Rooms) (s : CoreState) (a : Ask) (file : ℕ) → (a.file == file) ≡ false → on_file file (way left s a).1.claims ≡ on_file file s.claims
+way_elsewhere left s a file apart =
+    elim (way_is (plea_of left s a) (asked_claims a (asked_whats a.act) s.names) s) [
+      | NoWay e ↦ ap (λ (w : List Effect × CoreState). on_file file w.1.claims) e
+      | Begins c cs is does e ↦
+          let here = (subst (λ (ds : List Claim). AllByRecursion (λ d. d.file ≡ a.file) ds) is (asked_there a (asked_whats a.act) s.names)).0 in
+          ap (λ (w : List Effect × CoreState). on_file file w.1.claims) e ∙ begun_elsewhere s c file (ap (λ (f : ℕ). f == file) here ∙ apart)
+    ]
+
+-- ---- a wish
+
+other_file : (u : Unsettled) (file other : ℕ) → is_among u file ≡ true → is_among u other ≡ false → (file == other) ≡ false
+other_file u file other there apart =
+    elim (cases_Bool (file == other)) [
+      | inr e ↦ e
+      | inl same ↦ absurd (both_ways (is_among u other) apart (subst (λ (f : ℕ). is_among u f ≡ true) (eqb-true file other same) there))
+    ]
+
+-- who waits on a file that isn't unsettled stays held up where a wish is granted on one that is
+granted_up : (v : Unsettled) (wanted : Wish) (s : CoreState) → is_among v wanted.file ≡ true → AreHeldUp v s → AreHeldUp v (wish_granted wanted s)
+granted_up v wanted s there all =
+    subst (λ (ws : List Waiter). AllByRecursion (λ w. IsHeldUp v (wish_granted wanted s).claims w w.asked) ws) (sym (wished_waiters wanted s))
+    (all_still_up v v s.claims (wish_granted wanted s).claims s.waiters (λ file n. (n, wish_elsewhere wanted s file (other_file v wanted.file file there n))) all)
+
+for_up : (v : Unsettled) (kinds : List CacheKind) (answer : Answer) (s : CoreState) → ((d : Claim) → answer ≡ answers.Granted d → is_among v d.file ≡ true) → AreHeldUp v s → AreHeldUp v (wish_for kinds answer s)
+for_up v kinds (answers.Granted c) s there all = granted_up v (wish_of kinds c) s (there c refl) all
+for_up v kinds (answers.Queued number) s there all = all
+for_up v kinds (answers.Conflict c) s there all = all
+for_up v kinds (answers.Recall c) s there all = all
+for_up v kinds (answers.Grace until) s there all = all
+for_up v kinds (answers.NoGrace clock) s there all = all
+for_up v kinds answers.NotRecorded s there all = all
+for_up v kinds (answers.Full limit) s there all = all
+for_up v kinds answers.NotHeld s there all = all
+for_up v kinds answers.StoreFailed s there all = all
+
+after_up : (v : Unsettled) (a : Ask) (answer : Answer) (s : CoreState) → (does_wish a.act ≡ true → is_granted answer ≡ true → is_among v a.file ≡ true) → (does_wish a.act ≡ true → (d : Claim) → answer ≡ answers.Granted d → d.file ≡ a.file) → AreHeldUp v s → AreHeldUp v (wish_after a answer s)
+after_up v a answer s own there all = by (does_wish a.act) refl where
+  by : (b : Bool) → does_wish a.act ≡ b → AreHeldUp v (if b then wish_for a.wish answer s else s)
+  by true does = for_up v a.wish answer s (λ d e. subst (λ (f : ℕ). is_among v f ≡ true) (sym (there does d e)) (own does (ap is_granted e))) all
+  by false doesnt = all
+
+is_with : (file : ℕ) (u : Unsettled) → is_among (with_file file u) file ≡ true
+is_with file (Files files) = rw (eq-eqb file file refl) refl
+is_with file All = refl
+
+wish_frees : (act : Act) (answer : Answer) → does_wish act ≡ true → is_granted answer ≡ true → may_free act answer ≡ true
+wish_frees (acts.Share access deny) answer does given = given
+wish_frees (acts.Ranges ranges) answer does given = absurd (both_ways false refl does)
+wish_frees (acts.Test extent exclusive) answer does given = absurd (both_ways false refl does)
+wish_frees (acts.Unlock extent) answer does given = absurd (both_ways false refl does)
+wish_frees acts.Wish answer does given = given
+
+pub ask_up : (u : Unsettled) (left : Rooms) (s t : CoreState) (a : Ask) (answer : Answer) (told : List Effect) → ((n : ℕ) → ask n left s a ≡ (answer, told, t)) → IsGood s → IsFit a → AreHeldUp u s → AreHeldUp (left_by_ask a answer told u) t
+unfolding ask before_wish
+ask_up u left s t a answer told e good fit all =
+    subst (AreHeldUp (left_by_ask a answer told u)) (ap (λ (x : Answer). wish_after a x before) (sym answers) ∙ ap (λ (r : Answered). r.2) (e 0))
+    (after_up (left_by_ask a answer told u) a answer before (λ does given. own_file told does given) (λ does d at. ap (λ (c : Claim). c.file) (decided_grants 0 left way_state a d does (answers ∙ at)).1)
+    (by told (way_told ∙ ap (λ (r : Answered). r.1) (e 0))))
+  where
+    way_state : CoreState
+    way_state = (way left s a).1
+
+    sound : IsGood way_state
+    sound = asked_way_good left s a good
+
+    way_told : (way left s a).0 ≡ (way left s a).0 ++ (decided 0 left way_state a).1
+    way_told = sym (append-nil (way left s a).0) ∙ ap (λ (xs : List Effect). (way left s a).0 ++ xs) (sym (decided_quiet 0 left way_state a sound fit.party))
+
+    before : CoreState
+    before = (decided 0 left way_state a).2
+
+    answers : (decided 0 left way_state a).0 ≡ answer
+    answers = ap (λ (r : Answered). r.0) (e 0)
+
+    judged_so : decided 0 left way_state a ≡ (answer, [], before)
+    judged_so = λ i. (answers i, decided_quiet 0 left way_state a sound fit.party i, before)
+
+    -- its file is unsettled where its wish may be granted
+    own_file : (xs : List Effect) → does_wish a.act ≡ true → is_granted answer ≡ true → is_among (left_by_ask a answer xs u) a.file ≡ true
+    own_file [] does given = subst (λ (b : Bool). is_among (if b then with_file a.file u else u) a.file ≡ true) (sym (wish_frees a.act answer does given)) (is_with a.file u)
+    own_file (x ∷ xs) does given = is_with a.file u
+
+    runs : Runs way_state a answer
+    runs = subst (Runs way_state a) (ap (λ (r : Answered). r.0) (e 0)) (way_all_run left s a)
+
+    on_its_file : AreHeldUp (with_file a.file u) way_state
+    on_its_file =
+        subst (λ (ws : List Waiter). AllByRecursion (λ w. IsHeldUp (with_file a.file u) way_state.claims w w.asked) ws) (sym (ask_way_waiters left s a))
+        (all_still_up u (with_file a.file u) s.claims way_state.claims s.waiters (λ file n. let apart = both_apart a.file file u n in (apart.0, way_elsewhere left s a file apart.1)) all)
+
+    by : (xs : List Effect) → (way left s a).0 ≡ xs → AreHeldUp (left_by_ask a answer xs u) before
+    by [] none =
+        let quiet : way left s a ≡ ([], s) = way_quiet (plea_of left s a) (asked_claims a (asked_whats a.act) s.names) s none in
+        decided_up u left way_state before a answer judged_so sound fit runs (subst (λ (w : List Effect × CoreState). AreHeldUp u w.1) (sym quiet) all)
+    by (x ∷ xs) some =
+        both (may_free a.act answer) (decided_up (with_file a.file u) left way_state before a answer judged_so sound fit runs on_its_file)
+      where
+        both : (b : Bool) → AreHeldUp (if b then with_file a.file (with_file a.file u) else with_file a.file u) before → AreHeldUp (with_file a.file u) before
+        both true up = wider_up (with_file a.file (with_file a.file u)) (with_file a.file u) before.claims before.waiters (same_file a.file u) up
+        both false up = up
+
+-- ---- who leaves
+
+pub cancel_up : (u : Unsettled) (s : CoreState) (id : ℕ) → AreHeldUp u s → AreHeldUp u (cancel s id).1
+unfolding cancel
+cancel_up u s id all = cancelled_all (λ (w : Waiter). IsHeldUp u s.claims w w.asked) id s.waiters all
+
+pub renew_up : (u : Unsettled) (s : CoreState) (client : List ℕ) → AreHeldUp u s → AreHeldUp u (renew s client).1
+unfolding renew
+renew_up u s client all = all
+
+pub give_back_up : (u : Unsettled) (s : CoreState) (claim : Claim) → AreHeldUp u s → AreHeldUp (with_file claim.file u) (give_back s claim).1
+unfolding give_back
+give_back_up u s claim all =
+    all_still_up u (with_file claim.file u) s.claims (removed claim s.claims) s.waiters (λ file n. let apart = both_apart claim.file file u n in (apart.0, there_removed file claim s.claims apart.1)) all
+
+pub weaken_up : (u : Unsettled) (s : CoreState) (share : Claim) (access deny : Rwd) → AreHeldUp u s → AreHeldUp (with_file share.file u) (weaken s share access deny).1
+unfolding weaken
+weaken_up u s share access deny all =
+    all_still_up u (with_file share.file u) s.claims (changed share (Share access deny) s.claims) s.waiters
+    (λ file n. let apart = both_apart share.file file u n in (apart.0, there_changed file share (Share access deny) s.claims apart.1)) all
+
+-- what is left of a cache stands on its file alone
+there_rest : (file : ℕ) (cache : Claim) (to : Option CacheKind) (cs : List Claim) → IsElsewhere cache.file file → on_file file (with_rest cache to cs) ≡ on_file file cs
+there_rest file cache None cs apart = there_removed file cache cs apart
+there_rest file cache (Some kind) cs apart = there_changed file cache (Cache kind None) cs apart
+
+pub ack_up : (u : Unsettled) (s : CoreState) (cache : Claim) (to : Option CacheKind) → AreHeldUp u s → AreHeldUp (with_file cache.file u) (ack s cache to).1
+unfolding ack
+ack_up u s cache to all =
+    all_still_up u (with_file cache.file u) s.claims (with_rest cache to s.claims) s.waiters (λ file n. let apart = both_apart cache.file file u n in (apart.0, there_rest file cache to s.claims apart.1)) all
+
+pub begun_up : (u : Unsettled) (s : CoreState) → AreHeldUp u s → AreHeldUp u (step_begun s)
+unfolding step_begun
+begun_up u s all = all
+
+pub drawn_up : (u : Unsettled) (s : CoreState) → AreHeldUp u s → AreHeldUp u (drawn s)
+unfolding drawn
+drawn_up u s all = all
+
+-- ---- a turn
+
+-- where no file is unsettled none is among them
+none_among : (u : Unsettled) (file : ℕ) → is_none u ≡ true → is_among u file ≡ false
+none_among (Files []) file e = refl
+none_among (Files (f ∷ fs)) file e = absurd (both_ways false refl e)
+none_among All file e = absurd (both_ways false refl e)
+
+held_one : (u : Unsettled) (held : List Claim) (w : Waiter) (asked : List Claim) → IsPled asked → ((c : Claim) (cs : List Claim) → asked ≡ c ∷ cs → is_among u c.file ≡ false) → IsHeldUp u held w asked → holds_up held w asked ≡ true
+held_one u held w [] none apart up = absurd none
+held_one u held w (c ∷ cs) some apart up = up (apart c cs refl)
+
+idle_all : (u : Unsettled) (held : List Claim) (names : List Name) (counter : ℕ) (ws : List Waiter) → AllByRecursion (IsWaiter names counter) ws → is_none u ≡ true → AllByRecursion (λ w. IsHeldUp u held w w.asked) ws
+    → AllByRecursion (λ w. holds_up held w w.asked ≡ true) ws
+idle_all u held names counter [] are e all = tt
+idle_all u held names counter (w ∷ ws) are e all =
+    (held_one u held w w.asked are.0.2 (λ c cs asked. none_among u c.file e) all.0, idle_all u held names counter ws are.1 e all.1)
+
+idle_settled : (u : Unsettled) (s : CoreState) → IsGood s → is_none u ≡ true → AreHeldUp u s → IsSettled s
+idle_settled u s good e all = idle_all u s.claims s.names s.counter s.waiters good.waiters e all
+
+settled_none : (n : ℕ) (left : Rooms) (s : CoreState) → IsSettled s → settle n left s ≡ None
+settled_none n left s is = (settle_rests n left s).1 ((settled_is n left s).1 is)
+
+pub idle_none : (u : Unsettled) (left : Rooms) (s : CoreState) → IsGood s → is_none u ≡ true → AreHeldUp u s → (n : ℕ) → settle n left s ≡ None
+idle_none u left s good e all n = settled_none n left s (idle_settled u s good e all)
+
+-- once all are found held up no file is unsettled
+one_up : (held : List Claim) (w : Waiter) (asked : List Claim) → holds_up held w asked ≡ true → IsHeldUp (Files []) held w asked
+one_up held w [] up = tt
+one_up held w (c ∷ cs) up = λ none. up
+
+settled_up : (s : CoreState) → IsSettled s → AreHeldUp (Files []) s
+settled_up s is = all_weaker (λ (w : Waiter). holds_up s.claims w w.asked ≡ true) (λ w. IsHeldUp (Files []) s.claims w w.asked) s.waiters (λ w up. one_up s.claims w w.asked up) is
+
+-- who has a turn waited on an unsettled file, and only what is held there changes
+on_unsettled : (u : Unsettled) (held : List Claim) (w : Waiter) (asked : List Claim) (claim : Claim) (claims : List Claim) → asked ≡ claim ∷ claims → is_held_up held w claim ≡ false → IsHeldUp u held w asked → is_among u claim.file ≡ true
+on_unsettled u held w asked claim claims is free up =
+    elim (cases_Bool (is_among u claim.file)) [
+      | inl there ↦ there
+      | inr apart ↦ let stays : is_held_up held w claim ≡ true = subst (λ (cs : List Claim). IsHeldUp u held w cs) is up apart in absurd (both_ways (is_held_up held w claim) free stays)
+    ]
+
+once_there : (file at : ℕ) (asked held : List Claim) (answer : Answer) → AllByRecursion (λ c. c.file ≡ at) asked → IsElsewhere at file → on_file file (held_once asked answer held) ≡ on_file file held
+once_there file at asked held answer are apart = once_cases (λ cs. on_file file cs ≡ on_file file held) asked held answer refl (there_all_granted file at asked held are apart)
+
+others_in : (P : Waiter → Type 0) (before : List Waiter) (w : Waiter) (behind : List Waiter) → AllByRecursion P (before ++ w ∷ behind) → AllByRecursion P (before ++ behind) × P w
+others_in P [] w behind all = (all.1, all.0)
+others_in P (v ∷ vs) w behind all = let rest = others_in P vs w behind all.1 in ((all.0, rest.0), rest.1)
+
+next_elsewhere : (s : CoreState) (w : Waiter) (claim : Claim) (claims : List Claim) (file : ℕ) → w.asked ≡ claim ∷ claims → IsElsewhere claim.file file → on_file file (way_again s w).1.claims ≡ on_file file s.claims
+next_elsewhere s w claim claims file asked apart =
+    elim (way_is (plea_again s w) w.asked s) [
+      | NoWay e ↦ ap (λ (x : List Effect × CoreState). on_file file x.1.claims) e
+      | Begins c cs is does e ↦
+          let two : c ∷ cs ≡ claim ∷ claims = sym is ∙ asked in
+          let first : c ≡ claim = cc in
+          ap (λ (x : List Effect × CoreState). on_file file x.1.claims) e ∙ begun_elsewhere s c file (ap (λ (d : Claim). d.file == file) first ∙ apart)
+    ]
+
+turn_up : (u : Unsettled) (left : Rooms) (s : CoreState) (effects : List Effect) (t : CoreState) → IsGood s → IsTurn left s effects t → AreHeldUp u s → AreHeldUp u t
+turn_up u left s effects t good turn all = by turn.served where
+  w : Waiter
+  w = turn.waiter
+
+  way_state : CoreState
+  way_state = (way_again s w).1
+
+  parts : AllByRecursion (λ v. IsHeldUp u s.claims v v.asked) (turn.before ++ turn.behind) × IsHeldUp u s.claims w w.asked
+  parts = others_in (λ v. IsHeldUp u s.claims v v.asked) turn.before w turn.behind (subst (λ (ws : List Waiter). AllByRecursion (λ v. IsHeldUp u s.claims v v.asked) ws) turn.stood all)
+
+  there : is_among u turn.claim.file ≡ true
+  there = on_unsettled u s.claims w w.asked turn.claim turn.claims turn.asked turn.free parts.1
+
+  files : AllByRecursion (λ c. c.file ≡ turn.claim.file) w.asked
+  files = subst (λ (cs : List Claim). AllByRecursion (λ c. c.file ≡ turn.claim.file) cs) (sym turn.asked) (refl, (subst IsPled turn.asked (turn_is_known left s effects t good turn).1).1)
+
+  same : way_state.waiters ≡ s.waiters
+  same = way_waiters (plea_again s w) w.asked s
+
+  by : IsServed left way_state w turn.claim turn.told t → AreHeldUp u t
+  by (TurnAnswered answer told is due new clear) =
+      let before : CoreState = record way_state { claims = held_once w.asked answer way_state.claims; waiters = cancelled w.id way_state.waiters } in
+      let gone : before.waiters ≡ turn.before ++ turn.behind =
+      ap (λ (ws : List Waiter). cancelled w.id ws) (same ∙ turn.stood)
+      ∙ without turn.before w turn.behind (subst (λ (ws : List Waiter). Pairwise are_apart ws) turn.stood good.apart) in
+      subst (AreHeldUp u) (sym new)
+      (for_up u w.wish answer before (λ d e. subst (λ (c : Claim). is_among u c.file ≡ true) (sym (is d e)) there)
+      (subst (λ (ws : List Waiter). AllByRecursion (λ v. IsHeldUp u before.claims v v.asked) ws) (sym gone)
+      (all_still_up u u s.claims before.claims (turn.before ++ turn.behind)
+      (λ file n.
+      let apart = other_file u turn.claim.file file there n in
+      (n, once_there file turn.claim.file w.asked way_state.claims answer files apart ∙ next_elsewhere s w turn.claim turn.claims file turn.asked apart)) parts.0)))
+  by (WaitsOn told up new) =
+      subst (λ (x : CoreState). AreHeldUp u x) (sym new)
+      (subst (λ (ws : List Waiter). AllByRecursion (λ v. IsHeldUp u way_state.claims v v.asked) ws) (sym same)
+      (all_still_up u u s.claims way_state.claims s.waiters (λ file n. (n, next_elsewhere s w turn.claim turn.claims file turn.asked (other_file u turn.claim.file file there n))) all))
+
+pub settle_up : (u : Unsettled) (left : Rooms) (s t : CoreState) (r : Option (List Effect)) → ((n : ℕ) → settle n left s ≡ option_map (λ effects. (effects, t)) r) → (r ≡ None → t ≡ s) → IsGood s → AreHeldUp u s → AreHeldUp (if is_some r then u else Files []) t
+settle_up u left s t None e same good all = subst (λ (x : CoreState). AreHeldUp (Files []) x) (sym (same refl)) (settled_up s (none_settled 0 left s (e 0)))
+settle_up u left s t (Some effects) e same good all =
+    let turn = subst (λ (o : Option (List Effect × CoreState)). IfSome o (λ x. IsTurn left s x.0 x.1)) (e 0) (turn_is 0 left s good) in
+    turn_up u left s effects t good turn all

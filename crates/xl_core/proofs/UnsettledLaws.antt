@@ -1,0 +1,320 @@
+-- The files that are noted as unsettled, and who is called by them.
+use Rattle.std.proofs.Common.{◌≡◌, ℕ, zero, suc, ◌+◌, ◌-◌, ◌<◌, Bool, true, false, not, ◌&&◌, ◌||◌, ◌==◌, nat_lt, inl, inr, List, [], ◌∷◌, ◌++◌, Option, Some, None, ◌⊎◌, slice_get, IfSome, if◌then◌else◌, refl, sym, ap, subst, ◌∙◌, arith}
+use Rattle.std.specs.List.{AllByRecursion, filter, list_any}
+use Rattle.std.proofs.lemmas.Bool.{cases_Bool, both_ways, or_parts, eqb-true, eq-eqb}
+use Rattle.std.proofs.lemmas.Bool.Decides.{nat_tests}
+use Rattle.std.proofs.lemmas.List.{append_assoc}
+use Rattle.xl_base.specs.Lists.{IsIn}
+use Rattle.xl_base.specs.declared.event.Moment.{Moment}
+use Rattle.xl_base.proofs.Members.{all_in, all_from, in_filter_from}
+use Rattle.xl_matrix.proofs.EqualLaws.{eqb-sym}
+use Rattle.xl_matrix.specs.declared.claim.CacheKind.{CacheKind}
+use Rattle.xl_matrix.specs.declared.claim.Claim.{Claim}
+use Rattle.xl_matrix.specs.declared.claim.Rwd.{Rwd}
+use Rattle.xl_table.specs.Flat.{removed}
+use Rattle.xl_table.specs.Leaving.{goes, IsNextLeft}
+use Rattle.xl_table.specs.declared.leaver.Leaver.{Leaver}
+use Rattle.xl_wait.specs.Waiting.{first_file, is_file, files_of, waits_on, places_from, places_on}
+use Rattle.xl_wait.specs.declared.waiter.Waiter.{Waiter}
+use Rattle.xl_core.specs.State.{CoreState}
+use Rattle.xl_core.specs.Good.{IsGood, IsWaiter, IsPled, is_held_up, holds_up}
+use Rattle.xl_core.specs.BreakAnswers.{ack, first_due}
+use Rattle.xl_core.specs.Leases.{first_ended}
+use Rattle.xl_core.specs.Ticks.{advanced, behind_told, expire, expired_then, expired_for, lapse, lapsed_then, lapsed_for}
+use Rattle.xl_core.specs.Settle.{first_called, waits_with, give_back, weaken, departed}
+use Rattle.xl_core.specs.Unsettled.{is_among, only_file, with_file, may_change, left_by_ask, first_free, called_at, IsWider, Notes, NotesLeft, IsHeldUp, AreHeldUp}
+use Rattle.xl_core.specs.declared.ask.Answer.{Answer}
+use Rattle.xl_core.specs.declared.ask.Ask.{Ask}
+use Rattle.xl_core.specs.declared.ask.Effect.{Effect}
+use Rattle.xl_core.specs.declared.settling.Called.{Called}
+use Rattle.xl_core.specs.declared.unsettled.Unsettled.{Unsettled}
+use Rattle.xl_core.specs.declared.unsettled.Unsettled.TheVariants.{Files, All}
+use Rattle.xl_core.proofs.HeldUpLaws.{on_file, held_up_still, give_back_up, weaken_up, ack_up}
+
+-- ---- which files they are
+
+-- a list is searched from either side of the test
+pub among_files : (b : Bool) (file : ℕ) (files : List ℕ) → b ≡ list_any (λ f. f == file) files → b ≡ is_among (Files files) file
+among_files b file files is = is ∙ either_way files
+  where
+    either_way : (fs : List ℕ) → list_any (λ f. f == file) fs ≡ list_any (λ f. file == f) fs
+    either_way [] = refl
+    either_way (f ∷ fs) = λ i. eqb-sym f file i || either_way fs i
+
+pub only_is : (u : Unsettled) (o : Option ℕ) → o ≡ only_file u → IfSome o (λ file. u ≡ Files (file ∷ []))
+only_is u o is = subst (λ (p : Option ℕ). IfSome p (λ file. u ≡ Files (file ∷ []))) (sym is) (one u)
+  where
+    one : (v : Unsettled) → IfSome (only_file v) (λ file. v ≡ Files (file ∷ []))
+    one (Files []) = tt
+    one (Files (file ∷ [])) = refl
+    one (Files (file ∷ other ∷ files)) = tt
+    one All = tt
+
+-- ---- one more file
+
+pub added_wider : (files more : List ℕ) (file : ℕ) → more ≡ files ++ file ∷ [] → IsWider (Files files) (Files more)
+added_wider files more file is f n = go files (subst (λ (fs : List ℕ). list_any (λ g. f == g) fs ≡ false) is n)
+  where
+    go : (fs : List ℕ) → list_any (λ g. f == g) (fs ++ file ∷ []) ≡ false → list_any (λ g. f == g) fs ≡ false
+    go [] e = refl
+    go (g ∷ gs) e = let parts = or_parts (f == g) (list_any (λ h. f == h) (gs ++ file ∷ [])) e in rw parts.0 (go gs parts.1)
+
+pub added_own : (files more : List ℕ) (file : ℕ) → more ≡ files ++ file ∷ [] → is_among (Files more) file ≡ true
+added_own files more file is = subst (λ (fs : List ℕ). list_any (λ g. file == g) fs ≡ true) (sym is) (go files)
+  where
+    go : (fs : List ℕ) → list_any (λ g. file == g) (fs ++ file ∷ []) ≡ true
+    go [] = rw (eq-eqb file file refl) refl
+    go (g ∷ gs) = elim (cases_Bool (file == g)) [ inl e ↦ rw e refl | inr e ↦ rw e (go gs) ]
+
+pub all_wider : (u : Unsettled) → IsWider u All
+all_wider u file n = absurd (both_ways true n refl)
+
+-- who waits on a file waits there among all
+pub waits_among : (w : Waiter) (c : Claim) (cs : List Claim) (ws : List Waiter) → IsIn w ws → w.asked ≡ c ∷ cs → waits_on c.file ws ≡ true
+waits_among w c cs [] there asked = absurd there
+waits_among w c cs (v ∷ vs) there asked =
+    elim (cases_Bool (is_file c.file (first_file v.asked))) [
+      | inl e ↦ rw e refl
+      | inr e ↦ rw e (by there e (λ behind. waits_among w c cs vs behind asked))
+    ]
+  where
+    by : (v ≡ w) ⊎ IsIn w vs → is_file c.file (first_file v.asked) ≡ false → (IsIn w vs → waits_on c.file vs ≡ true) → waits_on c.file vs ≡ true
+    by (inl is) off rest = absurd (both_ways (is_file c.file (first_file v.asked)) off (ap (λ (x : Waiter). is_file c.file (first_file x.asked)) is ∙ ap (λ (ds : List Claim). is_file c.file (first_file ds)) asked ∙ eq-eqb c.file c.file refl))
+    by (inr behind) off rest = rest behind
+
+-- who is held up but for one file is held up but for those that were noted with it
+narrowed : (u v : Unsettled) (file : ℕ) (held : List Claim) (ws : List Waiter) → Notes u v file ws → AllByRecursion (λ w. IsHeldUp (with_file file u) held w w.asked) ws → AllByRecursion (λ w. IsHeldUp v held w w.asked) ws
+narrowed u v file held ws notes all = all_from (λ (w : Waiter). IsHeldUp v held w w.asked) ws (λ w there. one w w.asked refl there (all_in (λ (x : Waiter). IsHeldUp (with_file file u) held x x.asked) w ws all there))
+  where
+    off : (c : Claim) (x : Unsettled) → is_among x c.file ≡ false → (c.file == file) ≡ false → is_among (with_file file x) c.file ≡ false
+    off c (Files files) e apart = rw (apart, e) refl
+    off c All e apart = e
+
+    one : (w : Waiter) (asked : List Claim) → w.asked ≡ asked → IsIn w ws → IsHeldUp (with_file file u) held w asked → IsHeldUp v held w asked
+    one w [] is there up = tt
+    one w (c ∷ cs) is there up = λ e.
+        elim (cases_Bool (c.file == file)) [
+          | inl same ↦
+              let waits : waits_on file ws ≡ true = subst (λ (f : ℕ). waits_on f ws ≡ true) (eqb-true c.file file same) (waits_among w c cs ws there is) in
+              absurd (both_ways (is_among v c.file) e (subst (λ (f : ℕ). is_among v f ≡ true) (sym (eqb-true c.file file same)) (notes.own waits)))
+          | inr apart ↦ up (off c u (notes.wider c.file e) apart)
+        ]
+
+pub noted_up : (u v : Unsettled) (file : ℕ) (s : CoreState) → Notes u v file s.waiters → AreHeldUp (with_file file u) s → AreHeldUp v s
+noted_up u v file s notes all = narrowed u v file s.claims s.waiters notes all
+
+pub asked_noted : (u v : Unsettled) (a : Ask) (answer : Answer) (told : List Effect) (t : CoreState) → AreHeldUp (left_by_ask a answer told u) t → (may_change a answer told ≡ true → Notes u v a.file t.waiters) → (may_change a answer told ≡ false → v ≡ u) → AreHeldUp v t
+asked_noted u v a answer told t all notes same =
+    elim (cases_Bool (may_change a answer told)) [
+      | inl e ↦ noted_up u v a.file t (notes e) (subst (λ (b : Bool). AreHeldUp (if b then with_file a.file u else u) t) e all)
+      | inr e ↦ subst (λ (x : Unsettled). AreHeldUp x t) (sym (same e)) (subst (λ (b : Bool). AreHeldUp (if b then with_file a.file u else u) t) e all)
+    ]
+
+pub give_back_noted : (u v : Unsettled) (s : CoreState) (claim : Claim) → Notes u v claim.file s.waiters → AreHeldUp u s → AreHeldUp v (give_back s claim).1
+unfolding give_back
+give_back_noted u v s claim notes all = noted_up u v claim.file (give_back s claim).1 notes (give_back_up u s claim all)
+
+pub weaken_noted : (u v : Unsettled) (s : CoreState) (share : Claim) (access deny : Rwd) → Notes u v share.file s.waiters → AreHeldUp u s → AreHeldUp v (weaken s share access deny).1
+unfolding weaken
+weaken_noted u v s share access deny notes all = noted_up u v share.file (weaken s share access deny).1 notes (weaken_up u s share access deny all)
+
+pub ack_noted : (u v : Unsettled) (s : CoreState) (cache : Claim) (to : Option CacheKind) → Notes u v cache.file s.waiters → AreHeldUp u s → AreHeldUp v (ack s cache to).1
+unfolding ack
+ack_noted u v s cache to notes all = noted_up u v cache.file (ack s cache to).1 notes (ack_up u s cache to all)
+
+pub removed_noted : (u v : Unsettled) (s : CoreState) (claim : Claim) (held : List Claim) → Notes u v claim.file s.waiters → held ≡ removed claim s.claims → AreHeldUp u s → AllByRecursion (λ w. IsHeldUp v held w w.asked) s.waiters
+unfolding give_back
+removed_noted u v s claim held notes is all =
+    subst (λ (cs : List Claim). AllByRecursion (λ w. IsHeldUp v cs w w.asked) s.waiters) (sym is)
+    (noted_up u v claim.file (give_back s claim).1 notes (give_back_up u s claim all))
+
+-- the clock, and who has a lease, hold up nobody
+pub advanced_up : (u : Unsettled) (s : CoreState) (now : Moment) → AreHeldUp u s → AreHeldUp u (advanced s now)
+unfolding advanced
+advanced_up u s now all = all
+
+-- ---- who leaves
+
+-- the file stands behind this one, if there is one
+abbrev pub is_behind : Option ℕ → ℕ → Bool
+is_behind None file = true
+is_behind (Some past) file = nat_lt past file
+
+-- nothing goes from a file between that one and the next
+none_between : (leaver : Leaver) (past : Option ℕ) (file : ℕ) (held : List Claim) → IsNextLeft (Some file) leaver past held → AllByRecursion (λ c. ((goes leaver c && is_behind past c.file) && nat_lt c.file file) ≡ false) held
+none_between leaver None file held next = next.1
+none_between leaver (Some past) file held next = next.1
+
+none_behind : (leaver : Leaver) (past : Option ℕ) (held : List Claim) → IsNextLeft None leaver past held → AllByRecursion (λ c. (goes leaver c && is_behind past c.file) ≡ false) held
+none_behind leaver None held next = next
+none_behind leaver (Some past) held next = next
+
+-- the files up to this one are noted from which claims go
+pub record IsNoting (old new : Unsettled) (leaver : Leaver) (past : Option ℕ) (held : List Claim) (ws : List Waiter) : Type 0 where
+  pub wider : IsWider old new
+  pub own : AllByRecursion (λ c. goes leaver c ≡ true → is_behind past c.file ≡ false → waits_on c.file ws ≡ true → is_among new c.file ≡ true) held
+
+pub noting_first : (u : Unsettled) (leaver : Leaver) (held : List Claim) (ws : List Waiter) → IsNoting u u leaver None held ws
+noting_first u leaver held ws = record {
+  wider = λ f n. n;
+  own = all_from (λ c. goes leaver c ≡ true → is_behind None c.file ≡ false → waits_on c.file ws ≡ true → is_among u c.file ≡ true) held (λ c there g p waits. absurd (both_ways true p refl));
+}
+
+one_file : (n m : ℕ) → nat_lt n m ≡ false → nat_lt m n ≡ false → n ≡ m
+one_file n m h e = grind (arith, nat_tests)
+
+not_before : (g p b : Bool) → g ≡ true → p ≡ true → ((g && p) && b) ≡ false → b ≡ false
+not_before g p b eg ep none = rw (eg, ep) at none
+
+not_past : (g p : Bool) → g ≡ true → (g && p) ≡ false → p ≡ false
+not_past g p eg none = rw eg at none
+
+pub noting_more : (u v x : Unsettled) (leaver : Leaver) (past : Option ℕ) (file : ℕ) (held : List Claim) (ws : List Waiter) → IsNoting u v leaver past held ws → IsNextLeft (Some file) leaver past held → Notes v x file ws → IsNoting u x leaver (Some file) held ws
+noting_more u v x leaver past file held ws noting next notes = record {
+  wider = λ f n. noting.wider f (notes.wider f n);
+  own = all_from (λ c. goes leaver c ≡ true → nat_lt file c.file ≡ false → waits_on c.file ws ≡ true → is_among x c.file ≡ true) held one;
+} where
+  stays : (f : ℕ) → is_among v f ≡ true → is_among x f ≡ true
+  stays f e = elim (cases_Bool (is_among x f)) [ inl h ↦ h | inr h ↦ absurd (both_ways (is_among v f) (notes.wider f h) e) ]
+
+  one : (c : Claim) → IsIn c held → goes leaver c ≡ true → nat_lt file c.file ≡ false → waits_on c.file ws ≡ true → is_among x c.file ≡ true
+  one c there g late waits =
+      elim (cases_Bool (is_behind past c.file)) [
+        | inl p ↦
+            let early : nat_lt c.file file ≡ false = not_before (goes leaver c) (is_behind past c.file) (nat_lt c.file file) g p (all_in (λ d. ((goes leaver d && is_behind past d.file) && nat_lt d.file file) ≡ false) c held (none_between leaver past file held next) there) in
+            let is : file ≡ c.file = one_file file c.file late early in
+            subst (λ (f : ℕ). is_among x f ≡ true) is (notes.own (subst (λ (f : ℕ). waits_on f ws ≡ true) (sym is) waits))
+        | inr p ↦ stays c.file (all_in (λ d. goes leaver d ≡ true → is_behind past d.file ≡ false → waits_on d.file ws ≡ true → is_among v d.file ≡ true) c held noting.own there g p waits)
+      ]
+
+pub noting_done : (u v : Unsettled) (leaver : Leaver) (past : Option ℕ) (held : List Claim) (ws : List Waiter) → IsNoting u v leaver past held ws → IsNextLeft None leaver past held → NotesLeft u v leaver held ws
+noting_done u v leaver past held ws noting next = record {
+  wider = noting.wider;
+  own = all_from (λ c. goes leaver c ≡ true → waits_on c.file ws ≡ true → is_among v c.file ≡ true) held
+      (λ c there g waits.
+      all_in (λ d. goes leaver d ≡ true → is_behind past d.file ≡ false → waits_on d.file ws ≡ true → is_among v d.file ≡ true) c held noting.own there g
+      (not_past (goes leaver c) (is_behind past c.file) g (all_in (λ d. (goes leaver d && is_behind past d.file) ≡ false) c held (none_behind leaver past held next) there)) waits);
+}
+
+-- what is kept of a file's claims, where none of them goes
+kept_there : (file : ℕ) (keep : Claim → Bool) (cs : List Claim) → ((d : Claim) → IsIn d cs → (d.file == file) ≡ true → keep d ≡ true) → on_file file (filter keep cs) ≡ on_file file cs
+kept_there file keep [] stay = refl
+kept_there file keep (c ∷ cs) stay =
+    let behind : on_file file (filter keep cs) ≡ on_file file cs = kept_there file keep cs (λ d there on. stay d (inr there) on) in
+    elim (cases_Bool (c.file == file)) [
+      | inl on ↦ rw (stay c (inl refl) on, on) (ap (λ (ds : List Claim). c ∷ ds) behind)
+      | inr off ↦ elim (cases_Bool (keep c)) [
+        | inl stays ↦ rw (stays, off) behind
+        | inr goes_out ↦ rw (goes_out, off) behind
+      ]
+    ]
+
+pub left_up : (u v : Unsettled) (s : CoreState) (leaver : Leaver) → NotesLeft u v leaver s.claims s.waiters → AreHeldUp u s → AreHeldUp v (departed s leaver).1
+left_up u v s leaver notes all =
+    all_from (λ (w : Waiter). IsHeldUp v after w w.asked) (filter (λ w. not (waits_with leaver w)) s.waiters)
+    (λ w there. let stood = (in_filter_from (λ (x : Waiter). not (waits_with leaver x)) w s.waiters there).0 in one w w.asked refl stood (all_in (λ (x : Waiter). IsHeldUp u s.claims x x.asked) w s.waiters all stood))
+  where
+    after : List Claim
+    after = filter (λ c. not (goes leaver c)) s.claims
+
+    one : (w : Waiter) (asked : List Claim) → w.asked ≡ asked → IsIn w s.waiters → IsHeldUp u s.claims w asked → IsHeldUp v after w asked
+    one w [] is there up = tt
+    one w (c ∷ cs) is there up = λ e. held_up_still w c s.claims after (kept_there c.file (λ d. not (goes leaver d)) s.claims (stays e)) ∙ up (notes.wider c.file e)
+      where
+        stays : is_among v c.file ≡ false → (d : Claim) → IsIn d s.claims → (d.file == c.file) ≡ true → not (goes leaver d) ≡ true
+        stays e d held on =
+            elim (cases_Bool (goes leaver d)) [
+              | inr out ↦ rw out refl
+              | inl out ↦
+                  let same : d.file ≡ c.file = eqb-true d.file c.file on in
+                  let waits : waits_on d.file s.waiters ≡ true = subst (λ (f : ℕ). waits_on f s.waiters ≡ true) (sym same) (waits_among w c cs s.waiters there is) in
+                  absurd (both_ways (is_among v c.file) e (subst (λ (f : ℕ). is_among v f ≡ true) same (all_in (λ x. goes leaver x ≡ true → waits_on x.file s.waiters ≡ true → is_among v x.file ≡ true) d s.claims notes.own held out waits)))
+            ]
+
+-- ---- who is called
+
+-- one waits on this file, and isn't held up
+abbrev is_free : CoreState → ℕ → Waiter → Bool
+is_free s file w = is_file file (first_file w.asked) && not (holds_up s.claims w w.asked)
+
+-- the first such, of whom the first has this place
+abbrev free_from : CoreState → ℕ → ℕ → List Waiter → Option ℕ
+free_from s file n [] = None
+free_from s file n (w ∷ ws) = if is_free s file w then Some n else free_from s file (n + 1) ws
+
+-- these wait from this place on
+abbrev IsTail : CoreState → ℕ → List Waiter → Type 0
+IsTail s n ws = (i : ℕ) → slice_get s.waiters (n + i) ≡ slice_get ws i
+
+tail_first : (s : CoreState) (n : ℕ) (w : Waiter) (ws : List Waiter) → IsTail s n (w ∷ ws) → slice_get s.waiters n ≡ Some w
+tail_first s n w ws tail = let at : n ≡ n + 0 = omega arith in ap (λ (k : ℕ). slice_get s.waiters k) at ∙ tail 0
+
+tail_rest : (s : CoreState) (n : ℕ) (w : Waiter) (ws : List Waiter) → IsTail s n (w ∷ ws) → IsTail s (n + 1) ws
+tail_rest s n w ws tail i = let at : n + 1 + i ≡ n + suc i = omega arith in ap (λ (k : ℕ). slice_get s.waiters k) at ∙ tail (suc i)
+
+free_on : (s : CoreState) (file n : ℕ) (ws : List Waiter) → IsTail s n ws → first_free s (places_from n file (files_of ws)) ≡ free_from s file n ws
+free_on s file n [] tail = refl
+free_on s file n (w ∷ ws) tail =
+    let behind = free_on s file (n + 1) ws (tail_rest s n w ws tail) in
+    elim (cases_Bool (is_file file (first_file w.asked))) [
+      | inr off ↦ rw off behind
+      | inl on ↦ elim (cases_Bool (holds_up s.claims w w.asked)) [
+        | inl up ↦ rw (on, tail_first s n w ws tail, up) behind
+        | inr free ↦ rw (on, tail_first s n w ws tail, free) refl
+      ]
+    ]
+
+-- who isn't held up is free on the unsettled file
+free_one : (s : CoreState) (file : ℕ) (w : Waiter) → IsPled w.asked → IsHeldUp (Files (file ∷ [])) s.claims w w.asked → holds_up s.claims w w.asked ≡ false → is_file file (first_file w.asked) ≡ true
+free_one s file w pled up free = by w.asked pled up free where
+  alone : (b : Bool) → b ≡ false → (b || false) ≡ false
+  alone true e = e
+  alone false e = e
+
+  by : (asked : List Claim) → IsPled asked → IsHeldUp (Files (file ∷ [])) s.claims w asked → holds_up s.claims w asked ≡ false → is_file file (first_file asked) ≡ true
+  by [] none up free = absurd none
+  by (c ∷ cs) some up free =
+      elim (cases_Bool (c.file == file)) [
+        | inl on ↦ on
+        | inr off ↦ absurd (both_ways (is_held_up s.claims w c) free (up (alone (c.file == file) off)))
+      ]
+
+called_from : (s : CoreState) (file n : ℕ) (ws : List Waiter) → IsTail s n ws → AllByRecursion (IsWaiter s.names s.counter) ws → AllByRecursion (λ w. IsHeldUp (Files (file ∷ [])) s.claims w w.asked) ws → called_at s (free_from s file n ws) ≡ first_called s ws
+called_from s file n [] tail are all = refl
+called_from s file n (w ∷ ws) tail are all =
+    elim (cases_Bool (holds_up s.claims w w.asked)) [
+      | inl up ↦ elim (cases_Bool (is_file file (first_file w.asked))) [
+        | inl on ↦ rw (on, up) (called_from s file (n + 1) ws (tail_rest s n w ws tail) are.1 all.1)
+        | inr off ↦ rw (off, up) (called_from s file (n + 1) ws (tail_rest s n w ws tail) are.1 all.1)
+      ]
+      | inr free ↦ rw (free_one s file w are.0.2 all.0 free, free, tail_first s n w ws tail) refl
+    ]
+
+pub called_on : (s : CoreState) (file : ℕ) (place : Option ℕ) (called : Option Called) → IsGood s → AreHeldUp (Files (file ∷ [])) s → place ≡ first_free s (places_on file (files_of s.waiters)) → called ≡ called_at s place → called ≡ first_called s s.waiters
+called_on s file place called good all at is =
+    is ∙ ap (λ (p : Option ℕ). called_at s p) (at ∙ free_on s file 0 s.waiters all_stand) ∙ called_from s file 0 s.waiters all_stand good.waiters all
+  where
+    all_stand : IsTail s 0 s.waiters
+    all_stand i = let at : 0 + i ≡ i = omega arith in ap (λ (k : ℕ). slice_get s.waiters k) at
+
+-- ---- what a reading of the clock tells
+
+pub expired_told : (most : ℕ) (s t : CoreState) (client : List ℕ) (told old mid new : List Effect) → 0 < most → first_ended s.clock s.leases ≡ Some client → expire s client ≡ (told, t) → mid ≡ old ++ told → new ≡ mid ++ (expired_for (most - 1) t).0 → new ≡ old ++ (expired_for most s).0
+expired_told zero s t client told old mid new some ended went first behind = absurd (omega (arith, some))
+expired_told (suc fuel) s t client told old mid new some ended went first behind =
+    let one_less : suc fuel - 1 ≡ fuel = omega arith in
+    behind
+    ∙ (λ i. first i ++ (expired_for (one_less i) t).0)
+    ∙ append_assoc old told (expired_for fuel t).0
+    ∙ ap (λ (r : List Effect × CoreState). old ++ (behind_told r.0 (expired_for fuel r.1)).0) (sym went)
+    ∙ ap (λ (o : Option (List ℕ)). old ++ (expired_then (expired_for fuel) s o).0) (sym ended)
+
+pub lapsed_told : (most : ℕ) (s t : CoreState) (cache : Claim) (told old mid new : List Effect) → 0 < most → first_due s ≡ Some cache → lapse s cache ≡ (told, t) → mid ≡ old ++ told → new ≡ mid ++ (lapsed_for (most - 1) t).0 → new ≡ old ++ (lapsed_for most s).0
+lapsed_told zero s t cache told old mid new some due went first behind = absurd (omega (arith, some))
+lapsed_told (suc fuel) s t cache told old mid new some due went first behind =
+    let one_less : suc fuel - 1 ≡ fuel = omega arith in
+    behind
+    ∙ (λ i. first i ++ (lapsed_for (one_less i) t).0)
+    ∙ append_assoc old told (lapsed_for fuel t).0
+    ∙ ap (λ (r : List Effect × CoreState). old ++ (behind_told r.0 (lapsed_for fuel r.1)).0) (sym went)
+    ∙ ap (λ (o : Option Claim). old ++ (lapsed_then (lapsed_for fuel) s o).0) (sym due)

@@ -1,0 +1,12 @@
+use Rattle.std.proofs.Common.{List, subst}
+use Rattle.xl_core.specs.State.{CoreState}
+use Rattle.xl_core.specs.Unsettled.{AreHeldUp}
+use Rattle.xl_core.specs.Whole.{state_of}
+use Rattle.xl_core.specs.declared.ask.Effect.{Effect}
+use Rattle.xl_core.proofs.UnsettledLaws.{give_back_noted}
+use Rattle.xl_core.proofs.calls.give_back.Goals as goal
+
+pub returns-clause-held_up : goal.returns-clause-held_up
+returns-clause-held_up c =
+    subst (λ (x : List Effect × CoreState). AreHeldUp c.note.new.unsettled x.1) c.give_back.ensures
+    (give_back_noted c.args.unsettled.now c.note.new.unsettled (state_of c.args.parts.now) c.args.claim.now c.note.ensures c.requires.held_up)

@@ -1,0 +1,194 @@
+//! What is done to the core, and the files that it leaves unsettled.
+ghost use Rattle.std.specs.Prelude.{◌≡◌, ℕ, ◌+◌, ◌<◌, ◌^◌, if◌then◌else◌, [], Ok, None, option_map, IfOk};
+ghost use Rattle.xl_base.specs.Limits.{numbers_left};
+ghost use Rattle.xl_base.specs.Lists.{IsIn};
+ghost use Rattle.xl_core.specs.Askers.{IsFit};
+ghost use Rattle.xl_core.specs.BreakAnswers.{ack};
+ghost use Rattle.xl_core.specs.Decide.{ask};
+ghost use Rattle.xl_core.specs.Good.{IsGood};
+ghost use Rattle.xl_core.specs.Settle.{settle, cancel, give_back, weaken, departed};
+ghost use Rattle.xl_core.specs.Ticks.{renew};
+ghost use Rattle.xl_core.specs.Unsettled.{AreHeldUp};
+ghost use Rattle.xl_core.specs.Whole.{state_of};
+ghost use Rattle.xl_core.specs.declared.unsettled.Unsettled.TheVariants.{Files};
+
+use crate::ask::{Answer, Ask, Effect};
+use crate::parts::Parts;
+use crate::unsettled::{Unsettled, is_none, note, note_asked, note_left};
+use crate::{decide, leaving, settling, ticking};
+use std::alloc::{AllocError, Global};
+use std::mem;
+use xl_base::Sequence;
+use xl_matrix::{CacheKind, Claim, Rwd};
+use xl_table::Leaver;
+use xl_wait::Rooms;
+
+/// Answers an ask, and tells of the breaks that it begins. Its file is noted, where some began, or where it was granted what
+/// changes it.
+#[tactic(auto, using(crate::proofs::HeldUpLaws::any_up))]
+pub(crate) fn answer(
+    alloc: Global,
+    parts: &mut Parts,
+    unsettled: &mut Unsettled,
+    left: &Rooms,
+    request: &Ask,
+) -> Result<(Answer, Sequence<Effect>), AllocError>
+    requires fit { IsFit request.now }
+    requires good { IsGood (state_of parts.old) }
+    requires numbers { parts.old.counter + numbers_left < 2 ^ 32 }
+    requires held_up { AreHeldUp unsettled.old (state_of parts.old) }
+    ensures answer { (n : ℕ) → IfOk result (λ r. ask n left.now (state_of parts.old) request.now ≡ (r.0, r.1, state_of parts.new)) }
+    ensures made { parts.new.made ≡ parts.old.made }
+    ensures failed { parts.new.failed ≡ parts.old.failed }
+    ensures held_up { AreHeldUp unsettled.new (state_of parts.new) }
+{
+    let before = mem::replace(unsettled, Unsettled::All);
+    let (answer, told) = decide::answer(alloc, parts, left, request)?;
+    *unsettled = before;
+    note_asked(&parts.queue, unsettled, request, answer, told.as_slice());
+    Ok((answer, told))
+}
+
+/// The unsettled files after a turn: where there was none there are none.
+fn left_by_turn(alloc: Global, had_turn: bool, before: Unsettled) -> Unsettled
+    ensures { result ≡ (if had_turn then before else Files []) }
+{
+    if had_turn {
+        before
+    } else {
+        Unsettled::Files(Sequence::new(alloc))
+    }
+}
+
+/// One turn, where a waiter has one. It is looked for among those alone who wait on an unsettled file.
+pub(crate) fn settle(
+    alloc: Global,
+    parts: &mut Parts,
+    unsettled: &mut Unsettled,
+    left: &Rooms,
+) -> Result<Option<Sequence<Effect>>, AllocError>
+    requires good { IsGood (state_of parts.old) }
+    requires numbers { parts.old.counter + numbers_left < 2 ^ 32 }
+    requires held_up { AreHeldUp unsettled.old (state_of parts.old) }
+    ensures turn { (n : ℕ) → IfOk result (λ r. settle n left.now (state_of parts.old) ≡ option_map (λ effects. (effects, state_of parts.new)) r) }
+    ensures none { result ≡ Ok None → parts.new ≡ parts.old }
+    ensures made { parts.new.made ≡ parts.old.made }
+    ensures failed { parts.new.failed ≡ parts.old.failed }
+    ensures held_up { AreHeldUp unsettled.new (state_of parts.new) }
+{
+    if is_none(unsettled) {
+        return Ok(None);
+    }
+    let before = mem::replace(unsettled, Unsettled::All);
+    let turn = settling::settle(alloc, parts, &before, left)?;
+    *unsettled = left_by_turn(alloc, turn.is_some(), before);
+    Ok(turn)
+}
+
+/// Takes one waiter out.
+#[tactic(auto, using(crate::proofs::HeldUpLaws::any_up))]
+pub(crate) fn cancel(
+    alloc: Global,
+    parts: &mut Parts,
+    unsettled: &mut Unsettled,
+    id: u32,
+) -> Result<Sequence<Effect>, AllocError>
+    requires held_up { AreHeldUp unsettled.old (state_of parts.old) }
+    ensures state { IfOk result (λ effects. cancel (state_of parts.old) id ≡ (effects, state_of parts.new)) }
+    ensures held_up { AreHeldUp unsettled.new (state_of parts.new) }
+{
+    let before = mem::replace(unsettled, Unsettled::All);
+    let effects = leaving::cancel(alloc, parts, id)?;
+    *unsettled = before;
+    Ok(effects)
+}
+
+/// Takes one claim out, and notes its file.
+pub(crate) fn give_back(
+    alloc: Global,
+    parts: &mut Parts,
+    unsettled: &mut Unsettled,
+    claim: &Claim,
+) -> Sequence<Effect>
+    requires held_up { AreHeldUp unsettled.old (state_of parts.old) }
+    ensures state { give_back (state_of parts.old) claim.now ≡ (result, state_of parts.new) }
+    ensures held_up { AreHeldUp unsettled.new (state_of parts.new) }
+{
+    note(&parts.queue, unsettled, claim.file);
+    leaving::give_back(alloc, parts, claim)
+}
+
+/// Gives a share this access and deny in place of its own, and notes its file.
+pub(crate) fn weaken(
+    alloc: Global,
+    parts: &mut Parts,
+    unsettled: &mut Unsettled,
+    share: &Claim,
+    access: Rwd,
+    deny: Rwd,
+) -> Sequence<Effect>
+    requires held { IsIn share.now parts.old.table }
+    requires good { IsGood (state_of parts.old) }
+    requires held_up { AreHeldUp unsettled.old (state_of parts.old) }
+    ensures state { weaken (state_of parts.old) share.now access deny ≡ (result, state_of parts.new) }
+    ensures held_up { AreHeldUp unsettled.new (state_of parts.new) }
+{
+    note(&parts.queue, unsettled, share.file);
+    leaving::weaken(alloc, parts, share, access, deny)
+}
+
+/// Leaves this much of a cache, and notes its file.
+pub(crate) fn ack(
+    alloc: Global,
+    parts: &mut Parts,
+    unsettled: &mut Unsettled,
+    cache: &Claim,
+    to: Option<CacheKind>,
+) -> Sequence<Effect>
+    requires held { IsIn cache.now parts.old.table }
+    requires good { IsGood (state_of parts.old) }
+    requires held_up { AreHeldUp unsettled.old (state_of parts.old) }
+    ensures state { ack (state_of parts.old) cache.now to ≡ (result, state_of parts.new) }
+    ensures held_up { AreHeldUp unsettled.new (state_of parts.new) }
+{
+    note(&parts.queue, unsettled, cache.file);
+    leaving::ack(alloc, parts, cache, to)
+}
+
+/// Takes out the claims and the waiters that go with who leaves, and notes the files of these claims.
+#[tactic(auto, using(crate::proofs::HeldUpLaws::any_up))]
+pub(crate) fn leave(
+    alloc: Global,
+    parts: &mut Parts,
+    unsettled: &mut Unsettled,
+    leaver: Leaver,
+) -> Result<Sequence<Effect>, AllocError>
+    requires good { IsGood (state_of parts.old) }
+    requires held_up { AreHeldUp unsettled.old (state_of parts.old) }
+    ensures state { IfOk result (λ effects. departed (state_of parts.old) leaver ≡ (effects, state_of parts.new)) }
+    ensures held_up { AreHeldUp unsettled.new (state_of parts.new) }
+{
+    let mut before = mem::replace(unsettled, Unsettled::All);
+    note_left(&parts.table, &parts.queue, &mut before, leaver);
+    let effects = leaving::leave(alloc, parts, leaver)?;
+    *unsettled = before;
+    Ok(effects)
+}
+
+/// Renews a client's lease.
+#[tactic(auto, using(crate::proofs::HeldUpLaws::any_up))]
+pub(crate) fn renew(
+    alloc: Global,
+    parts: &mut Parts,
+    unsettled: &mut Unsettled,
+    client: &[u8],
+) -> Result<Sequence<Effect>, AllocError>
+    requires held_up { AreHeldUp unsettled.old (state_of parts.old) }
+    ensures state { IfOk result (λ effects. renew (state_of parts.old) client.now ≡ (effects, state_of parts.new)) }
+    ensures held_up { AreHeldUp unsettled.new (state_of parts.new) }
+{
+    let before = mem::replace(unsettled, Unsettled::All);
+    let effects = ticking::renew(alloc, parts, client)?;
+    *unsettled = before;
+    Ok(effects)
+}

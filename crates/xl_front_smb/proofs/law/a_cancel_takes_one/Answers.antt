@@ -1,5 +1,0 @@
-use Rattle.xl_front_smb.proofs.RangeLaws.{cancels_one}
-use Rattle.xl_front_smb.proofs.law.a_cancel_takes_one.Goals as goal
-
-pub returns : goal.returns
-returns c = λ n s files others l conn h client known. cancels_one n s files others l conn h client known

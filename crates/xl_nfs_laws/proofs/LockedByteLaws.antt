@@ -1,0 +1,172 @@
+-- What a LOCK, a LOCKT and a LOCKU leave and tell.
+use Rattle.std.proofs.Common.{◌≡◌, ℕ, ◌≤◌, Bool, true, false, List, Option, Some, None, Ok, refl, sym, ap, subst, ◌∙◌, inl, inr, true≢false}
+use Rattle.std.proofs.lemmas.Bool.{cases_Bool}
+use Rattle.std.specs.Prelude.{◌&&◌, if◌then◌else◌}
+use Rattle.xl_base.specs.declared.name.Owner.{Owner}
+use Rattle.xl_matrix.specs.Owners.{posix}
+use Rattle.xl_matrix.specs.declared.claim.Claim.{Claim}
+use Rattle.xl_matrix.specs.declared.claim.Extent.TheVariants.{Bytes}
+use Rattle.xl_matrix.specs.declared.claim.What.{What}
+use Rattle.xl_matrix.specs.declared.claim.What.TheVariants as whats
+use Rattle.xl_nfs.specs.Locks.{LockArgsItem}
+use Rattle.xl_nfs.specs.Outcomes.{is_ok}
+use Rattle.xl_nfs.specs.declared.basics.LockType.{LockType}
+use Rattle.xl_nfs_state.specs.State.{NfsLists}
+use Rattle.xl_nfs_state.specs.declared.owner.SeqidState.{SeqidState}
+use Rattle.xl_nfs_state.specs.declared.stateid.StateidRow.{StateidRow}
+use Rattle.xl_spans.specs.Spans.{within}
+use Rattle.xl_table.proofs.WriteBack.{is_of-true}
+use Rattle.xl_table.specs.Held.{is_of}
+use Rattle.xl_core.proofs.WayAsks.{ask_due, ask_own}
+use Rattle.xl_core.proofs.WayDeeds.{then_else}
+use Rattle.xl_core.proofs.DeedLaws.{deed_makes}
+use Rattle.xl_core.specs.Blockers.{is_stopped}
+use Rattle.xl_core.specs.Causes.{may_wait}
+use Rattle.xl_core.specs.Decide.{ask}
+use Rattle.xl_core.specs.Deeds.{Asks}
+use Rattle.xl_core.specs.Good.{IsGood}
+use Rattle.xl_core.specs.Places.{ByteOf, held_at, entered_at, answered_at, else_was}
+use Rattle.xl_core.specs.State.{CoreState, drawn}
+use Rattle.xl_core.specs.declared.ask.Answer.{Answer}
+use Rattle.xl_core.specs.declared.ask.Answer.TheVariants as answers
+use Rattle.xl_nfs_locks.specs.Denials.{lock_told}
+use Rattle.xl_nfs_locks.specs.FirstLocks.{joined_by, join_answered, join_to}
+use Rattle.xl_nfs_laws.specs.LockLaws.{lock_claim, lock_way, AreLocked, byte_lock}
+use Rattle.xl_nfs_locks.specs.Locks.{lock_answered, lock_by_owner}
+use Rattle.xl_nfs_locks.specs.Ranges.{is_exclusive, lock_ask}
+use Rattle.xl_nfs_locks.specs.declared.joining.BothOwners.{BothOwners}
+use Rattle.xl_nfs_opens.specs.Opens.{all_rooms, is_granted}
+use Rattle.xl_nfs_opens.specs.Plans.{carried, status_of}
+use Rattle.xl_nfs_opens.specs.Seqids.{is_room_for}
+use Rattle.xl_nfs_opens.specs.declared.opener.Opener.{Opener}
+use Rattle.xl_nfs_laws.proofs.LockOwn.{lock_fits}
+
+-- ---- a granted lock, byte by byte
+
+entered_byte : (s : CoreState) (held : List Claim) (o : Opener) (file : ℕ) (kind : LockType) (first last at : ℕ) (owner : Owner) (byte : ℕ) (had : List What) → else_was (entered_at held (lock_claim s o file kind first last) (ByteOf at owner byte)) had ≡ (if is_of at owner (lock_claim s o file kind first last) && within first last byte then byte_lock (is_exclusive kind) byte else had)
+entered_byte s held o file kind first last at owner byte had =
+    let c = lock_claim s o file kind first last in
+    elim (cases_Bool (is_of at owner c)) [
+      | inr e ↦ rw e refl
+      | inl e ↦
+          let name : posix owner ≡ true = sym (ap posix (is_of-true at owner c e).1) in
+          rw e (rw name (elim (cases_Bool (within first last byte)) [
+            | inl b ↦ rw b refl
+            | inr b ↦ rw b refl
+          ]))
+    ]
+
+-- the answer is one that grants just what was asked
+granted_is : (n : ℕ) (s : CoreState) (o : Opener) (file : ℕ) (kind : LockType) (reclaim : Bool) (first last : ℕ) → is_granted (ask n all_rooms s (lock_ask o file kind reclaim first last)).0 ≡ true → (ask n all_rooms s (lock_ask o file kind reclaim first last)).0 ≡ answers.Granted (lock_claim s o file kind first last)
+granted_is n s o file kind reclaim first last ok = by (ask n all_rooms s (lock_ask o file kind reclaim first last)).0 refl ok
+  where
+    by : (answer : Answer) → (ask n all_rooms s (lock_ask o file kind reclaim first last)).0 ≡ answer → is_granted answer ≡ true → answer ≡ answers.Granted (lock_claim s o file kind first last)
+    by (answers.Granted c) e ok = ap (λ (x : Claim). answers.Granted x) ((ask_due n all_rooms s (lock_ask o file kind reclaim first last) (whats.Range (Bytes first last) (is_exclusive kind)) (answers.Granted c) refl).0 e).0
+    by (answers.Conflict c) e ok = absurd (true≢false (sym ok))
+    by (answers.Queued id) e ok = absurd (true≢false (sym ok))
+    by (answers.Recall c) e ok = absurd (true≢false (sym ok))
+    by (answers.Grace until) e ok = absurd (true≢false (sym ok))
+    by (answers.NoGrace clock) e ok = absurd (true≢false (sym ok))
+    by answers.NotRecorded e ok = absurd (true≢false (sym ok))
+    by (answers.Full limit) e ok = absurd (true≢false (sym ok))
+    by answers.NotHeld e ok = absurd (true≢false (sym ok))
+    by answers.StoreFailed e ok = absurd (true≢false (sym ok))
+
+asked_locked : (n : ℕ) (s : CoreState) (o : Opener) (file : ℕ) (kind : LockType) (reclaim : Bool) (first last : ℕ) → IsGood s → first ≤ last → is_granted (ask n all_rooms s (lock_ask o file kind reclaim first last)).0 ≡ true → AreLocked o file kind first last s (ask n all_rooms s (lock_ask o file kind reclaim first last)).2
+asked_locked n s o file kind reclaim first last good le ok = λ at owner byte.
+    let a = lock_ask o file kind reclaim first last in
+    let held = (lock_way s o file kind reclaim first last).claims in
+    deed_makes n s (Asks all_rooms a) (ByteOf at owner byte) good (lock_fits o file kind reclaim first last le)
+    ∙ then_else None (answered_at held a.act (ask n all_rooms s a).0 (ByteOf at owner byte)) (held_at s (ByteOf at owner byte))
+    ∙ ap (λ (answer : Answer). else_was (answered_at held a.act answer (ByteOf at owner byte)) (held_at s (ByteOf at owner byte))) (granted_is n s o file kind reclaim first last ok)
+    ∙ entered_byte s held o file kind first last at owner byte (held_at s (ByteOf at owner byte))
+
+-- one that isn't granted changes nothing once its breaks began: it doesn't wait
+pub refused_stays : (n : ℕ) (s : CoreState) (o : Opener) (file : ℕ) (kind : LockType) (reclaim : Bool) (first last : ℕ) → IsGood s → first ≤ last → is_granted (ask n all_rooms s (lock_ask o file kind reclaim first last)).0 ≡ false → (ask n all_rooms s (lock_ask o file kind reclaim first last)).2 ≡ lock_way s o file kind reclaim first last
+refused_stays n s o file kind reclaim first last good le fails =
+    let a = lock_ask o file kind reclaim first last in
+    (ask_own n all_rooms s a good (lock_fits o file kind reclaim first last le).party).refused
+    (λ c e. true≢false (sym (ap is_granted e) ∙ fails))
+    (λ number e. waits ((ask_due n all_rooms s a (whats.Range (Bytes first last) (is_exclusive kind)) (answers.Queued number) refl).0 e).2)
+  where
+    never : (b : Bool) → (if b then false else false) ≡ true → ⊥
+    never true e = true≢false (sym e)
+    never false e = true≢false (sym e)
+
+    waits : may_wait (lock_way s o file kind reclaim first last).claims (lock_ask o file kind reclaim first last) (lock_claim s o file kind first last) ≡ true → ⊥
+    waits e = never (is_stopped (lock_way s o file kind reclaim first last).claims (lock_claim s o file kind first last)) e
+
+-- ---- LOCK
+
+told_no : (s : CoreState) (l : NfsLists) (reclaim : Bool) (answer : Answer) → is_granted answer ≡ false → is_ok (status_of (lock_told s l reclaim answer)) ≡ false
+told_no s l reclaim (answers.Granted c) fails = absurd (true≢false fails)
+told_no s l true (answers.Conflict c) fails = refl
+told_no s l false (answers.Conflict c) fails = refl
+told_no s l reclaim (answers.Queued id) fails = refl
+told_no s l reclaim (answers.Recall c) fails = refl
+told_no s l reclaim (answers.Grace until) fails = refl
+told_no s l reclaim (answers.NoGrace clock) fails = refl
+told_no s l reclaim answers.NotRecorded fails = refl
+told_no s l reclaim (answers.Full limit) fails = refl
+told_no s l reclaim answers.NotHeld fails = refl
+told_no s l reclaim answers.StoreFailed fails = refl
+
+-- how it is answered, by an owner with a stateid
+known_ok : (n : ℕ) (s : CoreState) (l : NfsLists) (current : Option ℕ) (r : StateidRow) (owner : ℕ) (seqids : SeqidState) (seqid : ℕ) (reclaim : Bool) (answer : Answer) → (is_ok (status_of (carried n s l current (lock_answered l current r owner seqids seqid reclaim answer s)).0) ≡ is_granted answer) × ((carried n s l current (lock_answered l current r owner seqids seqid reclaim answer s)).4 ≡ s)
+known_ok n s l current r owner seqids seqid reclaim answer =
+    elim (cases_Bool (is_granted answer)) [
+      | inl e ↦ rw e (refl, refl)
+      | inr e ↦ rw e (told_no s l reclaim answer e, refl)
+    ]
+
+pub known_locked : (n : ℕ) (s : CoreState) (l : NfsLists) (current : Option ℕ) (a : LockArgsItem) (r : StateidRow) (owner : ℕ) (seqids : SeqidState) (seqid last : ℕ) (o : Opener) → IsGood s → a.offset ≤ last → is_ok (status_of (carried n s l current (lock_by_owner l current a r owner seqids seqid last (Some o))).0) ≡ true
+    → AreLocked o r.file a.kind a.offset last s (carried n s l current (lock_by_owner l current a r owner seqids seqid last (Some o))).4
+known_locked n s l current a r owner seqids seqid last o good le ok =
+    let x = ask n all_rooms s (lock_ask o r.file a.kind a.reclaim a.offset last) in
+    let by = known_ok n x.2 l current r owner seqids seqid a.reclaim x.0 in
+    subst (λ (t : CoreState). AreLocked o r.file a.kind a.offset last s t) (sym by.1) (asked_locked n s o r.file a.kind a.reclaim a.offset last good le (sym by.0 ∙ ok))
+
+pub known_refused : (n : ℕ) (s : CoreState) (l : NfsLists) (current : Option ℕ) (a : LockArgsItem) (r : StateidRow) (owner : ℕ) (seqids : SeqidState) (seqid last : ℕ) (o : Opener) → IsGood s → a.offset ≤ last → is_ok (status_of (carried n s l current (lock_by_owner l current a r owner seqids seqid last (Some o))).0) ≡ false
+    → (carried n s l current (lock_by_owner l current a r owner seqids seqid last (Some o))).4 ≡ lock_way s o r.file a.kind a.reclaim a.offset last
+known_refused n s l current a r owner seqids seqid last o good le fails =
+    let x = ask n all_rooms s (lock_ask o r.file a.kind a.reclaim a.offset last) in
+    let by = known_ok n x.2 l current r owner seqids seqid a.reclaim x.0 in
+    by.1 ∙ refused_stays n s o r.file a.kind a.reclaim a.offset last good le (sym by.0 ∙ fails)
+
+-- and under an open: a number may be drawn, which no claim has
+drawn_bytes : (o : Opener) (file : ℕ) (kind : LockType) (first last : ℕ) (s t : CoreState) → AreLocked o file kind first last s t → AreLocked o file kind first last s (drawn t)
+unfolding drawn
+drawn_bytes o file kind first last s t locked = locked
+
+joined_locked : (n : ℕ) (s t : CoreState) (l : NfsLists) (current : Option ℕ) (b : BothOwners) (o : Opener) (r : StateidRow) (kind : LockType) (first last : ℕ) (q : Option StateidRow) → AreLocked o r.file kind first last s t → AreLocked o r.file kind first last s (carried n t l current (joined_by t l current b o r q)).4
+joined_locked n s t l current b o r kind first last None locked = drawn_bytes o r.file kind first last s t locked
+joined_locked n s t l current b o r kind first last (Some q) locked = locked
+
+joined_ok : (n : ℕ) (s : CoreState) (l : NfsLists) (current : Option ℕ) (b : BothOwners) (o : Opener) (r : StateidRow) (q : Option StateidRow) → is_ok (status_of (carried n s l current (joined_by s l current b o r q)).0) ≡ true
+joined_ok n s l current b o r None = refl
+joined_ok n s l current b o r (Some q) = refl
+
+first_ok : (n : ℕ) (s : CoreState) (l : NfsLists) (current : Option ℕ) (b : BothOwners) (o : Opener) (r : StateidRow) (q : Option StateidRow) (reclaim : Bool) (answer : Answer) → is_ok (status_of (carried n s l current (join_answered l current b o r q reclaim answer s)).0) ≡ is_granted answer
+first_ok n s l current b o r q reclaim answer =
+    elim (cases_Bool (is_granted answer)) [
+      | inl e ↦ rw e (joined_ok n s l current b o r q)
+      | inr e ↦ rw e (told_no s l reclaim answer e)
+    ]
+
+first_granted : (n : ℕ) (s t : CoreState) (l : NfsLists) (current : Option ℕ) (b : BothOwners) (o : Opener) (r : StateidRow) (kind : LockType) (first last : ℕ) (q : Option StateidRow) (reclaim : Bool) (answer : Answer) → is_granted answer ≡ true → AreLocked o r.file kind first last s t → AreLocked o r.file kind first last s (carried n t l current (join_answered l current b o r q reclaim answer t)).4
+first_granted n s t l current b o r kind first last q reclaim answer ok locked = rw ok (joined_locked n s t l current b o r kind first last q locked)
+
+pub first_locked : (n : ℕ) (s : CoreState) (l : NfsLists) (current : Option ℕ) (a : LockArgsItem) (b : BothOwners) (o : Opener) (r : StateidRow) (q : Option StateidRow) (last : ℕ) → IsGood s → a.offset ≤ last → is_room_for o l ≡ true → is_ok (status_of (carried n s l current (join_to l current a b o r q (Ok last))).0) ≡ true → AreLocked o r.file a.kind a.offset last s (carried n s l current (join_to l current a b o r q (Ok last))).4
+first_locked n s l current a b o r q last good le room ok =
+    let x = ask n all_rooms s (lock_ask o r.file a.kind a.reclaim a.offset last) in
+    let granted : is_granted x.0 ≡ true = sym (first_ok n x.2 l current b o r q a.reclaim x.0) ∙ (rw room at ok) in
+    rw room (first_granted n s x.2 l current b o r a.kind a.offset last q a.reclaim x.0 granted (asked_locked n s o r.file a.kind a.reclaim a.offset last good le granted))
+
+first_no : (n : ℕ) (t : CoreState) (l : NfsLists) (current : Option ℕ) (b : BothOwners) (o : Opener) (r : StateidRow) (q : Option StateidRow) (reclaim : Bool) (answer : Answer) → is_granted answer ≡ false → (carried n t l current (join_answered l current b o r q reclaim answer t)).4 ≡ t
+first_no n t l current b o r q reclaim answer fails = rw fails refl
+
+pub first_refused : (n : ℕ) (s : CoreState) (l : NfsLists) (current : Option ℕ) (a : LockArgsItem) (b : BothOwners) (o : Opener) (r : StateidRow) (q : Option StateidRow) (last : ℕ) → IsGood s → a.offset ≤ last → is_room_for o l ≡ true → is_ok (status_of (carried n s l current (join_to l current a b o r q (Ok last))).0) ≡ false → (carried n s l current (join_to l current a b o r q (Ok last))).4 ≡ lock_way s o r.file a.kind a.reclaim a.offset last
+first_refused n s l current a b o r q last good le room fails =
+    let x = ask n all_rooms s (lock_ask o r.file a.kind a.reclaim a.offset last) in
+    let denied : is_granted x.0 ≡ false = sym (first_ok n x.2 l current b o r q a.reclaim x.0) ∙ (rw room at fails) in
+    rw room (first_no n x.2 l current b o r q a.reclaim x.0 denied ∙ refused_stays n s o r.file a.kind a.reclaim a.offset last good le denied)

@@ -1,0 +1,257 @@
+-- LOCK and LOCKU are never told SERVERFAULT.
+use Rattle.std.proofs.Common.{◌≡◌, ℕ, ◌≤◌, Bool, true, false, Option, Some, None, Result, Ok, Err, is_some, refl, sym, ap, ◌∙◌, inl, inr, true≢false}
+use Rattle.std.proofs.lemmas.Bool.{cases_Bool}
+use Rattle.std.specs.Bool.{beq}
+use Rattle.std.specs.List.{find}
+use Rattle.std.specs.Prelude.{nat_lt}
+use Rattle.xl_matrix.specs.declared.claim.Claim.{Claim}
+use Rattle.xl_nfs.specs.Locks.{LockArgsItem, LockerItem, NewLockerItem, Known, New}
+use Rattle.xl_nfs.specs.Outcomes.{is_ok}
+use Rattle.xl_nfs.specs.declared.basics.LockType.{LockType}
+use Rattle.xl_nfs.specs.declared.locks.KnownLocker.{KnownLocker}
+use Rattle.xl_nfs.specs.declared.locks.UnlockArgs.{UnlockArgs}
+use Rattle.xl_nfs.specs.declared.status.NfsStatus.{NfsStatus}
+use Rattle.xl_nfs.specs.declared.status.NfsStatus.TheVariants as statuses
+use Rattle.xl_nfs_state.proofs.SoundLaws.{client_renewed}
+use Rattle.xl_nfs_state.specs.State.{NfsLists, IsSound, is_client, is_kept}
+use Rattle.xl_nfs_state.specs.declared.client.ClientRow.{ClientRow}
+use Rattle.xl_nfs_state.specs.declared.kept.KeptRow.{KeptRow}
+use Rattle.xl_nfs_state.specs.declared.owner.SeqidState.{SeqidState}
+use Rattle.xl_nfs_state.specs.declared.stateid.StateidRow.{StateidRow}
+use Rattle.xl_core.proofs.DeedLists.{deeds_good}
+use Rattle.xl_core.proofs.WayAsks.{ask_unlock}
+use Rattle.xl_core.specs.Causes.{IsUnlockDue}
+use Rattle.xl_core.specs.Decide.{ask}
+use Rattle.xl_core.specs.Deeds.{AreFit, all_done}
+use Rattle.xl_core.specs.Good.{IsGood}
+use Rattle.xl_core.specs.State.{CoreState}
+use Rattle.xl_core.specs.declared.ask.Answer.{Answer}
+use Rattle.xl_core.specs.declared.ask.Answer.TheVariants as answers
+use Rattle.xl_nfs_laws.proofs.OpenSeqidLaws.{IfRefused, refused_not}
+use Rattle.xl_nfs_opens.specs.Asks.{unlock_ask}
+use Rattle.xl_nfs_opens.specs.Closing.{checked, opener_by, standing_fault}
+use Rattle.xl_core.specs.Ids.{number_in}
+use Rattle.xl_nfs_opens.specs.Leases.{lease_end}
+use Rattle.xl_nfs_opens.specs.Opens.{all_rooms, client_in, repeated}
+use Rattle.xl_nfs_opens.specs.Plans.{carried, status_of}
+use Rattle.xl_nfs_opens.specs.Renewing.{renewals, renewals_by, renewed_for, renewed_if, state_client}
+use Rattle.xl_nfs_opens.specs.Seqids.{advances, is_room_for}
+use Rattle.xl_nfs_opens.specs.declared.opener.Checked.{Checked}
+use Rattle.xl_nfs_opens.specs.declared.opener.Checked.TheVariants.{Passed, Refused, Repeated}
+use Rattle.xl_nfs_opens.specs.declared.opener.Opener.{Opener}
+use Rattle.xl_nfs_opens.specs.declared.told.Told.{Told}
+use Rattle.xl_nfs_opens.specs.declared.told.Told.TheVariants.{Ended}
+use Rattle.xl_nfs_locks.specs.Checks.{locks_found}
+use Rattle.xl_nfs_locks.specs.FirstLocks.{both_of, found_joined, join_again, join_as, join_checked, join_of, join_standing, join_to, lock, lock_by, lock_named, lock_new, locker_under}
+use Rattle.xl_nfs_laws.specs.LockLaws.{unlock_claim}
+use Rattle.xl_nfs_locks.specs.Locks.{access_above, lock_by_owner, lock_end, lock_found, lock_known, lock_standing, lock_to}
+use Rattle.xl_nfs_locks.specs.Ranges.{last_byte, may_lock}
+use Rattle.xl_nfs_locks.specs.Unlocks.{unlock, unlock_by_owner, unlock_found, unlock_standing, unlock_status, unlock_to, unlocked_as}
+use Rattle.xl_nfs_locks.specs.declared.joining.BothOwners.{BothOwners}
+use Rattle.xl_nfs_locks.specs.declared.joining.Joined.{Joined}
+use Rattle.xl_nfs_locks.specs.declared.joining.Joined.TheVariants.{Again, Bad, Joins}
+use Rattle.xl_nfs_laws.proofs.LockSeqidLaws.{opener_there}
+use Rattle.xl_nfs_laws.proofs.LockStateidLaws.{IfNext, found_next, locks_refused}
+use Rattle.xl_nfs_laws.proofs.LockOwn.{NotBefore, last_not_before, unlock_fits}
+use Rattle.xl_nfs_laws.proofs.LockStatusLaws.{first_exactly, known_exactly}
+
+-- ---- what isn't told
+
+abbrev Sound : Told → Type 0
+Sound told = told ≡ Ended statuses.ServerFault → ⊥
+
+abbrev Other : NfsStatus → Type 0
+Other status = status ≡ statuses.ServerFault → ⊥
+
+abbrev OtherIf : Option NfsStatus → Type 0
+OtherIf None = Unit {0}
+OtherIf (Some status) = Other status
+
+abbrev OtherOr : Result ℕ NfsStatus → Type 0
+OtherOr (Ok last) = Unit {0}
+OtherOr (Err status) = Other status
+
+ended : (status : NfsStatus) → Other status → Sound (Ended status)
+ended status other = λ d. (let same : status ≡ statuses.ServerFault = cc in other same)
+
+uncounted : (status : NfsStatus) → advances status ≡ false → Sound (Ended status)
+uncounted status not = ended status (λ same. true≢false (sym (ap advances same) ∙ not))
+
+standing_other : (r : StateidRow) (seqids : SeqidState) (seqid : ℕ) (confirmed : Bool) → OtherIf (standing_fault r seqids seqid confirmed)
+unfolding standing_fault
+standing_other r seqids seqid confirmed =
+    elim (cases_Bool (nat_lt seqid r.standing.seqid)) [
+      | inl e ↦ rw e (λ d. cc)
+      | inr e ↦ rw e (elim (cases_Bool (nat_lt r.standing.seqid seqid)) [
+        | inl f ↦ rw f (λ d. cc)
+        | inr f ↦ rw f (elim (cases_Bool (beq seqids.confirmed confirmed)) [
+          | inl g ↦ rw g tt
+          | inr g ↦ rw g (λ d. cc)
+        ])
+      ])
+    ]
+
+end_other : (kind : LockType) (access : ℕ) (last : Option ℕ) → OtherOr (lock_end kind access last)
+end_other kind access None = λ d. cc
+end_other kind access (Some last) =
+    elim (cases_Bool (may_lock kind access)) [
+      | inl e ↦ rw e tt
+      | inr e ↦ rw e (λ d. cc)
+    ]
+
+repeat_sound : (n : ℕ) (s : CoreState) (l : NfsLists) (current : Option ℕ) (k : Option KeptRow) → Sound (carried n s l current (repeated s l current k)).0
+repeat_sound n s l current None = λ d. cc
+repeat_sound n s l current (Some k) = λ d. cc
+
+-- ---- the lists and the core behind a renewal
+
+renewed_sound : (s : CoreState) (l : NfsLists) (client : Option ℕ) → IsSound l → IsSound (renewed_for s l client)
+renewed_sound s l None sound = sound
+renewed_sound s l (Some number) sound = by (find (is_client number true) l.clients)
+  where
+    by : (o : Option ClientRow) → IsSound (renewed_if s l number o)
+    by None = sound
+    by (Some r) = client_renewed l (is_client number true) (lease_end s) sound
+
+renewals_fit : (n : ℕ) (s : CoreState) (l : NfsLists) (client : Option ℕ) → AreFit n s (renewals l client)
+renewals_fit n s l None = tt
+renewals_fit n s l (Some number) = by (find (is_client number true) l.clients)
+  where
+    by : (o : Option ClientRow) → AreFit n s (renewals_by o)
+    by None = tt
+    by (Some r) = (tt, tt)
+
+renewed_good : (n : ℕ) (s : CoreState) (l : NfsLists) (client : Option ℕ) → IsGood s → IsGood (all_done n s (renewals l client))
+renewed_good n s l client good = deeds_good n s (renewals l client) good (renewals_fit n s l client)
+
+-- ---- LOCK by a lock's stateid
+
+lock_by_sound : (n : ℕ) (s : CoreState) (l : NfsLists) (current : Option ℕ) (a : LockArgsItem) (r : StateidRow) (owner : ℕ) (seqids : SeqidState) (seqid last : ℕ) (x : Opener) (by : Option Opener) → by ≡ Some x → Sound (carried n s l current (lock_by_owner l current a r owner seqids seqid last by)).0
+lock_by_sound n s l current a r owner seqids seqid last x None e = absurd (true≢false (ap is_some (sym e)))
+lock_by_sound n s l current a r owner seqids seqid last x (Some y) e = λ d. (known_exactly n s l current a r owner seqids seqid last y statuses.ServerFault).0 (ap status_of d)
+
+lock_to_sound : (n : ℕ) (s : CoreState) (l : NfsLists) (current : Option ℕ) (a : LockArgsItem) (r : StateidRow) (owner : ℕ) (seqids : SeqidState) (seqid : ℕ) (last : Result ℕ NfsStatus) (x : Opener) → OtherOr last → opener_by l r.client owner ≡ Some x → Sound (carried n s l current (lock_to l current a r owner seqids seqid last)).0
+lock_to_sound n s l current a r owner seqids seqid (Err status) x other by = ended status other
+lock_to_sound n s l current a r owner seqids seqid (Ok last) x other by = lock_by_sound n s l current a r owner seqids seqid last x (opener_by l r.client owner) by
+
+lock_standing_sound : (n : ℕ) (s : CoreState) (l : NfsLists) (current : Option ℕ) (a : LockArgsItem) (r : StateidRow) (owner : ℕ) (seqids : SeqidState) (seqid : ℕ) (fault : Option NfsStatus) (x : Opener) → OtherIf fault → opener_by l r.client owner ≡ Some x → Sound (carried n s l current (lock_standing l current a r owner seqids seqid fault)).0
+lock_standing_sound n s l current a r owner seqids seqid (Some status) x other by = ended status other
+lock_standing_sound n s l current a r owner seqids seqid None x other by = lock_to_sound n s l current a r owner seqids seqid (lock_end a.kind (access_above l r.holder) (last_byte a.offset a.len)) x (end_other a.kind (access_above l r.holder) (last_byte a.offset a.len)) by
+
+lock_found_sound : (n : ℕ) (s : CoreState) (l : NfsLists) (current : Option ℕ) (a : LockArgsItem) (x : KnownLocker) (c : Checked) → IsSound l → IfRefused c → IfNext s l current x.seqid x.stateid c → Sound (carried n s l current (lock_found s l current a x c)).0
+lock_found_sound n s l current a x (Refused status) sound not next = uncounted status not
+lock_found_sound n s l current a x (Repeated owner) sound not next = repeat_sound n s l current (find (is_kept owner) l.kept)
+lock_found_sound n s l current a x (Passed r owner seqids) sound not next =
+    let by = opener_there l r owner next.row sound next.locks.found next.locks.owner in
+    lock_standing_sound n s l current a r owner seqids x.seqid (standing_fault r seqids x.stateid.seqid true) by.0 (standing_other r seqids x.stateid.seqid true) by.1
+
+known_sound : (n : ℕ) (s : CoreState) (l : NfsLists) (current : Option ℕ) (a : LockArgsItem) (x : KnownLocker) → IsSound l → Sound (carried n s l current (lock_known s l current a x)).0
+unfolding lock_known
+known_sound n s l current a x sound =
+    let who = state_client s l x.stateid in
+    let m : NfsLists = renewed_for s l who in
+    let t : CoreState = all_done n s (renewals l who) in
+    lock_found_sound n t m current a x (locks_found t m current 12 x.seqid x.stateid) (renewed_sound s l who sound) (locks_refused t m current 12 x.seqid x.stateid) (found_next t m current 12 x.seqid x.stateid)
+
+-- ---- LOCK under an open
+
+join_to_sound : (n : ℕ) (s : CoreState) (l : NfsLists) (current : Option ℕ) (a : LockArgsItem) (b : BothOwners) (o : Opener) (r : StateidRow) (q : Option StateidRow) (last : Result ℕ NfsStatus) → OtherOr last → Sound (carried n s l current (join_to l current a b o r q last)).0
+join_to_sound n s l current a b o r q (Err status) other = ended status other
+join_to_sound n s l current a b o r q (Ok last) other =
+    elim (cases_Bool (is_room_for o l)) [
+      | inl e ↦ λ d. (first_exactly n s l current a b o r q last statuses.ServerFault e).0 (ap status_of d)
+      | inr e ↦ rw e (λ d. cc)
+    ]
+
+again_sound : (n : ℕ) (s : CoreState) (l : NfsLists) (current : Option ℕ) (b : BothOwners) (k : Option KeptRow) → Sound (carried n s l current (join_again l current b k)).0
+again_sound n s l current b None = λ d. cc
+again_sound n s l current b (Some k) = λ d. cc
+
+join_as_sound : (n : ℕ) (s : CoreState) (l : NfsLists) (current : Option ℕ) (a : LockArgsItem) (b : BothOwners) (o : Opener) (r : StateidRow) (j : Joined) → Sound (carried n s l current (join_as l current a b o r j)).0
+join_as_sound n s l current a b o r Bad = λ d. cc
+join_as_sound n s l current a b o r (Again owner) = again_sound n s l current b (find (is_kept owner) l.kept)
+join_as_sound n s l current a b o r (Joins q) = join_to_sound n s l current a b o r q (lock_end a.kind r.standing.access (last_byte a.offset a.len)) (end_other a.kind r.standing.access (last_byte a.offset a.len))
+
+join_of_sound : (n : ℕ) (s : CoreState) (l : NfsLists) (current : Option ℕ) (a : LockArgsItem) (x : NewLockerItem) (b : BothOwners) (r : StateidRow) (o : Option Opener) → Sound (carried n s l current (join_of l current a x b r o)).0
+join_of_sound n s l current a x b r None = λ d. cc
+join_of_sound n s l current a x b r (Some o) = join_as_sound n s l current a b o r (found_joined l r o x.lock_seqid)
+
+join_standing_sound : (n : ℕ) (s : CoreState) (l : NfsLists) (current : Option ℕ) (a : LockArgsItem) (x : NewLockerItem) (b : BothOwners) (r : StateidRow) (fault : Option NfsStatus) → OtherIf fault → Sound (carried n s l current (join_standing s l current a x b r fault)).0
+join_standing_sound n s l current a x b r (Some status) other = ended status other
+join_standing_sound n s l current a x b r None other = join_of_sound n s l current a x b r (locker_under r x.owner.owner (client_in s l x.owner.clientid))
+
+join_checked_sound : (n : ℕ) (s : CoreState) (l : NfsLists) (current : Option ℕ) (a : LockArgsItem) (x : NewLockerItem) (c : Checked) → ((status : NfsStatus) → c ≡ Refused status → advances status ≡ false) → Sound (carried n s l current (join_checked s l current a x c)).0
+join_checked_sound n s l current a x (Refused status) not = uncounted status (not status refl)
+join_checked_sound n s l current a x (Repeated owner) not = repeat_sound n s l current (find (is_kept owner) l.kept)
+join_checked_sound n s l current a x (Passed r owner seqids) not = join_standing_sound n s l current a x (both_of x owner seqids) r (standing_fault r seqids x.open_stateid.seqid true) (standing_other r seqids x.open_stateid.seqid true)
+
+first_sound : (n : ℕ) (s : CoreState) (l : NfsLists) (current : Option ℕ) (a : LockArgsItem) (x : NewLockerItem) → Sound (carried n s l current (lock_new s l current a x)).0
+unfolding lock_new lock_named
+first_sound n s l current a x =
+    let opens = state_client s l x.open_stateid in
+    let m : NfsLists = renewed_for s l opens in
+    let t : CoreState = all_done n s (renewals l opens) in
+    let locks = number_in t x.owner.clientid in
+    let k : NfsLists = renewed_for t m locks in
+    let u : CoreState = all_done n t (renewals m locks) in
+    join_checked_sound n u k current a x (checked u k current 12 x.open_seqid x.open_stateid) (refused_not u k current 12 x.open_seqid x.open_stateid)
+
+pub lock_sound : (n : ℕ) (s : CoreState) (l : NfsLists) (current : Option ℕ) (a : LockArgsItem) → IsSound l → (carried n s l current (lock s l current a)).0 ≡ Ended statuses.ServerFault → ⊥
+unfolding lock
+lock_sound n s l current a sound = by a.locker
+  where
+    by : (x : LockerItem) → Sound (carried n s l current (lock_by s l current a x)).0
+    by (New x) = first_sound n s l current a x
+    by (Known x) = known_sound n s l current a x sound
+
+-- ---- LOCKU
+
+unlock_other : (s : CoreState) (claim : Claim) (first last : ℕ) (answer : Answer) → IsUnlockDue s claim first last answer → Other (unlock_status answer)
+unlock_other s claim first last (answers.Granted c) due = λ d. cc
+unlock_other s claim first last answers.NotHeld due = λ d. cc
+unlock_other s claim first last (answers.Full limit) due = λ d. cc
+unlock_other s claim first last (answers.Conflict c) due = absurd due
+unlock_other s claim first last (answers.Queued id) due = absurd due
+unlock_other s claim first last (answers.Recall c) due = absurd due
+unlock_other s claim first last (answers.Grace until) due = absurd due
+unlock_other s claim first last (answers.NoGrace clock) due = absurd due
+unlock_other s claim first last answers.NotRecorded due = absurd due
+unlock_other s claim first last answers.StoreFailed due = absurd due
+
+unlocked_sound : (n : ℕ) (s : CoreState) (l : NfsLists) (current : Option ℕ) (a : UnlockArgs) (r : StateidRow) (owner : ℕ) (seqids : SeqidState) (status : NfsStatus) → Other status → Sound (carried n s l current (unlocked_as s l current a r owner seqids status)).0
+unlocked_sound n s l current a r owner seqids status other =
+    elim (cases_Bool (is_ok status)) [
+      | inl e ↦ rw e (λ d. cc)
+      | inr e ↦ rw e (ended status other)
+    ]
+
+unlock_by_sound : (n : ℕ) (s : CoreState) (l : NfsLists) (current : Option ℕ) (a : UnlockArgs) (r : StateidRow) (owner : ℕ) (seqids : SeqidState) (last : ℕ) (x : Opener) (by : Option Opener) → IsGood s → a.offset ≤ last → by ≡ Some x → Sound (carried n s l current (unlock_by_owner l current a r owner seqids last by)).0
+unlock_by_sound n s l current a r owner seqids last x None good le e = absurd (true≢false (ap is_some (sym e)))
+unlock_by_sound n s l current a r owner seqids last x (Some y) good le e =
+    let q = unlock_ask y r.file a.offset last in
+    let z = ask n all_rooms s q in
+    let due = (ask_unlock n all_rooms s q a.offset last z.0 refl (unlock_fits y r.file a.offset last le).party refl le good).0 refl in
+    unlocked_sound n z.2 l current a r owner seqids (unlock_status z.0) (unlock_other s (unlock_claim s y r.file a.offset last) a.offset last z.0 due)
+
+unlock_to_sound : (n : ℕ) (s : CoreState) (l : NfsLists) (current : Option ℕ) (a : UnlockArgs) (r : StateidRow) (owner : ℕ) (seqids : SeqidState) (last : Option ℕ) (x : Opener) → IsGood s → NotBefore a.offset last → opener_by l r.client owner ≡ Some x → Sound (carried n s l current (unlock_to l current a r owner seqids last)).0
+unlock_to_sound n s l current a r owner seqids None x good le by = λ d. cc
+unlock_to_sound n s l current a r owner seqids (Some last) x good le by = unlock_by_sound n s l current a r owner seqids last x (opener_by l r.client owner) good le by
+
+unlock_standing_sound : (n : ℕ) (s : CoreState) (l : NfsLists) (current : Option ℕ) (a : UnlockArgs) (r : StateidRow) (owner : ℕ) (seqids : SeqidState) (fault : Option NfsStatus) (x : Opener) → IsGood s → OtherIf fault → opener_by l r.client owner ≡ Some x → Sound (carried n s l current (unlock_standing l current a r owner seqids fault)).0
+unlock_standing_sound n s l current a r owner seqids (Some status) x good other by = ended status other
+unlock_standing_sound n s l current a r owner seqids None x good other by = unlock_to_sound n s l current a r owner seqids (last_byte a.offset a.len) x good (last_not_before a.offset a.len) by
+
+unlock_found_sound : (n : ℕ) (s : CoreState) (l : NfsLists) (current : Option ℕ) (a : UnlockArgs) (c : Checked) → IsGood s → IsSound l → IfRefused c → IfNext s l current a.seqid a.stateid c → Sound (carried n s l current (unlock_found s l current a c)).0
+unlock_found_sound n s l current a (Refused status) good sound not next = uncounted status not
+unlock_found_sound n s l current a (Repeated owner) good sound not next = repeat_sound n s l current (find (is_kept owner) l.kept)
+unlock_found_sound n s l current a (Passed r owner seqids) good sound not next =
+    let by = opener_there l r owner next.row sound next.locks.found next.locks.owner in
+    unlock_standing_sound n s l current a r owner seqids (standing_fault r seqids a.stateid.seqid true) by.0 good (standing_other r seqids a.stateid.seqid true) by.1
+
+pub unlock_sound : (n : ℕ) (s : CoreState) (l : NfsLists) (current : Option ℕ) (a : UnlockArgs) → IsGood s → IsSound l → (carried n s l current (unlock s l current a)).0 ≡ Ended statuses.ServerFault → ⊥
+unfolding unlock
+unlock_sound n s l current a good sound =
+    let who = state_client s l a.stateid in
+    let m : NfsLists = renewed_for s l who in
+    let t : CoreState = all_done n s (renewals l who) in
+    unlock_found_sound n t m current a (locks_found t m current 14 a.seqid a.stateid) (renewed_good n s l who good) (renewed_sound s l who sound) (locks_refused t m current 14 a.seqid a.stateid) (found_next t m current 14 a.seqid a.stateid)

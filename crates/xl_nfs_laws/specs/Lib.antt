@@ -1,0 +1,11 @@
+pub mod OpenLaws
+pub mod Orderly
+pub mod Delegated
+pub mod StateidNumbers
+pub mod Lengths
+pub mod OpenSeqids
+pub mod LockLaws
+pub mod LockOwners
+pub mod LockStateids
+pub mod RequestOwners
+pub mod OwnerRequests

@@ -1,8 +1,0 @@
-use Rattle.xl_nfs_locks.proofs.CloseLaws.{closed_free, closed_alone}
-use Rattle.xl_nfs_locks.proofs.law.closed_opens_end_their_locks.Goals as goal
-
-pub returns-clause-bytes : goal.returns-clause-bytes
-returns-clause-bytes c = closed_free
-
-pub returns-clause-stateids : goal.returns-clause-stateids
-returns-clause-stateids c = closed_alone

@@ -1,8 +1,0 @@
-use Rattle.xl_nfs_opens.proofs.DelegationLaws.{claim_exactly, claim_opens}
-use Rattle.xl_nfs_opens.proofs.delegations.claims_name_their_delegation.Goals as goal
-
-pub returns-clause-exactly : goal.returns-clause-exactly
-returns-clause-exactly c = claim_exactly
-
-pub returns-clause-opens : goal.returns-clause-opens
-returns-clause-opens c = claim_opens

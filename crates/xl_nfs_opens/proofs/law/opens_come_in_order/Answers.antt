@@ -1,8 +1,0 @@
-use Rattle.xl_nfs_opens.proofs.EnterLaws.{next_goes_on, others_are_bad}
-use Rattle.xl_nfs_opens.proofs.law.opens_come_in_order.Goals as goal
-
-pub returns-clause-next : goal.returns-clause-next
-returns-clause-next c = next_goes_on
-
-pub returns-clause-others : goal.returns-clause-others
-returns-clause-others c = others_are_bad

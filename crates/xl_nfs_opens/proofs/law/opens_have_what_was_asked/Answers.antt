@@ -1,5 +1,0 @@
-use Rattle.xl_nfs_opens.proofs.OpenLaws.{both_have_asked}
-use Rattle.xl_nfs_opens.proofs.law.opens_have_what_was_asked.Goals as goal
-
-pub returns : goal.returns
-returns c = both_have_asked

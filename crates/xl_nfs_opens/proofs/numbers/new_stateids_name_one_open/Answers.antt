@@ -1,8 +1,0 @@
-use Rattle.xl_nfs_opens.proofs.NumberLaws.{next_unused, new_alone}
-use Rattle.xl_nfs_opens.proofs.numbers.new_stateids_name_one_open.Goals as goal
-
-pub returns-clause-unused : goal.returns-clause-unused
-returns-clause-unused c = next_unused
-
-pub returns-clause-alone : goal.returns-clause-alone
-returns-clause-alone c = new_alone

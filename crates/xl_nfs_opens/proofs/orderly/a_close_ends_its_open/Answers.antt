@@ -1,8 +1,0 @@
-use Rattle.xl_nfs_opens.proofs.ShutLaws.{close_gives, close_is_marked}
-use Rattle.xl_nfs_opens.proofs.orderly.a_close_ends_its_open.Goals as goal
-
-pub returns-clause-marked : goal.returns-clause-marked
-returns-clause-marked c = close_is_marked
-
-pub returns-clause-share : goal.returns-clause-share
-returns-clause-share c = close_gives

@@ -1,8 +1,0 @@
-use Rattle.xl_nfs_opens.proofs.TiedLaws.{downgrade_row, downgrade_share}
-use Rattle.xl_nfs_opens.proofs.tied.downgrades_leave_what_was_asked.Goals as goal
-
-pub returns-clause-row : goal.returns-clause-row
-returns-clause-row c = downgrade_row
-
-pub returns-clause-share : goal.returns-clause-share
-returns-clause-share c = downgrade_share

@@ -1,0 +1,17 @@
+pub mod BreakLaws
+pub mod RequestDeedLaws
+pub mod RequestOwn
+pub mod CreateLaws
+pub mod MessageLaws
+pub mod WaitConnectionLaws
+pub mod RangeLaws
+pub mod CancelLaws
+pub mod LeaseKeyLaws
+pub mod PlaceLaws
+pub mod AwaitedRequestLaws
+pub mod RoomLaws
+pub mod StillWaitingLaws
+pub mod StillUntoldLaws
+pub mod KeptWaiterLaws
+pub mod GrantedCreateLaws
+pub mod LeaseLaws

@@ -1,0 +1,6 @@
+//! Laws of SMB 2.1 over the core. The functions do nothing: their clauses are the laws.
+#![tactic(auto)]
+
+pub mod awaiting;
+pub mod cancelling;
+pub mod requests;
