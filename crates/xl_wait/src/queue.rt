@@ -3,9 +3,9 @@ ghost use Rattle.std.specs.Prelude.{◌≡◌, ℕ, ◌≤◌, ◌∷◌, ◌++�
 ghost use Rattle.xl_base.specs.Limits.{most_waiters};
 ghost use Rattle.xl_wait.specs.declared.queue.QueueErr.TheVariants.{NoMemory};
 
+use crate::changing::{enter, take_out};
 use crate::files::{Queues, places_on};
 use crate::listing::list_numbers;
-use crate::changing::{enter, take_out};
 use crate::waiter::Waiter;
 use std::alloc::{AllocError, AllocFailed, Global};
 use std::collections::BTreeMap;
