@@ -114,7 +114,7 @@ names_take (suc count) stable bytes x is e =
     }
 
 -- a name behind others isn't among them
-apart : (names : List Recorded) (name : Recorded) (more : List Recorded) → AreRecordable (names ++ name ∷ more) → is_recorded name names ≡ false
+pub apart : (names : List Recorded) (name : Recorded) (more : List Recorded) → AreRecordable (names ++ name ∷ more) → is_recorded name names ≡ false
 apart [] name more ok = refl
 apart (first ∷ names) name more ok =
     let behind = or_parts (is_recorded first names) (is_recorded first (name ∷ more)) (sym (list_any-append (λ held. same_name held first) names (name ∷ more)) ∙ ok.1) in
