@@ -13,7 +13,7 @@ prints a line for each of these that doesn't hold, and nothing where all do; the
   repository that the contract of `run` cites is in one of these rows, and the page has at most 160 lines;
 - docs/DECISIONS.md: each decision has an id, none stands twice, and each id that a source cites is there;
 - docs/EMBEDDING.md: each piece of Rattle stands so in crates/xl_example, and what it prints is its stdout file;
-- docs/CAPTURE.md: the words of the tools are those that capture_from_words.py knows;
+- docs/CAPTURE.md: its first example is examples/first, and the words of the tools are those that capture_from_words.py knows;
 - all of them: what is linked is there.
 """
 import argparse
@@ -153,6 +153,15 @@ def embedding_faults(text, crates):
         yield "there are pieces of code, `rust`, and what the example prints, `text`"
 
 
+def first_example_faults(text, crates):
+    """Which files of examples/first docs/CAPTURE.md doesn't show as they are."""
+    section = text.partition("## An example")[2].partition("## ")[0]
+    for ending in ("capture", "transcript", "words", "said"):
+        shown = "".join(f"    {line}\n" for line in (crates.root / f"examples/first.{ending}").read_text().splitlines())
+        if f"\n\n{shown}\n" not in section:
+            yield f"the first example isn't examples/first.{ending}"
+
+
 def word_faults(text, crates):
     """Which words of the tools docs/CAPTURE.md lacks or has too many."""
     section = text.partition("## The words of the tools")[2].partition("\n## ")[0]
@@ -180,7 +189,7 @@ def faults(root):
         "docs/DEFINITIONS.md": [definition_faults, headline_definition_faults],
         "docs/DECISIONS.md": [decision_faults],
         "docs/EMBEDDING.md": [embedding_faults],
-        "docs/CAPTURE.md": [word_faults],
+        "docs/CAPTURE.md": [first_example_faults, word_faults],
     }
     for path in sorted([Path(root) / "README.md", *Path(root).glob("docs/*.md"), *Path(root).glob("*/README.md")]):
         name, text = path.relative_to(root).as_posix(), path.read_text()

@@ -58,7 +58,9 @@ DEFINITIONS = """# Definitions
 DECISIONS = "# Decisions\n\n- **NLM-1 One.** So.\n- **NLM-2 Another.** So.\n"
 EMBEDDING = "# Embedding\n\n```rust\n    let a = 1;\n```\n\n```text\none\n```\n"
 WORDS = "\n".join([usages(), listed(nfs.OPS), listed(smb.USAGES)])
-CAPTURE = f"# Captures\n\n## The words of the tools\n\n**Connections.**\n\n    file NAME\n\n{WORDS}\n\n## Rest\n"
+FIRST = {"capture": "O rpc\n", "transcript": "1 c0 00\n", "words": "null\n", "said": "0 c0 open\n1 c0 null\n"}
+SHOWN = "\n".join("".join(f"    {line}\n" for line in text.splitlines()) for text in FIRST.values())
+CAPTURE = f"# Captures\n\n## An example\n\n{SHOWN}\n## The words of the tools\n\n**Connections.**\n\n    file NAME\n\n{WORDS}\n\n## Rest\n"
 SPECS = "-- two claims fit (NLM-1, NLM-2)\nabbrev pub compat : Claim → Claim → Bool\ncompat a b = true\npub record IsGood (s : State) : Type 0 where\n  pub other : tt\n"
 
 # What is changed in which file, and the line that is found.
@@ -85,7 +87,8 @@ WRONG = [
     ("docs/EMBEDDING.md", "let a", "let b", "docs/EMBEDDING.md: the code that begins with 'let b = 1;' isn't so in crates/xl_example/src/main.rt"),
     ("docs/EMBEDDING.md", "one\n", "two\n", "docs/EMBEDDING.md: what the example prints isn't crates/xl_example/stdout"),
     ("docs/EMBEDDING.md", "text", "txt", "docs/EMBEDDING.md: there are pieces of code, `rust`, and what the example prints, `text`"),
-    ("docs/CAPTURE.md", "    null\n", "", "docs/CAPTURE.md: the words lack 'null'"),
+    ("docs/CAPTURE.md", "    nfs_null\n", "", "docs/CAPTURE.md: the words lack 'nfs_null'"),
+    ("docs/CAPTURE.md", "    1 c0 00\n", "    1 c0 01\n", "docs/CAPTURE.md: the first example isn't examples/first.transcript"),
     ("docs/CAPTURE.md", "    file NAME\n", "    fly NAME\n", "docs/CAPTURE.md: fly is no word"),
 ]  # fmt: skip
 
@@ -98,6 +101,7 @@ class Documents(unittest.TestCase):
                 ("crates/xl_top/src/lib.rt", SOURCE), ("crates/xl_top/specs/Top.antt", SPECS), ("README.md", README),
                 ("docs/PROVED.md", PROVED), ("docs/DEFINITIONS.md", DEFINITIONS), ("docs/DECISIONS.md", DECISIONS),
                 ("docs/EMBEDDING.md", EMBEDDING), ("docs/CAPTURE.md", CAPTURE),
+                *((f"examples/first.{ending}", first) for ending, first in FIRST.items()),
                 ("crates/xl_example/src/main.rt", "fn main() {\n    let a = 1;\n}\n"), ("crates/xl_example/stdout", "one\n"),
             ]:  # fmt: skip
                 path = Path(root) / name
