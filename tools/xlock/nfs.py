@@ -1,7 +1,6 @@
 """NFS version 4.0 (RFC 7530, RFC 7531): NULL, and COMPOUNDs of the operations that are served, as bytes and in words.
 
-The functions are those that xlock/nlm.py lists. Sessions with another server aren't taken from packets: the clientids in
-them are of no client here.
+The functions are those that xlock/nlm.py lists; `nfs_ops` has all operations, also those that aren't served.
 """
 from xlock import words
 from xlock.words import WordError, bytes_of, word_of
@@ -377,16 +376,14 @@ def answer_in_words(number, results):
 
 # ---- what the tools on packets ask
 
-def with_handles(procedure, arguments, change):
-    return arguments
-
-
 def asks_server(procedure):
-    return False
+    """The server's calls go to other programs, which the clients choose."""
+    return procedure in (NULL, COMPOUND)
 
 
 def calls_back(procedure):
-    return False
+    """Of a program that a client chose."""
+    return procedure == COMPOUND
 
 
 def cookie_of(procedure, arguments):
@@ -395,7 +392,3 @@ def cookie_of(procedure, arguments):
         return Reader(arguments).opaque(MOST_TEXT) if procedure == COMPOUND else b""
     except XdrError:
         return b""
-
-
-def caller_of(procedure, arguments):
-    return None

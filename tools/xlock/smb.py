@@ -274,7 +274,7 @@ def _letters(number, table):
     return words.rights_word(letters, "rwd")
 
 
-def _level_word(level):
+def level_word(level):
     return next((name for name, number in LEVELS.items() if number == level), str(level))
 
 
@@ -282,7 +282,7 @@ def key_word(key):
     return words.word_of(key.rstrip(b"\0"))
 
 
-def _state_word(state):
+def state_word(state):
     letters = {letter for letter, bit in STATES.items() if state & bit}
     if state != sum(STATES[letter] for letter in letters):
         raise SmbError("this state has no word")
@@ -300,11 +300,11 @@ def _lease_in(message, at, length):
 def _oplock_words(message, level, at, length):
     """The oplock or the lease that a CREATE asks for."""
     if not length:
-        return [f"oplock={_level_word(level)}"] * (level != 0)
+        return [f"oplock={level_word(level)}"] * (level != 0)
     key, state, flags = _lease_in(message, at, length)
     if level != LEVELS["lease"] or flags:
         raise SmbError("this lease has no words")
-    return [f"lease={key_word(key)}", f"state={_state_word(state)}"]
+    return [f"lease={key_word(key)}", f"state={state_word(state)}"]
 
 
 def _create_words(message):
@@ -342,11 +342,11 @@ def _request_words(head, message):
         return [f"async={head.ids}"] if head.is_async else [f"message={head.message}"]
     if head.command == CLOSE or (head.command == BREAK and _part("H", message) == (24,)):
         return [id_word(_part("Q", message, HEADER.size + 8)[0])] + (
-            [_level_word(message[HEADER.size + 2])] if head.command == BREAK else []
+            [level_word(message[HEADER.size + 2])] if head.command == BREAK else []
         )
     if head.command == BREAK:
         _, _, _, key, state = _part("HHI16sI", message)
-        return [key_word(key), _state_word(state)]
+        return [key_word(key), state_word(state)]
     return []
 
 
@@ -364,18 +364,18 @@ def request_in_words(message):
 def _notice_words(message):
     size, level = _part("HB", message)
     if size == 24:
-        return f"notice: the cache of open {id_word(_part('Q', message, HEADER.size + 8)[0])} to {_level_word(level)} breaks"
+        return f"notice: the cache of open {id_word(_part('Q', message, HEADER.size + 8)[0])} to {level_word(level)} breaks"
     _, _, flags, key, current, new = _part("HHI16s2I", message)
     answer = "" if flags & 1 else ", without an answer"
-    return f"notice: the lease {key_word(key)} breaks from {_state_word(current)} to {_state_word(new)}{answer}"
+    return f"notice: the lease {key_word(key)} breaks from {state_word(current)} to {state_word(new)}{answer}"
 
 
 def _cache_words(message, level, at, length):
     """What an open has of an oplock or a lease."""
     if not length:
-        return f" oplock={_level_word(level)}" if level else ""
+        return f" oplock={level_word(level)}" if level else ""
     key, state, flags = _lease_in(message, at, length)
-    return f" lease={key_word(key)} state={_state_word(state)}" + (" breaking" if flags & BREAKS else "")
+    return f" lease={key_word(key)} state={state_word(state)}" + (" breaking" if flags & BREAKS else "")
 
 
 def reply_in_words(message):
@@ -395,5 +395,5 @@ def reply_in_words(message):
         return f"{said} open={id_word(number)}" + _cache_words(message, level, *contexts)
     if head.status == 0 and head.command == BREAK and _part("H", message) == (36,):
         _, _, _, key, state = _part("HHI16sI", message)
-        return f"{said} lease={key_word(key)} state={_state_word(state)}"
+        return f"{said} lease={key_word(key)} state={state_word(state)}"
     return said
