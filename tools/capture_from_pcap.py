@@ -19,15 +19,15 @@ and those in shares without files. A file that is made or emptied is opened as i
 are asked one by one. Comments above the messages name what is left out, and standard error counts it, beside the table of
 files and what is missing.
 
-What stays as it is: calls of other programs on such a connection, and calls that can't be read. How clients answered the
-other server's calls of GRANTED isn't in the capture, since our calls have numbers of their own: each lock that was told
-counts as taken. Standard error says which one was refused; a line `C` (docs/CAPTURE.md) put in by hand gives it back.
+How a client answered the other server's call back has a `C` line, where PROGRAM made a call that tells of the same by then.
+Without it each lock that was told counts as taken, and standard error says which one was refused.
+
+What stays as it is: calls of other programs on such a connection, and calls that can't be read.
 """
 import argparse
 import sys
 
 from xlock.foreign import ForeignError, Recording, Session, learned, server_of
-from xlock.foreign_nlm import refused
 from xlock.pcap import PcapError
 from xlock.replays import ReplayError
 
@@ -44,12 +44,14 @@ def add_arguments(parser):
     times = "also a line T where time passed, in milliseconds since the first message: leases, and breaks that nobody answers, end by it"
     parser.add_argument("--times", action="store_true", help=times)
     delegations = "clients of NFSv4 can't be called back, so that ours gives them no delegation, as a server that gives none"
+    tree = "a file of SMB and one of NFSv4 that have the same name are one, where no other has it; without it they are two"
+    parser.add_argument("--one-tree", action="store_true", help=tree)
     parser.add_argument("--without-delegations", action="store_true", help=delegations)
 
 
 def recording_of(given):
     with open(given.pcap, "rb") as file:
-        return Recording(file.read(), given.server)
+        return Recording(file.read(), given.server, given.one_tree)
 
 
 def options_of(given):
@@ -68,7 +70,7 @@ def main():
         else:
             session = Session(recording, **options_of(given))
         guessed = [WITHOUT_PROGRAM] if recording.has_ids() and not given.program else []
-        for line in session.said() + guessed + list(refused(session)):
+        for line in session.said() + guessed:
             print(line, file=sys.stderr)
         sys.stdout.write(session.writer.text())
     except (ForeignError, PcapError, ReplayError, OSError) as error:

@@ -14,15 +14,15 @@ did, and for each call back and each notice of a break whether both sent it. It 
 
 for each difference, with the place of the message in our journal, and last how many were compared. It ends with status 1
 where something differs, with 2 where it can't compare. Ids and cookies, and what carries no meaning for the client, aren't
-compared, nor what is left out of the capture, nor the steps of a session's setup, of which ours needs one. Of an answer that
-waits both parts count, as `PENDING, then SUCCESS`. The first difference may be the reason of those that follow.
+compared, nor what is left out of the capture, nor the steps of a session's setup, of which ours needs one; of SMB the last answer
+to a request counts. The first difference may be the reason of those that follow.
 """
 import argparse
 import sys
 from collections import Counter
 
 from capture_from_pcap import add_arguments, options_of, recording_of
-from xlock import foreign_nfs, foreign_nlm, foreign_smb, nlm, protocols, rpc
+from xlock import foreign_smb, rpc
 from xlock.foreign import ForeignError, Session, learned
 from xlock.pcap import PcapError
 from xlock.replays import Ours, ReplayError
@@ -45,17 +45,10 @@ def differences(session, ours):
     return compared, lines
 
 
-def told_in_words(session, call, is_ours):
-    """What a call back tells of; None of one that tells nothing."""
-    if protocols.of_call(call) is nlm:
-        return foreign_nlm.told_in_words(session, call)
-    return foreign_nfs.told_in_words(session, call, is_ours)
-
-
 def told_differences(session, ours):
     """What one server told of by a call back or a notice, and the other didn't."""
-    theirs_told = [told_in_words(session, call, False) for call, _, _ in session.recording.told]
-    ours_told = [told_in_words(session, rpc.read_call(out.data), True) for out in ours.calls]
+    theirs_told = [session.told_in_words(told.call, is_ours=False) for told in session.recording.told]
+    ours_told = [session.told_in_words(rpc.read_call(out.data), is_ours=True) for out in ours.calls]
     lines = only_one("called back", theirs_told, ours_told)
     chosen = [one for one in session.recording.chosen if one.kind == "smb"]
     sent = [foreign_smb.notice_in_words(message, session) for one in chosen for message in foreign_smb.notices(one)]

@@ -6,7 +6,6 @@ from tests import by_hand
 from tests.by_hand import granted, lock, marked, reply, unlock
 from xlock.captures import Capture
 from xlock.foreign import ForeignError, Recording, Session, server_of
-from xlock.foreign_nlm import refused
 from xlock.replays import Ours
 
 A, B, SERVER = ("10.0.0.1", 801), ("10.0.0.2", 802), ("10.0.0.9", 4045)
@@ -74,7 +73,7 @@ class Sessions(unittest.TestCase):
         self.assertEqual(lines_of(found), LINES)
         self.assertEqual(found.things.table(), ["f1 is the handle aabbccdd", "f2 is the handle eeeeeeee"])
         self.assertEqual(found.notes, [])
-        self.assertEqual(list(refused(found)), ["a client answered DENIED to the call granted b 7 f1 0 10 x; this isn't in the capture"])
+        self.assertEqual(list(found.refused()), ["a client answered DENIED to the call granted b 7 f1 0 10 x; this isn't in the capture"])
         Capture.read(found.writer.text())
 
     def test_times(self):

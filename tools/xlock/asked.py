@@ -35,3 +35,15 @@ class Asked:
     """With our handles, names and ids."""
     kept: list = field(default_factory=list)
     """Of a COMPOUND: the place that each of its operations has in the other server's, None where it has none there."""
+
+
+@dataclass(eq=False)
+class Told:
+    """A call that the other server made to a client, and the client's reply, where that was captured."""
+
+    call: object
+    module: object
+    """That of its protocol."""
+    record: bytes | None = None
+    number: int = 0
+    """Of the packet with the reply."""

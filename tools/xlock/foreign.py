@@ -13,13 +13,13 @@ of it: each request as ours may be asked it. Both leave the protocols to the mod
 import ipaddress
 from collections import Counter
 
-from xlock import foreign_nfs, foreign_nlm, foreign_smb, nfs, protocols, rpc
-from xlock.asked import Asked, Request
+from xlock import foreign_nfs, foreign_nlm, foreign_smb, nfs, nlm, protocols, rpc
+from xlock.asked import Asked, Request, Told
 from xlock.captures import MOST_OPEN, Writer
 from xlock.conversations import Conversations
 from xlock.replays import Ids, Ours, replayed
 from xlock.things import MOST_FILES, Things
-from xlock.xdr import XdrError
+from xlock.xdr import XdrError, u32
 
 
 class ForeignError(Exception):
@@ -30,7 +30,7 @@ class Recording:
     """What a file of packets says: `chosen` are the conversations, `requests` what was asked in them, `steps` all that
     happened, in order, `things` the files, `told` the other server's calls back, `notes` what is missing."""
 
-    def __init__(self, data, servers=()):
+    def __init__(self, data, servers=(), one_tree=False):
         found = Conversations(data)
         self.notes = list(found.notes)
         self.chosen = [one for one in found.asked if self._is_chosen(one, servers)]
@@ -38,14 +38,16 @@ class Recording:
         addresses = {conversation.server.end[0] for conversation in self.chosen if conversation.server.end}
         self.called_back = [one for one in found.called_back if one.client.end[0] in addresses]
         self.requests = [request for conversation in self.chosen for request in self._requests_of(conversation)]
+        self.told = list(self._told())
         self.steps = sorted(self._steps(), key=lambda step: step[:2])
         self.things = Things()
         for *_, what, step in self.steps:
             if what == "request":
                 step.protocol.survey(step, self.things)
+        if one_tree:
+            self.things.join_names()
         if not self.things.export():
             raise ForeignError(f"the calls name more than {MOST_FILES} files")
-        self.told = list(self._told())
 
     @staticmethod
     def _is_chosen(conversation, servers):
@@ -95,6 +97,9 @@ class Recording:
             yield request.piece.number, 0, "request", request
             for reply in request.replies:
                 yield reply.number, 1, "answer", (request, reply)
+        for told in self.told:
+            if told.record is not None:
+                yield told.number, 1, "called", told
         for conversation in self.chosen:
             for piece in conversation.client.rest:
                 yield piece.number, 2, "rest", (conversation, piece)
@@ -107,8 +112,8 @@ class Recording:
             for request in self._calls_of(conversation):
                 module = request.call and (protocols.of_call(request.call) or nfs)
                 if module and module.calls_back(request.call.procedure):
-                    reply = rpc.read_reply(request.replies[0].data) if request.replies else None
-                    yield request.call, module, reply
+                    reply = [(piece.data, piece.number) for piece in request.replies]
+                    yield Told(request.call, module, *(reply[0] if reply else ()))
 
     def has_ids(self):
         """Whether replies brought ids that later requests name."""
@@ -131,6 +136,8 @@ class Session:
         self.writer, self.asked, self.left_out = Writer(), [], Counter()
         self.writer.capture.files = self.things.files
         self.numbers, self.ended, self.began, self.moment, self.by_request = {}, set(), None, 0, {}
+        self.called = {}
+        """Of our calls that a client answers in the capture: what told of each."""
         self.changers = {module: module.Changer(self) for module in (foreign_nlm, foreign_nfs, foreign_smb)}
         self.notes = list(recording.notes)
         for _, _, what, step in recording.steps:
@@ -160,6 +167,31 @@ class Session:
     def _take_answer(self, step):
         request, reply = step
         self.changers[request.protocol].answered(request, self.by_request.get(id(request)), reply)
+
+    def _take_called(self, told):
+        """A client's answer to the other server's call goes to ours that tells of the same, where ours made one by then."""
+        made = self.ids.ours.calls if self.ids.is_replayed else []
+        wanted = self.told_in_words(told.call, is_ours=False)
+        for out in made:
+            is_open = out.place < self.writer.place and out.call not in self.called
+            if is_open and self.told_in_words(rpc.read_call(out.data), is_ours=True) == wanted:
+                self.called[out.call] = told
+                reply = foreign_nlm.answer_to(out.call, told.record) if told.module is nlm else told.record
+                self._write(self.writer.called, out.call, u32(out.call) + reply[4:])
+                return
+
+    def told_in_words(self, call, is_ours):
+        """What a call back tells of; None of one that tells nothing."""
+        module = foreign_nlm if protocols.of_call(call) is nlm else foreign_nfs
+        return module.told_in_words(self, call, is_ours)
+
+    def refused(self):
+        """What is said of each call of GRANTED that a client refused, where that isn't in the capture."""
+        for told in self.recording.told:
+            answer = foreign_nlm.answer_in_words_to(told) if told.module is nlm else None
+            if answer not in (None, "GRANTED") and told not in self.called.values():
+                said = self.told_in_words(told.call, is_ours=False)
+                yield f"a client answered {answer} to the call {said}; this isn't in the capture"
 
     def _take_rest(self, step):
         conversation, piece = step
@@ -205,11 +237,11 @@ class Session:
             self.writer.comment("left out here: " + ", ".join(whats))
 
     def _left_out_in_words(self):
-        return [f"left out {count} times: {what}" for what, count in sorted(self.left_out.items())]
+        return [f"left out: {what} ({count})" for what, count in sorted(self.left_out.items())]
 
     def said(self):
         """What is told of the capture beside it."""
-        return self.things.table() + self._left_out_in_words() + self.notes
+        return self.things.table() + self._left_out_in_words() + self.notes + list(self.refused())
 
     def _name_callers(self):
         """The addresses of those who may have to be called back: the port is that at which the other server did so, 0

@@ -8,6 +8,8 @@ from xlock.replays import NOBODY
 from xlock.xdr import XdrError, opaque, u32, u64
 
 EPOCH = 1
+# The parts of stateids that stand for no state (RFC 7530 9.1.4.3).
+SPECIAL = (bytes(12), b"\xff" * 12)
 NO_ANSWER = "no answer"
 NOENT = 2
 # The statuses of an OPEN that tell that there is a file of its name: EXIST, ACCESS, DELAY and SHARE_DENIED.
@@ -103,6 +105,21 @@ def survey(request, things):
             walk.target.exists = True
         if is_done and walk.target and op.number in (CREATE, OPEN, OPEN_ATTRIBUTES):
             walk.target.is_directory = op.number != OPEN
+        if is_done and walk.target and op.number in OF_A_STATE | {READ, WRITE}:
+            _look_at_state(op, result, things.find(walk.target), things)
+
+
+def _look_at_state(op, result, here, things):
+    """The stateids that an operation names, or gives, stand for its thing."""
+    named = [] if op.number == OPEN else [op.said["stateid"]]
+    given = [result.said["stateid"]] if result and "stateid" in result.said else []
+    for stateid in named + given:
+        if stateid[4:] not in SPECIAL:
+            things.has_state(things.find(here), stateid[4:])
+    if op.number == CLOSE:  # it may stand for another open later
+        things.states.pop(op.said["stateid"][4:], None)
+        for stateid in given:
+            things.states.pop(stateid[4:], None)
 
 
 def _look_at(op, result, is_done, here, things):

@@ -1,6 +1,6 @@
 """NLM in recorded sessions, and calls of ONC RPC that no protocol here knows. Nothing but the handles is the server's."""
 from xlock import nlm, protocols, rpc
-from xlock.xdr import XdrError
+from xlock.xdr import Reader, XdrError, opaque, u64
 
 NO_ANSWER = "no answer"
 
@@ -73,15 +73,28 @@ def difference(session, asked, ours):
     return answer_in_words(asked.request.replies[0].data, call), answer_in_words(our, call)
 
 
-def told_in_words(session, call):
-    return nlm.told_in_words(call.procedure, call.arguments, session.things.ours, session.things.files)
+def told_in_words(session, call, is_ours):
+    change = (lambda handle: handle) if is_ours else session.things.ours
+    return nlm.told_in_words(call.procedure, call.arguments, change, session.things.files)
 
 
-def refused(session):
-    """What is said of each call of GRANTED that a client refused."""
-    for call, module, reply in session.recording.told:
-        if module is not nlm or reply is None or reply.verdict != "SUCCESS":
-            continue
-        answer = nlm.results_in_words(call.procedure, reply.results).split()[0]
-        if answer != "GRANTED":
-            yield f"a client answered {answer} to the call {told_in_words(session, call)}; this isn't in the capture"
+def answer_to(number, record):
+    """A client's reply to a call of GRANTED, as one to ours of this number."""
+    try:
+        reply = rpc.read_reply(record)
+        reader = Reader(reply.results)
+        reader.opaque(nlm.MOST_TEXT)
+    except XdrError:
+        return record
+    if reply.verdict != "SUCCESS":
+        return record
+    return rpc.success_bytes(number % 2**32, opaque(u64(number)) + reader.rest())
+
+
+def answer_in_words_to(told):
+    """The status that a client answered to a call of GRANTED; None where it answered none."""
+    try:
+        reply = rpc.read_reply(told.record) if told.record is not None else None
+        return nlm.results_in_words(told.call.procedure, reply.results).split()[0] if reply and reply.verdict == "SUCCESS" else None
+    except XdrError:
+        return None

@@ -10,11 +10,11 @@ from xlock.smb import ASYNC, BREAK, CANCEL, CLOSE, CREATE, HEADER, LOCK, LOGOFF,
 EPOCH = 1
 NO_ANSWER = "no answer"
 RELATED, SIGNED = 4, 8
-SUCCESS, PENDING, MORE_NEEDED = 0, 0x103, 0xC0000016
+SUCCESS, PENDING, MORE_NEEDED, SHARING_VIOLATION = 0, 0x103, 0xC0000016, 0xC0000043
 NOTHING = b"\xff" * 16
 # The statuses of a CREATE that tell that there is something of its name: SHARING_VIOLATION, ACCESS_DENIED, FILE_IS_A_DIRECTORY
 # and NOT_A_DIRECTORY, DELETE_PENDING, OBJECT_NAME_COLLISION.
-OF_A_THING = (SUCCESS, 0xC0000043, 0xC0000022, 0xC00000BA, 0xC0000103, 0xC0000056, 0xC0000035)
+OF_A_THING = (SUCCESS, SHARING_VIOLATION, 0xC0000022, 0xC00000BA, 0xC0000103, 0xC0000056, 0xC0000035)
 IS_A_DIRECTORY, NOT_A_DIRECTORY = 0xC00000BA, 0xC0000103
 DIRECTORY_ATTRIBUTE, DIRECTORY_OPTION = 0x10, 1
 DISK = 1
@@ -166,6 +166,7 @@ def thing_of(things, share, path):
     directory.is_directory = True
     for name in path.split("\\") if path else []:
         directory = things.child(directory, name)
+        directory.is_of_share = True
     return directory
 
 
@@ -192,6 +193,8 @@ class Changer:
     def __init__(self, session):
         self.session, self.things, self.ids = session, session.things, session.ids
         self.unserved = set()
+        self.drawn = {}
+        """The number of each CREATE that waits: ours draws it before that of the waiter."""
 
     def changed(self, request):
         part = request.call
@@ -282,8 +285,9 @@ class Changer:
         if disposition in (SUPERSEDE, OVERWRITE, OVERWRITE_IF) or (disposition == MAKE and is_done):
             self.session.left_out["that a CREATE makes or empties a file"] += 1
             fixed[36:40] = OPEN.to_bytes(4, "little")
+        last = path_of(part).split("\\")[-1]
         name = self.things.name_of(self.things.find(request.thing)) if request.thing else path_of(part)
-        name = name.encode("utf-16-le")
+        name = (last if last.lower() == name else name).encode("utf-16-le")
         offset, length = struct.unpack_from("<2I", fixed, 48)
         contexts = part.data[offset : offset + length] if length else b""
         behind = HEADER.size + 56 + len(name)
@@ -298,12 +302,16 @@ class Changer:
         reply = part_of(piece.data)
         if request.call is None:
             return
+        is_drawn = asked is not None and request.call.command == CREATE and reply.status in (PENDING, SHARING_VIOLATION)
+        if is_drawn and id(request) not in self.drawn:
+            self.drawn[id(request)] = self.ids.draw()
         for key, take, is_new in self._brought(request, reply):
             if asked is None:
                 self.unserved.add(key)
             else:
                 self.unserved.discard(key)
-                self.ids.bring(key, self._taker(asked, take), is_new)
+                guess = self.drawn.get(id(request)) if key[0] == "file" else None
+                self.ids.bring(key, self._taker(asked, take), is_new, guess)
 
     def _brought(self, request, reply):
         """The ids that a reply brings: what is theirs, how ours is read, and whether none stood for it before."""
@@ -341,25 +349,22 @@ def call_in_words(session, asked):
     try:
         return smb.request_in_words(asked.message)
     except smb.SmbError:
-        command = asked.request.call.command
-        return f"smb {smb.NAMES.get(command, command)}, whose parts have no words"
+        part = part_of(asked.message)
+        said = f"smb {smb.NAMES.get(part.command, part.command)}"
+        return f"{said} {path_of(part)}, whose parts have no words" if part.command == CREATE else f"{said}, whose parts have no words"
 
 
 def difference(session, asked, ours):
-    """What both answered; None where it isn't compared: a CANCEL, and a step of a session's setup behind which the other server
-    wants another, where ours needs one alone."""
+    """What both answered in the end, since a server that has one wait needn't say so (MS-SMB2 3.3.4.2); None where it isn't
+    compared: a CANCEL, and a step of a session's setup behind which the other server wants another, where ours needs one."""
     request = asked.request
     if request.call.command == CANCEL or not request.replies:
         return None
-    their = [piece.data for piece in request.replies]
-    if smb.read_head(their[-1]).status == MORE_NEEDED:
+    their = request.replies[-1].data
+    if smb.read_head(their).status == MORE_NEEDED:
         return None
-    our = [message for _, message in ours.smb.get((asked.connection, request.call.message), [])]
-    return _answers_in_words(their), _answers_in_words(our)
-
-
-def _answers_in_words(messages):
-    return ", then ".join(map(answer_in_words, messages)) or NO_ANSWER
+    our = ours.smb.get((asked.connection, request.call.message), [])
+    return answer_in_words(their), answer_in_words(our[-1][1]) if our else NO_ANSWER
 
 
 def answer_in_words(message):

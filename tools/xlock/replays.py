@@ -66,12 +66,17 @@ class Ids:
         self.next = 1
         self.sources = {}
 
-    def bring(self, key, take, is_new=True):
-        """A reply of the recording brought an id; `take` reads ours from what ours answered, up to a place."""
-        _, guess = self.sources.get(key, (None, None))
-        if is_new or guess is None:
-            guess, self.next = self.next, self.next + 1
-        self.sources[key] = take, guess
+    def draw(self):
+        """The next number, if ours answers as the other server."""
+        self.next += 1
+        return self.next - 1
+
+    def bring(self, key, take, is_new=True, guess=None):
+        """A reply of the recording brought an id; `take` reads ours from what ours answered, up to a place. `guess` is ours where it
+        was drawn before."""
+        if not is_new and key in self.sources:
+            guess = self.sources[key][1]
+        self.sources[key] = take, self.draw() if guess is None else guess
         if self.is_replayed:
             self.next = max(self.next, 1 + (take(self.ours, self.place) or 0))
 

@@ -17,6 +17,8 @@ class Thing:
         self.is_directory = None
         """None while nothing tells."""
         self.exists = False
+        self.is_of_share = False
+        """Whether SMB names it."""
         self.number = 0
         """Of the exported file, 0 where it is none."""
         self.same = None
@@ -40,6 +42,8 @@ class Things:
         self.files = Files()
         self.shares = {}
         """The path of each tree connect of SMB, by its session and its number."""
+        self.states = {}
+        """What each stateid of NFSv4 was first given for."""
         self.root = self._add(Thing())
         self.root.is_directory = True
 
@@ -80,6 +84,12 @@ class Things:
         elif thing.handle is None:
             thing.handle = handle
 
+    def has_state(self, thing, other):
+        """A stateid stands for a thing, which is that for which it was given."""
+        known = self.find(self.states.setdefault(other, thing))
+        if known is not thing:
+            self._join(known, thing)
+
     def _join(self, one, other):
         """Two turned out to be one: the first that was named stays."""
         if other is self.root or (one is not self.root and self.all.index(other) < self.all.index(one)):
@@ -91,11 +101,22 @@ class Things:
             one.name, one.parent = other.name, other.parent
         if one.is_directory is None:
             one.is_directory = other.is_directory
-        for (parent, name), child in list(self.by_name.items()):
+        for (parent, name), child in list(self.by_name.items()) if one.is_directory is not False else []:
             if parent is other:
                 known = self.by_name.setdefault((one, name), child)
                 if self.find(known) is not self.find(child):
                     self._join(self.find(known), self.find(child))
+
+    def join_names(self):
+        """What SMB names is what others name alike, where there is one such thing on either side."""
+        sides = {True: {}, False: {}}
+        for thing in self.all:
+            if thing.exists and not thing.same and not thing.is_directory and isinstance(thing.name, str):
+                sides[thing.is_of_share].setdefault(thing.name.lower(), []).append(thing)
+        for name, ones in sides[True].items():
+            others = sides[False].get(name, [])
+            if len(ones) == len(others) == 1:
+                self._join(others[0], ones[0])
 
     def export(self):
         """Numbers and names the files that there are, in order of appearance. A name that no exported file can have, or that
