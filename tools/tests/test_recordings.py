@@ -8,12 +8,13 @@ server is smbd 4.17.
 import struct
 import unittest
 from pathlib import Path
+from unittest import mock
 
 from compare_with_pcap import compare, of_transcript
 from tests import by_hand
 from xlock import foreign_smb, nfs_ops, rpc, smb, transcripts
 from xlock.captures import Capture
-from xlock.foreign import Recording, Session
+from xlock.foreign import Recording, Session, learned
 from xlock.replays import Ids, Ours
 from xlock.things import Things
 from xlock.xdr import opaque, u32
@@ -159,6 +160,25 @@ class Ourselves(unittest.TestCase):
             capture, _, session, ours = self.recorded(name)
             self.assertEqual(events_of(session.writer.text()), events_of(capture), name)
             self.assertEqual(compare(session, ours), (count, []), name)
+
+    def test_learned(self):
+        # A replay tells what ours answers up to the first event that the capture doesn't have yet: a client's answer to a call.
+        name = "caches"
+        capture, transcript, *_ = self.recorded(name)
+        replays = []
+
+        def replayed(program, text):
+            replays.append(text)
+            pairs = zip(events_of(text), events_of(capture))
+            right = next((place for place, (mine, due) in enumerate(pairs) if mine != due), len(events_of(capture)))
+            return "".join(line for line in transcript.splitlines(keepends=True) if int(line.split()[0]) < right)
+
+        recording = Recording(packets_of(capture, transcript), one_tree=True)
+        with mock.patch("xlock.foreign.replayed", replayed):
+            session, _ = learned(recording, "xlockd")
+        self.assertEqual(events_of(session.writer.text()), events_of(capture))
+        self.assertEqual(len(replays), 2)
+        self.assertNotIn("\nC ", replays[0])
 
     def test_differences(self):
         # What ours answered is changed, and the difference is told in words.

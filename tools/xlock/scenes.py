@@ -113,10 +113,12 @@ def nlm_waits(stage):
     world.range(nlm.LOCK, holder, svid, file, first, count, OK)
     yield
     for caller in waiting:
-        for _ in range(1 + world.chance(20)):
+        world.range(nlm.LOCK, caller, svid, file, first, count, BLOCKED, block=True)
+        world.draw()
+        yield
+        if world.chance(20):
             world.range(nlm.LOCK, caller, svid, file, first, count, BLOCKED, block=True)
             yield
-        world.draw()
     if world.chance(20):
         caller = waiting.pop()
         world.range(nlm.CANCEL, caller, svid, file, first, count, OK, block=True)

@@ -171,7 +171,8 @@ class Full(Exception):
 
 
 class World:
-    """What there is, and what was sent. `expected` has the status of each answer that is sure, where it is asked for."""
+    """What there is, and what was sent. `expected` has the status of each answer that is sure, where it is asked for, by the
+    event's place: the protocol, the connection, of SMB the message's number, and the status."""
 
     def __init__(self, seed, write, most_events, most_bytes, expects=False):
         self.generator, self.write = random.Random(seed), write
@@ -227,9 +228,9 @@ class World:
             self.rpc.append(self.open("rpc"))
         return self.choice(self.rpc)
 
-    def expect(self, protocol, status):
+    def expect(self, protocol, connection, status, message=0):
         if self.expected is not None and status is not None:
-            self.expected[self.place - 1] = protocol, status
+            self.expected[self.place - 1] = protocol, connection, message, status
 
     # ---- messages
 
@@ -251,7 +252,7 @@ class World:
         connection = self.rpc_connection() if connection is None else connection
         said = {"cookie": b"", "block": False, "exclusive": True, "reclaim": False, "state": 0, **said}
         self.call(connection, nlm.PROGRAM, nlm.VERSION, procedure, nlm.arguments_bytes(procedure, said))
-        self.expect("nlm", status)
+        self.expect("nlm", connection, status)
 
     def range(self, procedure, caller, svid, file, first, count, status=None, exclusive=True, block=False):
         lock = nlm.Lock(caller, Files.MARK + u32(file), b"", svid, first * CELL, count * CELL)
@@ -262,7 +263,7 @@ class World:
         connection = client.connection if client else self.rpc_connection()
         head = struct.pack(">3I", 0, 0, len(ops))
         self.call(connection, nfs.PROGRAM, nfs.VERSION, nfs.COMPOUND, head + b"".join(ops))
-        self.expect("nfs", status)
+        self.expect("nfs", connection, status)
 
     def smb(self, desk, command, body, status=None, message=None, ids=None, flags=0):
         """A request of SMB; its number is the connection's next."""
@@ -272,7 +273,7 @@ class World:
         session = (1 << 32) + desk.session if desk.session else 0
         head = smb.HEADER.pack(smb.MAGIC, 64, 0, 0, command, 1, flags, 0, message, ids, session, bytes(16))
         self.line(f"B {desk.connection} {smb.framed(head + body).hex()}")
-        self.expect("smb", status)
+        self.expect("smb", desk.connection, status, message)
         return message
 
     def granted(self, call, status="granted"):
