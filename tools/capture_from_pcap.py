@@ -41,7 +41,7 @@ def add_arguments(parser):
     parser.add_argument("--program", metavar="PROGRAM", help=program)
     server = "only calls to this server, ADDRESS or ADDRESS:PORT of IPv4; may stand several times"
     parser.add_argument("--server", action="append", type=server_of, default=[], metavar="ADDRESS", help=server)
-    times = "also a line T where time passed, in milliseconds since the first message: leases, and breaks that nobody answers, end by it"
+    times = "also a line T where time passed, in milliseconds since the first message: by it leases end, and breaks without answer"
     parser.add_argument("--times", action="store_true", help=times)
     delegations = "clients of NFSv4 can't be called back, so that ours gives them no delegation, as a server that gives none"
     tree = "a file of SMB and one of NFSv4 that have the same name are one, where no other has it; without it they are two"

@@ -53,7 +53,8 @@ def random_faults(program, seed, hostile):
             records = [record for at, record in ours.smb.get((connection, message), []) if at == place]
         found = status_of(protocol, records[0]) if records else None
         if found != status:
-            yield f"make_capture {seed} --hostile {hostile}: the {protocol} answer at place {place} is {found}, and {status} is due"
+            what = f"make_capture {seed} {EVENTS} --hostile {hostile}"
+            yield f"{what}: the answer of {protocol} at place {place} is {found}, and {status} is due"
             return
 
 

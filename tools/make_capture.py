@@ -103,7 +103,8 @@ def main():
     parser.add_argument("count", type=number, metavar="COUNT", help="how many events")
     hostile = "how many of a hundred events are hostile, 5 without it"
     parser.add_argument("--hostile", type=number, default=5, metavar="PERCENT", help=hostile)
-    parser.add_argument("--into", metavar="PREFIX", help="writes files PREFIX1.capture, PREFIX2.capture, .. in the place of one text")
+    into = "writes files PREFIX1.capture, PREFIX2.capture, .. in the place of one text"
+    parser.add_argument("--into", metavar="PREFIX", help=into)
     each = "how many events a file has at most, 500,000 without it"
     parser.add_argument("--each", type=number, default=500_000, metavar="COUNT", help=each)
     given = parser.parse_args()

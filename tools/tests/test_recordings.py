@@ -12,7 +12,7 @@ from unittest import mock
 
 from compare_with_pcap import compare, of_transcript
 from tests import by_hand
-from xlock import foreign_smb, nfs_ops, rpc, smb, transcripts
+from xlock import nfs_ops, rpc, smb, transcripts
 from xlock.captures import Capture
 from xlock.foreign import Recording, Session, learned
 from xlock.replays import Ids, Ours
@@ -204,19 +204,58 @@ class Ourselves(unittest.TestCase):
         self.assertEqual(compare(session, Ours(fewer))[1], [recall, granted, notice])
 
 
+def of_smb(command, number, body, flags=0, session=9, tree=4, following=0, status=0):
+    """A message of SMB as another server's clients and it may send it."""
+    ids = (tree % 2**32) << 32
+    return smb.HEADER.pack(smb.MAGIC, 64, 0, status, command, 1, flags, following, number, ids, session % 2**64, bytes(16)) + body
+
+
+def with_name(fixed, name):
+    return fixed + name.encode("utf-16-le")
+
+
+class Frames(unittest.TestCase):
+    """A CREATE, a READ and a CLOSE in one frame, of the session 9 and the tree connect 4; another share's tree connect is 5."""
+
+    FILE = bytes(range(16))
+
+    def talk(self):
+        talk, client, server = by_hand.Talk(), ("10.0.0.1", 900), (SERVER, smb.PORT)
+        talk.connect(client, server)
+        create = with_name(struct.pack("<HBBIQQ5IHHII", 57, 0, 0, 0, 0, 0, 3, 0, 7, 5, 0, 120, 18, 0, 0), "sub\\A.Txt").ljust(80, b"\0")
+        read = struct.pack("<HBBIQ", 49, 0, 0, 9, 0) + b"\xff" * 16 + bytes(17)
+        read = read.ljust(56, b"\0")
+        close = struct.pack("<HHI", 24, 0, 0) + b"\xff" * 16
+        made = (bytes(64) + self.FILE).ljust(88, b"\0")
+        frame = of_smb(5, 4, create, following=144) + of_smb(8, 5, read, 4, -1, -1, 120) + of_smb(6, 6, close, 4, -1, -1)
+        done = of_smb(5, 4, made, 1, following=152) + of_smb(8, 5, bytes(16), 5, following=80) + of_smb(6, 6, bytes(60), 5)
+        for asked, answered in [
+            (b"\xffSMB" + bytes(40), of_smb(0, 0, bytes(64), 1, 0, 0)),
+            (of_smb(0, 0, struct.pack("<HHHHI16sQH", 36, 1, 1, 0, 0, bytes(16), 0, 0x0202), 0, 0, 0), of_smb(0, 0, bytes(64), 1, 0, 0)),
+            (of_smb(1, 1, bytes(24), 0, 0, 0), of_smb(1, 1, bytes(8), 1, 9, 0)),
+            (of_smb(3, 2, with_name(struct.pack("<4H", 9, 0, 72, 14), "\\\\s\\two"), 0, 9, 0), of_smb(3, 2, b"\x10\0\x01" + bytes(13), 1)),
+            (of_smb(3, 3, with_name(struct.pack("<4H", 9, 0, 72, 16), "\\\\s\\IPC$"), 0, 9, 0), of_smb(3, 3, b"\x10\0\x02" + bytes(13), 1, tree=5)),
+            (frame, done),
+            (of_smb(5, 7, create, tree=5), of_smb(5, 7, bytes(9), 1, tree=5, status=0xC0000034)),
+        ]:  # fmt: skip
+            talk.say(client, server, smb.framed(asked))
+            talk.say(server, client, smb.framed(answered))
+        return by_hand.pcap(talk.packets)
+
+    def test_one_by_one(self):
+        session = Session(Recording(self.talk()))
+        ids = "session=1.1 tree=2"
+        wanted = ["smb negotiate", "smb session_setup", r"smb tree_connect \\s\xl session=1.1", f"smb create A.Txt rw {ids}", f"smb close 1.3 {ids}"]
+        self.assertEqual(in_words(session), wanted)
+        self.assertEqual(session.asked[0].message[-2:], b"\x10\x02")
+        self.assertEqual(dict(session.left_out), {
+            "a message of SMB 1": 1, "that a NEGOTIATE offers other dialects than 2.1": 1, "that requests came in one frame": 2,
+            "TREE_CONNECT of a share without files": 1, "that a CREATE makes or empties a file": 1, "READ": 1,
+            "CREATE in a share without files": 1,
+        })  # fmt: skip
+
+
 class Parts(unittest.TestCase):
-    def test_related(self):
-        # A CREATE, a READ and a CLOSE in one frame: the tree connect and the open are those of the CREATE.
-        def message(command, body, following, flags=0, session=9, tree=4):
-            return smb.HEADER.pack(smb.MAGIC, 64, 0, 0, command, 1, flags, following, command, tree << 32, session, bytes(16)) + body
-
-        create = message(5, bytes(64), 128)
-        related = message(6, struct.pack("<HHI", 24, 0, 0) + b"\xff" * 16, 0, 4, 2**64 - 1, 2**32 - 1)
-        first, second = (foreign_smb.part_of(part) for part in foreign_smb.parts_of(create + related))
-        second.before, first.made = first, bytes(range(16))
-        self.assertEqual((second.tree_key, second.named), ((9, 4), bytes(range(16))))
-        self.assertEqual([first.command, second.command], [5, 6])
-
     def test_things(self):
         # A file is named, then handed by its handle, then turns out to be the one that another handle named.
         things = Things()

@@ -18,6 +18,8 @@ class Request:
     """As its protocol reads it, None where it can't be read."""
     replies: list = field(default_factory=list)
     """Pieces, each with the reply alone."""
+    is_followed: bool = False
+    """Whether others follow in its piece, which may name what its reply brings."""
     share: str | None = ""
     """Of SMB: the path of the share that it connects to, None where that has no files."""
     thing: object = None

@@ -39,7 +39,7 @@ class Recording:
         self.called_back = [one for one in found.called_back if one.client.end[0] in addresses]
         self.requests = [request for conversation in self.chosen for request in self._requests_of(conversation)]
         self.told = list(self._told())
-        self.steps = sorted(self._steps(), key=lambda step: step[:2])
+        self.steps = sorted(self._steps(), key=lambda step: step[:3])
         self.things = Things()
         for *_, what, step in self.steps:
             if what == "request":
@@ -92,19 +92,22 @@ class Recording:
             yield request
 
     def _steps(self):
-        """What happened in all conversations: the packet's number, the order within it, what it was."""
-        for request in self.requests:
-            yield request.piece.number, 0, "request", request
+        """What happened in all conversations: the packet's number, the order within it by two numbers, what it was. The reply
+        to a request that others follow in its packet comes before these, as ours will."""
+        last = len(self.requests)
+        for place, request in enumerate(self.requests):
+            yield request.piece.number, place, 0, "request", request
             for reply in request.replies:
-                yield reply.number, 1, "answer", (request, reply)
+                number = request.piece.number if request.is_followed else reply.number
+                yield number, place, 1, "answer", (request, reply)
         for told in self.told:
             if told.record is not None:
-                yield told.number, 1, "called", told
+                yield told.number, last, 0, "called", told
         for conversation in self.chosen:
             for piece in conversation.client.rest:
-                yield piece.number, 2, "rest", (conversation, piece)
+                yield piece.number, last, 1, "rest", (conversation, piece)
             if conversation.client.finish:
-                yield conversation.client.finish.number, 3, "end", (conversation, conversation.client.finish)
+                yield conversation.client.finish.number, last, 2, "end", (conversation, conversation.client.finish)
 
     def _told(self):
         """The other server's calls back: what each tells of, and what was answered, where that was captured."""
@@ -140,7 +143,7 @@ class Session:
         """Of our calls that a client answers in the capture: what told of each."""
         self.changers = {module: module.Changer(self) for module in (foreign_nlm, foreign_nfs, foreign_smb)}
         self.notes = list(recording.notes)
-        for _, _, what, step in recording.steps:
+        for *_, what, step in recording.steps:
             getattr(self, "_take_" + what)(step)
         self._name_callers()
         for line in self.things.table() + self._left_out_in_words():

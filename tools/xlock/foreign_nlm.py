@@ -46,7 +46,8 @@ def call_in_words(session, asked):
     call = rpc.read_call(asked.message)
     module = protocols.of_call(call)
     try:
-        return module.call_in_words(call.procedure, call.arguments, session.things.files, module.cookie_of(call.procedure, call.arguments))
+        cookie = module.cookie_of(call.procedure, call.arguments)
+        return module.call_in_words(call.procedure, call.arguments, session.things.files, cookie)
     except XdrError:
         return f"call {call.program} {call.version} {call.procedure} 0x{call.arguments.hex()}"
 
@@ -95,6 +96,8 @@ def answer_in_words_to(told):
     """The status that a client answered to a call of GRANTED; None where it answered none."""
     try:
         reply = rpc.read_reply(told.record) if told.record is not None else None
-        return nlm.results_in_words(told.call.procedure, reply.results).split()[0] if reply and reply.verdict == "SUCCESS" else None
+        if reply and reply.verdict == "SUCCESS":
+            return nlm.results_in_words(told.call.procedure, reply.results).split()[0]
     except XdrError:
-        return None
+        pass
+    return None

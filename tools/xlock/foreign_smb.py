@@ -5,11 +5,12 @@ from dataclasses import dataclass, replace
 
 from xlock import smb
 from xlock.replays import NOBODY
-from xlock.smb import ASYNC, BREAK, CANCEL, CLOSE, CREATE, HEADER, LOCK, LOGOFF, NEGOTIATE, SESSION_SETUP, TREE_CONNECT, TREE_DISCONNECT
+from xlock.smb import ASYNC, BREAK, CANCEL, CLOSE, CREATE, ECHO, HEADER, LOCK, LOGOFF, NEGOTIATE, SESSION_SETUP, TREE_CONNECT
+from xlock.smb import TREE_DISCONNECT
 
 EPOCH = 1
 NO_ANSWER = "no answer"
-RELATED, SIGNED = 4, 8
+RELATED = 4
 SUCCESS, PENDING, MORE_NEEDED, SHARING_VIOLATION = 0, 0x103, 0xC0000016, 0xC0000043
 NOTHING = b"\xff" * 16
 # The statuses of a CREATE that tell that there is something of its name: SHARING_VIOLATION, ACCESS_DENIED, FILE_IS_A_DIRECTORY
@@ -19,7 +20,7 @@ IS_A_DIRECTORY, NOT_A_DIRECTORY = 0xC00000BA, 0xC0000103
 DIRECTORY_ATTRIBUTE, DIRECTORY_OPTION = 0x10, 1
 DISK = 1
 SUPERSEDE, OPEN, MAKE, OPEN_IF, OVERWRITE, OVERWRITE_IF = range(6)
-SERVED = {NEGOTIATE, SESSION_SETUP, LOGOFF, TREE_CONNECT, TREE_DISCONNECT, CREATE, CLOSE, LOCK, CANCEL, smb.ECHO, BREAK}
+SERVED = {NEGOTIATE, SESSION_SETUP, LOGOFF, TREE_CONNECT, TREE_DISCONNECT, CREATE, CLOSE, LOCK, CANCEL, ECHO, BREAK}
 COMMANDS = {
     7: "FLUSH", 8: "READ", 9: "WRITE", 11: "IOCTL", 14: "QUERY_DIRECTORY", 15: "CHANGE_NOTIFY", 16: "QUERY_INFO", 17: "SET_INFO",
 }  # fmt: skip
@@ -86,7 +87,8 @@ def part_of(data):
 
 
 def requests(conversation):
-    """The requests of a conversation, one by one: the piece of each, its bytes, its parts and its replies. A CANCEL has none."""
+    """The requests of a conversation, one by one: the piece of each, its bytes, its parts, its replies, of which a CANCEL has none,
+    and whether others follow in its frame."""
     replies, out = {}, []
     for piece in conversation.server.messages:
         for data in parts_of(piece.data):
@@ -94,15 +96,15 @@ def requests(conversation):
             if part and part.flags & smb.REPLY and part.message != smb.NOTICE_ID:
                 replies.setdefault(part.message, []).append(replace(piece, data=data))
     for piece in conversation.client.messages:
-        before = None
-        for data in parts_of(piece.data):
+        before, parts = None, list(parts_of(piece.data))
+        for place, data in enumerate(parts, 1):
             part = part_of(data)
             if part and part.flags & RELATED:
                 part.before = before
             found = replies.get(part.message, []) if part and part.command != CANCEL else []
             if part and part.command == CREATE and found:
                 part.made = made_by(found[-1].data)
-            out.append((piece, data, part, found))
+            out.append((piece, data, part, found, place < len(parts)))
             before = part
     return out
 
@@ -350,8 +352,8 @@ def call_in_words(session, asked):
         return smb.request_in_words(asked.message)
     except smb.SmbError:
         part = part_of(asked.message)
-        said = f"smb {smb.NAMES.get(part.command, part.command)}"
-        return f"{said} {path_of(part)}, whose parts have no words" if part.command == CREATE else f"{said}, whose parts have no words"
+        name = f" {path_of(part)}" if part.command == CREATE else ""
+        return f"smb {smb.NAMES.get(part.command, part.command)}{name}, whose parts have no words"
 
 
 def difference(session, asked, ours):
@@ -371,7 +373,7 @@ def answer_in_words(message):
     """What a reply says, without ids: the status, and of an open's cache what it has."""
     part = part_of(message)
     status = smb.STATUSES.get(part.status, f"status {part.status:08x}")
-    if part.status != SUCCESS or part.command != CREATE:
+    if part.status != SUCCESS or part.command != CREATE or len(message) < HEADER.size + 88:
         return status
     level = message[HEADER.size + 2]
     offset, length = struct.unpack_from("<2I", message, HEADER.size + 80)
@@ -387,7 +389,8 @@ def lease_of(contexts):
     while at + smb.CONTEXT.size <= len(contexts):
         following, name, name_length, _, data, length = struct.unpack_from("<I4HI", contexts, at)
         if contexts[at + name : at + name + name_length] == smb.LEASE_NAME and length >= 20:
-            return smb.state_word(int.from_bytes(contexts[at + data + 16 : at + data + 20], "little"))
+            state = int.from_bytes(contexts[at + data + 16 : at + data + 20], "little")
+            return smb.state_word(state) if state < 8 else str(state)
         if not following:
             return None
         at += following
@@ -401,4 +404,7 @@ def notice_in_words(message, session=None):
         number = session.ids.get(("file", message[at : at + 16]))
         if number is not None:
             message = message[:at] + struct.pack("<2Q", *[(EPOCH << 32) + number] * 2) + message[at + 16 :]
-    return smb.reply_in_words(message)
+    try:
+        return smb.reply_in_words(message)
+    except smb.SmbError:
+        return "notice 0x" + message[HEADER.size :].hex()

@@ -72,8 +72,8 @@ class Ids:
         return self.next - 1
 
     def bring(self, key, take, is_new=True, guess=None):
-        """A reply of the recording brought an id; `take` reads ours from what ours answered, up to a place. `guess` is ours where it
-        was drawn before."""
+        """A reply of the recording brought an id; `take` reads ours from what ours answered, up to a place. `guess` is ours where
+        it was drawn before."""
         if not is_new and key in self.sources:
             guess = self.sources[key][1]
         self.sources[key] = take, self.draw() if guess is None else guess

@@ -16,8 +16,7 @@ CLIENTS, CALLED_BACK, DESKS = 6, 4, 6
 CALLBACK_PROGRAM = 0x40000000
 AT_ONCE = 0x10
 NFS_DENIED, NFS_DELAY, NFS_SHARE_DENIED = 10010, 10008, 10015
-PENDING, NOT_GRANTED, SHARING_VIOLATION, CANCELLED = 0x103, 0xC0000055, 0xC0000043, 0xC0000120
-NOT_LOCKED = 0xC000007E
+PENDING, NOT_GRANTED, SHARING_VIOLATION, NOT_LOCKED = 0x103, 0xC0000055, 0xC0000043, 0xC000007E
 # The states of a lease: for reads 1, for the handle 2, for writes 4.
 ALL_STATES, READS_AND_HANDLE = 7, 3
 
@@ -226,6 +225,20 @@ def nfs_locks(stage):
     stage.files.append(file)
 
 
+def _delegated(stage, holder, owner, file):
+    """An OPEN of a confirmed owner, and the number of the delegation that it brings."""
+    world = stage.world
+    if not owner.is_confirmed:
+        yield from world.nfs_open(holder, owner, file, 1)
+        world.nfs_close(holder, owner, file)
+        yield
+    op = op_open(owner.next(), holder.number, owner.name, file, 2 if world.chance(50) else 1)
+    world.compound(holder, [PUT_ROOT, op], OK)
+    owner.open, owner.open_seqid, delegation = world.draw(), 1, world.draw()
+    yield
+    return delegation
+
+
 def nfs_delegation(stage):
     """A client has a delegation, another asks for what that keeps off; the first returns it, or is silent until the deadline."""
     world = stage.world
@@ -233,15 +246,8 @@ def nfs_delegation(stage):
     if holder is None:
         return
     asker, file = (yield from stage.client()), stage.file()
-    owner, opener, writes = world.owner_of(holder), world.owner_of(asker), world.chance(50)
-    if not owner.is_confirmed:
-        yield from world.nfs_open(holder, owner, file, 1)
-        world.nfs_close(holder, owner, file)
-        yield
-    op = op_open(owner.next(), holder.number, owner.name, file, 2 if writes else 1)
-    world.compound(holder, [PUT_ROOT, op], OK)
-    owner.open, owner.open_seqid, delegation = world.draw(), 1, world.draw()
-    yield
+    owner, opener = world.owner_of(holder), world.owner_of(asker)
+    delegation = yield from _delegated(stage, holder, owner, file)
     op = op_open(opener.next(), asker.number, opener.name, file, 2)
     world.compound(asker, [PUT_ROOT, op], NFS_DELAY)
     call, deadline = world.draw(), stage.break_begins()
