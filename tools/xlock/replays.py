@@ -74,11 +74,12 @@ class Ids:
     def bring(self, key, take, is_new=True, guess=None):
         """A reply of the recording brought an id; `take` reads ours from what ours answered, up to a place. `guess` is ours where
         it was drawn before."""
-        if not is_new and key in self.sources:
+        known = take(self.ours, self.place) if self.is_replayed else None
+        if known is not None:
+            guess, self.next = known, max(self.next, known + 1)
+        elif not is_new and key in self.sources:
             guess = self.sources[key][1]
         self.sources[key] = take, self.draw() if guess is None else guess
-        if self.is_replayed:
-            self.next = max(self.next, 1 + (take(self.ours, self.place) or 0))
 
     def get(self, key):
         """Our number in the place of an id; None where no reply of the recording brought it."""
