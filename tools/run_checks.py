@@ -1,5 +1,5 @@
 #!/usr/bin/env python3
-"""Runs the tests of the tools and the checks of documents and examples.
+"""Runs the tests of the tools and the checks of documents, examples and scenarios.
 
     python3 tools/run_checks.py [PROGRAM]
 
@@ -15,6 +15,7 @@ from pathlib import Path
 import check_documents
 import check_examples
 import check_sessions
+import join_scenarios
 
 ROOT = Path(__file__).resolve().parent.parent
 
@@ -37,6 +38,7 @@ def main():
     given = parser.parse_args()
     found = [*failed_tests(), *check_documents.faults(ROOT), *check_examples.faults(ROOT / "examples", given.program)]
     found += check_sessions.faults(given.program)
+    found += join_scenarios.faults(ROOT)
     for line in found:
         print(line)
     sys.exit(1 if found else 0)

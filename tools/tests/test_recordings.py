@@ -245,7 +245,7 @@ class Frames(unittest.TestCase):
     def test_one_by_one(self):
         session = Session(Recording(self.talk()))
         ids = "session=1.1 tree=2"
-        wanted = ["smb negotiate", "smb session_setup", r"smb tree_connect \\s\xl session=1.1", f"smb create A.Txt rw {ids}", f"smb close 1.3 {ids}"]
+        wanted = ["smb negotiate 0x" + "00" * 16, "smb session_setup", r"smb tree_connect \\s\xl session=1.1", f"smb create A.Txt rw {ids}", f"smb close 1.3 {ids}"]
         self.assertEqual(in_words(session), wanted)
         self.assertEqual(session.asked[0].message[-2:], b"\x10\x02")
         self.assertEqual(dict(session.left_out), {

@@ -34,6 +34,10 @@ STATES, BREAKS = {"r": 1, "h": 2, "w": 4}, 2
 LEASE = struct.Struct("<16s2IQ")
 CONTEXT = struct.Struct("<I4HI4s4x")
 LEASE_NAME = b"RqLs"
+# The guid of a client that names none.
+GUID = bytes([17] * 16)
+# The level of impersonation of a CREATE, which isn't looked at (2.2.13).
+IMPERSONATION = 2
 # The flags of an element of a LOCK: shared, exclusive, an unlock; and that it is refused rather than waits.
 KINDS, AT_ONCE = {"s": 1, "x": 2, "unlock": 4}, 0x10
 
@@ -164,7 +168,7 @@ def _create_body(given, options):
     behind, padding = 120 + len(name), -len(name) % 8
     if "lease" in options:
         level, contexts = LEVELS["lease"], _lease_context(options["lease"], options.get("state", "-"))
-    fixed = struct.pack("<HBBIQQ5I", 57, 0, level, 0, 0, 0, rights, 0, shares, disposition, 0)
+    fixed = struct.pack("<HBBIQQ5I", 57, 0, level, IMPERSONATION, 0, 0, rights, 0, shares, disposition, 0)
     fixed += struct.pack("<HHII", 120, len(name), behind + padding if contexts else 0, len(contexts))
     return fixed + name + (bytes(padding) + contexts if contexts else b"")
 
@@ -175,7 +179,7 @@ def _path_body(path):
 
 
 def _negotiate_body(given):
-    guid = bytes_of(given[0]) if given else bytes([17] * 16)
+    guid = bytes_of(given[0]) if given else GUID
     if len(guid) != 16:
         raise WordError("a guid has 16 bytes")
     return struct.pack("<HHHHI16sQH", 36, 1, 1, 0, 0, guid, 0, DIALECT)
@@ -335,6 +339,9 @@ def _lock_words(message):
 
 def _request_words(head, message):
     """What stands behind a request's name."""
+    if head.command == NEGOTIATE:
+        guid = _part("4HI16s", message)[5]
+        return ["0x" + guid.hex()] * (guid != GUID)
     if head.command == TREE_CONNECT:
         _, _, offset, length = _part("4H", message)
         return [_text(message, offset, length)]
