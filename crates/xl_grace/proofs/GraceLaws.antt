@@ -1,5 +1,5 @@
 -- Who may reclaim, and when that ends, from a start on.
-use Rattle.std.proofs.Common.{◌≡◌, ℕ, ◌+◌, ◌<◌, Bool, true, false, not, ◌&&◌, ◌||◌, if◌then◌else◌, List, [], ◌∷◌, ◌++◌, length, get_or, drop, Option, Some, None, refl, sym, ap, ap₂, subst, ◌∙◌, arith, inl, inr}
+use Rattle.std.proofs.Common.{◌≡◌, ℕ, ◌+◌, ◌-◌, ◌^◌, ◌<◌, min, Bool, true, false, not, ◌&&◌, ◌||◌, if◌then◌else◌, List, [], ◌∷◌, ◌++◌, length, get_or, drop, Option, Some, None, refl, sym, ap, ap₂, subst, ◌∙◌, arith, inl, inr}
 use Rattle.std.specs.Prelude.{is_some, nat_le, bytes_eq}
 use Rattle.std.specs.List.{filter, list_any}
 use Rattle.std.proofs.lemmas.Bool.{cases_Bool, true≢false, and_parts, or_parts, or_from}
@@ -13,8 +13,8 @@ use Rattle.xl_base.specs.declared.stable.Recorded.{Recorded}
 use Rattle.xl_base.specs.Stable.{Stable, same_protocol, same_name, is_recorded, is_recordable, AreRecordable}
 use Rattle.xl_base.proofs.RecordFileLaws.{apart}
 use Rattle.xl_grace.specs.declared.reclaimant.Reclaimant.{Reclaimant}
-use Rattle.xl_grace.specs.declared.grace.Admission.TheVariants.{Enters, NoGrace, NotRecorded}
-use Rattle.xl_grace.specs.Grace.{is_of, newly, may_reclaim, has_reclaimed, noted, others, Running, begun, admission, is_over, ended, is_back, Turn, Reclaims, Expires, Reads, after, is_reclaim, is_expiry, is_reading_from, end_of}
+use Rattle.xl_grace.specs.declared.grace.Admission.TheVariants.{Enters, Grace, NoGrace, NotRecorded}
+use Rattle.xl_grace.specs.Grace.{is_of, newly, may_reclaim, has_reclaimed, noted, others, Running, has_names, begun, admission, is_over, ended, is_back, Turn, Reclaims, Expires, Reads, after, is_reclaim, is_expiry, is_reading_from, end_of}
 
 -- ---- equal names
 
@@ -94,9 +94,9 @@ runs_after g (Reads now ∷ turns) =
     ]
 
 pub runs_from : (stable : Stable) (now : Moment) (milliseconds : ℕ) (turns : List Turn)
-    → is_some (after (begun stable now milliseconds) turns) ≡ (is_some (begun stable now milliseconds) && not (list_any (is_reading_from (end_of now milliseconds).0) turns))
+    → is_some (after (begun stable now milliseconds) turns) ≡ (has_names stable.names && not (list_any (is_reading_from (min (now.0 + milliseconds) (2 ^ 64 - 1))) turns))
 runs_from stable now milliseconds turns = by stable.names where
-  by : (names : List Recorded) → let grace = begun (record { epoch = stable.epoch; names = names }) now milliseconds in is_some (after grace turns) ≡ (is_some grace && not (list_any (is_reading_from (end_of now milliseconds).0) turns))
+  by : (names : List Recorded) → is_some (after (begun (record { epoch = stable.epoch; names = names }) now milliseconds) turns) ≡ (has_names names && not (list_any (is_reading_from (min (now.0 + milliseconds) (2 ^ 64 - 1))) turns))
   by [] = ap (λ (o : Option Running). is_some o) (after_none turns)
   by (name ∷ names) = runs_after (record { end = end_of now milliseconds; reclaimants = newly (name ∷ names) }) turns
 
@@ -142,6 +142,27 @@ reclaims_from stable now milliseconds turns name = by stable.names (after (begun
   by (first ∷ names) (Some h) e =
       ap (λ b. if b then Enters else NotRecorded)
       (may_after name (record { end = end_of now milliseconds; reclaimants = newly (first ∷ names) }) h turns e ∙ ap (λ b. b && not (list_any (is_expiry name) turns)) (may_begin name (first ∷ names)))
+
+-- the end stays
+end_after : (g h : Running) (turns : List Turn) → after (Some g) turns ≡ Some h → h.end ≡ g.end
+end_after g h [] e = ap (λ (k : Running). k.end) (sym (some_running g h e))
+end_after g h (Reclaims other ∷ turns) e = end_after (record { end = g.end; reclaimants = noted other g.reclaimants }) h turns e
+end_after g h (Expires other ∷ turns) e = end_after (record { end = g.end; reclaimants = others other g.reclaimants }) h turns e
+end_after g h (Reads now ∷ turns) e =
+    elim (cases_Bool (nat_le g.end.0 now.0)) [
+      | inl past ↦ none_running h (sym (after_none turns) ∙ (rw past at e))
+      | inr before ↦ end_after g h turns (rw before at e)
+    ]
+
+-- what becomes of an ask that is no reclaim, from a start on
+pub asks_from : (stable : Stable) (now : Moment) (milliseconds : ℕ) (turns : List Turn) (name : Recorded) → let grace = after (begun stable now milliseconds) turns in
+    admission grace name false ≡ (if is_some grace then Grace (end_of now milliseconds) else Enters)
+asks_from stable now milliseconds turns name = by stable.names (after (begun stable now milliseconds) turns) refl where
+  by : (names : List Recorded) (grace : Option Running) → after (begun (record { epoch = stable.epoch; names = names }) now milliseconds) turns ≡ grace
+      → admission grace name false ≡ (if is_some grace then Grace (end_of now milliseconds) else Enters)
+  by names None e = refl
+  by [] (Some h) e = none_running h (sym (after_none turns) ∙ e)
+  by (first ∷ names) (Some h) e = ap Grace (end_after (record { end = end_of now milliseconds; reclaimants = newly (first ∷ names) }) h turns e)
 
 -- after the end nobody reclaims
 pub none_after_end : (grace : Option Running) (now : Moment) (turns : List Turn) (name : Recorded) → is_over grace now ≡ true → admission (after (ended now grace) turns) name true ≡ NoGrace

@@ -42,6 +42,11 @@ pub record Running : Type 0 where
   -- who may reclaim, and whether it has reclaimed something
   pub reclaimants : List Reclaimant
 
+-- somebody is recorded
+abbrev pub has_names : List Recorded → Bool
+has_names [] = false
+has_names (name ∷ names) = true
+
 -- the end of a grace of so many milliseconds from this moment on; sums of moments stop at the last one
 abbrev pub end_of : Moment → ℕ → Moment
 end_of now milliseconds = record { 0 = min (now.0 + milliseconds) (2 ^ 64 - 1) }

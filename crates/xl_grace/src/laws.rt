@@ -1,16 +1,23 @@
 //! Laws of grace from a start on, for the layers above. The functions do nothing: each has a law as its clause.
-ghost use Rattle.std.specs.Prelude.{◌≡◌, ℕ, true, not, ◌&&◌, if◌then◌else◌, List, Option, is_some};
+ghost use Rattle.std.specs.Prelude.{◌≡◌, ℕ, ◌+◌, ◌-◌, ◌^◌, min, true, false, not, ◌&&◌, if◌then◌else◌, List, Option, is_some};
 ghost use Rattle.std.specs.List.{list_any};
 ghost use Rattle.xl_base.specs.declared.event.Moment.{Moment};
 ghost use Rattle.xl_base.specs.declared.stable.Recorded.{Recorded};
 ghost use Rattle.xl_base.specs.Stable.{Stable, is_recorded};
-ghost use Rattle.xl_grace.specs.declared.grace.Admission.TheVariants.{Enters, NoGrace, NotRecorded};
-ghost use Rattle.xl_grace.specs.Grace.{Running, begun, end_of, admission, is_over, ended, is_back, Turn, after, is_reclaim, is_expiry, is_reading_from};
+ghost use Rattle.xl_grace.specs.declared.grace.Admission.TheVariants.{Enters, Grace, NoGrace, NotRecorded};
+ghost use Rattle.xl_grace.specs.Grace.{Running, has_names, begun, admission, is_over, ended, is_back, Turn, after, is_reclaim, is_expiry, is_reading_from};
 
-/// Grace runs from a start whose record has names until the clock is read at or past its end, and at no other time.
+/// Grace runs from a start whose record has names until the clock is read so many milliseconds later, or after, and at no
+/// other time.
 #[tactic(auto, using(crate::proofs::GraceLaws::runs_from))]
 pub fn grace_runs_until_its_end()
-    ensures { (stable : Stable) (now : Moment) (milliseconds : ℕ) (turns : List Turn) → is_some (after (begun stable now milliseconds) turns) ≡ (is_some (begun stable now milliseconds) && not (list_any (is_reading_from (end_of now milliseconds).0) turns)) }
+    ensures { (stable : Stable) (now : Moment) (milliseconds : ℕ) (turns : List Turn) → is_some (after (begun stable now milliseconds) turns) ≡ (has_names stable.names && not (list_any (is_reading_from (min (now.0 + milliseconds) (2 ^ 64 - 1))) turns)) }
+{}
+
+/// What is no reclaim is told the end while grace runs, and enters if none runs (RFC 7530 9.6.2).
+#[tactic(auto, using(crate::proofs::GraceLaws::asks_from))]
+pub fn new_asks_wait_for_the_end()
+    ensures { (stable : Stable) (now : Moment) (milliseconds : ℕ) (turns : List Turn) (name : Recorded) → admission (after (begun stable now milliseconds) turns) name false ≡ (if is_some (after (begun stable now milliseconds) turns) then Grace (record { 0 = min (now.0 + milliseconds) (2 ^ 64 - 1) }) else Enters) }
 {}
 
 /// A reclaim enters exactly while grace runs, of a name that the record had at the start and that hasn't expired since
