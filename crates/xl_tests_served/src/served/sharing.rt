@@ -66,6 +66,7 @@ fn share_and_open(
     let denied = other != 0 && is_crossed(access, mode, other, deny);
     let first = opened(alloc, other, denied, 3)?;
     let second = opened(alloc, other, false, if denied { 3 } else { 4 })?;
+    let last = denied as u32;
     format!(in alloc;
         "F a.txt
 F b.txt
@@ -87,8 +88,7 @@ B 0 80000034000000090000000000000002000186b5000000040000001700000000000000000000
 5 c0 {second}
 6 c0 8000002400000009000000010000000000000000000000000000000000000000{last:08x}00000000
 8 c0 80000018000000090000000100000000000000000000000000000000
-",
-        last = denied as u32
+"
     )
 }
 
@@ -174,6 +174,7 @@ fn told_of(alloc: Global, other: u32, denied: bool) -> Result<String, AllocError
     let second = opened(alloc, other, false, next)?;
     let shared = created(alloc, denied, 6)?;
     let last = created(alloc, is_open && denied, next + is_open as u32)?;
+    let refused = denied as u32;
     format!(in alloc;
         "0 0 18
 2 c0 00000080fe534d4240000000000000000000010001000000000000000900000000000000000000000000000000000000000000000000000000000000000000000000000041000100100200000000000000000000000000000000000002000000000001000000010000000100000000000000000000000000000000008000000000000000
@@ -190,8 +191,7 @@ fn told_of(alloc: Global, other: u32, denied: bool) -> Result<String, AllocError
 13 c1 {second}
 14 c0 {last}
 17 c1 80000018000000090000000100000000000000000000000000000000
-",
-        refused = denied as u32
+"
     )
 }
 
