@@ -69,8 +69,7 @@ fn told(alloc: Global, case: &Case<'_>) -> Result<Vec<u8>, AllocError> {
     let mut source = MemorySource::new(input, Vec::from_slice(alloc, &[case.reads])?);
     let mut sink = MemorySink::new(alloc, Vec::from_slice(alloc, &[case.writes])?);
     let (status, line, entries) = ended(alloc, &words, &mut source, &mut sink);
-    let mut text =
-        format!(in alloc; "== {}\n{status} {line} {entries}\n", case.name)?.into_bytes();
+    let mut text = format!(in alloc; "== {}\n{status} {line} {entries}\n", case.name)?.into_bytes();
     text.extend_from_slice(sink.bytes())?;
     text.push(b'\n')?;
     Ok(text)

@@ -29,7 +29,8 @@ fn ended<I: Source>(
 /// What a replay of this source answers.
 fn replayed<I: Source>(alloc: Global, source: &mut I) -> Result<Vec<u8>, AllocError> {
     let name = String::from_str(alloc, "xlockd")?;
-    let words = vec![in alloc; name, String::from_str(alloc, "replay")?]?;
+    let command = String::from_str(alloc, "replay")?;
+    let words = vec![in alloc; name, command]?;
     let mut sink = MemorySink::new(alloc, Vec::new(alloc));
     let (status, line, entries) = ended(alloc, &words, source, &mut sink);
     let mut text = format!(in alloc; "{status} {line} {entries}\n")?.into_bytes();

@@ -102,9 +102,7 @@ fn are_told(alloc: Global, house: &mut House<MemoryKeeper>) -> Result<bool, Fail
 
 /// A connection's opening and two entries of each record, behind a head of the moment and the record of the start.
 fn is_journal(journal: &Journal) -> bool {
-    journal.entries.len() == 13
-        && journal.head.start.0 == 5
-        && journal.head.record.epoch() == 7
+    journal.entries.len() == 13 && journal.head.start.0 == 5 && journal.head.record.epoch() == 7
 }
 
 /// Whether a house that started goes on so, and has at its end the journal, and in its keeper the epoch of its start.

@@ -1,8 +1,8 @@
 use Rattle.std.proofs.Common.{List, ◌==◌, ap, ◌∙◌}
 use Rattle.std.specs.List.{filter}
 use Rattle.xl_matrix.specs.declared.claim.Claim.{Claim}
-use Rattle.xl_tests_core.proofs.CountLaws.{found_held}
-use Rattle.xl_tests_core.proofs.calls.wishes.answers.Goals as goal
+use Rattle.xl_tests_core.proofs.HeldLaws.{found_held}
+use Rattle.xl_tests_core.proofs.calls.steps.answers.Goals as goal
 
 pub ack-requires-clause-held : goal.ack-requires-clause-held
 ack-requires-clause-held c =
