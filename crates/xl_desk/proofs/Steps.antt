@@ -319,7 +319,7 @@ module _ {H O : Type 0} (history : H → List Entry) (halt_of : H → Option Hal
         keeps,
         tt,
         unmoved s r 0 id m.1 v w at refl record { seen = whole r.log; told = fits.told; whole = λ _. refl; stops = fits.stops; final = fits.final; mine = fits.mine; based = fits.based; spent = fits.spent } refl refl refl,
-        (r.log, refl, fits.seen, fits.told, subst (λ (z : Option O). IfSome z (λ origin. lawful origin r.log)) (sym (fits.based live).0) r.legal),
+        (r.log, refl, fits.seen, fits.told, (let counted = r.counted in let based = (fits.based live).1 in omega arith), subst (λ (z : Option O). IfSome z (λ origin. lawful origin r.log)) (sym (fits.based live).0) r.legal),
       )
 
   pub opens : (n k : ℕ) (h : H) → n ≡ first (origin_of h) + length (history h) → k ≡ number_of (halt_of h) → IfSome (halt_of h) (λ reason. may_halt (history h) reason) → lawful (origin_of h) (history h)

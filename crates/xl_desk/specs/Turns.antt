@@ -183,7 +183,7 @@ module _ {H O : Type 0} where
 
   -- the whole journal is seen
   abbrev pub seen_more : (O → List Entry → Type 0) → Step (Option H) → Sat H O → ℕ → Sat H O → Type 0
-  seen_more lawful st m r m' = (log : List Entry) × (m' ≡ (record m.0 { seen = log }, m.1)) × IsPrefix m.0.seen log × IsPrefix m.0.told log × Began m.0 (λ origin. lawful origin log)
+  seen_more lawful st m r m' = (log : List Entry) × (m' ≡ (record m.0 { seen = log }, m.1)) × IsPrefix m.0.seen log × IsPrefix m.0.told log × (m.0.first + length log ≡ r) × Began m.0 (λ origin. lawful origin log)
 
 -- ---- who has the turn
 

@@ -19,6 +19,7 @@ use xl_base::{Event, Serial};
 
 /// One turn over a machine: who has the turn has the machine. Threads share the desk by reference, and each of them calls
 /// it with a pass of its own.
+#[derive(Drop)]
 pub struct Desk<H: Serial> {
     table: Table<Option<H>, View<H::Origin>, Snapshot<H>, InTurns, Global>,
 }
@@ -138,6 +139,17 @@ impl<H: Serial> Desk<H> {
         let found = read(alloc, top, seat, conn, from);
         give(top, seat);
         found
+    }
+
+    /// The place past the journal's last entry. It neither waits for the turn nor takes memory.
+    pub fn see(&self, pass: &mut Pass<H>) -> u64
+        requires desk { pass.old.desk ≡ self.now }
+        ensures desk { pass.new.desk ≡ pass.old.desk }
+        ensures lawful { Began pass.new.view (λ origin. H.lawful origin pass.new.view.seen) }
+        ensures looked { IsLooked pass.old.view pass.new.view }
+        ensures end { result ≡ pass.new.view.first + length pass.new.view.seen }
+    {
+        self.table.shared.load::<See>(&mut pass.seat, 0)
     }
 
     /// The first call that is due in the journal, once the turn is free, among its entries from this place on, which is as
