@@ -204,6 +204,43 @@ class Ourselves(unittest.TestCase):
         self.assertEqual(compare(session, Ours(fewer))[1], [recall, granted, notice])
 
 
+class Compounds(unittest.TestCase):
+    """A COMPOUND that goes through directories, saves a handle, and has what ours doesn't serve in its midst."""
+
+    LOOK = u32(15) + opaque(b"sub")
+    OPEN = u32(18) + u32(7) + u32(1) + u32(0) + bytes(8) + opaque(b"o") + u32(0) + u32(0) + opaque(b"B.txt")
+
+    def asked(self, ops, results, status=0):
+        """What ours is asked in the place of these operations, in words, and what is left out."""
+        talk, client, server = by_hand.Talk(), ("10.0.0.1", 900), (SERVER, 2049)
+        talk.connect(client, server)
+        call = rpc.Call(5, 100003, 4, 1, opaque(b"tag") + u32(0) + u32(len(ops)) + b"".join(ops))
+        talk.say(client, server, rpc.framed(rpc.call_bytes(call)))
+        talk.say(server, client, rpc.framed(rpc.success_bytes(5, u32(status) + opaque(b"tag") + u32(len(results)) + b"".join(results))))
+        session = Session(Recording(by_hand.pcap(talk.packets)))
+        return in_words(session), dict(session.left_out)
+
+    def test_handles(self):
+        done = [u32(number) + u32(0) for number in (24, 32, 15)]
+        opened = u32(18) + u32(0) + bytes(16) + bytes(20) + u32(0) + u32(0) + u32(0)
+        got = u32(10) + u32(0) + opaque(b"h")
+        ops = [u32(24), u32(32), self.LOOK, self.OPEN, u32(10), u32(31), self.LOOK, u32(16), u32(10)]
+        results = done + [opened, got, u32(31) + u32(0), u32(15) + u32(0), u32(16) + u32(0), u32(10) + u32(0) + opaque(b"r")]
+        words = "compound put_root_fh then open 7 0.0 o f1 r then get_fh then put_fh / then get_fh"
+        left = {"SAVEFH": 1, "LOOKUP of a directory": 2, "RESTOREFH": 1, "LOOKUPP": 1}
+        self.assertEqual(self.asked(ops, results), ([words], left))
+
+    def test_failed(self):
+        # What follows an operation that is left out, and failed there, was never done.
+        ops = [u32(24), u32(3) + u32(1), self.OPEN, u32(10)]
+        results = [u32(24) + u32(0), u32(3) + u32(13)]
+        left = {"ACCESS": 1, "OPEN, behind one that failed": 1, "GETFH, behind one that failed": 1}
+        self.assertEqual(self.asked(ops, results, 13), (["compound put_root_fh"], left))
+        # Where only that is asked nothing is left to ask.
+        ops, results = [u32(38) + bytes(28) + opaque(b"data")], [u32(38) + u32(10025)]
+        self.assertEqual(self.asked(ops, results, 10025)[0], [])
+
+
 def of_smb(command, number, body, flags=0, session=9, tree=4, following=0, status=0):
     """A message of SMB as another server's clients and it may send it."""
     ids = (tree % 2**32) << 32

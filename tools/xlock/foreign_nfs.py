@@ -15,7 +15,7 @@ NOENT = 2
 # The statuses of an OPEN that tell that there is a file of its name: EXIST, ACCESS, DELAY and SHARE_DENIED.
 OF_A_FILE = (OK, 13, 17, 10008, 10015)
 # The operations that don't look at the current handle.
-WITHOUT_HANDLE = {PUT_FH, PUT_ROOT_FH, RENEW, SET_CLIENT_ID, CONFIRM, RELEASE}
+WITHOUT_HANDLE = {PUT_FH, PUT_ROOT_FH, PUT_PUBLIC_FH, RENEW, SET_CLIENT_ID, CONFIRM, RELEASE}
 IN_A_DIRECTORY = {LOOKUP, CREATE, LINK, READ_DIRECTORY, REMOVE, RENAME, SECURITY, LOOKUP_PARENT}
 OF_A_STATE = {CLOSE, LOCK, UNLOCK, OPEN, OPEN_CONFIRM, OPEN_DOWNGRADE}
 
@@ -182,7 +182,7 @@ class Changer:
                 have = here
             out.append(own)
             kept.append(place)
-            if op.number in (PUT_FH, PUT_ROOT_FH, LOOKUP, OPEN) and is_done and walk.target:
+            if op.number in (PUT_FH, PUT_ROOT_FH, PUT_PUBLIC_FH, LOOKUP, OPEN) and is_done and walk.target:
                 have = self.things.handle_of(self.things.find(walk.target))
         return out, kept, without
 
