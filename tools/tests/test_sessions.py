@@ -141,6 +141,14 @@ class Sessions(unittest.TestCase):
         with self.assertRaises(ForeignError):
             session(talk, servers=[server_of("10.0.0.9:1")])
 
+    def test_stale(self):
+        # A handle of no file, as the other server says, stays as it is, which is none of ours either.
+        talk = by_hand.Talk()
+        talk.connect(A, SERVER)
+        talk.say(A, SERVER, marked(lock(1)))
+        talk.say(SERVER, A, marked(reply(1, 7)))
+        self.assertEqual(lines_of(session(talk))[1:], ["O rpc", f"B 0 {marked(lock(1)).hex()}"])
+
     def test_many_files(self):
         talk = by_hand.Talk()
         for number in range(1025):

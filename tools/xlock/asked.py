@@ -46,6 +46,8 @@ class Told:
     call: object
     module: object
     """That of its protocol."""
+    called: int
+    """The number of the packet with the call."""
     record: bytes | None = None
     number: int = 0
     """Of the packet with the reply."""

@@ -101,6 +101,7 @@ class Recording:
                 number = request.piece.number if request.is_followed else reply.number
                 yield number, place, 1, "answer", (request, reply)
         for told in self.told:
+            yield told.called, last, 0, "told", told
             if told.record is not None:
                 yield told.number, last, 0, "called", told
         for conversation in self.chosen:
@@ -116,7 +117,7 @@ class Recording:
                 module = request.call and (protocols.of_call(request.call) or nfs)
                 if module and module.calls_back(request.call.procedure):
                     reply = [(piece.data, piece.number) for piece in request.replies]
-                    yield Told(request.call, module, *(reply[0] if reply else ()))
+                    yield Told(request.call, module, request.piece.number, *(reply[0] if reply else ()))
 
     def has_ids(self):
         """Whether replies brought ids that later requests name."""
@@ -170,6 +171,10 @@ class Session:
     def _take_answer(self, step):
         request, reply = step
         self.changers[request.protocol].answered(request, self.by_request.get(id(request)), reply)
+
+    def _take_told(self, told):
+        """Ours draws a number for such a call too."""
+        self.ids.draw()
 
     def _take_called(self, told):
         """A client's answer to the other server's call goes to ours that tells of the same, where ours made one by then."""

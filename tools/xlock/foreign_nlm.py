@@ -12,11 +12,14 @@ def module_of(call):
 
 
 def survey(request, things):
+    """What a call and its reply say of files: that there is one, unless the answer is that the handle is stale."""
     def appears(handle):
-        things.of_handle(handle).exists = True
+        thing = things.of_handle(handle)
+        thing.exists = thing.exists or not is_stale
         return handle
 
     if module_of(request.call):
+        is_stale = bool(request.replies) and answer_in_words(request.replies[0].data, request.call) == "STALE_FH"
         nlm.with_handles(request.call.procedure, request.call.arguments, appears)
 
 
@@ -24,7 +27,9 @@ class Changer:
     """Changes the handles of calls."""
 
     def __init__(self, session):
-        self.things = session.things
+        self.things, self.ids = session.things, session.ids
+        self.waiting = set()
+        """The locks that wait, each by its words: ours draws a number for each."""
 
     def changed(self, request):
         message, call = request.message, request.call
@@ -34,7 +39,14 @@ class Changer:
         return message, rpc.framed(message), []
 
     def answered(self, request, asked, reply):
-        """No reply of NLM brings an id."""
+        """No reply of NLM brings an id, but ours draws a number for one that waits."""
+        if module_of(request.call) and answer_in_words(reply.data, request.call) == "BLOCKED":
+            said = nlm.call_in_words(request.call.procedure, request.call.arguments, self.things.files, None)
+            if said not in self.waiting:
+                self.waiting.add(said)
+                self.ids.draw()
+        elif module_of(request.call) and request.call.procedure == nlm.UNLOCK:
+            self.waiting.clear()  # some may have been granted, which then may wait anew
 
 
 def caller_of(request):

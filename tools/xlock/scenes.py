@@ -302,6 +302,14 @@ def nfs_expires(stage):
 
 # ---- SMB
 
+def _leave(stage, file, *opens):
+    """The opens of a file are closed, and nobody has it any more."""
+    for desk, open_ in opens:
+        stage.world.close(desk, open_)
+        yield
+    stage.files.append(file)
+
+
 def smb_locks(stage):
     """Two opens meet; one waits, and is served, or cancelled."""
     world, file = stage.world, stage.file()
@@ -331,10 +339,7 @@ def smb_locks(stage):
         yield
         world.lock(other, second, [(3, 4, 4)], OK)
         yield
-    for desk, open_ in (one, first), (other, second):
-        world.close(desk, open_)
-        yield
-    stage.files.append(file)
+    yield from _leave(stage, file, (one, first), (other, second))
 
 
 def smb_oplock(stage):
@@ -359,10 +364,7 @@ def smb_oplock(stage):
     yield
     world.range(nlm.LOCK, stage.callers(1)[0], 2, file, 2, 9, DENIED)
     yield
-    for desk, open_ in (one, first), (other, second):
-        world.close(desk, open_)
-        yield
-    stage.files.append(file)
+    yield from _leave(stage, file, (one, first), (other, second))
 
 
 def smb_lease(stage):
@@ -394,10 +396,7 @@ def smb_lease(stage):
     yield
     world.range(nlm.UNLOCK, caller, 2, file, 0, 90, OK)
     yield
-    for desk, open_ in (one, first), (other, second):
-        world.close(desk, open_)
-        yield
-    stage.files.append(file)
+    yield from _leave(stage, file, (one, first), (other, second))
 
 
 def smb_leaves(stage):
@@ -419,9 +418,7 @@ def smb_leaves(stage):
     yield
     world.lock(other, second, [(0, 9, 2 | AT_ONCE)], OK)
     yield
-    world.close(other, second)
-    yield
-    stage.files.append(file)
+    yield from _leave(stage, file, (other, second))
 
 
 # ---- over protocols
