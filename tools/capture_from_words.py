@@ -15,10 +15,13 @@ reads the file WORDS, or standard input where none is named, and writes a captur
     smb REQUEST [WORD ..]         a request of SMB 2.1 by the connection, which an `open smb` opened
     call PROGRAM VERSION PROCEDURE [BYTES]   any call, with these arguments
     bytes BYTES                   bytes of the connection's stream as they stand
+    xid N                         the xid of all calls that follow, which else are numbered from 1
+    message N                     the number of all requests of SMB that follow, which else are numbered from 0
     answer CALL STATUS            the caller answers the server's call of that number: granted, denied, ..
     answer CALL BYTES             it answers these bytes
     no_answer CALL                it doesn't
-    F .. H .. O .. B .. E .. C .. T .. R .. L .. K .. N ..   a line of the capture, as it stands
+    F .. H .. L .. O .. B .. E .. C .. T ..   a line of the capture, as it stands
+    K .. N .. R .. !n             lines on restarts and the record, which the program doesn't read yet: only with --later
 
 FILE is an exported file's name, `/` the root, `0x..` any other handle. LENGTH is a number of bytes or `end`. x is an
 exclusive lock, s a shared one. ACCESS and DENY are r, w, rw or -. A name (CALLER, oh, cookie) is a word, `0x..` its bytes
@@ -77,6 +80,8 @@ class Maker:
         """What makes the requests of each connection of SMB."""
         self.current = None
         self.xid = 0
+        self.same_xid = self.same_message = None
+        """The xid of all calls and the number of all requests, where words say them."""
         self.modules = protocols.word_modules()
 
     def add(self, line):
@@ -92,7 +97,7 @@ class Maker:
             raise WordError(f"{given[0]} is no word; --help has them all")
         if act is None or given[0] in ("call", "bytes"):
             self.connection()
-        if given[0] not in ("file", "address", "use"):
+        if given[0] not in ("file", "address", "use", "xid", "message"):
             self.out.comment(" ".join(given))
         if act is None:
             self.call(given[0], given[1:])
@@ -126,8 +131,19 @@ class Maker:
         return options, [word for word, (key, mark, _) in zip(given, pairs) if not (mark and key in CALL_OPTIONS)]
 
     def next_xid(self, options):
-        self.xid = words.number_of(options["xid"], 2**32 - 1) if "xid" in options else (self.xid + 1) % 2**32
+        if "xid" in options:
+            self.xid = words.number_of(options["xid"], 2**32 - 1)
+        elif self.same_xid is None:
+            self.xid = (self.xid + 1) % 2**32
+        else:
+            self.xid = self.same_xid
         return self.xid
+
+    def do_xid(self, given):
+        self.same_xid = words.number_of(Usage("xid", "N").read(given)[0][0], 2**32 - 1)
+
+    def do_message(self, given):
+        self.same_message = words.number_of(Usage("message", "N").read(given)[0][0])
 
     def call(self, name, given):
         module = self.modules[name]
@@ -139,6 +155,8 @@ class Maker:
     def do_smb(self, given):
         if self.current not in self.senders:
             raise WordError("no connection of SMB is open: `open smb` opens one")
+        if self.same_message is not None and not any(word.startswith("message=") for word in given):
+            given = [*given, f"message={self.same_message}"]
         self.out.bytes(self.current, smb.framed(self.senders[self.current].request(given)))
 
     def do_call(self, given):

@@ -7,9 +7,13 @@ prints a line for each of these that doesn't hold, and nothing where all do; the
 
 - docs/PROVED.md: each row of a table under a crate's heading names functions that are public there, and clauses that each
   of them ensures; a dash stands for a clause without a name;
-- README.md: each clause that the section on the headline names is one of `run`'s, and the page has at most 120 lines;
-- docs/DEFINITIONS.md: each definition of a table with files stands in the file that its row names, and the page has at
-  most 160 lines, two tables of claims and caches among them;
+- README.md: each clause that the section on the headline names is one of `run`'s, no cell of a table has more than 100
+  characters, and the page has at most 150 lines;
+- docs/DEFINITIONS.md: each definition of a table with files stands in the file that its row names, each definition of this
+  repository that the contract of `run` cites is in one of these rows, and the page has at most 160 lines;
+- docs/DECISIONS.md: each decision has an id, none stands twice, and each id that a source cites is there;
+- docs/EMBEDDING.md: each piece of Rattle stands so in crates/xl_example, and what it prints is its stdout file;
+- docs/CAPTURE.md: its first example is examples/first, and the words of the tools are those that capture_from_words.py knows;
 - all of them: what is linked is there.
 """
 import argparse
@@ -17,12 +21,17 @@ import re
 import sys
 from pathlib import Path
 
+import capture_from_words
+from xlock import nfs, smb
 from xlock.sources import Crates
 
-MOST_LINES = {"README.md": 120, "docs/DEFINITIONS.md": 160}
+MOST_LINES = {"README.md": 150, "docs/DEFINITIONS.md": 160}
+MOST_LETTERS_OF_A_CELL = 100
+EXAMPLE = "crates/xl_example"
 HEADLINE = "## What is proved"
 TOP = ("xl_top", "run")
 DASH = "—"
+ID = r"[A-Z]+-\d+"
 
 
 def rows_of(text, header):
@@ -100,6 +109,71 @@ def definition_faults(text, crates):
         yield "there are no rows"
 
 
+def cell_faults(text):
+    """What is wrong in the tables of README.md: cells that are too long."""
+    for number, line in enumerate(text.splitlines(), 1):
+        cells = line.strip("|").split("|") if line.startswith("|") else []
+        if any(len(cell.strip()) > MOST_LETTERS_OF_A_CELL for cell in cells):
+            yield f"line {number} has a cell of more than {MOST_LETTERS_OF_A_CELL} characters"
+
+
+def headline_definition_faults(text, crates):
+    """Which definitions the contract of `run` cites that docs/DEFINITIONS.md has in no row."""
+    named = {name for _, _, cells in rows_of(text, ["name", "file"]) for name in names_of(cells[0]) or []}
+    yield from (f"{TOP[1]} cites {name}, which is in no row" for name in sorted(crates.cites(*TOP) - named))
+
+
+def decision_faults(text, crates):
+    """What is wrong with the ids of docs/DECISIONS.md, and with those that sources cite."""
+    headings = re.findall(r"(?m)^- \*\*(\S+)", text)
+    ids = [found for found in headings if re.fullmatch(ID, found)]
+    if not ids:
+        yield "no decision has an id"
+    if len(ids) != len(headings):
+        yield f"{len(headings) - len(ids)} decisions have no id"
+    yield from (f"{found} stands {ids.count(found)} times" for found in sorted(set(ids)) if ids.count(found) > 1)
+    groups = {found.partition("-")[0] for found in ids}
+    for path in sorted([*crates.root.glob("crates/*/specs/*.antt"), *crates.root.glob("crates/*/src/**/*.rt")]):
+        cited = re.findall(r"\(((?:[A-Z]+-\d+(?:, )?)+)\)", path.read_text())
+        for found in (found for group in cited for found in group.split(", ")):
+            if found.partition("-")[0] in groups and found not in ids:
+                yield f"{path.relative_to(crates.root).as_posix()} cites {found}, which is no decision"
+
+
+def embedding_faults(text, crates):
+    """What docs/EMBEDDING.md shows that the example isn't."""
+    source, printed = ((crates.root / EXAMPLE / name).read_text() for name in ("src/main.rt", "stdout"))
+    blocks = re.findall(r"```(\w+)\n(.*?)```", text, re.DOTALL)
+    for kind, block in blocks:
+        if kind == "rust" and block not in source:
+            yield f"the code that begins with {block.splitlines()[0].strip()!r} isn't so in {EXAMPLE}/src/main.rt"
+        if kind == "text" and block != printed:
+            yield f"what the example prints isn't {EXAMPLE}/stdout"
+    if {kind for kind, _ in blocks} != {"rust", "text"}:
+        yield "there are pieces of code, `rust`, and what the example prints, `text`"
+
+
+def first_example_faults(text, crates):
+    """Which files of examples/first docs/CAPTURE.md doesn't show as they are."""
+    section = text.partition("## An example")[2].partition("## ")[0]
+    for ending in ("capture", "transcript", "words", "said"):
+        shown = "".join(f"    {line}\n" for line in (crates.root / f"examples/first.{ending}").read_text().splitlines())
+        if f"\n\n{shown}\n" not in section:
+            yield f"the first example isn't examples/first.{ending}"
+
+
+def word_faults(text, crates):
+    """Which words of the tools docs/CAPTURE.md lacks or has too many."""
+    section = text.partition("## The words of the tools")[2].partition("\n## ")[0]
+    lists = [capture_from_words.usages(), capture_from_words.listed(nfs.OPS), capture_from_words.listed(smb.USAGES)]
+    for usages in lists:
+        yield from (f"the words lack {line.strip()!r}" for line in usages.splitlines() if line not in section.splitlines())
+    known = {line.split()[0] for usages in lists for line in usages.splitlines()}
+    known |= {name.removeprefix("do_") for name in dir(capture_from_words.Maker) if name.startswith("do_")}
+    listed = section.partition("**Connections")[2].splitlines()
+    yield from (f"{line.split()[0]} is no word" for line in listed if line.startswith("    ") and line.split()[0] not in known)
+
+
 def link_faults(text, folder):
     for target in re.findall(r"\]\(([^)#:]+)\)", text):
         if not (folder / target).exists():
@@ -109,10 +183,17 @@ def link_faults(text, folder):
 def faults(root):
     """All that doesn't hold, with the document where it stands."""
     crates = Crates(root)
-    checks = {"README.md": headline_faults, "docs/PROVED.md": proved_faults, "docs/DEFINITIONS.md": definition_faults}
+    checks = {
+        "README.md": [headline_faults, lambda text, _: cell_faults(text)],
+        "docs/PROVED.md": [proved_faults],
+        "docs/DEFINITIONS.md": [definition_faults, headline_definition_faults],
+        "docs/DECISIONS.md": [decision_faults],
+        "docs/EMBEDDING.md": [embedding_faults],
+        "docs/CAPTURE.md": [first_example_faults, word_faults],
+    }
     for path in sorted([Path(root) / "README.md", *Path(root).glob("docs/*.md"), *Path(root).glob("*/README.md")]):
         name, text = path.relative_to(root).as_posix(), path.read_text()
-        found = list(checks[name](text, crates)) if name in checks else []
+        found = [fault for check in checks.get(name, []) for fault in check(text, crates)]
         found += link_faults(text, path.parent)
         count = len(text.splitlines())
         if count > MOST_LINES.get(name, count):

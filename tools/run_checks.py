@@ -1,10 +1,10 @@
 #!/usr/bin/env python3
-"""Runs the tests of the tools and the checks of documents and examples.
+"""Runs the tests of the tools and the checks of documents, examples and scenarios.
 
     python3 tools/run_checks.py [PROGRAM]
 
 prints what doesn't hold, and nothing where all does; the exit status is 1 where something doesn't. PROGRAM is a built
-xlockd, by which the examples are replayed.
+xlockd, by which the examples, recorded sessions and random ones are replayed.
 """
 import argparse
 import io
@@ -14,6 +14,8 @@ from pathlib import Path
 
 import check_documents
 import check_examples
+import check_sessions
+import join_scenarios
 
 ROOT = Path(__file__).resolve().parent.parent
 
@@ -35,6 +37,8 @@ def main():
     parser.add_argument("program", nargs="?", metavar="PROGRAM", help="a built xlockd, as crates/xlockd/out/xlockd")
     given = parser.parse_args()
     found = [*failed_tests(), *check_documents.faults(ROOT), *check_examples.faults(ROOT / "examples", given.program)]
+    found += check_sessions.faults(given.program)
+    found += join_scenarios.faults(ROOT)
     for line in found:
         print(line)
     sys.exit(1 if found else 0)

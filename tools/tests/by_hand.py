@@ -87,18 +87,18 @@ def marked(record):
 
 
 class Talk:
-    """Writes the packets of connections of TCP over IPv4 in Ethernet, a millisecond apart."""
+    """Writes the packets of connections of TCP over IPv4 in Ethernet, a millisecond apart, or as many nanoseconds as it is told."""
 
-    def __init__(self):
-        self.packets, self.sequences, self.time = [], {}, 10**18
+    def __init__(self, step=10**6):
+        self.packets, self.sequences, self.time, self.step = [], {}, 10**18, step
 
     def segment(self, source, target, sequence, flags=ACK, data=b""):
-        self.time += 10**6
+        self.time += self.step
         frame = ethernet(0x0800, ipv4(source[0], target[0], 6, tcp(source[1], target[1], sequence, flags, data)))
         self.packets.append((self.time, frame))
 
     def datagram(self, source, target, data):
-        self.time += 10**6
+        self.time += self.step
         frame = ethernet(0x0800, ipv4(source[0], target[0], 17, udp(source[1], target[1], data)))
         self.packets.append((self.time, frame))
 

@@ -5,15 +5,19 @@ import tempfile
 import unittest
 from pathlib import Path
 
+from capture_from_words import listed, usages
 from check_documents import faults
 from check_examples import faults as example_faults
+from xlock import nfs, smb
 
 SOURCE = '''
 //! A crate. fn not_one() ensures no { }
+ghost use Rattle.std.specs.Prelude.{All};
+ghost use Rattle.xl_top.specs.Top.{compat, IsGood};
 /// Adds. "ensures { }"
 pub fn run<T: Into<u64>>(values: &[u8; 4], mark: char) -> Result<Vec<u8>, Error>
     requires { mark ≡ '{' }
-    ensures free { All values (λ v. { v }) } // {
+    ensures free { All values (λ v. { compat v v }) } // {
     ensures lawful { result ≡ "}" }
 {
     'outer: loop { if mark == '}' { break 'outer; } }
@@ -51,7 +55,13 @@ DEFINITIONS = """# Definitions
 |---|---|---|---|
 | `compat`, `IsGood` | `xl_top/Top` | RFC 7530 9 | both |
 """
-SPECS = "-- two claims fit\nabbrev pub compat : Claim → Claim → Bool\ncompat a b = true\npub record IsGood (s : State) : Type 0 where\n  pub other : tt\n"
+DECISIONS = "# Decisions\n\n- **NLM-1 One.** So.\n- **NLM-2 Another.** So.\n"
+EMBEDDING = "# Embedding\n\n```rust\n    let a = 1;\n```\n\n```text\none\n```\n"
+WORDS = "\n".join([usages(), listed(nfs.OPS), listed(smb.USAGES)])
+FIRST = {"capture": "O rpc\n", "transcript": "1 c0 00\n", "words": "null\n", "said": "0 c0 open\n1 c0 null\n"}
+SHOWN = "\n".join("".join(f"    {line}\n" for line in text.splitlines()) for text in FIRST.values())
+CAPTURE = f"# Captures\n\n## An example\n\n{SHOWN}\n## The words of the tools\n\n**Connections.**\n\n    file NAME\n\n{WORDS}\n\n## Rest\n"
+SPECS = "-- two claims fit (NLM-1, NLM-2)\nabbrev pub compat : Claim → Claim → Bool\ncompat a b = true\npub record IsGood (s : State) : Type 0 where\n  pub other : tt\n"
 
 # What is changed in which file, and the line that is found.
 WRONG = [
@@ -65,10 +75,21 @@ WRONG = [
     ("docs/PROVED.md", "|", "", "docs/PROVED.md: each table begins with | what is proved | function | clause |, and has rows"),
     ("docs/PROVED.md", "what is proved |", "what |", "docs/PROVED.md: each table begins with | what is proved | function | clause |, and has rows"),
     ("README.md", "(`lawful`)", "(`awful`)", "README.md: run ensures no clause awful"),
-    ("README.md", "\n\n## Rest", "\n" * 120 + "## Rest", "README.md: 127 lines are more than 120"),
+    ("README.md", "\n\n## Rest", "\n" * 150 + "## Rest", "README.md: 157 lines are more than 150"),
+    ("README.md", "# A", "# A\n\n| a | " + "b" * 101 + " |", "README.md: line 3 has a cell of more than 100 characters"),
     ("README.md", "docs/PROVED.md", "docs/PROOF.md", "README.md: docs/PROOF.md is linked, and isn't there"),
     ("docs/DEFINITIONS.md", "`compat`", "`compatible`", "docs/DEFINITIONS.md: line 5: crates/xl_top/specs/Top.antt doesn't define compatible"),
     ("docs/DEFINITIONS.md", "xl_top/Top", "xl_top/Tip", "docs/DEFINITIONS.md: line 5: crates/xl_top/specs/Tip.antt doesn't define compat"),
+    ("docs/DEFINITIONS.md", "`compat`, ", "", "docs/DEFINITIONS.md: run cites compat, which is in no row"),
+    ("docs/DECISIONS.md", "- **NLM-2 Another", "- **Another", "docs/DECISIONS.md: 1 decisions have no id"),
+    ("docs/DECISIONS.md", "NLM-2", "NLM-1", "docs/DECISIONS.md: NLM-1 stands 2 times"),
+    ("docs/DECISIONS.md", "NLM-2", "NLM-3", "docs/DECISIONS.md: crates/xl_top/specs/Top.antt cites NLM-2, which is no decision"),
+    ("docs/EMBEDDING.md", "let a", "let b", "docs/EMBEDDING.md: the code that begins with 'let b = 1;' isn't so in crates/xl_example/src/main.rt"),
+    ("docs/EMBEDDING.md", "one\n", "two\n", "docs/EMBEDDING.md: what the example prints isn't crates/xl_example/stdout"),
+    ("docs/EMBEDDING.md", "text", "txt", "docs/EMBEDDING.md: there are pieces of code, `rust`, and what the example prints, `text`"),
+    ("docs/CAPTURE.md", "    nfs_null\n", "", "docs/CAPTURE.md: the words lack 'nfs_null'"),
+    ("docs/CAPTURE.md", "    1 c0 00\n", "    1 c0 01\n", "docs/CAPTURE.md: the first example isn't examples/first.transcript"),
+    ("docs/CAPTURE.md", "    file NAME\n", "    fly NAME\n", "docs/CAPTURE.md: fly is no word"),
 ]  # fmt: skip
 
 
@@ -78,7 +99,10 @@ class Documents(unittest.TestCase):
         with tempfile.TemporaryDirectory() as root:
             for name, text in [
                 ("crates/xl_top/src/lib.rt", SOURCE), ("crates/xl_top/specs/Top.antt", SPECS), ("README.md", README),
-                ("docs/PROVED.md", PROVED), ("docs/DEFINITIONS.md", DEFINITIONS),
+                ("docs/PROVED.md", PROVED), ("docs/DEFINITIONS.md", DEFINITIONS), ("docs/DECISIONS.md", DECISIONS),
+                ("docs/EMBEDDING.md", EMBEDDING), ("docs/CAPTURE.md", CAPTURE),
+                *((f"examples/first.{ending}", first) for ending, first in FIRST.items()),
+                ("crates/xl_example/src/main.rt", "fn main() {\n    let a = 1;\n}\n"), ("crates/xl_example/stdout", "one\n"),
             ]:  # fmt: skip
                 path = Path(root) / name
                 path.parent.mkdir(parents=True, exist_ok=True)

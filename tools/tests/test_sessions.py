@@ -1,12 +1,12 @@
 """Captures of recorded sessions, and what differs from the other server's answers."""
 import unittest
 
-from capture_from_pcap import refused
 from compare_with_pcap import compare
 from tests import by_hand
 from tests.by_hand import granted, lock, marked, reply, unlock
 from xlock.captures import Capture
-from xlock.foreign import ForeignError, Session, server_of
+from xlock.foreign import ForeignError, Recording, Session, server_of
+from xlock.replays import Ours
 
 A, B, SERVER = ("10.0.0.1", 801), ("10.0.0.2", 802), ("10.0.0.9", 4045)
 CALLBACK_FROM, B_LISTENS = ("10.0.0.9", 900), ("10.0.0.2", 40000)
@@ -59,8 +59,8 @@ TRANSCRIPT = f"""\
 """
 
 
-def session(talk, link=1, **how):
-    return Session(by_hand.pcap(talk.packets, link), **how)
+def session(talk, link=1, servers=(), **how):
+    return Session(Recording(by_hand.pcap(talk.packets, link), servers), **how)
 
 
 def lines_of(found):
@@ -71,9 +71,9 @@ class Sessions(unittest.TestCase):
     def test_two_callers(self):
         found = session(two_callers())
         self.assertEqual(lines_of(found), LINES)
-        self.assertEqual(found.handles.table(), ["f1 is the handle aabbccdd", "f2 is the handle eeeeeeee"])
+        self.assertEqual(found.things.table(), ["f1 is the handle aabbccdd", "f2 is the handle eeeeeeee"])
         self.assertEqual(found.notes, [])
-        self.assertEqual(list(refused(found)), ["a client answered DENIED to the call granted b 7 f1 0 10 x; this isn't in the capture"])
+        self.assertEqual(list(found.refused()), ["a client answered DENIED to the call granted b 7 f1 0 10 x; this isn't in the capture"])
         Capture.read(found.writer.text())
 
     def test_times(self):
@@ -141,14 +141,13 @@ class Sessions(unittest.TestCase):
         with self.assertRaises(ForeignError):
             session(talk, servers=[server_of("10.0.0.9:1")])
 
-    def test_smb(self):
-        talk, share = by_hand.Talk(), ("10.0.0.9", 445)
-        talk.connect(A, share)
-        message = b"\xfeSMB" + bytes(60)
-        talk.say(A, share, len(message).to_bytes(4, "big") + message)
-        with self.assertRaises(ForeignError):
-            session(talk)
-        self.assertEqual(lines_of(session(talk, with_smb=True)), ["O smb", f"B 0 00000040{message.hex()}"])
+    def test_stale(self):
+        # A handle of no file, as the other server says, stays as it is, which is none of ours either.
+        talk = by_hand.Talk()
+        talk.connect(A, SERVER)
+        talk.say(A, SERVER, marked(lock(1)))
+        talk.say(SERVER, A, marked(reply(1, 7)))
+        self.assertEqual(lines_of(session(talk))[1:], ["O rpc", f"B 0 {marked(lock(1)).hex()}"])
 
     def test_many_files(self):
         talk = by_hand.Talk()
@@ -160,7 +159,7 @@ class Sessions(unittest.TestCase):
 
 class Comparisons(unittest.TestCase):
     def test_nothing_differs(self):
-        self.assertEqual(compare(session(two_callers()), TRANSCRIPT), (4, []))
+        self.assertEqual(compare(session(two_callers()), Ours(TRANSCRIPT)), (4, []))
 
     def test_differences(self):
         for changed, wanted in [
@@ -170,15 +169,15 @@ class Comparisons(unittest.TestCase):
         ]:  # fmt: skip
             lines = [changed if line.startswith("3 c2") else line for line in TRANSCRIPT.splitlines()]
             text = "\n".join(line for line in lines if line)
-            self.assertEqual(compare(session(two_callers()), text), (4, wanted))
+            self.assertEqual(compare(session(two_callers()), Ours(text)), (4, wanted))
 
     def test_calls_back(self):
         told = [line for line in TRANSCRIPT.splitlines() if " b2 " in line][0]
         others = TRANSCRIPT.replace(told + "\n", "")
         wanted = ["only they called back, 1 times: granted b 7 f1 0 10 x"]
-        self.assertEqual(compare(session(two_callers()), others)[1], wanted)
+        self.assertEqual(compare(session(two_callers()), Ours(others))[1], wanted)
         wanted = ["only we called back, 1 times: granted b 7 f1 0 10 x"]
-        self.assertEqual(compare(session(two_callers()), TRANSCRIPT + told + "\n")[1], wanted)
+        self.assertEqual(compare(session(two_callers()), Ours(TRANSCRIPT + told + "\n"))[1], wanted)
 
 
 if __name__ == "__main__":

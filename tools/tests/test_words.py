@@ -56,7 +56,7 @@ SMB_LOCKS = (
 # (2.2.13.2.8) for reads and the handle, of the key `k` and zeros; and the acknowledgement of its break (2.2.24.2) down to reads.
 SMB_LEASES = (
     "000000c0 fe534d42 4000 0000 00000000 0500 0100 00000000 00000000 0000000000000000 00000000 02000000"
-    "0100000001000000" + "00" * 16 + "3900 00 ff 00000000" + "00" * 16 + "01000000 00000000 07000000 01000000 00000000"
+    "0100000001000000" + "00" * 16 + "3900 00 ff 02000000" + "00" * 16 + "01000000 00000000 07000000 01000000 00000000"
     "7800 0a00 88000000 38000000 6100 2e00 7400 7800 7400" + "00" * 6 + "00000000 1000 0400 0000 1800 20000000 52714c73 00000000"
     "6b" + "00" * 15 + "03000000 00000000" + "00" * 8
 ).replace(" ", "")
@@ -89,6 +89,9 @@ CAPTURES = [
         "open smb\nsmb create a.txt r lease=k state=rh session=1.1 tree=2\nsmb break_lease k r",
         ["O smb", f"B 0 {SMB_LEASES}", f"B 0 {SMB_KEEPS}"],
     ),
+    ("xid 1\nmessage 0\nlock a 7 a.txt 0 10 x\nlock a 7 a.txt 0 10 x\n", ["F a.txt", "O rpc", f"B 0 {LOCK}", f"B 0 {LOCK}"]),
+    ("xid 5\nlock a 7 a.txt 0 10 x xid=1", ["F a.txt", "O rpc", f"B 0 {LOCK}"]),
+    ("message 0\nopen smb\nsmb negotiate\nsmb negotiate", ["O smb", f"B 0 {NEGOTIATES}", f"B 0 {NEGOTIATES}"]),
     ("open\nO rpc\nB 1 00\n", ["O rpc", "O rpc", "B 1 00"]),
     ("open smb\nB 0 00\n", ["O smb", "B 0 00"]),
     ("call 100003 4 0", ["O rpc", "B 0 80000028" + "00000001 00000000 00000002 000186a3 00000004 00000000".replace(" ", "") + "0" * 32]),
@@ -99,7 +102,7 @@ REFUSED = [
     "share a a.txt d -", "answer 1 perhaps", "R", "unlock a 7 a.txt 0 10 block", "Q", "B 0 0",
     "compound renew", "compound renew 1", "compound confirm 1.5 0x00", "compound open a.txt", "compound get_fh then", "nfs_null 1",
     "compound lock 0 10 y 1.5.1 2", "compound close 2 1.5.x", "smb echo", "open smb\nsmb break_lease k rx",
-    "open smb\nsmb create a.txt r lease=a_key_of_17_bytes",
+    "open smb\nsmb create a.txt r lease=a_key_of_17_bytes", "xid", "xid 4294967296", "message x",
 ]  # fmt: skip
 
 # Each call is said again as it was written.
@@ -133,6 +136,7 @@ T 90000
 # The same of requests of SMB.
 REQUESTS = """\
 smb negotiate
+smb negotiate 0x22222222222222222222222222222222
 smb session_setup
 smb tree_connect \\\\x\\xl session=1.1
 smb create a.txt rwd session=1.1 tree=2

@@ -2,13 +2,25 @@
 whole."""
 from dataclasses import dataclass, field
 
-from xlock import pcap, protocols, rpc, smb
+from xlock import nfs, nfs_ops, nlm, pcap, protocols, rpc, smb
 from xlock.packets import FIN, UDP, segment_of
 from xlock.streams import Connections
 from xlock.xdr import XdrError
 
+
+
+class Records(rpc.RecordCutter):
+    """Cuts other servers' streams, which may have longer records than ours takes: of what is read and written."""
+
+    MOST_BYTES, MOST_FRAGMENTS = 2**24, 2**16
+
+
+class Frames(smb.FrameCutter):
+    MOST_BYTES = 2**24
+
+
 # Of each kind of connection: what cuts a stream into messages, and what tells where one may begin.
-KINDS = {"rpc": (rpc.RecordCutter, rpc.begins_a_record), "smb": (smb.FrameCutter, smb.begins_a_message)}
+KINDS = {"rpc": (Records, rpc.begins_a_record), "smb": (Frames, smb.begins_a_message)}
 
 
 @dataclass(frozen=True)
@@ -64,27 +76,35 @@ class Conversation:
 
 
 def _calls(side):
-    """The calls that a side sent, of the protocols that are known."""
+    """The calls that a side sent."""
     for piece in side.messages:
         try:
-            call = rpc.read_call(piece.data)
+            yield rpc.read_call(piece.data)
         except XdrError:
-            continue
-        module = protocols.of_call(call)
-        if module:
-            yield call, module
+            pass
 
 
 def _asks(side, kind):
     """Whether a side asks something of a server."""
     if kind == "smb":
         return side.end is not None and side.end[1] != smb.PORT and bool(side.messages)
-    return any(module.asks_server(call.procedure) for call, module in _calls(side))
+    known = ((call, protocols.of_call(call)) for call in _calls(side))
+    return any(module.asks_server(call.procedure) for call, module in known if module)
 
 
-def _calls_back(side, kind):
-    """Whether a side calls a client back."""
-    return kind == "rpc" and any(module.calls_back(call.procedure) for call, module in _calls(side))
+def _programs_of(side):
+    """The programs by which the clients of NFSv4 on this side want to be called back."""
+    calls = (call for call in _calls(side) if protocols.of_call(call) is nfs)
+    return {program for call in calls for program in nfs_ops.callback_programs(call.arguments)}
+
+
+def _calls_back(side, programs):
+    """Whether a side calls a client back, by NLM or by one of the programs that clients of NFSv4 named."""
+    for call in _calls(side):
+        module = nlm if protocols.of_call(call) is nlm else nfs if call.program in programs else None
+        if module and module.calls_back(call.procedure):
+            return True
+    return False
 
 
 class Conversations:
@@ -105,8 +125,7 @@ class Conversations:
                 self._segment(number, segment)
         if passed_over:
             self.notes.append(f"{passed_over} packets with no segment of TCP or datagram of UDP were passed over")
-        for (kind, is_datagrams, _), sides in self._sides.items():
-            self._judge(kind, is_datagrams, list(sides.values()))
+        self._judge()
         self.asked.sort(key=lambda conversation: conversation.client.messages[0].number)
 
     def _side(self, key, end):
@@ -134,20 +153,20 @@ class Conversations:
             side.finish, other.finish = side.finish or end, other.finish or end
         side.missing = connection.streams[segment.source].missing
 
-    def _judge(self, kind, is_datagrams, sides):
-        if len(sides) == 1:
-            sides.append(Side(None))
-        both = sides, sides[::-1]
-        for client, server in both:
-            if _asks(client, kind):
-                self.asked.append(Conversation(kind, is_datagrams, client, server))
-                self._note_missing(self.asked[-1])
-                return
-        for client, server in both:
-            if _calls_back(client, kind):
-                self.called_back.append(Conversation(kind, is_datagrams, client, server))
-                self._note_missing(self.called_back[-1])
-                return
+    def _judge(self):
+        """Tells conversations of clients from those in which a server calls one back."""
+        others = []
+        for (kind, is_datagrams, _), sides in self._sides.items():
+            sides = list(sides.values()) + [Side(None)] * (len(sides) == 1)
+            both = [Conversation(kind, is_datagrams, *sides), Conversation(kind, is_datagrams, *sides[::-1])]
+            asked = next((one for one in both if _asks(one.client, kind)), None)
+            self.asked += [asked] if asked else []
+            others += [] if asked or kind == "smb" else [both]
+        programs = {program for conversation in self.asked for program in _programs_of(conversation.client)}
+        for both in others:
+            self.called_back += [one for one in both if _calls_back(one.client, programs)][:1]
+        for conversation in self.asked + self.called_back:
+            self._note_missing(conversation)
 
     def _note_missing(self, conversation):
         for side in conversation.client, conversation.server:

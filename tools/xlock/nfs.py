@@ -1,7 +1,6 @@
 """NFS version 4.0 (RFC 7530, RFC 7531): NULL, and COMPOUNDs of the operations that are served, as bytes and in words.
 
-The functions are those that xlock/nlm.py lists. Sessions with another server aren't taken from packets: the clientids in
-them are of no client here.
+The functions are those that xlock/nlm.py lists; `nfs_ops` has all operations, also those that aren't served.
 """
 from xlock import words
 from xlock.words import WordError, bytes_of, word_of
@@ -16,11 +15,17 @@ ILLEGAL = 10044
 CALLBACK_VERSION, RECALL = 1, 4
 OK, DENIED = 0, 10010
 STATUSES = {
-    0: "OK", 2: "NOENT", 20: "NOTDIR", 21: "ISDIR", 22: "INVAL", 70: "STALE", 10001: "BADHANDLE", 10004: "NOTSUPP",
-    10006: "SERVERFAULT", 10008: "DELAY", 10010: "DENIED", 10013: "GRACE", 10015: "SHARE_DENIED", 10018: "RESOURCE",
-    10020: "NOFILEHANDLE", 10021: "MINOR_VERS_MISMATCH", 10022: "STALE_CLIENTID", 10023: "STALE_STATEID",
-    10024: "OLD_STATEID", 10025: "BAD_STATEID", 10026: "BAD_SEQID", 10033: "NO_GRACE", 10034: "RECLAIM_BAD",
-    10035: "RECLAIM_CONFLICT", 10036: "BADXDR", 10037: "LOCKS_HELD", 10038: "OPENMODE", 10044: "OP_ILLEGAL",
+    0: "OK", 1: "PERM", 2: "NOENT", 5: "IO", 13: "ACCESS", 17: "EXIST", 20: "NOTDIR", 21: "ISDIR", 22: "INVAL", 27: "FBIG",
+    28: "NOSPC", 30: "ROFS", 63: "NAMETOOLONG", 66: "NOTEMPTY", 69: "DQUOT", 70: "STALE", 10001: "BADHANDLE",
+    10003: "BAD_COOKIE", 10004: "NOTSUPP", 10005: "TOOSMALL", 10006: "SERVERFAULT", 10007: "BADTYPE", 10008: "DELAY",
+    10009: "SAME", 10010: "DENIED", 10011: "EXPIRED", 10012: "LOCKED", 10013: "GRACE", 10014: "FHEXPIRED",
+    10015: "SHARE_DENIED", 10016: "WRONGSEC", 10017: "CLID_INUSE", 10018: "RESOURCE", 10019: "MOVED", 10020: "NOFILEHANDLE",
+    10021: "MINOR_VERS_MISMATCH", 10022: "STALE_CLIENTID", 10023: "STALE_STATEID", 10024: "OLD_STATEID", 10025: "BAD_STATEID",
+    10026: "BAD_SEQID", 10027: "NOT_SAME", 10028: "LOCK_RANGE", 10029: "SYMLINK", 10030: "RESTOREFH", 10031: "LEASE_MOVED",
+    10032: "ATTRNOTSUPP", 10033: "NO_GRACE", 10034: "RECLAIM_BAD", 10035: "RECLAIM_CONFLICT", 10036: "BADXDR",
+    10037: "LOCKS_HELD", 10038: "OPENMODE", 10039: "BADOWNER", 10040: "BADCHAR", 10041: "BADNAME", 10042: "BAD_RANGE",
+    10043: "LOCK_NOTSUPP", 10044: "OP_ILLEGAL", 10045: "DEADLOCK", 10046: "FILE_OPEN", 10047: "ADMIN_REVOKED",
+    10048: "CB_PATH_DOWN",
 }  # fmt: skip
 MOST_TEXT, MOST_HANDLE, MOST_ADDRESS = 1024, 128, 64
 MOST_U32, TO_THE_END = 2**32 - 1, 2**64 - 1
@@ -377,16 +382,14 @@ def answer_in_words(number, results):
 
 # ---- what the tools on packets ask
 
-def with_handles(procedure, arguments, change):
-    return arguments
-
-
 def asks_server(procedure):
-    return False
+    """The server's calls go to other programs, which the clients choose."""
+    return procedure in (NULL, COMPOUND)
 
 
 def calls_back(procedure):
-    return False
+    """Of a program that a client chose."""
+    return procedure == COMPOUND
 
 
 def cookie_of(procedure, arguments):
@@ -395,7 +398,3 @@ def cookie_of(procedure, arguments):
         return Reader(arguments).opaque(MOST_TEXT) if procedure == COMPOUND else b""
     except XdrError:
         return b""
-
-
-def caller_of(procedure, arguments):
-    return None

@@ -5,10 +5,11 @@ A protocol's module has PROGRAM and VERSION, and these functions, which the tool
 - `USAGES`: the words of its calls and how each is used; `make(name, given, files)`: procedure and arguments of one;
 - `call_in_words(procedure, arguments, files, cookie)`: the same words again;
 - `results_in_words(procedure, results, cookie)`: what an answer says, `answer_in_words` that of a client;
-- `with_handles(procedure, arguments, change)`: the arguments with each file's handle changed;
 - `asks_server(procedure)`, `calls_back(procedure)`: which calls clients make, and which servers;
-- `cookie_of`, `caller_of`, `told_in_words`: what an answer repeats, who may have to be called back, what such a call
-  tells of.
+- `cookie_of`: what an answer repeats.
+
+`with_handles` is the arguments with each file's handle changed, `caller_of` who may have to be called back, `told_in_words`
+what such a call tells of.
 """
 from xlock import words
 from xlock.words import WordError, bytes_of, word_of

@@ -35,7 +35,7 @@ def segment_of(packet):
             return _ipv4(packet, data)
         if kind == IPV6:
             return _ipv6(packet, data)
-    except (struct.error, IndexError):
+    except (struct.error, IndexError, ValueError):
         pass  # what is cut too short to be read is passed over
     return None
 

@@ -4,7 +4,7 @@ from xlock import nfs, nlm
 # Over ONC RPC, by program and version.
 RPC = {(nlm.PROGRAM, nlm.VERSION): nlm, (nfs.PROGRAM, nfs.VERSION): nfs}
 
-# The kinds of connection in a capture's `O` line, and those that the program doesn't read yet.
+# The kinds of connection in a capture's `O` line.
 KINDS = ("rpc", "smb")
 # The lines of a capture that are settled and that the program doesn't read yet.
 LATER = ("R", "K", "N", "!n")

@@ -14,13 +14,17 @@ DIALECT = 0x0210
 NEGOTIATE, SESSION_SETUP, LOGOFF, TREE_CONNECT, TREE_DISCONNECT, CREATE, CLOSE = range(7)
 LOCK, CANCEL, ECHO, BREAK = 10, 12, 13, 18
 STATUSES = {
-    0: "SUCCESS", 0x103: "PENDING", 0xC0000001: "UNSUCCESSFUL", 0xC000000D: "INVALID_PARAMETER",
-    0xC0000034: "OBJECT_NAME_NOT_FOUND", 0xC0000035: "OBJECT_NAME_COLLISION", 0xC0000043: "SHARING_VIOLATION",
-    0xC0000055: "LOCK_NOT_GRANTED", 0xC000007E: "RANGE_NOT_LOCKED", 0xC000009A: "INSUFFICIENT_RESOURCES",
-    0xC00000BB: "NOT_SUPPORTED", 0xC00000C9: "NETWORK_NAME_DELETED", 0xC00000CC: "BAD_NETWORK_NAME",
-    0xC00000D0: "REQUEST_NOT_ACCEPTED", 0xC00000E3: "INVALID_OPLOCK_PROTOCOL", 0xC0000120: "CANCELLED",
+    0: "SUCCESS", 0x103: "PENDING", 0x80000006: "NO_MORE_FILES", 0xC0000001: "UNSUCCESSFUL", 0xC0000008: "INVALID_HANDLE",
+    0xC000000D: "INVALID_PARAMETER", 0xC0000010: "INVALID_DEVICE_REQUEST", 0xC0000011: "END_OF_FILE",
+    0xC0000016: "MORE_PROCESSING_REQUIRED", 0xC0000022: "ACCESS_DENIED", 0xC0000033: "OBJECT_NAME_INVALID",
+    0xC0000034: "OBJECT_NAME_NOT_FOUND", 0xC0000035: "OBJECT_NAME_COLLISION", 0xC000003A: "OBJECT_PATH_NOT_FOUND",
+    0xC0000043: "SHARING_VIOLATION", 0xC0000054: "FILE_LOCK_CONFLICT", 0xC0000055: "LOCK_NOT_GRANTED",
+    0xC0000056: "DELETE_PENDING", 0xC000006D: "LOGON_FAILURE", 0xC000007E: "RANGE_NOT_LOCKED",
+    0xC000009A: "INSUFFICIENT_RESOURCES", 0xC00000BA: "FILE_IS_A_DIRECTORY", 0xC00000BB: "NOT_SUPPORTED",
+    0xC00000C9: "NETWORK_NAME_DELETED", 0xC00000CC: "BAD_NETWORK_NAME", 0xC00000D0: "REQUEST_NOT_ACCEPTED",
+    0xC00000E3: "INVALID_OPLOCK_PROTOCOL", 0xC0000103: "NOT_A_DIRECTORY", 0xC0000120: "CANCELLED", 0xC0000121: "CANNOT_DELETE",
     0xC0000128: "FILE_CLOSED", 0xC0000184: "INVALID_DEVICE_STATE", 0xC00001A1: "INVALID_LOCK_RANGE",
-    0xC0000203: "USER_SESSION_DELETED",
+    0xC0000203: "USER_SESSION_DELETED", 0xC0000225: "NOT_FOUND",
 }  # fmt: skip
 LEVELS = {"none": 0, "level2": 1, "exclusive": 8, "batch": 9, "lease": 255}
 RIGHTS = {"r": 1, "w": 2, "d": 0x10000}
@@ -30,6 +34,10 @@ STATES, BREAKS = {"r": 1, "h": 2, "w": 4}, 2
 LEASE = struct.Struct("<16s2IQ")
 CONTEXT = struct.Struct("<I4HI4s4x")
 LEASE_NAME = b"RqLs"
+# The guid of a client that names none.
+GUID = bytes([17] * 16)
+# The level of impersonation of a CREATE, which isn't looked at (2.2.13).
+IMPERSONATION = 2
 # The flags of an element of a LOCK: shared, exclusive, an unlock; and that it is refused rather than waits.
 KINDS, AT_ONCE = {"s": 1, "x": 2, "unlock": 4}, 0x10
 
@@ -160,7 +168,7 @@ def _create_body(given, options):
     behind, padding = 120 + len(name), -len(name) % 8
     if "lease" in options:
         level, contexts = LEVELS["lease"], _lease_context(options["lease"], options.get("state", "-"))
-    fixed = struct.pack("<HBBIQQ5I", 57, 0, level, 0, 0, 0, rights, 0, shares, disposition, 0)
+    fixed = struct.pack("<HBBIQQ5I", 57, 0, level, IMPERSONATION, 0, 0, rights, 0, shares, disposition, 0)
     fixed += struct.pack("<HHII", 120, len(name), behind + padding if contexts else 0, len(contexts))
     return fixed + name + (bytes(padding) + contexts if contexts else b"")
 
@@ -171,7 +179,7 @@ def _path_body(path):
 
 
 def _negotiate_body(given):
-    guid = bytes_of(given[0]) if given else bytes([17] * 16)
+    guid = bytes_of(given[0]) if given else GUID
     if len(guid) != 16:
         raise WordError("a guid has 16 bytes")
     return struct.pack("<HHHHI16sQH", 36, 1, 1, 0, 0, guid, 0, DIALECT)
@@ -274,7 +282,7 @@ def _letters(number, table):
     return words.rights_word(letters, "rwd")
 
 
-def _level_word(level):
+def level_word(level):
     return next((name for name, number in LEVELS.items() if number == level), str(level))
 
 
@@ -282,7 +290,7 @@ def key_word(key):
     return words.word_of(key.rstrip(b"\0"))
 
 
-def _state_word(state):
+def state_word(state):
     letters = {letter for letter, bit in STATES.items() if state & bit}
     if state != sum(STATES[letter] for letter in letters):
         raise SmbError("this state has no word")
@@ -300,11 +308,11 @@ def _lease_in(message, at, length):
 def _oplock_words(message, level, at, length):
     """The oplock or the lease that a CREATE asks for."""
     if not length:
-        return [f"oplock={_level_word(level)}"] * (level != 0)
+        return [f"oplock={level_word(level)}"] * (level != 0)
     key, state, flags = _lease_in(message, at, length)
     if level != LEVELS["lease"] or flags:
         raise SmbError("this lease has no words")
-    return [f"lease={key_word(key)}", f"state={_state_word(state)}"]
+    return [f"lease={key_word(key)}", f"state={state_word(state)}"]
 
 
 def _create_words(message):
@@ -331,6 +339,9 @@ def _lock_words(message):
 
 def _request_words(head, message):
     """What stands behind a request's name."""
+    if head.command == NEGOTIATE:
+        guid = _part("4HI16s", message)[5]
+        return ["0x" + guid.hex()] * (guid != GUID)
     if head.command == TREE_CONNECT:
         _, _, offset, length = _part("4H", message)
         return [_text(message, offset, length)]
@@ -342,11 +353,11 @@ def _request_words(head, message):
         return [f"async={head.ids}"] if head.is_async else [f"message={head.message}"]
     if head.command == CLOSE or (head.command == BREAK and _part("H", message) == (24,)):
         return [id_word(_part("Q", message, HEADER.size + 8)[0])] + (
-            [_level_word(message[HEADER.size + 2])] if head.command == BREAK else []
+            [level_word(message[HEADER.size + 2])] if head.command == BREAK else []
         )
     if head.command == BREAK:
         _, _, _, key, state = _part("HHI16sI", message)
-        return [key_word(key), _state_word(state)]
+        return [key_word(key), state_word(state)]
     return []
 
 
@@ -364,18 +375,18 @@ def request_in_words(message):
 def _notice_words(message):
     size, level = _part("HB", message)
     if size == 24:
-        return f"notice: the cache of open {id_word(_part('Q', message, HEADER.size + 8)[0])} to {_level_word(level)} breaks"
+        return f"notice: the cache of open {id_word(_part('Q', message, HEADER.size + 8)[0])} to {level_word(level)} breaks"
     _, _, flags, key, current, new = _part("HHI16s2I", message)
     answer = "" if flags & 1 else ", without an answer"
-    return f"notice: the lease {key_word(key)} breaks from {_state_word(current)} to {_state_word(new)}{answer}"
+    return f"notice: the lease {key_word(key)} breaks from {state_word(current)} to {state_word(new)}{answer}"
 
 
 def _cache_words(message, level, at, length):
     """What an open has of an oplock or a lease."""
     if not length:
-        return f" oplock={_level_word(level)}" if level else ""
+        return f" oplock={level_word(level)}" if level else ""
     key, state, flags = _lease_in(message, at, length)
-    return f" lease={key_word(key)} state={_state_word(state)}" + (" breaking" if flags & BREAKS else "")
+    return f" lease={key_word(key)} state={state_word(state)}" + (" breaking" if flags & BREAKS else "")
 
 
 def reply_in_words(message):
@@ -395,5 +406,5 @@ def reply_in_words(message):
         return f"{said} open={id_word(number)}" + _cache_words(message, level, *contexts)
     if head.status == 0 and head.command == BREAK and _part("H", message) == (36,):
         _, _, _, key, state = _part("HHI16sI", message)
-        return f"{said} lease={key_word(key)} state={_state_word(state)}"
+        return f"{said} lease={key_word(key)} state={state_word(state)}"
     return said

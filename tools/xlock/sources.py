@@ -124,6 +124,18 @@ class Crates:
         self.root = Path(root)
         self.all = {folder.parent.name: Crate(folder.parent) for folder in sorted(self.root.glob("crates/*/src"))}
 
+    def cites(self, crate, name):
+        """The definitions of this repository's crates that the contract of a crate's public function names."""
+        for file in sorted(self.all[crate].folder.glob("src/**/*.rt")):
+            source = file.read_text()
+            head = re.search(rf"\bpub fn {name}\b", source)
+            if head:
+                contract = source[head.start() :].partition("\n{")[0]
+                imports = re.findall(r"ghost use Rattle\.(\w+)\.specs\.[\w.]+\.\{([^}]*)\}", source)
+                own = {word.strip() for of, words in imports if of in self.all for word in words.split(",")}
+                return {word for word in own if re.search(rf"(?<![\w-]){re.escape(word)}(?![\w-])", contract)}
+        return set()
+
     def ensures(self, crate, path):
         """The names of what a public function ensures, by its name, or by `OWNER::NAME`; None where there is none. A
         method of a trait without clauses of its own has the trait's."""

@@ -20,7 +20,7 @@ same_protocol-sym Smb Nlm = refl
 same_protocol-sym Smb Nfs = refl
 same_protocol-sym Smb Smb = refl
 
-same_name-sym : (a b : Recorded) → same_name a b ≡ same_name b a
+pub same_name-sym : (a b : Recorded) → same_name a b ≡ same_name b a
 same_name-sym a b =
     ap (λ p. p && bytes_eq a.name b.name) (same_protocol-sym a.protocol b.protocol)
     ∙ ap (λ q. same_protocol b.protocol a.protocol && q) (nat_list_eq_equiv.symm a.name b.name)

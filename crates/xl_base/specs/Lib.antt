@@ -1,9 +1,17 @@
+pub mod Asking
 pub mod Codec
 pub mod Formats
+pub mod Gates
 pub mod Handles
 pub mod Limits
+pub mod Links
 pub mod Lists
 pub mod Memory
+pub mod Outs
 pub mod Outside
+pub mod Readings
+pub mod RecordFile
 pub mod Results
+pub mod Serials
 pub mod Stable
+pub mod Telling

@@ -94,6 +94,14 @@ impl<T: Copy> Sequence<T> {
             items: Vec::from_slice(alloc, items)?,
         })
     }
+
+    /// Adds copies of these elements at the end. Want of memory changes nothing.
+    pub fn extend_from_slice(&mut self, items: &[T]) -> Result<(), AllocError>
+        ensures ok { OnOk result (self.new ≡ self.old ++ items.now) }
+        ensures err { OnErr result (self.new ≡ self.old) }
+    {
+        self.items.extend_from_slice(items)
+    }
 }
 
 impl<T: fmt::Debug> fmt::Debug for Sequence<T> {

@@ -115,7 +115,7 @@ pub(crate) fn is_failing(failing: &[u64], call: u64) -> bool
 }
 
 /// Copies as many of the bytes to the buffer's front as it takes.
-fn copy_front(bytes: &[u8], buffer: &mut [u8]) -> usize
+pub(crate) fn copy_front(bytes: &[u8], buffer: &mut [u8]) -> usize
     requires { (0 < length bytes.now) × (0 < length buffer.old) }
     ensures some { 0 < result }
     ensures within { (result ≤ length bytes.now) × (result ≤ length buffer.new) }

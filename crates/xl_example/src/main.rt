@@ -1,19 +1,33 @@
-//! A gateway in small: a house over one file, and three calls of NLM by one connection (docs/EMBEDDING.md).
+//! A gateway in small: a house that exports one file, and three calls of NLM by one connection (docs/EMBEDDING.md).
 #![tactic(auto)]
-ghost use Rattle.std.specs.Prelude.{◌≡◌, false};
+
+ghost use Rattle.std.specs.Prelude.{◌≡◌, IfOk, false};
 ghost use Rattle.xl_house.specs.Journals.{is_restart};
 
 use std::alloc::{AllocError, Global};
-use std::io;
-use std::str;
+use std::{io, str};
 use xl_base::{
     Dest, Event, Exports, Halt, Keeper, Kind, MemoryKeeper, Moment, Out, Record, Sequence,
 };
 use xl_house::House;
 
-/// The callers `a` and `b`, each a name of one byte, padded to four.
-const A: u32 = 0x6100_0000;
-const B: u32 = 0x6200_0000;
+/// A LOCK by the caller `a` of the bytes 0 to 9 of file 1, exclusive, which doesn't wait, in hex (RFC 5531 9, XNFS C702 14).
+const LOCK_BY_A: &str = "\
+    000000010000000000000002000186b500000004000000020000000000000000000000000000000000000000\
+    000000000000000100000001610000000000000\
+    8584c4b310000000100000000000000070000000000000000000000000000000a0000000000000000";
+
+/// The same by the caller `b`, which waits.
+const LOCK_BY_B: &str = "\
+    000000020000000000000002000186b500000004000000020000000000000000000000000000000000000000\
+    000000010000000100000001620000000000000\
+    8584c4b310000000100000000000000070000000000000000000000000000000a0000000000000000";
+
+/// The UNLOCK of these bytes by `a`.
+const UNLOCK_BY_A: &str = "\
+    000000030000000000000002000186b500000004000000040000000000000000000000000000000000000000\
+    00000001610000000000000\
+    8584c4b310000000100000000000000070000000000000000000000000000000a";
 
 /// What the house exports: `a.txt`, which is file 1, and the address at which the caller `b` is called back.
 fn exports(alloc: Global) -> Result<Exports, AllocError> {
@@ -32,44 +46,26 @@ fn exports(alloc: Global) -> Result<Exports, AllocError> {
     })
 }
 
-/// A LOCK of the bytes 0 to 9 of file 1, exclusive, which waits if `block` is 1 (RFC 5531 9, XNFS C702 14).
-fn lock(xid: u32, caller: u32, block: u32) -> [u32; 26] {
-    [
-        xid, 0, 2, 100_021, 4, 2, 0, 0, 0, 0, 0, block, 1, 1, caller, 8, 0x584c_4b31, 1, 0, 7, 0, 0, 0, 10, 0, 0,
-    ]
-}
-
-/// An UNLOCK of these bytes.
-fn unlock(xid: u32, caller: u32) -> [u32; 22] {
-    [
-        xid, 0, 2, 100_021, 4, 4, 0, 0, 0, 0, 0, 1, caller, 8, 0x584c_4b31, 1, 0, 7, 0, 0, 0, 10,
-    ]
-}
-
-/// A message of these numbers, each in four bytes, the highest first, by the connection 0.
-fn message(alloc: Global, numbers: &[u32]) -> Result<Event, AllocError>
-    ensures { OnOk result (is_restart result ≡ false) }
+/// A message by the connection 0, whose bytes are given in hex, without its frame.
+fn message(alloc: Global, text: &str) -> io::Result<Event>
+    ensures { IfOk result (λ event. is_restart event ≡ false) }
 {
-    let mut bytes = Vec::new(alloc);
-    for number in numbers {
-        bytes.extend_from_slice(&number.to_be_bytes())?;
+    match hex::decode(alloc, text) {
+        Ok(bytes) => Ok(Event::Message(0, Sequence::from_vec(bytes))),
+        Err(_) => Err(io::Error::other("these are no bytes")),
     }
-    Ok(Event::Message(0, Sequence::from_vec(bytes)))
 }
 
-/// Sends one message: a gateway writes it to a socket, and this one to standard output, in hex.
-fn send(rt: &impl Print, place: u64, out: &Out) -> io::Result<()> {
+/// Sends one message. A gateway writes it to a socket; this one writes it to standard output, in hex.
+fn send(rt: &(impl Print + AllocGlobal), place: u64, out: &Out) -> io::Result<()> {
+    let bytes = hex::encode(rt.alloc(), out.bytes.as_slice())?;
     match out.dest {
-        Dest::Conn(number) => print!(rt; "{place} to connection {number}: ")?,
+        Dest::Conn(number) => println!(rt; "{place}: to connection {number}: {bytes}"),
         Dest::Back(call) => {
             let address = str::from_utf8(out.to.as_slice()).unwrap_or("?");
-            print!(rt; "{place} call {call} to {address}: ")?;
+            println!(rt; "{place}: call {call} to {address}: {bytes}")
         }
     }
-    for byte in out.bytes.as_slice() {
-        print!(rt; "{byte:02x}")?;
-    }
-    println!(rt)
 }
 
 /// Steps one event, and sends what the house has to send for it.
@@ -101,14 +97,14 @@ fn main(rt: HostRuntime) -> io::Result<()> {
         return Err(io::Error::other("the house did not start"));
     };
     serve(&rt, &mut house, Event::Open(Kind::Rpc))?;
-    serve(&rt, &mut house, message(alloc, &lock(1, A, 0))?)?;
-    serve(&rt, &mut house, message(alloc, &lock(2, B, 1))?)?;
-    serve(&rt, &mut house, message(alloc, &unlock(3, A))?)?;
+    serve(&rt, &mut house, message(alloc, LOCK_BY_A)?)?;
+    serve(&rt, &mut house, message(alloc, LOCK_BY_B)?)?;
+    serve(&rt, &mut house, message(alloc, UNLOCK_BY_A)?)?;
     serve(&rt, &mut house, Event::Called(2, None))?;
     serve(&rt, &mut house, Event::Tick(Moment(1000)))?;
     if !house.is_spoiled() {
         println!(rt; "claims {}", house.dump(alloc)?.len())?;
     }
-    let (journal, _) = house.end();
+    let (journal, _keeper) = house.end();
     println!(rt; "entries {}", journal.entries.len())
 }

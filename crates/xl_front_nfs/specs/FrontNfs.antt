@@ -1,4 +1,4 @@
--- What a call of program 100003 version 4 is answered (RFC 7530 14.1, 14.2).
+-- What a call of program 100003 version 4 is answered (RFC 7530 15.1, 15.2).
 use Rattle.std.specs.Prelude.{ℕ, ◌*◌, not, ◌==◌, nat_lt, if◌then◌else◌, List, [], ◌++◌, length, Result, Ok, Err}
 use Rattle.xl_base.specs.declared.event.Out.{Out}
 use Rattle.xl_base.specs.declared.journal.Exports.{Exports}

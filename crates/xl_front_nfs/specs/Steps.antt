@@ -1,4 +1,4 @@
--- A COMPOUND (RFC 7530 14.2, 16.1): its operations in a row, up to the first that fails.
+-- A COMPOUND (RFC 7530 14.2, 15.2): its operations in a row, up to the first that fails.
 use Rattle.std.specs.Prelude.{ℕ, zero, suc, ◌+◌, false, List, [], ◌∷◌, ◌++◌, length, Option, None, Result, Ok, Err}
 use Rattle.xl_nfs.specs.Ops.{OpItem, Close, DelegReturn, GetFh, Lock, LockT, LockU, Lookup, Open, OpenConfirm, OpenDowngrade, PutFh, PutRootFh, Renew, SetClientId, SetClientIdConfirm, ReleaseLockOwner, NotSupported, Illegal, op_number, op_at}
 use Rattle.xl_nfs.specs.Outcomes.{is_ok}

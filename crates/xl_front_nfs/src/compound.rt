@@ -1,4 +1,4 @@
-//! A COMPOUND (RFC 7530 14.2): its operations in a row, up to the first that fails.
+//! A COMPOUND (RFC 7530 14.2, 15.2): its operations in a row, up to the first that fails.
 ghost use Rattle.std.specs.Prelude.{◌≡◌, ℕ, ◌+◌, ◌*◌, ◌<◌, ◌≤◌, ◌++◌, List, false, true, length, if◌then◌else◌, IfOk, OnOk};
 ghost use Rattle.xl_nfs.specs.Ops.{shown_op, OpFits};
 ghost use Rattle.xl_nfs.specs.Outcomes.{is_ok};

@@ -1,4 +1,4 @@
-//! What a call of program 100003 version 4 is answered (RFC 7530 14.1, 14.2).
+//! What a call of program 100003 version 4 is answered (RFC 7530 15.1, 15.2).
 ghost use Rattle.std.specs.Prelude.{◌≡◌, ℕ, ◌+◌, ◌≤◌, List, [], ◌++◌, true, length, IfOk, OnOk};
 ghost use Rattle.std.specs.List.{AllByRecursion};
 ghost use Rattle.xl_base.specs.Limits.{most_message_bytes};

@@ -1,4 +1,4 @@
-//! Laws of delegations (RFC 7530 10.4, 16.8). The functions do nothing: each has laws as its clauses.
+//! Laws of delegations (RFC 7530 10.4, 16.6). The functions do nothing: each has laws as its clauses.
 ghost use Rattle.std.specs.Prelude.{◌≡◌, ◌↔◌, ◌&&◌, ℕ, Bool, true, if◌then◌else◌, List, Option, Some, None, Ok, Err};
 ghost use Rattle.std.specs.List.{find};
 ghost use Rattle.xl_nfs.specs.Opens.{OpenArgsItem, Null, Previous, DelegateCurrent, NamedDelegationItem};
@@ -33,7 +33,7 @@ pub fn told_delegations_are_held()
 
 /// A DELEGRETURN is OK exactly where its stateid is of this start and names a delegation of the current file, with its own
 /// seqid; else it is told the first check that fails. One that is OK leaves no stateid of its number, and its client no cache
-/// on the file (RFC 7530 9.1.4, 16.8).
+/// on the file (RFC 7530 9.1.4, 16.6).
 pub fn returned_delegations_are_gone()
     ensures told { (n : ℕ) (s : CoreState) (l : NfsLists) (current : Option ℕ) (stateid : Stateid) → status_of (carried n s l current (return_done s l current (returned s l current stateid))).0 ≡ returned_status (returned s l current stateid) }
     ensures exactly { (s : CoreState) (l : NfsLists) (at : ℕ) (stateid : Stateid) (r : StateidRow) → (returned s l (Some at) stateid ≡ Ok r) ↔ IsReturned s l at stateid r }

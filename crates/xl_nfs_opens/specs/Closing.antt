@@ -1,4 +1,4 @@
--- The check of a stateid (RFC 7530 9.1.4, 9.1.7), and what opens come to: OPEN_CONFIRM, OPEN_DOWNGRADE, CLOSE and DELEGRETURN (RFC 7530 16.18, 16.19, 16.2, 16.8).
+-- The check of a stateid (RFC 7530 9.1.4, 9.1.7), and what opens come to: OPEN_CONFIRM, OPEN_DOWNGRADE, CLOSE and DELEGRETURN (RFC 7530 16.18, 16.19, 16.2, 16.6).
 use Rattle.std.specs.Prelude.{◌≡◌, ℕ, Bool, true, false, not, ◌&&◌, ◌==◌, nat_le, nat_lt, if◌then◌else◌, List, [], ◌∷◌, ◌++◌, Option, Some, None, IsSome, Result, Ok, Err}
 use Rattle.std.specs.Bool.{beq}
 use Rattle.std.specs.List.{filter, find}

@@ -1,4 +1,4 @@
-//! The check of a stateid, OPEN_CONFIRM, CLOSE and DELEGRETURN (RFC 7530 9.1.4, 16.18, 16.2, 16.8).
+//! The check of a stateid, OPEN_CONFIRM, CLOSE and DELEGRETURN (RFC 7530 9.1.4, 16.18, 16.2, 16.6).
 ghost use Rattle.xl_nfs_state.specs.Verdict.{verdict};
 ghost use Rattle.xl_nfs_opens.specs.Seqids.{counted};
 ghost use Rattle.xl_nfs_opens.specs.Opens.{stood};

@@ -1,1 +1,1 @@
-pub mod CountLaws
+pub mod HeldLaws

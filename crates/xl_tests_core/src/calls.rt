@@ -1,8 +1,5 @@
 //! The core's calls, one after another.
 
 mod asks;
-mod elements;
-mod opens;
-mod ticks;
-mod turns;
-mod wishes;
+mod cases;
+mod steps;

@@ -1,5 +1,5 @@
 #![tactic(auto)]
-//! Tests of what is served, shown and read, by captures and transcripts.
+//! Tests of replays whose captures are built in loops, and of how a house starts.
 
 #[cfg(test)]
 mod served;

@@ -1,0 +1,2 @@
+pub mod GraceLaws
+pub mod ReclaimantLaws

@@ -1,0 +1,338 @@
+//! What is done to a core, step by step, and what comes of it.
+
+ghost use Rattle.std.specs.Prelude.{◌≡◌, true, OnOk};
+ghost use Rattle.xl_base.specs.Lists.{IsIn};
+ghost use Rattle.xl_core.specs.BreakAnswers.{may_be_left};
+ghost use Rattle.xl_core.specs.Good.{IsGood};
+
+use super::asks::{Asked, ask_of};
+use std::alloc::{AllocError, Global};
+use xl_base::{MemoryKeeper, Moment, Owner, Party, Record, Sequence};
+use xl_cache::{Wish, find_own_cache, rest_within};
+use xl_core::{Answer, Core, Effect, Times};
+use xl_matrix::{CacheKind, Claim, What};
+use xl_wait::Rooms;
+
+/// How long leases, grace and breaks last.
+const TIMES: Times = Times {
+    lease: 100,
+    grace: 100,
+    break_time: 10,
+};
+
+const LEFT: Rooms = Rooms {
+    hosts: 256,
+    owners: 8_192,
+    opens: 4_096,
+};
+
+/// No NLM host may come.
+const NO_HOSTS: Rooms = Rooms {
+    hosts: 0,
+    owners: 8_192,
+    opens: 4_096,
+};
+
+/// No case draws as many numbers.
+const MOST_NUMBERS: u32 = 1000;
+
+/// What an ask is answered.
+pub(crate) enum Told {
+    Granted,
+    /// A claim stands against it.
+    Conflict,
+    /// That of this open does.
+    Against(u32),
+    Queued,
+    Recall,
+    Full,
+    NotHeld,
+}
+
+pub(crate) enum Step {
+    /// An ask is answered so, and so many effects are told besides.
+    Ask(Asked, Told, usize),
+    /// The same where no NLM host may come.
+    AskInVain(Asked, Told, usize),
+    /// A turn is had by the one who waits under this number, which is granted; by nobody for 0.
+    Turn(u32),
+    /// A party leaves, and so many effects are told.
+    Leaves(Party, usize),
+    /// An open's answer to the break of its cache, by which this much is left, is taken or isn't.
+    Answers(u32, Option<CacheKind>, bool),
+    /// The clock reads this moment, and so many effects are told.
+    Reads(u64, usize),
+    /// The clock reads this moment, and just these two clients expire, in this order.
+    Expire(u64, u8, u8),
+    /// A client's lease begins, or runs anew.
+    Renews(u8),
+    Begins,
+    /// A party's cache of file 1 is this one, none for a dash.
+    Has(Party, &'static str),
+    /// The one claim that is held is a range, shared or exclusive.
+    HasRange(bool),
+    /// How many claims and names there are, and how many wait.
+    Counts(usize, usize, usize),
+    Clock(u64),
+    /// The last number that was given out.
+    Counter(u32),
+}
+
+fn keeper(alloc: Global) -> MemoryKeeper {
+    MemoryKeeper::new(alloc, Record::new(alloc), Vec::new(alloc))
+}
+
+fn is_answer(answer: &Answer, wanted: &Told) -> bool {
+    match (answer, wanted) {
+        (Answer::Granted(_), Told::Granted) => true,
+        (Answer::Conflict(_), Told::Conflict) => true,
+        (Answer::Conflict(claim), Told::Against(open)) => {
+            matches!(claim.owner, Owner::Open(number) if number == *open)
+        }
+        (Answer::Queued(_), Told::Queued) => true,
+        (Answer::Recall(_), Told::Recall) => true,
+        (Answer::Full(_), Told::Full) => true,
+        (Answer::NotHeld, Told::NotHeld) => true,
+        _ => false,
+    }
+}
+
+/// Whether the ask is answered so, where so many rows are left, and so many effects are told.
+fn is_told(
+    alloc: Global,
+    core: &mut Core,
+    asked: &Asked,
+    left: &Rooms,
+    wanted: &Told,
+    effects: usize,
+) -> Result<bool, AllocError>
+    requires good { IsGood core.old }
+    ensures good { OnOk result (IsGood core.new) }
+{
+    let ask = ask_of(alloc, asked)?;
+    if core.counter() > MOST_NUMBERS {
+        return Err(AllocError);
+    }
+    let (answer, told) = core.ask(alloc, &mut keeper(alloc), &ask, left)?;
+    Ok(is_answer(&answer, wanted) && told.as_slice().len() == effects)
+}
+
+fn is_served(told: &[Effect], wanted: u32) -> bool {
+    matches!(told, [Effect::Served(number, Answer::Granted(_))] if *number == wanted)
+}
+
+fn is_turn(alloc: Global, core: &mut Core, number: u32) -> Result<bool, AllocError>
+    requires good { IsGood core.old }
+    ensures good { OnOk result (IsGood core.new) }
+{
+    if core.counter() > MOST_NUMBERS {
+        return Err(AllocError);
+    }
+    let turn = core.settle(alloc, &mut keeper(alloc), &LEFT)?;
+    Ok(match turn {
+        Some(told) => is_served(told.as_slice(), number),
+        None => number == 0,
+    })
+}
+
+fn leaves(alloc: Global, core: &mut Core, party: Party, effects: usize) -> Result<bool, AllocError>
+    requires good { IsGood core.old }
+    ensures good { OnOk result (IsGood core.new) }
+{
+    let told = core.end_party(alloc, party)?;
+    Ok(told.as_slice().len() == effects)
+}
+
+fn cache_word(what: What) -> &'static str {
+    match what {
+        What::Cache(CacheKind::RWH, None) => "RWH",
+        What::Cache(CacheKind::R, None) => "R",
+        What::Cache(CacheKind::WriteDeleg, None) => "write",
+        What::Cache(CacheKind::RWH, Some(_)) => "RWH breaks",
+        What::Cache(CacheKind::WriteDeleg, Some(_)) => "write breaks",
+        _ => "other",
+    }
+}
+
+/// The wish with which the party's own cache of the file is found.
+fn whose(alloc: Global, party: Party) -> Wish {
+    Wish {
+        file: 1,
+        owner: Owner::Open(0),
+        party,
+        kinds: Sequence::new(alloc),
+    }
+}
+
+fn has(alloc: Global, core: &Core, party: Party, word: &str) -> Result<bool, AllocError> {
+    let held = core.table().of_file(alloc, 1)?;
+    Ok(match find_own_cache(&whose(alloc, party), &held) {
+        Some(cache) => cache_word(cache.what) == word,
+        None => word == "-",
+    })
+}
+
+/// Answers the break of a cache that is held.
+fn ack(alloc: Global, core: &mut Core, cache: &Claim, to: Option<CacheKind>)
+    requires held { IsIn cache.now core.old.claims }
+    requires runs { may_be_left cache.now.what to ≡ true }
+    requires good { IsGood core.old }
+    ensures good { IsGood core.new }
+{
+    let _told = core.ack(alloc, cache, to);
+}
+
+/// Answers the break of the open's cache, of which this much is to be left; false where none runs that leaves it.
+fn answers(
+    alloc: Global,
+    core: &mut Core,
+    number: u32,
+    to: Option<CacheKind>,
+) -> Result<bool, AllocError>
+    requires good { IsGood core.old }
+    ensures good { OnOk result (IsGood core.new) }
+{
+    let held = core.table().of_file(alloc, 1)?;
+    let Some(cache) = find_own_cache(&whose(alloc, Party::Open(number)), &held) else {
+        return Ok(false);
+    };
+    let What::Cache(_, Some(running)) = cache.what else {
+        return Ok(false);
+    };
+    if !rest_within(to, running.target) {
+        return Ok(false);
+    }
+    ack(alloc, core, &cache, to);
+    Ok(true)
+}
+
+/// Whether the answer to the break is taken, or isn't.
+fn is_taken(
+    alloc: Global,
+    core: &mut Core,
+    number: u32,
+    to: Option<CacheKind>,
+    wanted: bool,
+) -> Result<bool, AllocError>
+    requires good { IsGood core.old }
+    ensures good { OnOk result (IsGood core.new) }
+{
+    let taken = answers(alloc, core, number, to)?;
+    Ok(taken == wanted)
+}
+
+fn reads(alloc: Global, core: &mut Core, moment: u64, effects: usize) -> Result<bool, AllocError>
+    requires good { IsGood core.old }
+    ensures good { OnOk result (IsGood core.new) }
+{
+    let told = core.tick(alloc, &mut keeper(alloc), Moment(moment))?;
+    Ok(told.as_slice().len() == effects)
+}
+
+fn are_expired(effects: &[Effect], first: u8, second: u8) -> bool {
+    match effects {
+        [Effect::Expired(a), Effect::Expired(b)] => {
+            a.as_slice() == [first].as_slice() && b.as_slice() == [second].as_slice()
+        }
+        _ => false,
+    }
+}
+
+fn two_expire(
+    alloc: Global,
+    core: &mut Core,
+    moment: u64,
+    first: u8,
+    second: u8,
+) -> Result<bool, AllocError>
+    requires good { IsGood core.old }
+    ensures good { OnOk result (IsGood core.new) }
+{
+    let told = core.tick(alloc, &mut keeper(alloc), Moment(moment))?;
+    Ok(are_expired(told.as_slice(), first, second))
+}
+
+fn renews(alloc: Global, core: &mut Core, client: u8) -> Result<bool, AllocError>
+    requires good { IsGood core.old }
+    ensures good { OnOk result (IsGood core.new) }
+{
+    let told = core.renew(alloc, &[client])?;
+    Ok(told.is_empty())
+}
+
+fn begins(core: &mut Core) -> Result<bool, AllocError>
+    requires good { IsGood core.old }
+    ensures good { OnOk result (IsGood core.new) }
+{
+    core.begin_step();
+    Ok(true)
+}
+
+fn has_range(alloc: Global, core: &Core, exclusive: bool) -> Result<bool, AllocError> {
+    let claims = core.table().claims(alloc)?;
+    Ok(match claims.as_slice() {
+        [claim] => matches!(claim.what, What::Range(_, mode) if mode == exclusive),
+        _ => false,
+    })
+}
+
+/// Whether the core is as the step says, which changes nothing.
+fn is_so(alloc: Global, core: &Core, step: &Step) -> Result<bool, AllocError> {
+    match step {
+        Step::Has(party, word) => has(alloc, core, *party, word),
+        Step::HasRange(exclusive) => has_range(alloc, core, *exclusive),
+        Step::Counts(claims, names, waiting) => {
+            Ok(
+                core.table().len() == *claims
+                    && core.names().len() == *names
+                    && core.queue().len() == *waiting,
+            )
+        }
+        Step::Clock(moment) => Ok(core.clock().0 == *moment),
+        Step::Counter(number) => Ok(core.counter() == *number),
+        _ => Ok(false),
+    }
+}
+
+/// Whether a step comes to what it says.
+fn is_done(alloc: Global, core: &mut Core, step: &Step) -> Result<bool, AllocError>
+    requires good { IsGood core.old }
+    ensures good { OnOk result (IsGood core.new) }
+{
+    match step {
+        Step::Ask(asked, told, effects) => is_told(alloc, core, asked, &LEFT, told, *effects),
+        Step::AskInVain(asked, told, effects) => {
+            is_told(alloc, core, asked, &NO_HOSTS, told, *effects)
+        }
+        Step::Turn(number) => is_turn(alloc, core, *number),
+        Step::Leaves(party, effects) => leaves(alloc, core, *party, *effects),
+        Step::Answers(number, to, wanted) => is_taken(alloc, core, *number, *to, *wanted),
+        Step::Reads(moment, effects) => reads(alloc, core, *moment, *effects),
+        Step::Expire(moment, first, second) => two_expire(alloc, core, *moment, *first, *second),
+        Step::Renews(client) => renews(alloc, core, *client),
+        Step::Begins => begins(core),
+        looks => is_so(alloc, core, looks),
+    }
+}
+
+/// The place of the first step that comes to something else.
+fn first_wrong(alloc: Global, core: &mut Core, steps: &[Step]) -> Result<Option<usize>, AllocError>
+    requires good { IsGood core.old }
+{
+    'steps: for (place, step) in steps.iter().enumerate() {
+        if !is_done(alloc, core, step)? {
+            return Ok(Some(place));
+        }
+    }
+    Ok(None)
+}
+
+/// The same, of a new core whose clock reads this moment.
+pub(crate) fn wrong_step(
+    alloc: Global,
+    moment: u64,
+    steps: &[Step],
+) -> Result<Option<usize>, AllocError> {
+    let mut core = Core::new(alloc, Record::new(alloc), Moment(moment), TIMES);
+    first_wrong(alloc, &mut core, steps)
+}

@@ -1,0 +1,179 @@
+//! A machine for tests.
+ghost use Rattle.std.specs.Prelude.{◌≡◌, ℕ, ◌≤◌, ◌+◌, ◌-◌, ◌^◌, ◌++◌, ◌∷◌, [], length, drop, true, false, None, Some, IfOk, IfErr, IfSome, OnOk};
+ghost use Rattle.std.specs.List.{AllByRecursion};
+ghost use Rattle.xl_base.specs.Serials.{Extends, IsInTime};
+ghost use Rattle.xl_tests_threads.specs.Echoes.{is_end, is_behind, IsEcho, MayStop};
+
+use std::alloc::{AllocError, Global};
+use std::marker::Model;
+use xl_base::{Dest, Entry, Event, Halt, Out, Sequence, Serial};
+
+/// A machine that sends each message back to its connection, and asks for a call at each reading of the clock, whose number
+/// is the moment. Its first entry has a place of choice, and it is full with so many entries. It takes no End.
+#[derive(Drop)]
+pub struct Echo {
+    first: u64,
+    most: usize,
+    entries: Sequence<Entry>,
+    halt: Option<Halt>,
+}
+
+impl Model for Echo {
+    ghost use Rattle.std.specs.Prelude.{◌≤◌, ◌+◌, ◌^◌, length, IfSome};
+    ghost use Rattle.xl_tests_threads.specs.Echoes.{Echoed, IsEcho, MayStop};
+
+    ghost Value = { Echoed };
+
+    ghost view = { λ e. record { first = e.first; most = e.most; entries = e.entries; halt = e.halt } };
+
+    ghost invariant = { λ e. (e.first + e.most ≤ 2 ^ 62) × (length e.entries ≤ e.most) × IsEcho e.first e.entries × IfSome e.halt (λ reason. MayStop e.entries reason) };
+}
+
+/// What an event is answered at this place.
+fn answer(alloc: Global, place: u64, event: &Event) -> Result<Sequence<Out>, AllocError>
+    ensures { IfOk result (λ outs. AllByRecursion (λ o. is_behind place o.dest ≡ true) outs) }
+{
+    let mut outs = Sequence::new(alloc);
+    match event {
+        Event::Message(conn, bytes) if *conn < place => {
+            outs.push(Out {
+                dest: Dest::Conn(*conn),
+                to: Sequence::new(alloc),
+                bytes: Sequence::from_slice(alloc, bytes.as_slice())?,
+            })?;
+        }
+        Event::Tick(moment) => {
+            outs.push(Out {
+                dest: Dest::Back(moment.0),
+                to: Sequence::from_slice(alloc, b"somebody")?,
+                bytes: Sequence::new(alloc),
+            })?;
+        }
+        _ => {}
+    }
+    Ok(outs)
+}
+
+impl Echo {
+    /// A machine without entries. It takes no memory.
+    pub fn new(alloc: Global, first: u64, most: usize) -> Echo
+        requires { first + most ≤ 2 ^ 62 }
+        ensures { result ≡ record { first = first; most = most; entries = []; halt = None } }
+    {
+        Echo {
+            first,
+            most,
+            entries: Sequence::new(alloc),
+            halt: None,
+        }
+    }
+
+    /// The entries so far.
+    pub fn entries(&self) -> &[Entry]
+        ensures { result.now ≡ self.now.entries }
+    {
+        self.entries.as_slice()
+    }
+}
+
+/// One event, if there is room for it.
+#[tactic(auto, using(crate::proofs::EchoLaws::echo_grows))]
+fn enter(
+    alloc: Global,
+    first: u64,
+    most: usize,
+    entries: &mut Sequence<Entry>,
+    event: Event,
+) -> Result<u64, Halt>
+    requires low { first + most ≤ 2 ^ 62 }
+    requires few { length entries.old ≤ most }
+    requires echo { IsEcho first entries.old }
+    requires goes_on { is_end event ≡ false }
+    ensures few { length entries.new ≤ most }
+    ensures echo { IsEcho first entries.new }
+    ensures ok { IfOk result (λ place. Extends first entries.old entries.new event place) }
+    ensures err { IfErr result (λ reason. (entries.new ≡ entries.old) × MayStop entries.old reason) }
+{
+    let count = entries.len();
+    if count == most {
+        return Err(Halt::JournalFull(count as u64));
+    }
+    let place = first + count as u64;
+    let Ok(outs) = answer(alloc, place, &event) else {
+        return Err(Halt::NoMemory);
+    };
+    let entry = Entry {
+        event,
+        stores: 0,
+        outs,
+    };
+    let Ok(()) = entries.push(entry) else {
+        return Err(Halt::NoMemory);
+    };
+    Ok(place)
+}
+
+impl Serial for Echo {
+    type Origin = u64;
+
+    ghost origin = { λ e. e.first };
+
+    ghost first = { λ first. first };
+
+    ghost history = { λ e. e.entries };
+
+    ghost halt = { λ e. e.halt };
+
+    ghost lawful = { λ first log. IsInTime first log };
+
+    ghost takes = { λ event. is_end event ≡ false };
+
+    ghost may_halt = { λ log reason. MayStop log reason };
+
+    ghost in_time = { λ _ _ lawful. lawful };
+
+    fn first(&self) -> u64
+        ensures { result ≡ self.now.first }
+    {
+        self.first
+    }
+
+    #[tactic(auto, using(crate::proofs::EchoLaws::echo_in_time))]
+    fn next_place(&self) -> u64
+        ensures place { result ≡ self.now.first + length self.now.entries }
+        ensures lawful { IsInTime self.now.first self.now.entries }
+    {
+        self.first + self.entries.len() as u64
+    }
+
+    fn halt(&self) -> Option<Halt>
+        ensures halt { result ≡ self.now.halt }
+        ensures may { IfSome result (λ reason. MayStop self.now.entries reason) }
+    {
+        self.halt
+    }
+
+    fn outs_from(&self, place: u64) -> &[Entry]
+        requires { (self.now.first ≤ place) × (place ≤ self.now.first + length self.now.entries) }
+        ensures { result.now ≡ drop (place - self.now.first) self.now.entries }
+    {
+        &self.entries.as_slice()[(place - self.first) as usize..]
+    }
+
+    fn step(&mut self, alloc: Global, event: Event) -> Result<u64, Halt>
+        requires takes { is_end event ≡ false }
+        requires runs { self.old.halt ≡ None }
+        ensures origin { self.new.first ≡ self.old.first }
+        ensures ok { IfOk result (λ place. Extends self.old.first self.old.entries self.new.entries event place) }
+        ensures runs { OnOk result (self.new.halt ≡ None) }
+        ensures err { IfErr result (λ reason. (self.new.entries ≡ self.old.entries) × (self.new.halt ≡ Some reason) × MayStop self.old.entries reason) }
+    {
+        match enter(alloc, self.first, self.most, &mut self.entries, event) {
+            Ok(place) => Ok(place),
+            Err(reason) => {
+                self.halt = Some(reason);
+                Err(reason)
+            }
+        }
+    }
+}
