@@ -52,7 +52,7 @@ fn earlier_due(
     first: Option<Claim>,
     claim: &Claim,
 ) -> Result<Option<Claim>, AllocError>
-    ensures { IfOk result (λ c. c ≡ earlier names.now first claim.now) }
+    ensures { IfOk result (λ c. c ≡ earlier_due names.now first claim.now) }
 {
     if let Some(before) = first {
         if !due_before(alloc, names, claim, &before)? {
