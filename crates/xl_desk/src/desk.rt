@@ -8,7 +8,7 @@ ghost use Rattle.xl_desk.specs.Turns.{IsClosed, opened, halved, half, all_shares
 use crate::fault::DeskErr;
 use crate::outs::{Due, Found};
 use crate::plays::{Check, Halves, InTurns, See};
-use crate::turn::{Chair, give, number, read, report, search, step, take};
+use crate::turn::{Chair, base, give, number, read, report, search, step, take};
 use crate::view::View;
 use atomic_table::{Refused, Seat, Table};
 use std::alloc::{AllocError, Global};
@@ -140,6 +140,23 @@ impl<H: Serial> Desk<H> {
         let found = read(alloc, top, seat, conn, from);
         give(top, seat);
         found
+    }
+
+    /// The place of the journal's first entry, once the turn is free.
+    #[tactic(auto, using(crate::proofs::Steps::lawful_from))]
+    pub fn first<R: Wait>(&self, rt: &R, pass: &mut Pass<H>) -> u64
+        requires desk { pass.old.desk ≡ self.now }
+        ensures desk { pass.new.desk ≡ pass.old.desk }
+        ensures lawful { IsLawful H.first H.lawful pass.new.view }
+        ensures looked { IsLooked pass.old.view pass.new.view }
+        ensures first { result ≡ pass.new.view.first }
+    {
+        let top = &self.table.shared;
+        let seat = &mut pass.seat;
+        take(rt, top, seat);
+        let first = base(top, seat);
+        give(top, seat);
+        first
     }
 
     /// The place past the journal's last entry. It neither waits for the turn nor takes memory.
