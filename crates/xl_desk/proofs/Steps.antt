@@ -16,6 +16,7 @@ use Rattle.xl_base.specs.declared.halt.Halt.{Halt}
 use Rattle.xl_base.specs.declared.journal.Entry.{Entry}
 use Rattle.xl_desk.specs.declared.view.View.{View}
 use Rattle.xl_desk.specs.Turns.{total, bit, number_of, times, all_shares, AllStand, turn_of, made_of, shares_of, times_of, Fits, opened, with_turn, stopped, without_turn, after_call, halved, half, both, either_halt, spent, Is, OneTurn, Sat, HasInHand, Began, taken, checked, added, halted, given, seen_more, IsClosed}
+use Rattle.xl_desk.specs.Passes.{IsRooted, IsLawful}
 use Rattle.xl_desk.proofs.Totals.{total_set, total_append, part_below, parts_below, alone_in}
 use Rattle.xl_desk.proofs.Grown.{whole, front_grows, last_stands, still_stand, one_more, together}
 
@@ -45,6 +46,9 @@ either_final (Some reason) b halt one two = one
 may_of : (P : Halt → Type 0) (x : Option Halt) → x ≡ None → IfSome x P
 may_of P None runs = tt
 may_of P (Some reason) runs = absurd (cc runs)
+
+pub lawful_from : {O : Type 0} (first : O → ℕ) (lawful : O → List Entry → Type 0) (v : View O) → IsRooted first v → Began v (λ origin. lawful origin v.seen) → IsLawful first lawful v
+lawful_from first lawful v rooted began = (rooted.0, rooted.1, rooted.2, subst (λ x. IfSome x (λ origin. lawful origin v.seen)) rooted.1 began)
 
 -- what was seen stays seen
 pub either_stays : (a b : Option Halt) → IfSome a (λ reason. either_halt a b ≡ Some reason)

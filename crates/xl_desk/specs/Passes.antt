@@ -10,6 +10,14 @@ use Rattle.xl_desk.specs.declared.fault.DeskErr.TheVariants.{Halted, Stopped}
 use Rattle.xl_desk.specs.declared.view.View.{View}
 use Rattle.xl_desk.specs.Turns.{either_halt}
 
+-- the view is of a machine that began from something, whose first entry has the view's first place
+abbrev pub IsRooted : {O : Type 0} → (O → ℕ) → View O → Type 0
+IsRooted {O} first v = (origin : O) × (v.origin ≡ Some origin) × (v.first ≡ first origin)
+
+-- and what it has seen is a lawful history of that machine
+abbrev pub IsLawful : {O : Type 0} → (O → ℕ) → (O → List Entry → Type 0) → View O → Type 0
+IsLawful {O} first lawful v = (origin : O) × (v.origin ≡ Some origin) × (v.first ≡ first origin) × lawful origin v.seen
+
 -- a pass as its holder sees it: which desk it is of, and what it knows
 pub record Known (O : Type 0) : Type 0 where
   pub desk : TableId

@@ -2,13 +2,13 @@
 ghost use Rattle.std.specs.Prelude.{◌≡◌, ◌≤◌, ◌<◌, ◌+◌, ◌∷◌, [], length, Some, IfOk, IfErr};
 ghost use Rattle.xl_base.specs.Outs.{outs_to};
 ghost use Rattle.xl_desk.specs.Due.{IsFound, entries_from};
-ghost use Rattle.xl_desk.specs.Passes.{IsCalled, IsRefused, IsLooked, IsJoined};
-ghost use Rattle.xl_desk.specs.Turns.{IsClosed, Began, opened, halved, half, all_shares};
+ghost use Rattle.xl_desk.specs.Passes.{IsCalled, IsRefused, IsLawful, IsLooked, IsJoined};
+ghost use Rattle.xl_desk.specs.Turns.{IsClosed, opened, halved, half, all_shares};
 
 use crate::fault::DeskErr;
 use crate::outs::{Due, Found};
 use crate::plays::{Check, Halves, InTurns, See};
-use crate::turn::{Chair, give, number, read, report, search, step, take};
+use crate::turn::{Chair, base, give, number, read, report, search, step, take};
 use crate::view::View;
 use atomic_table::{Refused, Seat, Table};
 use std::alloc::{AllocError, Global};
@@ -44,13 +44,13 @@ pub struct Pass<H: Serial> {
 
 impl<H: Serial> Model for Pass<H> {
     ghost use Rattle.std.specs.Prelude.{◌≡◌, ◌<◌, [], false};
-    ghost use Rattle.xl_desk.specs.Passes.{Known};
+    ghost use Rattle.xl_desk.specs.Passes.{Known, IsRooted};
 
     ghost Value = { Known H.Origin };
 
     ghost view = { λ p. record { desk = p.seat.table_id; view = p.seat.me.0 } };
 
-    ghost invariant = { λ p. (p.seat.me.1 ≡ []) × (p.seat.me.0.turn ≡ false) × (0 < p.seat.me.0.shares) };
+    ghost invariant = { λ p. (p.seat.me.1 ≡ []) × (p.seat.me.0.turn ≡ false) × (0 < p.seat.me.0.shares) × IsRooted H.first p.seat.me.0 };
 }
 
 /// What a call is answered.
@@ -81,7 +81,7 @@ impl<H: Serial> Desk<H> {
     /// One event, once the turn is free: the journal begins with all that the pass has seen, and ends with this call, at the
     /// place that is answered. Halted says that this call's step halted the machine, Stopped that it was halted before;
     /// nothing is entered then, and the pass has seen the whole journal. It takes no memory but the step's.
-    #[tactic(auto, using(crate::proofs::Steps::nothing_seen))]
+    #[tactic(auto, using(crate::proofs::Steps::nothing_seen, crate::proofs::Steps::lawful_from))]
     pub fn call<R: Wait>(
         &self,
         rt: &R,
@@ -92,7 +92,7 @@ impl<H: Serial> Desk<H> {
         requires desk { pass.old.desk ≡ self.now }
         requires takes { H.takes event }
         ensures desk { pass.new.desk ≡ pass.old.desk }
-        ensures lawful { Began pass.new.view (λ origin. H.lawful origin pass.new.view.seen) }
+        ensures lawful { IsLawful H.first H.lawful pass.new.view }
         ensures called { IfOk result (λ receipt. IsCalled pass.old.view pass.new.view receipt.place event) }
         ensures refused { IfErr result (λ e. IsRefused H.may_halt pass.old.view pass.new.view e) }
     {
@@ -117,6 +117,7 @@ impl<H: Serial> Desk<H> {
     /// What the journal, once the turn is free, sends to the connection in its entries from this place on, and the place
     /// past its last entry. The place is one of those that the pass knows: none before the first, and at most the one past
     /// the last that it has seen. Want of memory is the only error; the pass has seen the journal all the same.
+    #[tactic(auto, using(crate::proofs::Steps::lawful_from))]
     pub fn look<R: Wait>(
         &self,
         rt: &R,
@@ -128,7 +129,7 @@ impl<H: Serial> Desk<H> {
         requires desk { pass.old.desk ≡ self.now }
         requires from { (pass.old.view.first ≤ from) × (from ≤ pass.old.view.first + length pass.old.view.seen) }
         ensures desk { pass.new.desk ≡ pass.old.desk }
-        ensures lawful { Began pass.new.view (λ origin. H.lawful origin pass.new.view.seen) }
+        ensures lawful { IsLawful H.first H.lawful pass.new.view }
         ensures looked { IsLooked pass.old.view pass.new.view }
         ensures bytes { IfOk result (λ t. t.0.items ≡ outs_to conn (entries_from pass.new.view.first from pass.new.view.seen)) }
         ensures end { IfOk result (λ t. t.1 ≡ pass.new.view.first + length pass.new.view.seen) }
@@ -141,11 +142,29 @@ impl<H: Serial> Desk<H> {
         found
     }
 
+    /// The place of the journal's first entry, once the turn is free.
+    #[tactic(auto, using(crate::proofs::Steps::lawful_from))]
+    pub fn first<R: Wait>(&self, rt: &R, pass: &mut Pass<H>) -> u64
+        requires desk { pass.old.desk ≡ self.now }
+        ensures desk { pass.new.desk ≡ pass.old.desk }
+        ensures lawful { IsLawful H.first H.lawful pass.new.view }
+        ensures looked { IsLooked pass.old.view pass.new.view }
+        ensures first { result ≡ pass.new.view.first }
+    {
+        let top = &self.table.shared;
+        let seat = &mut pass.seat;
+        take(rt, top, seat);
+        let first = base(top, seat);
+        give(top, seat);
+        first
+    }
+
     /// The place past the journal's last entry. It neither waits for the turn nor takes memory.
+    #[tactic(auto, using(crate::proofs::Steps::lawful_from))]
     pub fn see(&self, pass: &mut Pass<H>) -> u64
         requires desk { pass.old.desk ≡ self.now }
         ensures desk { pass.new.desk ≡ pass.old.desk }
-        ensures lawful { Began pass.new.view (λ origin. H.lawful origin pass.new.view.seen) }
+        ensures lawful { IsLawful H.first H.lawful pass.new.view }
         ensures looked { IsLooked pass.old.view pass.new.view }
         ensures end { result ≡ pass.new.view.first + length pass.new.view.seen }
     {
@@ -154,6 +173,7 @@ impl<H: Serial> Desk<H> {
 
     /// The first call that is due in the journal, once the turn is free, among its entries from this place on, which is as
     /// for `look`. Want of memory is the only error; the pass has seen the journal all the same.
+    #[tactic(auto, using(crate::proofs::Steps::lawful_from))]
     pub fn next_call<R: Wait>(
         &self,
         rt: &R,
@@ -166,7 +186,7 @@ impl<H: Serial> Desk<H> {
         requires from { (pass.old.view.first ≤ from) × (from ≤ pass.old.view.first + length pass.old.view.seen) }
         requires share { due.share < due.of }
         ensures desk { pass.new.desk ≡ pass.old.desk }
-        ensures lawful { Began pass.new.view (λ origin. H.lawful origin pass.new.view.seen) }
+        ensures lawful { IsLawful H.first H.lawful pass.new.view }
         ensures looked { IsLooked pass.old.view pass.new.view }
         ensures found { IfOk result (λ found. IsFound due pass.new.view.first from pass.new.view.seen found) }
     {
@@ -191,11 +211,11 @@ impl<H: Serial> Desk<H> {
     }
 
     /// Joins another pass into this one, with its calls and its shares.
-    #[tactic(auto, using(crate::proofs::Steps::either_stays))]
+    #[tactic(auto, using(crate::proofs::Steps::either_stays, crate::proofs::Steps::lawful_from))]
     pub fn join(&self, pass: &mut Pass<H>, other: Pass<H>)
         requires desk { (pass.old.desk ≡ self.now) × (other.desk ≡ self.now) }
         ensures desk { pass.new.desk ≡ pass.old.desk }
-        ensures lawful { Began pass.new.view (λ origin. H.lawful origin pass.new.view.seen) }
+        ensures lawful { IsLawful H.first H.lawful pass.new.view }
         ensures joined { IsJoined pass.old.view other.view pass.new.view }
     {
         let Pass { seat: theirs } = other;

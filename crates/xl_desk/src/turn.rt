@@ -96,6 +96,20 @@ pub(crate) fn report<H: Serial>(top: &Top<H>, seat: &mut Chair<H>) -> (Option<Ha
     (halt, count)
 }
 
+/// The place of the first entry of the machine in hand.
+pub(crate) fn base<H: Serial>(top: &Top<H>, seat: &mut Chair<H>) -> u64
+    requires table { seat.old.table_id ≡ top.now.table_id }
+    requires turn { (h : H) × HasTurn H.history H.halt H.origin H.first seat.old.me h }
+    ensures seat { (seat.new.table_id ≡ seat.old.table_id) × (seat.new.id ≡ seat.old.id) × (seat.new.me.0 ≡ seat.old.me.0) }
+    ensures turn { (h : H) × HasTurn H.history H.halt H.origin H.first seat.new.me h }
+    ensures first { result ≡ seat.old.me.0.first }
+{
+    let serial = lift(top, seat);
+    let first = serial.first();
+    put(top, seat, serial);
+    first
+}
+
 /// Steps the machine in hand, which isn't halted.
 pub(crate) fn step<H: Serial>(
     alloc: Global,
