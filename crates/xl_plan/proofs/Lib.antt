@@ -1,0 +1,4 @@
+pub mod PlanLaws
+pub mod BindLaws
+pub mod RowLaws
+pub mod BudgetLaws
