@@ -15,7 +15,11 @@ use xl_desk::{Desk, DeskErr, Due, NoRoom, Pass, Receipt};
 /// How often a thread looks for the other's call before it gives up.
 const MOST_LOOKS: u64 = 1_000_000_000;
 
-fn make(alloc: Global, first: u64, most: usize) -> Result<(Desk<Echo>, Pass<Echo>), AllocError>
+pub(crate) fn make(
+    alloc: Global,
+    first: u64,
+    most: usize,
+) -> Result<(Desk<Echo>, Pass<Echo>), AllocError>
     requires { first + most ≤ 2 ^ 62 }
     ensures desk { IfOk result (λ t. t.1.desk ≡ t.0) }
     ensures first { IfOk result (λ t. t.1.view.first ≡ first) }
@@ -56,7 +60,7 @@ fn number_of(call: &Option<Out>) -> u64 {
 }
 
 /// Reads the clock so often as there are moments; how many of these calls were entered.
-fn tick<R: Wait>(
+pub(crate) fn tick<R: Wait>(
     rt: &R,
     alloc: Global,
     desk: &Desk<Echo>,
