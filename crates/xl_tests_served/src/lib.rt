@@ -1,5 +1,5 @@
 #![tactic(auto)]
-//! Tests of replays whose captures are built in loops, and of how a house starts.
+//! Tests of replays whose captures are built in loops, of how a house starts, and of the texts of captures and transcripts.
 
 #[cfg(test)]
 mod served;

@@ -1,4 +1,5 @@
-//! Captures that are built in loops, with what their replays answer, and how a house starts.
+//! Captures that are built in loops, with what their replays answer; how a house starts; what is read of a capture, and
+//! what a transcript says.
 //!
 //! The cases of a text are parted by lines of two hyphens. Each is a capture, a line `=>`, and what a replay answers: its
 //! status, the number of the line and how many entries its journal has, and behind them the transcript. A line
@@ -6,9 +7,11 @@
 //! its lowest byte on, and `@` the place in decimal. From line to line the number rises by the step, the place by one. Above
 //! each message stand its words, as `tools/capture_from_words.py` has them.
 
+mod captures;
 mod house;
 mod limits;
 mod sharing;
+mod transcripts;
 
 use std::alloc::{AllocError, Global};
 use std::fmt::Write;

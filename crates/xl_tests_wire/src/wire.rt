@@ -1,15 +1,12 @@
-//! The messages of the protocols and their frames, against vectors that were laid out by hand from the standards, and the
-//! texts of captures and transcripts.
+//! The messages of the protocols and their frames, against vectors that were laid out by hand from the standards.
 use std::alloc::Global;
 use std::test::Fail;
 
-mod captures;
 mod frame;
 mod nfs;
 mod nlm;
 mod rpc;
 mod smb;
-mod transcripts;
 
 /// What stands behind a message in a table of those that are read, and is left.
 pub(crate) const WORD: &[u8] = &[0, 0, 0, 9];
