@@ -13,6 +13,7 @@ Calls to bytes outcome old new = new ≡ old ++ Call to bytes outcome ∷ []
 abbrev pub Idles : ℕ → List Asked → List Asked → Type 0
 Idles seen old new = new ≡ old ++ Idle seen ∷ []
 
+-- a call that found no memory did not fail (PROOF-8)
 abbrev pub call_failed : CallOutcome → Bool
 call_failed Failed = true
 call_failed _ = false

@@ -81,7 +81,7 @@ pub record IsCodec {A E : Type 0} (at : List ℕ → Result (A × List ℕ) E) (
   pub again : (v : A) (rest : List ℕ) → Fit v → at (spell v ++ rest) ≡ Ok (v, rest)
 
 -- What a reading method returned and left: the value, seen by view, and the rest are what the definition gives; after
--- a fault nothing is taken.
+-- a fault nothing is taken (WIRE-3).
 abbrev pub Advances : {X Y E : Type 0} → (X → Y) → Result X E → List ℕ → List ℕ → Result (Y × List ℕ) E → Type 0
 Advances view (Ok x) old new given = given ≡ Ok (view x, new)
 Advances view (Err e) old new given = (given ≡ Err e) × (new ≡ old)

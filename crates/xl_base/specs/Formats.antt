@@ -3,7 +3,7 @@ use Rattle.std.specs.Prelude.{◌≡◌, ℕ, ◌==◌, ◌||◌, Bool, true, fa
 use Rattle.std.proofs.lemmas.Bool.{eqb-true}
 use Rattle.xl_base.specs.Codec.{as_at, guard_at, choose_at, IsCodec}
 
--- How a value is read and spelled, which values have a spelling, and that reading and spelling undo each other.
+-- How a value is read and spelled, which values have a spelling, and that reading and spelling undo each other (WIRE-3).
 pub record Format (A E : Type 0) : Type 1 where
   pub at : List ℕ → Result (A × List ℕ) E
   pub spell : A → List ℕ

@@ -2,7 +2,7 @@
 use Rattle.std.specs.Prelude.{ℕ, ◌==◌, ◌&&◌, if◌then◌else◌, List, ◌++◌, length, take, drop, codes, bytes_eq, Option, Some, None}
 use Rattle.std.specs.Int.{w32, to_be_bytes, from_be_bytes}
 
--- the handle of a file, 0 for the root
+-- the handle of a file, 0 for the root (WIRE-1)
 abbrev pub handle : ℕ → List ℕ
 handle file = codes "XLK1" ++ to_be_bytes w32 file
 

@@ -35,7 +35,7 @@ abbrev pub Sends : WriteOutcome → List ℕ → Link → Link → Type 0
 Sends write.Wrote bytes old new = new ≡ record old { sent = old.sent ++ bytes }
 Sends write.Failed bytes old new = (front : List ℕ) × IsPrefix front bytes × (new ≡ record old { sent = old.sent ++ front; failed = counted old.failed })
 
--- the newest link, which is closed
+-- the newest link, which tells from then on that it was shut (PROOF-7)
 abbrev pub Shuts : Link → Link → Type 0
 Shuts old new = new ≡ record old { shut = true }
 

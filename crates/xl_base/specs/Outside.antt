@@ -10,7 +10,7 @@ use Rattle.xl_base.specs.declared.keeper.StoreOutcome.TheVariants as store
 use Rattle.xl_base.specs.declared.sink.WriteOutcome.{WriteOutcome}
 use Rattle.xl_base.specs.declared.sink.WriteOutcome.TheVariants as write
 
--- A count of faults rose: it is greater than before, or stands at its last value.
+-- A count of faults rose: it is greater than before, or stands at its last value (PROOF-2).
 abbrev pub Rose : ℕ → ℕ → Type 0
 Rose before now = now < 2 ^ 64 - 1 → before < now
 
@@ -32,7 +32,7 @@ abbrev pub StoreCounts : StoreOutcome → ℕ → ℕ → Type 0
 StoreCounts store.Failed before now = Rose before now
 StoreCounts _ before now = now ≡ before
 
--- These bytes were taken from the front of what was left, where that is told.
+-- These bytes were taken from the front of what was left, if that is told (PROOF-4).
 abbrev pub Took : Option (List ℕ) → List ℕ → Option (List ℕ) → Type 0
 Took None bytes new = Unit {0}
 Took (Some left) bytes None = ⊥
@@ -76,7 +76,8 @@ Loads (load.Loaded stable) held = held ≡ option_map (λ _. stable) held
 Loads load.Failed held = Unit {0}
 Loads load.NoMemory held = Unit {0}
 
--- The record that is held after a store of this one, where it is told: this one just where it was stored.
+-- The record that is held after a store of this one, if it is told: this one if it was stored, and else the one from before
+-- (RECORD-2).
 abbrev pub held_after : StoreOutcome → Stable → Option Stable → Option Stable
 held_after store.Stored stable held = option_map (λ _. stable) held
 held_after store.Failed stable held = held

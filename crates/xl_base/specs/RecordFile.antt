@@ -34,6 +34,7 @@ abbrev pub names_text : List Recorded → List ℕ
 names_text [] = []
 names_text (name ∷ names) = name_text name ++ names_text names
 
+-- the file of a record (RECORD-5)
 unfoldable pub record_text : Stable → List ℕ
 record_text stable = codes "XLR1" ++ (big_endian w32 stable.epoch ++ (big_endian w32 (length stable.names) ++ names_text stable.names))
 
@@ -41,7 +42,7 @@ record_text stable = codes "XLR1" ++ (big_endian w32 stable.epoch ++ (big_endian
 abbrev pub IsSpelled : Recorded → Type 0
 IsSpelled name = (is_recordable name ≡ true) × (length name.name < 2 ^ 16)
 
--- a record that has a file
+-- a record that has a file (RECORD-5)
 abbrev pub HasFile : Stable → Type 0
 HasFile stable = length (record_text stable) ≤ most_record_bytes
 
@@ -74,7 +75,7 @@ abbrev pub ended : {A : Type 0} → A × List ℕ → Result A RecordBad
 ended (x, []) = Ok x
 ended (x, byte ∷ bytes) = Err bad.Extra
 
--- the record of a file, or the first fault: its length first, then as it is read
+-- the record of a file, or the first fault: its length first, then as it is read (RECORD-6)
 unfoldable pub record_at : List ℕ → Result Stable RecordBad
 record_at bytes = if nat_lt most_record_bytes (length bytes) then Err (bad.Long (length bytes)) else
     mark_at bytes >>= λ mark. big_endian_at bad.Cut w32 mark.1 >>= λ epoch. big_endian_at bad.Cut w32 epoch.1 >>= λ count.

@@ -6,7 +6,7 @@ abbrev pub Gives : {X Y E : Type 0} → (X → Y) → Result X E → Result Y E 
 Gives view (Ok x) given = given ≡ Ok (view x)
 Gives view (Err e) given = given ≡ Err e
 
--- The same, unless memory ran out: cause is the fault that an error stands for, None for want of memory.
+-- The same, unless memory ran out: cause is the fault that an error stands for, None if memory ran out (PROOF-3).
 abbrev pub GivesUnless : {X Y E F : Type 0} → (E → Option F) → (X → Y) → Result X E → Result Y F → Type 0
 GivesUnless cause view (Ok x) given = given ≡ Ok (view x)
 GivesUnless cause view (Err e) given = IfSome (cause e) (λ fault. given ≡ Err fault)

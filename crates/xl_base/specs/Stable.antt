@@ -10,7 +10,7 @@ pub record Stable : Type 0 where
   pub epoch : ℕ
   pub names : List Recorded
 
--- the record with its epoch raised by one, as at a start; after 4,294,967,295 comes 1
+-- the record with its epoch raised by one, as at a start; after 4,294,967,295 comes 1 (RECORD-1)
 abbrev pub raised : Stable → Stable
 raised stable = record { epoch = if stable.epoch == 2 ^ 32 - 1 then 1 else stable.epoch + 1; names = stable.names }
 

@@ -3,8 +3,8 @@ use Rattle.std.specs.Prelude.{◌≡◌, ℕ, Bool, true, false, List, [], ◌�
 use Rattle.xl_base.specs.Outside.{Rose}
 use Rattle.xl_base.specs.Memory.{counted}
 
--- What was told became what is told by this step, where it is told still. Who tells nothing goes on so; who tells may
--- cease to tell.
+-- What was told became what is told by this step, if it is told still. Who tells nothing goes on so; who tells may
+-- cease to tell (PROOF-6).
 abbrev pub Follows : {A : Type 0} → Option A → Option A → (A → A → Type 0) → Type 0
 Follows old None step = Unit {0}
 Follows None (Some new) step = ⊥

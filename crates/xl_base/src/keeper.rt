@@ -33,7 +33,7 @@ pub enum StoreOutcome {
 
 /// Stable storage for one record. The record that is held is told, or not, and so are those that were given to be
 /// stored; then no contract speaks of them. A crash in the midst of a store, which has no outcome, leaves the record
-/// from before it or the one that was given.
+/// from before it or the one that was given (RECORD-2).
 pub trait Keeper {
     /// The record that is held, where the keeper tells it.
     ghost held: { Self → Option Stable };

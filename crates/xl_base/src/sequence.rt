@@ -12,7 +12,7 @@ use std::hash::{Hash, Hasher};
 use std::marker::Model;
 
 /// A growable list. A contract sees its elements in their order and nothing else, so two sequences with equal
-/// elements are equal there, whatever their capacities.
+/// elements are equal there, whatever their capacities (PROOF-1).
 #[derive(Drop)]
 pub struct Sequence<T> {
     items: Vec<T>,

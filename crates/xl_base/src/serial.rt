@@ -13,7 +13,7 @@ use std::alloc::Global;
 /// A value that takes one event after another, each of which is one entry of its history. The entries' places are
 /// absolute: they count from the place of the first one, which need not be 0, and are below 2^63.
 pub trait Serial {
-    /// What a value began from, which no step changes.
+    /// What a value began from, which no step changes; each type chooses its own (PROOF-9).
     type Origin;
 
     /// What the value began from.
@@ -59,8 +59,8 @@ pub trait Serial {
         requires { (first (origin self.now) ≤ place) × (place ≤ first (origin self.now) + length (history self.now)) }
         ensures { result.now ≡ drop (place - first (origin self.now)) (history self.now) };
 
-    /// One event, entered with what it did at the place that is answered. After an error the value is halted for good,
-    /// and its entries are as they were.
+    /// One event, entered with what it did at the place that is answered. It is asked for only while the value is not
+    /// halted (PROOF-9). After an error the value is halted for good, and its entries are as they were.
     fn step(&mut self, alloc: Global, event: Event) -> Result<u64, Halt>
         requires takes { takes event }
         requires runs { halt self.old ≡ None }

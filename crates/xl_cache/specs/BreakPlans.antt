@@ -85,7 +85,8 @@ is_awaited ask shares c = is_in_the_way ask shares c && is_running c.what
 abbrev pub plan_with : Claim → List Claim → List Claim → BreakPlan
 plan_with ask shares held = record { breaks = filter_map (break_of ask shares) held; awaited = find (is_awaited ask shares) held }
 
--- the breaks that the ask begins, in the order of what is held, and the first cache there whose break it waits for
+-- the breaks that the ask begins, in the order of what is held, and the first cache there whose break it waits for; it is
+-- computed whatever is held (CACHE-7)
 unfoldable pub planned : Claim → List Claim → BreakPlan
 planned ask held = plan_with ask (blocking_shares ask held) held
 

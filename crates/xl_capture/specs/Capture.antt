@@ -39,11 +39,11 @@ is_line_end b = b == 10
 abbrev pub lines_of : List ℕ → List (List ℕ)
 lines_of text = whole_lines (slice_split is_line_end text)
 
--- a blank is a space or a tab
+-- a blank is a space or a tab (TEXT-2)
 abbrev pub is_blank : ℕ → Bool
 is_blank b = b == 32 || b == 9
 
--- the words of a line, each two parted by one blank
+-- the words of a line, each two parted by one blank (TEXT-2)
 abbrev pub words_of : List ℕ → List (List ℕ)
 words_of text = slice_split is_blank text
 
@@ -55,7 +55,7 @@ is_name_byte b = (nat_le 97 b && nat_le b 122) || (nat_le 48 b && nat_le b 57) |
 abbrev pub is_file_name : List ℕ → Bool
 is_file_name name = nat_le 1 (length name) && nat_le (length name) 64 && list_all is_name_byte name
 
--- a byte of an address: a graphic one of ASCII
+-- a byte of an address: a graphic one of ASCII (TEXT-6)
 abbrev pub is_graphic : ℕ → Bool
 is_graphic b = nat_le 33 b && nat_le b 126
 
@@ -116,7 +116,8 @@ with_name r name = record r { capture = record r.capture { files = r.capture.fil
 unfoldable pub with_file : Reading → List ℕ → Option Reading
 with_file r name = if takes_file r name then Some (with_name r name) else None
 
--- this address of this caller may be added: no event line stands before it, and the caller has none yet
+-- this address of this caller may be added: no event line stands before it, and the caller has none yet; its name may be
+-- any (TEXT-5)
 abbrev pub takes_address : Reading → List ℕ → List ℕ → Bool
 takes_address r caller address = is_address address && not r.begun && not (has_address caller r.capture.addresses)
 
@@ -147,7 +148,7 @@ unfoldable pub with_lasting : Reading → List ℕ → List ℕ → List ℕ →
 with_lasting r lease grace break_time =
     option_and_then (λ a. option_and_then (λ b. option_and_then (λ c. with_times r a b c) (time_of break_time)) (time_of grace)) (time_of lease)
 
--- with an event line that makes these events, and leaves these connections open
+-- with an event line that makes these events, or none, and leaves these connections open: no header line may follow (TEXT-4)
 abbrev pub with_events : Reading → List Event → List Link → Reading
 with_events r events links = record r { capture = record r.capture { events = r.capture.events ++ events }; links = links; begun = true }
 
@@ -159,7 +160,7 @@ kind_of word = if bytes_eq word (codes "rpc") then Some Rpc else if bytes_eq wor
 abbrev pub with_link : List Link → ℕ → Kind → List Link
 with_link links place kind = if nat_lt (length links) most_connections then links ++ opened place kind ∷ [] else links
 
--- with the opening of a connection of this kind
+-- with the opening of a connection of this kind, which is an event also if none is opened (TEXT-9)
 unfoldable pub with_opened : Reading → Kind → Reading
 with_opened r kind = with_events r (Open kind ∷ []) (with_link r.links (length r.capture.events) kind)
 
@@ -171,7 +172,7 @@ with_open r word = option_map (λ kind. with_opened r kind) (kind_of word)
 abbrev pub with_frames : Reading → List Link → Link → Framed → Reading
 with_frames r others l f = with_events r (events_of l.conn f) (others ++ option_to_list (still_open l f))
 
--- with bytes of a connection's stream, where it is open
+-- with bytes of a connection's stream, if it is open, and else without an event (TEXT-10)
 abbrev pub with_stream : Reading → List Link → Option Link → List ℕ → Reading
 with_stream r others None bytes = with_events r [] others
 with_stream r others (Some l) bytes = with_frames r others l (framed l bytes)
@@ -184,7 +185,7 @@ with_piece r conn bytes = with_stream r (without conn r.links) (link_of conn r.l
 unfoldable pub with_bytes : Reading → List ℕ → List ℕ → Option Reading
 with_bytes r conn hex = option_and_then (λ n. option_map (λ bytes. with_piece r n bytes) (bytes_of hex)) (number_of conn)
 
--- with the end of a connection, where it is open
+-- with the end of a connection, if it is open, and else without an event (TEXT-10)
 abbrev pub with_last : Reading → List Link → Option Link → Reading
 with_last r others None = with_events r [] others
 with_last r others (Some l) = with_events r (End l.conn ∷ []) others
@@ -197,15 +198,15 @@ with_ended r conn = with_last r (without conn r.links) (link_of conn r.links)
 unfoldable pub with_end : Reading → List ℕ → Option Reading
 with_end r conn = option_map (λ n. with_ended r n) (number_of conn)
 
--- with the end of a call, with a reply or without one
+-- with the end of a call of any number, with a reply or without one (TEXT-7)
 unfoldable pub with_called : Reading → ℕ → Option (List ℕ) → Reading
 with_called r call reply = with_events r (Called call reply ∷ []) r.links
 
--- with a line `C CALL HEX`
+-- with a line `C CALL HEX`, the reply of any length; a dash is a reply without bytes (TEXT-5, TEXT-8)
 unfoldable pub with_reply : Reading → List ℕ → List ℕ → Option Reading
 with_reply r call hex = option_and_then (λ n. option_map (λ bytes. with_called r n (Some bytes)) (bytes_of hex)) (number_of call)
 
--- with a line `C CALL`
+-- with a line `C CALL`: no reply (TEXT-8)
 unfoldable pub with_no_reply : Reading → List ℕ → Option Reading
 with_no_reply r call = option_map (λ n. with_called r n None) (number_of call)
 
@@ -261,7 +262,7 @@ capture_in (Err line) = Err line
 abbrev pub looked_at : List ℕ → List ℕ
 looked_at text = take (most_bytes + 1) text
 
--- the capture that a text is; where the text goes past the most bytes, the line with the byte past them is bad
+-- the capture that a text is; if the text goes past the most bytes, the line with the byte past them is bad (TEXT-3)
 unfoldable pub captured : List ℕ → Result Capture ℕ
 captured text = capture_in (with_lines (nat_lt most_bytes (length text)) no_reading 0 (lines_of (looked_at text)))
 

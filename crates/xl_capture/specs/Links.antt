@@ -36,7 +36,7 @@ framed l bytes = frames l.kind (l.rest ++ bytes)
 abbrev pub end_of : ℕ → Option FrameBad → List Event
 end_of conn bad = if is_none bad then [] else End conn ∷ []
 
--- what frames of a connection come to: a message for each, and its end where a bad one stands behind them
+-- what frames of a connection come to: a message for each, and its end if a bad one stands behind them (TEXT-10)
 abbrev pub events_of : ℕ → Framed → List Event
 events_of conn f = map (Message conn) f.frames ++ end_of conn f.bad
 

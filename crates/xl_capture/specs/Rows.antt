@@ -55,7 +55,7 @@ by_holder a b = slice_cmp nat_cmp a.holder b.holder
 abbrev pub by_range : Row → Row → Ordering
 by_range a b = slice_cmp nat_cmp (range_key a.what) (range_key b.what)
 
--- how a row stands to another
+-- how a row stands to another: by the file, the class, the holder's text, and the bytes (TEXT-1)
 unfoldable pub row_cmp : Row → Row → Ordering
 row_cmp a b = ordering_then (by_file a b) (ordering_then (by_class a b) (ordering_then (by_holder a b) (by_range a b)))
 
@@ -80,7 +80,7 @@ letter_if false letter = []
 abbrev pub letters : Rwd → List ℕ
 letters a = if a.r || a.w || a.d then letter_if a.r (codes "r") ++ letter_if a.w (codes "w") ++ letter_if a.d (codes "d") else codes "-"
 
--- the first and the last byte; of a range without a byte its offset and a dash
+-- the first and the last byte; of a range without a byte its offset and a dash (TEXT-1)
 abbrev pub extent_words : Extent → List ℕ
 extent_words (Bytes first last) = decimal first ++ codes " " ++ decimal last
 extent_words (Empty offset) = decimal offset ++ codes " -"

@@ -29,7 +29,7 @@ bad_text fault = codes "bad " ++ decimal fault
 
 -- ---- calls: the word that a call's line ends with
 
--- what was read is all, where nothing may stand behind it
+-- what was read is all, where nothing may stand behind it (SHOW-3)
 abbrev pub whole_word : List ℕ → List ℕ
 whole_word [] = codes "ok"
 whole_word (b ∷ bs) = codes "bad"
@@ -39,7 +39,7 @@ abbrev pub arguments_word : Result (CallItem × List ℕ) RpcBad → List ℕ
 arguments_word (Ok x) = whole_word x.1
 arguments_word (Err fault) = codes "bad"
 
--- the procedures of NLM whose arguments are read: NULL, TEST, LOCK, CANCEL, UNLOCK, SHARE, UNSHARE, NM_LOCK, FREE_ALL
+-- the procedures of NLM whose arguments are read: NULL, TEST, LOCK, CANCEL, UNLOCK, SHARE, UNSHARE, NM_LOCK, FREE_ALL (SHOW-1)
 abbrev pub is_nlm_shown : ℕ → Bool
 is_nlm_shown proc = nat_le proc 4 || (nat_le 20 proc && nat_le proc 23)
 
@@ -80,7 +80,7 @@ abbrev pub ops_word : Option (List ℕ) → List ℕ
 ops_word None = codes "bad"
 ops_word (Some numbers) = codes "ok" ++ ops_text numbers
 
--- the arguments of a COMPOUND, by its head and what stands behind it
+-- the arguments of a COMPOUND, by its head and what stands behind it, whatever its minor version and its count (SHOW-3)
 abbrev pub compound_word : Result (CompoundHeadItem × List ℕ) RpcBad → List ℕ
 compound_word (Ok x) = ops_word (ops_from [] x.0.count x.1)
 compound_word (Err fault) = codes "bad"
@@ -89,7 +89,7 @@ compound_word (Err fault) = codes "bad"
 unfoldable pub nfs_word : ℕ → List ℕ → List ℕ
 nfs_word proc bytes = if proc == 0 then whole_word bytes else if proc == 1 then compound_word (compound_head_at bytes) else codes "other"
 
--- by the program and its version
+-- by the program and its version (SHOW-1)
 unfoldable pub call_word : HeadItem → List ℕ → List ℕ
 call_word h bytes =
     if (h.prog == programs.number_of Nlm) && (h.vers == programs.version_of Nlm) then nlm_word h.proc bytes
@@ -126,7 +126,7 @@ abbrev pub is_one_behind : Result (ℕ × List ℕ) RpcBad → Bool
 is_one_behind (Ok x) = is_one (unsigned_at x.1)
 is_one_behind (Err fault) = false
 
--- the message type, which stands behind the xid, is that of a reply
+-- the message type, which stands behind the xid, is that of a reply; a message without one is a call (SHOW-2)
 unfoldable pub is_reply : List ℕ → Bool
 is_reply bytes = is_one_behind (unsigned_at bytes)
 
@@ -145,7 +145,7 @@ head_text command status number other =
 abbrev pub is_other : SmbHead → Bool
 is_other h = is_none (command_of h.command)
 
--- CANCEL has no reply, but for the error form
+-- CANCEL has no reply, except in the error form (SHOW-4)
 abbrev pub is_other_reply : SmbHead → Bool
 is_other_reply h = is_other h || (h.command == 12 && h.status == 0)
 

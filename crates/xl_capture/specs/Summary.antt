@@ -49,7 +49,7 @@ abbrev pub or_status : Option NlmStatus → Option NlmStatus → Option NlmStatu
 or_status None other = other
 or_status (Some status) other = Some status
 
--- the first status that is told by what an entry sends
+-- the first status that is told by what an entry sends (MAKE-1)
 abbrev pub told_status : List Out → Option NlmStatus
 told_status [] = None
 told_status (o ∷ os) = or_status (sent_status o.dest o.bytes) (told_status os)

@@ -41,7 +41,7 @@ ahead_of due [] = 0
 ahead_of due (e ∷ es) = or_more (due_of due e.outs) (ahead_of due es)
 
 -- What a search from a place on found: the first call that is due from there, the place of its entry, and the place past
--- the last entry, which stands for both where no call is due.
+-- the last entry, which stands for both if no call is due (THREAD-5).
 pub record IsFound (due : Due) (first from : ℕ) (log : List Entry) (found : Found) : Type 0 where
   pub call : found.call ≡ due_in due (entries_from first from log)
   pub at : found.at ≡ from + ahead_of due (entries_from first from log)

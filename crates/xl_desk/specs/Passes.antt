@@ -39,7 +39,7 @@ module _ {O : Type 0} where
     pub shares : after.shares ≡ before.shares
 
   -- The journal begins with all that the pass had seen, and ends with this call, at this place; it is one more call of
-  -- the pass, and the only one. The machine isn't halted.
+  -- the pass, and the only one, whose own place counts from the first entry (THREAD-3). The machine isn't halted.
   pub record IsCalled (before after : View O) (place : ℕ) (event : Event) : Type 0 where
     pub goes : Goes before after
     pub seen : (between : List Entry) × (entry : Entry) × (after.seen ≡ (before.seen ++ between) ++ entry ∷ []) × (place ≡ before.first + length (before.seen ++ between)) × (entry.event ≡ event)
@@ -48,7 +48,7 @@ module _ {O : Type 0} where
     pub shares : after.shares ≡ before.shares
     pub runs : after.halt ≡ None
 
-  -- the pass has seen just so many entries, behind which the machine is halted for this reason, for good
+  -- the pass has seen just so many entries, behind which the machine is halted for this reason, for good (THREAD-4)
   pub record IsHalted (may_halt : List Entry → Halt → Type 0) (before after : View O) (reason : Halt) (n : ℕ) : Type 0 where
     pub goes : Goes before after
     pub none : MadeNone before after

@@ -117,8 +117,8 @@ Is history halt_of origin_of h log halt origin = (history h ≡ log) × (halt_of
 
 module _ {H O : Type 0} (history : H → List Entry) (halt_of : H → Option Halt) (origin_of : H → O) (first : O → ℕ) (lawful : O → List Entry → Type 0) (may_halt : List Entry → Halt → Type 0) where
   -- What holds between any two steps. The journal is lawful, and word 0 counts it. Word 1 is the number of a halt that may
-  -- come behind it. The machine is at home exactly where nobody has the turn, and has the journal as its history. The
-  -- entries from the start on are the calls of all seats, each once; and their shares add up to all.
+  -- come behind it. The machine is at home exactly if nobody has the turn, and has the journal as its history. The
+  -- entries from the start on are the calls of all seats, each once; and their shares add up to all (THREAD-1).
   pub record OneTurn (s : State (Option H) (View O)) : Type 0 where
     pub log : List Entry
     pub start : ℕ
@@ -161,7 +161,7 @@ module _ {H O : Type 0} where
   abbrev pub HasInHand : Sat H O → (H → Type 0) → Type 0
   HasInHand m p = (h : H) × (in_hand m.1 ≡ Some h) × p h
 
-  -- where the turn was free it is taken, and the machine with it
+  -- if the turn was free it is taken, and the machine with it; the seat sees the whole journal then (THREAD-2)
   abbrev pub taken : (H → List Entry) → (H → Option Halt) → (H → O) → (O → ℕ) → (O → List Entry → Type 0) → Step (Option H) → Sat H O → ℕ → Sat H O → Type 0
   taken history halt_of origin_of first lawful st m r m' = (r ≡ 0 → (h : H) × (m' ≡ (with_turn m.0 (history h) (halt_of h), (0, Some h) ∷ m.1)) × IsPrefix m.0.seen (history h) × lawful (origin_of h) (history h) × (m.0.origin ≡ Some (origin_of h)) × (m.0.first ≡ first (origin_of h)) × IfSome m.0.halt (λ reason. halt_of h ≡ Some reason))
       × (r ≢ 0 → m' ≡ m)
@@ -199,7 +199,7 @@ module _ {H O : Type 0} (history : H → List Entry) (halt_of : H → Option Hal
 -- ---- the end
 
 -- All calls are in. The journal begins with what the pass has seen, is lawful, and has grown by just the pass's calls: each of
--- its entries from the start on is one of them, and stands among them once. A halt that was seen is the machine's.
+-- its entries from the start on is one of them, and stands among them once. A halt that was seen is the machine's (THREAD-4).
 pub record IsClosed {H O : Type 0} (history : H → List Entry) (halt_of : H → Option Halt) (origin_of : H → O) (lawful : O → List Entry → Type 0) (v : View O) (h : H) : Type 0 where
   pub seen : IsPrefix v.seen (history h)
   pub origin : v.origin ≡ Some (origin_of h)

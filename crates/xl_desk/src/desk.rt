@@ -116,7 +116,7 @@ impl<H: Serial> Desk<H> {
 
     /// What the journal, once the turn is free, sends to the connection in its entries from this place on, and the place
     /// past its last entry. The place is one of those that the pass knows: none before the first, and at most the one past
-    /// the last that it has seen. Want of memory is the only error; the pass has seen the journal all the same.
+    /// the last that it has seen. The only error is that memory ran out; the pass has seen the journal all the same (THREAD-6).
     #[tactic(auto, using(crate::proofs::Steps::lawful_from))]
     pub fn look<R: Wait>(
         &self,
@@ -172,7 +172,7 @@ impl<H: Serial> Desk<H> {
     }
 
     /// The first call that is due in the journal, once the turn is free, among its entries from this place on, which is as
-    /// for `look`. Want of memory is the only error; the pass has seen the journal all the same.
+    /// for `look`. The only error is that memory ran out; the pass has seen the journal all the same (THREAD-6).
     #[tactic(auto, using(crate::proofs::Steps::lawful_from))]
     pub fn next_call<R: Wait>(
         &self,

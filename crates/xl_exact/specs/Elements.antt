@@ -39,11 +39,11 @@ meets first len e =
 abbrev pub conflicts : ℕ → ℕ → Bool → Element → Bool
 conflicts first len exclusive e = meets first len e && (exclusive || e.exclusive)
 
--- the open's own lock does: they meet, and it is exclusive
+-- the open's own lock does: they meet, and it is exclusive (EXACT-4)
 abbrev pub conflicts_own : ℕ → ℕ → Bool → Element → Bool
 conflicts_own first len exclusive e = meets first len e && exclusive
 
--- the first such element, in the order of locking
+-- the first such element, in the order of locking (EXACT-4)
 abbrev pub first_conflict : ℕ → ℕ → Bool → List Element → Option Element
 first_conflict first len exclusive es = find (conflicts first len exclusive) es
 
@@ -73,6 +73,6 @@ unlocked first len es =
 abbrev pub place_unlocked : ℕ → ℕ → List Element → Option ℕ
 place_unlocked first len es = option_or (position (is_exclusive_at first len) es) (position (has_range first len) es)
 
--- the elements after the last k locks are taken back
+-- the elements after the last k locks are taken back (EXACT-3)
 abbrev pub undone : ℕ → List Element → List Element
 undone k es = take (length es - k) es

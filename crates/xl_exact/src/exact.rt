@@ -10,7 +10,7 @@ use std::alloc::{AllocError, Global};
 use std::marker::Model;
 
 /// The byte ranges that one SMB open has locked in one file, one element for each lock, in the order of locking. Elements
-/// may overlap and may be equal. A contract sees the elements, and how many more fit without memory.
+/// may overlap and may be equal (EXACT-1). A contract sees the elements, and how many more fit without memory.
 #[derive(Drop)]
 pub struct Exact {
     items: Vec<Element>,

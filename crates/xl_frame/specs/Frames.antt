@@ -35,8 +35,8 @@ count_of Smb number = number
 abbrev pub long_fault : ℕ → Option FrameBad
 long_fault count = if nat_lt most_message_bytes count then Some (Long count) else None
 
--- the fault of a record's fragment, where the record may have so many fragments more, of at most 64, and has the sum of
--- bytes without this one
+-- the fault of a record's fragment, if the record may have so many fragments more, of at most 64, and has the sum of
+-- bytes without this one (WIRE-2)
 abbrev pub record_fault : ℕ → ℕ → Bool → ℕ → Option FrameBad
 record_fault left sum last count = if not last && count == 0 then Some Empty else if left == 0 then Some (Fragments 65) else long_fault (sum + count)
 
@@ -61,7 +61,7 @@ judged None last count rest = if nat_lt (length rest) count then Short else if l
 abbrev pub under : Kind → ℕ → ℕ → ℕ → ℕ → List ℕ → Fragment
 under kind left sum first number rest = judged (fault_of kind left sum first number) (is_last kind number) (count_of kind number) rest
 
--- a header is judged once its four bytes stand
+-- a header is judged once its four bytes stand (WIRE-2)
 unfoldable pub fragment_at : Kind → ℕ → ℕ → List ℕ → Fragment
 fragment_at kind left sum bytes = if nat_lt (length bytes) 4 then Short else under kind left sum (get_or (take 4 bytes) 0 0) (from_be_bytes w32 (take 4 bytes)) (drop 4 bytes)
 
@@ -98,7 +98,7 @@ front_of kind bytes = message_at kind 64 0 bytes
 -- ---- streams
 
 -- what a stream of bytes is cut into: the messages of its whole frames in order, the bytes behind them, and the fault
--- of the first bad place. Behind a bad place nothing is kept: the rest is [] there.
+-- of the first bad place. Behind a bad place nothing is kept: the rest is [] there (WIRE-2).
 pub record Framed : Type 0 where
   pub frames : List (List ℕ)
   pub rest : List ℕ

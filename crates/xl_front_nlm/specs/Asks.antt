@@ -34,13 +34,14 @@ ask_of owner caller file act blocking reclaim rows = record {
 
 -- ---- ranges
 
--- the owner of what a lock names
+-- the owner of what a lock names (NLM-16)
 abbrev pub owner_of : LockItem → Name
 owner_of l = NlmRange l.caller_name l.svid l.oh
 
 abbrev pub test_ask : TestArgsItem → Aim → Ask
 test_ask a at = ask_of (owner_of a.lock) a.lock.caller_name at.file (acts.Test (Bytes at.first at.last) a.exclusive) false false no_rows
 
+-- a lock waits only if the client blocks, and then for its whole range (NLM-8)
 abbrev pub lock_ask : Rooms → LockArgsItem → Aim → Ask
 lock_ask rows a at = ask_of (owner_of a.lock) a.lock.caller_name at.file (acts.Ranges ((Bytes at.first at.last, a.exclusive) ∷ [])) a.block a.reclaim rows
 

@@ -19,7 +19,7 @@ use Rattle.xl_front_nlm.specs.declared.outcome.Outcome.TheVariants.{NoFile, TooB
 
 -- ---- all calls but TEST
 
--- the map of the core's answers (NLM-14)
+-- the map of the core's answers (NLM-7, NLM-14)
 abbrev pub answer_status : Answer → NlmStatus
 answer_status (answers.Granted c) = stats.Granted
 answer_status (answers.Conflict c) = stats.Denied

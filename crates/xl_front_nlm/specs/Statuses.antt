@@ -35,9 +35,9 @@ status_told _ outcome = None
 
 -- ---- by what the core is due to answer
 
--- a lock or a share, by the state that it is judged in: granted where nothing stands against it and there is room; denied
--- where something does for good or a cache keeps it off, or blocked where it may wait for that and there is room for the
--- wait; no locks where the least limit that it passes is told; a reclaim is too late
+-- a lock or a share, by the state that it is judged in: granted if nothing stands against it and there is room; denied
+-- if something does for good or a cache keeps it off, or blocked if it may wait for that and there is room for the
+-- wait (NLM-8); no locks if the least limit that it passes is told; a reclaim is too late (NLM-7)
 abbrev pub IsClaimTold : Rooms → CoreState → Ask → Claim → NlmStatus → Type 0
 IsClaimTold left s a claim stats.Granted = IsClaimDue left s a claim (answers.Granted claim)
 IsClaimTold left s a claim stats.Denied = ((c : Claim) × IsClaimDue left s a claim (answers.Conflict c)) ⊎ ((c : Claim) × IsClaimDue left s a claim (answers.Recall c))
@@ -57,7 +57,7 @@ IsTestTold s a claim stats.Granted = IsTestDue s a claim (answers.Granted claim)
 IsTestTold s a claim stats.Denied = (c : Claim) × IsTestDue s a claim (answers.Conflict c)
 IsTestTold s a claim _ = ⊥
 
--- an unlock: granted whether the bytes were held or not, and no locks where it cuts a range in two and there is no room
+-- an unlock: granted whether the bytes were held or not, and no locks if it cuts a range in two and there is no room (NLM-18)
 abbrev pub IsUnlockTold : CoreState → Claim → ℕ → ℕ → NlmStatus → Type 0
 IsUnlockTold s claim first last stats.Granted = IsUnlockDue s claim first last (answers.Granted claim) ⊎ IsUnlockDue s claim first last answers.NotHeld
 IsUnlockTold s claim first last stats.DeniedNolocks = IsUnlockDue s claim first last (answers.Full most_claims)

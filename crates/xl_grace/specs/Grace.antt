@@ -51,7 +51,7 @@ has_names (name ∷ names) = true
 abbrev pub end_of : Moment → ℕ → Moment
 end_of now milliseconds = record { 0 = min (now.0 + milliseconds) (2 ^ 64 - 1) }
 
--- grace after a start at this moment, of so many milliseconds: none runs if nobody is recorded
+-- grace after a start at this moment, of so many milliseconds: none runs if nobody is recorded (RECORD-7)
 abbrev pub begun : Stable → Moment → ℕ → Option Running
 begun stable now milliseconds = by stable.names where
   by : List Recorded → Option Running
@@ -65,17 +65,17 @@ admission None name false = Enters
 admission (Some g) name true = if may_reclaim name g.reclaimants then Enters else NotRecorded
 admission (Some g) name false = Grace g.end
 
--- a client reclaimed something
+-- a client reclaimed something; a name that may not reclaim changes nothing (RECORD-9)
 abbrev pub reclaimed : Recorded → Option Running → Option Running
 reclaimed name None = None
 reclaimed name (Some g) = Some (record { end = g.end; reclaimants = noted name g.reclaimants })
 
--- a client expired: the record lacks its name from now on
+-- a client expired: the record lacks its name from now on (RECORD-8)
 abbrev pub expired : Recorded → Option Running → Option Running
 expired name None = None
 expired name (Some g) = Some (record { end = g.end; reclaimants = others name g.reclaimants })
 
--- a reading of the clock ends the grace, once the record without the names that reclaimed nothing is stored
+-- a reading of the clock ends the grace, once the record without the names that reclaimed nothing is stored (RECORD-7)
 abbrev pub is_over : Option Running → Moment → Bool
 is_over None now = false
 is_over (Some g) now = nat_le g.end.0 now.0

@@ -20,7 +20,7 @@ pub record Housed (K : Type 0) : Type 0 where
   pub halt : Option Halt
   pub keeper : K
 
--- a house that found no memory in a step is spent: its state counts for nothing
+-- a house that found no memory in a step is spent: its state counts for nothing (HOUSE-11)
 abbrev pub is_spoiled : Option Halt → Bool
 is_spoiled (Some NoMemory) = true
 is_spoiled _ = false

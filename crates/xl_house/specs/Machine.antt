@@ -57,7 +57,7 @@ times_of exports = record { lease = exports.lease; grace = exports.grace; break_
 abbrev pub no_fronts : Fronts
 no_fronts = record { nlm = empty_front; nfs = empty_nfs_front; smb = empty_smb_front }
 
--- the state after a first start: nothing is held, and the record is the loaded one with its epoch raised
+-- the state after a first start: nothing is held, and the record is the loaded one with its epoch raised (HOUSE-9)
 abbrev pub begin : Head → Whole
 begin head = record { exports = head.exports; place = 0; connections = []; front = no_fronts; core = started (raised head.record) head.start (times_of head.exports) }
 
@@ -69,7 +69,7 @@ pub record Turn : Type 0 where
 
 -- ---- connections
 
--- the connections with one more, whose number is the place of its opening, where there is room
+-- the connections with one more, whose number is the place of its opening (HOUSE-2), if there is room (HOUSE-3)
 unfoldable pub with_connection : List Connection → ℕ → Kind → List Connection
 with_connection connections place kind =
     if nat_lt (length connections) most_connections then connections ++ record { number = place; kind = kind } ∷ [] else connections
@@ -84,7 +84,7 @@ kind_of connections number = option_map (λ c. c.kind) (find (λ c. c.number == 
 
 -- ---- opens
 
--- how many opens NFSv4 has, closed ones aside, and how many SMB has; there is room for so many together
+-- how many opens NFSv4 has, except closed ones, and how many SMB has, which share one room (HOUSE-5)
 abbrev pub nfs_opens : Fronts → ℕ
 nfs_opens f = opens f.nfs.state.stateids
 
@@ -143,6 +143,7 @@ all_shown exports f s (effect ∷ effects) = and_then (λ g t. all_shown exports
 -- ---- settling
 
 -- the room that is left in the fronts' tables: for hosts of NLM, for owners of NFSv4, and for opens of NFSv4 and SMB together
+-- (HOUSE-5)
 abbrev pub rooms_of : Fronts → Rooms
 rooms_of f = record { hosts = most_hosts - length f.nlm.hosts; owners = most_owners - length f.nfs.state.owners; opens = most_opens - nfs_opens f - smb_opens f }
 
@@ -220,7 +221,7 @@ begun f connections place kind = if nat_lt (length connections) most_connections
 abbrev pub called_done : Exports → List Effect × Fronts × CoreState → Sent
 called_done exports r = all_shown exports r.1 r.2 r.0
 
--- what the end of a connection of this kind gives, if it was open
+-- what the end of a connection of this kind gives, if it was open; that of ONC RPC changes nothing (NLM-20)
 abbrev pub ended_by : Exports → Fronts → CoreState → Option Kind → ℕ → Sent
 ended_by exports f s (Some Smb) number = called_done exports (after_end f (smb_end f.smb s number))
 ended_by exports f s (Some Rpc) number = ([], f, s)
@@ -255,11 +256,12 @@ onward s connections front core = record { exports = s.exports; place = s.place 
 abbrev pub turn_of : Whole → List Connection → Sent → Turn
 turn_of s connections done = record { next = onward s connections done.1 done.2; made = done.2.made; outs = done.0 }
 
--- what an event gives, once the table is settled
+-- what an event gives, once the table is settled, which it is after each (HOUSE-6)
 abbrev pub settled_turn : ℕ → Whole → List Connection → Sent → Turn
 settled_turn n s connections done = turn_of s connections (and_then (settled n s.exports) done)
 
--- A restart begins anew from the record with its epoch raised, which is stored. The clock goes on, and so do the places.
+-- A restart begins anew from the record with its epoch raised, which is stored. The clock goes on, and so do the places
+-- (HOUSE-2, HOUSE-10).
 abbrev pub restarted : Whole → Turn
 restarted s = record {
   next = record { exports = s.exports; place = s.place + 1; connections = []; front = no_fronts; core = started (raised s.core.stable) s.core.clock (times_of s.exports) };

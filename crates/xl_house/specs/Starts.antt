@@ -10,10 +10,10 @@ given_at_start loaded given = option_map (λ list. list ++ raised loaded ∷ [])
 abbrev pub no_record : Stable
 no_record = record { epoch = 0; names = [] }
 
--- the loaded record, or the empty one where none was loaded
+-- the loaded record, or the empty one if none was loaded (RECORD-3)
 abbrev pub IsLoaded : Option Stable → Stable → Type 0
 IsLoaded held loaded = Holds held loaded ⊎ (loaded ≡ no_record)
 
--- nothing was given; or the record that the keeper held was loaded, and just that was given with its epoch raised
+-- nothing was given; or the record that the keeper held was loaded, and just that was given with its epoch raised (RECORD-3)
 abbrev pub IsGiven : Option Stable → Stable → Option (List Stable) → Option (List Stable) → Type 0
 IsGiven held loaded old new = (new ≡ old) ⊎ (Holds held loaded × (new ≡ given_at_start loaded old))

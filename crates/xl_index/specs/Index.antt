@@ -12,7 +12,7 @@ abbrev pub most_indexed : ℕ
 most_indexed = 65536
 
 -- The index is that of these claims: its moments are the deadlines of their breaks that run, in order, each test passing for
--- as many of both, with room for one of each claim; and it tells of each stand how many of them bear it.
+-- as many of both, with room for one of each claim (TABLE-15); and it tells of each stand how many of them bear it (TABLE-14).
 pub record IsIndexOf (index : Index) (cs : List Claim) : Type 0 where
   pub rising : AreRising index.deadlines.items
   pub dated : (p : ℕ → Bool) → passing p index.deadlines.items ≡ running p cs

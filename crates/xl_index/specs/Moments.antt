@@ -20,7 +20,7 @@ runs p _ = false
 abbrev pub running : (ℕ → Bool) → List Claim → ℕ
 running p cs = total (λ c. one (runs p c.what)) cs
 
--- none of these moments is later than one behind it
+-- none of these moments is later than one behind it (TABLE-15)
 abbrev pub AreRising : List ℕ → Type 0
 AreRising [] = Unit {0}
 AreRising (m ∷ ms) = AllByRecursion (λ n. m ≤ n) ms × AreRising ms

@@ -17,7 +17,7 @@ use Rattle.xl_matrix.specs.declared.claim.Claim.{Claim}
 use Rattle.xl_index.specs.Totals.{one}
 use Rattle.xl_index.specs.declared.stands.Stand.{Stand}
 
--- a number for each who may stand: no two have the same
+-- a number for each who may stand: no two have the same (TABLE-14)
 abbrev pub kind_of : Protocol → ℕ
 kind_of Nlm = 0
 kind_of Nfs = 1
@@ -51,7 +51,7 @@ bears at c = one (is_here at (who_of c.party) c.file) + owned_here at c.file c.o
 abbrev pub many_at : BTreeMap Stand ℕ → Stand → ℕ
 many_at stands at = unwrap_or (get stand_cmp stands at) 0
 
--- no stand is kept at which none is told
+-- no stand is kept at which none is told (TABLE-14)
 abbrev pub AreTold : BTreeMap Stand ℕ → Type 0
 AreTold stands = (at : Stand) → get stand_cmp stands at ≢ Some 0
 

@@ -40,6 +40,6 @@ abbrev pub is_met_by_own : Claim → Claim → Bool
 is_met_by_own ask held = (ask.file == held.file) && (same_owners ask.owner held.owner && is_met ask.owner ask.what held.owner held.what)
 
 -- the held claim blocks the ask: both may not be held together, or an SMB open asks for an exclusive range where it
--- has one; but what the ask replaces doesn't
+-- has one (CLAIM-2); but what the ask replaces doesn't (TABLE-7)
 unfoldable pub blocks : Claim → Claim → Bool
 blocks ask held = not (is_own ask held) && (not (compat ask held) || is_met_by_own ask held)

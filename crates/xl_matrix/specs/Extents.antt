@@ -13,15 +13,15 @@ abbrev pub has_both_sides : Extent → ℕ → Bool
 has_both_sides (Bytes first last) offset = nat_lt first offset && nat_le offset last
 has_both_sides (Empty at) offset = false
 
--- two ranges meet: where they have a common byte, or where both are SMB ranges and one of them is empty and lies
--- between two bytes of the other
+-- two ranges meet: if they have a common byte, or if both are SMB ranges and one of them is empty and lies between
+-- two bytes of the other (CLAIM-3)
 abbrev pub meeting : Bool → Extent → Extent → Bool
 meeting smb (Bytes first last) (Bytes start end) = nat_le (max first start) (min last end)
 meeting smb (Bytes first last) (Empty offset) = smb && has_both_sides (Bytes first last) offset
 meeting smb (Empty offset) (Bytes first last) = smb && has_both_sides (Bytes first last) offset
 meeting smb (Empty offset) (Empty at) = false
 
--- the bytes of the first are bytes of the second; an empty range lies within itself alone
+-- the bytes of the first are bytes of the second; an empty range lies within itself alone (CLAIM-5)
 abbrev pub lies_in : Extent → Extent → Bool
 lies_in (Bytes first last) (Bytes start end) = nat_le start first && nat_le last end
 lies_in (Empty offset) (Empty at) = offset == at

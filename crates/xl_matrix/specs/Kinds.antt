@@ -24,7 +24,7 @@ keeps_handle ReadDeleg = true
 keeps_handle WriteDeleg = true
 
 -- the cache stands against a share of another party: one that may write against each share that has or denies
--- anything, a read delegation against writing and against a share that denies reading
+-- anything, a read delegation against writing and against a share that denies reading (CLAIM-4)
 abbrev pub guarding : CacheKind → Rwd → Rwd → Bool
 guarding R access deny = false
 guarding RH access deny = false

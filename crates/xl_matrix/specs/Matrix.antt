@@ -17,12 +17,12 @@ use Rattle.xl_matrix.specs.Equal.{same_owners, same_parties}
 abbrev pub shares_fit : Rwd → Rwd → Rwd → Rwd → Bool
 shares_fit access deny rights denied = not (common access denied) && not (common rights deny)
 
--- the ranges of these owners meet: an empty range stands against SMB ranges alone
+-- the ranges of these owners meet: an empty range stands against SMB ranges alone (CLAIM-3)
 abbrev pub ranges_meet : Owner → Extent → Owner → Extent → Bool
 ranges_meet owner extent other place = meeting (not (posix owner) && not (posix other)) extent place
 
--- which modes may stand on one byte: of two owners both shared, of one POSIX owner none, of one SMB open all but
--- two exclusive ones
+-- which modes may stand on one byte: of two owners both shared, of one POSIX owner none, of one SMB open all except
+-- two exclusive ones (CLAIM-2)
 abbrev pub modes_fit : Owner → Bool → Owner → Bool → Bool
 modes_fit owner exclusive other alone =
     if same_owners owner other
@@ -33,7 +33,7 @@ modes_fit owner exclusive other alone =
 abbrev pub ranges_fit : Owner → Extent → Bool → Owner → Extent → Bool → Bool
 ranges_fit owner extent exclusive other place alone = not (ranges_meet owner extent other place) || modes_fit owner exclusive other alone
 
--- the matrix on one file, for what the two claims claim
+-- the matrix on one file, for what the two claims claim; a break that runs changes nothing (CLAIM-4)
 unfoldable pub fit_by : Claim → Claim → What → What → Bool
 fit_by a b (Share access deny) (Share rights denied) = shares_fit access deny rights denied
 fit_by a b (Share access deny) (Range extent exclusive) = true
@@ -45,7 +45,7 @@ fit_by a b (Cache kind running) (Share access deny) = same_parties a.party b.par
 fit_by a b (Cache kind running) (Range extent exclusive) = same_parties a.party b.party
 fit_by a b (Cache kind running) (Cache other due) = not (same_parties a.party b.party) && (not (writes kind) && not (writes other))
 
--- two claims may be held together: on two files, or where the matrix says so
+-- two claims may be held together: on two files, or if the matrix says so (CLAIM-1)
 unfoldable pub compat : Claim → Claim → Bool
 compat a b = not (a.file == b.file) || fit_by a b a.what b.what
 

@@ -17,7 +17,7 @@ protocol_of (NfsShare client owner) = Nfs
 protocol_of (NfsParty client) = Nfs
 protocol_of (SmbLease guid key) = Smb
 
--- one name: the same protocol, the same kind and the same parts
+-- one name: the same protocol, the same kind and the same parts (NAME-1)
 abbrev pub same_name : Name → Name → Bool
 same_name (NlmRange a n b) (NlmRange c m d) = bytes_eq a c && (int_eq n m && bytes_eq b d)
 same_name (NlmShare a b) (NlmShare c d) = bytes_eq a c && bytes_eq b d
@@ -28,7 +28,7 @@ same_name (NfsParty a) (NfsParty b) = bytes_eq a b
 same_name (SmbLease a b) (SmbLease c d) = bytes_eq a c && bytes_eq b d
 same_name _ _ = false
 
--- the number of a name, or None where it is not kept
+-- the number of a name, or None if it is not kept (NAME-1)
 abbrev pub number_of : Name → List Name → Option ℕ
 number_of name names = position (same_name name) names
 

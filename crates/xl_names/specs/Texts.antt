@@ -10,7 +10,7 @@ use Rattle.xl_base.specs.declared.name.Party.TheVariants as party
 use Rattle.xl_names.specs.declared.name.Name.{Name}
 use Rattle.xl_names.specs.declared.name.Name.TheVariants.{NlmRange, NlmShare, NlmParty, NfsRange, NfsShare, NfsParty, SmbLease}
 
--- bytes as a word of lower case hex; a dash stands for none
+-- bytes as a word of lower case hex; a dash stands for none (NAME-2)
 abbrev pub hex_word : List ℕ → List ℕ
 hex_word [] = codes "-"
 hex_word (b ∷ bs) = encode_lower (b ∷ bs)
@@ -22,7 +22,7 @@ tagged tag one = tag ++ hex_word one
 abbrev pub tagged_two : List ℕ → List ℕ → List ℕ → List ℕ
 tagged_two tag one two = tag ++ hex_word one ++ codes "/" ++ hex_word two
 
--- the text of a name: nlm:CALLER/SVID/OH, nlm:CALLER/OH, nlm:CALLER, nfs:CLIENT/OWNER, nfs:CLIENT, smb:GUID/KEY
+-- the text of a name: nlm:CALLER/SVID/OH, nlm:CALLER/OH, nlm:CALLER, nfs:CLIENT/OWNER, nfs:CLIENT, smb:GUID/KEY (NAME-2)
 unfoldable pub name_text : Name → List ℕ
 name_text (NlmRange caller svid oh) = codes "nlm:" ++ hex_word caller ++ codes "/" ++ signed_decimal svid ++ codes "/" ++ hex_word oh
 name_text (NlmShare caller oh) = tagged_two (codes "nlm:") caller oh
@@ -32,11 +32,11 @@ name_text (NfsShare client owner) = tagged_two (codes "nfs:") client owner
 name_text (NfsParty client) = tagged (codes "nfs:") client
 name_text (SmbLease guid key) = tagged_two (codes "smb:") guid key
 
--- the text of an SMB open, by its number
+-- the text of an SMB open, by its number (NAME-2)
 abbrev pub open_text : ℕ → List ℕ
 open_text number = codes "smb:" ++ decimal number
 
--- the text of the name with this number
+-- the text of the name with this number, which is empty if it is not kept (NAME-2)
 abbrev pub text_at : Option Name → List ℕ
 text_at None = []
 text_at (Some name) = name_text name
@@ -60,7 +60,7 @@ IsOfBytes (NfsShare client owner) = IsBytes client × IsBytes owner
 IsOfBytes (NfsParty client) = IsBytes client
 IsOfBytes (SmbLease guid key) = IsBytes guid × IsBytes key
 
--- a name as its text tells it: an NFSv4 owner of ranges and one of shares have texts of one form
+-- a name as its text tells it: an NFSv4 owner of ranges and one of shares have texts of one form (NAME-3)
 abbrev pub text_form : Name → Name
 text_form (NfsShare client owner) = NfsRange client owner
 text_form name = name

@@ -9,8 +9,8 @@ use std::alloc::{AllocError, Global};
 use std::fmt::Write;
 use xl_base::{Owner, Party};
 
-/// Adds bytes as a word: two lower case hex digits a byte, or a dash where there are no bytes. It fails only where memory
-/// runs out.
+/// Adds bytes as a word: two lower case hex digits a byte, or a dash if there are no bytes. It fails only if memory runs
+/// out; the text may hold a beginning of the word then (NAME-4).
 pub fn put_hex_word(alloc: Global, text: &mut String, bytes: &[u8]) -> Result<(), AllocError>
     ensures { OnOk result (string_bytes text.new ≡ string_bytes text.old ++ hex_word bytes.now) }
 {

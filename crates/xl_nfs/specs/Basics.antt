@@ -15,7 +15,7 @@ use Rattle.xl_nfs.specs.declared.basics.LockType.TheVariants as types
 abbrev pub most_text_bytes : ℕ
 most_text_bytes = 1024
 
--- opaque data: a tag, an owner or a client's id, a handle, and what has no bound but what its length can say
+-- opaque data: a tag, an owner or a client's id, a handle, and what has no bound except what its length can say (NFS-2)
 abbrev pub identifier : Format (List ℕ) RpcBad
 identifier = text most_text_bytes refl
 
@@ -61,7 +61,7 @@ pub lock_type_made : (t : LockType) → (made_lock_type (lock_type_number t) ≡
 lock_type_made types.Read = (refl, refl)
 lock_type_made _ = (refl, refl)
 
--- nfs_lock_type4
+-- nfs_lock_type4; any other number is a fault (NFS-3)
 unfoldable pub lock_type : Format LockType RpcBad
 lock_type = numbered bad.Value made_lock_type lock_type_number lock_type_made
 

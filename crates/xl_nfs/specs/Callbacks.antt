@@ -40,7 +40,7 @@ recall_result_made _ = (refl, λ _ _. refl)
 unfoldable pub recall_result : Format RecallResultItem RpcBad
 recall_result = tagged u32 recall_results recall_result_case (λ _. refl, (λ _. refl, none_else recall_result_case _ bad.Value)) recall_result_made
 
--- at most one result
+-- at most one result (NFS-7)
 abbrev pub result_lists : Cases ℕ (Option RecallResultItem) RpcBad
 result_lists = case 0 (λ _. None) nothing (case 1 Some recall_result (otherwise bad.Value))
 
@@ -72,12 +72,14 @@ recall_reply = seen (λ x. record { status = x.0; tag = x.1.0; results = x.1.1 }
 abbrev pub recall_reply_at : List ℕ → Result (RecallReplyItem × List ℕ) RpcBad
 recall_reply_at bytes = recall_reply.at bytes
 
--- the call: the procedure CB_COMPOUND of the client's program, with an empty tag, minor version 0 and the one operation CB_RECALL
+-- the call: the procedure CB_COMPOUND of the client's program, with an empty tag, minor version 0 and the one operation
+-- CB_RECALL
 
 -- AUTH_NONE without a body
 abbrev pub no_auth : AuthItem
 no_auth = record { flavor = 0; body = [] }
 
+-- the xid is the call's number, and credential and verifier are AUTH_NONE (NFS-7)
 abbrev pub recall_head : ℕ → ℕ → HeadItem
 recall_head number program = record { xid = number; prog = program; vers = 1; proc = 1; cred = no_auth; verf = no_auth }
 
@@ -85,7 +87,7 @@ recall_head number program = record { xid = number; prog = program; vers = 1; pr
 unfoldable pub recall_args : Stateid → ℕ → List ℕ
 recall_args s file = stateid.spell s ++ (boolean false ++ opaque (handle file))
 
--- CB_COMPOUND4args
+-- CB_COMPOUND4args (NFS-7)
 unfoldable pub recall_compound : ℕ → Stateid → ℕ → List ℕ
 recall_compound ident s file = opaque [] ++ (unsigned 0 ++ (unsigned ident ++ (unsigned 1 ++ (unsigned 4 ++ recall_args s file))))
 

@@ -8,7 +8,7 @@ use Rattle.xl_nfs.specs.Basics.{identifier, verifier}
 use Rattle.xl_nfs.specs.declared.clients.SetClientIdArgs.{SetClientIdArgs}
 use Rattle.xl_nfs.specs.declared.clients.ClientConfirm.{ClientConfirm}
 
--- netid and address of clientaddr4
+-- netid and address of clientaddr4 (NFS-2)
 abbrev pub label : Format (List ℕ) RpcBad
 label = text 64 refl
 

@@ -15,7 +15,7 @@ use Rattle.xl_nfs.specs.declared.opened.Delegation.{Delegation}
 use Rattle.xl_nfs.specs.declared.opened.Delegation.TheVariants as wire
 use Rattle.xl_nfs.specs.declared.opened.OpenResult.{OpenResult}
 
--- nfs_space_limit4: a size alone
+-- nfs_space_limit4: a size alone (NFS-5)
 unfoldable pub limit : Format ℕ RpcBad
 limit = marked 1 bad.Value refl u64
 
@@ -33,7 +33,7 @@ pub record AceItem : Type 0 where
 abbrev pub shown_ace : Ace → AceItem
 shown_ace x = record { kind = x.kind; flag = x.flag; mask = x.mask; who = x.who.now }
 
--- nfsace4
+-- nfsace4, which is not judged (NFS-6)
 unfoldable pub ace : Format AceItem RpcBad
 ace = seen (λ x. record { kind = x.0; flag = x.1.0; mask = x.1.1.0; who = x.1.1.1 }) (λ x. (x.kind, (x.flag, (x.mask, x.who)))) (u32 ⋆ u32 ⋆ u32 ⋆ name) (λ _. refl) (λ _. refl)
 

@@ -43,7 +43,7 @@ pub record AttributesItem : Type 0 where
 abbrev pub shown_attributes : Attributes → AttributesItem
 shown_attributes x = record { mask = x.mask.words.now; values = x.values.now }
 
--- fattr4
+-- fattr4, whose mask and values are not judged (NFS-6)
 unfoldable pub attributes : Format AttributesItem RpcBad
 attributes = seen (λ x. record { mask = x.0; values = x.1 }) (λ x. (x.mask, x.values)) (array ⋆ name) (λ _. refl) (λ _. refl)
 
@@ -70,7 +70,7 @@ pub create_how_made : (x : CreateHowItem) → IsMade create_hows x (create_how_c
 create_how_made (Unchecked x) = (refl, λ _ _. refl)
 create_how_made _ = (refl, λ _ _. refl)
 
--- createhow4
+-- createhow4; any other mode is a fault (NFS-3)
 unfoldable pub create_how : Format CreateHowItem RpcBad
 create_how = tagged u32 create_hows create_how_case (λ _. refl, (λ _. refl, (λ _. refl, none_else create_how_case _ bad.Value))) create_how_made
 
@@ -94,7 +94,7 @@ pub open_how_made : (x : OpenHowItem) → IsMade open_hows x (open_how_case x)
 open_how_made NoCreate = (refl, λ _ _. refl)
 open_how_made _ = (refl, λ _ _. refl)
 
--- openflag4
+-- openflag4; any other form is a fault (NFS-3)
 unfoldable pub open_how : Format OpenHowItem RpcBad
 open_how = tagged u32 open_hows open_how_case (λ _. refl, (λ _. refl, none_else open_how_case _ bad.Value)) open_how_made
 
@@ -111,7 +111,7 @@ pub delegation_type_made : (t : DelegationType) → (made_delegation_type (deleg
 delegation_type_made types.None = (refl, refl)
 delegation_type_made _ = (refl, refl)
 
--- open_delegation_type4
+-- open_delegation_type4; any other number is a fault (NFS-3)
 unfoldable pub delegation_type : Format DelegationType RpcBad
 delegation_type = numbered bad.Value made_delegation_type delegation_type_number delegation_type_made
 
@@ -153,7 +153,7 @@ pub open_claim_made : (x : OpenClaimItem) → IsMade open_claims x (open_claim_c
 open_claim_made (Null x) = (refl, λ _ _. refl)
 open_claim_made _ = (refl, λ _ _. refl)
 
--- open_claim4
+-- open_claim4; any other claim is a fault (NFS-3)
 unfoldable pub open_claim : Format OpenClaimItem RpcBad
 open_claim = tagged u32 open_claims open_claim_case (λ _. refl, (λ _. refl, (λ _. refl, (λ _. refl, none_else open_claim_case _ bad.Value)))) open_claim_made
 
@@ -169,7 +169,7 @@ pub record OpenArgsItem : Type 0 where
 abbrev pub shown_open_args : OpenArgs → OpenArgsItem
 shown_open_args x = record { seqid = x.seqid; access = x.access; deny = x.deny; owner = shown_owner x.owner; how = shown_open_how x.how; claim = shown_open_claim x.claim }
 
--- OPEN4args
+-- OPEN4args, whose access and deny are not judged here (NFS-3)
 unfoldable pub open_args : Format OpenArgsItem RpcBad
 open_args = seen (λ x. record { seqid = x.0; access = x.1.0; deny = x.1.1.0; owner = x.1.1.1.0; how = x.1.1.1.1.0; claim = x.1.1.1.1.1 })
     (λ x. (x.seqid, (x.access, (x.deny, (x.owner, (x.how, x.claim)))))) (u32 ⋆ u32 ⋆ u32 ⋆ owner ⋆ open_how ⋆ open_claim) (λ _. refl) (λ _. refl)

@@ -64,10 +64,11 @@ shown_op (op_wire.Illegal n) = Illegal n
 abbrev pub is_numbered : ℕ → Bool
 is_numbered n = nat_le 3 n && nat_le n 39
 
--- an operation whose arguments are not read
+-- an operation whose arguments are not read (NFS-1)
 abbrev pub other_op : ℕ → OpItem
 other_op n = if is_numbered n then NotSupported n else Illegal n
 
+-- those whose arguments are read (NFS-1)
 abbrev pub ops : Cases ℕ OpItem RpcBad
 ops =
     case 4 Close close_args (case 8 DelegReturn stateid (case 10 (λ _. GetFh) nothing (case 12 Lock lock_args (

@@ -89,7 +89,7 @@ pub told_fits : (s : NfsStatus) → (told s).Fit tt
 unfolding told
 told_fits s = nothing_fits
 
--- what stands behind the number of an operation whose arguments are not read, and behind 10,044
+-- what stands behind the number of an operation whose arguments are not read, and behind 10,044 (NFS-4)
 abbrev pub other_result : Bool → Bool → ℕ → Format ResultItem RpcBad
 other_result true illegal n = giving (NotSupportedAnswer n) (told statuses.NotSupp) (told_fits statuses.NotSupp)
 other_result false true n = giving IllegalAnswer (told statuses.OpIllegal) (told_fits statuses.OpIllegal)

@@ -54,6 +54,6 @@ unfolding made_status status_number
 status_made statuses.Ok = (refl, refl)
 status_made _ = (refl, refl)
 
--- nfsstat4
+-- nfsstat4; any other number is a fault (NFS-4)
 unfoldable pub status : Format NfsStatus RpcBad
 status = numbered bad.Value made_status status_number status_made

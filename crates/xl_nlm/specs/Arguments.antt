@@ -60,7 +60,7 @@ rights_made r = by r.read r.write where
   by false true = (refl, refl)
   by false false = (refl, refl)
 
--- fsh4_mode and fsh4_access: none, read, write, both
+-- fsh4_mode and fsh4_access: none, read, write, both; any other number is a fault (NLM-1)
 unfoldable pub rights : Format Rights RpcBad
 rights = numbered bad.Value made_rights rights_number rights_made
 
@@ -75,7 +75,7 @@ notify = seen (λ n. record { name = n.0; state = n.1 }) (λ n. (n.name, n.state
 
 -- ---- the arguments by their procedure
 
--- the procedures whose arguments and results are known here
+-- the procedures whose arguments and results are known here (NLM-1)
 abbrev pub is_known : ℕ → Bool
 is_known proc = nat_le proc 5 || (nat_le 20 proc && nat_le proc 23)
 

@@ -12,9 +12,10 @@ use Rattle.xl_nlm.specs.Arguments.{test_args}
 abbrev pub no_auth : AuthItem
 no_auth = record { flavor = 0; body = [] }
 
+-- the xid is the call's number, and credential and verifier are AUTH_NONE (NLM-3)
 abbrev pub granted_head : ℕ → HeadItem
 granted_head number = record { xid = number; prog = number_of Nlm; vers = version_of Nlm; proc = 5; cred = no_auth; verf = no_auth }
 
--- the cookie is the call's number in eight bytes
+-- the cookie is the call's number in eight bytes (NLM-3)
 abbrev pub granted_record : ℕ → Bool → LockItem → List ℕ
 granted_record number exclusive lock = call (granted_head number) ++ test_args.spell (record { cookie = big_endian w64 number; exclusive = exclusive; lock = lock })

@@ -32,7 +32,7 @@ pub status_made : (s : NlmStatus) → (made_status (status_number s) ≡ s) × (
 status_made stats.Granted = (refl, refl)
 status_made _ = (refl, refl)
 
--- nlm4_stats
+-- nlm4_stats; any other number is a fault (NLM-1)
 unfoldable pub status : Format NlmStatus RpcBad
 status = numbered bad.Value made_status status_number status_made
 

@@ -17,11 +17,12 @@ abbrev pub number_of : Program → ℕ
 number_of Nlm = 100021
 number_of Nfs = 100003
 
+-- the one version in which it is served (RPC-7)
 abbrev pub version_of : Program → ℕ
 version_of Nlm = 4
 version_of Nfs = 4
 
--- of NLM NULL, TEST, LOCK, CANCEL and UNLOCK; SHARE, UNSHARE, NM_LOCK and FREE_ALL; of NFS NULL and COMPOUND
+-- of NLM NULL, TEST, LOCK, CANCEL and UNLOCK; SHARE, UNSHARE, NM_LOCK and FREE_ALL; of NFS NULL and COMPOUND (RPC-7)
 abbrev pub serves : Program → ℕ → Bool
 serves Nlm procedure = nat_le procedure 4 || (nat_le 20 procedure && nat_le procedure 23)
 serves Nfs procedure = nat_le procedure 1
@@ -31,7 +32,7 @@ program_at number = if number == number_of Nlm then Some Nlm else if number == n
 
 -- ---- a record
 
--- a call of a procedure that is served, with its arguments unread
+-- a call of a procedure that is served, with its arguments unread (HOUSE-12)
 pub record RequestItem : Type 0 where
   pub program : Program
   pub xid : ℕ
@@ -56,7 +57,7 @@ abbrev pub IsServed : Incoming → Type 0
 IsServed (ways.Asked r) = serves r.program r.procedure ≡ true
 IsServed _ = Unit {0}
 
--- its version, then the procedure
+-- its version, then the procedure (RPC-5)
 unfoldable pub in_program : HeadItem → List ℕ → Program → IncomingItem
 in_program head arguments program =
     if not (head.vers == version_of program) then Refused head.xid (ProgMismatch (version_of program) (version_of program))
@@ -72,6 +73,6 @@ incoming_by (Ok call) = in_some call.0 call.1 (program_at call.0.prog)
 incoming_by (Err (bad.Version xid)) = Refused xid (RpcMismatch 2 2)
 incoming_by (Err _) = Unanswered
 
--- what isn't a call of ONC RPC is not answered, but another version of it is told
+-- what isn't a call of ONC RPC is not answered, except that a call of another version of it is told so (RPC-2, RPC-3)
 unfoldable pub incoming_at : List ℕ → IncomingItem
 incoming_at bytes = incoming_by (call_at bytes)

@@ -48,10 +48,11 @@ made_auth a = record { flavor = a.0; body = a.1 }
 abbrev pub made_head : ℕ × (ℕ × (ℕ × (ℕ × (AuthItem × AuthItem)))) → HeadItem
 made_head h = record { xid = h.0; prog = h.1.0; vers = h.1.1.0; proc = h.1.1.1.0; cred = h.1.1.1.1.0; verf = h.1.1.1.1.1 }
 
+-- a credential or a verifier, of at most 400 bytes, which are not judged (RPC-3)
 unfoldable pub auth_at : List ℕ → Result (AuthItem × List ℕ) RpcBad
 auth_at bytes = as_at made_auth (pair_at unsigned_at (λ _. opaque_at 400)) bytes
 
--- the head of a call: another version is a fault that names the call
+-- the head of a call: another version is a fault that names the call, whatever follows it (RPC-2)
 unfoldable pub call_at : List ℕ → Result (HeadItem × List ℕ) RpcBad
 call_at bytes =
     as_at made_head

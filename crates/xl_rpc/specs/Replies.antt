@@ -40,7 +40,7 @@ detail _ = []
 abbrev pub denied : Verdict → List ℕ
 denied v = unsigned (stat v) ++ detail v
 
--- the verifier of an accepted reply is AUTH_NONE: flavor 0 without bytes
+-- the verifier of an accepted reply is AUTH_NONE: flavor 0 without bytes (RPC-6)
 abbrev pub accepted : Verdict → List ℕ
 accepted v = unsigned 0 ++ (unsigned 0 ++ (unsigned (stat v) ++ detail v))
 
@@ -79,6 +79,7 @@ accepted_with n =
 unfoldable pub denied_at : List ℕ → Result (Verdict × List ℕ) RpcBad
 denied_at bytes = tagged_at unsigned_at denied_with bytes
 
+-- any other verifier is a fault (RPC-6)
 unfoldable pub accepted_at : List ℕ → Result (Verdict × List ℕ) RpcBad
 accepted_at bytes = exactly_at 0 bad.Value unsigned_at (exactly_at 0 bad.TooLong unsigned_at (tagged_at unsigned_at accepted_with)) bytes
 

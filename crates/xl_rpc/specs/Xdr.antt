@@ -82,6 +82,7 @@ boolean_at bytes = as_at (λ n. n == 1) (guard_at (λ n. nat_lt n 2) bad.Bool un
 abbrev pub is_padded : ℕ → List ℕ → Bool
 is_padded n units = list_all (λ b. b == 0) (drop n units)
 
+-- opaque data of a fixed length, whose padding is judged once all of it is there (RPC-1)
 unfoldable pub opaque_fixed_at : ℕ → List ℕ → Result (List ℕ × List ℕ) RpcBad
 opaque_fixed_at n bytes = as_at (take n) (guard_at (is_padded n) bad.Pad (fixed_at bad.Short (n + pad n))) bytes
 

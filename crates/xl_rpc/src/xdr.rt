@@ -7,7 +7,8 @@ ghost use Rattle.xl_rpc.specs.Xdr.{unsigned_at, hyper_at, signed_at, boolean_at,
 
 use crate::fault::RpcBad;
 
-/// A reader of the items at the front of bytes. After a fault it stands where it stood.
+/// A reader of the items at the front of bytes. After a fault it stands where it stood. It is copied, and has no model
+/// (PROOF-5).
 #[derive(Clone, Copy)]
 pub struct Xdr<'a> {
     rest: &'a [u8],

@@ -20,7 +20,7 @@ size_found body = if nat_lt (length body) 2 then 0 else u16_at 0 body
 unfoldable pub has_fixed : ℕ → ℕ → List ℕ → Bool
 has_fixed size fixed body = (size_found body == size) && not (nat_lt (length body) fixed)
 
--- the part of so many bytes at a place of the frame; a part of no bytes leaves no frame
+-- the part of so many bytes at a place of the frame; a part of no bytes leaves no frame (SMB-2)
 unfoldable pub part_at : ℕ → ℕ → List ℕ → Result (List ℕ) SmbBad
 part_at start count frame = if count == 0 then Ok [] else if nat_lt (length frame) (start + count) then Err Offset else Ok (bytes_at count start frame)
 

@@ -18,6 +18,7 @@ use Rattle.xl_smb.specs.declared.breaks.LeaseNotice.{LeaseNotice}
 -- ---- acknowledgements and their replies: 24 bytes of an oplock (MS-SMB2 2.2.24.1, 2.2.25.1), 36 of a lease (2.2.24.2,
 -- 2.2.25.2)
 
+-- of a lease by its size, and else of an oplock (SMB-7)
 unfoldable pub break_at : List ℕ → Result Break SmbBad
 break_at body =
     if size_found body == 36
@@ -40,6 +41,7 @@ BreakFits (held.Lease lease) = LeaseFits lease
 
 -- ---- notices: 24 bytes of an oplock (MS-SMB2 2.2.23.1), 44 of a lease (2.2.23.2)
 
+-- of a lease by its size, and else of an oplock (SMB-7)
 unfoldable pub notice_at : List ℕ → Result Notice SmbBad
 notice_at body =
     if size_found body == 44

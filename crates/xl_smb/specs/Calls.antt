@@ -45,6 +45,7 @@ shown_call call.Other = Other
 
 -- ---- reading: the body is what stands behind the header
 
+-- of a command that is not known the body is not looked at (SMB-6)
 unfoldable pub call_at : Option Command → List ℕ → List ℕ → Result CallItem SmbBad
 call_at (Some command.Negotiate) frame body = negotiate_call_at body >>= λ c. Ok (Negotiate c)
 call_at (Some command.SessionSetup) frame body = setup_call_at frame body >>= λ c. Ok (SessionSetup c)

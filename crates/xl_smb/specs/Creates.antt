@@ -40,7 +40,7 @@ create_call_at frame body = when_fixed 5 57 56 body
     (part_at (u16_at 44 body) (u16_at 46 body) frame >>= λ name. contexts_at (u32_at 48 body) (u32_at 52 body) frame >>= λ contexts.
     Ok (record { oplock_level = slice_index body 3; desired_access = u32_at 24 body; share_access = u32_at 32 body; disposition = u32_at 36 body; options = u32_at 40 body; name = name; contexts = contexts }))
 
--- how many zeros stand between a name and contexts of these lengths
+-- how many zeros stand between a name and contexts of these lengths, which begin at a multiple of 8 (SMB-8)
 unfoldable pub padding : ℕ → ℕ → ℕ
 padding name contexts = if contexts == 0 then 0 else (8 - name % 8) % 8
 

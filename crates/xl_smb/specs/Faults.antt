@@ -13,6 +13,7 @@ use Rattle.xl_smb.specs.declared.head.SmbHead.{SmbHead}
 
 -- ---- forms: the size with which a body begins, and the bytes of its fixed part; None where no body is looked at
 
+-- of a request; an odd size counts the first byte behind the fixed part, and that of LOCK its first range (SMB-3)
 abbrev pub call_forms : Option Command → Option (List (ℕ × ℕ))
 call_forms (Some command.Negotiate) = Some ((36, 36) ∷ [])
 call_forms (Some command.SessionSetup) = Some ((25, 24) ∷ [])
@@ -56,7 +57,7 @@ has_form (Some forms) body = list_any (λ form. has_fixed form.0 form.1 body) fo
 
 -- ---- parts
 
--- whether so many bytes at a place lie within these; no bytes always do
+-- whether so many bytes at a place lie within these; no bytes always do (SMB-2)
 unfoldable pub lies : ℕ → ℕ → List ℕ → Bool
 lies start count bytes = (count == 0) || not (nat_lt (length bytes) (start + count))
 
@@ -89,7 +90,7 @@ parts_lie h frame body =
 
 -- ---- the fault, the first of these
 
--- of a body of this command and this size, where it has one of its forms or not, and its parts lie in the frame or not
+-- of a body of this command and this size, by whether it has one of its forms, and whether its parts lie in the frame (SMB-1)
 abbrev pub first_fault : ℕ → ℕ → Bool → Bool → Option SmbBad
 first_fault number found formed within = if formed then (if within then None else Some Offset) else Some (Size number found)
 
@@ -97,6 +98,7 @@ first_fault number found formed within = if formed then (if within then None els
 unfoldable pub body_fault : SmbHead → List ℕ → List ℕ → Option SmbBad
 body_fault h frame body = first_fault h.command (size_found body) (has_form (forms_of h) body) (parts_lie h frame body)
 
+-- of a frame, in this order (SMB-1)
 unfoldable pub fault_of : List ℕ → Option SmbBad
 fault_of frame =
     if nat_lt (length frame) 64 then Some Short

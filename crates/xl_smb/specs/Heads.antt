@@ -68,11 +68,12 @@ head_at frame = record {
 unfoldable pub head_of : List ℕ → Result SmbHead SmbBad
 head_of frame = if nat_lt (length frame) 64 then Err Short else if has_mark frame then Ok (head_at frame) else Err Magic
 
--- the header of a notice, which no request asked for (MS-SMB2 2.2.23)
+-- the tree connect 0
 abbrev pub is_no_tree : Route → Bool
 is_no_tree (Tree id) = id == 0
 is_no_tree (Async id) = false
 
+-- the header of a notice, which no request asked for (MS-SMB2 2.2.23) (SMB-5)
 unfoldable pub is_notice : SmbHead → Bool
 is_notice h = (h.status == 0) && (h.command == 18) && (h.flags == 1) && (h.credits == 0) && (h.message_id == 2 ^ 64 - 1) && (h.session_id == 0) && is_no_tree h.route
 

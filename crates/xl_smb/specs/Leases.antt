@@ -66,6 +66,7 @@ find name size list = find_among (length list) name size list
 unfoldable pub lease_at : List ℕ → Lease
 lease_at content = record { key = bytes_at 16 0 content; state = u32_at 16 content; flags = u32_at 20 content; duration = u64_at 24 content }
 
+-- the lease of the first such context; contexts of another name or length are passed over (SMB-8)
 abbrev pub lease_of : List ℕ → Option Lease
 lease_of list = option_map lease_at (find (codes "RqLs") 32 list)
 

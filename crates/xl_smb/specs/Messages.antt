@@ -26,7 +26,7 @@ shown (message.Notice n) = Told n
 
 -- ---- reading
 
--- a reply has its command's form at status 0, and the error form at another
+-- a reply has its command's form at status 0, and the error form at another (SMB-6)
 unfoldable pub reply_at : SmbHead → List ℕ → List ℕ → Result ReplyItem SmbBad
 reply_at h frame body = if h.status == 0 then success_at (command_of h.command) frame body else error_at h.command body
 

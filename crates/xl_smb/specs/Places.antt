@@ -21,7 +21,7 @@ abbrev pub joined : List (List ℕ) → List ℕ
 joined [] = []
 joined (text ∷ texts) = text ++ joined texts
 
--- so many zero bytes
+-- so many zero bytes, which are written at the places that no field names (SMB-4)
 abbrev pub zeros : ℕ → List ℕ
 zeros count = replicate count 0
 

@@ -48,7 +48,7 @@ shown_reply reply.Other = Other
 
 -- ---- reading: the body is what stands behind the header
 
--- at status 0
+-- at status 0; of CANCEL and of a command that is not known the body is not looked at (SMB-6)
 unfoldable pub success_at : Option Command → List ℕ → List ℕ → Result ReplyItem SmbBad
 success_at (Some command.Negotiate) frame body = negotiate_reply_at frame body >>= λ r. Ok (Negotiate r)
 success_at (Some command.SessionSetup) frame body = setup_reply_at frame body >>= λ r. Ok (SessionSetup r)
@@ -63,7 +63,7 @@ success_at (Some command.Echo) frame body = empty_at command.Echo body >>= λ _.
 success_at (Some command.OplockBreak) frame body = break_at body >>= λ b. Ok (OplockBreak b)
 success_at None frame body = Ok Other
 
--- at another status: the error form, 8 bytes and its data (MS-SMB2 2.2.2)
+-- at another status: the error form, 8 bytes and its data, which is not looked at (MS-SMB2 2.2.2) (SMB-3)
 unfoldable pub error_at : ℕ → List ℕ → Result ReplyItem SmbBad
 error_at command body = when_fixed command 9 8 body (Ok Error)
 

@@ -18,7 +18,7 @@ use Rattle.xl_smb_state.specs.declared.row.Waiting.{Waiting}
 use Rattle.xl_smb_state.specs.declared.row.Scope.{Scope}
 use Rattle.xl_smb_state.specs.declared.row.Scope.TheVariants as scope
 
--- the lists, each a row under its key
+-- the lists, each of rows under their keys, in the order in which they came (STATE-8)
 pub record Lists : Type 0 where
   pub connections : List (ℕ × Connection)
   pub sessions : List (ℕ × Session)

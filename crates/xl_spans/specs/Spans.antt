@@ -35,7 +35,7 @@ abbrev pub IsBefore : Span → List Span → Type 0
 IsBefore a [] = Unit {0}
 IsBefore a (b ∷ bs) = (a.last < b.first) × (joins a b ≡ false)
 
--- maximal runs of one mode, in the order of their bytes
+-- maximal runs of one mode, in the order of their bytes (TABLE-2)
 abbrev pub IsCanonical : List Span → Type 0
 IsCanonical [] = Unit {0}
 IsCanonical (s ∷ ss) = (s.first ≤ s.last) × IsBefore s ss × IsCanonical ss
@@ -85,7 +85,7 @@ excludes _ _ = true
 abbrev pub conflicts : ℕ → ℕ → Mode → Span → Bool
 conflicts first last mode s = meets first last s && excludes mode s.mode
 
--- the first such span, which in maximal runs is the least
+-- the first such span, which in maximal runs is the least (TABLE-2)
 unfoldable pub first_conflict : ℕ → ℕ → Mode → List Span → Option Span
 first_conflict first last mode ss = find (conflicts first last mode) ss
 

@@ -87,7 +87,8 @@ impl Spans {
     }
 
     /// Locks the bytes from `first` to `last` in this mode, in place of the modes that they had (RFC 7530 16.10). At
-    /// most two spans come up: a lock inside one span makes three of it.
+    /// most two spans come up: a lock inside one span makes three of it. The room was made before, so it cannot fail
+    /// (TABLE-1).
     pub fn lock(&mut self, first: u64, last: u64, mode: Mode)
         requires ends { first ≤ last }
         requires room { 2 ≤ self.old.spare }
@@ -100,7 +101,8 @@ impl Spans {
         relock(&mut self.items, first, last, Some(mode));
     }
 
-    /// Unlocks the bytes from `first` to `last` (RFC 7530 16.12). At most one span comes up.
+    /// Unlocks the bytes from `first` to `last` (RFC 7530 16.12). At most one span comes up; it wants room for two all the
+    /// same (TABLE-1).
     pub fn unlock(&mut self, first: u64, last: u64)
         requires ends { first ≤ last }
         requires room { 2 ≤ self.old.spare }
@@ -121,7 +123,7 @@ impl Spans {
     }
 
     /// The same as `at`, with each look at a span counted as a step: two to the number of these steps is at most one more
-    /// than twice the number of spans.
+    /// than twice the number of spans (TABLE-18).
     pub fn at_in<L: Ledger>(&self, byte: u64, steps: &mut Steps<L>) -> Option<Mode>
         ensures mode { result ≡ mode_at self.now.spans byte }
         ensures more { steps.old ≤ steps.new }

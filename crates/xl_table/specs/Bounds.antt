@@ -25,7 +25,7 @@ bounds_from b (c ∷ cs) = bounds_from (widened b c.what) cs
 abbrev pub bounds_of : List Claim → Bounds
 bounds_of cs = bounds_from unbounded cs
 
--- a range with bytes is asked, and none within these bounds has any of them
+-- a range with bytes is asked, and none within these bounds has any of them (TABLE-12)
 abbrev pub is_past : What → Bounds → Bool
 is_past (Range (Bytes first last) exclusive) b = not b.mixed && (nat_lt b.high first || nat_lt last b.low)
 is_past _ b = false

@@ -7,7 +7,7 @@ use Rattle.xl_table.specs.Files.{AreOn, here, alone}
 use Rattle.xl_table.specs.Order.{goes_first}
 use Rattle.xl_table.specs.Held.{IsSound}
 
--- a file's claims once the change is written: those that it names gave way to those that it enters
+-- a file's claims once the change is written: those that it names gave way to those that it enters (TABLE-8)
 unfoldable pub spliced : Change → List Claim → List Claim
 spliced change on = take change.start on ++ (change.entered.items ++ drop change.end on)
 

@@ -14,7 +14,7 @@ joined (l ∷ ls) = paged l.pages.items ++ joined ls
 abbrev pub AreOn : ℕ → List Claim → Type 0
 AreOn file cs = AllByRecursion (λ c. (c.file == file) ≡ true) cs
 
--- each list is of one file's claims, files rise from list to list, and no page is without claims
+-- each list is of one file's claims, files rise from list to list, and no page is without claims (TABLE-10, TABLE-11)
 abbrev pub IsFiled : List OnFile → Type 0
 IsFiled [] = Unit {0}
 IsFiled (l ∷ ls) = AreOn l.file (paged l.pages.items) × AllByRecursion (λ m. nat_lt l.file m.file ≡ true) ls × IsFiled ls × AreFull l.pages.items

@@ -17,7 +17,7 @@ use Rattle.xl_table.specs.Order.{goes_first, no_later}
 unfoldable pub inserted : Claim → List Claim → List Claim
 inserted claim held = placed goes_first claim held
 
--- without the first claim equal to it
+-- without the first claim equal to it (TABLE-5)
 abbrev pub removed : Claim → List Claim → List Claim
 removed claim [] = []
 removed claim (c ∷ cs) = if same_claims c claim then cs else c ∷ removed claim cs
@@ -26,7 +26,7 @@ removed claim (c ∷ cs) = if same_claims c claim then cs else c ∷ removed cla
 abbrev pub with_what : Claim → What → Claim
 with_what claim to = record { file = claim.file; owner = claim.owner; party = claim.party; what = to }
 
--- the first equal one taken out, and the changed claim at its place
+-- the first equal one taken out, and the changed claim at its place (TABLE-5)
 unfoldable pub changed : Claim → What → List Claim → List Claim
 changed claim to held = inserted (with_what claim to) (removed claim held)
 
@@ -68,6 +68,6 @@ abbrev pub holder_from : Option Claim → ℕ → ℕ → List Claim → Option 
 holder_from least file byte [] = least
 holder_from least file byte (c ∷ cs) = holder_from (if locks file byte c then Some (lesser least c) else least) file byte cs
 
--- the least range on the file that has the byte
+-- the least range on the file that has the byte (TABLE-19)
 unfoldable pub holder : ℕ → ℕ → List Claim → Option Claim
 holder file byte held = holder_from None file byte held

@@ -17,7 +17,7 @@ use Rattle.xl_spans.specs.Spans.{IsCanonical}
 use Rattle.xl_table.specs.Order.{goes_first}
 
 -- a range that such an owner may hold: its bytes stand in order, an empty one is of an SMB open, and no SMB range has
--- all bytes
+-- all bytes (TABLE-6)
 abbrev pub is_real_by : Owner → What → Bool
 is_real_by owner (Range (Bytes first last) exclusive) = nat_le first last && (posix owner || not ((first == 0) && (last == 2 ^ 64 - 1)))
 is_real_by owner (Range (Empty offset) exclusive) = not (posix owner)
@@ -45,6 +45,7 @@ abbrev pub IsGrantable : Claim → Type 0
 IsGrantable c = IsShareOrLock c.what × (may_own c.owner c.what ≡ true)
 
 -- two ranges of one POSIX owner on one file, which are cut and joined, have one party; those of an SMB open stand one by one
+-- (TABLE-6)
 abbrev pub has_one_party : Claim → Claim → Bool
 has_one_party a b =
     not (posix a.owner && (is_range a.what && (is_range b.what && ((a.file == b.file) && same_owners a.owner b.owner)))) || same_parties a.party b.party
@@ -71,7 +72,7 @@ spans_of file owner (c ∷ cs) = if is_of file owner c then with_span c.what (sp
 abbrev pub begins_first : Span → Span → Bool
 begins_first s t = nat_le s.first t.first
 
--- the most claims that a table holds
+-- the most claims that a table holds (TABLE-4)
 abbrev pub most_claims : ℕ
 most_claims = 16384
 

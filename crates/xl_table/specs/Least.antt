@@ -32,6 +32,6 @@ abbrev pub least_from : List Name → Option Claim → List Claim → Option Cla
 least_from names least [] = least
 least_from names least (c ∷ cs) = least_from names (lesser names least c) cs
 
--- the least of these
+-- the least of these, which a refusal tells (CORE-2)
 unfoldable pub least : List Name → List Claim → Option Claim
 least names cs = least_from names None cs

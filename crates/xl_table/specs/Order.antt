@@ -51,7 +51,7 @@ key_by claim (Range extent exclusive) = key_from claim.file 1 (owner_key claim.o
 key_by claim (Cache kind running) = key_from claim.file 2 (party_key claim.party) 0
 
 -- the numbers by which claims stand in order: the file, then shares, ranges and caches, then the owner of a share or
--- a range, or the party of a cache, then the place in that group
+-- a range, or the party of a cache, then the place in that group (TABLE-3)
 unfoldable pub key : Claim → List ℕ
 key claim = key_by claim claim.what
 

@@ -134,6 +134,6 @@ granted_by c (Range (Bytes first last) exclusive) cs = if posix c.owner then rel
 granted_by c (Range (Empty offset) exclusive) cs = inserted c cs
 granted_by c (Cache kind running) cs = cs
 
--- the claims once this one is granted, by its kind and its owner
+-- the claims once this one is granted, by its kind and its owner: what it replaces goes (TABLE-7)
 unfoldable pub granted_claims : Claim → List Claim → List Claim
 granted_claims c cs = granted_by c c.what cs

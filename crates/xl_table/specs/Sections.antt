@@ -34,7 +34,7 @@ side_of [] ks = Among
 side_of (f ∷ fs) [] = Earlier
 side_of (f ∷ fs) (k ∷ ks) = if nat_lt k f then Earlier else if nat_lt f k then Later else side_of fs ks
 
--- the claim stands before those whose numbers begin with these, or at most among them
+-- the claim stands before those whose numbers begin with these, or at most among them: what a bisection tests (TABLE-12)
 abbrev pub is_before : List ℕ → Claim → Bool
 is_before front c = not (no_later front (key c))
 

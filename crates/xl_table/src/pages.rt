@@ -11,7 +11,7 @@ use crate::page::Page;
 use std::alloc::{AllocError, Global};
 use xl_matrix::Claim;
 
-/// With how many claims a page is cut in two before more are put in, and how many of them stay.
+/// With how many claims a page is cut in two before more are put in, and how many of them stay (TABLE-11).
 const FULL: usize = 128;
 
 const HALF: usize = 64;

@@ -64,7 +64,7 @@ impl From<AllocError> for TableErr {
 /// NFSv4, SMB) and number; the ranges of an NLM or NFSv4 owner by first byte, those of an SMB open as they were locked.
 #[derive(Drop)]
 pub struct Table {
-    /// A list of each file's claims, by file. A list may be without claims.
+    /// A list of each file's claims, by file. A list may be without claims (TABLE-10).
     lists: Vec<OnFile>,
     /// How many claims there are, the deadlines of the breaks that run, and on which files each party stands.
     index: Index,
@@ -146,7 +146,7 @@ impl Table {
     }
 
     /// The same as `blockers`, with each look at a claim counted as a step: there are no more steps than claims on the
-    /// ask's file.
+    /// ask's file (TABLE-18).
     pub fn blockers_in<L: Ledger>(
         &self,
         alloc: Global,
@@ -195,7 +195,8 @@ impl Table {
         Ok(least_of(alloc, names, &blockers)?)
     }
 
-    /// The spans of an NLM or NFSv4 owner's ranges on a file: maximal runs of one mode, in the order of their bytes.
+    /// The spans of an NLM or NFSv4 owner's ranges on a file: maximal runs of one mode, in the order of their bytes. They are
+    /// read from the claims, and kept nowhere else (TABLE-13).
     #[tactic(auto, using(crate::proofs::SectionLaws::spans_on_file))]
     pub fn spans_of(&self, alloc: Global, file: u32, owner: Owner) -> Result<Vec<Span>, AllocError>
         ensures { IfOk result (λ v. v.items ≡ spans_of file owner self.now) }
@@ -414,7 +415,8 @@ impl Table {
         list_due(alloc, &self.lists, now)
     }
 
-    /// The same as `due`, with each look at a deadline counted as a step: there is at most one more than claims are due.
+    /// The same as `due`, with each look at a deadline counted as a step: there is at most one more than claims are due
+    /// (TABLE-18).
     #[tactic(auto, using(crate::proofs::IndexedLaws::has_none, crate::proofs::IndexedLaws::none_counted, crate::proofs::IndexedLaws::few_due))]
     pub fn due_in<L: Ledger>(
         &self,

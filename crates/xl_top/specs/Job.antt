@@ -58,7 +58,7 @@ exports_with files addresses = record { files = files; addresses = addresses; le
 abbrev pub exports_of : Capture → Exports
 exports_of c = record { files = c.files; addresses = c.addresses; lease = c.lease; grace = c.grace; break_time = c.break_time }
 
--- what a run begins from: these exports, and the empty record
+-- what a run begins from: these exports, and the empty record (RECORD-4)
 abbrev pub head_with : Exports → Head
 head_with exports = record {
   exports = exports;
@@ -74,7 +74,7 @@ head_of c = head_with (exports_of c)
 abbrev pub journal_of : Capture → Journal
 journal_of c = record { head = head_of c; entries = entries_of (begin (head_of c)) c.events }
 
--- the journal of a run that stepped nothing
+-- the journal of a run that stepped nothing (TEXT-12)
 abbrev pub no_journal : Journal
 no_journal = record { head = head_of no_lines; entries = [] }
 
@@ -112,7 +112,7 @@ whole_transcript journal = transcript_from journal.head journal.entries
 abbrev pub AreSteps : List Event → Type 0
 AreSteps events = AllByRecursion (λ e. is_restart e ≡ false) events
 
--- a run of steps that ended with a state that counts: all were made, or the journal is full
+-- a run of steps that ended with a state that counts: all were made, or the journal is full (TEXT-13)
 abbrev pub is_whole : Result (Unit {0}) Halt → Bool
 is_whole (Ok _) = true
 is_whole (Err (halts.JournalFull count)) = true

@@ -65,7 +65,7 @@ unfoldable pub calls_from : ℕ → ℕ → ℕ → List Event
 calls_from x number zero = []
 calls_from x number (suc more) = Message 0 (record_of number (call_from x)) ∷ calls_from (fourth x) (number + 1) more
 
--- a connection is opened, and so many calls come from it
+-- a connection is opened, whose number is 0, and so many calls come from it, numbered from 1 (MAKE-3)
 abbrev pub made : ℕ → ℕ → List Event
 made seed count = Open Rpc ∷ calls_from seed 1 count
 

@@ -27,7 +27,7 @@ abbrev pub unless_faulty : {X : Type 0} → Kinds → Option X → Option X
 unless_faulty [] x = x
 unless_faulty (k ∷ ks) x = None
 
--- the subcommand that the words name, with its own words, where nothing is wrong with them
+-- the subcommand that the words name, with its own words, if nothing is wrong with them; they ask for no help then (TEXT-11)
 unfoldable pub asked : List Text → Option (Text × List Row)
 asked words = unless_faulty (fault_of program words) (subcommand_of program words)
 

@@ -5,7 +5,7 @@ use std::alloc::Global;
 use std::marker::Model;
 use xl_base::{Keeper, LoadOutcome, MemoryKeeper, Record, StoreOutcome};
 
-/// A keeper in memory of which no call fails.
+/// A keeper in memory of which no call fails (RECORD-4).
 #[derive(Drop)]
 pub struct SureKeeper {
     memory: MemoryKeeper,

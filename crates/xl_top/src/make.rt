@@ -167,8 +167,8 @@ fn files(alloc: Global) -> Result<Sequence<Sequence<u8>>, AllocError>
     Ok(files)
 }
 
-/// Steps the calls of the draws behind x, of which the first has this number. An error leaves a beginning of their
-/// entries.
+/// Steps so many calls by the draws behind x, each made once the one before is stepped (MAKE-2). An error leaves a
+/// beginning of their entries.
 fn step_calls(alloc: Global, house: &mut House<SureKeeper>, x: u32, count: u32) -> Result<(), Halt>
     requires goes { house.old.halt ≡ None }
     requires begun { length house.old.entries ≡ 1 }

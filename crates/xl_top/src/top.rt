@@ -216,7 +216,8 @@ fn step_capture(alloc: Global, capture: Capture) -> Option<(House<SureKeeper>, R
     Some((house, ended))
 }
 
-/// Writes the transcript of a house whose last step ended so, where it has one, and gives the status.
+/// Writes the transcript of a house whose last step ended so, if it has one, and gives the status: at a full journal 7, also
+/// if the sink failed, and 6 if memory runs out for the transcript (TEXT-13).
 #[tactic(auto, using(crate::proofs::WriteLaws::began_none))]
 fn write_ended<O: Sink>(
     alloc: Global,

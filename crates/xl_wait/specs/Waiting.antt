@@ -73,7 +73,7 @@ places_in queues file = unwrap_or (get nat_cmp queues file) []
 abbrev pub NoneEmpty : BTreeMap ℕ (List ℕ) → Type 0
 NoneEmpty queues = (file : ℕ) → get nat_cmp queues file ≢ Some []
 
--- the map has the queue of each file on which someone waits, and no other
+-- the map has the queue of each file on which someone waits, and no other (TABLE-16)
 abbrev pub AreQueued : BTreeMap ℕ (List ℕ) → List (Option ℕ) → Type 0
 AreQueued queues fs = ((file : ℕ) → places_in queues file ≡ places_on file fs) × NoneEmpty queues
 

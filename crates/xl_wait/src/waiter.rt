@@ -32,7 +32,7 @@ impl Default for Rooms {
     }
 }
 
-/// One who waits for claims.
+/// One who waits for claims (TABLE-20).
 #[derive(Drop)]
 pub struct Waiter {
     /// Its number.

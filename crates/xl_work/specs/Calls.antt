@@ -51,7 +51,7 @@ Rises k (o ∷ os) = (k < number o) × Rises (number o) os
 
 -- ---- what a caller did
 
--- what is entered as a call's answer: nobody's where the call failed
+-- what is entered as a call's answer: nobody's if the call failed
 abbrev pub answer_of : CallOutcome → Option (List ℕ)
 answer_of (Answer bytes) = Some bytes
 answer_of _ = None

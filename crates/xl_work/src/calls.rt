@@ -122,9 +122,9 @@ fn turn<H: Serial, C: Caller, R: Wait>(
 }
 
 /// Makes a caller's calls: those that the journal asks for whose number is `share` modulo `of`, in order, each once, from the
-/// journal's first entry on, in so many turns. A turn is the search for the next call and that call, an idle where none is
-/// due, or a look where the gate doesn't let it pass. Turns says that all turns are done, Stopped that the machine is halted,
-/// and NoMemory that memory ran out; no other end comes.
+/// journal's first entry on (THREAD-7), in so many turns. A turn is the search for the next call and that call, an idle if
+/// none is due, or a look if the gate doesn't let it pass (THREAD-8). Turns says that all turns are done, Stopped that the
+/// machine is halted, and NoMemory that memory ran out; no other end comes.
 pub fn serve_calls<H: Serial, G: Gate, C: Caller, R: Wait>(
     rt: &R,
     alloc: Global,
