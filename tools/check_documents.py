@@ -11,7 +11,8 @@ prints a line for each of these that doesn't hold, and nothing where all do; the
   characters, and the page has at most 150 lines;
 - docs/DEFINITIONS.md: each definition of a table with files stands in the file that its row names, each definition of this
   repository that the contract of `run` cites is in one of these rows, and the page has at most 160 lines;
-- docs/DECISIONS.md: each decision has an id, none stands twice, and each id that a source cites is there;
+- docs/DECISIONS.md: each decision has an id, none stands twice, the comment of a definition cites each, and each id that a
+  comment cites is there;
 - docs/EMBEDDING.md: each piece of Rattle stands so in crates/xl_example, and what it prints is its stdout file;
 - docs/CAPTURE.md: its first example is examples/first, and the words of the tools are those that capture_from_words.py knows;
 - all of them: what is linked is there.
@@ -32,6 +33,7 @@ HEADLINE = "## What is proved"
 TOP = ("xl_top", "run")
 DASH = "—"
 ID = r"[A-Z]+-\d+"
+CITED = re.compile(rf"\(({ID}(?:, {ID})*)\)")
 
 
 def rows_of(text, header):
@@ -123,6 +125,20 @@ def headline_definition_faults(text, crates):
     yield from (f"{TOP[1]} cites {name}, which is in no row" for name in sorted(crates.cites(*TOP) - named))
 
 
+def citations_in(path):
+    """The ids that the comments of a source cite, each with whether the comment stands right before a definition, a function
+    or a field, and not by itself or at the head of the file."""
+    mark, comment = "--" if path.suffix == ".antt" else "//", []
+    for line in [*map(str.strip, path.read_text().splitlines()), ""]:
+        if line.startswith(mark):
+            comment.append(line.lstrip("-/! "))
+            continue
+        is_placed = line != "" and not line.startswith(("use ", "ghost use ", "mod "))
+        for ids in CITED.findall(" ".join(comment)):
+            yield from ((found, is_placed) for found in ids.split(", "))
+        comment = []
+
+
 def decision_faults(text, crates):
     """What is wrong with the ids of docs/DECISIONS.md, and with those that sources cite."""
     headings = re.findall(r"(?m)^- \*\*(\S+)", text)
@@ -132,12 +148,16 @@ def decision_faults(text, crates):
     if len(ids) != len(headings):
         yield f"{len(headings) - len(ids)} decisions have no id"
     yield from (f"{found} stands {ids.count(found)} times" for found in sorted(set(ids)) if ids.count(found) > 1)
-    groups = {found.partition("-")[0] for found in ids}
+    groups, cited = {found.partition("-")[0] for found in ids}, set()
     for path in sorted([*crates.root.glob("crates/*/specs/*.antt"), *crates.root.glob("crates/*/src/**/*.rt")]):
-        cited = re.findall(r"\(((?:[A-Z]+-\d+(?:, )?)+)\)", path.read_text())
-        for found in (found for group in cited for found in group.split(", ")):
+        name = path.relative_to(crates.root).as_posix()
+        for found, is_placed in citations_in(path):
+            cited.add(found)
             if found.partition("-")[0] in groups and found not in ids:
-                yield f"{path.relative_to(crates.root).as_posix()} cites {found}, which is no decision"
+                yield f"{name} cites {found}, which is no decision"
+            elif found in ids and not is_placed:
+                yield f"{name} cites {found} at no definition"
+    yield from (f"no definition cites {found}" for found in ids if found not in cited)
 
 
 def embedding_faults(text, crates):
