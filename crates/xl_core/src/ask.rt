@@ -44,11 +44,11 @@ pub struct Ask {
     pub act: Act,
     /// The caches wished for once the ask is granted, the first choice first: with a share, or by itself.
     pub wish: Sequence<CacheKind>,
-    /// The connection that a late answer goes to; None where it is told by a call of its own.
+    /// The connection that a late answer goes to; None if a call of its own tells of it.
     pub conn: Option<u64>,
-    /// Whether the asker waits where something held blocks it for good: a share or a range that no break moves.
+    /// Whether the asker waits if something held blocks it for good: a share or a range that no break moves.
     pub blocking: bool,
-    /// Whether it waits where a cache keeps it off, for the answer to the break; else it is told of that cache (MS-SMB2
+    /// Whether it waits if a cache keeps it off, for the answer to the break; else it is answered with that cache (MS-SMB2
     /// 3.3.5.9, RFC 7530 10.4.4).
     pub awaits: bool,
     /// Whether it claims again what it had before a restart (RFC 7530 9.6.2).
@@ -75,7 +75,7 @@ pub enum Answer {
     Recall(Claim),
     /// Grace runs until this moment.
     Grace(Moment),
-    /// A reclaim where no grace runs; the clock.
+    /// A reclaim while no grace runs; the clock.
     NoGrace(Moment),
     /// A reclaim in grace by a client that isn't recorded.
     NotRecorded,

@@ -17,7 +17,7 @@ ghost use Rattle.xl_core.specs.Leases.{moment_after};
 ghost use Rattle.xl_core.specs.Places.{CacheOf, held_in, else_was};
 ghost use Rattle.xl_core.specs.State.{CoreState};
 
-/// Where breaks begin the state stays good. All shares and ranges stay, and so does each claim on another file than the
+/// If breaks begin the state stays good. All shares and ranges stay, and so does each claim on another file than the
 /// ask's. A number is given out for each delegation whose break begins, and it is one less that can be broken; nobody who
 /// waits leaves, and the names, the record and the clock stand.
 #[tactic(auto, unfolding(crate::specs::BreaksBegun::breaks_begun), using(crate::proofs::BreaksBegunLaws::breaks_good, crate::proofs::BreaksBegunLaws::begun_others, crate::proofs::BreaksBegunLaws::begun_spans, crate::proofs::BreaksBegunLaws::begun_shares, crate::proofs::BreaksBegunLaws::begun_elements, crate::proofs::BreaksBegunLaws::begun_elsewhere, crate::proofs::BreaksBegunLaws::fewer_delegations, crate::proofs::BreaksBegunLaws::recalls_few))]
@@ -39,7 +39,7 @@ pub fn breaks_change_caches_alone()
 
 /// The breaks that the ask begins are told of, each once, by the texts of the parties, and nothing else is. Of a party's
 /// cache of a file there is afterwards what is told of its break: the cache at its full kind with the break that runs, or
-/// nothing where that needs no answer; where none is told of there is what was there.
+/// nothing if that needs no answer; if none is told of there is what was there.
 #[tactic(auto, using(crate::proofs::BreaksBegunLaws::begun_breaks, crate::proofs::BreaksBegunLaws::begun_cache, crate::proofs::BreaksBegunLaws::begun_leave, crate::proofs::BreaksBegunLaws::begun_serve))]
 pub fn breaks_are_told()
     ensures told { (s : CoreState) (ask : Claim) → breaks_told (breaks_begun ask s).0 ≡ sorted (told_before s.names) (planned ask s.claims).breaks }
@@ -48,7 +48,7 @@ pub fn breaks_are_told()
     ensures unserved { (s : CoreState) (ask : Claim) → serves_none (breaks_begun ask s).0 ≡ true }
 {}
 
-/// Where the plan has no break nothing is told, and nothing changes. So it is where the ask's file has no cache; there no
+/// If the plan has no break nothing is told, and nothing changes. So it is if the ask's file has no cache; then no
 /// break is awaited, and what blocks the ask blocks it for good.
 #[tactic(auto, using(crate::proofs::BreaksBegunLaws::none_begun, crate::proofs::BreaksBegunLaws::none_begun_there, crate::proofs::BreaksInOrderLaws::none_planned, crate::proofs::BreaksInOrderLaws::all_final))]
 pub fn without_caches_nothing_begins()

@@ -25,9 +25,9 @@ ghost use Rattle.xl_core.specs.Places.{IsChangedBy};
 ghost use Rattle.xl_core.specs.Rows.{Ran, all_ran, all_deeds};
 
 /// The state stays good. At each place there is what the last deed that reaches it made of it, else what was there. Who
-/// waits is who waited, but for those whom the deeds queued, took out, ended or served, in order. Each name keeps its
+/// waits is who waited, except those whom the deeds queued, took out, ended or served, in order. Each name keeps its
 /// number. Each deed is given what is due to it in the state in which it stands: what nothing stands against is granted,
-/// and each answer and each turn has its cause. The caches are those that were held, but for those that were given back, whose
+/// and each answer and each turn has its cause. The caches are those that were held, except those that were given back, whose
 /// break began, was answered or is over, and those of parties that ended; and with those that the wishes got of asks that were
 /// granted. A cache whose break runs stands as it is, of its full kind, until its party answers or gives it back, ends or
 /// expires, or the deadline passes.
@@ -65,16 +65,16 @@ pub fn breaks_are_over_at_their_deadline()
     ensures expires { (stable : Stable) (times : Times) → let r = tick (with_claims stable times (broken_delegation ∷ its_share ∷ [])) (record { 0 = 7 }) in (r.1.claims ≡ []) × (r.0 ≡ Effect.Expired [] ∷ []) }
 {}
 
-/// Operations in a row, each in the state that those before it left, leave what their deeds leave, where each one does;
-/// and the core takes these deeds, where it takes those of each.
+/// Operations in a row, each in the state that those before it left, leave what their deeds leave, if each one does;
+/// and the core takes these deeds, if it takes those of each.
 #[tactic(auto, using(crate::proofs::DeedRows::row_does, crate::proofs::DeedRows::row_takes))]
 pub fn rows_are_their_deeds<F, Op>()
     ensures done { (run : ℕ → F → CoreState → Op → Ran F) (does : ℕ → F → CoreState → Op → List Deed) (n : ℕ) → ((f : F) (s : CoreState) (op : Op) → (run n f s op).2 ≡ all_done n s (does n f s op)) → (f : F) (s : CoreState) (ops : List Op) → (all_ran run n f s ops).2 ≡ all_done n s (all_deeds run does n f s ops) }
     ensures fit { (run : ℕ → F → CoreState → Op → Ran F) (does : ℕ → F → CoreState → Op → List Deed) (n : ℕ) → ((f : F) (s : CoreState) (op : Op) → (run n f s op).2 ≡ all_done n s (does n f s op)) → ((f : F) (s : CoreState) (op : Op) → IsGood s → AreFit n s (does n f s op)) → (f : F) (s : CoreState) (ops : List Op) → IsGood s → AreFit n s (all_deeds run does n f s ops) }
 {}
 
-/// Neither a machine that tells a lock granted and keeps nothing meets the law of places, at a start and for a lock of one
-/// byte; nor does one that drops a waiter at another's test meet the law of those who wait.
+/// A machine that answers that a lock is granted and keeps nothing doesn't meet the law of places, at a start and for a lock
+/// of one byte; nor does one that drops a waiter at another's test meet the law of those who wait.
 #[tactic(auto, using(crate::proofs::HollowLaws::nothing_kept, crate::proofs::HollowLaws::waiter_dropped))]
 pub fn hollow_machines_are_refused()
     ensures kept { (n : ℕ) (stable : Stable) (clock : Moment) (times : Times) (t : CoreState) → t.claims ≡ [] → IsChangedBy n (started stable clock times) (Asks all_room smallest_lock ∷ []) t → ⊥ }

@@ -14,7 +14,7 @@ pub fn id_of(core: &Core, number: u32) -> u64
     u64::from(core.stable().epoch()) * NUMBERS + u64::from(number)
 }
 
-/// The number in an id, where it is of this start.
+/// The number in an id, if it is of this start.
 pub fn number_in(core: &Core, id: u64) -> Option<u32>
     ensures { result ≡ number_in core.now id }
 {

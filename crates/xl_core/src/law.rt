@@ -64,9 +64,9 @@ pub fn stays_good()
     ensures ticked { (s : CoreState) (now : Moment) → IsGood s → IsGood (tick s now).1 }
 {}
 
-/// The state stays good where a cache that its party may have comes to be held beside claims with which it goes, and there
-/// is room; and where a held cache becomes another one that its party may have: one that goes with all others, or one that
-/// is less, or that a break of it begins. So it is where a wish gets a cache or raises one, where a break begins, and where its
+/// The state stays good if a cache that its party may have comes to be held beside claims with which it goes, and there
+/// is room; and if a held cache becomes another one that its party may have: one that goes with all others, or one that
+/// is less, or that a break of it begins. So it is if a wish gets a cache or raises one, if a break begins, and if its
 /// answer leaves less.
 pub fn caches_may_be_held()
     ensures entered { (s : CoreState) (c : Claim) → IsGood s → IsHeld s.names c → is_cache c.what ≡ true → AllByRecursion (λ d. compat c d ≡ true) s.claims → length s.claims < most_claims → IsGood (holding s (inserted c s.claims)) }
@@ -74,8 +74,8 @@ pub fn caches_may_be_held()
     ensures weakened { (s : CoreState) (c : Claim) (to : What) → IsGood s → IsIn c s.claims → IsHeld s.names (with_what c to) → is_cache to ≡ true → weaker (with_what c to) c ≡ true → IsGood (holding s (changed c to s.claims)) }
 {}
 
-/// Where the breaks begin that an ask for a share or a range begins, the state stays good: each of these caches is held at its
-/// full kind until its break is answered, or is gone where that needs no answer. What is not in the ask's way stands as it
+/// If the breaks begin that an ask for a share or a range begins, the state stays good: each of these caches is held at its
+/// full kind until its break is answered, or is gone if that needs no answer. What is not in the ask's way stands as it
 /// is, and so does a cache whose break runs already. Then none is left to begin: each cache in the way is gone, or its break
 /// runs; and so many caches fewer are left whose break may begin as breaks began.
 #[tactic(auto, using(crate::proofs::AskBreaksLaws::broken_good, crate::proofs::AskBreaksLaws::broken_stand, crate::proofs::AskBreaksLaws::apart_stand, crate::proofs::AskBreaksLaws::running_stand, crate::proofs::AskBreaksLaws::none_begins_again, crate::proofs::AskBreaksLaws::fewer_idle))]
@@ -88,9 +88,9 @@ pub fn breaks_may_begin()
     ensures fewer { (deadline : Moment) (ask : Claim) (held : List Claim) → idle_caches (once_broken deadline ask held) + length (planned ask held).breaks ≡ idle_caches held }
 {}
 
-/// Each answer is given exactly where its cause stands, which `IsClaimDue`, `IsTestDue`, `IsUnlockDue` and `IsWishDue` say; of
-/// several limits the least is told. Of the claims that block an ask the one that is told is held, and none of the
-/// others comes before it; the break of a cache that is told runs by then.
+/// Each answer is given exactly if its cause stands, which `IsClaimDue`, `IsTestDue`, `IsUnlockDue` and `IsWishDue` say; of
+/// several limits the least is answered. Of the claims that block an ask the one that is answered is held, and none of the
+/// others comes before it; the break of a cache that is answered runs by then.
 pub fn answers_have_causes()
     ensures claims { (n : ℕ) (left : Rooms) (s : CoreState) (a : Ask) (what : What) (answer : Answer) → asked_what a.act ≡ Some what → ((ask n left s a).0 ≡ answer) ↔ IsClaimDue left (way left s a).1 a (asked_claim a what s.names) answer }
     ensures recalls { (n : ℕ) (left : Rooms) (s : CoreState) (a : Ask) (what : What) (c : Claim) → asked_what a.act ≡ Some what → (ask n left s a).0 ≡ Answer.Recall c → is_running c.what ≡ true }
@@ -111,21 +111,21 @@ pub fn free_asks_are_granted()
     ensures given_up { (n : ℕ) (left : Rooms) (s : CoreState) (a : Ask) (first last : ℕ) (c : Claim) → IsGood s → IsFit a → is_named a.owner ≡ true → a.act ≡ Act.Unlock (Extent.Bytes first last) → (ask n left s a).0 ≡ Answer.Granted c → spans_of a.file (asker a s.names) (ask n left s a).2.claims ≡ relocked (spans_of a.file (asker a s.names) s.claims) first last None }
 {}
 
-/// An ask changes only what its owner has on its file, a share for a share and ranges for a range, and that only where
-/// it is granted; but for the breaks that it begins no cache changes, unless it wishes for one: then that of its party on the
-/// file. No waiter goes, and each name keeps its number. One that is neither granted nor told
-/// to wait changes nothing, nor does a test.
+/// An ask changes only what its owner has on its file, a share for a share and ranges for a range, and that only if
+/// it is granted; except for the breaks that it begins no cache changes, unless it wishes for one: then that of its party on
+/// the file. No waiter goes, and each name keeps its number. One that is neither granted nor waits changes nothing, nor does
+/// a test.
 pub fn nothing_else_changes()
     ensures asks { (n : ℕ) (left : Rooms) (s : CoreState) (a : Ask) → IsGood s → IsFit a → IsOwn (way left s a).1 a (ask n left s a).0 (ask n left s a).2 }
     ensures tests { (n : ℕ) (left : Rooms) (s : CoreState) (a : Ask) (extent : Extent) (exclusive : Bool) → a.act ≡ Act.Test extent exclusive → (ask n left s a).2 ≡ s }
 {}
 
-/// An asker that is told to wait stands at the end of the queue, under the number that it is told. There is no turn
-/// exactly where each waiter, judged behind those before it, waits on with nothing begun or changed; and that is where each
-/// is held up: something held blocks the first claim that it asks for, for good where it waits for that, and else a cache. A
-/// turn is that of the first waiter that isn't held up: it has what it asked for, or is told what blocks it or the least limit
-/// that this would pass, and waits no more; all others wait on, and have what they had. So turns end, with nobody left who
-/// isn't held up: a turn takes a waiter out, which may be served with a cache, or begins a break.
+/// An asker that begins to wait stands at the end of the queue, under the number that it is answered. There is no turn
+/// exactly if each waiter, judged behind those before it, waits on with nothing begun or changed; and that is if each
+/// is held up: something held blocks the first claim that it asks for, for good if it waits for that, and else a cache. A
+/// turn is that of the first waiter that isn't held up: it has what it asked for, or is answered what blocks it or the least
+/// limit that this would pass, and waits no more; all others wait on, and have what they had. So turns end, with nobody left
+/// who isn't held up: a turn takes a waiter out, which may be served with a cache, or begins a break.
 pub fn nobody_is_forgotten()
     ensures waits { (n : ℕ) (left : Rooms) (s : CoreState) (a : Ask) (number : ℕ) → IsGood s → IsFit a → (ask n left s a).0 ≡ Answer.Queued number → (ask n left s a).2.waiters ≡ s.waiters ++ waiter_of number a (asked_claims a (asked_whats a.act) s.names) ∷ [] }
     ensures settled { (n : ℕ) (left : Rooms) (s : CoreState) → (settle n left s ≡ None) ↔ AllRest n left s [] s.waiters }
@@ -156,7 +156,7 @@ pub fn only_that_share_weakens()
     ensures waiters { (s : CoreState) (share : Claim) (access deny : Rwd) → (weaken s share access deny).1.waiters ≡ s.waiters }
 {}
 
-/// What each call leaves alone, what it may raise, and who leaves the queue by it (see `IsFrame`): an ask that is told to
+/// What each call leaves alone, what it may raise, and who leaves the queue by it (see `IsFrame`): an ask that has to
 /// wait draws one number and comes to wait, one that is granted what it is to hold or waits has its names kept, and nobody
 /// leaves; of a turn, a cancel and a party's end those leave who are told of, each once; nothing else comes or goes. A renewal sets
 /// its client's lease alone (see `IsRenewed`). A reading of the clock raises the clock, and leaves record, times, numbers and names;
@@ -176,7 +176,7 @@ pub fn calls_have_frames()
     ensures ticks { (s : CoreState) (now : Moment) → IsGood s → IsTicked s now (tick s now).0 (tick s now).1 }
 {}
 
-/// Nobody is served but by a turn: not where a waiter cancels, a claim is given back, a share is made weaker, a break is
+/// Nobody is served except by a turn: not if a waiter cancels, a claim is given back, a share is made weaker, a break is
 /// answered, a party ends, an open is closed, or the clock is read. (An ask tells of the breaks that it begins alone, see
 /// `calls_have_frames` and `breaks_are_told`.)
 pub fn only_turns_serve()
@@ -189,8 +189,8 @@ pub fn only_turns_serve()
     ensures ticks { (s : CoreState) (now : Moment) → serves_none (tick s now).0 ≡ true }
 {}
 
-/// A test foretells the lock: the same lock of the same asker, not blocking, meets a conflict exactly where the test is
-/// denied. Of a cache that keeps the lock off neither is told as of a conflict.
+/// A test foretells the lock: the same lock of the same asker, not blocking, meets a conflict exactly if the test is
+/// denied. A cache that keeps the lock off is a conflict to neither.
 pub fn a_test_foretells()
     ensures { (n : ℕ) (left : Rooms) (s : CoreState) (test lock : Ask) (first last : ℕ) (exclusive : Bool) → IsGood s → IsFit lock → is_named lock.owner ≡ true → IsSameAsker test lock → test.act ≡ Act.Test (Extent.Bytes first last) exclusive → lock.act ≡ Act.Ranges ((Extent.Bytes first last, exclusive) ∷ []) → lock.blocking ≡ false → IsConflict (ask n left s lock).0 ↔ IsConflict (ask n left s test).0 }
 {}

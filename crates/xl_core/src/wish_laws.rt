@@ -26,7 +26,7 @@ ghost use Rattle.xl_core.specs.Wishes.{wished_kind, wish_granted, wish_of, wishe
 /// A wish of a party for kinds that it may have keeps the state good. All shares and ranges stay, each claim on another
 /// file, and on its file each cache but the party's: of that there is the kind that the wish gets, else what was there. So
 /// there is one cache more at most of which a break may begin. Who waits, the numbers, the names, the record and the clock
-/// stand; and where the wish gets no kind nothing changes.
+/// stand; and if the wish gets no kind nothing changes.
 #[tactic(auto, unfolding(crate::specs::Wishes::wish_granted), using(crate::proofs::WishLaws::wish_good, crate::proofs::WishLaws::wish_cache, crate::proofs::WishLaws::wish_caches, crate::proofs::WishLaws::wish_others, crate::proofs::WishLaws::wish_spans, crate::proofs::WishLaws::wish_shares, crate::proofs::WishLaws::wish_elements, crate::proofs::WishLaws::wish_elsewhere, crate::proofs::WishLaws::wish_idle, crate::proofs::WishLaws::wish_delegations, crate::proofs::WishLaws::wish_none))]
 pub fn wishes_change_one_cache()
     ensures good { (wanted : Wish) (s : CoreState) → IsGood s → AllByRecursion (λ kind. is_kind_of wanted.party kind ≡ true) wanted.kinds → are_kept s.names wanted.owner wanted.party ≡ true → IsGood (wish_granted wanted s) }
@@ -47,7 +47,7 @@ pub fn wishes_change_one_cache()
     ensures none { (wanted : Wish) (s : CoreState) → wished_kind wanted s ≡ None → wish_granted wanted s ≡ s }
 {}
 
-/// A wish breaks nothing, and stands back for who waits: it gets nothing where someone else waits on the file, nor where its
+/// A wish breaks nothing, and stands back for who waits: it gets nothing if someone else waits on the file, nor if its
 /// party has no cache there and the table is full with 16,384 claims. A cache whose break runs stands as it is.
 #[tactic(auto, using(crate::proofs::WishLaws::waits_stand, crate::proofs::WishLaws::full_stands, crate::proofs::WishLaws::running_stays))]
 pub fn wishes_stand_back()

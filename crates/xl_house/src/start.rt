@@ -16,7 +16,7 @@ use xl_base::{
 pub struct Ended<K: Keeper> {
     /// Why not.
     pub halt: Halt,
-    /// The journal of nothing, with the record that was loaded, or the empty one where none was.
+    /// The journal of nothing, with the record that was loaded, or the empty one if none was.
     pub journal: Journal,
     /// The keeper.
     pub keeper: K,

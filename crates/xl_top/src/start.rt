@@ -24,7 +24,7 @@ pub(crate) fn exports_with(
     }
 }
 
-/// A house over these exports, of a server that never started before. None comes for want of memory.
+/// A house over these exports, of a server that never started before. None comes if memory runs out.
 pub(crate) fn start(alloc: Global, exports: Exports) -> Option<House<SureKeeper>>
     ensures { IfSome result (λ h. (h.head ≡ head_with exports) × ((h.entries ≡ []) × (h.halt ≡ None))) }
 {
