@@ -191,7 +191,7 @@ def main():
     frees = [("1 file", freed(1)), ("2 files", freed(2)), ("8 files", freed(8))]
     table("a LOCK and UNLOCK with so many ranges held by", HELD, *unit, costs_of(cost, binary, held))
     table("with so many who wait elsewhere, and", WAITERS, *unit, costs_of(cost, binary, waits))
-    table("a host's locks freed, where so many wait elsewhere, on", WAITERS, *unit, costs_of(cost, binary, frees))
+    table("a host's locks freed, while so many wait elsewhere, on", WAITERS, *unit, costs_of(cost, binary, frees))
     table("a reading of the clock with so many caches", CACHES, *unit, [("none due", lambda caches: tick(binary, caches))])
 
 

@@ -5,8 +5,8 @@
 
 reads packets as tcpdump or Wireshark records them, pcap or pcapng, over Ethernet, loopback, raw IP or Linux cooked, IPv4
 or IPv6, and writes a capture (docs/CAPTURE.md) of all that clients asked in them by NLM version 4, NFSv4.0, and SMB 2: an `O`
-line for each connection, a `B` line for each call or request, an `E` line where the client closed it or it was reset, in the
-order in which the messages were whole. Streams of TCP are put together also where segments were lost and sent again, overlap,
+line for each connection, a `B` line for each call or request, an `E` line if the client closed it or it was reset, in the
+order in which the messages were whole. Streams of TCP are put together also if segments were lost and sent again, overlap,
 or came in another order. Calls of ONC RPC by UDP come by a connection of their own; SMB is what goes to port 445.
 
 What is the other server's becomes ours. Each file gets a number in order of appearance, its handle `XLK1` and that number,
@@ -19,8 +19,8 @@ and those in shares without files. A file that is made or emptied is opened as i
 are asked one by one. Comments above the messages name what is left out, and standard error counts it, beside the table of
 files and what is missing.
 
-How a client answered the other server's call back has a `C` line, where PROGRAM made a call that tells of the same by then.
-Without it each lock that was told counts as taken, and standard error says which one was refused.
+How a client answered the other server's call back has a `C` line, if PROGRAM made a call that tells of the same by then.
+Without it each lock that a call told of counts as taken, and standard error says which one was refused.
 
 What stays as it is: calls of other programs on such a connection, and calls that can't be read.
 """
@@ -44,7 +44,7 @@ def add_arguments(parser):
     times = "also a line T if time passed, in milliseconds since the first message: leases, and breaks that nobody answers, end by it"
     parser.add_argument("--times", action="store_true", help=times)
     delegations = "clients of NFSv4 can't be called back, so that ours gives them no delegation, as a server that gives none"
-    tree = "a file of SMB and one of NFSv4 that have the same name are one, where no other has it; without it they are two"
+    tree = "a file of SMB and one of NFSv4 that have the same name are one, if no other has it; without it they are two"
     parser.add_argument("--one-tree", action="store_true", help=tree)
     parser.add_argument("--without-delegations", action="store_true", help=delegations)
 

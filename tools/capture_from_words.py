@@ -3,7 +3,7 @@
 
     python3 tools/capture_from_words.py WORDS >CAPTURE
 
-reads the file WORDS, or standard input where none is named, and writes a capture (docs/CAPTURE.md) that
+reads the file WORDS, or standard input if none is named, and writes a capture (docs/CAPTURE.md) that
 `xlockd replay` reads. A line is
 
 {usages}

@@ -3,7 +3,7 @@
 
     python3 tools/check_documents.py
 
-prints a line for each of these that doesn't hold, and nothing where all do; the exit status is 1 where one doesn't:
+prints a line for each of these that doesn't hold, and nothing if all do; the exit status is 1 if one doesn't:
 
 - docs/PROVED.md: each row of a table under a crate's heading names functions that are public there, and clauses that each
   of them ensures; a dash stands for a clause without a name;
@@ -54,7 +54,7 @@ def rows_of(text, header):
 
 
 def names_of(cell):
-    """The names in a cell, each between backticks; None where something else stands there."""
+    """The names in a cell, each between backticks; None if something else stands there."""
     if cell == DASH:
         return [""]
     if not re.fullmatch(r"`[^`]+`(, `[^`]+`)*", cell):

@@ -4,8 +4,8 @@
     python3 tools/check_examples.py [PROGRAM]
 
 Each example is NAME.words, NAME.capture, NAME.transcript and NAME.said. The capture has to be that of the words, what is
-said that of capture and transcript, and, where PROGRAM names a built xlockd, the transcript that of the replay. Prints a
-line for each file that differs, with the first line that does, and nothing where all hold; the exit status is 1 where
+said that of capture and transcript, and, if PROGRAM names a built xlockd, the transcript that of the replay. Prints a
+line for each file that differs, with the first line that does, and nothing if all hold; the exit status is 1 if
 one differs. With --write it writes the captures, the transcripts (with PROGRAM) and what is said anew: look at the
 difference before it is kept.
 """

@@ -5,7 +5,7 @@
 
 Each recording in tools/tests/recorded is made a capture and compared: what differs has to be what NAME.differences says, which
 --write writes anew. And in random sessions of make_capture.py each answer that is known has to come. Prints a line for each that
-is otherwise, and nothing where all hold; the exit status is 1 where one is.
+is otherwise, and nothing if all hold; the exit status is 1 if one is.
 """
 import argparse
 import struct

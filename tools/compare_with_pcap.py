@@ -4,7 +4,7 @@
     python3 tools/compare_with_pcap.py SESSION.pcap --program XLOCKD
 
 reads the packets of the session, makes the capture of them (capture_from_pcap.py), has PROGRAM, a built xlockd, replay it, and
-compares. Where a transcript is named behind SESSION, or stands on standard input, it is read in the place of a replay; then the
+compares. If a transcript is named behind SESSION, or stands on standard input, it is read in the place of a replay; then the
 capture has to have been made with the same options. For each message it compares what the other server answered with what ours
 did, and for each call back and each notice of a break whether both sent it. It writes
 
@@ -13,7 +13,7 @@ did, and for each call back and each notice of a break whether both sent it. It 
         ours    GRANTED
 
 for each difference, with the place of the message in our journal, and last how many were compared. It ends with status 1
-where something differs, with 2 where it can't compare. Ids and cookies, and what carries no meaning for the client, aren't
+if something differs, with 2 if it can't compare. Ids and cookies, and what carries no meaning for the client, aren't
 compared, nor what is left out of the capture, nor the steps of a session's setup, of which ours needs one; of SMB the last answer
 to a request counts. The first difference may be the reason of those that follow.
 """

@@ -6,7 +6,7 @@
 A file NAME.words of scenarios/ has cases in the words of capture_from_words.py, a file NAME.cases captures and other texts
 as they stand. The program xl_tests_replay reads all of them, one behind the other, as its stdin, and stdout is what it has
 to tell. NAME.said is what a case in words comes to, in the words of transcript_in_words.py. Prints a line for each file that
-differs, with the first line that does, and nothing where all hold; the exit status is 1 where one differs. With --write it
+differs, with the first line that does, and nothing if all hold; the exit status is 1 if one differs. With --write it
 writes stdin and what is said anew. stdout is written by hand: of a case that is new, see that what the program tells is
 what the standards say before it is kept.
 """

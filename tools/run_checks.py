@@ -3,7 +3,7 @@
 
     python3 tools/run_checks.py [PROGRAM]
 
-prints what doesn't hold, and nothing where all does; the exit status is 1 where something doesn't. PROGRAM is a built
+prints what doesn't hold, and nothing if all does; the exit status is 1 if something doesn't. PROGRAM is a built
 xlockd, by which the examples, recorded sessions and random ones are replayed.
 """
 import argparse
